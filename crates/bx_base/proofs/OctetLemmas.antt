@@ -1,0 +1,28 @@
+-- One step of a loop over a watched reader or writer.
+use Rattle.std.proofs.Common.{◌≡◌, ◌≢◌, ℕ, ◌+◌, ◌-◌, ◌≤◌, ◌==◌, ◌||◌, ◌&&◌, Bool, false, nat_lt, List, ◌++◌, length, take, drop, sym, subst, arith, length-append, length-drop, Option}
+use Rattle.std.proofs.Math.Seq.{take-add}
+use Rattle.std.proofs.lemmas.List.{take_all, length-take-le}
+use Rattle.std.proofs.lemmas.Bool.Decides.{nat_tests}
+use Rattle.std.proofs.Math.Bool.{or-false}
+use Rattle.std.specs.Io.KnownBytes.{Appends, Consumes}
+use Rattle.std.proofs.KnownBytes.{Appends-trans, Consumes-trans}
+use Rattle.bx_base.specs.Octets.{ReadsFront}
+
+-- what is left from a place on, as the code cuts it
+pub from_place : (bytes : List ℕ) (at : ℕ) → take (length bytes - at) (drop at bytes) ≡ drop at bytes
+from_place bytes at = take_all (length bytes - at) (drop at bytes) (omega (arith, length-drop at bytes))
+
+pub length-from_place : (bytes : List ℕ) (at : ℕ) → length (take (length bytes - at) (drop at bytes)) ≡ length bytes - at
+length-from_place bytes at = rw from_place (length-drop at bytes)
+
+-- at octets were appended, and then the next n
+pub Appends-next : (a b c : Option (List ℕ)) (bytes : List ℕ) (at n : ℕ) → Appends a b (take at bytes) → Appends b c (take n (take (length bytes - at) (drop at bytes))) → Appends a c (take (at + n) bytes)
+Appends-next a b c bytes at n p q = subst (Appends a c) (sym (take-add at n bytes)) (Appends-trans a b c (take at bytes) (take n (drop at bytes)) p (subst (λ l. Appends b c (take n l)) (from_place bytes at) q))
+
+-- a write that took some
+pub takes_some : (n : ℕ) (bytes : List ℕ) (old : Bool) → n ≢ 0 → (old || ((n == 0) && nat_lt 0 (length bytes))) ≡ old
+takes_some n bytes old h = let e : ((n == 0) && nat_lt 0 (length bytes)) ≡ false = grind (arith, nat_tests) in rw e (or-false old)
+
+-- the read that brings one octet too many
+pub ReadsFront-next : (a b c : Option (List ℕ)) (old buf : List ℕ) (n most : ℕ) → Consumes a b old → Consumes b c (take n buf) → n ≤ length buf → length old + n ≡ most → ReadsFront a c most
+ReadsFront-next a b c old buf n most p q h e = (old ++ take n buf, omega (arith, length-append old (take n buf), length-take-le n buf h), Consumes-trans a b c old (take n buf) p q)

@@ -1,0 +1,11 @@
+use Rattle.std.proofs.Common.{◌∙◌, arith}
+use Rattle.bx_base.proofs.OctetLemmas.{Appends-next, takes_some, length-from_place}
+use Rattle.bx_base.proofs.octets.write_octets.Goals as goal
+
+pub loop-at-preserved : goal.loop-at-preserved
+loop-at-preserved g c = record {
+  within = omega (arith, length-from_place c.args.bytes.now c.loop-at.at, c.in-Ok.ensures.bound);
+  written = Appends-next _ _ _ _ c.loop-at.at c.in-Ok.n c.loop-at.invariant.written c.in-Ok.ensures.bytes;
+  unfaulted = c.in-Ok.ensures.faulted ∙ takes_some _ _ _ c.in-Ok.n-test.1 ∙ c.loop-at.invariant.unfaulted;
+  reads = c.in-Ok.ensures.reads ∙ c.loop-at.invariant.reads;
+}

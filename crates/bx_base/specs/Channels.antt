@@ -1,0 +1,29 @@
+-- B channels of a primary rate interface at 2048 kbit/s (ITU-T Q.931, 4.5.13), and sets of them.
+use Rattle.std.specs.Prelude.{◌≡◌, ◌≢◌, ◌↔◌, ℕ, ◌<◌, ◌≤◌, Bool, true, false, List, length, slice_index, slice_index_or, if◌then◌else◌, All, Contains}
+use Rattle.bx_base.specs.Sums.{sum_below}
+
+-- the numbers of B channels: time slot 16 carries the signalling
+abbrev pub IsChannel : ℕ → Type 0
+IsChannel n = (1 ≤ n) × (n ≤ 31) × (n ≢ 16)
+
+-- a set of channels is a list that says of each number whether it is in the set
+abbrev pub has_channel : List Bool → ℕ → Bool
+has_channel channels n = slice_index_or channels n false
+
+-- how many channels a set has
+abbrev pub count_of : List Bool → ℕ
+count_of channels = sum_below (length channels) (λ n. if has_channel channels n then 1 else 0)
+
+-- a list that stands for a set of B channels
+pub record IsChannelSet (channels : List Bool) : Type 0 where
+  pub slots : length channels ≡ 32
+  pub only : (n : ℕ) → has_channel channels n ≡ true → IsChannel n
+
+-- numbers that name B channels, none of them twice
+pub record AreChannels (numbers : List ℕ) : Type 0 where
+  pub each : All IsChannel numbers
+  pub once : (i j : ℕ) → i < j → j < length numbers → slice_index numbers i ≢ slice_index numbers j
+
+-- the set has just these channels
+abbrev pub HasJust : List Bool → List ℕ → Type 0
+HasJust channels numbers = (n : ℕ) → (has_channel channels n ≡ true) ↔ Contains numbers n

@@ -1,0 +1,12 @@
+pub mod Sums
+pub mod Channels
+pub mod ChannelFaults
+pub mod Numbers
+pub mod NumberInside
+pub mod Bookings
+pub mod Bound
+pub mod Plans
+pub mod PlanParts
+pub mod Watching
+pub mod Octets
+pub mod FailingDevice

@@ -1,0 +1,28 @@
+-- A plan as a value: what it says, with no word on how it lies in memory.
+use Rattle.std.specs.Prelude.{◌≡◌, ℕ, ◌<◌, ◌≤◌, Bool, List, length, Option, Some, None, slice_index_or}
+use Rattle.bx_base.specs.declared.plan.Plan.{Plan}
+use Rattle.bx_base.specs.Channels.{IsChannel, IsChannelSet}
+use Rattle.bx_base.specs.Bookings.{Row, AreBookings}
+use Rattle.bx_base.specs.Bound.{Charge, IsCharge, price_at}
+
+-- the parts of a plan
+pub record Parts : Type 0 where
+  pub rows : List Row
+  pub channels : List Bool
+  pub assigned : List (Option ℕ)
+  pub prices : List Charge
+  pub total : ℕ
+
+-- the parts of this plan
+abbrev pub parts_of : Plan → Parts
+parts_of plan = record { rows = plan.bookings; channels = plan.channels; assigned = plan.assigned.items; prices = plan.prices.items; total = plan.total }
+
+-- the limits of a plan
+pub record IsPlan (parts : Parts) : Type 0 where
+  pub rows : AreBookings parts.rows
+  pub channels : IsChannelSet parts.channels
+  pub one_each : length parts.assigned ≡ length parts.rows
+  pub assigned : (i c : ℕ) → slice_index_or parts.assigned i None ≡ Some c → IsChannel c
+  pub few_prices : length parts.prices ≤ 8000
+  pub prices : (i : ℕ) → i < length parts.prices → IsCharge (price_at parts.prices i)
+  pub total : parts.total ≤ 4000000000000
