@@ -1,0 +1,114 @@
+//! The sums that the check compares.
+
+ghost use Rattle.std.specs.Prelude.{◌≡◌, ◌≤◌, ◌<◌, ◌*◌, ◌↔◌, pos, length, map, IsTrue};
+ghost use Rattle.std.specs.List.Sorted.{IsStrictlyIncreasing};
+ghost use Rattle.bx_base.specs.Channels.{count_of};
+ghost use Rattle.bx_base.specs.Bookings.{pay_of, IsLawful};
+ghost use Rattle.bx_base.specs.Plans.{is_accepted};
+ghost use Rattle.bx_base.specs.Bound.{cost_of, sum_of_prices, gain_of, loss_of, bound_of};
+
+use bx_base::{Booking, Bookings, Channel, ChannelSet, Price};
+
+/// What the accepted rows pay together.
+pub fn total_pay(bookings: &Bookings, assigned: &[Option<Channel>]) -> u64
+    requires { length assigned.now ≡ length bookings.now }
+    ensures { result ≡ pay_of bookings.now (is_accepted assigned.now) }
+{
+    let mut total = 0;
+    for i in 0..bookings.len() {
+        if assigned[i as usize].is_some() {
+            total += bookings.nth(i).pay();
+        }
+    }
+    total
+}
+
+/// Whether the moments of the prices rise strictly.
+pub fn is_rising(prices: &[Price]) -> bool
+    ensures { IsTrue result ↔ IsStrictlyIncreasing (map (λ p. p.moment) prices.now) }
+{
+    for i in 1..prices.len() {
+        let earlier = &prices[i - 1];
+        let later = &prices[i];
+        if later.moment <= earlier.moment {
+            return false;
+        }
+    }
+    true
+}
+
+/// What a channel costs all day.
+pub fn price_sum(prices: &[Price]) -> u64
+    requires { length prices.now ≤ 8000 }
+    ensures value { result ≡ sum_of_prices prices.now }
+    ensures limit { result ≤ length prices.now * 4000000000000 }
+{
+    let mut sum = 0;
+    for price in prices {
+        sum += price.amount;
+    }
+    sum
+}
+
+/// What the booking costs at these prices.
+pub fn cost(booking: &Booking, prices: &[Price]) -> u64
+    requires { length prices.now ≤ 8000 }
+    ensures value { result ≡ cost_of prices.now booking.now }
+    ensures limit { result ≤ length prices.now * 4000000000000 }
+{
+    let mut cost = 0;
+    for price in prices {
+        if booking.runs_at(price.moment) {
+            cost += price.amount;
+        }
+    }
+    cost
+}
+
+/// What the row brings to the bound.
+fn gain(booking: &Booking, prices: &[Price]) -> u64
+    requires { length prices.now ≤ 8000 }
+    ensures value { result ≡ gain_of prices.now booking.now }
+    ensures limit { result ≤ 1000000000 }
+{
+    if booking.is_must() {
+        booking.pay()
+    } else {
+        booking.pay().saturating_sub(cost(booking, prices))
+    }
+}
+
+/// What the row takes from the bound.
+fn loss(booking: &Booking, prices: &[Price]) -> u64
+    requires { length prices.now ≤ 8000 }
+    ensures { result ≡ loss_of prices.now booking.now }
+{
+    if booking.is_must() {
+        cost(booking, prices)
+    } else {
+        0
+    }
+}
+
+/// The bound that the prices set for each lawful set. Where some set is lawful, all that is lost is at most what
+/// the channels cost, so no sum leaves its type.
+pub fn bound(
+    bookings: &Bookings,
+    channels: ChannelSet,
+    assigned: &[Option<Channel>],
+    prices: &[Price],
+) -> u64
+    requires few { length prices.now ≤ 8000 }
+    requires lawful { IsLawful bookings.now channels (is_accepted assigned.now) }
+    ensures value { pos result ≡ bound_of bookings.now (count_of channels) prices.now }
+    ensures limit { result < 1000000000000000000 }
+{
+    let mut gained = u64::from(channels.count()) * price_sum(prices);
+    let mut lost = 0;
+    for i in 0..bookings.len() {
+        let booking = bookings.nth(i);
+        gained += gain(&booking, prices);
+        lost += loss(&booking, prices);
+    }
+    gained - lost
+}

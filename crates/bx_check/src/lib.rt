@@ -1,0 +1,7 @@
+//! Whether the prices of a plan prove that no choice of bookings pays more.
+#![tactic(auto)]
+
+mod bound;
+mod judge;
+
+pub use judge::{CheckFault, check};
