@@ -83,7 +83,8 @@ impl ChannelSet {
     pub fn has(&self, channel: Channel) -> bool
         ensures { result ≡ has_channel self.now channel }
     {
-        self.members[channel.number() as usize]
+        let slot = channel.number() as usize;
+        self.members[slot]
     }
 
     /// The set with this channel too.

@@ -16,6 +16,8 @@ pub struct Failing<T> {
 impl<T> Failing<T> {
     ghost use Rattle.bx_base.specs.FailingDevice.{failing_device, calls_left, most_of};
 
+    /// Passes on so many reads or writes of at most `most` octets each, and then fails each. With `most` 0 a
+    /// write takes none.
     pub fn new(inner: T, calls: u32, most: usize) -> Self
         ensures device { failing_device result ≡ inner }
         ensures calls { calls_left result ≡ calls }
@@ -24,6 +26,7 @@ impl<T> Failing<T> {
         Failing { inner, calls, most }
     }
 
+    /// The device.
     pub fn into_inner(self) -> T
         ensures { result ≡ failing_device self }
     {

@@ -1,3 +1,5 @@
+//! Laws about the definitions, for every value of them.
+
 ghost use Rattle.std.specs.Prelude.{ℕ, pos, ◌≤ℤ◌, Bool, List};
 ghost use Rattle.bx_base.specs.Bookings.{Row, IsLawful, pay_of};
 ghost use Rattle.bx_base.specs.Channels.{count_of};

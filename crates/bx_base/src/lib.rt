@@ -12,6 +12,8 @@ mod number;
 mod octets;
 mod plan;
 mod price;
+#[cfg(test)]
+mod tests;
 mod watched;
 
 pub use booking::Booking;
@@ -21,6 +23,6 @@ pub use channel_set::{ChannelFault, ChannelSet};
 pub use failing::Failing;
 pub use number::Number;
 pub use octets::{MAX_OCTETS, ReadFault, WriteFailed, read_octets, write_octets};
-pub use plan::Plan;
+pub use plan::{MAX_PRICES, MAX_TOTAL, Plan};
 pub use price::Price;
 pub use watched::{MAX_READS, Watched};

@@ -9,11 +9,12 @@ use crate::watched::{MAX_READS, Watched};
 use std::alloc::{AllocError, Global};
 use std::io::{Read, Write};
 
-/// A write failed, or took nothing.
+/// A write failed, or took none of the octets that it was given.
 #[derive(Clone, Copy, Debug, PartialEq, Eq)]
 pub struct WriteFailed;
 
-/// Writes all the octets.
+/// Writes all the octets, in as many writes as it takes. At a fault the writer is faulted, and a front of the
+/// octets was written.
 pub fn write_octets<W: Write>(w: &mut Watched<W>, bytes: &[u8]) -> Result<(), WriteFailed>
     ensures ok { OnOk result (Appends (W.contents (device_of w.old)) (W.contents (device_of w.new)) bytes.now) }
     ensures prefix { OnErr result (AppendsPrefix (W.contents (device_of w.old)) (W.contents (device_of w.new)) bytes.now) }
@@ -42,10 +43,12 @@ pub enum ReadFault {
     Failed,
     /// More octets came than are read.
     TooLong,
+    /// A growth was refused.
     Memory,
 }
 
-/// Reads to the end.
+/// Reads to the end: at most 4,194,304 octets in at most 8,388,608 reads. After the octet that is too many
+/// nothing is read.
 pub fn read_octets<R: Read>(alloc: Global, r: &mut Watched<R>) -> Result<Vec<u8>, ReadFault>
     ensures all { IfOk result (λ v. ReadsAll (R.remaining (device_of r.old)) (R.remaining (device_of r.new)) v.items) }
     ensures fits { IfOk result (λ v. vec_len v ≤ MAX_OCTETS) }

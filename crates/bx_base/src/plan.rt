@@ -1,3 +1,5 @@
+//! A plan: which bookings are accepted, on which channels, and the prices that are to prove it best.
+
 ghost use Rattle.std.specs.Prelude.{◌≡◌, ◌≤◌, ◌<◌, ◌-◌, ◌+◌, ℕ, ◌↔◌, IfNone, length, vec_len, IsTrue, IsSome, IfSome};
 ghost use Rattle.bx_base.specs.Bookings.{Carries};
 ghost use Rattle.bx_base.specs.Plans.{is_accepted, channel_at, IsOutOfService, Clash};
@@ -7,7 +9,14 @@ use crate::channel::Channel;
 use crate::channel_set::ChannelSet;
 use crate::price::Price;
 
-/// Bookings, the channel of each accepted one, and the prices that are to prove that no choice pays more.
+/// The most prices that a plan may have.
+pub const MAX_PRICES: usize = 8000;
+
+/// The greatest total of a plan.
+pub const MAX_TOTAL: u64 = 4_000_000_000_000;
+
+/// Bookings, the channel of each accepted one, and the prices that are to prove that no choice pays more. The
+/// booking at a place of the list is accepted where the same place of `assigned` has a channel.
 #[derive(Drop)]
 pub struct Plan {
     pub bookings: Bookings,
@@ -21,6 +30,8 @@ pub struct Plan {
 }
 
 impl Plan {
+    /// The plan of these parts. None where there is not one entry for each booking, or are more than 8,000
+    /// prices, or the total is above 4,000,000,000,000; the parts are then dropped.
     pub fn new(
         bookings: Bookings,
         channels: ChannelSet,
@@ -32,8 +43,8 @@ impl Plan {
         ensures parts { IfSome result (λ p. (p.bookings ≡ bookings) × (p.channels ≡ channels) × (p.assigned ≡ assigned) × (p.prices ≡ prices) × (p.total ≡ total)) }
     {
         if assigned.len() != bookings.len() as usize
-            || prices.len() > 8000
-            || total > 4000000000000
+            || prices.len() > MAX_PRICES
+            || total > MAX_TOTAL
         {
             return None;
         }
@@ -46,7 +57,7 @@ impl Plan {
         })
     }
 
-    /// The first accepted row whose channel is not in service.
+    /// The first accepted row whose channel is not in service, where rows are named 1, 2, ..
     pub fn first_out_of_service(&self) -> Option<u16>
         ensures some { IfSome result (λ b. (1 ≤ b) × (b ≤ length self.now.bookings) × IsOutOfService self.now.assigned.items self.now.channels (b - 1)) }
         ensures least { IfSome result (λ b. (i : ℕ) → i < b - 1 → ¬ IsOutOfService self.now.assigned.items self.now.channels i) }
@@ -62,7 +73,7 @@ impl Plan {
         None
     }
 
-    /// The first row after this one that overlaps it on its channel.
+    /// The place of the first booking after this place that overlaps the one there on its channel.
     fn first_overlap_with(&self, row: u16) -> Option<u16>
         requires { row < length self.now.bookings }
         ensures some { IfSome result (λ j. (row < j) × (j < length self.now.bookings) × Clash self.now.bookings self.now.assigned.items row j) }
@@ -84,7 +95,8 @@ impl Plan {
         None
     }
 
-    /// The first two rows that overlap on one channel.
+    /// The first two rows that overlap on one channel: the least first row, and for it the least second.
+    /// Compares each two accepted rows at most.
     pub fn first_overlap(&self) -> Option<(u16, u16)>
         ensures some { IfSome result (λ p. (1 ≤ p.0) × (p.0 < p.1) × (p.1 ≤ length self.now.bookings) × Clash self.now.bookings self.now.assigned.items (p.0 - 1) (p.1 - 1)) }
         ensures least_first { IfSome result (λ p. (i k : ℕ) → i < p.0 - 1 → i < k → k < length self.now.bookings → ¬ Clash self.now.bookings self.now.assigned.items i k) }
@@ -99,7 +111,8 @@ impl Plan {
         None
     }
 
-    /// Whether each accepted booking has a channel in service, and no two that overlap have the same.
+    /// Whether the assignment carries the accepted bookings: each has a channel in service, and no two that
+    /// overlap have the same.
     pub fn carried(&self) -> bool
         ensures { IsTrue result ↔ Carries self.now.bookings self.now.channels (is_accepted self.now.assigned.items) (channel_at self.now.assigned.items) }
     {

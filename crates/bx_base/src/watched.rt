@@ -1,4 +1,4 @@
-//! Readers and writers that are watched, and loops over them.
+//! Readers and writers that are watched for failures.
 
 ghost use Rattle.std.specs.Prelude.{◌≡◌, ◌+◌, ◌≤◌, ◌<◌, ◌||◌, is_err, ℕ, List, true, false, length, min, take, Ok, IsTrue, IsErr, IsErrOf, OnOk, OnErr, IfOk, IfSome};
 ghost use Rattle.std.specs.Io.{ReadsAtMost, WritesAtMost};
@@ -9,10 +9,11 @@ use std::alloc::{AllocError, Global};
 use std::io;
 use std::io::{Read, Write};
 
-/// How many reads are counted.
+/// The most reads that are counted.
 pub const MAX_READS: u32 = 8_388_608;
 
-/// A reader or a writer, and whether it has failed.
+/// A reader or a writer, whether it has failed, and how many reads were passed on to it. It has failed where a
+/// read, a write or a flush of it failed, or a write of at least one octet took none, and never otherwise.
 #[derive(Drop)]
 pub struct Watched<T> {
     inner: T,
@@ -24,6 +25,7 @@ pub struct Watched<T> {
 impl<T> Watched<T> {
     ghost use Rattle.bx_base.specs.Watching.{device_of, is_faulted, reads_of};
 
+    /// Watches the device from now on.
     pub fn new(inner: T) -> Self
         ensures device { device_of result ≡ inner }
         ensures faulted { is_faulted result ≡ false }
@@ -36,6 +38,7 @@ impl<T> Watched<T> {
         }
     }
 
+    /// The device, watched no more.
     pub fn into_inner(self) -> T
         ensures { result ≡ device_of self }
     {
@@ -47,12 +50,14 @@ impl<T> Watched<T> {
         inner
     }
 
+    /// Whether it has failed.
     pub fn faulted(&self) -> bool
         ensures { result ≡ is_faulted self.now }
     {
         self.is_faulted
     }
 
+    /// How many reads were passed on, up to 8,388,608.
     pub fn reads(&self) -> u32
         ensures { result ≡ reads_of self.now }
     {
@@ -104,6 +109,7 @@ impl<W: Write> Write for Watched<W> {
         result
     }
 
+    /// Passes the flush on. One that failed counts as a write that failed.
     fn flush(&mut self) -> io::Result<()>
         ensures bytes { Keeps (W.contents (device_of self.old)) (W.contents (device_of self.new)) }
         ensures faulted { is_faulted self.new ≡ (is_faulted self.old || is_err result) }

@@ -3,5 +3,7 @@
 
 mod bound;
 mod judge;
+#[cfg(test)]
+mod tests;
 
 pub use judge::{CheckFault, check};
