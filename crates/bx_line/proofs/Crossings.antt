@@ -3,13 +3,13 @@
 -- A row that is carried leads over the gap before a place or starts there, just where it leads over the gap behind it or
 -- ends there. So from gap to gap the count over the gap changes by what starts less what ends at the place between, and
 -- conservation says that the idle units change by the opposite.
-use Rattle.std.proofs.Common.{◌≡◌, ℕ, zero, suc, ◌+◌, ◌-◌, ◌<◌, ◌≤◌, Bool, true, false, cond, ◌&&◌, eqb, ltb, length, get_or, refl, ap, sym, ◌∙◌, subst, arith, inl, inr, add-one}
+use Rattle.std.proofs.Common.{◌≡◌, ℕ, zero, suc, ◌+◌, ◌-◌, ◌<◌, Bool, true, false, cond, ◌&&◌, eqb, ltb, length, refl, ap, sym, ◌∙◌, subst, arith, inl, inr, add-one}
 use Rattle.std.proofs.lemmas.Bool.{cases_lt, cond-true, cond-false, lt-ltb}
 use Rattle.std.proofs.lemmas.Bool.Decides.{nat_tests}
 use Rattle.bx_base.specs.Sums.{sum_below}
 use Rattle.bx_base.proofs.SumLemmas.{sum_below-add, sum_below-same, sum_below-zero}
 use Rattle.bx_line.specs.declared.arc.Arc.{Arc}
-use Rattle.bx_line.specs.Network.{Network, IsNetwork, IsArc, places_of, arc_at, spans}
+use Rattle.bx_line.specs.Network.{Network, IsNetwork, places_of, arc_at, spans}
 use Rattle.bx_line.specs.Flows.{Flow, IsFlow, CrossesEachGap, is_carried, idle_at, out_of, into, crossing_at}
 
 -- how many carried rows start at a place, and how many end there

@@ -3,6 +3,8 @@
 
 mod arc;
 mod arcs;
+#[cfg(test)]
+mod examples;
 pub mod laws;
 mod line;
 mod moments;
