@@ -1,13 +1,12 @@
-// A library with one function.
+//! Channels for accepted bookings, first fit in the order of their starts.
 #![tactic(auto)]
 
-ghost use Rattle.std.specs.Prelude.{◌≡◌};
-ghost use Rattle.bx_colour.specs.Echo.{echo_of};
+mod colouring;
+#[cfg(test)]
+mod examples;
+mod order;
+mod running;
+mod sweep;
 
-// The `ensures` clause is the contract: what `echo` returns is `echo_of` of its argument, a definition
-// in `specs/Echo.antt`, which a caller's clause can cite too.
-pub fn echo(x: usize) -> usize
-    ensures { result ≡ echo_of x }
-{
-    x
-}
+pub use colouring::colour;
+pub use running::fits;
