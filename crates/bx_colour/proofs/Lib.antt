@@ -1,0 +1,5 @@
+pub mod RunningLemmas
+pub mod OrderLemmas
+pub mod Sweeping
+pub mod Counting
+pub mod Outcome

@@ -1,0 +1,12 @@
+//! Channels for accepted bookings, first fit in the order of their starts.
+#![tactic(auto)]
+
+mod colouring;
+#[cfg(test)]
+mod examples;
+mod order;
+mod running;
+mod sweep;
+
+pub use colouring::colour;
+pub use running::fits;

@@ -1,0 +1,13 @@
+//! The line of moments at which bookings start or end, with an arc for each booking, and flows along it.
+#![tactic(auto)]
+
+mod arc;
+mod arcs;
+#[cfg(test)]
+mod examples;
+pub mod laws;
+mod line;
+mod moments;
+
+pub use arc::Arc;
+pub use line::{Line, MUST_RAISE};

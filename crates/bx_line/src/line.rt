@@ -1,0 +1,94 @@
+//! The line network.
+
+ghost use Rattle.std.specs.Prelude.{◌≡◌, ◌≤◌, ◌<◌, ◌-◌, ◌↔◌, IfOk, IfSome, IsSome, length, Contains};
+ghost use Rattle.std.specs.List.Sorted.{IsStrictlyIncreasing};
+ghost use Rattle.bx_line.specs.Moments.{HasJustMoments};
+ghost use Rattle.bx_line.specs.Network.{IsNetwork, IsArc, AreArcsOf, arc_at, places_of};
+
+use crate::arc::Arc;
+use crate::arcs::arcs_of;
+use crate::moments::moments_of;
+use bx_base::Bookings;
+use std::alloc::{AllocError, Global};
+use std::marker::Model;
+
+/// What the arc of a booking that each plan has to hold pays more. All bookings together pay less, so a flow of
+/// least cost leaves out none of these that it can carry.
+pub const MUST_RAISE: u64 = 5_000_000_000_000;
+
+/// The line network of a day (M. C. Carlisle and E. L. Lloyd, On the k-coloring of intervals, 1995): a place for
+/// each moment at which a booking starts or ends, an idle arc of cost 0 from each place to the next, and for each
+/// booking an arc that takes one unit. Places are counted from 0, and rows are named 1, 2, ..
+#[derive(Drop)]
+pub struct Line {
+    moments: Vec<u32>,
+    arcs: Vec<Arc>,
+}
+
+impl Model for Line {
+    ghost use Rattle.bx_line.specs.Network.{Network, IsNetwork, network_of};
+
+    ghost Value = { Network };
+
+    ghost view = { λ l. network_of l.moments.items l.arcs.items };
+
+    ghost invariant = { λ l. IsNetwork (network_of l.moments.items l.arcs.items) };
+}
+
+impl Line {
+    /// The line of these bookings, by one sort: its time is n log n in the bookings, its memory linear.
+    pub fn of(alloc: Global, bookings: &Bookings) -> Result<Line, AllocError>
+        ensures moments { IfOk result (λ line. HasJustMoments bookings.now line.moments) }
+        ensures arcs { IfOk result (λ line. AreArcsOf line.moments bookings.now line.arcs) }
+        ensures limits { IfOk result IsNetwork }
+    {
+        let moments = moments_of(alloc, bookings)?;
+        let arcs = arcs_of(alloc, &moments, bookings)?;
+        Ok(Line { moments, arcs })
+    }
+
+    /// The moments of the places: the starts and ends of the bookings, in rising order.
+    pub fn moments(&self) -> &[u32]
+        ensures value { result.now ≡ self.now.moments }
+        ensures limits { IsNetwork self.now }
+    {
+        &self.moments
+    }
+
+    /// How many places there are: 0 to 8,000.
+    pub fn places(&self) -> u16
+        ensures count { result ≡ places_of self.now }
+        ensures limits { IsNetwork self.now }
+    {
+        self.moments.len() as u16
+    }
+
+    /// How many rows there are: 0 to 4,000.
+    pub fn rows(&self) -> u16
+        ensures count { result ≡ length self.now.arcs }
+        ensures limits { IsNetwork self.now }
+    {
+        self.arcs.len() as u16
+    }
+
+    /// The arc of a row, where rows are named 1, 2, ..
+    pub fn arc_of(&self, row: u16) -> Option<Arc>
+        ensures exactly { IsSome result ↔ ((1 ≤ row) × (row ≤ length self.now.arcs)) }
+        ensures value { IfSome result (λ a. a ≡ arc_at self.now (row - 1)) }
+        ensures limits { IfSome result (IsArc (places_of self.now)) }
+    {
+        if row == 0 || row > self.rows() {
+            return None;
+        }
+        Some(self.arc(row - 1))
+    }
+
+    /// The arc at a place of their list, counted from 0.
+    pub fn arc(&self, index: u16) -> Arc
+        requires { index < length self.now.arcs }
+        ensures value { result ≡ arc_at self.now index }
+        ensures limits { IsArc (places_of self.now) result }
+    {
+        self.arcs[index as usize]
+    }
+}

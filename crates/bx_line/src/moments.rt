@@ -1,0 +1,48 @@
+//! The places of the line.
+
+ghost use Rattle.std.specs.Prelude.{◌≡◌, ◌*◌, ◌≤◌, ◌<◌, IfOk, vec_len, length, Contains, slice_index};
+ghost use Rattle.std.specs.List.Sorted.{IsStrictlyIncreasing};
+ghost use Rattle.bx_line.specs.Moments.{HasJustMoments};
+
+use bx_base::Bookings;
+use std::alloc::{AllocError, Global};
+
+/// The moments at which bookings start or end, each once.
+pub fn moments_of(alloc: Global, bookings: &Bookings) -> Result<Vec<u32>, AllocError>
+    ensures rising { IfOk result (λ v. IsStrictlyIncreasing v.items) }
+    ensures just { IfOk result (λ v. HasJustMoments bookings.now v.items) }
+    ensures few { IfOk result (λ v. vec_len v ≤ 8000) }
+{
+    let mut moments = ends_of(alloc, bookings)?;
+    moments.sort_unstable();
+    moments.dedup();
+    Ok(moments)
+}
+
+/// The start and the end of each booking.
+fn ends_of(alloc: Global, bookings: &Bookings) -> Result<Vec<u32>, AllocError>
+    ensures just { IfOk result (λ v. HasJustMoments bookings.now v.items) }
+    ensures few { IfOk result (λ v. vec_len v ≤ 8000) }
+{
+    let mut ends = Vec::new(alloc);
+    for i in 0..bookings.len() {
+        let booking = bookings.nth(i);
+        ends.push(booking.start())?;
+        ends.push(booking.end())?;
+    }
+    Ok(ends)
+}
+
+/// The place of a moment.
+pub fn place_of(moments: &[u32], moment: u32) -> u16
+    requires rising { IsStrictlyIncreasing moments.now }
+    requires few { length moments.now ≤ 8000 }
+    requires there { Contains moments.now moment }
+    ensures within { result < length moments.now }
+    ensures at { slice_index moments.now result ≡ moment }
+{
+    match moments.binary_search(&moment) {
+        Ok(place) => place as u16,
+        Err(_) => unreachable!(),
+    }
+}
