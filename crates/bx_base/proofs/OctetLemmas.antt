@@ -1,12 +1,12 @@
 -- One step of a loop over a watched reader or writer.
-use Rattle.std.proofs.Common.{◌≡◌, ◌≢◌, ℕ, ◌+◌, ◌-◌, ◌≤◌, ◌==◌, ◌||◌, ◌&&◌, Bool, false, nat_lt, List, ◌++◌, length, take, drop, sym, subst, arith, length-append, length-drop, Option}
+use Rattle.std.proofs.Common.{◌≡◌, ◌≢◌, ℕ, ◌+◌, ◌-◌, ◌≤◌, ◌==◌, ◌||◌, ◌&&◌, Bool, false, nat_lt, List, ◌++◌, length, take, drop, sym, subst, arith, length-append, length-drop, Option, Some, None, ◌∙◌, append-nil}
 use Rattle.std.proofs.Math.Seq.{take-add, take-append-add}
 use Rattle.std.proofs.lemmas.List.{take_all, length-take-le, take-append-le}
 use Rattle.std.proofs.lemmas.Bool.Decides.{nat_tests}
 use Rattle.std.proofs.Math.Bool.{or-false}
 use Rattle.std.specs.Io.KnownBytes.{Appends, Consumes}
 use Rattle.std.proofs.KnownBytes.{Appends-trans, Consumes-trans}
-use Rattle.bx_base.specs.Octets.{AppendsPrefix, ReadsFront}
+use Rattle.bx_base.specs.Octets.{AppendsPrefix, ReadsAll, ReadsFront}
 
 -- what is left from a place on, as the code cuts it
 pub from_place : (bytes : List ℕ) (at : ℕ) → take (length bytes - at) (drop at bytes) ≡ drop at bytes
@@ -34,3 +34,9 @@ AppendsPrefix-more a b bs cs p = (p.0, omega (arith, p.1, length-append bs cs), 
 -- all of one text, and a front of the next
 pub AppendsPrefix-after : (a b c : Option (List ℕ)) (bs cs : List ℕ) → Appends a b bs → AppendsPrefix b c cs → AppendsPrefix a c (bs ++ cs)
 AppendsPrefix-after a b c bs cs p q = (length bs + q.0, omega (arith, q.1, length-append bs cs), subst (Appends a c) (sym (take-append-add bs cs q.0)) (Appends-trans a b c bs (take q.0 cs) p q.2))
+
+-- what was read to the end is what was known to be left
+pub ReadsAll-known : (old new : Option (List ℕ)) (bs text : List ℕ) → ReadsAll old new bs → old ≡ Some text → bs ≡ text
+ReadsAll-known None new bs text r e = cc
+ReadsAll-known (Some xs) None bs text r e = absurd r.0
+ReadsAll-known (Some xs) (Some ys) bs text r e = let whole : bs ++ ys ≡ bs = rw r.1 (append-nil bs) in let same : xs ≡ text = cc in sym whole ∙ (sym r.0 ∙ same)
