@@ -1,3 +1,4 @@
 pub mod ItemLemmas
 pub mod PassLemmas
 pub mod ValueLemmas
+pub mod SpellingLemmas

@@ -1,7 +1,7 @@
 -- The readers of a message, one step at a time.
 use Rattle.std.proofs.Common.{◌≡◌, ◌≢◌, ◌<◌, ◌≤◌, ◌==◌, ◌&&◌, ◌∙◌, ◌↔◌, ℕ, nat_lt, nat_le, Bool, true, false, List, [], ◌∷◌, length, Option, Some, None, refl, sym, ap, arith, inl, inr, ◌⊎◌, eq-eqb, cond, All}
-use Rattle.std.proofs.lemmas.Bool.{ne_eqb, ltb-true, leb-true, lt-ltb, le-leb}
-use Rattle.std.proofs.lemmas.Bool.Decides.{Decides-and, Decides-ltb, Decides-by_and, Decides-at, Decides-like, leb_tells}
+use Rattle.std.proofs.lemmas.Bool.{ne_eqb, leb-true, le-leb, cases_Bool, false≢true}
+use Rattle.std.proofs.lemmas.Bool.Decides.{Decides-and, Decides-by_and, Decides-like}
 use Rattle.std.specs.Bool.{Decides}
 use Rattle.std.specs.Char.{is_ascii_digit, IsAsciiDigit}
 use Rattle.std.specs.Option.{IsSome, IfSome, is_some}
@@ -33,13 +33,27 @@ first_none id es h = rw h refl
 
 -- ---- numbers
 
+leb_decides : (a b : ℕ) → Decides (nat_le a b) (a ≤ b)
+leb_decides a b = (leb-true a b, le-leb a b)
+
+digit_decides : (o : ℕ) → Decides (is_ascii_digit o) (IsAsciiDigit o)
+digit_decides o = Decides-and (nat_le 48 o) (nat_le o 57) (leb_decides 48 o) (leb_decides o 57)
+
 digits_decide : (digits : List ℕ) → Decides (are_digits digits) (All IsAsciiDigit digits)
 unfolding are_digits
-digits_decide = Decides-by_and is_ascii_digit IsAsciiDigit are_digits ? refl (λ x xs. refl)
+digits_decide = Decides-by_and is_ascii_digit IsAsciiDigit are_digits digit_decides refl (λ x xs. refl)
 
 number_decides : (digits : List ℕ) → Decides (is_number digits) (IsNumber digits)
-number_decides digits = ?
+number_decides digits =
+    Decides-like (is_number digits)
+    (λ (p : (1 ≤ length digits × length digits ≤ 15) × All IsAsciiDigit digits). record { some = p.0.0; few = p.0.1; ascii = p.1 })
+    (λ n. ((n.some, n.few), n.ascii))
+    (Decides-and (nat_le 1 (length digits) && nat_le (length digits) 15) (are_digits digits) (Decides-and (nat_le 1 (length digits)) (nat_le (length digits) 15) (leb_decides 1 (length digits)) (leb_decides (length digits) 15)) (digits_decide digits))
 
 -- what `Number::new` says, as a value
 pub number_if : (digits : List ℕ) (r : Option (List ℕ)) → (IsSome r ↔ IsNumber digits) → IfSome r (λ n. n ≡ digits) → r ≡ cond (is_number digits) (Some digits) None
-number_if digits r h v = ?
+number_if digits None h v = elim (cases_Bool (is_number digits)) [
+  | inl t ↦ absurd (false≢true (h.1 ((number_decides digits).0 t)))
+  | inr f ↦ rw f refl
+]
+number_if digits (Some n) h v = rw ((number_decides digits).1 (h.0 refl)) (ap Some v)

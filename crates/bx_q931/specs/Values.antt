@@ -50,7 +50,7 @@ are_digits [] = true
 are_digits (o ∷ os) = is_ascii_digit o && are_digits os
 
 abbrev pub is_number : List ℕ → Bool
-is_number digits = nat_lt 0 (length digits) && nat_le (length digits) 15 && are_digits digits
+is_number digits = nat_le 1 (length digits) && nat_le (length digits) 15 && are_digits digits
 
 abbrev pub called_in : List ℕ → Option (List ℕ)
 called_in [] = None
