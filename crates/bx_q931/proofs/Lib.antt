@@ -2,3 +2,4 @@ pub mod ItemLemmas
 pub mod PassLemmas
 pub mod ValueLemmas
 pub mod SpellingLemmas
+pub mod GrammarLemmas
