@@ -3,3 +3,4 @@ pub mod PassLemmas
 pub mod ValueLemmas
 pub mod SpellingLemmas
 pub mod GrammarLemmas
+pub mod PartsLemmas

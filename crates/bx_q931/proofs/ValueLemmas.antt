@@ -43,7 +43,7 @@ digits_decide : (digits : List ℕ) → Decides (are_digits digits) (All IsAscii
 unfolding are_digits
 digits_decide = Decides-by_and is_ascii_digit IsAsciiDigit are_digits digit_decides refl (λ x xs. refl)
 
-number_decides : (digits : List ℕ) → Decides (is_number digits) (IsNumber digits)
+pub number_decides : (digits : List ℕ) → Decides (is_number digits) (IsNumber digits)
 number_decides digits =
     Decides-like (is_number digits)
     (λ (p : (1 ≤ length digits × length digits ≤ 15) × All IsAsciiDigit digits). record { some = p.0.0; few = p.0.1; ascii = p.1 })

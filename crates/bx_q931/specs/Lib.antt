@@ -7,3 +7,5 @@ pub mod Messages
 pub mod Grammar
 pub mod Values
 pub mod ElementViews
+pub mod Outgoing
+pub mod Parts

@@ -4,17 +4,24 @@
 
 mod channel_field;
 mod elements;
+mod encoding;
 mod fault;
 mod items;
 mod kind;
 mod message;
+mod out;
 mod reading;
 mod reference;
 
 pub use channel_field::ChannelField;
 pub use elements::{Element, Elements};
+pub use encoding::{Octets, encode};
 pub use fault::MessageFault;
 pub use kind::Kind;
-pub use message::Message;
+pub use message::{
+    BEARER_CAPABILITY, CALL_STATE, CALLED_PARTY_NUMBER, CAUSE, CHANNEL_IDENTIFICATION, Message,
+    SENDING_COMPLETE,
+};
+pub use out::Out;
 pub use reading::{MAX_MESSAGE, read};
 pub use reference::Reference;

@@ -14,7 +14,9 @@ use crate::reference::Reference;
 use bx_base::Number;
 use std::marker::Model;
 
-/// The identifier of a cause (ITU-T Q.931, 4.5.12).
+/// The identifier of a bearer capability (ITU-T Q.931, 4.5.5).
+pub const BEARER_CAPABILITY: u8 = 0x04;
+/// The identifier of a cause (4.5.12).
 pub const CAUSE: u8 = 0x08;
 /// The identifier of a call state (4.5.7).
 pub const CALL_STATE: u8 = 0x14;
@@ -22,6 +24,8 @@ pub const CALL_STATE: u8 = 0x14;
 pub const CHANNEL_IDENTIFICATION: u8 = 0x18;
 /// The identifier of a called party number (4.5.8).
 pub const CALLED_PARTY_NUMBER: u8 = 0x70;
+/// The one octet of sending complete (4.5.27).
+pub const SENDING_COMPLETE: u8 = 0xA1;
 
 /// A message, in the octets that it was read from.
 #[derive(Debug, Drop)]
