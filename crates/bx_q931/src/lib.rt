@@ -2,16 +2,20 @@
 //! memory.
 #![tactic(auto)]
 
+pub mod cause;
 mod channel_field;
 mod elements;
 mod encoding;
 mod fault;
 mod items;
 mod kind;
+pub mod laws;
 mod message;
 mod out;
 mod reading;
 mod reference;
+#[cfg(test)]
+mod tests;
 
 pub use channel_field::ChannelField;
 pub use elements::{Element, Elements};
