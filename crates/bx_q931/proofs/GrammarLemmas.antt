@@ -1,14 +1,14 @@
 -- The reading gives a message exactly where the octets are one in the grammar, and else their first fault.
-use Rattle.std.proofs.Common.{◌≡◌, ◌≢◌, ◌<◌, ◌≤◌, ◌+◌, ◌/◌, ◌%◌, ◌==◌, ◌∙◌, ◌↔◌, ℕ, zero, suc, nat_lt, nat_le, Bool, true, false, cond, List, [], ◌∷◌, ◌++◌, length, take, drop, take-append-drop, length-append, length-take, length-drop, Option, Some, None, Result, Ok, Err, refl, sym, ap, subst, arith, inl, inr, ◌⊎◌, All}
+use Rattle.std.proofs.Common.{◌≡◌, ◌<◌, ◌≤◌, ◌==◌, ◌∙◌, ℕ, nat_lt, nat_le, List, [], ◌∷◌, ◌++◌, length, take, drop, take-append-drop, length-append, length-drop, Option, Some, None, Result, Ok, Err, refl, sym, ap, subst, arith, inl, inr}
 use Rattle.std.specs.List.{flat_map}
 use Rattle.std.proofs.Math.Seq.{take-append_seam, drop-append_seam}
 use Rattle.std.proofs.lemmas.List.{length-take-le}
 use Rattle.std.proofs.lemmas.Bool.{ltb-true, ltb-false, lt-ltb, le-ltb, leb-true, leb-false, le-leb, lt-leb, eqb-true, eqb-false, ne_eqb, cases_lt}
-use Rattle.bx_q931.specs.Items.{PlainItem, IsItem, item_octets, all_items}
+use Rattle.bx_q931.specs.Items.{PlainItem, item_octets, all_items}
 use Rattle.bx_q931.specs.Kinds.{kind_of}
 use Rattle.bx_q931.specs.References.{reference_of}
 use Rattle.bx_q931.specs.Messages.{PlainMessage, plain_message, whole_message, kind_at, body_at, reference_at, discriminated_at, message_at}
-use Rattle.bx_q931.specs.Grammar.{AreItems, IsSpelled, IsMessage, IsBadLength, EndsEarly, IsNotQ931, HasBadLength, IsTorn, IsFirstFault}
+use Rattle.bx_q931.specs.Grammar.{IsSpelled, IsMessage, IsBadLength, EndsEarly, IsNotQ931, HasBadLength, IsTorn, IsFirstFault}
 use Rattle.bx_q931.specs.declared.kind.Kind.{Kind}
 use Rattle.bx_q931.specs.declared.reference.Reference.{Reference}
 use Rattle.bx_q931.specs.declared.fault.MessageFault.{MessageFault}
@@ -56,15 +56,18 @@ body_ok len rest m few h e = elim (chosen (nat_le (length rest) len) (Err TooSho
       let items = items_are k.1 m.items k.3 in
       let size : length (take len rest) ≡ len = length-take-le len rest (let l = leb-false (length rest) len f.0 in omega (arith, l)) in
       let rest_is : rest ≡ take len rest ++ k.0 ∷ flat_map item_octets m.items =
-          sym (take-append-drop len rest) ∙ ap (λ l. take len rest ++ l) (k.2 ∙ ap (λ l. k.0 ∷ l) items.spelled) in
-      (take len rest, k.0, record {
-        few = few;
-        short = subst (λ n. n ≤ 2) (sym size) h;
-        spelled = ap (λ n. 8 ∷ n ∷ rest) (sym size) ∙ ap (λ l. 8 ∷ length (take len rest) ∷ l) rest_is;
-        each = items.each;
-        reference_is = k.4;
-        kind_is = k.5;
-      })
+      sym (take-append-drop len rest) ∙ ap (λ l. take len rest ++ l) (k.2 ∙ ap (λ l. k.0 ∷ l) items.spelled) in (
+        take len rest,
+        k.0,
+        record {
+          few = few;
+          short = subst (λ n. n ≤ 2) (sym size) h;
+          spelled = ap (λ n. 8 ∷ n ∷ rest) (sym size) ∙ ap (λ l. 8 ∷ length (take len rest) ∷ l) rest_is;
+          each = items.each;
+          reference_is = k.4;
+          kind_is = k.5;
+        },
+      )
 ]
 
 reference_ok : (rest : List ℕ) (m : PlainMessage) → length (8 ∷ rest) ≤ 260 → reference_at rest ≡ Ok m → IsMessage (8 ∷ rest) m

@@ -1,21 +1,20 @@
 -- What is written is read again, with the parts that it was written from.
-use Rattle.std.proofs.Common.{◌≡◌, ◌<◌, ◌≤◌, ◌+◌, ◌*◌, ◌/◌, ◌%◌, ◌==◌, ◌∙◌, ◌&&◌, ℕ, nat_lt, nat_le, Bool, true, false, not, cond, List, [], ◌∷◌, ◌++◌, length, length-append, Option, Some, None, option_map, Ok, refl, sym, ap, arith, inl, inr, ◌≢◌, All}
+use Rattle.std.proofs.Common.{◌≡◌, ◌<◌, ◌≤◌, ◌+◌, ◌*◌, ◌/◌, ◌%◌, ◌==◌, ◌∙◌, ℕ, nat_lt, Bool, true, false, cond, List, [], ◌∷◌, ◌++◌, length, length-append, Option, Some, None, option_map, Ok, refl, sym, ap, arith, inl, inr}
 use Rattle.std.specs.List.{flat_map, AllByRecursion}
 use Rattle.std.specs.Option.{IfSome}
 use Rattle.std.proofs.lemmas.List.Concat.{flat_map-append}
 use Rattle.std.proofs.lemmas.List.Elements.{All-from_recursion}
-use Rattle.std.proofs.lemmas.Bool.{lt-ltb, le-ltb, le-leb, lt-leb, ne_eqb, cases_Bool}
+use Rattle.std.proofs.lemmas.Bool.{le-ltb, le-leb, lt-leb, ne_eqb, cases_Bool}
 use Rattle.bx_base.specs.Channels.{IsChannel}
 use Rattle.bx_base.specs.Numbers.{IsNumber}
-use Rattle.bx_q931.specs.Items.{PlainItem, plain_item, IsItem, item_octets}
-use Rattle.bx_q931.specs.Elements.{PlainElement, plain_element, is_shift, elements_of}
+use Rattle.bx_q931.specs.Items.{plain_item, IsItem, item_octets}
+use Rattle.bx_q931.specs.Elements.{is_shift, elements_of}
 use Rattle.bx_q931.specs.Passing.{passed}
 use Rattle.bx_q931.specs.Kinds.{kind_of, octet_of, IsNamed}
 use Rattle.bx_q931.specs.References.{reference_of}
-use Rattle.bx_q931.specs.Messages.{message_at, PlainMessage}
-use Rattle.bx_q931.specs.Grammar.{IsSpelled}
-use Rattle.bx_q931.specs.Values.{first_in, first_of, if_there, cause_in, state_in, called_in, is_number, channel_in, channel_if_there, is_channel}
-use Rattle.bx_q931.specs.Outgoing.{Outgoing, IsOutgoing, IsCallReference, cause_contents, state_contents, channel_contents, called_contents, bearer_contents, table_of, optional_item, optional_octets, items_of_table, out_items, out_octets, message_of}
+use Rattle.bx_q931.specs.Messages.{message_at}
+use Rattle.bx_q931.specs.Values.{first_in, if_there, cause_in, state_in, called_in, channel_in, channel_if_there, is_channel}
+use Rattle.bx_q931.specs.Outgoing.{Outgoing, IsOutgoing, cause_contents, state_contents, channel_contents, called_contents, bearer_contents, table_of, optional_item, optional_octets, items_of_table, out_items, out_octets, message_of}
 use Rattle.bx_q931.specs.Parts.{HasParts, channel_part}
 use Rattle.bx_q931.specs.declared.kind.Kind.{Kind}
 use Rattle.bx_q931.specs.declared.kind.Kind.TheVariants.{Alerting, CallProceeding, Progress, Setup, Connect, SetupAcknowledge, ConnectAcknowledge, Disconnect, Release, ReleaseComplete, Notify, StatusEnquiry, Information, Status, Other}
@@ -103,11 +102,19 @@ empty false = (refl, tt)
 table_entries : (o : Outgoing) → AllByRecursion IsEntry (table_of o)
 table_entries o = (
   empty o.sending_complete,
-  (low 0x04 (omega arith) refl _,
-  (low 0x08 (omega arith) refl _,
-  (low 0x14 (omega arith) refl _,
-  (low 0x18 (omega arith) refl _,
-  (low 0x70 (omega arith) refl _, tt))))),
+  (
+    low 0x04 (omega arith) refl _,
+    (
+      low 0x08 (omega arith) refl _,
+      (
+        low 0x14 (omega arith) refl _,
+        (
+          low 0x18 (omega arith) refl _,
+          (low 0x70 (omega arith) refl _, tt),
+        ),
+      ),
+    ),
+  ),
 )
 
 -- ---- at most 40 octets
@@ -172,14 +179,18 @@ few_octets o h =
 pub written_again : (o : Outgoing) → IsOutgoing o → IfSome o.called IsNumber → message_at (out_octets o) ≡ Ok (message_of o)
 written_again o h called =
     let high = cond o.flag 0x80 0 + o.reference / 256 in
-    message_is_read (out_octets o) (message_of o) (high ∷ o.reference % 256 ∷ [], octet_of o.kind, record {
-      few = omega (arith, few_octets o called);
-      short = omega arith;
-      spelled = refl;
-      each = All-from_recursion IsItem (out_items o) (items_of (table_of o) (table_entries o));
-      reference_is = reference_again o.reference o.flag h.reference.1;
-      kind_is = kind_again o.kind h.kind;
-    })
+    message_is_read (out_octets o) (message_of o) (
+      high ∷ o.reference % 256 ∷ [],
+      octet_of o.kind,
+      record {
+        few = omega (arith, few_octets o called);
+        short = omega arith;
+        spelled = refl;
+        each = All-from_recursion IsItem (out_items o) (items_of (table_of o) (table_entries o));
+        reference_is = reference_again o.reference o.flag h.reference.1;
+        kind_is = kind_again o.kind h.kind;
+      },
+    )
 
 -- ---- its parts
 

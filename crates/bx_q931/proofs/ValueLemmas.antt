@@ -1,10 +1,10 @@
 -- The readers of a message, one step at a time.
-use Rattle.std.proofs.Common.{◌≡◌, ◌≢◌, ◌<◌, ◌≤◌, ◌==◌, ◌&&◌, ◌∙◌, ◌↔◌, ℕ, nat_lt, nat_le, Bool, true, false, List, [], ◌∷◌, length, Option, Some, None, refl, sym, ap, arith, inl, inr, ◌⊎◌, eq-eqb, cond, All}
+use Rattle.std.proofs.Common.{◌≡◌, ◌≢◌, ◌≤◌, ◌==◌, ◌&&◌, ◌↔◌, ℕ, nat_le, Bool, true, false, List, [], ◌∷◌, length, Option, Some, None, refl, ap, inl, inr, eq-eqb, cond, All}
 use Rattle.std.proofs.lemmas.Bool.{ne_eqb, leb-true, le-leb, cases_Bool, false≢true}
 use Rattle.std.proofs.lemmas.Bool.Decides.{Decides-and, Decides-by_and, Decides-like}
 use Rattle.std.specs.Bool.{Decides}
 use Rattle.std.specs.Char.{is_ascii_digit, IsAsciiDigit}
-use Rattle.std.specs.Option.{IsSome, IfSome, is_some}
+use Rattle.std.specs.Option.{IsSome, IfSome}
 use Rattle.bx_base.specs.Numbers.{IsNumber}
 use Rattle.bx_q931.specs.Elements.{PlainElement}
 use Rattle.bx_q931.specs.Values.{first_in, are_digits, is_number}

@@ -1,5 +1,5 @@
 -- A message that is sent, by its parts, and the octets that it is written as (ITU-T Q.931, 4.1 to 4.5).
-use Rattle.std.specs.Prelude.{ℕ, ◌+◌, ◌*◌, ◌/◌, ◌%◌, ◌<◌, ◌≤◌, Bool, true, false, List, [], ◌∷◌, ◌++◌, if◌then◌else◌, Option, Some, None, option_map, IfSome}
+use Rattle.std.specs.Prelude.{ℕ, ◌+◌, ◌/◌, ◌%◌, ◌<◌, ◌≤◌, Bool, false, List, [], ◌∷◌, ◌++◌, if◌then◌else◌, Option, Some, None, option_map, IfSome}
 use Rattle.std.specs.List.{flat_map}
 use Rattle.bx_q931.specs.Items.{PlainItem, plain_item, item_octets}
 use Rattle.bx_q931.specs.Kinds.{IsNamed, octet_of}
@@ -22,8 +22,15 @@ pub record Outgoing : Type 0 where
 -- a message with no element
 abbrev pub plain : ℕ → Bool → Kind → Outgoing
 plain reference flag kind = record {
-  reference = reference; flag = flag; kind = kind; sending_complete = false; bearer = false;
-  cause = None; state = None; channel = None; called = None;
+  reference = reference;
+  flag = flag;
+  kind = kind;
+  sending_complete = false;
+  bearer = false;
+  cause = None;
+  state = None;
+  channel = None;
+  called = None;
 }
 
 -- a reference that names a call: not the global one

@@ -1,5 +1,5 @@
 -- The parts of a message that was sent, as its reader finds them.
-use Rattle.std.specs.Prelude.{◌≡◌, ℕ, Bool, List, [], if◌then◌else◌, Option, Some, None, option_map}
+use Rattle.std.specs.Prelude.{◌≡◌, ℕ, Bool, [], if◌then◌else◌, Option, Some, None, option_map}
 use Rattle.bx_q931.specs.Messages.{PlainMessage}
 use Rattle.bx_q931.specs.Values.{first_of, cause_of, state_of, channel_of, called_of}
 use Rattle.bx_q931.specs.Outgoing.{Outgoing, bearer_contents}

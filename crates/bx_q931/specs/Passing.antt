@@ -1,5 +1,5 @@
 -- The elements in one pass that carries the codeset along, as the code goes over them.
-use Rattle.std.specs.Prelude.{ℕ, ◌%◌, max, List, [], ◌∷◌, if◌then◌else◌, Option, Some, None, unwrap_or}
+use Rattle.std.specs.Prelude.{ℕ, max, List, [], ◌∷◌, if◌then◌else◌, Option, Some, None, unwrap_or}
 use Rattle.bx_q931.specs.Items.{PlainItem}
 use Rattle.bx_q931.specs.Elements.{PlainElement, plain_element, is_shift, is_locking, named_codeset}
 

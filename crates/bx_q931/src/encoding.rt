@@ -9,7 +9,10 @@ ghost use Rattle.bx_q931.specs.Outgoing.{header_octets, optional_octets, bearer_
 ghost use Rattle.bx_q931.specs.Parts.{HasParts};
 
 use crate::kind::Kind;
-use crate::message::{BEARER_CAPABILITY, CALL_STATE, CALLED_PARTY_NUMBER, CAUSE, CHANNEL_IDENTIFICATION, SENDING_COMPLETE};
+use crate::message::{
+    BEARER_CAPABILITY, CALL_STATE, CALLED_PARTY_NUMBER, CAUSE, CHANNEL_IDENTIFICATION,
+    SENDING_COMPLETE,
+};
 use crate::out::Out;
 use crate::reading::{DISCRIMINATOR, MAX_MESSAGE};
 use arrayvec::ArrayVec;
@@ -87,7 +90,10 @@ fn push_channel(octets: &mut Octets, channel: Option<(Channel, bool)>)
     if let Some((channel, exclusive)) = channel {
         let form = if exclusive { 0xA9 } else { 0xA1 };
         let number = channel.number();
-        push_all(octets, &[CHANNEL_IDENTIFICATION, 3, form, 0x83, 0x80 + number]);
+        push_all(
+            octets,
+            &[CHANNEL_IDENTIFICATION, 3, form, 0x83, 0x80 + number],
+        );
     }
 }
 

@@ -12,12 +12,10 @@ ghost use Rattle.bx_q931.specs.Parts.{HasParts};
 /// Octets are read as items exactly where they spell them, and in one way alone.
 pub fn items_are_spelled()
     ensures { (octets : List ℕ) (items : List PlainItem) → (all_items octets ≡ Some items) ↔ AreItems octets items }
-{
-}
+{}
 
 /// The octets of each message that can be sent are read, and what is read has its parts.
 pub fn read_again()
     ensures read { (o : Outgoing) → IsOutgoing o → IfSome o.called IsNumber → message_at (out_octets o) ≡ Ok (message_of o) }
     ensures parts { (o : Outgoing) → IsOutgoing o → IfSome o.channel (λ c. IsChannel c.0) → IfSome o.called IsNumber → HasParts (message_of o) o }
-{
-}
+{}

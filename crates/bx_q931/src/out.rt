@@ -28,16 +28,40 @@ impl Model for Out {
     ghost Value = { Outgoing };
 
     ghost view = { λ o. record {
-        reference = o.reference; flag = o.flag; kind = o.kind; sending_complete = o.sending_complete;
-        bearer = o.bearer; cause = o.cause; state = o.state; channel = o.channel; called = o.called } };
+      reference = o.reference;
+      flag = o.flag;
+      kind = o.kind;
+      sending_complete = o.sending_complete;
+      bearer = o.bearer;
+      cause = o.cause;
+      state = o.state;
+      channel = o.channel;
+      called = o.called;
+    } };
 
     ghost invariant = { λ o. IsOutgoing (record {
-        reference = o.reference; flag = o.flag; kind = o.kind; sending_complete = o.sending_complete;
-        bearer = o.bearer; cause = o.cause; state = o.state; channel = o.channel; called = o.called }) };
+      reference = o.reference;
+      flag = o.flag;
+      kind = o.kind;
+      sending_complete = o.sending_complete;
+      bearer = o.bearer;
+      cause = o.cause;
+      state = o.state;
+      channel = o.channel;
+      called = o.called;
+    }) };
 
     ghost inverse = { λ o. record {
-        reference = o.reference; flag = o.flag; kind = o.kind; sending_complete = o.sending_complete;
-        bearer = o.bearer; cause = o.cause; state = o.state; channel = o.channel; called = o.called } };
+      reference = o.reference;
+      flag = o.flag;
+      kind = o.kind;
+      sending_complete = o.sending_complete;
+      bearer = o.bearer;
+      cause = o.cause;
+      state = o.state;
+      channel = o.channel;
+      called = o.called;
+    } };
 }
 
 impl Out {

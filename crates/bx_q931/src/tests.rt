@@ -1,8 +1,8 @@
 //! Octets that the definitions do not name: worked messages, printed texts, and hostile input.
 
 use crate::{
-    ChannelField, Element, Kind, Message, MessageFault, Octets, Out, Reference, cause, encode, laws,
-    read,
+    ChannelField, Element, Kind, Message, MessageFault, Octets, Out, Reference, cause, encode,
+    laws, read,
 };
 use bx_base::{Channel, Number};
 use std::process::Abort;
@@ -12,15 +12,20 @@ const SETUP: &[u8] = &[
     0x08, 0x02, 0x00, 0x01, 0x05, 0xA1, 0x04, 0x02, 0x88, 0x90, 0x18, 0x03, 0xA9, 0x83, 0x81, 0x70,
     0x05, 0x81, 0x31, 0x32, 0x33, 0x34,
 ];
+
 const STATUS: &[u8] = &[
     0x08, 0x02, 0x81, 0x02, 0x7D, 0x08, 0x02, 0x82, 0xE5, 0x14, 0x01, 0x0A,
 ];
+
 const RELEASE_COMPLETE: &[u8] = &[0x08, 0x02, 0x80, 0x01, 0x5A, 0x08, 0x02, 0x80, 0x91];
+
 const SHIFTED: &[u8] = &[
     0x08, 0x02, 0x80, 0x01, 0x07, 0x96, 0x9E, 0x91, 0x18, 0x03, 0xA9, 0x83, 0x82, 0x18, 0x03, 0xA9,
     0x83, 0x81, 0x98, 0x08, 0x01, 0x10, 0x90,
 ];
+
 const ONE_OCTET_REFERENCE: &[u8] = &[0x08, 0x01, 0x85, 0x07];
+
 const DUMMY_REFERENCE: &[u8] = &[0x08, 0x00, 0x05];
 
 fn faults_of(octets: &[u8]) -> Option<MessageFault> {
@@ -32,12 +37,32 @@ fn faults_come_in_order(rt: HostRuntime) -> Result<(), Fail> {
     let rows: [(&[u8], MessageFault, &str); 9] = [
         (&[], MessageFault::TooShort, "M1 TooShort"),
         (&[0x08], MessageFault::TooShort, "M1 TooShort"),
-        (&[0x08, 0x02, 0x80, 0x01], MessageFault::TooShort, "M1 TooShort"),
+        (
+            &[0x08, 0x02, 0x80, 0x01],
+            MessageFault::TooShort,
+            "M1 TooShort",
+        ),
         (&[0x09], MessageFault::NotQ931, "M2 NotQ931"),
-        (&[0x09, 0x02, 0x80, 0x01, 0x07], MessageFault::NotQ931, "M2 NotQ931"),
-        (&[0x08, 0x03, 0x80, 0x01, 0x07], MessageFault::BadCallReference, "M3 BadCallReference"),
-        (&[0x08, 0x10], MessageFault::BadCallReference, "M3 BadCallReference"),
-        (&[0x08, 0x02, 0x80, 0x01, 0x07, 0x18, 0x09, 0xA9], MessageFault::TornElement, "M4 TornElement"),
+        (
+            &[0x09, 0x02, 0x80, 0x01, 0x07],
+            MessageFault::NotQ931,
+            "M2 NotQ931",
+        ),
+        (
+            &[0x08, 0x03, 0x80, 0x01, 0x07],
+            MessageFault::BadCallReference,
+            "M3 BadCallReference",
+        ),
+        (
+            &[0x08, 0x10],
+            MessageFault::BadCallReference,
+            "M3 BadCallReference",
+        ),
+        (
+            &[0x08, 0x02, 0x80, 0x01, 0x07, 0x18, 0x09, 0xA9],
+            MessageFault::TornElement,
+            "M4 TornElement",
+        ),
         (&[0x09; 261], MessageFault::TooLong, "M5 TooLong"),
     ];
     for (octets, fault, text) in rows {
@@ -57,7 +82,10 @@ fn messages_are_encoded(rt: HostRuntime) -> Result<(), Fail> {
     let setup = setup.with_bearer().with_sending_complete();
     assert_eq!(rt; encode(&setup).as_slice(), SETUP);
     let status = Out::new(258, true, Kind::Status).ok_or("a reference")?;
-    assert_eq!(rt; (status.reference(), status.flag(), status.kind()), (258, true, Kind::Status));
+    assert_eq!(rt;
+        (status.reference(), status.flag(), status.kind()),
+        (258, true, Kind::Status)
+    );
     let status = status.with_state(0xCA);
     let status = status.with_cause(cause::LOCATION_LOCAL_NETWORK, cause::MESSAGE_NOT_COMPATIBLE);
     assert_eq!(rt; encode(&status).as_slice(), STATUS);
@@ -73,13 +101,28 @@ fn messages_are_encoded(rt: HostRuntime) -> Result<(), Fail> {
 fn messages_are_read(rt: HostRuntime) -> Result<(), Fail> {
     let status = read(STATUS)?;
     assert_eq!(rt; status.kind(), Kind::Status);
-    assert_eq!(rt; status.reference(), Reference::Value { value: 258, flag: true });
+    assert_eq!(rt;
+        status.reference(),
+        Reference::Value {
+            value: 258,
+            flag: true
+        }
+    );
     assert_eq!(rt; (status.cause(), status.state()), (Some(101), Some(10)));
     let setup = read(SETUP)?;
     assert_eq!(rt; setup.called(), Number::new(b"1234"));
-    assert_eq!(rt; setup.first(0x04).ok_or("a bearer capability")?, [0x88, 0x90].as_slice());
+    assert_eq!(rt;
+        setup.first(0x04).ok_or("a bearer capability")?,
+        [0x88, 0x90].as_slice()
+    );
     let one = read(ONE_OCTET_REFERENCE)?;
-    assert_eq!(rt; one.reference(), Reference::Value { value: 5, flag: true });
+    assert_eq!(rt;
+        one.reference(),
+        Reference::Value {
+            value: 5,
+            flag: true
+        }
+    );
     assert_eq!(rt; read(DUMMY_REFERENCE)?.reference(), Reference::Dummy);
     let release = read(RELEASE_COMPLETE)?;
     assert_eq!(rt; release.kind().octet(), 0x5A);
@@ -108,10 +151,19 @@ fn channels_are_read(rt: HostRuntime) -> Result<(), Fail> {
         (&[0x18, 2, 0xA9, 0x83], ChannelField::Unread),
         (&[0x18, 0], ChannelField::Unread),
         (&[0x18, 3, 0xA9, 0x83, 0x82], named(second, true)),
-        (&[0x18, 3, 0xA9, 0x83, 0x81, 0x18, 3, 0xA9, 0x83, 0x82], named(first, true)),
+        (
+            &[0x18, 3, 0xA9, 0x83, 0x81, 0x18, 3, 0xA9, 0x83, 0x82],
+            named(first, true),
+        ),
         (&[0x96, 0x18, 3, 0xA9, 0x83, 0x82], ChannelField::Absent),
-        (&[0x9E, 0x18, 3, 0xA9, 0x83, 0x82, 0x18, 3, 0xA9, 0x83, 0x81], named(first, true)),
-        (&[0x96, 0x98, 0x18, 3, 0xA9, 0x83, 0x82], named(second, true)),
+        (
+            &[0x9E, 0x18, 3, 0xA9, 0x83, 0x82, 0x18, 3, 0xA9, 0x83, 0x81],
+            named(first, true),
+        ),
+        (
+            &[0x96, 0x98, 0x18, 3, 0xA9, 0x83, 0x82],
+            named(second, true),
+        ),
     ];
     for (items, channel) in rows {
         let mut octets = Octets::new();
@@ -187,7 +239,14 @@ fn hostile_octets_are_read(rt: HostRuntime) {
             probe(&rt, &[first, second]);
         }
     }
-    for message in [SETUP, STATUS, RELEASE_COMPLETE, SHIFTED, ONE_OCTET_REFERENCE, DUMMY_REFERENCE] {
+    for message in [
+        SETUP,
+        STATUS,
+        RELEASE_COMPLETE,
+        SHIFTED,
+        ONE_OCTET_REFERENCE,
+        DUMMY_REFERENCE,
+    ] {
         for at in 0..message.len() {
             probe(&rt, &message[..at]);
             for value in 0..=255 {

@@ -1,6 +1,6 @@
-use Rattle.std.proofs.Common.{◌≡◌, ◌<◌, length, sym, ap, ◌∙◌, arith}
+use Rattle.std.proofs.Common.{length, sym, ap, ◌∙◌, arith}
 use Rattle.bx_q931.proofs.ItemLemmas.{whole_next}
-use Rattle.bx_q931.proofs.PassLemmas.{left, left_element, left_locking, left_single, left_none}
+use Rattle.bx_q931.proofs.PassLemmas.{left_element, left_locking, left_single, left_none}
 use Rattle.bx_q931.proofs.elements.ElementsIterator.next.Goals as goal
 
 pub invariant_of-self : goal.invariant_of-self

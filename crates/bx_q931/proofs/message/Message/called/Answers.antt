@@ -1,4 +1,4 @@
-use Rattle.std.proofs.Common.{◌≡◌, ◌∙◌, sym, ap, refl, Some, None, List, ℕ, ◌∷◌}
+use Rattle.std.proofs.Common.{◌∙◌, sym, ap}
 use Rattle.bx_q931.specs.Values.{called_in, if_there}
 use Rattle.bx_q931.proofs.ValueLemmas.{number_if}
 use Rattle.bx_q931.proofs.message.Message.called.Goals as goal

@@ -1,4 +1,4 @@
-use Rattle.std.proofs.Common.{◌≡◌, sym, ap, ◌∙◌, Option, Some}
+use Rattle.std.proofs.Common.{sym, ap, ◌∙◌}
 use Rattle.bx_q931.specs.Values.{first_in}
 use Rattle.bx_q931.proofs.ValueLemmas.{first_here, first_other_codeset, first_other, first_none}
 use Rattle.bx_q931.proofs.message.Message.first.Goals as goal
