@@ -1,6 +1,6 @@
 -- The items of a message behind its type (ITU-T Q.931, 4.5.1). An item whose first octet has bit 8 set
--- is that octet alone (profile: also identifiers that a later edition might make longer). Any other is
--- its identifier, a length, and that many octets of contents.
+-- is that octet alone (profile: the whole octet is its identifier, and its contents are empty). Any other
+-- is its identifier, a length, and that many octets of contents.
 use Rattle.std.specs.Prelude.{◌≡◌, ◌≤◌, ℕ, zero, suc, nat_lt, List, [], ◌∷◌, length, take, drop, if◌then◌else◌, Option, Some, None, option_map, unwrap_or}
 
 pub record PlainItem : Type 0 where

@@ -1,6 +1,6 @@
 //! The octets of a message that is sent.
 
-ghost use Rattle.std.specs.Prelude.{◌≡◌, ◌+◌, ◌≤◌, ◌<◌, length, ◌++◌, [], Ok, Some, None, if◌then◌else◌, option_map, IfSome};
+ghost use Rattle.std.specs.Prelude.{◌≡◌, ◌+◌, ◌≤◌, ◌<◌, length, ◌++◌, [], if◌then◌else◌, option_map, IfSome};
 ghost use Rattle.arrayvec.specs.ArrayVec.{array_vec_len};
 ghost use Rattle.bx_base.specs.Channels.{IsChannel};
 ghost use Rattle.bx_base.specs.Numbers.{IsNumber};
@@ -36,8 +36,11 @@ fn push_header(octets: &mut Octets, reference: u16, flag: bool, kind: Kind)
     ensures { octets.new.items ≡ octets.old.items ++ header_octets reference flag kind }
 {
     let [high, low] = reference.to_be_bytes();
-    let first = if flag { 0x80 } else { 0 } + high;
-    push_all(octets, &[DISCRIMINATOR, 2, first, low, kind.octet()]);
+    let flag_bit = if flag { 0x80 } else { 0 };
+    push_all(
+        octets,
+        &[DISCRIMINATOR, 2, flag_bit + high, low, kind.octet()],
+    );
 }
 
 fn push_sending_complete(octets: &mut Octets, there: bool)

@@ -1,6 +1,6 @@
 //! The types of messages.
 
-ghost use Rattle.std.specs.Prelude.{◌≡◌, ◌↔◌, IsTrue};
+ghost use Rattle.std.specs.Prelude.{◌≡◌};
 ghost use Rattle.bx_q931.specs.Kinds.{kind_of, octet_of, name_of};
 
 /// The type of a message (ITU-T Q.931, 4.4).

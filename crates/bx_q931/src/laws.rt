@@ -1,6 +1,6 @@
 //! Laws of messages: each is the contract of a function that does nothing.
 
-ghost use Rattle.std.specs.Prelude.{◌≡◌, ◌↔◌, ℕ, List, Ok, Some, IfSome};
+ghost use Rattle.std.specs.Prelude.{◌≡◌, ◌↔◌, ℕ, List, IfSome};
 ghost use Rattle.bx_base.specs.Channels.{IsChannel};
 ghost use Rattle.bx_base.specs.Numbers.{IsNumber};
 ghost use Rattle.bx_q931.specs.Items.{PlainItem, all_items};

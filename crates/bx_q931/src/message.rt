@@ -1,11 +1,11 @@
 //! A message that was read, and what it says.
 
-ghost use Rattle.std.specs.Prelude.{◌≡◌, IsSome, option_map, option_copied, Some, None};
+ghost use Rattle.std.specs.Prelude.{◌≡◌, IsSome, option_map};
 ghost use Rattle.bx_q931.specs.Items.{all_items, items_in};
 ghost use Rattle.bx_q931.specs.Elements.{elements_of};
 ghost use Rattle.bx_q931.specs.References.{IsReference};
 ghost use Rattle.bx_q931.specs.Messages.{plain_message};
-ghost use Rattle.bx_q931.specs.Values.{first_of, cause_in, cause_of, state_of, called_of, channel_of};
+ghost use Rattle.bx_q931.specs.Values.{first_of, cause_of, state_of, called_of, channel_of};
 
 use crate::channel_field::ChannelField;
 use crate::elements::Elements;

@@ -1,6 +1,6 @@
 //! Messages to be sent.
 
-ghost use Rattle.std.specs.Prelude.{◌≡◌, ◌↔◌, ◌%◌, ◌≤◌, Some, true, IsSome, IfSome};
+ghost use Rattle.std.specs.Prelude.{◌≡◌, ◌↔◌, ◌%◌, true, IsSome, IfSome};
 ghost use Rattle.bx_q931.specs.Kinds.{IsNamed};
 ghost use Rattle.bx_q931.specs.Outgoing.{plain, IsCallReference};
 

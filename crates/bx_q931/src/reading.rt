@@ -1,6 +1,6 @@
 //! Reading a message.
 
-ghost use Rattle.std.specs.Prelude.{◌≡◌, ◌↔◌, ◌≤◌, ℕ, List, Result, Ok, Err};
+ghost use Rattle.std.specs.Prelude.{◌≡◌, ◌↔◌, ◌≤◌};
 ghost use Rattle.bx_q931.specs.Grammar.{IsMessage, IsFirstFault};
 ghost use Rattle.bx_q931.specs.Messages.{PlainMessage, body_at, message_at};
 
