@@ -21,7 +21,7 @@ fn body(rest: &[u8], len: usize) -> Result<Message<'_>, MessageFault>
     requires { len ≤ 2 }
     ensures { result ≡ body_at len rest.now }
 {
-    if rest.len() <= len {
+    if rest.len() < len {
         return Err(MessageFault::TooShort);
     }
     let (reference, rest) = rest.split_at(len);
