@@ -28,7 +28,7 @@ const ONE_OCTET_REFERENCE: &[u8] = &[0x08, 0x01, 0x85, 0x07];
 
 const DUMMY_REFERENCE: &[u8] = &[0x08, 0x00, 0x05];
 
-fn faults_of(octets: &[u8]) -> Option<MessageFault> {
+fn fault_of(octets: &[u8]) -> Option<MessageFault> {
     read(octets).err()
 }
 
@@ -66,7 +66,7 @@ fn faults_come_in_order(rt: HostRuntime) -> Result<(), Fail> {
         (&[0x09; 261], MessageFault::TooLong, "M5 TooLong"),
     ];
     for (octets, fault, text) in rows {
-        assert_eq!(rt; faults_of(octets), Some(fault));
+        assert_eq!(rt; fault_of(octets), Some(fault));
         let printed = format!(in rt.alloc(); "{fault}")?;
         assert_eq!(rt; printed.as_str(), text);
     }
