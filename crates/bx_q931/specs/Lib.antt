@@ -1,0 +1,11 @@
+pub mod Items
+pub mod Elements
+pub mod Passing
+pub mod Kinds
+pub mod References
+pub mod Messages
+pub mod Grammar
+pub mod Values
+pub mod ElementViews
+pub mod Outgoing
+pub mod Parts
