@@ -1,0 +1,7 @@
+pub mod Lines
+pub mod FieldsInside
+pub mod Text
+pub mod Forms
+pub mod Reading
+pub mod Capped
+pub mod Values

@@ -1,0 +1,15 @@
+//! The text of a plan: read with the first fault that is met, and written.
+#![tactic(auto)]
+
+mod booking_line;
+mod channel_line;
+mod decimals;
+mod fault;
+mod fields;
+mod lines;
+mod lists;
+mod reading;
+mod version;
+
+pub use fault::{PlanFault, PlanWriteFault};
+pub use reading::read_plan;
