@@ -4,3 +4,4 @@ pub mod LineCuts
 pub mod Digits
 pub mod Cap
 pub mod Limits
+pub mod Loops
