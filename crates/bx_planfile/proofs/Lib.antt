@@ -4,4 +4,7 @@ pub mod LineCuts
 pub mod Digits
 pub mod Cap
 pub mod Limits
+pub mod DecimalLaws
+pub mod PlainLines
+pub mod ChannelSets
 pub mod Loops
