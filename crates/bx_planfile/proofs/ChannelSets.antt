@@ -56,7 +56,7 @@ with_one bs n h c = record {
   ];
 }
 
-taken_branch : {A : Type 0} (b : Bool) (x : Option A) (y : A) → cond b x None ≡ Some y → (b ≡ true) × (x ≡ Some y)
+pub taken_branch : {A : Type 0} (b : Bool) (x : Option A) (y : A) → cond b x None ≡ Some y → (b ≡ true) × (x ≡ Some y)
 taken_branch true x y e = (refl, e)
 taken_branch false x y e = absurd cc
 

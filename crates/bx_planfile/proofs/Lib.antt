@@ -7,4 +7,6 @@ pub mod Limits
 pub mod DecimalLaws
 pub mod PlainLines
 pub mod ChannelSets
+pub mod LineForms
+pub mod PlanLaws
 pub mod Loops

@@ -44,7 +44,7 @@ from_within e digits within =
       number = IsNumber-from_test e.row.number digits (leb-true _ _ b.1);
     }, a.1)
 
-false_from_not : (b : Bool) → (b ≡ true → ⊥) → b ≡ false
+pub false_from_not : (b : Bool) → (b ≡ true → ⊥) → b ≡ false
 false_from_not true h = absurd (h refl)
 false_from_not false h = refl
 
