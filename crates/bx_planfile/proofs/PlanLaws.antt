@@ -2,6 +2,7 @@
 use Rattle.std.proofs.Common.{◌≡◌, ◌≢◌, ℕ, zero, suc, ◌+◌, ◌-◌, ◌^◌, ◌<◌, ◌≤◌, lit<, Bool, true, false, ◌&&◌, ltb, leb, eqb, cond, List, [], ◌∷◌, ◌++◌, map, length, get_or, Option, Some, None, Result, Ok, Err, refl, sym, ap, ◌∙◌, arith, subst, append_assoc}
 use Rattle.std.specs.Prelude.{codes, decimal, IfOk}
 use Rattle.std.specs.List.{list_all, flat_map, zip}
+use Rattle.std.specs.Char.{is_ascii_digit}
 use Rattle.std.proofs.lemmas.Bool.{eqb-true, leb-true, le-leb}
 use Rattle.std.proofs.lemmas.List.{nil_from_length, append-nil}
 use Rattle.std.proofs.lemmas.Grind.{flat_map-append}
@@ -132,7 +133,7 @@ plain_marks Three row = rw (plain_must row.must, plain_direction row.inward) ref
 
 plain_booking : (version : Version) (row : Row) (c : Option ℕ) → IsBooking row → is_assignable c ≡ true → are_plain (booking_fields version row c) ≡ true
 plain_booking version row c h assigned =
-    let number = plain_from_digits row.number (and_both _ _ (test_from_number row.number h.number)).1 in
+    let number = plain_from_digits row.number (and_both (ltb 0 (length row.number)) (list_all is_ascii_digit row.number) (test_from_number row.number h.number)).1 in
     rw (plain_decimal row.start (omega (arith, h.in_order, h.in_day)), plain_decimal row.end (omega (arith, h.in_day)), plain_decimal row.pay (omega (arith, h.pay_limit)), number, plain_channel c assigned) (plain_marks version row)
 
 plain_version : (version : Version) → are_plain (codes "bx-plan" ∷ version_field version ∷ []) ≡ true
@@ -145,3 +146,117 @@ plain_named word n h small = rw (h, plain_decimal n small) refl
 
 plain_price : (p : Charge) → IsCharge p → are_plain (price_fields p) ≡ true
 plain_price p h = rw (plain_decimal p.moment (omega (arith, h.in_day)), plain_decimal p.amount (omega (arith, h.limit))) refl
+
+-- ---- the lists
+
+-- the lines of bookings, and those of prices
+abbrev pub booking_lines : Version → List Row → List (Option ℕ) → List (List (List ℕ))
+booking_lines version rows assigned = map (λ entry. booking_fields version entry.0 entry.1) (zip rows assigned)
+
+-- bookings that were read from the front of a text
+pub record ReadsBookings (version : Version) (count : ℕ) (bytes : List ℕ) (x : Entries) : Type 0 where
+  pub spelled : bytes ≡ flat_map line_text (booking_lines version x.rows x.assigned) ++ x.rest
+  pub rows : length x.rows ≡ count
+  pub assigned : length x.assigned ≡ count
+  pub bookings : (i : ℕ) → i < length x.rows → IsBooking (row_at x.rows i)
+  pub told : (i : ℕ) → i < length x.rows → IsTold version (row_at x.rows i)
+  pub channels : (i c : ℕ) → get_or x.assigned i None ≡ Some c → IsChannel c
+
+each_more : (P : Row → Type 0) (r : Row) (rows : List Row) → P r → ((i : ℕ) → i < length rows → P (row_at rows i)) → (i : ℕ) → i < length (r ∷ rows) → P (row_at (r ∷ rows) i)
+each_more P r rows h more zero lt = h
+each_more P r rows h more (suc i) lt = more i (omega arith)
+
+channels_more : (a : Option ℕ) (assigned : List (Option ℕ)) → is_assignable a ≡ true → ((i c : ℕ) → get_or assigned i None ≡ Some c → IsChannel c) → (i c : ℕ) → get_or (a ∷ assigned) i None ≡ Some c → IsChannel c
+channels_more a assigned h more zero c e = let fits : is_assignable (Some c) ≡ true = ap is_assignable (sym e) ∙ h in IsChannel-from_test c fits
+channels_more a assigned h more (suc i) c e = more i c e
+
+bookings_take : (version : Version) (count n : ℕ) (bytes : List ℕ) (x : Entries) → read_bookings version count n bytes ≡ Ok x → ReadsBookings version count bytes x
+unfolding read_bookings
+bookings_take version zero n bytes x e =
+    let same : entries [] [] bytes ≡ x = cc in
+    subst (λ (y : Entries). ReadsBookings version 0 bytes y) same (record { spelled = refl; rows = refl; assigned = refl; bookings = λ i lt. absurd (omega arith); told = λ i lt. absurd (omega arith); channels = λ i c none. absurd cc })
+bookings_take version (suc count) n bytes x e =
+    let a = bind_ok (read_line n bytes) (λ line. read_booking version n line.0 >>= λ entry. read_bookings version count (n + 1) line.1 >>= λ more. Ok (entries (entry.row ∷ more.rows) (entry.channel ∷ more.assigned) more.rest)) x e in
+    let b = bind_ok (read_booking version n a.0.0) (λ entry. read_bookings version count (n + 1) a.0.1 >>= λ more. Ok (entries (entry.row ∷ more.rows) (entry.channel ∷ more.assigned) more.rest)) x a.2 in
+    let c = bind_ok (read_bookings version count (n + 1) a.0.1) (λ more. Ok (entries (b.0.row ∷ more.rows) (b.0.channel ∷ more.assigned) more.rest)) x b.2 in
+    let line = line_takes n bytes a.0 a.1 in
+    let first = entry_takes version n a.0.0 b.0 b.1 in
+    let more = bookings_take version count (n + 1) a.0.1 c.0 c.1 in
+    let fields = booking_fields version b.0.row b.0.channel in
+    let rest = flat_map line_text (booking_lines version c.0.rows c.0.assigned) in
+    let made = entries (b.0.row ∷ c.0.rows) (b.0.channel ∷ c.0.assigned) c.0.rest in
+    let same : made ≡ x = cc in
+    let spelled : bytes ≡ (line_text fields ++ rest) ++ c.0.rest =
+      line ∙ ap (λ (fs : List (List ℕ)). line_text fs ++ a.0.1) first.spelled ∙ ap (λ (r : List ℕ). line_text fields ++ r) more.spelled ∙ sym (append_assoc (line_text fields) rest c.0.rest) in
+    subst (λ (y : Entries). ReadsBookings version (suc count) bytes y) same (record {
+      spelled = spelled;
+      rows = ap suc more.rows;
+      assigned = ap suc more.assigned;
+      bookings = each_more IsBooking b.0.row c.0.rows first.booking more.bookings;
+      told = each_more (IsTold version) b.0.row c.0.rows first.told more.told;
+      channels = channels_more b.0.channel c.0.assigned first.channel more.channels;
+    })
+
+assigned_here : (a : Option ℕ) → ((c : ℕ) → a ≡ Some c → IsChannel c) → is_assignable a ≡ true
+assigned_here None h = refl
+assigned_here (Some c) h = test_from_channel c (h c refl)
+
+bookings_again : (version : Version) (rows : List Row) (assigned : List (Option ℕ)) (n : ℕ) (rest : List ℕ) → length assigned ≡ length rows
+    → ((i : ℕ) → i < length rows → IsBooking (row_at rows i)) → ((i : ℕ) → i < length rows → IsTold version (row_at rows i)) → ((i c : ℕ) → get_or assigned i None ≡ Some c → IsChannel c)
+    → read_bookings version (length rows) n (flat_map line_text (booking_lines version rows assigned) ++ rest) ≡ Ok (entries rows assigned rest)
+unfolding read_bookings
+bookings_again version [] [] n rest len bookings told channels = refl
+bookings_again version [] (a ∷ assigned) n rest len bookings told channels = absurd (omega arith)
+bookings_again version (r ∷ rows) [] n rest len bookings told channels = absurd (omega arith)
+bookings_again version (r ∷ rows) (a ∷ assigned) n rest len bookings told channels =
+    let e : Entry = record { row = r; channel = a } in
+    let booking : IsBooking r = bookings 0 (omega arith) in
+    let told_so : IsTold version r = told 0 (omega arith) in
+    let channel : is_assignable a ≡ true = assigned_here a (λ c. channels 0 c) in
+    let behind = flat_map line_text (booking_lines version rows assigned) in
+    let fields = booking_fields version r a in
+    let regrouped : (line_text fields ++ behind) ++ rest ≡ line_text fields ++ (behind ++ rest) = append_assoc (line_text fields) behind rest in
+    let line : read_line n (line_text fields ++ (behind ++ rest)) ≡ Ok (fields, behind ++ rest) = line_again n (decimal r.start) (decimal r.end ∷ decimal r.pay ∷ r.number ∷ channel_field a ∷ mark_fields version r) (behind ++ rest) (plain_booking version r a booking channel) in
+    let more = bookings_again version rows assigned (n + 1) rest (omega arith) (λ i lt. bookings (suc i) (omega arith)) (λ i lt. told (suc i) (omega arith)) (λ i c. channels (suc i) c) in
+    ap (read_bookings version (suc (length rows)) n) regrouped ∙ rw (line, entry_again version n e booking told_so channel, more) refl
+
+-- prices that were read from the front of a text
+pub record ReadsPrices (count : ℕ) (bytes : List ℕ) (x : List Charge × List ℕ) : Type 0 where
+  pub spelled : bytes ≡ flat_map line_text (map price_fields x.0) ++ x.1
+  pub len : length x.0 ≡ count
+  pub prices : (i : ℕ) → i < length x.0 → IsCharge (price_at x.0 i)
+
+prices_more : (p : Charge) (ps : List Charge) → IsCharge p → ((i : ℕ) → i < length ps → IsCharge (price_at ps i)) → (i : ℕ) → i < length (p ∷ ps) → IsCharge (price_at (p ∷ ps) i)
+prices_more p ps h more zero lt = h
+prices_more p ps h more (suc i) lt = more i (omega arith)
+
+prices_take : (count n : ℕ) (bytes : List ℕ) (x : List Charge × List ℕ) → read_prices count n bytes ≡ Ok x → ReadsPrices count bytes x
+unfolding read_prices
+prices_take zero n bytes x e =
+    let made : List Charge × List ℕ = ([], bytes) in
+    let same : made ≡ x = cc in
+    subst (λ (y : List Charge × List ℕ). ReadsPrices 0 bytes y) same (record { spelled = refl; len = refl; prices = λ i lt. absurd (omega arith) })
+prices_take (suc count) n bytes x e =
+    let a = bind_ok (read_line n bytes) (λ line. read_price n line.0 >>= λ price. read_prices count (n + 1) line.1 >>= λ more. Ok (price ∷ more.0, more.1)) x e in
+    let b = bind_ok (read_price n a.0.0) (λ price. read_prices count (n + 1) a.0.1 >>= λ more. Ok (price ∷ more.0, more.1)) x a.2 in
+    let c = bind_ok (read_prices count (n + 1) a.0.1) (λ more. Ok (b.0 ∷ more.0, more.1)) x b.2 in
+    let line = line_takes n bytes a.0 a.1 in
+    let first = charge_takes n a.0.0 b.0 b.1 in
+    let more = prices_take count (n + 1) a.0.1 c.0 c.1 in
+    let rest = flat_map line_text (map price_fields c.0.0) in
+    let made : List Charge × List ℕ = (b.0 ∷ c.0.0, c.0.1) in
+    let same : made ≡ x = cc in
+    let spelled : bytes ≡ (line_text (price_fields b.0) ++ rest) ++ c.0.1 =
+      line ∙ ap (λ (fs : List (List ℕ)). line_text fs ++ a.0.1) first.0 ∙ ap (λ (r : List ℕ). line_text (price_fields b.0) ++ r) more.spelled ∙ sym (append_assoc (line_text (price_fields b.0)) rest c.0.1) in
+    subst (λ (y : List Charge × List ℕ). ReadsPrices (suc count) bytes y) same (record { spelled = spelled; len = ap suc more.len; prices = prices_more b.0 c.0.0 first.1 more.prices })
+
+prices_again : (ps : List Charge) (n : ℕ) (rest : List ℕ) → ((i : ℕ) → i < length ps → IsCharge (price_at ps i)) → read_prices (length ps) n (flat_map line_text (map price_fields ps) ++ rest) ≡ Ok (ps, rest)
+unfolding read_prices
+prices_again [] n rest h = refl
+prices_again (p ∷ ps) n rest h =
+    let here : IsCharge p = h 0 (omega arith) in
+    let behind = flat_map line_text (map price_fields ps) in
+    let regrouped : (line_text (price_fields p) ++ behind) ++ rest ≡ line_text (price_fields p) ++ (behind ++ rest) = append_assoc (line_text (price_fields p)) behind rest in
+    let line : read_line n (line_text (price_fields p) ++ (behind ++ rest)) ≡ Ok (price_fields p, behind ++ rest) = line_again n (decimal p.moment) (decimal p.amount ∷ []) (behind ++ rest) (plain_price p here) in
+    let more = prices_again ps (n + 1) rest (λ i lt. h (suc i) (omega arith)) in
+    ap (read_prices (suc (length ps)) n) regrouped ∙ rw (line, charge_again n p here, more) refl
