@@ -17,7 +17,7 @@ use Rattle.bx_planfile.specs.declared.version.Version.TheVariants.{One, Two, Thr
 use Rattle.bx_planfile.specs.declared.fault.PlanFault.{PlanFault}
 use Rattle.bx_planfile.specs.declared.fault.PlanFault.TheVariants.{BadLine, BadCount, OutOfLimits, Trailing, Memory}
 use Rattle.bx_planfile.specs.Lines.{line_text}
-use Rattle.bx_planfile.specs.Text.{version_field, numbers_from, channel_field, must_field, direction_field, mark_fields, booking_fields, price_fields, named, plan_lines, plan_text, IsTold, HasText}
+use Rattle.bx_planfile.specs.Text.{version_field, numbers_from, channel_field, must_field, direction_field, mark_fields, booking_fields, price_fields, named, plan_lines, plan_text, IsTold, HasText, IsTextOf}
 use Rattle.bx_planfile.specs.Forms.{Entry, header_form, named_form, channels_form, channel_set, booking_form, is_assignable, is_within, price_form, is_charge, is_end}
 use Rattle.bx_planfile.specs.Reading.{◌>>=◌, Gives, Fails, or_fault, where_holds, Entries, entries, read_line, read_header, read_channels, read_count, read_booking, read_price, read_total, read_end, read_bookings, read_prices, read_tail, read_all}
 use Rattle.bx_planfile.proofs.Digits.{and_both}
@@ -422,12 +422,31 @@ all_again version parts plan told =
     ap read_all (whole_text version parts)
     ∙ rw (line1, header_line_again 1 version, line2, channels_line_again 2 parts.channels plan.channels, line3, count_again (codes "bookings") 4000 3 count (lit< tt) plan.rows.few, rows, rest) refl
 
--- ---- the two laws of reading
+-- ---- the laws of reading
 
-pub is_found : (bytes : List ℕ) (r : Result Plan PlanFault) → Gives parts_of r (read_all bytes)
-    → IfOk r (λ plan. IsPlan (parts_of plan) × ((version : Version) × HasText version (parts_of plan) × (bytes ≡ plan_text version (parts_of plan))))
-is_found bytes (Ok plan) given = let read = all_takes bytes (parts_of plan) given in (read.plan, (read.version, read.told, read.spelled))
+pub is_within_limits : (bytes : List ℕ) (r : Result Plan PlanFault) → Gives parts_of r (read_all bytes) → IfOk r (λ plan. IsPlan (parts_of plan))
+is_within_limits bytes (Ok plan) given = (all_takes bytes (parts_of plan) given).plan
+is_within_limits bytes (Err e) given = tt
+
+pub is_found : (bytes : List ℕ) (r : Result Plan PlanFault) → Gives parts_of r (read_all bytes) → IfOk r (λ plan. IsTextOf bytes (parts_of plan))
+is_found bytes (Ok plan) given = let read = all_takes bytes (parts_of plan) given in (read.version, read.told, read.spelled)
 is_found bytes (Err e) given = tt
 
-pub is_only : (bytes : List ℕ) (r : Result Plan PlanFault) → Gives parts_of r (read_all bytes) → (version : Version) (parts : Parts) → IsPlan parts → HasText version parts → bytes ≡ plan_text version parts → Gives parts_of r (Ok parts)
-is_only bytes r given version parts plan told spelled = subst (λ (f : Result Parts PlanFault). Gives parts_of r f) (ap read_all spelled ∙ all_again version parts plan told) given
+pub is_only : (bytes : List ℕ) (r : Result Plan PlanFault) → Gives parts_of r (read_all bytes) → (parts : Parts) → IsPlan parts → IsTextOf bytes parts → Gives parts_of r (Ok parts)
+is_only bytes r given parts plan text = subst (λ (f : Result Parts PlanFault). Gives parts_of r f) (ap read_all text.2 ∙ all_again text.0 parts plan text.1) given
+
+-- one text is one plan's, in one version
+pub same_version : (v w : Version) (a b : Parts) → plan_text v a ≡ plan_text w b → v ≡ w
+same_version v w a b e =
+    let behind_v = line_text (codes "channels" ∷ map decimal (numbers_from 0 a.channels)) ++ (line_text (named (codes "bookings") (length a.rows)) ++ (flat_map line_text (booking_lines v a.rows a.assigned) ++ flat_map line_text (tail_lines a.prices a.total))) in
+    let behind_w = line_text (codes "channels" ∷ map decimal (numbers_from 0 b.channels)) ++ (line_text (named (codes "bookings") (length b.rows)) ++ (flat_map line_text (booking_lines w b.rows b.assigned) ++ flat_map line_text (tail_lines b.prices b.total))) in
+    let first_v = ap (read_line 1) (whole_text v a) ∙ line_again 1 (codes "bx-plan") (version_field v ∷ []) behind_v (plain_version v) in
+    let first_w = ap (read_line 1) (whole_text w b) ∙ line_again 1 (codes "bx-plan") (version_field w ∷ []) behind_w (plain_version w) in
+    let same = ok_is (codes "bx-plan" ∷ version_field v ∷ [], behind_v) (codes "bx-plan" ∷ version_field w ∷ [], behind_w) (sym first_v ∙ ap (read_line 1) e ∙ first_w) in
+    ok_is v w (sym (header_line_again 1 v) ∙ ap (λ (x : List (List ℕ) × List ℕ). read_header 1 x.0) same ∙ header_line_again 1 w)
+
+pub same_parts : (v w : Version) (a b : Parts) → IsPlan a → IsPlan b → HasText v a → HasText w b → plan_text v a ≡ plan_text w b → a ≡ b
+same_parts v w a b p q told told_b e = ok_is a b (sym (all_again v a p told) ∙ ap read_all e ∙ all_again w b q told_b)
+
+pub same_plan : (v w : Version) (a b : Parts) → IsPlan a → IsPlan b → HasText v a → HasText w b → plan_text v a ≡ plan_text w b → (v ≡ w) × (a ≡ b)
+same_plan v w a b p q told told_b e = (same_version v w a b e, same_parts v w a b p q told told_b e)

@@ -71,3 +71,7 @@ IsTold Three row = Unit {0}
 -- a plan that has a text in a version
 abbrev pub HasText : Version → Parts → Type 0
 HasText version parts = (i : ℕ) → i < length parts.rows → IsTold version (row_at parts.rows i)
+
+-- the octets are the plan's text in one of the versions
+abbrev pub IsTextOf : List ℕ → Parts → Type 0
+IsTextOf bytes parts = (version : Version) × HasText version parts × (bytes ≡ plan_text version parts)

@@ -6,6 +6,7 @@ mod channel_line;
 mod decimals;
 mod fault;
 mod fields;
+pub mod laws;
 mod lines;
 mod lists;
 mod reading;

@@ -2,8 +2,7 @@
 
 ghost use Rattle.std.specs.Prelude.{◌≡◌, ◌≤◌, ◌+◌, vec_len, IfOk, Ok};
 ghost use Rattle.bx_base.specs.PlanParts.{Parts, IsPlan, parts_of};
-ghost use Rattle.bx_planfile.specs.declared.version.Version.{Version};
-ghost use Rattle.bx_planfile.specs.Text.{plan_text, HasText};
+ghost use Rattle.bx_planfile.specs.Text.{IsTextOf};
 ghost use Rattle.bx_planfile.specs.Reading.{Gives, read_tail, read_all};
 
 use crate::channel_line::channels_of;
@@ -57,9 +56,16 @@ fn plan_of(alloc: Global, bytes: &[u8]) -> Result<Plan, PlanFault>
 }
 
 /// The plan that a text of version 1, 2 or 3 states. A booking of a version 1 text is free, and one of a version
-/// 1 or 2 text is called outward.
+/// 1 or 2 text is called outward. Of several faults the first is answered, and within a line its form comes
+/// before its values. `Memory` is answered only where a growth was refused.
 pub fn read_plan(alloc: Global, bytes: &[u8]) -> Result<Plan, PlanFault>
-    ensures exact { Gives parts_of result (read_all bytes.now) }
+    ensures limits { IfOk result (λ plan. IsPlan (parts_of plan)) }
+    // What is read is spelled so.
+    ensures found { IfOk result (λ plan. IsTextOf bytes.now (parts_of plan)) }
+    // What is spelled so is read, unless memory was refused.
+    ensures only { (parts : Parts) → IsPlan parts → IsTextOf bytes.now parts → Gives parts_of result (Ok parts) }
+    // Which fault it is.
+    ensures fault { Gives parts_of result (read_all bytes.now) }
 {
     plan_of(alloc, bytes)
 }
