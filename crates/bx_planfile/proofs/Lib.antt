@@ -9,4 +9,6 @@ pub mod PlainLines
 pub mod ChannelSets
 pub mod LineForms
 pub mod PlanLaws
+pub mod WrittenLines
+pub mod WritingSteps
 pub mod Loops

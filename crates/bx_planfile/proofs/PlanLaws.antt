@@ -17,7 +17,7 @@ use Rattle.bx_planfile.specs.declared.version.Version.TheVariants.{One, Two, Thr
 use Rattle.bx_planfile.specs.declared.fault.PlanFault.{PlanFault}
 use Rattle.bx_planfile.specs.declared.fault.PlanFault.TheVariants.{BadLine, BadCount, OutOfLimits, Trailing, Memory}
 use Rattle.bx_planfile.specs.Lines.{line_text}
-use Rattle.bx_planfile.specs.Text.{version_field, numbers_from, channel_field, must_field, direction_field, mark_fields, booking_fields, price_fields, named, plan_lines, plan_text, IsTold, HasText, IsTextOf}
+use Rattle.bx_planfile.specs.Text.{version_field, numbers_from, channel_field, must_field, direction_field, mark_fields, booking_fields, price_fields, named, booking_lines, plan_lines, plan_text, IsTold, HasText, IsTextOf}
 use Rattle.bx_planfile.specs.Forms.{Entry, header_form, named_form, channels_form, channel_set, booking_form, is_assignable, is_within, price_form, is_charge, is_end}
 use Rattle.bx_planfile.specs.Reading.{◌>>=◌, Gives, Fails, or_fault, where_holds, Entries, entries, read_line, read_header, read_channels, read_count, read_booking, read_price, read_total, read_end, read_bookings, read_prices, read_tail, read_all}
 use Rattle.bx_planfile.proofs.Digits.{and_both}
@@ -148,10 +148,6 @@ plain_price : (p : Charge) → IsCharge p → are_plain (price_fields p) ≡ tru
 plain_price p h = rw (plain_decimal p.moment (omega (arith, h.in_day)), plain_decimal p.amount (omega (arith, h.limit))) refl
 
 -- ---- the lists
-
--- the lines of bookings, and those of prices
-abbrev pub booking_lines : Version → List Row → List (Option ℕ) → List (List (List ℕ))
-booking_lines version rows assigned = map (λ entry. booking_fields version entry.0 entry.1) (zip rows assigned)
 
 -- bookings that were read from the front of a text
 pub record ReadsBookings (version : Version) (count : ℕ) (bytes : List ℕ) (x : Entries) : Type 0 where

@@ -5,3 +5,4 @@ pub mod Forms
 pub mod Reading
 pub mod Capped
 pub mod Values
+pub mod Writing

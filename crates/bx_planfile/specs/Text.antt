@@ -47,13 +47,17 @@ price_fields price = decimal price.moment ∷ decimal price.amount ∷ []
 abbrev pub named : List ℕ → ℕ → List (List ℕ)
 named word n = word ∷ decimal n ∷ []
 
+-- the lines of bookings
+abbrev pub booking_lines : Version → List Row → List (Option ℕ) → List (List (List ℕ))
+booking_lines version rows assigned = map (λ entry. booking_fields version entry.0 entry.1) (zip rows assigned)
+
 -- the lines of a plan
 abbrev pub plan_lines : Version → Parts → List (List (List ℕ))
 plan_lines version parts =
     (codes "bx-plan" ∷ version_field version ∷ [])
     ∷ (codes "channels" ∷ map decimal (numbers_from 0 parts.channels))
     ∷ named (codes "bookings") (length parts.rows)
-    ∷ (map (λ entry. booking_fields version entry.0 entry.1) (zip parts.rows parts.assigned)
+    ∷ (booking_lines version parts.rows parts.assigned
     ++ (named (codes "prices") (length parts.prices)
     ∷ (map price_fields parts.prices
     ++ (named (codes "total") parts.total ∷ (codes "end" ∷ []) ∷ []))))

@@ -11,6 +11,9 @@ mod lines;
 mod lists;
 mod reading;
 mod version;
+mod writing;
+mod written_lines;
 
 pub use fault::{PlanFault, PlanWriteFault};
 pub use reading::read_plan;
+pub use writing::write_plan;
