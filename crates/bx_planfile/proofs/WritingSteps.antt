@@ -13,8 +13,12 @@ use Rattle.bx_base.specs.Octets.{AppendsPrefix}
 use Rattle.bx_planfile.specs.declared.version.Version.{Version}
 use Rattle.bx_planfile.specs.declared.fault.PlanWriteFault.{PlanWriteFault}
 use Rattle.bx_planfile.specs.Lines.{line_text}
-use Rattle.bx_planfile.specs.Text.{booking_fields, booking_lines}
-use Rattle.bx_planfile.specs.Writing.{Writes}
+use Rattle.std.specs.Prelude.{codes, OnOk}
+use Rattle.bx_base.specs.declared.plan.Plan.{Plan}
+use Rattle.bx_base.specs.PlanParts.{parts_of}
+use Rattle.bx_planfile.specs.declared.version.Version.TheVariants.{Three}
+use Rattle.bx_planfile.specs.Text.{booking_fields, booking_lines, price_fields, named, plan_text}
+use Rattle.bx_planfile.specs.Writing.{Writes, head_lines, foot_lines}
 
 abbrev pub Written : Type 0
 Written = Result (Unit {0}) PlanWriteFault
@@ -95,3 +99,30 @@ module _ {W : Type 0} (contents : W → Option (List ℕ)) (lines : List (List (
 
   pub lines_written : (a b : Watched W) → length lines ≤ i → Writes contents a b (let r : Written = Ok tt in r) (flat_map line_text (take i lines)) → Writes contents a b (let r : Written = Ok tt in r) (flat_map line_text lines)
   lines_written a b le so_far = subst (λ (l : List (List (List ℕ))). Writes contents a b (let r : Written = Ok tt in r) (flat_map line_text l)) (take_all i lines le) so_far
+
+-- ---- a text of five parts
+
+module _ (h b l p f : List ℕ) where
+  pub behind_second : h ++ (b ++ (l ++ (p ++ f))) ≡ (h ++ b) ++ (l ++ (p ++ f))
+  behind_second = simp append_assoc
+
+  pub behind_third : h ++ (b ++ (l ++ (p ++ f))) ≡ (h ++ (b ++ l)) ++ (p ++ f)
+  behind_third = simp append_assoc
+
+  pub behind_fourth : h ++ (b ++ (l ++ (p ++ f))) ≡ (h ++ (b ++ (l ++ p))) ++ f
+  behind_fourth = simp append_assoc
+
+-- the text that is written
+pub written_text : (plan : Plan) → plan_text Three (parts_of plan)
+    ≡ flat_map line_text (head_lines plan) ++ (flat_map line_text (booking_lines Three plan.bookings plan.assigned.items) ++ (line_text (named (codes "prices") (length plan.prices.items))
+    ++ (flat_map line_text (map price_fields plan.prices.items) ++ flat_map line_text (foot_lines plan))))
+written_text plan =
+    let tail = named (codes "prices") (length plan.prices.items) ∷ (map price_fields plan.prices.items ++ foot_lines plan) in
+    flat_map-append line_text (head_lines plan) (booking_lines Three plan.bookings plan.assigned.items ++ tail)
+    ∙ ap (λ (r : List ℕ). flat_map line_text (head_lines plan) ++ r) (flat_map-append line_text (booking_lines Three plan.bookings plan.assigned.items) tail)
+    ∙ ap (λ (r : List ℕ). flat_map line_text (head_lines plan) ++ (flat_map line_text (booking_lines Three plan.bookings plan.assigned.items) ++ (line_text (named (codes "prices") (length plan.prices.items)) ++ r)))
+      (flat_map-append line_text (map price_fields plan.prices.items) (foot_lines plan))
+
+pub on_ok : {T E : Type 0} (r : Result T E) (P : Type 0) → P → OnOk r P
+on_ok (Ok x) P h = h
+on_ok (Err e) P h = tt

@@ -3,6 +3,7 @@
 ghost use Rattle.std.specs.Prelude.{◌≡◌, ◌<◌, ℕ, OnOk, OnErr, IsTrue, length, map};
 ghost use Rattle.std.specs.List.{flat_map};
 ghost use Rattle.std.specs.Io.KnownBytes.{Appends};
+ghost use Rattle.bx_base.specs.Bookings.{AreBookings};
 ghost use Rattle.bx_base.specs.Bound.{IsCharge, price_at};
 ghost use Rattle.bx_base.specs.Channels.{IsChannelSet};
 ghost use Rattle.bx_base.specs.Octets.{AppendsPrefix};
@@ -31,12 +32,14 @@ fn put<W: Write>(w: &mut Watched<W>, line: &[u8]) -> Result<(), PlanWriteFault>
 /// Writes the lines before the bookings.
 fn write_head<W: Write>(plan: &Plan, w: &mut Watched<W>) -> Result<(), PlanWriteFault>
     ensures text { Writes W.contents w.old w.new result (flat_map line_text (head_lines plan.now)) }
-    ensures limits { IsChannelSet plan.now.channels }
+    ensures channels { IsChannelSet plan.now.channels }
+    ensures rows { AreBookings plan.now.bookings }
 {
+    let count = plan.bookings.len();
     let channels = channels_line(plan.channels);
     put(w, b"bx-plan 3\n")?;
     put(w, &channels)?;
-    put(w, &named_line(b"bookings", u64::from(plan.bookings.len())))
+    put(w, &named_line(b"bookings", u64::from(count)))
 }
 
 /// Writes the bookings, and the channel of each.
