@@ -49,16 +49,16 @@ order-capped : (start end limit : ℕ) → limit < 2 ^ 64 - 1 → (ltb (capped s
 order-capped start end limit lt =
     elim (cases_lt limit end) [
       | inl high ↦
-        let a : leb (capped end) limit ≡ false = lt-leb (capped end) limit (omega arith) in
-        let b : leb end limit ≡ false = lt-leb end limit high in
-        rw (a, b) (and_false (ltb (capped start) (capped end)) ∙ sym (and_false (ltb start end)))
+          let a : leb (capped end) limit ≡ false = lt-leb (capped end) limit (omega arith) in
+          let b : leb end limit ≡ false = lt-leb end limit high in
+          rw (a, b) (and_false (ltb (capped start) (capped end)) ∙ sym (and_false (ltb start end)))
       | inr low ↦
-        let same : capped end ≡ end = omega arith in
-        let less : ltb (capped start) end ≡ ltb start end = elim (cases_lt start end) [
-          | inl before ↦ lt-ltb (capped start) end (omega arith) ∙ sym (lt-ltb start end before)
-          | inr after ↦ le-ltb (capped start) end (omega arith) ∙ sym (le-ltb start end after)
-        ] in
-        rw (same, less) refl
+          let same : capped end ≡ end = omega arith in
+          let less : ltb (capped start) end ≡ ltb start end = elim (cases_lt start end) [
+            | inl before ↦ lt-ltb (capped start) end (omega arith) ∙ sym (lt-ltb start end before)
+            | inr after ↦ le-ltb (capped start) end (omega arith) ∙ sym (le-ltb start end after)
+          ] in
+          rw (same, less) refl
     ]
 
 pub within-capped : (e : Entry) → is_within (capped_entry e) ≡ is_within e

@@ -105,7 +105,7 @@ numbers_give xs (true ∷ ys) last only low =
     let n = length xs in
     let blank : List Bool = replicate (length ys) false in
     let channel = only n (get_or_at xs true ys false n refl) in
-    let less : last < n = elim low [ | inl z ↦ omega (arith, z, channel.0) | inr lt ↦ lt ] in
+    let less : last < n = elim low [ inl z ↦ omega (arith, z, channel.0) | inr lt ↦ lt ] in
     let first : ltb last n ≡ true = lt-ltb last n less in
     let second : is_channel n ≡ true = test_from_channel n channel in
     let longer : length (xs ++ true ∷ []) ≡ n + 1 = length-append xs (true ∷ []) in
@@ -119,7 +119,7 @@ numbers_give xs (false ∷ ys) last only low =
     let blank : List Bool = replicate (length ys) false in
     let longer : length (xs ++ false ∷ []) ≡ n + 1 = length-append xs (false ∷ []) in
     let whole : (xs ++ false ∷ []) ++ ys ≡ xs ++ false ∷ ys = append_assoc xs (false ∷ []) ys in
-    let lower : (last ≡ 0) ⊎ (last < length (xs ++ false ∷ [])) = elim low [ | inl z ↦ inl z | inr lt ↦ inr (omega (arith, lt, longer)) ] in
+    let lower : (last ≡ 0) ⊎ (last < length (xs ++ false ∷ [])) = elim low [ inl z ↦ inl z | inr lt ↦ inr (omega (arith, lt, longer)) ] in
     let more = numbers_give (xs ++ false ∷ []) ys last (λ m has. only m (ap (λ (l : List Bool). get_or l m false) (sym whole) ∙ has)) lower in
     rw (append_assoc xs (false ∷ []) blank, whole, longer) at more
 

@@ -24,7 +24,7 @@ test_from_number ds h =
 
 pub within_from : (e : Entry) → IsBooking e.row → is_assignable e.channel ≡ true → is_within e ≡ true
 unfolding is_within
-within_from e booking channel = 
+within_from e booking channel =
     let few : length e.row.number ≤ 15 = booking.number.few in
     grind (arith, nat_tests)
 
@@ -35,14 +35,16 @@ from_within e digits within =
     let b = and_both _ (leb (length e.row.number) 15) a.0 in
     let c = and_both _ (leb e.row.pay 1000000000) b.0 in
     let d = and_both _ (leb 1 e.row.pay) c.0 in
-    let f = and_both (ltb e.row.start e.row.end) (leb e.row.end 200000) d.0 in
-    (record {
-      in_order = ltb-true _ _ f.0;
-      in_day = leb-true _ _ f.1;
-      paid = leb-true _ _ d.1;
-      pay_limit = leb-true _ _ c.1;
-      number = IsNumber-from_test e.row.number digits (leb-true _ _ b.1);
-    }, a.1)
+    let f = and_both (ltb e.row.start e.row.end) (leb e.row.end 200000) d.0 in (
+      record {
+        in_order = ltb-true _ _ f.0;
+        in_day = leb-true _ _ f.1;
+        paid = leb-true _ _ d.1;
+        pay_limit = leb-true _ _ c.1;
+        number = IsNumber-from_test e.row.number digits (leb-true _ _ b.1);
+      },
+      a.1,
+    )
 
 pub false_from_not : (b : Bool) → (b ≡ true → ⊥) → b ≡ false
 false_from_not true h = absurd (h refl)

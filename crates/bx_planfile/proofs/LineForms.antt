@@ -239,7 +239,7 @@ booking_takes version fs e form within =
     let pay : decimal (value_of (field 2 fs)) ≡ field 2 fs = decimal-value (field 2 fs) t2.1 (omega (arith, booking.pay_limit)) in
     let channel = channel_takes (field 4 fs) (bytes_eq (field 4 fs) (codes "-")) refl t4.1 limits.1 in
     let spelled : fs ≡ booking_fields version made.row made.channel
-      = five_fields fs channel.1 ∙ rw (start, end, pay, channel.0, ← marked_so.spelled) refl in
+    = five_fields fs channel.1 ∙ rw (start, end, pay, channel.0, ← marked_so.spelled) refl in
     subst (λ (x : Entry). IsBookingLine version fs x) found.2 (record { spelled = spelled; told = marked_so.told; booking = booking; channel = limits.1 })
 
 no_dash : (n : ℕ) → n < 2 ^ 64 → bytes_eq (decimal n) (codes "-") ≡ false
@@ -263,8 +263,18 @@ booking_again version e booking told assigned =
     let end : e.row.end < 2 ^ 64 = omega (arith, booking.in_day) in
     let pay : e.row.pay < 2 ^ 64 = omega (arith, booking.pay_limit) in
     let channel = channel_again e.channel assigned in
-    rw (is_decimal-decimal e.row.start start, is_decimal-decimal e.row.end end, is_decimal-decimal e.row.pay pay, test_from_number e.row.number booking.number,
-        channel.0, marks_again version e.row told, value-decimal e.row.start start, value-decimal e.row.end end, value-decimal e.row.pay pay, channel.1) refl
+    rw (
+      is_decimal-decimal e.row.start start,
+      is_decimal-decimal e.row.end end,
+      is_decimal-decimal e.row.pay pay,
+      test_from_number e.row.number booking.number,
+      channel.0,
+      marks_again version e.row told,
+      value-decimal e.row.start start,
+      value-decimal e.row.end end,
+      value-decimal e.row.pay pay,
+      channel.1,
+    ) refl
 
 -- ---- a price, and the last line
 
@@ -287,9 +297,10 @@ pub price_again : (p : Charge) → IsCharge p → (price_form (price_fields p) �
 unfolding price_form is_charge
 price_again p h =
     let moment : p.moment < 2 ^ 64 = omega (arith, h.in_day) in
-    let amount : p.amount < 2 ^ 64 = omega (arith, h.limit) in
-    (rw (is_decimal-decimal p.moment moment, is_decimal-decimal p.amount amount, value-decimal p.moment moment, value-decimal p.amount amount) refl,
-     rw (lt-ltb _ _ h.in_day, le-leb _ _ h.positive, le-leb _ _ h.limit) refl)
+    let amount : p.amount < 2 ^ 64 = omega (arith, h.limit) in (
+      rw (is_decimal-decimal p.moment moment, is_decimal-decimal p.amount amount, value-decimal p.moment moment, value-decimal p.amount amount) refl,
+      rw (lt-ltb _ _ h.in_day, le-leb _ _ h.positive, le-leb _ _ h.limit) refl,
+    )
 
 pub end_takes : (fs : List (List ℕ)) → is_end fs ≡ true → fs ≡ codes "end" ∷ []
 unfolding is_end

@@ -27,7 +27,7 @@ regroup_entries rows assigned e (Ok x) = simp append_assoc
 regroup_entries rows assigned e (Err f) = refl
 
 module _ (version : Version) (count i n : ℕ) (bytes : List ℕ) (rows : List Row) (assigned : List (Option ℕ)) (total : Result Entries PlanFault)
-         (so_far : with_entries rows assigned (read_bookings version (count - i) (n + i) bytes) ≡ total) where
+    (so_far : with_entries rows assigned (read_bookings version (count - i) (n + i) bytes) ≡ total) where
   pub booking_follows : (fields : List (List ℕ)) (after : List ℕ) (e : Entry) → i < count → read_line (n + i) bytes ≡ Ok (fields, after) → read_booking version (n + i) fields ≡ Ok e
       → with_entries (rows ++ e.row ∷ []) (assigned ++ e.channel ∷ []) (read_bookings version (count - (i + 1)) (n + (i + 1)) after) ≡ total
   unfolding read_bookings
@@ -35,7 +35,7 @@ module _ (version : Version) (count i n : ℕ) (bytes : List ℕ) (rows : List R
       let k : count - i ≡ suc (count - (i + 1)) = omega arith in
       let next : n + i + 1 ≡ n + (i + 1) = omega arith in
       let one : with_entries rows assigned (read_bookings version (count - i) (n + i) bytes) ≡ with_entries (rows ++ e.row ∷ []) (assigned ++ e.channel ∷ []) (read_bookings version (count - (i + 1)) (n + (i + 1)) after)
-          = rw (k, line, booking, next) (regroup_entries rows assigned e (read_bookings version (count - (i + 1)) (n + (i + 1)) after)) in
+      = rw (k, line, booking, next) (regroup_entries rows assigned e (read_bookings version (count - (i + 1)) (n + (i + 1)) after)) in
       sym one ∙ so_far
 
   pub booking_line_fails : (f : PlanFault) → i < count → Fails f (read_line (n + i) bytes) → Fails f total
@@ -65,7 +65,7 @@ regroup_prices front p (Ok x) = simp append_assoc
 regroup_prices front p (Err f) = refl
 
 module _ (count i n : ℕ) (bytes : List ℕ) (front : List Charge) (total : Result (List Charge × List ℕ) PlanFault)
-         (so_far : with_prices front (read_prices (count - i) (n + i) bytes) ≡ total) where
+    (so_far : with_prices front (read_prices (count - i) (n + i) bytes) ≡ total) where
   pub price_follows : (fields : List (List ℕ)) (after : List ℕ) (p : Charge) → i < count → read_line (n + i) bytes ≡ Ok (fields, after) → read_price (n + i) fields ≡ Ok p
       → with_prices (front ++ p ∷ []) (read_prices (count - (i + 1)) (n + (i + 1)) after) ≡ total
   unfolding read_prices
@@ -73,7 +73,7 @@ module _ (count i n : ℕ) (bytes : List ℕ) (front : List Charge) (total : Res
       let k : count - i ≡ suc (count - (i + 1)) = omega arith in
       let next : n + i + 1 ≡ n + (i + 1) = omega arith in
       let one : with_prices front (read_prices (count - i) (n + i) bytes) ≡ with_prices (front ++ p ∷ []) (read_prices (count - (i + 1)) (n + (i + 1)) after)
-          = rw (k, line, price, next) (regroup_prices front p (read_prices (count - (i + 1)) (n + (i + 1)) after)) in
+      = rw (k, line, price, next) (regroup_prices front p (read_prices (count - (i + 1)) (n + (i + 1)) after)) in
       sym one ∙ so_far
 
   pub price_line_fails : (f : PlanFault) → i < count → Fails f (read_line (n + i) bytes) → Fails f total

@@ -88,7 +88,7 @@ line_again n field fields rest e =
     let found : position is_lf (line ++ 10 ∷ rest) ≡ Some (length line) = rw (place, within) refl in
     let front : take (length line) (line ++ 10 ∷ rest) ≡ line = take_at line (10 ∷ rest) (length line) refl in
     let behind : drop (length line + 1) (line ++ 10 ∷ rest) ≡ rest
-        = ap (drop (length line + 1)) (sym whole) ∙ drop_at (line_text (field ∷ fields)) rest (length line + 1) (length-append line (10 ∷ [])) in
+    = ap (drop (length line + 1)) (sym whole) ∙ drop_at (line_text (field ∷ fields)) rest (length line + 1) (length-append line (10 ∷ [])) in
     ap (λ b. or_fault (BadLine n) (first_line b)) whole ∙ ap (λ p. or_fault (BadLine n) (cut_line (line ++ 10 ∷ rest) p)) found ∙ rw (front, behind, fields-join field fields e) refl
 
 takes_at : (n : ℕ) (bytes : List ℕ) (p : Option ℕ) (x : List (List ℕ) × List ℕ) → position is_lf bytes ≡ p → or_fault (BadLine n) (cut_line bytes p) ≡ Ok x → bytes ≡ line_text x.0 ++ x.1
@@ -100,8 +100,8 @@ takes_at n bytes (Some k) x at e =
     let behind = drop (k + 1) bytes in
     let cut : drop k bytes ≡ 10 ∷ behind = drop_more bytes k 0 place.0 ∙ ap (λ (c : ℕ). c ∷ behind) lf in
     let whole : bytes ≡ line_text (fields_of front) ++ behind =
-      sym (take-append-drop k bytes) ∙ ap (λ (r : List ℕ). front ++ r) cut ∙ sym (append_assoc front (10 ∷ []) behind)
-      ∙ ap (λ (l : List ℕ). (l ++ 10 ∷ []) ++ behind) (sym (join_with_byte-slice_split 32 front)) in
+    sym (take-append-drop k bytes) ∙ ap (λ (r : List ℕ). front ++ r) cut ∙ sym (append_assoc front (10 ∷ []) behind)
+    ∙ ap (λ (l : List ℕ). (l ++ 10 ∷ []) ++ behind) (sym (join_with_byte-slice_split 32 front)) in
     let made : List (List ℕ) × List ℕ = (fields_of front, behind) in
     let same : made ≡ x = cc in
     subst (λ (y : List (List ℕ) × List ℕ). bytes ≡ line_text y.0 ++ y.1) same whole

@@ -183,7 +183,7 @@ bookings_take version (suc count) n bytes x e =
     let made = entries (b.0.row ∷ c.0.rows) (b.0.channel ∷ c.0.assigned) c.0.rest in
     let same : made ≡ x = cc in
     let spelled : bytes ≡ (line_text fields ++ rest) ++ c.0.rest =
-      line ∙ ap (λ (fs : List (List ℕ)). line_text fs ++ a.0.1) first.spelled ∙ ap (λ (r : List ℕ). line_text fields ++ r) more.spelled ∙ sym (append_assoc (line_text fields) rest c.0.rest) in
+    line ∙ ap (λ (fs : List (List ℕ)). line_text fs ++ a.0.1) first.spelled ∙ ap (λ (r : List ℕ). line_text fields ++ r) more.spelled ∙ sym (append_assoc (line_text fields) rest c.0.rest) in
     subst (λ (y : Entries). ReadsBookings version (suc count) bytes y) same (record {
       spelled = spelled;
       rows = ap suc more.rows;
@@ -243,7 +243,7 @@ prices_take (suc count) n bytes x e =
     let made : List Charge × List ℕ = (b.0 ∷ c.0.0, c.0.1) in
     let same : made ≡ x = cc in
     let spelled : bytes ≡ (line_text (price_fields b.0) ++ rest) ++ c.0.1 =
-      line ∙ ap (λ (fs : List (List ℕ)). line_text fs ++ a.0.1) first.0 ∙ ap (λ (r : List ℕ). line_text (price_fields b.0) ++ r) more.spelled ∙ sym (append_assoc (line_text (price_fields b.0)) rest c.0.1) in
+    line ∙ ap (λ (fs : List (List ℕ)). line_text fs ++ a.0.1) first.0 ∙ ap (λ (r : List ℕ). line_text (price_fields b.0) ++ r) more.spelled ∙ sym (append_assoc (line_text (price_fields b.0)) rest c.0.1) in
     subst (λ (y : List Charge × List ℕ). ReadsPrices (suc count) bytes y) same (record { spelled = spelled; len = ap suc more.len; prices = prices_more b.0 c.0.0 first.1 more.prices })
 
 prices_again : (ps : List Charge) (n : ℕ) (rest : List ℕ) → ((i : ℕ) → i < length ps → IsCharge (price_at ps i)) → read_prices (length ps) n (flat_map line_text (map price_fields ps) ++ rest) ≡ Ok (ps, rest)
@@ -304,7 +304,7 @@ tail_takes n bytes x e =
     let g = bind_ok (read_line (n + 2 + b.0) d.0.1) (λ ending. read_end (n + 2 + b.0) ending.0 ending.1 >>= λ rest. Ok (c.0.0, f.0)) x f.2 in
     let h = bind_ok (read_end (n + 2 + b.0) g.0.0 g.0.1) (λ rest. Ok (c.0.0, f.0)) x g.2 in
     subst (λ (y : List Charge × ℕ). ReadsTail bytes y) (ok_is (c.0.0, f.0) x h.2)
-      (tail_from n b.0 f.0 bytes a.0.1 c.0.1 d.0.1 g.0.1 h.0 a.0.0 d.0.0 g.0.0 c.0.0 a.1 b.1 c.1 d.1 f.1 g.1 h.1)
+    (tail_from n b.0 f.0 bytes a.0.1 c.0.1 d.0.1 g.0.1 h.0 a.0.0 d.0.0 g.0.0 c.0.0 a.1 b.1 c.1 d.1 f.1 g.1 h.1)
 
 tail_again : (n : ℕ) (prices : List Charge) (total : ℕ) → length prices ≤ 8000 → ((i : ℕ) → i < length prices → IsCharge (price_at prices i)) → total ≤ 4000000000000
     → read_tail n (flat_map line_text (tail_lines prices total)) ≡ Ok (prices, total)
@@ -334,7 +334,7 @@ whole_text : (version : Version) (parts : Parts) → plan_text version parts
     ++ (flat_map line_text (booking_lines version parts.rows parts.assigned) ++ flat_map line_text (tail_lines parts.prices parts.total))))
 whole_text version parts =
     ap (λ (r : List ℕ). line_text (codes "bx-plan" ∷ version_field version ∷ []) ++ (line_text (codes "channels" ∷ map decimal (numbers_from 0 parts.channels)) ++ (line_text (named (codes "bookings") (length parts.rows)) ++ r)))
-      (flat_map-append line_text (booking_lines version parts.rows parts.assigned) (tail_lines parts.prices parts.total))
+    (flat_map-append line_text (booking_lines version parts.rows parts.assigned) (tail_lines parts.prices parts.total))
 
 header_line : (n : ℕ) (fs : List (List ℕ)) (version : Version) → read_header n fs ≡ Ok version → fs ≡ codes "bx-plan" ∷ version_field version ∷ []
 unfolding read_header
@@ -397,7 +397,7 @@ all_takes bytes x e =
     let h = bind_ok (read_bookings b.0 g.0 4 f.0.1) (λ entries. read_tail (4 + g.0) entries.rest >>= λ tail. Ok (record { rows = entries.rows; channels = d.0; assigned = entries.assigned; prices = tail.0; total = tail.1 })) x g.2 in
     let k = bind_ok (read_tail (4 + g.0) h.0.rest) (λ tail. Ok (record { rows = h.0.rows; channels = d.0; assigned = h.0.assigned; prices = tail.0; total = tail.1 })) x h.2 in
     subst (λ (y : Parts). ReadsAll bytes y) (ok_is (record { rows = h.0.rows; channels = d.0; assigned = h.0.assigned; prices = k.0.0; total = k.0.1 }) x k.2)
-      (plan_from b.0 g.0 k.0.1 bytes a.0.1 c.0.1 f.0.1 h.0.rest a.0.0 c.0.0 f.0.0 d.0 h.0.rows h.0.assigned k.0.0 a.1 b.1 c.1 d.1 f.1 g.1 h.1 k.1)
+    (plan_from b.0 g.0 k.0.1 bytes a.0.1 c.0.1 f.0.1 h.0.rest a.0.0 c.0.0 f.0.0 d.0 h.0.rows h.0.assigned k.0.0 a.1 b.1 c.1 d.1 f.1 g.1 h.1 k.1)
 
 pub all_again : (version : Version) (parts : Parts) → IsPlan parts → HasText version parts → read_all (plan_text version parts) ≡ Ok parts
 unfolding read_all

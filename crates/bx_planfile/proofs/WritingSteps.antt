@@ -39,9 +39,12 @@ module _ {W : Type 0} (contents : W → Option (List ℕ)) where
   }
   writes_then a b d (Err e) s t p q = record {
     written = tt;
-    prefix = (length s + q.prefix.0, omega (arith, length-append s t, q.prefix.1),
+    prefix = (
+      length s + q.prefix.0,
+      omega (arith, length-append s t, q.prefix.1),
       subst (Appends (contents (device_of a)) (contents (device_of d))) (sym (take-append-add s t q.prefix.0))
-        (Appends-trans (contents (device_of a)) (contents (device_of b)) (contents (device_of d)) s (take q.prefix.0 t) p.written q.prefix.2));
+          (Appends-trans (contents (device_of a)) (contents (device_of b)) (contents (device_of d)) s (take q.prefix.0 t) p.written q.prefix.2),
+    );
     faulted = q.faulted;
     unfaulted = tt;
     reads = q.reads ∙ p.reads;
@@ -51,8 +54,11 @@ module _ {W : Type 0} (contents : W → Option (List ℕ)) where
   pub writes_failed : (a b : Watched W) (e f : PlanWriteFault) (s rest whole : List ℕ) → whole ≡ s ++ rest → Writes contents a b (let q : Written = Err e in q) s → Writes contents a b (let q : Written = Err f in q) whole
   writes_failed a b e f s rest whole same p = record {
     written = tt;
-    prefix = (p.prefix.0, omega (arith, p.prefix.1, length-append s rest, ap length same),
-      subst (Appends (contents (device_of a)) (contents (device_of b))) (sym (ap (take p.prefix.0) same ∙ take-append-le p.prefix.0 s rest p.prefix.1)) p.prefix.2);
+    prefix = (
+      p.prefix.0,
+      omega (arith, p.prefix.1, length-append s rest, ap length same),
+      subst (Appends (contents (device_of a)) (contents (device_of b))) (sym (ap (take p.prefix.0) same ∙ take-append-le p.prefix.0 s rest p.prefix.1)) p.prefix.2,
+    );
     faulted = p.faulted;
     unfaulted = tt;
     reads = p.reads;
@@ -94,7 +100,7 @@ module _ {W : Type 0} (contents : W → Option (List ℕ)) (lines : List (List (
   line_failed a b d e f fields text lt at same so_far next =
       let both = writes_then contents a b d (Err e) (flat_map line_text (take i lines)) (line_text fields) so_far (rw same at next) in
       let whole : flat_map line_text lines ≡ (flat_map line_text (take i lines) ++ line_text fields) ++ flat_map line_text (drop (i + 1) lines)
-        = lines_split lines (i + 1) ∙ ap (λ (t : List ℕ). t ++ flat_map line_text (drop (i + 1) lines)) (lines_more lines i fields lt at) in
+      = lines_split lines (i + 1) ∙ ap (λ (t : List ℕ). t ++ flat_map line_text (drop (i + 1) lines)) (lines_more lines i fields lt at) in
       writes_failed contents a d e f (flat_map line_text (take i lines) ++ line_text fields) (flat_map line_text (drop (i + 1) lines)) (flat_map line_text lines) whole both
 
   pub lines_written : (a b : Watched W) → length lines ≤ i → Writes contents a b (let r : Written = Ok tt in r) (flat_map line_text (take i lines)) → Writes contents a b (let r : Written = Ok tt in r) (flat_map line_text lines)
@@ -121,7 +127,7 @@ written_text plan =
     flat_map-append line_text (head_lines plan) (booking_lines Three plan.bookings plan.assigned.items ++ tail)
     ∙ ap (λ (r : List ℕ). flat_map line_text (head_lines plan) ++ r) (flat_map-append line_text (booking_lines Three plan.bookings plan.assigned.items) tail)
     ∙ ap (λ (r : List ℕ). flat_map line_text (head_lines plan) ++ (flat_map line_text (booking_lines Three plan.bookings plan.assigned.items) ++ (line_text (named (codes "prices") (length plan.prices.items)) ++ r)))
-      (flat_map-append line_text (map price_fields plan.prices.items) (foot_lines plan))
+    (flat_map-append line_text (map price_fields plan.prices.items) (foot_lines plan))
 
 pub on_ok : {T E : Type 0} (r : Result T E) (P : Type 0) → P → OnOk r P
 on_ok (Ok x) P h = h

@@ -12,7 +12,7 @@ capped n = min n (2 ^ 64 - 1)
 abbrev pub capped_entry : Entry → Entry
 capped_entry e = record {
   row = row_of (capped e.row.start) (capped e.row.end) (capped e.row.pay) e.row.number e.row.must e.row.inward;
-  channel = option_map capped e.channel
+  channel = option_map capped e.channel;
 }
 
 abbrev pub capped_charge : Charge → Charge

@@ -100,7 +100,7 @@ marks_form Three fields =
 abbrev pub entry_of : List (List ℕ) → Marks → Entry
 entry_of fields marks = record {
   row = row_of (value_of (field 0 fields)) (value_of (field 1 fields)) (value_of (field 2 fields)) (field 3 fields) marks.must marks.inward;
-  channel = channel_of (field 4 fields)
+  channel = channel_of (field 4 fields);
 }
 
 abbrev pub marked : List (List ℕ) → Option Marks → Option Entry

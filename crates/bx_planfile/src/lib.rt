@@ -17,3 +17,6 @@ mod written_lines;
 pub use fault::{PlanFault, PlanWriteFault};
 pub use reading::read_plan;
 pub use writing::write_plan;
+
+#[cfg(test)]
+mod tests;

@@ -14,6 +14,7 @@ use bx_base::{Plan, Price};
 use std::alloc::Global;
 
 const MAX_BOOKINGS: u16 = 4000;
+
 const MAX_PRICES: u16 = 8000;
 
 /// The prices and the total, from the count of the prices in line `n` to the end.

@@ -17,7 +17,7 @@ returns-in_err-booking-clause-value c =
     let p = err_from_is_err_and c.from_residual-in_err-booking.result c.from_residual-in_err-booking.ensures.1 in
     let total = read_bookings c.args.version c.args.count c.args.n c.args.bytes.now in
     rw (p.1, p.2) (booking_fails c.args.version c.args.count c.loop-i.i c.args.n c.loop-i.rest.now c.loop-i.bookings c.loop-i.assigned.items total c.loop-i.invariant.so_far
-      c.in_ok-fields.fields c.in_ok-fields.after.now c.in_err-booking.field-0.0 c.loop-i-test.true (rw c.from.ensures at c.in_ok-fields.ensures) (rw c.from.ensures at c.in_err-booking.ensures))
+    c.in_ok-fields.fields c.in_ok-fields.after.now c.in_err-booking.field-0.0 c.loop-i-test.true (rw c.from.ensures at c.in_ok-fields.ensures) (rw c.from.ensures at c.in_err-booking.ensures))
 
 pub loop-i-preserved : goal.loop-i-preserved
 loop-i-preserved c =
@@ -29,9 +29,9 @@ loop-i-preserved c =
       rows = ap length added ∙ length_push c.loop-i.bookings c.in_ok-booking.booking ∙ ap (λ n. n + 1) c.loop-i.invariant.rows;
       assigned = len ∙ ap (λ n. n + 1) c.loop-i.invariant.assigned;
       so_far = rw (items, added) (booking_follows c.args.version c.args.count c.loop-i.i c.args.n c.loop-i.rest.now c.loop-i.bookings c.loop-i.assigned.items
-        (read_bookings c.args.version c.args.count c.args.n c.args.bytes.now) c.loop-i.invariant.so_far
-        c.in_ok-fields.fields c.in_ok-fields.after.now (entry_of c.in_ok-booking.booking c.in_ok-booking.channel) c.loop-i-test.true
-        (rw c.from.ensures at c.in_ok-fields.ensures) (rw c.from.ensures at c.in_ok-booking.ensures));
+          (read_bookings c.args.version c.args.count c.args.n c.args.bytes.now) c.loop-i.invariant.so_far
+          c.in_ok-fields.fields c.in_ok-fields.after.now (entry_of c.in_ok-booking.booking c.in_ok-booking.channel) c.loop-i-test.true
+          (rw c.from.ensures at c.in_ok-fields.ensures) (rw c.from.ensures at c.in_ok-booking.ensures));
     }
 
 pub returns-clause-value : goal.returns-clause-value

@@ -15,7 +15,7 @@ returns-in_err-price-clause-value c =
     let p = err_from_is_err_and c.from_residual-in_err-price.result c.from_residual-in_err-price.ensures.1 in
     let total = read_prices c.args.count c.args.n c.args.bytes.now in
     rw (p.1, p.2) (price_fails c.args.count c.loop-i.i c.args.n c.loop-i.rest.now c.loop-i.prices.items total c.loop-i.invariant.so_far
-      c.in_ok-fields.fields c.in_ok-fields.after.now c.in_err-price.field-0.0 c.loop-i-test.true (rw c.from.ensures at c.in_ok-fields.ensures) (rw c.from.ensures at c.in_err-price.ensures))
+    c.in_ok-fields.fields c.in_ok-fields.after.now c.in_err-price.field-0.0 c.loop-i-test.true (rw c.from.ensures at c.in_ok-fields.ensures) (rw c.from.ensures at c.in_err-price.ensures))
 
 pub loop-i-preserved : goal.loop-i-preserved
 loop-i-preserved c =
@@ -25,9 +25,9 @@ loop-i-preserved c =
     record {
       len = len ∙ ap (λ n. n + 1) c.loop-i.invariant.len;
       so_far = rw items (price_follows c.args.count c.loop-i.i c.args.n c.loop-i.rest.now c.loop-i.prices.items
-        (read_prices c.args.count c.args.n c.args.bytes.now) c.loop-i.invariant.so_far
-        c.in_ok-fields.fields c.in_ok-fields.after.now c.in_ok-price.price c.loop-i-test.true
-        (rw c.from.ensures at c.in_ok-fields.ensures) (rw c.from.ensures at c.in_ok-price.ensures));
+          (read_prices c.args.count c.args.n c.args.bytes.now) c.loop-i.invariant.so_far
+          c.in_ok-fields.fields c.in_ok-fields.after.now c.in_ok-price.price c.loop-i-test.true
+          (rw c.from.ensures at c.in_ok-fields.ensures) (rw c.from.ensures at c.in_ok-price.ensures));
     }
 
 pub returns-clause-value : goal.returns-clause-value

@@ -26,7 +26,7 @@ returns-in_err-put-clause-text g c =
     let channel = get_or_read plan.assigned.items i c.index-channel.result.now (omega arith) c.index-channel.ensures None in
     let line : get_or lines i [] ≡ booking_fields Three c.nth.result c.index-channel.result.now = booking_line_at Three plan.bookings plan.assigned.items i one_each below ∙ rw (c.nth.ensures.value, ← channel) refl in
     rw p.1 (line_failed g.W.Write.contents lines i c.args.w.now c.loop-i.w c.put.new.w c.in_err-put.field-0.0 p.0 (booking_fields Three c.nth.result c.index-channel.result.now) c.deref.result.now within line
-      (c.deref.ensures.0 ∙ c.booking_line.ensures.text) c.loop-i.invariant.text c.in_err-put.ensures)
+    (c.deref.ensures.0 ∙ c.booking_line.ensures.text) c.loop-i.invariant.text c.in_err-put.ensures)
 
 pub loop-i-preserved : goal.loop-i-preserved
 loop-i-preserved g c =
@@ -40,7 +40,7 @@ loop-i-preserved g c =
     let line : get_or lines i [] ≡ booking_fields Three c.nth.result c.index-channel.result.now = booking_line_at Three plan.bookings plan.assigned.items i one_each below ∙ rw (c.nth.ensures.value, ← channel) refl in
     record {
       text = line_written g.W.Write.contents lines i c.args.w.now c.loop-i.w c.put.new.w (booking_fields Three c.nth.result c.index-channel.result.now) c.deref.result.now within line
-        (c.deref.ensures.0 ∙ c.booking_line.ensures.text) c.loop-i.invariant.text c.in_ok-put.ensures;
+          (c.deref.ensures.0 ∙ c.booking_line.ensures.text) c.loop-i.invariant.text c.in_ok-put.ensures;
       limits = λ k n lt e. elim (cases_eq k i) [
         | inl same ↦ if_some c.index-channel.result.now n (channel ∙ ap (λ (m : ℕ). get_or plan.assigned.items m None) (sym same) ∙ e) c.booking_line.ensures.limits
         | inr other ↦ c.loop-i.invariant.limits k n (omega arith) e

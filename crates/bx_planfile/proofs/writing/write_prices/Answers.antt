@@ -16,7 +16,7 @@ returns-in_err-put-clause-text g c =
     let item = get_or_read prices i c.price-item.result c.loop-price-test.true c.price-item.is no_charge in
     let line : get_or (map price_fields prices) i [] ≡ price_fields c.price-item.result = get_or-map price_fields prices i no_charge [] c.loop-price-test.true ∙ ap price_fields (sym item) in
     rw p.1 (line_failed g.W.Write.contents (map price_fields prices) i c.args.w.now c.loop-price.w c.put.new.w c.in_err-put.field-0.0 p.0 (price_fields c.price-item.result) c.deref.result.now within line
-      (c.deref.ensures.0 ∙ c.price_line.ensures.text) c.loop-price.invariant.text c.in_err-put.ensures)
+    (c.deref.ensures.0 ∙ c.price_line.ensures.text) c.loop-price.invariant.text c.in_err-put.ensures)
 
 pub loop-price-preserved : goal.loop-price-preserved
 loop-price-preserved g c =
@@ -27,7 +27,7 @@ loop-price-preserved g c =
     let line : get_or (map price_fields prices) i [] ≡ price_fields c.price-item.result = get_or-map price_fields prices i no_charge [] c.loop-price-test.true ∙ ap price_fields (sym item) in
     record {
       text = line_written g.W.Write.contents (map price_fields prices) i c.args.w.now c.loop-price.w c.put.new.w (price_fields c.price-item.result) c.deref.result.now within line
-        (c.deref.ensures.0 ∙ c.price_line.ensures.text) c.loop-price.invariant.text c.in_ok-put.ensures;
+          (c.deref.ensures.0 ∙ c.price_line.ensures.text) c.loop-price.invariant.text c.in_ok-put.ensures;
       limits = λ k lt. elim (cases_eq k i) [
         | inl same ↦ rw same (subst IsCharge item c.price_line.ensures.limits)
         | inr other ↦ c.loop-price.invariant.limits k (omega arith)

@@ -13,6 +13,6 @@ returns-clause-text c =
     let must : c.must_word.result.now ≡ must_field b.must = c.must_word.ensures.text ∙ ap must_field c.is_must.ensures in
     let direction : c.direction_word.result.now ≡ direction_field b.inward = c.direction_word.ensures.text ∙ ap direction_field c.is_inward.ensures in
     seven_fields (decimal b.start) (decimal b.end) (decimal b.pay) b.number (channel_field c.args.channel) (must_field b.must) (direction_field b.inward)
-      c.new-line.result.items c.add_decimal.new.line.items c.add_decimal-2.new.line.items c.add_decimal-3.new.line.items c.add.new.line.items c.add_channel.new.line.items c.add-2.new.line.items c.add-3.new.line.items
-      c.new-line.ensures (rw start at c.add_decimal.ensures.items) (rw end at c.add_decimal-2.ensures.items) (rw c.pay.ensures.value at c.add_decimal-3.ensures.items)
-      (rw number at c.add.ensures.items) c.add_channel.ensures.items (rw must at c.add-2.ensures.items) (rw direction at c.add-3.ensures.items)
+    c.new-line.result.items c.add_decimal.new.line.items c.add_decimal-2.new.line.items c.add_decimal-3.new.line.items c.add.new.line.items c.add_channel.new.line.items c.add-2.new.line.items c.add-3.new.line.items
+    c.new-line.ensures (rw start at c.add_decimal.ensures.items) (rw end at c.add_decimal-2.ensures.items) (rw c.pay.ensures.value at c.add_decimal-3.ensures.items)
+    (rw number at c.add.ensures.items) c.add_channel.ensures.items (rw must at c.add-2.ensures.items) (rw direction at c.add-3.ensures.items)
