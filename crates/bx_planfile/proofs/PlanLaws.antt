@@ -1,29 +1,28 @@
 -- The two laws of the plan text: what is read is spelled so, and what is spelled so is read.
-use Rattle.std.proofs.Common.{◌≡◌, ◌≢◌, ℕ, zero, suc, ◌+◌, ◌-◌, ◌^◌, ◌<◌, ◌≤◌, lit<, Bool, true, false, ◌&&◌, ltb, leb, eqb, cond, List, [], ◌∷◌, ◌++◌, map, length, get_or, Option, Some, None, Result, Ok, Err, refl, sym, ap, ◌∙◌, arith, subst, append_assoc}
+use Rattle.std.proofs.Common.{◌≡◌, ℕ, zero, suc, ◌+◌, ◌^◌, ◌<◌, ◌≤◌, lit<, Bool, true, false, ltb, leb, eqb, List, [], ◌∷◌, ◌++◌, map, length, get_or, Option, Some, None, Result, Ok, Err, refl, sym, ap, ◌∙◌, arith, subst, append_assoc}
 use Rattle.std.specs.Prelude.{codes, decimal, IfOk}
-use Rattle.std.specs.List.{list_all, flat_map, zip}
+use Rattle.std.specs.List.{list_all, flat_map}
 use Rattle.std.specs.Char.{is_ascii_digit}
 use Rattle.std.proofs.lemmas.Bool.{eqb-true, leb-true, le-leb}
-use Rattle.std.proofs.lemmas.List.{nil_from_length, append-nil}
+use Rattle.std.proofs.lemmas.List.{nil_from_length}
 use Rattle.std.proofs.lemmas.Grind.{flat_map-append}
-use Rattle.bx_base.specs.Numbers.{IsNumber}
 use Rattle.bx_base.specs.Channels.{IsChannel, IsChannelSet}
-use Rattle.bx_base.specs.Bookings.{Row, IsBooking, AreBookings, row_at, no_row}
-use Rattle.bx_base.specs.Bound.{Charge, IsCharge, price_at, no_charge}
+use Rattle.bx_base.specs.Bookings.{Row, IsBooking, row_at}
+use Rattle.bx_base.specs.Bound.{Charge, IsCharge, price_at}
 use Rattle.bx_base.specs.PlanParts.{Parts, IsPlan, parts_of}
 use Rattle.bx_base.specs.declared.plan.Plan.{Plan}
 use Rattle.bx_planfile.specs.declared.version.Version.{Version}
 use Rattle.bx_planfile.specs.declared.version.Version.TheVariants.{One, Two, Three}
 use Rattle.bx_planfile.specs.declared.fault.PlanFault.{PlanFault}
-use Rattle.bx_planfile.specs.declared.fault.PlanFault.TheVariants.{BadLine, BadCount, OutOfLimits, Trailing, Memory}
+use Rattle.bx_planfile.specs.declared.fault.PlanFault.TheVariants.{BadLine, BadCount, OutOfLimits, Trailing}
 use Rattle.bx_planfile.specs.Lines.{line_text}
-use Rattle.bx_planfile.specs.Text.{version_field, numbers_from, channel_field, must_field, direction_field, mark_fields, booking_fields, price_fields, named, booking_lines, plan_lines, plan_text, IsTold, HasText, IsTextOf}
+use Rattle.bx_planfile.specs.Text.{version_field, numbers_from, channel_field, must_field, direction_field, mark_fields, booking_fields, price_fields, named, booking_lines, plan_text, IsTold, HasText, IsTextOf}
 use Rattle.bx_planfile.specs.Forms.{Entry, header_form, named_form, channels_form, channel_set, booking_form, is_assignable, is_within, price_form, is_charge, is_end}
-use Rattle.bx_planfile.specs.Reading.{◌>>=◌, Gives, Fails, or_fault, where_holds, Entries, entries, read_line, read_header, read_channels, read_count, read_booking, read_price, read_total, read_end, read_bookings, read_prices, read_tail, read_all}
+use Rattle.bx_planfile.specs.Reading.{◌>>=◌, Gives, or_fault, where_holds, Entries, entries, read_line, read_header, read_channels, read_count, read_booking, read_price, read_total, read_end, read_bookings, read_prices, read_tail, read_all}
 use Rattle.bx_planfile.proofs.Digits.{and_both}
 use Rattle.bx_planfile.proofs.DecimalLaws.{digits-decimal}
 use Rattle.bx_planfile.proofs.PlainLines.{is_plain, are_plain, plain_from_digits, line_again, line_takes}
-use Rattle.bx_planfile.proofs.ChannelSets.{AddsNumbers, set_is_listed, listed_gives, IsChannel-from_test, test_from_channel}
+use Rattle.bx_planfile.proofs.ChannelSets.{set_is_listed, listed_gives, IsChannel-from_test, test_from_channel}
 use Rattle.bx_planfile.proofs.Limits.{within_from, test_from_number}
 use Rattle.bx_planfile.proofs.LineForms.{header_takes, header_again, named_takes, named_again, channels_take, channels_again, IsBookingLine, booking_takes, booking_again, price_takes, price_again, end_takes, end_again}
 
