@@ -1,13 +1,11 @@
 -- The code counts no higher than 64 bits. No limit is as high, so what is within the limits stays what it is.
-use Rattle.std.proofs.Common.{◌≡◌, ℕ, lit<, ◌+◌, ◌-◌, ◌^◌, ◌<◌, ◌≤◌, ◌≢◌, min, Bool, true, false, ◌&&◌, not, ltb, leb, eqb, List, length, Option, Some, None, Result, Ok, Err, refl, sym, ap, ◌∙◌, arith, subst, inl, inr}
+use Rattle.std.proofs.Common.{◌≡◌, ℕ, lit<, ◌-◌, ◌^◌, ◌<◌, ◌≤◌, Bool, true, false, ◌&&◌, not, ltb, leb, eqb, length, Option, Some, None, Ok, refl, sym, ap, ◌∙◌, arith, inl, inr}
 use Rattle.std.specs.Prelude.{MatchOption}
 use Rattle.std.specs.Option.{option_map, ok_or}
-use Rattle.std.proofs.lemmas.Bool.{cases_lt, ltb-true, ltb-false, leb-true, leb-false, lt-ltb, le-ltb, le-leb, lt-leb}
+use Rattle.std.proofs.lemmas.Bool.{cases_lt, ltb-true, leb-true, lt-ltb, le-ltb, le-leb, lt-leb}
 use Rattle.std.proofs.lemmas.Bool.Decides.{nat_tests}
-use Rattle.bx_base.specs.Bookings.{Row, row_of}
-use Rattle.bx_base.specs.Bound.{Charge, charge_of}
-use Rattle.bx_planfile.specs.declared.fault.PlanFault.{PlanFault}
-use Rattle.bx_planfile.specs.declared.fault.PlanFault.TheVariants.{BadLine, OutOfLimits, BadCount}
+use Rattle.bx_base.specs.Bound.{Charge}
+use Rattle.bx_planfile.specs.declared.fault.PlanFault.TheVariants.{BadLine, OutOfLimits}
 use Rattle.bx_planfile.specs.Forms.{Entry, is_channel, is_assignable, is_within, is_charge}
 use Rattle.bx_planfile.specs.Capped.{capped, capped_entry, capped_charge}
 use Rattle.bx_planfile.specs.Reading.{◌>>=◌, Gives, or_fault, where_holds}

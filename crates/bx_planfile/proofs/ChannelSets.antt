@@ -1,10 +1,9 @@
 -- A set of channels and its numbers in rising order: each gives the other.
-use Rattle.std.proofs.Common.{◌≡◌, ◌≢◌, ℕ, zero, suc, ◌+◌, ◌<◌, ◌≤◌, Bool, true, false, ◌&&◌, not, ltb, eqb, cond, List, [], ◌∷◌, ◌++◌, length, get_or, set, Option, Some, None, refl, sym, ap, ◌∙◌, arith, subst, append_assoc, inl, inr, ◌⊎◌, replicate, length-set, length-append, get_or-set_same, get_or-set_other}
-use Rattle.std.proofs.lemmas.List.{append-nil, set_at, get_or_at, get_or-replicate, get_or_past, length-replicate}
+use Rattle.std.proofs.Common.{◌≡◌, ◌≢◌, ℕ, zero, suc, ◌+◌, ◌<◌, ◌≤◌, Bool, true, false, ◌&&◌, ltb, cond, List, [], ◌∷◌, ◌++◌, length, get_or, set, Option, Some, None, refl, sym, ap, ◌∙◌, arith, subst, append_assoc, inl, inr, ◌⊎◌, replicate, length-set, length-append, get_or-set_other}
+use Rattle.std.proofs.lemmas.List.{append-nil, set_at, get_or_at}
 use Rattle.std.proofs.lemmas.Bool.{cases_eq, ltb-true, lt-ltb}
 use Rattle.std.proofs.lemmas.Bool.Decides.{nat_tests}
-use Rattle.std.proofs.lemmas.Option.{cond_some}
-use Rattle.bx_base.specs.Channels.{IsChannel, IsChannelSet, has_channel}
+use Rattle.bx_base.specs.Channels.{IsChannel, IsChannelSet}
 use Rattle.bx_planfile.specs.Text.{numbers_from}
 use Rattle.bx_planfile.specs.Forms.{is_channel, with_channels, channel_set}
 use Rattle.bx_planfile.proofs.Digits.{and_both}

@@ -1,9 +1,9 @@
 -- Taking a field from those that are left of a line.
-use Rattle.std.proofs.Common.{◌≡◌, ℕ, ◌+◌, ◌-◌, ◌<◌, Bool, true, false, eqb, ltb, List, [], ◌∷◌, length, take, drop, Option, Some, None, refl, sym, ap, ◌∙◌, arith, subst}
+use Rattle.std.proofs.Common.{◌≡◌, ℕ, ◌+◌, ◌-◌, Bool, true, false, List, [], length, take, drop, Some, None, refl, sym, ap, ◌∙◌, arith}
 use Rattle.std.specs.List.{position}
 use Rattle.std.proofs.lemmas.List.{nil_from_length, take_rest}
 use Rattle.std.proofs.lemmas.Bool.Decides.{nat_tests}
-use Rattle.bx_planfile.specs.Lines.{is_space, first, others, fields_of, cut_line, first_line}
+use Rattle.bx_planfile.specs.Lines.{is_space, first, others, fields_of}
 use Rattle.bx_planfile.specs.Forms.{is_nothing}
 use Rattle.bx_planfile.specs.FieldsInside.{left_of}
 use Rattle.bx_planfile.proofs.Cuts.{split_at, split_whole, some_part, position_within}

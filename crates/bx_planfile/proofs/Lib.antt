@@ -8,6 +8,8 @@ pub mod DecimalLaws
 pub mod PlainLines
 pub mod ChannelSets
 pub mod LineForms
+pub mod LineLaws
+pub mod ListLaws
 pub mod PlanLaws
 pub mod WrittenLines
 pub mod WritingSteps

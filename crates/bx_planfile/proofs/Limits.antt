@@ -1,15 +1,12 @@
 -- The limits of a booking, as one test and as the facts that they are.
-use Rattle.std.proofs.Common.{◌≡◌, ℕ, ◌<◌, ◌≤◌, ◌≢◌, Bool, true, false, ◌&&◌, not, ltb, leb, eqb, List, length, Option, Some, None, refl, sym, ap, ◌∙◌, arith, subst}
+use Rattle.std.proofs.Common.{◌≡◌, ℕ, ◌≤◌, Bool, true, false, ltb, leb, List, length, refl, arith}
 use Rattle.std.specs.List.{list_all}
 use Rattle.std.specs.Char.{is_ascii_digit}
 use Rattle.std.proofs.lemmas.Bool.Decides.{nat_tests}
-use Rattle.std.proofs.lemmas.Bool.{ltb-true, lt-ltb, leb-true, le-leb}
+use Rattle.std.proofs.lemmas.Bool.{ltb-true, lt-ltb, leb-true}
 use Rattle.bx_base.specs.Numbers.{IsNumber}
-use Rattle.bx_base.specs.Channels.{IsChannel}
-use Rattle.bx_base.specs.Bookings.{Row, IsBooking, row_of}
-use Rattle.bx_base.specs.Bound.{Charge, IsCharge}
-use Rattle.bx_planfile.specs.Forms.{Entry, is_digits, is_channel, is_assignable, is_within, is_charge}
-use Rattle.bx_planfile.specs.Values.{entry_of}
+use Rattle.bx_base.specs.Bookings.{IsBooking}
+use Rattle.bx_planfile.specs.Forms.{Entry, is_digits, is_assignable, is_within}
 use Rattle.bx_planfile.proofs.Digits.{and_both, all_from_test, test_from_all}
 
 pub IsNumber-from_test : (ds : List ℕ) → is_digits ds ≡ true → length ds ≤ 15 → IsNumber ds

@@ -1,10 +1,9 @@
 -- Taking a line from the front of a text.
-use Rattle.std.proofs.Common.{◌≡◌, ℕ, ◌+◌, ◌-◌, List, length, take, drop, Option, Some, None, Result, Ok, Err, refl, sym, ap, ◌∙◌}
+use Rattle.std.proofs.Common.{◌≡◌, ℕ, ◌+◌, ◌-◌, List, length, take, drop, Some, None, Ok, Err, refl, ap, ◌∙◌}
 use Rattle.std.specs.List.{position}
 use Rattle.std.proofs.lemmas.List.{take_rest}
-use Rattle.bx_planfile.specs.declared.fault.PlanFault.{PlanFault}
 use Rattle.bx_planfile.specs.declared.fault.PlanFault.TheVariants.{BadLine}
-use Rattle.bx_planfile.specs.Lines.{is_lf, fields_of, cut_line, first_line}
+use Rattle.bx_planfile.specs.Lines.{is_lf, fields_of, cut_line}
 use Rattle.bx_planfile.specs.Reading.{or_fault, read_line}
 
 pub line_found : (n : ℕ) (bytes : List ℕ) (k : ℕ) (fields : List (List ℕ)) → fields ≡ fields_of (take k bytes) → position is_lf bytes ≡ Some k

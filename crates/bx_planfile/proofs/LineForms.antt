@@ -1,26 +1,24 @@
 -- Each line that is read is spelled as it has to be, and each that is spelled so is read.
-use Rattle.std.proofs.Common.{◌≡◌, ◌≢◌, ℕ, zero, suc, ◌+◌, ◌-◌, ◌^◌, ◌<◌, ◌≤◌, lit<, lit≤, Bool, true, false, ◌&&◌, ◌||◌, not, ltb, leb, eqb, cond, List, [], ◌∷◌, ◌++◌, map, length, get_or, replicate, Option, Some, None, Result, Ok, Err, refl, sym, ap, ◌∙◌, arith, subst}
+use Rattle.std.proofs.Common.{◌≡◌, ℕ, suc, ◌^◌, ◌<◌, ◌≤◌, lit<, Bool, true, false, ◌&&◌, ◌||◌, not, ltb, leb, eqb, cond, List, [], ◌∷◌, map, length, get_or, Option, Some, None, refl, sym, ap, ◌∙◌, arith, subst}
 use Rattle.std.specs.Prelude.{codes, decimal}
 use Rattle.std.specs.List.{list_all}
 use Rattle.std.specs.Str.{bytes_eq}
 use Rattle.std.proofs.lemmas.Bool.{eqb-true, ltb-true, leb-true, lt-ltb, le-leb}
-use Rattle.std.proofs.lemmas.Bool.Decides.{nat_tests}
 use Rattle.std.proofs.lemmas.List.{nil_from_length}
 use Rattle.std.proofs.lemmas.Option.{cond_some}
 use Rattle.std.proofs.lemmas.Slice.Eq.{bytes_eq-Decides}
-use Rattle.bx_base.specs.Numbers.{IsNumber}
-use Rattle.bx_base.specs.Channels.{IsChannel, IsChannelSet}
-use Rattle.bx_base.specs.Bookings.{Row, IsBooking, row_of}
+use Rattle.bx_base.specs.Channels.{IsChannelSet}
+use Rattle.bx_base.specs.Bookings.{Row, IsBooking}
 use Rattle.bx_base.specs.Bound.{Charge, IsCharge, charge_of}
 use Rattle.bx_planfile.specs.declared.version.Version.{Version}
 use Rattle.bx_planfile.specs.declared.version.Version.TheVariants.{One, Two, Three}
-use Rattle.bx_planfile.specs.Lines.{first, others, field, fields_from}
+use Rattle.bx_planfile.specs.Lines.{field, fields_from}
 use Rattle.bx_planfile.specs.Text.{version_field, numbers_from, channel_field, must_field, direction_field, mark_fields, booking_fields, price_fields, named, IsTold}
-use Rattle.bx_planfile.specs.Forms.{Entry, Marks, marks, is_nothing, is_digits, is_decimal, value_of, version_of, header_form, named_form, channels_form, channel_set, is_channel, is_channel_field, channel_of, is_must_field, is_direction_field, marks_form, entry_of, marked, booking_form, is_assignable, is_within, price_form, is_charge, is_end}
+use Rattle.bx_planfile.specs.Forms.{Entry, Marks, marks, is_nothing, is_digits, is_decimal, value_of, version_of, header_form, named_form, channels_form, channel_set, is_channel_field, channel_of, is_must_field, is_direction_field, marks_form, entry_of, marked, booking_form, is_assignable, is_within, price_form, is_charge, is_end}
 use Rattle.bx_planfile.proofs.Digits.{and_both}
 use Rattle.bx_planfile.proofs.DecimalLaws.{is_decimal-decimal, value-decimal, decimal-value, some_digits, digits_from_decimal, digits-decimal}
-use Rattle.bx_planfile.proofs.Limits.{from_within, within_from, test_from_number, false_from_not}
-use Rattle.bx_planfile.proofs.ChannelSets.{AddsNumbers, set_is_listed, listed_gives, taken_branch, test_from_channel, IsChannel-from_test}
+use Rattle.bx_planfile.proofs.Limits.{from_within, test_from_number, false_from_not}
+use Rattle.bx_planfile.proofs.ChannelSets.{set_is_listed, listed_gives, taken_branch, IsChannel-from_test}
 
 bytes_is : (xs ys : List ℕ) → bytes_eq xs ys ≡ true → xs ≡ ys
 bytes_is xs ys e = (bytes_eq-Decides xs ys).0 e

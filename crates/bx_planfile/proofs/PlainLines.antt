@@ -1,18 +1,16 @@
 -- Lines whose fields have neither spaces nor LFs: each is cut from a text as it was put there.
-use Rattle.std.proofs.Common.{◌≡◌, ℕ, zero, suc, ◌+◌, ◌-◌, ◌<◌, ◌≤◌, Bool, true, false, ◌&&◌, not, ltb, eqb, cond, List, [], ◌∷◌, ◌++◌, length, get_or, take, drop, Option, Some, None, Result, Ok, Err, refl, sym, ap, ◌∙◌, arith, subst, append_assoc}
-use Rattle.std.specs.List.{list_all, position, position_or_len, join_with_byte, slice_split}
+use Rattle.std.proofs.Common.{◌≡◌, ℕ, zero, suc, ◌+◌, ◌<◌, Bool, true, false, ◌&&◌, not, ltb, List, [], ◌∷◌, ◌++◌, length, get_or, take, drop, Option, Some, None, Ok, refl, sym, ap, ◌∙◌, arith, subst, append_assoc}
+use Rattle.std.specs.List.{list_all, position, position_or_len, join_with_byte}
 use Rattle.std.specs.Char.{is_ascii_digit}
 use Rattle.std.proofs.lemmas.Bool.{lt-ltb, eqb-true}
 use Rattle.std.proofs.lemmas.Bool.Decides.{nat_tests}
-use Rattle.std.proofs.lemmas.List.{take_at, drop_at, take-append-drop, length-append, drop_more, get_or_at}
+use Rattle.std.proofs.lemmas.List.{take_at, drop_at, take-append-drop, length-append, drop_more}
 use Rattle.std.proofs.lemmas.List.Quantifiers.{position-Some}
 use Rattle.std.proofs.lemmas.List.Splits.{join_with_byte-slice_split, slice_split_at, slice_split_none}
-use Rattle.bx_planfile.specs.declared.fault.PlanFault.{PlanFault}
 use Rattle.bx_planfile.specs.declared.fault.PlanFault.TheVariants.{BadLine}
 use Rattle.bx_planfile.specs.Lines.{is_lf, is_space, line_text, fields_of, cut_line, first_line}
 use Rattle.bx_planfile.specs.Reading.{or_fault, read_line}
 use Rattle.bx_planfile.proofs.Digits.{and_both}
-use Rattle.bx_planfile.proofs.Cuts.{position_within}
 
 -- an octet, a field and fields with neither spaces nor LFs
 abbrev pub is_inner : ℕ → Bool

@@ -1,10 +1,9 @@
 -- The lines that are built are those of the text.
-use Rattle.std.proofs.Common.{◌≡◌, ℕ, zero, suc, ◌+◌, ◌<◌, ◌≤◌, Bool, true, false, List, [], ◌∷◌, ◌++◌, length, take, get_or, map, refl, sym, ap, ◌∙◌, arith, append_assoc}
-use Rattle.std.specs.Prelude.{decimal, codes}
+use Rattle.std.proofs.Common.{◌≡◌, ℕ, zero, suc, ◌+◌, ◌<◌, ◌≤◌, Bool, true, false, List, [], ◌∷◌, ◌++◌, length, take, map, refl, sym, ap, ◌∙◌, arith, append_assoc}
+use Rattle.std.specs.Prelude.{decimal}
 use Rattle.std.specs.List.{flat_map, join_with_byte}
 use Rattle.std.proofs.lemmas.List.{append-nil, take_all}
-use Rattle.std.proofs.lemmas.Grind.{flat_map-append}
-use Rattle.bx_base.specs.Channels.{IsChannelSet, has_channel}
+use Rattle.bx_base.specs.Channels.{has_channel}
 use Rattle.bx_planfile.specs.Lines.{line_text}
 use Rattle.bx_planfile.specs.Text.{numbers_from}
 use Rattle.bx_planfile.specs.Writing.{member_text}

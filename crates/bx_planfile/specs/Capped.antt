@@ -1,6 +1,6 @@
 -- Values as the code keeps them: it counts no higher than the greatest number of 64 bits, which is beyond each
 -- limit.
-use Rattle.std.specs.Prelude.{ℕ, ◌-◌, ◌^◌, min, Option, Some, None}
+use Rattle.std.specs.Prelude.{ℕ, ◌-◌, ◌^◌, min}
 use Rattle.std.specs.Option.{option_map}
 use Rattle.bx_base.specs.Bookings.{row_of}
 use Rattle.bx_base.specs.Bound.{Charge, charge_of}

@@ -1,5 +1,5 @@
 -- The form of each line, and the limits of its values.
-use Rattle.std.specs.Prelude.{ℕ, ◌+◌, ◌==◌, ◌&&◌, ◌||◌, not, nat_lt, nat_le, min, ◌-◌, ◌^◌, List, [], ◌∷◌, length, map, Bool, true, false, Option, Some, None, codes, slice_index, slice_set, replicate, if◌then◌else◌}
+use Rattle.std.specs.Prelude.{ℕ, ◌==◌, ◌&&◌, ◌||◌, not, nat_lt, nat_le, List, [], ◌∷◌, length, map, Bool, true, false, Option, Some, None, codes, slice_index, slice_set, replicate, if◌then◌else◌}
 use Rattle.std.specs.List.{list_all}
 use Rattle.std.specs.Char.{is_ascii_digit}
 use Rattle.std.specs.Str.{bytes_eq}
@@ -8,7 +8,7 @@ use Rattle.bx_base.specs.Bookings.{Row, row_of}
 use Rattle.bx_base.specs.Bound.{Charge, charge_of}
 use Rattle.bx_planfile.specs.declared.version.Version.{Version}
 use Rattle.bx_planfile.specs.declared.version.Version.TheVariants.{One, Two, Three}
-use Rattle.bx_planfile.specs.Lines.{first, others, field, fields_from}
+use Rattle.bx_planfile.specs.Lines.{field, fields_from}
 
 abbrev pub is_nothing : List (List ℕ) → Bool
 is_nothing fields = length fields == 0

@@ -1,5 +1,5 @@
 -- Reading a plan from its first line to its last, with the first fault that is met.
-use Rattle.std.specs.Prelude.{◌≡◌, ℕ, zero, suc, ◌+◌, ◌==◌, nat_lt, nat_le, List, [], ◌∷◌, length, Bool, Option, Some, None, Result, Ok, Err, codes, if◌then◌else◌}
+use Rattle.std.specs.Prelude.{◌≡◌, ℕ, zero, suc, ◌+◌, ◌==◌, nat_le, List, [], ◌∷◌, length, Bool, Option, Some, None, Result, Ok, Err, codes, if◌then◌else◌}
 use Rattle.bx_base.specs.Bookings.{Row}
 use Rattle.bx_base.specs.Bound.{Charge}
 use Rattle.bx_base.specs.PlanParts.{Parts}

@@ -1,5 +1,5 @@
 -- What the code keeps of a booking's line, as an entry.
-use Rattle.std.specs.Prelude.{ℕ, List, Option}
+use Rattle.std.specs.Prelude.{ℕ, Option}
 use Rattle.bx_base.specs.Bookings.{Row, row_of}
 use Rattle.bx_planfile.specs.declared.booking_line.BookingValues.{BookingValues}
 use Rattle.bx_base.specs.Bound.{Charge, charge_of}

@@ -1,4 +1,4 @@
-use Rattle.std.proofs.Common.{◌≡◌, ◌<◌, true, length, map, replicate, false}
+use Rattle.std.proofs.Common.{◌≡◌, true, length, map}
 use Rattle.std.specs.List.{list_all}
 use Rattle.bx_planfile.specs.Forms.{is_decimal, value_of, channel_set, with_channels}
 use Rattle.bx_planfile.proofs.channel_line.rising_channels.Given as goal

@@ -1,4 +1,3 @@
-use Rattle.std.proofs.Common.{◌≡◌, ◌∙◌, ◌+◌, ◌-◌, ◌^◌, min, get_or, rules, arith}
 use Rattle.bx_planfile.proofs.Digits.{value_more, and_both}
 use Rattle.bx_planfile.proofs.decimals.value_of.Goals as goal
 

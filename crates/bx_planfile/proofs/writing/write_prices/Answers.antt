@@ -1,10 +1,10 @@
-use Rattle.std.proofs.Common.{◌≡◌, ℕ, List, [], ◌∷◌, ◌<◌, length, map, get_or, sym, ap, subst, ◌∙◌, arith, inl, inr}
+use Rattle.std.proofs.Common.{◌≡◌, [], ◌<◌, length, map, get_or, sym, ap, subst, ◌∙◌, arith, inl, inr}
 use Rattle.std.proofs.lemmas.Bool.{cases_eq}
 use Rattle.std.proofs.lemmas.List.{get_or-map, get_or_read, length-map}
 use Rattle.std.proofs.lemmas.Result.{err_from_is_err_and}
-use Rattle.bx_base.specs.Bound.{IsCharge, price_at, no_charge}
+use Rattle.bx_base.specs.Bound.{IsCharge, no_charge}
 use Rattle.bx_planfile.specs.Text.{price_fields}
-use Rattle.bx_planfile.proofs.WritingSteps.{line_written, line_failed, lines_written}
+use Rattle.bx_planfile.proofs.WritingSteps.{line_written, line_failed}
 use Rattle.bx_planfile.proofs.writing.write_prices.Goals as goal
 
 pub returns-in_err-put-clause-text : goal.returns-in_err-put-clause-text

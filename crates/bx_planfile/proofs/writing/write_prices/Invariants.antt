@@ -1,4 +1,4 @@
-use Rattle.std.proofs.Common.{ℕ, ◌<◌, take, map, Ok, Result}
+use Rattle.std.proofs.Common.{ℕ, ◌<◌, take, map, Ok}
 use Rattle.std.specs.List.{flat_map}
 use Rattle.bx_base.specs.Bound.{IsCharge, price_at}
 use Rattle.bx_planfile.specs.Lines.{line_text}
