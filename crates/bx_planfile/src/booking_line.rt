@@ -1,10 +1,10 @@
 //! The line of one booking.
 
-ghost use Rattle.std.specs.Prelude.{◌≡◌, codes, ◌≤◌, ◌<◌, List, MatchOption, None, Some, true, false, IfSome, IsTrue};
+ghost use Rattle.std.specs.Prelude.{◌≡◌, codes, ◌<◌, MatchOption, None, Some, true, false, IfSome};
 ghost use Rattle.std.specs.Option.{option_map};
 ghost use Rattle.std.specs.Str.{bytes_eq};
-ghost use Rattle.bx_base.specs.Bookings.{IsBooking, row_of};
-ghost use Rattle.bx_planfile.specs.Forms.{Entry, is_digits, is_channel_field, channel_of, is_must_field, is_direction_field, marks, marks_form, booking_form, is_assignable, is_within};
+ghost use Rattle.bx_base.specs.Bookings.{IsBooking};
+ghost use Rattle.bx_planfile.specs.Forms.{is_digits, is_channel_field, channel_of, is_must_field, is_direction_field, marks, marks_form, booking_form, is_assignable, is_within};
 ghost use Rattle.bx_planfile.specs.Capped.{capped, capped_entry};
 ghost use Rattle.bx_planfile.specs.Values.{entry_of_values, entry_of};
 ghost use Rattle.bx_planfile.specs.Reading.{Gives, read_booking};

@@ -1,8 +1,7 @@
 //! The line of the channels in service.
 
-ghost use Rattle.std.specs.Prelude.{◌≡◌, ◌≤◌, ◌<◌, List, MatchOption, None, Some, map, true, false};
+ghost use Rattle.std.specs.Prelude.{◌≡◌, ◌<◌, None, Some, map, true, false};
 ghost use Rattle.std.specs.List.{list_all};
-ghost use Rattle.std.specs.Str.{bytes_eq};
 ghost use Rattle.bx_planfile.specs.Forms.{is_decimal, value_of, channel_set, channels_form};
 ghost use Rattle.bx_planfile.specs.Reading.{Gives, read_channels};
 

@@ -1,7 +1,7 @@
 //! Lines, and the fields of a line.
 
-ghost use Rattle.std.specs.Prelude.{◌≡◌, ◌==◌, position, List, true, IsTrue, MatchOption, length};
-ghost use Rattle.bx_planfile.specs.Lines.{first, others, fields_of, first_line};
+ghost use Rattle.std.specs.Prelude.{◌≡◌, ◌==◌, position, List, true};
+ghost use Rattle.bx_planfile.specs.Lines.{first, others, fields_of};
 ghost use Rattle.bx_planfile.specs.Forms.{is_nothing};
 ghost use Rattle.bx_planfile.specs.Reading.{Gives, read_line};
 

@@ -1,8 +1,7 @@
 //! The lines of the version, of counts, of a price, of the total, and the last one.
 
-ghost use Rattle.std.specs.Prelude.{◌≡◌, ◌≤◌, ◌<◌, ◌+◌, List, MatchOption, None, Some, true, false, codes, length, vec_len, OnOk, IfOk};
+ghost use Rattle.std.specs.Prelude.{◌≡◌, ◌≤◌, ◌<◌, MatchOption, None, Some, true, false, IfOk};
 ghost use Rattle.std.specs.Option.{option_map};
-ghost use Rattle.bx_base.specs.Bound.{IsCharge};
 ghost use Rattle.bx_planfile.specs.Forms.{header_form, named_form, price_form, is_charge};
 ghost use Rattle.bx_planfile.specs.Capped.{capped, capped_charge};
 ghost use Rattle.bx_planfile.specs.Values.{charge_of_values};

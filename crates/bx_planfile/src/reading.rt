@@ -1,6 +1,6 @@
 //! Reading a plan.
 
-ghost use Rattle.std.specs.Prelude.{◌≡◌, ◌≤◌, ◌+◌, vec_len, IfOk, Ok};
+ghost use Rattle.std.specs.Prelude.{◌≤◌, ◌+◌, vec_len, IfOk, Ok};
 ghost use Rattle.bx_base.specs.PlanParts.{Parts, IsPlan, parts_of};
 ghost use Rattle.bx_planfile.specs.Text.{IsTextOf};
 ghost use Rattle.bx_planfile.specs.Reading.{Gives, read_tail, read_all};

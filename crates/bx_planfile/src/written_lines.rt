@@ -2,7 +2,6 @@
 
 ghost use Rattle.std.specs.Prelude.{◌≡◌, ◌+◌, ◌<◌, ◌≤◌, ◌++◌, ◌∷◌, [], length, codes, decimal, map, IfSome};
 ghost use Rattle.arrayvec.specs.ArrayVec.{array_vec_len};
-ghost use Rattle.bx_base.specs.Bookings.{IsBooking};
 ghost use Rattle.bx_base.specs.Bound.{IsCharge};
 ghost use Rattle.bx_base.specs.Channels.{IsChannel, IsChannelSet, has_channel};
 ghost use Rattle.bx_planfile.specs.declared.version.Version.TheVariants.{Three};
