@@ -1,0 +1,11 @@
+pub mod Fitting
+pub mod Listing
+pub mod Sending
+pub mod Simple
+pub mod After
+pub mod Rising
+pub mod Marking
+pub mod Rounding
+pub mod Circling
+pub mod Steep
+pub mod Testing
