@@ -3,6 +3,7 @@
 use crate::{Carried, Dist, Distances, Part, Potentials, Rounds, Step};
 use bx_base::{Booking, Bookings, Number};
 use bx_line::Line;
+use std::alloc::{AllocError, Global};
 use std::process::Abort;
 use std::test::Fail;
 
@@ -91,5 +92,90 @@ fn three_bookings_in_a_chain(rt: HostRuntime) -> Result<(), Fail> {
     let none = line_of(&rt, &[])?;
     assert_eq!(rt; Potentials::first(rt.alloc(), &none)?.at(0), 0);
     assert_eq!(rt; Carried::empty(rt.alloc(), &none)?.units(), 0);
+    Ok(())
+}
+
+/// Takes the step where it shortens the way to its end.
+fn relax(best: &mut [i64], from: u16, to: u16, cost: i64) {
+    let there = best
+        .get(from as usize)
+        .copied()
+        .unwrap_or(0)
+        .saturating_add(cost);
+    if let Some(length) = best.get_mut(to as usize) {
+        *length = there.min(*length);
+    }
+}
+
+/// Distances as slowly as can be: the least lengths of walks of ever more steps.
+fn slow(alloc: Global, line: &Line, carried: &Carried, part: Part) -> Result<Vec<i64>, AllocError> {
+    let mut best = vec![in alloc; 1_000_000_000_000; line.places() as usize]?;
+    relax(&mut best, 0, 0, -1_000_000_000_000);
+    for _ in 0..line.places() {
+        for v in 1..line.places() {
+            relax(&mut best, v - 1, v, 0);
+            if carried.idle(v - 1) > 0 {
+                relax(&mut best, v, v - 1, 0);
+            }
+        }
+        for row in 0..line.rows() {
+            let arc = line.arc(row);
+            if part == Part::Whole || !arc.must {
+                if carried.accepted(row + 1) {
+                    relax(&mut best, arc.to, arc.from, arc.pay as i64);
+                } else {
+                    relax(&mut best, arc.from, arc.to, -(arc.pay as i64));
+                }
+            }
+        }
+    }
+    Ok(best)
+}
+
+/// Grows a flow by a unit or two along the line, and compares the distances in both parts.
+fn compare(rt: &(impl Abort + AllocGlobal), line: &Line) -> Result<(), Fail> {
+    let mut carried = Carried::empty(rt.alloc(), line)?;
+    let mut potentials = Potentials::first(rt.alloc(), line)?;
+    for _ in 0..3 {
+        let free = distances_of(rt, line, &carried, &potentials, Part::Free)?;
+        assert!(rt;
+            are(
+                &free,
+                slow(rt.alloc(), line, &carried, Part::Free)?.as_slice()
+            )
+        );
+        let dist = distances_of(rt, line, &carried, &potentials, Part::Whole)?;
+        assert!(rt;
+            are(
+                &dist,
+                slow(rt.alloc(), line, &carried, Part::Whole)?.as_slice()
+            )
+        );
+        assert!(rt; carried.belongs_to(line) && dist.belongs_to(line, &carried));
+        assert!(rt; carried.units() < 30);
+        carried.send(line, &dist);
+        potentials = Potentials::of(dist);
+    }
+    Ok(())
+}
+
+#[test]
+fn as_a_slow_program_over_many_small_days(rt: HostRuntime) -> Result<(), Fail> {
+    let mut seed: u32 = 1;
+    for _ in 0..200 {
+        let mut rows = [(0, 1, 1, false); 6];
+        for row in rows.iter_mut() {
+            seed = seed.wrapping_mul(1_103_515_245).wrapping_add(12_345);
+            let start = (seed >> 8) % 7;
+            let end = start + 1 + (seed >> 12) % 4;
+            *row = (
+                start,
+                end,
+                u64::from(1 + (seed >> 16) % 9),
+                (seed >> 24) % 5 == 0,
+            );
+        }
+        compare(&rt, &line_of(&rt, &rows)?)?;
+    }
     Ok(())
 }
