@@ -3,9 +3,9 @@ pub mod Listing
 pub mod Sending
 pub mod Simple
 pub mod After
-pub mod Rising
+pub mod Passes
 pub mod Marking
 pub mod Rounding
-pub mod Circling
+pub mod RoundSteps
 pub mod Steep
-pub mod Testing
+pub mod WalkTests

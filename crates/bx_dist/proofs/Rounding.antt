@@ -15,9 +15,22 @@ use Rattle.bx_dist.specs.declared.step.Step.{Step}
 use Rattle.bx_dist.specs.declared.step.Step.TheVariants.{Idle, Back, Take, Give}
 use Rattle.bx_dist.specs.Residual.{IsOpen, Fits, ArePotentials, AreSmall, height_at, step_from, step_to, step_cost}
 use Rattle.bx_dist.specs.Walks.{IsWalk, walk_length, AreReached, AreLeast, AreDistances, lengths_of}
-use Rattle.bx_dist.specs.Search.{AreOpenSteps, AreBounds, excess_at, excess, IsSettled, Shortens, AreMedium, IsStep, AreSteps, IsTightWalk, Reaches, IsFound}
+use Rattle.bx_dist.specs.Search.{AreOpenSteps, IsSettled, Shortens, AreMedium, IsStep, AreSteps, IsTightWalk, Reaches, IsFound}
 use Rattle.bx_dist.proofs.Fitting.{walk_long, open_in_whole}
 use Rattle.bx_dist.proofs.After.{walk_and_step, length_and_step, step_within, row_within, tight_from_least, AllTight}
+
+-- lengths of walks, none above 0
+pub record AreBounds (part : Part) (line : Network) (flow : Flow) (lengths : List ℤ) : Type 0 where
+  pub one_each : length lengths ≡ places_of line
+  pub reached : AreReached part line flow lengths
+  pub low : (v : ℕ) → height_at lengths v ≤ℤ pos 0
+
+-- how far the lengths are together above what the potentials show that no walk can go below
+abbrev pub excess_at : List ℤ → List ℤ → ℕ → ℕ
+excess_at heights lengths v = nat_abs (height_at lengths v -ℤ (height_at heights v -ℤ height_at heights 0))
+
+abbrev pub excess : Network → List ℤ → List ℤ → ℕ
+excess line heights lengths = sum_below (places_of line) (λ v. excess_at heights lengths v)
 
 sum_below-less : (n : ℕ) (f g : ℕ → ℕ) (k : ℕ) → ((i : ℕ) → i < n → f i ≤ g i) → k < n → f k + 1 ≤ g k → sum_below n f + 1 ≤ sum_below n g
 sum_below-less zero f g k h b l = absurd (omega arith)

@@ -1,5 +1,5 @@
--- What the rounds keep.
-use Rattle.std.specs.Prelude.{◌≡◌, ◌≢◌, ℕ, ◌+◌, ◌<◌, ◌≤◌, nat_lt, if◌then◌else◌, List, [], ◌∷◌, length, Contains, ℤ, pos, nat_abs, ◌-ℤ◌, ◌+ℤ◌, ◌≤ℤ◌, ◌<ℤ◌, slice_index, slice_index_or, slice_set, AllPairs, ◌-◌, ◌⊎◌}
+-- Lists of steps, steps that shorten, and places that tight steps reach.
+use Rattle.std.specs.Prelude.{◌≡◌, ◌≢◌, ℕ, ◌+◌, ◌<◌, ◌≤◌, nat_lt, if◌then◌else◌, List, [], ◌∷◌, length, Contains, ℤ, nat_abs, ◌+ℤ◌, ◌≤ℤ◌, ◌<ℤ◌, slice_index, slice_index_or, slice_set, AllPairs, ◌-◌, ◌⊎◌}
 use Rattle.bx_base.specs.Sums.{sum_below}
 use Rattle.bx_line.specs.Network.{Network, places_of}
 use Rattle.bx_line.specs.Flows.{Flow}
@@ -7,7 +7,7 @@ use Rattle.bx_dist.specs.declared.part.Part.{Part}
 use Rattle.bx_dist.specs.declared.step.Step.{Step}
 use Rattle.bx_dist.specs.declared.step.Step.TheVariants.{Idle, Back, Take, Give}
 use Rattle.bx_dist.specs.Residual.{IsOpen, step_from, step_to, step_cost, height_at}
-use Rattle.bx_dist.specs.Walks.{AreReached, places_met}
+use Rattle.bx_dist.specs.Walks.{places_met}
 
 -- the list has just the steps that are open
 pub record AreOpenSteps (part : Part) (line : Network) (flow : Flow) (steps : List Step) : Type 0 where
@@ -27,19 +27,6 @@ pub record AddsOpen (part : Part) (line : Network) (flow : Flow) (step : Step) (
   pub kept : (s : Step) → Contains old s → Contains new s
   pub added : IsOpen part line flow step → Contains new step
   pub open_alone : ((s : Step) → Contains old s → IsOpen part line flow s) → (s : Step) → Contains new s → IsOpen part line flow s
-
--- lengths of walks, none above 0
-pub record AreBounds (part : Part) (line : Network) (flow : Flow) (lengths : List ℤ) : Type 0 where
-  pub one_each : length lengths ≡ places_of line
-  pub reached : AreReached part line flow lengths
-  pub low : (v : ℕ) → height_at lengths v ≤ℤ pos 0
-
--- how far the lengths are together above what the potentials show that no walk can go below
-abbrev pub excess_at : List ℤ → List ℤ → ℕ → ℕ
-excess_at heights lengths v = nat_abs (height_at lengths v -ℤ (height_at heights v -ℤ height_at heights 0))
-
-abbrev pub excess : Network → List ℤ → List ℤ → ℕ
-excess line heights lengths = sum_below (places_of line) (λ v. excess_at heights lengths v)
 
 -- the step shortens nothing
 abbrev pub IsSettled : Network → List ℤ → Step → Type 0

@@ -21,7 +21,7 @@ abbrev pub places_met : Network → ℕ → List Step → List ℕ
 places_met line from [] = from ∷ []
 places_met line from (step ∷ walk) = from ∷ places_met line (step_to line step) walk
 
--- the same step by step: the walk from here does not meet x
+-- the walk from here does not meet a place
 abbrev pub Avoids : Network → ℕ → ℕ → List Step → Type 0
 Avoids line x from [] = x ≢ from
 Avoids line x from (step ∷ walk) = (x ≢ from) × Avoids line x (step_to line step) walk

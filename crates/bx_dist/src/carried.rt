@@ -1,7 +1,6 @@
 //! Flows.
 
-ghost use Rattle.std.specs.Prelude.{◌≡◌, ◌≤◌, ◌<◌, ◌-◌, ◌+◌, ◌↔◌, IfOk, IsTrue, false, length};
-ghost use Rattle.bx_line.specs.Network.{places_of};
+ghost use Rattle.std.specs.Prelude.{◌≡◌, ◌≤◌, ◌<◌, ◌-◌, ◌↔◌, IfOk, IsTrue, false};
 ghost use Rattle.bx_line.specs.Flows.{IsFlow, IsSized, is_carried, idle_at, crossing_at};
 ghost use Rattle.bx_dist.specs.Sending.{empty_flow, sent, after_step, CanTake};
 ghost use Rattle.bx_dist.specs.Walks.{IsPath};

@@ -1,6 +1,6 @@
 //! Distances.
 
-ghost use Rattle.std.specs.Prelude.{◌≡◌, ◌≤◌, ◌<◌, ◌↔◌, IfOk, IsTrue, length};
+ghost use Rattle.std.specs.Prelude.{◌≡◌, ◌<◌, ◌↔◌, IfOk, IsTrue, length};
 ghost use Rattle.bx_line.specs.Network.{places_of};
 ghost use Rattle.bx_line.specs.Flows.{IsFlow};
 ghost use Rattle.bx_dist.specs.Residual.{height_at, AreSmall, ArePotentials};

@@ -1,7 +1,6 @@
 //! Potentials to begin with.
 
-ghost use Rattle.std.specs.Prelude.{◌≡◌, ◌≤◌, IfOk};
-ghost use Rattle.bx_line.specs.Network.{places_of};
+ghost use Rattle.std.specs.Prelude.{IfOk};
 ghost use Rattle.bx_dist.specs.declared.part.Part.TheVariants.{Whole};
 ghost use Rattle.bx_dist.specs.Residual.{ArePotentials};
 ghost use Rattle.bx_dist.specs.Sending.{empty_flow};

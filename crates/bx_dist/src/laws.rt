@@ -1,6 +1,6 @@
 //! Laws of distances.
 
-ghost use Rattle.std.specs.Prelude.{◌≡◌, ◌+ℤ◌, ◌≤ℤ◌, ℕ, ℤ, List};
+ghost use Rattle.std.specs.Prelude.{◌+ℤ◌, ◌≤ℤ◌, ℕ, ℤ, List};
 ghost use Rattle.bx_line.specs.Network.{Network, IsNetwork};
 ghost use Rattle.bx_line.specs.Flows.{Flow};
 ghost use Rattle.bx_dist.specs.declared.part.Part.{Part};

@@ -2,10 +2,10 @@
 //! that shortened something may lead in a circle: the walk is found afterwards, over the steps that are just as long
 //! as the lengths differ.
 
-ghost use Rattle.std.specs.Prelude.{◌≡◌, ◌≢◌, ◌≤◌, ◌<◌, ◌+◌, ◌-◌, IfOk, IsTrue, List, length, vec_len, true, false, ℕ, Contains, slice_index};
-ghost use Rattle.bx_line.specs.Network.{places_of, IsNetwork};
+ghost use Rattle.std.specs.Prelude.{◌≡◌, ◌<◌, ◌+◌, ◌-◌, IfOk, length, true, false, Contains, slice_index};
+ghost use Rattle.bx_line.specs.Network.{places_of};
 ghost use Rattle.bx_dist.specs.declared.step.Step.{Step};
-ghost use Rattle.bx_dist.specs.Search.{IsStep, AreMarks, AreMedium, IsTightWalk, Reaches, AreSteps, Extends, IsFound};
+ghost use Rattle.bx_dist.specs.Search.{IsStep, AreMarks, AreMedium, Reaches, AreSteps, Extends, IsFound};
 
 use crate::circle::next_in;
 use crate::relax::is_tight;

@@ -1,6 +1,6 @@
 //! Tests of a walk.
 
-ghost use Rattle.std.specs.Prelude.{◌≡◌, ◌-◌, ◌<◌, ◌↔◌, IsTrue};
+ghost use Rattle.std.specs.Prelude.{◌-◌, ◌<◌, ◌↔◌, IsTrue};
 ghost use Rattle.bx_line.specs.Network.{places_of};
 ghost use Rattle.bx_dist.specs.declared.part.Part.TheVariants.{Whole};
 ghost use Rattle.bx_dist.specs.Search.{AreSteps};

@@ -1,7 +1,6 @@
 //! Potentials.
 
-ghost use Rattle.std.specs.Prelude.{◌≡◌, ◌≤◌, ◌<◌, ◌+◌, ◌↔◌, IsTrue, length, nat_abs};
-ghost use Rattle.bx_line.specs.Network.{places_of};
+ghost use Rattle.std.specs.Prelude.{◌≡◌, ◌≤◌, ◌<◌, ◌↔◌, IsTrue, length};
 ghost use Rattle.bx_dist.specs.Residual.{height_at, AreSmall, ArePotentials, RowFits, GapFits};
 
 use crate::carried::Carried;

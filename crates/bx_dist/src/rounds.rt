@@ -1,11 +1,5 @@
 //! Distances by rounds over all steps.
 
-ghost use Rattle.std.specs.Prelude.{◌≡◌, ◌<◌, IfOk, length};
-ghost use Rattle.bx_line.specs.Network.{places_of};
-ghost use Rattle.bx_line.specs.Flows.{IsFlow};
-ghost use Rattle.bx_dist.specs.Residual.{ArePotentials};
-ghost use Rattle.bx_dist.specs.Walks.{AreDistances};
-
 use crate::carried::Carried;
 use crate::circle::next_in;
 use crate::dist::{Dist, Distances};

@@ -1,6 +1,6 @@
 //! The steps of the residual network.
 
-ghost use Rattle.std.specs.Prelude.{◌≡◌, ◌≤◌, ◌<◌, ◌↔◌, IfOk, OnOk, IsTrue, nat_abs, length};
+ghost use Rattle.std.specs.Prelude.{◌≡◌, ◌≤◌, ◌<◌, ◌↔◌, IfOk, OnOk, IsTrue, nat_abs};
 ghost use Rattle.bx_line.specs.Network.{places_of};
 ghost use Rattle.bx_dist.specs.Residual.{IsOpen, HasRow, step_from, step_to, step_cost};
 ghost use Rattle.bx_dist.specs.Search.{IsStep, AreOpenSteps, AreListed, AddsOpen};

@@ -7,7 +7,7 @@ use Rattle.bx_dist.specs.declared.marks.Marks.{Marks}
 use Rattle.bx_dist.specs.declared.step.Step.{Step}
 use Rattle.bx_dist.specs.declared.step.Step.TheVariants.{Idle}
 use Rattle.bx_dist.specs.Search.{Extends}
-use Rattle.bx_dist.proofs.Rising.{IsPassed, passed_none, passed_all, passed_before, next_within, less_after_change, less_after_pass, work_left}
+use Rattle.bx_dist.proofs.Passes.{IsPassed, passed_none, passed_all, passed_before, next_within, less_after_change, less_after_pass, work_left}
 use Rattle.bx_dist.proofs.Marking.{all_marked, count_few}
 use Rattle.bx_dist.proofs.marks.least_walk.Goals as goal
 use Rattle.bx_dist.proofs.marks.least_walk.Goals.{then-extend, else-extend}

@@ -2,7 +2,7 @@ use Rattle.std.proofs.Common.{ℕ, ◌-◌, ◌<◌, ◌≤◌, length, get_or}
 use Rattle.bx_line.specs.Network.{places_of}
 use Rattle.bx_dist.specs.declared.step.Step.TheVariants.{Idle}
 use Rattle.bx_dist.specs.Search.{AreMarks, Extends}
-use Rattle.bx_dist.proofs.Rising.{IsPassed, work_left}
+use Rattle.bx_dist.proofs.Passes.{IsPassed, work_left}
 use Rattle.bx_dist.proofs.marks.least_walk.Given as goal
 
 abbrev pub invariant-loop-settled : goal.invariant-loop-settled

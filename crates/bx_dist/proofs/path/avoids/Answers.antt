@@ -1,5 +1,5 @@
 use Rattle.std.proofs.Common.{sym}
-use Rattle.bx_dist.proofs.Testing.{avoids_rest}
+use Rattle.bx_dist.proofs.WalkTests.{avoids_rest}
 use Rattle.bx_dist.proofs.path.avoids.Goals as goal
 
 pub returns-then-place-other : goal.returns-then-place-other

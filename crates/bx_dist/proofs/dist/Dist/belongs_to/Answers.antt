@@ -5,7 +5,7 @@ use Rattle.bx_dist.specs.declared.step.Step.{Step}
 use Rattle.bx_dist.specs.Search.{AreSteps}
 use Rattle.bx_dist.specs.Walks.{Lengths, IsWalk, IsSimple}
 use Rattle.bx_dist.proofs.Simple.{simple_from_pairs, pairs_from_simple}
-use Rattle.bx_dist.proofs.Testing.{walk_named}
+use Rattle.bx_dist.proofs.WalkTests.{walk_named}
 use Rattle.bx_dist.proofs.dist.Dist.belongs_to.Goals as goal
 
 pub is_simple-requires : goal.is_simple-requires

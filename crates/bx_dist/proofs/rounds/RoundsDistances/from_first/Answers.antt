@@ -5,10 +5,10 @@ use Rattle.bx_dist.specs.declared.step.Step.{Step}
 use Rattle.bx_dist.specs.declared.step.Step.TheVariants.{Idle}
 use Rattle.std.proofs.lemmas.List.Elements.{Contains-get_or}
 use Rattle.bx_dist.specs.Walks.{AreDistances, lengths_of}
-use Rattle.bx_dist.specs.Search.{IsStep, IsNext, excess}
-use Rattle.bx_dist.proofs.Rising.{less_after_pass}
-use Rattle.bx_dist.proofs.Rounding.{zeros_are_bounds, are_steps, medium, settled_reaches, found_distances, found_small}
-use Rattle.bx_dist.proofs.Circling.{step_at, round_first, round_changed, less_changed, round_same, all_settled}
+use Rattle.bx_dist.specs.Search.{IsStep, IsNext}
+use Rattle.bx_dist.proofs.Passes.{less_after_pass}
+use Rattle.bx_dist.proofs.Rounding.{excess, zeros_are_bounds, are_steps, medium, settled_reaches, found_distances, found_small}
+use Rattle.bx_dist.proofs.RoundSteps.{step_at, round_first, round_changed, less_changed, round_same, all_settled}
 use Rattle.bx_dist.proofs.rounds.RoundsDistances.from_first.Goals as goal
 use Rattle.bx_dist.proofs.rounds.RoundsDistances.from_first.Goals.{then-shorten, else-shorten}
 

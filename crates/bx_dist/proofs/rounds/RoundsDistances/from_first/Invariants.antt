@@ -1,7 +1,7 @@
 use Rattle.std.proofs.Common.{length}
-use Rattle.bx_dist.specs.Search.{excess}
-use Rattle.bx_dist.proofs.Rising.{work_left}
-use Rattle.bx_dist.proofs.Circling.{IsRound}
+use Rattle.bx_dist.proofs.Rounding.{excess}
+use Rattle.bx_dist.proofs.Passes.{work_left}
+use Rattle.bx_dist.proofs.RoundSteps.{IsRound}
 use Rattle.bx_dist.proofs.rounds.RoundsDistances.from_first.Given as goal
 
 abbrev pub invariant-loop-settled : goal.invariant-loop-settled

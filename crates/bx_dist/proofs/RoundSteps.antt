@@ -9,9 +9,9 @@ use Rattle.bx_dist.specs.declared.part.Part.{Part}
 use Rattle.bx_dist.specs.declared.step.Step.{Step}
 use Rattle.bx_dist.specs.declared.step.Step.TheVariants.{Idle}
 use Rattle.bx_dist.specs.Residual.{IsOpen, ArePotentials}
-use Rattle.bx_dist.specs.Search.{AreOpenSteps, AreBounds, excess, IsSettled, Shortens, IsNext}
-use Rattle.bx_dist.proofs.Rising.{IsPassed, passed_none, passed_all, passed_before, next_within, less_after_change, work_left}
-use Rattle.bx_dist.proofs.Rounding.{bounds_after, excess_falls}
+use Rattle.bx_dist.specs.Search.{AreOpenSteps, IsSettled, Shortens, IsNext}
+use Rattle.bx_dist.proofs.Passes.{IsPassed, passed_none, passed_all, passed_before, next_within, less_after_change, work_left}
+use Rattle.bx_dist.proofs.Rounding.{AreBounds, excess, bounds_after, excess_falls}
 
 -- the step at a place of the list
 abbrev pub step_at : List Step → ℕ → Step
