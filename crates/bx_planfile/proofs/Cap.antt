@@ -8,7 +8,7 @@ use Rattle.bx_base.specs.Bound.{Charge}
 use Rattle.bx_planfile.specs.declared.fault.PlanFault.TheVariants.{BadLine, OutOfLimits}
 use Rattle.bx_planfile.specs.Forms.{Entry, is_channel, is_assignable, is_within, is_charge}
 use Rattle.bx_planfile.specs.Capped.{capped, capped_entry, capped_charge}
-use Rattle.bx_planfile.specs.Reading.{◌>>=◌, Gives, or_fault, where_holds}
+use Rattle.bx_planfile.specs.Reading.{◌>>=◌, Answers, or_fault, where_holds}
 use Rattle.bx_planfile.proofs.Digits.{and_both}
 
 pub leb-capped : (n limit : ℕ) → limit < 2 ^ 64 - 1 → leb (capped n) limit ≡ leb n limit
@@ -118,7 +118,7 @@ charge_is p within =
 module _ {X : Type 0} (cap : X → X) (fits : X → Bool) (same : (x : X) → fits (cap x) ≡ fits x) (stays : (x : X) → fits x ≡ true → cap x ≡ x) where
   pub capped_gives : {Y : Type 0} (view : Y → X) (form : Option X) (n : ℕ) (values : X) (r : Option Y) → Some values ≡ option_map cap form
       → MatchOption r (fits values ≡ false) (λ y. (fits values ≡ true) × (view y ≡ values))
-      → Gives view (ok_or r (OutOfLimits n)) (or_fault (BadLine n) form >>= λ x. where_holds (fits x) (OutOfLimits n) x)
+      → Answers view (ok_or r (OutOfLimits n)) (or_fault (BadLine n) form >>= λ x. where_holds (fits x) (OutOfLimits n) x)
   capped_gives view None n values r e h = absurd cc
   capped_gives view (Some x) n values None e h =
       let v : values ≡ cap x = cc in

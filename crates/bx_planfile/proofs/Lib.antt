@@ -14,3 +14,4 @@ pub mod PlanLaws
 pub mod WrittenLines
 pub mod WritingSteps
 pub mod Loops
+pub mod Refusals

@@ -7,7 +7,7 @@ use Rattle.bx_planfile.specs.declared.version.Version.{Version}
 use Rattle.bx_planfile.specs.declared.fault.PlanFault.{PlanFault}
 use Rattle.bx_planfile.specs.declared.fault.PlanFault.TheVariants.{BadLine, BadCount, OutOfLimits, Trailing, Memory}
 use Rattle.bx_planfile.specs.Forms.{Entry}
-use Rattle.bx_planfile.specs.Reading.{◌>>=◌, Fails, Entries, entries, read_line, read_booking, read_price, read_bookings, read_prices}
+use Rattle.bx_planfile.specs.Reading.{◌>>=◌, Fails, Entries, entries, read_line, read_booking, read_price, read_bookings, read_prices, SomeBookings, SomePrices}
 
 -- a fault of the first step is the fault of the whole
 pub fails_along : {A B : Type 0} (e : PlanFault) (r : Result A PlanFault) (f : A → Result B PlanFault) → Fails e r → Fails e (r >>= f)
@@ -17,9 +17,27 @@ fails_along (OutOfLimits n) r f h = rw h refl
 fails_along Trailing r f h = rw h refl
 fails_along Memory r f h = tt
 
+pub fails_from : {A : Type 0} (e : PlanFault) (r : Result A PlanFault) → r ≡ Err e → Fails e r
+fails_from (BadLine n) r h = h
+fails_from BadCount r h = h
+fails_from (OutOfLimits n) r h = h
+fails_from Trailing r h = h
+fails_from Memory r h = tt
+
 -- bookings that were read before, and those that are still read
 abbrev pub with_entries : List Row → List (Option ℕ) → Result Entries PlanFault → Result Entries PlanFault
 with_entries rows assigned read = read >>= λ x. Ok (entries (rows ++ x.rows) (assigned ++ x.assigned) x.rest)
+
+with_none : (read : Result Entries PlanFault) → with_entries [] [] read ≡ read
+with_none (Ok x) = refl
+with_none (Err f) = refl
+
+-- nothing was read yet
+pub no_entries : (version : Version) (n : ℕ) (bytes : List ℕ) (m : ℕ) → with_entries [] [] (read_bookings version (m - 0) (n + 0) bytes) ≡ read_bookings version m n bytes
+no_entries version n bytes m =
+    let k : m - 0 ≡ m = omega arith in
+    let line : n + 0 ≡ n = omega arith in
+    rw (k, line) (with_none (read_bookings version m n bytes))
 
 regroup_entries : (rows : List Row) (assigned : List (Option ℕ)) (e : Entry) (read : Result Entries PlanFault)
     → with_entries rows assigned (read >>= λ more. Ok (entries (e.row ∷ more.rows) (e.channel ∷ more.assigned) more.rest)) ≡ with_entries (rows ++ e.row ∷ []) (assigned ++ e.channel ∷ []) read
@@ -60,6 +78,16 @@ module _ (version : Version) (count i n : ℕ) (bytes : List ℕ) (rows : List R
 abbrev pub with_prices : List Charge → Result (List Charge × List ℕ) PlanFault → Result (List Charge × List ℕ) PlanFault
 with_prices front read = read >>= λ x. Ok (front ++ x.0, x.1)
 
+with_no_prices : (read : Result (List Charge × List ℕ) PlanFault) → with_prices [] read ≡ read
+with_no_prices (Ok x) = refl
+with_no_prices (Err f) = refl
+
+pub no_prices : (n : ℕ) (bytes : List ℕ) (m : ℕ) → with_prices [] (read_prices (m - 0) (n + 0) bytes) ≡ read_prices m n bytes
+no_prices n bytes m =
+    let k : m - 0 ≡ m = omega arith in
+    let line : n + 0 ≡ n = omega arith in
+    rw (k, line) (with_no_prices (read_prices m n bytes))
+
 regroup_prices : (front : List Charge) (p : Charge) (read : Result (List Charge × List ℕ) PlanFault) → with_prices front (read >>= λ more. Ok (p ∷ more.0, more.1)) ≡ with_prices (front ++ p ∷ []) read
 regroup_prices front p (Ok x) = simp append_assoc
 regroup_prices front p (Err f) = refl
@@ -93,3 +121,23 @@ module _ (count i n : ℕ) (bytes : List ℕ) (front : List Charge) (total : Res
   prices_done le =
       let k : count - i ≡ 0 = omega arith in
       sym so_far ∙ rw k (simp append-nil)
+
+-- ---- where the lists grow
+
+pub bookings_grow : (version : Version) (count i n : ℕ) (all bytes : List ℕ) (rows : List Row) (assigned : List (Option ℕ))
+    → ((m : ℕ) → i ≤ m → with_entries rows assigned (read_bookings version (m - i) (n + i) bytes) ≡ read_bookings version m n all)
+    → (fields : List (List ℕ)) (after : List ℕ) (e : Entry) → i < count → read_line (n + i) bytes ≡ Ok (fields, after) → read_booking version (n + i) fields ≡ Ok e → SomeBookings version count n all
+bookings_grow version count i n all bytes rows assigned so_far fields after e lt line booking =
+    let total = read_bookings version (i + 1) n all in
+    let next = booking_follows version (i + 1) i n bytes rows assigned total (so_far (i + 1) (omega arith)) fields after e (omega arith) line booking in
+    let made = bookings_done version (i + 1) (i + 1) n after (rows ++ e.row ∷ []) (assigned ++ e.channel ∷ []) total next (omega arith) in
+    (i + 1, omega arith, omega arith, (entries (rows ++ e.row ∷ []) (assigned ++ e.channel ∷ []) after, made))
+
+pub prices_grow : (count i n : ℕ) (all bytes : List ℕ) (front : List Charge)
+    → ((m : ℕ) → i ≤ m → with_prices front (read_prices (m - i) (n + i) bytes) ≡ read_prices m n all)
+    → (fields : List (List ℕ)) (after : List ℕ) (p : Charge) → i < count → read_line (n + i) bytes ≡ Ok (fields, after) → read_price (n + i) fields ≡ Ok p → SomePrices count n all
+prices_grow count i n all bytes front so_far fields after p lt line price =
+    let total = read_prices (i + 1) n all in
+    let next = price_follows (i + 1) i n bytes front total (so_far (i + 1) (omega arith)) fields after p (omega arith) line price in
+    let made = prices_done (i + 1) (i + 1) n after (front ++ p ∷ []) total next (omega arith) in
+    (i + 1, omega arith, omega arith, ((front ++ p ∷ [], after), made))

@@ -14,7 +14,7 @@ use Rattle.bx_planfile.specs.declared.fault.PlanFault.TheVariants.{BadLine, OutO
 use Rattle.bx_planfile.specs.Lines.{line_text}
 use Rattle.bx_planfile.specs.Text.{version_field, numbers_from, price_fields, named, booking_lines, plan_text, HasText, IsTextOf}
 use Rattle.bx_planfile.specs.Forms.{header_form, channels_form, channel_set}
-use Rattle.bx_planfile.specs.Reading.{◌>>=◌, Gives, or_fault, entries, read_line, read_header, read_channels, read_count, read_total, read_end, read_bookings, read_prices, read_tail, read_all}
+use Rattle.bx_planfile.specs.Reading.{◌>>=◌, Gives, or_fault, entries, Head, head_of, read_head, read_line, read_header, read_channels, read_count, read_total, read_end, read_bookings, read_prices, read_tail, read_all}
 use Rattle.bx_planfile.proofs.PlainLines.{line_again, line_takes}
 use Rattle.bx_planfile.proofs.ChannelSets.{set_is_listed, listed_gives}
 use Rattle.bx_planfile.proofs.LineForms.{header_takes, header_again, channels_take, channels_again}
@@ -115,27 +115,52 @@ channels_line_again : (n : ℕ) (bs : List Bool) → IsChannelSet bs → read_ch
 unfolding read_channels
 channels_line_again n bs h = let again = channels_again bs h in rw (again.0, again.1) refl
 
-module _ (version : Version) (count total : ℕ) (bytes r1 r2 r3 r4 : List ℕ) (f1 f2 f3 : List (List ℕ)) (channels : List Bool) (rows : List Row) (assigned : List (Option ℕ)) (prices : List Charge) where
-  plan_from : read_line 1 bytes ≡ Ok (f1, r1) → read_header 1 f1 ≡ Ok version → read_line 2 r1 ≡ Ok (f2, r2) → read_channels 2 f2 ≡ Ok channels → read_line 3 r2 ≡ Ok (f3, r3)
-      → read_count (codes "bookings") 4000 3 f3 ≡ Ok count → read_bookings version count 4 r3 ≡ Ok (entries rows assigned r4) → read_tail (4 + count) r4 ≡ Ok (prices, total)
-      → ReadsAll bytes (record { rows = rows; channels = channels; assigned = assigned; prices = prices; total = total })
-  plan_from line1 header line2 set line3 counted1 listed1 tail1 =
-      let parts : Parts = record { rows = rows; channels = channels; assigned = assigned; prices = prices; total = total } in
+-- what stands before the bookings
+record ReadsHead (bytes : List ℕ) (x : Head) : Type 0 where
+  spelled : bytes ≡ line_text (codes "bx-plan" ∷ version_field x.version ∷ []) ++ (line_text (codes "channels" ∷ map decimal (numbers_from 0 x.channels)) ++ (line_text (named (codes "bookings") x.count) ++ x.rest))
+  channels : IsChannelSet x.channels
+  few : x.count ≤ 4000
+
+module _ (version : Version) (count : ℕ) (bytes r1 r2 r3 : List ℕ) (f1 f2 f3 : List (List ℕ)) (channels : List Bool) where
+  head_from : read_line 1 bytes ≡ Ok (f1, r1) → read_header 1 f1 ≡ Ok version → read_line 2 r1 ≡ Ok (f2, r2) → read_channels 2 f2 ≡ Ok channels → read_line 3 r2 ≡ Ok (f3, r3)
+      → read_count (codes "bookings") 4000 3 f3 ≡ Ok count → ReadsHead bytes (head_of version channels count r3)
+  head_from line1 header line2 set line3 counted1 =
       let head = header_line 1 f1 version header in
       let channelled = channels_line 2 f2 channels set in
       let counted = count_takes (codes "bookings") 4000 3 f3 count (lit< tt) counted1 in
-      let listed = bookings_take version count 4 r3 (entries rows assigned r4) listed1 in
-      let tail = tail_takes (4 + count) r4 (prices, total) tail1 in
-      let fourth : r3 ≡ flat_map line_text (booking_lines version rows assigned) ++ flat_map line_text (tail_lines prices total) = listed.spelled ∙ ap (λ (r : List ℕ). flat_map line_text (booking_lines version rows assigned) ++ r) tail.spelled in
-      let third : r2 ≡ line_text (named (codes "bookings") (length rows)) ++ r3 = line_takes 3 r2 (f3, r3) line3 ∙ rw (counted.0, listed.rows) refl in
+      let third : r2 ≡ line_text (named (codes "bookings") count) ++ r3 = line_takes 3 r2 (f3, r3) line3 ∙ ap (λ (fs : List (List ℕ)). line_text fs ++ r3) counted.0 in
       let second : r1 ≡ line_text (codes "channels" ∷ map decimal (numbers_from 0 channels)) ++ r2 = line_takes 2 r1 (f2, r2) line2 ∙ ap (λ (fs : List (List ℕ)). line_text fs ++ r2) channelled.0 in
       let first : bytes ≡ line_text (codes "bx-plan" ∷ version_field version ∷ []) ++ r1 = line_takes 1 bytes (f1, r1) line1 ∙ ap (λ (fs : List (List ℕ)). line_text fs ++ r1) head in
-      let few : length rows ≤ 4000 = rw listed.rows counted.1 in
+      record { spelled = first ∙ rw (second, third) refl; channels = channelled.1; few = counted.1 }
+
+head_takes : (bytes : List ℕ) (x : Head) → read_head bytes ≡ Ok x → ReadsHead bytes x
+unfolding read_head
+head_takes bytes x e =
+    let a = bind_ok (read_line 1 bytes) (λ first. read_header 1 first.0 >>= λ version. read_line 2 first.1 >>= λ second. read_channels 2 second.0 >>= λ channels. read_line 3 second.1 >>= λ third. read_count (codes "bookings") 4000 3 third.0 >>= λ count. Ok (head_of version channels count third.1)) x e in
+    let b = bind_ok (read_header 1 a.0.0) (λ version. read_line 2 a.0.1 >>= λ second. read_channels 2 second.0 >>= λ channels. read_line 3 second.1 >>= λ third. read_count (codes "bookings") 4000 3 third.0 >>= λ count. Ok (head_of version channels count third.1)) x a.2 in
+    let c = bind_ok (read_line 2 a.0.1) (λ second. read_channels 2 second.0 >>= λ channels. read_line 3 second.1 >>= λ third. read_count (codes "bookings") 4000 3 third.0 >>= λ count. Ok (head_of b.0 channels count third.1)) x b.2 in
+    let d = bind_ok (read_channels 2 c.0.0) (λ channels. read_line 3 c.0.1 >>= λ third. read_count (codes "bookings") 4000 3 third.0 >>= λ count. Ok (head_of b.0 channels count third.1)) x c.2 in
+    let f = bind_ok (read_line 3 c.0.1) (λ third. read_count (codes "bookings") 4000 3 third.0 >>= λ count. Ok (head_of b.0 d.0 count third.1)) x d.2 in
+    let g = bind_ok (read_count (codes "bookings") 4000 3 f.0.0) (λ count. Ok (head_of b.0 d.0 count f.0.1)) x f.2 in
+    subst (λ (y : Head). ReadsHead bytes y) (ok_is (head_of b.0 d.0 g.0 f.0.1) x g.2)
+    (head_from b.0 g.0 bytes a.0.1 c.0.1 f.0.1 a.0.0 c.0.0 f.0.0 d.0 a.1 b.1 c.1 d.1 f.1 g.1)
+
+module _ (bytes rest : List ℕ) (head : Head) (rows : List Row) (assigned : List (Option ℕ)) (prices : List Charge) (total : ℕ) where
+  plan_from : read_head bytes ≡ Ok head → read_bookings head.version head.count 4 head.rest ≡ Ok (entries rows assigned rest) → read_tail (4 + head.count) rest ≡ Ok (prices, total)
+      → ReadsAll bytes (record { rows = rows; channels = head.channels; assigned = assigned; prices = prices; total = total })
+  plan_from head1 listed1 tail1 =
+      let parts : Parts = record { rows = rows; channels = head.channels; assigned = assigned; prices = prices; total = total } in
+      let front = head_takes bytes head head1 in
+      let listed = bookings_take head.version head.count 4 head.rest (entries rows assigned rest) listed1 in
+      let tail = tail_takes (4 + head.count) rest (prices, total) tail1 in
+      let behind : head.rest ≡ flat_map line_text (booking_lines head.version rows assigned) ++ flat_map line_text (tail_lines prices total) = listed.spelled ∙ ap (λ (r : List ℕ). flat_map line_text (booking_lines head.version rows assigned) ++ r) tail.spelled in
+      let few : length rows ≤ 4000 = rw listed.rows front.few in
+      let counted : head.count ≡ length rows = sym listed.rows in
       record {
-        version = version;
+        version = head.version;
         plan = record {
           rows = record { few = few; each = listed.bookings };
-          channels = channelled.1;
+          channels = front.channels;
           one_each = listed.assigned ∙ sym listed.rows;
           assigned = listed.channels;
           few_prices = tail.few;
@@ -143,25 +168,20 @@ module _ (version : Version) (count total : ℕ) (bytes r1 r2 r3 r4 : List ℕ) 
           total = tail.total;
         };
         told = listed.told;
-        spelled = first ∙ rw (second, third, fourth) (sym (whole_text version parts));
+        spelled = front.spelled ∙ rw (behind, counted) (sym (whole_text head.version parts));
       }
 
 all_takes : (bytes : List ℕ) (x : Parts) → read_all bytes ≡ Ok x → ReadsAll bytes x
 unfolding read_all
 all_takes bytes x e =
-    let a = bind_ok (read_line 1 bytes) (λ first. read_header 1 first.0 >>= λ version. read_line 2 first.1 >>= λ second. read_channels 2 second.0 >>= λ channels. read_line 3 second.1 >>= λ third. read_count (codes "bookings") 4000 3 third.0 >>= λ count. read_bookings version count 4 third.1 >>= λ entries. read_tail (4 + count) entries.rest >>= λ tail. Ok (record { rows = entries.rows; channels = channels; assigned = entries.assigned; prices = tail.0; total = tail.1 })) x e in
-    let b = bind_ok (read_header 1 a.0.0) (λ version. read_line 2 a.0.1 >>= λ second. read_channels 2 second.0 >>= λ channels. read_line 3 second.1 >>= λ third. read_count (codes "bookings") 4000 3 third.0 >>= λ count. read_bookings version count 4 third.1 >>= λ entries. read_tail (4 + count) entries.rest >>= λ tail. Ok (record { rows = entries.rows; channels = channels; assigned = entries.assigned; prices = tail.0; total = tail.1 })) x a.2 in
-    let c = bind_ok (read_line 2 a.0.1) (λ second. read_channels 2 second.0 >>= λ channels. read_line 3 second.1 >>= λ third. read_count (codes "bookings") 4000 3 third.0 >>= λ count. read_bookings b.0 count 4 third.1 >>= λ entries. read_tail (4 + count) entries.rest >>= λ tail. Ok (record { rows = entries.rows; channels = channels; assigned = entries.assigned; prices = tail.0; total = tail.1 })) x b.2 in
-    let d = bind_ok (read_channels 2 c.0.0) (λ channels. read_line 3 c.0.1 >>= λ third. read_count (codes "bookings") 4000 3 third.0 >>= λ count. read_bookings b.0 count 4 third.1 >>= λ entries. read_tail (4 + count) entries.rest >>= λ tail. Ok (record { rows = entries.rows; channels = channels; assigned = entries.assigned; prices = tail.0; total = tail.1 })) x c.2 in
-    let f = bind_ok (read_line 3 c.0.1) (λ third. read_count (codes "bookings") 4000 3 third.0 >>= λ count. read_bookings b.0 count 4 third.1 >>= λ entries. read_tail (4 + count) entries.rest >>= λ tail. Ok (record { rows = entries.rows; channels = d.0; assigned = entries.assigned; prices = tail.0; total = tail.1 })) x d.2 in
-    let g = bind_ok (read_count (codes "bookings") 4000 3 f.0.0) (λ count. read_bookings b.0 count 4 f.0.1 >>= λ entries. read_tail (4 + count) entries.rest >>= λ tail. Ok (record { rows = entries.rows; channels = d.0; assigned = entries.assigned; prices = tail.0; total = tail.1 })) x f.2 in
-    let h = bind_ok (read_bookings b.0 g.0 4 f.0.1) (λ entries. read_tail (4 + g.0) entries.rest >>= λ tail. Ok (record { rows = entries.rows; channels = d.0; assigned = entries.assigned; prices = tail.0; total = tail.1 })) x g.2 in
-    let k = bind_ok (read_tail (4 + g.0) h.0.rest) (λ tail. Ok (record { rows = h.0.rows; channels = d.0; assigned = h.0.assigned; prices = tail.0; total = tail.1 })) x h.2 in
-    subst (λ (y : Parts). ReadsAll bytes y) (ok_is (record { rows = h.0.rows; channels = d.0; assigned = h.0.assigned; prices = k.0.0; total = k.0.1 }) x k.2)
-    (plan_from b.0 g.0 k.0.1 bytes a.0.1 c.0.1 f.0.1 h.0.rest a.0.0 c.0.0 f.0.0 d.0 h.0.rows h.0.assigned k.0.0 a.1 b.1 c.1 d.1 f.1 g.1 h.1 k.1)
+    let a = bind_ok (read_head bytes) (λ head. read_bookings head.version head.count 4 head.rest >>= λ entries. read_tail (4 + head.count) entries.rest >>= λ tail. Ok (record { rows = entries.rows; channels = head.channels; assigned = entries.assigned; prices = tail.0; total = tail.1 })) x e in
+    let b = bind_ok (read_bookings a.0.version a.0.count 4 a.0.rest) (λ entries. read_tail (4 + a.0.count) entries.rest >>= λ tail. Ok (record { rows = entries.rows; channels = a.0.channels; assigned = entries.assigned; prices = tail.0; total = tail.1 })) x a.2 in
+    let c = bind_ok (read_tail (4 + a.0.count) b.0.rest) (λ tail. Ok (record { rows = b.0.rows; channels = a.0.channels; assigned = b.0.assigned; prices = tail.0; total = tail.1 })) x b.2 in
+    subst (λ (y : Parts). ReadsAll bytes y) (ok_is (record { rows = b.0.rows; channels = a.0.channels; assigned = b.0.assigned; prices = c.0.0; total = c.0.1 }) x c.2)
+    (plan_from bytes b.0.rest a.0 b.0.rows b.0.assigned c.0.0 c.0.1 a.1 b.1 c.1)
 
 pub all_again : (version : Version) (parts : Parts) → IsPlan parts → HasText version parts → read_all (plan_text version parts) ≡ Ok parts
-unfolding read_all
+unfolding read_all read_head
 all_again version parts plan told =
     let count = length parts.rows in
     let tail = flat_map line_text (tail_lines parts.prices parts.total) in

@@ -1,5 +1,5 @@
 -- Reading a plan from its first line to its last, with the first fault that is met.
-use Rattle.std.specs.Prelude.{◌≡◌, ℕ, zero, suc, ◌+◌, ◌==◌, nat_le, List, [], ◌∷◌, length, Bool, Option, Some, None, Result, Ok, Err, codes, if◌then◌else◌}
+use Rattle.std.specs.Prelude.{◌≡◌, ◌⊎◌, ◌≤◌, ℕ, zero, suc, ◌+◌, ◌==◌, nat_le, List, [], ◌∷◌, length, Bool, Option, Some, None, Result, Ok, Err, codes, if◌then◌else◌}
 use Rattle.bx_base.specs.Bookings.{Row}
 use Rattle.bx_base.specs.Bound.{Charge}
 use Rattle.bx_base.specs.PlanParts.{Parts}
@@ -25,6 +25,11 @@ Fails Memory read = Unit {0}
 abbrev pub Gives : {X Y : Type 0} → (X → Y) → Result X PlanFault → Result Y PlanFault → Type 0
 Gives view (Ok x) read = read ≡ Ok (view x)
 Gives view (Err e) read = Fails e read
+
+-- the same where no memory is taken: a fault is always that of reading
+abbrev pub Answers : {X Y : Type 0} → (X → Y) → Result X PlanFault → Result Y PlanFault → Type 0
+Answers view (Ok x) read = read ≡ Ok (view x)
+Answers view (Err e) read = read ≡ Err e
 
 -- a value where there is one, and else this fault
 abbrev pub or_fault : {A : Type 0} → PlanFault → Option A → Result A PlanFault
@@ -113,15 +118,51 @@ read_tail n bytes = do
   rest ← read_end (n + 2 + count) ending.0 ending.1
   Ok (prices.0, total)
 
--- all lines of a plan
-unfoldable pub read_all : List ℕ → Result Parts PlanFault
-read_all bytes = do
+-- the lines before the bookings, and what stands behind them
+pub record Head : Type 0 where
+  pub version : Version
+  pub channels : List Bool
+  pub count : ℕ
+  pub rest : List ℕ
+
+abbrev pub head_of : Version → List Bool → ℕ → List ℕ → Head
+head_of version channels count rest = record { version = version; channels = channels; count = count; rest = rest }
+
+unfoldable pub read_head : List ℕ → Result Head PlanFault
+read_head bytes = do
   first ← read_line 1 bytes
   version ← read_header 1 first.0
   second ← read_line 2 first.1
   channels ← read_channels 2 second.0
   third ← read_line 3 second.1
   count ← read_count (codes "bookings") 4000 3 third.0
-  entries ← read_bookings version count 4 third.1
-  tail ← read_tail (4 + count) entries.rest
-  Ok (record { rows = entries.rows; channels = channels; assigned = entries.assigned; prices = tail.0; total = tail.1 })
+  Ok (head_of version channels count third.1)
+
+-- all lines of a plan
+unfoldable pub read_all : List ℕ → Result Parts PlanFault
+read_all bytes = do
+  head ← read_head bytes
+  entries ← read_bookings head.version head.count 4 head.rest
+  tail ← read_tail (4 + head.count) entries.rest
+  Ok (record { rows = entries.rows; channels = head.channels; assigned = entries.assigned; prices = tail.0; total = tail.1 })
+
+-- Places at which a plan that is read grows: behind the line of a booking or of a price, where all lines up to
+-- it have no fault.
+abbrev pub SomeBookings : Version → ℕ → ℕ → List ℕ → Type 0
+SomeBookings version count n bytes = (k : ℕ) × (1 ≤ k) × (k ≤ count) × ((x : Entries) × (read_bookings version k n bytes ≡ Ok x))
+
+abbrev pub SomePrices : ℕ → ℕ → List ℕ → Type 0
+SomePrices count n bytes = (k : ℕ) × (1 ≤ k) × (k ≤ count) × ((x : List Charge × List ℕ) × (read_prices k n bytes ≡ Ok x))
+
+pub record GrowsInTail (n : ℕ) (bytes : List ℕ) : Type 0 where
+  pub line : List (List ℕ) × List ℕ
+  pub count : ℕ
+  pub is_line : read_line n bytes ≡ Ok line
+  pub is_count : read_count (codes "prices") 8000 n line.0 ≡ Ok count
+  pub grows : SomePrices count (n + 1) line.1
+
+pub record Grows (bytes : List ℕ) : Type 0 where
+  pub head : Head
+  pub is_head : read_head bytes ≡ Ok head
+  pub grows : SomeBookings head.version head.count 4 head.rest
+      ⊎ ((x : Entries) × (read_bookings head.version head.count 4 head.rest ≡ Ok x) × GrowsInTail (4 + head.count) x.rest)

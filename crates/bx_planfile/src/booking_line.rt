@@ -7,7 +7,7 @@ ghost use Rattle.bx_base.specs.Bookings.{IsBooking};
 ghost use Rattle.bx_planfile.specs.Forms.{is_digits, is_channel_field, channel_of, is_must_field, is_direction_field, marks, marks_form, booking_form, is_assignable, is_within};
 ghost use Rattle.bx_planfile.specs.Capped.{capped, capped_entry};
 ghost use Rattle.bx_planfile.specs.Values.{entry_of_values, entry_of};
-ghost use Rattle.bx_planfile.specs.Reading.{Gives, read_booking};
+ghost use Rattle.bx_planfile.specs.Reading.{Answers, read_booking};
 
 use crate::decimals::{decimal, is_digits};
 use crate::fault::PlanFault;
@@ -166,7 +166,7 @@ pub fn booking_of(
     fields: Fields<'_>,
     n: u32,
 ) -> Result<(Booking, Option<Channel>), PlanFault>
-    ensures { Gives (λ x. entry_of x.0 x.1) result (read_booking version n fields.entry) }
+    ensures { Answers (λ x. entry_of x.0 x.1) result (read_booking version n fields.entry) }
 {
     let values = values_of(version, fields).ok_or(PlanFault::BadLine(n))?;
     values.within_limits().ok_or(PlanFault::OutOfLimits(n))

@@ -3,7 +3,7 @@
 ghost use Rattle.std.specs.Prelude.{◌≡◌, ◌<◌, None, Some, map, true, false};
 ghost use Rattle.std.specs.List.{list_all};
 ghost use Rattle.bx_planfile.specs.Forms.{is_decimal, value_of, channel_set, channels_form};
-ghost use Rattle.bx_planfile.specs.Reading.{Gives, read_channels};
+ghost use Rattle.bx_planfile.specs.Reading.{Answers, read_channels};
 
 use crate::decimals::decimal;
 use crate::fault::PlanFault;
@@ -43,7 +43,7 @@ fn rising_channels(mut fields: Fields<'_>) -> Option<ChannelSet>
 /// The channels in the fields of line `n`.
 #[tactic(auto, unfolding(crate::specs::Reading::read_channels, crate::specs::Forms::channels_form))]
 pub fn channels_of(mut fields: Fields<'_>, n: u32) -> Result<ChannelSet, PlanFault>
-    ensures { Gives (λ x. x) result (read_channels n fields.entry) }
+    ensures { Answers (λ x. x) result (read_channels n fields.entry) }
 {
     if fields.take() != b"channels".as_slice() || !all_decimals(fields.again()) {
         return Err(PlanFault::BadLine(n));

@@ -3,7 +3,7 @@
 ghost use Rattle.std.specs.Prelude.{◌≡◌, ◌==◌, position, List, true};
 ghost use Rattle.bx_planfile.specs.Lines.{first, others, fields_of};
 ghost use Rattle.bx_planfile.specs.Forms.{is_nothing};
-ghost use Rattle.bx_planfile.specs.Reading.{Gives, read_line};
+ghost use Rattle.bx_planfile.specs.Reading.{Answers, read_line};
 
 use crate::fault::PlanFault;
 use std::marker::Model;
@@ -85,7 +85,7 @@ impl<'a> Fields<'a> {
 /// The fields of the first line, which is line `n` of the text, and what stands behind its LF.
 #[tactic(auto, unfolding(crate::specs::Reading::read_line))]
 pub fn line_of(bytes: &[u8], n: u32) -> Result<(Fields<'_>, &[u8]), PlanFault>
-    ensures { Gives (λ x. (x.0, x.1.now)) result (read_line n bytes.now) }
+    ensures { Answers (λ x. (x.0, x.1.now)) result (read_line n bytes.now) }
 {
     match place_of(bytes, b'\n') {
         Some(end) => Ok((Fields::of(&bytes[..end]), &bytes[end + 1..])),

@@ -5,7 +5,7 @@ ghost use Rattle.std.specs.Option.{option_map};
 ghost use Rattle.bx_planfile.specs.Forms.{header_form, named_form, price_form, is_charge};
 ghost use Rattle.bx_planfile.specs.Capped.{capped, capped_charge};
 ghost use Rattle.bx_planfile.specs.Values.{charge_of_values};
-ghost use Rattle.bx_planfile.specs.Reading.{Gives, read_header, read_count, read_total, read_end, read_price};
+ghost use Rattle.bx_planfile.specs.Reading.{Answers, read_header, read_count, read_total, read_end, read_price};
 
 use crate::decimals::decimal;
 use crate::fault::PlanFault;
@@ -37,7 +37,7 @@ fn version_of(mut fields: Fields<'_>) -> Option<Version>
 /// The version in the fields of line `n`.
 #[tactic(auto, unfolding(crate::specs::Reading::read_header))]
 pub fn header_of(fields: Fields<'_>, n: u32) -> Result<Version, PlanFault>
-    ensures { Gives (λ x. x) result (read_header n fields.entry) }
+    ensures { Answers (λ x. x) result (read_header n fields.entry) }
 {
     version_of(fields).ok_or(PlanFault::BadLine(n))
 }
@@ -57,7 +57,7 @@ fn number_behind(word: &[u8], mut fields: Fields<'_>) -> Option<u64>
 /// The count in the fields of line `n`, which is at most so many.
 #[tactic(auto, unfolding(crate::specs::Reading::read_count))]
 pub fn count_of(word: &[u8], most: u16, fields: Fields<'_>, n: u32) -> Result<u16, PlanFault>
-    ensures value { Gives (λ x. x) result (read_count word.now most n fields.entry) }
+    ensures value { Answers (λ x. x) result (read_count word.now most n fields.entry) }
     ensures few { IfOk result (λ x. x ≤ most) }
 {
     let count = number_behind(word, fields).ok_or(PlanFault::BadLine(n))?;
@@ -70,7 +70,7 @@ pub fn count_of(word: &[u8], most: u16, fields: Fields<'_>, n: u32) -> Result<u1
 /// The total in the fields of line `n`.
 #[tactic(auto, unfolding(crate::specs::Reading::read_total))]
 pub fn total_of(fields: Fields<'_>, n: u32) -> Result<u64, PlanFault>
-    ensures value { Gives (λ x. x) result (read_total n fields.entry) }
+    ensures value { Answers (λ x. x) result (read_total n fields.entry) }
     ensures limit { IfOk result (λ x. x ≤ 4000000000000) }
 {
     let total = number_behind(b"total", fields).ok_or(PlanFault::BadLine(n))?;
@@ -83,7 +83,7 @@ pub fn total_of(fields: Fields<'_>, n: u32) -> Result<u64, PlanFault>
 /// That line `n`, with these fields, is the last one, and that nothing stands behind it.
 #[tactic(auto, unfolding(crate::specs::Reading::read_end, crate::specs::Forms::is_end))]
 pub fn ends<'a>(mut fields: Fields<'_>, rest: &'a [u8], n: u32) -> Result<&'a [u8], PlanFault>
-    ensures { Gives (λ x. x.now) result (read_end n fields.entry rest.now) }
+    ensures { Answers (λ x. x.now) result (read_end n fields.entry rest.now) }
 {
     if fields.take() != b"end".as_slice() || !fields.is_done() {
         return Err(PlanFault::BadLine(n));
@@ -126,7 +126,7 @@ impl PriceValues {
 /// The price in the fields of line `n`.
 #[tactic(auto, unfolding(crate::specs::Reading::read_price))]
 pub fn price_of(fields: Fields<'_>, n: u32) -> Result<Price, PlanFault>
-    ensures { Gives (λ x. x) result (read_price n fields.entry) }
+    ensures { Answers (λ x. x) result (read_price n fields.entry) }
 {
     let values = price_values(fields).ok_or(PlanFault::BadLine(n))?;
     values.within_limits().ok_or(PlanFault::OutOfLimits(n))

@@ -1,7 +1,7 @@
 //! The lists of bookings and prices.
 
 ghost use Rattle.std.specs.Prelude.{◌≡◌, ◌≤◌, ◌<◌, ◌+◌, ◌^◌, ◌++◌, ◌∷◌, [], length, vec_len, OnOk, OnErr, IfOk};
-ghost use Rattle.bx_planfile.specs.Reading.{Gives, read_bookings, read_prices, entries};
+ghost use Rattle.bx_planfile.specs.Reading.{Gives, read_bookings, read_prices, entries, SomeBookings, SomePrices};
 
 use crate::booking_line::booking_of;
 use crate::fault::PlanFault;
@@ -34,6 +34,8 @@ pub fn bookings_of(
     requires few { count ≤ 4000 }
     requires counts { n + count < 2 ^ 32 }
     ensures value { Gives (λ x. entries x.0 x.1.items x.2.now) result (read_bookings version count n bytes.now) }
+    // Memory was refused only where the plan grew.
+    ensures memory { result ≡ Err PlanFault.Memory → SomeBookings version count n bytes.now }
     ensures lengths { IfOk result (λ x. (length x.0 ≡ count) × (vec_len x.1 ≡ count)) }
 {
     let mut bookings = Bookings::new(alloc);
@@ -61,6 +63,8 @@ pub fn prices_of(
 ) -> Result<(Vec<Price>, &[u8]), PlanFault>
     requires { n + count < 2 ^ 32 }
     ensures value { Gives (λ x. (x.0.items, x.1.now)) result (read_prices count n bytes.now) }
+    // Memory was refused only where the list grew.
+    ensures memory { result ≡ Err PlanFault.Memory → SomePrices count n bytes.now }
     ensures len { IfOk result (λ x. vec_len x.0 ≡ count) }
 {
     let mut prices = Vec::new(alloc);

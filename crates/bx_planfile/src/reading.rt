@@ -1,9 +1,9 @@
 //! Reading a plan.
 
-ghost use Rattle.std.specs.Prelude.{◌≤◌, ◌+◌, vec_len, IfOk, Ok};
+ghost use Rattle.std.specs.Prelude.{◌≡◌, ◌≤◌, ◌+◌, vec_len, IfOk, Ok};
 ghost use Rattle.bx_base.specs.PlanParts.{Parts, IsPlan, parts_of};
 ghost use Rattle.bx_planfile.specs.Text.{IsTextOf};
-ghost use Rattle.bx_planfile.specs.Reading.{Gives, read_tail, read_all};
+ghost use Rattle.bx_planfile.specs.Reading.{Gives, GrowsInTail, Grows, read_tail, read_all};
 
 use crate::channel_line::channels_of;
 use crate::fault::PlanFault;
@@ -22,6 +22,7 @@ const MAX_PRICES: u16 = 8000;
 fn tail_of(alloc: Global, bytes: &[u8], n: u32) -> Result<(Vec<Price>, u64), PlanFault>
     requires { n ≤ 10000 }
     ensures value { Gives (λ x. (x.0.items, x.1)) result (read_tail n bytes.now) }
+    ensures memory { result ≡ Err PlanFault.Memory → GrowsInTail n bytes.now }
     ensures limits { IfOk result (λ x. (vec_len x.0 ≤ 8000) × (x.1 ≤ 4000000000000)) }
 {
     let (fields, rest) = line_of(bytes, n)?;
@@ -35,9 +36,10 @@ fn tail_of(alloc: Global, bytes: &[u8], n: u32) -> Result<(Vec<Price>, u64), Pla
     Ok((prices, total))
 }
 
-#[tactic(auto, unfolding(crate::specs::Reading::read_all))]
+#[tactic(auto, unfolding(crate::specs::Reading::read_head, crate::specs::Reading::read_all))]
 fn plan_of(alloc: Global, bytes: &[u8]) -> Result<Plan, PlanFault>
-    ensures { Gives parts_of result (read_all bytes.now) }
+    ensures value { Gives parts_of result (read_all bytes.now) }
+    ensures memory { result ≡ Err PlanFault.Memory → Grows bytes.now }
 {
     let (fields, rest) = line_of(bytes, 1)?;
     let version = header_of(fields, 1)?;
@@ -65,6 +67,8 @@ pub fn read_plan(alloc: Global, bytes: &[u8]) -> Result<Plan, PlanFault>
     ensures found { IfOk result (λ plan. IsTextOf bytes.now (parts_of plan)) }
     // What is spelled so is read, unless memory was refused.
     ensures only { (parts : Parts) → IsPlan parts → IsTextOf bytes.now parts → Gives parts_of result (Ok parts) }
+    // Want of memory is answered only at a place where the plan grows, so a fault before it comes first.
+    ensures memory { result ≡ Err PlanFault.Memory → Grows bytes.now }
     // Which fault it is.
     ensures fault { Gives parts_of result (read_all bytes.now) }
 {
