@@ -1,0 +1,10 @@
+pub mod Timers
+pub mod Limits
+pub mod PlainCalls
+pub mod States
+pub mod Hearing
+pub mod Saying
+pub mod Steps
+pub mod NetTable
+pub mod UserTable
+pub mod UnknownTable
