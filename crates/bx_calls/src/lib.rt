@@ -5,12 +5,18 @@
 mod call_state;
 mod hearing;
 mod net_call;
+mod net_messages;
+mod net_seconds;
 mod net_state;
 mod saying;
 mod step;
+#[cfg(test)]
+mod tests;
 pub mod timers;
 mod unknown_reference;
 mod user_call;
+mod user_messages;
+mod user_seconds;
 mod user_state;
 
 pub use call_state::CallState;

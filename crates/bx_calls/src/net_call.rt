@@ -4,32 +4,26 @@ ghost use Rattle.std.specs.Prelude.{◌≡◌, ◌≤◌, ◌+◌, Bool, false, 
 ghost use Rattle.bx_q931.specs.Kinds.{IsNamed};
 ghost use Rattle.bx_q931.specs.Outgoing.{IsCallReference};
 ghost use Rattle.bx_calls.specs.States.{net_state};
-ghost use Rattle.bx_calls.specs.Hearing.{heard_of};
 ghost use Rattle.bx_calls.specs.Saying.{network, setup_of, with_kept_cause};
-ghost use Rattle.bx_calls.specs.Limits.{IsProgress};
 ghost use Rattle.bx_calls.specs.NetTable.{net_flag, net_says, net_says_cause, net_status, net_offered, net_answered, proceeding_of, net_same, net_to, net_releases, net_disconnects, net_setup_again, net_row, net_message, net_is_clearing, net_timer, net_second, net_due};
 
 use crate::call_state::CallState;
-use crate::hearing::names_channel;
 use crate::net_state::{NetOrigin, NetState};
 use crate::saying::{plain, setup};
 use crate::step::Step;
-use crate::timers::{T301, T303, T305, T308, T310};
+use crate::timers::{T303, T305, T308};
 use bx_base::{Channel, Number};
-use bx_q931::cause::{
-    CHANNEL_UNACCEPTABLE, LOCATION_LOCAL_NETWORK, MESSAGE_NOT_COMPATIBLE, MESSAGE_TYPE_UNKNOWN,
-    NORMAL_CALL_CLEARING, RECOVERY_ON_TIMER_EXPIRY, RESPONSE_TO_STATUS_ENQUIRY,
-};
-use bx_q931::{Kind, Message, Out};
+use bx_q931::cause::LOCATION_LOCAL_NETWORK;
+use bx_q931::{Kind, Out};
 use std::marker::Model;
 
 /// A call at the network side: its reference, its channel, which side began it, and its state.
 #[derive(Clone, Copy, Debug)]
 pub struct NetCall {
-    reference: u16,
-    channel: Channel,
-    origin: NetOrigin,
-    state: NetState,
+    pub(crate) reference: u16,
+    pub(crate) channel: Channel,
+    pub(crate) origin: NetOrigin,
+    pub(crate) state: NetState,
 }
 
 impl Model for NetCall {
@@ -67,13 +61,12 @@ impl NetCall {
 
     /// A call that the user began at this moment, and the CALL PROCEEDING that gives it its channel (5.1.2,
     /// 5.1.5.1). It is in N3.
-    pub fn answered(reference: u16, channel: Channel, moment: u32) -> (NetCall, Out)
+    pub fn answered(reference: u16, channel: Channel, _moment: u32) -> (NetCall, Out)
         requires reference { IsCallReference reference }
-        requires moment { moment ≤ 300000 }
+        requires moment { _moment ≤ 300000 }
         ensures call { result.0 ≡ net_answered reference channel }
         ensures out { result.1 ≡ proceeding_of reference channel }
     {
-        let _ = moment;
         let call = NetCall {
             reference,
             channel,
@@ -138,173 +131,40 @@ impl NetCall {
         }
     }
 
-    /// What the call does with a message of its reference at this moment.
-    pub fn on_message(self, message: &Message<'_>, moment: u32) -> Step<NetCall>
-        requires moment { moment ≤ 300000 }
-        ensures { result ≡ net_message self (heard_of message.now) moment }
-    {
-        match message.kind() {
-            Kind::ReleaseComplete => Step::over(None),
-            Kind::StatusEnquiry => self.stays(Some(self.status(RESPONSE_TO_STATUS_ENQUIRY))),
-            Kind::Status => match message.state() {
-                Some(0) => Step::over(None),
-                _ => self.stays(None),
-            },
-            Kind::Setup => self.stays(None),
-            Kind::Release => match self.state {
-                NetState::ReleaseRequest { .. } => Step::over(None),
-                _ => Step::over(Some(self.says(Kind::ReleaseComplete))),
-            },
-            Kind::Disconnect => match self.state {
-                NetState::ReleaseRequest { .. } => self.stays(None),
-                _ => self.releases(false, None, moment),
-            },
-            kind => self.on_progress(kind, message, moment),
-        }
-    }
-
-    /// The rows of the messages that set up a call, and of all that are not expected.
-    fn on_progress(self, kind: Kind, message: &Message<'_>, moment: u32) -> Step<NetCall>
-        requires moment { moment ≤ 300000 }
-        requires kind { IsProgress kind }
-        ensures { result ≡ net_row self (heard_of message.now) moment self.state kind }
-    {
-        match (self.state, kind) {
-            (NetState::DisconnectIndication { .. } | NetState::ReleaseRequest { .. }, _) => {
-                self.stays(None)
-            }
-            (NetState::CallPresent { .. }, Kind::CallProceeding | Kind::Alerting | Kind::Connect)
-                if !names_channel(message.channel(), self.channel) => {
-                self.releases(false, Some(CHANNEL_UNACCEPTABLE), moment)
-            }
-            (NetState::CallPresent { .. }, Kind::CallProceeding) => {
-                let due = moment + T310;
-                self.goes(None, NetState::IncomingCallProceeding { due })
-            }
-            (
-                NetState::CallPresent { .. } | NetState::IncomingCallProceeding { .. },
-                Kind::Alerting,
-            ) => {
-                let due = moment + T301;
-                self.goes(None, NetState::CallReceived { due })
-            }
-            (
-                NetState::CallPresent { .. }
-                | NetState::IncomingCallProceeding { .. }
-                | NetState::CallReceived { .. },
-                Kind::Connect,
-            ) => {
-                let reply = self.says(Kind::ConnectAcknowledge);
-                self.goes(Some(reply), NetState::Active)
-            }
-            (NetState::Active, Kind::ConnectAcknowledge) if self.flag() => self.stays(None),
-            (_, Kind::Progress | Kind::Notify | Kind::Information) => self.stays(None),
-            (_, Kind::Other(_)) => self.stays(Some(self.status(MESSAGE_TYPE_UNKNOWN))),
-            _ => self.stays(Some(self.status(MESSAGE_NOT_COMPATIBLE))),
-        }
-    }
-
-    /// What the call does at a tick to this moment, where its booking ends at that one.
-    pub fn on_second(self, moment: u32, end: u32) -> Step<NetCall>
-        requires moment { moment ≤ 300000 }
-        ensures { result ≡ net_second self moment end }
-    {
-        if end <= moment && !self.is_clearing() {
-            self.disconnects(NORMAL_CALL_CLEARING, moment)
-        } else {
-            self.on_timer(moment)
-        }
-    }
-
-    /// The rows of the timers.
-    fn on_timer(self, moment: u32) -> Step<NetCall>
-        requires moment { moment ≤ 300000 }
-        ensures { result ≡ net_timer self moment self.state }
-    {
-        match self.state {
-            NetState::OutgoingCallProceeding => {
-                let reply = self.says(Kind::Connect).with_channel(self.channel, true);
-                self.goes(Some(reply), NetState::Active)
-            }
-            NetState::CallPresent { again: false, due } if due <= moment => {
-                let due = moment + T303;
-                let reply = self.setup_again();
-                self.goes(reply, NetState::CallPresent { again: true, due })
-            }
-            NetState::CallPresent { again: true, due } if due <= moment => {
-                Step::over(Some(self.says_cause(Kind::ReleaseComplete, RECOVERY_ON_TIMER_EXPIRY)))
-            }
-            NetState::IncomingCallProceeding { due } | NetState::CallReceived { due }
-                if due <= moment => { self.disconnects(RECOVERY_ON_TIMER_EXPIRY, moment) }
-            NetState::DisconnectIndication { cause, due } if due <= moment => {
-                self.releases(false, Some(cause), moment)
-            }
-            NetState::ReleaseRequest {
-                again: false,
-                cause,
-                due,
-            } if due <= moment => { self.releases(true, cause, moment) }
-            NetState::ReleaseRequest {
-                again: true,
-                due,
-                ..
-            } if due <= moment => Step::broken(),
-            _ => self.stays(None),
-        }
-    }
-
-    fn is_clearing(&self) -> bool
-        ensures { result ≡ net_is_clearing self.now.state }
-    {
-        matches!(
-            self.state,
-            NetState::DisconnectIndication { .. } | NetState::ReleaseRequest { .. }
-        )
-    }
-
-    fn setup_again(&self) -> Option<Out>
-        ensures { result ≡ net_setup_again self.now self.now.origin }
-    {
-        match self.origin {
-            NetOrigin::Outward { called } => Some(setup(self.reference, self.channel, called)),
-            NetOrigin::Inward => None,
-        }
-    }
-
-    fn says(&self, kind: Kind) -> Out
+    pub(crate) fn says(&self, kind: Kind) -> Out
         requires kind { IsNamed kind }
         ensures { result ≡ net_says self.now kind }
     {
         plain(self.reference, self.flag(), kind)
     }
 
-    fn says_cause(&self, kind: Kind, cause: u8) -> Out
+    pub(crate) fn says_cause(&self, kind: Kind, cause: u8) -> Out
         requires kind { IsNamed kind }
         ensures { result ≡ net_says_cause self.now kind cause }
     {
         self.says(kind).with_cause(LOCATION_LOCAL_NETWORK, cause)
     }
 
-    fn status(&self, cause: u8) -> Out
+    pub(crate) fn status(&self, cause: u8) -> Out
         ensures { result ≡ net_status self.now cause }
     {
         self.says_cause(Kind::Status, cause)
             .with_state(self.state().value())
     }
 
-    fn stays(self, reply: Option<Out>) -> Step<NetCall>
+    pub(crate) fn stays(self, reply: Option<Out>) -> Step<NetCall>
         ensures { result ≡ net_same self reply }
     {
         Step::on(self, reply)
     }
 
-    fn goes(self, reply: Option<Out>, state: NetState) -> Step<NetCall>
+    pub(crate) fn goes(self, reply: Option<Out>, state: NetState) -> Step<NetCall>
         ensures { result ≡ net_to self reply state }
     {
         NetCall { state, ..self }.stays(reply)
     }
 
-    fn disconnects(self, cause: u8, moment: u32) -> Step<NetCall>
+    pub(crate) fn disconnects(self, cause: u8, moment: u32) -> Step<NetCall>
         requires moment { moment ≤ 300000 }
         ensures { result ≡ net_disconnects self cause moment }
     {
@@ -313,7 +173,7 @@ impl NetCall {
         self.goes(Some(reply), NetState::DisconnectIndication { cause, due })
     }
 
-    fn releases(self, again: bool, cause: Option<u8>, moment: u32) -> Step<NetCall>
+    pub(crate) fn releases(self, again: bool, cause: Option<u8>, moment: u32) -> Step<NetCall>
         requires moment { moment ≤ 300000 }
         ensures { result ≡ net_releases self again cause moment }
     {

@@ -4,32 +4,27 @@ ghost use Rattle.std.specs.Prelude.{◌≡◌, ◌≤◌, Bool, Some};
 ghost use Rattle.bx_q931.specs.Kinds.{IsNamed};
 ghost use Rattle.bx_q931.specs.Outgoing.{IsCallReference};
 ghost use Rattle.bx_calls.specs.States.{user_state};
-ghost use Rattle.bx_calls.specs.Hearing.{heard_of};
 ghost use Rattle.bx_calls.specs.Saying.{setup_of};
-ghost use Rattle.bx_calls.specs.Limits.{IsPolicy, IsProgress};
+ghost use Rattle.bx_calls.specs.Limits.{IsPolicy};
 ghost use Rattle.bx_calls.specs.UserTable.{user_flag, user_says, user_says_channel, user_says_cause, user_status, user_offered, user_calling, user_same, user_to, user_releases, user_disconnects, user_connects, user_setup_again, user_row, user_message, user_takes, user_answers, user_clears, user_second_row, user_second};
 
 use crate::call_state::CallState;
-use crate::hearing::names_channel;
 use crate::saying::{plain, setup};
 use crate::step::Step;
-use crate::timers::{T303, T305, T308, T310_USER, T313};
+use crate::timers::{T303, T305, T308, T313};
 use crate::user_state::{Policy, UserOrigin, UserState};
 use bx_base::{Channel, Number};
-use bx_q931::cause::{
-    CHANNEL_UNACCEPTABLE, LOCATION_USER, MESSAGE_NOT_COMPATIBLE, MESSAGE_TYPE_UNKNOWN,
-    NORMAL_CALL_CLEARING, RECOVERY_ON_TIMER_EXPIRY, RESPONSE_TO_STATUS_ENQUIRY,
-};
-use bx_q931::{Kind, Message, Out};
+use bx_q931::cause::LOCATION_USER;
+use bx_q931::{Kind, Out};
 use std::marker::Model;
 
 /// A call at the user side: its reference, its channel, which side began it, and its state.
 #[derive(Clone, Copy, Debug)]
 pub struct UserCall {
-    reference: u16,
-    channel: Channel,
-    origin: UserOrigin,
-    state: UserState,
+    pub(crate) reference: u16,
+    pub(crate) channel: Channel,
+    pub(crate) origin: UserOrigin,
+    pub(crate) state: UserState,
 }
 
 impl Model for UserCall {
@@ -123,206 +118,47 @@ impl UserCall {
         }
     }
 
-    /// What the call does with a message of its reference at this moment.
-    pub fn on_message(self, message: &Message<'_>, moment: u32) -> Step<UserCall>
-        requires moment { moment ≤ 300000 }
-        ensures { result ≡ user_message self (heard_of message.now) moment }
-    {
-        match message.kind() {
-            Kind::ReleaseComplete => Step::over(None),
-            Kind::StatusEnquiry => self.stays(Some(self.status(RESPONSE_TO_STATUS_ENQUIRY))),
-            Kind::Status => match message.state() {
-                Some(0) => Step::over(None),
-                _ => self.stays(None),
-            },
-            Kind::Setup => self.stays(None),
-            Kind::Release => match self.state {
-                UserState::ReleaseRequest { .. } => Step::over(None),
-                _ => Step::over(Some(self.says(Kind::ReleaseComplete))),
-            },
-            Kind::Disconnect => match self.state {
-                UserState::ReleaseRequest { .. } => self.stays(None),
-                _ => self.releases(false, None, moment),
-            },
-            kind => self.on_progress(kind, message, moment),
-        }
-    }
-
-    /// The rows of the messages that set up a call, and of all that are not expected.
-    fn on_progress(self, kind: Kind, message: &Message<'_>, moment: u32) -> Step<UserCall>
-        requires moment { moment ≤ 300000 }
-        requires kind { IsProgress kind }
-        ensures { result ≡ user_row self (heard_of message.now) moment self.state kind }
-    {
-        match (self.state, kind) {
-            (UserState::DisconnectRequest { .. } | UserState::ReleaseRequest { .. }, _) => {
-                self.stays(None)
-            }
-            (UserState::ConnectRequest { .. }, Kind::ConnectAcknowledge) => {
-                self.goes(None, UserState::Active { since: moment })
-            }
-            (UserState::CallInitiated { .. }, Kind::CallProceeding | Kind::Connect)
-                if !names_channel(message.channel(), self.channel) => {
-                self.releases(false, Some(CHANNEL_UNACCEPTABLE), moment)
-            }
-            (UserState::CallInitiated { .. }, Kind::CallProceeding) => {
-                let due = moment + T310_USER;
-                self.goes(None, UserState::OutgoingCallProceeding { due })
-            }
-            (
-                UserState::CallInitiated { .. } | UserState::OutgoingCallProceeding { .. },
-                Kind::Connect,
-            ) => self.goes(None, UserState::Active { since: moment }),
-            (_, Kind::Progress | Kind::Notify | Kind::Information) => self.stays(None),
-            (_, Kind::Other(_)) => self.stays(Some(self.status(MESSAGE_TYPE_UNKNOWN))),
-            _ => self.stays(Some(self.status(MESSAGE_NOT_COMPATIBLE))),
-        }
-    }
-
-    /// What the call does at a tick to this moment.
-    pub fn on_second(self, moment: u32) -> Step<UserCall>
-        requires moment { moment ≤ 300000 }
-        ensures { result ≡ user_second self moment }
-    {
-        match self.state {
-            UserState::CallPresent => self.takes(moment),
-            UserState::CallReceived => self.answers(moment),
-            UserState::Active { since } => self.clears(since, moment),
-            UserState::CallInitiated { again: false, due } if due <= moment => {
-                let due = moment + T303;
-                let reply = self.setup_again();
-                self.goes(reply, UserState::CallInitiated { again: true, due })
-            }
-            UserState::CallInitiated { again: true, due } if due <= moment => {
-                Step::over(Some(self.says_cause(Kind::ReleaseComplete, RECOVERY_ON_TIMER_EXPIRY)))
-            }
-            UserState::ConnectRequest { due } | UserState::OutgoingCallProceeding { due }
-                if due <= moment => { self.disconnects(RECOVERY_ON_TIMER_EXPIRY, moment) }
-            UserState::DisconnectRequest { cause, due } if due <= moment => {
-                self.releases(false, Some(cause), moment)
-            }
-            UserState::ReleaseRequest {
-                again: false,
-                cause,
-                due,
-            } if due <= moment => { self.releases(true, cause, moment) }
-            UserState::ReleaseRequest {
-                again: true,
-                due,
-                ..
-            } if due <= moment => Step::broken(),
-            _ => self.stays(None),
-        }
-    }
-
-    /// U6: the first tick to a call that was offered.
-    fn takes(self, moment: u32) -> Step<UserCall>
-        requires moment { moment ≤ 300000 }
-        ensures { result ≡ user_takes self moment self.origin }
-    {
-        let UserOrigin::Offered { policy, .. } = self.origin else {
-            return self.stays(None);
-        };
-        match policy {
-            Policy::Answer(0) | Policy::Clear(_) => {
-                self.connects(self.says_channel(Kind::Connect), moment)
-            }
-            Policy::Answer(_) | Policy::Alert => {
-                self.goes(
-                    Some(self.says_channel(Kind::Alerting)),
-                    UserState::CallReceived,
-                )
-            }
-            Policy::Proceed => self.goes(
-                Some(self.says_channel(Kind::CallProceeding)),
-                UserState::IncomingCallProceeding,
-            ),
-            Policy::Busy | Policy::Silent => self.stays(None),
-        }
-    }
-
-    /// U7: n seconds behind the first tick, which is one second behind the SETUP.
-    fn answers(self, moment: u32) -> Step<UserCall>
-        requires moment { moment ≤ 300000 }
-        ensures { result ≡ user_answers self moment self.origin }
-    {
-        match self.origin {
-            UserOrigin::Offered {
-                policy: Policy::Answer(n),
-                at,
-            } if moment.saturating_sub(at) > n => {
-                self.connects(self.says(Kind::Connect), moment)
-            }
-            _ => self.stays(None),
-        }
-    }
-
-    /// U10: n seconds after the call became Active, and not in that same second.
-    fn clears(self, since: u32, moment: u32) -> Step<UserCall>
-        requires moment { moment ≤ 300000 }
-        ensures { result ≡ user_clears self moment since self.origin }
-    {
-        match self.origin {
-            UserOrigin::Offered {
-                policy: Policy::Clear(n),
-                ..
-            } if moment.saturating_sub(since) >= n.max(1) => {
-                self.disconnects(NORMAL_CALL_CLEARING, moment)
-            }
-            _ => self.stays(None),
-        }
-    }
-
-    fn setup_again(&self) -> Option<Out>
-        ensures { result ≡ user_setup_again self.now self.now.origin }
-    {
-        match self.origin {
-            UserOrigin::Calling { called } => Some(setup(self.reference, self.channel, called)),
-            UserOrigin::Offered { .. } => None,
-        }
-    }
-
-    fn says(&self, kind: Kind) -> Out
+    pub(crate) fn says(&self, kind: Kind) -> Out
         requires kind { IsNamed kind }
         ensures { result ≡ user_says self.now kind }
     {
         plain(self.reference, self.flag(), kind)
     }
 
-    fn says_channel(&self, kind: Kind) -> Out
+    pub(crate) fn says_channel(&self, kind: Kind) -> Out
         requires kind { IsNamed kind }
         ensures { result ≡ user_says_channel self.now kind }
     {
         self.says(kind).with_channel(self.channel, true)
     }
 
-    fn says_cause(&self, kind: Kind, cause: u8) -> Out
+    pub(crate) fn says_cause(&self, kind: Kind, cause: u8) -> Out
         requires kind { IsNamed kind }
         ensures { result ≡ user_says_cause self.now kind cause }
     {
         self.says(kind).with_cause(LOCATION_USER, cause)
     }
 
-    fn status(&self, cause: u8) -> Out
+    pub(crate) fn status(&self, cause: u8) -> Out
         ensures { result ≡ user_status self.now cause }
     {
         self.says_cause(Kind::Status, cause)
             .with_state(self.state().value())
     }
 
-    fn stays(self, reply: Option<Out>) -> Step<UserCall>
+    pub(crate) fn stays(self, reply: Option<Out>) -> Step<UserCall>
         ensures { result ≡ user_same self reply }
     {
         Step::on(self, reply)
     }
 
-    fn goes(self, reply: Option<Out>, state: UserState) -> Step<UserCall>
+    pub(crate) fn goes(self, reply: Option<Out>, state: UserState) -> Step<UserCall>
         ensures { result ≡ user_to self reply state }
     {
         UserCall { state, ..self }.stays(reply)
     }
 
-    fn connects(self, connect: Out, moment: u32) -> Step<UserCall>
+    pub(crate) fn connects(self, connect: Out, moment: u32) -> Step<UserCall>
         requires moment { moment ≤ 300000 }
         ensures { result ≡ user_connects self connect moment }
     {
@@ -330,7 +166,7 @@ impl UserCall {
         self.goes(Some(connect), UserState::ConnectRequest { due })
     }
 
-    fn disconnects(self, cause: u8, moment: u32) -> Step<UserCall>
+    pub(crate) fn disconnects(self, cause: u8, moment: u32) -> Step<UserCall>
         requires moment { moment ≤ 300000 }
         ensures { result ≡ user_disconnects self cause moment }
     {
@@ -339,7 +175,7 @@ impl UserCall {
         self.goes(Some(reply), UserState::DisconnectRequest { cause, due })
     }
 
-    fn releases(self, again: bool, cause: Option<u8>, moment: u32) -> Step<UserCall>
+    pub(crate) fn releases(self, again: bool, cause: Option<u8>, moment: u32) -> Step<UserCall>
         requires moment { moment ≤ 300000 }
         ensures { result ≡ user_releases self again cause moment }
     {
