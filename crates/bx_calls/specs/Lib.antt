@@ -1,5 +1,5 @@
 pub mod Timers
-pub mod Limits
+pub mod Expected
 pub mod PlainCalls
 pub mod States
 pub mod Hearing

@@ -1,7 +1,7 @@
 //! What messages do to a call at the network side.
 
 ghost use Rattle.std.specs.Prelude.{◌≡◌, ◌≤◌};
-ghost use Rattle.bx_calls.specs.Limits.{IsProgress};
+ghost use Rattle.bx_calls.specs.Expected.{IsProgress};
 ghost use Rattle.bx_calls.specs.Hearing.{heard_of};
 ghost use Rattle.bx_calls.specs.NetTable.{net_row, net_message};
 
@@ -50,7 +50,7 @@ impl NetCall {
         ensures { result ≡ net_row self (heard_of message.now) moment self.state kind }
     {
         match (self.state, kind) {
-            (DisconnectIndication { .. } | ReleaseRequest { .. }, _) => { self.stays(None) }
+            (DisconnectIndication { .. } | ReleaseRequest { .. }, _) => self.stays(None),
             (CallPresent { .. }, Kind::CallProceeding | Kind::Alerting | Kind::Connect)
                 if !names_channel(message.channel(), self.channel) => {
                 self.releases(false, Some(CHANNEL_UNACCEPTABLE), moment)

@@ -43,7 +43,7 @@ impl NetCall {
                 Step::over(Some(self.says_cause(Kind::ReleaseComplete, RECOVERY_ON_TIMER_EXPIRY)))
             }
             NetState::IncomingCallProceeding { due } | NetState::CallReceived { due }
-                if due <= moment => { self.disconnects(RECOVERY_ON_TIMER_EXPIRY, moment) }
+                if due <= moment => self.disconnects(RECOVERY_ON_TIMER_EXPIRY, moment),
             NetState::DisconnectIndication { cause, due } if due <= moment => {
                 self.releases(false, Some(cause), moment)
             }
@@ -51,7 +51,7 @@ impl NetCall {
                 again: false,
                 cause,
                 due,
-            } if due <= moment => { self.releases(true, cause, moment) }
+            } if due <= moment => self.releases(true, cause, moment),
             NetState::ReleaseRequest {
                 again: true,
                 due,

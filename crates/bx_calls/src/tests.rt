@@ -340,14 +340,8 @@ fn policies(rt: HostRuntime) -> Result<(), Fail> {
         ),
     ];
     for (policy, list) in rows {
-        let n = match policy {
-            Policy::Answer(n) | Policy::Clear(n) => n,
-            _ => 0,
-        };
-        if n <= 100_000 {
-            let call = UserCall::offered(1, channel, policy, 1);
-            user_rows(&rt, call, list)?;
-        }
+        let call = UserCall::offered(1, channel, policy, 1);
+        user_rows(&rt, call, list)?;
     }
     Ok(())
 }

@@ -32,7 +32,7 @@ impl End {
     }
 }
 
-/// RELEASE COMPLETE with a cause, below 128, to the side that began the call (5.2.2 to 5.2.5).
+/// RELEASE COMPLETE with a cause, of which the low 7 bits are kept: a SETUP that is not taken.
 pub fn refuse(end: End, reference: u16, cause: u8) -> Out
     requires reference { IsCallReference reference }
     ensures { result ≡ refusal_of end reference true cause }

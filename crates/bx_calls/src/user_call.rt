@@ -5,7 +5,6 @@ ghost use Rattle.bx_q931.specs.Kinds.{IsNamed};
 ghost use Rattle.bx_q931.specs.Outgoing.{IsCallReference};
 ghost use Rattle.bx_calls.specs.States.{user_state};
 ghost use Rattle.bx_calls.specs.Saying.{setup_of};
-ghost use Rattle.bx_calls.specs.Limits.{IsPolicy};
 ghost use Rattle.bx_calls.specs.UserTable.{user_flag, user_says, user_says_channel, user_says_cause, user_status, user_offered, user_calling, user_same, user_to, user_releases, user_disconnects, user_connects, user_setup_again, user_row, user_message, user_takes, user_answers, user_clears, user_second_row, user_second};
 
 use crate::call_state::CallState;
@@ -45,7 +44,6 @@ impl UserCall {
     /// before the next tick.
     pub fn offered(reference: u16, channel: Channel, policy: Policy, moment: u32) -> UserCall
         requires reference { IsCallReference reference }
-        requires policy { IsPolicy policy }
         requires moment { moment ≤ 300000 }
         ensures { result ≡ user_offered reference channel policy moment }
     {

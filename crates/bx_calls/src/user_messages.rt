@@ -1,7 +1,7 @@
 //! What messages do to a call at the user side.
 
 ghost use Rattle.std.specs.Prelude.{◌≡◌, ◌≤◌};
-ghost use Rattle.bx_calls.specs.Limits.{IsProgress};
+ghost use Rattle.bx_calls.specs.Expected.{IsProgress};
 ghost use Rattle.bx_calls.specs.Hearing.{heard_of};
 ghost use Rattle.bx_calls.specs.UserTable.{user_row, user_message};
 
@@ -51,7 +51,7 @@ impl UserCall {
         ensures { result ≡ user_row self (heard_of message.now) moment self.state kind }
     {
         match (self.state, kind) {
-            (DisconnectRequest { .. } | ReleaseRequest { .. }, _) => { self.stays(None) }
+            (DisconnectRequest { .. } | ReleaseRequest { .. }, _) => self.stays(None),
             (ConnectRequest { .. }, Kind::ConnectAcknowledge) => {
                 self.goes(None, Active { since: moment })
             }

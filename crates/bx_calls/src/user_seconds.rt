@@ -30,7 +30,7 @@ impl UserCall {
                 Step::over(Some(self.says_cause(Kind::ReleaseComplete, RECOVERY_ON_TIMER_EXPIRY)))
             }
             UserState::ConnectRequest { due } | UserState::OutgoingCallProceeding { due }
-                if due <= moment => { self.disconnects(RECOVERY_ON_TIMER_EXPIRY, moment) }
+                if due <= moment => self.disconnects(RECOVERY_ON_TIMER_EXPIRY, moment),
             UserState::DisconnectRequest { cause, due } if due <= moment => {
                 self.releases(false, Some(cause), moment)
             }
@@ -38,7 +38,7 @@ impl UserCall {
                 again: false,
                 cause,
                 due,
-            } if due <= moment => { self.releases(true, cause, moment) }
+            } if due <= moment => self.releases(true, cause, moment),
             UserState::ReleaseRequest {
                 again: true,
                 due,
