@@ -1,6 +1,6 @@
 -- Messages that name no live call (ITU-T Q.931, 5.8.3.2): one line for a row, and the first row that fits
 -- counts.
-use Rattle.std.specs.Prelude.{ℕ, ◌==◌, Bool, true, false, Option, Some, None, not, if◌then◌else◌}
+use Rattle.std.specs.Prelude.{ℕ, ◌==◌, Bool, Option, Some, None, not, if◌then◌else◌}
 use Rattle.bx_q931.specs.Messages.{PlainMessage}
 use Rattle.bx_q931.specs.Outgoing.{Outgoing, plain}
 use Rattle.bx_q931.specs.declared.kind.Kind.{Kind}
