@@ -8,3 +8,4 @@ pub mod Steps
 pub mod NetTable
 pub mod UserTable
 pub mod UnknownTable
+pub mod Setups

@@ -9,6 +9,7 @@ mod net_messages;
 mod net_seconds;
 mod net_state;
 mod saying;
+mod setup;
 mod step;
 #[cfg(test)]
 mod tests;
@@ -22,6 +23,7 @@ mod user_state;
 pub use call_state::CallState;
 pub use net_call::NetCall;
 pub use net_state::{NetOrigin, NetState};
+pub use setup::bearer_fault;
 pub use step::{Next, Step};
 pub use unknown_reference::{End, refuse, unknown};
 pub use user_call::UserCall;

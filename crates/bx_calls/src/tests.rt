@@ -1,6 +1,6 @@
 //! Worked calls, message by message and second by second.
 
-use crate::{CallState, End, NetCall, Next, Policy, Step, UserCall, refuse, unknown};
+use crate::{CallState, End, NetCall, Next, Policy, Step, UserCall, bearer_fault, refuse, unknown};
 use bx_base::{Channel, Number};
 use bx_q931::{MessageFault, Octets, Out, cause, encode, read};
 use std::process::Abort;
@@ -393,5 +393,25 @@ fn unknown_references(rt: HostRuntime) -> Result<(), Fail> {
         encode(&refusal).as_slice(),
         [0x08, 0x02, 0x80, 0x05, 0x5A, 0x08, 0x02, 0x82, 0xE0].as_slice()
     );
+    Ok(())
+}
+
+#[test]
+fn bearer_capabilities(rt: HostRuntime) -> Result<(), Fail> {
+    let missing = Some(cause::MANDATORY_ELEMENT_MISSING);
+    let other = Some(cause::INCOMPATIBLE_DESTINATION);
+    let rows: [(&[u8], Option<u8>); 5] = [
+        (SETUP, None),
+        (&[0x08, 0x02, 0x00, 0x05, 0x05], missing),
+        (&[0x08, 0x02, 0x00, 0x05, 0x05, 0x04, 0x00], other),
+        (&[0x08, 0x02, 0x00, 0x05, 0x05, 0x04, 0x01, 0x88], other),
+        (
+            &[0x08, 0x02, 0x00, 0x05, 0x05, 0x04, 0x02, 0x80, 0x90],
+            other,
+        ),
+    ];
+    for (message, fault) in rows {
+        assert_eq!(rt; bearer_fault(&read(message)?), fault);
+    }
     Ok(())
 }
