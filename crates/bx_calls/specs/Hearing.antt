@@ -1,0 +1,28 @@
+-- What the call tables see of a message.
+use Rattle.std.specs.Prelude.{ℕ, ◌==◌, Bool, true, false, Option, Some, None}
+use Rattle.bx_q931.specs.Messages.{PlainMessage}
+use Rattle.bx_q931.specs.Values.{channel_of, state_of}
+use Rattle.bx_q931.specs.declared.kind.Kind.{Kind}
+use Rattle.bx_q931.specs.declared.channel_field.ChannelField.{ChannelField}
+use Rattle.bx_q931.specs.declared.channel_field.ChannelField.TheVariants.{Absent, Named, AnyChannel, Unread}
+
+-- its type, what it says of a channel, and the call state that it reports
+pub record Heard : Type 0 where
+  pub kind : Kind
+  pub channel : ChannelField
+  pub state : Option ℕ
+
+abbrev pub heard_of : PlainMessage → Heard
+heard_of m = record { kind = m.kind; channel = channel_of m; state = state_of m }
+
+-- the channel identification is absent or names this channel
+abbrev pub names_channel : ChannelField → ℕ → Bool
+names_channel Absent channel = true
+names_channel (Named n exclusive) channel = n == channel
+names_channel AnyChannel channel = false
+names_channel Unread channel = false
+
+-- a call state that can be read, and is Null
+abbrev pub reports_null : Option ℕ → Bool
+reports_null None = false
+reports_null (Some n) = n == 0

@@ -1,0 +1,11 @@
+pub mod Timers
+pub mod Expected
+pub mod PlainCalls
+pub mod States
+pub mod Hearing
+pub mod Saying
+pub mod Steps
+pub mod NetTable
+pub mod UserTable
+pub mod UnknownTable
+pub mod Setups

@@ -1,0 +1,81 @@
+//! What a second does to a call at the network side.
+
+ghost use Rattle.std.specs.Prelude.{◌≡◌, ◌≤◌};
+ghost use Rattle.bx_calls.specs.NetTable.{net_is_clearing, net_setup_again, net_timer, net_second};
+
+use crate::net_call::NetCall;
+use crate::net_state::{NetOrigin, NetState};
+use crate::saying::setup;
+use crate::step::Step;
+use crate::timers::T303;
+use bx_q931::cause::{NORMAL_CALL_CLEARING, RECOVERY_ON_TIMER_EXPIRY};
+use bx_q931::{Kind, Out};
+
+impl NetCall {
+    /// What the call does at a tick to this moment, where its booking ends at that one.
+    pub fn on_second(self, moment: u32, end: u32) -> Step<NetCall>
+        requires moment { moment ≤ 300000 }
+        ensures { result ≡ net_second self moment end }
+    {
+        if end <= moment && !self.is_clearing() {
+            self.disconnects(NORMAL_CALL_CLEARING, moment)
+        } else {
+            self.on_timer(moment)
+        }
+    }
+
+    /// The rows of the timers.
+    fn on_timer(self, moment: u32) -> Step<NetCall>
+        requires moment { moment ≤ 300000 }
+        ensures { result ≡ net_timer self moment self.state }
+    {
+        match self.state {
+            NetState::OutgoingCallProceeding => {
+                let reply = self.says(Kind::Connect).with_channel(self.channel, true);
+                self.goes(Some(reply), NetState::Active)
+            }
+            NetState::CallPresent { again: false, due } if due <= moment => {
+                let due = moment + T303;
+                let reply = self.setup_again();
+                self.goes(reply, NetState::CallPresent { again: true, due })
+            }
+            NetState::CallPresent { again: true, due } if due <= moment => {
+                Step::over(Some(self.says_cause(Kind::ReleaseComplete, RECOVERY_ON_TIMER_EXPIRY)))
+            }
+            NetState::IncomingCallProceeding { due } | NetState::CallReceived { due }
+                if due <= moment => self.disconnects(RECOVERY_ON_TIMER_EXPIRY, moment),
+            NetState::DisconnectIndication { cause, due } if due <= moment => {
+                self.releases(false, Some(cause), moment)
+            }
+            NetState::ReleaseRequest {
+                again: false,
+                cause,
+                due,
+            } if due <= moment => self.releases(true, cause, moment),
+            NetState::ReleaseRequest {
+                again: true,
+                due,
+                ..
+            } if due <= moment => Step::broken(),
+            _ => self.stays(None),
+        }
+    }
+
+    fn is_clearing(&self) -> bool
+        ensures { result ≡ net_is_clearing self.now.state }
+    {
+        matches!(
+            self.state,
+            NetState::DisconnectIndication { .. } | NetState::ReleaseRequest { .. }
+        )
+    }
+
+    fn setup_again(&self) -> Option<Out>
+        ensures { result ≡ net_setup_again self.now self.now.origin }
+    {
+        match self.origin {
+            NetOrigin::Outward { called } => Some(setup(self.reference, self.channel, called)),
+            NetOrigin::Inward => None,
+        }
+    }
+}

@@ -1,0 +1,117 @@
+//! What a second does to a call at the user side.
+
+ghost use Rattle.std.specs.Prelude.{◌≡◌, ◌≤◌};
+ghost use Rattle.bx_calls.specs.UserTable.{user_setup_again, user_takes, user_answers, user_clears, user_second_row, user_second};
+
+use crate::saying::setup;
+use crate::step::Step;
+use crate::timers::T303;
+use crate::user_call::UserCall;
+use crate::user_state::{Policy, UserOrigin, UserState};
+use bx_q931::cause::{NORMAL_CALL_CLEARING, RECOVERY_ON_TIMER_EXPIRY};
+use bx_q931::{Kind, Out};
+
+impl UserCall {
+    /// What the call does at a tick to this moment.
+    pub fn on_second(self, moment: u32) -> Step<UserCall>
+        requires moment { moment ≤ 300000 }
+        ensures { result ≡ user_second self moment }
+    {
+        match self.state {
+            UserState::CallPresent => self.takes(moment),
+            UserState::CallReceived => self.answers(moment),
+            UserState::Active { since } => self.clears(since, moment),
+            UserState::CallInitiated { again: false, due } if due <= moment => {
+                let due = moment + T303;
+                let reply = self.setup_again();
+                self.goes(reply, UserState::CallInitiated { again: true, due })
+            }
+            UserState::CallInitiated { again: true, due } if due <= moment => {
+                Step::over(Some(self.says_cause(Kind::ReleaseComplete, RECOVERY_ON_TIMER_EXPIRY)))
+            }
+            UserState::ConnectRequest { due } | UserState::OutgoingCallProceeding { due }
+                if due <= moment => self.disconnects(RECOVERY_ON_TIMER_EXPIRY, moment),
+            UserState::DisconnectRequest { cause, due } if due <= moment => {
+                self.releases(false, Some(cause), moment)
+            }
+            UserState::ReleaseRequest {
+                again: false,
+                cause,
+                due,
+            } if due <= moment => self.releases(true, cause, moment),
+            UserState::ReleaseRequest {
+                again: true,
+                due,
+                ..
+            } if due <= moment => Step::broken(),
+            _ => self.stays(None),
+        }
+    }
+
+    /// U6: the first tick to a call that was offered.
+    fn takes(self, moment: u32) -> Step<UserCall>
+        requires moment { moment ≤ 300000 }
+        ensures { result ≡ user_takes self moment self.origin }
+    {
+        let UserOrigin::Offered { policy, .. } = self.origin else {
+            return self.stays(None);
+        };
+        match policy {
+            Policy::Answer(0) | Policy::Clear(_) => {
+                self.connects(self.says_channel(Kind::Connect), moment)
+            }
+            Policy::Answer(_) | Policy::Alert => {
+                self.goes(
+                    Some(self.says_channel(Kind::Alerting)),
+                    UserState::CallReceived,
+                )
+            }
+            Policy::Proceed => self.goes(
+                Some(self.says_channel(Kind::CallProceeding)),
+                UserState::IncomingCallProceeding,
+            ),
+            Policy::Busy | Policy::Silent => self.stays(None),
+        }
+    }
+
+    /// U7: n seconds behind the first tick, which is one second behind the SETUP.
+    fn answers(self, moment: u32) -> Step<UserCall>
+        requires moment { moment ≤ 300000 }
+        ensures { result ≡ user_answers self moment self.origin }
+    {
+        match self.origin {
+            UserOrigin::Offered {
+                policy: Policy::Answer(n),
+                at,
+            } if moment.saturating_sub(at) > n => {
+                self.connects(self.says(Kind::Connect), moment)
+            }
+            _ => self.stays(None),
+        }
+    }
+
+    /// U10: n seconds after the call became Active, and not in that same second.
+    fn clears(self, since: u32, moment: u32) -> Step<UserCall>
+        requires moment { moment ≤ 300000 }
+        ensures { result ≡ user_clears self moment since self.origin }
+    {
+        match self.origin {
+            UserOrigin::Offered {
+                policy: Policy::Clear(n),
+                ..
+            } if moment.saturating_sub(since) >= n.max(1) => {
+                self.disconnects(NORMAL_CALL_CLEARING, moment)
+            }
+            _ => self.stays(None),
+        }
+    }
+
+    fn setup_again(&self) -> Option<Out>
+        ensures { result ≡ user_setup_again self.now self.now.origin }
+    {
+        match self.origin {
+            UserOrigin::Calling { called } => Some(setup(self.reference, self.channel, called)),
+            UserOrigin::Offered { .. } => None,
+        }
+    }
+}
