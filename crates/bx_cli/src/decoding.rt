@@ -1,5 +1,10 @@
 //! What a message says, in lines.
 
+ghost use Rattle.std.specs.Prelude.{◌≡◌, Ok, Err, IfOk, IfErr, OnOk};
+ghost use Rattle.hex.specs.Hex.{decode_of};
+ghost use Rattle.bx_base.specs.Watching.{device_of, is_faulted};
+ghost use Rattle.bx_cli.specs.Decoding.{IsHexMessage, IsDecodeRefusal, IsHexFault};
+
 use crate::fault::CliFault;
 use bx_base::{Watched, write_octets};
 use bx_q931::{Element, Message, Reference, read};
@@ -9,7 +14,10 @@ use std::fmt::Write;
 use std::{fmt, io};
 
 /// The octets that hexadecimal digits stand for.
-fn octets_of<'a>(alloc: Global, text: &str) -> Result<Vec<u8>, CliFault<'a>> {
+fn octets_of<'a>(alloc: Global, text: &str) -> Result<Vec<u8>, CliFault<'a>>
+    ensures ok { IfOk result (λ octets. decode_of text.now ≡ Ok octets.items) }
+    ensures err { IfErr result (IsHexFault text.now) }
+{
     match hex::decode(alloc, text) {
         Ok(octets) => Ok(octets),
         Err(FromHexError::OutOfMemory) => Err(CliFault::Memory),
@@ -56,7 +64,11 @@ pub fn decode<'a, W: io::Write>(
     alloc: Global,
     text: &str,
     output: &mut Watched<W>,
-) -> Result<(), CliFault<'a>> {
+) -> Result<(), CliFault<'a>>
+    ensures done { OnOk result (IsHexMessage text.now) }
+    ensures refused { IfErr result (IsDecodeRefusal text.now
+        (record { before = W.contents (device_of output.old); after = W.contents (device_of output.new); is_faulted = is_faulted output.new })) }
+{
     let octets = octets_of(alloc, text)?;
     let lines = match read(&octets) {
         Ok(message) => lines_of(alloc, &message),
