@@ -1,0 +1,2 @@
+pub mod MustLemmas
+pub mod Placed

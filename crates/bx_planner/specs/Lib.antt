@@ -1,0 +1,2 @@
+pub mod Musts
+pub mod Choices
