@@ -1,3 +1,5 @@
 pub mod MustLemmas
 pub mod Placed
 pub mod AllMusts
+pub mod Falling
+pub mod Priced
