@@ -81,7 +81,7 @@ module _ (rows : List Row) (line : Network) (network : IsNetwork line) (bookings
   left_out flow least same k h must left =
       let n = length line.arcs in
       let pays = λ (i : ℕ). cond (is_carried flow i) (arc_at line i).pay 0 in
-      let raise = λ (i : ℕ). cond (row_at rows i).must 5000000000000 0 in
+      let raise : ℕ → ℕ = λ i. cond (row_at rows i).must 5000000000000 0 in
       let pay = λ (i : ℕ). (row_at rows i).pay in
       let within = λ (i : ℕ) (b : i < n). pays_within (is_carried flow i) (row_at rows i).must (row_at rows i).pay (arc_at line i).pay (arcs.each i (omega (arith, b, arcs.one_each))).pay in
       let here : pays k + 5000000000000 ≤ raise k + pay k = rw (left, must) (omega arith) in

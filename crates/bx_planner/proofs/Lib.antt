@@ -3,3 +3,4 @@ pub mod Placed
 pub mod AllMusts
 pub mod Falling
 pub mod Priced
+pub mod Exact

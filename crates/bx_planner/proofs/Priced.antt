@@ -5,28 +5,14 @@ use Rattle.std.specs.List.{All, AllPairs, sum_by}
 use Rattle.std.specs.List.Sorted.{IsStrictlyIncreasing}
 use Rattle.std.proofs.lemmas.Bool.{cases_lt}
 use Rattle.std.proofs.lemmas.Bool.Decides.{nat_tests}
-use Rattle.std.proofs.lemmas.List.{map-append, length_push}
+use Rattle.std.proofs.lemmas.List.{map-append, length-map, length_push, append-nil, get_or-map}
 use Rattle.std.proofs.lemmas.List.Sums.{sum_by-append, sum_by-cons}
 use Rattle.std.proofs.lemmas.List.Elements.{All-nil, All-push}
 use Rattle.std.proofs.lemmas.List.Quantifiers.{all_pairs_push}
 use Rattle.std.proofs.lemmas.List.Kept.{AllPairs-from_increasing}
 use Rattle.bx_base.specs.Sums.{sum_below}
-use Rattle.bx_base.specs.Bound.{Charge, charge_of}
-use Rattle.bx_line.specs.Network.{Network, places_of}
-use Rattle.bx_flow.proofs.Certificate.{price_of}
-
--- what a price adds to the list
-abbrev pub kept : Charge → List Charge
-kept p = cond (eqb p.amount 0) [] (p ∷ [])
-
--- the price of a place
-abbrev pub charge_at : List ℕ → List ℤ → ℕ → Charge
-charge_at moments heights v = charge_of (get_or moments v 0) (price_of heights v)
-
--- the prices of the places below n
-abbrev pub charges : List ℕ → List ℤ → ℕ → List Charge
-charges moments heights zero = []
-charges moments heights (suc n) = charges moments heights n ++ kept (charge_at moments heights n)
+use Rattle.bx_base.specs.Bound.{Charge, no_charge}
+use Rattle.bx_planner.specs.Prices.{fall_at, kept, charge_at, charges}
 
 sum_of_kept : (f : Charge → ℕ) → ((p : Charge) → p.amount ≡ 0 → f p ≡ 0) → (p : Charge) (b : Bool) → eqb p.amount 0 ≡ b → sum_by f (cond b [] (p ∷ [])) ≡ f p
 sum_of_kept f h p true e = sym (h p (grind (arith, nat_tests)))
@@ -40,18 +26,18 @@ sum_of_charges f h moments heights (suc n) =
     omega (arith, sum_of_charges f h moments heights n, sum_by-append f (charges moments heights n) (kept p), sum_of_kept f h p (eqb p.amount 0) refl)
 
 all_with : (P : Charge → Type 0) (xs : List Charge) (p : Charge) (b : Bool) → eqb p.amount 0 ≡ b → All P xs → (0 < p.amount → P p) → All P (xs ++ cond b [] (p ∷ []))
-all_with P xs p true e all h = let s : xs ++ [] ≡ xs = search append-nil in rw s all
+all_with P xs p true e all h = let s : xs ++ [] ≡ xs = append-nil xs in rw s all
 all_with P xs p false e all h = All-push P xs p all (h (grind (arith, nat_tests)))
 
 -- what holds of the price of each gap in which heights fall holds of each price
-pub all_charges : (P : Charge → Type 0) (moments : List ℕ) (heights : List ℤ) (n : ℕ) → ((v : ℕ) → v < n → 0 < price_of heights v → P (charge_at moments heights v)) → All P (charges moments heights n)
+pub all_charges : (P : Charge → Type 0) (moments : List ℕ) (heights : List ℤ) (n : ℕ) → ((v : ℕ) → v < n → 0 < fall_at heights v → P (charge_at moments heights v)) → All P (charges moments heights n)
 all_charges P moments heights zero h = All-nil P
 all_charges P moments heights (suc n) h =
     let p = charge_at moments heights n in
     all_with P (charges moments heights n) p (eqb p.amount 0) refl (all_charges P moments heights n (λ v b. h v (omega arith))) (h n (omega arith))
 
 few_with : (xs : List Charge) (p : Charge) (n : ℕ) (b : Bool) → length xs ≤ n → length (xs ++ cond b [] (p ∷ [])) ≤ suc n
-few_with xs p n true h = let s : xs ++ [] ≡ xs = search append-nil in rw s (omega arith)
+few_with xs p n true h = let s : xs ++ [] ≡ xs = append-nil xs in rw s (omega arith)
 few_with xs p n false h = omega (arith, length_push xs p)
 
 pub few_charges : (moments : List ℕ) (heights : List ℤ) (n : ℕ) → length (charges moments heights n) ≤ n
@@ -59,8 +45,8 @@ few_charges moments heights zero = omega arith
 few_charges moments heights (suc n) = let p = charge_at moments heights n in few_with (charges moments heights n) p n (eqb p.amount 0) (few_charges moments heights n)
 
 pairs_with : (xs : List Charge) (p : Charge) (b : Bool) → AllPairs (λ x y. x < y) (map (λ (q : Charge). q.moment) xs) → All (λ q. q.moment < p.moment) xs → AllPairs (λ x y. x < y) (map (λ (q : Charge). q.moment) (xs ++ cond b [] (p ∷ [])))
-pairs_with xs p true pairs all = let s : xs ++ [] ≡ xs = search append-nil in rw s pairs
-pairs_with xs p false pairs all = rw (map-append (λ (q : Charge). q.moment) xs (p ∷ [])) (all_pairs_push (λ x y. x < y) (map (λ (q : Charge). q.moment) xs) p.moment pairs (λ k d h. ?))
+pairs_with xs p true pairs all = let s : xs ++ [] ≡ xs = append-nil xs in rw s pairs
+pairs_with xs p false pairs all = rw (map-append (λ (q : Charge). q.moment) xs (p ∷ [])) (all_pairs_push (λ x y. x < y) (map (λ (q : Charge). q.moment) xs) p.moment pairs (λ k d h. let within : k < length xs = omega (arith, h, length-map xs (λ (q : Charge). q.moment)) in rw (get_or-map (λ (q : Charge). q.moment) xs k no_charge d within) (all k no_charge within)))
 
 rising_pairs : (moments : List ℕ) (heights : List ℤ) → IsStrictlyIncreasing moments → (n : ℕ) → n ≤ length moments → AllPairs (λ x y. x < y) (map (λ (q : Charge). q.moment) (charges moments heights n))
 rising_pairs moments heights rising zero h = λ i j d l b. absurd (omega arith)
