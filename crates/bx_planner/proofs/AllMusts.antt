@@ -27,7 +27,7 @@ short_sum (suc n) f g k c h b s =
       | inr a ↦ (let e : k ≡ n = omega arith in let before = sum_below-le n f g (λ i l. h i (omega arith)) in let here : f n + c ≤ g n = rw e at s in omega (arith, before, here))
     ]
 
-sum_of_few : (n : ℕ) (f : ℕ → ℕ) (c : ℕ) → ((i : ℕ) → i < n → f i ≤ c) → sum_below n f ≤ n * c
+pub sum_of_few : (n : ℕ) (f : ℕ → ℕ) (c : ℕ) → ((i : ℕ) → i < n → f i ≤ c) → sum_below n f ≤ n * c
 sum_of_few zero f c h = omega arith
 sum_of_few (suc n) f c h = let before = sum_of_few n f c (λ i b. h i (omega arith)) in let here = h n (omega arith) in let e : suc n * c ≡ n * c + c = omega arith in omega (arith, before, here, e)
 

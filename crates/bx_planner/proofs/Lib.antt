@@ -4,3 +4,4 @@ pub mod AllMusts
 pub mod Falling
 pub mod Priced
 pub mod Exact
+pub mod Chosen

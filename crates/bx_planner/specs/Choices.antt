@@ -1,10 +1,11 @@
 -- Which rows a plan is to accept, and the prices that prove it best.
-use Rattle.std.specs.Prelude.{◌≡◌, ℕ, ◌<◌, ◌≤◌, Bool, true, List, length, All, pos}
+use Rattle.std.specs.Prelude.{◌≡◌, ℕ, ◌<◌, ◌≤◌, Bool, true, List, length, All, Option, pos}
 use Rattle.bx_base.specs.Channels.{count_of}
 use Rattle.bx_base.specs.Bookings.{Row, row_at, IsLawful, pay_of}
 use Rattle.bx_base.specs.Bound.{Charge, IsPriceList, bound_of}
+use Rattle.bx_base.specs.Plans.{is_accepted}
 use Rattle.bx_line.specs.Moments.{IsMoment}
-use Rattle.bx_colour.specs.Colouring.{is_in, running_at}
+use Rattle.bx_colour.specs.Colouring.{is_in, running_at, IsFirstFit}
 
 -- no lawful set pays more
 abbrev pub IsBest : List Row → List Bool → ℕ → Type 0
@@ -23,3 +24,7 @@ pub record IsBestChoice (rows : List Row) (count : ℕ) (accepted : List Bool) (
   pub musts : (i : ℕ) → i < length rows → (row_at rows i).must ≡ true → is_in accepted i ≡ true
   pub few : length prices ≤ 8000
   pub proof : ProvesBest rows count prices (pay_of rows (is_in accepted))
+
+-- the assignment is the first-fit colouring of the rows that it accepts
+abbrev pub IsFirstFitPlan : List Row → List Bool → List (Option ℕ) → Type 0
+IsFirstFitPlan rows channels assigned = (accepted : List Bool) × IsFirstFit rows channels accepted assigned × ((i : ℕ) → is_accepted assigned i ≡ is_in accepted i)

@@ -1,4 +1,9 @@
 //! The best plan of a day, and the prices that prove it.
 #![tactic(auto)]
 
+mod choice;
 mod musts;
+mod planning;
+mod prices;
+
+pub use planning::{PlanFail, plan};
