@@ -46,18 +46,18 @@ room_from_none rows channels none (suc n) s h =
     elim (cases_lt s n) [
       | inl a ↦ room_from_none rows channels none n s a
       | inr a ↦ elim (cases_lt (count_of channels) (musts_at rows s)) [
-          | inl b ↦ absurd (none s (record { here = b; least = λ r c. room_from_none rows channels none n r (omega arith) }))
-          | inr b ↦ b
-        ]
+        | inl b ↦ absurd (none s (record { here = b; least = λ r c. room_from_none rows channels none n r (omega arith) }))
+        | inr b ↦ b
+      ]
     ]
 
 module _ (rows : List Row) (line : Network) (flow : Flow) (heights : List ℤ) (count : ℕ) (bookings : AreBookings rows) (network : IsNetwork line) (arcs : AreArcsOf line.moments rows line.arcs) (least : IsLeastCost line flow) (same : 0 < places_of line → flow.units ≡ count) (lengths : AreLeast Free line flow heights) where
   free_pays_few : free_pays line ≤ 4000000000000
   free_pays_few =
       let few = sum_of_few (length line.arcs) (λ i. cond (arc_at line i).must 0 (arc_at line i).pay) 1000000000 (λ i h.
-          let b : i < length rows = omega (arith, h, arcs.one_each) in
-          let a = arcs.each i b in
-          rw a.must (free_limit (row_at rows i).must (row_at rows i).pay (arc_at line i).pay a.pay (bookings.each i b).pay_limit)) in
+      let b : i < length rows = omega (arith, h, arcs.one_each) in
+      let a = arcs.each i b in
+      rw a.must (free_limit (row_at rows i).must (row_at rows i).pay (arc_at line i).pay a.pay (bookings.each i b).pay_limit)) in
       omega (arith, few, network.few_rows)
 
   pub falls_small : (0 < places_of line → neg_ℤ (pos (free_pays line)) ≤ℤ height_at heights (places_of line - 1)) → (v : ℕ) → v < gaps_of line → fall_at heights v ≤ 4000000000000

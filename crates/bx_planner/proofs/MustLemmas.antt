@@ -34,20 +34,20 @@ module _ (rows : List Row) where
   early_run : (t s : ℕ) → s < t → musts_at rows s ≡ running_at rows (early_musts rows t) s
   early_run t s h =
       sum_below-same (length rows) (λ i. cond ((row_at rows i).must && is_running (row_at rows i) s) 1 0) (λ i. cond (is_in (early_musts rows t) i && is_running (row_at rows i) s) 1 0) (λ i b.
-          rw (early_at rows t i b) (early_or_late (row_at rows i).must (leb (row_at rows i).start s) (ltb s (row_at rows i).end) (ltb (row_at rows i).start t) (λ m le. lt-ltb (row_at rows i).start t (let l = leb-true (row_at rows i).start s le in omega (arith, l, h)))))
+      rw (early_at rows t i b) (early_or_late (row_at rows i).must (leb (row_at rows i).start s) (ltb s (row_at rows i).end) (ltb (row_at rows i).start t) (λ m le. lt-ltb (row_at rows i).start t (let l = leb-true (row_at rows i).start s le in omega (arith, l, h)))))
 
   early_fewer : (t s : ℕ) → running_at rows (early_musts rows t) s ≤ musts_at rows s
   early_fewer t s =
       sum_below-le (length rows) (λ i. cond (is_in (early_musts rows t) i && is_running (row_at rows i) s) 1 0) (λ i. cond ((row_at rows i).must && is_running (row_at rows i) s) 1 0) (λ i b.
-          rw (early_at rows t i b) (fewer (row_at rows i).must (ltb (row_at rows i).start t) (is_running (row_at rows i) s)))
+      rw (early_at rows t i b) (fewer (row_at rows i).must (ltb (row_at rows i).start t) (is_running (row_at rows i) s)))
 
   -- where the must rows that start before t have room at their starts, each moment before t has
   pub room_before : (count t : ℕ) → ((k : ℕ) → k < length rows → (row_at rows k).must ≡ true → (row_at rows k).start < t → musts_at rows (row_at rows k).start ≤ count) → (s : ℕ) → s < t → musts_at rows s ≤ count
   room_before count t h s b =
       let room = room_from_starts rows (early_musts rows t) count (λ k w a.
-          let both = and_parts (row_at rows k).must (ltb (row_at rows k).start t) (sym (early_at rows t k w) ∙ a) in
-          let here = h k w both.0 (ltb-true (row_at rows k).start t both.1) in
-          omega (arith, here, early_fewer t (row_at rows k).start)) s in
+      let both = and_parts (row_at rows k).must (ltb (row_at rows k).start t) (sym (early_at rows t k w) ∙ a) in
+      let here = h k w both.0 (ltb-true (row_at rows k).start t both.1) in
+      omega (arith, here, early_fewer t (row_at rows k).start)) s in
       omega (arith, room, early_run t s b)
 
 -- what the scan of the first n rows has found

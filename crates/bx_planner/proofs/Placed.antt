@@ -42,11 +42,11 @@ module _ (rows : List Row) (line : Network) (network : IsNetwork line) (arcs : A
   pub flow_has_room : (flow : Flow) → CrossesEachGap line flow → (count : ℕ) → (0 < places_of line → flow.units ≤ count) → (t : ℕ) → running_at rows flow.accepted t ≤ count
   flow_has_room flow crosses count few t =
       room_from_starts rows flow.accepted count (λ k h a.
-          let arc = network.arcs k (omega (arith, h, arcs.one_each)) in
-          let place = arcs.each k h in
-          let v = (arc_at line k).from in
-          let here = running_crosses flow v place.from_within in
-          let all = crosses.crosses v (omega (arith, arc.rising, arc.within)) in
-          let enough = few (omega (arith, place.from_within)) in
-          let moved = ap (λ (m : ℕ). running_at rows flow.accepted m) place.from in
-          omega (arith, here, all, enough, moved)) t
+      let arc = network.arcs k (omega (arith, h, arcs.one_each)) in
+      let place = arcs.each k h in
+      let v = (arc_at line k).from in
+      let here = running_crosses flow v place.from_within in
+      let all = crosses.crosses v (omega (arith, arc.rising, arc.within)) in
+      let enough = few (omega (arith, place.from_within)) in
+      let moved = ap (λ (m : ℕ). running_at rows flow.accepted m) place.from in
+      omega (arith, here, all, enough, moved)) t

@@ -2,6 +2,8 @@
 #![tactic(auto)]
 
 mod choice;
+#[cfg(test)]
+mod examples;
 mod musts;
 mod planning;
 mod prices;

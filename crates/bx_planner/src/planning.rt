@@ -50,11 +50,7 @@ pub fn plan(alloc: Global, bookings: &Bookings, channels: ChannelSet) -> Result<
 }
 
 /// The same where at no moment more bookings have to be held than there are channels.
-fn best_plan(
-    alloc: Global,
-    bookings: &Bookings,
-    channels: ChannelSet,
-) -> Result<Plan, AllocError>
+fn best_plan(alloc: Global, bookings: &Bookings, channels: ChannelSet) -> Result<Plan, AllocError>
     requires { (s : ℕ) → musts_at bookings.now s ≤ count_of channels }
     ensures bookings { IfOk result (λ p. p.bookings ≡ bookings.now) }
     ensures channels { IfOk result (λ p. p.channels ≡ channels) }
