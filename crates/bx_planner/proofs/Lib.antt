@@ -5,3 +5,4 @@ pub mod Falling
 pub mod Priced
 pub mod Exact
 pub mod Chosen
+pub mod Checked

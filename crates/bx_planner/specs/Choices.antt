@@ -3,6 +3,7 @@ use Rattle.std.specs.Prelude.{◌≡◌, ℕ, ◌<◌, ◌≤◌, Bool, true, Li
 use Rattle.bx_base.specs.Channels.{count_of}
 use Rattle.bx_base.specs.Bookings.{Row, row_at, IsLawful, pay_of}
 use Rattle.bx_base.specs.Bound.{Charge, IsPriceList, bound_of}
+use Rattle.bx_base.specs.PlanParts.{Parts}
 use Rattle.bx_base.specs.Plans.{is_accepted}
 use Rattle.bx_line.specs.Moments.{IsMoment}
 use Rattle.bx_colour.specs.Colouring.{is_in, running_at, IsFirstFit}
@@ -28,3 +29,7 @@ pub record IsBestChoice (rows : List Row) (count : ℕ) (accepted : List Bool) (
 -- the assignment is the first-fit colouring of the rows that it accepts
 abbrev pub IsFirstFitPlan : List Row → List Bool → List (Option ℕ) → Type 0
 IsFirstFitPlan rows channels assigned = (accepted : List Bool) × IsFirstFit rows channels accepted assigned × ((i : ℕ) → is_accepted assigned i ≡ is_in accepted i)
+
+-- a plan of these parts
+abbrev pub planned : List Row → List Bool → List (Option ℕ) → List Charge → ℕ → Parts
+planned rows channels assigned prices total = record { rows = rows; channels = channels; assigned = assigned; prices = prices; total = total }

@@ -4,6 +4,7 @@
 mod choice;
 #[cfg(test)]
 mod examples;
+pub mod laws;
 mod musts;
 mod planning;
 mod prices;

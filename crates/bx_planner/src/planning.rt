@@ -1,9 +1,9 @@
 //! Plans.
 
 ghost use Rattle.std.specs.Prelude.{◌≡◌, ◌↔◌, ◌≤◌, ℕ, IfOk, Err};
-ghost use Rattle.bx_base.specs.Bookings.{IsLawful, pay_of};
+ghost use Rattle.bx_base.specs.Bookings.{Carries, IsLawful, pay_of};
 ghost use Rattle.bx_base.specs.Channels.{count_of};
-ghost use Rattle.bx_base.specs.Plans.{is_accepted};
+ghost use Rattle.bx_base.specs.Plans.{is_accepted, channel_at};
 ghost use Rattle.bx_planner.specs.Musts.{musts_at, IsTooManyMust};
 ghost use Rattle.bx_planner.specs.Choices.{IsBest, IsFirstFitPlan, ProvesBest};
 
@@ -35,6 +35,7 @@ pub fn plan(alloc: Global, bookings: &Bookings, channels: ChannelSet) -> Result<
     ensures bookings { IfOk result (λ p. p.bookings ≡ bookings.now) }
     ensures channels { IfOk result (λ p. p.channels ≡ channels) }
     ensures first_fit { IfOk result (λ p. IsFirstFitPlan bookings.now channels p.assigned.items) }
+    ensures carried { IfOk result (λ p. Carries bookings.now channels (is_accepted p.assigned.items) (channel_at p.assigned.items)) }
     ensures lawful { IfOk result (λ p. IsLawful bookings.now channels (is_accepted p.assigned.items)) }
     ensures total { IfOk result (λ p. p.total ≡ pay_of bookings.now (is_accepted p.assigned.items)) }
     ensures prices { IfOk result (λ p. ProvesBest bookings.now (count_of channels) p.prices.items p.total) }
@@ -55,6 +56,7 @@ fn best_plan(alloc: Global, bookings: &Bookings, channels: ChannelSet) -> Result
     ensures bookings { IfOk result (λ p. p.bookings ≡ bookings.now) }
     ensures channels { IfOk result (λ p. p.channels ≡ channels) }
     ensures first_fit { IfOk result (λ p. IsFirstFitPlan bookings.now channels p.assigned.items) }
+    ensures carried { IfOk result (λ p. Carries bookings.now channels (is_accepted p.assigned.items) (channel_at p.assigned.items)) }
     ensures lawful { IfOk result (λ p. IsLawful bookings.now channels (is_accepted p.assigned.items)) }
     ensures total { IfOk result (λ p. p.total ≡ pay_of bookings.now (is_accepted p.assigned.items)) }
     ensures prices { IfOk result (λ p. ProvesBest bookings.now (count_of channels) p.prices.items p.total) }
