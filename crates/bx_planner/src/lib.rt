@@ -8,5 +8,7 @@ pub mod laws;
 mod musts;
 mod planning;
 mod prices;
+#[cfg(test)]
+mod searches;
 
 pub use planning::{PlanFail, plan};
