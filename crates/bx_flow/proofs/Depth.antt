@@ -1,5 +1,5 @@
 -- A walk that meets no place twice takes no row twice. So it is no shorter than all free rows together pay.
-use Rattle.std.proofs.Common.{zero, suc, ◌≡◌, ℕ, ◌+◌, ◌-◌, ◌<◌, ◌≤◌, Bool, true, false, cond, eqb, List, [], ◌∷◌, length, refl, sym, ◌∙◌, ap, subst, arith, ◌⊎◌, inl, inr}
+use Rattle.std.proofs.Common.{zero, suc, ◌≡◌, ℕ, ◌+◌, ◌-◌, ◌<◌, ◌≤◌, Bool, true, false, cond, eqb, List, [], ◌∷◌, length, sym, ◌∙◌, ap, subst, arith, ◌⊎◌, inl, inr}
 use Rattle.std.specs.Prelude.{ℤ, pos, neg_ℤ, ◌+ℤ◌, ◌≤ℤ◌}
 use Rattle.std.proofs.lemmas.Int.{ints}
 use Rattle.std.proofs.lemmas.Bool.{cases_lt}
@@ -11,7 +11,7 @@ use Rattle.bx_line.specs.Flows.{Flow}
 use Rattle.bx_dist.specs.declared.part.Part.TheVariants.{Free}
 use Rattle.bx_dist.specs.declared.step.Step.{Step}
 use Rattle.bx_dist.specs.declared.step.Step.TheVariants.{Idle, Back, Take, Give}
-use Rattle.bx_dist.specs.Residual.{IsOpen, row_arc, step_from, step_to, step_cost, height_at}
+use Rattle.bx_dist.specs.Residual.{row_arc, step_to, height_at}
 use Rattle.bx_dist.specs.Walks.{IsWalk, walk_length, Avoids, IsSimple, AreDistances, Lengths}
 use Rattle.bx_dist.proofs.Simple.{simple_from_pairs}
 use Rattle.bx_flow.specs.Costs.{free_pays}
@@ -56,9 +56,9 @@ less_budget line w from step walk covers k e avoids i h m =
     elim (cases_lt i k) [
       | inl a ↦ kept line w from step walk covers k i h m (λ s. omega (arith, s, a))
       | inr a ↦ elim (cases_lt k i) [
-          | inl b ↦ kept line w from step walk covers k i h m (λ s. omega (arith, s, b))
-          | inr b ↦ (let s : i ≡ k = omega arith in inl (subst (λ (x : ℕ). Avoids line x (step_to line step) walk) (sym (ap (λ (j : ℕ). (arc_at line j).from) s ∙ e)) avoids))
-        ]
+        | inl b ↦ kept line w from step walk covers k i h m (λ s. omega (arith, s, b))
+        | inr b ↦ (let s : i ≡ k = omega arith in inl (subst (λ (x : ℕ). Avoids line x (step_to line step) walk) (sym (ap (λ (j : ℕ). (arc_at line j).from) s ∙ e)) avoids))
+      ]
     ]
 
 spend : (rest : ℤ) (all less pay here : ℕ) → neg_ℤ (pos less) ≤ℤ rest → all ≡ less + here → pay ≤ here → neg_ℤ (pos all) ≤ℤ (neg_ℤ (pos pay) +ℤ rest)

@@ -1,6 +1,6 @@
 -- A flow of least cost carries all must rows, where at no moment more of them run than there are units.
-use Rattle.std.proofs.Common.{◌≡◌, ℕ, zero, suc, ◌+◌, ◌-◌, ◌*◌, ◌<◌, ◌≤◌, Bool, true, false, cond, ◌&&◌, ltb, leb, List, [], ◌∷◌, ◌++◌, length, map, get_or, refl, sym, ◌∙◌, ap, subst, arith, inl, inr}
-use Rattle.std.specs.Prelude.{ℤ, pos, neg_ℤ, ◌≤ℤ◌}
+use Rattle.std.proofs.Common.{◌≡◌, ℕ, zero, suc, ◌+◌, ◌-◌, ◌*◌, ◌<◌, ◌≤◌, Bool, true, false, cond, ◌&&◌, List, length, map, get_or, refl, sym, arith, inl, inr}
+use Rattle.std.specs.Prelude.{pos, neg_ℤ, ◌≤ℤ◌}
 use Rattle.std.proofs.lemmas.Int.{ints}
 use Rattle.std.proofs.lemmas.Bool.{cases_lt}
 use Rattle.std.proofs.lemmas.List.{get_or-map, length-map}
@@ -8,13 +8,13 @@ use Rattle.std.proofs.lemmas.List.FromFn.{get_or-map-range_with_len, length-map-
 use Rattle.std.specs.List.{range_with_len}
 use Rattle.bx_base.specs.Sums.{sum_below}
 use Rattle.bx_base.proofs.SumLemmas.{sum_below-le, sum_below-same, sum_below-add}
-use Rattle.bx_base.specs.Bookings.{Row, row_at, no_row, is_running, AreBookings}
-use Rattle.bx_colour.specs.Colouring.{is_in, running_at}
+use Rattle.bx_base.specs.Bookings.{Row, row_at, is_running, AreBookings}
+use Rattle.bx_colour.specs.Colouring.{is_in}
 use Rattle.bx_line.specs.declared.arc.Arc.{Arc}
-use Rattle.bx_line.specs.Network.{Network, IsNetwork, IsArcOf, AreArcsOf, places_of, gaps_of, arc_at, no_arc, spans, arc_pay}
-use Rattle.bx_line.specs.Flows.{Flow, flow_of, IsFlow, is_carried, idle_at, crossing_at, CrossesEachGap}
+use Rattle.bx_line.specs.Network.{Network, IsNetwork, AreArcsOf, places_of, gaps_of, arc_at, no_arc, spans}
+use Rattle.bx_line.specs.Flows.{Flow, flow_of, is_carried, idle_at, crossing_at, CrossesEachGap}
 use Rattle.bx_line.proofs.Crossings.{flow_from_crosses}
-use Rattle.bx_flow.specs.Costs.{paid_by, cost_of, IsLeastCost}
+use Rattle.bx_flow.specs.Costs.{paid_by, IsLeastCost}
 use Rattle.bx_planner.specs.Musts.{musts_at}
 use Rattle.bx_planner.proofs.Placed.{running_crosses}
 

@@ -1,11 +1,11 @@
 -- A flow of least cost with its distances is a best choice.
-use Rattle.std.proofs.Common.{zero, suc, ◌≡◌, ℕ, ◌+◌, ◌-◌, ◌*◌, ◌<◌, ◌≤◌, Bool, true, false, cond, List, [], ◌∷◌, length, get_or, refl, sym, ◌∙◌, subst, ap, arith, inl, inr}
+use Rattle.std.proofs.Common.{zero, suc, ◌≡◌, ℕ, ◌+◌, ◌-◌, ◌<◌, ◌≤◌, Bool, true, false, cond, List, [], length, get_or, refl, sym, ◌∙◌, arith, inl, inr}
 use Rattle.std.specs.Prelude.{ℤ, pos, neg_ℤ, ◌≤ℤ◌}
 use Rattle.std.proofs.lemmas.Int.{ints}
 use Rattle.std.proofs.lemmas.Bool.{cases_lt}
 use Rattle.std.proofs.lemmas.List.{ext_get_or}
 use Rattle.std.proofs.lemmas.List.Elements.{Contains-get_or}
-use Rattle.bx_base.specs.Bookings.{Row, row_at, AreBookings, IsLawful, pay_of}
+use Rattle.bx_base.specs.Bookings.{Row, row_at, AreBookings, pay_of}
 use Rattle.bx_base.specs.Channels.{count_of}
 use Rattle.bx_base.specs.Bound.{Charge}
 use Rattle.bx_base.proofs.Duality.{pay-le-bound}

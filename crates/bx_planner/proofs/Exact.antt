@@ -1,7 +1,6 @@
 -- The bound that the falls of the distances set is what the rows of the flow pay.
-use Rattle.std.proofs.Common.{zero, suc, ◌≡◌, ℕ, ◌+◌, ◌-◌, ◌*◌, ◌<◌, ◌≤◌, Bool, true, false, cond, List, length, get_or, refl, sym, ◌∙◌, subst, ap, arith, inl, inr}
+use Rattle.std.proofs.Common.{◌≡◌, ℕ, ◌+◌, ◌*◌, ◌<◌, ◌≤◌, Bool, true, false, cond, List, length, get_or, refl, ◌∙◌, ap, arith, inl, inr}
 use Rattle.std.specs.Prelude.{ℤ, pos, ◌+ℤ◌}
-use Rattle.std.specs.List.{sum_by}
 use Rattle.std.proofs.lemmas.Int.{ints}
 use Rattle.std.proofs.lemmas.Bool.{cases_lt}
 use Rattle.bx_base.specs.Sums.{sum_below}
@@ -14,7 +13,7 @@ use Rattle.bx_line.specs.Flows.{Flow, CrossesEachGap, is_carried, idle_at}
 use Rattle.bx_dist.specs.Residual.{Fits}
 use Rattle.bx_dist.specs.declared.part.Part.TheVariants.{Free}
 use Rattle.bx_flow.proofs.Certificate.{fall_of, all_falls}
-use Rattle.bx_planner.specs.Prices.{fall_at, charge_at, charges}
+use Rattle.bx_planner.specs.Prices.{fall_at, charges}
 use Rattle.bx_planner.proofs.Placed.{runs_where_spans}
 use Rattle.bx_planner.proofs.Falling.{idle_free, free_taken, free_left}
 use Rattle.bx_planner.proofs.Priced.{sum_of_charges}

@@ -1,7 +1,6 @@
 -- A row runs at the moment of a place just where its arc spans the gap behind the place.
-use Rattle.std.proofs.Common.{◌≡◌, ℕ, zero, suc, ◌+◌, ◌<◌, ◌≤◌, Bool, true, false, cond, ◌&&◌, ltb, leb, List, length, get_or, refl, sym, ◌∙◌, ap, subst, arith, inl, inr}
-use Rattle.std.specs.List.Sorted.{IsStrictlyIncreasing}
-use Rattle.std.proofs.lemmas.Bool.{cases_lt, le-leb, lt-ltb}
+use Rattle.std.proofs.Common.{◌≡◌, ℕ, ◌<◌, ◌≤◌, cond, ◌&&◌, ltb, leb, List, length, get_or, refl, sym, ◌∙◌, ap, arith, inl, inr}
+use Rattle.std.proofs.lemmas.Bool.{cases_lt}
 use Rattle.std.proofs.lemmas.Bool.Decides.{nat_tests}
 use Rattle.std.proofs.lemmas.List.Kept.{AllPairs-from_increasing}
 use Rattle.bx_base.specs.Sums.{sum_below}
@@ -9,8 +8,8 @@ use Rattle.bx_base.proofs.SumLemmas.{sum_below-same}
 use Rattle.bx_base.specs.Bookings.{Row, row_at, is_running}
 use Rattle.bx_colour.specs.Colouring.{is_in, running_at}
 use Rattle.bx_colour.proofs.RunningLemmas.{room_from_starts}
-use Rattle.bx_line.specs.Network.{Network, IsNetwork, IsArcOf, AreArcsOf, places_of, arc_at, spans}
-use Rattle.bx_line.specs.Flows.{Flow, is_carried, idle_at, crossing_at, CrossesEachGap}
+use Rattle.bx_line.specs.Network.{Network, IsNetwork, AreArcsOf, places_of, arc_at, spans}
+use Rattle.bx_line.specs.Flows.{Flow, is_carried, crossing_at, CrossesEachGap}
 use Rattle.bx_line.proofs.MomentLemmas.{never_falls}
 
 same_tests : (a v s m e to : ℕ) → (a ≤ v → s ≤ m) → (v < a → m < s) → (v < to → m < e) → (to ≤ v → e ≤ m) → (leb s m && ltb m e) ≡ (leb a v && ltb v to)

@@ -1,6 +1,5 @@
 -- Which rows a plan is to accept, and the prices that prove it best.
 use Rattle.std.specs.Prelude.{◌≡◌, ℕ, ◌<◌, ◌≤◌, Bool, true, List, length, All, Option, pos}
-use Rattle.bx_base.specs.Channels.{count_of}
 use Rattle.bx_base.specs.Bookings.{Row, row_at, IsLawful, pay_of}
 use Rattle.bx_base.specs.Bound.{Charge, IsPriceList, bound_of}
 use Rattle.bx_base.specs.PlanParts.{Parts}

@@ -1,4 +1,4 @@
-use Rattle.std.proofs.Common.{◌≡◌, ℕ, sym, ◌∙◌, arith}
+use Rattle.std.proofs.Common.{arith}
 use Rattle.bx_planner.proofs.Chosen.{falls_small, chosen_marks}
 use Rattle.bx_planner.proofs.choice.best_choice.Goals as goal
 

@@ -1,7 +1,6 @@
-use Rattle.std.proofs.Common.{◌≡◌, ℕ, length, ◌∙◌, ap, sym, subst, arith}
+use Rattle.std.proofs.Common.{◌≡◌, length, ◌∙◌, ap, sym, arith}
 use Rattle.bx_base.specs.Bookings.{Row}
-use Rattle.bx_base.specs.Channels.{count_of}
-use Rattle.bx_planner.proofs.MustLemmas.{IsScanned, scan_keeps, scan_adds, scan_ends}
+use Rattle.bx_planner.proofs.MustLemmas.{scan_keeps, scan_adds, scan_ends}
 use Rattle.bx_planner.proofs.musts.too_many_must.Goals as goal
 use Rattle.bx_planner.proofs.musts.too_many_must.Goals.{then-is_crowded, else-is_crowded}
 

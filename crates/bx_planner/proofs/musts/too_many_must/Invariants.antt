@@ -1,4 +1,3 @@
-use Rattle.bx_base.specs.Channels.{count_of}
 use Rattle.bx_planner.proofs.MustLemmas.{IsScanned}
 use Rattle.bx_planner.proofs.musts.too_many_must.Given as goal
 
