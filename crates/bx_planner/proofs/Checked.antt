@@ -1,5 +1,5 @@
 -- What a plan promises is what the checker says yes to.
-use Rattle.std.proofs.Common.{◌≡◌, ℕ, Bool, true, false, List, Option, Ok, refl, sym, ◌∙◌}
+use Rattle.std.proofs.Common.{◌≡◌, ℕ, Bool, true, false, List, Option, Ok, refl}
 use Rattle.bx_base.specs.Bookings.{Row, Carries, IsLawful, pay_of}
 use Rattle.bx_base.specs.Bound.{Charge}
 use Rattle.bx_base.specs.Channels.{count_of}
