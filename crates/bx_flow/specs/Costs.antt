@@ -16,3 +16,7 @@ cost_of line flow = neg_ℤ (pos (paid_by line flow))
 pub record IsLeastCost (line : Network) (flow : Flow) : Type 0 where
   pub is_flow : IsFlow line flow
   pub least : (other : Flow) → IsFlow line other → other.units ≡ flow.units → cost_of line flow ≤ℤ cost_of line other
+
+-- what all rows pay together but the must rows
+abbrev pub free_pays : Network → ℕ
+free_pays line = sum_below (length line.arcs) (λ i. if (arc_at line i).must then 0 else (arc_at line i).pay)

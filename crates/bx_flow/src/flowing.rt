@@ -1,9 +1,9 @@
 //! Least-cost flow by shortest walks, one unit after another.
 
-ghost use Rattle.std.specs.Prelude.{◌≡◌, ◌≤◌, ◌<◌, IfOk};
-ghost use Rattle.bx_dist.specs.Residual.{ArePotentials};
+ghost use Rattle.std.specs.Prelude.{◌≡◌, ◌≤◌, ◌<◌, ◌-◌, ◌≤ℤ◌, neg_ℤ, pos, IfOk};
+ghost use Rattle.bx_dist.specs.Residual.{ArePotentials, height_at};
 ghost use Rattle.bx_dist.specs.Walks.{AreLeast};
-ghost use Rattle.bx_flow.specs.Costs.{IsLeastCost};
+ghost use Rattle.bx_flow.specs.Costs.{IsLeastCost, free_pays};
 ghost use Rattle.bx_line.specs.Flows.{IsFlow};
 ghost use Rattle.bx_line.specs.Network.{IsNetwork, places_of};
 
@@ -38,7 +38,8 @@ fn sent<D: Distances>(
 
 /// A flow of so many units, at most 30, from the first place to the last, of which none of as many units costs
 /// less, and the distances in its residual network without the arcs of must rows. By successive least walks with
-/// potentials, for every lawful way to find distances. On a line without moments both are empty, and no distances
+/// potentials, for every lawful way to find distances. The last distance is no deeper than the free bookings pay
+/// together. On a line without moments both are empty, and no distances
 /// are asked for.
 pub fn least_cost<D: Distances>(
     alloc: Global,
@@ -50,6 +51,7 @@ pub fn least_cost<D: Distances>(
     ensures units { IfOk result (λ r. 0 < places_of line.now → r.0.units ≡ units) }
     ensures least { IfOk result (λ r. IsLeastCost line.now r.0) }
     ensures distances { IfOk result (λ r. AreLeast Part.Free line.now r.0 r.1) }
+    ensures depth { IfOk result (λ r. 0 < places_of line.now → neg_ℤ (pos (free_pays line.now)) ≤ℤ height_at r.1 (places_of line.now - 1)) }
 {
     if line.places() == 0 {
         return Ok((

@@ -1,0 +1,15 @@
+use Rattle.std.proofs.Common.{◌≡◌, ℕ, ◌+◌, ap, arith, Some, refl}
+use Rattle.bx_planner.proofs.Chosen.{best_from_proof, room_from_none}
+use Rattle.bx_planner.proofs.planning.plan.Goals as goal
+
+pub returns-in-Some-clause-musts : goal.returns-in-Some-clause-musts
+returns-in-Some-clause-musts c = λ t. (
+  λ e. let same : c.in-Some.moment ≡ t = cc in (c.in-Some.ensures t).0 (ap (λ (x : ℕ). Some x) same),
+  λ h. let found = (c.in-Some.ensures t).1 h in let same : c.in-Some.moment ≡ t = cc in rw same refl,
+)
+
+pub best_plan-requires : goal.best_plan-requires
+best_plan-requires c = λ s. room_from_none c.args.bookings.now c.args.channels (λ t h. let found = (c.in_default.ensures t).1 h in cc) (s + 1) s (omega arith)
+
+pub returns-in-Ok-clause-best : goal.returns-in-Ok-clause-best
+returns-in-Ok-clause-best c = best_from_proof c.args.bookings.now c.args.channels c.in-Ok.plan.prices.items c.in-Ok.plan.total c.in-Ok.ensures.prices

@@ -1,0 +1,3 @@
+pub mod Musts
+pub mod Prices
+pub mod Choices
