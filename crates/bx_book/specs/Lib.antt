@@ -1,0 +1,4 @@
+pub mod Places
+pub mod Dates
+pub mod Days
+pub mod DayParts

@@ -1,0 +1,9 @@
+//! Days from one local midnight to the next, and the booking text of a day.
+#![tactic(auto)]
+
+mod day;
+mod place;
+#[cfg(test)]
+mod tests;
+
+pub use day::{Day, DayFault, MAX_DAY};
