@@ -1,0 +1,5 @@
+pub mod Said
+pub mod Day
+pub mod Run
+pub mod Invariant
+pub mod Law
