@@ -1,11 +1,11 @@
 -- How the moments of a call's activity go on.
-use Rattle.std.proofs.Common.{◌≡◌, ℕ, ◌+◌, ◌≤◌, ◌<◌, Bool, true, false, arith}
+use Rattle.std.proofs.Common.{ℕ, ◌≤◌, true, false, arith}
 use Rattle.bx_base.specs.Bookings.{Row}
 use Rattle.bx_day.specs.Day.{activity_after, over_at}
 use Rattle.bx_day.specs.declared.entry.Entry.{Entry}
 use Rattle.bx_day.specs.declared.entry.Activity.{Activity}
 use Rattle.bx_day.specs.declared.entry.Activity.TheVariants.{Never, Since, Was}
-use Rattle.bx_day.specs.Invariant.{Ringing, Talking, Clearing, ActivityFits, StandingFits, EntryFits}
+use Rattle.bx_day.specs.Invariant.{Ringing, Talking, Clearing, ActivityFits, EntryFits}
 
 pub ringing_kept : (t u : ℕ) (b : Row) (a : Activity) → ActivityFits t b Ringing a → ActivityFits u b Ringing (activity_after a false u)
 ringing_kept t u b Never h = tt

@@ -1,5 +1,5 @@
 -- One call per channel: the opening day, every event, and what that says.
-use Rattle.std.proofs.Common.{◌≡◌, ◌≢◌, ℕ, zero, suc, ◌+◌, ◌≤◌, ◌<◌, ◌&&◌, not, Bool, true, false, List, [], ◌∷◌, map, length, Option, Some, None, arith, refl, sym, subst, ap, ◌∙◌, slice_set, slice_index_or, nat_le, nat_lt, if◌then◌else◌, ◌==◌, Result, Ok, Err}
+use Rattle.std.proofs.Common.{◌≡◌, ◌≢◌, ℕ, zero, suc, ◌+◌, ◌≤◌, ◌<◌, not, Bool, true, false, List, [], ◌∷◌, map, length, Option, Some, None, arith, refl, sym, subst, ap, ◌∙◌, slice_set, slice_index_or, nat_le, nat_lt, ◌==◌, Result, Ok, Err}
 use Rattle.std.specs.Prelude.{is_some}
 use Rattle.std.specs.Option.{unwrap_or}
 use Rattle.std.specs.List.{AllByRecursion}
@@ -20,17 +20,18 @@ use Rattle.bx_day.specs.declared.entry.Standing.{Standing}
 use Rattle.bx_day.specs.declared.entry.Standing.TheVariants.{Refused, Unoffered, OnCall, Carried, Unanswered, Missed}
 use Rattle.bx_day.specs.declared.entry.Entry.{Entry}
 use Rattle.bx_day.specs.declared.entry.Moved.{Moved}
-use Rattle.bx_day.specs.Day.{Day, Sent, Answered, entry_at, no_entry, after_second, second_at, waits, follow, hears, takes_call, takes_or, takes_preferred, called_on, called, stray, received_at, receive, tick, ticked, opening, entry_of, entries_from, is_free, is_live, opens, index_of, lowest_open, every_channel, names, with_moved}
-use Rattle.bx_day.specs.Run.{Event, Tick, Receive, receive_from, receive_read, receive_octets, happens, day_after}
+use Rattle.bx_day.specs.Day.{Day, Sent, Answered, entry_at, no_entry, after_second, second_at, waits, hears, takes_call, takes_or, takes_preferred, called_on, called, stray, received_at, receive, tick, opening, entry_of, entries_from, is_free, is_live, opens, index_of, lowest_open, every_channel, names, with_moved}
+use Rattle.bx_day.specs.Run.{Event, Tick, Receive, receive_from, receive_read, happens, day_after}
 use Rattle.bx_day.specs.Said.{said_of}
 use Rattle.bx_q931.specs.Messages.{PlainMessage, message_at}
 use Rattle.bx_q931.specs.declared.reference.Reference.{Reference}
 use Rattle.bx_q931.specs.declared.reference.Reference.TheVariants.{Dummy, Value}
 use Rattle.bx_q931.specs.declared.fault.MessageFault.{MessageFault}
-use Rattle.bx_day.specs.Invariant.{EntryFits, StandingFits, CallFits, Apart, Pairs, DayFits, is_refused, Phase, phase_of, PhaseFits, DueFits}
+use Rattle.bx_day.specs.Invariant.{EntryFits, StandingFits, CallFits, Apart, Pairs, DayFits, is_refused, phase_of, PhaseFits, DueFits}
 use Rattle.bx_day.specs.Law.{OnLive, OnCarried, standing_at, IsOrderly}
+use Rattle.bx_day.proofs.Sent.{Placed}
 use Rattle.bx_day.proofs.Tick.{by_cases, with_standing, offers, tick_fits, follow_refused}
-use Rattle.bx_day.proofs.Receive.{receive_fits, all_at, apart_none, OpenAt, Open, open_parts, open_index, open_lowest}
+use Rattle.bx_day.proofs.Receive.{receive_fits, all_at, apart_none, OpenAt, open_parts, open_index, open_lowest}
 
 -- the opening day
 opening_each : (k : ℕ) (rows : List Row) (assigned : List (Option ℕ)) → ((i : ℕ) → i < length rows → (row_at rows i).start < (row_at rows i).end) → AllByRecursion (EntryFits 0) (entries_from k rows assigned)
@@ -73,7 +74,7 @@ pub record IsFrame (b : Row) (a : Option ℕ) (e : Entry) : Type 0 where
   pub accepted : is_refused e.standing ≡ not (is_some a)
 
 abbrev pub Framed : List Row → List (Option ℕ) → Day → Type 0
-Framed rows assigned d = (i : ℕ) → i < length rows → IsFrame (row_at rows i) (slice_index_or assigned i None) (entry_at d.entries i)
+Framed rows assigned d = ((i : ℕ) → i < length rows → IsFrame (row_at rows i) (slice_index_or assigned i None) (entry_at d.entries i)) × AllByRecursion (Placed rows assigned) d.entries
 
 frame_of : (k : ℕ) (b : Row) (a : Option ℕ) → IsFrame b a (entry_of k b a)
 frame_of k b None = record { booking = refl; channel = refl; accepted = refl }
@@ -120,14 +121,65 @@ at_set P (e ∷ es) zero (suc k) y f p = p
 at_set P (e ∷ es) (suc i) zero y f p = p
 at_set P (e ∷ es) (suc i) (suc k) y f p = at_set P es i k y f p
 
+-- where each entry stands in its plan
+opening_length : (k : ℕ) (rows : List Row) (assigned : List (Option ℕ)) → length (entries_from k rows assigned) ≡ length rows
+opening_length k [] assigned = refl
+opening_length k (b ∷ bs) [] = ap suc (opening_length (k + 1) bs [])
+opening_length k (b ∷ bs) (a ∷ as') = ap suc (opening_length (k + 1) bs as')
+
+row_of_entry : (k : ℕ) (b : Row) (a : Option ℕ) → (entry_of k b a).row ≡ k
+row_of_entry k b None = refl
+row_of_entry k b (Some c) = refl
+
+opening_row : (k : ℕ) (rows : List Row) (assigned : List (Option ℕ)) (i n : ℕ) → k + i ≡ n → i < length rows → (entry_at (entries_from k rows assigned) i).row ≡ n
+opening_row k [] assigned i n q lt = absurd (omega arith)
+opening_row k (b ∷ bs) [] zero n q lt = row_of_entry k b None ∙ same k n q
+  where
+    same : (x y : ℕ) → x + 0 ≡ y → x ≡ y
+    same x y h = omega arith
+opening_row k (b ∷ bs) [] (suc i) n q lt = opening_row (k + 1) bs [] i n (omega arith) (omega arith)
+opening_row k (b ∷ bs) (a ∷ as') zero n q lt = row_of_entry k b a ∙ same k n q
+  where
+    same : (x y : ℕ) → x + 0 ≡ y → x ≡ y
+    same x y h = omega arith
+opening_row k (b ∷ bs) (a ∷ as') (suc i) n q lt = opening_row (k + 1) bs as' i n (omega arith) (omega arith)
+
+all_from : (P : Entry → Type 0) (es : List Entry) → ((i : ℕ) → i < length es → P (entry_at es i)) → AllByRecursion P es
+all_from P [] h = tt
+all_from P (e ∷ es) h = (h 0 (omega arith), all_from P es (λ i lt. h (suc i) (omega arith)))
+
+pub opening_placed : (rows : List Row) (assigned : List (Option ℕ)) → AllByRecursion (Placed rows assigned) (entries_from 1 rows assigned)
+opening_placed rows assigned = all_from (Placed rows assigned) (entries_from 1 rows assigned) (λ i lt.
+    let lt' : i < length rows = subst (λ n. i < n) (opening_length 1 rows assigned) lt in
+    let f = opening_framed 1 rows assigned i lt' in
+    record { index = i; row = opening_row 1 rows assigned i (suc i) (omega arith) lt'; booking = f.booking; channel = f.channel; accepted = f.accepted })
+
+replace : (rows : List Row) (assigned : List (Option ℕ)) (e : Entry) (s : Standing) → is_refused s ≡ is_refused e.standing → Placed rows assigned e → Placed rows assigned (with_standing e s)
+replace rows assigned e s same p = record { index = p.index; row = p.row; booking = p.booking; channel = p.channel; accepted = same ∙ p.accepted }
+
+tick_placed : (rows : List Row) (assigned : List (Option ℕ)) (d : Day) (es : List Entry) → AllByRecursion (Placed rows assigned) es → AllByRecursion (Placed rows assigned) (map (after_second d) es)
+tick_placed rows assigned d [] h = tt
+tick_placed rows assigned d (e ∷ es) h = (replace rows assigned e _ (second_same e (d.moment + 1) (is_free d e.channel) e.standing) h.0, tick_placed rows assigned d es h.1)
+
+all_update : (P : Entry → Type 0) (es : List Entry) (i : ℕ) (y : Entry) → (P (entry_at es i) → P y) → AllByRecursion P es → AllByRecursion P (slice_set es i y)
+all_update P [] i y f h = tt
+all_update P (e ∷ es) zero y f h = (f h.0, h.1)
+all_update P (e ∷ es) (suc i) y f h = (h.0, all_update P es i y f h.1)
+
 tick_framed : (rows : List Row) (assigned : List (Option ℕ)) (d : Day) → Framed rows assigned d → Framed rows assigned (tick d).day
 tick_framed rows assigned d h = by_cases (nat_le 300000 d.moment) _ _ (λ (s : Sent). Framed rows assigned s.day) (λ _. h)
-    (λ _ i lt. let e = entry_at d.entries i in
-        subst (IsFrame (row_at rows i) (slice_index_or assigned i None)) (sym (at_map d d.entries i))
-            (refit (row_at rows i) (slice_index_or assigned i None) e _ (second_same e (d.moment + 1) (is_free d e.channel) e.standing) (h i lt)))
+    (λ _. (
+      (λ i lt. let e = entry_at d.entries i in
+          subst (IsFrame (row_at rows i) (slice_index_or assigned i None)) (sym (at_map d d.entries i))
+          (refit (row_at rows i) (slice_index_or assigned i None) e _ (second_same e (d.moment + 1) (is_free d e.channel) e.standing) (h.0 i lt))),
+      tick_placed rows assigned d d.entries h.1,
+    ))
 
 moved_framed : (rows : List Row) (assigned : List (Option ℕ)) (d : Day) (i : ℕ) (m : Moved) → is_refused m.standing ≡ is_refused (entry_at d.entries i).standing → Framed rows assigned d → Framed rows assigned (with_moved d i m).day
-moved_framed rows assigned d i m same h k lt = at_set (IsFrame (row_at rows k) (slice_index_or assigned k None)) d.entries i k (with_standing (entry_at d.entries i) m.standing) (refit (row_at rows k) (slice_index_or assigned k None) (entry_at d.entries i) m.standing same) (h k lt)
+moved_framed rows assigned d i m same h = (
+  (λ k lt. at_set (IsFrame (row_at rows k) (slice_index_or assigned k None)) d.entries i k (with_standing (entry_at d.entries i) m.standing) (refit (row_at rows k) (slice_index_or assigned k None) (entry_at d.entries i) m.standing same) (h.0 k lt)),
+  all_update (Placed rows assigned) d.entries i (with_standing (entry_at d.entries i) m.standing) (replace rows assigned (entry_at d.entries i) m.standing same) h.1,
+)
 
 takes_framed : (rows : List Row) (assigned : List (Option ℕ)) (d : Day) (m : Said) (cause : ℕ) (o : Option ℕ) → OpenAt d o → Framed rows assigned d → Framed rows assigned (takes_or d m cause o).day
 takes_framed rows assigned d m cause None op h = h
@@ -230,14 +282,16 @@ late_none t b (ReleaseRequest true cause due) p q h = omega arith
 pub orderly : (rows : List Row) (assigned : List (Option ℕ)) (d : Day) → RunFits rows assigned d → IsOrderly rows assigned d
 orderly rows assigned d h = record {
   planned = λ i lt. on_live (standing_at d i) _ (λ c a p. (
-    not_refused (slice_index_or assigned i None) (sym (ap is_refused p) ∙ (h.framed i lt).accepted),
-    (call_at d i h.day c a p).channel ∙ (h.framed i lt).channel));
+    not_refused (slice_index_or assigned i None) (sym (ap is_refused p) ∙ (h.framed.0 i lt).accepted),
+    (call_at d i h.day c a p).channel ∙ (h.framed.0 i lt).channel,
+  ));
   apart = λ i j lt le. on_live (standing_at d i) _ (λ c a p. on_live (standing_at d j) _ (λ c' a' p' same.
-    (pairs_at d.entries i j lt h.day.pairs).live (ap is_live p) (ap is_live p') (sym (call_at d i h.day c a p).channel ∙ same ∙ (call_at d j h.day c' a' p').channel)));
-  active = λ i lt. on_live (standing_at d i) _ (λ c a p at. subst (λ b. is_running b d.moment ≡ true) (h.framed i lt).booking (active_runs d.moment (entry_at d.entries i).booking c at (call_at d i h.day c a p).phase));
-  carried = λ i lt. on_carried (standing_at d i) _ (λ from until p. subst (λ b. (b.start ≤ from) × (from ≤ until) × (until ≤ b.end)) (h.framed i lt).booking (subst (StandingFits d.moment (entry_at d.entries i)) p (all_at (EntryFits d.moment) tt d.entries i h.day.each)));
+      (pairs_at d.entries i j lt h.day.pairs).live (ap is_live p) (ap is_live p') (sym (call_at d i h.day c a p).channel ∙ same ∙ (call_at d j h.day c' a' p').channel)));
+  active = λ i lt. on_live (standing_at d i) _ (λ c a p at. subst (λ b. is_running b d.moment ≡ true) (h.framed.0 i lt).booking (active_runs d.moment (entry_at d.entries i).booking c at (call_at d i h.day c a p).phase));
+  carried = λ i lt. on_carried (standing_at d i) _ (λ from until p. subst (λ b. (b.start ≤ from) × (from ≤ until) × (until ≤ b.end)) (h.framed.0 i lt).booking (subst (StandingFits d.moment (entry_at d.entries i)) p (all_at (EntryFits d.moment) tt d.entries i h.day.each)));
   cleared = λ i lt late.
-    (let over : (entry_at d.entries i).booking.end + 38 ≤ d.moment = subst (λ b. b.end + 38 ≤ d.moment) (sym (h.framed i lt).booking) late in
-     ((λ p. let early : d.moment < (entry_at d.entries i).booking.end = subst (StandingFits d.moment (entry_at d.entries i)) p (all_at (EntryFits d.moment) tt d.entries i h.day.each) in omega arith),
-      on_live (standing_at d i) _ (λ c a p. late_none d.moment (entry_at d.entries i).booking c.state (call_at d i h.day c a p).phase (call_at d i h.day c a p).due over)));
+      (let over : (entry_at d.entries i).booking.end + 38 ≤ d.moment = subst (λ b. b.end + 38 ≤ d.moment) (sym (h.framed.0 i lt).booking) late in (
+        (λ p. let early : d.moment < (entry_at d.entries i).booking.end = subst (StandingFits d.moment (entry_at d.entries i)) p (all_at (EntryFits d.moment) tt d.entries i h.day.each) in omega arith),
+        on_live (standing_at d i) _ (λ c a p. late_none d.moment (entry_at d.entries i).booking c.state (call_at d i h.day c a p).phase (call_at d i h.day c a p).due over),
+      ));
 }

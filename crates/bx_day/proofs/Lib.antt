@@ -5,3 +5,4 @@ pub mod Hear
 pub mod Receive
 pub mod Law
 pub mod Said
+pub mod Sent

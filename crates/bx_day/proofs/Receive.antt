@@ -1,21 +1,20 @@
 -- A receipt keeps what is true of a day.
-use Rattle.std.proofs.Common.{◌≡◌, ◌≢◌, ℕ, zero, suc, ◌+◌, ◌≤◌, ◌<◌, ◌==◌, ◌&&◌, ◌||◌, not, Bool, true, false, List, [], ◌∷◌, Option, Some, None, arith, refl, sym, subst, slice_set, if◌then◌else◌}
+use Rattle.std.proofs.Common.{◌≡◌, ℕ, zero, suc, ◌==◌, ◌&&◌, Bool, true, false, List, [], ◌∷◌, Option, Some, None, refl, sym, subst, slice_set}
 use Rattle.std.specs.List.{AllByRecursion}
-use Rattle.std.proofs.lemmas.Bool.{and_parts, both_ways, false≢true, true≢false, eqb-true}
+use Rattle.std.proofs.lemmas.Bool.{and_parts, false≢true, true≢false}
 use Rattle.bx_q931.specs.declared.kind.Kind.{Kind}
 use Rattle.bx_q931.specs.declared.kind.Kind.TheVariants.{Setup}
 use Rattle.bx_q931.specs.declared.channel_field.ChannelField.{ChannelField}
 use Rattle.bx_q931.specs.declared.channel_field.ChannelField.TheVariants.{Absent, Named, AnyChannel, Unread}
 use Rattle.bx_base.specs.Bookings.{is_running}
 use Rattle.bx_day.specs.Said.{Said}
-use Rattle.bx_day.specs.Day.{Day, Answered, is_live, is_held, is_free, is_open, is_unoffered, opens, index_of, one_more, or_else, lowest_open, entry_at, no_entry, names, hears, takes_call, takes_or, takes_preferred, called_on, called, stray, received_at, receive, follow, follows, every_channel}
+use Rattle.bx_day.specs.Day.{Day, Answered, is_live, is_held, is_free, is_open, is_unoffered, opens, index_of, one_more, or_else, lowest_open, entry_at, no_entry, names, hears, takes_call, takes_or, takes_preferred, called_on, called, stray, received_at, receive, every_channel}
 use Rattle.bx_day.specs.declared.entry.Entry.{Entry}
 use Rattle.bx_day.specs.declared.entry.Standing.{Standing}
-use Rattle.bx_day.specs.declared.entry.Activity.{Activity}
 use Rattle.bx_day.specs.declared.entry.Standing.TheVariants.{Refused, Unoffered, OnCall, Carried, Unanswered, Missed}
-use Rattle.bx_day.specs.Invariant.{EntryFits, StandingFits, Apart, Pairs, DayFits, is_refused}
+use Rattle.bx_day.specs.Invariant.{EntryFits, Apart, Pairs, DayFits, is_refused}
 use Rattle.bx_day.proofs.Hear.{row_fits}
-use Rattle.bx_day.proofs.Tick.{with_standing, by_cases, all_weaker, all_hold, Holding, free_held, runs_at}
+use Rattle.bx_day.proofs.Tick.{with_standing, by_cases, all_hold, Holding, free_held, runs_at}
 
 pub all_at : (P : Entry → Type 0) → P no_entry → (es : List Entry) (i : ℕ) → AllByRecursion P es → P (entry_at es i)
 all_at P n [] i h = n
@@ -38,9 +37,10 @@ pairs_set Q (e ∷ es) zero y before after qs ps = (both es qs.1 ps.0, ps.1)
     both : (fs : List Entry) → AllByRecursion Q fs → AllByRecursion (Apart e) fs → AllByRecursion (Apart y) fs
     both [] q p = tt
     both (f ∷ fs) q p = (before f q.0 p.0, both fs q.1 p.1)
-pairs_set Q (e ∷ es) (suc i) y before after qs ps =
-    (all_set (Apart e) es i y (after e qs.0 (all_at (Apart e) (apart_none e) es i ps.0)) ps.0,
-     pairs_set Q es i y before after qs.1 ps.1)
+pairs_set Q (e ∷ es) (suc i) y before after qs ps = (
+  all_set (Apart e) es i y (after e qs.0 (all_at (Apart e) (apart_none e) es i ps.0)) ps.0,
+  pairs_set Q es i y before after qs.1 ps.1,
+)
 
 -- where the index is that of an element that passes
 abbrev pub Passes : (Entry → Bool) → List Entry → Option ℕ → Type 0
@@ -87,13 +87,15 @@ heard_fits d m i h =
     record {
       each = all_set (EntryFits d.moment) d.entries i y (hears_fits m d.moment e e.standing (all_at (EntryFits d.moment) tt d.entries i h.each)) h.each;
       pairs = pairs_set (Holding (is_held d.entries)) d.entries i y
-        (λ f q p. record {
-          planned = λ ry rf. p.planned (hears_refused m d.moment e.standing ry) rf;
-          live = λ ly lf. p.live (hears_live m d.moment e.standing ly) lf })
-        (λ f q p. record {
-          planned = λ rf ry. p.planned rf (hears_refused m d.moment e.standing ry);
-          live = λ lf ly. p.live lf (hears_live m d.moment e.standing ly) })
-        (all_hold d.entries) h.pairs;
+          (λ f q p. record {
+            planned = λ ry rf. p.planned (hears_refused m d.moment e.standing ry) rf;
+            live = λ ly lf. p.live (hears_live m d.moment e.standing ly) lf;
+          })
+          (λ f q p. record {
+            planned = λ rf ry. p.planned rf (hears_refused m d.moment e.standing ry);
+            live = λ lf ly. p.live lf (hears_live m d.moment e.standing ly);
+          })
+          (all_hold d.entries) h.pairs;
     }
 
 -- what an open booking shows
@@ -147,13 +149,15 @@ takes_fits d m cause (Some i) h fits =
     record {
       each = all_set (EntryFits d.moment) d.entries i y (record { channel = refl; origin = p.inward; phase = runs_at e.booking d.moment p.runs; due = tt; activity = tt }) fits.each;
       pairs = pairs_set (Holding (is_held d.entries)) d.entries i y
-        (λ f q a. record {
-          planned = λ ry rf. a.planned p.accepted rf;
-          live = λ ly lf same. free_held d e.channel p.free (subst (λ c. is_held d.entries c ≡ true) (sym same) (q lf)) })
-        (λ f q a. record {
-          planned = λ rf ry. a.planned rf p.accepted;
-          live = λ lf ly same. free_held d e.channel p.free (subst (λ c. is_held d.entries c ≡ true) same (q lf)) })
-        (all_hold d.entries) fits.pairs;
+          (λ f q a. record {
+            planned = λ ry rf. a.planned p.accepted rf;
+            live = λ ly lf same. free_held d e.channel p.free (subst (λ c. is_held d.entries c ≡ true) (sym same) (q lf));
+          })
+          (λ f q a. record {
+            planned = λ rf ry. a.planned rf p.accepted;
+            live = λ lf ly same. free_held d e.channel p.free (subst (λ c. is_held d.entries c ≡ true) same (q lf));
+          })
+          (all_hold d.entries) fits.pairs;
     }
 
 pub preferred_fits : (d : Day) (m : Said) (o : Option ℕ) → OpenAt d o → DayFits d → DayFits (takes_preferred d m o).day

@@ -1,9 +1,9 @@
 -- Each message of a tick is said by some booking.
-use Rattle.std.proofs.Common.{◌≡◌, ℕ, ◌+◌, ◌==◌, Bool, true, false, List, [], ◌∷◌, ◌++◌, Option, Some, None, refl, nat_le, if◌then◌else◌}
+use Rattle.std.proofs.Common.{ℕ, ◌==◌, List, [], ◌∷◌, ◌++◌, Option, Some, None, nat_le}
 use Rattle.std.specs.List.{AllByRecursion, flat_map}
 use Rattle.bx_q931.specs.Outgoing.{Outgoing}
 use Rattle.bx_day.specs.declared.entry.Entry.{Entry}
-use Rattle.bx_day.specs.Day.{Day, Sent, tick, ticked, second_of, said_on, cons_some, every_channel}
+use Rattle.bx_day.specs.Day.{Day, Sent, tick, second_of, said_on, cons_some, every_channel}
 use Rattle.bx_day.proofs.Tick.{by_cases}
 
 abbrev pub OfSaid : (Outgoing → Type 0) → Option Outgoing → Type 0
@@ -22,7 +22,7 @@ all_on : (P : Outgoing → Type 0) (d : Day) (c : ℕ) (es : List Entry) → All
 all_on P d c [] h = tt
 all_on P d c (e ∷ es) h = by_cases (e.channel == c) _ _ (λ (os : List Outgoing). AllByRecursion P os) (λ _. all_cons_some P (second_of d e).said (said_on d c es) h.0 (all_on P d c es h.1)) (λ _. all_on P d c es h.1)
 
-all_over : (P : Outgoing → Type 0) (d : Day) (cs : List ℕ) → AllByRecursion (λ e. OfSaid P (second_of d e).said) d.entries → AllByRecursion P (flat_map (λ c. said_on d c d.entries) cs)
+pub all_over : (P : Outgoing → Type 0) (d : Day) (cs : List ℕ) → AllByRecursion (λ e. OfSaid P (second_of d e).said) d.entries → AllByRecursion P (flat_map (λ c. said_on d c d.entries) cs)
 all_over P d [] h = tt
 all_over P d (c ∷ cs) h = all_append P (said_on d c d.entries) (flat_map (λ k. said_on d k d.entries) cs) (all_on P d c d.entries h) (all_over P d cs h)
 

@@ -1,21 +1,18 @@
 -- A tick keeps what is true of one booking.
-use Rattle.std.proofs.Common.{◌≡◌, ℕ, ◌+◌, ◌≤◌, ◌<◌, Bool, true, false, List, Option, Some, None, arith, refl, nat_le, if◌then◌else◌}
-use Rattle.std.proofs.lemmas.Bool.{leb-true, leb-false}
-use Rattle.bx_q931.specs.Outgoing.{Outgoing}
+use Rattle.std.proofs.Common.{◌≡◌, ℕ, ◌+◌, ◌<◌, Bool, true, false, Some, arith, refl, nat_le, if◌then◌else◌}
+use Rattle.std.proofs.lemmas.Bool.{leb-false}
 use Rattle.bx_calls.specs.declared.step.Step.{Step}
 use Rattle.bx_calls.specs.PlainCalls.{PlainNetCall}
 use Rattle.bx_calls.specs.declared.net_state.NetOrigin.{NetOrigin}
 use Rattle.bx_calls.specs.declared.net_state.NetState.{NetState}
 use Rattle.bx_calls.specs.declared.net_state.NetState.TheVariants.{OutgoingCallProceeding, CallPresent, IncomingCallProceeding, CallReceived, Active, DisconnectIndication, ReleaseRequest}
 use Rattle.bx_calls.specs.NetTable.{net_second}
-use Rattle.bx_base.specs.Bookings.{Row}
-use Rattle.bx_day.specs.Day.{activity_after, over_at, is_active, follows}
+use Rattle.bx_day.specs.Day.{activity_after, is_active, follows}
 use Rattle.bx_day.specs.declared.entry.Entry.{Entry}
 use Rattle.bx_day.specs.declared.entry.Activity.{Activity}
-use Rattle.bx_day.specs.declared.entry.Activity.TheVariants.{Never, Since, Was}
 use Rattle.bx_day.specs.declared.entry.Standing.TheVariants.{OnCall}
-use Rattle.bx_day.specs.Invariant.{Phase, phase_of, PhaseFits, DueFits, ActivityFits, OriginFits, Ringing, Talking, Clearing, CallFits, StandingFits, EntryFits}
-use Rattle.bx_day.proofs.ActivityLemmas.{ringing_kept, talking_kept, clearing_kept, ringing_clears, talking_clears, ringing_talks, ringing_over, talking_over, clearing_over}
+use Rattle.bx_day.specs.Invariant.{phase_of, PhaseFits, DueFits, ActivityFits, Clearing, CallFits, EntryFits}
+use Rattle.bx_day.proofs.ActivityLemmas.{ringing_kept, talking_kept, clearing_kept, ringing_clears, talking_clears, ringing_talks, ringing_over, clearing_over}
 
 abbrev pub call_of : ℕ → ℕ → NetOrigin → NetState → PlainNetCall
 call_of r ch o s = record { reference = r; channel = ch; origin = o; state = s }
@@ -44,66 +41,66 @@ pub second_fits : (t : ℕ) (e : Entry) (r ch : ℕ) (o : NetOrigin) (s : NetSta
 second_fits t e r ch o OutgoingCallProceeding a h =
     let b = e.booking in
     by_test (nat_le b.end (t + 1)) (t + 1) e a _ _
-        (λ ended. disconnects t e r ch o OutgoingCallProceeding a 16 h h.phase.1 (ringing_clears t (t + 1) b a h.activity))
-        (λ runs. let late : t + 1 < b.end = leb-false b.end (t + 1) runs in
-            goes_on t (t + 1) e r ch o OutgoingCallProceeding a Active h (omega arith, late) tt (ringing_talks t (t + 1) b a (omega arith) h.activity))
+    (λ ended. disconnects t e r ch o OutgoingCallProceeding a 16 h h.phase.1 (ringing_clears t (t + 1) b a h.activity))
+    (λ runs. let late : t + 1 < b.end = leb-false b.end (t + 1) runs in
+    goes_on t (t + 1) e r ch o OutgoingCallProceeding a Active h (omega arith, late) tt (ringing_talks t (t + 1) b a (omega arith) h.activity))
 second_fits t e r ch o (CallPresent false due) a h =
     let b = e.booking in
     let s = CallPresent false due in
     by_test (nat_le b.end (t + 1)) (t + 1) e a _ _
-        (λ ended. disconnects t e r ch o s a 16 h h.phase.1 (ringing_clears t (t + 1) b a h.activity))
-        (λ runs. let late : t + 1 < b.end = leb-false b.end (t + 1) runs in
-            by_test (nat_le due (t + 1)) (t + 1) e a _ _
-                (λ fires. goes_on t (t + 1) e r ch o s a (CallPresent true (t + 1 + 4)) h (omega arith, late) (omega arith) (ringing_kept t (t + 1) b a h.activity))
-                (λ waits. goes_on t (t + 1) e r ch o s a s h (omega arith, late) (leb-false due (t + 1) waits) (ringing_kept t (t + 1) b a h.activity)))
+    (λ ended. disconnects t e r ch o s a 16 h h.phase.1 (ringing_clears t (t + 1) b a h.activity))
+    (λ runs. let late : t + 1 < b.end = leb-false b.end (t + 1) runs in
+    by_test (nat_le due (t + 1)) (t + 1) e a _ _
+    (λ fires. goes_on t (t + 1) e r ch o s a (CallPresent true (t + 1 + 4)) h (omega arith, late) (omega arith) (ringing_kept t (t + 1) b a h.activity))
+    (λ waits. goes_on t (t + 1) e r ch o s a s h (omega arith, late) (leb-false due (t + 1) waits) (ringing_kept t (t + 1) b a h.activity)))
 second_fits t e r ch o (CallPresent true due) a h =
     let b = e.booking in
     let s = CallPresent true due in
     by_test (nat_le b.end (t + 1)) (t + 1) e a _ _
-        (λ ended. disconnects t e r ch o s a 16 h h.phase.1 (ringing_clears t (t + 1) b a h.activity))
-        (λ runs. let late : t + 1 < b.end = leb-false b.end (t + 1) runs in
-            by_test (nat_le due (t + 1)) (t + 1) e a _ _
-                (λ fires. ringing_over t (t + 1) e a h.activity)
-                (λ waits. goes_on t (t + 1) e r ch o s a s h (omega arith, late) (leb-false due (t + 1) waits) (ringing_kept t (t + 1) b a h.activity)))
+    (λ ended. disconnects t e r ch o s a 16 h h.phase.1 (ringing_clears t (t + 1) b a h.activity))
+    (λ runs. let late : t + 1 < b.end = leb-false b.end (t + 1) runs in
+    by_test (nat_le due (t + 1)) (t + 1) e a _ _
+    (λ fires. ringing_over t (t + 1) e a h.activity)
+    (λ waits. goes_on t (t + 1) e r ch o s a s h (omega arith, late) (leb-false due (t + 1) waits) (ringing_kept t (t + 1) b a h.activity)))
 second_fits t e r ch o (IncomingCallProceeding due) a h =
     let b = e.booking in
     let s = IncomingCallProceeding due in
     by_test (nat_le b.end (t + 1)) (t + 1) e a _ _
-        (λ ended. disconnects t e r ch o s a 16 h h.phase.1 (ringing_clears t (t + 1) b a h.activity))
-        (λ runs. let late : t + 1 < b.end = leb-false b.end (t + 1) runs in
-            by_test (nat_le due (t + 1)) (t + 1) e a _ _
-                (λ fires. disconnects t e r ch o s a 102 h h.phase.1 (ringing_clears t (t + 1) b a h.activity))
-                (λ waits. goes_on t (t + 1) e r ch o s a s h (omega arith, late) (leb-false due (t + 1) waits) (ringing_kept t (t + 1) b a h.activity)))
+    (λ ended. disconnects t e r ch o s a 16 h h.phase.1 (ringing_clears t (t + 1) b a h.activity))
+    (λ runs. let late : t + 1 < b.end = leb-false b.end (t + 1) runs in
+    by_test (nat_le due (t + 1)) (t + 1) e a _ _
+    (λ fires. disconnects t e r ch o s a 102 h h.phase.1 (ringing_clears t (t + 1) b a h.activity))
+    (λ waits. goes_on t (t + 1) e r ch o s a s h (omega arith, late) (leb-false due (t + 1) waits) (ringing_kept t (t + 1) b a h.activity)))
 second_fits t e r ch o (CallReceived due) a h =
     let b = e.booking in
     let s = CallReceived due in
     by_test (nat_le b.end (t + 1)) (t + 1) e a _ _
-        (λ ended. disconnects t e r ch o s a 16 h h.phase.1 (ringing_clears t (t + 1) b a h.activity))
-        (λ runs. let late : t + 1 < b.end = leb-false b.end (t + 1) runs in
-            by_test (nat_le due (t + 1)) (t + 1) e a _ _
-                (λ fires. disconnects t e r ch o s a 102 h h.phase.1 (ringing_clears t (t + 1) b a h.activity))
-                (λ waits. goes_on t (t + 1) e r ch o s a s h (omega arith, late) (leb-false due (t + 1) waits) (ringing_kept t (t + 1) b a h.activity)))
+    (λ ended. disconnects t e r ch o s a 16 h h.phase.1 (ringing_clears t (t + 1) b a h.activity))
+    (λ runs. let late : t + 1 < b.end = leb-false b.end (t + 1) runs in
+    by_test (nat_le due (t + 1)) (t + 1) e a _ _
+    (λ fires. disconnects t e r ch o s a 102 h h.phase.1 (ringing_clears t (t + 1) b a h.activity))
+    (λ waits. goes_on t (t + 1) e r ch o s a s h (omega arith, late) (leb-false due (t + 1) waits) (ringing_kept t (t + 1) b a h.activity)))
 second_fits t e r ch o Active a h =
     let b = e.booking in
     by_test (nat_le b.end (t + 1)) (t + 1) e a _ _
-        (λ ended. disconnects t e r ch o Active a 16 h h.phase.1 (talking_clears t (t + 1) b a (omega arith) (omega arith) h.activity))
-        (λ runs. let late : t + 1 < b.end = leb-false b.end (t + 1) runs in
-            goes_on t (t + 1) e r ch o Active a Active h (omega arith, late) tt (talking_kept t (t + 1) b a (omega arith) h.activity))
+    (λ ended. disconnects t e r ch o Active a 16 h h.phase.1 (talking_clears t (t + 1) b a (omega arith) (omega arith) h.activity))
+    (λ runs. let late : t + 1 < b.end = leb-false b.end (t + 1) runs in
+    goes_on t (t + 1) e r ch o Active a Active h (omega arith, late) tt (talking_kept t (t + 1) b a (omega arith) h.activity))
 second_fits t e r ch o (DisconnectIndication cause due) a h =
     let b = e.booking in
     let s = DisconnectIndication cause due in
     by_test (nat_le due (t + 1)) (t + 1) e a _ _
-        (λ fires. goes_on t (t + 1) e r ch o s a (ReleaseRequest false (Some cause) (t + 1 + 4)) h tt (omega arith, omega arith) (clearing_kept t (t + 1) b a (omega arith) h.activity))
-        (λ waits. goes_on t (t + 1) e r ch o s a s h tt (leb-false due (t + 1) waits, h.due.1) (clearing_kept t (t + 1) b a (omega arith) h.activity))
+    (λ fires. goes_on t (t + 1) e r ch o s a (ReleaseRequest false (Some cause) (t + 1 + 4)) h tt (omega arith, omega arith) (clearing_kept t (t + 1) b a (omega arith) h.activity))
+    (λ waits. goes_on t (t + 1) e r ch o s a s h tt (leb-false due (t + 1) waits, h.due.1) (clearing_kept t (t + 1) b a (omega arith) h.activity))
 second_fits t e r ch o (ReleaseRequest false cause due) a h =
     let b = e.booking in
     let s = ReleaseRequest false cause due in
     by_test (nat_le due (t + 1)) (t + 1) e a _ _
-        (λ fires. goes_on t (t + 1) e r ch o s a (ReleaseRequest true cause (t + 1 + 4)) h tt (omega arith, omega arith) (clearing_kept t (t + 1) b a (omega arith) h.activity))
-        (λ waits. goes_on t (t + 1) e r ch o s a s h tt (leb-false due (t + 1) waits, h.due.1) (clearing_kept t (t + 1) b a (omega arith) h.activity))
+    (λ fires. goes_on t (t + 1) e r ch o s a (ReleaseRequest true cause (t + 1 + 4)) h tt (omega arith, omega arith) (clearing_kept t (t + 1) b a (omega arith) h.activity))
+    (λ waits. goes_on t (t + 1) e r ch o s a s h tt (leb-false due (t + 1) waits, h.due.1) (clearing_kept t (t + 1) b a (omega arith) h.activity))
 second_fits t e r ch o (ReleaseRequest true cause due) a h =
     let b = e.booking in
     let s = ReleaseRequest true cause due in
     by_test (nat_le due (t + 1)) (t + 1) e a _ _
-        (λ fires. clearing_over t (t + 1) e a h.activity)
-        (λ waits. goes_on t (t + 1) e r ch o s a s h tt (leb-false due (t + 1) waits, h.due.1) (clearing_kept t (t + 1) b a (omega arith) h.activity))
+    (λ fires. clearing_over t (t + 1) e a h.activity)
+    (λ waits. goes_on t (t + 1) e r ch o s a s h tt (leb-false due (t + 1) waits, h.due.1) (clearing_kept t (t + 1) b a (omega arith) h.activity))

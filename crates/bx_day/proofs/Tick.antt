@@ -1,22 +1,21 @@
 -- A tick keeps what is true of a day.
-use Rattle.std.proofs.Common.{◌≡◌, ◌≢◌, ℕ, ◌+◌, ◌≤◌, ◌<◌, ◌==◌, ◌&&◌, ◌||◌, not, Bool, true, false, List, [], ◌∷◌, map, Option, Some, None, arith, refl, sym, subst, ◌∙◌, ap, nat_le, nat_lt, if◌then◌else◌, ◌⊎◌, inl, inr}
-use Rattle.std.specs.List.{AllByRecursion, list_any}
+use Rattle.std.proofs.Common.{◌≡◌, ◌≢◌, ℕ, ◌+◌, ◌≤◌, ◌<◌, ◌==◌, ◌&&◌, ◌||◌, not, Bool, true, false, List, [], ◌∷◌, map, Option, arith, refl, sym, subst, nat_le, nat_lt, if◌then◌else◌}
+use Rattle.std.specs.List.{AllByRecursion}
 use Rattle.std.proofs.lemmas.Bool.{leb-true, leb-false, ltb-true, and_parts, both_ways, eq-eqb, and_from, not-true, false≢true}
 use Rattle.bx_q931.specs.Outgoing.{Outgoing}
 use Rattle.bx_calls.specs.PlainCalls.{PlainNetCall}
-use Rattle.bx_calls.specs.declared.net_state.NetState.TheVariants.{CallPresent}
 use Rattle.bx_calls.specs.declared.step.Next.{Next}
 use Rattle.bx_calls.specs.declared.step.Next.TheVariants.{Live, Over, Broken}
 use Rattle.bx_base.specs.Bookings.{Row, is_running}
-use Rattle.bx_day.specs.Day.{Sent, Day, is_live, holds, is_held, is_free, is_set, second_at, second_of, after_second, waits, tick, ticked, follow, follows, over_at}
+use Rattle.bx_day.specs.Day.{Sent, Day, is_live, holds, is_held, is_free, is_set, second_at, after_second, waits, tick, ticked, follow, over_at}
 use Rattle.bx_day.specs.declared.entry.Moved.{Moved}
 use Rattle.bx_day.specs.declared.entry.Entry.{Entry}
 use Rattle.bx_day.specs.declared.entry.Standing.{Standing}
 use Rattle.bx_day.specs.declared.entry.Activity.{Activity}
 use Rattle.bx_day.specs.declared.entry.Standing.TheVariants.{Refused, Unoffered, OnCall, Carried, Unanswered, Missed}
 use Rattle.bx_day.specs.declared.entry.Activity.TheVariants.{Never, Since, Was}
-use Rattle.bx_day.specs.Invariant.{EntryFits, StandingFits, Apart, Pairs, DayFits, is_refused}
-use Rattle.bx_day.proofs.Second.{second_fits, StepFits}
+use Rattle.bx_day.specs.Invariant.{EntryFits, Apart, Pairs, DayFits, is_refused}
+use Rattle.bx_day.proofs.Second.{second_fits}
 
 abbrev pub with_standing : Entry → Standing → Entry
 with_standing e s = record e { standing = s }
@@ -45,13 +44,13 @@ offers_parts e t free h =
 pub waits_fits : (t : ℕ) (e : Entry) (free : Bool) → EntryFits (t + 1) (with_standing e (waits e (t + 1) free).standing)
 waits_fits t e free =
     by_cases (offers e (t + 1) free) _ _ (λ (m : Moved). EntryFits (t + 1) (with_standing e (m.standing)))
-        (λ offered.
-            let p = offers_parts e (t + 1) free offered in
-            let r = runs_at e.booking (t + 1) p.0 in
-            record { channel = refl; origin = (p.1, refl); phase = r; due = omega arith; activity = tt })
-        (λ _. by_cases (nat_le e.booking.end (t + 1)) _ _ (λ (m : Moved). EntryFits (t + 1) (with_standing e (m.standing)))
-            (λ ended. leb-true e.booking.end (t + 1) ended)
-            (λ going. leb-false e.booking.end (t + 1) going))
+    (λ offered.
+    let p = offers_parts e (t + 1) free offered in
+    let r = runs_at e.booking (t + 1) p.0 in
+    record { channel = refl; origin = (p.1, refl); phase = r; due = omega arith; activity = tt })
+    (λ _. by_cases (nat_le e.booking.end (t + 1)) _ _ (λ (m : Moved). EntryFits (t + 1) (with_standing e (m.standing)))
+    (λ ended. leb-true e.booking.end (t + 1) ended)
+    (λ going. leb-false e.booking.end (t + 1) going))
 
 -- one booking
 pub entry_fits : (t : ℕ) (e : Entry) (free : Bool) (s : Standing) → EntryFits t (with_standing e s) → EntryFits (t + 1) (with_standing e (second_at e (t + 1) free s).standing)
@@ -61,7 +60,6 @@ entry_fits t e free (OnCall c a) h = second_fits t (with_standing e (OnCall c a)
 entry_fits t e free (Carried from until) h = h
 entry_fits t e free Unanswered h = tt
 entry_fits t e free Missed h = omega arith
-
 
 pub all_fit : (t : ℕ) (d : Day) → d.moment ≡ t → (es : List Entry) → AllByRecursion (EntryFits d.moment) es → AllByRecursion (EntryFits (d.moment + 1)) (map (after_second d) es)
 all_fit t d p [] h = tt
@@ -75,10 +73,10 @@ pub data WasLive (t : ℕ) (free : Bool) (e : Entry) : Type 0 where
 pub waits_live : (t : ℕ) (free : Bool) (e : Entry) → is_live (waits e t free).standing ≡ true → WasLive t free (with_standing e Unoffered)
 waits_live t free e =
     by_cases (offers e t free) _ _ (λ (m : Moved). is_live m.standing ≡ true → WasLive t free (with_standing e Unoffered))
-        (λ offered live. let p = offers_parts e t free offered in Offered refl p.0 p.2)
-        (λ _. by_cases (nat_le e.booking.end t) _ _ (λ (m : Moved). is_live m.standing ≡ true → WasLive t free (with_standing e Unoffered))
-            (λ ended live. absurd (false≢true live))
-            (λ going live. absurd (false≢true live)))
+    (λ offered live. let p = offers_parts e t free offered in Offered refl p.0 p.2)
+    (λ _. by_cases (nat_le e.booking.end t) _ _ (λ (m : Moved). is_live m.standing ≡ true → WasLive t free (with_standing e Unoffered))
+    (λ ended live. absurd (false≢true live))
+    (λ going live. absurd (false≢true live)))
 
 pub second_live : (t : ℕ) (free : Bool) (e : Entry) (s : Standing) → is_live (second_at e t free s).standing ≡ true → WasLive t free (with_standing e s)
 second_live t free e Refused live = absurd (false≢true live)
@@ -125,9 +123,10 @@ all_weaker P Q f (e ∷ es) h = (f e h.0, all_weaker P Q f es h.1)
 
 pub all_hold : (es : List Entry) → AllByRecursion (Holding (is_held es)) es
 all_hold [] = tt
-all_hold (e ∷ es) =
-    ((λ live. or_left (holds e.channel e) (is_held es e.channel) (and_from (is_live e.standing) (e.channel == e.channel) live (eq-eqb e.channel e.channel refl))),
-     all_weaker (Holding (is_held es)) (Holding (is_held (e ∷ es))) (λ f h live. or_right (holds f.channel e) (is_held es f.channel) (h live)) es (all_hold es))
+all_hold (e ∷ es) = (
+  (λ live. or_left (holds e.channel e) (is_held es e.channel) (and_from (is_live e.standing) (e.channel == e.channel) live (eq-eqb e.channel e.channel refl))),
+  all_weaker (Holding (is_held es)) (Holding (is_held (e ∷ es))) (λ f h live. or_right (holds f.channel e) (is_held es f.channel) (h live)) es (all_hold es),
+)
 
 -- a channel that is free is not held
 pub free_held : (d : Day) (c : ℕ) → is_free d c ≡ true → is_held d.entries c ≡ true → ⊥

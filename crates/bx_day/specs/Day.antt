@@ -1,5 +1,5 @@
 -- The day: what has become of each booking, and the channels in maintenance. A tick, a receipt, a run.
-use Rattle.std.specs.Prelude.{ℕ, ◌+◌, ◌==◌, nat_le, nat_lt, ◌&&◌, ◌||◌, not, Bool, true, false, List, [], ◌∷◌, ◌++◌, map, length, Option, Some, None, if◌then◌else◌, slice_index_or, slice_set, replicate, suc}
+use Rattle.std.specs.Prelude.{ℕ, ◌+◌, ◌==◌, nat_le, ◌&&◌, ◌||◌, not, Bool, true, false, List, [], ◌∷◌, map, Option, Some, None, if◌then◌else◌, slice_index_or, slice_set, replicate, suc}
 use Rattle.std.specs.List.{list_any, flat_map}
 use Rattle.bx_q931.specs.declared.kind.Kind.{Kind}
 use Rattle.bx_q931.specs.declared.kind.Kind.TheVariants.{Setup}
@@ -11,7 +11,7 @@ use Rattle.bx_calls.specs.declared.step.Next.{Next}
 use Rattle.bx_calls.specs.declared.step.Next.TheVariants.{Live, Over, Broken}
 use Rattle.bx_calls.specs.PlainCalls.{PlainNetCall}
 use Rattle.bx_calls.specs.declared.net_state.NetState.{NetState}
-use Rattle.bx_calls.specs.declared.net_state.NetState.TheVariants.{OutgoingCallProceeding, CallPresent, IncomingCallProceeding, CallReceived, Active, DisconnectIndication, ReleaseRequest}
+use Rattle.bx_calls.specs.declared.net_state.NetState.TheVariants.{Active}
 use Rattle.bx_calls.specs.NetTable.{net_message, net_second, net_flag, net_offered, net_answered, proceeding_of}
 use Rattle.bx_calls.specs.Saying.{setup_of}
 use Rattle.bx_calls.specs.UnknownTable.{refusal_of, unknown_row}
@@ -130,7 +130,8 @@ pub record Sent : Type 0 where
 abbrev pub ticked : Day → Sent
 ticked d = record {
   day = record { moment = d.moment + 1; entries = map (after_second d) d.entries; maintenance = maintained d 0 d.maintenance };
-  sent = flat_map (λ c. said_on d c d.entries) every_channel }
+  sent = flat_map (λ c. said_on d c d.entries) every_channel;
+}
 
 abbrev pub tick : Day → Sent
 tick d = if nat_le 300000 d.moment then record { day = d; sent = [] } else ticked d
@@ -194,8 +195,10 @@ abbrev pub with_moved : Day → ℕ → Moved → Answered
 with_moved d i m = record {
   day = record d {
     entries = slice_set d.entries i (record (entry_at d.entries i) { standing = m.standing });
-    maintenance = if m.broken then slice_set d.maintenance (entry_at d.entries i).channel true else d.maintenance };
-  reply = m.said }
+    maintenance = if m.broken then slice_set d.maintenance (entry_at d.entries i).channel true else d.maintenance;
+  };
+  reply = m.said;
+}
 
 abbrev pub hears : Said → ℕ → Standing → Moved
 hears m t (OnCall call activity) = follows activity t (net_message call m.heard t)

@@ -1,5 +1,5 @@
 -- One call per channel, over every list of events.
-use Rattle.std.specs.Prelude.{◌≡◌, ◌≢◌, ℕ, ◌+◌, ◌-◌, ◌≤◌, ◌<◌, Bool, true, false, List, length, All, Option, Some}
+use Rattle.std.specs.Prelude.{◌≡◌, ◌≢◌, ℕ, ◌+◌, ◌-◌, ◌≤◌, ◌<◌, true, false, List, length, All, Option, Some}
 use Rattle.bx_q931.specs.declared.kind.Kind.TheVariants.{Setup, CallProceeding}
 use Rattle.bx_q931.specs.Outgoing.{Outgoing}
 use Rattle.bx_calls.specs.PlainCalls.{PlainNetCall}
@@ -7,10 +7,9 @@ use Rattle.bx_calls.specs.declared.net_state.NetState.TheVariants.{Active}
 use Rattle.bx_base.specs.Bookings.{Row, row_at, is_running}
 use Rattle.bx_base.specs.Plans.{is_accepted, channel_at}
 use Rattle.bx_day.specs.Day.{Day, entry_at, Sent}
-use Rattle.bx_day.specs.declared.entry.Entry.{Entry}
 use Rattle.bx_day.specs.declared.entry.Standing.{Standing}
 use Rattle.bx_day.specs.declared.entry.Activity.{Activity}
-use Rattle.bx_day.specs.declared.entry.Standing.TheVariants.{Refused, Unoffered, OnCall, Carried, Unanswered, Missed}
+use Rattle.bx_day.specs.declared.entry.Standing.TheVariants.{Unoffered, OnCall, Carried}
 
 -- of a live call
 abbrev pub OnLive : Standing → (PlainNetCall → Activity → Type 0) → Type 0

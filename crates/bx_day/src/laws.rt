@@ -11,5 +11,4 @@ ghost use Rattle.bx_day.specs.Law.{IsOrderly, SentFits};
 pub fn one_per_channel()
     ensures state { (rows : List Row) (channels : List Bool) (assigned : List (Option ℕ)) (events : List Event) → AreBookings rows → Carries rows channels (is_accepted assigned) (channel_at assigned) → IsOrderly rows assigned (day_after events (opening rows assigned)) }
     ensures sent { (rows : List Row) (channels : List Bool) (assigned : List (Option ℕ)) (events : List Event) (event : Event) → AreBookings rows → Carries rows channels (is_accepted assigned) (channel_at assigned) → SentFits rows assigned (happens (day_after events (opening rows assigned)) event) }
-{
-}
+{}
