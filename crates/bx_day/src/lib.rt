@@ -3,5 +3,6 @@
 
 mod entry;
 pub mod laws;
+pub mod moving;
 
 pub use entry::{Activity, Entry, Moved, Standing};
