@@ -1,7 +1,7 @@
 -- Prices on moments, and the bound that they set.
-use Rattle.std.specs.Prelude.{◌≡◌, ℕ, ◌+◌, ◌-◌, ◌*◌, ◌<◌, ◌≤◌, ℤ, pos, ◌+ℤ◌, ◌-ℤ◌, Bool, List, length, All, map, sum_by, slice_index_or, if◌then◌else◌}
+use Rattle.std.specs.Prelude.{◌≡◌, ℕ, ◌-◌, ◌*◌, ◌<◌, ◌≤◌, ℤ, pos, ◌+ℤ◌, ◌-ℤ◌, Bool, List, length, All, map, sum_by, slice_index_or, if◌then◌else◌}
 use Rattle.std.specs.List.Sorted.{IsStrictlyIncreasing}
-use Rattle.bx_base.specs.Sums.{sum_below, sum_ints_below}
+use Rattle.bx_base.specs.Sums.{sum_ints_below}
 use Rattle.bx_base.specs.Channels.{count_of}
 use Rattle.bx_base.specs.Bookings.{Row, row_at, is_running, IsLawful, pay_of}
 

@@ -1,5 +1,5 @@
 -- Plans: which rows are accepted, on which channels, and at which prices.
-use Rattle.std.specs.Prelude.{◌≡◌, ℕ, ◌<◌, ◌≤◌, Bool, true, false, List, length, Option, None, is_some, unwrap_or, slice_index_or}
+use Rattle.std.specs.Prelude.{◌≡◌, ℕ, Bool, true, false, List, Option, None, is_some, unwrap_or, slice_index_or}
 use Rattle.bx_base.specs.Channels.{has_channel}
 use Rattle.bx_base.specs.Bookings.{Row, row_at, Overlap}
 

@@ -1,5 +1,5 @@
 -- What the bound of a plan that is not proved says.
-use Rattle.std.specs.Prelude.{ℕ, ◌<◌, ◌^◌}
+use Rattle.std.specs.Prelude.{ℕ, ◌<◌}
 use Rattle.bx_check.specs.declared.judge.CheckFault.{CheckFault}
 use Rattle.bx_check.specs.declared.judge.CheckFault.TheVariants.{NotProved}
 

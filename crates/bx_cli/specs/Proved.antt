@@ -1,6 +1,6 @@
 -- What a proved plan text says.
-use Rattle.std.specs.Prelude.{◌≡◌, ℕ, ◌≤◌, Bool, List, [], ◌∷◌, ◌++◌, Ok, Err, codes, decimal}
-use Rattle.bx_base.specs.Bookings.{Row, Carries, IsLawful, pay_of}
+use Rattle.std.specs.Prelude.{◌≡◌, ℕ, ◌≤◌, Bool, List, [], ◌∷◌, ◌++◌, Ok, codes, decimal}
+use Rattle.bx_base.specs.Bookings.{Carries, IsLawful, pay_of}
 use Rattle.bx_base.specs.Plans.{is_accepted, channel_at}
 use Rattle.bx_base.specs.PlanParts.{Parts, IsPlan}
 use Rattle.bx_planfile.specs.Text.{IsTextOf}

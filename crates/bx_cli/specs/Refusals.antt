@@ -1,5 +1,5 @@
 -- What each refusal of a check says of the octets that were read, and of what was written.
-use Rattle.std.specs.Prelude.{◌≡◌, ℕ, Bool, true, List, Option, Some, Ok, Err, codes, ◌⊎◌}
+use Rattle.std.specs.Prelude.{◌≡◌, ℕ, Bool, true, List, Option, Some, Err, codes, ◌⊎◌}
 use Rattle.std.specs.Io.KnownBytes.{Keeps}
 use Rattle.bx_base.specs.Octets.{AppendsPrefix, ReadsFront}
 use Rattle.bx_base.specs.PlanParts.{Parts, IsPlan}

@@ -1,5 +1,6 @@
 -- No moment has more rows running than the start of the last of them to start.
 use Rattle.std.proofs.Common.{◌≡◌, ℕ, zero, suc, ◌<◌, ◌≤◌, Bool, true, false, cond, ◌&&◌, List, length, refl, arith, ◌⊎◌, inl, inr}
+use Rattle.std.specs.Prelude.{nat_le, nat_lt}
 use Rattle.std.proofs.lemmas.Bool.{cases_lt, and_parts, and_from, leb-true, ltb-true, le-leb, lt-ltb, cond-false}
 use Rattle.bx_base.proofs.SumLemmas.{sum_below-le, sum_below-zero}
 use Rattle.bx_base.specs.Bookings.{Row, row_at, is_running}
@@ -32,7 +33,7 @@ module _ (rows : List Row) (accepted : List Bool) (t : ℕ) where
 
   runs_at_start : (k i : ℕ) → runs rows accepted t k ≡ true → (row_at rows i).start ≤ (row_at rows k).start → runs rows accepted t i ≡ true → runs rows accepted (row_at rows k).start i ≡ true
   runs_at_start k i rk le ri =
-      let pk = and_parts _ _ (and_parts _ _ rk).1 in
+      let pk = and_parts (nat_le (row_at rows k).start t) (nat_lt t (row_at rows k).end) (and_parts (is_in accepted k) (is_running (row_at rows k) t) rk).1 in
       let pi = and_parts _ _ ri in
       let qi = and_parts _ _ pi.1 in
       let k_started = leb-true (row_at rows k).start t pk.0 in

@@ -1,6 +1,6 @@
 //! How many accepted bookings run at once.
 
-ghost use Rattle.std.specs.Prelude.{◌≡◌, ◌≤◌, ◌↔◌, IsTrue, length};
+ghost use Rattle.std.specs.Prelude.{◌≡◌, ◌↔◌, IsTrue, length};
 ghost use Rattle.bx_colour.specs.Colouring.{running_at, FitsChannels};
 
 use bx_base::{Bookings, ChannelSet};

@@ -32,6 +32,10 @@ pub network_in_limits : (rows : List Row) (moments : List ℕ) (arcs : List Arc)
 network_in_limits rows moments arcs bookings few rising just are =
     record {
       few_places = few;
+      two_ends = λ some.
+          let m = (just (get_or moments 0 0)).0 (Contains-get_or moments 0 0 some) in
+          let arc = arc_in_limits moments (row_at rows m.0) _ rising (bookings.each m.0 m.1) (are.each m.0 m.1) in
+          omega (arith, arc.rising, arc.within);
       few_rows = omega (arith, are.one_each, bookings.few);
       rising = rising;
       in_day = λ v h. moment_in_day rows bookings (get_or moments v 0) ((just (get_or moments v 0)).0 (Contains-get_or moments v 0 h));

@@ -66,6 +66,7 @@ pub record IsArc (places : ℕ) (arc : Arc) : Type 0 where
 -- the limits of a line
 pub record IsNetwork (line : Network) : Type 0 where
   pub few_places : places_of line ≤ 8000
+  pub two_ends : 0 < places_of line → 2 ≤ places_of line
   pub few_rows : length line.arcs ≤ 4000
   pub rising : IsStrictlyIncreasing line.moments
   pub in_day : (v : ℕ) → v < places_of line → slice_index line.moments v ≤ 200000

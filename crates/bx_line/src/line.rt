@@ -1,7 +1,6 @@
 //! The line network.
 
-ghost use Rattle.std.specs.Prelude.{◌≡◌, ◌≤◌, ◌<◌, ◌-◌, ◌↔◌, IfOk, IfSome, IsSome, length, Contains};
-ghost use Rattle.std.specs.List.Sorted.{IsStrictlyIncreasing};
+ghost use Rattle.std.specs.Prelude.{◌≡◌, ◌≤◌, ◌<◌, ◌-◌, ◌↔◌, IfOk, IfSome, IsSome, length};
 ghost use Rattle.bx_line.specs.Moments.{HasJustMoments};
 ghost use Rattle.bx_line.specs.Network.{IsNetwork, IsArc, AreArcsOf, arc_at, places_of};
 

@@ -1,4 +1,4 @@
-use Rattle.std.proofs.Common.{◌≡◌, ◌≢◌, ◌<◌, ◌≤◌, ℕ, Bool, List, sym, ◌∙◌, arith}
+use Rattle.std.proofs.Common.{◌≡◌, Bool, List, sym, ◌∙◌, arith}
 use Rattle.std.specs.Prelude.{pos}
 use Rattle.bx_base.specs.Channels.{count_of}
 use Rattle.bx_base.specs.Bookings.{Row}

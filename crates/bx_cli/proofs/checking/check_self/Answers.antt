@@ -1,4 +1,4 @@
-use Rattle.std.proofs.Common.{◌≡◌, ℕ, List, sym, ◌∙◌, subst}
+use Rattle.std.proofs.Common.{ℕ, List, ◌∙◌, subst}
 use Rattle.bx_base.specs.Watching.{device_of}
 use Rattle.bx_base.proofs.OctetLemmas.{ReadsAll-known}
 use Rattle.bx_cli.specs.Proved.{IsProvedText}

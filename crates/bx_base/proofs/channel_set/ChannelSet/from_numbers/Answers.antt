@@ -1,8 +1,8 @@
-use Rattle.std.proofs.Common.{◌≡◌, ℕ, ◌<◌, Bool, true, false, List, [], ◌∷◌, ◌++◌, length, take, get_or, replicate, refl, sym, ◌∙◌, subst, arith, inl, inr}
+use Rattle.std.proofs.Common.{◌≡◌, Bool, true, false, List, [], take, get_or, replicate, refl, ◌∙◌, subst, arith, inl, inr}
 use Rattle.std.specs.List.{Contains}
 use Rattle.std.proofs.lemmas.Bool.{cases_lt}
 use Rattle.std.proofs.lemmas.List.{take_more, get_or-replicate, get_or_past}
-use Rattle.bx_base.specs.Channels.{IsChannel, AreChannels, HasJust, has_channel}
+use Rattle.bx_base.specs.Channels.{AreChannels, HasJust, has_channel}
 use Rattle.bx_base.proofs.ChannelLists.{AreChannels-push, HasJust-push}
 use Rattle.bx_base.proofs.channel_set.ChannelSet.from_numbers.Goals as goal
 

@@ -1,0 +1,11 @@
+pub mod Fitting
+pub mod Listing
+pub mod Sending
+pub mod Simple
+pub mod After
+pub mod Passes
+pub mod Marking
+pub mod Rounding
+pub mod RoundSteps
+pub mod Steep
+pub mod WalkTests

@@ -1,0 +1,228 @@
+-- Rounds over all steps. Each length is that of a walk, so potentials that fit bound it from below, and what the lengths have
+-- above that bound falls with each change. Once no step shortens anything the lengths fit, so no walk is shorter.
+use Rattle.std.proofs.Common.{◌≡◌, ◌≢◌, ℕ, zero, suc, ◌+◌, ◌-◌, ◌*◌, ◌<◌, ◌≤◌, List, [], ◌∷◌, ◌++◌, length, replicate, ℤ, pos, nat_abs, ◌+ℤ◌, ◌-ℤ◌, ◌≤ℤ◌, refl, sym, ◌∙◌, ap, subst, arith, inl, inr, get_or-set_same, get_or-set_other, length-set}
+use Rattle.std.specs.Prelude.{◌<ℤ◌}
+use Rattle.std.specs.List.{Contains}
+use Rattle.std.proofs.lemmas.Int.{ints}
+use Rattle.std.proofs.lemmas.Bool.{cases_lt, cases_eq}
+use Rattle.std.proofs.lemmas.List.{get_or_past, get_or-replicate, length-replicate}
+use Rattle.bx_base.specs.Sums.{sum_below}
+use Rattle.bx_base.proofs.SumLemmas.{sum_below-le}
+use Rattle.bx_line.specs.Network.{Network, IsNetwork, places_of}
+use Rattle.bx_line.specs.Flows.{Flow}
+use Rattle.bx_dist.specs.declared.part.Part.{Part}
+use Rattle.bx_dist.specs.declared.step.Step.{Step}
+use Rattle.bx_dist.specs.declared.step.Step.TheVariants.{Idle, Back, Take, Give}
+use Rattle.bx_dist.specs.Residual.{IsOpen, Fits, ArePotentials, AreSmall, height_at, step_from, step_to, step_cost}
+use Rattle.bx_dist.specs.Walks.{IsWalk, walk_length, AreReached, AreLeast, AreDistances, lengths_of}
+use Rattle.bx_dist.specs.Search.{AreOpenSteps, IsSettled, Shortens, AreMedium, IsStep, AreSteps, IsTightWalk, Reaches, IsFound}
+use Rattle.bx_dist.proofs.Fitting.{walk_long, open_in_whole}
+use Rattle.bx_dist.proofs.After.{walk_and_step, length_and_step, step_within, row_within, tight_from_least, AllTight}
+
+-- lengths of walks, none above 0
+pub record AreBounds (part : Part) (line : Network) (flow : Flow) (lengths : List ℤ) : Type 0 where
+  pub one_each : length lengths ≡ places_of line
+  pub reached : AreReached part line flow lengths
+  pub low : (v : ℕ) → height_at lengths v ≤ℤ pos 0
+
+-- how far the lengths are together above what the potentials show that no walk can go below
+abbrev pub excess_at : List ℤ → List ℤ → ℕ → ℕ
+excess_at heights lengths v = nat_abs (height_at lengths v -ℤ (height_at heights v -ℤ height_at heights 0))
+
+abbrev pub excess : Network → List ℤ → List ℤ → ℕ
+excess line heights lengths = sum_below (places_of line) (λ v. excess_at heights lengths v)
+
+sum_below-less : (n : ℕ) (f g : ℕ → ℕ) (k : ℕ) → ((i : ℕ) → i < n → f i ≤ g i) → k < n → f k + 1 ≤ g k → sum_below n f + 1 ≤ sum_below n g
+sum_below-less zero f g k h b l = absurd (omega arith)
+sum_below-less (suc n) f g k h b l =
+    elim (cases_lt k n) [
+      | inl a ↦ omega (arith, sum_below-less n f g k (λ i c. h i (omega arith)) a l, h n (omega arith))
+      | inr a ↦ (let e : k ≡ n = omega arith in let here = rw e at l in omega (arith, sum_below-le n f g (λ i c. h i (omega arith)), here))
+    ]
+
+-- the way over idle arcs alone
+abbrev idle_to : ℕ → List Step
+idle_to zero = []
+idle_to (suc v) = idle_to v ++ Idle v ∷ []
+
+zeros_at : (n v : ℕ) → height_at (replicate n (pos 0)) v ≡ pos 0
+zeros_at n v = elim (cases_lt v n) [ inl h ↦ get_or-replicate n v (pos 0) (pos 0) h | inr h ↦ get_or_past (replicate n (pos 0)) v (pos 0) (omega (arith, length-replicate {A = ℤ} n (pos 0))) ]
+
+module _ (part : Part) (line : Network) (flow : Flow) where
+  idle_walk : (v : ℕ) → v < places_of line → IsWalk part line flow 0 v (idle_to v)
+  idle_walk zero h = refl
+  idle_walk (suc v) h = subst (λ (u : ℕ). IsWalk part line flow 0 u (idle_to (suc v))) (omega arith) (walk_and_step part line flow 0 v (idle_to v) (Idle v) (idle_walk v (omega arith)) (omega arith) refl)
+
+  idle_length : (v : ℕ) → walk_length line (idle_to v) ≡ pos 0
+  idle_length zero = refl
+  idle_length (suc v) = omega (arith, ints, length_and_step line (idle_to v) (Idle v), idle_length v)
+
+  pub zeros_are_bounds : AreBounds part line flow (replicate (places_of line) (pos 0))
+  zeros_are_bounds =
+      record {
+        one_each = length-replicate {A = ℤ} (places_of line) (pos 0);
+        reached = λ v h. (idle_to v, idle_walk v h, idle_length v ∙ sym (zeros_at (places_of line) v));
+        low = λ v. omega (arith, ints, zeros_at (places_of line) v);
+      }
+
+  module _ (network : IsNetwork line) (lengths : List ℤ) (bounds : AreBounds part line flow lengths) where
+    module _ (step : Step) (open_step : IsOpen part line flow step) (new : List ℤ) (shorter : Shortens line step lengths new) where
+      within : (step_from line step < places_of line) × (step_to line step < places_of line)
+      within = step_within part line flow network step open_step
+
+      new_at : height_at new (step_to line step) ≡ (height_at lengths (step_from line step) +ℤ step_cost line step)
+      new_at = ap (λ (l : List ℤ). height_at l (step_to line step)) shorter.now ∙ get_or-set_same lengths (step_to line step) (height_at lengths (step_from line step) +ℤ step_cost line step) (pos 0) (omega (arith, bounds.one_each, within.1))
+
+      other_at : (v : ℕ) → v ≢ step_to line step → height_at new v ≡ height_at lengths v
+      other_at v d = ap (λ (l : List ℤ). height_at l v) shorter.now ∙ get_or-set_other lengths (step_to line step) v (height_at lengths (step_from line step) +ℤ step_cost line step) (pos 0) d
+
+      reached_after : AreReached part line flow new
+      reached_after v h =
+          elim (cases_eq v (step_to line step)) [
+            | inl e ↦ (
+                let r = bounds.reached (step_from line step) within.0 in
+                let w = walk_and_step part line flow 0 (step_from line step) r.0 step r.1 open_step refl in
+                rw e (r.0 ++ step ∷ [], w, omega (arith, ints, length_and_step line r.0 step, r.2, new_at)))
+            | inr d ↦ (let r = bounds.reached v h in (r.0, r.1, r.2 ∙ sym (other_at v d)))
+          ]
+
+      pub bounds_after : AreBounds part line flow new
+      bounds_after =
+          record {
+            one_each = ap (length {A = ℤ}) shorter.now ∙ (length-set lengths (step_to line step) (height_at lengths (step_from line step) +ℤ step_cost line step) ∙ bounds.one_each);
+            reached = reached_after;
+            low = λ v. elim (cases_eq v (step_to line step)) [
+              | inl e ↦ (let at = ap (height_at new) e in omega (arith, ints, at, new_at, shorter.lower, bounds.low (step_to line step)))
+              | inr d ↦ omega (arith, ints, other_at v d, bounds.low v)
+            ];
+          }
+
+    module _ (heights : List ℤ) (potentials : ArePotentials line flow heights) where
+      fits_part : Fits part line flow heights
+      fits_part step o = potentials.fits step (open_in_whole part line flow step o)
+
+      -- no length is below what the potentials allow
+      pub above : (v : ℕ) → v < places_of line → (height_at heights v -ℤ height_at heights 0) ≤ℤ height_at lengths v
+      above v h =
+          let r = bounds.reached v h in
+          let long = walk_long part line flow heights fits_part 0 v r.0 r.1 in
+          omega (arith, ints, long, r.2)
+
+      pub medium : AreSmall heights → AreMedium lengths
+      medium small v =
+          elim (cases_lt v (places_of line)) [
+            | inl h ↦ omega (arith, ints, above v h, bounds.low v, small v, small 0)
+            | inr h ↦ (let past = get_or_past lengths v (pos 0) (omega (arith, bounds.one_each)) in omega (arith, ints, past))
+          ]
+
+  one_less : (old new bound : ℤ) → bound ≤ℤ new → new <ℤ old → nat_abs (new -ℤ bound) + 1 ≤ nat_abs (old -ℤ bound)
+  one_less old new bound h l = omega (arith, ints)
+
+  pub excess_falls : IsNetwork line → (heights lengths new : List ℤ) → ArePotentials line flow heights → AreBounds part line flow lengths → (step : Step) → IsOpen part line flow step → Shortens line step lengths new → excess line heights new + 1 ≤ excess line heights lengths
+  excess_falls network heights lengths new potentials bounds step o s =
+      let to = step_to line step in
+      let inside = step_within part line flow network step o in
+      let after = bounds_after network lengths bounds step o new s in
+      let at = new_at network lengths bounds step o new s in
+      let base = height_at heights to -ℤ height_at heights 0 in
+      let floor = above network new after heights potentials to inside.1 in
+      let lower : height_at new to <ℤ height_at lengths to = omega (arith, ints, at, s.lower) in
+      let here = one_less (height_at lengths to) (height_at new to) base floor lower in
+      sum_below-less (places_of line) (excess_at heights new) (excess_at heights lengths) to (λ v h. elim (cases_eq v to) [
+        | inl e ↦ (let n = ap (excess_at heights new) e in let l = ap (excess_at heights lengths) e in omega (arith, n, l, here))
+        | inr d ↦ (let same = ap (λ (z : ℤ). nat_abs (z -ℤ (height_at heights v -ℤ height_at heights 0))) (other_at network lengths bounds step o new s v d) in omega (arith, same))
+      ]) inside.1 here
+
+  pub open_is_step : (step : Step) → IsOpen part line flow step → IsStep line step
+  open_is_step (Idle v) o = o
+  open_is_step (Back v) o = o.0
+  open_is_step (Take r) o = (o.there.named, o.there.within)
+  open_is_step (Give r) o = (o.there.named, o.there.within)
+
+  module _ (network : IsNetwork line) (steps : List Step) (are_open : AreOpenSteps part line flow steps) where
+    pub are_steps : AreSteps line steps
+    are_steps step c = open_is_step step (are_open.open_alone step c)
+
+    -- tight steps from the list make a walk, as long as the lengths differ
+    tight_is_walk : (lengths : List ℤ) (from to : ℕ) (walk : List Step) → IsTightWalk line steps lengths from to walk → IsWalk part line flow from to walk
+    tight_is_walk lengths from to [] w = w
+    tight_is_walk lengths from to (step ∷ walk) w = (are_open.open_alone step w.0, w.2, tight_is_walk lengths (step_to line step) to walk w.3)
+
+    tight_length : (lengths : List ℤ) (from to : ℕ) (walk : List Step) → IsTightWalk line steps lengths from to walk → height_at lengths to ≡ (height_at lengths from +ℤ walk_length line walk)
+    tight_length lengths from to [] w = omega (arith, ints, ap (height_at lengths) w)
+    tight_length lengths from to (step ∷ walk) w =
+        omega (arith, ints, tight_length lengths (step_to line step) to walk w.3, w.1, ap (height_at lengths) w.2)
+
+    walk_is_tight : (lengths : List ℤ) (from to : ℕ) (walk : List Step) → IsWalk part line flow from to walk → AllTight line lengths walk → IsTightWalk line steps lengths from to walk
+    walk_is_tight lengths from to [] w t = w
+    walk_is_tight lengths from to (step ∷ walk) w t = (are_open.all step w.0, t.0, w.1, walk_is_tight lengths (step_to line step) to walk w.2 t.1)
+
+    low_step : (step : Step) → IsOpen part line flow step → pos 0 ≤ℤ (step_cost line step +ℤ pos 5001000000000)
+    low_step (Idle v) o = omega (arith, ints)
+    low_step (Back v) o = omega (arith, ints)
+    low_step (Take r) o = let a = row_within part line network r o.there in omega (arith, ints, a.pay_limit)
+    low_step (Give r) o = omega (arith, ints)
+
+    low_walk : (from to : ℕ) (walk : List Step) → IsWalk part line flow from to walk → pos 0 ≤ℤ (walk_length line walk +ℤ pos (5001000000000 * length walk))
+    low_walk from to [] w = omega (arith, ints)
+    low_walk from to (step ∷ walk) w = omega (arith, ints, low_step step w.0, low_walk (step_to line step) to walk w.2)
+
+    module _ (some : 0 < places_of line) (lengths : List ℤ) (bounds : AreBounds part line flow lengths) (settled : (step : Step) → Contains steps step → IsSettled line lengths step) where
+      settled_fits : Fits part line flow lengths
+      settled_fits step o = settled step (are_open.all step o)
+
+      pub settled_least : AreLeast part line flow lengths
+      settled_least =
+          record {
+            one_each = bounds.one_each;
+            reached = bounds.reached;
+            least = λ v walk h w. omega (arith, ints, walk_long part line flow lengths settled_fits 0 v walk w, bounds.low 0);
+          }
+
+      last_within : places_of line - 1 < places_of line
+      last_within = omega arith
+
+      pub settled_reaches : Reaches line steps lengths (places_of line - 1)
+      settled_reaches =
+          let r = bounds.reached (places_of line - 1) last_within in
+          (r.0, walk_is_tight lengths 0 (places_of line - 1) r.0 r.1 (tight_from_least part line flow lengths settled_fits 0 (places_of line - 1) r.0 r.1 (omega (arith, ints, r.2, bounds.low 0))))
+
+      zero_at_first : height_at lengths 0 ≡ pos 0
+      zero_at_first =
+          let r = bounds.reached 0 some in
+          let long = walk_long part line flow lengths settled_fits 0 0 r.0 r.1 in
+          omega (arith, ints, long, r.2, bounds.low 0)
+
+      falls_on : (n v : ℕ) → v + n < places_of line → height_at lengths (v + n) ≤ℤ height_at lengths v
+      falls_on zero v h = omega (arith, ints, ap (height_at lengths) (add_zero v))
+        where
+          add_zero : (u : ℕ) → u + zero ≡ u
+          add_zero u = omega arith
+      falls_on (suc n) v h =
+          let before = falls_on n v (omega arith) in
+          let step = settled_fits (Idle (v + n)) (omega arith) in
+          let same : v + suc n ≡ v + n + 1 = omega arith in
+          omega (arith, ints, before, step, ap (height_at lengths) same)
+
+      module _ (walk : List Step) (found : IsFound line steps lengths walk) where
+        is_walk : IsWalk part line flow 0 (places_of line - 1) walk
+        is_walk = tight_is_walk lengths 0 (places_of line - 1) walk found.leads
+
+        as_long : walk_length line walk ≡ height_at lengths (places_of line - 1)
+        as_long = omega (arith, ints, tight_length lengths 0 (places_of line - 1) walk found.leads, zero_at_first)
+
+        pub found_distances : AreDistances part line flow (lengths_of lengths walk)
+        found_distances =
+            record { lengths = settled_least; path = record { some_place = some; leads = is_walk; once = found.once }; shortest = as_long }
+
+        pub found_small : AreSmall lengths
+        found_small v =
+            elim (cases_lt v (places_of line)) [
+              | inl h ↦ (
+                  let n = places_of line - 1 - v in
+                  let e : v + n ≡ places_of line - 1 = omega arith in
+                  let fall = falls_on n v (omega arith) in
+                  let at = ap (height_at lengths) e in
+                  omega (arith, ints, fall, at, as_long, low_walk 0 (places_of line - 1) walk is_walk, found.few, network.few_places, bounds.low v))
+              | inr h ↦ (let past = get_or_past lengths v (pos 0) (omega (arith, bounds.one_each)) in omega (arith, ints, past))
+            ]

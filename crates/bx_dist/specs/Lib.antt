@@ -1,0 +1,4 @@
+pub mod Residual
+pub mod Walks
+pub mod Sending
+pub mod Search

@@ -1,0 +1,25 @@
+//! Distances in the residual network of a flow along the line, and flows grown by a unit.
+#![tactic(auto)]
+
+mod carried;
+mod circle;
+mod dist;
+#[cfg(test)]
+mod examples;
+mod first;
+pub mod laws;
+mod marks;
+mod part;
+mod path;
+mod potentials;
+mod relax;
+mod rounds;
+mod step;
+mod steps;
+
+pub use carried::Carried;
+pub use dist::{Dist, Distances};
+pub use part::Part;
+pub use potentials::Potentials;
+pub use rounds::Rounds;
+pub use step::Step;

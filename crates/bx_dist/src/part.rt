@@ -1,0 +1,8 @@
+/// A part of the residual network.
+#[derive(Clone, Copy, Debug, PartialEq, Eq)]
+pub enum Part {
+    /// All of it.
+    Whole,
+    /// What is left without the arcs of bookings that each plan has to hold, and their reverses.
+    Free,
+}

@@ -1,0 +1,39 @@
+//! One step of the search for least lengths.
+
+ghost use Rattle.std.specs.Prelude.{◌≡◌, ◌↔◌, IsTrue, length, true, false};
+ghost use Rattle.bx_line.specs.Network.{places_of};
+ghost use Rattle.bx_dist.specs.Search.{IsStep, IsSettled, IsTight, Shortens, AreMedium};
+
+use crate::step::Step;
+use crate::steps::ends_of;
+use bx_line::Line;
+
+/// Takes the step where it shortens the way to its end, and says whether it does.
+pub fn shorten(lengths: &mut [i64], line: &Line, step: Step) -> bool
+    requires step { IsStep line.now step }
+    requires one_each { length lengths.old ≡ places_of line.now }
+    requires medium { AreMedium lengths.old }
+    ensures shorter { result ≡ true → Shortens line.now step lengths.old lengths.new }
+    ensures settled { result ≡ false → IsSettled line.now lengths.old step }
+    ensures unchanged { result ≡ false → lengths.new ≡ lengths.old }
+{
+    let (from, to, cost) = ends_of(line, step);
+    let shorter = lengths[from as usize] + cost;
+    if shorter < lengths[to as usize] {
+        lengths[to as usize] = shorter;
+        true
+    } else {
+        false
+    }
+}
+
+/// Whether the step is just as long as the lengths at its ends differ.
+pub fn is_tight(lengths: &[i64], line: &Line, step: Step) -> bool
+    requires step { IsStep line.now step }
+    requires one_each { length lengths.now ≡ places_of line.now }
+    requires medium { AreMedium lengths.now }
+    ensures { IsTrue result ↔ IsTight line.now lengths.now step }
+{
+    let (from, to, cost) = ends_of(line, step);
+    lengths[from as usize] + cost == lengths[to as usize]
+}

@@ -1,0 +1,63 @@
+//! Least-cost flow by shortest walks, one unit after another.
+
+ghost use Rattle.std.specs.Prelude.{◌≡◌, ◌≤◌, ◌<◌, IfOk};
+ghost use Rattle.bx_dist.specs.Residual.{ArePotentials};
+ghost use Rattle.bx_dist.specs.Walks.{AreLeast};
+ghost use Rattle.bx_flow.specs.Costs.{IsLeastCost};
+ghost use Rattle.bx_line.specs.Flows.{IsFlow};
+ghost use Rattle.bx_line.specs.Network.{IsNetwork, places_of};
+
+use bx_dist::{Carried, Distances, Part, Potentials};
+use bx_line::Line;
+use std::alloc::{AllocError, Global};
+
+/// Sends so many units from the first place to the last, each along a least walk, with the distances as potentials
+/// for the next.
+fn sent<D: Distances>(
+    alloc: Global,
+    line: &Line,
+    units: u8,
+    distances: &D,
+) -> Result<(Carried, Potentials), AllocError>
+    requires few { units ≤ 30 }
+    requires limits { IsNetwork line.now }
+    requires moment { 0 < places_of line.now }
+    ensures flow { IfOk result (λ r. IsFlow line.now r.0) }
+    ensures units { IfOk result (λ r. r.0.units ≡ units) }
+    ensures fits { IfOk result (λ r. ArePotentials line.now r.0 r.1) }
+{
+    let mut carried = Carried::empty(alloc, line)?;
+    let mut potentials = Potentials::first(alloc, line)?;
+    for _ in 0..units {
+        let dist = distances.from_first(alloc, line, &carried, &potentials, Part::Whole)?;
+        carried.send(line, &dist);
+        potentials = Potentials::of(dist);
+    }
+    Ok((carried, potentials))
+}
+
+/// A flow of so many units, at most 30, from the first place to the last, of which none of as many units costs
+/// less, and the distances in its residual network without the arcs of must rows. By successive least walks with
+/// potentials, for every lawful way to find distances. On a line without moments both are empty, and no distances
+/// are asked for.
+pub fn least_cost<D: Distances>(
+    alloc: Global,
+    line: &Line,
+    units: u8,
+    distances: &D,
+) -> Result<(Carried, Potentials), AllocError>
+    requires { units ≤ 30 }
+    ensures units { IfOk result (λ r. 0 < places_of line.now → r.0.units ≡ units) }
+    ensures least { IfOk result (λ r. IsLeastCost line.now r.0) }
+    ensures distances { IfOk result (λ r. AreLeast Part.Free line.now r.0 r.1) }
+{
+    if line.places() == 0 {
+        return Ok((
+            Carried::empty(alloc, line)?,
+            Potentials::first(alloc, line)?,
+        ));
+    }
+    let (carried, potentials) = sent(alloc, line, units, distances)?;
+    let dist = distances.from_first(alloc, line, &carried, &potentials, Part::Free)?;
+    Ok((carried, Potentials::of(dist)))
+}

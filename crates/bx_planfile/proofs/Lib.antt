@@ -1,0 +1,17 @@
+pub mod Cuts
+pub mod FieldSteps
+pub mod LineCuts
+pub mod Digits
+pub mod Cap
+pub mod Limits
+pub mod DecimalLaws
+pub mod PlainLines
+pub mod ChannelSets
+pub mod LineForms
+pub mod LineLaws
+pub mod ListLaws
+pub mod PlanLaws
+pub mod WrittenLines
+pub mod WritingSteps
+pub mod Loops
+pub mod Refusals

@@ -1,0 +1,52 @@
+//! The line of the channels in service.
+
+ghost use Rattle.std.specs.Prelude.{◌≡◌, ◌<◌, None, Some, map, true, false};
+ghost use Rattle.std.specs.List.{list_all};
+ghost use Rattle.bx_planfile.specs.Forms.{is_decimal, value_of, channel_set, channels_form};
+ghost use Rattle.bx_planfile.specs.Reading.{Answers, read_channels};
+
+use crate::decimals::decimal;
+use crate::fault::PlanFault;
+use crate::fields::Fields;
+use bx_base::{Channel, ChannelSet};
+
+/// Whether all fields that are left are decimals.
+fn all_decimals(mut fields: Fields<'_>) -> bool
+    ensures { result ≡ list_all is_decimal fields.entry }
+{
+    while !fields.is_done() {
+        if decimal(fields.take()).is_none() {
+            return false;
+        }
+    }
+    true
+}
+
+/// The set of the channels whose numbers are left, where they rise.
+fn rising_channels(mut fields: Fields<'_>) -> Option<ChannelSet>
+    requires { list_all is_decimal fields ≡ true }
+    ensures { result ≡ channel_set (map value_of fields.entry) }
+{
+    let mut set = ChannelSet::empty();
+    let mut last = 0;
+    while !fields.is_done() {
+        let number = decimal(fields.take())?;
+        if number <= last || number > 31 {
+            return None;
+        }
+        set = set.with(Channel::new(number as u8)?);
+        last = number;
+    }
+    Some(set)
+}
+
+/// The channels in the fields of line `n`.
+#[tactic(auto, unfolding(crate::specs::Reading::read_channels, crate::specs::Forms::channels_form))]
+pub fn channels_of(mut fields: Fields<'_>, n: u32) -> Result<ChannelSet, PlanFault>
+    ensures { Answers (λ x. x) result (read_channels n fields.entry) }
+{
+    if fields.take() != b"channels".as_slice() || !all_decimals(fields.again()) {
+        return Err(PlanFault::BadLine(n));
+    }
+    rising_channels(fields).ok_or(PlanFault::OutOfLimits(n))
+}

@@ -1,0 +1,22 @@
+//! The text of a plan: read with the first fault that is met, and written.
+#![tactic(auto)]
+
+mod booking_line;
+mod channel_line;
+mod decimals;
+mod fault;
+mod fields;
+pub mod laws;
+mod lines;
+mod lists;
+mod reading;
+mod version;
+mod writing;
+mod written_lines;
+
+pub use fault::{PlanFault, PlanWriteFault};
+pub use reading::read_plan;
+pub use writing::write_plan;
+
+#[cfg(test)]
+mod tests;

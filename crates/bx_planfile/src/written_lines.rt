@@ -1,0 +1,147 @@
+//! The lines of a plan text, each built before it is written.
+
+ghost use Rattle.std.specs.Prelude.{◌≡◌, ◌+◌, ◌<◌, ◌≤◌, ◌++◌, ◌∷◌, [], length, codes, decimal, map, IfSome};
+ghost use Rattle.arrayvec.specs.ArrayVec.{array_vec_len};
+ghost use Rattle.bx_base.specs.Bound.{IsCharge};
+ghost use Rattle.bx_base.specs.Channels.{IsChannel, IsChannelSet, has_channel};
+ghost use Rattle.bx_planfile.specs.declared.version.Version.TheVariants.{Three};
+ghost use Rattle.bx_planfile.specs.Lines.{line_text};
+ghost use Rattle.bx_planfile.specs.Writing.{member_text};
+ghost use Rattle.bx_planfile.specs.Text.{booking_fields, price_fields, named, numbers_from, must_field, direction_field, channel_field};
+
+use arrayvec::ArrayVec;
+use bx_base::{Booking, Channel, ChannelSet, Price};
+use itoa::Buffer;
+
+/// A line, or its front: no line of a plan text is as long.
+pub type Line = ArrayVec<u8, 128>;
+
+/// Adds octets.
+fn append(line: &mut Line, octets: &[u8])
+    requires { array_vec_len line.old + length octets.now ≤ 128 }
+    ensures items { line.new.items ≡ line.old.items ++ octets.now }
+    ensures len { array_vec_len line.new ≡ array_vec_len line.old + length octets.now }
+{
+    match line.try_extend_from_slice(octets) {
+        Ok(()) => {}
+        Err(_) => unreachable!(),
+    }
+}
+
+/// Adds a field, and what stands behind it.
+fn add(line: &mut Line, field: &[u8], stop: u8)
+    requires { array_vec_len line.old + length field.now < 128 }
+    ensures items { line.new.items ≡ line.old.items ++ (field.now ++ stop ∷ []) }
+    ensures len { array_vec_len line.new ≡ array_vec_len line.old + length field.now + 1 }
+{
+    append(line, field);
+    line.push(stop);
+}
+
+/// Adds a decimal, and what stands behind it.
+fn add_decimal(line: &mut Line, number: u64, stop: u8)
+    requires { array_vec_len line.old ≤ 107 }
+    ensures items { line.new.items ≡ line.old.items ++ (decimal number ++ stop ∷ []) }
+    ensures len { array_vec_len line.new ≤ array_vec_len line.old + 21 }
+{
+    let mut digits = Buffer::new();
+    add(line, digits.format(number).as_bytes(), stop);
+}
+
+/// A line of a word and a decimal.
+pub fn named_line(word: &[u8], number: u64) -> Line
+    requires { length word.now ≤ 20 }
+    ensures { result.items ≡ line_text (named word.now number) }
+{
+    let mut line = Line::new();
+    add(&mut line, word, b' ');
+    add_decimal(&mut line, number, b'\n');
+    line
+}
+
+/// The line of a price.
+pub fn price_line(price: &Price) -> Line
+    ensures text { result.items ≡ line_text (price_fields price.now) }
+    ensures limits { IsCharge price.now }
+{
+    let mut line = Line::new();
+    add_decimal(&mut line, u64::from(price.moment), b' ');
+    add_decimal(&mut line, price.amount, b'\n');
+    line
+}
+
+/// Adds a booking's channel, where it has one, and else a dash.
+fn add_channel(line: &mut Line, channel: Option<Channel>)
+    requires { array_vec_len line.old ≤ 107 }
+    ensures items { line.new.items ≡ line.old.items ++ (channel_field channel ++ 32 ∷ []) }
+    ensures len { array_vec_len line.new ≤ array_vec_len line.old + 21 }
+    ensures limits { IfSome channel IsChannel }
+{
+    match channel {
+        None => add(line, b"-", b' '),
+        Some(channel) => add_decimal(line, u64::from(channel.number()), b' '),
+    }
+}
+
+fn must_word(is_must: bool) -> &'static [u8]
+    ensures text { result.now ≡ must_field is_must }
+    ensures short { length result.now ≤ 4 }
+{
+    if is_must { b"must" } else { b"free" }
+}
+
+fn direction_word(is_inward: bool) -> &'static [u8]
+    ensures text { result.now ≡ direction_field is_inward }
+    ensures short { length result.now ≤ 4 }
+{
+    if is_inward { b"in" } else { b"out" }
+}
+
+/// The line of a booking, and of the channel that it has.
+pub fn booking_line(booking: Booking, channel: Option<Channel>) -> Line
+    ensures text { result.items ≡ line_text (booking_fields Three booking channel) }
+    ensures limits { IfSome channel IsChannel }
+{
+    let mut line = Line::new();
+    add_decimal(&mut line, u64::from(booking.start()), b' ');
+    add_decimal(&mut line, u64::from(booking.end()), b' ');
+    add_decimal(&mut line, booking.pay(), b' ');
+    add(&mut line, booking.number().digits(), b' ');
+    add_channel(&mut line, channel);
+    add(&mut line, must_word(booking.is_must()), b' ');
+    add(&mut line, direction_word(booking.is_inward()), b'\n');
+    line
+}
+
+/// Adds a space and the number of a channel, if it is in the set.
+fn add_member(line: &mut Line, channels: &ChannelSet, number: u8)
+    requires room { array_vec_len line.old ≤ 124 }
+    requires set { IsChannelSet channels.now }
+    ensures items { line.new.items ≡ line.old.items ++ member_text (has_channel channels.now number) number }
+    ensures len { array_vec_len line.new ≤ array_vec_len line.old + 3 }
+{
+    let Some(channel) = Channel::new(number) else {
+        return;
+    };
+    if channels.has(channel) {
+        let mut digits = Buffer::new();
+        line.push(b' ');
+        append(line, digits.format(number).as_bytes());
+    }
+}
+
+/// The line of the channels.
+pub fn channels_line(channels: ChannelSet) -> Line
+    ensures text { result.items ≡ line_text (codes "channels" ∷ map decimal (numbers_from 0 channels)) }
+    ensures limits { IsChannelSet channels }
+{
+    let mut line = Line::new();
+    // What is counted are channels, none of them above 31.
+    let _count = channels.count();
+    append(&mut line, b"channels");
+    for number in 0..32 {
+        add_member(&mut line, &channels, number);
+    }
+    line.push(b'\n');
+    line
+}
