@@ -6,3 +6,5 @@ pub mod Receive
 pub mod Law
 pub mod Said
 pub mod Sent
+pub mod Indices
+pub mod OpeningDay

@@ -3,3 +3,4 @@ pub mod Day
 pub mod Run
 pub mod Invariant
 pub mod Law
+pub mod Reading

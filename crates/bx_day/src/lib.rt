@@ -2,7 +2,12 @@
 #![tactic(auto)]
 
 mod entry;
+mod exchange;
 pub mod laws;
 pub mod moving;
+mod opening;
+mod outcome;
 
 pub use entry::{Activity, Entry, Moved, Standing};
+pub use exchange::Exchange;
+pub use outcome::Outcome;
