@@ -1,5 +1,5 @@
 -- The entries of the opening day, one after another.
-use Rattle.std.proofs.Common.{◌≡◌, ℕ, ◌+◌, ◌≤◌, ◌<◌, true, false, Bool, List, [], ◌∷◌, length, Option, Some, None, arith, refl, sym, subst, ap, ◌∙◌, suc, zero, slice_index_or, unwrap_or, is_some, take, ◌++◌}
+use Rattle.std.proofs.Common.{◌≡◌, ℕ, ◌+◌, ◌≤◌, ◌<◌, true, Bool, List, [], ◌∷◌, length, Option, Some, None, arith, refl, sym, subst, ap, ◌∙◌, suc, zero, slice_index_or, unwrap_or, is_some, take, ◌++◌}
 use Rattle.std.specs.List.{AllByRecursion}
 use Rattle.std.proofs.Math.Seq.{take-suc, take_all}
 use Rattle.std.proofs.lemmas.Bool.{true≢false}
@@ -10,7 +10,6 @@ use Rattle.bx_day.specs.Day.{entries_from, entry_at, entry_of, opening, no_entry
 use Rattle.bx_day.specs.Reading.{IsExchange, Seated}
 use Rattle.bx_day.specs.declared.entry.Entry.{Entry}
 use Rattle.bx_day.proofs.Law.{opening_fits}
-
 
 pub opening_size : (k : ℕ) (rows : List Row) (assigned : List (Option ℕ)) → length (entries_from k rows assigned) ≡ length rows
 opening_size k [] assigned = refl
@@ -50,5 +49,5 @@ opening_is rows channels assigned b set carries = record {
   rows = omega (arith, opening_size 1 rows assigned, b.few);
   day = opening_fits rows channels assigned b carries;
   seated = opening_seated 1 rows assigned (omega arith) (omega (arith, b.few)) (λ i c lt q.
-    set.only c (subst (λ (o : Option ℕ). has_channel channels (unwrap_or o 0) ≡ true) q (carries.in_service i lt (ap is_some q))));
+      set.only c (subst (λ (o : Option ℕ). has_channel channels (unwrap_or o 0) ≡ true) q (carries.in_service i lt (ap is_some q))));
 }

@@ -8,7 +8,7 @@ ghost use Rattle.bx_day.specs.Reading.{on_channel, outcome_at};
 
 use crate::entry::{Entry, Standing};
 use crate::opening::entries;
-use crate::outcome::{told, Outcome};
+use crate::outcome::{Outcome, told};
 use bx_base::{Channel, ChannelSet, Plan};
 use bx_calls::CallState;
 use std::alloc::{AllocError, Global};

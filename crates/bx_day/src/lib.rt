@@ -7,6 +7,8 @@ pub mod laws;
 pub mod moving;
 mod opening;
 mod outcome;
+#[cfg(test)]
+mod tests;
 
 pub use entry::{Activity, Entry, Moved, Standing};
 pub use exchange::Exchange;

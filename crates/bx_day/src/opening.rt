@@ -8,7 +8,12 @@ use bx_base::{Booking, Channel, Plan};
 use std::alloc::{AllocError, Global};
 
 /// Adds the booking of a row, by the channel that the plan gives it.
-fn add(entries: &mut Vec<Entry>, row: u16, booking: Booking, assigned: Option<Channel>) -> Result<(), AllocError>
+fn add(
+    entries: &mut Vec<Entry>,
+    row: u16,
+    booking: Booking,
+    assigned: Option<Channel>,
+) -> Result<(), AllocError>
     ensures ok { OnOk result (entries.new.items ≡ entries.old.items ++ entry_of row booking assigned ∷ []) }
 {
     let mut standing = Standing::Refused;

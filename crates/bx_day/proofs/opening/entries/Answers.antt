@@ -1,4 +1,4 @@
-use Rattle.std.proofs.Common.{◌≡◌, ◌<◌, ◌∙◌, arith, ℕ, Option, None, length, slice_index_or, refl}
+use Rattle.std.proofs.Common.{◌<◌, ◌∙◌, arith, None, length}
 use Rattle.std.proofs.lemmas.List.{get_or_default}
 use Rattle.bx_day.proofs.OpeningDay.{added, all_added}
 use Rattle.bx_day.proofs.opening.entries.Goals as goal

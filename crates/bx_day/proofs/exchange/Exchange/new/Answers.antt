@@ -1,5 +1,5 @@
-use Rattle.std.proofs.Common.{◌≡◌, sym, subst, List, Bool, ◌∙◌, ap}
-use Rattle.bx_day.specs.Day.{Day, entries_from}
+use Rattle.std.proofs.Common.{sym, subst, List, Bool}
+use Rattle.bx_day.specs.Day.{entries_from}
 use Rattle.bx_day.specs.declared.entry.Entry.{Entry}
 use Rattle.bx_day.specs.Reading.{IsExchange}
 use Rattle.bx_day.proofs.OpeningDay.{opening_is}
