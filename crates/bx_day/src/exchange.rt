@@ -4,7 +4,7 @@ ghost use Rattle.std.specs.Prelude.{◌≡◌, ◌<◌, length, IfOk, IfSome, If
 ghost use Rattle.bx_base.specs.Bookings.{Carries};
 ghost use Rattle.bx_base.specs.Plans.{is_accepted, channel_at};
 ghost use Rattle.bx_day.specs.Day.{is_set, opening, holds, index_of};
-ghost use Rattle.bx_day.specs.Reading.{on_channel, outcome_at};
+ghost use Rattle.bx_day.specs.Reading.{IsExchange, on_channel, outcome_at};
 
 use crate::entry::{Entry, Standing};
 use crate::opening::entries;
@@ -52,7 +52,8 @@ impl Exchange {
 
     /// The moment: how many ticks there were, 0 to 300,000.
     pub fn moment(&self) -> u32
-        ensures { result ≡ self.now.moment }
+        ensures value { result ≡ self.now.moment }
+        ensures day { IsExchange self.now }
     {
         self.moment
     }

@@ -1,4 +1,6 @@
-//! The day of an exchange.
+//! The day of an exchange: what becomes of each booking of a plan, tick by tick and message by message. The
+//! definitions are over all bookings at once; `laws` holds over every list of events. `Exchange` is the day
+//! in memory, and `moving` what one event does to one booking.
 #![tactic(auto)]
 
 mod entry;

@@ -1,6 +1,6 @@
 //! What an event does to one booking.
 
-ghost use Rattle.std.specs.Prelude.{◌≡◌, ◌≤◌};
+ghost use Rattle.std.specs.Prelude.{◌≡◌, ◌≤◌, ℕ, Bool};
 ghost use Rattle.bx_q931.specs.Outgoing.{IsCallReference};
 ghost use Rattle.bx_day.specs.Day.{activity_after, over_at, follows, hears, second_at};
 ghost use Rattle.bx_day.specs.Said.{said_of};
@@ -66,16 +66,10 @@ fn follow(step: Step<NetCall>, activity: Activity, moment: u32) -> Moved
     }
 }
 
-/// A live booking at a message of its call.
-pub fn heard(
-    standing: Standing,
-    message: &Message<'_>,
-    reference: u16,
-    flag: bool,
-    moment: u32,
-) -> Moved
+/// A live booking at a message of its call, whose reference and flag were compared before.
+pub fn heard(standing: Standing, message: &Message<'_>, moment: u32) -> Moved
     requires { moment ≤ 300000 }
-    ensures { result ≡ hears (said_of reference flag message.now) moment standing }
+    ensures { (reference : ℕ) (flag : Bool) → result ≡ hears (said_of reference flag message.now) moment standing }
 {
     match standing {
         Standing::OnCall { call, activity } => {

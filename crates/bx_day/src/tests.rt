@@ -79,7 +79,7 @@ fn moved(standing: Standing, end: u32, moment: u16, free: bool, octets: &[u8]) -
         return Some(second(&entry, Channel::new(1)?, moment, free));
     }
     let message = read(octets).ok()?;
-    Some(heard(standing, &message, 1, true, moment))
+    Some(heard(standing, &message, moment))
 }
 
 #[test]
