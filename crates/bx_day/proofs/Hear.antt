@@ -1,0 +1,72 @@
+-- A message keeps what is true of one booking.
+use Rattle.std.proofs.Common.{◌≡◌, ℕ, ◌+◌, Bool, true, false, Option, Some, None, arith, refl}
+use Rattle.std.proofs.lemmas.Bool.{true≢false}
+use Rattle.bx_q931.specs.declared.kind.Kind.{Kind}
+use Rattle.bx_q931.specs.declared.kind.Kind.TheVariants.{Alerting, CallProceeding, Setup, Connect, ConnectAcknowledge, Disconnect, Release, ReleaseComplete, StatusEnquiry, Status}
+use Rattle.bx_calls.specs.declared.net_state.NetOrigin.{NetOrigin}
+use Rattle.bx_calls.specs.declared.net_state.NetOrigin.TheVariants.{Outward, Inward}
+use Rattle.bx_calls.specs.declared.net_state.NetState.{NetState}
+use Rattle.bx_calls.specs.declared.net_state.NetState.TheVariants.{OutgoingCallProceeding, CallPresent, IncomingCallProceeding, CallReceived, Active, DisconnectIndication, ReleaseRequest}
+use Rattle.bx_calls.specs.Hearing.{Heard, names_channel, reports_null}
+use Rattle.bx_calls.specs.NetTable.{net_row}
+use Rattle.bx_day.specs.Day.{over_at}
+use Rattle.bx_day.specs.declared.entry.Entry.{Entry}
+use Rattle.bx_day.specs.declared.entry.Activity.{Activity}
+use Rattle.bx_day.specs.Invariant.{CallFits, EntryFits}
+use Rattle.bx_day.proofs.ActivityLemmas.{ringing_kept, talking_kept, clearing_kept, ringing_clears, talking_clears, ringing_talks, ringing_over, talking_over, clearing_over}
+use Rattle.bx_day.proofs.Second.{call_of, StepFits, by_test, on_call, goes_on}
+
+-- the call stays
+pub same_fits : (t : ℕ) (e : Entry) (r ch : ℕ) (o : NetOrigin) (s : NetState) (a : Activity) → CallFits t e (call_of r ch o s) a → EntryFits t (on_call t e a (call_of r ch o s))
+same_fits t e r ch o OutgoingCallProceeding a h = goes_on t t e r ch o OutgoingCallProceeding a OutgoingCallProceeding h h.phase h.due (ringing_kept t t e.booking a h.activity)
+same_fits t e r ch o (CallPresent again due) a h = goes_on t t e r ch o (CallPresent again due) a (CallPresent again due) h h.phase h.due (ringing_kept t t e.booking a h.activity)
+same_fits t e r ch o (IncomingCallProceeding due) a h = goes_on t t e r ch o (IncomingCallProceeding due) a (IncomingCallProceeding due) h h.phase h.due (ringing_kept t t e.booking a h.activity)
+same_fits t e r ch o (CallReceived due) a h = goes_on t t e r ch o (CallReceived due) a (CallReceived due) h h.phase h.due (ringing_kept t t e.booking a h.activity)
+same_fits t e r ch o Active a h = goes_on t t e r ch o Active a Active h h.phase h.due (talking_kept t t e.booking a (omega arith) h.activity)
+same_fits t e r ch o (DisconnectIndication cause due) a h = goes_on t t e r ch o (DisconnectIndication cause due) a (DisconnectIndication cause due) h h.phase h.due (clearing_kept t t e.booking a (omega arith) h.activity)
+same_fits t e r ch o (ReleaseRequest again cause due) a h = goes_on t t e r ch o (ReleaseRequest again cause due) a (ReleaseRequest again cause due) h h.phase h.due (clearing_kept t t e.booking a (omega arith) h.activity)
+
+-- the call is over
+pub over_fits : (t : ℕ) (e : Entry) (r ch : ℕ) (o : NetOrigin) (s : NetState) (a : Activity) → CallFits t e (call_of r ch o s) a → EntryFits t (record e { standing = over_at a t })
+over_fits t e r ch o OutgoingCallProceeding a h = ringing_over t t e a h.activity
+over_fits t e r ch o (CallPresent again due) a h = ringing_over t t e a h.activity
+over_fits t e r ch o (IncomingCallProceeding due) a h = ringing_over t t e a h.activity
+over_fits t e r ch o (CallReceived due) a h = ringing_over t t e a h.activity
+over_fits t e r ch o Active a h = talking_over t t e a (omega arith) (omega arith) h.activity
+over_fits t e r ch o (DisconnectIndication cause due) a h = clearing_over t t e a h.activity
+over_fits t e r ch o (ReleaseRequest again cause due) a h = clearing_over t t e a h.activity
+
+abbrev pub is_releasing : NetState → Bool
+is_releasing (ReleaseRequest again cause due) = true
+is_releasing _ = false
+
+-- RELEASE, in any state but Release Request
+pub release_fits : (t : ℕ) (e : Entry) (r ch : ℕ) (o : NetOrigin) (s : NetState) (a : Activity) (c : Option ℕ) → is_releasing s ≡ false → CallFits t e (call_of r ch o s) a → EntryFits t (on_call t e a (call_of r ch o (ReleaseRequest false c (t + 4))))
+release_fits t e r ch o OutgoingCallProceeding a c n h = goes_on t t e r ch o OutgoingCallProceeding a (ReleaseRequest false c (t + 4)) h tt (omega arith, omega arith) (ringing_clears t t e.booking a h.activity)
+release_fits t e r ch o (CallPresent again due) a c n h = goes_on t t e r ch o (CallPresent again due) a (ReleaseRequest false c (t + 4)) h tt (omega arith, omega arith) (ringing_clears t t e.booking a h.activity)
+release_fits t e r ch o (IncomingCallProceeding due) a c n h = goes_on t t e r ch o (IncomingCallProceeding due) a (ReleaseRequest false c (t + 4)) h tt (omega arith, omega arith) (ringing_clears t t e.booking a h.activity)
+release_fits t e r ch o (CallReceived due) a c n h = goes_on t t e r ch o (CallReceived due) a (ReleaseRequest false c (t + 4)) h tt (omega arith, omega arith) (ringing_clears t t e.booking a h.activity)
+release_fits t e r ch o Active a c n h = goes_on t t e r ch o Active a (ReleaseRequest false c (t + 4)) h tt (omega arith, omega arith) (talking_clears t t e.booking a (omega arith) (omega arith) h.activity)
+release_fits t e r ch o (DisconnectIndication cause due) a c n h = goes_on t t e r ch o (DisconnectIndication cause due) a (ReleaseRequest false c (t + 4)) h tt (omega arith, omega arith) (clearing_kept t t e.booking a (omega arith) h.activity)
+release_fits t e r ch o (ReleaseRequest again cause due) a c n h = absurd (true≢false n)
+
+-- each row of the table, in its order
+pub row_fits : (t : ℕ) (e : Entry) (r ch : ℕ) (o : NetOrigin) (a : Activity) (m : Heard) (s : NetState) (k : Kind) → CallFits t e (call_of r ch o s) a → StepFits t e a (net_row (call_of r ch o s) m t s k)
+row_fits t e r ch o a m s ReleaseComplete h = over_fits t e r ch o s a h
+row_fits t e r ch o a m s StatusEnquiry h = same_fits t e r ch o s a h
+row_fits t e r ch o a m s Status h = by_test (reports_null m.state) t e a _ _ (λ _. over_fits t e r ch o s a h) (λ _. same_fits t e r ch o s a h)
+row_fits t e r ch o a m s Setup h = same_fits t e r ch o s a h
+row_fits t e r ch o a m (ReleaseRequest again cause due) Release h = over_fits t e r ch o (ReleaseRequest again cause due) a h
+row_fits t e r ch o a m s Release h = over_fits t e r ch o s a h
+row_fits t e r ch o a m (ReleaseRequest again cause due) k h = same_fits t e r ch o (ReleaseRequest again cause due) a h
+row_fits t e r ch o a m s Disconnect h = release_fits t e r ch o s a None refl h
+row_fits t e r ch o a m (DisconnectIndication cause due) k h = same_fits t e r ch o (DisconnectIndication cause due) a h
+row_fits t e r ch o a m (CallPresent again due) CallProceeding h = by_test (names_channel m.channel ch) t e a _ _ (λ _. goes_on t t e r ch o (CallPresent again due) a (IncomingCallProceeding (t + 10)) h h.phase (omega arith) (ringing_kept t t e.booking a h.activity)) (λ _. release_fits t e r ch o (CallPresent again due) a (Some 6) refl h)
+row_fits t e r ch o a m (CallPresent again due) Alerting h = by_test (names_channel m.channel ch) t e a _ _ (λ _. goes_on t t e r ch o (CallPresent again due) a (CallReceived (t + 180)) h h.phase (omega arith) (ringing_kept t t e.booking a h.activity)) (λ _. release_fits t e r ch o (CallPresent again due) a (Some 6) refl h)
+row_fits t e r ch o a m (CallPresent again due) Connect h = by_test (names_channel m.channel ch) t e a _ _ (λ _. goes_on t t e r ch o (CallPresent again due) a Active h h.phase tt (ringing_talks t t e.booking a h.phase.0 h.activity)) (λ _. release_fits t e r ch o (CallPresent again due) a (Some 6) refl h)
+row_fits t e r ch o a m (IncomingCallProceeding due) Alerting h = goes_on t t e r ch o (IncomingCallProceeding due) a (CallReceived (t + 180)) h h.phase (omega arith) (ringing_kept t t e.booking a h.activity)
+row_fits t e r ch o a m (IncomingCallProceeding due) Connect h = goes_on t t e r ch o (IncomingCallProceeding due) a Active h h.phase tt (ringing_talks t t e.booking a h.phase.0 h.activity)
+row_fits t e r ch o a m (CallReceived due) Connect h = goes_on t t e r ch o (CallReceived due) a Active h h.phase tt (ringing_talks t t e.booking a h.phase.0 h.activity)
+row_fits t e r ch (Outward called) a m Active ConnectAcknowledge h = same_fits t e r ch (Outward called) Active a h
+row_fits t e r ch Inward a m Active ConnectAcknowledge h = same_fits t e r ch Inward Active a h
+row_fits t e r ch o a m s k h = same_fits t e r ch o s a h

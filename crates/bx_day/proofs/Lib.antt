@@ -1,0 +1,10 @@
+pub mod ActivityLemmas
+pub mod Second
+pub mod Tick
+pub mod Hear
+pub mod Receive
+pub mod Law
+pub mod Said
+pub mod Sent
+pub mod Indices
+pub mod OpeningDay

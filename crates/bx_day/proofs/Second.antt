@@ -1,0 +1,106 @@
+-- A tick keeps what is true of one booking.
+use Rattle.std.proofs.Common.{◌≡◌, ℕ, ◌+◌, ◌<◌, Bool, true, false, Some, arith, refl, nat_le, if◌then◌else◌}
+use Rattle.std.proofs.lemmas.Bool.{leb-false}
+use Rattle.bx_calls.specs.declared.step.Step.{Step}
+use Rattle.bx_calls.specs.PlainCalls.{PlainNetCall}
+use Rattle.bx_calls.specs.declared.net_state.NetOrigin.{NetOrigin}
+use Rattle.bx_calls.specs.declared.net_state.NetState.{NetState}
+use Rattle.bx_calls.specs.declared.net_state.NetState.TheVariants.{OutgoingCallProceeding, CallPresent, IncomingCallProceeding, CallReceived, Active, DisconnectIndication, ReleaseRequest}
+use Rattle.bx_calls.specs.NetTable.{net_second}
+use Rattle.bx_day.specs.Day.{activity_after, is_active, follows}
+use Rattle.bx_day.specs.declared.entry.Entry.{Entry}
+use Rattle.bx_day.specs.declared.entry.Activity.{Activity}
+use Rattle.bx_day.specs.declared.entry.Standing.TheVariants.{OnCall}
+use Rattle.bx_day.specs.Invariant.{phase_of, PhaseFits, DueFits, ActivityFits, Clearing, CallFits, EntryFits}
+use Rattle.bx_day.proofs.ActivityLemmas.{ringing_kept, talking_kept, clearing_kept, ringing_clears, talking_clears, ringing_talks, ringing_over, clearing_over}
+
+abbrev pub call_of : ℕ → ℕ → NetOrigin → NetState → PlainNetCall
+call_of r ch o s = record { reference = r; channel = ch; origin = o; state = s }
+
+-- what is true of the booking after a step at moment t
+abbrev pub StepFits : ℕ → Entry → Activity → Step PlainNetCall → Type 0
+StepFits t e a step = EntryFits t (record e { standing = (follows a t step).standing })
+
+pub by_test : (b : Bool) (t : ℕ) (e : Entry) (a : Activity) (x y : Step PlainNetCall) → (b ≡ true → StepFits t e a x) → (b ≡ false → StepFits t e a y) → StepFits t e a (if b then x else y)
+by_test true t e a x y f g = f refl
+by_test false t e a x y f g = g refl
+
+-- the entry of a call that goes on
+abbrev pub on_call : ℕ → Entry → Activity → PlainNetCall → Entry
+on_call t e a c = record e { standing = OnCall c (activity_after a (is_active c.state) t) }
+
+-- the call goes on in another state, or in the same with another timer
+pub goes_on : (t u : ℕ) (e : Entry) (r ch : ℕ) (o : NetOrigin) (s : NetState) (a : Activity) (s' : NetState) → CallFits t e (call_of r ch o s) a → PhaseFits u e.booking (phase_of s') → DueFits u e.booking.end s' → ActivityFits u e.booking (phase_of s') (activity_after a (is_active s') u) → EntryFits u (on_call u e a (call_of r ch o s'))
+goes_on t u e r ch o s a s' h p d act = record { channel = h.channel; origin = h.origin; phase = p; due = d; activity = act }
+
+-- DISCONNECT of a call whose booking ends, or whose timer is due
+pub disconnects : (t : ℕ) (e : Entry) (r ch : ℕ) (o : NetOrigin) (s : NetState) (a : Activity) (cause : ℕ) → CallFits t e (call_of r ch o s) a → t < e.booking.end → ActivityFits (t + 1) e.booking Clearing (activity_after a false (t + 1)) → EntryFits (t + 1) (on_call (t + 1) e a (call_of r ch o (DisconnectIndication cause (t + 1 + 30))))
+disconnects t e r ch o s a cause h early act = goes_on t (t + 1) e r ch o s a (DisconnectIndication cause (t + 1 + 30)) h tt (omega arith, omega arith) act
+
+pub second_fits : (t : ℕ) (e : Entry) (r ch : ℕ) (o : NetOrigin) (s : NetState) (a : Activity) → CallFits t e (call_of r ch o s) a → StepFits (t + 1) e a (net_second (call_of r ch o s) (t + 1) e.booking.end)
+second_fits t e r ch o OutgoingCallProceeding a h =
+    let b = e.booking in
+    by_test (nat_le b.end (t + 1)) (t + 1) e a _ _
+    (λ ended. disconnects t e r ch o OutgoingCallProceeding a 16 h h.phase.1 (ringing_clears t (t + 1) b a h.activity))
+    (λ runs. let late : t + 1 < b.end = leb-false b.end (t + 1) runs in
+    goes_on t (t + 1) e r ch o OutgoingCallProceeding a Active h (omega arith, late) tt (ringing_talks t (t + 1) b a (omega arith) h.activity))
+second_fits t e r ch o (CallPresent false due) a h =
+    let b = e.booking in
+    let s = CallPresent false due in
+    by_test (nat_le b.end (t + 1)) (t + 1) e a _ _
+    (λ ended. disconnects t e r ch o s a 16 h h.phase.1 (ringing_clears t (t + 1) b a h.activity))
+    (λ runs. let late : t + 1 < b.end = leb-false b.end (t + 1) runs in
+    by_test (nat_le due (t + 1)) (t + 1) e a _ _
+    (λ fires. goes_on t (t + 1) e r ch o s a (CallPresent true (t + 1 + 4)) h (omega arith, late) (omega arith) (ringing_kept t (t + 1) b a h.activity))
+    (λ waits. goes_on t (t + 1) e r ch o s a s h (omega arith, late) (leb-false due (t + 1) waits) (ringing_kept t (t + 1) b a h.activity)))
+second_fits t e r ch o (CallPresent true due) a h =
+    let b = e.booking in
+    let s = CallPresent true due in
+    by_test (nat_le b.end (t + 1)) (t + 1) e a _ _
+    (λ ended. disconnects t e r ch o s a 16 h h.phase.1 (ringing_clears t (t + 1) b a h.activity))
+    (λ runs. let late : t + 1 < b.end = leb-false b.end (t + 1) runs in
+    by_test (nat_le due (t + 1)) (t + 1) e a _ _
+    (λ fires. ringing_over t (t + 1) e a h.activity)
+    (λ waits. goes_on t (t + 1) e r ch o s a s h (omega arith, late) (leb-false due (t + 1) waits) (ringing_kept t (t + 1) b a h.activity)))
+second_fits t e r ch o (IncomingCallProceeding due) a h =
+    let b = e.booking in
+    let s = IncomingCallProceeding due in
+    by_test (nat_le b.end (t + 1)) (t + 1) e a _ _
+    (λ ended. disconnects t e r ch o s a 16 h h.phase.1 (ringing_clears t (t + 1) b a h.activity))
+    (λ runs. let late : t + 1 < b.end = leb-false b.end (t + 1) runs in
+    by_test (nat_le due (t + 1)) (t + 1) e a _ _
+    (λ fires. disconnects t e r ch o s a 102 h h.phase.1 (ringing_clears t (t + 1) b a h.activity))
+    (λ waits. goes_on t (t + 1) e r ch o s a s h (omega arith, late) (leb-false due (t + 1) waits) (ringing_kept t (t + 1) b a h.activity)))
+second_fits t e r ch o (CallReceived due) a h =
+    let b = e.booking in
+    let s = CallReceived due in
+    by_test (nat_le b.end (t + 1)) (t + 1) e a _ _
+    (λ ended. disconnects t e r ch o s a 16 h h.phase.1 (ringing_clears t (t + 1) b a h.activity))
+    (λ runs. let late : t + 1 < b.end = leb-false b.end (t + 1) runs in
+    by_test (nat_le due (t + 1)) (t + 1) e a _ _
+    (λ fires. disconnects t e r ch o s a 102 h h.phase.1 (ringing_clears t (t + 1) b a h.activity))
+    (λ waits. goes_on t (t + 1) e r ch o s a s h (omega arith, late) (leb-false due (t + 1) waits) (ringing_kept t (t + 1) b a h.activity)))
+second_fits t e r ch o Active a h =
+    let b = e.booking in
+    by_test (nat_le b.end (t + 1)) (t + 1) e a _ _
+    (λ ended. disconnects t e r ch o Active a 16 h h.phase.1 (talking_clears t (t + 1) b a (omega arith) (omega arith) h.activity))
+    (λ runs. let late : t + 1 < b.end = leb-false b.end (t + 1) runs in
+    goes_on t (t + 1) e r ch o Active a Active h (omega arith, late) tt (talking_kept t (t + 1) b a (omega arith) h.activity))
+second_fits t e r ch o (DisconnectIndication cause due) a h =
+    let b = e.booking in
+    let s = DisconnectIndication cause due in
+    by_test (nat_le due (t + 1)) (t + 1) e a _ _
+    (λ fires. goes_on t (t + 1) e r ch o s a (ReleaseRequest false (Some cause) (t + 1 + 4)) h tt (omega arith, omega arith) (clearing_kept t (t + 1) b a (omega arith) h.activity))
+    (λ waits. goes_on t (t + 1) e r ch o s a s h tt (leb-false due (t + 1) waits, h.due.1) (clearing_kept t (t + 1) b a (omega arith) h.activity))
+second_fits t e r ch o (ReleaseRequest false cause due) a h =
+    let b = e.booking in
+    let s = ReleaseRequest false cause due in
+    by_test (nat_le due (t + 1)) (t + 1) e a _ _
+    (λ fires. goes_on t (t + 1) e r ch o s a (ReleaseRequest true cause (t + 1 + 4)) h tt (omega arith, omega arith) (clearing_kept t (t + 1) b a (omega arith) h.activity))
+    (λ waits. goes_on t (t + 1) e r ch o s a s h tt (leb-false due (t + 1) waits, h.due.1) (clearing_kept t (t + 1) b a (omega arith) h.activity))
+second_fits t e r ch o (ReleaseRequest true cause due) a h =
+    let b = e.booking in
+    let s = ReleaseRequest true cause due in
+    by_test (nat_le due (t + 1)) (t + 1) e a _ _
+    (λ fires. clearing_over t (t + 1) e a h.activity)
+    (λ waits. goes_on t (t + 1) e r ch o s a s h tt (leb-false due (t + 1) waits, h.due.1) (clearing_kept t (t + 1) b a (omega arith) h.activity))

@@ -1,0 +1,160 @@
+-- A tick keeps what is true of a day.
+use Rattle.std.proofs.Common.{◌≡◌, ◌≢◌, ℕ, ◌+◌, ◌≤◌, ◌<◌, ◌==◌, ◌&&◌, ◌||◌, not, Bool, true, false, List, [], ◌∷◌, map, Option, arith, refl, sym, subst, nat_le, nat_lt, if◌then◌else◌}
+use Rattle.std.specs.List.{AllByRecursion}
+use Rattle.std.proofs.lemmas.Bool.{leb-true, leb-false, ltb-true, and_parts, both_ways, eq-eqb, and_from, not-true, false≢true}
+use Rattle.bx_q931.specs.Outgoing.{Outgoing}
+use Rattle.bx_calls.specs.PlainCalls.{PlainNetCall}
+use Rattle.bx_calls.specs.declared.step.Next.{Next}
+use Rattle.bx_calls.specs.declared.step.Next.TheVariants.{Live, Over, Broken}
+use Rattle.bx_base.specs.Bookings.{Row, is_running}
+use Rattle.bx_day.specs.Day.{Sent, Day, is_live, holds, is_held, is_free, is_set, second_at, after_second, waits, tick, ticked, follow, over_at}
+use Rattle.bx_day.specs.declared.entry.Moved.{Moved}
+use Rattle.bx_day.specs.declared.entry.Entry.{Entry}
+use Rattle.bx_day.specs.declared.entry.Standing.{Standing}
+use Rattle.bx_day.specs.declared.entry.Activity.{Activity}
+use Rattle.bx_day.specs.declared.entry.Standing.TheVariants.{Refused, Unoffered, OnCall, Carried, Unanswered, Missed}
+use Rattle.bx_day.specs.declared.entry.Activity.TheVariants.{Never, Since, Was}
+use Rattle.bx_day.specs.Invariant.{EntryFits, Apart, Pairs, DayFits, is_refused}
+use Rattle.bx_day.proofs.Second.{second_fits}
+
+abbrev pub with_standing : Entry → Standing → Entry
+with_standing e s = record e { standing = s }
+
+pub by_cases : {X : Type 0} (b : Bool) (x y : X) (P : X → Type 0) → (b ≡ true → P x) → (b ≡ false → P y) → P (if b then x else y)
+by_cases true x y P f g = f refl
+by_cases false x y P f g = g refl
+
+-- what a test of a running booking tells
+pub runs_at : (b : Row) (t : ℕ) → is_running b t ≡ true → (b.start ≤ t) × (t < b.end)
+runs_at b t h =
+    let p = and_parts (nat_le b.start t) (nat_lt t b.end) h in
+    (leb-true b.start t p.0, ltb-true t b.end p.1)
+
+abbrev pub offers : Entry → ℕ → Bool → Bool
+offers e t free = is_running e.booking t && not e.booking.inward && free
+
+-- what an offer shows
+pub offers_parts : (e : Entry) (t : ℕ) (free : Bool) → offers e t free ≡ true → (is_running e.booking t ≡ true) × (e.booking.inward ≡ false) × (free ≡ true)
+offers_parts e t free h =
+    let p = and_parts (is_running e.booking t && not e.booking.inward) free h in
+    let q = and_parts (is_running e.booking t) (not e.booking.inward) p.0 in
+    (q.0, not-true e.booking.inward q.1, p.1)
+
+-- one booking that waits
+pub waits_fits : (t : ℕ) (e : Entry) (free : Bool) → EntryFits (t + 1) (with_standing e (waits e (t + 1) free).standing)
+waits_fits t e free =
+    by_cases (offers e (t + 1) free) _ _ (λ (m : Moved). EntryFits (t + 1) (with_standing e (m.standing)))
+    (λ offered.
+    let p = offers_parts e (t + 1) free offered in
+    let r = runs_at e.booking (t + 1) p.0 in
+    record { channel = refl; origin = (p.1, refl); phase = r; due = omega arith; activity = tt })
+    (λ _. by_cases (nat_le e.booking.end (t + 1)) _ _ (λ (m : Moved). EntryFits (t + 1) (with_standing e (m.standing)))
+    (λ ended. leb-true e.booking.end (t + 1) ended)
+    (λ going. leb-false e.booking.end (t + 1) going))
+
+-- one booking
+pub entry_fits : (t : ℕ) (e : Entry) (free : Bool) (s : Standing) → EntryFits t (with_standing e s) → EntryFits (t + 1) (with_standing e (second_at e (t + 1) free s).standing)
+entry_fits t e free Refused h = tt
+entry_fits t e free Unoffered h = waits_fits t e free
+entry_fits t e free (OnCall c a) h = second_fits t (with_standing e (OnCall c a)) c.reference c.channel c.origin c.state a h
+entry_fits t e free (Carried from until) h = h
+entry_fits t e free Unanswered h = tt
+entry_fits t e free Missed h = omega arith
+
+pub all_fit : (t : ℕ) (d : Day) → d.moment ≡ t → (es : List Entry) → AllByRecursion (EntryFits d.moment) es → AllByRecursion (EntryFits (d.moment + 1)) (map (after_second d) es)
+all_fit t d p [] h = tt
+all_fit t d p (e ∷ es) h = (entry_fits d.moment e (is_free d e.channel) e.standing h.0, all_fit t d p es h.1)
+
+-- a booking that is live after a tick was live before, or is offered at it
+pub data WasLive (t : ℕ) (free : Bool) (e : Entry) : Type 0 where
+  Before : is_live e.standing ≡ true → WasLive t free e
+  Offered : is_refused e.standing ≡ false → is_running e.booking t ≡ true → free ≡ true → WasLive t free e
+
+pub waits_live : (t : ℕ) (free : Bool) (e : Entry) → is_live (waits e t free).standing ≡ true → WasLive t free (with_standing e Unoffered)
+waits_live t free e =
+    by_cases (offers e t free) _ _ (λ (m : Moved). is_live m.standing ≡ true → WasLive t free (with_standing e Unoffered))
+    (λ offered live. let p = offers_parts e t free offered in Offered refl p.0 p.2)
+    (λ _. by_cases (nat_le e.booking.end t) _ _ (λ (m : Moved). is_live m.standing ≡ true → WasLive t free (with_standing e Unoffered))
+    (λ ended live. absurd (false≢true live))
+    (λ going live. absurd (false≢true live)))
+
+pub second_live : (t : ℕ) (free : Bool) (e : Entry) (s : Standing) → is_live (second_at e t free s).standing ≡ true → WasLive t free (with_standing e s)
+second_live t free e Refused live = absurd (false≢true live)
+second_live t free e Unoffered live = waits_live t free e live
+second_live t free e (OnCall c a) live = Before refl
+second_live t free e (Carried from until) live = absurd (false≢true live)
+second_live t free e Unanswered live = absurd (false≢true live)
+second_live t free e Missed live = absurd (false≢true live)
+
+pub over_refused : (a : Activity) (t : ℕ) → is_refused (over_at a t) ≡ false
+over_refused Never t = refl
+over_refused (Since from) t = refl
+over_refused (Was from until) t = refl
+
+-- no booking is refused by a tick, and none that was is not
+pub follow_refused : (a : Activity) (t : ℕ) (said : Option Outgoing) (n : Next PlainNetCall) → is_refused (follow a t said n).standing ≡ false
+follow_refused a t said (Live c) = refl
+follow_refused a t said Over = over_refused a t
+follow_refused a t said Broken = over_refused a t
+
+pub second_refused : (t : ℕ) (free : Bool) (e : Entry) (s : Standing) → is_refused (second_at e t free s).standing ≡ false → is_refused s ≡ false
+second_refused t free e Refused h = h
+second_refused t free e Unoffered h = refl
+second_refused t free e (OnCall c a) h = refl
+second_refused t free e (Carried from until) h = refl
+second_refused t free e Unanswered h = refl
+second_refused t free e Missed h = refl
+
+or_left : (x y : Bool) → x ≡ true → (x || y) ≡ true
+or_left true y h = refl
+or_left false y h = absurd (false≢true h)
+
+or_right : (x y : Bool) → y ≡ true → (x || y) ≡ true
+or_right true y h = refl
+or_right false y h = h
+
+-- a live booking holds its channel among these
+abbrev pub Holding : (ℕ → Bool) → Entry → Type 0
+Holding held e = is_live e.standing ≡ true → held e.channel ≡ true
+
+pub all_weaker : (P Q : Entry → Type 0) → ((e : Entry) → P e → Q e) → (es : List Entry) → AllByRecursion P es → AllByRecursion Q es
+all_weaker P Q f [] h = tt
+all_weaker P Q f (e ∷ es) h = (f e h.0, all_weaker P Q f es h.1)
+
+pub all_hold : (es : List Entry) → AllByRecursion (Holding (is_held es)) es
+all_hold [] = tt
+all_hold (e ∷ es) = (
+  (λ live. or_left (holds e.channel e) (is_held es e.channel) (and_from (is_live e.standing) (e.channel == e.channel) live (eq-eqb e.channel e.channel refl))),
+  all_weaker (Holding (is_held es)) (Holding (is_held (e ∷ es))) (λ f h live. or_right (holds f.channel e) (is_held es f.channel) (h live)) es (all_hold es),
+)
+
+-- a channel that is free is not held
+pub free_held : (d : Day) (c : ℕ) → is_free d c ≡ true → is_held d.entries c ≡ true → ⊥
+free_held d c f h = both_ways (is_held d.entries c) (not-true (is_held d.entries c) (and_parts (not (is_held d.entries c)) (not (is_set d.maintenance c)) f).0) h
+
+-- two bookings that are live after a tick are on two channels
+pub live_apart : (d : Day) (e f : Entry) → Apart e f → Holding (is_held d.entries) e → Holding (is_held d.entries) f → WasLive (d.moment + 1) (is_free d e.channel) e → WasLive (d.moment + 1) (is_free d f.channel) f → e.channel ≢ f.channel
+live_apart d e f p he hf (Before le) (Before lf) same = p.live le lf same
+live_apart d e f p he hf (Before le) (Offered rf uf ff) same = free_held d f.channel ff (subst (λ c. is_held d.entries c ≡ true) same (he le))
+live_apart d e f p he hf (Offered re ue fe) (Before lf) same = free_held d e.channel fe (subst (λ c. is_held d.entries c ≡ true) (sym same) (hf lf))
+live_apart d e f p he hf (Offered re ue fe) (Offered rf uf ff) same = p.planned re rf same (d.moment + 1) ue uf
+
+pub after_apart : (d : Day) (e f : Entry) → Apart e f → Holding (is_held d.entries) e → Holding (is_held d.entries) f → Apart (after_second d e) (after_second d f)
+after_apart d e f p he hf = record {
+  planned = λ re rf. p.planned (second_refused (d.moment + 1) (is_free d e.channel) e e.standing re) (second_refused (d.moment + 1) (is_free d f.channel) f f.standing rf);
+  live = λ le lf. live_apart d e f p he hf (second_live (d.moment + 1) (is_free d e.channel) e e.standing le) (second_live (d.moment + 1) (is_free d f.channel) f f.standing lf);
+}
+
+pub all_apart : (d : Day) (e : Entry) (fs : List Entry) → Holding (is_held d.entries) e → AllByRecursion (Holding (is_held d.entries)) fs → AllByRecursion (Apart e) fs → AllByRecursion (Apart (after_second d e)) (map (after_second d) fs)
+all_apart d e [] he hs ps = tt
+all_apart d e (f ∷ fs) he hs ps = (after_apart d e f ps.0 he hs.0, all_apart d e fs he hs.1 ps.1)
+
+pub pairs_apart : (d : Day) (es : List Entry) → AllByRecursion (Holding (is_held d.entries)) es → Pairs Apart es → Pairs Apart (map (after_second d) es)
+pairs_apart d [] hs ps = tt
+pairs_apart d (e ∷ es) hs ps = (all_apart d e es hs.0 hs.1 ps.0, pairs_apart d es hs.1 ps.1)
+
+pub ticked_fits : (d : Day) → DayFits d → DayFits (ticked d).day
+ticked_fits d h = record { each = all_fit d.moment d refl d.entries h.each; pairs = pairs_apart d d.entries (all_hold d.entries) h.pairs }
+
+pub tick_fits : (d : Day) → DayFits d → DayFits (tick d).day
+tick_fits d h = by_cases (nat_le 300000 d.moment) _ _ (λ (s : Sent). DayFits s.day) (λ _. h) (λ _. ticked_fits d h)

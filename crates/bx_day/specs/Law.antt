@@ -1,0 +1,58 @@
+-- One call per channel, over every list of events.
+use Rattle.std.specs.Prelude.{◌≡◌, ◌≢◌, ℕ, ◌+◌, ◌-◌, ◌≤◌, ◌<◌, true, false, List, length, All, Option, Some}
+use Rattle.bx_q931.specs.declared.kind.Kind.TheVariants.{Setup, CallProceeding}
+use Rattle.bx_q931.specs.Outgoing.{Outgoing}
+use Rattle.bx_calls.specs.PlainCalls.{PlainNetCall}
+use Rattle.bx_calls.specs.declared.net_state.NetState.TheVariants.{Active}
+use Rattle.bx_base.specs.Bookings.{Row, row_at, is_running}
+use Rattle.bx_base.specs.Plans.{is_accepted, channel_at}
+use Rattle.bx_day.specs.Day.{Day, entry_at, Sent}
+use Rattle.bx_day.specs.declared.entry.Standing.{Standing}
+use Rattle.bx_day.specs.declared.entry.Activity.{Activity}
+use Rattle.bx_day.specs.declared.entry.Standing.TheVariants.{Unoffered, OnCall, Carried}
+
+-- of a live call
+abbrev pub OnLive : Standing → (PlainNetCall → Activity → Type 0) → Type 0
+OnLive (OnCall call activity) P = P call activity
+OnLive _ P = Unit {0}
+
+abbrev pub OnCarried : Standing → (ℕ → ℕ → Type 0) → Type 0
+OnCarried (Carried from until) P = P from until
+OnCarried _ P = Unit {0}
+
+abbrev pub standing_at : Day → ℕ → Standing
+standing_at d i = (entry_at d.entries i).standing
+
+-- a day of a plan, at any moment of it; rows are counted from 0
+pub record IsOrderly (rows : List Row) (assigned : List (Option ℕ)) (d : Day) : Type 0 where
+  -- an offered or live booking is accepted, and its call is on the channel of the plan
+  pub planned : (i : ℕ) → i < length rows → OnLive (standing_at d i) (λ call a. (is_accepted assigned i ≡ true) × (call.channel ≡ channel_at assigned i))
+  -- no channel is held twice
+  pub apart : (i j : ℕ) → i < j → j < length rows → OnLive (standing_at d i) (λ call a. OnLive (standing_at d j) (λ other b. call.channel ≢ other.channel))
+  -- a call is Active only while its booking runs
+  pub active : (i : ℕ) → i < length rows → OnLive (standing_at d i) (λ call a. call.state ≡ Active → is_running (row_at rows i) d.moment ≡ true)
+  pub carried : (i : ℕ) → i < length rows → OnCarried (standing_at d i) (λ from until. ((row_at rows i).start ≤ from) × (from ≤ until) × (until ≤ (row_at rows i).end))
+  -- 38 seconds after its end a booking is over or missed
+  pub cleared : (i : ℕ) → i < length rows → (row_at rows i).end + 38 ≤ d.moment → (standing_at d i ≢ Unoffered) × OnLive (standing_at d i) (λ call a. ⊥)
+
+-- a SETUP is sent for an accepted outward booking that runs, which its reference names, on its channel
+pub record SetupFits (rows : List Row) (assigned : List (Option ℕ)) (t : ℕ) (o : Outgoing) : Type 0 where
+  pub accepted : is_accepted assigned (o.reference - 1) ≡ true
+  pub outward : (row_at rows (o.reference - 1)).inward ≡ false
+  pub runs : is_running (row_at rows (o.reference - 1)) t ≡ true
+  pub channel : o.channel ≡ Some (channel_at assigned (o.reference - 1), true)
+
+-- a CALL PROCEEDING is sent on the channel of an accepted inward booking that runs
+pub record ProceedingFits (rows : List Row) (assigned : List (Option ℕ)) (t : ℕ) (o : Outgoing) : Type 0 where
+  pub row : ℕ
+  pub accepted : is_accepted assigned row ≡ true
+  pub inward : (row_at rows row).inward ≡ true
+  pub runs : is_running (row_at rows row) t ≡ true
+  pub channel : o.channel ≡ Some (channel_at assigned row, true)
+
+pub record OutFits (rows : List Row) (assigned : List (Option ℕ)) (t : ℕ) (o : Outgoing) : Type 0 where
+  pub setup : o.kind ≡ Setup → SetupFits rows assigned t o
+  pub proceeding : o.kind ≡ CallProceeding → ProceedingFits rows assigned t o
+
+pub record SentFits (rows : List Row) (assigned : List (Option ℕ)) (s : Sent) : Type 0 where
+  pub each : All (OutFits rows assigned s.day.moment) s.sent

@@ -1,0 +1,6 @@
+pub mod Said
+pub mod Day
+pub mod Run
+pub mod Invariant
+pub mod Law
+pub mod Reading

@@ -1,0 +1,47 @@
+//! What has become of a booking.
+
+use bx_base::Booking;
+use bx_calls::NetCall;
+use bx_q931::Out;
+
+/// The moments at which a call became and left Active.
+#[derive(Clone, Copy, Debug)]
+pub enum Activity {
+    Never,
+    Since { from: u32 },
+    Was { from: u32, until: u32 },
+}
+
+/// What has become of a booking.
+#[derive(Clone, Copy, Debug)]
+pub enum Standing {
+    /// The plan does not accept it.
+    Refused,
+    /// It waits for its start, or for its channel.
+    Unoffered,
+    /// It is live.
+    OnCall { call: NetCall, activity: Activity },
+    /// Its call is over, and was Active between these moments.
+    Carried { from: u32, until: u32 },
+    /// Its call is over, and was never Active.
+    Unanswered,
+    /// It was never live, and its end has come.
+    Missed,
+}
+
+/// A booking with its row and its channel, and what has become of it.
+#[derive(Clone, Copy, Debug)]
+pub struct Entry {
+    pub row: u16,
+    pub booking: Booking,
+    pub channel: u8,
+    pub standing: Standing,
+}
+
+/// What an event does to one booking: what has become of it, what is sent, and whether its channel breaks.
+#[derive(Clone, Copy, Debug)]
+pub struct Moved {
+    pub standing: Standing,
+    pub said: Option<Out>,
+    pub broken: bool,
+}

@@ -1,0 +1,112 @@
+//! The exchange during its day.
+
+ghost use Rattle.std.specs.Prelude.{◌≡◌, ◌<◌, length, IfOk, IfSome, IfNone, true, false, ℕ};
+ghost use Rattle.bx_base.specs.Bookings.{Carries};
+ghost use Rattle.bx_base.specs.Plans.{is_accepted, channel_at};
+ghost use Rattle.bx_day.specs.Day.{is_set, opening, holds, index_of};
+ghost use Rattle.bx_day.specs.Reading.{IsExchange, on_channel, outcome_at};
+
+use crate::entry::{Entry, Standing};
+use crate::opening::entries;
+use crate::outcome::{Outcome, told};
+use bx_base::{Channel, ChannelSet, Plan};
+use bx_calls::CallState;
+use std::alloc::{AllocError, Global};
+use std::marker::Model;
+
+/// The exchange during its day: the moment in seconds from the day's start, what has become of each booking,
+/// and the channels in maintenance.
+#[derive(Drop)]
+pub struct Exchange {
+    moment: u32,
+    entries: Vec<Entry>,
+    maintenance: ChannelSet,
+}
+
+impl Model for Exchange {
+    ghost use Rattle.bx_day.specs.Day.{Day};
+    ghost use Rattle.bx_day.specs.Reading.{IsExchange};
+
+    ghost Value = { Day };
+
+    ghost view = { λ x. record { moment = x.moment; entries = x.entries.items; maintenance = x.maintenance } };
+
+    ghost invariant = { λ x. IsExchange (record { moment = x.moment; entries = x.entries.items; maintenance = x.maintenance }) };
+}
+
+impl Exchange {
+    /// The exchange at the opening of its day: moment 0, nothing offered, nothing in maintenance. Only here
+    /// an exchange takes memory.
+    pub fn new(alloc: Global, plan: &Plan) -> Result<Exchange, AllocError>
+        requires { Carries plan.now.bookings plan.now.channels (is_accepted plan.now.assigned.items) (channel_at plan.now.assigned.items) }
+        ensures { IfOk result (λ x. x ≡ opening plan.now.bookings plan.now.assigned.items) }
+    {
+        let _rows = plan.bookings.len();
+        let _channels = plan.channels.count();
+        Ok(Exchange {
+            moment: 0,
+            entries: entries(alloc, plan)?,
+            maintenance: ChannelSet::empty(),
+        })
+    }
+
+    /// The moment: how many ticks there were, 0 to 300,000.
+    pub fn moment(&self) -> u32
+        ensures value { result ≡ self.now.moment }
+        ensures day { IsExchange self.now }
+    {
+        self.moment
+    }
+
+    /// The live booking that holds the channel, by its row and the state of its call.
+    pub fn on_channel(&self, channel: Channel) -> Option<(u16, CallState)>
+        ensures { result ≡ on_channel self.now channel }
+    {
+        let index = self.holder(channel)?;
+        match self.entries[index].standing {
+            Standing::OnCall { call, .. } => Some((self.entries[index].row, call.state())),
+            _ => None,
+        }
+    }
+
+    /// The index of the first booking that holds the channel.
+    fn holder(&self, channel: Channel) -> Option<usize>
+        ensures first { result ≡ index_of (holds channel) self.now.entries }
+        ensures inside { IfSome result (λ i. i < length self.now.entries) }
+    {
+        let number = channel.number();
+        for i in 0..self.entries.len() {
+            if holds_channel(&self.entries[i], number) {
+                return Some(i);
+            }
+        }
+        None
+    }
+
+    /// Whether the channel is in maintenance: a call on it was given up without an answer to its release.
+    pub fn in_maintenance(&self, channel: Channel) -> bool
+        ensures { result ≡ is_set self.now.maintenance channel }
+    {
+        self.maintenance.has(channel)
+    }
+
+    /// What has become of the booking of a row, where rows are named 1, 2, ..
+    pub fn outcome(&self, row: u16) -> Option<Outcome>
+        ensures { result ≡ outcome_at self.now row }
+    {
+        if row == 0 || row as usize > self.entries.len() {
+            return None;
+        }
+        Some(told(self.entries[row as usize - 1].standing))
+    }
+}
+
+/// Whether a booking holds the channel of this number.
+fn holds_channel(entry: &Entry, number: u8) -> bool
+    ensures { result ≡ holds number entry.now }
+{
+    match entry.standing {
+        Standing::OnCall { .. } => entry.channel == number,
+        _ => false,
+    }
+}

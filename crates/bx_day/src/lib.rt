@@ -1,0 +1,17 @@
+//! The day of an exchange: what becomes of each booking of a plan, tick by tick and message by message. The
+//! definitions are over all bookings at once; `laws` holds over every list of events. `Exchange` is the day
+//! in memory, and `moving` what one event does to one booking.
+#![tactic(auto)]
+
+mod entry;
+mod exchange;
+pub mod laws;
+pub mod moving;
+mod opening;
+mod outcome;
+#[cfg(test)]
+mod tests;
+
+pub use entry::{Activity, Entry, Moved, Standing};
+pub use exchange::Exchange;
+pub use outcome::Outcome;

@@ -1,0 +1,120 @@
+//! What an event does to one booking.
+
+ghost use Rattle.std.specs.Prelude.{◌≡◌, ◌≤◌, ℕ, Bool};
+ghost use Rattle.bx_q931.specs.Outgoing.{IsCallReference};
+ghost use Rattle.bx_day.specs.Day.{activity_after, over_at, follows, hears, second_at};
+ghost use Rattle.bx_day.specs.Said.{said_of};
+
+use crate::entry::{Activity, Entry, Moved, Standing};
+use bx_base::Channel;
+use bx_calls::{CallState, NetCall, Next, Step};
+use bx_q931::Message;
+
+/// The activity of a call, by whether it is Active now.
+fn activity_now(activity: Activity, active: bool, moment: u32) -> Activity
+    ensures { result ≡ activity_after activity active moment }
+{
+    match (activity, active) {
+        (Activity::Never, true) => Activity::Since { from: moment },
+        (Activity::Since { from }, false) => Activity::Was {
+            from,
+            until: moment,
+        },
+        (activity, _) => activity,
+    }
+}
+
+/// A call that is over.
+fn over(activity: Activity, moment: u32) -> Standing
+    ensures { result ≡ over_at activity moment }
+{
+    match activity {
+        Activity::Never => Standing::Unanswered,
+        Activity::Since { from } => Standing::Carried {
+            from,
+            until: moment,
+        },
+        Activity::Was { from, until } => Standing::Carried { from, until },
+    }
+}
+
+/// A live booking whose call took this step.
+fn follow(step: Step<NetCall>, activity: Activity, moment: u32) -> Moved
+    ensures { result ≡ follows activity moment step }
+{
+    let said = step.reply;
+    match step.next {
+        Next::Live(call) => {
+            let active = call.state() == CallState::Active;
+            let activity = activity_now(activity, active, moment);
+            Moved {
+                standing: Standing::OnCall { call, activity },
+                said,
+                broken: false,
+            }
+        }
+        Next::Over => Moved {
+            standing: over(activity, moment),
+            said,
+            broken: false,
+        },
+        Next::Broken => Moved {
+            standing: over(activity, moment),
+            said,
+            broken: true,
+        },
+    }
+}
+
+/// A live booking at a message of its call, whose reference and flag were compared before.
+pub fn heard(standing: Standing, message: &Message<'_>, moment: u32) -> Moved
+    requires { moment ≤ 300000 }
+    ensures { (reference : ℕ) (flag : Bool) → result ≡ hears (said_of reference flag message.now) moment standing }
+{
+    match standing {
+        Standing::OnCall { call, activity } => {
+            follow(call.on_message(message, moment), activity, moment)
+        }
+        standing => Moved {
+            standing,
+            said: None,
+            broken: false,
+        },
+    }
+}
+
+/// A booking at a tick to this moment; free says whether its channel was neither held nor in maintenance.
+pub fn second(entry: &Entry, channel: Channel, moment: u32, free: bool) -> Moved
+    requires moment { moment ≤ 300000 }
+    requires row { IsCallReference entry.now.row }
+    requires channel { channel ≡ entry.now.channel }
+    ensures { result ≡ second_at entry.now moment free entry.now.standing }
+{
+    let booking = entry.booking;
+    match entry.standing {
+        Standing::OnCall { call, activity } => {
+            follow(call.on_second(moment, booking.end()), activity, moment)
+        }
+        Standing::Unoffered if booking.runs_at(moment) && !booking.is_inward() && free => {
+            let (call, setup) = NetCall::offered(entry.row, channel, booking.number(), moment);
+            Moved {
+                standing: Standing::OnCall {
+                    call,
+                    activity: Activity::Never,
+                },
+                said: Some(setup),
+                broken: false,
+            }
+        }
+        Standing::Unoffered if booking.end() <= moment => Moved {
+            standing: Standing::Missed,
+            said: None,
+            broken: false,
+        },
+        standing => Moved {
+            standing,
+            said: None,
+            broken: false,
+        },
+    }
+}

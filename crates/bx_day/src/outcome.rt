@@ -1,0 +1,37 @@
+//! What is told of a booking.
+
+ghost use Rattle.std.specs.Prelude.{◌≡◌};
+ghost use Rattle.bx_day.specs.Reading.{outcome_of};
+
+use crate::entry::Standing;
+
+/// What has become of a booking, as the exchange tells it.
+#[derive(Clone, Copy, Debug, PartialEq, Eq)]
+pub enum Outcome {
+    /// The plan does not accept it.
+    Refused,
+    /// It waits for its start, or for its channel.
+    Waiting,
+    /// A call of it is live.
+    Live,
+    /// Its call was Active from the first moment, and left Active at the second.
+    Carried { from: u32, until: u32 },
+    /// Its call is over, and was never Active.
+    Unanswered,
+    /// It was never live, and its end has come.
+    Missed,
+}
+
+/// The outcome of a booking of which this has become.
+pub fn told(standing: Standing) -> Outcome
+    ensures { result ≡ outcome_of standing }
+{
+    match standing {
+        Standing::Refused => Outcome::Refused,
+        Standing::Unoffered => Outcome::Waiting,
+        Standing::OnCall { .. } => Outcome::Live,
+        Standing::Carried { from, until } => Outcome::Carried { from, until },
+        Standing::Unanswered => Outcome::Unanswered,
+        Standing::Missed => Outcome::Missed,
+    }
+}
