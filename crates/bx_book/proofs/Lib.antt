@@ -1,1 +1,2 @@
 pub mod Midnights
+pub mod Seconds

@@ -2,3 +2,4 @@ pub mod Places
 pub mod Dates
 pub mod Days
 pub mod DayParts
+pub mod Times

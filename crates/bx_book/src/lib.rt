@@ -5,5 +5,6 @@ mod day;
 mod place;
 #[cfg(test)]
 mod tests;
+mod time;
 
 pub use day::{Day, DayFault, MAX_DAY};
