@@ -1,2 +1,3 @@
 pub mod Midnights
 pub mod Seconds
+pub mod Digits

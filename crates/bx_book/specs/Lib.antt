@@ -3,3 +3,5 @@ pub mod Dates
 pub mod Days
 pub mod DayParts
 pub mod Times
+pub mod Rows
+pub mod Texts

@@ -2,9 +2,14 @@
 #![tactic(auto)]
 
 mod day;
+mod fault;
+mod field;
 mod place;
+mod row;
 #[cfg(test)]
 mod tests;
+mod text;
 mod time;
 
 pub use day::{Day, DayFault, MAX_DAY};
+pub use fault::BookFault;
