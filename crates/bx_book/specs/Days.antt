@@ -1,8 +1,7 @@
 -- The two midnights of a day.
-use Rattle.std.specs.Prelude.{◌≡◌, ◌⊎◌, ℕ, ℤ, List, Option, None, Result, Ok, Err, pos, int_div, ◌+ℤ◌, ◌-ℤ◌, ◌<ℤ◌, ◌≤ℤ◌}
+use Rattle.std.specs.Prelude.{◌≡◌, ◌⊎◌, ℕ, ℤ, List, pos, int_div, ◌+ℤ◌, ◌-ℤ◌, ◌<ℤ◌, ◌≤ℤ◌}
 use Rattle.jiff_core.specs.declared.civil.datetime.DateTime.{DateTime}
 use Rattle.jiff_tz.specs.declared.timezone.TimeZone.{TimeZone}
-use Rattle.jiff_tz.specs.PosixReader.{read_whole}
 use Rattle.jiff.specs.Placed.{IsPosixZone}
 use Rattle.jiff.specs.Words.{epoch_day, time_nanos, picked_instant, IsTimestampNanos}
 

@@ -47,6 +47,9 @@ fn refused_days(rt: HostRuntime) -> Result<(), Fail> {
         assert!(rt; day_fault(date, zone, fault));
         assert_eq!(rt; fault.to_string(rt.alloc())?.as_str(), text);
     }
-    assert_eq!(rt; DayFault::OddDay.to_string(rt.alloc())?.as_str(), "A4 OddDay");
+    assert_eq!(rt;
+        DayFault::OddDay.to_string(rt.alloc())?.as_str(),
+        "A4 OddDay"
+    );
     Ok(())
 }
