@@ -1,3 +1,4 @@
 pub mod Midnights
 pub mod Seconds
 pub mod Digits
+pub mod Fronts

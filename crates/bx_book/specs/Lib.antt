@@ -5,3 +5,4 @@ pub mod DayParts
 pub mod Times
 pub mod Rows
 pub mod Texts
+pub mod Fronts

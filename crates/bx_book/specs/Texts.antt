@@ -1,8 +1,8 @@
 -- The bookings of a booking text, and its first fault.
-use Rattle.std.specs.Prelude.{◌≡◌, ◌⊎◌, ⊤, ⊥, ◌≤◌, ℕ, ◌+◌, ◌==◌, ◌&&◌, if◌then◌else◌, Bool, List, [], ◌∷◌, ◌++◌, length, codes, Option, Some, None, Result, Ok, Err}
+use Rattle.std.specs.Prelude.{◌≡◌, ◌⊎◌, ⊤, ◌≤◌, ℕ, ◌+◌, ◌==◌, ◌&&◌, if◌then◌else◌, Bool, List, [], ◌∷◌, ◌++◌, length, codes, Option, Some, None, Result, Ok, Err}
 use Rattle.std.specs.Str.{bytes_eq}
 use Rattle.csv.specs.Machine.{next_record}
-use Rattle.csv.specs.Reading.{Reached, AreRecords, default_config, strip_bom}
+use Rattle.csv.specs.Reading.{Reached, default_config}
 use Rattle.csv.specs.declared.parser.State.{State}
 use Rattle.csv.specs.declared.parser.State.TheVariants as st
 use Rattle.bx_base.specs.Bookings.{Row}
@@ -37,7 +37,7 @@ AreRowsOf span columns (r ∷ rs) (b ∷ bs) = IsRowOf span columns r b × AreRo
 pub record IsFront (text : List ℕ) (span : Span) (columns : ℕ) (bookings : List Row) (s : State) (rest : List ℕ) : Type 0 where
   pub header : List (List ℕ)
   pub rows : List (List (List ℕ))
-  pub reached : Reached default_config st.StartRecord (strip_bom text) (header ∷ rows) s rest
+  pub reached : Reached default_config st.StartRecord text (header ∷ rows) s rest
   pub is_header : header_columns header ≡ Some columns
   pub are_rows : AreRowsOf span columns rows bookings
 
@@ -49,19 +49,22 @@ pub record IsBook (text : List ℕ) (span : Span) (bookings : List Row) : Type 0
   pub front : IsFront text span columns bookings state rest
   pub ends : next_record default_config state [] [] rest ≡ None
 
--- the record after rows that are these bookings
+-- after a header and rows that are these bookings comes a record with these fields
 pub record IsNext (text : List ℕ) (span : Span) (columns : ℕ) (bookings : List Row) (fields : List (List ℕ)) : Type 0 where
+  pub header : List (List ℕ)
+  pub rows : List (List (List ℕ))
   pub state : State
   pub rest : List ℕ
-  pub front : IsFront text span columns bookings state rest
-  pub next : (s : State) × (left : List ℕ) × (next_record default_config state [] [] rest ≡ Some (fields, s, left))
+  pub reached : Reached default_config st.StartRecord text (header ∷ (rows ++ fields ∷ [])) state rest
+  pub is_header : header_columns header ≡ Some columns
+  pub are_rows : AreRowsOf span columns rows bookings
 
--- the first record is no header, or there is none
+-- there is no record, or the first is no header
 abbrev pub IsBadHeader : List ℕ → Type 0
 IsBadHeader text =
-    (next_record default_config st.StartRecord [] [] (strip_bom text) ≡ None)
-    ⊎ ((fields : List (List ℕ)) × (s : State) × (left : List ℕ)
-      × (next_record default_config st.StartRecord [] [] (strip_bom text) ≡ Some (fields, s, left)) × (header_columns fields ≡ None))
+    (next_record default_config st.StartRecord [] [] text ≡ None)
+    ⊎ ((fields : List (List ℕ)) × (s : State) × (rest : List ℕ)
+      × Reached default_config st.StartRecord text (fields ∷ []) s rest × (header_columns fields ≡ None))
 
 -- the first fault of a text: what stands before it is without one
 abbrev pub IsBookFault : List ℕ → Span → BookFault → Type 0

@@ -1,17 +1,19 @@
 //! The bookings of a text.
 
-ghost use Rattle.std.specs.Prelude.{◌≡◌, MatchOption, None, Some, IfSome};
+ghost use Rattle.std.specs.Prelude.{◌≡◌, [], List, ℕ, OnOk, IfSome, IfOk, IfErr};
 ghost use Rattle.std.specs.Str.{bytes_eq};
+ghost use Rattle.csv.specs.Reading.{reader_state, ReadRecord, source_of};
+ghost use Rattle.csv.specs.declared.parser.State.TheVariants as st;
 ghost use Rattle.csv.specs.Records.{fields_of};
-ghost use Rattle.bx_book.specs.Rows.{span_of, field_of};
-ghost use Rattle.bx_book.specs.Texts.{header_columns, IsBookRead};
+ghost use Rattle.bx_book.specs.Rows.{Span, span_of, field_of};
+ghost use Rattle.bx_book.specs.Texts.{header_columns, IsBook, IsBookFault};
+ghost use Rattle.bx_book.specs.Fronts.{IsReading, Front};
 
 use crate::day::Day;
 use crate::fault::BookFault;
 use crate::row::{booking, field};
 use bx_base::Bookings;
-use csv::{ByteRecord, ReaderBuilder};
-use std::alloc::Global;
+use csv::{ByteRecord, Reader};
 use std::io::Read;
 
 /// Whether the field of this place is this word.
@@ -39,38 +41,50 @@ fn columns_under(header: &ByteRecord) -> Option<usize>
     }
 }
 
-/// Reads a text to its end, or to its first fault.
-pub fn read_rows<R: Read + Drop>(alloc: Global, input: R, day: &Day) -> Result<Bookings, BookFault>
-    ensures { IfSome (R.remaining input) (λ text. IsBookRead text (span_of day.now) result) }
+/// Reads the next record, if there is one.
+fn read_next<R: Read>(records: &mut Reader<R>, fields: &mut ByteRecord) -> Result<bool, BookFault>
+    requires { IsReading records.old }
+    ensures ok { IfOk result (λ found. IsReading records.new × ReadRecord R.remaining records.old records.new found (fields_of fields.new)) }
+    ensures err { IfErr result (λ e. e ≡ BookFault.Memory) }
 {
-    let mut records = ReaderBuilder::new()
-        .has_headers(false)
-        .flexible(true)
-        .from_reader(alloc, input);
-    let mut record = ByteRecord::new(alloc);
-    match records.read_byte_record(&mut record) {
-        Ok(true) => {}
-        Ok(false) => return Err(BookFault::BadHeader),
-        Err(_) => return Err(BookFault::Memory),
+    match records.read_byte_record(fields) {
+        Ok(found) => Ok(found),
+        Err(_) => Err(BookFault::Memory),
     }
-    let Some(columns) = columns_under(&record) else {
+}
+
+/// Reads the header, and answers how many columns the rows have.
+fn read_header<R: Read>(records: &mut Reader<R>, fields: &mut ByteRecord) -> Result<usize, BookFault>
+    requires { IsReading records.old × (reader_state records.old ≡ st.StartRecord) }
+    ensures ok { IfOk result (λ columns. IsReading records.new × ((span : Span) → IfSome (source_of R.remaining records.old) (λ text. Front R.remaining records.new text span columns []))) }
+    ensures err { IfErr result (λ e. (span : Span) → IfSome (source_of R.remaining records.old) (λ text. IsBookFault text span e)) }
+{
+    if !read_next(records, fields)? {
         return Err(BookFault::BadHeader);
-    };
-    let mut bookings = Bookings::new(alloc);
+    }
+    match columns_under(fields) {
+        Some(columns) => Ok(columns),
+        None => Err(BookFault::BadHeader),
+    }
+}
+
+/// Reads the rows behind the header.
+fn read_rows<R: Read>(records: &mut Reader<R>, fields: &mut ByteRecord, columns: usize, day: &Day, bookings: &mut Bookings) -> Result<(), BookFault>
+    requires { IsReading records.old }
+    ensures ok { (text : List ℕ) → Front R.remaining records.old text (span_of day.now) columns [] → bookings.old ≡ [] → OnOk result (IsBook text (span_of day.now) bookings.new) }
+    ensures err { (text : List ℕ) → Front R.remaining records.old text (span_of day.now) columns [] → bookings.old ≡ [] → IfErr result (IsBookFault text (span_of day.now)) }
+{
     for row in 1..4001u16 {
-        match records.read_byte_record(&mut record) {
-            Ok(true) => {}
-            Ok(false) => return Ok(bookings),
-            Err(_) => return Err(BookFault::Memory),
+        if !read_next(records, fields)? {
+            return Ok(());
         }
-        let booking = booking(&record, columns, day, row)?;
+        let booking = booking(fields, columns, day, row)?;
         if bookings.push(booking).is_err() {
             return Err(BookFault::Memory);
         }
     }
-    match records.read_byte_record(&mut record) {
-        Ok(true) => Err(BookFault::TooMany),
-        Ok(false) => Ok(bookings),
-        Err(_) => Err(BookFault::Memory),
+    if read_next(records, fields)? {
+        return Err(BookFault::TooMany);
     }
+    Ok(())
 }
