@@ -2,3 +2,4 @@ pub mod Midnights
 pub mod Seconds
 pub mod Digits
 pub mod Fronts
+pub mod RowFaults

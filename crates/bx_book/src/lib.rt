@@ -13,3 +13,4 @@ mod time;
 
 pub use day::{Day, DayFault, MAX_DAY};
 pub use fault::BookFault;
+pub use text::read_bookings;

@@ -2,7 +2,7 @@
 
 ghost use Rattle.std.specs.Prelude.{◌≡◌, [], List, ℕ, OnOk, IfSome, IfOk, IfErr};
 ghost use Rattle.std.specs.Str.{bytes_eq};
-ghost use Rattle.csv.specs.Reading.{reader_state, ReadRecord, source_of};
+ghost use Rattle.csv.specs.Reading.{reader_state, ReadRecord, source_of, strip_bom};
 ghost use Rattle.csv.specs.declared.parser.State.TheVariants as st;
 ghost use Rattle.csv.specs.Records.{fields_of};
 ghost use Rattle.bx_book.specs.Rows.{Span, span_of, field_of};
@@ -13,7 +13,8 @@ use crate::day::Day;
 use crate::fault::BookFault;
 use crate::row::{booking, field};
 use bx_base::Bookings;
-use csv::{ByteRecord, Reader};
+use csv::{ByteRecord, Reader, ReaderBuilder};
+use std::alloc::Global;
 use std::io::Read;
 
 /// Whether the field of this place is this word.
@@ -87,4 +88,22 @@ fn read_rows<R: Read>(records: &mut Reader<R>, fields: &mut ByteRecord, columns:
         return Err(BookFault::TooMany);
     }
     Ok(())
+}
+
+/// Reads the booking text of a day, RFC 4180 records as `csv` reads them: a header `start,end,number,pay`, which may
+/// go on with `must`, and that with `direction`, and then at most 4,000 rows. The answer is the bookings of all
+/// rows, or the first fault.
+pub fn read_bookings(alloc: Global, bytes: &[u8], day: &Day) -> Result<Bookings, BookFault>
+    ensures ok { IfOk result (IsBook (strip_bom bytes.now) (span_of day.now)) }
+    ensures err { IfErr result (IsBookFault (strip_bom bytes.now) (span_of day.now)) }
+{
+    let mut records = ReaderBuilder::new()
+        .has_headers(false)
+        .flexible(true)
+        .from_reader(alloc, bytes);
+    let mut fields = ByteRecord::new(alloc);
+    let columns = read_header(&mut records, &mut fields)?;
+    let mut bookings = Bookings::new(alloc);
+    read_rows(&mut records, &mut fields, columns, day, &mut bookings)?;
+    Ok(bookings)
 }
