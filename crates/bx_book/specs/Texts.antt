@@ -64,7 +64,7 @@ abbrev pub IsBadHeader : List ℕ → Type 0
 IsBadHeader text =
     (next_record default_config st.StartRecord [] [] text ≡ None)
     ⊎ ((fields : List (List ℕ)) × (s : State) × (rest : List ℕ)
-      × Reached default_config st.StartRecord text (fields ∷ []) s rest × (header_columns fields ≡ None))
+    × Reached default_config st.StartRecord text (fields ∷ []) s rest × (header_columns fields ≡ None))
 
 -- the first fault of a text: what stands before it is without one
 abbrev pub IsBookFault : List ℕ → Span → BookFault → Type 0

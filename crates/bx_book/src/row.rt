@@ -55,7 +55,12 @@ fn marked(mut booking: Booking, is_must: bool, is_inward: bool) -> Booking
 }
 
 /// The booking of the row of this name, which has this many columns.
-pub fn booking(fields: &ByteRecord, columns: usize, day: &Day, row: u16) -> Result<Booking, BookFault>
+pub fn booking(
+    fields: &ByteRecord,
+    columns: usize,
+    day: &Day,
+    row: u16,
+) -> Result<Booking, BookFault>
     ensures { IsRowRead (span_of day.now) columns row (fields_of fields.now) result }
 {
     if fields.len() != columns {

@@ -55,7 +55,10 @@ fn read_next<R: Read>(records: &mut Reader<R>, fields: &mut ByteRecord) -> Resul
 }
 
 /// Reads the header, and answers how many columns the rows have.
-fn read_header<R: Read>(records: &mut Reader<R>, fields: &mut ByteRecord) -> Result<usize, BookFault>
+fn read_header<R: Read>(
+    records: &mut Reader<R>,
+    fields: &mut ByteRecord,
+) -> Result<usize, BookFault>
     requires { IsReading records.old × (reader_state records.old ≡ st.StartRecord) }
     ensures ok { IfOk result (λ columns. IsReading records.new × ((span : Span) → IfSome (source_of R.remaining records.old) (λ text. Front R.remaining records.new text span columns []))) }
     ensures err { IfErr result (λ e. (span : Span) → IfSome (source_of R.remaining records.old) (λ text. IsBookFault text span e)) }
@@ -70,7 +73,13 @@ fn read_header<R: Read>(records: &mut Reader<R>, fields: &mut ByteRecord) -> Res
 }
 
 /// Reads the rows behind the header.
-fn read_rows<R: Read>(records: &mut Reader<R>, fields: &mut ByteRecord, columns: usize, day: &Day, bookings: &mut Bookings) -> Result<(), BookFault>
+fn read_rows<R: Read>(
+    records: &mut Reader<R>,
+    fields: &mut ByteRecord,
+    columns: usize,
+    day: &Day,
+    bookings: &mut Bookings,
+) -> Result<(), BookFault>
     requires { IsReading records.old }
     ensures ok { (text : List ℕ) → Front R.remaining records.old text (span_of day.now) columns [] → bookings.old ≡ [] → OnOk result (IsBook text (span_of day.now) bookings.new) }
     ensures err { (text : List ℕ) → Front R.remaining records.old text (span_of day.now) columns [] → bookings.old ≡ [] → IfErr result (IsBookFault text (span_of day.now)) }
@@ -79,7 +88,10 @@ fn read_rows<R: Read>(records: &mut Reader<R>, fields: &mut ByteRecord, columns:
         if !read_next(records, fields)? {
             return Ok(());
         }
-        let booking = booking(fields, columns, day, row)?;
+        let booking = match booking(fields, columns, day, row) {
+            Ok(booking) => booking,
+            Err(fault) => return Err(fault),
+        };
         if bookings.push(booking).is_err() {
             return Err(BookFault::Memory);
         }
@@ -102,8 +114,13 @@ pub fn read_bookings(alloc: Global, bytes: &[u8], day: &Day) -> Result<Bookings,
         .flexible(true)
         .from_reader(alloc, bytes);
     let mut fields = ByteRecord::new(alloc);
-    let columns = read_header(&mut records, &mut fields)?;
+    let columns = match read_header(&mut records, &mut fields) {
+        Ok(columns) => columns,
+        Err(fault) => return Err(fault),
+    };
     let mut bookings = Bookings::new(alloc);
-    read_rows(&mut records, &mut fields, columns, day, &mut bookings)?;
-    Ok(bookings)
+    match read_rows(&mut records, &mut fields, columns, day, &mut bookings) {
+        Ok(()) => Ok(bookings),
+        Err(fault) => Err(fault),
+    }
 }

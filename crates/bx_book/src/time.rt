@@ -27,7 +27,10 @@ fn first_second(day: Date) -> i64
 fn clock(octets: &[u8]) -> Option<u32>
     ensures { MatchOption result (¬ HasClock octets.now) (λ n. HasClock octets.now × (n ≡ clock_seconds octets.now) × (n < 86400)) }
 {
-    if octet_at(octets, 10) != b'T' || octet_at(octets, 13) != b':' || octet_at(octets, 16) != b':' {
+    if octet_at(octets, 10) != b'T'
+        || octet_at(octets, 13) != b':'
+        || octet_at(octets, 16) != b':'
+    {
         return None;
     }
     let hours = two_digits_below(octets, 11, 24)?;

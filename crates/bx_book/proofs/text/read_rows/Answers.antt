@@ -12,25 +12,25 @@ returns-then-not-branch-clause-ok g c = λ text start empty.
     let read = rw ended at c.in_ok-read_next.ensures.ok.1 in
     front_end g.R.Read.remaining c.loop-row.records c.read_next.new.records (fields_of c.read_next.new.fields) text c.loop-row.invariant.reading.config (span_of c.args.day.now) c.args.columns c.loop-row.bookings (c.loop-row.invariant.front text start empty) read
 
-pub returns-in_err-booking-clause-err : goal.returns-in_err-booking-clause-err
-returns-in_err-booking-clause-err g c = λ text start empty.
+pub returns-in-Err-clause-err : goal.returns-in-Err-clause-err
+returns-in-Err-clause-err g c = λ text start empty.
     let found : c.in_ok-read_next.field-0 ≡ true = search rules in
     let read = rw found at c.in_ok-read_next.ensures.ok.1 in
     let next = front_record g.R.Read.remaining c.loop-row.records c.read_next.new.records (fields_of c.read_next.new.fields) text c.loop-row.invariant.reading.config (span_of c.args.day.now) c.args.columns c.loop-row.bookings (c.loop-row.invariant.front text start empty) read in
     let count = c.loop-row.invariant.count empty in
-    let fault = subst (λ k. IsRowFault (span_of c.args.day.now) c.args.columns k (fields_of c.read_next.new.fields) c.in_err-booking.field-0.0) (sym count) c.in_err-booking.ensures in
-    rw c.from_residual-in_err-booking.ensures (next_fault text (span_of c.args.day.now) c.args.columns c.loop-row.bookings (fields_of c.read_next.new.fields) next (omega (arith, count, c.loop-row-test.true)) c.in_err-booking.field-0.0 fault)
+    let fault = subst (λ k. IsRowFault (span_of c.args.day.now) c.args.columns k (fields_of c.read_next.new.fields) c.in-Err.fault) (sym count) c.in-Err.ensures in
+    (next_fault text (span_of c.args.day.now) c.args.columns c.loop-row.bookings (fields_of c.read_next.new.fields) next (omega (arith, count, c.loop-row-test.true)) c.in-Err.fault fault)
 
 pub loop-row-preserved : goal.loop-row-preserved
 loop-row-preserved g c =
     let found : c.in_ok-read_next.field-0 ≡ true = search rules in
     let read = rw found at c.in_ok-read_next.ensures.ok.1 in
-    let pushed : c.push.new.self ≡ c.loop-row.bookings ++ c.in_ok-booking.booking ∷ [] = search rules in
+    let pushed : c.push.new.self ≡ c.loop-row.bookings ++ c.in-Ok.booking ∷ [] = search rules in
     record {
       reading = c.in_ok-read_next.ensures.ok.0;
       front = λ text start empty. subst (Front g.R.Read.remaining c.read_next.new.records text (span_of c.args.day.now) c.args.columns) (sym pushed)
-        (front_next g.R.Read.remaining c.loop-row.records c.read_next.new.records (fields_of c.read_next.new.fields) text c.loop-row.invariant.reading.config (span_of c.args.day.now) c.args.columns c.loop-row.bookings (c.loop-row.invariant.front text start empty) c.in_ok-booking.booking read c.in_ok-booking.ensures);
-      count = λ empty. ap (λ k. k + 1) (ap length pushed ∙ length-append c.loop-row.bookings (c.in_ok-booking.booking ∷ []) ∙ c.loop-row.invariant.count empty);
+          (front_next g.R.Read.remaining c.loop-row.records c.read_next.new.records (fields_of c.read_next.new.fields) text c.loop-row.invariant.reading.config (span_of c.args.day.now) c.args.columns c.loop-row.bookings (c.loop-row.invariant.front text start empty) c.in-Ok.booking read c.in-Ok.ensures);
+      count = λ empty. ap (λ k. k + 1) (ap length pushed ∙ length-append c.loop-row.bookings (c.in-Ok.booking ∷ []) ∙ c.loop-row.invariant.count empty);
     }
 
 pub returns-then-branch-clause-err : goal.returns-then-branch-clause-err
