@@ -1,13 +1,12 @@
 -- One read of a record of a booking text.
-use Rattle.std.proofs.Common.{◌≡◌, ◌++◌, ◌∷◌, ◌∙◌, [], ℕ, List, Option, Some, None, true, false, IfSome, refl, sym, inl, inr}
-use Rattle.csv.specs.Machine.{next_record}
+use Rattle.std.proofs.Common.{◌≡◌, ◌++◌, ◌∷◌, [], ℕ, List, Option, Some, None, true, false, IfSome, refl, sym, inl, inr}
 use Rattle.csv.specs.Reading.{Reached, ReadRecord, default_config, source_of}
 use Rattle.csv.specs.declared.reader.Reader.{Reader}
 use Rattle.csv.specs.declared.parser.State.TheVariants as st
 use Rattle.csv.proofs.ReadFacts.{rows-end, rows-more}
 use Rattle.bx_base.specs.Bookings.{Row}
 use Rattle.bx_book.specs.Rows.{Span, IsRowOf}
-use Rattle.bx_book.specs.Texts.{AreRowsOf, IsFront, IsNext, IsBook, IsBadHeader, header_columns}
+use Rattle.bx_book.specs.Texts.{AreRowsOf, IsNext, IsBook, IsBadHeader, header_columns}
 use Rattle.bx_book.specs.Fronts.{Front}
 
 pub rows_append : (span : Span) (columns : ℕ) (rows : List (List (List ℕ))) (bookings : List Row) (f : List (List ℕ)) (row : Row)

@@ -1,5 +1,5 @@
 -- The first fault of a row is that of its text.
-use Rattle.std.proofs.Common.{◌≡◌, ◌⊎◌, ◌+◌, ◌≤◌, ℕ, List, length, inl, inr}
+use Rattle.std.proofs.Common.{◌⊎◌, ◌+◌, ◌≤◌, ℕ, List, length, inl, inr}
 use Rattle.bx_base.specs.Bookings.{Row}
 use Rattle.bx_book.specs.Rows.{Span, IsRowFault}
 use Rattle.bx_book.specs.Texts.{IsNext, IsBookFault}

@@ -1,5 +1,5 @@
 -- Days in seconds.
-use Rattle.std.proofs.Common.{◌≡◌, ◌∙◌, ℤ, ℕ, pos, neg_ℤ, ◌+ℤ◌, ◌-ℤ◌, ◌*ℤ◌, ◌≤ℤ◌, ◌<◌, int_div, unsigned_abs, arith, refl, ap, sym}
+use Rattle.std.proofs.Common.{◌≡◌, ◌∙◌, ℤ, ℕ, pos, neg_ℤ, ◌+ℤ◌, ◌-ℤ◌, ◌*ℤ◌, ◌≤ℤ◌, ◌<◌, int_div, unsigned_abs, arith}
 use Rattle.std.proofs.lemmas.Int.{quot-rem, rem_below, ints}
 use Rattle.std.specs.Prelude.{int_rem}
 use Rattle.jiff.specs.Words.{epoch_day, IsYmd, IsEpochDay}

@@ -1,5 +1,5 @@
 -- The booking of a row, and the first fault of one.
-use Rattle.std.specs.Prelude.{◌-◌, ◌^◌, min, ◌≡◌, ◌≢◌, ◌⊎◌, ◌<◌, ◌≤◌, ℕ, ◌==◌, ◌&&◌, nat_le, nat_lt, not, if◌then◌else◌, Bool, true, false, ℤ, pos, ◌-ℤ◌, ◌<ℤ◌, List, [], length, unwrap_or, codes, Option, Some, None, Result, Ok, Err}
+use Rattle.std.specs.Prelude.{◌-◌, ◌^◌, min, ◌≡◌, ◌≢◌, ◌⊎◌, ◌<◌, ◌≤◌, ℕ, ◌&&◌, nat_le, nat_lt, if◌then◌else◌, Bool, true, false, ℤ, pos, ◌-ℤ◌, ◌<ℤ◌, List, [], length, unwrap_or, codes, Option, Some, None, Result, Ok, Err}
 use Rattle.std.specs.List.{list_all}
 use Rattle.std.specs.Char.{is_ascii_digit}
 use Rattle.std.specs.Str.{bytes_eq}

@@ -1,4 +1,3 @@
-use Rattle.std.proofs.Common.{rules}
 use Rattle.csv.specs.Reading.{strip_bom}
 use Rattle.bx_book.specs.Rows.{span_of}
 use Rattle.bx_book.proofs.text.read_bookings.Goals as goal

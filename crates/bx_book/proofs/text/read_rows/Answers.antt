@@ -1,4 +1,4 @@
-use Rattle.std.proofs.Common.{◌≡◌, ◌∙◌, ◌+◌, ◌++◌, ◌∷◌, [], rules, sym, subst, ap, arith, true, false, length, length-append, refl}
+use Rattle.std.proofs.Common.{◌≡◌, ◌∙◌, ◌+◌, ◌++◌, ◌∷◌, [], rules, sym, subst, ap, arith, true, false, length, length-append}
 use Rattle.csv.specs.Records.{fields_of}
 use Rattle.bx_book.specs.Rows.{span_of, IsRowFault}
 use Rattle.bx_book.specs.Fronts.{Front}

@@ -1,4 +1,4 @@
-use Rattle.std.proofs.Common.{◌≡◌, ◌∙◌, rules, pos, ◌*ℤ◌, FitsSigned, w64}
+use Rattle.std.proofs.Common.{◌∙◌, rules, FitsSigned, w64}
 use Rattle.std.proofs.lemmas.Int.{to_z-of_z}
 use Rattle.jiff.specs.Words.{epoch_day, signed_nanos}
 use Rattle.jiff_core.proofs.DateLemmas.{epoch_day_range}
