@@ -2,8 +2,15 @@
 #![tactic(auto)]
 
 mod day;
+mod fault;
+mod field;
 mod place;
+mod row;
 #[cfg(test)]
 mod tests;
+mod text;
+mod time;
 
 pub use day::{Day, DayFault, MAX_DAY};
+pub use fault::BookFault;
+pub use text::read_bookings;

@@ -1,9 +1,9 @@
 //! Octets, digits and dates at the places of a text.
 
-ghost use Rattle.std.specs.Prelude.{◌≡◌, ◌+◌, ◌≤◌, MatchOption, true, false, pos};
+ghost use Rattle.std.specs.Prelude.{◌≡◌, ◌+◌, ◌<◌, ◌≤◌, MatchOption, true, false, pos, length, drop};
 ghost use Rattle.jiff.specs.Words.{epoch_day};
 ghost use Rattle.jiff_core.specs.Calendar.{IsDate, days_from_civil};
-ghost use Rattle.bx_book.specs.Places.{octet_at, are_two_digits, two_at};
+ghost use Rattle.bx_book.specs.Places.{octet_at, are_two_digits, two_at, is_below};
 ghost use Rattle.bx_book.specs.Dates.{StartsWithDate, day_number};
 
 use jiff::civil::Date;
@@ -18,6 +18,14 @@ pub fn octet_at(octets: &[u8], place: usize) -> u8
     }
 }
 
+/// What stands from a place on.
+pub fn after(octets: &[u8], place: usize) -> &[u8]
+    requires { place ≤ length octets.now }
+    ensures { result.now ≡ drop place octets.now }
+{
+    &octets[place..]
+}
+
 /// The number that two ASCII digits from a place on write.
 pub fn two_digits(octets: &[u8], place: usize) -> Option<u8>
     requires { place ≤ 100 }
@@ -30,6 +38,15 @@ pub fn two_digits(octets: &[u8], place: usize) -> Option<u8>
     } else {
         None
     }
+}
+
+/// The same, where that number is below the limit.
+pub fn two_digits_below(octets: &[u8], place: usize, limit: u8) -> Option<u8>
+    requires { place ≤ 100 }
+    ensures { MatchOption result (is_below octets.now place limit ≡ false) (λ n. (is_below octets.now place limit ≡ true) × (n ≡ two_at octets.now place) × (n < limit)) }
+{
+    let number = two_digits(octets, place)?;
+    if number < limit { Some(number) } else { None }
 }
 
 /// The date of the calendar with these parts.

@@ -1,6 +1,7 @@
 //! Days and booking texts with what is known of them.
 
-use crate::{Day, DayFault};
+use crate::{BookFault, Day, DayFault, read_bookings};
+use std::alloc::Global;
 use std::test::Fail;
 
 fn day_is(date: &str, zone: &str, start: i64, length: u32) -> bool {
@@ -51,5 +52,80 @@ fn refused_days(rt: HostRuntime) -> Result<(), Fail> {
         DayFault::OddDay.to_string(rt.alloc())?.as_str(),
         "A4 OddDay"
     );
+    Ok(())
+}
+
+fn fault_of(alloc: Global, text: &str, day: &Day) -> Option<BookFault> {
+    match read_bookings(alloc, text.as_bytes(), day) {
+        Ok(_) => None,
+        Err(fault) => Some(fault),
+    }
+}
+
+#[test]
+fn faults_of_a_text(rt: HostRuntime) -> Result<(), Fail> {
+    let day = Day::new("2026-01-05", "UTC0")?;
+    let texts = [
+        ("", "B1 BadHeader"),
+        ("start,end,number\n", "B1 BadHeader"),
+        (
+            "start,end,number,pay\n2026-01-05T00:00:00Z,2026-01-05T00:01:00Z,1234\n",
+            "B2 WrongColumns 1",
+        ),
+        (
+            "start,end,number,pay\n2026-01-05 00:00:00Z,2026-01-05T00:01:00Z,1234,5\n",
+            "B3 NotATime 1",
+        ),
+        (
+            "start,end,number,pay\n2026-01-05T00:00:00.5Z,2026-01-05T00:01:00Z,1234,5\n",
+            "B4 NotWholeSeconds 1",
+        ),
+        (
+            "start,end,number,pay\n2026-01-05T00:00:00Z,2026-01-06T00:00:01Z,1234,5\n",
+            "B5 OutsideDay 1",
+        ),
+        (
+            "start,end,number,pay\n2026-01-05T00:01:00Z,2026-01-05T00:01:00Z,1234,5\n",
+            "B6 EndNotAfterStart 1",
+        ),
+        (
+            "start,end,number,pay\n2026-01-05T00:00:00Z,2026-01-05T00:01:00Z,12a,5\n",
+            "B7 BadNumber 1",
+        ),
+        (
+            "start,end,number,pay\n2026-01-05T00:00:00Z,2026-01-05T00:01:00Z,1234,1000000001\n",
+            "B8 BadPay 1",
+        ),
+        (
+            "start,end,number,pay,must\n2026-01-05T00:00:00Z,2026-01-05T00:01:00Z,1234,5,no\n2026-01-05T00:00:00Z,2026-01-05T00:01:00Z,1234,5,maybe\n",
+            "B10 BadMust 2",
+        ),
+        (
+            "start,end,number,pay,must,direction\n2026-01-05T00:00:00Z,2026-01-05T00:01:00Z,1234,5,yes,up\n",
+            "B11 BadDirection 1",
+        ),
+    ];
+    for (text, printed) in texts {
+        let Some(fault) = fault_of(rt.alloc(), text, &day) else {
+            return Err(Fail::new("no fault"));
+        };
+        assert_eq!(rt; fault.to_string(rt.alloc())?.as_str(), printed);
+    }
+    Ok(())
+}
+
+#[test]
+fn bookings_of_a_text(rt: HostRuntime) -> Result<(), Fail> {
+    let day = Day::new("2026-01-05", "UTC0")?;
+    let text =
+        "start,end,number,pay,must,direction\n2026-01-05T01:00:00.000+01:00,2026-01-06T00:00:00Z,1234,5,yes,in\n";
+    let bookings = read_bookings(rt.alloc(), text.as_bytes(), &day)?;
+    assert_eq!(rt; bookings.len(), 1);
+    let booking = bookings.nth(0);
+    assert_eq!(rt; booking.start(), 0);
+    assert_eq!(rt; booking.end(), 86_400);
+    assert_eq!(rt; booking.pay(), 5);
+    assert!(rt; booking.is_must());
+    assert!(rt; booking.is_inward());
     Ok(())
 }

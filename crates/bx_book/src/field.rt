@@ -1,0 +1,101 @@
+//! Fields of a row.
+
+ghost use Rattle.std.specs.Prelude.{◌≡◌, ◌≤◌, ◌<◌, ◌⊎◌, ◌-ℤ◌, ◌<ℤ◌, ◌≤ℤ◌, IsTrue, IfSome, IfNone, MatchOption, false, true, codes, length, pos, neg_ℤ};
+ghost use Rattle.std.specs.List.{list_all};
+ghost use Rattle.std.specs.Char.{is_ascii_digit};
+ghost use Rattle.bx_book.specs.Rows.{capped, span_of, IsMomentRead, is_pay, pay_value, word_value};
+
+use crate::day::Day;
+use crate::fault::BookFault;
+use crate::time::instant_at;
+
+/// How far a second is from the start of a day, where it is neither before it nor after the day's end.
+fn place_in_day(second: i64, start: i64, length: u32) -> Option<u32>
+    requires second { (neg_ℤ (pos 500_000_000_000) ≤ℤ second) × (second ≤ℤ pos 500_000_000_000) }
+    requires start { (neg_ℤ (pos 400_000_000_000) ≤ℤ start) × (start ≤ℤ pos 400_000_000_000) }
+    requires length { length ≤ 200000 }
+    ensures some { IfSome result (λ n. ((second -ℤ start) ≡ pos n) × (n ≤ length)) }
+    ensures none { IfNone result (((second -ℤ start) <ℤ pos 0) ⊎ (pos length <ℤ (second -ℤ start))) }
+{
+    let place = second - start;
+    if place < 0 {
+        return None;
+    }
+    if place > i64::from(length) {
+        return None;
+    }
+    Some(place as u32)
+}
+
+/// The moment that a field of this row names.
+pub fn moment(field: &[u8], day: &Day, row: u16) -> Result<u32, BookFault>
+    ensures { IsMomentRead (span_of day.now) row field.now result }
+{
+    let Some(instant) = instant_at(field) else {
+        return Err(BookFault::NotATime(row));
+    };
+    if !instant.is_whole {
+        return Err(BookFault::NotWholeSeconds(row));
+    }
+    match place_in_day(instant.second, day.start(), day.length()) {
+        Some(moment) => Ok(moment),
+        None => Err(BookFault::OutsideDay(row)),
+    }
+}
+
+fn all_digits(field: &[u8]) -> bool
+    ensures { result ≡ list_all is_ascii_digit field.now }
+{
+    field.iter().all(|octet| octet.is_ascii_digit())
+}
+
+/// The value of digits, where it is below `u64::MAX`, and else that.
+fn digits_value(digits: &[u8]) -> u64
+    requires { IsTrue (list_all is_ascii_digit digits.now) }
+    ensures { result ≡ capped (pay_value digits.now) }
+{
+    let mut value = 0u64;
+    for digit in digits {
+        value = value
+            .saturating_mul(10)
+            .saturating_add(u64::from(*digit - b'0'));
+    }
+    value
+}
+
+/// The pay that a field names.
+pub fn pay(field: &[u8]) -> Option<u64>
+    ensures { MatchOption result (is_pay field.now ≡ false) (λ n. (is_pay field.now ≡ true) × (n ≡ pay_value field.now)) }
+{
+    if field.len() > 10 || !all_digits(field) {
+        return None;
+    }
+    let value = digits_value(field);
+    if value >= 1 && value <= 1_000_000_000 {
+        Some(value)
+    } else {
+        None
+    }
+}
+
+/// Whether a row is a must row.
+pub fn must(field: &[u8]) -> Option<bool>
+    ensures { result ≡ word_value (codes "no") (codes "yes") field.now }
+{
+    match field {
+        b"no" => Some(false),
+        b"yes" => Some(true),
+        _ => None,
+    }
+}
+
+/// Whether a row is called by the far end.
+pub fn inward(field: &[u8]) -> Option<bool>
+    ensures { result ≡ word_value (codes "out") (codes "in") field.now }
+{
+    match field {
+        b"out" => Some(false),
+        b"in" => Some(true),
+        _ => None,
+    }
+}
