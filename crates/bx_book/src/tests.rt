@@ -1,7 +1,7 @@
 //! Days and booking texts with what is known of them.
 
 use crate::{BookFault, Day, DayFault, read_bookings};
-use std::alloc::Global;
+use std::alloc::{AllocError, Global};
 use std::test::Fail;
 
 fn day_is(date: &str, zone: &str, start: i64, length: u32) -> bool {
@@ -127,5 +127,54 @@ fn bookings_of_a_text(rt: HostRuntime) -> Result<(), Fail> {
     assert_eq!(rt; booking.pay(), 5);
     assert!(rt; booking.is_must());
     assert!(rt; booking.is_inward());
+    Ok(())
+}
+
+fn text_of(alloc: Global, rows: u32) -> Result<Vec<u8>, AllocError> {
+    let mut text = Vec::new(alloc);
+    text.extend_from_slice(b"start,end,number,pay\r\n")?;
+    for _row in 0..rows {
+        text.extend_from_slice(b"2026-01-05T08:00:00Z,\"2026-01-05T08:01:00Z\",1234,5\r\n")?;
+    }
+    Ok(text)
+}
+
+#[test]
+fn as_many_rows_as_fit(rt: HostRuntime) -> Result<(), Fail> {
+    let day = Day::new("2026-01-05", "UTC0")?;
+    let text = text_of(rt.alloc(), 4000)?;
+    let bookings = read_bookings(rt.alloc(), &text, &day)?;
+    assert_eq!(rt; bookings.len(), 4000);
+    assert_eq!(rt; bookings.nth(3999).end(), 28_860);
+    let longer = text_of(rt.alloc(), 4001)?;
+    match read_bookings(rt.alloc(), &longer, &day) {
+        Ok(_) => Err(Fail::new("no fault")),
+        Err(fault) => {
+            assert!(rt; fault == BookFault::TooMany);
+            Ok(())
+        }
+    }
+}
+
+fn end_of(alloc: Global, text: &str, day: &Day) -> Option<u32> {
+    match read_bookings(alloc, text.as_bytes(), day) {
+        Ok(bookings) if bookings.len() == 1 => Some(bookings.nth(0).end()),
+        _ => None,
+    }
+}
+
+#[test]
+fn ends_of_odd_days(rt: HostRuntime) -> Result<(), Fail> {
+    let zone = "CET-1CEST,M3.5.0,M10.5.0/3";
+    let long = Day::new("2026-10-25", zone)?;
+    let text = "start,end,number,pay\n2026-10-25T00:00:00+02:00,2026-10-26T00:00:00+01:00,1234,5\n";
+    assert_eq!(rt; end_of(rt.alloc(), text, &long), Some(90_000));
+    let after =
+        "start,end,number,pay\n2026-10-25T00:00:00+02:00,2026-10-26T00:00:01+01:00,1234,5\n";
+    assert!(rt; fault_of(rt.alloc(), after, &long) == Some(BookFault::OutsideDay(1)));
+    let short = Day::new("2026-03-29", zone)?;
+    let text =
+        "\u{feff}start,end,number,pay\n2026-03-29T00:00:00+01:00,2026-03-29T22:00:00Z,1234,5\n";
+    assert_eq!(rt; end_of(rt.alloc(), text, &short), Some(82_800));
     Ok(())
 }
