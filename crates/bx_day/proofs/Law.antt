@@ -161,7 +161,7 @@ tick_placed : (rows : List Row) (assigned : List (Option ℕ)) (d : Day) (es : L
 tick_placed rows assigned d [] h = tt
 tick_placed rows assigned d (e ∷ es) h = (replace rows assigned e _ (second_same e (d.moment + 1) (is_free d e.channel) e.standing) h.0, tick_placed rows assigned d es h.1)
 
-all_update : (P : Entry → Type 0) (es : List Entry) (i : ℕ) (y : Entry) → (P (entry_at es i) → P y) → AllByRecursion P es → AllByRecursion P (slice_set es i y)
+pub all_update : (P : Entry → Type 0) (es : List Entry) (i : ℕ) (y : Entry) → (P (entry_at es i) → P y) → AllByRecursion P es → AllByRecursion P (slice_set es i y)
 all_update P [] i y f h = tt
 all_update P (e ∷ es) zero y f h = (f h.0, h.1)
 all_update P (e ∷ es) (suc i) y f h = (h.0, all_update P es i y f h.1)

@@ -1,5 +1,5 @@
 -- What is read of a day, and what an exchange keeps in memory.
-use Rattle.std.specs.Prelude.{◌≡◌, ◌≤◌, ℕ, ◌-◌, false, length, Option, Some, None, if◌then◌else◌, ◌&&◌, nat_le}
+use Rattle.std.specs.Prelude.{◌≡◌, ◌≤◌, ◌<◌, ℕ, ◌+◌, ◌-◌, false, List, length, Option, Some, None, if◌then◌else◌, ◌&&◌, nat_le}
 use Rattle.std.specs.List.{AllByRecursion}
 use Rattle.bx_base.specs.Channels.{IsChannel}
 use Rattle.bx_q931.specs.Outgoing.{IsCallReference}
@@ -44,9 +44,14 @@ pub record Seated (e : Entry) : Type 0 where
   pub row : IsCallReference e.row
   pub channel : is_refused e.standing ≡ false → IsChannel e.channel
 
+-- rows are named 1, 2, ..
+abbrev pub IsNumbered : List Entry → Type 0
+IsNumbered entries = (i : ℕ) → i < length entries → (entry_at entries i).row ≡ i + 1
+
 -- a day that an exchange may be in
 pub record IsExchange (d : Day) : Type 0 where
   pub moment : d.moment ≤ 300000
   pub rows : length d.entries ≤ 4000
   pub day : DayFits d
   pub seated : AllByRecursion Seated d.entries
+  pub numbered : IsNumbered d.entries

@@ -18,9 +18,9 @@ use std::marker::Model;
 /// and the channels in maintenance.
 #[derive(Drop)]
 pub struct Exchange {
-    moment: u32,
-    entries: Vec<Entry>,
-    maintenance: ChannelSet,
+    pub(crate) moment: u32,
+    pub(crate) entries: Vec<Entry>,
+    pub(crate) maintenance: ChannelSet,
 }
 
 impl Model for Exchange {
@@ -70,7 +70,7 @@ impl Exchange {
     }
 
     /// The index of the first booking that holds the channel.
-    fn holder(&self, channel: Channel) -> Option<usize>
+    pub(crate) fn holder(&self, channel: Channel) -> Option<usize>
         ensures first { result ≡ index_of (holds channel) self.now.entries }
         ensures inside { IfSome result (λ i. i < length self.now.entries) }
     {

@@ -9,6 +9,7 @@ pub mod laws;
 pub mod moving;
 mod opening;
 mod outcome;
+mod receiving;
 #[cfg(test)]
 mod tests;
 

@@ -1,0 +1,265 @@
+-- What a message does to a day is what the definition says, and a day stays one that an exchange may be in.
+use Rattle.std.proofs.Common.{◌≡◌, ℕ, zero, suc, ◌+◌, ◌≤◌, ◌<◌, ◌==◌, ◌&&◌, ◌||◌, not, Bool, true, false, List, [], ◌∷◌, map, length, Option, Some, None, arith, refl, sym, subst, ap, ◌∙◌, slice_set, nat_le, nat_lt, ◌≢◌, inl, inr, if◌then◌else◌}
+use Rattle.std.specs.Prelude.{is_some, IfSome}
+use Rattle.std.specs.List.{AllByRecursion, list_any}
+use Rattle.std.proofs.lemmas.Bool.{and_parts, and_from, true≢false, false≢true, eqb-true, eqb-false, leb-true, ltb-true, not-true, or_cases, cases_eq, false_from_ne_true}
+use Rattle.bx_q931.specs.declared.kind.Kind.{Kind}
+use Rattle.bx_q931.specs.declared.kind.Kind.TheVariants.{Alerting, CallProceeding, Progress, Setup, Connect, ConnectAcknowledge, Disconnect, Release, ReleaseComplete, Notify, StatusEnquiry, Information, Status, Other}
+use Rattle.bx_q931.specs.declared.channel_field.ChannelField.TheVariants.{Absent}
+use Rattle.bx_calls.specs.PlainCalls.{PlainNetCall}
+use Rattle.bx_calls.specs.declared.step.Step.{Step}
+use Rattle.bx_calls.specs.declared.net_state.NetOrigin.{NetOrigin}
+use Rattle.bx_calls.specs.declared.net_state.NetOrigin.TheVariants.{Outward, Inward}
+use Rattle.bx_calls.specs.declared.net_state.NetState.{NetState}
+use Rattle.bx_calls.specs.declared.net_state.NetState.TheVariants.{OutgoingCallProceeding, CallPresent, IncomingCallProceeding, CallReceived, Active, DisconnectIndication, ReleaseRequest}
+use Rattle.bx_calls.specs.Hearing.{Heard, names_channel, reports_null}
+use Rattle.bx_calls.specs.NetTable.{net_row, net_flag, net_answered}
+use Rattle.bx_base.specs.Bookings.{is_running}
+use Rattle.bx_base.specs.Channels.{IsChannel}
+use Rattle.bx_day.specs.Said.{Said}
+use Rattle.bx_day.specs.Day.{Day, Answered, becomes, bool_eq, follows, holds, is_held, is_set, is_free, is_open, is_unoffered, opens, index_of, one_more, or_else, lowest_open, every_channel, entry_at, no_entry, names, names_call, hears, takes_call, takes_or, takes_preferred, with_moved, received_at, after_second, tick}
+use Rattle.bx_day.specs.declared.entry.Activity.{Activity}
+use Rattle.bx_day.specs.declared.entry.Activity.TheVariants.{Never}
+use Rattle.bx_day.specs.declared.entry.Entry.{Entry}
+use Rattle.bx_day.specs.declared.entry.Moved.{Moved}
+use Rattle.bx_day.specs.declared.entry.Standing.{Standing}
+use Rattle.bx_day.specs.declared.entry.Standing.TheVariants.{Refused, Unoffered, OnCall, Carried, Unanswered, Missed}
+use Rattle.bx_day.specs.Invariant.{StandingFits, EntryFits, CallFits, OriginFits, DayFits, is_refused}
+use Rattle.bx_day.specs.Reading.{IsExchange, IsNumbered, Seated}
+use Rattle.bx_day.proofs.Indices.{index_found, index_none}
+use Rattle.bx_day.proofs.Receive.{all_at, OpenAt, open_parts, open_index, open_lowest, open_or, takes_fits, received_fits, hears_refused}
+use Rattle.bx_day.proofs.Tick.{with_standing}
+use Rattle.bx_day.proofs.Law.{all_update}
+
+-- ---- a message breaks no channel
+
+abbrev Whole : Activity → ℕ → Step PlainNetCall → Type 0
+Whole a t step = (follows a t step).broken ≡ false
+
+whole_either : (b : Bool) (a : Activity) (t : ℕ) (x y : Step PlainNetCall) → Whole a t x → Whole a t y → Whole a t (if b then x else y)
+whole_either true a t x y f g = f
+whole_either false a t x y f g = g
+
+row_whole : (c : PlainNetCall) (m : Heard) (t : ℕ) (a : Activity) (o : NetOrigin) (s : NetState) (k : Kind) → c.origin ≡ o → Whole a t (net_row c m t s k)
+row_whole c m t a o s ReleaseComplete e = refl
+row_whole c m t a o s StatusEnquiry e = refl
+row_whole c m t a o s Status e = whole_either (reports_null m.state) a t _ _ refl refl
+row_whole c m t a o s Setup e = refl
+row_whole c m t a o (ReleaseRequest again cause due) Release e = refl
+row_whole c m t a o s Release e = refl
+row_whole c m t a o (ReleaseRequest again cause due) k e = refl
+row_whole c m t a o s Disconnect e = refl
+row_whole c m t a o (DisconnectIndication cause due) k e = refl
+row_whole c m t a o (CallPresent again due) CallProceeding e = whole_either (names_channel m.channel c.channel) a t _ _ refl refl
+row_whole c m t a o (CallPresent again due) Alerting e = whole_either (names_channel m.channel c.channel) a t _ _ refl refl
+row_whole c m t a o (CallPresent again due) Connect e = whole_either (names_channel m.channel c.channel) a t _ _ refl refl
+row_whole c m t a o (IncomingCallProceeding due) Alerting e = refl
+row_whole c m t a o (IncomingCallProceeding due) Connect e = refl
+row_whole c m t a o (CallReceived due) Connect e = refl
+row_whole c m t a (Outward called) Active ConnectAcknowledge e = rw e refl
+row_whole c m t a Inward Active ConnectAcknowledge e = rw e refl
+row_whole c m t a o s k e = refl
+
+pub hears_whole : (m : Said) (t : ℕ) (s : Standing) → (hears m t s).broken ≡ false
+hears_whole m t (OnCall c a) = row_whole c m.heard t a c.origin c.state m.heard.kind refl
+hears_whole m t Refused = refl
+hears_whole m t Unoffered = refl
+hears_whole m t (Carried from until) = refl
+hears_whole m t Unanswered = refl
+hears_whole m t Missed = refl
+
+-- ---- who is named: a call that the exchange began has its row as reference
+
+origin_row : (row : ℕ) (e : Entry) (c : PlainNetCall) (o : NetOrigin) → OriginFits e.row e.booking c.reference o → bool_eq (net_flag o) false ≡ true → c.reference ≡ e.row
+origin_row row e c (Outward called) fits h = fits.1
+origin_row row e c Inward fits h = absurd (false≢true h)
+
+standing_row : (t : ℕ) (m : Said) (e : Entry) (s : Standing) → m.flag ≡ true → StandingFits t e s → names_call m s ≡ true → e.row ≡ m.reference
+standing_row t m e (OnCall c a) flag fits h =
+    let p = and_parts (c.reference == m.reference) (bool_eq (net_flag c.origin) (not m.flag)) h in
+    let outward : bool_eq (net_flag c.origin) false ≡ true = subst (λ (b : Bool). bool_eq (net_flag c.origin) (not b) ≡ true) flag p.1 in
+    sym (origin_row e.row e c c.origin fits.origin outward) ∙ eqb-true c.reference m.reference p.0
+standing_row t m e Refused flag fits h = absurd (false≢true h)
+standing_row t m e Unoffered flag fits h = absurd (false≢true h)
+standing_row t m e (Carried from until) flag fits h = absurd (false≢true h)
+standing_row t m e Unanswered flag fits h = absurd (false≢true h)
+standing_row t m e Missed flag fits h = absurd (false≢true h)
+
+named_place : (d : Day) (m : Said) (k : ℕ) → IsExchange d → m.flag ≡ true → k < length d.entries → names m (entry_at d.entries k) ≡ true → k + 1 ≡ m.reference
+named_place d m k h flag lt named =
+    let e = entry_at d.entries k in
+    sym (h.numbered k lt) ∙ standing_row d.moment m e e.standing flag (all_at (EntryFits d.moment) tt d.entries k h.day.each) named
+
+pub outward_found : (d : Day) (m : Said) (i : ℕ) → IsExchange d → m.flag ≡ true → i < length d.entries → names m (entry_at d.entries i) ≡ true → index_of (names m) d.entries ≡ Some i
+outward_found d m i h flag lt named =
+    let here = named_place d m i h flag lt named in
+    index_found (names m) d.entries i lt named (λ k less. false_from_ne_true (names m (entry_at d.entries k)) (λ other.
+    let there = named_place d m k h flag (omega (arith, less, lt)) other in omega (arith, here, there, less)))
+
+pub outward_none : (d : Day) (m : Said) (i : ℕ) → IsExchange d → m.flag ≡ true → m.reference ≡ i + 1 → (i < length d.entries → names m (entry_at d.entries i) ≡ false) → index_of (names m) d.entries ≡ None
+outward_none d m i h flag place unnamed = index_none (names m) d.entries (λ k lt. false_from_ne_true (names m (entry_at d.entries k)) (λ other.
+    let there : k + 1 ≡ m.reference = named_place d m k h flag lt other in
+    let same : k ≡ i = omega (arith, there, place) in
+    true≢false (sym other ∙ subst (λ (n : ℕ). names m (entry_at d.entries n) ≡ false) (sym same) (unnamed (subst (λ (n : ℕ). n < length d.entries) same lt)))))
+
+-- ---- who may be called
+
+pub held_index : (c : ℕ) (es : List Entry) → is_held es c ≡ is_some (index_of (holds c) es)
+held_index c [] = refl
+held_index c (e ∷ es) = step (holds c e) (is_held es c) (index_of (holds c) es) (held_index c es)
+  where
+    more : (o : Option ℕ) → is_some o ≡ is_some (one_more o)
+    more None = refl
+    more (Some i) = refl
+
+    step : (b r : Bool) (o : Option ℕ) → r ≡ is_some o → (b || r) ≡ is_some (if b then Some 0 else one_more o)
+    step true r o h = refl
+    step false r o h = h ∙ more o
+
+pub free_unheld : (d : Day) (c : ℕ) (o : Option ℕ) → o ≡ index_of (holds c) d.entries → is_some o ≡ false → not (is_set d.maintenance c) ≡ is_free d c
+free_unheld d c o e none = ap (λ (b : Bool). not b && not (is_set d.maintenance c)) (sym (held_index c d.entries ∙ ap is_some (sym e) ∙ none))
+
+pub free_held : (d : Day) (c : ℕ) (o : Option ℕ) → o ≡ index_of (holds c) d.entries → is_some o ≡ true → false ≡ is_free d c
+free_held d c o e some = ap (λ (b : Bool). not b && not (is_set d.maintenance c)) (sym (held_index c d.entries ∙ ap is_some (sym e) ∙ some))
+
+-- an inward booking of a channel that waits for its call
+abbrev pub awaits : ℕ → ℕ → Entry → Bool
+awaits t c e = is_unoffered e.standing && e.booking.inward && is_running e.booking t && (e.channel == c)
+
+opens_free : (d : Day) (c : ℕ) (e : Entry) → is_free d c ≡ true → opens d c e ≡ awaits d.moment c e
+opens_free d c e free = step (is_unoffered e.standing && e.booking.inward && is_running e.booking d.moment) (is_free d e.channel) (e.channel == c) (λ same. subst (λ (n : ℕ). is_free d n ≡ true) (sym (eqb-true e.channel c same)) free)
+  where
+    step : (w f b : Bool) → (b ≡ true → f ≡ true) → (w && f && b) ≡ (w && b)
+    step true true b h = refl
+    step true false true h = absurd (false≢true (h refl))
+    step true false false h = refl
+    step false f b h = refl
+
+opens_taken : (d : Day) (c : ℕ) (e : Entry) → is_free d c ≡ false → opens d c e ≡ false
+opens_taken d c e taken = false_from_ne_true (opens d c e) (λ h.
+    let p = and_parts (is_open d e) (e.channel == c) h in
+    let free = (open_parts d e p.0).free in
+    true≢false (sym free ∙ subst (λ (n : ℕ). is_free d n ≡ false) (sym (eqb-true e.channel c p.1)) taken))
+
+pub opening_taken : (d : Day) (c : ℕ) → is_free d c ≡ false → index_of (opens d c) d.entries ≡ None
+opening_taken d c taken = index_none (opens d c) d.entries (λ k lt. opens_taken d c (entry_at d.entries k) taken)
+
+pub opening_found : (d : Day) (c i : ℕ) → is_free d c ≡ true → i < length d.entries → awaits d.moment c (entry_at d.entries i) ≡ true → ((k : ℕ) → k < i → awaits d.moment c (entry_at d.entries k) ≡ false) → index_of (opens d c) d.entries ≡ Some i
+opening_found d c i free lt here before = index_found (opens d c) d.entries i lt (opens_free d c (entry_at d.entries i) free ∙ here) (λ k less. opens_free d c (entry_at d.entries k) free ∙ before k less)
+
+pub opening_none : (d : Day) (c : ℕ) → is_free d c ≡ true → ((k : ℕ) → k < length d.entries → awaits d.moment c (entry_at d.entries k) ≡ false) → index_of (opens d c) d.entries ≡ None
+opening_none d c free before = index_none (opens d c) d.entries (λ k less. opens_free d c (entry_at d.entries k) free ∙ before k less)
+
+-- ---- the lowest open channel
+
+-- the channel is among these, which rise to it
+abbrev Reaches : ℕ → List ℕ → Type 0
+Reaches c [] = ⊥
+Reaches c (x ∷ xs) = IsChannel x × (c ≢ x → (x < c) × Reaches c xs)
+
+abbrev is_channel : ℕ → Bool
+is_channel n = nat_le 1 n && nat_le n 31 && not (n == 16)
+
+-- no channel from x on is left out
+abbrev covers : ℕ → List ℕ → Bool
+covers x [] = nat_lt 31 x
+covers x (y ∷ ys) = is_channel y && ((x == y) || ((x == 16) && (y == 17))) && covers (y + 1) ys
+
+channel_is : (n : ℕ) → is_channel n ≡ true → IsChannel n
+channel_is n h =
+    let p = and_parts (nat_le 1 n && nat_le n 31) (not (n == 16)) h in
+    let q = and_parts (nat_le 1 n) (nat_le n 31) p.0 in
+    (leb-true 1 n q.0, leb-true n 31 q.1, eqb-false n 16 (not-true (n == 16) p.1))
+
+reaches : (c x : ℕ) (cs : List ℕ) → IsChannel c → x ≤ c → covers x cs ≡ true → Reaches c cs
+reaches c x [] h le cover = let late : 31 < x = ltb-true 31 x cover in absurd (omega (arith, h.1))
+reaches c x (y ∷ ys) h le cover =
+    let p = and_parts (is_channel y && ((x == y) || ((x == 16) && (y == 17)))) (covers (y + 1) ys) cover in
+    let q = and_parts (is_channel y) ((x == y) || ((x == 16) && (y == 17))) p.0 in
+    let next : y ≤ c = elim (or_cases (x == y) ((x == 16) && (y == 17)) q.1) [
+      | inl same ↦ (let e : x ≡ y = eqb-true x y same in omega arith)
+      | inr gap ↦ (let g = and_parts (x == 16) (y == 17) gap in let e : x ≡ 16 = eqb-true x 16 g.0 in let f : y ≡ 17 = eqb-true y 17 g.1 in omega (arith, h.2))
+    ] in
+    (channel_is y q.0, λ other. let less : y < c = omega (arith, next, other) in (less, reaches c (y + 1) ys h (omega arith) p.1))
+
+lowest_at : (d : Day) (c i : ℕ) (cs : List ℕ) → Reaches c cs → ((n : ℕ) → n < c → IsChannel n → index_of (opens d n) d.entries ≡ None) → index_of (opens d c) d.entries ≡ Some i → lowest_open d cs ≡ Some i
+lowest_at d c i [] r before here = absurd r
+lowest_at d c i (x ∷ xs) r before here = elim (cases_eq c x) [
+  | inl same ↦ ap (λ (o : Option ℕ). or_else o (lowest_open d xs)) (subst (λ (n : ℕ). index_of (opens d n) d.entries ≡ Some i) same here)
+  | inr other ↦ ap (λ (o : Option ℕ). or_else o (lowest_open d xs)) (before x (r.1 other).0 r.0) ∙ lowest_at d c i xs (r.1 other).1 before here
+]
+
+pub lowest_found : (d : Day) (c i : ℕ) → IsChannel c → ((n : ℕ) → n < c → IsChannel n → index_of (opens d n) d.entries ≡ None) → index_of (opens d c) d.entries ≡ Some i → lowest_open d every_channel ≡ Some i
+lowest_found d c i h before here = lowest_at d c i every_channel (reaches c 1 every_channel h h.0 refl) before here
+
+none_at : (d : Day) (x : ℕ) (cs : List ℕ) → covers x cs ≡ true → ((n : ℕ) → IsChannel n → index_of (opens d n) d.entries ≡ None) → lowest_open d cs ≡ None
+none_at d x [] cover before = refl
+none_at d x (y ∷ ys) cover before =
+    let p = and_parts (is_channel y && ((x == y) || ((x == 16) && (y == 17)))) (covers (y + 1) ys) cover in
+    let q = and_parts (is_channel y) ((x == y) || ((x == 16) && (y == 17))) p.0 in
+    ap (λ (o : Option ℕ). or_else o (lowest_open d ys)) (before y (channel_is y q.0)) ∙ none_at d (y + 1) ys p.1 before
+
+pub lowest_none : (d : Day) → ((n : ℕ) → IsChannel n → index_of (opens d n) d.entries ≡ None) → lowest_open d every_channel ≡ None
+lowest_none d before = none_at d 1 every_channel refl before
+
+-- ---- what is taken is open
+
+abbrev IsOpenAt : Day → Option ℕ → Type 0
+IsOpenAt d o = IfSome o (λ i. is_open d (entry_at d.entries i) ≡ true)
+
+opened : (d : Day) (o : Option ℕ) → OpenAt d o → IsOpenAt d o
+opened d None h = tt
+opened d (Some i) h = h
+
+pub opening_opens : (d : Day) (c : ℕ) (o : Option ℕ) → o ≡ index_of (opens d c) d.entries → IfSome o (λ i. is_open d (entry_at d.entries i) ≡ true)
+opening_opens d c o e = subst (IsOpenAt d) (sym e) (opened d (index_of (opens d c) d.entries) (open_index d c))
+
+pub lowest_opens : (d : Day) (o : Option ℕ) → o ≡ lowest_open d every_channel → IfSome o (λ i. is_open d (entry_at d.entries i) ≡ true)
+lowest_opens d o e = subst (IsOpenAt d) (sym e) (opened d (lowest_open d every_channel) (open_lowest d every_channel))
+
+pub preferred_opens : (d : Day) (c : ℕ) (o : Option ℕ) → o ≡ or_else (index_of (opens d c) d.entries) (lowest_open d every_channel) → IfSome o (λ i. is_open d (entry_at d.entries i) ≡ true)
+preferred_opens d c o e = let p = or_else (index_of (opens d c) d.entries) (lowest_open d every_channel) in
+    subst (IsOpenAt d) (sym e) (opened d p (open_or d (index_of (opens d c) d.entries) (lowest_open d every_channel) (open_index d c) (open_lowest d every_channel)))
+
+-- a preferred channel, by one index
+pub preferred_takes : (d : Day) (m : Said) (o : Option ℕ) → takes_or d m 34 (or_else o (lowest_open d every_channel)) ≡ takes_preferred d m o
+preferred_takes d m None = refl
+preferred_takes d m (Some i) = refl
+
+-- ---- an exchange stays one
+
+length_set : (es : List Entry) (i : ℕ) (y : Entry) → length (slice_set es i y) ≡ length es
+length_set [] i y = refl
+length_set (e ∷ es) zero y = refl
+length_set (e ∷ es) (suc i) y = ap suc (length_set es i y)
+
+row_set : (es : List Entry) (i k : ℕ) (s : Standing) → (entry_at (slice_set es i (with_standing (entry_at es i) s)) k).row ≡ (entry_at es k).row
+row_set [] i k s = refl
+row_set (e ∷ es) zero zero s = refl
+row_set (e ∷ es) zero (suc k) s = refl
+row_set (e ∷ es) (suc i) zero s = refl
+row_set (e ∷ es) (suc i) (suc k) s = row_set es i k s
+
+reseat : (e : Entry) (s : Standing) → (is_refused s ≡ false → is_refused e.standing ≡ false) → Seated e → Seated (with_standing e s)
+reseat e s f h = record { row = h.row; channel = λ r. h.channel (f r) }
+
+pub moved_exchange : (d : Day) (i : ℕ) (m : Moved) → DayFits (with_moved d i m).day → (is_refused m.standing ≡ false → is_refused (entry_at d.entries i).standing ≡ false) → IsExchange d → IsExchange (with_moved d i m).day
+moved_exchange d i m fits f h =
+    let e = entry_at d.entries i in
+    let y = with_standing e m.standing in
+    record {
+      moment = h.moment;
+      rows = omega (arith, h.rows, length_set d.entries i y);
+      day = fits;
+      seated = all_update Seated d.entries i y (reseat e m.standing f) h.seated;
+      numbered = λ k lt. row_set d.entries i k m.standing ∙ h.numbered k (omega (arith, lt, length_set d.entries i y));
+    }
+
+pub heard_exchange : (d : Day) (m : Said) (i : ℕ) → IsExchange d → IsExchange (received_at d m (Some i)).day
+heard_exchange d m i h = moved_exchange d i (hears m d.moment (entry_at d.entries i).standing) (received_fits d m (Some i) h.day) (hears_refused m d.moment (entry_at d.entries i).standing) h
+
+-- an inward booking of this channel, called with this reference
+pub takes_exchange : (d : Day) (reference i : ℕ) → is_open d (entry_at d.entries i) ≡ true → IsExchange d → IsExchange (with_moved d i (becomes (OnCall (net_answered reference (entry_at d.entries i).channel) Never) None)).day
+takes_exchange d reference i opened h =
+    let m : Said = record { reference = reference; flag = false; heard = record { kind = Setup; channel = Absent; state = None }; refused = None } in
+    moved_exchange d i (takes_call m (entry_at d.entries i)) (takes_fits d m 44 (Some i) opened h.day) (λ _. (open_parts d (entry_at d.entries i) opened).accepted) h
