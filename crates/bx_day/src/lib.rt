@@ -9,6 +9,8 @@ pub mod laws;
 pub mod moving;
 mod opening;
 mod outcome;
+#[cfg(test)]
+mod receive_tests;
 mod receiving;
 #[cfg(test)]
 mod tests;
