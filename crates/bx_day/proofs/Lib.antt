@@ -9,3 +9,5 @@ pub mod Sent
 pub mod Indices
 pub mod OpeningDay
 pub mod Received
+pub mod WritingSteps
+pub mod ToldLines

@@ -9,6 +9,7 @@ pub mod laws;
 pub mod moving;
 mod opening;
 mod outcome;
+mod outcome_lines;
 #[cfg(test)]
 mod receive_tests;
 mod receiving;

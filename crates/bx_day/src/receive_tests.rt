@@ -65,9 +65,7 @@ const CALLS: [Receipt<'static>; 6] = [
     ),
     (
         &SETUP,
-        &[
-            0x08, 0x02, 0x80, 0x07, 0x02, 0x18, 0x03, 0xA9, 0x83, 0x81,
-        ],
+        &[0x08, 0x02, 0x80, 0x07, 0x02, 0x18, 0x03, 0xA9, 0x83, 0x81],
     ),
     // the same again, and then any channel
     (&SETUP, &[]),
@@ -150,7 +148,10 @@ fn hostile_octets(rt: HostRuntime) -> Result<(), Fail> {
     for first in 0..=255u8 {
         assert!(rt; exchange.receive(&[first]).is_none(), "{first}");
         for second in 0..=255u8 {
-            assert!(rt; exchange.receive(&[first, second]).is_none(), "{first} {second}");
+            assert!(rt;
+                exchange.receive(&[first, second]).is_none(),
+                "{first} {second}"
+            );
         }
     }
     for len in 0..SETUP.len() {
