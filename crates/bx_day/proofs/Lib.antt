@@ -8,3 +8,4 @@ pub mod Said
 pub mod Sent
 pub mod Indices
 pub mod OpeningDay
+pub mod Passing

@@ -4,3 +4,5 @@ pub mod Run
 pub mod Invariant
 pub mod Law
 pub mod Reading
+pub mod Spelling
+pub mod Passing

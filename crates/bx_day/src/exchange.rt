@@ -18,9 +18,9 @@ use std::marker::Model;
 /// and the channels in maintenance.
 #[derive(Drop)]
 pub struct Exchange {
-    moment: u32,
-    entries: Vec<Entry>,
-    maintenance: ChannelSet,
+    pub(crate) moment: u32,
+    pub(crate) entries: Vec<Entry>,
+    pub(crate) maintenance: ChannelSet,
 }
 
 impl Model for Exchange {

@@ -11,6 +11,9 @@ mod opening;
 mod outcome;
 #[cfg(test)]
 mod tests;
+#[cfg(test)]
+mod tick_tests;
+mod ticking;
 
 pub use entry::{Activity, Entry, Moved, Standing};
 pub use exchange::Exchange;
