@@ -109,7 +109,7 @@ hears_same m t Missed = refl
 refit : (b : Row) (a : Option ℕ) (e : Entry) (s : Standing) → is_refused s ≡ is_refused e.standing → IsFrame b a e → IsFrame b a (with_standing e s)
 refit b a e s same h = record { booking = h.booking; channel = h.channel; accepted = same ∙ h.accepted }
 
-at_map : (d : Day) (es : List Entry) (i : ℕ) → entry_at (map (after_second d) es) i ≡ after_second d (entry_at es i)
+pub at_map : (d : Day) (es : List Entry) (i : ℕ) → entry_at (map (after_second d) es) i ≡ after_second d (entry_at es i)
 at_map d [] i = refl
 at_map d (e ∷ es) zero = refl
 at_map d (e ∷ es) (suc i) = at_map d es i

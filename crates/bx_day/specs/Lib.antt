@@ -4,5 +4,7 @@ pub mod Run
 pub mod Invariant
 pub mod Law
 pub mod Reading
+pub mod Spelling
+pub mod Passing
 pub mod Telling
 pub mod Writing

@@ -15,6 +15,9 @@ mod receive_tests;
 mod receiving;
 #[cfg(test)]
 mod tests;
+#[cfg(test)]
+mod tick_tests;
+mod ticking;
 
 pub use entry::{Activity, Entry, Moved, Standing};
 pub use exchange::Exchange;

@@ -1,0 +1,109 @@
+//! The ticks of a day.
+
+ghost use Rattle.std.specs.Prelude.{◌≡◌, ◌≤◌, ◌<◌, true, length, map, is_some, slice_set, if◌then◌else◌};
+ghost use Rattle.bx_day.specs.Day.{tick, after_second, maintained};
+ghost use Rattle.bx_day.specs.Passing.{day_of, AreBlocked, SaysOnEach, SaysOnce, somes};
+ghost use Rattle.bx_day.specs.Reading.{IsExchange};
+ghost use Rattle.bx_day.specs.Spelling.{spelled};
+
+use crate::entry::{Entry, Moved, Standing};
+use crate::exchange::Exchange;
+use crate::moving::second;
+use arrayvec::ArrayVec;
+use bx_base::{Channel, ChannelSet};
+use bx_q931::{Octets, Out, encode};
+
+/// The moment at which a day stands still.
+const LAST_MOMENT: u32 = 300000;
+
+impl Exchange {
+    /// The next second: the moment rises by one, live calls follow their table, bookings that start are
+    /// offered, and those whose end has come without a call are missed. Answers what is sent, at most one
+    /// message for a channel, in rising order of channel. At moment 300,000 nothing happens.
+    pub fn tick(&mut self) -> ArrayVec<Octets, 30>
+        ensures day { self.new ≡ (tick self.old).day }
+        ensures sent { result.items ≡ spelled (tick self.old).sent }
+        ensures once { SaysOnce self.old }
+    {
+        if self.moment >= LAST_MOMENT {
+            return ArrayVec::new();
+        }
+        let blocked = self.blocked();
+        let said = move_on(
+            &mut self.entries,
+            &mut self.maintenance,
+            blocked,
+            self.moment,
+        );
+        self.moment += 1;
+        spell(&said)
+    }
+
+    /// The channels that are held by a live booking, or in maintenance.
+    fn blocked(&self) -> ChannelSet
+        ensures { AreBlocked self.now result }
+    {
+        let mut blocked = self.maintenance;
+        for entry in &self.entries {
+            if let Standing::OnCall { call, .. } = entry.standing {
+                blocked = blocked.with(call.channel());
+            }
+        }
+        blocked
+    }
+}
+
+/// Puts what is said into the slot of its channel, and a channel that breaks into maintenance.
+fn note(said: &mut [Option<Out>; 32], maintenance: &mut ChannelSet, channel: Channel, moved: &Moved)
+    ensures said { said.new ≡ (if is_some moved.now.said then slice_set said.old channel moved.now.said else said.old) }
+    ensures maintenance { maintenance.new ≡ (if moved.now.broken then slice_set maintenance.old channel true else maintenance.old) }
+{
+    if moved.said.is_some() {
+        said[channel.number() as usize] = moved.said;
+    }
+    if moved.broken {
+        *maintenance = maintenance.with(channel);
+    }
+}
+
+/// Moves each booking on from this moment, and puts channels that break into maintenance. Answers what is
+/// said, by the number of its channel.
+fn move_on(
+    entries: &mut [Entry],
+    maintenance: &mut ChannelSet,
+    blocked: ChannelSet,
+    moment: u32,
+) -> [Option<Out>; 32]
+    requires day { IsExchange (day_of moment entries.old maintenance.old) }
+    requires early { moment < 300000 }
+    requires blocked { AreBlocked (day_of moment entries.old maintenance.old) blocked }
+    ensures entries { entries.new ≡ map (after_second (day_of moment entries.old maintenance.old)) entries.old }
+    ensures maintenance { maintenance.new ≡ maintained (day_of moment entries.old maintenance.old) 0 maintenance.old }
+    ensures said { SaysOnEach (day_of moment entries.old maintenance.old) result }
+    ensures slots { length result ≡ 32 }
+{
+    let mut said = [None; 32];
+    for i in 0..entries.len() {
+        let entry = entries[i];
+        if let Some(channel) = Channel::new(entry.channel) {
+            let moved = second(&entry, channel, moment + 1, !blocked.has(channel));
+            entries[i].standing = moved.standing;
+            note(&mut said, maintenance, channel, &moved);
+        }
+    }
+    said
+}
+
+/// The octets of what is said, in order.
+fn spell(said: &[Option<Out>]) -> ArrayVec<Octets, 30>
+    requires { length (somes said.now) ≤ 30 }
+    ensures { result.items ≡ spelled (somes said.now) }
+{
+    let mut sent = ArrayVec::new();
+    for message in said {
+        if let Some(out) = message {
+            sent.push(encode(out));
+        }
+    }
+    sent
+}
