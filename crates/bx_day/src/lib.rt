@@ -13,6 +13,7 @@ mod outcome_lines;
 #[cfg(test)]
 mod receive_tests;
 mod receiving;
+mod replaying;
 #[cfg(test)]
 mod tests;
 #[cfg(test)]
@@ -22,3 +23,4 @@ mod ticking;
 pub use entry::{Activity, Entry, Moved, Standing};
 pub use exchange::Exchange;
 pub use outcome::Outcome;
+pub use replaying::{Event, Replayed, replay};

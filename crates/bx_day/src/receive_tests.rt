@@ -1,6 +1,6 @@
 //! What no clause says of receipts: worked octets, and that hostile ones are harmless.
 
-use crate::{Exchange, Outcome};
+use crate::{Event, Exchange, Outcome, replay};
 use bx_base::{
     Booking, Bookings, Channel, ChannelSet, Failing, Number, Plan, Watched, WriteFailed,
 };
@@ -288,8 +288,8 @@ const DAYS: [Day<'static>; 10] = [
     },
 ];
 
-/// The opening of a day with these bookings on channel 1.
-fn opening(alloc: Global, rows: &[(u32, u32, bool)]) -> Result<Exchange, Fail> {
+/// A plan of these bookings on channel 1.
+fn plan_of(alloc: Global, rows: &[(u32, u32, bool)]) -> Result<Plan, Fail> {
     let number = Number::new(b"1234").ok_or("number")?;
     let mut bookings = Bookings::new(alloc);
     let mut assigned = Vec::new(alloc);
@@ -304,7 +304,11 @@ fn opening(alloc: Global, rows: &[(u32, u32, bool)]) -> Result<Exchange, Fail> {
     }
     let channels = ChannelSet::from_numbers(&[1]).map_err(|_| "channels")?;
     let pay = 5 * rows.len() as u64;
-    let plan = Plan::new(bookings, channels, assigned, Vec::new(alloc), pay).ok_or("plan")?;
+    Ok(Plan::new(bookings, channels, assigned, Vec::new(alloc), pay).ok_or("plan")?)
+}
+
+fn opening(alloc: Global, rows: &[(u32, u32, bool)]) -> Result<Exchange, Fail> {
+    let plan = plan_of(alloc, rows)?;
     if !plan.carried() {
         return Err("carried".into());
     }
@@ -362,6 +366,19 @@ fn worked_receipts(rt: HostRuntime) -> Result<(), Fail> {
         assert_eq!(rt; exchange.write_outcomes(&mut writer), Ok(()));
         assert_eq!(rt; writer.into_inner().as_slice(), day.told.as_bytes());
     }
+    Ok(())
+}
+
+#[test]
+fn replayed_day(rt: HostRuntime) -> Result<(), Fail> {
+    let plan = plan_of(rt.alloc(), &[(0, 60, false)])?;
+    assert!(rt; plan.carried(), "carried");
+    let events = [Event::Tick, Event::Receive(&CONNECT), Event::Tick];
+    let replayed = replay(rt.alloc(), &plan, &events)?;
+    assert_eq!(rt; replayed.exchange.moment(), 2);
+    assert_eq!(rt; replayed.sent.len(), 2);
+    assert_eq!(rt; replayed.sent[0].as_slice(), OFFER.as_slice());
+    assert_eq!(rt; replayed.sent[1].as_slice(), ACKNOWLEDGE.as_slice());
     Ok(())
 }
 
