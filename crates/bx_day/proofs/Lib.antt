@@ -12,3 +12,4 @@ pub mod Passing
 pub mod Received
 pub mod WritingSteps
 pub mod ToldLines
+pub mod Quiet

@@ -8,3 +8,4 @@ pub mod Spelling
 pub mod Passing
 pub mod Telling
 pub mod Writing
+pub mod Quiet

@@ -13,6 +13,7 @@ mod outcome_lines;
 #[cfg(test)]
 mod receive_tests;
 mod receiving;
+mod scheduling;
 #[cfg(test)]
 mod tests;
 #[cfg(test)]
