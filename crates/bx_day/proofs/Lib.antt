@@ -13,3 +13,4 @@ pub mod Received
 pub mod WritingSteps
 pub mod ToldLines
 pub mod Replays
+pub mod Quiet

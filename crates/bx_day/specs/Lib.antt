@@ -9,3 +9,4 @@ pub mod Passing
 pub mod Telling
 pub mod Writing
 pub mod Replaying
+pub mod Quiet

@@ -6,7 +6,7 @@
 mod entry;
 mod exchange;
 pub mod laws;
-pub mod moving;
+mod moving;
 mod opening;
 mod outcome;
 mod outcome_lines;
@@ -14,6 +14,7 @@ mod outcome_lines;
 mod receive_tests;
 mod receiving;
 mod replaying;
+mod scheduling;
 #[cfg(test)]
 mod tests;
 #[cfg(test)]
