@@ -1,31 +1,30 @@
 -- What a message does to a day is what the definition says, and a day stays one that an exchange may be in.
-use Rattle.std.proofs.Common.{◌≡◌, ℕ, zero, suc, ◌+◌, ◌≤◌, ◌<◌, ◌==◌, ◌&&◌, ◌||◌, not, Bool, true, false, List, [], ◌∷◌, map, length, Option, Some, None, arith, refl, sym, subst, ap, ◌∙◌, slice_set, nat_le, nat_lt, ◌≢◌, inl, inr, if◌then◌else◌}
+use Rattle.std.proofs.Common.{◌≡◌, ℕ, zero, suc, ◌+◌, ◌≤◌, ◌<◌, ◌==◌, ◌&&◌, ◌||◌, not, Bool, true, false, List, [], ◌∷◌, length, Option, Some, None, arith, refl, sym, subst, ap, ◌∙◌, slice_set, nat_le, nat_lt, ◌≢◌, inl, inr, if◌then◌else◌}
 use Rattle.std.specs.Prelude.{is_some, IfSome}
-use Rattle.std.specs.List.{AllByRecursion, list_any}
-use Rattle.std.proofs.lemmas.Bool.{and_parts, and_from, true≢false, false≢true, eqb-true, eqb-false, leb-true, ltb-true, not-true, or_cases, cases_eq, false_from_ne_true}
+use Rattle.std.proofs.lemmas.Bool.{and_parts, true≢false, false≢true, eqb-true, eqb-false, leb-true, ltb-true, not-true, or_cases, cases_eq, false_from_ne_true}
 use Rattle.bx_q931.specs.declared.kind.Kind.{Kind}
-use Rattle.bx_q931.specs.declared.kind.Kind.TheVariants.{Alerting, CallProceeding, Progress, Setup, Connect, ConnectAcknowledge, Disconnect, Release, ReleaseComplete, Notify, StatusEnquiry, Information, Status, Other}
+use Rattle.bx_q931.specs.declared.kind.Kind.TheVariants.{Alerting, CallProceeding, Setup, Connect, ConnectAcknowledge, Disconnect, Release, ReleaseComplete, StatusEnquiry, Status}
 use Rattle.bx_q931.specs.declared.channel_field.ChannelField.TheVariants.{Absent}
 use Rattle.bx_calls.specs.PlainCalls.{PlainNetCall}
 use Rattle.bx_calls.specs.declared.step.Step.{Step}
 use Rattle.bx_calls.specs.declared.net_state.NetOrigin.{NetOrigin}
 use Rattle.bx_calls.specs.declared.net_state.NetOrigin.TheVariants.{Outward, Inward}
 use Rattle.bx_calls.specs.declared.net_state.NetState.{NetState}
-use Rattle.bx_calls.specs.declared.net_state.NetState.TheVariants.{OutgoingCallProceeding, CallPresent, IncomingCallProceeding, CallReceived, Active, DisconnectIndication, ReleaseRequest}
+use Rattle.bx_calls.specs.declared.net_state.NetState.TheVariants.{CallPresent, IncomingCallProceeding, CallReceived, Active, DisconnectIndication, ReleaseRequest}
 use Rattle.bx_calls.specs.Hearing.{Heard, names_channel, reports_null}
 use Rattle.bx_calls.specs.NetTable.{net_row, net_flag, net_answered}
 use Rattle.bx_base.specs.Bookings.{is_running}
 use Rattle.bx_base.specs.Channels.{IsChannel}
 use Rattle.bx_day.specs.Said.{Said}
-use Rattle.bx_day.specs.Day.{Day, Answered, becomes, bool_eq, follows, holds, is_held, is_set, is_free, is_open, is_unoffered, opens, index_of, one_more, or_else, lowest_open, every_channel, entry_at, no_entry, names, names_call, hears, takes_call, takes_or, takes_preferred, with_moved, received_at, after_second, tick}
+use Rattle.bx_day.specs.Day.{Day, becomes, bool_eq, follows, holds, is_held, is_set, is_free, is_open, is_unoffered, opens, index_of, one_more, or_else, lowest_open, every_channel, entry_at, names, names_call, hears, takes_call, takes_or, takes_preferred, with_moved, received_at}
 use Rattle.bx_day.specs.declared.entry.Activity.{Activity}
 use Rattle.bx_day.specs.declared.entry.Activity.TheVariants.{Never}
 use Rattle.bx_day.specs.declared.entry.Entry.{Entry}
 use Rattle.bx_day.specs.declared.entry.Moved.{Moved}
 use Rattle.bx_day.specs.declared.entry.Standing.{Standing}
 use Rattle.bx_day.specs.declared.entry.Standing.TheVariants.{Refused, Unoffered, OnCall, Carried, Unanswered, Missed}
-use Rattle.bx_day.specs.Invariant.{StandingFits, EntryFits, CallFits, OriginFits, DayFits, is_refused}
-use Rattle.bx_day.specs.Reading.{IsExchange, IsNumbered, Seated}
+use Rattle.bx_day.specs.Invariant.{StandingFits, EntryFits, OriginFits, DayFits, is_refused}
+use Rattle.bx_day.specs.Reading.{IsExchange, Seated}
 use Rattle.bx_day.proofs.Indices.{index_found, index_none}
 use Rattle.bx_day.proofs.Receive.{all_at, OpenAt, open_parts, open_index, open_lowest, open_or, takes_fits, received_fits, hears_refused}
 use Rattle.bx_day.proofs.Tick.{with_standing}

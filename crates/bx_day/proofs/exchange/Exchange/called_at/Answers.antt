@@ -1,5 +1,4 @@
-use Rattle.std.proofs.Common.{◌≡◌, Bool, Option, ℕ, sym, subst, ap, ◌∙◌}
-use Rattle.bx_q931.specs.Outgoing.{Outgoing}
+use Rattle.std.proofs.Common.{Bool, Option, ℕ, sym, ap, ◌∙◌}
 use Rattle.bx_q931.specs.declared.channel_field.ChannelField.TheVariants.{Named}
 use Rattle.bx_day.specs.Said.{said_of}
 use Rattle.bx_day.specs.Day.{Answered, called_on, index_of, opens, takes_or}

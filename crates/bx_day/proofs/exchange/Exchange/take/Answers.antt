@@ -1,4 +1,4 @@
-use Rattle.std.proofs.Common.{◌≡◌, ◌<◌, ℕ, Option, Some, None, true, sym, subst, ◌∙◌, ap, length}
+use Rattle.std.proofs.Common.{◌≡◌, ◌<◌, ℕ, Option, None, true, sym, subst, ◌∙◌, ap, length}
 use Rattle.std.specs.Prelude.{IfSome}
 use Rattle.std.proofs.lemmas.List.{get_or_default}
 use Rattle.bx_calls.specs.PlainCalls.{PlainNetCall}
