@@ -12,4 +12,5 @@ pub mod Passing
 pub mod Received
 pub mod WritingSteps
 pub mod ToldLines
+pub mod Quiet
 pub mod Replays

@@ -9,7 +9,7 @@ use Rattle.bx_calls.specs.PlainCalls.{PlainNetCall}
 use Rattle.bx_day.specs.Day.{Day, is_live, is_held, is_free, is_set, holds, second_at, second_of, after_second, waits, said_on, cons_some, breaks_on, maintained, every_channel, entry_at, stays, no_entry, tick, ticked}
 use Rattle.bx_day.specs.Invariant.{Apart, Pairs, is_refused, EntryFits, StandingFits}
 use Rattle.bx_day.specs.Reading.{Seated, IsExchange}
-use Rattle.bx_day.specs.Passing.{somes, SaysOnEach, SaysOnce, AreBlocked}
+use Rattle.bx_day.specs.Passing.{day_of, somes, SaysOnEach, SaysOnce, AreBlocked}
 use Rattle.bx_day.specs.declared.entry.Moved.{Moved}
 use Rattle.bx_day.specs.declared.entry.Entry.{Entry}
 use Rattle.bx_day.specs.declared.entry.Standing.{Standing}
@@ -21,7 +21,7 @@ use Rattle.bx_day.proofs.Law.{at_map}
 none≢some : {X : Type 0} (x : X) → None ≡ Some x → ⊥
 none≢some x e = false≢true (ap is_some e)
 
-decide : {P : Type 0} (b : Bool) → (b ≡ true → P) → (b ≡ false → P) → P
+pub decide : {P : Type 0} (b : Bool) → (b ≡ true → P) → (b ≡ false → P) → P
 decide true f g = f refl
 decide false f g = g refl
 
@@ -159,7 +159,7 @@ on_here d c e rest on = rw (eq-eqb e.channel c on) refl
 on_other : (d : Day) (c : ℕ) (e : Entry) (rest : List Entry) → e.channel == c ≡ false → said_on d c (e ∷ rest) ≡ said_on d c rest
 on_other d c e rest off = rw off refl
 
-says_none : (d : Day) (c : ℕ) (e : Entry) (rest : List Entry) → (second_of d e).said ≡ None → said_on d c (e ∷ rest) ≡ said_on d c rest
+pub says_none : (d : Day) (c : ℕ) (e : Entry) (rest : List Entry) → (second_of d e).said ≡ None → said_on d c (e ∷ rest) ≡ said_on d c rest
 says_none d c e rest h = by_cases (e.channel == c) _ _ (λ (os : List Outgoing). os ≡ said_on d c rest) (λ _. ap (λ o. cons_some o (said_on d c rest)) h) (λ _. refl)
 
 pub slots_kept : (d : Day) (e : Entry) (rest : List Entry) (said : List (Option Outgoing)) → (second_of d e).said ≡ None → SlotsBefore d (e ∷ rest) said → SlotsBefore d rest said
@@ -259,11 +259,13 @@ not_or : (a b : Bool) → not (a || b) ≡ (not a && not b)
 not_or true b = refl
 not_or false b = refl
 
+pub free_is : (d : Day) (blocked : List Bool) (c k : ℕ) → c ≡ k → AreBlocked d blocked → not (is_set blocked c) ≡ is_free d k
+free_is d blocked c k on set = ap not (set c) ∙ not_or (is_held d.entries c) (is_set d.maintenance c) ∙ ap (is_free d) on
+
 -- what a booking does, where its channel is known to be blocked or not
 pub moved_is : (d : Day) (e e' : Entry) (m : Moved) (blocked : List Bool) (c : ℕ) → e ≡ e' → c ≡ e.channel → AreBlocked d blocked → m ≡ second_at e (d.moment + 1) (not (is_set blocked c)) e.standing → m ≡ second_of d e'
 moved_is d e e' m blocked c same on set is =
-    let free : not (is_set blocked c) ≡ is_free d e.channel = ap not (set c) ∙ not_or (is_held d.entries c) (is_set d.maintenance c) ∙ ap (is_free d) on in
-    is ∙ ap (λ f. second_at e (d.moment + 1) f e.standing) free ∙ ap (second_of d) same
+    is ∙ ap (λ f. second_at e (d.moment + 1) f e.standing) (free_is d blocked c e.channel on set) ∙ ap (second_of d) same
 
 -- a refused booking stays, says nothing and breaks nothing
 pub refused_stays : (t : ℕ) (free : Bool) (e : Entry) (s : Standing) → is_refused s ≡ true → second_at e t free s ≡ stays s
@@ -370,7 +372,7 @@ all_seated : (d : Day) (es : List Entry) → AllByRecursion Seated es → AllByR
 all_seated d [] h = tt
 all_seated d (e ∷ es) h = (record { row = h.0.row; channel = λ accepted. h.0.channel (second_refused (d.moment + 1) (is_free d e.channel) e e.standing accepted) }, all_seated d es h.1)
 
-pub map_size : (d : Day) (es : List Entry) → length (map (after_second d) es) ≡ length es
+map_size : (d : Day) (es : List Entry) → length (map (after_second d) es) ≡ length es
 map_size d [] = refl
 map_size d (e ∷ es) = ap suc (map_size d es)
 
@@ -388,5 +390,12 @@ pub tick_is : (d : Day) → d.moment < 300000 → tick d ≡ ticked d
 tick_is d early = decide (nat_le 300000 d.moment) (λ late. absurd (let le : 300000 ≤ d.moment = leb-true 300000 d.moment late in omega (arith, le, early))) (λ less. ap (λ b. if b then (record { day = d; sent = [] }) else ticked d) less)
 
 -- a slice that was written whole
-pub refilled : (n : ℕ) (xs ys : List Entry) → length xs ≡ length ys → n ≡ length ys → take n (xs ++ drop (length xs) ys) ≡ xs
+refilled : (n : ℕ) (xs ys : List Entry) → length xs ≡ length ys → n ≡ length ys → take n (xs ++ drop (length xs) ys) ≡ xs
 refilled n xs ys same all = ap (λ zs. take n (xs ++ zs)) (drop_all (length xs) ys (omega (arith, same))) ∙ ap (take n) (append-nil xs) ∙ take_all n xs (omega (arith, same, all))
+
+-- the fields of an exchange after its bookings were moved on
+pub pass_stays : (t n : ℕ) (items es new : List Entry) (ms ms' : List Bool) → t < 300000 → IsExchange (day_of t items ms) → es ≡ items → n ≡ length items → new ≡ map (after_second (day_of t es ms)) es → ms' ≡ maintained (day_of t es ms) 0 ms → IsExchange (day_of (t + 1) (take n (new ++ drop (length new) items)) ms')
+pass_stays t n items es new ms ms' early h same all entries maintenance =
+    let d = day_of t es ms in
+    let size : length new ≡ length items = ap length entries ∙ map_size d es ∙ ap length same in
+    subst IsExchange (sym (ap₂ (day_of (t + 1)) (refilled n new items size all ∙ entries) maintenance)) (ticked_stays d early (subst (λ (xs : List Entry). IsExchange (day_of t xs ms)) (sym same) h))

@@ -8,4 +8,5 @@ pub mod Spelling
 pub mod Passing
 pub mod Telling
 pub mod Writing
+pub mod Quiet
 pub mod Replaying

@@ -21,17 +21,19 @@ pub struct Exchange {
     pub(crate) moment: u32,
     pub(crate) entries: Vec<Entry>,
     pub(crate) maintenance: ChannelSet,
+    /// No tick to a moment before this one does more than raise the moment. 0 where that is not known.
+    pub(crate) due: u32,
 }
 
 impl Model for Exchange {
     ghost use Rattle.bx_day.specs.Day.{Day};
-    ghost use Rattle.bx_day.specs.Reading.{IsExchange};
+    ghost use Rattle.bx_day.specs.Quiet.{IsScheduled};
 
     ghost Value = { Day };
 
     ghost view = { λ x. record { moment = x.moment; entries = x.entries.items; maintenance = x.maintenance } };
 
-    ghost invariant = { λ x. IsExchange (record { moment = x.moment; entries = x.entries.items; maintenance = x.maintenance }) };
+    ghost invariant = { λ x. IsScheduled (record { moment = x.moment; entries = x.entries.items; maintenance = x.maintenance }) x.due };
 }
 
 impl Exchange {
@@ -47,6 +49,7 @@ impl Exchange {
             moment: 0,
             entries: entries(alloc, plan)?,
             maintenance: ChannelSet::empty(),
+            due: 0,
         })
     }
 

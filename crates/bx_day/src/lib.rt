@@ -14,6 +14,7 @@ mod outcome_lines;
 mod receive_tests;
 mod receiving;
 mod replaying;
+mod scheduling;
 #[cfg(test)]
 mod tests;
 #[cfg(test)]

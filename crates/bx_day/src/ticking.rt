@@ -1,7 +1,7 @@
 //! The ticks of a day.
 
 ghost use Rattle.std.specs.Prelude.{◌≡◌, ◌≤◌, ◌<◌, true, length, map, is_some, slice_set, if◌then◌else◌};
-ghost use Rattle.bx_day.specs.Day.{tick, after_second, maintained};
+ghost use Rattle.bx_day.specs.Day.{tick, ticked, after_second, maintained};
 ghost use Rattle.bx_day.specs.Passing.{day_of, AreBlocked, SaysOnEach, SaysOnce, somes};
 ghost use Rattle.bx_day.specs.Reading.{IsExchange};
 ghost use Rattle.bx_day.specs.Spelling.{spelled};
@@ -28,6 +28,19 @@ impl Exchange {
         if self.moment >= LAST_MOMENT {
             return ArrayVec::new();
         }
+        if self.moment + 1 < self.due {
+            self.moment += 1;
+            return ArrayVec::new();
+        }
+        self.pass()
+    }
+
+    /// A tick that looks at each booking, and finds when the next has to.
+    fn pass(&mut self) -> ArrayVec<Octets, 30>
+        requires { self.old.moment < 300000 }
+        ensures day { self.new ≡ (ticked self.old).day }
+        ensures sent { result.items ≡ spelled (ticked self.old).sent }
+    {
         let blocked = self.blocked();
         let said = move_on(
             &mut self.entries,
@@ -36,11 +49,14 @@ impl Exchange {
             self.moment,
         );
         self.moment += 1;
+        self.due = 0;
+        let due = self.next_due();
+        self.due = due;
         spell(&said)
     }
 
     /// The channels that are held by a live booking, or in maintenance.
-    fn blocked(&self) -> ChannelSet
+    pub(crate) fn blocked(&self) -> ChannelSet
         ensures { AreBlocked self.now result }
     {
         let mut blocked = self.maintenance;

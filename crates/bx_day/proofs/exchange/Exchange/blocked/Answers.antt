@@ -17,7 +17,7 @@ loop-entry-preserved c =
     let items : c.deref-entry-items.result.now ≡ d.entries = c.deref-entry-items.ensures.value ∙ ap (λ (x : Day). x.entries) c.self.view_is in
     let lt : i < length d.entries = subst (λ (xs : List Entry). i < length xs) items c.loop-entry-test.true in
     let same : c.entry-item.result ≡ entry_at d.entries i = c.entry-item.is ∙ get_or_default c.deref-entry-items.result.now i c.entry-item.result no_entry c.loop-entry-test.true ∙ ap (λ (xs : List Entry). entry_at xs i) items in
-    let whole_day : IsExchange d = subst IsExchange c.self.view_is c.self.invariant in
+    let whole_day : IsExchange d = subst IsExchange c.self.view_is c.self.invariant.exchange in
     let fits : EntryFits d.moment c.entry-item.result = subst (EntryFits d.moment) (sym same) (each_at (EntryFits d.moment) d.entries i lt whole_day.day.each) in
     let before : BlockedBefore (c.entry-item.result ∷ rest) whole c.loop-entry.blocked = subst (λ (xs : List Entry). BlockedBefore xs whole c.loop-entry.blocked) (rest_is d i lt ∙ ap (λ (x : Entry). x ∷ rest) (sym same)) c.loop-entry.invariant in
     elim c.match-entry.branch [

@@ -10,7 +10,7 @@ use Rattle.bx_day.proofs.exchange.Exchange.outward.Goals as goal
 pub returns-then-index-len-clause-first : goal.returns-then-index-len-clause-first
 returns-then-index-len-clause-first c m =
     let d = c.args.self.now in
-    let h : IsExchange d = subst IsExchange c.self.view_is c.self.invariant in
+    let h : IsExchange d = subst IsExchange c.self.view_is c.self.invariant.exchange in
     let place : c.args.reference ≡ (c.args.reference - 1) + 1 = omega (arith, c.requires) in
     let es = c.self.inside.entries.items in
     let entries : es ≡ d.entries = ap (λ (x : Day). x.entries) c.self.view_is in
@@ -21,7 +21,7 @@ returns-then-index-len-clause-first c m =
 pub returns-then-is_named-clause-first : goal.returns-then-is_named-clause-first
 returns-then-is_named-clause-first c m =
     let d = c.args.self.now in
-    let h : IsExchange d = subst IsExchange c.self.view_is c.self.invariant in
+    let h : IsExchange d = subst IsExchange c.self.view_is c.self.invariant.exchange in
     let es = c.self.inside.entries.items in
     let i = c.args.reference - 1 in
     let test = names (said_of c.args.reference true m) in
@@ -34,7 +34,7 @@ returns-then-is_named-clause-first c m =
 pub returns-else-is_named-clause-first : goal.returns-else-is_named-clause-first
 returns-else-is_named-clause-first c m =
     let d = c.args.self.now in
-    let h : IsExchange d = subst IsExchange c.self.view_is c.self.invariant in
+    let h : IsExchange d = subst IsExchange c.self.view_is c.self.invariant.exchange in
     let es = c.self.inside.entries.items in
     let i = c.args.reference - 1 in
     let place : c.args.reference ≡ (c.args.reference - 1) + 1 = omega (arith, c.requires) in

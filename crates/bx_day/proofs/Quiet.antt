@@ -1,0 +1,173 @@
+-- A tick before anything is due does nothing but raise the moment.
+use Rattle.std.proofs.Common.{◌≡◌, ℕ, suc, ◌+◌, ◌≤◌, ◌<◌, ◌&&◌, ◌||◌, not, Bool, true, false, List, [], ◌∷◌, ◌++◌, map, length, Some, None, arith, refl, sym, subst, ap, ap₂, ◌∙◌, nat_le, nat_lt, if◌then◌else◌, flat_map}
+use Rattle.std.specs.List.{AllByRecursion}
+use Rattle.std.proofs.Math.Nat.{min-le_left, min-le_right}
+use Rattle.std.proofs.lemmas.Bool.{true≢false, false≢true, leb-true, ltb-true, ltb-false}
+use Rattle.bx_base.specs.Bookings.{Row, is_running}
+use Rattle.bx_calls.specs.PlainCalls.{PlainNetCall}
+use Rattle.bx_calls.specs.declared.net_state.NetState.{NetState}
+use Rattle.bx_calls.specs.declared.net_state.NetState.TheVariants.{OutgoingCallProceeding, CallPresent, IncomingCallProceeding, CallReceived, Active, DisconnectIndication, ReleaseRequest}
+use Rattle.bx_calls.specs.NetTable.{net_second, net_same, net_offered}
+use Rattle.bx_calls.specs.Saying.{setup_of}
+use Rattle.bx_day.specs.Day.{Day, Sent, is_active, activity_after, is_free, second_at, second_of, after_second, stays, becomes, follows, waits, said_on, maintained, every_channel, entry_at, tick, ticked}
+use Rattle.bx_day.specs.Invariant.{phase_of, ActivityFits, EntryFits, CallFits, is_refused}
+use Rattle.bx_day.specs.Quiet.{IsQuietBetween, IsQuietUntil, IsScheduled, call_due, booking_due}
+use Rattle.bx_day.specs.Reading.{IsExchange}
+use Rattle.bx_day.specs.declared.entry.Moved.{Moved}
+use Rattle.bx_day.specs.declared.entry.Entry.{Entry}
+use Rattle.bx_day.specs.declared.entry.Standing.{Standing}
+use Rattle.bx_day.specs.declared.entry.Activity.{Activity}
+use Rattle.bx_day.specs.declared.entry.Standing.TheVariants.{Refused, Unoffered, OnCall, Carried, Unanswered, Missed}
+use Rattle.bx_day.specs.declared.entry.Activity.TheVariants.{Never, Since, Was}
+use Rattle.bx_day.proofs.Tick.{with_standing, offers}
+use Rattle.bx_day.proofs.Passing.{marks, marks_all, marks_none, marks_whole, says_none, decide, refused_stays, tick_is, ticked_stays}
+
+-- ---- a day of which each booking is quiet
+
+quiet_entries : (d : Day) (es : List Entry) → AllByRecursion (λ e. second_of d e ≡ stays e.standing) es → map (after_second d) es ≡ es
+quiet_entries d [] h = refl
+quiet_entries d (e ∷ es) h = ap₂ (λ (m : Moved) xs. record e { standing = m.standing } ∷ xs) h.0 (quiet_entries d es h.1)
+
+quiet_marks : (d : Day) (bs : List Bool) (es : List Entry) → AllByRecursion (λ e. second_of d e ≡ stays e.standing) es → marks d 0 bs es ≡ bs
+quiet_marks d bs [] h = marks_none d 0 bs
+quiet_marks d bs (e ∷ es) h = marks_whole d 0 bs e es (ap (λ (m : Moved). m.broken) h.0) ∙ quiet_marks d bs es h.1
+
+quiet_on : (d : Day) (c : ℕ) (es : List Entry) → AllByRecursion (λ e. second_of d e ≡ stays e.standing) es → said_on d c es ≡ []
+quiet_on d c [] h = refl
+quiet_on d c (e ∷ es) h = says_none d c e es (ap (λ (m : Moved). m.said) h.0) ∙ quiet_on d c es h.1
+
+quiet_all : (d : Day) → AllByRecursion (λ e. second_of d e ≡ stays e.standing) d.entries → (cs : List ℕ) → flat_map (λ c. said_on d c d.entries) cs ≡ []
+quiet_all d h [] = refl
+quiet_all d h (c ∷ cs) = ap₂ (λ xs ys. xs ++ ys) (quiet_on d c d.entries h) (quiet_all d h cs)
+
+-- the same day, a second later
+abbrev pub later : Day → Day
+later d = record d { moment = d.moment + 1 }
+
+quiet_tick : (d : Day) → AllByRecursion (λ e. second_of d e ≡ stays e.standing) d.entries → ticked d ≡ record { day = later d; sent = [] }
+quiet_tick d h =
+    let entries = quiet_entries d d.entries h in
+    let maintenance : maintained d 0 d.maintenance ≡ d.maintenance = sym (marks_all d 0 d.maintenance) ∙ quiet_marks d d.maintenance d.entries h in
+    ap₂ (λ es ms. record { day = record { moment = d.moment + 1; entries = es; maintenance = ms }; sent = flat_map (λ c. said_on d c d.entries) every_channel }) entries maintenance ∙ ap (λ os. record { day = later d; sent = os }) (quiet_all d h every_channel)
+
+all_now : (d : Day) (due : ℕ) (es : List Entry) → d.moment + 1 < due → AllByRecursion (λ e. IsQuietBetween d.moment due (is_free d e.channel) e) es → AllByRecursion (λ e. second_of d e ≡ stays e.standing) es
+all_now d due [] lt h = tt
+all_now d due (e ∷ es) lt h = (h.0 (d.moment + 1) (omega arith) lt, all_now d due es lt h.1)
+
+all_later : (d : Day) (due : ℕ) (es : List Entry) → AllByRecursion (λ e. IsQuietBetween d.moment due (is_free d e.channel) e) es → AllByRecursion (λ e. IsQuietBetween (later d).moment due (is_free (later d) e.channel) e) es
+all_later d due [] h = tt
+all_later d due (e ∷ es) h = ((λ t low high. h.0 t (omega (arith, low)) high), all_later d due es h.1)
+
+-- before anything is due, a tick raises the moment, and that is all
+idle_tick : (d : Day) (due : ℕ) → d.moment + 1 < due → IsQuietUntil due d → ticked d ≡ record { day = later d; sent = [] }
+idle_tick d due lt h = quiet_tick d (all_now d due d.entries lt h)
+
+idle_stays : (d : Day) (due : ℕ) → IsQuietUntil due d → IsQuietUntil due (later d)
+idle_stays d due h = all_later d due d.entries h
+
+pub idle_is : (d : Day) (due : ℕ) → d.moment < 300000 → d.moment + 1 < due → IsQuietUntil due d → tick d ≡ record { day = later d; sent = [] }
+idle_is d due early lt h = tick_is d early ∙ idle_tick d due lt h
+
+pub idle_scheduled : (d : Day) (due : ℕ) → d.moment < 300000 → d.moment + 1 < due → IsScheduled d due → IsScheduled (later d) due
+idle_scheduled d due early lt h = record {
+  exchange = subst (λ (s : Sent). IsExchange s.day) (idle_tick d due lt h.quiet) (ticked_stays d early h.exchange);
+  quiet = idle_stays d due h.quiet;
+}
+
+-- nothing is promised of no tick at all
+pub all_unknown : (d : Day) (es : List Entry) → AllByRecursion (λ e. IsQuietBetween d.moment 0 (is_free d e.channel) e) es
+all_unknown d [] = tt
+all_unknown d (e ∷ es) = ((λ t low high. absurd (omega (arith, high))), all_unknown d es)
+
+pub unscheduled : (d : Day) → IsExchange d → IsScheduled d 0
+unscheduled d h = record { exchange = h; quiet = all_unknown d d.entries }
+
+-- ---- the first due moment of one booking
+
+late : (m t : ℕ) → t < m → nat_le m t ≡ false
+late m t h = decide (nat_le m t) (λ yes. absurd (let le : m ≤ t = leb-true m t yes in omega (arith, le, h))) (λ less. less)
+
+-- a call in its state stays in its activity
+activity_stays : (t u : ℕ) (b : Row) (s : NetState) (a : Activity) → ActivityFits t b (phase_of s) a → activity_after a (is_active s) u ≡ a
+activity_stays t u b OutgoingCallProceeding Never h = refl
+activity_stays t u b OutgoingCallProceeding (Since from) h = absurd h
+activity_stays t u b OutgoingCallProceeding (Was from until) h = refl
+activity_stays t u b (CallPresent again due) Never h = refl
+activity_stays t u b (CallPresent again due) (Since from) h = absurd h
+activity_stays t u b (CallPresent again due) (Was from until) h = refl
+activity_stays t u b (IncomingCallProceeding due) Never h = refl
+activity_stays t u b (IncomingCallProceeding due) (Since from) h = absurd h
+activity_stays t u b (IncomingCallProceeding due) (Was from until) h = refl
+activity_stays t u b (CallReceived due) Never h = refl
+activity_stays t u b (CallReceived due) (Since from) h = absurd h
+activity_stays t u b (CallReceived due) (Was from until) h = refl
+activity_stays t u b Active Never h = absurd h
+activity_stays t u b Active (Since from) h = refl
+activity_stays t u b Active (Was from until) h = absurd h
+activity_stays t u b (DisconnectIndication cause due) Never h = refl
+activity_stays t u b (DisconnectIndication cause due) (Since from) h = absurd h
+activity_stays t u b (DisconnectIndication cause due) (Was from until) h = refl
+activity_stays t u b (ReleaseRequest again cause due) Never h = refl
+activity_stays t u b (ReleaseRequest again cause due) (Since from) h = absurd h
+activity_stays t u b (ReleaseRequest again cause due) (Was from until) h = refl
+
+running_late : (b : Row) (t : ℕ) → t < b.start → is_running b t ≡ false
+running_late b t h = ap (λ x. x && nat_lt t b.end) (late b.start t h)
+
+-- before its first due moment a call rests
+at_rest : (c : PlainNetCall) (s : NetState) (t end : ℕ) → t < call_due s end → net_second (record c { state = s }) t end ≡ net_same (record c { state = s }) None
+at_rest c OutgoingCallProceeding t end lt = absurd (omega (arith, lt))
+at_rest c (CallPresent false due) t end lt = rw (late end t (omega (arith, lt, min-le_right due end))) (rw (late due t (omega (arith, lt, min-le_left due end))) refl)
+at_rest c (CallPresent true due) t end lt = rw (late end t (omega (arith, lt, min-le_right due end))) (rw (late due t (omega (arith, lt, min-le_left due end))) refl)
+at_rest c (IncomingCallProceeding due) t end lt = rw (late end t (omega (arith, lt, min-le_right due end))) (rw (late due t (omega (arith, lt, min-le_left due end))) refl)
+at_rest c (CallReceived due) t end lt = rw (late end t (omega (arith, lt, min-le_right due end))) (rw (late due t (omega (arith, lt, min-le_left due end))) refl)
+at_rest c Active t end lt = rw (late end t lt) refl
+at_rest c (DisconnectIndication cause due) t end lt = rw (late due t lt) refl
+at_rest c (ReleaseRequest false cause due) t end lt = rw (late due t lt) refl
+at_rest c (ReleaseRequest true cause due) t end lt = rw (late due t lt) refl
+
+call_quiet : (moment t : ℕ) (free : Bool) (e : Entry) (c : PlainNetCall) (a : Activity) → CallFits moment e c a → t < call_due c.state e.booking.end → second_at e t free (OnCall c a) ≡ stays (OnCall c a)
+call_quiet moment t free e c a fits lt = ap (follows a t) (at_rest c c.state t e.booking.end lt) ∙ ap (λ b. stays (OnCall c b)) (activity_stays moment t e.booking c.state a fits.activity)
+
+-- one that is not offered and not missed goes on waiting
+waits_on : (e : Entry) (t : ℕ) (free : Bool) → offers e t free ≡ false → t < e.booking.end → waits e t free ≡ stays Unoffered
+waits_on e t free unoffered early = ap (λ b. if b then (becomes (OnCall (net_offered e.row e.channel e.booking.number t) Never) (Some (setup_of e.row e.channel e.booking.number))) else (if nat_le e.booking.end t then stays Missed else stays Unoffered)) unoffered ∙ ap (λ b. if b then stays Missed else stays Unoffered) (late e.booking.end t early)
+
+not_offered : (a b c : Bool) → (b || not c) ≡ true → (a && not b && c) ≡ false
+not_offered true true c h = refl
+not_offered true false true h = absurd (false≢true h)
+not_offered true false false h = refl
+not_offered false b c h = refl
+
+not_begun : (a b c : Bool) → a ≡ false → (a && not b && c) ≡ false
+not_begun true b c h = absurd (true≢false h)
+not_begun false b c h = refl
+
+waits_quiet : (t : ℕ) (free : Bool) (e : Entry) → e.booking.start ≤ e.booking.end → t < booking_due e free Unoffered → waits e t free ≡ stays Unoffered
+waits_quiet t free e order lt = decide (e.booking.inward || not free)
+    (λ shut. waits_on e t free (not_offered (is_running e.booking t) e.booking.inward free shut) (subst (λ b. t < (if b then e.booking.end else e.booking.start)) shut lt))
+    (λ ready.
+    let early : t < e.booking.start = subst (λ b. t < (if b then e.booking.end else e.booking.start)) ready lt in
+    waits_on e t free (not_begun (is_running e.booking t) e.booking.inward free (running_late e.booking t early)) (omega (arith, early, order)))
+
+booking_quiet : (moment t : ℕ) (free : Bool) (e : Entry) (s : Standing) → EntryFits moment (with_standing e s) → e.booking.start ≤ e.booking.end → t < booking_due e free s → second_at e t free s ≡ stays s
+booking_quiet moment t free e Refused h order lt = refl
+booking_quiet moment t free e Unoffered h order lt = waits_quiet t free e order lt
+booking_quiet moment t free e (OnCall c a) h order lt = call_quiet moment t free (with_standing e (OnCall c a)) c a h lt
+booking_quiet moment t free e (Carried from until) h order lt = refl
+booking_quiet moment t free e Unanswered h order lt = refl
+booking_quiet moment t free e Missed h order lt = refl
+
+-- up to its first due moment, and so up to any before it, a booking is quiet
+pub quiet_before : (moment due : ℕ) (free : Bool) (e : Entry) → EntryFits moment e → e.booking.start ≤ e.booking.end → due ≤ booking_due e free e.standing → IsQuietBetween moment due free e
+quiet_before moment due free e fits order le t low high = booking_quiet moment t free e e.standing fits order (omega (arith, high, le))
+
+pub quiet_refused : (moment due : ℕ) (free : Bool) (e : Entry) → is_refused e.standing ≡ true → IsQuietBetween moment due free e
+quiet_refused moment due free e h t low high = refused_stays t free e e.standing h
+
+pub all_at : (P : Entry → Type 0) (es : List Entry) → ((i : ℕ) → i < length es → P (entry_at es i)) → AllByRecursion P es
+all_at P [] h = tt
+all_at P (e ∷ es) h = (h 0 (omega arith), all_at P es (λ i lt. h (suc i) (omega (arith, lt))))
+
+pub all_up_to : (P : ℕ → Type 0) (i : ℕ) → ((k : ℕ) → k < i → P k) → P i → (k : ℕ) → k < i + 1 → P k
+all_up_to P i before here k lt = decide (nat_lt k i) (λ yes. before k (ltb-true k i yes)) (λ late. subst P (let le : i ≤ k = ltb-false k i late in let same : i ≡ k = omega (arith, le, lt) in same) here)
