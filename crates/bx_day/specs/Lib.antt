@@ -10,3 +10,4 @@ pub mod Telling
 pub mod Writing
 pub mod Quiet
 pub mod Replaying
+pub mod Calling
