@@ -14,3 +14,4 @@ pub mod WritingSteps
 pub mod ToldLines
 pub mod Replays
 pub mod Quiet
+pub mod Openings
