@@ -3,3 +3,5 @@ pub mod Seconds
 pub mod Digits
 pub mod Fronts
 pub mod RowFaults
+mod Passing
+mod Streams

@@ -6,3 +6,6 @@ pub mod Times
 pub mod Rows
 pub mod Texts
 pub mod Fronts
+pub mod Passed
+pub mod Metering
+pub mod Streams

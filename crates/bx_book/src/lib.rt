@@ -4,8 +4,10 @@
 mod day;
 mod fault;
 mod field;
+mod metered;
 mod place;
 mod row;
+mod stream;
 #[cfg(test)]
 mod tests;
 mod text;
@@ -13,4 +15,5 @@ mod time;
 
 pub use day::{Day, DayFault, MAX_DAY};
 pub use fault::BookFault;
+pub use stream::{StreamFault, read_bookings_from};
 pub use text::read_bookings;

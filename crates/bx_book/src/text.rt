@@ -1,8 +1,8 @@
 //! The bookings of a text.
 
-ghost use Rattle.std.specs.Prelude.{◌≡◌, [], List, ℕ, OnOk, IfSome, IfOk, IfErr};
+ghost use Rattle.std.specs.Prelude.{◌≡◌, [], List, ℕ, OnOk, IfSome, IfOk, IfErr, option_map};
 ghost use Rattle.std.specs.Str.{bytes_eq};
-ghost use Rattle.csv.specs.Reading.{reader_state, ReadRecord, source_of, strip_bom};
+ghost use Rattle.csv.specs.Reading.{reader_state, reader_source, ReadRecord, source_of, strip_bom};
 ghost use Rattle.csv.specs.declared.parser.State.TheVariants as st;
 ghost use Rattle.csv.specs.Records.{fields_of};
 ghost use Rattle.bx_book.specs.Rows.{Span, span_of, field_of};
@@ -102,6 +102,40 @@ fn read_rows<R: Read>(
     Ok(())
 }
 
+/// Reads the header and the rows.
+pub fn read_records<R: Read>(
+    alloc: Global,
+    records: &mut Reader<R>,
+    day: &Day,
+) -> Result<Bookings, BookFault>
+    requires { IsReading records.old × (reader_state records.old ≡ st.StartRecord) }
+    ensures ok { IfOk result (λ bookings. IfSome (source_of R.remaining records.old) (λ text. IsBook text (span_of day.now) bookings)) }
+    ensures err { IfErr result (λ e. IfSome (source_of R.remaining records.old) (λ text. IsBookFault text (span_of day.now) e)) }
+{
+    let mut fields = ByteRecord::new(alloc);
+    let columns = match read_header(records, &mut fields) {
+        Ok(columns) => columns,
+        Err(fault) => return Err(fault),
+    };
+    let mut bookings = Bookings::new(alloc);
+    match read_rows(records, &mut fields, columns, day, &mut bookings) {
+        Ok(()) => Ok(bookings),
+        Err(fault) => Err(fault),
+    }
+}
+
+/// A reader of records that takes any number of fields, over these octets.
+pub fn records_of<R: Read>(alloc: Global, reader: R) -> Reader<R>
+    ensures ready { IsReading result × (reader_state result ≡ st.StartRecord) }
+    ensures source { source_of R.remaining result ≡ option_map strip_bom (R.remaining reader) }
+    ensures reader { reader_source result ≡ reader }
+{
+    ReaderBuilder::new()
+        .has_headers(false)
+        .flexible(true)
+        .from_reader(alloc, reader)
+}
+
 /// Reads the booking text of a day, RFC 4180 records as `csv` reads them: a header `start,end,number,pay`, which may
 /// go on with `must`, and that with `direction`, and then at most 4,000 rows. The answer is the bookings of all
 /// rows, or the first fault.
@@ -109,18 +143,6 @@ pub fn read_bookings(alloc: Global, bytes: &[u8], day: &Day) -> Result<Bookings,
     ensures ok { IfOk result (IsBook (strip_bom bytes.now) (span_of day.now)) }
     ensures err { IfErr result (IsBookFault (strip_bom bytes.now) (span_of day.now)) }
 {
-    let mut records = ReaderBuilder::new()
-        .has_headers(false)
-        .flexible(true)
-        .from_reader(alloc, bytes);
-    let mut fields = ByteRecord::new(alloc);
-    let columns = match read_header(&mut records, &mut fields) {
-        Ok(columns) => columns,
-        Err(fault) => return Err(fault),
-    };
-    let mut bookings = Bookings::new(alloc);
-    match read_rows(&mut records, &mut fields, columns, day, &mut bookings) {
-        Ok(()) => Ok(bookings),
-        Err(fault) => Err(fault),
-    }
+    let mut records = records_of(alloc, bytes);
+    read_records(alloc, &mut records, day)
 }

@@ -1,0 +1,89 @@
+-- What is known of a reader from what was counted of it.
+use Rattle.std.proofs.Common.{◌≡◌, ◌≢◌, ◌∙◌, ◌⊎◌, inl, inr, ◌≤◌, ◌==◌, ◌||◌, nat_lt, Bool, true, false, ℕ, zero, suc, List, [], ◌∷◌, ◌++◌, Option, Some, None, IfSome, length, take, drop, sym, ap, refl, arith, length-drop, append-nil}
+use Rattle.std.proofs.lemmas.List.{take-append-drop, length-take-le}
+use Rattle.std.proofs.lemmas.Bool.Decides.{nat_tests}
+use Rattle.csv.specs.Reading.{strip_bom}
+use Rattle.bx_base.specs.Octets.{ReadsAll, ReadsFront}
+use Rattle.bx_base.specs.Watching.{device_of, is_faulted, reads_of}
+use Rattle.bx_base.specs.declared.watched.Watched.{Watched}
+use Rattle.bx_base.specs.Bookings.{Row}
+use Rattle.bx_book.specs.Passed.{HasPassed, HasNoneLeft, is_spent}
+use Rattle.bx_book.specs.Rows.{Span}
+use Rattle.bx_book.specs.Texts.{IsBook, IsBookFault}
+use Rattle.bx_book.specs.Streams.{Reading, reading_of, IsWhole, IsBookRead, IsStreamFault, IsMeterFault, told_as}
+use Rattle.bx_book.specs.declared.fault.BookFault.{BookFault}
+use Rattle.bx_book.specs.declared.fault.BookFault.TheVariants as f
+use Rattle.bx_book.specs.declared.stream.StreamFault.{StreamFault}
+use Rattle.bx_book.specs.declared.stream.StreamFault.TheVariants as stream
+
+zeros : (n : ℕ) → (bs : List ℕ) × (length bs ≡ n)
+zeros zero = ([], refl)
+zeros (suc n) = let rest = zeros n in (0 ∷ rest.0, ap suc rest.1)
+
+front : (before after : Option (List ℕ)) (n : ℕ) → HasPassed before n after → ReadsFront before after n
+front None after n passed = let bs = zeros n in (bs.0, bs.1, tt)
+front (Some text) after n passed =
+    let left = passed text refl in
+    (take n text, length-take-le n text left.0, rw left.1 (sym (take-append-drop n text)))
+
+ends : (has_ended is_faulted : Bool) (octets reads : ℕ) → is_spent has_ended is_faulted octets reads ≡ true → is_faulted ≡ false → octets ≤ 4_194_304 → (reads ≡ 8_388_608 → has_ended ≡ true)
+    → has_ended ≡ true
+ends true is_faulted octets reads spent sound few more = refl
+ends false is_faulted octets reads spent sound few more = grind (arith, nat_tests)
+
+whole : (before after : Option (List ℕ)) (octets : ℕ) (text : List ℕ) → HasPassed before octets after → HasNoneLeft after → octets ≤ 4_194_304 → before ≡ Some text
+    → ReadsAll before after text × (length text ≤ 4_194_304)
+whole before after octets text passed none few known =
+    let left = passed text known in
+    let nothing = none (drop octets text) left.1 in
+    let after_is = left.1 ∙ ap Some nothing in
+    let size = ap length nothing in
+    (rw (known, after_is) (sym (append-nil text), refl), omega (arith, size, length-drop octets text))
+
+module _ {R : Type 0} (rem : R → Option (List ℕ)) (old new : Watched R) (span : Span) (octets : ℕ) (passed : HasPassed (rem (device_of old)) octets (rem (device_of new))) where
+  pub short : (fault : StreamFault) → IsMeterFault (is_faulted new) octets (reads_of new) fault → IsStreamFault (reading_of rem old new) span fault
+  short stream.ReadFailed h = h
+  short stream.TooLong h = (h.0, rw h.1 at (front (rem (device_of old)) (rem (device_of new)) octets passed))
+  short (stream.Book e) h = absurd h
+  short stream.Memory h = absurd h
+
+  module _ (has_ended : Bool) (none : has_ended ≡ true → HasNoneLeft (rem (device_of new))) (sound : is_faulted new ≡ false) (few : octets ≤ 4_194_304) (more : reads_of new ≡ 8_388_608 → has_ended ≡ true) where
+    said : (P : List ℕ → Type 0) → is_spent has_ended (is_faulted new) octets (reads_of new) ≡ true → IfSome (rem (device_of old)) P
+        → (is_faulted new ≡ false) × ((text : List ℕ) → rem (device_of old) ≡ Some text → IsWhole (reading_of rem old new) text × P text)
+    said P spent h = (
+      sound,
+      λ text known.
+          let all = whole (rem (device_of old)) (rem (device_of new)) octets text passed (none (ends has_ended (is_faulted new) octets (reads_of new) spent sound few more)) few known in
+          (record { all = all.0; fits = all.1 }, rw known at h),
+    )
+
+    pub book : (bookings : List Row) → is_spent has_ended (is_faulted new) octets (reads_of new) ≡ true → IfSome (rem (device_of old)) (λ text. IsBook (strip_bom text) span bookings)
+        → IsBookRead (reading_of rem old new) span bookings
+    book bookings spent h = said (λ text. IsBook (strip_bom text) span bookings) spent h
+
+    abbrev Spent : BookFault → Type 0
+    Spent e = (e ≡ f.Memory) ⊎ (is_spent has_ended (is_faulted new) octets (reads_of new) ≡ true)
+
+    abbrev Fault : BookFault → Type 0
+    Fault e = IfSome (rem (device_of old)) (λ text. IsBookFault (strip_bom text) span e)
+
+    abbrev Said : BookFault → Type 0
+    Said e = (is_faulted new ≡ false) × ((text : List ℕ) → rem (device_of old) ≡ Some text → IsWhole (reading_of rem old new) text × IsBookFault (strip_bom text) span e)
+
+    fault_said : (e : BookFault) → e ≢ f.Memory → Spent e → Fault e → Said e
+    fault_said e other (inl h) fault = absurd (other h)
+    fault_said e other (inr h) fault = said (λ text. IsBookFault (strip_bom text) span e) h fault
+
+    pub book_fault : (e : BookFault) → Spent e → Fault e → IsStreamFault (reading_of rem old new) span (told_as e)
+    book_fault f.BadHeader s h = fault_said f.BadHeader (λ e. cc) s h
+    book_fault (f.WrongColumns r) s h = fault_said (f.WrongColumns r) (λ e. cc) s h
+    book_fault (f.NotATime r) s h = fault_said (f.NotATime r) (λ e. cc) s h
+    book_fault (f.NotWholeSeconds r) s h = fault_said (f.NotWholeSeconds r) (λ e. cc) s h
+    book_fault (f.OutsideDay r) s h = fault_said (f.OutsideDay r) (λ e. cc) s h
+    book_fault (f.EndNotAfterStart r) s h = fault_said (f.EndNotAfterStart r) (λ e. cc) s h
+    book_fault (f.BadNumber r) s h = fault_said (f.BadNumber r) (λ e. cc) s h
+    book_fault (f.BadPay r) s h = fault_said (f.BadPay r) (λ e. cc) s h
+    book_fault f.TooMany s h = fault_said f.TooMany (λ e. cc) s h
+    book_fault (f.BadMust r) s h = fault_said (f.BadMust r) (λ e. cc) s h
+    book_fault (f.BadDirection r) s h = fault_said (f.BadDirection r) (λ e. cc) s h
+    book_fault f.Memory s h = sound

@@ -1,0 +1,18 @@
+-- What a metered reader has seen.
+use Rattle.std.specs.Prelude.{ℕ, Bool}
+use Rattle.std.specs.declared.io.traits.Read as Reading
+use Rattle.bx_base.specs.declared.watched.Watched.{Watched}
+use Rattle.bx_book.specs.declared.metered.Origin as Source
+use Rattle.bx_book.specs.declared.metered.Metered.{Metered}
+
+module _ {R O : Type 0} {r : Reading.Ghosts R} {o : Source.Ghosts O} where
+  abbrev pub watched_of : Metered R O r o → Watched R
+  watched_of m = m.reader.now
+
+  -- how many octets were passed on
+  abbrev pub octets_of : Metered R O r o → ℕ
+  octets_of m = m.octets
+
+  -- whether a read came to the end
+  abbrev pub has_ended : Metered R O r o → Bool
+  has_ended m = m.has_ended

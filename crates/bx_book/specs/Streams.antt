@@ -1,0 +1,54 @@
+-- What is said of a reader that bookings were read from.
+use Rattle.std.specs.Prelude.{◌≡◌, ◌⊎◌, ◌≤◌, ℕ, Bool, true, false, List, Option, Some, length}
+use Rattle.csv.specs.Reading.{strip_bom}
+use Rattle.bx_base.specs.Octets.{ReadsAll, ReadsFront}
+use Rattle.bx_base.specs.Watching.{device_of, is_faulted, reads_of}
+use Rattle.bx_base.specs.declared.watched.Watched.{Watched}
+use Rattle.bx_base.specs.Bookings.{Row}
+use Rattle.bx_book.specs.Rows.{Span}
+use Rattle.bx_book.specs.Texts.{IsBook, IsBookFault}
+use Rattle.bx_book.specs.declared.fault.BookFault.{BookFault}
+use Rattle.bx_book.specs.declared.fault.BookFault.TheVariants as f
+use Rattle.bx_book.specs.declared.stream.StreamFault.{StreamFault}
+use Rattle.bx_book.specs.declared.stream.StreamFault.TheVariants as stream
+
+-- a reader before and after: the octets that are left, whether it is faulted afterwards, and how many reads it has seen
+pub record Reading : Type 0 where
+  pub before : Option (List ℕ)
+  pub after : Option (List ℕ)
+  pub is_faulted : Bool
+  pub reads : ℕ
+
+abbrev pub reading_of : {R : Type 0} → (R → Option (List ℕ)) → Watched R → Watched R → Reading
+reading_of remaining old new = record { before = remaining (device_of old); after = remaining (device_of new); is_faulted = is_faulted new; reads = reads_of new }
+
+-- a text of at most 4,194,304 octets was read to its end
+pub record IsWhole (reading : Reading) (text : List ℕ) : Type 0 where
+  pub all : ReadsAll reading.before reading.after text
+  pub fits : length text ≤ 4_194_304
+
+-- what was read to its end, if it is known, is the text of these bookings
+abbrev pub IsBookRead : Reading → Span → List Row → Type 0
+IsBookRead reading span bookings = (reading.is_faulted ≡ false)
+    × ((text : List ℕ) → reading.before ≡ Some text → IsWhole reading text × IsBook (strip_bom text) span bookings)
+
+-- what each fault says of the reader, and of the text that was read to its end
+abbrev pub IsStreamFault : Reading → Span → StreamFault → Type 0
+IsStreamFault reading span stream.ReadFailed = (reading.is_faulted ≡ true) ⊎ (reading.reads ≡ 8_388_608)
+IsStreamFault reading span stream.TooLong = (reading.is_faulted ≡ false) × ReadsFront reading.before reading.after 4_194_305
+IsStreamFault reading span (stream.Book f.Memory) = ⊥
+IsStreamFault reading span (stream.Book e) = (reading.is_faulted ≡ false)
+    × ((text : List ℕ) → reading.before ≡ Some text → IsWhole reading text × IsBookFault (strip_bom text) span e)
+IsStreamFault reading span stream.Memory = reading.is_faulted ≡ false
+
+-- why less than the whole was read, by what was counted
+abbrev pub IsMeterFault : Bool → ℕ → ℕ → StreamFault → Type 0
+IsMeterFault is_faulted octets reads stream.ReadFailed = (is_faulted ≡ true) ⊎ (reads ≡ 8_388_608)
+IsMeterFault is_faulted octets reads stream.TooLong = (is_faulted ≡ false) × (octets ≡ 4_194_305)
+IsMeterFault is_faulted octets reads (stream.Book e) = ⊥
+IsMeterFault is_faulted octets reads stream.Memory = ⊥
+
+-- a fault of a text as one of its reader
+abbrev pub told_as : BookFault → StreamFault
+told_as f.Memory = stream.Memory
+told_as e = stream.Book e
