@@ -2,7 +2,8 @@
 
 ghost use Rattle.std.specs.Prelude.{◌≡◌, ℕ, List, Some, Ok, IfOk, IfErr, OnOk, OnErr, IsTrue};
 ghost use Rattle.std.specs.Io.KnownBytes.{Appends, IsAtEnd};
-ghost use Rattle.bx_base.specs.Watching.{device_of, is_faulted, reads_of};
+ghost use Rattle.bx_base.specs.Devices.{reading_of, writing_of};
+ghost use Rattle.bx_base.specs.Watching.{device_of, is_faulted};
 ghost use Rattle.bx_base.specs.Octets.{AppendsPrefix};
 ghost use Rattle.bx_base.specs.PlanParts.{parts_of};
 ghost use Rattle.bx_cli.specs.Proved.{IsPlanText, IsProvedFor, IsProvedText, IsProvedAgainst, proved_line};
@@ -26,8 +27,7 @@ fn plan_from<'a, R: Read>(
 ) -> Result<Plan, CliFault<'a>>
     ensures found { IfOk result (λ plan. (text : List ℕ) → R.remaining (device_of input.old) ≡ Some text → IsPlanText text (parts_of plan)) }
     ensures ended { OnOk result (IsAtEnd (R.remaining (device_of input.new))) }
-    ensures none { IfErr result (IsNoPlan name.now
-        (record { before = R.remaining (device_of input.old); after = R.remaining (device_of input.new); is_faulted = is_faulted input.new; reads = reads_of input.new })) }
+    ensures none { IfErr result (IsNoPlan name.now (reading_of R.remaining input.old input.new)) }
 {
     let text = match read_octets(alloc, input) {
         Ok(text) => text,
@@ -62,8 +62,7 @@ fn judge<'a, W: Write>(
 ) -> Result<u64, CliFault<'a>>
     ensures proved { IfOk result (IsProvedFor bookings.now channels (parts_of plan.now)) }
     ensures written { IfOk result (λ total. Appends (W.contents (device_of output.old)) (W.contents (device_of output.new)) (proved_line total)) }
-    ensures refused { IfErr result (IsJudged bookings.now channels (parts_of plan.now)
-        (record { before = W.contents (device_of output.old); after = W.contents (device_of output.new); is_faulted = is_faulted output.new })) }
+    ensures refused { IfErr result (IsJudged bookings.now channels (parts_of plan.now) (writing_of W.contents output.old output.new)) }
 {
     let total = match check(bookings, channels, plan) {
         Ok(total) => total,
@@ -87,9 +86,7 @@ pub fn check_self<'a, R: Read, W: Write>(
     ensures proved { IfOk result (λ total. (text : List ℕ) → R.remaining (device_of input.old) ≡ Some text → IsProvedText text total) }
     ensures read { OnOk result (IsAtEnd (R.remaining (device_of input.new))) }
     ensures written { IfOk result (λ total. Appends (W.contents (device_of output.old)) (W.contents (device_of output.new)) (proved_line total)) }
-    ensures refused { IfErr result (IsRefusal
-        (record { before = R.remaining (device_of input.old); after = R.remaining (device_of input.new); is_faulted = is_faulted input.new; reads = reads_of input.new })
-        (record { before = W.contents (device_of output.old); after = W.contents (device_of output.new); is_faulted = is_faulted output.new })) }
+    ensures refused { IfErr result (IsRefusal (reading_of R.remaining input.old input.new) (writing_of W.contents output.old output.new)) }
 {
     let plan = match plan_from(alloc, "-", input) {
         Ok(plan) => plan,
@@ -110,9 +107,7 @@ pub fn check_against<'a, R: Read, W: Write>(
     ensures proved { IfOk result (λ total. (text : List ℕ) → R.remaining (device_of input.old) ≡ Some text → IsProvedAgainst bookings.now channels text total) }
     ensures read { OnOk result (IsAtEnd (R.remaining (device_of input.new))) }
     ensures written { IfOk result (λ total. Appends (W.contents (device_of output.old)) (W.contents (device_of output.new)) (proved_line total)) }
-    ensures refused { IfErr result (IsRefusalAgainst bookings.now channels name.now
-        (record { before = R.remaining (device_of input.old); after = R.remaining (device_of input.new); is_faulted = is_faulted input.new; reads = reads_of input.new })
-        (record { before = W.contents (device_of output.old); after = W.contents (device_of output.new); is_faulted = is_faulted output.new })) }
+    ensures refused { IfErr result (IsRefusalAgainst bookings.now channels name.now (reading_of R.remaining input.old input.new) (writing_of W.contents output.old output.new)) }
 {
     let plan = match plan_from(alloc, name, input) {
         Ok(plan) => plan,

@@ -1,8 +1,9 @@
 //! The command line.
 
 ghost use Rattle.std.specs.Prelude.{◌≡◌, ◌≢◌, ◌≤◌, ◌↔◌, ℕ, List, [], Some, IsOk, IsErr};
-ghost use Rattle.std.specs.Io.KnownBytes.{Appends, Keeps};
-ghost use Rattle.bx_base.specs.Watching.{device_of, is_faulted, reads_of};
+ghost use Rattle.std.specs.Io.KnownBytes.{Appends};
+ghost use Rattle.bx_base.specs.Devices.{reading_of, writing_of};
+ghost use Rattle.bx_base.specs.Watching.{device_of};
 ghost use Rattle.bx_cli.specs.Proved.{IsProvedText, proved_line};
 ghost use Rattle.bx_cli.specs.Refusals.{IsRefusal};
 ghost use Rattle.bx_cli.specs.declared.fault.CliFault.{CliFault};
@@ -32,10 +33,7 @@ pub fn main_words<H: Files + AllocGlobal, R: Read, W: Write, E: Write>(
         × ((text : List ℕ) → R.remaining (device_of input.old) ≡ Some text → IsProvedText text total)
         × Appends (W.contents (device_of output.old)) (W.contents (device_of output.new)) (proved_line total) }
     // Else it was refused.
-    ensures refused { words.now ≡ [] → result ≢ 0 → (result ≡ 1) × (fault : CliFault) × IsRefusal
-        (record { before = R.remaining (device_of input.old); after = R.remaining (device_of input.new); is_faulted = is_faulted input.new; reads = reads_of input.new })
-        (record { before = W.contents (device_of output.old); after = W.contents (device_of output.new); is_faulted = is_faulted output.new })
-        fault }
+    ensures refused { words.now ≡ [] → result ≢ 0 → (result ≡ 1) × (fault : CliFault) × IsRefusal (reading_of R.remaining input.old input.new) (writing_of W.contents output.old output.new) fault }
     ensures status { result ≤ 2 }
 {
     if words.is_empty() {

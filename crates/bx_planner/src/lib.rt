@@ -10,6 +10,8 @@ mod planning;
 mod prices;
 mod running;
 #[cfg(test)]
+mod runs;
+#[cfg(test)]
 mod searches;
 
 pub use planning::{PlanFail, plan};

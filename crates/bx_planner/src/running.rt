@@ -2,7 +2,7 @@
 
 ghost use Rattle.std.specs.Prelude.{IfOk, IfErr};
 ghost use Rattle.bx_base.specs.PlanParts.{parts_of};
-ghost use Rattle.bx_base.specs.Watching.{device_of, is_faulted, reads_of};
+ghost use Rattle.bx_base.specs.Devices.{reading_of, writing_of};
 ghost use Rattle.bx_book.specs.Rows.{span_of};
 ghost use Rattle.bx_book.specs.Streams.{IsBookRead};
 ghost use Rattle.bx_planner.specs.Running.{IsRun, IsRunRefusal, IsProved, IsPlanFail, IsUnread};
@@ -44,12 +44,8 @@ fn bookings_of<R: Read>(
     input: &mut Watched<R>,
     day: &Day,
 ) -> Result<Bookings, RunFault>
-    ensures read { IfOk result (IsBookRead
-        (record { before = R.remaining (device_of input.old); after = R.remaining (device_of input.new); is_faulted = is_faulted input.new; reads = reads_of input.new })
-        (span_of day.now)) }
-    ensures unread { IfErr result (IsUnread
-        (record { before = R.remaining (device_of input.old); after = R.remaining (device_of input.new); is_faulted = is_faulted input.new; reads = reads_of input.new })
-        (span_of day.now)) }
+    ensures read { IfOk result (IsBookRead (reading_of R.remaining input.old input.new) (span_of day.now)) }
+    ensures unread { IfErr result (IsUnread (reading_of R.remaining input.old input.new) (span_of day.now)) }
 {
     match read_bookings_from(alloc, input, day) {
         Ok(bookings) => Ok(bookings),
@@ -83,14 +79,8 @@ pub fn plan_run<R: Read, W: Write>(
     day: &Day,
     channels: ChannelSet,
 ) -> Result<u64, RunFault>
-    ensures planned { IfOk result (IsRun
-        (record { before = R.remaining (device_of input.old); after = R.remaining (device_of input.new); is_faulted = is_faulted input.new; reads = reads_of input.new })
-        (record { before = W.contents (device_of output.old); after = W.contents (device_of output.new); is_faulted = is_faulted output.new })
-        (span_of day.now) channels) }
-    ensures refused { IfErr result (IsRunRefusal
-        (record { before = R.remaining (device_of input.old); after = R.remaining (device_of input.new); is_faulted = is_faulted input.new; reads = reads_of input.new })
-        (record { before = W.contents (device_of output.old); after = W.contents (device_of output.new); is_faulted = is_faulted output.new })
-        (span_of day.now) channels) }
+    ensures planned { IfOk result (IsRun (reading_of R.remaining input.old input.new) (writing_of W.contents output.old output.new) (span_of day.now) channels) }
+    ensures refused { IfErr result (IsRunRefusal (reading_of R.remaining input.old input.new) (writing_of W.contents output.old output.new) (span_of day.now) channels) }
 {
     let bookings = match bookings_of(alloc, input, day) {
         Ok(bookings) => bookings,
