@@ -10,3 +10,4 @@ pub mod PlanParts
 pub mod Watching
 pub mod Octets
 pub mod FailingDevice
+pub mod Devices

@@ -10,7 +10,8 @@ use Rattle.bx_base.specs.Bookings.{Row}
 use Rattle.bx_book.specs.Passed.{HasPassed, HasNoneLeft, is_spent}
 use Rattle.bx_book.specs.Rows.{Span}
 use Rattle.bx_book.specs.Texts.{IsBook, IsBookFault}
-use Rattle.bx_book.specs.Streams.{Reading, reading_of, IsWhole, IsBookRead, IsStreamFault, IsMeterFault, told_as}
+use Rattle.bx_base.specs.Devices.{Reading, reading_of}
+use Rattle.bx_book.specs.Streams.{IsWhole, IsBookRead, IsStreamFault, IsMeterFault, told_as}
 use Rattle.bx_book.specs.declared.fault.BookFault.{BookFault}
 use Rattle.bx_book.specs.declared.fault.BookFault.TheVariants as f
 use Rattle.bx_book.specs.declared.stream.StreamFault.{StreamFault}

@@ -1,9 +1,8 @@
 -- What is said of a reader that bookings were read from.
 use Rattle.std.specs.Prelude.{◌≡◌, ◌⊎◌, ◌≤◌, ℕ, Bool, true, false, List, Option, Some, length}
 use Rattle.csv.specs.Reading.{strip_bom}
+use Rattle.bx_base.specs.Devices.{Reading}
 use Rattle.bx_base.specs.Octets.{ReadsAll, ReadsFront}
-use Rattle.bx_base.specs.Watching.{device_of, is_faulted, reads_of}
-use Rattle.bx_base.specs.declared.watched.Watched.{Watched}
 use Rattle.bx_base.specs.Bookings.{Row}
 use Rattle.bx_book.specs.Rows.{Span}
 use Rattle.bx_book.specs.Texts.{IsBook, IsBookFault}
@@ -11,16 +10,6 @@ use Rattle.bx_book.specs.declared.fault.BookFault.{BookFault}
 use Rattle.bx_book.specs.declared.fault.BookFault.TheVariants as f
 use Rattle.bx_book.specs.declared.stream.StreamFault.{StreamFault}
 use Rattle.bx_book.specs.declared.stream.StreamFault.TheVariants as stream
-
--- a reader before and after: the octets that are left, whether it is faulted afterwards, and how many reads it has seen
-pub record Reading : Type 0 where
-  pub before : Option (List ℕ)
-  pub after : Option (List ℕ)
-  pub is_faulted : Bool
-  pub reads : ℕ
-
-abbrev pub reading_of : {R : Type 0} → (R → Option (List ℕ)) → Watched R → Watched R → Reading
-reading_of remaining old new = record { before = remaining (device_of old); after = remaining (device_of new); is_faulted = is_faulted new; reads = reads_of new }
 
 -- a text of at most 4,194,304 octets was read to its end
 pub record IsWhole (reading : Reading) (text : List ℕ) : Type 0 where

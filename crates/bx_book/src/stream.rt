@@ -2,11 +2,12 @@
 
 ghost use Rattle.std.specs.Prelude.{◌≡◌, ◌≤◌, ◌⊎◌, true, false, IfOk, IfErr, IfSome, MatchOption, Err};
 ghost use Rattle.csv.specs.Reading.{strip_bom};
+ghost use Rattle.bx_base.specs.Devices.{reading_of};
 ghost use Rattle.bx_base.specs.Watching.{device_of, is_faulted, reads_of};
 ghost use Rattle.bx_book.specs.Passed.{HasPassed, HasNoneLeft, is_spent};
 ghost use Rattle.bx_book.specs.Rows.{span_of};
 ghost use Rattle.bx_book.specs.Texts.{IsBook, IsBookFault};
-ghost use Rattle.bx_book.specs.Streams.{reading_of, IsBookRead, IsStreamFault, IsMeterFault, told_as};
+ghost use Rattle.bx_book.specs.Streams.{IsBookRead, IsStreamFault, IsMeterFault, told_as};
 
 use crate::day::Day;
 use crate::fault::BookFault;

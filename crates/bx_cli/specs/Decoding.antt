@@ -4,8 +4,8 @@ use Rattle.hex.specs.Hex.{decode_of}
 use Rattle.hex.specs.declared.error.FromHexError.{FromHexError}
 use Rattle.bx_q931.specs.Messages.{PlainMessage, message_at}
 use Rattle.bx_cli.specs.declared.fault.CliFault.{CliFault}
-use Rattle.bx_cli.specs.declared.fault.CliFault.TheVariants.{CannotRead, CannotWrite, Plan, Check, NotHex, Message, Memory}
-use Rattle.bx_cli.specs.Refusals.{Writing, KeepsOutput}
+use Rattle.bx_cli.specs.declared.fault.CliFault.TheVariants.{CannotWrite, NotHex, Message, Memory}
+use Rattle.bx_base.specs.Devices.{Writing, KeepsOutput}
 
 -- the text has the octets of a message in hexadecimal
 abbrev pub IsHexMessage : List ℕ → Type 0
@@ -15,11 +15,7 @@ IsHexMessage text = (octets : List ℕ) × (m : PlainMessage) × (decode_of text
 abbrev pub IsHexFault : List ℕ → CliFault → Type 0
 IsHexFault text NotHex = (e : FromHexError) × (decode_of text ≡ Err e)
 IsHexFault text Memory = Unit {0}
-IsHexFault text (CannotRead name) = ⊥
-IsHexFault text CannotWrite = ⊥
-IsHexFault text (Plan fault) = ⊥
-IsHexFault text (Check fault) = ⊥
-IsHexFault text (Message fault) = ⊥
+IsHexFault text _ = ⊥
 
 -- a refusal: the text is no hexadecimal, its octets are no message, the output failed, or a growth was refused
 abbrev pub IsDecodeRefusal : List ℕ → Writing → CliFault → Type 0
@@ -27,6 +23,4 @@ IsDecodeRefusal text output NotHex = ((e : FromHexError) × (decode_of text ≡ 
 IsDecodeRefusal text output (Message fault) = ((octets : List ℕ) × (decode_of text ≡ Ok octets) × (message_at octets ≡ Err fault)) × KeepsOutput output
 IsDecodeRefusal text output CannotWrite = output.is_faulted ≡ true
 IsDecodeRefusal text output Memory = KeepsOutput output
-IsDecodeRefusal text output (CannotRead name) = ⊥
-IsDecodeRefusal text output (Plan fault) = ⊥
-IsDecodeRefusal text output (Check fault) = ⊥
+IsDecodeRefusal text output _ = ⊥

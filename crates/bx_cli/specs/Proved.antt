@@ -1,10 +1,15 @@
 -- What a proved plan text says.
 use Rattle.std.specs.Prelude.{◌≡◌, ℕ, ◌≤◌, Bool, List, [], ◌∷◌, ◌++◌, Ok, codes, decimal}
-use Rattle.bx_base.specs.Bookings.{Carries, IsLawful, pay_of}
+use Rattle.bx_base.specs.Bookings.{Row, Carries, IsLawful, pay_of}
 use Rattle.bx_base.specs.Plans.{is_accepted, channel_at}
 use Rattle.bx_base.specs.PlanParts.{Parts, IsPlan}
 use Rattle.bx_planfile.specs.Text.{IsTextOf}
 use Rattle.bx_check.specs.Check.{IsOutcome}
+
+-- the octets are this plan's text
+pub record IsPlanText (text : List ℕ) (plan : Parts) : Type 0 where
+  pub limits : IsPlan plan
+  pub text_of : IsTextOf text plan
 
 -- The plan's own channels carry its accepted rows, which hold each must row and pay the total, and no lawful set of
 -- its rows pays more.
@@ -14,13 +19,22 @@ pub record IsBest (plan : Parts) (total : ℕ) : Type 0 where
   pub paid : total ≡ pay_of plan.rows (is_accepted plan.assigned)
   pub best : (set : ℕ → Bool) → IsLawful plan.rows plan.channels set → pay_of plan.rows set ≤ total
 
--- the octets are a plan's text, and the plan is proved by its own prices against its own bookings and channels
+-- the plan is proved by its own prices, for these bookings and channels
+pub record IsProvedFor (rows : List Row) (channels : List Bool) (plan : Parts) (total : ℕ) : Type 0 where
+  pub outcome : IsOutcome rows channels plan (Ok total)
+  pub best : IsBest plan total
+
+-- the octets are the text of a plan that is proved for these bookings and channels
+pub record IsProvedAgainst (rows : List Row) (channels : List Bool) (text : List ℕ) (total : ℕ) : Type 0 where
+  pub plan : Parts
+  pub text_of : IsPlanText text plan
+  pub proved : IsProvedFor rows channels plan total
+
+-- the octets are the text of a plan that is proved for its own bookings and channels
 pub record IsProvedText (text : List ℕ) (total : ℕ) : Type 0 where
   pub plan : Parts
-  pub limits : IsPlan plan
-  pub text_of : IsTextOf text plan
-  pub outcome : IsOutcome plan.rows plan.channels plan (Ok total)
-  pub best : IsBest plan total
+  pub text_of : IsPlanText text plan
+  pub proved : IsProvedFor plan.rows plan.channels plan total
 
 -- what is written of a proved total
 abbrev pub proved_line : ℕ → List ℕ

@@ -1,56 +1,59 @@
 -- What each refusal of a check says of the octets that were read, and of what was written.
-use Rattle.std.specs.Prelude.{◌≡◌, ℕ, Bool, true, List, Option, Some, Err, codes, ◌⊎◌}
-use Rattle.std.specs.Io.KnownBytes.{Keeps}
+use Rattle.std.specs.Prelude.{◌≡◌, ℕ, true, Bool, List, Some, Err, codes, ◌⊎◌}
+use Rattle.bx_base.specs.Bookings.{Row}
+use Rattle.bx_base.specs.Devices.{Reading, Writing, KeepsOutput}
 use Rattle.bx_base.specs.Octets.{AppendsPrefix, ReadsFront}
-use Rattle.bx_base.specs.PlanParts.{Parts, IsPlan}
-use Rattle.bx_planfile.specs.Text.{IsTextOf}
+use Rattle.bx_base.specs.PlanParts.{Parts}
 use Rattle.bx_planfile.specs.Reading.{read_all}
 use Rattle.bx_check.specs.Check.{IsOutcome}
-use Rattle.bx_cli.specs.Proved.{IsProvedText, proved_line}
+use Rattle.bx_cli.specs.Proved.{IsPlanText, IsProvedFor, IsProvedText, IsProvedAgainst, proved_line}
 use Rattle.bx_check.specs.declared.judge.CheckFault.{CheckFault}
 use Rattle.bx_cli.specs.declared.fault.CliFault.{CliFault}
-use Rattle.bx_cli.specs.declared.fault.CliFault.TheVariants.{CannotRead, CannotWrite, Plan, Check, NotHex, Message, Memory}
+use Rattle.bx_cli.specs.declared.fault.CliFault.TheVariants.{CannotRead, CannotWrite, Plan, Check, Memory}
 
--- a reader before and after: the octets that are left, whether it is faulted afterwards, and how many reads it has seen
-pub record Reading : Type 0 where
-  pub before : Option (List ℕ)
-  pub after : Option (List ℕ)
-  pub is_faulted : Bool
-  pub reads : ℕ
+-- an input of this name was not read to its end: it failed, or 8,388,608 reads did not reach the end, or it is too long
+abbrev pub IsUnread : List ℕ → Reading → List ℕ → Type 0
+IsUnread name input said = (said ≡ name) × ((input.is_faulted ≡ true) ⊎ (input.reads ≡ 8388608) ⊎ ReadsFront input.before input.after 4194305)
 
--- a writer before and after: the octets that it holds, and whether it is faulted afterwards
-pub record Writing : Type 0 where
-  pub before : Option (List ℕ)
-  pub after : Option (List ℕ)
-  pub is_faulted : Bool
+-- why there is no plan of an input
+abbrev pub IsNoPlan : List ℕ → Reading → CliFault → Type 0
+IsNoPlan name input (CannotRead n) = IsUnread name input n.now
+IsNoPlan name input (Plan fault) = (text : List ℕ) → input.before ≡ Some text → read_all text ≡ Err fault
+IsNoPlan name input Memory = Unit {0}
+IsNoPlan name input _ = ⊥
 
--- nothing was written
-abbrev pub KeepsOutput : Writing → Type 0
-KeepsOutput output = Keeps output.before output.after
+-- why a plan is not proved, or its proof not written
+abbrev pub IsJudged : List Row → List Bool → Parts → Writing → CliFault → Type 0
+IsJudged rows channels plan output (Check fault) = IsOutcome rows channels plan (Err fault) × KeepsOutput output
+IsJudged rows channels plan output CannotWrite = (output.is_faulted ≡ true) × ((total : ℕ) × IsProvedFor rows channels plan total × AppendsPrefix output.before output.after (proved_line total))
+IsJudged rows channels plan output _ = ⊥
 
 -- the octets are a plan's text, and this fault is the first that the check finds in it
 pub record IsFaultyText (text : List ℕ) (fault : CheckFault) : Type 0 where
   pub plan : Parts
-  pub limits : IsPlan plan
-  pub text_of : IsTextOf text plan
+  pub text_of : IsPlanText text plan
   pub outcome : IsOutcome plan.rows plan.channels plan (Err fault)
 
--- a fault of the octets themselves, where they were read whole
-abbrev pub IsTextFault : List ℕ → CliFault → Type 0
-IsTextFault text (Plan fault) = read_all text ≡ Err fault
-IsTextFault text (Check fault) = IsFaultyText text fault
-IsTextFault text Memory = Unit {0}
-IsTextFault text (CannotRead name) = ⊥
-IsTextFault text CannotWrite = ⊥
-IsTextFault text NotHex = ⊥
-IsTextFault text (Message fault) = ⊥
+-- the same for these bookings and channels
+pub record IsFaultyAgainst (rows : List Row) (channels : List Bool) (text : List ℕ) (fault : CheckFault) : Type 0 where
+  pub plan : Parts
+  pub text_of : IsPlanText text plan
+  pub outcome : IsOutcome rows channels plan (Err fault)
 
 -- a refusal says what went wrong, and that nothing was written, or a front of what was to be written
 abbrev pub IsRefusal : Reading → Writing → CliFault → Type 0
-IsRefusal input output (CannotRead name) = (name.now ≡ codes "-") × ((input.is_faulted ≡ true) ⊎ (input.reads ≡ 8388608) ⊎ ReadsFront input.before input.after 4194305) × KeepsOutput output
+IsRefusal input output (CannotRead n) = IsUnread (codes "-") input n.now × KeepsOutput output
 IsRefusal input output CannotWrite = (output.is_faulted ≡ true) × ((text : List ℕ) → input.before ≡ Some text → (total : ℕ) × IsProvedText text total × AppendsPrefix output.before output.after (proved_line total))
 IsRefusal input output (Plan fault) = ((text : List ℕ) → input.before ≡ Some text → read_all text ≡ Err fault) × KeepsOutput output
 IsRefusal input output (Check fault) = ((text : List ℕ) → input.before ≡ Some text → IsFaultyText text fault) × KeepsOutput output
-IsRefusal input output NotHex = ⊥
-IsRefusal input output (Message fault) = ⊥
 IsRefusal input output Memory = KeepsOutput output
+IsRefusal input output _ = ⊥
+
+-- the same for a plan of an input of this name, against these bookings and channels
+abbrev pub IsRefusalAgainst : List Row → List Bool → List ℕ → Reading → Writing → CliFault → Type 0
+IsRefusalAgainst rows channels name input output (CannotRead n) = IsUnread name input n.now × KeepsOutput output
+IsRefusalAgainst rows channels name input output CannotWrite = (output.is_faulted ≡ true) × ((text : List ℕ) → input.before ≡ Some text → (total : ℕ) × IsProvedAgainst rows channels text total × AppendsPrefix output.before output.after (proved_line total))
+IsRefusalAgainst rows channels name input output (Plan fault) = ((text : List ℕ) → input.before ≡ Some text → read_all text ≡ Err fault) × KeepsOutput output
+IsRefusalAgainst rows channels name input output (Check fault) = ((text : List ℕ) → input.before ≡ Some text → IsFaultyAgainst rows channels text fault) × KeepsOutput output
+IsRefusalAgainst rows channels name input output Memory = KeepsOutput output
+IsRefusalAgainst rows channels name input output _ = ⊥

@@ -1,33 +1,43 @@
-//! The check of a plan text against the bookings and channels that it states itself.
+//! The checks of a plan text: against bookings and channels, and against those that it states itself.
 
-ghost use Rattle.std.specs.Prelude.{◌≡◌, ℕ, List, Some, Ok, Err, IfOk, IfErr, OnOk, OnErr, IsTrue, MatchResult};
+ghost use Rattle.std.specs.Prelude.{◌≡◌, ℕ, List, Some, Ok, IfOk, IfErr, OnOk, OnErr, IsTrue};
 ghost use Rattle.std.specs.Io.KnownBytes.{Appends, IsAtEnd};
-ghost use Rattle.bx_base.specs.Watching.{device_of, is_faulted, reads_of};
-ghost use Rattle.bx_base.specs.Octets.{AppendsPrefix, ReadsAll};
-ghost use Rattle.bx_cli.specs.Proved.{IsProvedText, proved_line};
-ghost use Rattle.bx_cli.specs.Refusals.{IsRefusal, IsTextFault};
+ghost use Rattle.bx_base.specs.Devices.{reading_of, writing_of};
+ghost use Rattle.bx_base.specs.Watching.{device_of, is_faulted};
+ghost use Rattle.bx_base.specs.Octets.{AppendsPrefix};
+ghost use Rattle.bx_base.specs.PlanParts.{parts_of};
+ghost use Rattle.bx_cli.specs.Proved.{IsPlanText, IsProvedFor, IsProvedText, IsProvedAgainst, proved_line};
+ghost use Rattle.bx_cli.specs.Refusals.{IsNoPlan, IsJudged, IsRefusal, IsRefusalAgainst};
 
 use crate::fault::CliFault;
-use bx_base::{ReadFault, Watched, WriteFailed, read_octets, write_octets};
+use bx_base::{
+    Bookings, ChannelSet, Plan, ReadFault, Watched, WriteFailed, read_octets, write_octets,
+};
 use bx_check::check;
 use bx_planfile::{PlanFault, read_plan};
 use itoa::Buffer;
 use std::alloc::Global;
 use std::io::{Read, Write};
 
-/// The total of the plan that the text states, where that plan is proved.
-fn proved_total(alloc: Global, text: &[u8]) -> Result<u64, CliFault<'static>>
-    ensures proved { IfOk result (IsProvedText text.now) }
-    ensures fault { IfErr result (IsTextFault text.now) }
+/// The plan whose text is read to the end of an input of this name.
+fn plan_from<'a, R: Read>(
+    alloc: Global,
+    name: &'a str,
+    input: &mut Watched<R>,
+) -> Result<Plan, CliFault<'a>>
+    ensures found { IfOk result (λ plan. (text : List ℕ) → R.remaining (device_of input.old) ≡ Some text → IsPlanText text (parts_of plan)) }
+    ensures ended { OnOk result (IsAtEnd (R.remaining (device_of input.new))) }
+    ensures none { IfErr result (IsNoPlan name.now (reading_of R.remaining input.old input.new)) }
 {
-    let plan = match read_plan(alloc, text) {
-        Ok(plan) => plan,
-        Err(PlanFault::Memory) => return Err(CliFault::Memory),
-        Err(fault) => return Err(CliFault::Plan(fault)),
+    let text = match read_octets(alloc, input) {
+        Ok(text) => text,
+        Err(ReadFault::Memory) => return Err(CliFault::Memory),
+        Err(_) => return Err(CliFault::CannotRead(name)),
     };
-    match check(&plan.bookings, plan.channels, &plan) {
-        Ok(total) => Ok(total),
-        Err(fault) => Err(CliFault::Check(fault)),
+    match read_plan(alloc, &text) {
+        Ok(plan) => Ok(plan),
+        Err(PlanFault::Memory) => Err(CliFault::Memory),
+        Err(fault) => Err(CliFault::Plan(fault)),
     }
 }
 
@@ -43,30 +53,65 @@ fn write_proved<W: Write>(output: &mut Watched<W>, total: u64) -> Result<(), Wri
     write_octets(output, b"\n")
 }
 
-/// Reads a plan text to the end of the input, checks the plan against the bookings and channels that it states
-/// itself, and writes `proved `, the total and LF. Answers the total. At a refusal nothing was written, except that
-/// where the output failed a front of that line was.
-pub fn check_self<R: Read, W: Write>(
-    alloc: Global,
-    input: &mut Watched<R>,
+/// Checks the plan against these bookings and channels, and writes `proved `, the total and LF.
+fn judge<'a, W: Write>(
+    plan: &Plan,
+    bookings: &Bookings,
+    channels: ChannelSet,
     output: &mut Watched<W>,
-) -> Result<u64, CliFault<'static>>
-    // What was read to its end is the text of a plan that is proved with this total.
-    ensures proved { IfOk result (λ total. (text : List ℕ) → R.remaining (device_of input.old) ≡ Some text → IsProvedText text total) }
-    ensures read { OnOk result (IsAtEnd (R.remaining (device_of input.new))) }
+) -> Result<u64, CliFault<'a>>
+    ensures proved { IfOk result (IsProvedFor bookings.now channels (parts_of plan.now)) }
     ensures written { IfOk result (λ total. Appends (W.contents (device_of output.old)) (W.contents (device_of output.new)) (proved_line total)) }
-    ensures refused { IfErr result (IsRefusal
-        (record { before = R.remaining (device_of input.old); after = R.remaining (device_of input.new); is_faulted = is_faulted input.new; reads = reads_of input.new })
-        (record { before = W.contents (device_of output.old); after = W.contents (device_of output.new); is_faulted = is_faulted output.new })) }
+    ensures refused { IfErr result (IsJudged bookings.now channels (parts_of plan.now) (writing_of W.contents output.old output.new)) }
 {
-    let text = match read_octets(alloc, input) {
-        Ok(text) => text,
-        Err(ReadFault::Memory) => return Err(CliFault::Memory),
-        Err(_) => return Err(CliFault::CannotRead("-")),
+    let total = match check(bookings, channels, plan) {
+        Ok(total) => total,
+        Err(fault) => return Err(CliFault::Check(fault)),
     };
-    let total = proved_total(alloc, &text)?;
     match write_proved(output, total) {
         Ok(()) => Ok(total),
         Err(WriteFailed) => Err(CliFault::CannotWrite),
     }
+}
+
+/// Reads a plan text to the end of the input, checks the plan against the bookings and channels that it states
+/// itself, and writes `proved `, the total and LF. Answers the total. At a refusal nothing was written, except that
+/// where the output failed a front of that line was.
+pub fn check_self<'a, R: Read, W: Write>(
+    alloc: Global,
+    input: &mut Watched<R>,
+    output: &mut Watched<W>,
+) -> Result<u64, CliFault<'a>>
+    // What was read to its end is the text of a plan that is proved with this total.
+    ensures proved { IfOk result (λ total. (text : List ℕ) → R.remaining (device_of input.old) ≡ Some text → IsProvedText text total) }
+    ensures read { OnOk result (IsAtEnd (R.remaining (device_of input.new))) }
+    ensures written { IfOk result (λ total. Appends (W.contents (device_of output.old)) (W.contents (device_of output.new)) (proved_line total)) }
+    ensures refused { IfErr result (IsRefusal (reading_of R.remaining input.old input.new) (writing_of W.contents output.old output.new)) }
+{
+    let plan = match plan_from(alloc, "-", input) {
+        Ok(plan) => plan,
+        Err(fault) => return Err(fault),
+    };
+    judge(&plan, &plan.bookings, plan.channels, output)
+}
+
+/// The same against these bookings and channels. The name is that of the input in `CannotRead`.
+pub fn check_against<'a, R: Read, W: Write>(
+    alloc: Global,
+    name: &'a str,
+    bookings: &Bookings,
+    channels: ChannelSet,
+    input: &mut Watched<R>,
+    output: &mut Watched<W>,
+) -> Result<u64, CliFault<'a>>
+    ensures proved { IfOk result (λ total. (text : List ℕ) → R.remaining (device_of input.old) ≡ Some text → IsProvedAgainst bookings.now channels text total) }
+    ensures read { OnOk result (IsAtEnd (R.remaining (device_of input.new))) }
+    ensures written { IfOk result (λ total. Appends (W.contents (device_of output.old)) (W.contents (device_of output.new)) (proved_line total)) }
+    ensures refused { IfErr result (IsRefusalAgainst bookings.now channels name.now (reading_of R.remaining input.old input.new) (writing_of W.contents output.old output.new)) }
+{
+    let plan = match plan_from(alloc, name, input) {
+        Ok(plan) => plan,
+        Err(fault) => return Err(fault),
+    };
+    judge(&plan, bookings, channels, output)
 }

@@ -2,7 +2,7 @@
 
 ghost use Rattle.std.specs.Prelude.{◌≡◌, Ok, Err, IfOk, IfErr, OnOk};
 ghost use Rattle.hex.specs.Hex.{decode_of};
-ghost use Rattle.bx_base.specs.Watching.{device_of, is_faulted};
+ghost use Rattle.bx_base.specs.Devices.{writing_of};
 ghost use Rattle.bx_cli.specs.Decoding.{IsHexMessage, IsDecodeRefusal, IsHexFault};
 
 use crate::fault::CliFault;
@@ -66,8 +66,7 @@ pub fn decode<'a, W: io::Write>(
     output: &mut Watched<W>,
 ) -> Result<(), CliFault<'a>>
     ensures done { OnOk result (IsHexMessage text.now) }
-    ensures refused { IfErr result (IsDecodeRefusal text.now
-        (record { before = W.contents (device_of output.old); after = W.contents (device_of output.new); is_faulted = is_faulted output.new })) }
+    ensures refused { IfErr result (IsDecodeRefusal text.now (writing_of W.contents output.old output.new)) }
 {
     let octets = octets_of(alloc, text)?;
     let lines = match read(&octets) {

@@ -1,7 +1,10 @@
 //! Why a command was refused.
 
+use bx_base::ChannelFault;
+use bx_book::{BookFault, DayFault};
 use bx_check::CheckFault;
 use bx_planfile::PlanFault;
+use bx_planner::RunFault;
 use bx_q931::MessageFault;
 use thiserror::Error;
 
@@ -15,6 +18,18 @@ pub enum CliFault<'a> {
     /// Standard output failed, or took none of what was written.
     #[error("F2 CannotWrite")]
     CannotWrite,
+    /// A number of the list of channels is no B channel, or stands there twice.
+    #[error("{0}")]
+    Channels(ChannelFault),
+    /// The date and the zone name no day.
+    #[error("{0}")]
+    Day(DayFault),
+    /// What was read is no booking text of the day.
+    #[error("{0}")]
+    Book(BookFault),
+    /// The planning run was refused.
+    #[error("{0}")]
+    Run(RunFault),
     /// What was read is no plan text.
     #[error("{0}")]
     Plan(PlanFault),

@@ -1,28 +1,30 @@
-//! What a command line asks for, read by `clap`.
+//! What a command line asks for.
 
+use crate::channel_list::channel_numbers;
+use crate::commands::commands;
 use clap::error::ErrorKind;
-use clap::{Arg, ArgMatches, Command, Error};
+use clap::{ArgMatches, Error};
 use std::alloc::{AllocError, AllocFailed, Global};
 
-const VERSION: &str = "0.1.0";
-
-const ABOUT: &str =
-    "Booked calls on one ISDN primary rate interface: plans that are proved best, and the messages of Q.931.
-
-Without words, reads a plan text on standard input, checks it against the bookings and channels that it states itself, and prints `proved ` and the total.";
-
-const USAGE: &str = "bx < PLAN
-       bx <COMMAND>";
-
-const AFTER: &str = "Examples:
-  bx < plan.txt
-  bx decode 080280015A08028091
-
-Status: 0 done, 1 refused (one line on standard error says why), 2 wrong words.";
+/// The day and the channels of a plan, as the words name them.
+#[derive(Drop)]
+pub struct Terms<'a> {
+    pub date: &'a str,
+    pub zone: &'a str,
+    pub channels: Vec<u8>,
+}
 
 /// One command, with its words.
-#[derive(Clone, Copy, Debug, PartialEq, Eq)]
+#[derive(Drop)]
 pub enum Request<'a> {
+    /// Print the best plan of the bookings in this file.
+    Plan { terms: Terms<'a>, bookings: &'a str },
+    /// Check the plan in one file against the bookings in another.
+    Check {
+        terms: Terms<'a>,
+        bookings: &'a str,
+        plan: &'a str,
+    },
     /// Print what a message says.
     Decode { octets: &'a str },
 }
@@ -50,37 +52,6 @@ impl<T: Drop> From<AllocFailed<T>> for Refusal {
     }
 }
 
-fn decode<'a>(alloc: Global) -> Result<Command<'a>, AllocError> {
-    let octets = Arg::new(alloc, "octets")
-        .value_name("HEX")
-        .required(true)
-        .help("The octets of the message, in hexadecimal");
-    Command::new(alloc, "decode")
-        .about("Print the type, the reference and the elements of a Q.931 message")
-        .arg(octets)
-}
-
-fn commands<'a>(alloc: Global) -> Result<Command<'a>, AllocError> {
-    Command::new(alloc, "bx")
-        .no_binary_name(true)
-        .bin_name("bx")?
-        .override_usage(USAGE)
-        .subcommand_required(true)
-        .version(VERSION)
-        .about(ABOUT)
-        .after_help(AFTER)
-        .subcommand(decode(alloc)?)
-}
-
-fn request_of<'a>(matches: &ArgMatches<'a>) -> Option<Request<'a>> {
-    match matches.subcommand()? {
-        ("decode", found) => Some(Request::Decode {
-            octets: found.get_str("octets")?,
-        }),
-        _ => None,
-    }
-}
-
 /// Help that was asked for, or what is wrong with the words.
 fn refusal_of(alloc: Global, error: Error) -> Refusal {
     if error.kind() == ErrorKind::OutOfMemory {
@@ -93,11 +64,64 @@ fn refusal_of(alloc: Global, error: Error) -> Refusal {
     }
 }
 
+/// Wrong words, in the form of `clap`'s own refusals.
+fn wrong(alloc: Global, message: &str) -> Refusal {
+    let Ok(mut command) = commands(alloc) else {
+        return Refusal::Memory;
+    };
+    match command.error(ErrorKind::ValueValidation, message) {
+        Ok(error) => refusal_of(alloc, error),
+        Err(_) => Refusal::Memory,
+    }
+}
+
+/// The word of an argument that the command requires or has a default for.
+fn word<'a>(matches: &ArgMatches<'a>, name: &str) -> &'a str {
+    matches.get_str(name).unwrap_or("")
+}
+
+/// The day and the channels that these words name.
+fn terms_of<'a>(alloc: Global, matches: &ArgMatches<'a>) -> Result<Terms<'a>, Refusal> {
+    let list = word(matches, "channels");
+    match channel_numbers(alloc, list)? {
+        Some(channels) => Ok(Terms {
+            date: word(matches, "date"),
+            zone: word(matches, "zone"),
+            channels,
+        }),
+        None => {
+            let message = format!(in alloc; "invalid value '{list}' for '--channels <LIST>': not `none`, and no list of numbers and ranges of one or two digits")?;
+            Err(wrong(alloc, &message))
+        }
+    }
+}
+
+fn request_of<'a>(
+    alloc: Global,
+    name: &str,
+    matches: &ArgMatches<'a>,
+) -> Result<Request<'a>, Refusal> {
+    match name {
+        "plan" => Ok(Request::Plan {
+            terms: terms_of(alloc, matches)?,
+            bookings: word(matches, "bookings"),
+        }),
+        "check" => Ok(Request::Check {
+            terms: terms_of(alloc, matches)?,
+            bookings: word(matches, "bookings"),
+            plan: word(matches, "plan"),
+        }),
+        _ => Ok(Request::Decode {
+            octets: word(matches, "octets"),
+        }),
+    }
+}
+
 /// The command of these words, which stand behind the program's name.
 pub fn read_words<'a>(alloc: Global, words: &'a [&'a str]) -> Result<Request<'a>, Refusal> {
     match commands(alloc)?.try_get_matches_from(words) {
-        Ok(matches) => match request_of(&matches) {
-            Some(request) => Ok(request),
+        Ok(matches) => match matches.subcommand() {
+            Some((name, found)) => request_of(alloc, name, found),
             None => Err(Refusal::Wrong(String::new(alloc))),
         },
         Err(error) => Err(refusal_of(alloc, error)),

@@ -1,3 +1,4 @@
 pub mod Musts
 pub mod Prices
 pub mod Choices
+pub mod Running

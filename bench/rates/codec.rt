@@ -1,18 +1,4 @@
-#!/bin/sh
-# Messages read, decoded and written per second on one core, for a SETUP of 22 octets. It builds a
-# program in a scratch folder, over copies of the crates, and prints three rates.
-set -eu
-top=$(cd "$(dirname "$0")/.." && pwd)
-scratch=$(mktemp -d)
-trap 'rm -rf "$scratch"' EXIT
-mkdir -p "$scratch/crates/codec_rate/src"
-cp -r "$top/crates/bx_base" "$top/crates/bx_q931" "$scratch/crates/"
-cp "$top/HANDLES" "$scratch/"
-{
-    grep -E '^(bx_base|bx_q931):' "$top/crates.txt"
-    echo 'codec_rate: bx_base bx_q931'
-} > "$scratch/crates.txt"
-cat > "$scratch/crates/codec_rate/src/main.rt" <<'PROGRAM'
+//! Messages read, decoded and written, a SETUP of 22 octets each.
 #![tactic(auto)]
 
 use bx_base::{Channel, Number};
@@ -77,25 +63,17 @@ fn encode_all(number: Number) -> u32 {
     sum
 }
 
-fn main(rt: HostRuntime) -> io::Result<()> {
-    let start = Instant::now(&rt)?;
-    let sum = read_all();
-    let time = start.elapsed(&rt)?.as_millis();
-    println!(rt; "read {ROUNDS} in {time} ms ({sum})")?;
-    let start = Instant::now(&rt)?;
-    let sum = decode_all();
-    let time = start.elapsed(&rt)?.as_millis();
-    println!(rt; "decoded {ROUNDS} in {time} ms ({sum})")?;
-    if let Some(number) = Number::new(b"1234") {
-        let start = Instant::now(&rt)?;
-        let sum = encode_all(number);
-        let time = start.elapsed(&rt)?.as_millis();
-        println!(rt; "written {ROUNDS} in {time} ms ({sum})")?;
-    }
-    Ok(())
+/// Prints how long the sum took.
+fn report(rt: &HostRuntime, name: &str, start: Instant, sum: u32) -> io::Result<()> {
+    let time = start.elapsed(rt)?.as_millis();
+    println!(rt; "= {name} {ROUNDS} in {time} ms ({sum})")
 }
-PROGRAM
-: > "$scratch/crates/codec_rate/stdout"
-cd "$scratch/crates/codec_rate"
-rt run > "$scratch/log" 2>&1 || { tail -20 "$scratch/log"; exit 1; }
-grep -E '^(read|decoded|written) ' "$scratch/log"
+
+fn main(rt: HostRuntime) -> io::Result<()> {
+    report(&rt, "read", Instant::now(&rt)?, read_all())?;
+    report(&rt, "decoded", Instant::now(&rt)?, decode_all())?;
+    match Number::new(b"1234") {
+        Some(number) => report(&rt, "written", Instant::now(&rt)?, encode_all(number)),
+        None => Ok(()),
+    }
+}

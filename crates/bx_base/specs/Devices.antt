@@ -1,0 +1,30 @@
+-- A reader and a writer before and after a call, with the octets that they tell.
+use Rattle.std.specs.Prelude.{ℕ, Bool, List, Option}
+use Rattle.std.specs.Io.KnownBytes.{Keeps}
+use Rattle.bx_base.specs.Watching.{device_of, is_faulted, reads_of}
+use Rattle.bx_base.specs.declared.watched.Watched.{Watched}
+
+-- a reader before and after: the octets that are left, whether it is faulted afterwards, and how many reads it has seen
+pub record Reading : Type 0 where
+  pub before : Option (List ℕ)
+  pub after : Option (List ℕ)
+  pub is_faulted : Bool
+  pub reads : ℕ
+
+-- the same of a watched reader
+abbrev pub reading_of : {R : Type 0} → (R → Option (List ℕ)) → Watched R → Watched R → Reading
+reading_of remaining old new = record { before = remaining (device_of old); after = remaining (device_of new); is_faulted = is_faulted new; reads = reads_of new }
+
+-- a writer before and after: the octets that it holds, and whether it is faulted afterwards
+pub record Writing : Type 0 where
+  pub before : Option (List ℕ)
+  pub after : Option (List ℕ)
+  pub is_faulted : Bool
+
+-- the same of a watched writer
+abbrev pub writing_of : {W : Type 0} → (W → Option (List ℕ)) → Watched W → Watched W → Writing
+writing_of contents old new = record { before = contents (device_of old); after = contents (device_of new); is_faulted = is_faulted new }
+
+-- nothing was written
+abbrev pub KeepsOutput : Writing → Type 0
+KeepsOutput output = Keeps output.before output.after

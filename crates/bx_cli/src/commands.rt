@@ -1,0 +1,95 @@
+//! The command line as `clap` knows it.
+
+use clap::{Arg, Command};
+use std::alloc::{AllocError, Global};
+
+const VERSION: &str = "0.1.0";
+
+const ABOUT: &str =
+    "Booked calls on one ISDN primary rate interface: plans that are proved best, and the messages of Q.931.
+
+Without words, reads a plan text on standard input, checks it against the bookings and channels that it states itself, and prints `proved ` and the total.";
+
+const USAGE: &str = "bx < PLAN
+       bx <COMMAND>";
+
+const AFTER: &str = "Examples:
+  bx plan --date 2026-03-29 --zone CET-1CEST,M3.5.0,M10.5.0/3 day.csv > plan.txt
+  bx check --date 2026-03-29 --zone CET-1CEST,M3.5.0,M10.5.0/3 day.csv plan.txt
+  bx < plan.txt
+  bx decode 080280015A08028091
+
+Status: 0 done, 1 refused (one line on standard error says why), 2 wrong words.";
+
+/// The options that say which day and which channels.
+fn with_terms<'a>(alloc: Global, command: Command<'a>) -> Result<Command<'a>, AllocError> {
+    let date = Arg::new(alloc, "date")
+        .long("date")
+        .required(true)
+        .value_name("DATE")
+        .help("The day of the bookings, as YYYY-MM-DD");
+    let zone = Arg::new(alloc, "zone")
+        .long("zone")
+        .value_name("RULE")
+        .default_value("UTC0")
+        .help("The zone of its midnights, as a POSIX rule like CET-1CEST,M3.5.0,M10.5.0/3");
+    let channels = Arg::new(alloc, "channels")
+        .long("channels")
+        .value_name("LIST")
+        .default_value("1-15,17-31")
+        .help("The B channels in service: numbers and ranges separated by commas, or none");
+    command.arg(date)?.arg(zone)?.arg(channels)
+}
+
+fn with_bookings<'a>(alloc: Global, command: Command<'a>) -> Result<Command<'a>, AllocError> {
+    let bookings = Arg::new(alloc, "bookings")
+        .value_name("BOOKINGS")
+        .required(true)
+        .help("The file of bookings: CSV under the header start,end,number,pay[,must[,direction]]");
+    command.arg(bookings)
+}
+
+fn with_plan<'a>(alloc: Global, command: Command<'a>) -> Result<Command<'a>, AllocError> {
+    let plan = Arg::new(alloc, "plan")
+        .value_name("PLAN")
+        .required(true)
+        .help("The file of the plan's text");
+    command.arg(plan)
+}
+
+fn plan<'a>(alloc: Global) -> Result<Command<'a>, AllocError> {
+    let plan = Command::new(alloc, "plan").about("Print the best plan of a day's bookings");
+    with_bookings(alloc, with_terms(alloc, plan)?)
+}
+
+fn check<'a>(alloc: Global) -> Result<Command<'a>, AllocError> {
+    let check = Command::new(alloc, "check")
+        .about("Check a plan against a day's bookings, and print `proved ` and the total");
+    let check = with_bookings(alloc, with_terms(alloc, check)?)?;
+    with_plan(alloc, check)
+}
+
+fn decode<'a>(alloc: Global) -> Result<Command<'a>, AllocError> {
+    let octets = Arg::new(alloc, "octets")
+        .value_name("HEX")
+        .required(true)
+        .help("The octets of the message, in hexadecimal");
+    Command::new(alloc, "decode")
+        .about("Print the type, the reference and the elements of a Q.931 message")
+        .arg(octets)
+}
+
+/// The program's command line.
+pub fn commands<'a>(alloc: Global) -> Result<Command<'a>, AllocError> {
+    Command::new(alloc, "bx")
+        .no_binary_name(true)
+        .bin_name("bx")?
+        .override_usage(USAGE)
+        .subcommand_required(true)
+        .version(VERSION)
+        .about(ABOUT)
+        .after_help(AFTER)
+        .subcommand(plan(alloc)?)?
+        .subcommand(check(alloc)?)?
+        .subcommand(decode(alloc)?)
+}

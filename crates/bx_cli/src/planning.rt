@@ -1,0 +1,78 @@
+//! The commands on a file of bookings.
+
+use crate::checking::check_against;
+use crate::fault::CliFault;
+use crate::request::Terms;
+use bx_base::{Bookings, ChannelSet, Watched};
+use bx_book::{Day, StreamFault, read_bookings_from};
+use bx_planner::plan_run;
+use std::alloc::Global;
+use std::fs;
+use std::fs::Files;
+use std::io::{Read, Write};
+
+/// The channels and the day that the words name.
+fn channels_and_day<'a>(terms: &Terms<'_>) -> Result<(ChannelSet, Day), CliFault<'a>> {
+    let channels = match ChannelSet::from_numbers(&terms.channels) {
+        Ok(channels) => channels,
+        Err(fault) => return Err(CliFault::Channels(fault)),
+    };
+    match Day::new(terms.date, terms.zone) {
+        Ok(day) => Ok((channels, day)),
+        Err(fault) => Err(CliFault::Day(fault)),
+    }
+}
+
+/// The file of this name, to be read.
+fn open<'a, H: Files>(rt: &H, name: &'a str) -> Result<Watched<H::File>, CliFault<'a>> {
+    match fs::open(rt, name) {
+        Ok(file) => Ok(Watched::new(file)),
+        Err(_) => Err(CliFault::CannotRead(name)),
+    }
+}
+
+/// Writes the plan of the bookings in a file.
+pub fn plan_file<'a, H: Files + AllocGlobal, W: Write>(
+    rt: &H,
+    terms: &Terms<'_>,
+    bookings: &'a str,
+    output: &mut Watched<W>,
+) -> Result<(), CliFault<'a>> {
+    let (channels, day) = channels_and_day(terms)?;
+    let mut input = open(rt, bookings)?;
+    match plan_run(rt.alloc(), &mut input, output, &day, channels) {
+        Ok(_) => Ok(()),
+        Err(fault) => Err(CliFault::Run(fault)),
+    }
+}
+
+/// The bookings in a file of this name.
+fn bookings_in<'a, R: Read>(
+    alloc: Global,
+    name: &'a str,
+    input: &mut Watched<R>,
+    day: &Day,
+) -> Result<Bookings, CliFault<'a>> {
+    match read_bookings_from(alloc, input, day) {
+        Ok(bookings) => Ok(bookings),
+        Err(StreamFault::Book(fault)) => Err(CliFault::Book(fault)),
+        Err(StreamFault::Memory) => Err(CliFault::Memory),
+        Err(_) => Err(CliFault::CannotRead(name)),
+    }
+}
+
+/// Checks the plan in one file against the bookings in another, and writes `proved `, the total and LF.
+pub fn check_file<'a, H: Files + AllocGlobal, W: Write>(
+    rt: &H,
+    terms: &Terms<'_>,
+    bookings: &'a str,
+    plan: &'a str,
+    output: &mut Watched<W>,
+) -> Result<(), CliFault<'a>> {
+    let (channels, day) = channels_and_day(terms)?;
+    let mut input = open(rt, bookings)?;
+    let rows = bookings_in(rt.alloc(), bookings, &mut input, &day)?;
+    let mut input = open(rt, plan)?;
+    check_against(rt.alloc(), plan, &rows, channels, &mut input, output)?;
+    Ok(())
+}
