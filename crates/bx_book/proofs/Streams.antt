@@ -1,5 +1,5 @@
 -- What is known of a reader from what was counted of it.
-use Rattle.std.proofs.Common.{◌≡◌, ◌≢◌, ◌∙◌, ◌⊎◌, inl, inr, ◌≤◌, ◌==◌, ◌||◌, nat_lt, Bool, true, false, ℕ, zero, suc, List, [], ◌∷◌, ◌++◌, Option, Some, None, IfSome, length, take, drop, sym, ap, refl, arith, length-drop, append-nil}
+use Rattle.std.proofs.Common.{◌≡◌, ◌≢◌, ◌∙◌, ◌⊎◌, inl, inr, ◌≤◌, Bool, true, false, ℕ, zero, suc, List, [], ◌∷◌, Option, Some, None, IfSome, length, take, drop, sym, ap, refl, arith, length-drop, append-nil}
 use Rattle.std.proofs.lemmas.List.{take-append-drop, length-take-le}
 use Rattle.std.proofs.lemmas.Bool.Decides.{nat_tests}
 use Rattle.csv.specs.Reading.{strip_bom}
@@ -10,7 +10,7 @@ use Rattle.bx_base.specs.Bookings.{Row}
 use Rattle.bx_book.specs.Passed.{HasPassed, HasNoneLeft, is_spent}
 use Rattle.bx_book.specs.Rows.{Span}
 use Rattle.bx_book.specs.Texts.{IsBook, IsBookFault}
-use Rattle.bx_base.specs.Devices.{Reading, reading_of}
+use Rattle.bx_base.specs.Devices.{reading_of}
 use Rattle.bx_book.specs.Streams.{IsWhole, IsBookRead, IsStreamFault, IsMeterFault, told_as}
 use Rattle.bx_book.specs.declared.fault.BookFault.{BookFault}
 use Rattle.bx_book.specs.declared.fault.BookFault.TheVariants as f

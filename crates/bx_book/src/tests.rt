@@ -1,7 +1,10 @@
 //! Days and booking texts with what is known of them.
 
-use crate::{BookFault, Day, DayFault, read_bookings};
+use crate::{BookFault, Day, DayFault, StreamFault, read_bookings, read_bookings_from};
+use bx_base::{Bookings, Failing, Watched};
 use std::alloc::{AllocError, Global};
+use std::io;
+use std::io::Read;
 use std::test::Fail;
 
 fn day_is(date: &str, zone: &str, start: i64, length: u32) -> bool {
@@ -176,5 +179,112 @@ fn ends_of_odd_days(rt: HostRuntime) -> Result<(), Fail> {
     let text =
         "\u{feff}start,end,number,pay\n2026-03-29T00:00:00+01:00,2026-03-29T22:00:00Z,1234,5\n";
     assert_eq!(rt; end_of(rt.alloc(), text, &short), Some(82_800));
+    Ok(())
+}
+
+/// Reads from a reader that gives at most so many octets a read, and fails after so many reads.
+fn streamed(
+    alloc: Global,
+    text: &[u8],
+    calls: u32,
+    most: usize,
+    day: &Day,
+) -> Result<Bookings, StreamFault> {
+    let mut reader = Watched::new(Failing::new(text, calls, most));
+    let read = read_bookings_from(alloc, &mut reader, day);
+    if reader.faulted() {
+        return match read {
+            Err(StreamFault::ReadFailed) => read,
+            _ => Err(StreamFault::Memory),
+        };
+    }
+    read
+}
+
+#[test]
+fn streams_that_give_little(rt: HostRuntime) -> Result<(), Fail> {
+    let day = Day::new("2026-01-05", "UTC0")?;
+    let text = b"start,end,number,pay\n2026-01-05T00:00:00Z,2026-01-05T00:01:00Z,1234,5";
+    let bookings = streamed(rt.alloc(), text, 100, 1, &day)?;
+    assert_eq!(rt; bookings.len(), 1);
+    let booking = bookings.nth(0);
+    assert_eq!(rt; (booking.start(), booking.end(), booking.pay()), (0, 60, 5));
+    for calls in 0..=text.len() as u32 {
+        let read = streamed(rt.alloc(), text, calls, 1, &day);
+        assert!(rt; matches!(read, Err(StreamFault::ReadFailed)), "{calls}");
+    }
+    let wrong = b"start,end,number,pay\n2026-01-05T00:00:00Z,2026-01-05T00:01:00Z,12a,5\nstart\n\n";
+    let refusals = [
+        (wrong.as_slice(), 76, 1, "G1 ReadFailed"),
+        (wrong, 77, 1, "B7 BadNumber 1"),
+        (wrong, 3, 50, "G1 ReadFailed"),
+        (wrong, 4, 50, "B7 BadNumber 1"),
+        (b"", 1, 9, "B1 BadHeader"),
+        (wrong, 1, 0, "B1 BadHeader"),
+    ];
+    for (text, calls, most, printed) in refusals {
+        let Err(fault) = streamed(rt.alloc(), text, calls, most, &day) else {
+            return Err(Fail::new("no fault"));
+        };
+        assert_eq!(rt;
+            fault.to_string(rt.alloc())?.as_str(),
+            printed,
+            "{calls} {most}"
+        );
+    }
+    Ok(())
+}
+
+fn with_blank_lines(alloc: Global, front: &[u8], lines: usize) -> Result<Vec<u8>, AllocError> {
+    let mut text = Vec::new(alloc);
+    text.extend_from_slice(front)?;
+    let blank = vec![in alloc; b'\n'; lines]?;
+    text.extend_from_slice(&blank)?;
+    Ok(text)
+}
+
+#[test]
+fn texts_at_the_limit(rt: HostRuntime) -> Result<(), Fail> {
+    let alloc = rt.alloc();
+    let day = Day::new("2026-01-05", "UTC0")?;
+    let texts = [
+        (4_194_284, b"start,end,number,pay".as_slice(), "none", 0),
+        (4_194_299, b"start", "B1 BadHeader", 0),
+        (4_194_304, b"start", "G2 TooLong", 4),
+        (4_194_285, b"start,end,number,pay", "G2 TooLong", 0),
+    ];
+    for (lines, front, printed, left) in texts {
+        let text = with_blank_lines(alloc, front, lines)?;
+        let mut reader = Watched::new(text.as_slice());
+        match read_bookings_from(alloc, &mut reader, &day) {
+            Ok(bookings) => assert!(rt; bookings.len() == 0 && printed == "none"),
+            Err(fault) => assert_eq!(rt; fault.to_string(alloc)?.as_str(), printed),
+        }
+        assert_eq!(rt; reader.into_inner().len(), left);
+    }
+    let mut endless = Watched::new(io::repeat(b'7'));
+    match read_bookings_from(alloc, &mut endless, &day) {
+        Err(fault) => assert!(rt; fault == StreamFault::TooLong),
+        Ok(_) => return Err(Fail::new("no fault")),
+    }
+    Ok(())
+}
+
+#[test]
+fn readers_at_their_last_read(rt: HostRuntime) -> Result<(), Fail> {
+    let day = Day::new("2026-01-05", "UTC0")?;
+    let mut reader = Watched::new(b"".as_slice());
+    for _ in 0..8_388_607u32 {
+        reader.read(&mut [])?;
+    }
+    let last = read_bookings_from(rt.alloc(), &mut reader, &day);
+    assert!(rt; matches!(last, Err(StreamFault::Book(BookFault::BadHeader))));
+    let late = read_bookings_from(rt.alloc(), &mut reader, &day);
+    assert!(rt; matches!(late, Err(StreamFault::ReadFailed)));
+    assert!(rt; !reader.faulted());
+    assert_eq!(rt;
+        StreamFault::Memory.to_string(rt.alloc())?.as_str(),
+        "Memory"
+    );
     Ok(())
 }

@@ -1,4 +1,4 @@
-use Rattle.std.proofs.Common.{◌≡◌, rules, ◌⊎◌, true, Err, IfSome}
+use Rattle.std.proofs.Common.{◌≡◌, rules, ◌⊎◌, true, IfSome}
 use Rattle.csv.specs.Reading.{strip_bom}
 use Rattle.bx_base.specs.Watching.{device_of, is_faulted, reads_of}
 use Rattle.bx_book.specs.Rows.{span_of}
