@@ -13,3 +13,5 @@ pub mod Received
 pub mod WritingSteps
 pub mod ToldLines
 pub mod Quiet
+pub mod Replays
+pub mod Openings

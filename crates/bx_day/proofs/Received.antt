@@ -25,6 +25,7 @@ use Rattle.bx_day.specs.declared.entry.Standing.{Standing}
 use Rattle.bx_day.specs.declared.entry.Standing.TheVariants.{Refused, Unoffered, OnCall, Carried, Unanswered, Missed}
 use Rattle.bx_day.specs.Invariant.{StandingFits, EntryFits, OriginFits, DayFits, is_refused}
 use Rattle.bx_day.specs.Reading.{IsExchange, Seated}
+use Rattle.bx_day.specs.Calling.{awaits}
 use Rattle.bx_day.proofs.Indices.{index_found, index_none}
 use Rattle.bx_day.proofs.Receive.{all_at, OpenAt, open_parts, open_index, open_lowest, open_or, takes_fits, received_fits, hears_refused}
 use Rattle.bx_day.proofs.Tick.{with_standing}
@@ -120,10 +121,6 @@ free_unheld d c o e none = ap (λ (b : Bool). not b && not (is_set d.maintenance
 
 pub free_held : (d : Day) (c : ℕ) (o : Option ℕ) → o ≡ index_of (holds c) d.entries → is_some o ≡ true → false ≡ is_free d c
 free_held d c o e some = ap (λ (b : Bool). not b && not (is_set d.maintenance c)) (sym (held_index c d.entries ∙ ap is_some (sym e) ∙ some))
-
--- an inward booking of a channel that waits for its call
-abbrev pub awaits : ℕ → ℕ → Entry → Bool
-awaits t c e = is_unoffered e.standing && e.booking.inward && is_running e.booking t && (e.channel == c)
 
 opens_free : (d : Day) (c : ℕ) (e : Entry) → is_free d c ≡ true → opens d c e ≡ awaits d.moment c e
 opens_free d c e free = step (is_unoffered e.standing && e.booking.inward && is_running e.booking d.moment) (is_free d e.channel) (e.channel == c) (λ same. subst (λ (n : ℕ). is_free d n ≡ true) (sym (eqb-true e.channel c same)) free)

@@ -9,3 +9,5 @@ pub mod Passing
 pub mod Telling
 pub mod Writing
 pub mod Quiet
+pub mod Replaying
+pub mod Calling

@@ -1,18 +1,20 @@
 //! The day of an exchange: what becomes of each booking of a plan, tick by tick and message by message. The
 //! definitions are over all bookings at once; `laws` holds over every list of events. `Exchange` is the day
-//! in memory, and `moving` what one event does to one booking.
+//! in memory, and `replay` one over a list of events.
 #![tactic(auto)]
 
+mod calling;
 mod entry;
 mod exchange;
 pub mod laws;
-pub mod moving;
+mod moving;
 mod opening;
 mod outcome;
 mod outcome_lines;
 #[cfg(test)]
 mod receive_tests;
 mod receiving;
+mod replaying;
 mod scheduling;
 #[cfg(test)]
 mod tests;
@@ -20,6 +22,6 @@ mod tests;
 mod tick_tests;
 mod ticking;
 
-pub use entry::{Activity, Entry, Moved, Standing};
 pub use exchange::Exchange;
 pub use outcome::Outcome;
+pub use replaying::{Event, Replayed, replay};

@@ -1,7 +1,9 @@
 //! What no clause says of receipts: worked octets, and that hostile ones are harmless.
 
-use crate::{Exchange, Outcome};
-use bx_base::{Booking, Bookings, Channel, ChannelSet, Number, Plan};
+use crate::{Event, Exchange, Outcome, replay};
+use bx_base::{
+    Booking, Bookings, Channel, ChannelSet, Failing, Number, Plan, Watched, WriteFailed,
+};
 use std::alloc::Global;
 use std::test::Fail;
 
@@ -54,89 +56,360 @@ const STRANGERS: [Receipt<'static>; 13] = [
     (&[0x08, 0x02, 0x80, 0x05, 0x05, 0x04, 0x02, 0x88, 0x90], &[]),
 ];
 
-/// Of an inward booking on channel 1 that runs: it is called, and other calls are refused.
-const CALLS: [Receipt<'static>; 6] = [
-    // channel 2 alone
-    (
-        &[
-            0x08, 0x02, 0x00, 0x08, 0x05, 0x04, 0x02, 0x88, 0x90, 0x18, 0x03, 0xA9, 0x83, 0x82,
-        ],
-        &[0x08, 0x02, 0x80, 0x08, 0x5A, 0x08, 0x02, 0x82, 0xAC],
-    ),
-    (
-        &SETUP,
-        &[0x08, 0x02, 0x80, 0x07, 0x02, 0x18, 0x03, 0xA9, 0x83, 0x81],
-    ),
-    // the same again, and then any channel
-    (&SETUP, &[]),
-    (
-        &[0x08, 0x02, 0x00, 0x08, 0x05, 0x04, 0x02, 0x88, 0x90],
-        &[0x08, 0x02, 0x80, 0x08, 0x5A, 0x08, 0x02, 0x82, 0xA2],
-    ),
-    (
-        &[
-            0x08, 0x02, 0x00, 0x08, 0x05, 0x04, 0x02, 0x88, 0x90, 0x18, 0x03, 0xA9, 0x83, 0x82,
-        ],
-        &[0x08, 0x02, 0x80, 0x08, 0x5A, 0x08, 0x02, 0x82, 0xAC],
-    ),
-    // DISCONNECT of the call, whose flag is 0
-    (
-        &[0x08, 0x02, 0x00, 0x07, 0x45, 0x08, 0x02, 0x80, 0x90],
-        &[0x08, 0x02, 0x80, 0x07, 0x4D],
-    ),
+/// The SETUP of the first row, its answer, and the answer to that.
+const OFFER: [u8; 22] = [
+    0x08, 0x02, 0x00, 0x01, 0x05, 0xA1, 0x04, 0x02, 0x88, 0x90, 0x18, 0x03, 0xA9, 0x83, 0x81, 0x70,
+    0x05, 0x81, 0x31, 0x32, 0x33, 0x34,
 ];
 
-/// The opening of a day with one booking on channel 1.
-fn opening(alloc: Global, inward: bool) -> Result<Exchange, Fail> {
+const CONNECT: [u8; 5] = [0x08, 0x02, 0x80, 0x01, 0x07];
+
+const ACKNOWLEDGE: [u8; 5] = [0x08, 0x02, 0x00, 0x01, 0x0F];
+
+/// Bookings on channel 1, by start, end and whether they are inward; for each step the moment, what comes
+/// (nothing: ticks to that moment, all silent but the last) and what is sent; what is told in the end.
+struct Day<'a> {
+    bookings: &'a [(u32, u32, bool)],
+    steps: &'a [(u32, &'a [u8], &'a [u8])],
+    told: &'a str,
+}
+
+const DAYS: [Day<'static>; 10] = [
+    // answered, and the answer again: STATUS
+    Day {
+        bookings: &[(0, 60, false)],
+        steps: &[
+            (1, &[], &OFFER),
+            (1, &CONNECT, &ACKNOWLEDGE),
+            (
+                1,
+                &CONNECT,
+                &[
+                    0x08, 0x02, 0x00, 0x01, 0x7D, 0x08, 0x02, 0x82, 0xE5, 0x14, 0x01, 0x0A,
+                ],
+            ),
+        ],
+        told: "1 live\nmaintenance none\n",
+    },
+    // another channel is named
+    Day {
+        bookings: &[(0, 60, false)],
+        steps: &[
+            (1, &[], &OFFER),
+            (
+                1,
+                &[0x08, 0x02, 0x80, 0x01, 0x07, 0x18, 0x03, 0xA9, 0x83, 0x82],
+                &[0x08, 0x02, 0x00, 0x01, 0x4D, 0x08, 0x02, 0x82, 0x86],
+            ),
+        ],
+        told: "1 live\nmaintenance none\n",
+    },
+    // the first of two counts
+    Day {
+        bookings: &[(0, 60, false)],
+        steps: &[
+            (1, &[], &OFFER),
+            (
+                1,
+                &[
+                    0x08, 0x02, 0x80, 0x01, 0x07, 0x18, 0x03, 0xA9, 0x83, 0x81, 0x18, 0x03, 0xA9,
+                    0x83, 0x82,
+                ],
+                &ACKNOWLEDGE,
+            ),
+        ],
+        told: "1 live\nmaintenance none\n",
+    },
+    // behind a locking shift
+    Day {
+        bookings: &[(0, 60, false)],
+        steps: &[
+            (1, &[], &OFFER),
+            (
+                1,
+                &[
+                    0x08, 0x02, 0x80, 0x01, 0x07, 0x96, 0x18, 0x03, 0xA9, 0x83, 0x82,
+                ],
+                &ACKNOWLEDGE,
+            ),
+        ],
+        told: "1 live\nmaintenance none\n",
+    },
+    // behind a shift of one element
+    Day {
+        bookings: &[(0, 60, false)],
+        steps: &[
+            (1, &[], &OFFER),
+            (
+                1,
+                &[
+                    0x08, 0x02, 0x80, 0x01, 0x07, 0x9E, 0x18, 0x03, 0xA9, 0x83, 0x82, 0x18, 0x03,
+                    0xA9, 0x83, 0x81,
+                ],
+                &ACKNOWLEDGE,
+            ),
+        ],
+        told: "1 live\nmaintenance none\n",
+    },
+    // no answer to the release: its channel is lost to the next
+    Day {
+        bookings: &[(100, 200, false), (200, 300, false)],
+        steps: &[
+            (100, &[], &OFFER),
+            (100, &CONNECT, &ACKNOWLEDGE),
+            (
+                200,
+                &[],
+                &[0x08, 0x02, 0x00, 0x01, 0x45, 0x08, 0x02, 0x82, 0x90],
+            ),
+            (
+                230,
+                &[],
+                &[0x08, 0x02, 0x00, 0x01, 0x4D, 0x08, 0x02, 0x82, 0x90],
+            ),
+            (
+                234,
+                &[],
+                &[0x08, 0x02, 0x00, 0x01, 0x4D, 0x08, 0x02, 0x82, 0x90],
+            ),
+            (238, &[], &[]),
+            (300, &[], &[]),
+        ],
+        told: "1 carried 100 200\n2 missed\nmaintenance 1\n",
+    },
+    // released at the end: the next has its channel a second later
+    Day {
+        bookings: &[(100, 200, false), (200, 300, false)],
+        steps: &[
+            (100, &[], &OFFER),
+            (100, &CONNECT, &ACKNOWLEDGE),
+            (
+                200,
+                &[],
+                &[0x08, 0x02, 0x00, 0x01, 0x45, 0x08, 0x02, 0x82, 0x90],
+            ),
+            (
+                200,
+                &[0x08, 0x02, 0x80, 0x01, 0x4D],
+                &[0x08, 0x02, 0x00, 0x01, 0x5A],
+            ),
+            (
+                201,
+                &[],
+                &[
+                    0x08, 0x02, 0x00, 0x02, 0x05, 0xA1, 0x04, 0x02, 0x88, 0x90, 0x18, 0x03, 0xA9,
+                    0x83, 0x81, 0x70, 0x05, 0x81, 0x31, 0x32, 0x33, 0x34,
+                ],
+            ),
+        ],
+        told: "1 carried 100 200\n2 live\nmaintenance none\n",
+    },
+    // both clear
+    Day {
+        bookings: &[(100, 200, false), (200, 300, false)],
+        steps: &[
+            (100, &[], &OFFER),
+            (100, &CONNECT, &ACKNOWLEDGE),
+            (
+                200,
+                &[],
+                &[0x08, 0x02, 0x00, 0x01, 0x45, 0x08, 0x02, 0x82, 0x90],
+            ),
+            (
+                200,
+                &[0x08, 0x02, 0x80, 0x01, 0x45, 0x08, 0x02, 0x80, 0x90],
+                &[0x08, 0x02, 0x00, 0x01, 0x4D],
+            ),
+            (200, &[0x08, 0x02, 0x80, 0x01, 0x4D], &[]),
+        ],
+        told: "1 carried 100 200\n2 waiting\nmaintenance none\n",
+    },
+    // called by the far end; any other channel is refused, and the same SETUP again is nothing
+    Day {
+        bookings: &[(0, 60, true)],
+        steps: &[
+            (1, &[], &[]),
+            (
+                1,
+                &[
+                    0x08, 0x02, 0x00, 0x08, 0x05, 0x04, 0x02, 0x88, 0x90, 0x18, 0x03, 0xA9, 0x83,
+                    0x82,
+                ],
+                &[0x08, 0x02, 0x80, 0x08, 0x5A, 0x08, 0x02, 0x82, 0xAC],
+            ),
+            (
+                1,
+                &SETUP,
+                &[0x08, 0x02, 0x80, 0x07, 0x02, 0x18, 0x03, 0xA9, 0x83, 0x81],
+            ),
+            (1, &SETUP, &[]),
+            (
+                2,
+                &[],
+                &[0x08, 0x02, 0x80, 0x07, 0x07, 0x18, 0x03, 0xA9, 0x83, 0x81],
+            ),
+            (
+                2,
+                &[0x08, 0x02, 0x00, 0x08, 0x05, 0x04, 0x02, 0x88, 0x90],
+                &[0x08, 0x02, 0x80, 0x08, 0x5A, 0x08, 0x02, 0x82, 0xA2],
+            ),
+            (
+                2,
+                &[
+                    0x08, 0x02, 0x00, 0x08, 0x05, 0x04, 0x02, 0x88, 0x90, 0x18, 0x03, 0xA9, 0x83,
+                    0x82,
+                ],
+                &[0x08, 0x02, 0x80, 0x08, 0x5A, 0x08, 0x02, 0x82, 0xAC],
+            ),
+            (
+                60,
+                &[],
+                &[0x08, 0x02, 0x80, 0x07, 0x45, 0x08, 0x02, 0x82, 0x90],
+            ),
+            (
+                60,
+                &[0x08, 0x02, 0x00, 0x07, 0x4D],
+                &[0x08, 0x02, 0x80, 0x07, 0x5A],
+            ),
+        ],
+        told: "1 carried 2 60\nmaintenance none\n",
+    },
+    // a preferred channel that is not open
+    Day {
+        bookings: &[(0, 60, true)],
+        steps: &[(
+            0,
+            &[
+                0x08, 0x02, 0x00, 0x08, 0x05, 0x04, 0x02, 0x88, 0x90, 0x18, 0x03, 0xA1, 0x83, 0x82,
+            ],
+            &[0x08, 0x02, 0x80, 0x08, 0x02, 0x18, 0x03, 0xA9, 0x83, 0x81],
+        )],
+        told: "1 live\nmaintenance none\n",
+    },
+];
+
+/// A plan of these bookings on channel 1.
+fn plan_of(alloc: Global, rows: &[(u32, u32, bool)]) -> Result<Plan, Fail> {
     let number = Number::new(b"1234").ok_or("number")?;
-    let mut booking = Booking::new(0, 60, 5, number).ok_or("booking")?;
-    if inward {
-        booking = booking.as_inward();
-    }
     let mut bookings = Bookings::new(alloc);
-    bookings.push(booking)?;
     let mut assigned = Vec::new(alloc);
-    assigned.push(Channel::new(1))?;
+    for (start, end, inward) in rows {
+        let booking = Booking::new(*start, *end, 5, number).ok_or("booking")?;
+        bookings.push(if *inward {
+            booking.as_inward()
+        } else {
+            booking
+        })?;
+        assigned.push(Channel::new(1))?;
+    }
     let channels = ChannelSet::from_numbers(&[1]).map_err(|_| "channels")?;
-    let plan = Plan::new(bookings, channels, assigned, Vec::new(alloc), 5).ok_or("plan")?;
+    let pay = 5 * rows.len() as u64;
+    Ok(Plan::new(bookings, channels, assigned, Vec::new(alloc), pay).ok_or("plan")?)
+}
+
+fn opening(alloc: Global, rows: &[(u32, u32, bool)]) -> Result<Exchange, Fail> {
+    let plan = plan_of(alloc, rows)?;
     if !plan.carried() {
-        return Err(Fail::from("carried"));
+        return Err("carried".into());
     }
     Ok(Exchange::new(alloc, &plan)?)
 }
 
-/// Receives each, and answers the first that is not answered so.
-fn first_other(exchange: &mut Exchange, receipts: &[Receipt<'_>]) -> Option<usize> {
-    for i in 0..receipts.len() {
-        let (octets, expected) = receipts[i];
-        let sent = exchange.receive(octets);
-        let same = match &sent {
-            Some(reply) => reply.as_slice() == expected,
-            None => expected.is_empty(),
+/// Ticks to the moment, and answers whether only the last tick sends something, and just that.
+fn ticks(exchange: &mut Exchange, moment: u32, expected: &[u8]) -> bool {
+    let mut same = true;
+    for _ in exchange.moment()..moment {
+        let sent = exchange.tick();
+        let expected = if exchange.moment() == moment {
+            expected
+        } else {
+            &[]
         };
-        if !same {
-            return Some(i);
-        }
+        same = same
+            && match sent.as_slice() {
+                [] => expected.is_empty(),
+                [octets] => octets.as_slice() == expected,
+                _ => false,
+            };
     }
-    None
+    same
+}
+
+fn receives(exchange: &mut Exchange, octets: &[u8], expected: &[u8]) -> bool {
+    match exchange.receive(octets) {
+        Some(reply) => reply.as_slice() == expected,
+        None => expected.is_empty(),
+    }
 }
 
 #[test]
 fn worked_receipts(rt: HostRuntime) -> Result<(), Fail> {
-    let mut exchange = opening(rt.alloc(), false)?;
-    assert_eq!(rt; first_other(&mut exchange, &STRANGERS), None, "strangers");
-    assert_eq!(rt; exchange.outcome(1), Some(Outcome::Waiting), "outward");
-    let mut exchange = opening(rt.alloc(), true)?;
-    assert_eq!(rt; first_other(&mut exchange, &STRANGERS), None, "strangers");
-    assert_eq!(rt; exchange.outcome(1), Some(Outcome::Waiting), "inward");
-    assert_eq!(rt; first_other(&mut exchange, &CALLS), None, "calls");
-    assert_eq!(rt; exchange.outcome(1), Some(Outcome::Live), "live");
+    for inward in [false, true] {
+        let mut exchange = opening(rt.alloc(), &[(0, 60, inward)])?;
+        for (octets, expected) in STRANGERS {
+            assert!(rt; receives(&mut exchange, octets, expected), "{octets:?}");
+            assert_eq!(rt; exchange.outcome(1), Some(Outcome::Waiting), "{octets:?}");
+        }
+    }
+    for day in &DAYS {
+        let mut exchange = opening(rt.alloc(), day.bookings)?;
+        for (moment, octets, expected) in day.steps {
+            let same = if octets.is_empty() {
+                ticks(&mut exchange, *moment, expected)
+            } else {
+                receives(&mut exchange, octets, expected)
+            };
+            assert!(rt; same, "at {moment}: {octets:?}");
+            assert_eq!(rt; exchange.moment(), *moment);
+        }
+        let mut writer = Watched::new(Vec::new(rt.alloc()));
+        assert_eq!(rt; exchange.write_outcomes(&mut writer), Ok(()));
+        assert_eq!(rt; writer.into_inner().as_slice(), day.told.as_bytes());
+    }
+    Ok(())
+}
+
+#[test]
+fn replayed_day(rt: HostRuntime) -> Result<(), Fail> {
+    let plan = plan_of(rt.alloc(), &[(0, 60, false)])?;
+    assert!(rt; plan.carried(), "carried");
+    let events = [Event::Tick, Event::Receive(&CONNECT), Event::Tick];
+    let replayed = replay(rt.alloc(), &plan, &events)?;
+    assert_eq!(rt; replayed.exchange.moment(), 2);
+    assert_eq!(rt; replayed.sent.len(), 2);
+    assert_eq!(rt; replayed.sent[0].as_slice(), OFFER.as_slice());
+    assert_eq!(rt; replayed.sent[1].as_slice(), ACKNOWLEDGE.as_slice());
+    Ok(())
+}
+
+/// A writer that takes one octet a call and fails at each place in turn leaves the octets before it.
+#[test]
+fn failing_writers(rt: HostRuntime) -> Result<(), Fail> {
+    let text = b"1 waiting\n2 waiting\nmaintenance none\n";
+    let exchange = opening(rt.alloc(), &[(0, 60, false), (60, 90, true)])?;
+    for calls in 0..text.len() {
+        let mut writer = Watched::new(Failing::new(Vec::new(rt.alloc()), calls as u32, 1));
+        assert_eq!(rt;
+            exchange.write_outcomes(&mut writer),
+            Err(WriteFailed),
+            "{calls}"
+        );
+        assert!(rt; writer.faulted(), "{calls}");
+        let octets = writer.into_inner().into_inner();
+        assert_eq!(rt; octets.as_slice(), &text[..calls]);
+    }
+    let mut writer = Watched::new(Failing::new(Vec::new(rt.alloc()), text.len() as u32, 1));
+    assert_eq!(rt; exchange.write_outcomes(&mut writer), Ok(()));
+    assert_eq!(rt;
+        writer.into_inner().into_inner().as_slice(),
+        text.as_slice()
+    );
     Ok(())
 }
 
 /// Whether something is sent at the opening, or nothing is sent and nothing changes.
 fn is_harmless(alloc: Global, octets: &[u8]) -> Result<bool, Fail> {
-    let mut exchange = opening(alloc, true)?;
+    let mut exchange = opening(alloc, &[(0, 60, true)])?;
     let reply = exchange.receive(octets);
     Ok(reply.is_some() || exchange.outcome(1) == Some(Outcome::Waiting))
 }
@@ -144,7 +417,7 @@ fn is_harmless(alloc: Global, octets: &[u8]) -> Result<bool, Fail> {
 #[test]
 fn hostile_octets(rt: HostRuntime) -> Result<(), Fail> {
     let alloc = rt.alloc();
-    let mut exchange = opening(alloc, true)?;
+    let mut exchange = opening(alloc, &[(0, 60, true)])?;
     for first in 0..=255u8 {
         assert!(rt; exchange.receive(&[first]).is_none(), "{first}");
         for second in 0..=255u8 {

@@ -1,21 +1,18 @@
 //! What the exchange does with octets that come.
 
-ghost use Rattle.std.specs.Prelude.{◌≡◌, ◌<◌, ℕ, Bool, true, false, length, IfSome, IsSome, option_map, ◌&&◌, ◌==◌, ◌≤◌};
-ghost use Rattle.bx_base.specs.Bookings.{is_running};
+ghost use Rattle.std.specs.Prelude.{◌≡◌, ◌<◌, ℕ, Bool, true, false, length, IfSome, option_map};
 ghost use Rattle.bx_q931.specs.Messages.{PlainMessage};
 ghost use Rattle.bx_q931.specs.Outgoing.{IsCallReference, out_octets};
 ghost use Rattle.bx_day.specs.Said.{said_of};
-ghost use Rattle.bx_day.specs.Day.{index_of, names, holds, is_free, is_open, opens, is_unoffered, entry_at, lowest_open, every_channel, or_else, with_moved, received_at, takes_or, called_on, called, stray, receive};
+ghost use Rattle.bx_day.specs.Day.{index_of, names, with_moved, received_at, stray, receive};
 ghost use Rattle.bx_day.specs.Run.{receive_from, receive_octets};
 ghost use Rattle.bx_day.specs.Reading.{IsExchange};
 
-use crate::entry::{Activity, Entry, Moved, Standing};
+use crate::entry::{Entry, Moved, Standing};
 use crate::exchange::Exchange;
 use crate::moving::heard;
-use bx_base::Channel;
-use bx_calls::{End, NetCall, bearer_fault, refuse, unknown};
-use bx_q931::cause::{NO_CHANNEL_AVAILABLE, REQUESTED_CHANNEL_NOT_AVAILABLE};
-use bx_q931::{ChannelField, Kind, Message, Octets, Out, Reference, encode, read};
+use bx_calls::{End, unknown};
+use bx_q931::{Kind, Message, Octets, Out, Reference, encode, read};
 
 impl Exchange {
     /// Hears the octets of one message, and answers what is sent for it. A message that `read` refuses, and
@@ -113,7 +110,7 @@ impl Exchange {
     }
 
     /// What the booking of this index did; it broke no channel, which only time does.
-    fn put(&mut self, index: usize, moved: Moved) -> Option<Out>
+    pub(crate) fn put(&mut self, index: usize, moved: Moved) -> Option<Out>
         requires inside { index < length self.old.entries }
         requires whole { moved.broken ≡ false }
         requires exchange { IsExchange (with_moved self.old index moved).day }
@@ -139,127 +136,6 @@ impl Exchange {
             _ => unknown(End::Network, message),
         }
     }
-
-    /// A SETUP of the far end: its bearer capability is looked at first, and then its channel.
-    fn called(&mut self, reference: u16, message: &Message<'_>) -> Option<Out>
-        requires { IsCallReference reference }
-        ensures day { (flag : Bool) → let m = said_of reference flag message.now in self.new ≡ (called self.old m m.refused).day }
-        ensures reply { (flag : Bool) → let m = said_of reference flag message.now in result ≡ (called self.old m m.refused).reply }
-    {
-        if let Some(cause) = bearer_fault(message) {
-            return Some(refuse(End::Network, reference, cause));
-        }
-        self.called_on(reference, message.channel())
-    }
-
-    fn called_on(&mut self, reference: u16, field: ChannelField) -> Option<Out>
-        requires { IsCallReference reference }
-        ensures day { (flag : Bool) (m : PlainMessage) → self.new ≡ (called_on self.old (said_of reference flag m) field).day }
-        ensures reply { (flag : Bool) (m : PlainMessage) → result ≡ (called_on self.old (said_of reference flag m) field).reply }
-    {
-        match field {
-            ChannelField::Unread => {
-                Some(refuse(End::Network, reference, REQUESTED_CHANNEL_NOT_AVAILABLE))
-            }
-            ChannelField::Named { channel, exclusive } => {
-                self.called_at(reference, channel, exclusive)
-            }
-            ChannelField::Absent | ChannelField::AnyChannel => {
-                let index = self.lowest();
-                self.take(reference, index, NO_CHANNEL_AVAILABLE)
-            }
-        }
-    }
-
-    /// An exclusive channel is taken or no other; a preferred one where it is open, and else the lowest.
-    fn called_at(&mut self, reference: u16, channel: Channel, exclusive: bool) -> Option<Out>
-        requires { IsCallReference reference }
-        ensures day { (flag : Bool) (m : PlainMessage) → self.new ≡ (called_on self.old (said_of reference flag m) (ChannelField.Named channel exclusive)).day }
-        ensures reply { (flag : Bool) (m : PlainMessage) → result ≡ (called_on self.old (said_of reference flag m) (ChannelField.Named channel exclusive)).reply }
-    {
-        if exclusive {
-            let index = self.opening(channel);
-            self.take(reference, index, REQUESTED_CHANNEL_NOT_AVAILABLE)
-        } else {
-            let index = self.preferred(channel);
-            self.take(reference, index, NO_CHANNEL_AVAILABLE)
-        }
-    }
-
-    /// The booking of this index is called, where there is one; else the SETUP is refused with this cause.
-    fn take(&mut self, reference: u16, index: Option<usize>, cause: u8) -> Option<Out>
-        requires limit { IsCallReference reference }
-        requires inside { IfSome index (λ i. i < length self.old.entries) }
-        requires open { IfSome index (λ i. is_open self.old (entry_at self.old.entries i) ≡ true) }
-        ensures day { (flag : Bool) (m : PlainMessage) → self.new ≡ (takes_or self.old (said_of reference flag m) cause index).day }
-        ensures reply { (flag : Bool) (m : PlainMessage) → result ≡ (takes_or self.old (said_of reference flag m) cause index).reply }
-    {
-        let Some(index) = index else {
-            return Some(refuse(End::Network, reference, cause));
-        };
-        let moment = self.moment();
-        let channel = Channel::new(self.entries[index].channel).unwrap();
-        let (call, reply) = NetCall::answered(reference, channel, moment);
-        let moved = Moved {
-            standing: Standing::OnCall {
-                call,
-                activity: Activity::Never,
-            },
-            said: Some(reply),
-            broken: false,
-        };
-        self.put(index, moved)
-    }
-
-    /// The index of the booking that may be called on the channel now.
-    fn opening(&self, channel: Channel) -> Option<usize>
-        ensures first { result ≡ index_of (opens self.now channel) self.now.entries }
-        ensures inside { IfSome result (λ i. i < length self.now.entries) }
-    {
-        if !self.is_free(channel) {
-            return None;
-        }
-        let number = channel.number();
-        for i in 0..self.entries.len() {
-            if awaits_call(&self.entries[i], number, self.moment) {
-                return Some(i);
-            }
-        }
-        None
-    }
-
-    /// On the channel, and else on the lowest that is open.
-    fn preferred(&self, channel: Channel) -> Option<usize>
-        ensures first { result ≡ or_else (index_of (opens self.now channel) self.now.entries) (lowest_open self.now every_channel) }
-        ensures inside { IfSome result (λ i. i < length self.now.entries) }
-    {
-        match self.opening(channel) {
-            Some(index) => Some(index),
-            None => self.lowest(),
-        }
-    }
-
-    /// On the lowest channel that is open.
-    fn lowest(&self) -> Option<usize>
-        ensures first { result ≡ lowest_open self.now every_channel }
-        ensures inside { IfSome result (λ i. i < length self.now.entries) }
-    {
-        for number in 1..32 {
-            if let Some(channel) = Channel::new(number) {
-                if let Some(index) = self.opening(channel) {
-                    return Some(index);
-                }
-            }
-        }
-        None
-    }
-
-    /// Whether the channel is neither held nor in maintenance.
-    fn is_free(&self, channel: Channel) -> bool
-        ensures { result ≡ is_free self.now channel }
-    {
-        self.holder(channel).is_none() && !self.maintenance.has(channel)
-    }
 }
 
 /// Whether the booking is live, and its call has this reference and sends with the other flag.
@@ -268,18 +144,6 @@ fn is_named(entry: &Entry, reference: u16, flag: bool) -> bool
 {
     match entry.standing {
         Standing::OnCall { call, .. } => call.reference() == reference && call.flag() == !flag,
-        _ => false,
-    }
-}
-
-/// Whether the booking is inward, runs, and waits for its call on the channel of this number.
-fn awaits_call(entry: &Entry, number: u8, moment: u32) -> bool
-    ensures { result ≡ (is_unoffered entry.now.standing && entry.now.booking.inward && is_running entry.now.booking moment && (entry.now.channel == number)) }
-{
-    match entry.standing {
-        Standing::Unoffered => {
-            entry.booking.is_inward() && entry.booking.runs_at(moment) && entry.channel == number
-        }
         _ => false,
     }
 }

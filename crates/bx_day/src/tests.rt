@@ -1,8 +1,9 @@
 //! What no clause says: worked values, and that the calls which take memory succeed.
 
+use crate::entry::{Entry, Moved, Standing};
 use crate::moving::{heard, second};
 use crate::outcome::told;
-use crate::{Entry, Exchange, Moved, Outcome, Standing};
+use crate::{Exchange, Outcome};
 use bx_base::{Booking, Bookings, Channel, ChannelSet, Number, Plan};
 use bx_q931::{Octets, Out, encode, read};
 use std::test::Fail;

@@ -2,7 +2,8 @@ use Rattle.std.proofs.Common.{◌≡◌, ◌≤◌, ◌<◌, ℕ, true, false, s
 use Rattle.std.proofs.lemmas.List.{get_or_default}
 use Rattle.bx_day.specs.Day.{Day, is_free, entry_at, no_entry}
 use Rattle.bx_day.specs.declared.entry.Entry.{Entry}
-use Rattle.bx_day.proofs.Received.{awaits, opening_taken, opening_found, opening_none}
+use Rattle.bx_day.specs.Calling.{awaits}
+use Rattle.bx_day.proofs.Received.{opening_taken, opening_found, opening_none}
 use Rattle.bx_day.proofs.exchange.Exchange.opening.Goals as goal
 
 pub returns-then-not-is_free-clause-first : goal.returns-then-not-is_free-clause-first

@@ -1,6 +1,6 @@
 use Rattle.std.proofs.Common.{◌≡◌, ◌<◌, ℕ, false}
 use Rattle.bx_day.specs.Day.{entry_at}
-use Rattle.bx_day.proofs.Received.{awaits}
+use Rattle.bx_day.specs.Calling.{awaits}
 use Rattle.bx_day.proofs.exchange.Exchange.opening.Given as goal
 
 abbrev pub invariant-loop-i : goal.invariant-loop-i

@@ -1,0 +1,180 @@
+//! What the exchange does with a SETUP of the far end.
+
+ghost use Rattle.std.specs.Prelude.{◌≡◌, ◌<◌, ℕ, Bool, true, false, length, IfSome, MatchOption};
+ghost use Rattle.std.specs.List.{list_any};
+ghost use Rattle.bx_base.specs.Channels.{IsChannel};
+ghost use Rattle.bx_q931.specs.Messages.{PlainMessage};
+ghost use Rattle.bx_q931.specs.Outgoing.{IsCallReference};
+ghost use Rattle.bx_day.specs.Said.{said_of};
+ghost use Rattle.bx_day.specs.Day.{index_of, is_set, is_free, is_open, opens, entry_at, lowest_open, every_channel, or_else, takes_or, called_on, called};
+ghost use Rattle.bx_day.specs.Calling.{awaits, may_open};
+
+use crate::entry::{Activity, Entry, Moved, Standing};
+use crate::exchange::Exchange;
+use bx_base::{Channel, ChannelSet};
+use bx_calls::{End, NetCall, bearer_fault, refuse};
+use bx_q931::cause::{NO_CHANNEL_AVAILABLE, REQUESTED_CHANNEL_NOT_AVAILABLE};
+use bx_q931::{ChannelField, Message, Out};
+
+impl Exchange {
+    /// A SETUP of the far end: its bearer capability is looked at first, and then its channel.
+    pub(crate) fn called(&mut self, reference: u16, message: &Message<'_>) -> Option<Out>
+        requires { IsCallReference reference }
+        ensures day { (flag : Bool) → let m = said_of reference flag message.now in self.new ≡ (called self.old m m.refused).day }
+        ensures reply { (flag : Bool) → let m = said_of reference flag message.now in result ≡ (called self.old m m.refused).reply }
+    {
+        if let Some(cause) = bearer_fault(message) {
+            return Some(refuse(End::Network, reference, cause));
+        }
+        self.called_on(reference, message.channel())
+    }
+
+    fn called_on(&mut self, reference: u16, field: ChannelField) -> Option<Out>
+        requires { IsCallReference reference }
+        ensures day { (flag : Bool) (m : PlainMessage) → self.new ≡ (called_on self.old (said_of reference flag m) field).day }
+        ensures reply { (flag : Bool) (m : PlainMessage) → result ≡ (called_on self.old (said_of reference flag m) field).reply }
+    {
+        match field {
+            ChannelField::Unread => {
+                Some(refuse(End::Network, reference, REQUESTED_CHANNEL_NOT_AVAILABLE))
+            }
+            ChannelField::Named { channel, exclusive } => {
+                self.called_at(reference, channel, exclusive)
+            }
+            ChannelField::Absent | ChannelField::AnyChannel => {
+                let index = self.lowest();
+                self.take(reference, index, NO_CHANNEL_AVAILABLE)
+            }
+        }
+    }
+
+    /// An exclusive channel is taken or no other; a preferred one where it is open, and else the lowest.
+    fn called_at(&mut self, reference: u16, channel: Channel, exclusive: bool) -> Option<Out>
+        requires { IsCallReference reference }
+        ensures day { (flag : Bool) (m : PlainMessage) → self.new ≡ (called_on self.old (said_of reference flag m) (ChannelField.Named channel exclusive)).day }
+        ensures reply { (flag : Bool) (m : PlainMessage) → result ≡ (called_on self.old (said_of reference flag m) (ChannelField.Named channel exclusive)).reply }
+    {
+        if exclusive {
+            let index = self.opening(channel);
+            self.take(reference, index, REQUESTED_CHANNEL_NOT_AVAILABLE)
+        } else {
+            let index = self.preferred(channel);
+            self.take(reference, index, NO_CHANNEL_AVAILABLE)
+        }
+    }
+
+    /// The booking of this index is called, where there is one; else the SETUP is refused with this cause.
+    fn take(&mut self, reference: u16, index: Option<usize>, cause: u8) -> Option<Out>
+        requires limit { IsCallReference reference }
+        requires inside { IfSome index (λ i. i < length self.old.entries) }
+        requires open { IfSome index (λ i. is_open self.old (entry_at self.old.entries i) ≡ true) }
+        ensures day { (flag : Bool) (m : PlainMessage) → self.new ≡ (takes_or self.old (said_of reference flag m) cause index).day }
+        ensures reply { (flag : Bool) (m : PlainMessage) → result ≡ (takes_or self.old (said_of reference flag m) cause index).reply }
+    {
+        let Some(index) = index else {
+            return Some(refuse(End::Network, reference, cause));
+        };
+        let moment = self.moment();
+        let channel = Channel::new(self.entries[index].channel).unwrap();
+        let (call, reply) = NetCall::answered(reference, channel, moment);
+        let moved = Moved {
+            standing: Standing::OnCall {
+                call,
+                activity: Activity::Never,
+            },
+            said: Some(reply),
+            broken: false,
+        };
+        self.put(index, moved)
+    }
+
+    /// The index of the booking that may be called on the channel now.
+    fn opening(&self, channel: Channel) -> Option<usize>
+        ensures first { result ≡ index_of (opens self.now channel) self.now.entries }
+        ensures inside { IfSome result (λ i. i < length self.now.entries) }
+    {
+        if !self.is_free(channel) {
+            return None;
+        }
+        let number = channel.number();
+        for i in 0..self.entries.len() {
+            if awaits_call(&self.entries[i], number, self.moment) {
+                return Some(i);
+            }
+        }
+        None
+    }
+
+    /// On the channel, and else on the lowest that is open.
+    fn preferred(&self, channel: Channel) -> Option<usize>
+        ensures first { result ≡ or_else (index_of (opens self.now channel) self.now.entries) (lowest_open self.now every_channel) }
+        ensures inside { IfSome result (λ i. i < length self.now.entries) }
+    {
+        match self.opening(channel) {
+            Some(index) => Some(index),
+            None => self.lowest(),
+        }
+    }
+
+    /// On the lowest channel that is open.
+    fn lowest(&self) -> Option<usize>
+        ensures first { result ≡ lowest_open self.now every_channel }
+        ensures inside { IfSome result (λ i. i < length self.now.entries) }
+    {
+        let open = self.open_channels();
+        for number in 1..32 {
+            if let Some(channel) = Channel::new(number) {
+                if open.has(channel) {
+                    return self.opening(channel);
+                }
+            }
+        }
+        None
+    }
+
+    /// The channels that are open.
+    fn open_channels(&self) -> ChannelSet
+        ensures { (c : ℕ) → is_set result c ≡ list_any (opens self.now c) self.now.entries }
+    {
+        let moment = self.moment();
+        let blocked = self.blocked();
+        let mut open = ChannelSet::empty();
+        for entry in &self.entries {
+            if let Some(channel) = channel_opened(entry, moment, blocked) {
+                open = open.with(channel);
+            }
+        }
+        open
+    }
+
+    /// Whether the channel is neither held nor in maintenance.
+    fn is_free(&self, channel: Channel) -> bool
+        ensures { result ≡ is_free self.now channel }
+    {
+        self.holder(channel).is_none() && !self.maintenance.has(channel)
+    }
+}
+
+/// Whether the booking is inward, runs, and waits for its call on the channel of this number.
+fn awaits_call(entry: &Entry, number: u8, moment: u32) -> bool
+    ensures { result ≡ awaits moment number entry.now }
+{
+    match entry.standing {
+        Standing::Unoffered => {
+            entry.booking.is_inward() && entry.booking.runs_at(moment) && entry.channel == number
+        }
+        _ => false,
+    }
+}
+
+/// The channel of a booking that may be called now, by the channels that are held or in maintenance.
+fn channel_opened(entry: &Entry, moment: u32, blocked: ChannelSet) -> Option<Channel>
+    ensures { MatchOption result (IsChannel entry.now.channel → may_open moment blocked entry.now ≡ false) (λ c. (c ≡ entry.now.channel) × (may_open moment blocked entry.now ≡ true)) }
+{
+    let channel = Channel::new(entry.channel)?;
+    if awaits_call(entry, entry.channel, moment) && !blocked.has(channel) {
+        Some(channel)
+    } else {
+        None
+    }
+}
