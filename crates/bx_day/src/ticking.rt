@@ -57,7 +57,7 @@ impl Exchange {
     }
 
     /// The channels that are held by a live booking, or in maintenance.
-    fn blocked(&self) -> ChannelSet
+    pub(crate) fn blocked(&self) -> ChannelSet
         ensures { AreBlocked self.now result }
     {
         let mut blocked = self.maintenance;
