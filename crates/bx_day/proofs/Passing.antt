@@ -9,7 +9,7 @@ use Rattle.bx_calls.specs.PlainCalls.{PlainNetCall}
 use Rattle.bx_day.specs.Day.{Day, is_live, is_held, is_free, is_set, holds, second_at, second_of, after_second, waits, said_on, cons_some, breaks_on, maintained, every_channel, entry_at, stays, no_entry, tick, ticked}
 use Rattle.bx_day.specs.Invariant.{Apart, Pairs, is_refused, EntryFits, StandingFits}
 use Rattle.bx_day.specs.Reading.{Seated, IsExchange}
-use Rattle.bx_day.specs.Passing.{day_of, somes, SaysOnEach, SaysOnce, AreBlocked}
+use Rattle.bx_day.specs.Passing.{day_of, somes, SaysOnEach, SaysOnce, AreBlocked, moved_first, marks, SlotsBefore, Passed}
 use Rattle.bx_day.specs.declared.entry.Moved.{Moved}
 use Rattle.bx_day.specs.declared.entry.Entry.{Entry}
 use Rattle.bx_day.specs.declared.entry.Standing.{Standing}
@@ -33,13 +33,6 @@ or_true : (b : Bool) → (b || true) ≡ true
 or_true true = refl
 or_true false = refl
 
--- ---- the bookings of which the first n were moved on
-
-abbrev pub moved_first : Day → ℕ → List Entry → List Entry
-moved_first d zero es = es
-moved_first d (suc n) [] = []
-moved_first d (suc n) (e ∷ es) = after_second d e ∷ moved_first d n es
-
 pub moved_at : (d : Day) (n : ℕ) (es : List Entry) → entry_at (moved_first d n es) n ≡ entry_at es n
 moved_at d zero es = refl
 moved_at d (suc n) [] = refl
@@ -61,6 +54,14 @@ moved_all d zero [] le = refl
 moved_all d zero (e ∷ es) le = absurd (omega arith)
 moved_all d (suc n) [] le = refl
 moved_all d (suc n) (e ∷ es) le = ap (λ xs. after_second d e ∷ xs) (moved_all d n es (omega arith))
+
+moved_done_at : (d : Day) (n : ℕ) (es : List Entry) → n < length es → entry_at (moved_first d (suc n) es) n ≡ after_second d (entry_at es n)
+moved_done_at d n [] lt = absurd (omega arith)
+moved_done_at d zero (e ∷ es) lt = refl
+moved_done_at d (suc n) (e ∷ es) lt = moved_done_at d n es (omega arith)
+
+pub moved_done : (d : Day) (n : ℕ) (es : List Entry) → n < length es → entry_at (moved_first d (n + 1) es) n ≡ after_second d (entry_at es n)
+moved_done d n es lt = ap (λ k. entry_at (moved_first d k es) n) (let q : n + 1 ≡ suc n = omega arith in q) ∙ moved_done_at d n es lt
 
 -- an entry that stays where it is passed over
 pub moved_past : (d : Day) (n : ℕ) (es : List Entry) → n < length es → after_second d (entry_at es n) ≡ entry_at es n → moved_first d n es ≡ moved_first d (suc n) es
@@ -145,9 +146,6 @@ off_channel d c (e ∷ es) seats never =
 
 -- ---- the slots of what is said: each has what the entries so far said, and the rest follows
 
-abbrev pub SlotsBefore : Day → List Entry → List (Option Outgoing) → Type 0
-SlotsBefore d rest said = (c : ℕ) → cons_some (slice_index_or said c None) (said_on d c rest) ≡ said_on d c d.entries
-
 -- a first message leaves room for no other
 first_alone : (o : Option Outgoing) (x : Outgoing) (os whole : List Outgoing) → cons_some o (x ∷ os) ≡ whole → length whole ≤ 1 → x ∷ os ≡ whole
 first_alone None x os whole h le = h
@@ -187,10 +185,6 @@ empty_at (suc n) zero = refl
 empty_at (suc n) (suc c) = empty_at n c
 
 -- ---- channels in maintenance: each bit, or whether some entry of these breaks it
-
-abbrev pub marks : Day → ℕ → List Bool → List Entry → List Bool
-marks d c [] es = []
-marks d c (b ∷ bs) es = (b || list_any (breaks_on d c) es) ∷ marks d (c + 1) bs es
 
 pub marks_all : (d : Day) (c : ℕ) (bs : List Bool) → marks d c bs d.entries ≡ maintained d c bs
 marks_all d c [] = refl
@@ -306,12 +300,6 @@ few_said d one = few_each (λ c. said_on d c d.entries) one every_channel
 
 -- ---- what holds after the first i bookings
 
-pub record Passed (d : Day) (i : ℕ) (entries : List Entry) (maintenance : List Bool) (slots : List (Option Outgoing)) : Type 0 where
-  pub moved : entries ≡ moved_first d i d.entries
-  pub marked : marks d 0 maintenance (drop i d.entries) ≡ marks d 0 d.maintenance d.entries
-  pub size : length slots ≡ 32
-  pub said : SlotsBefore d (drop i d.entries) slots
-
 pub none_passed : (d : Day) → Passed d 0 d.entries d.maintenance (replicate 32 None)
 none_passed d = record { moved = refl; marked = refl; size = refl; said = λ c. ap (λ o. cons_some o (said_on d c d.entries)) (empty_at 32 c) }
 
@@ -336,18 +324,31 @@ passed_next d i c m es es' ms ms' ss ss' h lt is on ch e-is m-is s-is p =
       said = subst (SlotsBefore d rest) (sym (s-is ∙ ap (λ k. if is_some m.said then slice_set ss k m.said else ss) on)) (slots_next d e rest ss m.said (sym (ap (λ (x : Moved). x.said) is)) (omega (arith, p.size, ch.1, on)) (λ k. once d k d.entries holding h.day.pairs) (subst (λ (xs : List Entry). SlotsBefore d xs ss) (rest_is d i lt) p.said));
     }
 
--- a booking with no channel is refused: it is passed by
-pub passed_by : (d : Day) (i : ℕ) (es es' : List Entry) (ms ms' : List Bool) (ss ss' : List (Option Outgoing)) → IsExchange d → i < length d.entries → (IsChannel (entry_at d.entries i).channel → ⊥) → es' ≡ es → ms' ≡ ms → ss' ≡ ss → Passed d i es ms ss → Passed d (i + 1) es' ms' ss'
-passed_by d i es es' ms ms' ss ss' h lt never e-is m-is s-is p =
+pub passed_as : (d : Day) (i : ℕ) (es es' : List Entry) (ms ms' : List Bool) (ss ss' : List (Option Outgoing)) → es' ≡ es → ms' ≡ ms → ss' ≡ ss → Passed d i es ms ss → Passed d i es' ms' ss'
+passed_as d i es es' ms ms' ss ss' e-is m-is s-is p = record {
+  moved = e-is ∙ p.moved;
+  marked = ap (λ bs. marks d 0 bs (drop i d.entries)) m-is ∙ p.marked;
+  size = ap length s-is ∙ p.size;
+  said = subst (SlotsBefore d (drop i d.entries)) (sym s-is) p.said;
+}
+
+-- a booking to which nothing happens is passed by
+pub passed_same : (d : Day) (i : ℕ) (es es' : List Entry) (ms ms' : List Bool) (ss ss' : List (Option Outgoing)) → i < length d.entries → second_of d (entry_at d.entries i) ≡ stays (entry_at d.entries i).standing → es' ≡ es → ms' ≡ ms → ss' ≡ ss → Passed d i es ms ss → Passed d (i + 1) es' ms' ss'
+passed_same d i es es' ms ms' ss ss' lt same e-is m-is s-is p =
     let e = entry_at d.entries i in
     let rest = drop (i + 1) d.entries in
-    let same : second_of d e ≡ stays e.standing = refused_stays (d.moment + 1) (is_free d e.channel) e e.standing (no_channel e (each_at Seated d.entries i lt h.seated) never) in
     record {
       moved = e-is ∙ p.moved ∙ moved_past d i d.entries lt (ap (λ (x : Moved). record e { standing = x.standing }) same) ∙ ap (λ n. moved_first d n d.entries) (let q : suc i ≡ i + 1 = omega arith in q);
       marked = ap (λ bs. marks d 0 bs rest) m-is ∙ sym (marks_whole d 0 ms e rest (ap (λ (x : Moved). x.broken) same)) ∙ ap (marks d 0 ms) (sym (rest_is d i lt)) ∙ p.marked;
       size = ap length s-is ∙ p.size;
       said = subst (SlotsBefore d rest) (sym s-is) (slots_kept d e rest ss (ap (λ (x : Moved). x.said) same) (subst (λ (xs : List Entry). SlotsBefore d xs ss) (rest_is d i lt) p.said));
     }
+
+-- as is one with no channel, which is refused
+pub passed_by : (d : Day) (i : ℕ) (es es' : List Entry) (ms ms' : List Bool) (ss ss' : List (Option Outgoing)) → IsExchange d → i < length d.entries → (IsChannel (entry_at d.entries i).channel → ⊥) → es' ≡ es → ms' ≡ ms → ss' ≡ ss → Passed d i es ms ss → Passed d (i + 1) es' ms' ss'
+passed_by d i es es' ms ms' ss ss' h lt never e-is m-is s-is p =
+    let e = entry_at d.entries i in
+    passed_same d i es es' ms ms' ss ss' lt (refused_stays (d.moment + 1) (is_free d e.channel) e e.standing (no_channel e (each_at Seated d.entries i lt h.seated) never)) e-is m-is s-is p
 
 pub all_passed : (d : Day) (i : ℕ) (es : List Entry) (ms : List Bool) (ss : List (Option Outgoing)) → length d.entries ≤ i → Passed d i es ms ss → (es ≡ map (after_second d) d.entries) × (ms ≡ maintained d 0 d.maintenance) × SaysOnEach d ss
 all_passed d i es ms ss le p =
@@ -372,7 +373,7 @@ all_seated : (d : Day) (es : List Entry) → AllByRecursion Seated es → AllByR
 all_seated d [] h = tt
 all_seated d (e ∷ es) h = (record { row = h.0.row; channel = λ accepted. h.0.channel (second_refused (d.moment + 1) (is_free d e.channel) e e.standing accepted) }, all_seated d es h.1)
 
-map_size : (d : Day) (es : List Entry) → length (map (after_second d) es) ≡ length es
+pub map_size : (d : Day) (es : List Entry) → length (map (after_second d) es) ≡ length es
 map_size d [] = refl
 map_size d (e ∷ es) = ap suc (map_size d es)
 
@@ -390,7 +391,7 @@ pub tick_is : (d : Day) → d.moment < 300000 → tick d ≡ ticked d
 tick_is d early = decide (nat_le 300000 d.moment) (λ late. absurd (let le : 300000 ≤ d.moment = leb-true 300000 d.moment late in omega (arith, le, early))) (λ less. ap (λ b. if b then (record { day = d; sent = [] }) else ticked d) less)
 
 -- a slice that was written whole
-refilled : (n : ℕ) (xs ys : List Entry) → length xs ≡ length ys → n ≡ length ys → take n (xs ++ drop (length xs) ys) ≡ xs
+pub refilled : {X : Type 0} (n : ℕ) (xs ys : List X) → length xs ≡ length ys → n ≡ length ys → take n (xs ++ drop (length xs) ys) ≡ xs
 refilled n xs ys same all = ap (λ zs. take n (xs ++ zs)) (drop_all (length xs) ys (omega (arith, same))) ∙ ap (take n) (append-nil xs) ∙ take_all n xs (omega (arith, same, all))
 
 -- the fields of an exchange after its bookings were moved on

@@ -1,9 +1,8 @@
 -- Ticks that do nothing but raise the moment, and how long they do.
-use Rattle.std.specs.Prelude.{◌≡◌, ℕ, ◌<◌, ◌||◌, Bool, not, min, if◌then◌else◌}
-use Rattle.std.specs.List.{AllByRecursion}
+use Rattle.std.specs.Prelude.{◌≡◌, ℕ, ◌<◌, ◌≤◌, Bool, List, length, min, slice_index_or, if◌then◌else◌}
 use Rattle.bx_calls.specs.declared.net_state.NetState.{NetState}
 use Rattle.bx_calls.specs.declared.net_state.NetState.TheVariants.{OutgoingCallProceeding, CallPresent, IncomingCallProceeding, CallReceived, Active, DisconnectIndication, ReleaseRequest}
-use Rattle.bx_day.specs.Day.{Day, second_at, stays, is_free}
+use Rattle.bx_day.specs.Day.{Day, second_at, stays, entry_at}
 use Rattle.bx_day.specs.Reading.{IsExchange}
 use Rattle.bx_day.specs.declared.entry.Entry.{Entry}
 use Rattle.bx_day.specs.declared.entry.Standing.{Standing}
@@ -13,18 +12,28 @@ use Rattle.bx_day.specs.declared.entry.Standing.TheVariants.{Unoffered, OnCall}
 abbrev pub IsQuietAt : ℕ → Bool → Entry → Type 0
 IsQuietAt t free e = second_at e t free e.standing ≡ stays e.standing
 
--- each tick after this moment and before that one does so
-abbrev pub IsQuietBetween : ℕ → ℕ → Bool → Entry → Type 0
-IsQuietBetween moment due free e = (t : ℕ) → moment < t → t < due → IsQuietAt t free e
+-- each tick after this moment and before that one does so, whether its channel is free or not
+abbrev pub IsQuietBetween : ℕ → ℕ → Entry → Type 0
+IsQuietBetween moment wake e = (t : ℕ) (free : Bool) → moment < t → t < wake → IsQuietAt t free e
 
--- of each booking, where nothing else happens
-abbrev pub IsQuietUntil : ℕ → Day → Type 0
-IsQuietUntil due d = AllByRecursion (λ e. IsQuietBetween d.moment due (is_free d e.channel) e) d.entries
+-- the moment of a list at an index
+abbrev pub wake_at : List ℕ → ℕ → ℕ
+wake_at wakes i = slice_index_or wakes i 0
 
--- what an exchange keeps: a day, and a moment before which no tick does anything to it
-pub record IsScheduled (d : Day) (due : ℕ) : Type 0 where
+-- for each booking a moment up to which it is quiet
+pub record AreWakes (d : Day) (wakes : List ℕ) : Type 0 where
+  pub size : length wakes ≡ length d.entries
+  pub each : (i : ℕ) → i < length d.entries → IsQuietBetween d.moment (wake_at wakes i) (entry_at d.entries i)
+
+-- not after any of these
+abbrev pub IsFirst : ℕ → List ℕ → Type 0
+IsFirst due wakes = (i : ℕ) → i < length wakes → due ≤ wake_at wakes i
+
+-- what an exchange keeps: a day, the moments up to which its bookings are quiet, and one that is not after those
+pub record IsScheduled (d : Day) (wakes : List ℕ) (due : ℕ) : Type 0 where
   pub exchange : IsExchange d
-  pub quiet : IsQuietUntil due d
+  pub quiet : AreWakes d wakes
+  pub first : IsFirst due wakes
 
 -- the first tick that may do something to a call of this state, whose booking has this end
 abbrev pub call_due : NetState → ℕ → ℕ
@@ -40,8 +49,8 @@ call_due (ReleaseRequest again cause due) end = due
 abbrev pub never : ℕ
 never = 4294967295
 
--- the first tick that may do something to a booking, where its channel is free or not
-abbrev pub booking_due : Entry → Bool → Standing → ℕ
-booking_due e free (OnCall call activity) = call_due call.state e.booking.end
-booking_due e free Unoffered = if e.booking.inward || not free then e.booking.end else e.booking.start
-booking_due e free s = never
+-- the first tick that may do something to a booking
+abbrev pub booking_due : Entry → Standing → ℕ
+booking_due e (OnCall call activity) = call_due call.state e.booking.end
+booking_due e Unoffered = if e.booking.inward then e.booking.end else e.booking.start
+booking_due e s = never

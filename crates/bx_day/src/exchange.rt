@@ -21,7 +21,9 @@ pub struct Exchange {
     pub(crate) moment: u32,
     pub(crate) entries: Vec<Entry>,
     pub(crate) maintenance: ChannelSet,
-    /// No tick to a moment before this one does more than raise the moment. 0 where that is not known.
+    /// For each booking a moment: no tick before does anything to it.
+    pub(crate) wakes: Vec<u32>,
+    /// Not after any of these.
     pub(crate) due: u32,
 }
 
@@ -33,7 +35,7 @@ impl Model for Exchange {
 
     ghost view = { λ x. record { moment = x.moment; entries = x.entries.items; maintenance = x.maintenance } };
 
-    ghost invariant = { λ x. IsScheduled (record { moment = x.moment; entries = x.entries.items; maintenance = x.maintenance }) x.due };
+    ghost invariant = { λ x. IsScheduled (record { moment = x.moment; entries = x.entries.items; maintenance = x.maintenance }) x.wakes.items x.due };
 }
 
 impl Exchange {
@@ -49,6 +51,7 @@ impl Exchange {
             moment: 0,
             entries: entries(alloc, plan)?,
             maintenance: ChannelSet::empty(),
+            wakes: vec![in alloc; 0; plan.bookings.len() as usize]?,
             due: 0,
         })
     }

@@ -118,6 +118,7 @@ impl Exchange {
         ensures reply { result ≡ moved.said }
     {
         self.entries[index].standing = moved.standing;
+        self.wakes[index] = 0;
         self.due = 0;
         moved.said
     }

@@ -2,39 +2,20 @@
 
 ghost use Rattle.std.specs.Prelude.{◌≡◌};
 ghost use Rattle.bx_base.specs.Bookings.{IsBooking};
-ghost use Rattle.bx_day.specs.Quiet.{IsQuietUntil, call_due, booking_due};
+ghost use Rattle.bx_day.specs.Quiet.{IsFirst, call_due, booking_due};
 
 use crate::entry::{Entry, Standing};
-use crate::exchange::Exchange;
-use bx_base::Channel;
 use bx_calls::{CallState, NetCall};
 
-impl Exchange {
-    /// A moment before which no tick does more than raise the moment.
-    pub(crate) fn next_due(&self) -> u32
-        ensures { IsQuietUntil result self.now }
-    {
-        let blocked = self.blocked();
-        let mut due = u32::MAX;
-        for entry in &self.entries {
-            if let Some(channel) = Channel::new(entry.channel) {
-                due = due.min(booking_due(entry, !blocked.has(channel)));
-            }
-        }
-        due
-    }
-}
-
-/// The first tick that may do something to a booking, by whether its channel is neither held nor in
-/// maintenance.
-fn booking_due(entry: &Entry, free: bool) -> u32
-    ensures value { result ≡ booking_due entry.now free entry.now.standing }
+/// The first tick that may do something to a booking. One that waits for its channel is looked at each time.
+pub fn booking_due(entry: &Entry) -> u32
+    ensures value { result ≡ booking_due entry.now entry.now.standing }
     ensures booking { IsBooking entry.now.booking }
 {
     let end = entry.booking.end();
     match entry.standing {
         Standing::OnCall { call, .. } => call_due(call, end),
-        Standing::Unoffered if entry.booking.is_inward() || !free => end,
+        Standing::Unoffered if entry.booking.is_inward() => end,
         Standing::Unoffered => entry.booking.start(),
         _ => u32::MAX,
     }
@@ -50,4 +31,15 @@ fn call_due(call: NetCall, end: u32) -> u32
         CallState::DisconnectIndication | CallState::ReleaseRequest => due,
         _ => due.min(end),
     }
+}
+
+/// The first of these moments.
+pub fn first(wakes: &[u32]) -> u32
+    ensures { IsFirst result wakes.now }
+{
+    let mut first = u32::MAX;
+    for wake in wakes {
+        first = first.min(*wake);
+    }
+    first
 }

@@ -1,14 +1,16 @@
 //! The ticks of a day.
 
-ghost use Rattle.std.specs.Prelude.{◌≡◌, ◌≤◌, ◌<◌, true, length, map, is_some, slice_set, if◌then◌else◌};
-ghost use Rattle.bx_day.specs.Day.{tick, ticked, after_second, maintained};
-ghost use Rattle.bx_day.specs.Passing.{day_of, AreBlocked, SaysOnEach, SaysOnce, somes};
-ghost use Rattle.bx_day.specs.Reading.{IsExchange};
+ghost use Rattle.std.specs.Prelude.{◌≡◌, ◌≤◌, ◌<◌, ◌+◌, true, length, map, is_some, slice_set, if◌then◌else◌};
+ghost use Rattle.bx_day.specs.Day.{Day, tick, ticked, after_second, maintained, entry_at};
+ghost use Rattle.bx_day.specs.Passing.{day_of, AreBlocked, Passed, SaysOnEach, SaysOnce, somes};
+ghost use Rattle.bx_day.specs.Reading.{IsExchange, Seated};
+ghost use Rattle.bx_day.specs.Quiet.{AreWakes};
 ghost use Rattle.bx_day.specs.Spelling.{spelled};
 
 use crate::entry::{Entry, Moved, Standing};
 use crate::exchange::Exchange;
 use crate::moving::second;
+use crate::scheduling::{booking_due, first};
 use arrayvec::ArrayVec;
 use bx_base::{Channel, ChannelSet};
 use bx_q931::{Octets, Out, encode};
@@ -35,7 +37,7 @@ impl Exchange {
         self.pass()
     }
 
-    /// A tick that looks at each booking, and finds when the next has to.
+    /// A tick that does something to some bookings.
     fn pass(&mut self) -> ArrayVec<Octets, 30>
         requires { self.old.moment < 300000 }
         ensures day { self.new ≡ (ticked self.old).day }
@@ -44,14 +46,13 @@ impl Exchange {
         let blocked = self.blocked();
         let said = move_on(
             &mut self.entries,
+            &mut self.wakes,
             &mut self.maintenance,
             blocked,
             self.moment,
         );
         self.moment += 1;
-        self.due = 0;
-        let due = self.next_due();
-        self.due = due;
+        self.due = first(&self.wakes);
         spell(&said)
     }
 
@@ -82,29 +83,52 @@ fn note(said: &mut [Option<Out>; 32], maintenance: &mut ChannelSet, channel: Cha
     }
 }
 
+/// Moves the booking of an index on from this moment.
+fn move_one(
+    entries: &mut [Entry],
+    index: usize,
+    said: &mut [Option<Out>; 32],
+    maintenance: &mut ChannelSet,
+    blocked: ChannelSet,
+    moment: u32,
+)
+    requires inside { index < length entries.old }
+    requires early { moment < 300000 }
+    requires seated { Seated (entry_at entries.old index) }
+    ensures { (d : Day) → d.moment ≡ moment → IsExchange d → AreBlocked d blocked → Passed d index entries.old maintenance.old said.old → Passed d (index + 1) entries.new maintenance.new said.new }
+{
+    let entry = entries[index];
+    if let Some(channel) = Channel::new(entry.channel) {
+        let moved = second(&entry, channel, moment + 1, !blocked.has(channel));
+        entries[index].standing = moved.standing;
+        note(said, maintenance, channel, &moved);
+    }
+}
+
 /// Moves each booking on from this moment, and puts channels that break into maintenance. Answers what is
 /// said, by the number of its channel.
 fn move_on(
     entries: &mut [Entry],
+    wakes: &mut [u32],
     maintenance: &mut ChannelSet,
     blocked: ChannelSet,
     moment: u32,
 ) -> [Option<Out>; 32]
     requires day { IsExchange (day_of moment entries.old maintenance.old) }
+    requires wakes { AreWakes (day_of moment entries.old maintenance.old) wakes.old }
     requires early { moment < 300000 }
     requires blocked { AreBlocked (day_of moment entries.old maintenance.old) blocked }
     ensures entries { entries.new ≡ map (after_second (day_of moment entries.old maintenance.old)) entries.old }
     ensures maintenance { maintenance.new ≡ maintained (day_of moment entries.old maintenance.old) 0 maintenance.old }
     ensures said { SaysOnEach (day_of moment entries.old maintenance.old) result }
     ensures slots { length result ≡ 32 }
+    ensures wakes { AreWakes (ticked (day_of moment entries.old maintenance.old)).day wakes.new }
 {
     let mut said = [None; 32];
     for i in 0..entries.len() {
-        let entry = entries[i];
-        if let Some(channel) = Channel::new(entry.channel) {
-            let moved = second(&entry, channel, moment + 1, !blocked.has(channel));
-            entries[i].standing = moved.standing;
-            note(&mut said, maintenance, channel, &moved);
+        if wakes[i] <= moment + 1 {
+            move_one(entries, i, &mut said, maintenance, blocked, moment);
+            wakes[i] = booking_due(&entries[i]);
         }
     }
     said

@@ -1,0 +1,119 @@
+#!/bin/sh
+# Ticks a second of an exchange with 4,000 bookings on 30 channels, on one core: with none live, with 30 live,
+# and over a whole day on which each call is answered, and released when its booking ends. It builds a program in
+# a scratch folder, over copies of the crates, and prints the times.
+set -eu
+top=$(cd "$(dirname "$0")/.." && pwd)
+scratch=$(mktemp -d)
+trap 'rm -rf "$scratch"' EXIT
+mkdir -p "$scratch/crates/day_rate/src"
+for crate in bx_base bx_q931 bx_calls bx_day; do
+    cp -r "$top/crates/$crate" "$scratch/crates/"
+done
+cp "$top/HANDLES" "$scratch/"
+{
+    grep -E '^(bx_base|bx_q931|bx_calls|bx_day):' "$top/crates.txt"
+    echo 'day_rate: bx_base bx_day'
+} > "$scratch/crates.txt"
+cat > "$scratch/crates/day_rate/src/main.rt" <<'PROGRAM'
+#![tactic(auto)]
+
+use bx_base::{Booking, Bookings, Channel, ChannelSet, Number, Plan};
+use bx_day::Exchange;
+use std::alloc::Global;
+use std::io;
+use std::io::{Error, ErrorKind};
+use std::time::Instant;
+
+const SETUP: u8 = 0x05;
+const CONNECT: u8 = 0x07;
+const DISCONNECT: u8 = 0x45;
+const RELEASE: u8 = 0x4D;
+
+fn failed() -> Error {
+    Error::from(ErrorKind::Other)
+}
+
+/// When a row's booking starts and ends: the first 30 run from one moment to another, three seconds apart, and after
+/// them calls of 100 seconds follow on each channel, up to the 4,000th.
+fn times(row: u32, begin: u32, first: u32) -> (u32, u32) {
+    let late = (row % 30).wrapping_mul(3);
+    if row < 30 {
+        return (begin.wrapping_add(late), first.wrapping_add(late));
+    }
+    let turn = (row / 30 - 1).wrapping_mul(100);
+    let start = first.wrapping_add(turn).wrapping_add(late);
+    (start, start.wrapping_add(100))
+}
+
+fn opened(alloc: Global, begin: u32, first: u32) -> io::Result<Exchange> {
+    let mut bookings = Bookings::new(alloc);
+    let mut assigned = Vec::new(alloc);
+    let number = Number::new(b"1234").ok_or(failed())?;
+    for row in 0..4000u32 {
+        let (start, end) = times(row, begin, first);
+        let booking = Booking::new(start, end, 5, number).ok_or(failed())?;
+        if bookings.push(booking).is_err() {
+            return Err(failed());
+        }
+        let place = (row % 30) as u8;
+        let channel = if place < 15 { place + 1 } else { place + 2 };
+        assigned.push(Channel::new(channel)).map_err(|_| failed())?;
+    }
+    let mut numbers = Vec::new(alloc);
+    for number in 1..32u8 {
+        if number != 16 {
+            numbers.push(number).map_err(|_| failed())?;
+        }
+    }
+    let channels = ChannelSet::from_numbers(&numbers).map_err(|_| failed())?;
+    let plan = Plan::new(bookings, channels, assigned, Vec::new(alloc), 20000).ok_or(failed())?;
+    if !plan.carried() {
+        return Err(failed());
+    }
+    Ok(Exchange::new(alloc, &plan)?)
+}
+
+/// A tick, after which each SETUP is answered by CONNECT, and each DISCONNECT by RELEASE. How many messages were sent.
+fn second(exchange: &mut Exchange) -> usize {
+    let sent = exchange.tick();
+    for octets in sent.as_slice() {
+        if let [_, _, high, low, kind, ..] = octets.as_slice() {
+            let answer = match *kind {
+                SETUP => CONNECT,
+                DISCONNECT => RELEASE,
+                _ => 0,
+            };
+            if answer != 0 {
+                let _ = exchange.receive(&[8, 2, *high | 0x80, *low, answer]);
+            }
+        }
+    }
+    sent.len()
+}
+
+fn run(rt: &HostRuntime, name: &str, exchange: &mut Exchange, ticks: u32) -> io::Result<()> {
+    let start = Instant::now(rt)?;
+    let mut sent: usize = 0;
+    for _ in 0..ticks {
+        sent = sent.wrapping_add(second(exchange));
+    }
+    let time = start.elapsed(rt)?.as_micros();
+    println!(rt; "{name}: {ticks} ticks in {time} us, {sent} messages")
+}
+
+fn main(rt: HostRuntime) -> io::Result<()> {
+    let alloc = rt.alloc();
+    let mut exchange = opened(alloc, 149_900, 150_000)?;
+    run(&rt, "none live", &mut exchange, 149_000)?;
+    let mut exchange = opened(alloc, 0, 100_000)?;
+    run(&rt, "offers", &mut exchange, 100)?;
+    run(&rt, "30 live", &mut exchange, 99_000)?;
+    let mut exchange = opened(alloc, 0, 100)?;
+    run(&rt, "whole day", &mut exchange, 300_000)
+}
+PROGRAM
+: > "$scratch/crates/day_rate/stdout"
+cd "$scratch/crates/day_rate"
+rt run > "$scratch/log" 2>&1 || { tail -20 "$scratch/log"; exit 1; }
+grep -E ' ticks in ' "$scratch/log"
