@@ -1,21 +1,5 @@
-#!/bin/sh
-# Ticks a second of an exchange with 4,000 bookings on 30 channels, on one core: with none live, with 30 live,
-# and over a whole day on which each call is answered, and released when its booking ends. It builds a program in
-# a scratch folder, over copies of the crates, and prints the times.
-set -eu
-top=$(cd "$(dirname "$0")/.." && pwd)
-scratch=$(mktemp -d)
-trap 'rm -rf "$scratch"' EXIT
-mkdir -p "$scratch/crates/day_rate/src"
-for crate in bx_base bx_q931 bx_calls bx_day; do
-    cp -r "$top/crates/$crate" "$scratch/crates/"
-done
-cp "$top/HANDLES" "$scratch/"
-{
-    grep -E '^(bx_base|bx_q931|bx_calls|bx_day):' "$top/crates.txt"
-    echo 'day_rate: bx_base bx_day'
-} > "$scratch/crates.txt"
-cat > "$scratch/crates/day_rate/src/main.rt" <<'PROGRAM'
+//! Ticks of an exchange with 4,000 bookings on 30 channels: with none live, with 30 live, and over a whole day on which
+//! each call is answered, and released when its booking ends.
 #![tactic(auto)]
 
 use bx_base::{Booking, Bookings, Channel, ChannelSet, Number, Plan};
@@ -29,6 +13,7 @@ const SETUP: u8 = 0x05;
 const CONNECT: u8 = 0x07;
 const DISCONNECT: u8 = 0x45;
 const RELEASE: u8 = 0x4D;
+const NOTIFY: u8 = 0x6E;
 
 fn failed() -> Error {
     Error::from(ErrorKind::Other)
@@ -92,6 +77,20 @@ fn second(exchange: &mut Exchange) -> usize {
     sent.len()
 }
 
+/// Messages to the calls of the first 30 rows, which change nothing.
+fn hear(rt: &HostRuntime, exchange: &mut Exchange, rounds: u32) -> io::Result<()> {
+    let start = Instant::now(rt)?;
+    let mut answered: usize = 0;
+    for round in 0..rounds {
+        let row = (round % 30 + 1) as u8;
+        if exchange.receive(&[8, 2, 0x80, row, NOTIFY]).is_some() {
+            answered = answered.wrapping_add(1);
+        }
+    }
+    let time = start.elapsed(rt)?.as_micros();
+    println!(rt; "= {rounds} receipts in {time} us, {answered} answers")
+}
+
 fn run(rt: &HostRuntime, name: &str, exchange: &mut Exchange, ticks: u32) -> io::Result<()> {
     let start = Instant::now(rt)?;
     let mut sent: usize = 0;
@@ -99,7 +98,7 @@ fn run(rt: &HostRuntime, name: &str, exchange: &mut Exchange, ticks: u32) -> io:
         sent = sent.wrapping_add(second(exchange));
     }
     let time = start.elapsed(rt)?.as_micros();
-    println!(rt; "{name}: {ticks} ticks in {time} us, {sent} messages")
+    println!(rt; "= {name}: {ticks} ticks in {time} us, {sent} messages")
 }
 
 fn main(rt: HostRuntime) -> io::Result<()> {
@@ -108,12 +107,8 @@ fn main(rt: HostRuntime) -> io::Result<()> {
     run(&rt, "none live", &mut exchange, 149_000)?;
     let mut exchange = opened(alloc, 0, 100_000)?;
     run(&rt, "offers", &mut exchange, 100)?;
+    hear(&rt, &mut exchange, 5_000_000)?;
     run(&rt, "30 live", &mut exchange, 99_000)?;
     let mut exchange = opened(alloc, 0, 100)?;
     run(&rt, "whole day", &mut exchange, 300_000)
 }
-PROGRAM
-: > "$scratch/crates/day_rate/stdout"
-cd "$scratch/crates/day_rate"
-rt run > "$scratch/log" 2>&1 || { tail -20 "$scratch/log"; exit 1; }
-grep -E ' ticks in ' "$scratch/log"
