@@ -18,7 +18,11 @@ fn ends_of(item: &str) -> Option<(u8, u8)> {
         Some((first, last)) => (number(first)?, number(last)?),
         None => (number(item)?, number(item)?),
     };
-    if first <= last { Some((first, last)) } else { None }
+    if first <= last {
+        Some((first, last))
+    } else {
+        None
+    }
 }
 
 /// The numbers that a list names, in its order: `none`, or items separated by commas, each `n` or a range `a-b` of

@@ -63,8 +63,9 @@ fn plan<'a>(alloc: Global) -> Result<Command<'a>, AllocError> {
 }
 
 fn check<'a>(alloc: Global) -> Result<Command<'a>, AllocError> {
-    let check = Command::new(alloc, "check")
-        .about("Check a plan against a day's bookings, and print `proved ` and the total");
+    let check = Command::new(alloc, "check").about(
+        "Check a plan against a day's bookings, and print `proved ` and the total",
+    );
     let check = with_bookings(alloc, with_terms(alloc, check)?)?;
     with_plan(alloc, check)
 }

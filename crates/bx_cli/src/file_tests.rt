@@ -46,80 +46,146 @@ const FILES: [(&str, &str); 12] = [
     ("empty.csv", ""),
 ];
 
-const DAY: &str = "2026-01-05";
-
-const CET: &str = "CET-1CEST,M3.5.0,M10.5.0/3";
-
-/// Words, status, standard output, and how standard error begins.
-type Case = (&'static [&'static str], u8, &'static str, &'static str);
+/// Words with spaces between, status, standard output, and how standard error begins.
+type Case = (&'static str, u8, &'static str, &'static str);
 
 const PLANS: [Case; 14] = [
     (
-        &["plan", "--date", DAY, "--channels", "1", "@one.csv"],
+        "plan --date 2026-01-05 --channels 1 @one.csv",
         0,
         "bx-plan 3\nchannels 1\nbookings 1\n0 60 5 1234 1 free out\nprices 0\ntotal 5\nend\n",
         "",
     ),
     (
-        &["plan", "--date", DAY, "--channels=1-3", "@none.csv"],
+        "plan --date 2026-01-05 --channels=1-3 @none.csv",
         0,
         "bx-plan 3\nchannels 1 2 3\nbookings 0\nprices 0\ntotal 0\nend\n",
         "",
     ),
     (
-        &["plan", "--date", DAY, "--channels", "none", "@late.csv"],
+        "plan --date 2026-01-05 --channels none @late.csv",
         0,
         "bx-plan 3\nchannels\nbookings 1\n10 20 7 1234 - free out\nprices 1\n10 7\ntotal 0\nend\n",
         "",
     ),
     (
-        &["plan", "--date", DAY, "--channels", "1,2", "@four.csv"],
+        "plan --date 2026-01-05 --channels 1,2 @four.csv",
         0,
         "bx-plan 3\nchannels 1 2\nbookings 4\n0 10 3 100 1 free out\n0 10 2 101 - free out\n5 15 4 102 2 free out\n12 20 1 103 1 free out\nprices 1\n5 2\ntotal 8\nend\n",
         "",
     ),
     (
-        &["plan", "--date", "2026-03-29", "--zone", CET, "--channels", "31", "@spring.csv"],
+        "plan --date 2026-03-29 --zone CET-1CEST,M3.5.0,M10.5.0/3 --channels 31 @spring.csv",
         0,
         "bx-plan 3\nchannels 31\nbookings 2\n5400 9000 5 1234 31 free out\n9000 82800 5 1234 31 free out\nprices 0\ntotal 10\nend\n",
         "",
     ),
     (
-        &["plan", "--date", "2026-10-25", "--zone", CET, "--channels", "31", "@autumn.csv"],
+        "plan --date 2026-10-25 --zone CET-1CEST,M3.5.0,M10.5.0/3 --channels 31 @autumn.csv",
         0,
         "bx-plan 3\nchannels 31\nbookings 2\n9000 12600 5 1234 31 free out\n12600 90000 5 1234 31 free out\nprices 0\ntotal 10\nend\n",
         "",
     ),
-    (&["plan", "--date", DAY, "--channels", "1", "@must.csv"], 1, "", "bx: G5 TooManyMust 5\n"),
-    (&["plan", "--date", DAY, "@bad.csv"], 1, "", "bx: B7 BadNumber 1\n"),
-    (&["plan", "--date", DAY, "@binary.csv"], 1, "", "bx: B1 BadHeader\n"),
-    (&["plan", "--date", DAY, "@empty.csv"], 1, "", "bx: B1 BadHeader\n"),
-    (&["plan", "--date", DAY, "@long.csv"], 1, "", "bx: G2 TooLong\n"),
-    (&["plan", "--date", DAY, "@missing"], 1, "", "bx: F1 CannotRead @missing\n"),
-    (&["plan", "--date", DAY, "@"], 1, "", "bx: G1 ReadFailed\n"),
-    (&["plan", "--date", "2026-01-06", "@one.csv"], 1, "", "bx: B5 OutsideDay 1\n"),
+    (
+        "plan --date 2026-01-05 --channels 1 @must.csv",
+        1,
+        "",
+        "bx: G5 TooManyMust 5\n",
+    ),
+    (
+        "plan --date 2026-01-05 @bad.csv",
+        1,
+        "",
+        "bx: B7 BadNumber 1\n",
+    ),
+    (
+        "plan --date 2026-01-05 @binary.csv",
+        1,
+        "",
+        "bx: B1 BadHeader\n",
+    ),
+    (
+        "plan --date 2026-01-05 @empty.csv",
+        1,
+        "",
+        "bx: B1 BadHeader\n",
+    ),
+    (
+        "plan --date 2026-01-05 @long.csv",
+        1,
+        "",
+        "bx: G2 TooLong\n",
+    ),
+    (
+        "plan --date 2026-01-05 @missing",
+        1,
+        "",
+        "bx: F1 CannotRead @missing\n",
+    ),
+    ("plan --date 2026-01-05 @", 1, "", "bx: G1 ReadFailed\n"),
+    (
+        "plan --date 2026-01-06 @one.csv",
+        1,
+        "",
+        "bx: B5 OutsideDay 1\n",
+    ),
 ];
 
 const CHECKS: [Case; 9] = [
     (
-        &["check", "--date", DAY, "--channels", "1-2", "@four.csv", "@four.txt"],
+        "check --date 2026-01-05 --channels 1-2 @four.csv @four.txt",
         0,
         "proved 8\n",
         "",
     ),
     (
-        &["check", "--date", DAY, "--channels", "2,1", "@one.csv", "@four.txt"],
+        "check --date 2026-01-05 --channels 2,1 @one.csv @four.txt",
         1,
         "",
         "bx: C1 OtherBookings\n",
     ),
-    (&["check", "--date", DAY, "@four.csv", "@four.txt"], 1, "", "bx: C2 OtherChannels\n"),
-    (&["check", "--date", DAY, "@bad.csv", "@missing"], 1, "", "bx: B7 BadNumber 1\n"),
-    (&["check", "--date", DAY, "@four.csv", "@short.txt"], 1, "", "bx: P1 BadLine 3\n"),
-    (&["check", "--date", DAY, "@missing", "@gone"], 1, "", "bx: F1 CannotRead @missing\n"),
-    (&["check", "--date", DAY, "@four.csv", "@gone"], 1, "", "bx: F1 CannotRead @gone\n"),
-    (&["check", "--date", DAY, "@", "@four.txt"], 1, "", "bx: F1 CannotRead @\n"),
-    (&["check", "--date", DAY, "@long.csv", "@four.txt"], 1, "", "bx: F1 CannotRead @long.csv\n"),
+    (
+        "check --date 2026-01-05 @four.csv @four.txt",
+        1,
+        "",
+        "bx: C2 OtherChannels\n",
+    ),
+    (
+        "check --date 2026-01-05 @bad.csv @missing",
+        1,
+        "",
+        "bx: B7 BadNumber 1\n",
+    ),
+    (
+        "check --date 2026-01-05 @four.csv @short.txt",
+        1,
+        "",
+        "bx: P1 BadLine 3\n",
+    ),
+    (
+        "check --date 2026-01-05 @missing @gone",
+        1,
+        "",
+        "bx: F1 CannotRead @missing\n",
+    ),
+    (
+        "check --date 2026-01-05 @four.csv @gone",
+        1,
+        "",
+        "bx: F1 CannotRead @gone\n",
+    ),
+    (
+        "check --date 2026-01-05 @ @four.txt",
+        1,
+        "",
+        "bx: F1 CannotRead @\n",
+    ),
+    (
+        "check --date 2026-01-05 @long.csv @four.txt",
+        1,
+        "",
+        "bx: F1 CannotRead @long.csv\n",
+    ),
 ];
 
 /// The `--channels` of a plan, its status, and how standard error begins.
@@ -142,20 +208,40 @@ const LISTS: [(&str, u8, &str); 21] = [
     ("1-2-3", 2, "error: "),
     ("none,1", 2, "error: "),
     ("None", 2, "error: "),
-    (" 1", 2, "error: "),
+    ("\t1", 2, "error: "),
     ("1;2", 2, "error: "),
     ("\u{661}", 2, "error: "),
 ];
 
 const OPTIONS: [Case; 8] = [
-    (&["plan", "--date", "2026-02-29", "--channels", "0", "@gone"], 1, "", "bx: N1 NotABChannel 0\n"),
-    (&["plan", "--date", "2026-02-29", "@gone"], 1, "", "bx: A1 BadDate\n"),
-    (&["plan", "--date", DAY, "--zone", "x", "@gone"], 1, "", "bx: A2 BadZone\n"),
-    (&["check", "--date", "9999-12-31", "@gone", "@gone"], 1, "", "bx: A3 OutOfRange\n"),
-    (&["plan", "@one.csv"], 2, "", "error: "),
-    (&["plan", "--date", DAY], 2, "", "error: "),
-    (&["plan", "--date", DAY, "--date", DAY, "@one.csv"], 2, "", "error: "),
-    (&["check", "--date", DAY, "@four.csv"], 2, "", "error: "),
+    (
+        "plan --date 2026-02-29 --channels 0 @gone",
+        1,
+        "",
+        "bx: N1 NotABChannel 0\n",
+    ),
+    ("plan --date 2026-02-29 @gone", 1, "", "bx: A1 BadDate\n"),
+    (
+        "plan --date 2026-01-05 --zone x @gone",
+        1,
+        "",
+        "bx: A2 BadZone\n",
+    ),
+    (
+        "check --date 9999-12-31 @gone @gone",
+        1,
+        "",
+        "bx: A3 OutOfRange\n",
+    ),
+    ("plan @one.csv", 2, "", "error: "),
+    ("plan --date 2026-01-05", 2, "", "error: "),
+    (
+        "plan --date 2026-01-05 --date 2026-01-05 @one.csv",
+        2,
+        "",
+        "error: ",
+    ),
+    ("check --date 2026-01-05 @four.csv", 2, "", "error: "),
 ];
 
 /// A folder of its own with the files.
@@ -201,16 +287,13 @@ fn placed(alloc: Global, text: &str, folder: &str) -> Result<String, Fail> {
 fn does(
     rt: &HostRuntime,
     folder: &str,
-    words: &[&str],
+    words: &str,
     expected: (u8, &str, &str),
 ) -> Result<bool, Fail> {
-    let mut owned = Vec::new(rt.alloc());
-    for word in words {
-        owned.push(placed(rt.alloc(), word, folder)?)?;
-    }
+    let words = placed(rt.alloc(), words, folder)?;
     let mut texts = Vec::new(rt.alloc());
-    for word in &owned {
-        texts.push(word.as_str())?;
+    for word in words.split(' ') {
+        texts.push(word)?;
     }
     let mut input = Watched::new(b"".as_slice());
     let mut output = Watched::new(Vec::new(rt.alloc()));
@@ -219,20 +302,24 @@ fn does(
     let (expected, out, err) = expected;
     let err = placed(rt.alloc(), err, folder)?;
     let said = errors.into_inner();
-    Ok(status == expected
-        && output.into_inner().as_slice() == out.as_bytes()
-        && said.starts_with(err.as_bytes())
-        && said.is_empty() == err.is_empty())
+    Ok(
+        status == expected
+            && output.into_inner().as_slice() == out.as_bytes()
+            && said.starts_with(err.as_bytes())
+            && said.is_empty() == err.is_empty(),
+    )
 }
 
 #[test]
 fn files_and_options(rt: HostRuntime) -> Result<(), Fail> {
     let folder = folder(&rt)?;
     for (words, status, out, err) in PLANS.iter().chain(&CHECKS).chain(&OPTIONS) {
-        assert!(rt; does(&rt, &folder, words, (*status, out, err))?, "{words:?}");
+        assert!(rt; does(&rt, &folder, words, (*status, out, err))?, "{words}");
     }
     for (list, status, err) in LISTS {
-        let words = ["check", "--date", DAY, "--channels", list, "@none.csv", "@none.txt"];
+        let words = format!(in rt.alloc();
+            "check --date 2026-01-05 --channels {list} @none.csv @none.txt"
+        )?;
         let path = format!(in rt.alloc(); "{folder}/none.txt")?;
         fs::write(
             &rt,
@@ -256,7 +343,14 @@ fn plans_to_writers_that_fail(rt: HostRuntime) -> Result<(), Fail> {
         let mut input = Watched::new(b"".as_slice());
         let mut output = Watched::new(Failing::new(Vec::new(rt.alloc()), calls, 1));
         let mut errors = Watched::new(Vec::new(rt.alloc()));
-        let words = ["plan", "--date", DAY, "--channels", "1", bookings.as_str()];
+        let words = [
+            "plan",
+            "--date",
+            "2026-01-05",
+            "--channels",
+            "1",
+            bookings.as_str(),
+        ];
         let status = main_words(&rt, &words, &mut input, &mut output, &mut errors);
         let written = output.into_inner().into_inner();
         assert_eq!(rt; status == 0, calls == 76, "{calls}");

@@ -18,7 +18,10 @@ pub struct Terms<'a> {
 #[derive(Drop)]
 pub enum Request<'a> {
     /// Print the best plan of the bookings in this file.
-    Plan { terms: Terms<'a>, bookings: &'a str },
+    Plan {
+        terms: Terms<'a>,
+        bookings: &'a str,
+    },
     /// Check the plan in one file against the bookings in another.
     Check {
         terms: Terms<'a>,
@@ -26,7 +29,9 @@ pub enum Request<'a> {
         plan: &'a str,
     },
     /// Print what a message says.
-    Decode { octets: &'a str },
+    Decode {
+        octets: &'a str,
+    },
 }
 
 /// Why the words are no command.
@@ -90,7 +95,9 @@ fn terms_of<'a>(alloc: Global, matches: &ArgMatches<'a>) -> Result<Terms<'a>, Re
             channels,
         }),
         None => {
-            let message = format!(in alloc; "invalid value '{list}' for '--channels <LIST>': not `none`, and no list of numbers and ranges of one or two digits")?;
+            let message = format!(in alloc;
+                "invalid value '{list}' for '--channels <LIST>': not `none`, and no list of numbers and ranges of one or two digits"
+            )?;
             Err(wrong(alloc, &message))
         }
     }

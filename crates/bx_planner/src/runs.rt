@@ -6,13 +6,13 @@ use bx_book::{BookFault, Day};
 use std::alloc::Global;
 use std::test::Fail;
 
-const ONE: &str =
-    "start,end,number,pay\n2026-01-05T00:00:00Z,2026-01-05T00:01:00Z,1234,5\n";
+const ONE: &str = "start,end,number,pay\n2026-01-05T00:00:00Z,2026-01-05T00:01:00Z,1234,5\n";
 
 const PLAN: &str =
     "bx-plan 3\nchannels 1\nbookings 1\n0 60 5 1234 1 free out\nprices 0\ntotal 5\nend\n";
 
-const FULL: &str = "start,end,number,pay,must\n2026-01-05T00:00:00Z,2026-01-05T00:00:10Z,1,4,yes\n2026-01-05T00:00:05Z,2026-01-05T00:00:15Z,1,6,yes\n";
+const FULL: &str =
+    "start,end,number,pay,must\n2026-01-05T00:00:00Z,2026-01-05T00:00:10Z,1,4,yes\n2026-01-05T00:00:05Z,2026-01-05T00:00:15Z,1,6,yes\n";
 
 /// The answer to a text on channel 1, and what was written.
 fn answer(alloc: Global, text: &str) -> Result<(Result<u64, RunFault>, Vec<u8>), Fail> {
@@ -67,7 +67,11 @@ fn runs_over_failing_devices(rt: HostRuntime) -> Result<(), Fail> {
         let result = plan_run(rt.alloc(), &mut input, &mut output, &day, channels);
         let written = output.into_inner().into_inner();
         assert_eq!(rt; result.is_ok(), calls == 76, "{calls}");
-        assert_eq!(rt; result.is_err(), result == Err(RunFault::WriteFailed), "{calls}");
+        assert_eq!(rt;
+            result.is_err(),
+            result == Err(RunFault::WriteFailed),
+            "{calls}"
+        );
         assert_eq!(rt; written.len(), calls as usize);
         assert!(rt; PLAN.as_bytes().starts_with(written.as_slice()));
     }
