@@ -43,14 +43,15 @@ pub fn moment(field: &[u8], day: &Day, row: u16) -> Result<u32, BookFault>
     }
 }
 
-fn all_digits(field: &[u8]) -> bool
+/// Whether all octets are ASCII digits.
+pub fn all_digits(field: &[u8]) -> bool
     ensures { result ≡ list_all is_ascii_digit field.now }
 {
     field.iter().all(|octet| octet.is_ascii_digit())
 }
 
 /// The value of digits, where it is below `u64::MAX`, and else that.
-fn digits_value(digits: &[u8]) -> u64
+pub fn digits_value(digits: &[u8]) -> u64
     requires { IsTrue (list_all is_ascii_digit digits.now) }
     ensures { result ≡ capped (pay_value digits.now) }
 {

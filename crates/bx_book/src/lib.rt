@@ -6,6 +6,7 @@ mod fault;
 mod field;
 mod metered;
 mod place;
+pub mod records;
 mod row;
 mod stream;
 #[cfg(test)]

@@ -9,3 +9,4 @@ pub mod NetTable
 pub mod UserTable
 pub mod UnknownTable
 pub mod Setups
+pub mod Said

@@ -1,0 +1,5 @@
+pub mod ScriptRows
+pub mod Policies
+pub mod ScriptTexts
+pub mod ScriptFronts
+pub mod FarDay
