@@ -1,0 +1,4 @@
+pub mod OctetSteps
+pub mod WritingFrames
+pub mod Turns
+pub mod Hearing

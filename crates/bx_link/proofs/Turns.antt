@@ -1,0 +1,73 @@
+-- Events one after another, and turns by their frames.
+use Rattle.std.proofs.Common.{◌≡◌, ℕ, ◌+◌, ◌-◌, ◌<◌, ◌≤◌, zero, suc, List, [], ◌∷◌, ◌++◌, map, length, refl, sym, ap, ◌∙◌, append_assoc, append-nil, Option, Some, None, option_map, Result, Ok, Err, arith, true, if◌then◌else◌, ◌==◌}
+use Rattle.std.specs.List.{flat_map}
+use Rattle.arrayvec.specs.ArrayVec.{ArrayVec}
+use Rattle.bx_day.specs.Day.{Day}
+use Rattle.bx_q931.specs.Outgoing.{Outgoing, out_octets}
+use Rattle.bx_day.specs.Run.{Event, Tick, Receive, happens, day_after, reply_list}
+use Rattle.bx_link.specs.Frames.{Found, frame_in, message_frame}
+use Rattle.bx_link.specs.Talking.{Turn, no_more, with_messages, turn_by, turn_from, turn_in, heard, written_for, written_over, frames_of}
+use Rattle.bx_link.specs.declared.fault.LinkFault.{LinkFault}
+use Rattle.bx_link.specs.declared.fault.LinkFault.TheVariants.{MoreThan64Messages, WrongMoment}
+use Rattle.bx_link.specs.declared.frame.Side.{Side}
+use Rattle.bx_link.specs.declared.frame.Frame.{Frame}
+use Rattle.bx_link.specs.declared.frame.Frame.TheVariants as frames
+
+-- ---- events
+
+pub day_more : (xs ys : List Event) (d : Day) → day_after (xs ++ ys) d ≡ day_after ys (day_after xs d)
+day_more [] ys d = refl
+day_more (x ∷ xs) ys d = day_more xs ys (happens d x).day
+
+pub written_more : (xs ys : List Event) (d : Day) → written_over (xs ++ ys) d ≡ written_over xs d ++ written_over ys (day_after xs d)
+written_more [] ys d = refl
+written_more (x ∷ xs) ys d = ap (λ (l : List ℕ). written_for d x ++ l) (written_more xs ys (happens d x).day) ∙ sym (append_assoc (written_for d x) (written_over xs (happens d x).day) (written_over ys (day_after xs (happens d x).day)))
+
+pub heard_more : (xs : List (List ℕ)) (octets : List ℕ) → heard (xs ++ octets ∷ []) ≡ heard xs ++ Receive octets ∷ []
+heard_more [] octets = refl
+heard_more (x ∷ xs) octets = ap (λ (l : List Event). Receive x ∷ l) (heard_more xs octets)
+
+module _ (messages : List (List ℕ)) (octets : List ℕ) (d : Day) where
+  pub day_heard : day_after (heard (messages ++ octets ∷ [])) d ≡ (happens (day_after (heard messages) d) (Receive octets)).day
+  day_heard = ap (λ (es : List Event). day_after es d) (heard_more messages octets) ∙ day_more (heard messages) (Receive octets ∷ []) d
+
+  pub written_heard : written_over (heard (messages ++ octets ∷ [])) d ≡ written_over (heard messages) d ++ written_for (day_after (heard messages) d) (Receive octets)
+  written_heard =
+      ap (λ (es : List Event). written_over es d) (heard_more messages octets) ∙ written_more (heard messages) (Receive octets ∷ []) d
+      ∙ ap (λ (l : List ℕ). written_over (heard messages) d ++ l) (append-nil (written_for (day_after (heard messages) d) (Receive octets)))
+
+-- ---- turns
+
+pub with_none : (turn : Turn) → with_messages [] turn ≡ turn
+with_none turn = refl
+
+pub with_more : (xs ys : List (List ℕ)) (turn : Turn) → with_messages xs (with_messages ys turn) ≡ with_messages (xs ++ ys) turn
+with_more xs ys turn = ap (λ (l : List (List ℕ)). record turn { messages = l }) (sym (append_assoc xs ys turn.messages))
+
+module _ (side : Side) (moment : ℕ) (text : List ℕ) where
+  -- a message comes next
+  pub turn_message : (room : ℕ) (octets : ArrayVec ℕ) → 0 < room → (let r : Result Frame LinkFault = Ok (frames.Message octets) in r) ≡ (frame_in side room text).answer
+      → turn_in side moment room text ≡ with_messages (octets.items ∷ []) (turn_in side moment (room - 1) (frame_in side room text).rest)
+  unfolding turn_in
+  turn_message zero octets some e = absurd (omega (arith, some))
+  turn_message (suc room) octets some e = let one : suc room - 1 ≡ room = omega arith in rw one (ap (λ (r : Result Frame LinkFault). turn_by moment (turn_in side moment room) r (frame_in side (suc room) text).rest) (sym e))
+
+  -- the turn ends
+  pub turn_end : (room said : ℕ) → (let r : Result Frame LinkFault = Ok (frames.EndOfTurn said) in r) ≡ (frame_in side room text).answer
+      → turn_in side moment room text ≡ no_more (if said == moment then Ok true else Err WrongMoment) (frame_in side room text).rest
+  unfolding turn_in
+  turn_end zero said e = ap (λ (r : Result Frame LinkFault). turn_by moment (no_more (Err MoreThan64Messages)) r (frame_in side 0 text).rest) (sym e)
+  turn_end (suc room) said e = ap (λ (r : Result Frame LinkFault). turn_by moment (turn_in side moment room) r (frame_in side (suc room) text).rest) (sym e)
+
+  -- a fault comes next
+  pub turn_fault : (room : ℕ) (fault : LinkFault) → (let r : Result Frame LinkFault = Err fault in r) ≡ (frame_in side room text).answer
+      → turn_in side moment room text ≡ no_more (Err fault) (frame_in side room text).rest
+  unfolding turn_in
+  turn_fault zero fault e = ap (λ (r : Result Frame LinkFault). turn_by moment (no_more (Err MoreThan64Messages)) r (frame_in side 0 text).rest) (sym e)
+  turn_fault (suc room) fault e = ap (λ (r : Result Frame LinkFault). turn_by moment (turn_in side moment room) r (frame_in side (suc room) text).rest) (sym e)
+
+-- ---- replies
+
+pub reply_frames : (sent : Option Outgoing) (items : List ℕ) → Some items ≡ option_map out_octets sent → message_frame items ≡ frames_of (reply_list sent)
+reply_frames None items e = cc
+reply_frames (Some o) items e = let same : items ≡ out_octets o = cc in ap message_frame same ∙ sym (append-nil (message_frame (out_octets o)))

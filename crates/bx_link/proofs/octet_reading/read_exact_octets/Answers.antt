@@ -1,0 +1,16 @@
+use Rattle.std.proofs.Common.{◌∙◌}
+use Rattle.std.proofs.Math.Bool.{or-false}
+use Rattle.bx_base.specs.Watching.{is_faulted}
+use Rattle.bx_link.proofs.OctetSteps.{read_within, Consumes-next}
+use Rattle.bx_link.proofs.octet_reading.read_exact_octets.Goals as goal
+
+pub loop-at-preserved : goal.loop-at-preserved
+loop-at-preserved g c =
+    let buf = c.loop-at.buf in
+    let part = c.read.new.buf in
+    let bound = c.in-Ok.ensures.bound.0 in
+    record {
+      within = read_within buf part c.loop-at.at c.in-Ok.n c.loop-at.invariant.within bound;
+      read = Consumes-next buf part c.loop-at.at c.in-Ok.n c.loop-at.invariant.within bound _ _ _ c.loop-at.invariant.read c.in-Ok.ensures.bytes.0;
+      unfaulted = c.in-Ok.ensures.faulted ∙ or-false (is_faulted c.loop-at.r) ∙ c.loop-at.invariant.unfaulted;
+    }

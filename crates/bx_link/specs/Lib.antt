@@ -1,0 +1,5 @@
+pub mod Frames
+pub mod Reading
+pub mod Talking
+pub mod Hearing
+pub mod Sessions

@@ -1,0 +1,13 @@
+//! The link between the exchange and the far end: frames of octets, turns and sessions.
+#![tactic(auto)]
+
+mod fault;
+mod frame;
+mod frame_reading;
+mod frame_writing;
+mod octet_reading;
+mod session;
+mod turn;
+
+pub use fault::LinkFault;
+pub use session::Session;

@@ -1,0 +1,115 @@
+//! Sessions: the turns of the exchange, opened and closed one after another, until a fault.
+
+ghost use Rattle.std.specs.Prelude.{◌≡◌, true, false, is_ok, is_err, Err};
+ghost use Rattle.bx_link.specs.Hearing.{Hears, Opens};
+ghost use Rattle.bx_link.specs.Sessions.{is_turn_open, is_closed};
+ghost use Rattle.bx_link.specs.declared.fault.LinkFault.TheVariants.{Closed};
+
+use crate::fault::LinkFault;
+use crate::turn::{hear_turn, write_tick};
+use bx_base::Watched;
+use bx_day::Exchange;
+use std::io::{Read, Write};
+
+/// Where a session stands.
+#[derive(Clone, Copy, Debug, PartialEq, Eq)]
+enum Stage {
+    BetweenTurns,
+    InTurn,
+    Over,
+}
+
+/// A session of the exchange. Its turns are opened and closed one after another; after a fault it is closed,
+/// and neither reads nor writes.
+#[derive(Clone, Copy, Debug, PartialEq, Eq)]
+pub struct Session {
+    stage: Stage,
+}
+
+impl Session {
+    /// A session before its first turn.
+    pub fn new() -> Self
+        ensures turn { is_turn_open result ≡ false }
+        ensures closed { is_closed result ≡ false }
+    {
+        Session {
+            stage: Stage::BetweenTurns,
+        }
+    }
+
+    /// Whether a turn is open, so that `close_turn` comes next. It is not where the session is closed.
+    pub fn turn_is_open(&self) -> bool
+        ensures { result ≡ is_turn_open self.now }
+    {
+        match self.stage {
+            Stage::InTurn => true,
+            Stage::BetweenTurns | Stage::Over => false,
+        }
+    }
+
+    /// Opens a turn: the exchange ticks, and each message that it sends is written as a frame, in order, and
+    /// then the end of turn with its moment. Takes no memory. A closed session answers `Closed`, and neither
+    /// ticks nor writes. Where a write fails the session is closed: the tick has happened, and a front of
+    /// these octets was written.
+    pub fn open_turn<W: Write>(
+        &mut self,
+        exchange: &mut Exchange,
+        writer: &mut Watched<W>,
+    ) -> Result<(), LinkFault>
+        requires { is_turn_open self.old ≡ false }
+        ensures opened { is_closed self.old ≡ false → Opens W.contents writer.old writer.new exchange.old exchange.new result }
+        ensures refused { is_closed self.old ≡ true → result ≡ Err Closed }
+        ensures exchange { is_closed self.old ≡ true → exchange.new ≡ exchange.old }
+        ensures writer { is_closed self.old ≡ true → writer.new ≡ writer.old }
+        ensures turn { is_turn_open self.new ≡ is_ok result }
+        ensures closed { is_closed self.new ≡ is_err result }
+    {
+        if let Stage::Over = self.stage {
+            return Err(LinkFault::Closed);
+        }
+        match write_tick(exchange, writer) {
+            Ok(()) => {
+                self.stage = Stage::InTurn;
+                Ok(())
+            }
+            Err(_) => {
+                self.stage = Stage::Over;
+                Err(LinkFault::WriteFailed)
+            }
+        }
+    }
+
+    /// Closes a turn: each message that comes is received by the exchange, and the reply is written at once,
+    /// up to the end of turn with the exchange's moment. Nothing is read behind it. Takes no memory. A closed
+    /// session answers `Closed`, and neither reads nor writes. At any other fault the session is closed: the
+    /// exchange has received the messages that came whole before it, and no more.
+    pub fn close_turn<R: Read, W: Write>(
+        &mut self,
+        exchange: &mut Exchange,
+        reader: &mut Watched<R>,
+        writer: &mut Watched<W>,
+    ) -> Result<(), LinkFault>
+        requires { is_closed self.old ≡ false → is_turn_open self.old ≡ true }
+        ensures heard { is_closed self.old ≡ false → Hears R.remaining W.contents reader.old reader.new writer.old writer.new exchange.old exchange.new result }
+        ensures refused { is_closed self.old ≡ true → result ≡ Err Closed }
+        ensures exchange { is_closed self.old ≡ true → exchange.new ≡ exchange.old }
+        ensures reader { is_closed self.old ≡ true → reader.new ≡ reader.old }
+        ensures writer { is_closed self.old ≡ true → writer.new ≡ writer.old }
+        ensures turn { is_turn_open self.new ≡ false }
+        ensures closed { is_closed self.new ≡ is_err result }
+    {
+        if let Stage::Over = self.stage {
+            return Err(LinkFault::Closed);
+        }
+        match hear_turn(exchange, reader, writer) {
+            Ok(()) => {
+                self.stage = Stage::BetweenTurns;
+                Ok(())
+            }
+            Err(fault) => {
+                self.stage = Stage::Over;
+                Err(fault)
+            }
+        }
+    }
+}
