@@ -14,7 +14,7 @@ use Rattle.bx_calls.specs.declared.net_state.NetState.TheVariants.{OutgoingCallP
 use Rattle.bx_calls.specs.NetTable.{net_message, net_second}
 use Rattle.bx_base.specs.Bookings.{Row, row_at, is_running, AreBookings, Carries}
 use Rattle.bx_base.specs.Plans.{is_accepted, channel_at}
-use Rattle.bx_day.specs.Said.{Said}
+use Rattle.bx_calls.specs.Said.{Said}
 use Rattle.bx_day.specs.declared.entry.Activity.{Activity}
 use Rattle.bx_day.specs.declared.entry.Standing.{Standing}
 use Rattle.bx_day.specs.declared.entry.Standing.TheVariants.{Refused, Unoffered, OnCall, Carried, Unanswered, Missed}
@@ -22,7 +22,7 @@ use Rattle.bx_day.specs.declared.entry.Entry.{Entry}
 use Rattle.bx_day.specs.declared.entry.Moved.{Moved}
 use Rattle.bx_day.specs.Day.{Day, Sent, Answered, entry_at, no_entry, after_second, second_at, waits, hears, takes_call, takes_or, takes_preferred, called_on, called, stray, received_at, receive, tick, opening, entry_of, entries_from, is_free, is_live, opens, index_of, lowest_open, every_channel, names, with_moved}
 use Rattle.bx_day.specs.Run.{Event, Tick, Receive, receive_from, receive_read, happens, day_after}
-use Rattle.bx_day.specs.Said.{said_of}
+use Rattle.bx_calls.specs.Said.{said_of}
 use Rattle.bx_q931.specs.Messages.{PlainMessage, message_at}
 use Rattle.bx_q931.specs.declared.reference.Reference.{Reference}
 use Rattle.bx_q931.specs.declared.reference.Reference.TheVariants.{Dummy, Value}

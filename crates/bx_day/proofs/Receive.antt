@@ -7,7 +7,7 @@ use Rattle.bx_q931.specs.declared.kind.Kind.TheVariants.{Setup}
 use Rattle.bx_q931.specs.declared.channel_field.ChannelField.{ChannelField}
 use Rattle.bx_q931.specs.declared.channel_field.ChannelField.TheVariants.{Absent, Named, AnyChannel, Unread}
 use Rattle.bx_base.specs.Bookings.{is_running}
-use Rattle.bx_day.specs.Said.{Said}
+use Rattle.bx_calls.specs.Said.{Said}
 use Rattle.bx_day.specs.Day.{Day, Answered, is_live, is_held, is_free, is_open, is_unoffered, opens, index_of, one_more, or_else, lowest_open, entry_at, no_entry, names, hears, takes_call, takes_or, takes_preferred, called_on, called, stray, received_at, receive, every_channel}
 use Rattle.bx_day.specs.declared.entry.Entry.{Entry}
 use Rattle.bx_day.specs.declared.entry.Standing.{Standing}

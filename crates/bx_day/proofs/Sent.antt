@@ -29,7 +29,7 @@ use Rattle.bx_q931.specs.declared.channel_field.ChannelField.{ChannelField}
 use Rattle.bx_q931.specs.declared.channel_field.ChannelField.TheVariants.{Absent, Named, AnyChannel, Unread}
 use Rattle.bx_calls.specs.UnknownTable.{unknown_row, unknown_status}
 use Rattle.bx_calls.specs.declared.unknown_reference.End.TheVariants.{Network}
-use Rattle.bx_day.specs.Said.{Said, said_of}
+use Rattle.bx_calls.specs.Said.{Said, said_of}
 use Rattle.bx_day.specs.Day.{Day, Sent, Answered, entry_at, is_free, opens, index_of, lowest_open, every_channel, names, hears, takes_or, takes_preferred, called_on, called, stray, received_at, follow, waits, second_at, second_of, tick}
 use Rattle.bx_day.specs.Run.{Event, Tick, Receive, receive_from, receive_read, happens, reply_list}
 use Rattle.bx_day.specs.declared.entry.Standing.{Standing}

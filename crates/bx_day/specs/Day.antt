@@ -23,7 +23,7 @@ use Rattle.bx_day.specs.declared.entry.Standing.TheVariants.{Refused, Unoffered,
 use Rattle.bx_day.specs.declared.entry.Entry.{Entry}
 use Rattle.bx_day.specs.declared.entry.Moved.{Moved}
 use Rattle.bx_base.specs.Bookings.{Row, no_row, is_running}
-use Rattle.bx_day.specs.Said.{Said}
+use Rattle.bx_calls.specs.Said.{Said}
 
 pub record Day : Type 0 where
   pub moment : ℕ

@@ -1,4 +1,3 @@
-pub mod Said
 pub mod Day
 pub mod Run
 pub mod Invariant

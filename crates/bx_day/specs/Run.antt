@@ -5,7 +5,7 @@ use Rattle.bx_q931.specs.declared.fault.MessageFault.{MessageFault}
 use Rattle.bx_q931.specs.declared.reference.Reference.{Reference}
 use Rattle.bx_q931.specs.declared.reference.Reference.TheVariants.{Dummy, Value}
 use Rattle.bx_q931.specs.Outgoing.{Outgoing}
-use Rattle.bx_day.specs.Said.{said_of}
+use Rattle.bx_calls.specs.Said.{said_of}
 use Rattle.bx_day.specs.Day.{Day, Sent, Answered, unchanged, tick, receive}
 
 -- a message that was read; the dummy and the global reference are ignored

@@ -3,7 +3,7 @@
 ghost use Rattle.std.specs.Prelude.{◌≡◌, ◌<◌, ℕ, Bool, true, false, length, IfSome, option_map};
 ghost use Rattle.bx_q931.specs.Messages.{PlainMessage};
 ghost use Rattle.bx_q931.specs.Outgoing.{IsCallReference, out_octets};
-ghost use Rattle.bx_day.specs.Said.{said_of};
+ghost use Rattle.bx_calls.specs.Said.{said_of};
 ghost use Rattle.bx_day.specs.Day.{index_of, names, with_moved, received_at, stray, receive};
 ghost use Rattle.bx_day.specs.Run.{receive_from, receive_octets};
 ghost use Rattle.bx_day.specs.Reading.{IsExchange};

@@ -1,6 +1,6 @@
 use Rattle.std.proofs.Common.{Bool, Option, ℕ, sym, ap, ◌∙◌}
 use Rattle.bx_q931.specs.declared.channel_field.ChannelField.TheVariants.{Named}
-use Rattle.bx_day.specs.Said.{said_of}
+use Rattle.bx_calls.specs.Said.{said_of}
 use Rattle.bx_day.specs.Day.{Answered, called_on, index_of, opens, takes_or}
 use Rattle.bx_day.proofs.Received.{opening_opens, preferred_opens, preferred_takes}
 use Rattle.bx_day.proofs.exchange.Exchange.called_at.Goals as goal

@@ -1,6 +1,6 @@
 use Rattle.std.proofs.Common.{◌≡◌, ◌<◌, ◌∙◌, true, false, ℕ, sym, subst, ap, length}
 use Rattle.std.proofs.lemmas.List.{get_or_default}
-use Rattle.bx_day.specs.Said.{said_of}
+use Rattle.bx_calls.specs.Said.{said_of}
 use Rattle.bx_day.specs.Day.{Day, entry_at, no_entry, hears, with_moved}
 use Rattle.bx_day.specs.declared.entry.Entry.{Entry}
 use Rattle.bx_day.specs.declared.entry.Moved.{Moved}

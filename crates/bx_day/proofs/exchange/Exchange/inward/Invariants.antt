@@ -1,6 +1,6 @@
 use Rattle.std.proofs.Common.{◌≡◌, ◌<◌, ℕ, false}
 use Rattle.bx_q931.specs.Messages.{PlainMessage}
-use Rattle.bx_day.specs.Said.{said_of}
+use Rattle.bx_calls.specs.Said.{said_of}
 use Rattle.bx_day.specs.Day.{names, entry_at}
 use Rattle.bx_day.proofs.exchange.Exchange.inward.Given as goal
 
