@@ -1,5 +1,5 @@
 -- The channels on which a call may begin now.
-use Rattle.std.proofs.Common.{◌≡◌, ◌≢◌, ℕ, zero, suc, replicate, ◌+◌, ◌<◌, ◌==◌, ◌&&◌, ◌||◌, not, Bool, true, false, List, [], ◌∷◌, ◌++◌, length, take, Option, Some, None, refl, sym, subst, ap, ◌∙◌, inl, inr, if◌then◌else◌}
+use Rattle.std.proofs.Common.{◌≡◌, ◌≢◌, ℕ, zero, suc, replicate, ◌+◌, ◌<◌, ◌==◌, ◌&&◌, ◌||◌, not, Bool, true, false, List, [], ◌∷◌, length, take, Option, Some, None, refl, sym, ap, ◌∙◌, inl, inr, if◌then◌else◌}
 use Rattle.std.specs.Prelude.{is_some}
 use Rattle.std.specs.List.{list_any}
 use Rattle.std.proofs.Math.Bool.{or-false}
@@ -11,10 +11,9 @@ use Rattle.bx_base.specs.Channels.{IsChannel}
 use Rattle.bx_day.specs.Day.{Day, is_set, is_held, is_free, is_open, is_unoffered, opens, index_of, one_more, lowest_open, every_channel, entry_at, no_entry}
 use Rattle.bx_day.specs.declared.entry.Entry.{Entry}
 use Rattle.bx_day.specs.Passing.{AreBlocked}
-use Rattle.bx_day.specs.Reading.{IsExchange, Seated}
+use Rattle.bx_day.specs.Reading.{Seated}
 use Rattle.bx_day.specs.Calling.{may_open}
 use Rattle.bx_day.proofs.Receive.{open_parts}
-use Rattle.bx_day.proofs.Passing.{each_at}
 use Rattle.bx_day.proofs.Received.{lowest_found}
 
 neither : (a b : Bool) → (not a && not b) ≡ not (a || b)
