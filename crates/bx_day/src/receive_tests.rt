@@ -407,11 +407,32 @@ fn failing_writers(rt: HostRuntime) -> Result<(), Fail> {
     Ok(())
 }
 
-/// Whether something is sent at the opening, or nothing is sent and nothing changes.
-fn is_harmless(alloc: Global, octets: &[u8]) -> Result<bool, Fail> {
-    let mut exchange = opening(alloc, &[(0, 60, true)])?;
+/// Whether something is sent, or nothing is sent and nothing changes, at the opening.
+fn is_harmless(exchange: &mut Exchange, octets: &[u8]) -> bool {
     let reply = exchange.receive(octets);
-    Ok(reply.is_some() || exchange.outcome(1) == Some(Outcome::Waiting))
+    reply.is_some() || exchange.outcome(1) == Some(Outcome::Waiting)
+}
+
+/// Each front of the octets, and the octets with each of them replaced by each value: the first that is harmful.
+fn first_harmful(alloc: Global, plan: &Plan, octets: &[u8]) -> Result<Option<(usize, u8)>, Fail> {
+    if !plan.carried() {
+        return Err("carried".into());
+    }
+    let mut changed = Vec::new(alloc);
+    changed.extend_from_slice(octets)?;
+    for at in 0..octets.len() {
+        if !is_harmless(&mut Exchange::new(alloc, plan)?, &octets[..at]) {
+            return Ok(Some((at, 0)));
+        }
+        for value in 0..=255u8 {
+            changed[at] = value;
+            if !is_harmless(&mut Exchange::new(alloc, plan)?, &changed) {
+                return Ok(Some((at, value)));
+            }
+        }
+        changed[at] = octets[at];
+    }
+    Ok(None)
 }
 
 #[test]
@@ -427,14 +448,10 @@ fn hostile_octets(rt: HostRuntime) -> Result<(), Fail> {
             );
         }
     }
-    for len in 0..SETUP.len() {
-        assert!(rt; is_harmless(alloc, &SETUP[..len])?, "{len} octets");
-    }
-    for at in 0..SETUP.len() {
-        for value in 0..=255u8 {
-            let mut octets = SETUP;
-            octets[at] = value;
-            assert!(rt; is_harmless(alloc, &octets)?, "{value} at {at}");
+    let plan = plan_of(alloc, &[(0, 60, true)])?;
+    for day in &DAYS {
+        for (_, octets, _) in day.steps {
+            assert_eq!(rt; first_harmful(alloc, &plan, octets)?, None, "{octets:?}");
         }
     }
     Ok(())
