@@ -1,7 +1,7 @@
 #!/bin/sh
 # Ticks a second of an exchange with 4,000 bookings on 30 channels, on one core: with none live, with 30 live,
 # and over a whole day on which each call is answered, and released when its booking ends. It builds a program in
-# a scratch folder, over copies of the crates, and prints the times.
+# a scratch folder, over copies of the crates, and prints the times. Also receipts a second, by what comes.
 set -eu
 top=$(cd "$(dirname "$0")/.." && pwd)
 scratch=$(mktemp -d)
@@ -29,6 +29,10 @@ const SETUP: u8 = 0x05;
 const CONNECT: u8 = 0x07;
 const DISCONNECT: u8 = 0x45;
 const RELEASE: u8 = 0x4D;
+
+/// The flag of a message to a call that the exchange began.
+const FLAG: u16 = 0x8000;
+const MESSAGES: u32 = 100_000;
 
 fn failed() -> Error {
     Error::from(ErrorKind::Other)
@@ -102,6 +106,31 @@ fn run(rt: &HostRuntime, name: &str, exchange: &mut Exchange, ticks: u32) -> io:
     println!(rt; "{name}: {ticks} ticks in {time} us, {sent} messages")
 }
 
+/// Messages with these octets behind their reference, to 30 references from this one on, in turn.
+fn hear(rt: &HostRuntime, name: &str, exchange: &mut Exchange, first: u16, rest: &[u8]) -> io::Result<()> {
+    let mut octets = [8, 2, 0, 0, 0, 0, 0, 0, 0];
+    let mut place: usize = 4;
+    for octet in rest {
+        if place < 9 {
+            octets[place] = *octet;
+            place += 1;
+        }
+    }
+    let len = place.min(9);
+    let start = Instant::now(rt)?;
+    let mut answered: u32 = 0;
+    for n in 0..MESSAGES {
+        let [high, low] = first.wrapping_add((n % 30) as u16).to_be_bytes();
+        octets[2] = high;
+        octets[3] = low;
+        if exchange.receive(&octets[..len]).is_some() {
+            answered = answered.wrapping_add(1);
+        }
+    }
+    let time = start.elapsed(rt)?.as_micros();
+    println!(rt; "{name}: {MESSAGES} receipts in {time} us, {answered} answered")
+}
+
 fn main(rt: HostRuntime) -> io::Result<()> {
     let alloc = rt.alloc();
     let mut exchange = opened(alloc, 149_900, 150_000)?;
@@ -109,6 +138,11 @@ fn main(rt: HostRuntime) -> io::Result<()> {
     let mut exchange = opened(alloc, 0, 100_000)?;
     run(&rt, "offers", &mut exchange, 100)?;
     run(&rt, "30 live", &mut exchange, 99_000)?;
+    hear(&rt, "STATUS ENQUIRY of live calls", &mut exchange, FLAG + 1, &[0x75])?;
+    hear(&rt, "CONNECT of live calls", &mut exchange, FLAG + 1, &[CONNECT])?;
+    hear(&rt, "ALERTING of no call", &mut exchange, FLAG + 2000, &[0x01])?;
+    hear(&rt, "the same of the far end", &mut exchange, 2000, &[0x01])?;
+    hear(&rt, "SETUP that is refused", &mut exchange, 2000, &[SETUP, 4, 2, 0x88, 0x90])?;
     let mut exchange = opened(alloc, 0, 100)?;
     run(&rt, "whole day", &mut exchange, 300_000)
 }
@@ -116,4 +150,4 @@ PROGRAM
 : > "$scratch/crates/day_rate/stdout"
 cd "$scratch/crates/day_rate"
 rt run > "$scratch/log" 2>&1 || { tail -20 "$scratch/log"; exit 1; }
-grep -E ' ticks in ' "$scratch/log"
+grep -E ' (ticks|receipts) in ' "$scratch/log"
