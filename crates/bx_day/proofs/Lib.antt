@@ -8,6 +8,7 @@ pub mod Said
 pub mod Sent
 pub mod Indices
 pub mod OpeningDay
+pub mod Once
 pub mod Passing
 pub mod Received
 pub mod WritingSteps

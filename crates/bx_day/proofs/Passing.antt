@@ -6,24 +6,18 @@ use Rattle.std.proofs.lemmas.List.{get_or-set_same, get_or-set_other, drop_all}
 use Rattle.bx_base.specs.Channels.{IsChannel}
 use Rattle.bx_q931.specs.Outgoing.{Outgoing}
 use Rattle.bx_calls.specs.PlainCalls.{PlainNetCall}
-use Rattle.bx_day.specs.Day.{Day, is_live, is_held, is_free, is_set, holds, second_at, second_of, after_second, waits, said_on, cons_some, breaks_on, maintained, every_channel, entry_at, stays, no_entry, tick, ticked}
-use Rattle.bx_day.specs.Invariant.{Apart, Pairs, is_refused, EntryFits, StandingFits}
+use Rattle.bx_day.specs.Day.{Day, is_live, is_held, is_free, is_set, holds, second_at, second_of, after_second, said_on, cons_some, breaks_on, maintained, every_channel, entry_at, stays, no_entry, tick, ticked}
+use Rattle.bx_day.specs.Invariant.{is_refused, EntryFits, StandingFits}
 use Rattle.bx_day.specs.Reading.{Seated, IsExchange}
-use Rattle.bx_day.specs.Passing.{day_of, somes, SaysOnEach, SaysOnce, AreBlocked, moved_first, marks, SlotsBefore, Passed}
+use Rattle.bx_day.specs.Passing.{day_of, somes, SaysOnEach, AreBlocked, moved_first, marks, SlotsBefore, Passed}
 use Rattle.bx_day.specs.declared.entry.Moved.{Moved}
 use Rattle.bx_day.specs.declared.entry.Entry.{Entry}
 use Rattle.bx_day.specs.declared.entry.Standing.{Standing}
 use Rattle.bx_day.specs.declared.entry.Activity.{Activity}
 use Rattle.bx_day.specs.declared.entry.Standing.TheVariants.{Refused, Unoffered, OnCall, Carried, Unanswered, Missed}
-use Rattle.bx_day.proofs.Tick.{by_cases, with_standing, offers, offers_parts, WasLive, Before, Offered, Holding, live_apart, all_hold, second_refused, ticked_fits}
+use Rattle.bx_day.proofs.Tick.{by_cases, all_hold, second_refused, ticked_fits}
+use Rattle.bx_day.proofs.Once.{decide, each_at, once, off_channel, says_once}
 use Rattle.bx_day.proofs.Law.{at_map}
-
-none≢some : {X : Type 0} (x : X) → None ≡ Some x → ⊥
-none≢some x e = false≢true (ap is_some e)
-
-pub decide : {P : Type 0} (b : Bool) → (b ≡ true → P) → (b ≡ false → P) → P
-decide true f g = f refl
-decide false f g = g refl
 
 and_false : (b : Bool) → (b && false) ≡ false
 and_false true = refl
@@ -69,80 +63,6 @@ moved_past d zero [] lt same = absurd (omega arith)
 moved_past d zero (e ∷ es) lt same = ap (λ x. x ∷ es) (sym same)
 moved_past d (suc n) [] lt same = absurd (omega arith)
 moved_past d (suc n) (e ∷ es) lt same = ap (λ xs. after_second d e ∷ xs) (moved_past d n es (omega arith) same)
-
--- ---- what each entry has, an entry has
-
-pub each_at : (P : Entry → Type 0) (es : List Entry) (n : ℕ) → n < length es → AllByRecursion P es → P (entry_at es n)
-each_at P [] n lt h = absurd (omega arith)
-each_at P (e ∷ es) zero lt h = h.0
-each_at P (e ∷ es) (suc n) lt h = each_at P es n (omega arith) h.1
-
--- ---- at one tick at most one booking of a channel says something
-
--- a booking that says something at a tick was live before, or is offered at it
-waits_says : (t : ℕ) (free : Bool) (e : Entry) (o : Outgoing) → (waits e t free).said ≡ Some o → WasLive t free (with_standing e Unoffered)
-waits_says t free e o =
-    by_cases (offers e t free) _ _ (λ (m : Moved). m.said ≡ Some o → WasLive t free (with_standing e Unoffered))
-    (λ offered says. let p = offers_parts e t free offered in Offered refl p.0 p.2)
-    (λ _. by_cases (nat_le e.booking.end t) _ _ (λ (m : Moved). m.said ≡ Some o → WasLive t free (with_standing e Unoffered))
-    (λ ended says. absurd (none≢some o says))
-    (λ going says. absurd (none≢some o says)))
-
-pub says : (t : ℕ) (free : Bool) (e : Entry) (s : Standing) (o : Outgoing) → (second_at e t free s).said ≡ Some o → WasLive t free (with_standing e s)
-says t free e Refused o h = absurd (none≢some o h)
-says t free e Unoffered o h = waits_says t free e o h
-says t free e (OnCall c a) o h = Before refl
-says t free e (Carried from until) o h = absurd (none≢some o h)
-says t free e Unanswered o h = absurd (none≢some o h)
-says t free e Missed o h = absurd (none≢some o h)
-
-pub was_live : (d : Day) (e : Entry) (o : Outgoing) → (second_of d e).said ≡ Some o → WasLive (d.moment + 1) (is_free d e.channel) e
-was_live d e o h = says (d.moment + 1) (is_free d e.channel) e e.standing o h
-
--- nothing is said where the first has nothing to say and the rest has not
-quiet : (o : Option Outgoing) (os : List Outgoing) → ((x : Outgoing) → o ≡ Some x → ⊥) → os ≡ [] → cons_some o os ≡ []
-quiet None os never h = h
-quiet (Some x) os never h = absurd (never x refl)
-
-quiet_after : (d : Day) (e : Entry) (c : ℕ) (fs : List Entry) → e.channel ≡ c → WasLive (d.moment + 1) (is_free d e.channel) e → Holding (is_held d.entries) e → AllByRecursion (Holding (is_held d.entries)) fs → AllByRecursion (Apart e) fs → said_on d c fs ≡ []
-quiet_after d e c [] on was he hs ps = refl
-quiet_after d e c (f ∷ fs) on was he hs ps =
-    let rest = quiet_after d e c fs on was he hs.1 ps.1 in
-    by_cases (f.channel == c) _ _ (λ (os : List Outgoing). os ≡ [])
-    (λ same. quiet (second_of d f).said (said_on d c fs) (λ x h. live_apart d e f ps.0 he hs.0 was (was_live d f x h) (on ∙ sym (eqb-true f.channel c same))) rest)
-    (λ _. rest)
-
-at_most_one : (o : Option Outgoing) (os : List Outgoing) → length os ≤ 1 → ((x : Outgoing) → o ≡ Some x → os ≡ []) → length (cons_some o os) ≤ 1
-at_most_one None os le h = le
-at_most_one (Some x) os le h = rw (h x refl) (omega arith)
-
-pub once : (d : Day) (c : ℕ) (es : List Entry) → AllByRecursion (Holding (is_held d.entries)) es → Pairs Apart es → length (said_on d c es) ≤ 1
-once d c [] hs ps = omega arith
-once d c (e ∷ es) hs ps =
-    by_cases (e.channel == c) _ _ (λ (os : List Outgoing). length os ≤ 1)
-    (λ on. at_most_one (second_of d e).said (said_on d c es) (once d c es hs.1 ps.1) (λ x h. quiet_after d e c es (eqb-true e.channel c on) (was_live d e x h) hs.0 hs.1 ps.0))
-    (λ _. once d c es hs.1 ps.1)
-
--- nothing is said on what is no channel
-live_refused : (s : Standing) → is_live s ≡ true → is_refused s ≡ false
-live_refused Refused h = absurd (false≢true h)
-live_refused Unoffered h = refl
-live_refused (OnCall c a) h = refl
-live_refused (Carried from until) h = refl
-live_refused Unanswered h = refl
-live_refused Missed h = refl
-
-spoken_refused : (t : ℕ) (free : Bool) (e : Entry) → WasLive t free e → is_refused e.standing ≡ false
-spoken_refused t free e (Before live) = live_refused e.standing live
-spoken_refused t free e (Offered r runs f) = r
-
-pub off_channel : (d : Day) (c : ℕ) (es : List Entry) → AllByRecursion Seated es → (IsChannel c → ⊥) → said_on d c es ≡ []
-off_channel d c [] seats never = refl
-off_channel d c (e ∷ es) seats never =
-    let rest = off_channel d c es seats.1 never in
-    by_cases (e.channel == c) _ _ (λ (os : List Outgoing). os ≡ [])
-    (λ on. quiet (second_of d e).said (said_on d c es) (λ x h. never (subst IsChannel (eqb-true e.channel c on) (seats.0.channel (spoken_refused (d.moment + 1) (is_free d e.channel) e (was_live d e x h))))) rest)
-    (λ _. rest)
 
 -- ---- the slots of what is said: each has what the entries so far said, and the rest follows
 
@@ -362,9 +282,6 @@ all_passed d i es ms ss le p =
 
 pub sent_is : (d : Day) (said : List (Option Outgoing)) → IsExchange d → length said ≡ 32 → SaysOnEach d said → somes said ≡ (ticked d).sent
 sent_is d said h size each = all_somes d said size h.seated each
-
-pub says_once : (d : Day) → IsExchange d → SaysOnce d
-says_once d h c = once d c d.entries (all_hold d.entries) h.day.pairs
 
 pub few_somes : (d : Day) (said : List (Option Outgoing)) → IsExchange d → length said ≡ 32 → SaysOnEach d said → length (somes said) ≤ 30
 few_somes d said h size each = subst (λ (os : List Outgoing). length os ≤ 30) (sym (sent_is d said h size each)) (few_said d (says_once d h))

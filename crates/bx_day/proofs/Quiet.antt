@@ -22,7 +22,8 @@ use Rattle.bx_day.specs.declared.entry.Activity.{Activity}
 use Rattle.bx_day.specs.declared.entry.Standing.TheVariants.{Refused, Unoffered, OnCall, Carried, Unanswered, Missed}
 use Rattle.bx_day.specs.declared.entry.Activity.TheVariants.{Never, Since, Was}
 use Rattle.bx_day.proofs.Tick.{with_standing, offers, entry_fits}
-use Rattle.bx_day.proofs.Passing.{marks_all, marks_none, marks_whole, says_none, decide, tick_is, ticked_stays, map_size, each_at, pass_stays, refilled}
+use Rattle.bx_day.proofs.Once.{decide, each_at}
+use Rattle.bx_day.proofs.Passing.{marks_all, marks_none, marks_whole, says_none, tick_is, ticked_stays, map_size, pass_stays, refilled}
 use Rattle.bx_day.proofs.Law.{at_map}
 
 -- ---- a day of which each booking is quiet

@@ -5,7 +5,8 @@ use Rattle.bx_day.specs.Passing.{day_of}
 use Rattle.bx_day.specs.Quiet.{IsQuietBetween, booking_due}
 use Rattle.bx_day.specs.Reading.{Seated}
 use Rattle.bx_day.specs.declared.entry.Entry.{Entry}
-use Rattle.bx_day.proofs.Passing.{none_passed, passed_as, passed_same, all_passed, moved_at, moved_size, moved_done, each_at}
+use Rattle.bx_day.proofs.Once.{each_at}
+use Rattle.bx_day.proofs.Passing.{none_passed, passed_as, passed_same, all_passed, moved_at, moved_size, moved_done}
 use Rattle.bx_day.proofs.Quiet.{none_woken, asleep, sleeps_on, wakes_up, all_woken, moved_fits, quiet_before}
 use Rattle.bx_day.proofs.ticking.move_on.Goals.{then-wakes-i, else-wakes-i}
 use Rattle.bx_day.proofs.ticking.move_on.Goals as goal

@@ -4,7 +4,8 @@ use Rattle.bx_day.specs.Day.{Day, entry_at, no_entry, is_held, is_set, is_live}
 use Rattle.bx_day.specs.Invariant.{EntryFits}
 use Rattle.bx_day.specs.Reading.{IsExchange}
 use Rattle.bx_day.specs.declared.entry.Entry.{Entry}
-use Rattle.bx_day.proofs.Passing.{BlockedBefore, blocked_live, blocked_idle, not_live, on_its_channel, each_at, rest_is}
+use Rattle.bx_day.proofs.Once.{each_at}
+use Rattle.bx_day.proofs.Passing.{BlockedBefore, blocked_live, blocked_idle, not_live, on_its_channel, rest_is}
 use Rattle.bx_day.proofs.exchange.Exchange.blocked.Goals.{in-OnCall, in_default}
 use Rattle.bx_day.proofs.exchange.Exchange.blocked.Goals as goal
 

@@ -3,7 +3,7 @@ use Rattle.std.proofs.lemmas.List.{get_or_default}
 use Rattle.bx_day.specs.Day.{Day, is_set, is_open, entry_at, no_entry}
 use Rattle.bx_day.specs.Reading.{Seated}
 use Rattle.bx_day.specs.declared.entry.Entry.{Entry}
-use Rattle.bx_day.proofs.Passing.{each_at}
+use Rattle.bx_day.proofs.Once.{each_at}
 use Rattle.bx_day.proofs.Openings.{OpenBefore, none_set, open_by, open_seated, one_opens, none_opens}
 use Rattle.bx_day.specs.Calling.{may_open}
 use Rattle.bx_base.specs.Channels.{IsChannel}

@@ -3,7 +3,7 @@ use Rattle.bx_day.specs.Day.{Day, Sent, tick}
 use Rattle.bx_day.specs.Passing.{day_of}
 use Rattle.bx_day.specs.Reading.{IsExchange}
 use Rattle.bx_day.specs.Spelling.{spelled}
-use Rattle.bx_day.proofs.Passing.{says_once}
+use Rattle.bx_day.proofs.Once.{says_once}
 use Rattle.bx_day.proofs.Quiet.{idle_is, idle_scheduled}
 use Rattle.bx_day.proofs.exchange.Exchange.tick.Goals as goal
 
