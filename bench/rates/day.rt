@@ -1,5 +1,5 @@
 //! Ticks of an exchange with 4,000 bookings on 30 channels: with none live, with 30 live, and over a whole day on which
-//! each call is answered, and released when its booking ends.
+//! each call is answered, and released when its booking ends; and receipts, by what comes.
 #![tactic(auto)]
 
 use bx_base::{Booking, Bookings, Channel, ChannelSet, Number, Plan};
@@ -13,7 +13,10 @@ const SETUP: u8 = 0x05;
 const CONNECT: u8 = 0x07;
 const DISCONNECT: u8 = 0x45;
 const RELEASE: u8 = 0x4D;
-const NOTIFY: u8 = 0x6E;
+
+/// The flag of a message to a call that the exchange began.
+const FLAG: u16 = 0x8000;
+const MESSAGES: u32 = 100_000;
 
 fn failed() -> Error {
     Error::from(ErrorKind::Other)
@@ -77,20 +80,6 @@ fn second(exchange: &mut Exchange) -> usize {
     sent.len()
 }
 
-/// Messages to the calls of the first 30 rows, which change nothing.
-fn hear(rt: &HostRuntime, exchange: &mut Exchange, rounds: u32) -> io::Result<()> {
-    let start = Instant::now(rt)?;
-    let mut answered: usize = 0;
-    for round in 0..rounds {
-        let row = (round % 30 + 1) as u8;
-        if exchange.receive(&[8, 2, 0x80, row, NOTIFY]).is_some() {
-            answered = answered.wrapping_add(1);
-        }
-    }
-    let time = start.elapsed(rt)?.as_micros();
-    println!(rt; "= {rounds} receipts in {time} us, {answered} answers")
-}
-
 fn run(rt: &HostRuntime, name: &str, exchange: &mut Exchange, ticks: u32) -> io::Result<()> {
     let start = Instant::now(rt)?;
     let mut sent: usize = 0;
@@ -101,14 +90,43 @@ fn run(rt: &HostRuntime, name: &str, exchange: &mut Exchange, ticks: u32) -> io:
     println!(rt; "= {name}: {ticks} ticks in {time} us, {sent} messages")
 }
 
+/// Messages with these octets behind their reference, to 30 references from this one on, in turn.
+fn hear(rt: &HostRuntime, name: &str, exchange: &mut Exchange, first: u16, rest: &[u8]) -> io::Result<()> {
+    let mut octets = [8, 2, 0, 0, 0, 0, 0, 0, 0];
+    let mut place: usize = 4;
+    for octet in rest {
+        if place < 9 {
+            octets[place] = *octet;
+            place += 1;
+        }
+    }
+    let len = place.min(9);
+    let start = Instant::now(rt)?;
+    let mut answered: u32 = 0;
+    for n in 0..MESSAGES {
+        let [high, low] = first.wrapping_add((n % 30) as u16).to_be_bytes();
+        octets[2] = high;
+        octets[3] = low;
+        if exchange.receive(&octets[..len]).is_some() {
+            answered = answered.wrapping_add(1);
+        }
+    }
+    let time = start.elapsed(rt)?.as_micros();
+    println!(rt; "= {name}: {MESSAGES} receipts in {time} us, {answered} answered")
+}
+
 fn main(rt: HostRuntime) -> io::Result<()> {
     let alloc = rt.alloc();
     let mut exchange = opened(alloc, 149_900, 150_000)?;
     run(&rt, "none live", &mut exchange, 149_000)?;
     let mut exchange = opened(alloc, 0, 100_000)?;
     run(&rt, "offers", &mut exchange, 100)?;
-    hear(&rt, &mut exchange, 5_000_000)?;
     run(&rt, "30 live", &mut exchange, 99_000)?;
+    hear(&rt, "STATUS ENQUIRY of live calls", &mut exchange, FLAG + 1, &[0x75])?;
+    hear(&rt, "CONNECT of live calls", &mut exchange, FLAG + 1, &[CONNECT])?;
+    hear(&rt, "ALERTING of no call", &mut exchange, FLAG + 2000, &[0x01])?;
+    hear(&rt, "the same of the far end", &mut exchange, 2000, &[0x01])?;
+    hear(&rt, "SETUP that is refused", &mut exchange, 2000, &[SETUP, 4, 2, 0x88, 0x90])?;
     let mut exchange = opened(alloc, 0, 100)?;
     run(&rt, "whole day", &mut exchange, 300_000)
 }
