@@ -1,1 +1,5 @@
 pub mod ScriptFronts
+pub mod Seats
+pub mod Keeping
+pub mod Kept
+pub mod Passing

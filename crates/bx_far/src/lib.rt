@@ -2,11 +2,17 @@
 //! itself.
 #![tactic(auto)]
 
+mod far;
 mod fault;
+mod receiving;
 mod row;
 mod script;
+mod slots;
 mod text;
+mod ticking;
+mod turn;
 
+pub use far::Far;
 pub use fault::ScriptFault;
 pub use row::ScriptRow;
 pub use script::Script;

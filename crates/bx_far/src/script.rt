@@ -42,12 +42,27 @@ impl Script {
         read_records(alloc, &mut records)
     }
 
+    /// The rows, in their order.
+    pub(crate) fn rows(&self) -> &[ScriptRow]
+        ensures { result.now ≡ self.now }
+    {
+        &self.rows
+    }
+
     pub(crate) fn empty(alloc: Global) -> Script
         ensures { result ≡ [] }
     {
         Script {
             rows: Vec::new(alloc),
         }
+    }
+
+    /// How many rows there are: 0 to 4,000.
+    pub(crate) fn count(&self) -> u16
+        ensures value { result ≡ length self.now }
+        ensures limit { length self.now ≤ 4000 }
+    {
+        self.rows.len() as u16
     }
 
     pub(crate) fn add(&mut self, row: ScriptRow) -> Result<(), AllocError>
