@@ -43,7 +43,10 @@ fn columns_under(header: &ByteRecord) -> Option<usize>
 }
 
 /// Reads the next record, if there is one. The only fault is `Memory`.
-pub fn read_next<R: Read>(records: &mut Reader<R>, fields: &mut ByteRecord) -> Result<bool, BookFault>
+pub fn read_next<R: Read>(
+    records: &mut Reader<R>,
+    fields: &mut ByteRecord,
+) -> Result<bool, BookFault>
     requires { IsReading records.old }
     ensures ok { IfOk result (λ found. IsReading records.new × ReadRecord R.remaining records.old records.new found (fields_of fields.new)) }
     ensures err { IfErr result (λ e. e ≡ BookFault.Memory) }
