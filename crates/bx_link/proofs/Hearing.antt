@@ -56,6 +56,9 @@ module _ {R W : Type 0} (remaining : R → Option (List ℕ)) (contents : W → 
 abbrev pub gave : {A : Type 0} → A → Result A LinkFault
 gave x = Ok x
 
+abbrev pub over : Result (Unit {0}) LinkFault
+over = Ok tt
+
 abbrev pub faulty : {A : Type 0} → LinkFault → Result A LinkFault
 faulty fault = Err fault
 
@@ -69,7 +72,7 @@ not_failed : {A : Type 0} (finds : Found A) (x : A) (left : Option (List ℕ)) �
 not_failed finds x left (inl e) = cc
 not_failed finds x left (inr p) = p
 
-not_faulted : {A : Type 0} (x : A) (P : Type 0) → P ⊎ (gave x ≡ Err ReadFailed) → P
+pub not_faulted : {A : Type 0} (x : A) (P : Type 0) → P ⊎ (gave x ≡ Err ReadFailed) → P
 not_faulted x P (inl p) = p
 not_faulted x P (inr e) = cc
 

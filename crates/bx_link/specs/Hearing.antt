@@ -69,3 +69,15 @@ pub record Talks {R W : Type 0} (remaining : R → Option (List ℕ)) (contents 
   pub written : WritesAll contents w w' result (written_over events d)
   pub faulted : result ≡ Err ReadFailed → is_faulted r' ≡ true
   pub unfaulted : (is_faulted r' ≡ is_faulted r) ⊎ (result ≡ Err ReadFailed)
+
+-- so many turns were gone through, and then the end of the day was written; up to a fault
+pub record RunsDay {R W : Type 0} (remaining : R → Option (List ℕ)) (contents : W → Option (List ℕ)) (turns : ℕ) (r r' : Watched R) (w w' : Watched W) (d d' : Day) (result : Result (Unit {0}) LinkFault) : Type 0 where
+  pub events : List Event
+  pub day : d' ≡ day_after events d
+  pub talk : (text : List ℕ) → remaining (device_of r) ≡ Some text → IsTalked (talk_in turns d text) events result (remaining (device_of r'))
+  -- the end is written behind the last turn alone
+  pub ending : List ℕ
+  pub is_ending : ((ending ≡ []) × ¬ (result ≡ Ok tt)) ⊎ ((ending ≡ day_frame) × ((text : List ℕ) → remaining (device_of r) ≡ Some text → (events ≡ (talk_in turns d text).events) × ((talk_in turns d text).ending ≡ Ok tt)))
+  pub written : WritesAll contents w w' result (written_over events d ++ ending)
+  pub faulted : result ≡ Err ReadFailed → is_faulted r' ≡ true
+  pub unfaulted : (is_faulted r' ≡ is_faulted r) ⊎ (result ≡ Err ReadFailed)

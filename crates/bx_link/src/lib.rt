@@ -1,13 +1,17 @@
 //! The link between the exchange and the far end: frames of octets, turns and sessions.
 #![tactic(auto)]
 
+mod day;
 mod fault;
 mod frame;
 mod frame_reading;
 mod frame_writing;
 mod octet_reading;
 mod session;
+#[cfg(test)]
+mod tests;
 mod turn;
 
+pub use day::run_day;
 pub use fault::LinkFault;
 pub use session::Session;

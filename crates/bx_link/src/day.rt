@@ -1,0 +1,61 @@
+//! The exchange's side of a whole day.
+
+ghost use Rattle.std.specs.Prelude.{◌≡◌, ◌-◌, min};
+ghost use Rattle.bx_link.specs.Hearing.{Talks, RunsDay};
+
+use crate::fault::LinkFault;
+use crate::frame_writing::write_end_of_day;
+use crate::session::Session;
+use bx_base::Watched;
+use bx_day::Exchange;
+use std::io::{Read, Write};
+
+/// The moment at which a day stands still.
+const LAST_MOMENT: u32 = 300_000;
+
+/// Opens and closes so many turns.
+fn run_turns<R: Read, W: Write>(
+    exchange: &mut Exchange,
+    reader: &mut Watched<R>,
+    writer: &mut Watched<W>,
+    turns: u32,
+) -> Result<(), LinkFault>
+    ensures { Talks R.remaining W.contents turns reader.old reader.new writer.old writer.new exchange.old exchange.new result }
+{
+    let mut session = Session::new();
+    for _turn in 0..turns {
+        match session.open_turn(exchange, writer) {
+            Ok(()) => {}
+            Err(fault) => return Err(fault),
+        }
+        match session.close_turn(exchange, reader, writer) {
+            Ok(()) => {}
+            Err(fault) => return Err(fault),
+        }
+    }
+    Ok(())
+}
+
+/// Opens and closes so many turns, or as many as there are to moment 300,000 where that is fewer, and then
+/// writes the end of the day. Each turn is written out before its answer is waited for, and nothing is read
+/// behind the last end of turn. Takes no memory. At a fault the exchange has gone through all whole turns, the
+/// next tick, and the messages that came whole before the fault; what was written is theirs, and where a
+/// write failed a front of it.
+pub fn run_day<R: Read, W: Write>(
+    exchange: &mut Exchange,
+    reader: &mut Watched<R>,
+    writer: &mut Watched<W>,
+    turns: u32,
+) -> Result<(), LinkFault>
+    ensures { RunsDay R.remaining W.contents (min turns (300000 - exchange.old.moment)) reader.old reader.new writer.old writer.new exchange.old exchange.new result }
+{
+    let count = turns.min(LAST_MOMENT - exchange.moment());
+    match run_turns(exchange, reader, writer, count) {
+        Ok(()) => {}
+        Err(fault) => return Err(fault),
+    }
+    match write_end_of_day(writer) {
+        Ok(()) => Ok(()),
+        Err(_) => Err(LinkFault::WriteFailed),
+    }
+}
