@@ -251,7 +251,7 @@ module _ {R W : Type 0} (remaining : R → Option (List ℕ)) (contents : W → 
             let b = so_far.talk text known in
             subst (λ (t : Talk). IsTalked t (so_far.events ++ Tick ∷ heard hears.messages) (faulty fault) (remaining (device_of r3))) (sym b.splits)
             (failed_talk d1 b.rest turns so_far.events hears.messages fault (remaining (device_of r3))
-                (subst (λ (x : Day). IsHeard (exchange_turn x b.rest) hears.messages (faulty fault) (remaining (device_of r3))) opens.day (hears.turn b.rest b.is_left)));
+            (subst (λ (x : Day). IsHeard (exchange_turn x b.rest) hears.messages (faulty fault) (remaining (device_of r3))) opens.day (hears.turn b.rest b.is_left)));
         written = turn_writes (faulty fault) hears;
         faulted = hears.faulted;
         unfaulted = either_first (is_faulted r3 ≡ is_faulted r1) (faulty {A = Unit {0}} fault ≡ Err ReadFailed) (is_faulted r3 ≡ is_faulted r) (λ q. q ∙ so_far.reader) hears.unfaulted;
