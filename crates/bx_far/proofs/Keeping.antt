@@ -1,15 +1,14 @@
 -- A call keeps its channel.
-use Rattle.std.proofs.Common.{◌≡◌, ℕ, Bool, true, false, Option, Some, None, refl, ◌==◌, if◌then◌else◌, nat_le, ◌+◌, max}
+use Rattle.std.proofs.Common.{◌≡◌, ℕ, Bool, true, false, refl, ◌==◌, if◌then◌else◌, nat_le, ◌+◌, max}
 use Rattle.bx_q931.specs.declared.kind.Kind.{Kind}
-use Rattle.bx_q931.specs.declared.kind.Kind.TheVariants.{Alerting, CallProceeding, Progress, Setup, Connect, SetupAcknowledge, ConnectAcknowledge, Disconnect, Release, ReleaseComplete, Notify, StatusEnquiry, Information, Status, Other}
+use Rattle.bx_q931.specs.declared.kind.Kind.TheVariants.{CallProceeding, Setup, Connect, Release, ReleaseComplete, StatusEnquiry, Status}
 use Rattle.bx_calls.specs.PlainCalls.{PlainUserCall}
 use Rattle.bx_calls.specs.declared.step.Step.{Step}
 use Rattle.bx_calls.specs.declared.step.Next.{Next}
 use Rattle.bx_calls.specs.declared.step.Next.TheVariants.{Live, Over, Broken}
-use Rattle.bx_calls.specs.declared.user_state.Policy.{Policy}
-use Rattle.bx_calls.specs.declared.user_state.Policy.TheVariants.{Answer, Busy, Silent, Alert, Proceed, Clear}
+use Rattle.bx_calls.specs.declared.user_state.Policy.TheVariants.{Answer, Clear}
 use Rattle.bx_calls.specs.declared.user_state.UserOrigin.{UserOrigin}
-use Rattle.bx_calls.specs.declared.user_state.UserOrigin.TheVariants.{Offered, Calling}
+use Rattle.bx_calls.specs.declared.user_state.UserOrigin.TheVariants.{Offered}
 use Rattle.bx_calls.specs.declared.user_state.UserState.{UserState}
 use Rattle.bx_calls.specs.declared.user_state.UserState.TheVariants.{CallInitiated, OutgoingCallProceeding, CallPresent, CallReceived, ConnectRequest, IncomingCallProceeding, Active, DisconnectRequest, ReleaseRequest}
 use Rattle.bx_calls.specs.Hearing.{Heard, names_channel, reports_null}

@@ -1,8 +1,7 @@
 -- What a far end keeps, and what it says of its channels.
-use Rattle.std.proofs.Common.{◌≡◌, ◌≢◌, ℕ, zero, suc, replicate, ◌+◌, ◌≤◌, ◌<◌, ◌||◌, Bool, true, false, List, [], ◌∷◌, length, Option, Some, None, arith, refl, sym, subst, ap, ◌∙◌, slice_set, slice_index_or, is_some, nat_lt, if◌then◌else◌, ◌==◌, length-set, drop, drop-cons}
+use Rattle.std.proofs.Common.{◌≡◌, ◌≢◌, ℕ, zero, suc, replicate, ◌+◌, ◌≤◌, ◌<◌, ◌||◌, Bool, true, false, List, [], ◌∷◌, length, Option, Some, None, arith, refl, sym, ap, ◌∙◌, slice_set, slice_index_or, is_some, nat_lt, if◌then◌else◌, ◌==◌, length-set, drop, drop-cons}
 use Rattle.std.proofs.lemmas.Bool.{false≢true}
 use Rattle.std.proofs.lemmas.List.{get_or_default}
-use Rattle.bx_base.specs.Channels.{IsChannel}
 use Rattle.bx_calls.specs.Said.{Said}
 use Rattle.bx_calls.specs.PlainCalls.{PlainUserCall}
 use Rattle.bx_calls.specs.UserTable.{user_offered}
@@ -10,7 +9,7 @@ use Rattle.bx_calls.specs.declared.user_state.Policy.{Policy}
 use Rattle.bx_calls.specs.declared.user_state.Policy.TheVariants.{Answer, Busy, Silent, Alert, Proceed, Clear}
 use Rattle.bx_far.specs.declared.row.ScriptRow.{ScriptRow}
 use Rattle.bx_far.specs.declared.row.ScriptRow.TheVariants.{Follows, Calls}
-use Rattle.bx_far.specs.FarDay.{FarDay, FarAnswered, far_takes, holder, is_taken, is_set, insert_call, first_call}
+use Rattle.bx_far.specs.FarDay.{FarDay, far_takes, holder, is_taken, is_set, insert_call, first_call}
 use Rattle.bx_far.specs.Seats.{live_calls, slot_at, IsSeat, AreSeated, IsFar, calls_later}
 use Rattle.bx_far.proofs.Seats.{holder_is, seated_set}
 

@@ -1,22 +1,20 @@
 -- A tick of the far end as it goes on, slot by slot and row by row.
-use Rattle.std.proofs.Common.{◌≡◌, ◌≢◌, ℕ, zero, suc, ◌+◌, ◌≤◌, ◌<◌, ◌==◌, ◌&&◌, not, Bool, true, false, List, [], ◌∷◌, ◌++◌, length, map, Option, Some, None, arith, refl, sym, subst, ap, ap₂, ◌∙◌, slice_set, slice_index_or, is_some, if◌then◌else◌, nat_lt, nat_le, drop, drop-cons, replicate, length-set}
+use Rattle.std.proofs.Common.{◌≡◌, ◌≢◌, ℕ, zero, suc, ◌+◌, ◌≤◌, ◌<◌, ◌==◌, Bool, true, false, List, [], ◌∷◌, length, map, Option, Some, None, arith, refl, sym, subst, ap, ap₂, ◌∙◌, slice_set, slice_index_or, if◌then◌else◌, nat_lt, nat_le, drop, drop-cons, replicate, length-set}
 use Rattle.std.proofs.lemmas.Bool.{false≢true, eq-eqb, eqb-true}
 use Rattle.std.proofs.lemmas.Bool.Decides.{nat_tests}
-use Rattle.std.proofs.lemmas.List.{get_or-set_other, get_or-set_same, drop_all, get_or_default}
+use Rattle.std.proofs.lemmas.List.{get_or-set_other, drop_all, get_or_default}
 use Rattle.bx_base.specs.Channels.{IsChannel}
 use Rattle.bx_q931.specs.Outgoing.{Outgoing}
 use Rattle.bx_calls.specs.PlainCalls.{PlainUserCall}
 use Rattle.bx_calls.specs.UserTable.{user_second, user_calling}
 use Rattle.bx_calls.specs.Saying.{setup_of}
 use Rattle.bx_calls.specs.declared.step.Step.{Step}
-use Rattle.bx_calls.specs.declared.step.Next.{Next}
-use Rattle.bx_calls.specs.declared.step.Next.TheVariants.{Live, Over, Broken}
 use Rattle.bx_calls.specs.declared.user_state.Policy.TheVariants.{Answer}
 use Rattle.bx_far.specs.declared.row.ScriptRow.{ScriptRow}
 use Rattle.bx_far.specs.declared.row.ScriptRow.TheVariants.{Follows, Calls}
-use Rattle.bx_far.specs.FarDay.{FarDay, FarSent, far_tick, far_ticked, Begun, begin_call, begin_row, insert_call, begin_rows, in_order, no_messages, second_calls, second_maintenance, second_said, settle_maintenance, next_then, is_set, with_held, cons_some}
+use Rattle.bx_far.specs.FarDay.{FarDay, far_tick, far_ticked, Begun, begin_call, begin_row, insert_call, begin_rows, in_order, no_messages, second_calls, second_maintenance, second_said, settle_maintenance, next_then, is_set, with_held}
 use Rattle.bx_far.specs.Seats.{live_calls, live_of, slot_at, IsSeat, AreSeated, calls_now, calls_later}
-use Rattle.bx_far.specs.Turns.{after_slot, IsSpoken, AreSpoken, IsFree, IsTurn}
+use Rattle.bx_far.specs.Turns.{after_slot, AreSpoken, IsFree, IsTurn}
 use Rattle.bx_far.proofs.Seats.{seat_at, next_is, seated_set, insert_is}
 use Rattle.bx_far.proofs.Keeping.{seat_of, second_keeps}
 use Rattle.bx_far.proofs.Kept.{rest_is}

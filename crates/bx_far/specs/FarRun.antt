@@ -1,5 +1,5 @@
 -- What the far end does with any octets, and its messages as they are sent.
-use Rattle.std.specs.Prelude.{ℕ, ◌==◌, List, map, Option, None, Result, Ok, Err, if◌then◌else◌}
+use Rattle.std.specs.Prelude.{ℕ, ◌==◌, List, map, None, Result, Ok, Err, if◌then◌else◌}
 use Rattle.arrayvec.specs.ArrayVec.{ArrayVec}
 use Rattle.bx_q931.specs.Messages.{PlainMessage, message_at}
 use Rattle.bx_q931.specs.Outgoing.{Outgoing, out_octets}

@@ -1,6 +1,6 @@
 //! The far end during its day.
 
-ghost use Rattle.std.specs.Prelude.{◌≡◌, option_map};
+ghost use Rattle.std.specs.Prelude.{◌≡◌, ◌≤◌, option_map};
 ghost use Rattle.bx_calls.specs.States.{user_state};
 ghost use Rattle.bx_far.specs.FarDay.{is_set, is_taken, holder, far_opening};
 
@@ -51,7 +51,8 @@ impl Far {
 
     /// The moment: how many ticks there were, 0 to 300,000.
     pub fn moment(&self) -> u32
-        ensures { result ≡ self.now.moment }
+        ensures value { result ≡ self.now.moment }
+        ensures limit { result ≤ 300000 }
     {
         self.moment
     }

@@ -8,6 +8,8 @@ mod receiving;
 mod row;
 mod script;
 mod slots;
+#[cfg(test)]
+mod tests;
 mod text;
 mod ticking;
 mod turn;

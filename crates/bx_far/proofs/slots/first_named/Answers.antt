@@ -1,4 +1,4 @@
-use Rattle.std.proofs.Common.{◌≡◌, ◌<◌, ℕ, Option, Some, None, true, false, length, arith, sym, subst, ap, ◌∙◌}
+use Rattle.std.proofs.Common.{◌≡◌, ◌<◌, Some, length, arith, sym, subst, ◌∙◌}
 use Rattle.bx_calls.specs.Said.{said_of}
 use Rattle.bx_far.specs.FarDay.{far_names}
 use Rattle.bx_far.specs.Seats.{slot_at}

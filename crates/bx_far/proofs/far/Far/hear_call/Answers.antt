@@ -1,4 +1,4 @@
-use Rattle.std.proofs.Common.{◌≡◌, ◌<◌, ℕ, Bool, List, Option, Some, None, length, arith, sym, subst, ap, ◌∙◌, slice_set}
+use Rattle.std.proofs.Common.{◌≡◌, Bool, List, Option, Some, arith, sym, subst, ap, ◌∙◌, slice_set}
 use Rattle.bx_base.specs.Channels.{IsChannel}
 use Rattle.bx_q931.specs.Values.{called_of}
 use Rattle.bx_calls.specs.Said.{said_of}
@@ -7,7 +7,7 @@ use Rattle.bx_calls.specs.PlainCalls.{PlainUserCall}
 use Rattle.bx_calls.specs.UserTable.{user_message}
 use Rattle.bx_calls.specs.declared.step.Step.{Step}
 use Rattle.bx_far.specs.FarDay.{FarDay, first_call, far_names, far_follow, far_received_by, settle_calls, settle_maintenance}
-use Rattle.bx_far.specs.Seats.{live_calls, slot_at, live_of, IsSeat, IsFar}
+use Rattle.bx_far.specs.Seats.{live_calls, live_of, IsFar}
 use Rattle.bx_far.proofs.Seats.{seat_at, settle_is}
 use Rattle.bx_far.proofs.Keeping.{Keeps, seat_of, message_keeps}
 use Rattle.bx_far.proofs.Kept.{far_with}

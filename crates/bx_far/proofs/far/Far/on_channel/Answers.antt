@@ -1,4 +1,4 @@
-use Rattle.std.proofs.Common.{◌≡◌, ◌<◌, ℕ, Option, Some, None, length, arith, sym, subst, ap, ap₂, ◌∙◌, option_map}
+use Rattle.std.proofs.Common.{◌≡◌, ◌<◌, ℕ, Some, None, length, arith, sym, subst, ap, ap₂, ◌∙◌, option_map}
 use Rattle.bx_calls.specs.PlainCalls.{PlainUserCall}
 use Rattle.bx_calls.specs.States.{user_state}
 use Rattle.bx_calls.specs.declared.call_state.CallState.{CallState}

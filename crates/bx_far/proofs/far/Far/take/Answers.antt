@@ -1,10 +1,9 @@
-use Rattle.std.proofs.Common.{◌≡◌, ◌<◌, ◌+◌, Bool, List, Option, Some, None, length, arith, sym, subst, ap, ◌∙◌, slice_set}
+use Rattle.std.proofs.Common.{◌≡◌, ◌<◌, Bool, List, Some, None, length, arith, sym, subst, ap, ◌∙◌, slice_set}
 use Rattle.bx_q931.specs.Messages.{PlainMessage}
 use Rattle.bx_calls.specs.Said.{said_of}
 use Rattle.bx_calls.specs.PlainCalls.{PlainUserCall}
 use Rattle.bx_calls.specs.UserTable.{user_offered}
-use Rattle.bx_calls.specs.declared.user_state.Policy.{Policy}
-use Rattle.bx_far.specs.FarDay.{FarDay, FarAnswered, far_takes, insert_call}
+use Rattle.bx_far.specs.FarDay.{FarDay, FarAnswered, insert_call}
 use Rattle.bx_far.specs.Seats.{live_calls, slot_at}
 use Rattle.bx_far.proofs.Seats.{insert_is}
 use Rattle.bx_far.proofs.Kept.{far_with, free_slot, takes_other}

@@ -1,5 +1,4 @@
-use Rattle.std.proofs.Common.{◌≡◌, ◌≤◌, ◌<◌, ◌+◌, ℕ, Bool, List, Option, None, length, map, arith, sym, subst, ap, ◌∙◌}
-use Rattle.bx_q931.specs.Outgoing.{Outgoing}
+use Rattle.std.proofs.Common.{◌≡◌, ◌≤◌, ◌+◌, Bool, List, Option, None, length, map, arith, sym, subst, ap, ◌∙◌}
 use Rattle.bx_calls.specs.PlainCalls.{PlainUserCall}
 use Rattle.bx_far.specs.declared.row.ScriptRow.{ScriptRow}
 use Rattle.bx_far.specs.FarDay.{FarDay, FarSent, Begun, begin_rows, far_begun, far_tick, in_order, no_messages, second_calls, second_said, second_maintenance, with_held}
