@@ -7,7 +7,6 @@ use bx_day::Exchange;
 use std::alloc::Global;
 use std::test::Fail;
 
-
 /// The SETUP of the one booking as a frame, and the end of the turn with moment 1.
 const OPENED: &[u8] = &[
     0x01, 0x00, 0x16, 0x08, 0x02, 0x00, 0x01, 0x05, 0xA1, 0x04, 0x02, 0x88, 0x90, 0x18, 0x03, 0xA9,
@@ -102,7 +101,11 @@ fn endings_of_a_turn(rt: HostRuntime) -> Result<(), Fail> {
         assert_eq!(rt; reader.into_inner().len(), left, "left of {behind:?}");
         let mut written = OPENED.to_vec(alloc)?;
         written.extend_from_slice(repeated(alloc, REFUSAL, count.min(64))?.as_slice())?;
-        assert_eq!(rt; writer.into_inner().as_slice(), written.as_slice(), "written");
+        assert_eq!(rt;
+            writer.into_inner().as_slice(),
+            written.as_slice(),
+            "written"
+        );
     }
     Ok(())
 }
@@ -118,10 +121,18 @@ fn closed_sessions(rt: HostRuntime) -> Result<(), Fail> {
         let mut reader = Watched::new(torn);
         let mut writer = Watched::new(Failing::new(Vec::new(alloc), calls, 300));
         let opened = session.open_turn(&mut exchange, &mut writer);
-        let whole = if calls == 2 { Ok(()) } else { Err(LinkFault::WriteFailed) };
+        let whole = if calls == 2 {
+            Ok(())
+        } else {
+            Err(LinkFault::WriteFailed)
+        };
         assert_eq!(rt; opened, whole, "opened with {calls} writes");
         let result = session.close_turn(&mut exchange, &mut reader, &mut writer);
-        let closed = if calls == 2 { LinkFault::EndedInFrame } else { LinkFault::Closed };
+        let closed = if calls == 2 {
+            LinkFault::EndedInFrame
+        } else {
+            LinkFault::Closed
+        };
         assert_eq!(rt; result, Err(closed), "closed with {calls} writes");
         if result.is_err() {
             let again = session.open_turn(&mut exchange, &mut writer);
@@ -131,7 +142,11 @@ fn closed_sessions(rt: HostRuntime) -> Result<(), Fail> {
         }
         assert_eq!(rt; exchange.moment(), 1, "moment");
         assert_eq!(rt; exchange.on_channel(channel), present, "call");
-        assert_eq!(rt; reader.into_inner().len(), if calls == 2 { 0 } else { torn.len() }, "left");
+        assert_eq!(rt;
+            reader.into_inner().len(),
+            if calls == 2 { 0 } else { torn.len() },
+            "left"
+        );
         assert_eq!(rt; writer.faulted(), calls < 2, "faulted");
     }
     Ok(())
@@ -158,13 +173,26 @@ fn days_over_devices_that_give_little(rt: HostRuntime) -> Result<(), Fail> {
         let mut reader = Watched::new(Failing::new(input.as_slice(), reads, 1));
         let mut writer = Watched::new(Vec::new(alloc));
         let result = run_day(&mut exchange, &mut reader, &mut writer, 1);
-        let expected = if reads < 20 { Err(LinkFault::ReadFailed) } else { Ok(()) };
+        let expected = if reads < 20 {
+            Err(LinkFault::ReadFailed)
+        } else {
+            Ok(())
+        };
         assert_eq!(rt; result, expected, "{reads} reads");
         assert_eq!(rt; reader.faulted(), reads < 20, "{reads} reads");
-        let count = if reads < 13 { 32 } else if reads < 20 { 40 } else { 43 };
+        let count = if reads < 13 {
+            32
+        } else if reads < 20 {
+            40
+        } else {
+            43
+        };
         let held = writer.into_inner();
         assert_eq!(rt; held.len(), count, "written after {reads} reads");
-        assert!(rt; whole.starts_with(held.as_slice()), "written after {reads} reads");
+        assert!(rt;
+            whole.starts_with(held.as_slice()),
+            "written after {reads} reads"
+        );
         let active = exchange.on_channel(channel) == Some((1, CallState::Active));
         assert_eq!(rt; active, reads >= 13, "call after {reads} reads");
     }
@@ -173,11 +201,25 @@ fn days_over_devices_that_give_little(rt: HostRuntime) -> Result<(), Fail> {
         let mut reader = Watched::new(input.as_slice());
         let mut writer = Watched::new(Failing::new(Vec::new(alloc), writes, 1));
         let result = run_day(&mut exchange, &mut reader, &mut writer, 1);
-        let expected = if writes < 43 { Err(LinkFault::WriteFailed) } else { Ok(()) };
+        let expected = if writes < 43 {
+            Err(LinkFault::WriteFailed)
+        } else {
+            Ok(())
+        };
         assert_eq!(rt; result, expected, "{writes} writes");
         assert_eq!(rt; exchange.moment(), 1, "moment");
-        let left = if writes < 32 { 21 } else if writes < 40 { 8 } else { 1 };
-        assert_eq!(rt; reader.into_inner().len(), left, "left after {writes} writes");
+        let left = if writes < 32 {
+            21
+        } else if writes < 40 {
+            8
+        } else {
+            1
+        };
+        assert_eq!(rt;
+            reader.into_inner().len(),
+            left,
+            "left after {writes} writes"
+        );
         let held = writer.into_inner().into_inner();
         assert_eq!(rt; held.len(), writes.min(43) as usize, "{writes} writes");
         assert!(rt; whole.starts_with(held.as_slice()), "{writes} writes");
