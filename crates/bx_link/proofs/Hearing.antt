@@ -1,5 +1,5 @@
 -- A turn, one frame after another.
-use Rattle.std.proofs.Common.{◌≡◌, ◌≢◌, ℕ, ◌+◌, ◌-◌, ◌<◌, ◌≤◌, List, [], ◌∷◌, ◌++◌, length, refl, sym, ap, ◌∙◌, subst, append-nil, Option, Some, Result, Ok, Err, arith, true, false, Bool, ◌⊎◌, inl, inr, ◌==◌, if◌then◌else◌}
+use Rattle.std.proofs.Common.{◌≡◌, ◌≢◌, ℕ, ◌-◌, ◌<◌, List, [], ◌∷◌, ◌++◌, length, refl, sym, ap, ◌∙◌, subst, append-nil, Option, Some, Result, Ok, Err, arith, true, false, Bool, ◌⊎◌, inl, inr, ◌==◌, if◌then◌else◌}
 use Rattle.std.proofs.lemmas.List.{take_all}
 use Rattle.std.proofs.lemmas.Bool.Decides.{nat_tests}
 use Rattle.std.specs.Io.KnownBytes.{Appends}
@@ -16,7 +16,7 @@ use Rattle.bx_day.specs.Writing.{Writes}
 use Rattle.bx_link.specs.Frames.{Found, frame_in}
 use Rattle.bx_link.specs.Talking.{Turn, with_messages, turn_in, exchange_turn, ended, heard, written_over, written_for}
 use Rattle.bx_link.specs.Reading.{IsFound, Reads}
-use Rattle.bx_link.specs.Hearing.{IsFront, IsWhole, IsHeard, WritesAll, Hears}
+use Rattle.bx_link.specs.Hearing.{IsHeard, WritesAll, Hears}
 use Rattle.bx_link.specs.declared.fault.LinkFault.{LinkFault}
 use Rattle.bx_link.specs.declared.fault.LinkFault.TheVariants as link
 use Rattle.bx_link.specs.declared.fault.LinkFault.TheVariants.{ReadFailed, WrongMoment}

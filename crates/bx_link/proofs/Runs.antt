@@ -1,5 +1,5 @@
 -- Several turns, one after another.
-use Rattle.std.proofs.Common.{◌≡◌, ℕ, ◌+◌, ◌-◌, ◌<◌, ◌≤◌, zero, suc, List, [], ◌∷◌, ◌++◌, length, refl, sym, ap, ◌∙◌, subst, append_assoc, append-nil, Option, Some, Result, Ok, Err, arith, Bool, true, ◌⊎◌, inl, inr}
+use Rattle.std.proofs.Common.{◌≡◌, ℕ, suc, List, [], ◌∷◌, ◌++◌, refl, sym, ap, ◌∙◌, subst, append_assoc, append-nil, Option, Some, Result, Ok, Err, Bool, true, ◌⊎◌, inl, inr}
 use Rattle.std.specs.Io.KnownBytes.{Appends}
 use Rattle.std.proofs.KnownBytes.{Appends-nil, Appends-trans}
 use Rattle.bx_base.specs.Octets.{AppendsPrefix}
@@ -7,9 +7,8 @@ use Rattle.bx_base.proofs.OctetLemmas.{AppendsPrefix-after}
 use Rattle.bx_base.specs.declared.watched.Watched.{Watched}
 use Rattle.bx_base.specs.Watching.{device_of, is_faulted}
 use Rattle.bx_day.specs.Day.{Day, tick}
-use Rattle.bx_day.specs.Run.{Event, Tick, Receive, happens, day_after}
-use Rattle.bx_link.specs.Talking.{Turn, Talk, heard, ended, exchange_turn, events_of, with_events, talk_by, talk_from, talk_in, written_over, written_for}
-use Rattle.bx_day.specs.Writing.{Writes}
+use Rattle.bx_day.specs.Run.{Event, Tick, Receive, day_after}
+use Rattle.bx_link.specs.Talking.{Turn, Talk, heard, ended, exchange_turn, events_of, with_events, talk_by, talk_in, written_over, written_for}
 use Rattle.bx_link.specs.Frames.{day_frame}
 use Rattle.bx_link.specs.Hearing.{IsFront, IsWhole, IsHeard, WritesAll, Hears, Opens, IsWholeTalk, IsTalked, Talks, RunsDay}
 use Rattle.bx_link.specs.declared.fault.LinkFault.{LinkFault}

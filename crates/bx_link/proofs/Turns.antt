@@ -1,12 +1,11 @@
 -- Events one after another, and turns by their frames.
-use Rattle.std.proofs.Common.{◌≡◌, ℕ, ◌+◌, ◌-◌, ◌<◌, ◌≤◌, zero, suc, List, [], ◌∷◌, ◌++◌, map, length, refl, sym, ap, ◌∙◌, append_assoc, append-nil, Option, Some, None, option_map, Result, Ok, Err, arith, true, if◌then◌else◌, ◌==◌}
-use Rattle.std.specs.List.{flat_map}
+use Rattle.std.proofs.Common.{◌≡◌, ℕ, ◌-◌, ◌<◌, zero, suc, List, [], ◌∷◌, ◌++◌, refl, sym, ap, ◌∙◌, append_assoc, append-nil, Option, Some, None, option_map, Result, Ok, Err, arith, true, if◌then◌else◌, ◌==◌}
 use Rattle.arrayvec.specs.ArrayVec.{ArrayVec}
 use Rattle.bx_day.specs.Day.{Day}
 use Rattle.bx_q931.specs.Outgoing.{Outgoing, out_octets}
-use Rattle.bx_day.specs.Run.{Event, Tick, Receive, happens, day_after, reply_list}
-use Rattle.bx_link.specs.Frames.{Found, frame_in, message_frame}
-use Rattle.bx_link.specs.Talking.{Turn, no_more, with_messages, turn_by, turn_from, turn_in, heard, written_for, written_over, frames_of}
+use Rattle.bx_day.specs.Run.{Event, Receive, happens, day_after, reply_list}
+use Rattle.bx_link.specs.Frames.{frame_in, message_frame}
+use Rattle.bx_link.specs.Talking.{Turn, no_more, with_messages, turn_by, turn_in, heard, written_for, written_over, frames_of}
 use Rattle.bx_link.specs.declared.fault.LinkFault.{LinkFault}
 use Rattle.bx_link.specs.declared.fault.LinkFault.TheVariants.{MoreThan64Messages, WrongMoment}
 use Rattle.bx_link.specs.declared.frame.Side.{Side}

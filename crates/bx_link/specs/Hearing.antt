@@ -1,12 +1,11 @@
 -- What an exchange and its devices are after a turn was heard.
-use Rattle.std.specs.Prelude.{◌≡◌, ℕ, ◌-◌, min, Bool, true, false, List, [], ◌++◌, Option, Some, Result, Ok, Err, ◌⊎◌}
+use Rattle.std.specs.Prelude.{◌≡◌, ℕ, true, List, [], ◌++◌, Option, Some, Result, Ok, Err, ◌⊎◌}
 use Rattle.std.specs.Io.KnownBytes.{Appends}
 use Rattle.bx_base.specs.declared.watched.Watched.{Watched}
 use Rattle.bx_base.specs.Watching.{device_of, is_faulted}
 use Rattle.bx_base.specs.Octets.{AppendsPrefix}
 use Rattle.bx_day.specs.Day.{Day, tick}
 use Rattle.bx_day.specs.Run.{Event, Tick, day_after}
-use Rattle.bx_day.specs.Writing.{Writes}
 use Rattle.bx_link.specs.Talking.{Turn, Talk, exchange_turn, heard, ended, written_over, written_for, talk_in}
 use Rattle.bx_link.specs.Frames.{day_frame}
 use Rattle.bx_link.specs.declared.fault.LinkFault.{LinkFault}

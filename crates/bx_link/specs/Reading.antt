@@ -1,5 +1,5 @@
 -- What is read from a watched reader, by what a definition finds in the octets that it has left.
-use Rattle.std.specs.Prelude.{◌≡◌, ℕ, true, List, Option, Some, Result, Ok, Err, ◌⊎◌}
+use Rattle.std.specs.Prelude.{◌≡◌, ℕ, true, List, Option, Some, Result, Err, ◌⊎◌}
 use Rattle.bx_base.specs.Watching.{device_of, is_faulted}
 use Rattle.bx_base.specs.declared.watched.Watched.{Watched}
 use Rattle.bx_link.specs.Frames.{Found}

@@ -1,12 +1,12 @@
 -- Turns and days: what an exchange hears in the octets that come, and what is written for it.
-use Rattle.std.specs.Prelude.{ℕ, zero, suc, ◌+◌, ◌-◌, ◌==◌, min, Bool, true, false, List, [], ◌∷◌, ◌++◌, map, if◌then◌else◌, Result, Ok, Err}
+use Rattle.std.specs.Prelude.{ℕ, zero, suc, ◌==◌, Bool, true, false, List, [], ◌∷◌, ◌++◌, map, if◌then◌else◌, Result, Ok, Err}
 use Rattle.std.specs.List.{flat_map}
 use Rattle.arrayvec.specs.ArrayVec.{ArrayVec}
 use Rattle.bx_q931.specs.Outgoing.{Outgoing}
 use Rattle.bx_day.specs.Day.{Day, tick}
 use Rattle.bx_day.specs.Run.{Event, Tick, Receive, happens, day_after}
 use Rattle.bx_day.specs.Spelling.{spelled}
-use Rattle.bx_link.specs.Frames.{Found, frame_in, message_frame, turn_frame, day_frame}
+use Rattle.bx_link.specs.Frames.{Found, frame_in, message_frame, turn_frame}
 use Rattle.bx_link.specs.declared.fault.LinkFault.{LinkFault}
 use Rattle.bx_link.specs.declared.fault.LinkFault.TheVariants.{MoreThan64Messages, WrongMoment}
 use Rattle.bx_link.specs.declared.frame.Side.{Side}

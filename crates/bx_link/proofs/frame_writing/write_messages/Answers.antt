@@ -1,7 +1,6 @@
-use Rattle.std.proofs.Common.{Ok, Err}
 use Rattle.std.proofs.lemmas.Result.{err_from_is_err_and}
 use Rattle.bx_link.specs.Talking.{frame_with}
-use Rattle.bx_link.proofs.WritingFrames.{text_written, text_failed, texts_written}
+use Rattle.bx_link.proofs.WritingFrames.{text_written, text_failed}
 use Rattle.bx_link.proofs.frame_writing.write_messages.Goals as goal
 
 pub returns-in_err-write_message : goal.returns-in_err-write_message
