@@ -1,5 +1,7 @@
 pub mod OctetSteps
 pub mod WritingFrames
+pub mod WritingAll
 pub mod Turns
 pub mod Hearing
 pub mod Runs
+pub mod FarTurns

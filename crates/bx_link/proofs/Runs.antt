@@ -14,7 +14,8 @@ use Rattle.bx_link.specs.Hearing.{IsFront, IsWhole, IsHeard, WritesAll, Hears, O
 use Rattle.bx_link.specs.declared.fault.LinkFault.{LinkFault}
 use Rattle.bx_link.specs.declared.fault.LinkFault.TheVariants.{ReadFailed, WriteFailed}
 use Rattle.bx_link.proofs.Turns.{day_more, written_more}
-use Rattle.bx_link.proofs.Hearing.{over, faulty, not_faulted, writes_all}
+use Rattle.bx_link.proofs.Hearing.{not_faulted}
+use Rattle.bx_link.proofs.WritingAll.{over, faulty, writes_all, same_writer, all_written, writes_behind, either_first}
 
 -- ---- fronts of lists of events
 
@@ -85,37 +86,6 @@ module _ (xs : List Event) (messages : List (List ℕ)) (d d1 d2 : Day) (first :
   turn_day d3 third =
       third ∙ ap (λ (x : Day). day_after (heard messages) x) second ∙ ap (λ (x : Day). day_after (heard messages) (tick x).day) first ∙ sym (day_more xs (Tick ∷ heard messages) d)
 
-not_failed_write : (P : Type 0) → (over ≡ Err WriteFailed) ⊎ P → P
-not_failed_write P (inl e) = cc
-not_failed_write P (inr p) = p
-
-same_writer : (P : Type 0) → P ⊎ (over ≡ Err WriteFailed) → P
-same_writer P (inl p) = p
-same_writer P (inr e) = cc
-
-either_later : (P Q S : Type 0) → (Q → S) → P ⊎ Q → P ⊎ S
-either_later P Q S f (inl p) = inl p
-either_later P Q S f (inr q) = inr (f q)
-
-either_first : (P Q S : Type 0) → (P → S) → P ⊎ Q → S ⊎ Q
-either_first P Q S f (inl p) = inl (f p)
-either_first P Q S f (inr q) = inr q
-
-module _ {W : Type 0} (contents : W → Option (List ℕ)) (a b c : Watched W) where
-  pub all_written : (text : List ℕ) → WritesAll contents a b over text → Appends (contents (device_of a)) (contents (device_of b)) text
-  all_written text p = not_failed_write (Appends (contents (device_of a)) (contents (device_of b)) text) p.written
-
-  -- a text behind one that was written
-  pub writes_behind : (result : Result (Unit {0}) LinkFault) (s t whole : List ℕ) → Appends (contents (device_of a)) (contents (device_of b)) s → is_faulted b ≡ is_faulted a → s ++ t ≡ whole
-      → WritesAll contents b c result t → WritesAll contents a c result whole
-  writes_behind result s t whole before same e p = record {
-    written = either_later (result ≡ Err WriteFailed) (Appends (contents (device_of b)) (contents (device_of c)) t) (Appends (contents (device_of a)) (contents (device_of c)) whole)
-        (λ q. subst (Appends (contents (device_of a)) (contents (device_of c))) e (Appends-trans (contents (device_of a)) (contents (device_of b)) (contents (device_of c)) s t before q)) p.written;
-    prefix = subst (AppendsPrefix (contents (device_of a)) (contents (device_of c))) e (AppendsPrefix-after (contents (device_of a)) (contents (device_of b)) (contents (device_of c)) s t before p.prefix);
-    faulted = p.faulted;
-    unfaulted = either_first (is_faulted c ≡ is_faulted b) (result ≡ Err WriteFailed) (is_faulted c ≡ is_faulted a) (λ q. q ∙ same) p.unfaulted;
-  }
-
 -- ---- a talk, one turn after another
 
 with_events_more : (xs ys : List Event) (talk : Talk) → with_events xs (with_events ys talk) ≡ with_events (xs ++ ys) talk
@@ -129,7 +99,7 @@ not_read : (fault : LinkFault) (P : Type 0) → faulty {A = Unit {0}} fault ≡ 
 not_read fault P e (inl f) = cc
 not_read fault P e (inr f) = cc
 
-heard_whole : (turn : Turn) (messages : List (List ℕ)) (left : Option (List ℕ)) → IsHeard turn messages over left → IsWhole turn messages over left
+heard_whole : (turn : Turn) (messages : List (List ℕ)) (left : Option (List ℕ)) → IsHeard ended turn messages over left → IsWhole ended turn messages over left
 heard_whole turn messages left (inl (front, inl e)) = cc
 heard_whole turn messages left (inl (front, inr e)) = cc
 heard_whole turn messages left (inr whole) = whole
@@ -139,7 +109,7 @@ unfolding talk_in
 none_to_come d events rest left e = record { all = sym (append-nil events); ending = refl; rest = e }
 
 failed_talk : (d : Day) (rest : List ℕ) (turns : ℕ) (xs : List Event) (messages : List (List ℕ)) (fault : LinkFault) (left : Option (List ℕ))
-    → IsHeard (exchange_turn (tick d).day rest) messages (faulty fault) left → IsTalked (with_events xs (talk_in (suc turns) d rest)) (xs ++ Tick ∷ heard messages) (faulty fault) left
+    → IsHeard ended (exchange_turn (tick d).day rest) messages (faulty fault) left → IsTalked (with_events xs (talk_in (suc turns) d rest)) (xs ++ Tick ∷ heard messages) (faulty fault) left
 failed_talk d rest turns xs messages fault left (inl (front, which)) = inl (front_behind xs (Tick ∷ heard messages) (talk_in (suc turns) d rest).events (talk_front d rest turns messages front), which)
 failed_talk d rest turns xs messages fault left (inr whole) =
     subst (λ (t : Talk). IsTalked (with_events xs t) (xs ++ Tick ∷ heard messages) (faulty fault) left) (sym (talk_fault d rest turns fault whole.ending))
@@ -206,10 +176,10 @@ module _ {R W : Type 0} (remaining : R → Option (List ℕ)) (contents : W → 
 
     module _ (opens : Opens contents w1 w2 d1 d2 over) (r3 : Watched R) (w3 : Watched W) (d3 : Day) where
       opened : Appends (contents (device_of w)) (contents (device_of w2)) (written_over so_far.events d ++ written_for d1 Tick)
-      opened = Appends-trans (contents (device_of w)) (contents (device_of w1)) (contents (device_of w2)) (written_over so_far.events d) (written_for d1 Tick) so_far.written (all_written contents w1 w2 w2 (written_for d1 Tick) opens.written)
+      opened = Appends-trans (contents (device_of w)) (contents (device_of w1)) (contents (device_of w2)) (written_over so_far.events d) (written_for d1 Tick) so_far.written (all_written contents w1 w2 w2 tt (written_for d1 Tick) opens.written)
 
       still : is_faulted w2 ≡ is_faulted w
-      still = same_writer (is_faulted w2 ≡ is_faulted w1) opens.written.unfaulted ∙ so_far.writer
+      still = same_writer tt (is_faulted w2 ≡ is_faulted w1) opens.written.unfaulted ∙ so_far.writer
 
       turn_writes : (result : Result (Unit {0}) LinkFault) (hears : Hears remaining contents r1 r3 w2 w3 d2 d3 result) → WritesAll contents w w3 result (written_over (so_far.events ++ Tick ∷ heard hears.messages) d)
       turn_writes result hears = writes_behind contents w w2 w3 result (written_over so_far.events d ++ written_for d1 Tick) (written_over (heard hears.messages) d2) (written_over (so_far.events ++ Tick ∷ heard hears.messages) d)
@@ -226,7 +196,7 @@ module _ {R W : Type 0} (remaining : R → Option (List ℕ)) (contents : W → 
             talk = λ text known.
                 let b = so_far.talk text known in
                 let whole = heard_whole (exchange_turn d2 b.rest) hears.messages (remaining (device_of r3)) (hears.turn b.rest b.is_left) in
-                let one = subst (λ (x : Day). IsWhole (exchange_turn x b.rest) hears.messages over (remaining (device_of r3))) opens.day whole in
+                let one = subst (λ (x : Day). IsWhole ended (exchange_turn x b.rest) hears.messages over (remaining (device_of r3))) opens.day whole in
                 let rest = (exchange_turn (tick d1).day b.rest).rest in
                 let now : day_after events d1 ≡ d3 = sym (hears.day ∙ ap (λ (x : Day). day_after (heard hears.messages) x) opens.day) in
                 record {
@@ -236,9 +206,9 @@ module _ {R W : Type 0} (remaining : R → Option (List ℕ)) (contents : W → 
                       ∙ with_events_more so_far.events events (talk_in turns (day_after events d1) rest)
                       ∙ ap (λ (x : Day). with_events (so_far.events ++ events) (talk_in turns x rest)) now;
                 };
-            written = all_written contents w w3 w3 (written_over (so_far.events ++ events) d) writes;
+            written = all_written contents w w3 w3 tt (written_over (so_far.events ++ events) d) writes;
             reader = not_faulted tt (is_faulted r3 ≡ is_faulted r1) hears.unfaulted ∙ so_far.reader;
-            writer = same_writer (is_faulted w3 ≡ is_faulted w) writes.unfaulted;
+            writer = same_writer tt (is_faulted w3 ≡ is_faulted w) writes.unfaulted;
           }
 
       -- the turn was heard to a fault
@@ -250,7 +220,7 @@ module _ {R W : Type 0} (remaining : R → Option (List ℕ)) (contents : W → 
             let b = so_far.talk text known in
             subst (λ (t : Talk). IsTalked t (so_far.events ++ Tick ∷ heard hears.messages) (faulty fault) (remaining (device_of r3))) (sym b.splits)
             (failed_talk d1 b.rest turns so_far.events hears.messages fault (remaining (device_of r3))
-            (subst (λ (x : Day). IsHeard (exchange_turn x b.rest) hears.messages (faulty fault) (remaining (device_of r3))) opens.day (hears.turn b.rest b.is_left)));
+            (subst (λ (x : Day). IsHeard ended (exchange_turn x b.rest) hears.messages (faulty fault) (remaining (device_of r3))) opens.day (hears.turn b.rest b.is_left)));
         written = turn_writes (faulty fault) hears;
         faulted = hears.faulted;
         unfaulted = either_first (is_faulted r3 ≡ is_faulted r1) (faulty {A = Unit {0}} fault ≡ Err ReadFailed) (is_faulted r3 ≡ is_faulted r) (λ q. q ∙ so_far.reader) hears.unfaulted;
@@ -269,7 +239,7 @@ module _ {R W : Type 0} (remaining : R → Option (List ℕ)) (contents : W → 
 
   ends : (result : Result (Unit {0}) LinkFault) → WritesAll contents w1 w2 result day_frame → WritesAll contents w w2 result (written_over talks.events d ++ day_frame)
   ends result p = writes_behind contents w w1 w2 result (written_over talks.events d) day_frame (written_over talks.events d ++ day_frame)
-      (all_written contents w w1 w1 (written_over talks.events d) talks.written) (same_writer (is_faulted w1 ≡ is_faulted w) talks.written.unfaulted) refl p
+      (all_written contents w w1 w1 tt (written_over talks.events d) talks.written) (same_writer tt (is_faulted w1 ≡ is_faulted w) talks.written.unfaulted) refl p
 
   pub day_ends : WritesAll contents w1 w2 over day_frame → RunsDay remaining contents turns r r1 w w2 d d1 over
   day_ends p = record {
@@ -283,7 +253,7 @@ module _ {R W : Type 0} (remaining : R → Option (List ℕ)) (contents : W → 
     unfaulted = inl (not_faulted tt (is_faulted r1 ≡ is_faulted r) talks.unfaulted);
   }
 
-  pub day_end_failed : WritesAll contents w1 w2 (faulty WriteFailed) day_frame → RunsDay remaining contents turns r r1 w w2 d d1 (faulty WriteFailed)
+  pub day_end_failed : WritesAll {A = Unit {0}} contents w1 w2 (faulty WriteFailed) day_frame → RunsDay remaining contents turns r r1 w w2 d d1 (faulty WriteFailed)
   day_end_failed p = record {
     events = talks.events;
     day = talks.day;

@@ -2,6 +2,10 @@
 #![tactic(auto)]
 
 mod day;
+mod end;
+mod far_session;
+#[cfg(test)]
+mod far_tests;
 mod fault;
 mod frame;
 mod frame_reading;
@@ -13,5 +17,6 @@ mod tests;
 mod turn;
 
 pub use day::run_day;
+pub use far_session::FarSession;
 pub use fault::LinkFault;
 pub use session::Session;

@@ -6,6 +6,7 @@ ghost use Rattle.bx_link.specs.Sessions.{is_turn_open, is_closed};
 ghost use Rattle.bx_link.specs.declared.fault.LinkFault.TheVariants.{Closed};
 
 use crate::fault::LinkFault;
+use crate::frame::Side;
 use crate::turn::{hear_turn, write_tick};
 use bx_base::Watched;
 use bx_day::Exchange;
@@ -101,8 +102,9 @@ impl Session {
         if let Stage::Over = self.stage {
             return Err(LinkFault::Closed);
         }
-        match hear_turn(exchange, reader, writer) {
-            Ok(()) => {
+        let moment = exchange.moment();
+        match hear_turn(exchange, Side::Exchange, moment, reader, writer) {
+            Ok(_) => {
                 self.stage = Stage::BetweenTurns;
                 Ok(())
             }

@@ -8,22 +8,22 @@ use std::alloc::Global;
 use std::test::Fail;
 
 /// The SETUP of the one booking as a frame, and the end of the turn with moment 1.
-const OPENED: &[u8] = &[
+pub const OPENED: &[u8] = &[
     0x01, 0x00, 0x16, 0x08, 0x02, 0x00, 0x01, 0x05, 0xA1, 0x04, 0x02, 0x88, 0x90, 0x18, 0x03, 0xA9,
     0x83, 0x81, 0x70, 0x05, 0x81, 0x31, 0x32, 0x33, 0x34, 0x02, 0x00, 0x04, 0x00, 0x00, 0x00, 0x01,
 ];
 
 /// CONNECT with the channel.
-const CONNECT: &[u8] = &[
+pub const CONNECT: &[u8] = &[
     0x01, 0x00, 0x0A, 0x08, 0x02, 0x80, 0x01, 0x07, 0x18, 0x03, 0xA9, 0x83, 0x81,
 ];
 
 /// The front of a CONNECT that does not come whole.
 const TORN: &[u8] = &[0x01, 0x00, 0x0A, 0x08, 0x02];
 
-const CONNECT_ACKNOWLEDGE: &[u8] = &[0x01, 0x00, 0x05, 0x08, 0x02, 0x00, 0x01, 0x0F];
+pub const CONNECT_ACKNOWLEDGE: &[u8] = &[0x01, 0x00, 0x05, 0x08, 0x02, 0x00, 0x01, 0x0F];
 
-const END_OF_TURN: &[u8] = &[0x02, 0x00, 0x04, 0x00, 0x00, 0x00, 0x01];
+pub const END_OF_TURN: &[u8] = &[0x02, 0x00, 0x04, 0x00, 0x00, 0x00, 0x01];
 
 /// ALERTING of an unknown reference, and the RELEASE COMPLETE that answers it.
 const STRAY: &[u8] = &[0x01, 0x00, 0x05, 0x08, 0x02, 0x80, 0x09, 0x01];
@@ -33,7 +33,7 @@ const REFUSAL: &[u8] = &[
 ];
 
 /// The exchange of one booking from 0 to 60 on channel 1.
-fn exchange(alloc: Global) -> Result<Exchange, Fail> {
+pub fn exchange(alloc: Global) -> Result<Exchange, Fail> {
     let number = Number::new(b"1234").ok_or("number")?;
     let mut bookings = Bookings::new(alloc);
     bookings.push(Booking::new(0, 60, 5, number).ok_or("booking")?)?;
@@ -48,7 +48,7 @@ fn exchange(alloc: Global) -> Result<Exchange, Fail> {
 }
 
 /// So many frames, one after another.
-fn repeated(alloc: Global, frame: &[u8], count: u8) -> Result<Vec<u8>, Fail> {
+pub fn repeated(alloc: Global, frame: &[u8], count: u8) -> Result<Vec<u8>, Fail> {
     let mut octets = Vec::new(alloc);
     for _ in 0..count {
         octets.extend_from_slice(frame)?;

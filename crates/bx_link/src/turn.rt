@@ -1,24 +1,44 @@
-//! The two halves of the exchange's turn.
+//! The two halves of a turn: the messages that come, and the tick with what it sends.
 
-ghost use Rattle.std.specs.Prelude.{◌≡◌};
+ghost use Rattle.std.specs.Prelude.{◌≡◌, ◌++◌};
+ghost use Rattle.std.specs.List.{flat_map};
 ghost use Rattle.bx_day.specs.Day.{tick};
-ghost use Rattle.bx_day.specs.Run.{Receive, Tick, happens};
+ghost use Rattle.bx_day.specs.Run.{Tick};
 ghost use Rattle.bx_day.specs.Writing.{Writes};
-ghost use Rattle.bx_link.specs.Hearing.{Hears};
-ghost use Rattle.bx_link.specs.Talking.{written_for};
+ghost use Rattle.bx_far.specs.FarDay.{far_tick};
+ghost use Rattle.bx_link.specs.Ends.{reply_text};
+ghost use Rattle.bx_link.specs.FarTurns.{tick_text};
+ghost use Rattle.bx_link.specs.Frames.{turn_frame};
+ghost use Rattle.bx_link.specs.Hearing.{HearsBy};
+ghost use Rattle.bx_link.specs.Talking.{frame_with, written_for};
 
+use crate::end::End;
 use crate::fault::LinkFault;
 use crate::frame::{Frame, Side};
 use crate::frame_reading::read_frame;
 use crate::frame_writing::{write_end_of_turn, write_message, write_messages};
 use bx_base::{Watched, WriteFailed};
 use bx_day::Exchange;
+use bx_far::Far;
+use bx_q931::Octets;
 use std::io::{Read, Write};
 
 /// The most messages that come in one turn.
 const MAX_MESSAGES: u32 = 64;
 
-/// Ticks, and writes what is sent and the end of the turn.
+/// Writes what is sent in a turn, and the end of the turn.
+fn write_turn<W: Write>(
+    writer: &mut Watched<W>,
+    sent: &[Octets],
+    moment: u32,
+) -> Result<(), WriteFailed>
+    ensures { Writes W.contents writer.old writer.new result (flat_map frame_with sent.now ++ turn_frame moment) }
+{
+    write_messages(writer, sent)?;
+    write_end_of_turn(writer, moment)
+}
+
+/// The exchange ticks, and what it sends and the end of the turn are written.
 pub(crate) fn write_tick<W: Write>(
     exchange: &mut Exchange,
     writer: &mut Watched<W>,
@@ -27,49 +47,62 @@ pub(crate) fn write_tick<W: Write>(
     ensures written { Writes W.contents writer.old writer.new result (written_for exchange.old Tick) }
 {
     let sent = exchange.tick();
-    write_messages(writer, &sent)?;
-    write_end_of_turn(writer, exchange.moment())
+    write_turn(writer, &sent, exchange.moment())
+}
+
+/// The far end ticks, and what it sends and the end of the turn are written.
+pub(crate) fn write_far_tick<W: Write>(
+    far: &mut Far,
+    writer: &mut Watched<W>,
+) -> Result<(), WriteFailed>
+    ensures day { far.new ≡ (far_tick far.old).day }
+    ensures written { Writes W.contents writer.old writer.new result (tick_text far.old) }
+{
+    let sent = far.tick();
+    write_turn(writer, &sent, far.moment())
 }
 
 /// Hears one message, and writes the reply to it.
-fn answer<W: Write>(
-    exchange: &mut Exchange,
+fn answer<E: End, W: Write>(
+    end: &mut E,
     octets: &[u8],
     writer: &mut Watched<W>,
 ) -> Result<(), WriteFailed>
-    ensures day { exchange.new ≡ (happens exchange.old (Receive octets.now)).day }
-    ensures written { Writes W.contents writer.old writer.new result (written_for exchange.old (Receive octets.now)) }
+    ensures day { end.new ≡ E.next end.old octets.now }
+    ensures written { Writes W.contents writer.old writer.new result (reply_text (E.reply end.old octets.now)) }
 {
-    match exchange.receive(octets) {
+    match end.hear(octets) {
         Some(reply) => write_message(writer, &reply),
         None => Ok(()),
     }
 }
 
-/// Hears the messages of a turn up to its end, and writes each reply before more is read.
-pub(crate) fn hear_turn<R: Read, W: Write>(
-    exchange: &mut Exchange,
+/// Hears the messages of a turn up to its end, and writes each reply before more is read. Answers whether it
+/// ended with an end of turn, which has this moment; else it ended with the end of the day.
+pub(crate) fn hear_turn<E: End, R: Read, W: Write>(
+    end: &mut E,
+    side: Side,
+    moment: u32,
     reader: &mut Watched<R>,
     writer: &mut Watched<W>,
-) -> Result<(), LinkFault>
-    ensures { Hears R.remaining W.contents reader.old reader.new writer.old writer.new exchange.old exchange.new result }
+) -> Result<bool, LinkFault>
+    ensures { HearsBy E.next E.reply side moment R.remaining W.contents reader.old reader.new writer.old writer.new end.old end.new result }
 {
-    let moment = exchange.moment();
     let mut room = MAX_MESSAGES;
     loop {
-        match read_frame(reader, Side::Exchange, room) {
-            Ok(Frame::Message(octets)) => match answer(exchange, &octets, writer) {
+        match read_frame(reader, side, room) {
+            Ok(Frame::Message(octets)) => match answer(end, &octets, writer) {
                 Ok(()) => room -= 1,
                 Err(_) => return Err(LinkFault::WriteFailed),
             },
             Ok(Frame::EndOfTurn(said)) => {
                 return if said == moment {
-                    Ok(())
+                    Ok(true)
                 } else {
                     Err(LinkFault::WrongMoment)
                 };
             }
-            Ok(Frame::EndOfDay) => unreachable!(),
+            Ok(Frame::EndOfDay) => return Ok(false),
             Err(fault) => return Err(fault),
         }
     }

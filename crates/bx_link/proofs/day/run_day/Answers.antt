@@ -1,7 +1,7 @@
 use Rattle.std.proofs.Common.{◌≡◌, ℕ, ◌-◌, min, inl, inr, refl, ap, ◌∙◌, subst}
 use Rattle.bx_link.specs.Frames.{day_frame}
 use Rattle.bx_link.specs.Hearing.{Talks}
-use Rattle.bx_link.proofs.Hearing.{over, writes_all}
+use Rattle.bx_link.proofs.WritingAll.{over, writes_all}
 use Rattle.bx_link.proofs.Runs.{day_ends, day_end_failed}
 use Rattle.bx_link.proofs.day.run_day.Goals as goal
 

@@ -1,0 +1,97 @@
+//! Sessions of the far end: turns that are heard and answered one after another, until a fault or the end of the
+//! day.
+
+ghost use Rattle.std.specs.Prelude.{◌≡◌, not, true, false, Err};
+ghost use Rattle.bx_link.specs.FarTurns.{TakesTurn, goes_on, is_far_over};
+ghost use Rattle.bx_link.specs.declared.fault.LinkFault.TheVariants.{Closed};
+
+use crate::fault::LinkFault;
+use crate::frame::Side;
+use crate::turn::{hear_turn, write_far_tick};
+use bx_base::Watched;
+use bx_far::Far;
+use std::io::{Read, Write};
+
+/// The moment at which a day stands still.
+const LAST_MOMENT: u32 = 300_000;
+
+/// A session of the far end. After a fault, and after the end of the day, it is closed, and neither reads nor
+/// writes.
+#[derive(Clone, Copy, Debug, PartialEq, Eq)]
+pub struct FarSession {
+    is_over: bool,
+}
+
+impl FarSession {
+    /// A session before its first turn.
+    pub fn new() -> Self
+        ensures { is_far_over result ≡ false }
+    {
+        FarSession { is_over: false }
+    }
+
+    /// Whether it is closed, by a fault or by the end of the day.
+    pub fn is_over(&self) -> bool
+        ensures { result ≡ is_far_over self.now }
+    {
+        self.is_over
+    }
+
+    /// Takes a turn: each message that comes is received by the far end, and the reply is written at once, up to
+    /// the end of turn with the moment that is due, one after the far end's, and at 300,000 the same. Then the
+    /// far end ticks, and each message that it sends is written as a frame, in order, and behind them the end of
+    /// turn with its moment. Answers true; or false where the end of the day comes in place of the end of turn,
+    /// and the far end does not tick. Nothing is read behind either. Takes no memory.
+    ///
+    /// A closed session answers `Closed`, and neither reads nor writes. At any other fault the session is closed:
+    /// the far end has received the messages that came whole before it, and no more; where a write failed, a
+    /// front of these octets was written, and a tick that was begun has happened.
+    pub fn far_turn<R: Read, W: Write>(
+        &mut self,
+        far: &mut Far,
+        reader: &mut Watched<R>,
+        writer: &mut Watched<W>,
+    ) -> Result<bool, LinkFault>
+        ensures taken { is_far_over self.old ≡ false → TakesTurn R.remaining W.contents reader.old reader.new writer.old writer.new far.old far.new result }
+        ensures refused { is_far_over self.old ≡ true → result ≡ Err Closed }
+        ensures far { is_far_over self.old ≡ true → far.new ≡ far.old }
+        ensures reader { is_far_over self.old ≡ true → reader.new ≡ reader.old }
+        ensures writer { is_far_over self.old ≡ true → writer.new ≡ writer.old }
+        ensures over { is_far_over self.new ≡ not (goes_on result) }
+    {
+        if self.is_over {
+            return Err(LinkFault::Closed);
+        }
+        match take_turn(far, reader, writer) {
+            Ok(true) => Ok(true),
+            Ok(false) => {
+                self.is_over = true;
+                Ok(false)
+            }
+            Err(fault) => {
+                self.is_over = true;
+                Err(fault)
+            }
+        }
+    }
+}
+
+/// Hears the messages of a turn, and ticks at its end.
+fn take_turn<R: Read, W: Write>(
+    far: &mut Far,
+    reader: &mut Watched<R>,
+    writer: &mut Watched<W>,
+) -> Result<bool, LinkFault>
+    ensures { TakesTurn R.remaining W.contents reader.old reader.new writer.old writer.new far.old far.new result }
+{
+    let due = (far.moment() + 1).min(LAST_MOMENT);
+    match hear_turn(far, Side::FarEnd, due, reader, writer) {
+        Ok(true) => {}
+        Ok(false) => return Ok(false),
+        Err(fault) => return Err(fault),
+    }
+    match write_far_tick(far, writer) {
+        Ok(()) => Ok(true),
+        Err(_) => Err(LinkFault::WriteFailed),
+    }
+}
