@@ -14,7 +14,7 @@ use Rattle.bx_link.specs.declared.far_session.FarSession.{FarSession}
 
 -- a fault or the end of the day has closed the session
 abbrev pub is_far_over : FarSession → Bool
-is_far_over session = session.is_over
+is_far_over session = not session.is_open
 
 -- the moment with which a turn ends
 abbrev pub far_due : FarDay → ℕ

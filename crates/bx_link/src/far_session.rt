@@ -19,7 +19,7 @@ const LAST_MOMENT: u32 = 300_000;
 /// writes.
 #[derive(Clone, Copy, Debug, PartialEq, Eq)]
 pub struct FarSession {
-    is_over: bool,
+    is_open: bool,
 }
 
 impl FarSession {
@@ -27,14 +27,14 @@ impl FarSession {
     pub fn new() -> Self
         ensures { is_far_over result ≡ false }
     {
-        FarSession { is_over: false }
+        FarSession { is_open: true }
     }
 
     /// Whether it is closed, by a fault or by the end of the day.
     pub fn is_over(&self) -> bool
         ensures { result ≡ is_far_over self.now }
     {
-        self.is_over
+        !self.is_open
     }
 
     /// Takes a turn: each message that comes is received by the far end, and the reply is written at once, up to
@@ -59,18 +59,14 @@ impl FarSession {
         ensures writer { is_far_over self.old ≡ true → writer.new ≡ writer.old }
         ensures over { is_far_over self.new ≡ not (goes_on result) }
     {
-        if self.is_over {
+        if self.is_over() {
             return Err(LinkFault::Closed);
         }
         match take_turn(far, reader, writer) {
             Ok(true) => Ok(true),
-            Ok(false) => {
-                self.is_over = true;
-                Ok(false)
-            }
-            Err(fault) => {
-                self.is_over = true;
-                Err(fault)
+            ended => {
+                self.is_open = false;
+                ended
             }
         }
     }

@@ -6,6 +6,7 @@ use bx_base::{Failing, Watched};
 use bx_day::Exchange;
 use bx_far::{Far, Script};
 use std::alloc::Global;
+use std::mem;
 use std::test::Fail;
 
 /// ALERTING of an unknown reference, and the RELEASE COMPLETE that answers it.
@@ -139,6 +140,7 @@ fn far_turns_over_devices_that_fail(rt: HostRuntime) -> Result<(), Fail> {
 }
 
 /// Both ends, and what the exchange has replied since its turn was opened.
+#[derive(Drop)]
 struct Line {
     exchange: Exchange,
     session: Session,
@@ -147,45 +149,35 @@ struct Line {
     replies: Vec<u8>,
 }
 
-/// A turn of both ends. Answers what the exchange wrote up to the end of its turn, and what the far end wrote.
-fn turn(alloc: Global, line: Line) -> Result<(Line, Vec<u8>, Vec<u8>), Fail> {
-    let Line {
-        mut exchange,
-        mut session,
-        mut far,
-        mut far_session,
-        replies,
-    } = line;
-    let mut writer = Watched::new(replies);
-    if session.turn_is_open() {
-        return Err("open".into());
+impl Line {
+    /// A turn of both ends. Answers what the exchange wrote up to the end of its turn, and what the far end wrote.
+    fn turn(&mut self, alloc: Global) -> Result<(Vec<u8>, Vec<u8>), Fail> {
+        let replies = mem::replace(&mut self.replies, Vec::new(alloc));
+        let mut writer = Watched::new(replies);
+        if self.session.turn_is_open() {
+            return Err("open".into());
+        }
+        self.session
+            .open_turn(&mut self.exchange, &mut writer)
+            .map_err(|_| "opened")?;
+        let told = writer.into_inner();
+        let mut reader = Watched::new(told.as_slice());
+        let mut writer = Watched::new(Vec::new(alloc));
+        self.far_session
+            .far_turn(&mut self.far, &mut reader, &mut writer)
+            .map_err(|_| "taken")?;
+        let answered = writer.into_inner();
+        let mut reader = Watched::new(answered.as_slice());
+        let mut writer = Watched::new(Vec::new(alloc));
+        if !self.session.turn_is_open() {
+            return Err("not open".into());
+        }
+        self.session
+            .close_turn(&mut self.exchange, &mut reader, &mut writer)
+            .map_err(|_| "closed")?;
+        self.replies = writer.into_inner();
+        Ok((told, answered))
     }
-    session
-        .open_turn(&mut exchange, &mut writer)
-        .map_err(|_| "opened")?;
-    let told = writer.into_inner();
-    let mut far_writer = Watched::new(Vec::new(alloc));
-    let mut far_reader = Watched::new(told.as_slice());
-    let goes_on = far_session
-        .far_turn(&mut far, &mut far_reader, &mut far_writer)
-        .map_err(|_| "far turn")?;
-    let answered = far_writer.into_inner();
-    let mut reader = Watched::new(answered.as_slice());
-    let mut writer = Watched::new(Vec::new(alloc));
-    if !goes_on || !session.turn_is_open() {
-        return Err("ended".into());
-    }
-    session
-        .close_turn(&mut exchange, &mut reader, &mut writer)
-        .map_err(|_| "closed")?;
-    let line = Line {
-        exchange,
-        session,
-        far,
-        far_session,
-        replies: writer.into_inner(),
-    };
-    Ok((line, told, answered))
 }
 
 /// What stands before the end of the turn in what the exchange writes, and in what the far end writes.
@@ -216,8 +208,7 @@ fn day_of_both_ends(rt: HostRuntime) -> Result<(), Fail> {
         replies: Vec::new(alloc),
     };
     for moment in 1..63 {
-        let (next, told, answered) = turn(alloc, line)?;
-        line = next;
+        let (told, answered) = line.turn(alloc)?;
         let (to_far, to_exchange) = spoken(moment);
         let expected = with_end(alloc, to_far, moment)?;
         assert_eq!(rt; told.as_slice(), expected.as_slice(), "to the far end at {moment}");
