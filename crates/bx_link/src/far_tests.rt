@@ -211,9 +211,17 @@ fn day_of_both_ends(rt: HostRuntime) -> Result<(), Fail> {
         let (told, answered) = line.turn(alloc)?;
         let (to_far, to_exchange) = spoken(moment);
         let expected = with_end(alloc, to_far, moment)?;
-        assert_eq!(rt; told.as_slice(), expected.as_slice(), "to the far end at {moment}");
+        assert_eq!(rt;
+            told.as_slice(),
+            expected.as_slice(),
+            "to the far end at {moment}"
+        );
         let expected = with_end(alloc, to_exchange, moment)?;
-        assert_eq!(rt; answered.as_slice(), expected.as_slice(), "to the exchange at {moment}");
+        assert_eq!(rt;
+            answered.as_slice(),
+            expected.as_slice(),
+            "to the exchange at {moment}"
+        );
     }
     let mut outcomes = Watched::new(Vec::new(alloc));
     assert_eq!(rt; line.exchange.write_outcomes(&mut outcomes), Ok(()));
@@ -223,7 +231,9 @@ fn day_of_both_ends(rt: HostRuntime) -> Result<(), Fail> {
     );
     let mut reader = Watched::new([3, 0, 0].as_slice());
     let mut writer = Watched::new(Vec::new(alloc));
-    let ended = line.far_session.far_turn(&mut line.far, &mut reader, &mut writer);
+    let ended = line
+        .far_session
+        .far_turn(&mut line.far, &mut reader, &mut writer);
     assert_eq!(rt; ended, Ok(false));
     assert!(rt; line.far_session.is_over());
     assert!(rt; writer.into_inner().is_empty());

@@ -13,7 +13,7 @@ returns-in-Ok g c =
     let d = c.args.far.now in
     let due : c.min-due.result ≡ far_due d = c.min-due.ensures ∙ ap (λ (m : ℕ). min (m + 1) 300000) c.moment.ensures.value in
     let hears = subst (λ (n : ℕ). HearsBy far_next far_reply FarEnd n g.R.Read.remaining g.W.Write.contents c.args.reader.now c.hear_turn.new.reader c.args.writer.now c.hear_turn.new.writer d c.hear_turn.new.end (gave true))
-        due (rw c.in-Ok-true.field-0-test at c.in-Ok-true.ensures) in
+    due (rw c.in-Ok-true.field-0-test at c.in-Ok-true.ensures) in
     let w = c.in-Ok.ensures.written in
     turn_ticks g.R.Read.remaining g.W.Write.contents c.args.reader.now c.hear_turn.new.reader c.args.writer.now c.hear_turn.new.writer d c.hear_turn.new.end hears c.write_far_tick.new.writer c.write_far_tick.new.far c.in-Ok.ensures.day
     (gave true) refl (inl refl) (writes_all g.W.Write.contents c.hear_turn.new.writer c.write_far_tick.new.writer (gave true) (tick_text c.hear_turn.new.end) (no_write true) w.written w.unfaulted) (λ e. cc)
@@ -23,7 +23,7 @@ returns-in-Err-write_far_tick g c =
     let d = c.args.far.now in
     let due : c.min-due.result ≡ far_due d = c.min-due.ensures ∙ ap (λ (m : ℕ). min (m + 1) 300000) c.moment.ensures.value in
     let hears = subst (λ (n : ℕ). HearsBy far_next far_reply FarEnd n g.R.Read.remaining g.W.Write.contents c.args.reader.now c.hear_turn.new.reader c.args.writer.now c.hear_turn.new.writer d c.hear_turn.new.end (gave true))
-        due (rw c.in-Ok-true.field-0-test at c.in-Ok-true.ensures) in
+    due (rw c.in-Ok-true.field-0-test at c.in-Ok-true.ensures) in
     let w = c.in-Err-write_far_tick.ensures.written in
     turn_ticks g.R.Read.remaining g.W.Write.contents c.args.reader.now c.hear_turn.new.reader c.args.writer.now c.hear_turn.new.writer d c.hear_turn.new.end hears c.write_far_tick.new.writer c.write_far_tick.new.far c.in-Err-write_far_tick.ensures.day
     (faulty WriteFailed) refl (inr refl) (record { written = inl refl; prefix = w.prefix; faulted = λ _. search (w.faulted); unfaulted = inr refl }) (λ e. cc)
