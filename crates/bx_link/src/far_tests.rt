@@ -98,7 +98,7 @@ fn refused_turn(alloc: Global) -> Result<(Vec<u8>, Vec<u8>), Fail> {
 }
 
 #[test]
-fn far_turns_over_devices_that_fail(rt: HostRuntime) -> Result<(), Fail> {
+fn far_turns_over_failing_readers(rt: HostRuntime) -> Result<(), Fail> {
     let alloc = rt.alloc();
     let (input, whole) = refused_turn(alloc)?;
     for reads in 0..16 {
@@ -118,6 +118,13 @@ fn far_turns_over_devices_that_fail(rt: HostRuntime) -> Result<(), Fail> {
         assert_eq!(rt; held.len(), count, "{reads} reads");
         assert!(rt; whole.starts_with(held.as_slice()), "{reads} reads");
     }
+    Ok(())
+}
+
+#[test]
+fn far_turns_over_failing_writers(rt: HostRuntime) -> Result<(), Fail> {
+    let alloc = rt.alloc();
+    let (input, whole) = refused_turn(alloc)?;
     for writes in 0..20 {
         let mut far = far_end(alloc)?;
         let mut session = FarSession::new();
