@@ -1,17 +1,17 @@
 -- The far end's turn: what was heard, and the tick behind it.
-use Rattle.std.proofs.Common.{◌≡◌, ℕ, List, [], ◌++◌, refl, sym, ap, ◌∙◌, subst, append-nil, Option, Result, Ok, Err, Bool, true, false, ◌⊎◌, inl, inr}
+use Rattle.std.proofs.Common.{◌≡◌, ℕ, List, ◌++◌, refl, sym, ap, ◌∙◌, subst, append-nil, Option, Result, Err, Bool, true, false, ◌⊎◌, inl, inr}
 use Rattle.bx_base.specs.declared.watched.Watched.{Watched}
 use Rattle.bx_base.specs.Watching.{device_of, is_faulted}
 use Rattle.bx_far.specs.FarDay.{FarDay, far_tick}
 use Rattle.bx_link.specs.Talking.{Turn}
 use Rattle.bx_link.specs.Ends.{replies_over, far_next, far_reply}
-use Rattle.bx_link.specs.FarTurns.{TakesTurn, IsCutTurn, IsWholeTurn, IsTurnAnswer, far_due, far_turn, far_heard, far_text, tick_text, goes_on}
+use Rattle.bx_link.specs.FarTurns.{TakesTurn, IsCutTurn, IsWholeTurn, IsTurnAnswer, far_due, far_turn, far_text, tick_text, goes_on}
 use Rattle.bx_link.specs.Hearing.{IsWhole, IsHeard, WritesAll, HearsBy}
 use Rattle.bx_link.specs.declared.fault.LinkFault.{LinkFault}
 use Rattle.bx_link.specs.declared.fault.LinkFault.TheVariants.{WriteFailed}
 use Rattle.bx_link.specs.declared.fault.LinkFault.TheVariants as link
 use Rattle.bx_link.specs.declared.frame.Side.TheVariants.{FarEnd}
-use Rattle.bx_link.proofs.WritingAll.{gave, faulty, all_written, same_writer, writes_behind}
+use Rattle.bx_link.proofs.WritingAll.{gave, all_written, same_writer, writes_behind}
 use Rattle.bx_link.proofs.Hearing.{as_ended, not_faulted}
 
 whole_turn : (turn : Turn) (messages : List (List ℕ)) (b : Bool) (left : Option (List ℕ)) → IsHeard as_ended turn messages (gave b) left → IsWhole as_ended turn messages (gave b) left

@@ -1,6 +1,5 @@
 -- A turn, one frame after another.
-use Rattle.std.proofs.Common.{◌≡◌, ◌≢◌, ℕ, ◌-◌, ◌<◌, List, [], ◌∷◌, ◌++◌, length, refl, sym, ap, ◌∙◌, subst, append-nil, Option, Some, Result, Ok, Err, arith, true, false, Bool, ◌⊎◌, inl, inr, ◌==◌, if◌then◌else◌}
-use Rattle.std.proofs.lemmas.List.{take_all}
+use Rattle.std.proofs.Common.{◌≡◌, ◌≢◌, ℕ, ◌-◌, ◌<◌, List, [], ◌∷◌, ◌++◌, refl, sym, ap, ◌∙◌, subst, append-nil, Option, Some, Result, Ok, Err, arith, true, false, Bool, ◌⊎◌, inl, inr, ◌==◌, if◌then◌else◌}
 use Rattle.std.proofs.lemmas.Bool.Decides.{nat_tests}
 use Rattle.std.specs.Io.KnownBytes.{Appends}
 use Rattle.std.proofs.KnownBytes.{Appends-nil, Appends-trans}
@@ -12,13 +11,12 @@ use Rattle.bx_base.proofs.OctetLemmas.{AppendsPrefix-after}
 use Rattle.bx_base.specs.declared.octets.WriteFailed.{WriteFailed}
 use Rattle.bx_q931.specs.Outgoing.{Outgoing}
 use Rattle.bx_day.specs.Day.{Day}
-use Rattle.bx_day.specs.Run.{day_after}
 use Rattle.bx_day.specs.Writing.{Writes}
 use Rattle.bx_link.specs.Frames.{Found, frame_in}
-use Rattle.bx_link.specs.Talking.{Turn, with_messages, turn_in, ended, heard, written_over}
+use Rattle.bx_link.specs.Talking.{Turn, with_messages, turn_in, ended}
 use Rattle.bx_link.specs.Ends.{day_over, replies_over, reply_text, exchange_next, exchange_reply}
 use Rattle.bx_link.specs.Reading.{IsFound, Reads}
-use Rattle.bx_link.specs.Hearing.{IsWhole, IsHeard, WritesAll, HearsBy, Hears}
+use Rattle.bx_link.specs.Hearing.{IsHeard, WritesAll, HearsBy, Hears}
 use Rattle.bx_link.specs.declared.fault.LinkFault.{LinkFault}
 use Rattle.bx_link.specs.declared.fault.LinkFault.TheVariants as link
 use Rattle.bx_link.specs.declared.fault.LinkFault.TheVariants.{ReadFailed, WrongMoment}

@@ -1,4 +1,4 @@
-use Rattle.std.proofs.Common.{◌≡◌, ◌∙◌, ◌+◌, min, ℕ, Bool, true, refl, ap, subst, inl, inr}
+use Rattle.std.proofs.Common.{◌≡◌, ◌∙◌, ◌+◌, min, ℕ, true, refl, ap, subst, inl, inr}
 use Rattle.bx_link.specs.Ends.{far_next, far_reply}
 use Rattle.bx_link.specs.FarTurns.{far_due, tick_text}
 use Rattle.bx_link.specs.Hearing.{HearsBy}

@@ -1,4 +1,4 @@
-use Rattle.std.proofs.Common.{◌≡◌, ◌≤◌}
+use Rattle.std.proofs.Common.{◌≤◌}
 use Rattle.bx_link.proofs.Hearing.{HeardSoFar}
 use Rattle.bx_link.proofs.turn.hear_turn.Given as goal
 
