@@ -1,5 +1,5 @@
 -- The far end's turn: what was heard, and the tick behind it.
-use Rattle.std.proofs.Common.{◌≡◌, ℕ, List, ◌++◌, refl, sym, ap, ◌∙◌, subst, append-nil, Option, Result, Err, Bool, true, false, ◌⊎◌, inl, inr}
+use Rattle.std.proofs.Common.{◌≡◌, ℕ, ◌+◌, min, List, ◌++◌, refl, sym, ap, ◌∙◌, subst, append-nil, Option, Result, Err, Bool, true, false, ◌⊎◌, inl, inr}
 use Rattle.bx_base.specs.declared.watched.Watched.{Watched}
 use Rattle.bx_base.specs.Watching.{device_of, is_faulted}
 use Rattle.bx_far.specs.FarDay.{FarDay, far_tick}
@@ -13,6 +13,10 @@ use Rattle.bx_link.specs.declared.fault.LinkFault.TheVariants as link
 use Rattle.bx_link.specs.declared.frame.Side.TheVariants.{FarEnd}
 use Rattle.bx_link.proofs.WritingAll.{gave, all_written, same_writer, writes_behind}
 use Rattle.bx_link.proofs.Hearing.{as_ended, not_faulted}
+
+-- the moment that is due, by a moment that is the same
+pub due_at : (due n m : ℕ) → due ≡ min (n + 1) 300000 → n ≡ m → due ≡ min (m + 1) 300000
+due_at due n m e f = e ∙ ap (λ (x : ℕ). min (x + 1) 300000) f
 
 whole_turn : (turn : Turn) (messages : List (List ℕ)) (b : Bool) (left : Option (List ℕ)) → IsHeard as_ended turn messages (gave b) left → IsWhole as_ended turn messages (gave b) left
 whole_turn turn messages b left (inl (front, inl e)) = cc

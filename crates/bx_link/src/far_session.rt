@@ -43,7 +43,8 @@ impl FarSession {
     /// turn with its moment. Answers true; or false where the end of the day comes in place of the end of turn,
     /// and the far end does not tick. Nothing is read behind either. Takes no memory.
     ///
-    /// A closed session answers `Closed`, and neither reads nor writes. At any other fault the session is closed:
+    /// Another moment is `WrongMoment`, and the far end does not tick; a 65th message is `MoreThan64Messages`. A
+    /// closed session answers `Closed`, and neither reads nor writes. At any fault the session is closed:
     /// the far end has received the messages that came whole before it, and no more; where a write failed, a
     /// front of these octets was written, and a tick that was begun has happened.
     pub fn far_turn<R: Read, W: Write>(

@@ -1,17 +1,17 @@
-use Rattle.std.proofs.Common.{◌≡◌, ◌∙◌, ◌+◌, min, ℕ, true, refl, ap, subst, inl, inr}
+use Rattle.std.proofs.Common.{◌≡◌, ℕ, true, refl, subst, inl, inr}
 use Rattle.bx_link.specs.Ends.{far_next, far_reply}
 use Rattle.bx_link.specs.FarTurns.{far_due, tick_text}
 use Rattle.bx_link.specs.Hearing.{HearsBy}
 use Rattle.bx_link.specs.declared.fault.LinkFault.TheVariants.{WriteFailed}
 use Rattle.bx_link.specs.declared.frame.Side.TheVariants.{FarEnd}
 use Rattle.bx_link.proofs.WritingAll.{gave, faulty, no_write, writes_all}
-use Rattle.bx_link.proofs.FarTurns.{turn_ticks}
+use Rattle.bx_link.proofs.FarTurns.{due_at, turn_ticks}
 use Rattle.bx_link.proofs.far_session.take_turn.Goals as goal
 
 pub returns-in-Ok : goal.returns-in-Ok
 returns-in-Ok g c =
     let d = c.args.far.now in
-    let due : c.min-due.result ≡ far_due d = c.min-due.ensures ∙ ap (λ (m : ℕ). min (m + 1) 300000) c.moment.ensures.value in
+    let due : c.min-due.result ≡ far_due d = due_at c.min-due.result c.moment.result d.moment c.min-due.ensures c.moment.ensures.value in
     let hears = subst (λ (n : ℕ). HearsBy far_next far_reply FarEnd n g.R.Read.remaining g.W.Write.contents c.args.reader.now c.hear_turn.new.reader c.args.writer.now c.hear_turn.new.writer d c.hear_turn.new.end (gave true))
     due (rw c.in-Ok-true.field-0-test at c.in-Ok-true.ensures) in
     let w = c.in-Ok.ensures.written in
@@ -21,7 +21,7 @@ returns-in-Ok g c =
 pub returns-in-Err-write_far_tick : goal.returns-in-Err-write_far_tick
 returns-in-Err-write_far_tick g c =
     let d = c.args.far.now in
-    let due : c.min-due.result ≡ far_due d = c.min-due.ensures ∙ ap (λ (m : ℕ). min (m + 1) 300000) c.moment.ensures.value in
+    let due : c.min-due.result ≡ far_due d = due_at c.min-due.result c.moment.result d.moment c.min-due.ensures c.moment.ensures.value in
     let hears = subst (λ (n : ℕ). HearsBy far_next far_reply FarEnd n g.R.Read.remaining g.W.Write.contents c.args.reader.now c.hear_turn.new.reader c.args.writer.now c.hear_turn.new.writer d c.hear_turn.new.end (gave true))
     due (rw c.in-Ok-true.field-0-test at c.in-Ok-true.ensures) in
     let w = c.in-Err-write_far_tick.ensures.written in
