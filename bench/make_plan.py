@@ -1,12 +1,16 @@
 #!/usr/bin/env python3
 """Writes a proved plan text of 4,000 bookings, 8,000 prices and 30 channels: the largest that the check meets.
 
-133 slots of 1,000 seconds have 30 bookings each, one a channel, and 60 moments with a price of 1 (the first slot 80);
+133 slots of 1,000 seconds, or of as many as the word says (at least 80), have 30 bookings each, one a channel, and 60 moments with a price of 1 (the first slot 80);
 the last 10 bookings stand in a slot of their own without prices. Every priced moment has all channels busy, and no
 booking costs more than it pays, so the prices prove the plan.
 """
+import sys
+
 CHANNELS = [n for n in range(1, 32) if n != 16]
-SLOTS, LENGTH, PAY = 133, 1000, 100_000
+SLOTS, PAY = 133, 100_000
+LENGTH = int(sys.argv[1]) if len(sys.argv) > 1 else 1000
+STEP = LENGTH // 80
 
 rows = []
 for slot in range(SLOTS + 1):
@@ -17,7 +21,7 @@ for slot in range(SLOTS + 1):
 prices = []
 for slot in range(SLOTS):
     for k in range(80 if slot == 0 else 60):
-        prices.append(f"{slot * LENGTH + 12 * k} 1")
+        prices.append(f"{slot * LENGTH + STEP * k} 1")
 
 lines = ["bx-plan 3", "channels " + " ".join(map(str, CHANNELS)), f"bookings {len(rows)}", *rows]
 lines += [f"prices {len(prices)}", *prices, f"total {PAY * len(rows)}", "end"]

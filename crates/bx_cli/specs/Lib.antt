@@ -1,3 +1,1 @@
-pub mod Proved
-pub mod Refusals
-pub mod Decoding
+pub mod Days

@@ -1,12 +1,12 @@
 //! The command line as `clap` knows it.
 
-use clap::{Arg, Command};
+use clap::{Arg, Command, value_parser};
 use std::alloc::{AllocError, Global};
 
 const VERSION: &str = "0.1.0";
 
 const ABOUT: &str =
-    "Booked calls on one ISDN primary rate interface: plans that are proved best, and the messages of Q.931.
+    "Booked calls on one ISDN primary rate interface: plans that are proved best, and days that set up and clear their calls by Q.931 messages.
 
 Without words, reads a plan text on standard input, checks it against the bookings and channels that it states itself, and prints `proved ` and the total.";
 
@@ -17,6 +17,9 @@ const AFTER: &str = "Examples:
   bx plan --date 2026-03-29 --zone CET-1CEST,M3.5.0,M10.5.0/3 day.csv > plan.txt
   bx check --date 2026-03-29 --zone CET-1CEST,M3.5.0,M10.5.0/3 day.csv plan.txt
   bx < plan.txt
+  bx day plan.txt script.csv
+  bx serve plan.txt --port 9931
+  bx far script.csv --port 9931
   bx decode 080280015A08028091
 
 Status: 0 done, 1 refused (one line on standard error says why), 2 wrong words.";
@@ -80,6 +83,58 @@ fn decode<'a>(alloc: Global) -> Result<Command<'a>, AllocError> {
         .arg(octets)
 }
 
+fn with_script<'a>(alloc: Global, command: Command<'a>) -> Result<Command<'a>, AllocError> {
+    let script = Arg::new(alloc, "script")
+        .value_name("SCRIPT")
+        .required(true)
+        .help(
+            "The file of the far end's script: CSV under the header number,policy,seconds[,channel]",
+        );
+    command.arg(script)
+}
+
+fn with_turns<'a>(alloc: Global, command: Command<'a>) -> Result<Command<'a>, AllocError> {
+    let turns = Arg::new(alloc, "turns")
+        .long("turns")
+        .value_name("N")
+        .value_parser(value_parser!(u32).range(1..=300_000))
+        .help(
+            "Seconds of the day to run, 1 to 300000 [default: until 38 s after the last accepted booking]",
+        );
+    command.arg(turns)
+}
+
+fn with_port<'a>(alloc: Global, command: Command<'a>) -> Result<Command<'a>, AllocError> {
+    let port = Arg::new(alloc, "port")
+        .long("port")
+        .required(true)
+        .value_name("P")
+        .value_parser(value_parser!(u16).range(1..))
+        .help("The TCP port on 127.0.0.1, 1 to 65535");
+    command.arg(port)
+}
+
+fn day<'a>(alloc: Global) -> Result<Command<'a>, AllocError> {
+    let day = Command::new(alloc, "day").about(
+        "Run a proved plan's day, both ends over one TCP connection to 127.0.0.1, and print what became of each booking; it may run long in silence",
+    );
+    with_turns(alloc, with_script(alloc, with_plan(alloc, day)?)?)
+}
+
+fn serve<'a>(alloc: Global) -> Result<Command<'a>, AllocError> {
+    let serve = Command::new(alloc, "serve").about(
+        "Run the exchange's end of a proved plan's day towards one peer on 127.0.0.1, and print what became of each booking; it waits for the peer, without limit",
+    );
+    with_turns(alloc, with_port(alloc, with_plan(alloc, serve)?)?)
+}
+
+fn far<'a>(alloc: Global) -> Result<Command<'a>, AllocError> {
+    let far = Command::new(alloc, "far").about(
+        "Run the far end of a day by a script, towards an exchange that serves on 127.0.0.1; it waits for the exchange, without limit",
+    );
+    with_port(alloc, with_script(alloc, far)?)
+}
+
 /// The program's command line.
 pub fn commands<'a>(alloc: Global) -> Result<Command<'a>, AllocError> {
     Command::new(alloc, "bx")
@@ -92,5 +147,8 @@ pub fn commands<'a>(alloc: Global) -> Result<Command<'a>, AllocError> {
         .after_help(AFTER)
         .subcommand(plan(alloc)?)?
         .subcommand(check(alloc)?)?
+        .subcommand(day(alloc)?)?
+        .subcommand(serve(alloc)?)?
+        .subcommand(far(alloc)?)?
         .subcommand(decode(alloc)?)
 }

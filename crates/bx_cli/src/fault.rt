@@ -1,23 +1,22 @@
-//! Why a command was refused.
+//! Why the words were refused.
+
+ghost use Rattle.std.specs.Prelude.{◌≡◌};
+ghost use Rattle.bx_cli.specs.declared.fault.CliFault.TheVariants.{Command};
 
 use bx_base::ChannelFault;
 use bx_book::{BookFault, DayFault};
-use bx_check::CheckFault;
-use bx_planfile::PlanFault;
+use bx_commands::CommandFault;
+use bx_far::ScriptFault;
+use bx_link::LinkFault;
 use bx_planner::RunFault;
-use bx_q931::MessageFault;
 use thiserror::Error;
 
-/// The refusal of a command, which is printed behind `bx: `.
+/// The refusal of a command line, which is printed behind `bx: `.
 #[derive(Clone, Copy, Debug, PartialEq, Eq, Error)]
 pub enum CliFault<'a> {
-    /// A reader failed, did not end within 8,388,608 reads, or has more than 4,194,304 octets. Standard input
-    /// has the name `-`.
-    #[error("F1 CannotRead {0}")]
-    CannotRead(&'a str),
-    /// Standard output failed, or took none of what was written.
-    #[error("F2 CannotWrite")]
-    CannotWrite,
+    /// The command over its reader and its writer was refused.
+    #[error("{0}")]
+    Command(CommandFault<'a>),
     /// A number of the list of channels is no B channel, or stands there twice.
     #[error("{0}")]
     Channels(ChannelFault),
@@ -30,19 +29,24 @@ pub enum CliFault<'a> {
     /// The planning run was refused.
     #[error("{0}")]
     Run(RunFault),
-    /// What was read is no plan text.
+    /// What was read is no script.
     #[error("{0}")]
-    Plan(PlanFault),
-    /// The plan is not proved.
+    Script(ScriptFault),
+    /// The port cannot be listened on, or no peer can be accepted.
+    #[error("F3 CannotListen")]
+    CannotListen,
+    /// No exchange listens on the port.
+    #[error("F4 CannotConnect")]
+    CannotConnect,
+    /// The session of the day ended before the day did.
     #[error("{0}")]
-    Check(CheckFault),
-    /// The word is not pairs of hexadecimal digits.
-    #[error("H1 NotHex")]
-    NotHex,
-    /// The octets are no message.
-    #[error("{0}")]
-    Message(MessageFault),
-    /// A growth was refused.
-    #[error("Memory")]
-    Memory,
+    Link(LinkFault),
+}
+
+impl<'a> From<CommandFault<'a>> for CliFault<'a> {
+    fn from(fault: CommandFault<'a>) -> CliFault<'a>
+        ensures { result ≡ Command fault.entry }
+    {
+        CliFault::Command(fault)
+    }
 }

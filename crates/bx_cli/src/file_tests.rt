@@ -3,11 +3,12 @@
 use crate::main_words;
 use bx_base::{Failing, Watched};
 use std::alloc::Global;
+use std::net::TcpListener;
 use std::test::Fail;
 use std::{env, fs};
 
 /// The files of the cases. In what follows `@` stands for the folder that they lie in.
-const FILES: [(&str, &str); 12] = [
+const FILES: [(&str, &str); 17] = [
     (
         "one.csv",
         "start,end,number,pay\n2026-01-05T00:00:00Z,2026-01-05T00:01:00Z,1234,5\n",
@@ -44,6 +45,20 @@ const FILES: [(&str, &str); 12] = [
     ),
     ("binary.csv", "\u{0}\u{1}\u{7f}"),
     ("empty.csv", ""),
+    (
+        "one.txt",
+        "bx-plan 1\nchannels 1\nbookings 1\n0 60 5 1234 1\nprices 0\ntotal 5\nend\n",
+    ),
+    (
+        "two.txt",
+        "bx-plan 3\nchannels 1 2\nbookings 3\n0 60 5 1234 1 free out\n10 20 4 1234 2 free in\n15 20 1 77 - free out\nprices 1\n15 1\ntotal 9\nend\n",
+    ),
+    ("answer.csv", "number,policy,seconds\n*,answer,0\n"),
+    (
+        "calls.csv",
+        "number,policy,seconds,channel\n1234,call,12,2\n1234,silent,0,\n",
+    ),
+    ("dance.csv", "number,policy,seconds\n*,dance,0\n"),
 ];
 
 /// Words with spaces between, status, standard output, and how standard error begins.
@@ -188,6 +203,42 @@ const CHECKS: [Case; 9] = [
     ),
 ];
 
+const DAYS: [Case; 13] = [
+    (
+        "day @one.txt @answer.csv --turns 98",
+        0,
+        "1 carried 1 60\nmaintenance none\n",
+        "",
+    ),
+    (
+        "day @one.txt @answer.csv",
+        0,
+        "1 carried 1 60\nmaintenance none\n",
+        "",
+    ),
+    (
+        "day @one.txt @answer.csv --turns 1",
+        0,
+        "1 live\nmaintenance none\n",
+        "",
+    ),
+    (
+        "day @two.txt @calls.csv",
+        0,
+        "1 unanswered\n2 carried 12 20\n3 refused\nmaintenance none\n",
+        "",
+    ),
+    ("day @four.txt @dance.csv", 1, "", "bx: S3 BadEntry 1\n"),
+    ("day @short.txt @gone", 1, "", "bx: P1 BadLine 3\n"),
+    ("day @gone @dance.csv", 1, "", "bx: F1 CannotRead @gone\n"),
+    ("day @one.txt @gone", 1, "", "bx: F1 CannotRead @gone\n"),
+    ("day @one.txt @answer.csv --turns 0", 2, "", "error: "),
+    ("day @one.txt @answer.csv --turns 300001", 2, "", "error: "),
+    ("serve @one.txt --port 0", 2, "", "error: "),
+    ("far @answer.csv --port 65536", 2, "", "error: "),
+    ("far @answer.csv", 2, "", "error: "),
+];
+
 /// The `--channels` of a plan, its status, and how standard error begins.
 const LISTS: [(&str, u8, &str); 21] = [
     ("1-31", 1, "bx: N1 NotABChannel 16\n"),
@@ -313,7 +364,7 @@ fn does(
 #[test]
 fn files_and_options(rt: HostRuntime) -> Result<(), Fail> {
     let folder = folder(&rt)?;
-    for (words, status, out, err) in PLANS.iter().chain(&CHECKS).chain(&OPTIONS) {
+    for (words, status, out, err) in PLANS.iter().chain(&CHECKS).chain(&DAYS).chain(&OPTIONS) {
         assert!(rt; does(&rt, &folder, words, (*status, out, err))?, "{words}");
     }
     for (list, status, err) in LISTS {
@@ -361,6 +412,22 @@ fn plans_to_writers_that_fail(rt: HostRuntime) -> Result<(), Fail> {
             status == 1
         );
     }
+    fs::remove_dir_all(&rt, folder.as_str())?;
+    Ok(())
+}
+
+#[test]
+fn ports(rt: HostRuntime) -> Result<(), Fail> {
+    let folder = folder(&rt)?;
+    let listener = TcpListener::bind(&rt, "127.0.0.1:0")?;
+    let port = listener.local_addr()?.port();
+    let words = format!(in rt.alloc(); "serve @one.txt --port {port}")?;
+    let refused = (1, "", "bx: F3 CannotListen\n");
+    assert!(rt; does(&rt, &folder, &words, refused)?, "taken");
+    drop(listener);
+    let words = format!(in rt.alloc(); "far @answer.csv --port {port}")?;
+    let refused = (1, "", "bx: F4 CannotConnect\n");
+    assert!(rt; does(&rt, &folder, &words, refused)?, "nobody");
     fs::remove_dir_all(&rt, folder.as_str())?;
     Ok(())
 }

@@ -2,19 +2,18 @@
 #![tactic(auto)]
 
 mod channel_list;
-mod checking;
 mod commands;
-mod decoding;
 mod fault;
 #[cfg(test)]
 mod file_tests;
+mod loopback;
 mod planning;
 mod request;
+mod running;
 #[cfg(test)]
 mod tests;
 mod words;
 
-pub use checking::{check_against, check_self};
-pub use decoding::decode;
+pub use bx_commands::check_self;
 pub use fault::CliFault;
 pub use words::main_words;

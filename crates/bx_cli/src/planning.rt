@@ -1,10 +1,10 @@
 //! The commands on a file of bookings.
 
-use crate::checking::check_against;
 use crate::fault::CliFault;
 use crate::request::Terms;
 use bx_base::{Bookings, ChannelSet, Watched};
 use bx_book::{Day, StreamFault, read_bookings_from};
+use bx_commands::{CommandFault, check_against};
 use bx_planner::plan_run;
 use std::alloc::Global;
 use std::fs;
@@ -24,10 +24,10 @@ fn channels_and_day<'a>(terms: &Terms<'_>) -> Result<(ChannelSet, Day), CliFault
 }
 
 /// The file of this name, to be read.
-fn open<'a, H: Files>(rt: &H, name: &'a str) -> Result<Watched<H::File>, CliFault<'a>> {
+pub fn open<'a, H: Files>(rt: &H, name: &'a str) -> Result<Watched<H::File>, CliFault<'a>> {
     match fs::open(rt, name) {
         Ok(file) => Ok(Watched::new(file)),
-        Err(_) => Err(CliFault::CannotRead(name)),
+        Err(_) => Err(CliFault::Command(CommandFault::CannotRead(name))),
     }
 }
 
@@ -56,8 +56,8 @@ fn bookings_in<'a, R: Read>(
     match read_bookings_from(alloc, input, day) {
         Ok(bookings) => Ok(bookings),
         Err(StreamFault::Book(fault)) => Err(CliFault::Book(fault)),
-        Err(StreamFault::Memory) => Err(CliFault::Memory),
-        Err(_) => Err(CliFault::CannotRead(name)),
+        Err(StreamFault::Memory) => Err(CliFault::Command(CommandFault::Memory)),
+        Err(_) => Err(CliFault::Command(CommandFault::CannotRead(name))),
     }
 }
 

@@ -28,6 +28,23 @@ pub enum Request<'a> {
         bookings: &'a str,
         plan: &'a str,
     },
+    /// Run both ends of a plan's day.
+    Day {
+        plan: &'a str,
+        script: &'a str,
+        turns: Option<u32>,
+    },
+    /// Run the exchange's end of a plan's day.
+    Serve {
+        plan: &'a str,
+        port: u16,
+        turns: Option<u32>,
+    },
+    /// Run the far end of a day.
+    Far {
+        script: &'a str,
+        port: u16,
+    },
     /// Print what a message says.
     Decode {
         octets: &'a str,
@@ -85,6 +102,11 @@ fn word<'a>(matches: &ArgMatches<'a>, name: &str) -> &'a str {
     matches.get_str(name).unwrap_or("")
 }
 
+/// The port, which the command requires.
+fn port_of(matches: &ArgMatches<'_>) -> u16 {
+    matches.get_one::<u16>("port").unwrap_or(0)
+}
+
 /// The day and the channels that these words name.
 fn terms_of<'a>(alloc: Global, matches: &ArgMatches<'a>) -> Result<Terms<'a>, Refusal> {
     let list = word(matches, "channels");
@@ -117,6 +139,20 @@ fn request_of<'a>(
             terms: terms_of(alloc, matches)?,
             bookings: word(matches, "bookings"),
             plan: word(matches, "plan"),
+        }),
+        "day" => Ok(Request::Day {
+            plan: word(matches, "plan"),
+            script: word(matches, "script"),
+            turns: matches.get_one::<u32>("turns"),
+        }),
+        "serve" => Ok(Request::Serve {
+            plan: word(matches, "plan"),
+            port: port_of(matches),
+            turns: matches.get_one::<u32>("turns"),
+        }),
+        "far" => Ok(Request::Far {
+            script: word(matches, "script"),
+            port: port_of(matches),
         }),
         _ => Ok(Request::Decode {
             octets: word(matches, "octets"),

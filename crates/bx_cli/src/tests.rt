@@ -2,17 +2,12 @@
 
 use crate::main_words;
 use bx_base::{Failing, Watched};
-use std::alloc::{AllocError, Global};
 use std::test::Fail;
 
 const ONE: &str = "bx-plan 1\nchannels 1\nbookings 1\n0 60 5 1234 1\nprices 0\ntotal 5\nend\n";
 
 const MUST: &str =
     "bx-plan 3\nchannels 1\nbookings 3\n0 10 4 1234 - free out\n5 15 6 1234 1 must out\n10 20 4 1234 - free in\nprices 2\n5 4\n10 4\ntotal 6\nend\n";
-
-fn zeros(alloc: Global, count: usize) -> Result<Vec<u8>, AllocError> {
-    vec![in alloc; 0u8; count]
-}
 
 /// Input, status, standard output and standard error.
 type Case = (&'static str, u8, &'static str, &'static str);
@@ -140,49 +135,6 @@ fn broken_outputs(rt: HostRuntime) -> Result<(), Fail> {
         let mut errors = Watched::new(Failing::new(Vec::new(rt.alloc()), 0, 1));
         let status = main_words(&rt, words, &mut input, &mut output, &mut errors);
         assert_eq!(rt; status, expected, "{words:?}");
-    }
-    Ok(())
-}
-
-#[test]
-fn readers_that_fail(rt: HostRuntime) -> Result<(), Fail> {
-    let refused = b"bx: F1 CannotRead -\n".as_slice();
-    for calls in 0..69 {
-        let mut input = Watched::new(Failing::new(ONE.as_bytes(), calls, 1));
-        let mut output = Watched::new(Vec::new(rt.alloc()));
-        let mut errors = Watched::new(Vec::new(rt.alloc()));
-        let status = main_words(&rt, &[], &mut input, &mut output, &mut errors);
-        assert_eq!(rt; status == 0, calls == 68, "{calls}");
-        assert_eq!(rt; output.into_inner().is_empty(), status == 1);
-        assert_eq!(rt; errors.into_inner().as_slice() == refused, status == 1);
-    }
-    let long = zeros(rt.alloc(), 4_194_305)?;
-    let mut input = Watched::new(long.as_slice());
-    let mut output = Watched::new(Vec::new(rt.alloc()));
-    let mut errors = Watched::new(Vec::new(rt.alloc()));
-    assert_eq!(rt;
-        main_words(&rt, &[], &mut input, &mut output, &mut errors),
-        1
-    );
-    assert_eq!(rt; errors.into_inner().as_slice(), refused);
-    Ok(())
-}
-
-#[test]
-fn writers_that_fail(rt: HostRuntime) -> Result<(), Fail> {
-    for calls in 0..10 {
-        let mut input = Watched::new(ONE.as_bytes());
-        let mut output = Watched::new(Failing::new(Vec::new(rt.alloc()), calls, 1));
-        let mut errors = Watched::new(Vec::new(rt.alloc()));
-        let status = main_words(&rt, &[], &mut input, &mut output, &mut errors);
-        let written = output.into_inner().into_inner();
-        assert_eq!(rt; status == 0, calls == 9, "{calls}");
-        assert_eq!(rt; written.len(), calls as usize);
-        assert!(rt; b"proved 5\n".starts_with(written.as_slice()));
-        assert_eq!(rt;
-            errors.into_inner().as_slice() == b"bx: F2 CannotWrite\n".as_slice(),
-            status == 1
-        );
     }
     Ok(())
 }

@@ -4,23 +4,29 @@ ghost use Rattle.std.specs.Prelude.{◌≡◌, ◌≢◌, ◌≤◌, ◌↔◌, 
 ghost use Rattle.std.specs.Io.KnownBytes.{Appends};
 ghost use Rattle.bx_base.specs.Devices.{reading_of, writing_of};
 ghost use Rattle.bx_base.specs.Watching.{device_of};
-ghost use Rattle.bx_cli.specs.Proved.{IsProvedText, proved_line};
-ghost use Rattle.bx_cli.specs.Refusals.{IsRefusal};
-ghost use Rattle.bx_cli.specs.declared.fault.CliFault.{CliFault};
+ghost use Rattle.bx_commands.specs.Proved.{IsProvedText, proved_line};
+ghost use Rattle.bx_commands.specs.Refusals.{IsRefusal};
+ghost use Rattle.bx_commands.specs.declared.fault.CommandFault.{CommandFault};
 
-use crate::checking::check_self;
-use crate::decoding::decode;
 use crate::fault::CliFault;
 use crate::planning::{check_file, plan_file};
 use crate::request::{Refusal, Request, read_words};
+use crate::running::{day_of_files, far_file, serve_file};
 use bx_base::{Watched, write_octets};
+use bx_commands::{CommandFault, check_self, decode};
 use std::fs::Files;
 use std::io::{Read, Write};
+use std::net::{Net, TcpListener, TcpStream};
 
 /// Does what the words behind the program's name ask for, and answers the status: 0 done, 1 refused, 2 wrong
 /// words. Without words it is `check_self`, whose refusal is printed behind `bx: ` as one line on standard error.
 /// A failing standard error changes no status.
-pub fn main_words<H: Files + AllocGlobal, R: Read, W: Write, E: Write>(
+pub fn main_words<
+    H: Files + AllocGlobal + Net<Listener = TcpListener, Stream = TcpStream>,
+    R: Read,
+    W: Write,
+    E: Write,
+>(
     rt: &H,
     words: &[&str],
     input: &mut Watched<R>,
@@ -33,12 +39,15 @@ pub fn main_words<H: Files + AllocGlobal, R: Read, W: Write, E: Write>(
         × ((text : List ℕ) → R.remaining (device_of input.old) ≡ Some text → IsProvedText text total)
         × Appends (W.contents (device_of output.old)) (W.contents (device_of output.new)) (proved_line total) }
     // Else it was refused.
-    ensures refused { words.now ≡ [] → result ≢ 0 → (result ≡ 1) × (fault : CliFault) × IsRefusal (reading_of R.remaining input.old input.new) (writing_of W.contents output.old output.new) fault }
+    ensures refused { words.now ≡ [] → result ≢ 0 → (result ≡ 1) × (fault : CommandFault) × IsRefusal (reading_of R.remaining input.old input.new) (writing_of W.contents output.old output.new) fault }
     ensures status { result ≤ 2 }
 {
     if words.is_empty() {
-        let done = check_self(rt.alloc(), input, output);
-        return status_of(done.map(|_| ()), errors);
+        let done = match check_self(rt.alloc(), input, output) {
+            Ok(_) => Ok(()),
+            Err(fault) => Err(CliFault::Command(fault)),
+        };
+        return status_of(done, errors);
     }
     match read_words(rt.alloc(), words) {
         Ok(request) => status_of(run(rt, request, output), errors),
@@ -47,12 +56,12 @@ pub fn main_words<H: Files + AllocGlobal, R: Read, W: Write, E: Write>(
             let _ = write_octets(errors, text.as_bytes());
             2
         }
-        Err(Refusal::Memory) => status_of(Err(CliFault::Memory), errors),
+        Err(Refusal::Memory) => status_of(Err(CliFault::Command(CommandFault::Memory)), errors),
     }
 }
 
 /// Does one command.
-fn run<'a, H: Files + AllocGlobal, W: Write>(
+fn run<'a, H: Files + AllocGlobal + Net<Listener = TcpListener, Stream = TcpStream>, W: Write>(
     rt: &H,
     request: Request<'a>,
     output: &mut Watched<W>,
@@ -64,13 +73,23 @@ fn run<'a, H: Files + AllocGlobal, W: Write>(
             bookings,
             plan,
         } => check_file(rt, &terms, bookings, plan, output),
-        Request::Decode { octets } => decode(rt.alloc(), octets, output),
+        Request::Day {
+            plan,
+            script,
+            turns,
+        } => day_of_files(rt, plan, script, turns, output),
+        Request::Serve { plan, port, turns } => serve_file(rt, plan, port, turns, output),
+        Request::Far { script, port } => far_file(rt, script, port, output),
+        Request::Decode { octets } => Ok(decode(rt.alloc(), octets, output)?),
     }
 }
 
 /// Writes a text that was asked for.
 fn show<'a, W: Write>(text: &str, output: &mut Watched<W>) -> Result<(), CliFault<'a>> {
-    write_octets(output, text.as_bytes()).map_err(|_| CliFault::CannotWrite)
+    match write_octets(output, text.as_bytes()) {
+        Ok(()) => Ok(()),
+        Err(_) => Err(CliFault::Command(CommandFault::CannotWrite)),
+    }
 }
 
 /// The status of what was done, or of its refusal, which is printed as one line.

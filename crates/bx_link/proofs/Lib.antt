@@ -5,3 +5,4 @@ pub mod Turns
 pub mod Hearing
 pub mod Runs
 pub mod FarTurns
+pub mod Days

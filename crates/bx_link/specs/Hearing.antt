@@ -67,6 +67,9 @@ pub record Opens {W : Type 0} (contents : W → Option (List ℕ)) (w w' : Watch
 
 -- ---- several turns
 
+abbrev pub went_well : Result (Unit {0}) LinkFault
+went_well = Ok tt
+
 -- all of this happened, it ended so, and this is left
 pub record IsWholeTalk (talk : Talk) (events : List Event) (result : Result (Unit {0}) LinkFault) (left : Option (List ℕ)) : Type 0 where
   pub all : events ≡ talk.events

@@ -11,7 +11,7 @@ use bx_day::Exchange;
 use std::io::{Read, Write};
 
 /// The moment at which a day stands still.
-const LAST_MOMENT: u32 = 300_000;
+pub(crate) const LAST_MOMENT: u32 = 300_000;
 
 /// Opens and closes so many turns.
 fn run_turns<R: Read, W: Write>(

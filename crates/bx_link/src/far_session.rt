@@ -5,15 +5,13 @@ ghost use Rattle.std.specs.Prelude.{◌≡◌, not, true, false, Err};
 ghost use Rattle.bx_link.specs.FarTurns.{TakesTurn, goes_on, is_far_over};
 ghost use Rattle.bx_link.specs.declared.fault.LinkFault.TheVariants.{Closed};
 
+use crate::day::LAST_MOMENT;
 use crate::fault::LinkFault;
 use crate::frame::Side;
 use crate::turn::{hear_turn, write_far_tick};
 use bx_base::Watched;
 use bx_far::Far;
 use std::io::{Read, Write};
-
-/// The moment at which a day stands still.
-const LAST_MOMENT: u32 = 300_000;
 
 /// A session of the far end. After a fault, and after the end of the day, it is closed, and neither reads nor
 /// writes.

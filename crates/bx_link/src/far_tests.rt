@@ -1,7 +1,7 @@
 //! The far end's turns: each fault at each place, devices that give or take little, and both ends together.
 
 use crate::tests::{CONNECT, CONNECT_ACKNOWLEDGE, END_OF_TURN, OPENED, exchange, repeated};
-use crate::{FarSession, LinkFault, Session};
+use crate::{Connection, FarSession, LinkFault, Session, run_both_ends};
 use bx_base::{Failing, Watched};
 use bx_day::Exchange;
 use bx_far::{Far, Script};
@@ -244,5 +244,32 @@ fn day_of_both_ends(rt: HostRuntime) -> Result<(), Fail> {
     assert_eq!(rt; ended, Ok(false));
     assert!(rt; line.far_session.is_over());
     assert!(rt; writer.into_inner().is_empty());
+    Ok(())
+}
+
+/// A connection that gives these octets, and holds what is written.
+fn connection<'a>(alloc: Global, octets: &'a [u8]) -> Connection<&'a [u8], Vec<u8>> {
+    Connection {
+        reader: Watched::new(octets),
+        writer: Watched::new(Vec::new(alloc)),
+    }
+}
+
+#[test]
+fn one_turn_of_both_ends(rt: HostRuntime) -> Result<(), Fail> {
+    let alloc = rt.alloc();
+    let mut told = OPENED.to_vec(alloc)?;
+    told.extend_from_slice(CONNECT_ACKNOWLEDGE)?;
+    told.extend_from_slice(&[3, 0, 0])?;
+    let answered = with_end(alloc, CONNECT, 1)?;
+    let mut exchange = exchange(alloc)?;
+    let mut far = far_end(alloc)?;
+    let mut near = connection(alloc, &answered);
+    let mut distant = connection(alloc, &told);
+    let result = run_both_ends(&mut exchange, &mut near, &mut far, &mut distant, 1);
+    assert_eq!(rt; result, Ok(()));
+    assert_eq!(rt; near.writer.into_inner().as_slice(), told.as_slice());
+    assert_eq!(rt; distant.writer.into_inner().as_slice(), answered.as_slice());
+    assert_eq!(rt; (exchange.moment(), far.moment()), (1, 1));
     Ok(())
 }

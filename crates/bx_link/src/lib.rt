@@ -1,6 +1,8 @@
 //! The link between the exchange and the far end: frames of octets, turns and sessions.
 #![tactic(auto)]
 
+mod both_ends;
+mod connection;
 mod day;
 mod end;
 mod far_session;
@@ -16,6 +18,8 @@ mod session;
 mod tests;
 mod turn;
 
+pub use both_ends::run_both_ends;
+pub use connection::Connection;
 pub use day::run_day;
 pub use far_session::FarSession;
 pub use fault::LinkFault;

@@ -3,9 +3,9 @@
 ghost use Rattle.std.specs.Prelude.{◌≡◌, Ok, Err, IfOk, IfErr, OnOk};
 ghost use Rattle.hex.specs.Hex.{decode_of};
 ghost use Rattle.bx_base.specs.Devices.{writing_of};
-ghost use Rattle.bx_cli.specs.Decoding.{IsHexMessage, IsDecodeRefusal, IsHexFault};
+ghost use Rattle.bx_commands.specs.Decoding.{IsHexMessage, IsDecodeRefusal, IsHexFault};
 
-use crate::fault::CliFault;
+use crate::fault::CommandFault;
 use bx_base::{Watched, write_octets};
 use bx_q931::{Element, Message, Reference, read};
 use hex::FromHexError;
@@ -14,14 +14,14 @@ use std::fmt::Write;
 use std::{fmt, io};
 
 /// The octets that hexadecimal digits stand for.
-fn octets_of<'a>(alloc: Global, text: &str) -> Result<Vec<u8>, CliFault<'a>>
+fn octets_of<'a>(alloc: Global, text: &str) -> Result<Vec<u8>, CommandFault<'a>>
     ensures ok { IfOk result (λ octets. decode_of text.now ≡ Ok octets.items) }
     ensures err { IfErr result (IsHexFault text.now) }
 {
     match hex::decode(alloc, text) {
         Ok(octets) => Ok(octets),
-        Err(FromHexError::OutOfMemory) => Err(CliFault::Memory),
-        Err(_) => Err(CliFault::NotHex),
+        Err(FromHexError::OutOfMemory) => Err(CommandFault::Memory),
+        Err(_) => Err(CommandFault::NotHex),
     }
 }
 
@@ -64,17 +64,17 @@ pub fn decode<'a, W: io::Write>(
     alloc: Global,
     text: &str,
     output: &mut Watched<W>,
-) -> Result<(), CliFault<'a>>
+) -> Result<(), CommandFault<'a>>
     ensures done { OnOk result (IsHexMessage text.now) }
     ensures refused { IfErr result (IsDecodeRefusal text.now (writing_of W.contents output.old output.new)) }
 {
     let octets = octets_of(alloc, text)?;
     let lines = match read(&octets) {
         Ok(message) => lines_of(alloc, &message),
-        Err(fault) => return Err(CliFault::Message(fault)),
+        Err(fault) => return Err(CommandFault::Message(fault)),
     };
     match lines {
-        Ok(lines) => write_octets(output, lines.as_bytes()).map_err(|_| CliFault::CannotWrite),
-        Err(_) => Err(CliFault::Memory),
+        Ok(lines) => write_octets(output, lines.as_bytes()).map_err(|_| CommandFault::CannotWrite),
+        Err(_) => Err(CommandFault::Memory),
     }
 }

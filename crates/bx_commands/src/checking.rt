@@ -6,10 +6,10 @@ ghost use Rattle.bx_base.specs.Devices.{reading_of, writing_of};
 ghost use Rattle.bx_base.specs.Watching.{device_of, is_faulted};
 ghost use Rattle.bx_base.specs.Octets.{AppendsPrefix};
 ghost use Rattle.bx_base.specs.PlanParts.{parts_of};
-ghost use Rattle.bx_cli.specs.Proved.{IsPlanText, IsProvedFor, IsProvedText, IsProvedAgainst, proved_line};
-ghost use Rattle.bx_cli.specs.Refusals.{IsNoPlan, IsJudged, IsRefusal, IsRefusalAgainst};
+ghost use Rattle.bx_commands.specs.Proved.{IsPlanText, IsProvedFor, IsProvedText, IsProvedAgainst, proved_line};
+ghost use Rattle.bx_commands.specs.Refusals.{IsNoPlan, IsUnproved, IsJudged, IsRefusal, IsRefusalAgainst};
 
-use crate::fault::CliFault;
+use crate::fault::CommandFault;
 use bx_base::{
     Bookings, ChannelSet, Plan, ReadFault, Watched, WriteFailed, read_octets, write_octets,
 };
@@ -24,20 +24,42 @@ fn plan_from<'a, R: Read>(
     alloc: Global,
     name: &'a str,
     input: &mut Watched<R>,
-) -> Result<Plan, CliFault<'a>>
+) -> Result<Plan, CommandFault<'a>>
     ensures found { IfOk result (λ plan. (text : List ℕ) → R.remaining (device_of input.old) ≡ Some text → IsPlanText text (parts_of plan)) }
     ensures ended { OnOk result (IsAtEnd (R.remaining (device_of input.new))) }
     ensures none { IfErr result (IsNoPlan name.now (reading_of R.remaining input.old input.new)) }
 {
     let text = match read_octets(alloc, input) {
         Ok(text) => text,
-        Err(ReadFault::Memory) => return Err(CliFault::Memory),
-        Err(_) => return Err(CliFault::CannotRead(name)),
+        Err(ReadFault::Memory) => return Err(CommandFault::Memory),
+        Err(_) => return Err(CommandFault::CannotRead(name)),
     };
     match read_plan(alloc, &text) {
         Ok(plan) => Ok(plan),
-        Err(PlanFault::Memory) => Err(CliFault::Memory),
-        Err(fault) => Err(CliFault::Plan(fault)),
+        Err(PlanFault::Memory) => Err(CommandFault::Memory),
+        Err(fault) => Err(CommandFault::Plan(fault)),
+    }
+}
+
+/// The plan whose text is read to the end of an input of this name, where it is proved for the bookings and channels
+/// that it states itself.
+pub fn proved_plan<'a, R: Read>(
+    alloc: Global,
+    name: &'a str,
+    input: &mut Watched<R>,
+) -> Result<Plan, CommandFault<'a>>
+    ensures found { IfOk result (λ plan. (text : List ℕ) → R.remaining (device_of input.old) ≡ Some text → IsPlanText text (parts_of plan)) }
+    ensures proved { IfOk result (λ plan. (total : ℕ) × IsProvedFor plan.bookings plan.channels (parts_of plan) total) }
+    ensures read { OnOk result (IsAtEnd (R.remaining (device_of input.new))) }
+    ensures refused { IfErr result (IsUnproved name.now (reading_of R.remaining input.old input.new)) }
+{
+    let plan = match plan_from(alloc, name, input) {
+        Ok(plan) => plan,
+        Err(fault) => return Err(fault),
+    };
+    match check(&plan.bookings, plan.channels, &plan) {
+        Ok(_) => Ok(plan),
+        Err(fault) => Err(CommandFault::Check(fault)),
     }
 }
 
@@ -59,18 +81,18 @@ fn judge<'a, W: Write>(
     bookings: &Bookings,
     channels: ChannelSet,
     output: &mut Watched<W>,
-) -> Result<u64, CliFault<'a>>
+) -> Result<u64, CommandFault<'a>>
     ensures proved { IfOk result (IsProvedFor bookings.now channels (parts_of plan.now)) }
     ensures written { IfOk result (λ total. Appends (W.contents (device_of output.old)) (W.contents (device_of output.new)) (proved_line total)) }
     ensures refused { IfErr result (IsJudged bookings.now channels (parts_of plan.now) (writing_of W.contents output.old output.new)) }
 {
     let total = match check(bookings, channels, plan) {
         Ok(total) => total,
-        Err(fault) => return Err(CliFault::Check(fault)),
+        Err(fault) => return Err(CommandFault::Check(fault)),
     };
     match write_proved(output, total) {
         Ok(()) => Ok(total),
-        Err(WriteFailed) => Err(CliFault::CannotWrite),
+        Err(WriteFailed) => Err(CommandFault::CannotWrite),
     }
 }
 
@@ -81,7 +103,7 @@ pub fn check_self<'a, R: Read, W: Write>(
     alloc: Global,
     input: &mut Watched<R>,
     output: &mut Watched<W>,
-) -> Result<u64, CliFault<'a>>
+) -> Result<u64, CommandFault<'a>>
     // What was read to its end is the text of a plan that is proved with this total.
     ensures proved { IfOk result (λ total. (text : List ℕ) → R.remaining (device_of input.old) ≡ Some text → IsProvedText text total) }
     ensures read { OnOk result (IsAtEnd (R.remaining (device_of input.new))) }
@@ -103,7 +125,7 @@ pub fn check_against<'a, R: Read, W: Write>(
     channels: ChannelSet,
     input: &mut Watched<R>,
     output: &mut Watched<W>,
-) -> Result<u64, CliFault<'a>>
+) -> Result<u64, CommandFault<'a>>
     ensures proved { IfOk result (λ total. (text : List ℕ) → R.remaining (device_of input.old) ≡ Some text → IsProvedAgainst bookings.now channels text total) }
     ensures read { OnOk result (IsAtEnd (R.remaining (device_of input.new))) }
     ensures written { IfOk result (λ total. Appends (W.contents (device_of output.old)) (W.contents (device_of output.new)) (proved_line total)) }

@@ -6,24 +6,24 @@ use Rattle.bx_base.specs.Octets.{AppendsPrefix, ReadsFront}
 use Rattle.bx_base.specs.PlanParts.{Parts}
 use Rattle.bx_planfile.specs.Reading.{read_all}
 use Rattle.bx_check.specs.Check.{IsOutcome}
-use Rattle.bx_cli.specs.Proved.{IsPlanText, IsProvedFor, IsProvedText, IsProvedAgainst, proved_line}
+use Rattle.bx_commands.specs.Proved.{IsPlanText, IsProvedFor, IsProvedText, IsProvedAgainst, proved_line}
 use Rattle.bx_check.specs.declared.judge.CheckFault.{CheckFault}
-use Rattle.bx_cli.specs.declared.fault.CliFault.{CliFault}
-use Rattle.bx_cli.specs.declared.fault.CliFault.TheVariants.{CannotRead, CannotWrite, Plan, Check, Memory}
+use Rattle.bx_commands.specs.declared.fault.CommandFault.{CommandFault}
+use Rattle.bx_commands.specs.declared.fault.CommandFault.TheVariants.{CannotRead, CannotWrite, Plan, Check, Memory}
 
 -- an input of this name was not read to its end: it failed, or 8,388,608 reads did not reach the end, or it is too long
 abbrev pub IsUnread : List ℕ → Reading → List ℕ → Type 0
 IsUnread name input said = (said ≡ name) × ((input.is_faulted ≡ true) ⊎ (input.reads ≡ 8388608) ⊎ ReadsFront input.before input.after 4194305)
 
 -- why there is no plan of an input
-abbrev pub IsNoPlan : List ℕ → Reading → CliFault → Type 0
+abbrev pub IsNoPlan : List ℕ → Reading → CommandFault → Type 0
 IsNoPlan name input (CannotRead n) = IsUnread name input n.now
 IsNoPlan name input (Plan fault) = (text : List ℕ) → input.before ≡ Some text → read_all text ≡ Err fault
 IsNoPlan name input Memory = Unit {0}
 IsNoPlan name input _ = ⊥
 
 -- why a plan is not proved, or its proof not written
-abbrev pub IsJudged : List Row → List Bool → Parts → Writing → CliFault → Type 0
+abbrev pub IsJudged : List Row → List Bool → Parts → Writing → CommandFault → Type 0
 IsJudged rows channels plan output (Check fault) = IsOutcome rows channels plan (Err fault) × KeepsOutput output
 IsJudged rows channels plan output CannotWrite = (output.is_faulted ≡ true) × ((total : ℕ) × IsProvedFor rows channels plan total × AppendsPrefix output.before output.after (proved_line total))
 IsJudged rows channels plan output _ = ⊥
@@ -34,6 +34,14 @@ pub record IsFaultyText (text : List ℕ) (fault : CheckFault) : Type 0 where
   pub text_of : IsPlanText text plan
   pub outcome : IsOutcome plan.rows plan.channels plan (Err fault)
 
+-- why there is no plan of an input that is proved for its own bookings and channels
+abbrev pub IsUnproved : List ℕ → Reading → CommandFault → Type 0
+IsUnproved name input (CannotRead n) = IsUnread name input n.now
+IsUnproved name input (Plan fault) = (text : List ℕ) → input.before ≡ Some text → read_all text ≡ Err fault
+IsUnproved name input (Check fault) = (text : List ℕ) → input.before ≡ Some text → IsFaultyText text fault
+IsUnproved name input Memory = Unit {0}
+IsUnproved name input _ = ⊥
+
 -- the same for these bookings and channels
 pub record IsFaultyAgainst (rows : List Row) (channels : List Bool) (text : List ℕ) (fault : CheckFault) : Type 0 where
   pub plan : Parts
@@ -41,7 +49,7 @@ pub record IsFaultyAgainst (rows : List Row) (channels : List Bool) (text : List
   pub outcome : IsOutcome rows channels plan (Err fault)
 
 -- a refusal says what went wrong, and that nothing was written, or a front of what was to be written
-abbrev pub IsRefusal : Reading → Writing → CliFault → Type 0
+abbrev pub IsRefusal : Reading → Writing → CommandFault → Type 0
 IsRefusal input output (CannotRead n) = IsUnread (codes "-") input n.now × KeepsOutput output
 IsRefusal input output CannotWrite = (output.is_faulted ≡ true) × ((text : List ℕ) → input.before ≡ Some text → (total : ℕ) × IsProvedText text total × AppendsPrefix output.before output.after (proved_line total))
 IsRefusal input output (Plan fault) = ((text : List ℕ) → input.before ≡ Some text → read_all text ≡ Err fault) × KeepsOutput output
@@ -50,7 +58,7 @@ IsRefusal input output Memory = KeepsOutput output
 IsRefusal input output _ = ⊥
 
 -- the same for a plan of an input of this name, against these bookings and channels
-abbrev pub IsRefusalAgainst : List Row → List Bool → List ℕ → Reading → Writing → CliFault → Type 0
+abbrev pub IsRefusalAgainst : List Row → List Bool → List ℕ → Reading → Writing → CommandFault → Type 0
 IsRefusalAgainst rows channels name input output (CannotRead n) = IsUnread name input n.now × KeepsOutput output
 IsRefusalAgainst rows channels name input output CannotWrite = (output.is_faulted ≡ true) × ((text : List ℕ) → input.before ≡ Some text → (total : ℕ) × IsProvedAgainst rows channels text total × AppendsPrefix output.before output.after (proved_line total))
 IsRefusalAgainst rows channels name input output (Plan fault) = ((text : List ℕ) → input.before ≡ Some text → read_all text ≡ Err fault) × KeepsOutput output

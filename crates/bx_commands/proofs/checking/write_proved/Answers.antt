@@ -4,7 +4,7 @@ use Rattle.std.specs.Io.KnownBytes.{Appends}
 use Rattle.bx_base.specs.Watching.{device_of}
 use Rattle.bx_base.specs.Octets.{AppendsPrefix}
 use Rattle.bx_base.proofs.OctetLemmas.{AppendsPrefix-more, AppendsPrefix-after}
-use Rattle.bx_cli.proofs.checking.write_proved.Goals as goal
+use Rattle.bx_commands.proofs.checking.write_proved.Goals as goal
 
 at_any : {A E : Type 0} (r : Result A E) (P : Type 0) → P → OnErr r P
 at_any (Ok x) P p = tt

@@ -3,8 +3,8 @@ use Rattle.std.specs.Prelude.{◌≡◌, ℕ, true, List, Ok, Err}
 use Rattle.hex.specs.Hex.{decode_of}
 use Rattle.hex.specs.declared.error.FromHexError.{FromHexError}
 use Rattle.bx_q931.specs.Messages.{PlainMessage, message_at}
-use Rattle.bx_cli.specs.declared.fault.CliFault.{CliFault}
-use Rattle.bx_cli.specs.declared.fault.CliFault.TheVariants.{CannotWrite, NotHex, Message, Memory}
+use Rattle.bx_commands.specs.declared.fault.CommandFault.{CommandFault}
+use Rattle.bx_commands.specs.declared.fault.CommandFault.TheVariants.{CannotWrite, NotHex, Message, Memory}
 use Rattle.bx_base.specs.Devices.{Writing, KeepsOutput}
 
 -- the text has the octets of a message in hexadecimal
@@ -12,13 +12,13 @@ abbrev pub IsHexMessage : List ℕ → Type 0
 IsHexMessage text = (octets : List ℕ) × (m : PlainMessage) × (decode_of text ≡ Ok octets) × (message_at octets ≡ Ok m)
 
 -- the text is no hexadecimal, or there was no memory for its octets
-abbrev pub IsHexFault : List ℕ → CliFault → Type 0
+abbrev pub IsHexFault : List ℕ → CommandFault → Type 0
 IsHexFault text NotHex = (e : FromHexError) × (decode_of text ≡ Err e)
 IsHexFault text Memory = Unit {0}
 IsHexFault text _ = ⊥
 
 -- a refusal: the text is no hexadecimal, its octets are no message, the output failed, or a growth was refused
-abbrev pub IsDecodeRefusal : List ℕ → Writing → CliFault → Type 0
+abbrev pub IsDecodeRefusal : List ℕ → Writing → CommandFault → Type 0
 IsDecodeRefusal text output NotHex = ((e : FromHexError) × (decode_of text ≡ Err e)) × KeepsOutput output
 IsDecodeRefusal text output (Message fault) = ((octets : List ℕ) × (decode_of text ≡ Ok octets) × (message_at octets ≡ Err fault)) × KeepsOutput output
 IsDecodeRefusal text output CannotWrite = output.is_faulted ≡ true

@@ -1,0 +1,3 @@
+pub mod Proved
+pub mod Refusals
+pub mod Decoding

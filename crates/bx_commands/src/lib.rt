@@ -1,0 +1,12 @@
+//! What the commands of the program do over readers and writers, without words, files and sockets.
+#![tactic(auto)]
+
+mod checking;
+mod decoding;
+mod fault;
+#[cfg(test)]
+mod tests;
+
+pub use checking::{check_against, check_self, proved_plan};
+pub use decoding::decode;
+pub use fault::CommandFault;

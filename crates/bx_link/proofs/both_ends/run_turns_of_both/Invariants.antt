@@ -1,0 +1,11 @@
+use Rattle.std.proofs.Common.{◌≡◌, ◌-◌, false}
+use Rattle.bx_link.specs.Sessions.{is_turn_open, is_closed}
+use Rattle.bx_link.proofs.Runs.{TalkedSoFar}
+use Rattle.bx_link.proofs.both_ends.run_turns_of_both.Given as goal
+
+abbrev pub invariant-loop-turn : goal.invariant-loop-turn
+invariant-loop-turn g l = record {
+  between : is_turn_open l.session ≡ false;
+  going_on : is_closed l.session ≡ false;
+  talked : TalkedSoFar g.R.Read.remaining g.W.Write.contents l.turns (l.turns - l._turn) l.fn.near.reader l.near.reader l.fn.near.writer l.near.writer l.fn.exchange l.exchange;
+}
