@@ -99,7 +99,7 @@ fn with_turns<'a>(alloc: Global, command: Command<'a>) -> Result<Command<'a>, Al
         .value_name("N")
         .value_parser(value_parser!(u32).range(1..=300_000))
         .help(
-            "Seconds of the day to run, 1 to 300000 [default: until 38 s after the last accepted booking]",
+            "Seconds of the day to run, 1 to 300000 [default: until 38 s after the end of the last accepted booking]",
         );
     command.arg(turns)
 }
@@ -116,21 +116,21 @@ fn with_port<'a>(alloc: Global, command: Command<'a>) -> Result<Command<'a>, All
 
 fn day<'a>(alloc: Global) -> Result<Command<'a>, AllocError> {
     let day = Command::new(alloc, "day").about(
-        "Run a proved plan's day, both ends over one TCP connection to 127.0.0.1, and print what became of each booking; it may run long in silence",
+        "Run both ends of a proved plan's day over one TCP connection to 127.0.0.1, and print what became of each booking; may run long in silence",
     );
     with_turns(alloc, with_script(alloc, with_plan(alloc, day)?)?)
 }
 
 fn serve<'a>(alloc: Global) -> Result<Command<'a>, AllocError> {
     let serve = Command::new(alloc, "serve").about(
-        "Run the exchange's end of a proved plan's day towards one peer on 127.0.0.1, and print what became of each booking; it waits for the peer, without limit",
+        "Run the exchange's end of a proved plan's day towards the first peer on 127.0.0.1, and print what became of each booking; may wait and run long in silence",
     );
     with_turns(alloc, with_port(alloc, with_plan(alloc, serve)?)?)
 }
 
 fn far<'a>(alloc: Global) -> Result<Command<'a>, AllocError> {
     let far = Command::new(alloc, "far").about(
-        "Run the far end of a day by a script, towards an exchange that serves on 127.0.0.1; it waits for the exchange, without limit",
+        "Run the far end of a day by a script, towards an exchange that serves on 127.0.0.1; may wait and run long in silence",
     );
     with_port(alloc, with_script(alloc, far)?)
 }

@@ -225,7 +225,7 @@ const DAYS: [Case; 13] = [
     (
         "day @two.txt @calls.csv",
         0,
-        "1 unanswered\n2 carried 12 20\n3 refused\nmaintenance none\n",
+        "1 unanswered\n2 carried 13 20\n3 refused\nmaintenance none\n",
         "",
     ),
     ("day @four.txt @dance.csv", 1, "", "bx: S3 BadEntry 1\n"),
