@@ -7,6 +7,61 @@ use crate::{
 use std::alloc::{AllocError, Global};
 use std::test::Fail;
 
+/// Digits, and whether they are a number.
+const NUMBERS: [(&[u8], bool); 5] = [
+    (b"", false),
+    (b"1", true),
+    (b"012345678901234", true),
+    (b"0123456789012345", false),
+    (b"12a", false),
+];
+
+/// A start, an end and a pay, and whether they are a booking's.
+const BOOKINGS: [(u32, u32, u64, bool); 6] = [
+    (0, 1, 1, true),
+    (0, 0, 1, false),
+    (199999, 200000, 1000000000, true),
+    (199999, 200001, 1, false),
+    (0, 1, 0, false),
+    (0, 1, 1000000001, false),
+];
+
+/// A moment and an amount, and whether they are a price.
+const PRICES: [(u32, u64, bool); 4] = [
+    (199999, 4000000000000, true),
+    (200000, 1, false),
+    (0, 0, false),
+    (0, 4000000000001, false),
+];
+
+/// Numbers of channels with their fault, and how it is printed.
+const CHANNEL_FAULTS: [(&[u8], ChannelFault, &str); 2] = [
+    (
+        &[1, 16],
+        ChannelFault::NotABChannel(16),
+        "N1 NotABChannel 16",
+    ),
+    (&[3, 3, 16], ChannelFault::Repeated(3), "N2 Repeated 3"),
+];
+
+/// The ends of two bookings, their channels (0: none), and whether channels 1 and 2 carry them.
+const PLANS: [((u32, u32), [u8; 2], bool); 5] = [
+    ((10, 20), [1, 1], true),
+    ((11, 20), [1, 1], false),
+    ((11, 20), [1, 2], true),
+    ((11, 20), [1, 0], true),
+    ((10, 20), [1, 3], false),
+];
+
+/// How many writes succeed, how much each takes at most, and how much of the text is then written.
+const WRITERS: [(u32, usize, usize); 5] = [
+    (21, 1, 21),
+    (1, 0, 0),
+    (0, 9, 0),
+    (4, 9, 32),
+    (3, 9, 27),
+];
+
 fn booking(start: u32, end: u32, pay: u64, number: &[u8]) -> Option<Booking> {
     Booking::new(start, end, pay, Number::new(number)?)
 }
@@ -16,159 +71,196 @@ fn zeros(alloc: Global, count: usize) -> Result<Vec<u8>, AllocError> {
 }
 
 #[test]
-fn values_and_their_limits(rt: HostRuntime) -> Result<(), Fail> {
-    for n in 0..=255 {
+fn values_and_their_limits(rt: HostRuntime) {
+    for n in 0..=255u8 {
         let expected = n >= 1 && n <= 31 && n != 16;
-        assert_eq!(rt; Channel::new(n).is_some(), expected, "channel {n}");
+        assert!(rt; Channel::new(n).is_some() == expected, "channel {n}");
     }
-    for (digits, expected) in [
-        (b"".as_slice(), false),
-        (b"1", true),
-        (b"012345678901234", true),
-        (b"0123456789012345", false),
-        (b"12a", false),
-    ] {
-        assert_eq!(rt; Number::new(digits).is_some(), expected, "{digits:?}");
+    for (digits, expected) in NUMBERS {
+        assert!(rt; Number::new(digits).is_some() == expected, "{digits:?}");
     }
-    for (start, end, pay, expected) in [
-        (0, 1, 1, true),
-        (0, 0, 1, false),
-        (199999, 200000, 1000000000, true),
-        (199999, 200001, 1, false),
-        (0, 1, 0, false),
-        (0, 1, 1000000001, false),
-    ] {
-        assert_eq!(rt;
-            booking(start, end, pay, b"1").is_some(),
-            expected,
+    for (start, end, pay, expected) in BOOKINGS {
+        assert!(rt;
+            booking(start, end, pay, b"1").is_some() == expected,
             "{start} {end} {pay}"
         );
     }
-    for (moment, amount, expected) in [
-        (199999, 4000000000000, true),
-        (200000, 1, false),
-        (0, 0, false),
-        (0, 4000000000001, false),
-    ] {
-        assert_eq!(rt;
-            Price::new(moment, amount).is_some(),
-            expected,
+    for (moment, amount, expected) in PRICES {
+        assert!(rt;
+            Price::new(moment, amount).is_some() == expected,
             "{moment} {amount}"
         );
     }
-    Ok(())
+}
+
+/// Whether these numbers are refused with this fault, which is printed so.
+fn is_refused(alloc: Global, numbers: &[u8], fault: ChannelFault, printed: &str) -> bool {
+    match (ChannelSet::from_numbers(numbers), fault.to_string(alloc)) {
+        (Err(found), Ok(words)) => found == fault && words.as_str() == printed,
+        _ => false,
+    }
+}
+
+/// Whether the set is that of three channels with the first and without the second, which can be added.
+fn has_just_first(set: ChannelSet, first: Channel, second: Channel) -> bool {
+    set.count() == 3 && set.has(first) && !set.has(second) && set.with(second).has(second)
+}
+
+/// Whether these two are the lowest of the set.
+fn are_lowest(set: ChannelSet, first: Channel, second: Option<Channel>) -> bool {
+    let none = ChannelSet::empty();
+    set.lowest_free(none) == Some(first) && set.lowest_free(none.with(first)) == second
 }
 
 #[test]
 fn channel_sets(rt: HostRuntime) -> Result<(), Fail> {
-    let alloc = rt.alloc();
-    assert_eq!(rt;
-        ChannelSet::from_numbers(&[1, 16]),
-        Err(ChannelFault::NotABChannel(16))
-    );
-    assert_eq!(rt;
-        ChannelSet::from_numbers(&[3, 3, 16]),
-        Err(ChannelFault::Repeated(3))
-    );
-    assert_eq!(rt;
-        ChannelFault::NotABChannel(16).to_string(alloc)?.as_str(),
-        "N1 NotABChannel 16"
-    );
-    assert_eq!(rt;
-        ChannelFault::Repeated(3).to_string(alloc)?.as_str(),
-        "N2 Repeated 3"
-    );
+    for (numbers, fault, printed) in CHANNEL_FAULTS {
+        assert!(rt;
+            is_refused(rt.alloc(), numbers, fault, printed),
+            "{printed}"
+        );
+    }
     assert_eq!(rt; ChannelSet::from_numbers(&[])?.count(), 0);
     let set = ChannelSet::from_numbers(&[31, 17, 2])?;
     let (two, three) = (Channel::new(2).ok_or("2")?, Channel::new(3).ok_or("3")?);
-    assert_eq!(rt; set.count(), 3);
-    assert!(rt; set.has(two) && !set.has(three) && set.with(three).has(three));
-    assert_eq!(rt; set.lowest_free(ChannelSet::empty()), Some(two));
-    assert_eq!(rt;
-        set.lowest_free(ChannelSet::empty().with(two)),
-        Channel::new(17)
+    assert!(rt; has_just_first(set, two, three), "members");
+    assert!(rt; are_lowest(set, two, Channel::new(17)), "lowest");
+    assert!(rt;
+        set.without(two).lowest_free(set.without(two)).is_none(),
+        "none is free"
     );
-    assert_eq!(rt; set.without(two).lowest_free(set.without(two)), None);
     Ok(())
+}
+
+fn repeated(alloc: Global, booking: Booking, count: u16) -> Option<Bookings> {
+    let mut bookings = Bookings::new(alloc);
+    for _ in 0..count {
+        bookings.push(booking).ok()?;
+    }
+    Some(bookings)
+}
+
+/// Whether a copy is the same, and no longer once it grows, nor once the other grows by another booking.
+fn differs_once_changed(bookings: &mut Bookings, one: Booking) -> Option<bool> {
+    let mut copy = bookings.copy().ok()?;
+    let before = copy.same(bookings);
+    copy.push(one.as_must()).ok()?;
+    let longer = copy.same(bookings);
+    bookings.push(one.as_inward()).ok()?;
+    Some(before && !longer && !copy.same(bookings))
+}
+
+/// Whether there are 4,000 bookings, this the last, and no more are taken.
+fn is_full(bookings: &mut Bookings, last: Booking) -> bool {
+    let refused = bookings.push(last) == Err(AddFault::Full);
+    let has_last = bookings.len() == 4000 && bookings.get(4000) == Some(last);
+    refused && has_last && bookings.get(4001).is_none() && bookings.get(0).is_none()
 }
 
 #[test]
 fn bookings_up_to_the_limit(rt: HostRuntime) -> Result<(), Fail> {
-    let mut bookings = Bookings::new(rt.alloc());
     let one = booking(0, 1, 1000000000, b"1234").ok_or("one")?;
-    for _ in 0..3999 {
-        bookings.push(one)?;
-    }
-    let mut copy = bookings.copy()?;
-    assert!(rt; copy.same(&bookings));
-    copy.push(one.as_must())?;
-    assert!(rt; !copy.same(&bookings));
-    bookings.push(one.as_inward())?;
-    assert!(rt; !copy.same(&bookings));
-    assert_eq!(rt; bookings.push(one), Err(AddFault::Full));
-    assert_eq!(rt; bookings.len(), 4000);
-    assert_eq!(rt; bookings.get(4000), Some(one.as_inward()));
-    assert_eq!(rt; bookings.get(4001), None);
-    assert_eq!(rt; bookings.get(0), None);
-    Ok(())
-}
-
-#[test]
-fn plans(rt: HostRuntime) -> Result<(), Fail> {
-    for (ends, numbers, carried) in [
-        ([10, 20], [Some(1), Some(1)], true),
-        ([11, 20], [Some(1), Some(1)], false),
-        ([11, 20], [Some(1), Some(2)], true),
-        ([11, 20], [Some(1), None], true),
-        ([10, 20], [Some(1), Some(3)], false),
-    ] {
-        let mut bookings = Bookings::new(rt.alloc());
-        bookings.push(booking(0, ends[0], 5, b"1").ok_or("first")?)?;
-        bookings.push(booking(10, ends[1], 5, b"1").ok_or("second")?)?;
-        let mut assigned = Vec::new(rt.alloc());
-        for number in numbers {
-            assigned.push(number.and_then(Channel::new))?;
-        }
-        let channels = ChannelSet::from_numbers(&[1, 2])?;
-        let plan = Plan::new(bookings, channels, assigned, Vec::new(rt.alloc()), 10);
-        assert_eq!(rt; plan.ok_or("plan")?.carried(), carried);
-    }
-    Ok(())
-}
-
-#[test]
-fn writers_that_take_little(rt: HostRuntime) -> Result<(), Fail> {
-    let text = b"bx-plan 3\nchannels 1\nbookings 1\n";
-    for (calls, most, written) in [(21, 1, 21), (1, 0, 0), (0, 9, 0), (4, 9, 32), (3, 9, 27)] {
-        let mut w = Watched::new(Failing::new(Vec::new(rt.alloc()), calls, most));
-        let whole = write_octets(&mut w, text).is_ok();
-        assert_eq!(rt; whole, written == text.len());
-        assert_eq!(rt; w.faulted(), !whole);
-        let held = w.into_inner().into_inner();
-        assert_eq!(rt; held.len(), written);
-        assert!(rt; text.starts_with(held.as_slice()));
-    }
-    Ok(())
-}
-
-#[test]
-fn readers_that_give_little(rt: HostRuntime) -> Result<(), Fail> {
-    let mut r = Watched::new(Failing::new(b"abcdef".as_slice(), 7, 1));
-    assert_eq!(rt;
-        read_octets(rt.alloc(), &mut r)?.as_slice(),
-        b"abcdef".as_slice()
+    let mut bookings = repeated(rt.alloc(), one, 3999).ok_or("bookings")?;
+    assert!(rt;
+        differs_once_changed(&mut bookings, one) == Some(true),
+        "copies"
     );
-    assert_eq!(rt; r.reads(), 7);
-    for calls in 0..7 {
-        let mut r = Watched::new(Failing::new(b"abcdef".as_slice(), calls, 1));
-        assert!(rt; matches!(read_octets(rt.alloc(), &mut r), Err(ReadFault::Failed)));
-        assert!(rt; r.faulted());
-    }
-    let most = zeros(rt.alloc(), 4_194_304)?;
-    let mut r = Watched::new(most.as_slice());
-    assert!(rt; read_octets(rt.alloc(), &mut r).is_ok());
-    let more = zeros(rt.alloc(), 4_194_305)?;
-    let mut r = Watched::new(more.as_slice());
-    assert!(rt; matches!(read_octets(rt.alloc(), &mut r), Err(ReadFault::TooLong)));
+    assert!(rt; is_full(&mut bookings, one.as_inward()), "full");
     Ok(())
+}
+
+fn pair_of(alloc: Global, ends: (u32, u32)) -> Option<Bookings> {
+    let mut bookings = Bookings::new(alloc);
+    bookings.push(booking(0, ends.0, 5, b"1")?).ok()?;
+    bookings.push(booking(10, ends.1, 5, b"1")?).ok()?;
+    Some(bookings)
+}
+
+/// Whether the plan of two bookings with these ends and channels is carried.
+fn is_carried(alloc: Global, ends: (u32, u32), numbers: [u8; 2]) -> Option<bool> {
+    let mut assigned = Vec::new(alloc);
+    for number in numbers {
+        assigned.push(Channel::new(number)).ok()?;
+    }
+    let channels = ChannelSet::from_numbers(&[1, 2]).ok()?;
+    let plan = Plan::new(
+        pair_of(alloc, ends)?,
+        channels,
+        assigned,
+        Vec::new(alloc),
+        10,
+    )?;
+    Some(plan.carried())
+}
+
+#[test]
+fn plans(rt: HostRuntime) {
+    for (ends, numbers, carried) in PLANS {
+        assert!(rt;
+            is_carried(rt.alloc(), ends, numbers) == Some(carried),
+            "{numbers:?}"
+        );
+    }
+}
+
+/// Whether just so much of the text is written, and the writer is faulted where that is not all.
+fn writes(alloc: Global, text: &[u8], writer: (u32, usize, usize)) -> bool {
+    let (calls, most, written) = writer;
+    let mut w = Watched::new(Failing::new(Vec::new(alloc), calls, most));
+    let whole = write_octets(&mut w, text).is_ok();
+    let faulted = w.faulted();
+    let held = w.into_inner().into_inner();
+    let is_front = held.len() == written && text.starts_with(held.as_slice());
+    is_front && whole == (written == text.len()) && faulted != whole
+}
+
+#[test]
+fn writers_that_take_little(rt: HostRuntime) {
+    let text = b"bx-plan 3\nchannels 1\nbookings 1\n";
+    for writer in WRITERS {
+        assert!(rt; writes(rt.alloc(), text, writer), "{writer:?}");
+    }
+}
+
+/// Whether a reader that gives one octet a read is read whole by one read more.
+fn reads_whole(alloc: Global) -> bool {
+    let mut r = Watched::new(Failing::new(b"abcdef".as_slice(), 7, 1));
+    match read_octets(alloc, &mut r) {
+        Ok(octets) => octets.as_slice() == b"abcdef".as_slice() && r.reads() == 7,
+        Err(_) => false,
+    }
+}
+
+/// Whether it is a failed read that ends the reading of one that fails after so many reads.
+fn fails(alloc: Global, calls: u32) -> bool {
+    let mut r = Watched::new(Failing::new(b"abcdef".as_slice(), calls, 1));
+    let failed = matches!(read_octets(alloc, &mut r), Err(ReadFault::Failed));
+    failed && r.faulted()
+}
+
+/// Whether so many zeros are read; false only where they are too long.
+fn are_zeros_read(alloc: Global, count: usize) -> Option<bool> {
+    let zeros = zeros(alloc, count).ok()?;
+    let mut r = Watched::new(zeros.as_slice());
+    match read_octets(alloc, &mut r) {
+        Ok(_) => Some(true),
+        Err(ReadFault::TooLong) => Some(false),
+        Err(_) => None,
+    }
+}
+
+#[test]
+fn readers_that_give_little(rt: HostRuntime) {
+    assert!(rt; reads_whole(rt.alloc()), "whole");
+    for calls in 0..7u32 {
+        assert!(rt; fails(rt.alloc(), calls), "{calls}");
+    }
+    assert!(rt;
+        are_zeros_read(rt.alloc(), 4_194_304) == Some(true),
+        "the most"
+    );
+    assert!(rt;
+        are_zeros_read(rt.alloc(), 4_194_305) == Some(false),
+        "one more"
+    );
 }

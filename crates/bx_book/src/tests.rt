@@ -1,16 +1,125 @@
 //! Days and booking texts with what is known of them.
 
-use crate::{BookFault, Day, DayFault, StreamFault, read_bookings, read_bookings_from};
-use bx_base::{Bookings, Failing, Watched};
+use crate::{Day, DayFault, StreamFault, read_bookings, read_bookings_from};
+use bx_base::{Booking, Bookings, Failing, Watched};
 use std::alloc::{AllocError, Global};
+use std::fmt::Display;
 use std::io;
 use std::io::Read;
 use std::test::Fail;
+
+const EUROPE: &str = "CET-1CEST,M3.5.0,M10.5.0/3";
+
+const HALIFAX: &str = "AST4ADT,M3.2.0/0,M11.1.0/1";
+
+const DAYS: [(&str, &str, i64, u32); 5] = [
+    ("2026-01-05", "UTC0", 1_767_571_200, 86_400),
+    ("2026-10-25", EUROPE, 1_792_879_200, 90_000),
+    ("2026-03-29", EUROPE, 1_774_738_800, 82_800),
+    ("2026-03-08", HALIFAX, 1_772_942_400, 82_800),
+    ("2026-11-01", HALIFAX, 1_793_502_000, 90_000),
+];
+
+/// No days, with their fault as it is printed.
+const REFUSED_DAYS: [(&str, &str, DayFault, &str); 5] = [
+    ("2026-02-29", "x", DayFault::BadDate, "A1 BadDate"),
+    ("", "UTC0", DayFault::BadDate, "A1 BadDate"),
+    ("9999-12-31", "x", DayFault::BadZone, "A2 BadZone"),
+    ("2026-01-05", "", DayFault::BadZone, "A2 BadZone"),
+    ("9999-12-31", "UTC0", DayFault::OutOfRange, "A3 OutOfRange"),
+];
+
+/// Texts with their first fault, as it is printed.
+const FAULTS: [(&str, &str); 11] = [
+    ("", "B1 BadHeader"),
+    ("start,end,number\n", "B1 BadHeader"),
+    (
+        "start,end,number,pay\n2026-01-05T00:00:00Z,2026-01-05T00:01:00Z,1234\n",
+        "B2 WrongColumns 1",
+    ),
+    (
+        "start,end,number,pay\n2026-01-05 00:00:00Z,2026-01-05T00:01:00Z,1234,5\n",
+        "B3 NotATime 1",
+    ),
+    (
+        "start,end,number,pay\n2026-01-05T00:00:00.5Z,2026-01-05T00:01:00Z,1234,5\n",
+        "B4 NotWholeSeconds 1",
+    ),
+    (
+        "start,end,number,pay\n2026-01-05T00:00:00Z,2026-01-06T00:00:01Z,1234,5\n",
+        "B5 OutsideDay 1",
+    ),
+    (
+        "start,end,number,pay\n2026-01-05T00:01:00Z,2026-01-05T00:01:00Z,1234,5\n",
+        "B6 EndNotAfterStart 1",
+    ),
+    (
+        "start,end,number,pay\n2026-01-05T00:00:00Z,2026-01-05T00:01:00Z,12a,5\n",
+        "B7 BadNumber 1",
+    ),
+    (
+        "start,end,number,pay\n2026-01-05T00:00:00Z,2026-01-05T00:01:00Z,1234,1000000001\n",
+        "B8 BadPay 1",
+    ),
+    (
+        "start,end,number,pay,must\n2026-01-05T00:00:00Z,2026-01-05T00:01:00Z,1234,5,no\n2026-01-05T00:00:00Z,2026-01-05T00:01:00Z,1234,5,maybe\n",
+        "B10 BadMust 2",
+    ),
+    (
+        "start,end,number,pay,must,direction\n2026-01-05T00:00:00Z,2026-01-05T00:01:00Z,1234,5,yes,up\n",
+        "B11 BadDirection 1",
+    ),
+];
+
+const MARKED: &str =
+    "start,end,number,pay,must,direction\n2026-01-05T01:00:00.000+01:00,2026-01-06T00:00:00Z,1234,5,yes,in\n";
+
+const ONE: &[u8] = b"start,end,number,pay\n2026-01-05T00:00:00Z,2026-01-05T00:01:00Z,1234,5";
+
+const WRONG: &[u8] =
+    b"start,end,number,pay\n2026-01-05T00:00:00Z,2026-01-05T00:01:00Z,12a,5\nstart\n\n";
+
+/// A text, how many reads succeed, and how much each gives at most.
+type Stream<'a> = (&'a [u8], u32, usize);
+
+/// Readers with their fault, as it is printed.
+const REFUSED_STREAMS: [(Stream<'static>, &str); 6] = [
+    ((WRONG, 76, 1), "G1 ReadFailed"),
+    ((WRONG, 77, 1), "B7 BadNumber 1"),
+    ((WRONG, 3, 50), "G1 ReadFailed"),
+    ((WRONG, 4, 50), "B7 BadNumber 1"),
+    ((b"", 1, 9), "B1 BadHeader"),
+    ((WRONG, 1, 0), "B1 BadHeader"),
+];
+
+/// A number of blank lines and what stands before them, the answer, and how many octets are left.
+type Limit<'a> = (usize, &'a [u8], &'a str, usize);
+
+const LIMITS: [Limit<'static>; 4] = [
+    (4_194_284, b"start,end,number,pay", "none", 0),
+    (4_194_299, b"start", "B1 BadHeader", 0),
+    (4_194_304, b"start", "G2 TooLong", 4),
+    (4_194_285, b"start,end,number,pay", "G2 TooLong", 0),
+];
+
+fn is_printed(alloc: Global, fault: &impl Display, printed: &str) -> bool {
+    match fault.to_string(alloc) {
+        Ok(words) => words.as_str() == printed,
+        Err(_) => false,
+    }
+}
 
 fn day_is(date: &str, zone: &str, start: i64, length: u32) -> bool {
     match Day::new(date, zone) {
         Ok(day) => day.start() == start && day.length() == length,
         Err(_) => false,
+    }
+}
+
+#[test]
+fn days(rt: HostRuntime) {
+    for (date, zone, start, length) in DAYS {
+        assert!(rt; day_is(date, zone, start, length), "{date}");
     }
 }
 
@@ -22,114 +131,63 @@ fn day_fault(date: &str, zone: &str, fault: DayFault) -> bool {
 }
 
 #[test]
-fn days(rt: HostRuntime) -> Result<(), Fail> {
-    let europe = "CET-1CEST,M3.5.0,M10.5.0/3";
-    let halifax = "AST4ADT,M3.2.0/0,M11.1.0/1";
-    let days = [
-        ("2026-01-05", "UTC0", 1_767_571_200, 86_400),
-        ("2026-10-25", europe, 1_792_879_200, 90_000),
-        ("2026-03-29", europe, 1_774_738_800, 82_800),
-        ("2026-03-08", halifax, 1_772_942_400, 82_800),
-        ("2026-11-01", halifax, 1_793_502_000, 90_000),
-    ];
-    for (date, zone, start, length) in days {
-        assert!(rt; day_is(date, zone, start, length));
+fn refused_days(rt: HostRuntime) {
+    for (date, zone, fault, printed) in REFUSED_DAYS {
+        let refused = day_fault(date, zone, fault) && is_printed(rt.alloc(), &fault, printed);
+        assert!(rt; refused, "{date}");
     }
-    Ok(())
-}
-
-#[test]
-fn refused_days(rt: HostRuntime) -> Result<(), Fail> {
-    let faults = [
-        ("2026-02-29", "x", DayFault::BadDate, "A1 BadDate"),
-        ("", "UTC0", DayFault::BadDate, "A1 BadDate"),
-        ("9999-12-31", "x", DayFault::BadZone, "A2 BadZone"),
-        ("2026-01-05", "", DayFault::BadZone, "A2 BadZone"),
-        ("9999-12-31", "UTC0", DayFault::OutOfRange, "A3 OutOfRange"),
-    ];
-    for (date, zone, fault, text) in faults {
-        assert!(rt; day_fault(date, zone, fault));
-        assert_eq!(rt; fault.to_string(rt.alloc())?.as_str(), text);
-    }
-    assert_eq!(rt;
-        DayFault::OddDay.to_string(rt.alloc())?.as_str(),
-        "A4 OddDay"
+    assert!(rt;
+        is_printed(rt.alloc(), &DayFault::OddDay, "A4 OddDay"),
+        "odd"
     );
-    Ok(())
 }
 
-fn fault_of(alloc: Global, text: &str, day: &Day) -> Option<BookFault> {
-    match read_bookings(alloc, text.as_bytes(), day) {
-        Ok(_) => None,
-        Err(fault) => Some(fault),
+fn is_refused(alloc: Global, text: &[u8], day: &Day, printed: &str) -> bool {
+    match read_bookings(alloc, text, day) {
+        Ok(_) => false,
+        Err(fault) => is_printed(alloc, &fault, printed),
     }
 }
 
 #[test]
 fn faults_of_a_text(rt: HostRuntime) -> Result<(), Fail> {
     let day = Day::new("2026-01-05", "UTC0")?;
-    let texts = [
-        ("", "B1 BadHeader"),
-        ("start,end,number\n", "B1 BadHeader"),
-        (
-            "start,end,number,pay\n2026-01-05T00:00:00Z,2026-01-05T00:01:00Z,1234\n",
-            "B2 WrongColumns 1",
-        ),
-        (
-            "start,end,number,pay\n2026-01-05 00:00:00Z,2026-01-05T00:01:00Z,1234,5\n",
-            "B3 NotATime 1",
-        ),
-        (
-            "start,end,number,pay\n2026-01-05T00:00:00.5Z,2026-01-05T00:01:00Z,1234,5\n",
-            "B4 NotWholeSeconds 1",
-        ),
-        (
-            "start,end,number,pay\n2026-01-05T00:00:00Z,2026-01-06T00:00:01Z,1234,5\n",
-            "B5 OutsideDay 1",
-        ),
-        (
-            "start,end,number,pay\n2026-01-05T00:01:00Z,2026-01-05T00:01:00Z,1234,5\n",
-            "B6 EndNotAfterStart 1",
-        ),
-        (
-            "start,end,number,pay\n2026-01-05T00:00:00Z,2026-01-05T00:01:00Z,12a,5\n",
-            "B7 BadNumber 1",
-        ),
-        (
-            "start,end,number,pay\n2026-01-05T00:00:00Z,2026-01-05T00:01:00Z,1234,1000000001\n",
-            "B8 BadPay 1",
-        ),
-        (
-            "start,end,number,pay,must\n2026-01-05T00:00:00Z,2026-01-05T00:01:00Z,1234,5,no\n2026-01-05T00:00:00Z,2026-01-05T00:01:00Z,1234,5,maybe\n",
-            "B10 BadMust 2",
-        ),
-        (
-            "start,end,number,pay,must,direction\n2026-01-05T00:00:00Z,2026-01-05T00:01:00Z,1234,5,yes,up\n",
-            "B11 BadDirection 1",
-        ),
-    ];
-    for (text, printed) in texts {
-        let Some(fault) = fault_of(rt.alloc(), text, &day) else {
-            return Err(Fail::new("no fault"));
-        };
-        assert_eq!(rt; fault.to_string(rt.alloc())?.as_str(), printed);
+    for (text, printed) in FAULTS {
+        assert!(rt;
+            is_refused(rt.alloc(), text.as_bytes(), &day, printed),
+            "{printed}"
+        );
     }
     Ok(())
+}
+
+/// The last booking, where there are so many.
+fn last_of(bookings: &Bookings, count: u16) -> Option<Booking> {
+    if bookings.len() == count {
+        bookings.get(count)
+    } else {
+        None
+    }
+}
+
+/// The last booking of a text with so many.
+fn read_last(alloc: Global, text: &[u8], day: &Day, count: u16) -> Option<Booking> {
+    last_of(&read_bookings(alloc, text, day).ok()?, count)
+}
+
+fn is_marked(booking: &Booking) -> bool {
+    booking.start() == 0
+        && booking.end() == 86_400
+        && booking.pay() == 5
+        && booking.is_must()
+        && booking.is_inward()
 }
 
 #[test]
 fn bookings_of_a_text(rt: HostRuntime) -> Result<(), Fail> {
     let day = Day::new("2026-01-05", "UTC0")?;
-    let text =
-        "start,end,number,pay,must,direction\n2026-01-05T01:00:00.000+01:00,2026-01-06T00:00:00Z,1234,5,yes,in\n";
-    let bookings = read_bookings(rt.alloc(), text.as_bytes(), &day)?;
-    assert_eq!(rt; bookings.len(), 1);
-    let booking = bookings.nth(0);
-    assert_eq!(rt; booking.start(), 0);
-    assert_eq!(rt; booking.end(), 86_400);
-    assert_eq!(rt; booking.pay(), 5);
-    assert!(rt; booking.is_must());
-    assert!(rt; booking.is_inward());
+    let booking = read_last(rt.alloc(), MARKED.as_bytes(), &day, 1).ok_or("booking")?;
+    assert!(rt; is_marked(&booking), "the booking");
     Ok(())
 }
 
@@ -142,54 +200,52 @@ fn text_of(alloc: Global, rows: u32) -> Result<Vec<u8>, AllocError> {
     Ok(text)
 }
 
+fn ends_at(alloc: Global, text: &[u8], day: &Day, count: u16, end: u32) -> bool {
+    match read_last(alloc, text, day, count) {
+        Some(booking) => booking.end() == end,
+        None => false,
+    }
+}
+
 #[test]
 fn as_many_rows_as_fit(rt: HostRuntime) -> Result<(), Fail> {
     let day = Day::new("2026-01-05", "UTC0")?;
     let text = text_of(rt.alloc(), 4000)?;
-    let bookings = read_bookings(rt.alloc(), &text, &day)?;
-    assert_eq!(rt; bookings.len(), 4000);
-    assert_eq!(rt; bookings.nth(3999).end(), 28_860);
+    assert!(rt; ends_at(rt.alloc(), &text, &day, 4000, 28_860), "as many");
     let longer = text_of(rt.alloc(), 4001)?;
-    match read_bookings(rt.alloc(), &longer, &day) {
-        Ok(_) => Err(Fail::new("no fault")),
-        Err(fault) => {
-            assert!(rt; fault == BookFault::TooMany);
-            Ok(())
-        }
-    }
-}
-
-fn end_of(alloc: Global, text: &str, day: &Day) -> Option<u32> {
-    match read_bookings(alloc, text.as_bytes(), day) {
-        Ok(bookings) if bookings.len() == 1 => Some(bookings.nth(0).end()),
-        _ => None,
-    }
+    assert!(rt;
+        is_refused(rt.alloc(), &longer, &day, "B9 TooMany"),
+        "one more"
+    );
+    Ok(())
 }
 
 #[test]
 fn ends_of_odd_days(rt: HostRuntime) -> Result<(), Fail> {
-    let zone = "CET-1CEST,M3.5.0,M10.5.0/3";
-    let long = Day::new("2026-10-25", zone)?;
-    let text = "start,end,number,pay\n2026-10-25T00:00:00+02:00,2026-10-26T00:00:00+01:00,1234,5\n";
-    assert_eq!(rt; end_of(rt.alloc(), text, &long), Some(90_000));
+    let long = Day::new("2026-10-25", EUROPE)?;
+    let text =
+        b"start,end,number,pay\n2026-10-25T00:00:00+02:00,2026-10-26T00:00:00+01:00,1234,5\n";
+    assert!(rt; ends_at(rt.alloc(), text, &long, 1, 90_000), "long");
     let after =
-        "start,end,number,pay\n2026-10-25T00:00:00+02:00,2026-10-26T00:00:01+01:00,1234,5\n";
-    assert!(rt; fault_of(rt.alloc(), after, &long) == Some(BookFault::OutsideDay(1)));
-    let short = Day::new("2026-03-29", zone)?;
+        b"start,end,number,pay\n2026-10-25T00:00:00+02:00,2026-10-26T00:00:01+01:00,1234,5\n";
+    assert!(rt;
+        is_refused(rt.alloc(), after, &long, "B5 OutsideDay 1"),
+        "after"
+    );
+    let short = Day::new("2026-03-29", EUROPE)?;
     let text =
         "\u{feff}start,end,number,pay\n2026-03-29T00:00:00+01:00,2026-03-29T22:00:00Z,1234,5\n";
-    assert_eq!(rt; end_of(rt.alloc(), text, &short), Some(82_800));
+    assert!(rt;
+        ends_at(rt.alloc(), text.as_bytes(), &short, 1, 82_800),
+        "short"
+    );
     Ok(())
 }
 
-/// Reads from a reader that gives at most so many octets a read, and fails after so many reads.
-fn streamed(
-    alloc: Global,
-    text: &[u8],
-    calls: u32,
-    most: usize,
-    day: &Day,
-) -> Result<Bookings, StreamFault> {
+/// Reads from a reader that gives at most so many octets a read, and fails after so many reads. A fault of the
+/// reader that is not answered comes back as `Memory`.
+fn streamed(alloc: Global, stream: Stream<'_>, day: &Day) -> Result<Bookings, StreamFault> {
+    let (text, calls, most) = stream;
     let mut reader = Watched::new(Failing::new(text, calls, most));
     let read = read_bookings_from(alloc, &mut reader, day);
     if reader.faulted() {
@@ -201,35 +257,36 @@ fn streamed(
     read
 }
 
+/// Whether the answer is no booking, as `none`, or this fault.
+fn is_read_as(alloc: Global, read: &Result<Bookings, StreamFault>, printed: &str) -> bool {
+    match read {
+        Ok(bookings) => bookings.len() == 0 && printed == "none",
+        Err(fault) => is_printed(alloc, fault, printed),
+    }
+}
+
+fn is_stream_read_as(alloc: Global, stream: Stream<'_>, day: &Day, printed: &str) -> bool {
+    is_read_as(alloc, &streamed(alloc, stream, day), printed)
+}
+
+fn is_one(booking: &Booking) -> bool {
+    booking.start() == 0 && booking.end() == 60 && booking.pay() == 5
+}
+
 #[test]
 fn streams_that_give_little(rt: HostRuntime) -> Result<(), Fail> {
     let day = Day::new("2026-01-05", "UTC0")?;
-    let text = b"start,end,number,pay\n2026-01-05T00:00:00Z,2026-01-05T00:01:00Z,1234,5";
-    let bookings = streamed(rt.alloc(), text, 100, 1, &day)?;
-    assert_eq!(rt; bookings.len(), 1);
-    let booking = bookings.nth(0);
-    assert_eq!(rt; (booking.start(), booking.end(), booking.pay()), (0, 60, 5));
-    for calls in 0..=text.len() as u32 {
-        let read = streamed(rt.alloc(), text, calls, 1, &day);
-        assert!(rt; matches!(read, Err(StreamFault::ReadFailed)), "{calls}");
+    let bookings = streamed(rt.alloc(), (ONE, 100, 1), &day)?;
+    let booking = last_of(&bookings, 1).ok_or("one booking")?;
+    assert!(rt; is_one(&booking), "the booking");
+    for calls in 0..=ONE.len() as u32 {
+        let failed = is_stream_read_as(rt.alloc(), (ONE, calls, 1), &day, "G1 ReadFailed");
+        assert!(rt; failed, "{calls}");
     }
-    let wrong = b"start,end,number,pay\n2026-01-05T00:00:00Z,2026-01-05T00:01:00Z,12a,5\nstart\n\n";
-    let refusals = [
-        (wrong.as_slice(), 76, 1, "G1 ReadFailed"),
-        (wrong, 77, 1, "B7 BadNumber 1"),
-        (wrong, 3, 50, "G1 ReadFailed"),
-        (wrong, 4, 50, "B7 BadNumber 1"),
-        (b"", 1, 9, "B1 BadHeader"),
-        (wrong, 1, 0, "B1 BadHeader"),
-    ];
-    for (text, calls, most, printed) in refusals {
-        let Err(fault) = streamed(rt.alloc(), text, calls, most, &day) else {
-            return Err(Fail::new("no fault"));
-        };
-        assert_eq!(rt;
-            fault.to_string(rt.alloc())?.as_str(),
-            printed,
-            "{calls} {most}"
+    for (stream, printed) in REFUSED_STREAMS {
+        assert!(rt;
+            is_stream_read_as(rt.alloc(), stream, &day, printed),
+            "{printed}"
         );
     }
     Ok(())
@@ -243,48 +300,49 @@ fn with_blank_lines(alloc: Global, front: &[u8], lines: usize) -> Result<Vec<u8>
     Ok(text)
 }
 
+/// Whether a text at the limit is answered so, and so many octets are left.
+fn is_answered(alloc: Global, limit: Limit<'_>, day: &Day) -> Result<bool, AllocError> {
+    let (lines, front, printed, left) = limit;
+    let text = with_blank_lines(alloc, front, lines)?;
+    let mut reader = Watched::new(text.as_slice());
+    let read = read_bookings_from(alloc, &mut reader, day);
+    Ok(is_read_as(alloc, &read, printed) && reader.into_inner().len() == left)
+}
+
 #[test]
 fn texts_at_the_limit(rt: HostRuntime) -> Result<(), Fail> {
-    let alloc = rt.alloc();
     let day = Day::new("2026-01-05", "UTC0")?;
-    let texts = [
-        (4_194_284, b"start,end,number,pay".as_slice(), "none", 0),
-        (4_194_299, b"start", "B1 BadHeader", 0),
-        (4_194_304, b"start", "G2 TooLong", 4),
-        (4_194_285, b"start,end,number,pay", "G2 TooLong", 0),
-    ];
-    for (lines, front, printed, left) in texts {
-        let text = with_blank_lines(alloc, front, lines)?;
-        let mut reader = Watched::new(text.as_slice());
-        match read_bookings_from(alloc, &mut reader, &day) {
-            Ok(bookings) => assert!(rt; bookings.len() == 0 && printed == "none"),
-            Err(fault) => assert_eq!(rt; fault.to_string(alloc)?.as_str(), printed),
-        }
-        assert_eq!(rt; reader.into_inner().len(), left);
+    for limit in LIMITS {
+        assert!(rt; is_answered(rt.alloc(), limit, &day)?, "{}", limit.0);
     }
     let mut endless = Watched::new(io::repeat(b'7'));
-    match read_bookings_from(alloc, &mut endless, &day) {
-        Err(fault) => assert!(rt; fault == StreamFault::TooLong),
-        Ok(_) => return Err(Fail::new("no fault")),
-    }
+    let read = read_bookings_from(rt.alloc(), &mut endless, &day);
+    assert!(rt; is_read_as(rt.alloc(), &read, "G2 TooLong"), "endless");
     Ok(())
+}
+
+/// Whether so many reads of no octet succeed.
+fn reads_nothing(reader: &mut Watched<&[u8]>, times: u32) -> bool {
+    let mut read = true;
+    for _ in 0..times {
+        read &= reader.read(&mut []).is_ok();
+    }
+    read
 }
 
 #[test]
 fn readers_at_their_last_read(rt: HostRuntime) -> Result<(), Fail> {
     let day = Day::new("2026-01-05", "UTC0")?;
     let mut reader = Watched::new(b"".as_slice());
-    for _ in 0..8_388_607u32 {
-        reader.read(&mut [])?;
-    }
+    assert!(rt; reads_nothing(&mut reader, 8_388_607), "reads");
     let last = read_bookings_from(rt.alloc(), &mut reader, &day);
-    assert!(rt; matches!(last, Err(StreamFault::Book(BookFault::BadHeader))));
+    assert!(rt; is_read_as(rt.alloc(), &last, "B1 BadHeader"), "the last");
     let late = read_bookings_from(rt.alloc(), &mut reader, &day);
-    assert!(rt; matches!(late, Err(StreamFault::ReadFailed)));
-    assert!(rt; !reader.faulted());
-    assert_eq!(rt;
-        StreamFault::Memory.to_string(rt.alloc())?.as_str(),
-        "Memory"
+    assert!(rt; is_read_as(rt.alloc(), &late, "G1 ReadFailed"), "too late");
+    assert!(rt; !reader.faulted(), "faulted");
+    assert!(rt;
+        is_printed(rt.alloc(), &StreamFault::Memory, "Memory"),
+        "memory"
     );
     Ok(())
 }

@@ -5,8 +5,12 @@ use crate::moving::{heard, second};
 use crate::outcome::told;
 use crate::{Exchange, Outcome};
 use bx_base::{Booking, Bookings, Channel, ChannelSet, Number, Plan};
-use bx_q931::{Octets, Out, encode, read};
+use bx_q931::{Out, encode, read};
+use std::alloc::Global;
 use std::test::Fail;
+
+/// A booking by its start, its end, its channel (0: refused) and whether it is inward.
+pub(crate) type Row = (u32, u32, u8, bool);
 
 /// A moment, whether the channel is free, the message that comes (none: the tick to that moment), what is
 /// sent, and what the booking is told to be then.
@@ -25,85 +29,144 @@ const DISCONNECT: &[u8] = &[0x08, 0x02, 0x00, 0x01, 0x45, 0x08, 0x02, 0x82, 0x90
 
 const RELEASE: &[u8] = &[0x08, 0x02, 0x00, 0x01, 0x4D, 0x08, 0x02, 0x82, 0x90];
 
+const LINES: [Line<'static>; 7] = [
+    (1, false, &[], &[], Outcome::Waiting),
+    (1, true, &[], SETUP, Outcome::Live),
+    (1, false, CONNECT, CONNECT_ACKNOWLEDGE, Outcome::Live),
+    (60, false, &[], DISCONNECT, Outcome::Live),
+    (90, false, &[], RELEASE, Outcome::Live),
+    (94, false, &[], RELEASE, Outcome::Live),
+    (98, false, &[], &[], Outcome::Carried { from: 1, until: 60 }),
+];
+
+/// What is told of each row at the opening.
+const OUTCOMES: [(u16, Option<Outcome>); 5] = [
+    (0, None),
+    (1, Some(Outcome::Waiting)),
+    (2, Some(Outcome::Refused)),
+    (3, Some(Outcome::Waiting)),
+    (4, None),
+];
+
 fn booking(start: u32, end: u32) -> Option<Booking> {
     Booking::new(start, end, 5, Number::new(b"1234")?)
 }
 
+fn booked(row: &Row) -> Option<Booking> {
+    let booking = booking(row.0, row.1)?;
+    Some(if row.3 { booking.as_inward() } else { booking })
+}
+
+fn bookings_of(alloc: Global, rows: &[Row]) -> Option<Bookings> {
+    let mut bookings = Bookings::new(alloc);
+    for row in rows {
+        bookings.push(booked(row)?).ok()?;
+    }
+    Some(bookings)
+}
+
+fn channels_of(alloc: Global, rows: &[Row]) -> Option<Vec<Option<Channel>>> {
+    let mut assigned = Vec::new(alloc);
+    for row in rows {
+        assigned.push(Channel::new(row.2)).ok()?;
+    }
+    Some(assigned)
+}
+
+/// A plan of these bookings.
+pub(crate) fn plan_of(alloc: Global, rows: &[Row]) -> Option<Plan> {
+    let channels = ChannelSet::from_numbers(&[1, 2]).ok()?;
+    let bookings = bookings_of(alloc, rows)?;
+    let assigned = channels_of(alloc, rows)?;
+    Plan::new(bookings, channels, assigned, Vec::new(alloc), 5)
+}
+
+/// The exchange at the opening of a day with these bookings.
+pub(crate) fn opened(alloc: Global, rows: &[Row]) -> Option<Exchange> {
+    let plan = plan_of(alloc, rows)?;
+    if !plan.carried() {
+        return None;
+    }
+    Exchange::new(alloc, &plan).ok()
+}
+
+/// Whether nothing holds the channel of this number, and it is not in maintenance.
+fn is_open(exchange: &Exchange, number: u8) -> bool {
+    match Channel::new(number) {
+        Some(channel) => {
+            exchange.on_channel(channel).is_none() && !exchange.in_maintenance(channel)
+        }
+        None => false,
+    }
+}
+
+/// The first row of which something else is told at the opening.
+fn first_mistold(exchange: &Exchange) -> Option<u16> {
+    for (row, expected) in OUTCOMES {
+        if exchange.outcome(row) != expected {
+            return Some(row);
+        }
+    }
+    None
+}
+
 #[test]
 fn opening_of_a_day(rt: HostRuntime) -> Result<(), Fail> {
-    let alloc = rt.alloc();
-    let mut bookings = Bookings::new(alloc);
-    let mut assigned = Vec::new(alloc);
-    for (end, number) in [(60, 1), (50, 0), (40, 2)] {
-        bookings.push(booking(0, end).ok_or("booking")?)?;
-        assigned.push(Channel::new(number))?;
-    }
-    let channels = ChannelSet::from_numbers(&[1, 2]).map_err(|_| "channels")?;
-    let plan = Plan::new(bookings, channels, assigned, Vec::new(alloc), 10).ok_or("plan")?;
-    assert!(rt; plan.carried(), "carried");
-    let exchange = Exchange::new(alloc, &plan)?;
-    assert_eq!(rt; exchange.moment(), 0, "moment");
+    let rows = [(0, 60, 1, false), (0, 50, 0, false), (0, 40, 2, false)];
+    let exchange = opened(rt.alloc(), &rows).ok_or("opening")?;
+    assert!(rt; exchange.moment() == 0, "moment");
     for number in [1, 2, 31] {
-        let channel = Channel::new(number).ok_or("channel")?;
-        assert_eq!(rt; exchange.on_channel(channel), None, "channel {number}");
-        assert!(rt; !exchange.in_maintenance(channel), "channel {number}");
+        assert!(rt; is_open(&exchange, number), "a channel");
     }
-    for (row, expected) in [
-        (0, None),
-        (1, Some(Outcome::Waiting)),
-        (2, Some(Outcome::Refused)),
-        (3, Some(Outcome::Waiting)),
-        (4, None),
-    ] {
-        assert_eq!(rt; exchange.outcome(row), expected, "row {row}");
-    }
+    assert!(rt; first_mistold(&exchange).is_none(), "outcomes");
     Ok(())
 }
 
-fn octets_of(said: Option<Out>) -> Octets {
+/// A booking from 0 on, on channel 1, at a tick.
+fn ticked(standing: Standing, end: u32, moment: u16, free: bool) -> Option<Moved> {
+    let entry = Entry {
+        row: 1,
+        booking: booking(0, end)?,
+        channel: 1,
+        standing,
+    };
+    Some(second(&entry, Channel::new(1)?, moment as u32, free))
+}
+
+/// A booking from 0 to 60, on channel 1, at a message or a tick.
+fn moved(standing: Standing, line: &Line<'_>) -> Option<Moved> {
+    if line.2.is_empty() {
+        return ticked(standing, 60, line.0, line.1);
+    }
+    let message = read(line.2).ok()?;
+    Some(heard(standing, &message, line.0 as u32))
+}
+
+fn says(said: Option<Out>, sent: &[u8]) -> bool {
     match said {
-        Some(out) => encode(&out),
-        None => Octets::new(),
+        Some(out) => encode(&out).as_slice() == sent,
+        None => sent.is_empty(),
     }
 }
 
-/// A booking from 0 on, on channel 1, at a message or a tick.
-fn moved(standing: Standing, end: u32, moment: u16, free: bool, octets: &[u8]) -> Option<Moved> {
-    let moment = moment as u32;
-    if octets.is_empty() {
-        let entry = Entry {
-            row: 1,
-            booking: booking(0, end)?,
-            channel: 1,
-            standing,
-        };
-        return Some(second(&entry, Channel::new(1)?, moment, free));
+/// What becomes of the booking, if all of the line is right.
+fn after_line(standing: Standing, line: &Line<'_>) -> Option<Standing> {
+    let moved = moved(standing, line)?;
+    let same = says(moved.said, line.3) && told(moved.standing) == line.4;
+    if same && moved.broken == (line.0 == 98) {
+        Some(moved.standing)
+    } else {
+        None
     }
-    let message = read(octets).ok()?;
-    Some(heard(standing, &message, moment))
 }
 
 #[test]
 fn day_of_one_booking(rt: HostRuntime) -> Result<(), Fail> {
-    let carried = Outcome::Carried { from: 1, until: 60 };
-    let lines: [Line<'_>; 7] = [
-        (1, false, &[], &[], Outcome::Waiting),
-        (1, true, &[], SETUP, Outcome::Live),
-        (1, false, CONNECT, CONNECT_ACKNOWLEDGE, Outcome::Live),
-        (60, false, &[], DISCONNECT, Outcome::Live),
-        (90, false, &[], RELEASE, Outcome::Live),
-        (94, false, &[], RELEASE, Outcome::Live),
-        (98, false, &[], &[], carried),
-    ];
     let mut standing = Standing::Unoffered;
-    for (moment, free, octets, sent, expected) in lines {
-        let moved = moved(standing, 60, moment, free, octets).ok_or("moved")?;
-        assert_eq!(rt; octets_of(moved.said).as_slice(), sent, "sent at {moment}");
-        assert_eq!(rt; told(moved.standing), expected, "at {moment}");
-        assert_eq!(rt; moved.broken, moment == 98, "broken at {moment}");
-        standing = moved.standing;
+    for line in &LINES {
+        standing = after_line(standing, line).ok_or("line")?;
     }
-    let moved = moved(Standing::Unoffered, 1, 1, true, &[]).ok_or("moved")?;
-    assert_eq!(rt; told(moved.standing), Outcome::Missed, "at its end");
+    let late = ticked(Standing::Unoffered, 1, 1, true).ok_or("late")?;
+    assert_eq!(rt; told(late.standing), Outcome::Missed, "at its end");
     Ok(())
 }

@@ -86,34 +86,56 @@ const CALLED: [(&str, Policy); 10] = [
     ("", Policy::Answer(7)),
 ];
 
-fn fault_of(alloc: Global, text: &str) -> Option<ScriptFault> {
-    match Script::read(alloc, text.as_bytes()) {
-        Ok(_) => None,
-        Err(fault) => Some(fault),
+/// Whether this text is refused, and printed so.
+fn is_refused(alloc: Global, text: &[u8], printed: &str) -> bool {
+    match Script::read(alloc, text) {
+        Ok(_) => false,
+        Err(fault) => is_printed(alloc, &fault, printed),
+    }
+}
+
+fn is_printed(alloc: Global, fault: &ScriptFault, printed: &str) -> bool {
+    match fault.to_string(alloc) {
+        Ok(words) => words.as_str() == printed,
+        Err(_) => false,
     }
 }
 
 #[test]
-fn faults_of_a_script(rt: HostRuntime) -> Result<(), Fail> {
+fn faults_of_a_script(rt: HostRuntime) {
     for (text, printed) in FAULTS {
-        let Some(fault) = fault_of(rt.alloc(), text) else {
-            return Err(Fail::new("no fault"));
-        };
-        assert_eq!(rt; fault.to_string(rt.alloc())?.as_str(), printed);
+        assert!(rt;
+            is_refused(rt.alloc(), text.as_bytes(), printed),
+            "{printed}"
+        );
     }
-    Ok(())
+}
+
+fn does(script: &Script, called: &str, policy: Policy) -> bool {
+    script.policy_of(Number::new(called.as_bytes())) == policy
+}
+
+/// Whether the text is read, and then does this with a call to this number.
+fn reads_and_does(alloc: Global, text: &[u8], called: &str, policy: Policy) -> bool {
+    match Script::read(alloc, text) {
+        Ok(script) => does(&script, called, policy),
+        Err(_) => false,
+    }
 }
 
 #[test]
-fn policies_of_a_script(rt: HostRuntime) -> Result<(), Fail> {
-    let script = Script::read(rt.alloc(), POLICIES.as_bytes())?;
+fn policies_of_a_script(rt: HostRuntime) {
     for (called, policy) in CALLED {
-        let number = Number::new(called.as_bytes());
-        assert!(rt; script.policy_of(number) == policy, "{called}");
+        assert!(rt;
+            reads_and_does(rt.alloc(), POLICIES.as_bytes(), called, policy),
+            "{called}"
+        );
     }
-    let empty = Script::read(rt.alloc(), b"number,policy,seconds")?;
-    assert!(rt; empty.policy_of(None) == Policy::Answer(0));
-    Ok(())
+    let empty = b"number,policy,seconds";
+    assert!(rt;
+        reads_and_does(rt.alloc(), empty, "", Policy::Answer(0)),
+        "empty"
+    );
 }
 
 fn text_of(alloc: Global, rows: u32, last: &str) -> Result<Vec<u8>, AllocError> {
@@ -129,16 +151,13 @@ fn text_of(alloc: Global, rows: u32, last: &str) -> Result<Vec<u8>, AllocError> 
 #[test]
 fn as_many_rows_as_fit(rt: HostRuntime) -> Result<(), Fail> {
     let text = text_of(rt.alloc(), 3999, "*,silent,0\n")?;
-    let script = Script::read(rt.alloc(), &text)?;
-    assert!(rt; script.policy_of(None) == Policy::Silent);
+    assert!(rt;
+        reads_and_does(rt.alloc(), &text, "", Policy::Silent),
+        "as many"
+    );
     let longer = text_of(rt.alloc(), 4000, "no row\n")?;
-    match Script::read(rt.alloc(), &longer) {
-        Ok(_) => Err(Fail::new("no fault")),
-        Err(fault) => {
-            assert_eq!(rt; fault.to_string(rt.alloc())?.as_str(), "S4 TooMany");
-            Ok(())
-        }
-    }
+    assert!(rt; is_refused(rt.alloc(), &longer, "S4 TooMany"), "one more");
+    Ok(())
 }
 
 /// A SETUP of the network with reference 1, for channel 1 alone, and the same with reference 2.
@@ -188,7 +207,7 @@ const NO_CHANNEL: [u8; 9] = [0x08, 0x02, 0x80, 0x01, 0x5A, 0x08, 0x02, 0x80, 0xA
 const NO_CHANNEL_2: [u8; 9] = [0x08, 0x02, 0x80, 0x02, 0x5A, 0x08, 0x02, 0x80, 0xAC];
 
 /// What comes, and what is sent for it.
-type Receipt<'a> = (&'a [u8], &'a [u8]);
+type Receipt<'a> = (&'a [u8], &'a [&'a [u8]]);
 
 /// Octets that are no message, messages of calls that are not known, and SETUPs that ask for what is not there.
 const STRANGERS: [Receipt<'static>; 18] = [
@@ -202,62 +221,64 @@ const STRANGERS: [Receipt<'static>; 18] = [
     (&[0x08, 0x02, 0x00, 0x00, 0x01], &[]),
     (
         &[0x08, 0x02, 0x00, 0x09, 0x01],
-        &[0x08, 0x02, 0x80, 0x09, 0x5A, 0x08, 0x02, 0x80, 0xD1],
+        &[&[0x08, 0x02, 0x80, 0x09, 0x5A, 0x08, 0x02, 0x80, 0xD1]],
     ),
     (
         &[0x08, 0x02, 0x00, 0x09, 0x75],
-        &[
+        &[&[
             0x08, 0x02, 0x80, 0x09, 0x7D, 0x08, 0x02, 0x80, 0x9E, 0x14, 0x01, 0x00,
-        ],
+        ]],
     ),
     (
         &[
             0x08, 0x02, 0x00, 0x09, 0x7D, 0x08, 0x02, 0x82, 0x9E, 0x14, 0x01, 0x0A,
         ],
-        &[0x08, 0x02, 0x80, 0x09, 0x5A, 0x08, 0x02, 0x80, 0xE5],
+        &[&[0x08, 0x02, 0x80, 0x09, 0x5A, 0x08, 0x02, 0x80, 0xE5]],
     ),
     (&[0x08, 0x02, 0x00, 0x09, 0x5A], &[]),
     // a SETUP with no bearer capability, with another, with half of one
     (
         &[0x08, 0x02, 0x00, 0x01, 0x05],
-        &[0x08, 0x02, 0x80, 0x01, 0x5A, 0x08, 0x02, 0x80, 0xE0],
+        &[&[0x08, 0x02, 0x80, 0x01, 0x5A, 0x08, 0x02, 0x80, 0xE0]],
     ),
     (
         &[
             0x08, 0x02, 0x00, 0x01, 0x05, 0x04, 0x02, 0x80, 0x90, 0x18, 0x03, 0xA9, 0x83, 0x81,
         ],
-        &[0x08, 0x02, 0x80, 0x01, 0x5A, 0x08, 0x02, 0x80, 0xD8],
+        &[&[0x08, 0x02, 0x80, 0x01, 0x5A, 0x08, 0x02, 0x80, 0xD8]],
     ),
     (
         &[0x08, 0x02, 0x00, 0x01, 0x05, 0x04, 0x01, 0x88],
-        &[0x08, 0x02, 0x80, 0x01, 0x5A, 0x08, 0x02, 0x80, 0xD8],
+        &[&[0x08, 0x02, 0x80, 0x01, 0x5A, 0x08, 0x02, 0x80, 0xD8]],
     ),
     // with no channel identification, with any channel, with one that can't be read
     (
         &[0x08, 0x02, 0x00, 0x01, 0x05, 0x04, 0x02, 0x88, 0x90],
-        &[0x08, 0x02, 0x80, 0x01, 0x5A, 0x08, 0x02, 0x80, 0xE0],
+        &[&[0x08, 0x02, 0x80, 0x01, 0x5A, 0x08, 0x02, 0x80, 0xE0]],
     ),
     (
         &[
             0x08, 0x02, 0x00, 0x01, 0x05, 0x04, 0x02, 0x88, 0x90, 0x18, 0x01, 0xA3,
         ],
-        &NO_CHANNEL,
+        &[&NO_CHANNEL],
     ),
     (
         &[
             0x08, 0x02, 0x00, 0x01, 0x05, 0x04, 0x02, 0x88, 0x90, 0x18, 0x00,
         ],
-        &NO_CHANNEL,
+        &[&NO_CHANNEL],
     ),
     // a SETUP to a call that the far end would have begun
     (&[0x08, 0x02, 0x80, 0x05, 0x05, 0x04, 0x02, 0x88, 0x90], &[]),
 ];
 
-/// A script, and for each step the moment, what comes (nothing: ticks to that moment, all silent but the last)
-/// and what is sent; who holds channel 1 in the end, and whether it is in maintenance.
+/// A moment, what comes (nothing: ticks to that moment, all silent but the last) and the messages that are sent.
+type Step<'a> = (u32, &'a [u8], &'a [&'a [u8]]);
+
+/// A script, and what happens; who holds channel 1 in the end, and whether it is in maintenance.
 struct Day<'a> {
     script: &'a str,
-    steps: &'a [(u32, &'a [u8], &'a [&'a [u8]])],
+    steps: &'a [Step<'a>],
     held: Option<(u16, CallState)>,
     maintenance: bool,
 }
@@ -402,7 +423,7 @@ const DAYS: [Day<'static>; 12] = [
 
 /// Whether these messages are, one by one, these octets.
 fn are_same(sent: &[Octets], expected: &[&[u8]]) -> bool {
-    let mut same = true;
+    let mut same = sent.len() == expected.len();
     for (octets, message) in sent.iter().zip(expected) {
         same &= octets.as_slice() == *message;
     }
@@ -412,12 +433,12 @@ fn are_same(sent: &[Octets], expected: &[&[u8]]) -> bool {
 /// Ticks to this moment, of which the last sends these messages, and the others none.
 fn ticks(far: &mut Far, moment: u32, expected: &[&[u8]]) -> bool {
     let mut same = true;
-    for now in far.moment() + 1..=moment {
+    for _ in far.moment()..moment {
         let sent = far.tick();
-        if now < moment {
+        if far.moment() < moment {
             same &= sent.is_empty();
         } else {
-            same &= sent.len() == expected.len() && are_same(sent.as_slice(), expected);
+            same &= are_same(sent.as_slice(), expected);
         }
     }
     same
@@ -425,49 +446,84 @@ fn ticks(far: &mut Far, moment: u32, expected: &[&[u8]]) -> bool {
 
 fn receives(far: &mut Far, octets: &[u8], expected: &[&[u8]]) -> bool {
     match far.receive(octets) {
-        Some(reply) => expected.len() == 1 && reply.as_slice() == expected[0],
+        Some(reply) => are_same(&[reply], expected),
         None => expected.is_empty(),
+    }
+}
+
+fn goes(far: &mut Far, step: &Step<'_>) -> bool {
+    let same = if step.1.is_empty() {
+        ticks(far, step.0, step.2)
+    } else {
+        receives(far, step.1, step.2)
+    };
+    same && far.moment() == step.0
+}
+
+/// The moment of the first step that goes otherwise.
+fn first_wrong(far: &mut Far, steps: &[Step<'_>]) -> Option<u32> {
+    for step in steps {
+        if !goes(far, step) {
+            return Some(step.0);
+        }
+    }
+    None
+}
+
+/// Whether channel 1 is held so, and is or is not in maintenance.
+fn ends(far: &Far, held: Option<(u16, CallState)>, maintenance: bool) -> bool {
+    match Channel::new(1) {
+        Some(channel) => {
+            far.on_channel(channel) == held && far.in_maintenance(channel) == maintenance
+        }
+        None => false,
+    }
+}
+
+fn opened(alloc: Global, script: &str) -> Option<Far> {
+    Some(Far::new(Script::read(alloc, script.as_bytes()).ok()?))
+}
+
+/// Runs a day, and refuses one that goes otherwise.
+fn run_day(alloc: Global, day: &Day<'_>) -> Result<(), Fail> {
+    let mut far = opened(alloc, day.script).ok_or("script")?;
+    if let Some(moment) = first_wrong(&mut far, day.steps) {
+        return Err(Fail::new(moment));
+    }
+    if ends(&far, day.held, day.maintenance) {
+        Ok(())
+    } else {
+        Err(Fail::new("the end"))
     }
 }
 
 #[test]
 fn worked_days(rt: HostRuntime) -> Result<(), Fail> {
-    let channel = Channel::new(1).ok_or("channel")?;
     for day in &DAYS {
-        let mut far = Far::new(Script::read(rt.alloc(), day.script.as_bytes())?);
-        for (moment, octets, expected) in day.steps {
-            let same = if octets.is_empty() {
-                ticks(&mut far, *moment, expected)
-            } else {
-                receives(&mut far, octets, expected)
-            };
-            assert!(rt; same, "at {moment}: {octets:?}");
-            assert_eq!(rt; far.moment(), *moment);
-        }
-        assert!(rt; far.on_channel(channel) == day.held, "held");
-        assert_eq!(rt; far.in_maintenance(channel), day.maintenance);
+        run_day(rt.alloc(), day)?;
     }
     Ok(())
 }
 
-#[test]
-fn hostile_octets(rt: HostRuntime) -> Result<(), Fail> {
-    let channel = Channel::new(1).ok_or("channel")?;
-    let mut far = Far::new(Script::read(rt.alloc(), b"number,policy,seconds")?);
-    for (octets, expected) in STRANGERS {
-        let same = match far.receive(octets) {
-            Some(reply) => reply.as_slice() == expected,
-            None => expected.is_empty(),
-        };
-        assert!(rt; same, "{octets:?}");
-    }
-    assert!(rt; far.receive(&[]).is_none());
+/// Whether nothing is sent for no octet, for one or for two.
+fn are_short_ignored(far: &mut Far) -> bool {
+    let mut ignored = far.receive(&[]).is_none();
     for first in 0..=255u8 {
-        assert!(rt; far.receive(&[first]).is_none(), "{first}");
+        ignored &= far.receive(&[first]).is_none();
         for second in 0..=255u8 {
-            assert!(rt; far.receive(&[first, second]).is_none(), "{first} {second}");
+            ignored &= far.receive(&[first, second]).is_none();
         }
     }
-    assert!(rt; far.on_channel(channel).is_none());
+    ignored
+}
+
+#[test]
+fn hostile_octets(rt: HostRuntime) -> Result<(), Fail> {
+    let mut far = opened(rt.alloc(), "number,policy,seconds").ok_or("script")?;
+    for (octets, expected) in STRANGERS {
+        assert!(rt; receives(&mut far, octets, expected), "{octets:?}");
+    }
+    assert!(rt; are_short_ignored(&mut far), "short");
+    assert!(rt; ends(&far, None, false), "channel 1");
     Ok(())
 }
