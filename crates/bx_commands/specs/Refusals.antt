@@ -22,6 +22,11 @@ IsNoPlan name input (Plan fault) = (text : List ℕ) → input.before ≡ Some t
 IsNoPlan name input Memory = Unit {0}
 IsNoPlan name input _ = ⊥
 
+-- why a plan is not proved
+abbrev pub IsFaulty : List Row → List Bool → Parts → CommandFault → Type 0
+IsFaulty rows channels plan (Check fault) = IsOutcome rows channels plan (Err fault)
+IsFaulty rows channels plan _ = ⊥
+
 -- why a plan is not proved, or its proof not written
 abbrev pub IsJudged : List Row → List Bool → Parts → Writing → CommandFault → Type 0
 IsJudged rows channels plan output (Check fault) = IsOutcome rows channels plan (Err fault) × KeepsOutput output

@@ -7,7 +7,7 @@ ghost use Rattle.bx_base.specs.Watching.{device_of, is_faulted};
 ghost use Rattle.bx_base.specs.Octets.{AppendsPrefix};
 ghost use Rattle.bx_base.specs.PlanParts.{parts_of};
 ghost use Rattle.bx_commands.specs.Proved.{IsPlanText, IsProvedFor, IsProvedText, IsProvedAgainst, proved_line};
-ghost use Rattle.bx_commands.specs.Refusals.{IsNoPlan, IsUnproved, IsJudged, IsRefusal, IsRefusalAgainst};
+ghost use Rattle.bx_commands.specs.Refusals.{IsNoPlan, IsFaulty, IsUnproved, IsJudged, IsRefusal, IsRefusalAgainst};
 
 use crate::fault::CommandFault;
 use bx_base::{
@@ -41,6 +41,21 @@ fn plan_from<'a, R: Read>(
     }
 }
 
+/// The total of the plan, where it is proved for these bookings and channels.
+fn checked<'a>(
+    plan: &Plan,
+    bookings: &Bookings,
+    channels: ChannelSet,
+) -> Result<u64, CommandFault<'a>>
+    ensures proved { IfOk result (IsProvedFor bookings.now channels (parts_of plan.now)) }
+    ensures refused { IfErr result (IsFaulty bookings.now channels (parts_of plan.now)) }
+{
+    match check(bookings, channels, plan) {
+        Ok(total) => Ok(total),
+        Err(fault) => Err(CommandFault::Check(fault)),
+    }
+}
+
 /// The plan whose text is read to the end of an input of this name, where it is proved for the bookings and channels
 /// that it states itself.
 pub fn proved_plan<'a, R: Read>(
@@ -57,9 +72,9 @@ pub fn proved_plan<'a, R: Read>(
         Ok(plan) => plan,
         Err(fault) => return Err(fault),
     };
-    match check(&plan.bookings, plan.channels, &plan) {
+    match checked(&plan, &plan.bookings, plan.channels) {
         Ok(_) => Ok(plan),
-        Err(fault) => Err(CommandFault::Check(fault)),
+        Err(fault) => Err(fault),
     }
 }
 
@@ -86,9 +101,9 @@ fn judge<'a, W: Write>(
     ensures written { IfOk result (λ total. Appends (W.contents (device_of output.old)) (W.contents (device_of output.new)) (proved_line total)) }
     ensures refused { IfErr result (IsJudged bookings.now channels (parts_of plan.now) (writing_of W.contents output.old output.new)) }
 {
-    let total = match check(bookings, channels, plan) {
+    let total = match checked(plan, bookings, channels) {
         Ok(total) => total,
-        Err(fault) => return Err(CommandFault::Check(fault)),
+        Err(fault) => return Err(fault),
     };
     match write_proved(output, total) {
         Ok(()) => Ok(total),
