@@ -27,6 +27,7 @@ use Rattle.bx_planner.proofs.AllMusts.{all_musts, sum_of_few}
 use Rattle.bx_planner.proofs.Falling.{price_at_most}
 use Rattle.bx_planner.proofs.Priced.{all_charges, few_charges, charges_rise}
 use Rattle.bx_planner.proofs.Exact.{bound_is_pay}
+use Rattle.bx_planner.proofs.Least.{least_bound}
 
 free_limit : (must : Bool) (pay arc : ℕ) → arc ≡ cond must (pay + 5000000000000) pay → pay ≤ 1000000000 → cond must 0 arc ≤ 1000000000
 free_limit true pay arc e h = omega arith
@@ -93,6 +94,7 @@ module _ (rows : List Row) (line : Network) (flow : Flow) (heights : List ℤ) (
           placed = all_charges (λ p. IsMoment rows p.moment) line.moments heights gaps (λ v h s. placed_each just v h);
           exact = bound_is_pay rows line flow heights network arcs crosses (distances_fit Free line flow heights network lengths) count same (has_musts room);
         };
+        least = least_bound rows line flow network arcs heights count bookings crosses same lengths just (flow_has_room rows line network arcs flow crosses count (λ some. let e = same some in omega (arith, e))) (has_musts room);
       }
 
   pub chosen_marks : HasJustMoments rows line.moments → ((s : ℕ) → musts_at rows s ≤ count) → (accepted : List Bool) → length accepted ≡ length rows → ((i : ℕ) → i < length rows → is_in accepted i ≡ is_carried flow i) → IsBestChoice rows count accepted (charges line.moments heights (gaps_of line))

@@ -41,7 +41,7 @@ module _ (line : Network) (flow : Flow) (heights : List ℤ) (network : IsNetwor
   pub gap_falls : (v : ℕ) → v + 1 < places_of line → height_at heights v ≡ (height_at heights (v + 1) +ℤ pos (price_of heights v))
   gap_falls v h = falls_by (height_at heights v) (height_at heights (v + 1)) (fits (Idle v) h)
 
-  before : (n : ℕ) → n < places_of line → height_at heights 0 ≡ (height_at heights n +ℤ pos (sum_below n (price_of heights)))
+  pub before : (n : ℕ) → n < places_of line → height_at heights 0 ≡ (height_at heights n +ℤ pos (sum_below n (price_of heights)))
   before zero h = omega (arith, ints)
   before (suc n) h =
       let e : n + 1 ≡ suc n = omega arith in

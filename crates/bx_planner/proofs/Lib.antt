@@ -6,3 +6,9 @@ pub mod Priced
 pub mod Exact
 pub mod Chosen
 pub mod Checked
+pub mod Tightness
+pub mod Before
+pub mod Least
+pub mod SamePrices
+pub mod Proved
+pub mod NotLeast

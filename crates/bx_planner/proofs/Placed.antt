@@ -12,7 +12,7 @@ use Rattle.bx_line.specs.Network.{Network, IsNetwork, AreArcsOf, places_of, arc_
 use Rattle.bx_line.specs.Flows.{Flow, is_carried, crossing_at, CrossesEachGap}
 use Rattle.bx_line.proofs.MomentLemmas.{never_falls}
 
-same_tests : (a v s m e to : ℕ) → (a ≤ v → s ≤ m) → (v < a → m < s) → (v < to → m < e) → (to ≤ v → e ≤ m) → (leb s m && ltb m e) ≡ (leb a v && ltb v to)
+pub same_tests : (a v s m e to : ℕ) → (a ≤ v → s ≤ m) → (v < a → m < s) → (v < to → m < e) → (to ≤ v → e ≤ m) → (leb s m && ltb m e) ≡ (leb a v && ltb v to)
 same_tests a v s m e to p q r t =
     elim (cases_lt v a) [
       | inl h ↦ (let x = q h in grind (arith, nat_tests))

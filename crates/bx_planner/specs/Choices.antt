@@ -5,6 +5,7 @@ use Rattle.bx_base.specs.Bound.{Charge, IsPriceList, bound_of}
 use Rattle.bx_base.specs.PlanParts.{Parts}
 use Rattle.bx_base.specs.Plans.{is_accepted}
 use Rattle.bx_line.specs.Moments.{IsMoment}
+use Rattle.bx_planner.specs.LeastProofs.{IsLeastBound}
 use Rattle.bx_colour.specs.Colouring.{is_in, running_at, IsFirstFit}
 
 -- no lawful set pays more
@@ -24,6 +25,7 @@ pub record IsBestChoice (rows : List Row) (count : ℕ) (accepted : List Bool) (
   pub musts : (i : ℕ) → i < length rows → (row_at rows i).must ≡ true → is_in accepted i ≡ true
   pub few : length prices ≤ 8000
   pub proof : ProvesBest rows count prices (pay_of rows (is_in accepted))
+  pub least : IsLeastBound rows count prices (pay_of rows (is_in accepted))
 
 -- the assignment is the first-fit colouring of the rows that it accepts
 abbrev pub IsFirstFitPlan : List Row → List Bool → List (Option ℕ) → Type 0

@@ -5,6 +5,7 @@ use Rattle.bx_base.specs.Bookings.{Row}
 use Rattle.bx_base.specs.Devices.{Reading, Writing, KeepsOutput}
 use Rattle.bx_base.specs.Octets.{AppendsPrefix}
 use Rattle.bx_base.specs.PlanParts.{Parts, IsPlan}
+use Rattle.bx_base.specs.Plans.{is_accepted}
 use Rattle.bx_book.specs.Rows.{Span}
 use Rattle.bx_book.specs.Streams.{IsBookRead, IsStreamFault}
 use Rattle.bx_book.specs.declared.stream.StreamFault.TheVariants as stream
@@ -12,14 +13,17 @@ use Rattle.bx_check.specs.Check.{IsOutcome}
 use Rattle.bx_planfile.specs.declared.version.Version.TheVariants.{Three}
 use Rattle.bx_planfile.specs.Text.{plan_text}
 use Rattle.bx_planner.specs.Choices.{IsBest}
+use Rattle.bx_planner.specs.LeastProofs.{IsLeastProof}
 use Rattle.bx_planner.specs.Musts.{IsTooManyMust}
 use Rattle.bx_planner.specs.declared.running.RunFault.{RunFault}
 use Rattle.bx_planner.specs.declared.running.RunFault.TheVariants.{ReadFailed, TooLong, Book, TooManyMust, WriteFailed, Memory}
 
--- a plan of these bookings and channels that the checker proves, and than which no lawful set pays more
+-- a plan of these bookings and channels that the checker proves, than which no lawful set pays more, and whose prices
+-- are the least proof of its accepted rows
 pub record IsProved (rows : List Row) (channels : List Bool) (plan : Parts) : Type 0 where
   pub outcome : IsOutcome rows channels plan (Ok plan.total)
   pub best : IsBest rows channels plan.total
+  pub least : IsLeastProof rows channels plan.prices (is_accepted plan.assigned)
 
 -- the input was read to its end, and the text of such a plan of its bookings was written
 pub record IsRun (input : Reading) (output : Writing) (span : Span) (channels : List Bool) (total : ℕ) : Type 0 where

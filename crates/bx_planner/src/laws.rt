@@ -8,8 +8,24 @@ ghost use Rattle.bx_base.specs.PlanParts.{Parts};
 ghost use Rattle.bx_base.specs.Plans.{is_accepted, channel_at};
 ghost use Rattle.bx_check.specs.Check.{IsOutcome};
 ghost use Rattle.bx_planner.specs.Choices.{ProvesBest, planned};
+ghost use Rattle.bx_planner.specs.LeastProofs.{ArePricesUnique};
+ghost use Rattle.bx_planner.specs.Tight.{AreProofsTight};
 
 /// What `plan` promises of a plan is what the checker says yes to, with the plan's total.
 pub fn plans_are_proved()
     ensures { (rows : List Row) (channels : List Bool) (assigned : List (Option ℕ)) (prices : List Charge) (total : ℕ) → Carries rows channels (is_accepted assigned) (channel_at assigned) → IsLawful rows channels (is_accepted assigned) → total ≡ pay_of rows (is_accepted assigned) → ProvesBest rows (count_of channels) prices total → IsOutcome rows channels (planned rows channels assigned prices total) (Ok total) }
+{}
+
+/// Quoted prices are fixed: for all bookings and channels, two price lists of which each is the least proof of some set
+/// are equal, as lists. So the prices of `plan` do not rest on which of several best sets it found.
+pub fn same_prices()
+    ensures { ArePricesUnique }
+{}
+
+/// What a proof says of single prices and bookings: complementary slackness of the bound (which is a linear programme's
+/// dual: Carlisle and Lloyd, 1995). Where prices prove a lawful set, a price is above 0 only at moments at which as many
+/// of the set run as there are channels, a free booking of the set costs at most its pay, and a free booking outside it
+/// at least its pay.
+pub fn proofs_are_tight()
+    ensures { AreProofsTight }
 {}

@@ -6,6 +6,7 @@ ghost use Rattle.bx_base.specs.Channels.{count_of};
 ghost use Rattle.bx_base.specs.Plans.{is_accepted, channel_at};
 ghost use Rattle.bx_planner.specs.Musts.{musts_at, IsTooManyMust};
 ghost use Rattle.bx_planner.specs.Choices.{IsBest, IsFirstFitPlan, ProvesBest};
+ghost use Rattle.bx_planner.specs.LeastProofs.{IsLeastBound, IsLeastProof};
 
 use crate::choice::{best_choice, total_of};
 use crate::musts::too_many_must;
@@ -40,6 +41,7 @@ pub fn plan(alloc: Global, bookings: &Bookings, channels: ChannelSet) -> Result<
     ensures total { IfOk result (λ p. p.total ≡ pay_of bookings.now (is_accepted p.assigned.items)) }
     ensures prices { IfOk result (λ p. ProvesBest bookings.now (count_of channels) p.prices.items p.total) }
     ensures best { IfOk result (λ p. IsBest bookings.now channels p.total) }
+    ensures least { IfOk result (λ p. IsLeastProof bookings.now channels p.prices.items (is_accepted p.assigned.items)) }
 {
     if let Some(moment) = too_many_must(bookings, channels) {
         return Err(PlanFail::TooManyMust(moment));
@@ -60,6 +62,7 @@ fn best_plan(alloc: Global, bookings: &Bookings, channels: ChannelSet) -> Result
     ensures lawful { IfOk result (λ p. IsLawful bookings.now channels (is_accepted p.assigned.items)) }
     ensures total { IfOk result (λ p. p.total ≡ pay_of bookings.now (is_accepted p.assigned.items)) }
     ensures prices { IfOk result (λ p. ProvesBest bookings.now (count_of channels) p.prices.items p.total) }
+    ensures least { IfOk result (λ p. IsLeastBound bookings.now (count_of channels) p.prices.items p.total) }
 {
     let (accepted, prices) = best_choice(alloc, bookings, channels.count())?;
     let assigned = colour(alloc, bookings, &accepted, channels)?;

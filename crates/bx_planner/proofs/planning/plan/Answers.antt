@@ -1,5 +1,7 @@
 use Rattle.std.proofs.Common.{◌≡◌, ℕ, ◌+◌, ap, arith, Some, refl}
+use Rattle.bx_base.specs.Plans.{is_accepted}
 use Rattle.bx_planner.proofs.Chosen.{best_from_proof, room_from_none}
+use Rattle.bx_planner.proofs.SamePrices.{least_proof}
 use Rattle.bx_planner.proofs.planning.plan.Goals as goal
 
 pub returns-in-Some-clause-musts : goal.returns-in-Some-clause-musts
@@ -13,3 +15,6 @@ best_plan-requires c = λ s. room_from_none c.args.bookings.now c.args.channels 
 
 pub returns-in-Ok-clause-best : goal.returns-in-Ok-clause-best
 returns-in-Ok-clause-best c = best_from_proof c.args.bookings.now c.args.channels c.in-Ok.plan.prices.items c.in-Ok.plan.total c.in-Ok.ensures.prices
+
+pub returns-in-Ok-clause-least : goal.returns-in-Ok-clause-least
+returns-in-Ok-clause-least c = least_proof c.args.bookings.now c.args.channels c.in-Ok.plan.prices.items (is_accepted c.in-Ok.plan.assigned.items) c.in-Ok.plan.total c.in-Ok.ensures.lawful c.in-Ok.ensures.total c.in-Ok.ensures.prices c.in-Ok.ensures.least
