@@ -2,8 +2,6 @@
 #![tactic(auto)]
 
 mod colouring;
-#[cfg(test)]
-mod examples;
 mod order;
 mod running;
 mod sweep;

@@ -4,8 +4,6 @@
 mod carried;
 mod circle;
 mod dist;
-#[cfg(test)]
-mod examples;
 mod first;
 pub mod laws;
 mod marks;

@@ -3,7 +3,5 @@
 
 mod flowing;
 pub mod laws;
-#[cfg(test)]
-mod tests;
 
 pub use flowing::least_cost;

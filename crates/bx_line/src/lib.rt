@@ -3,8 +3,6 @@
 
 mod arc;
 mod arcs;
-#[cfg(test)]
-mod examples;
 pub mod laws;
 mod line;
 mod moments;

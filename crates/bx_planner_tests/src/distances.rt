@@ -1,0 +1,111 @@
+//! Distances along the line of a small day, and a flow that grows by a unit.
+
+use crate::rows::{Row, bookings_of};
+use bx_dist::{Carried, Dist, Distances, Part, Potentials, Rounds, Step};
+use bx_line::Line;
+use std::alloc::Global;
+use std::test::Fail;
+
+static CHAIN: [Row; 3] = [(0, 10, 4, false), (5, 15, 6, false), (10, 20, 4, false)];
+
+static ONE_MUST: [Row; 2] = [(0, 10, 4, true), (5, 15, 6, false)];
+
+pub(crate) fn line_of(alloc: Global, rows: &[Row]) -> Option<Line> {
+    Line::of(alloc, &bookings_of(alloc, rows)?).ok()
+}
+
+/// The distances, where what they need is there.
+pub(crate) fn distances_of(
+    alloc: Global,
+    line: &Line,
+    carried: &Carried,
+    potentials: &Potentials,
+    part: Part,
+) -> Option<Dist> {
+    if line.places() == 0 || !carried.belongs_to(line) || !potentials.fits(line, carried) {
+        return None;
+    }
+    Rounds
+        .from_first(alloc, line, carried, potentials, part)
+        .ok()
+}
+
+/// Whether the distances are these.
+pub(crate) fn are(dist: &Dist, lengths: &[i64]) -> bool {
+    let mut same = true;
+    for (place, length) in (0..8000u16).zip(lengths) {
+        same &= dist.length(place) == *length;
+    }
+    same
+}
+
+/// Sends a unit along the walk; none where it cannot be sent.
+pub(crate) fn send(carried: &mut Carried, line: &Line, dist: &Dist) -> Option<()> {
+    if !carried.belongs_to(line) || carried.units() >= 30 || !dist.belongs_to(line, carried) {
+        return None;
+    }
+    carried.send(line, dist);
+    Some(())
+}
+
+fn are_potentials(potentials: &Potentials, heights: &[i64]) -> bool {
+    let mut same = true;
+    for (place, height) in (0..8000u16).zip(heights) {
+        same &= potentials.at(place) == *height;
+    }
+    same
+}
+
+/// Whether the flow has these rows alone of the first three, and nothing idle at both ends of the chain.
+fn carries(carried: &Carried, rows: [bool; 3]) -> bool {
+    let accepted = [
+        carried.accepted(1),
+        carried.accepted(2),
+        carried.accepted(3),
+    ];
+    accepted == rows && carried.idle(0) == 0 && carried.idle(4) == 0
+}
+
+/// Whether the first walk takes the first and the third booking, and is a walk of this flow.
+fn is_first_walk(dist: &Dist, line: &Line, carried: &Carried) -> bool {
+    let walk = [Step::Take(1), Step::Take(3)];
+    dist.walk() == walk.as_slice() && dist.belongs_to(line, carried)
+}
+
+/// Whether all is as it should be before and after a unit is sent along the chain.
+fn chain_is_right(alloc: Global, line: &Line, carried: &mut Carried) -> Option<bool> {
+    let first = Potentials::first(alloc, line).ok()?;
+    let dist = distances_of(alloc, line, carried, &first, Part::Whole)?;
+    let before = are_potentials(&first, &[0, 0, -4, -6, -8, 0])
+        && are(&dist, &[0, 0, -4, -6, -8, 0])
+        && is_first_walk(&dist, line, carried);
+    send(carried, line, &dist)?;
+    let sent = carries(carried, [true, false, true]) && carried.units() == 1;
+    let is_old = !dist.belongs_to(line, carried);
+    let after = distances_of(alloc, line, carried, &Potentials::of(dist), Part::Whole)?;
+    Some(before && sent && is_old && are(&after, &[0, 0, -2, -6, -6]))
+}
+
+#[test]
+fn three_bookings_in_a_chain(rt: HostRuntime) -> Result<(), Fail> {
+    let line = line_of(rt.alloc(), &CHAIN).ok_or("line")?;
+    let mut carried = Carried::empty(rt.alloc(), &line)?;
+    assert!(rt;
+        chain_is_right(rt.alloc(), &line, &mut carried) == Some(true),
+        "chain"
+    );
+    Ok(())
+}
+
+#[test]
+fn a_must_booking_and_no_booking(rt: HostRuntime) -> Result<(), Fail> {
+    let line = line_of(rt.alloc(), &ONE_MUST).ok_or("line")?;
+    let nothing = Carried::empty(rt.alloc(), &line)?;
+    let steep = Potentials::first(rt.alloc(), &line)?;
+    let free = distances_of(rt.alloc(), &line, &nothing, &steep, Part::Free).ok_or("free")?;
+    assert!(rt; are(&free, &[0, 0, 0, -6]), "without the must row");
+    let none = line_of(rt.alloc(), &[]).ok_or("empty line")?;
+    assert_eq!(rt; Potentials::first(rt.alloc(), &none)?.at(0), 0);
+    assert_eq!(rt; Carried::empty(rt.alloc(), &none)?.units(), 0);
+    Ok(())
+}

@@ -1,0 +1,21 @@
+//! Tests of the planning: the line, channels, distances, flows, plans, and planning from a text to a text.
+#![tactic(auto)]
+
+#[cfg(test)]
+mod all_choices;
+#[cfg(test)]
+mod channels;
+#[cfg(test)]
+mod distances;
+#[cfg(test)]
+mod flows;
+#[cfg(test)]
+mod lines;
+#[cfg(test)]
+mod plan_texts;
+#[cfg(test)]
+mod rows;
+#[cfg(test)]
+mod slow_distances;
+#[cfg(test)]
+mod worked_plans;

@@ -1,0 +1,123 @@
+//! Distances against a slow and simple program, over many small days.
+
+use crate::distances::{are, distances_of, line_of, send};
+use crate::rows::Row;
+use bx_dist::{Carried, Part, Potentials};
+use bx_line::Line;
+use std::alloc::{AllocError, Global};
+use std::test::Fail;
+
+/// Takes the step where it shortens the way to its end.
+fn relax(best: &mut [i64], from: u16, to: u16, cost: i64) {
+    let there = best
+        .get(from as usize)
+        .copied()
+        .unwrap_or(0)
+        .saturating_add(cost);
+    if let Some(length) = best.get_mut(to as usize) {
+        *length = there.min(*length);
+    }
+}
+
+/// Takes each idle step that shortens the way to its end.
+fn relax_gaps(best: &mut [i64], line: &Line, carried: &Carried) {
+    for place in 1..line.places() {
+        relax(best, place - 1, place, 0);
+        if carried.idle(place - 1) > 0 {
+            relax(best, place, place - 1, 0);
+        }
+    }
+}
+
+/// Takes each booking's step that shortens the way to its end.
+fn relax_rows(best: &mut [i64], line: &Line, carried: &Carried, part: Part) {
+    for row in 0..line.rows() {
+        let arc = line.arc(row);
+        if part == Part::Whole || !arc.must {
+            if carried.accepted(row + 1) {
+                relax(best, arc.to, arc.from, arc.pay as i64);
+            } else {
+                relax(best, arc.from, arc.to, -(arc.pay as i64));
+            }
+        }
+    }
+}
+
+/// Distances as slowly as can be: the least lengths of walks of ever more steps.
+fn slow(alloc: Global, line: &Line, carried: &Carried, part: Part) -> Result<Vec<i64>, AllocError> {
+    let mut best = vec![in alloc; 1_000_000_000_000; line.places() as usize]?;
+    relax(&mut best, 0, 0, -1_000_000_000_000);
+    for _ in 0..line.places() {
+        relax_gaps(&mut best, line, carried);
+        relax_rows(&mut best, line, carried, part);
+    }
+    Ok(best)
+}
+
+/// Whether the distances in this part are those of the slow program.
+fn is_as_slow(
+    alloc: Global,
+    line: &Line,
+    carried: &Carried,
+    potentials: &Potentials,
+    part: Part,
+) -> Option<bool> {
+    let dist = distances_of(alloc, line, carried, potentials, part)?;
+    Some(are(&dist, &slow(alloc, line, carried, part).ok()?))
+}
+
+/// Whether both parts have the distances of the slow program; then sends a unit along a least walk.
+fn grow(
+    alloc: Global,
+    line: &Line,
+    carried: &mut Carried,
+    potentials: Potentials,
+) -> Option<Potentials> {
+    if !is_as_slow(alloc, line, carried, &potentials, Part::Free)? {
+        return None;
+    }
+    if !is_as_slow(alloc, line, carried, &potentials, Part::Whole)? {
+        return None;
+    }
+    let dist = distances_of(alloc, line, carried, &potentials, Part::Whole)?;
+    send(carried, line, &dist)?;
+    Some(Potentials::of(dist))
+}
+
+/// Whether the distances are those of the slow program while a flow grows by three units.
+fn are_all_as_slow(alloc: Global, rows: &[Row]) -> Option<bool> {
+    let line = line_of(alloc, rows)?;
+    let mut carried = Carried::empty(alloc, &line).ok()?;
+    let mut potentials = Potentials::first(alloc, &line).ok()?;
+    for _ in 0..3 {
+        potentials = grow(alloc, &line, &mut carried, potentials)?;
+    }
+    Some(true)
+}
+
+/// Six rows from the seed on, and the next seed.
+fn random_rows(first: u32) -> ([Row; 6], u32) {
+    let mut seed = first;
+    let mut rows = [(0, 1, 1, false); 6];
+    for row in rows.iter_mut() {
+        seed = seed.wrapping_mul(1_103_515_245).wrapping_add(12_345);
+        let start = (seed >> 8) % 7;
+        let end = start + 1 + (seed >> 12) % 4;
+        let pay = u64::from(1 + (seed >> 16) % 9);
+        *row = (start, end, pay, (seed >> 24) % 5 == 0);
+    }
+    (rows, seed)
+}
+
+#[test]
+fn as_a_slow_program_over_many_small_days(rt: HostRuntime) {
+    let mut seed: u32 = 1;
+    for day in 0..200 {
+        let (rows, next) = random_rows(seed);
+        assert!(rt;
+            are_all_as_slow(rt.alloc(), &rows) == Some(true),
+            "day {day}"
+        );
+        seed = next;
+    }
+}

@@ -1,0 +1,135 @@
+//! Plans of days with their totals and prices, the two largest among them, and a day that has no plan.
+
+use crate::rows::{Row, bookings_of};
+use bx_base::{Bookings, ChannelSet, Plan, Price};
+use bx_planner::{PlanFail, plan};
+use std::alloc::Global;
+use std::test::Fail;
+
+/// The channels and bookings of a day, what its best plan pays, and the prices (moments and amounts) that prove it.
+type Day = (&'static [u8], &'static [Row], u64, &'static [(u32, u64)]);
+
+static DAYS: [Day; 9] = [
+    (&[1, 2, 3], &[], 0, &[]),
+    (&[], &[(10, 20, 7, false)], 0, &[(10, 7)]),
+    (
+        &[1],
+        &[(0, 10, 4, false), (5, 15, 6, false), (10, 20, 4, false)],
+        8,
+        &[(5, 2), (10, 4)],
+    ),
+    (&[1], &[(0, 10, 3, false), (10, 20, 3, false)], 6, &[]),
+    (&[1], &[(0, 10, 5, false), (5, 15, 3, false)], 5, &[(5, 3)]),
+    (&[15, 17], &[(0, 10, 1, false), (0, 10, 1, false)], 2, &[]),
+    (&[1], &[(0, 10, 5, false), (0, 10, 5, false)], 5, &[(0, 5)]),
+    (
+        &[1, 2],
+        &[
+            (0, 10, 3, false),
+            (0, 10, 2, false),
+            (5, 15, 4, false),
+            (12, 20, 1, false),
+        ],
+        8,
+        &[(5, 2)],
+    ),
+    (
+        &[1],
+        &[(0, 10, 4, false), (5, 15, 6, true), (10, 20, 4, false)],
+        6,
+        &[(5, 4), (10, 4)],
+    ),
+];
+
+/// Two bookings of one moment that must be held.
+static TOO_MANY: [Row; 3] = [(0, 10, 4, true), (5, 15, 6, true), (10, 20, 4, false)];
+
+fn plan_on(alloc: Global, bookings: &Bookings, numbers: &[u8]) -> Option<Plan> {
+    let channels = ChannelSet::from_numbers(numbers).ok()?;
+    plan(alloc, bookings, channels).ok()
+}
+
+fn are(found: &[Price], expected: &[(u32, u64)]) -> bool {
+    let mut same = found.len() == expected.len();
+    for (price, (moment, amount)) in found.iter().zip(expected) {
+        same &= price.moment == *moment && price.amount == *amount;
+    }
+    same
+}
+
+/// Whether the best plan of the day is carried, and has this total and these prices.
+fn is_planned(alloc: Global, day: &Day) -> Option<bool> {
+    let best = plan_on(alloc, &bookings_of(alloc, day.1)?, day.0)?;
+    Some(best.total == day.2 && are(&best.prices, day.3) && best.carried())
+}
+
+#[test]
+fn totals_and_prices(rt: HostRuntime) {
+    for (index, day) in DAYS.iter().enumerate() {
+        assert!(rt; is_planned(rt.alloc(), day) == Some(true), "day {index}");
+    }
+}
+
+#[test]
+fn too_many_that_must_be_held(rt: HostRuntime) -> Result<(), Fail> {
+    let bookings = bookings_of(rt.alloc(), &TOO_MANY).ok_or("rows")?;
+    let channels = ChannelSet::from_numbers(&[1])?;
+    let Err(fail) = plan(rt.alloc(), &bookings, channels) else {
+        return Err(Fail::from("a plan"));
+    };
+    assert!(rt; fail == PlanFail::TooManyMust(5), "the fault");
+    assert_eq!(rt; fail.to_string(rt.alloc())?.as_str(), "K1 TooManyMust 5");
+    Ok(())
+}
+
+/// Four thousand bookings, one after another.
+fn one_after_another(alloc: Global) -> Option<Bookings> {
+    let mut rows = Vec::new(alloc);
+    for start in 0..4000u32 {
+        rows.push((start, start + 1, 1_000_000_000, false)).ok()?;
+    }
+    bookings_of(alloc, &rows)
+}
+
+/// The chain of three bookings, 1,333 times.
+fn many_chains(alloc: Global) -> Option<Bookings> {
+    let mut rows = Vec::new(alloc);
+    for copy in 0..1333u32 {
+        let at = copy * 20;
+        rows.push((at, at + 10, 4, false)).ok()?;
+        rows.push((at + 5, at + 15, 6, false)).ok()?;
+        rows.push((at + 10, at + 20, 4, false)).ok()?;
+    }
+    bookings_of(alloc, &rows)
+}
+
+/// The price with this index of the chains.
+fn chain_price(index: u32) -> (u64, u64) {
+    let tens = u64::from(index) * 10;
+    if index % 2 == 0 {
+        (tens + 5, 2)
+    } else {
+        (tens, 4)
+    }
+}
+
+/// Whether the prices are those of the chain of three, for each of its copies.
+fn are_chained(found: &[Price]) -> bool {
+    let mut same = found.len() == 2666;
+    for (index, price) in (0..2666u32).zip(found) {
+        same &= (u64::from(price.moment), price.amount) == chain_price(index);
+    }
+    same
+}
+
+#[test]
+fn largest_days(rt: HostRuntime) -> Result<(), Fail> {
+    let row = one_after_another(rt.alloc()).ok_or("rows")?;
+    let best = plan_on(rt.alloc(), &row, &[1]).ok_or("plan")?;
+    assert_eq!(rt; (best.total, best.prices.len()), (4_000_000_000_000, 0));
+    let chains = many_chains(rt.alloc()).ok_or("chains")?;
+    let best = plan_on(rt.alloc(), &chains, &[1]).ok_or("plan of chains")?;
+    assert_eq!(rt; best.total, 10_664);
+    assert!(rt; are_chained(&best.prices), "prices");
+    Ok(())
+}
