@@ -12,8 +12,6 @@ mod number;
 mod octets;
 mod plan;
 mod price;
-#[cfg(test)]
-mod tests;
 mod watched;
 
 pub use booking::Booking;

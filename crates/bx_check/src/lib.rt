@@ -3,7 +3,5 @@
 
 mod bound;
 mod judge;
-#[cfg(test)]
-mod tests;
 
 pub use judge::{CheckFault, check};

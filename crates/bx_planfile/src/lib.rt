@@ -17,6 +17,3 @@ mod written_lines;
 pub use fault::{PlanFault, PlanWriteFault};
 pub use reading::read_plan;
 pub use writing::write_plan;
-
-#[cfg(test)]
-mod tests;

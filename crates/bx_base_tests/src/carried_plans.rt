@@ -1,0 +1,51 @@
+//! Whether two channels carry a plan of two bookings.
+
+use bx_base::{Booking, Bookings, Channel, ChannelSet, Number, Plan};
+use std::alloc::Global;
+
+/// The ends of two bookings, their channels (0: none), and whether channels 1 and 2 carry them.
+static PLANS: [((u32, u32), [u8; 2], bool); 5] = [
+    ((10, 20), [1, 1], true),
+    ((11, 20), [1, 1], false),
+    ((11, 20), [1, 2], true),
+    ((11, 20), [1, 0], true),
+    ((10, 20), [1, 3], false),
+];
+
+fn booking(start: u32, end: u32, pay: u64, number: &[u8]) -> Option<Booking> {
+    Booking::new(start, end, pay, Number::new(number)?)
+}
+
+fn pair_of(alloc: Global, ends: (u32, u32)) -> Option<Bookings> {
+    let mut bookings = Bookings::new(alloc);
+    bookings.push(booking(0, ends.0, 5, b"1")?).ok()?;
+    bookings.push(booking(10, ends.1, 5, b"1")?).ok()?;
+    Some(bookings)
+}
+
+/// Whether the plan of two bookings with these ends and channels is carried.
+fn is_carried(alloc: Global, ends: (u32, u32), numbers: [u8; 2]) -> Option<bool> {
+    let mut assigned = Vec::new(alloc);
+    for number in numbers {
+        assigned.push(Channel::new(number)).ok()?;
+    }
+    let channels = ChannelSet::from_numbers(&[1, 2]).ok()?;
+    let plan = Plan::new(
+        pair_of(alloc, ends)?,
+        channels,
+        assigned,
+        Vec::new(alloc),
+        10,
+    )?;
+    Some(plan.carried())
+}
+
+#[test]
+fn plans(rt: HostRuntime) {
+    for (ends, numbers, carried) in PLANS {
+        assert!(rt;
+            is_carried(rt.alloc(), ends, numbers) == Some(carried),
+            "{numbers:?}"
+        );
+    }
+}

@@ -1,0 +1,54 @@
+//! Sets of channels, and what is refused as one.
+
+use bx_base::{Channel, ChannelFault, ChannelSet};
+use std::alloc::Global;
+use std::test::Fail;
+
+/// Numbers of channels with their fault, and how it is printed.
+static CHANNEL_FAULTS: [(&[u8], ChannelFault, &str); 2] = [
+    (
+        &[1, 16],
+        ChannelFault::NotABChannel(16),
+        "N1 NotABChannel 16",
+    ),
+    (&[3, 3, 16], ChannelFault::Repeated(3), "N2 Repeated 3"),
+];
+
+/// Whether these numbers are refused with this fault, which is printed so.
+fn is_refused(alloc: Global, numbers: &[u8], fault: ChannelFault, printed: &str) -> bool {
+    match (ChannelSet::from_numbers(numbers), fault.to_string(alloc)) {
+        (Err(found), Ok(words)) => found == fault && words.as_str() == printed,
+        _ => false,
+    }
+}
+
+/// Whether the set is that of three channels with the first and without the second, which can be added.
+fn has_just_first(set: ChannelSet, first: Channel, second: Channel) -> bool {
+    set.count() == 3 && set.has(first) && !set.has(second) && set.with(second).has(second)
+}
+
+/// Whether these two are the lowest of the set.
+fn are_lowest(set: ChannelSet, first: Channel, second: Option<Channel>) -> bool {
+    let none = ChannelSet::empty();
+    set.lowest_free(none) == Some(first) && set.lowest_free(none.with(first)) == second
+}
+
+#[test]
+fn channel_sets(rt: HostRuntime) -> Result<(), Fail> {
+    for (numbers, fault, printed) in CHANNEL_FAULTS {
+        assert!(rt;
+            is_refused(rt.alloc(), numbers, fault, printed),
+            "{printed}"
+        );
+    }
+    assert_eq!(rt; ChannelSet::from_numbers(&[])?.count(), 0);
+    let set = ChannelSet::from_numbers(&[31, 17, 2])?;
+    let (two, three) = (Channel::new(2).ok_or("2")?, Channel::new(3).ok_or("3")?);
+    assert!(rt; has_just_first(set, two, three), "members");
+    assert!(rt; are_lowest(set, two, Channel::new(17)), "lowest");
+    assert!(rt;
+        set.without(two).lowest_free(set.without(two)).is_none(),
+        "none is free"
+    );
+    Ok(())
+}
