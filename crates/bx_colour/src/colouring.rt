@@ -25,10 +25,11 @@ pub fn colour(
 {
     let order = in_order(alloc, bookings, accepted)?;
     let mut assigned = none_given(alloc, bookings.len())?;
+    let _count = channels.count();
     let mut until = [0; 32];
     for (_, row) in &order {
         let booking = bookings.nth(*row);
-        let Some(channel) = lowest_free_at(channels, &until, booking.start()) else {
+        let Some(channel) = lowest_free_at(&channels, &until, booking.start()) else {
             unreachable!();
         };
         until[channel.number() as usize] = booking.end();

@@ -18,6 +18,12 @@ loop-row-preserved c =
     (c.end.ensures.value ∙ ap (λ (r : Row). r.end) c.nth-booking.ensures.value)
     found.free.0 found.free.1 found.lowest (omega (arith, c.loop-row.invariant.slots))
 
+pub index_mut-requires : goal.index_mut-requires
+index_mut-requires c =
+    let order = rw (← c.deref-row-items.ensures.value) at c.in_ok-order.ensures in
+    let entry = order.each c.loop-row.row-index (omega arith) in
+    omega (arith, entry.within, c.loop-row.invariant.one_each, c.loop-row.assigned.ok)
+
 pub unreachable-requires : goal.unreachable-requires
 unreachable-requires c =
     let order = rw (← c.deref-row-items.ensures.value) at c.in_ok-order.ensures in
