@@ -1,3 +1,4 @@
 pub mod MomentLemmas
 pub mod Crossings
 pub mod Limits
+pub mod Chaining

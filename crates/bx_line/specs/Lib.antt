@@ -1,3 +1,4 @@
 pub mod Network
 pub mod Moments
 pub mod Flows
+pub mod ByPlace

@@ -3,9 +3,12 @@
 
 mod arc;
 mod arcs;
+mod by_place;
 pub mod laws;
 mod line;
 mod moments;
+mod side;
 
 pub use arc::Arc;
 pub use line::{Line, MUST_RAISE};
+pub use side::Side;

@@ -1,12 +1,15 @@
 //! The line network.
 
-ghost use Rattle.std.specs.Prelude.{◌≡◌, ◌≤◌, ◌<◌, ◌-◌, ◌↔◌, IfOk, IfSome, IsSome, length};
+ghost use Rattle.std.specs.Prelude.{◌≡◌, ◌≤◌, ◌<◌, ◌+◌, ◌-◌, ◌↔◌, IfOk, IfSome, IsSome, length};
+ghost use Rattle.bx_line.specs.ByPlace.{AreChains, IsFirstRow, row_place};
 ghost use Rattle.bx_line.specs.Moments.{HasJustMoments};
 ghost use Rattle.bx_line.specs.Network.{IsNetwork, IsArc, AreArcsOf, arc_at, places_of};
 
 use crate::arc::Arc;
 use crate::arcs::arcs_of;
+use crate::by_place::ByPlace;
 use crate::moments::moments_of;
+use crate::side::Side;
 use bx_base::Bookings;
 use std::alloc::{AllocError, Global};
 use std::marker::Model;
@@ -22,16 +25,21 @@ pub const MUST_RAISE: u64 = 5_000_000_000_000;
 pub struct Line {
     moments: Vec<u32>,
     arcs: Vec<Arc>,
+    leaving: ByPlace,
+    arriving: ByPlace,
 }
 
 impl Model for Line {
+    ghost use Rattle.bx_line.specs.ByPlace.{AreChains};
+    ghost use Rattle.bx_line.specs.declared.side.Side.TheVariants.{Leaving, Arriving};
     ghost use Rattle.bx_line.specs.Network.{Network, IsNetwork, network_of};
+    ghost use Rattle.std.specs.Prelude.{length};
 
     ghost Value = { Network };
 
     ghost view = { λ l. network_of l.moments.items l.arcs.items };
 
-    ghost invariant = { λ l. IsNetwork (network_of l.moments.items l.arcs.items) };
+    ghost invariant = { λ l. IsNetwork (network_of l.moments.items l.arcs.items) × AreChains Leaving l.arcs.items (length l.moments.items) l.leaving.first.items l.leaving.next.items × AreChains Arriving l.arcs.items (length l.moments.items) l.arriving.first.items l.arriving.next.items };
 }
 
 impl Line {
@@ -43,7 +51,14 @@ impl Line {
     {
         let moments = moments_of(alloc, bookings)?;
         let arcs = arcs_of(alloc, &moments, bookings)?;
-        Ok(Line { moments, arcs })
+        let leaving = ByPlace::of(alloc, moments.len(), &arcs, Side::Leaving)?;
+        let arriving = ByPlace::of(alloc, moments.len(), &arcs, Side::Arriving)?;
+        Ok(Line {
+            moments,
+            arcs,
+            leaving,
+            arriving,
+        })
     }
 
     /// The moments of the places: the starts and ends of the bookings, in rising order.
@@ -89,5 +104,31 @@ impl Line {
         ensures limits { IsArc (places_of self.now) result }
     {
         self.arcs[index as usize]
+    }
+
+    /// The first row whose arc leaves a place, or arrives there. Rows are counted from 0 here.
+    pub fn first_row(&self, place: u16, side: Side) -> Option<u16>
+        requires { place < places_of self.now }
+        ensures { IsFirstRow side self.now.arcs place 0 result }
+    {
+        self.chains(side).first[place as usize]
+    }
+
+    /// The next row whose arc leaves the same place as that of this one, or arrives at the same place.
+    pub fn next_row(&self, row: u16, side: Side) -> Option<u16>
+        requires { row < length self.now.arcs }
+        ensures { IsFirstRow side self.now.arcs (row_place side self.now.arcs row) (row + 1) result }
+    {
+        self.chains(side).next[row as usize]
+    }
+
+    /// The chains on a side.
+    fn chains(&self, side: Side) -> &ByPlace
+        ensures { AreChains side self.now.arcs (places_of self.now) result.now.first.items result.now.next.items }
+    {
+        match side {
+            Side::Leaving => &self.leaving,
+            Side::Arriving => &self.arriving,
+        }
     }
 }
