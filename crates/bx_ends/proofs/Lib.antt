@@ -1,0 +1,17 @@
+pub mod Delivery
+pub mod NetworkRows
+pub mod UserRows
+pub mod History
+pub mod Outward
+pub mod ExchangeTicks
+pub mod ExchangeHears
+pub mod FarCalls
+pub mod FarHears
+pub mod FarTicks
+pub mod MessageLimits
+pub mod ExchangeLimits
+pub mod FarLimits
+pub mod Openings
+pub mod Events
+pub mod Points
+pub mod Conclusions

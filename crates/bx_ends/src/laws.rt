@@ -1,0 +1,12 @@
+//! What holds of two ends over every list of events.
+
+ghost use Rattle.bx_ends.specs.TwoEnds.{TwoEnds};
+
+/// The two ends agree on each call that the exchange began (ITU-T Q.931, 5.2 and 5.3), whatever is lost, repeated,
+/// delayed or reordered between them. For every carried plan, every script and every list of events: while such a
+/// call is Active at the exchange, the far end holds the call of its reference on its channel or has that channel in
+/// maintenance; no end holds two calls on a channel; and for each such call that is Active at the far end the
+/// exchange has sent CONNECT ACKNOWLEDGE with its reference.
+pub fn two_ends()
+    ensures { TwoEnds }
+{}
