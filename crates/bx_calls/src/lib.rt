@@ -11,8 +11,6 @@ mod net_state;
 mod saying;
 mod setup;
 mod step;
-#[cfg(test)]
-mod tests;
 pub mod timers;
 mod unknown_reference;
 mod user_call;

@@ -14,8 +14,6 @@ mod message;
 mod out;
 mod reading;
 mod reference;
-#[cfg(test)]
-mod tests;
 
 pub use channel_field::ChannelField;
 pub use elements::{Element, Elements};

@@ -1,0 +1,86 @@
+//! What the user does with a call that it is offered, by each policy.
+
+use crate::steps::{After, Row, user_goes};
+use bx_base::Channel;
+use bx_calls::{CallState, Policy, UserCall};
+use bx_worked::{
+    ALERTING_CHANNEL_1, CONNECT, CONNECT_ACKNOWLEDGE, CONNECT_CHANNEL_1, FAR_DISCONNECT_16,
+    FAR_DISCONNECT_102, FAR_RELEASE_16, PROCEEDING_CHANNEL_1,
+};
+use std::test::Fail;
+
+const PRESENT: After = After::Live(CallState::CallPresent);
+
+const RECEIVED: After = After::Live(CallState::CallReceived);
+
+const REQUESTED: After = After::Live(CallState::ConnectRequest);
+
+const ACTIVE: After = After::Live(CallState::Active);
+
+const PROCEEDING: After = After::Live(CallState::IncomingCallProceeding);
+
+const CLEARING: After = After::Live(CallState::DisconnectRequest);
+
+/// Policies, and how a call goes that is offered at 1.
+static POLICIES: [(Policy, &[Row]); 7] = [
+    (
+        Policy::Answer(0),
+        &[
+            (2, &[], CONNECT_CHANNEL_1, REQUESTED),
+            (5, CONNECT_ACKNOWLEDGE, &[], ACTIVE),
+            (6, &[], &[], ACTIVE),
+        ],
+    ),
+    (
+        Policy::Answer(2),
+        &[
+            (2, &[], ALERTING_CHANNEL_1, RECEIVED),
+            (3, &[], &[], RECEIVED),
+            (4, &[], CONNECT, REQUESTED),
+            (7, &[], &[], REQUESTED),
+            (8, &[], FAR_DISCONNECT_102, CLEARING),
+        ],
+    ),
+    (Policy::Busy, &[(2, &[], &[], PRESENT)]),
+    (Policy::Silent, &[(2, &[], &[], PRESENT)]),
+    (
+        Policy::Alert,
+        &[
+            (2, &[], ALERTING_CHANNEL_1, RECEIVED),
+            (3, &[], &[], RECEIVED),
+        ],
+    ),
+    (
+        Policy::Proceed,
+        &[
+            (2, &[], PROCEEDING_CHANNEL_1, PROCEEDING),
+            (3, &[], &[], PROCEEDING),
+        ],
+    ),
+    (
+        Policy::Clear(3),
+        &[
+            (2, &[], CONNECT_CHANNEL_1, REQUESTED),
+            (2, CONNECT_ACKNOWLEDGE, &[], ACTIVE),
+            (4, &[], &[], ACTIVE),
+            (5, &[], FAR_DISCONNECT_16, CLEARING),
+            (34, &[], &[], CLEARING),
+            (
+                35,
+                &[],
+                FAR_RELEASE_16,
+                After::Live(CallState::ReleaseRequest),
+            ),
+        ],
+    ),
+];
+
+#[test]
+fn calls_by_policy(rt: HostRuntime) -> Result<(), Fail> {
+    let channel = Channel::new(1).ok_or("a channel")?;
+    for (index, (policy, rows)) in POLICIES.iter().enumerate() {
+        let call = UserCall::offered(1, channel, *policy, 1);
+        assert!(rt; user_goes(call, rows), "policy {index}");
+    }
+    Ok(())
+}
