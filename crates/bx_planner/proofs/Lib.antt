@@ -12,3 +12,4 @@ pub mod Least
 pub mod SamePrices
 pub mod Proved
 pub mod NotLeast
+pub mod Amended

@@ -3,4 +3,5 @@ pub mod Prices
 pub mod LeastProofs
 pub mod Tight
 pub mod Choices
+pub mod Amending
 pub mod Running

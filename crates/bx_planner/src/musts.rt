@@ -4,39 +4,40 @@ ghost use Rattle.std.specs.Prelude.{◌≡◌, ◌↔◌, ◌≤◌, ◌<◌, �
 ghost use Rattle.bx_base.specs.Bookings.{row_at};
 ghost use Rattle.bx_planner.specs.Musts.{musts_at, IsTooManyMust};
 
-use bx_base::{Bookings, ChannelSet};
+use crate::demand::Demand;
+use bx_base::ChannelSet;
 
 /// The first moment at which more bookings run that each plan has to hold than there are channels. It is the start
 /// of one of them. Takes no memory, and time quadratic in the bookings.
-pub(crate) fn too_many_must(bookings: &Bookings, channels: ChannelSet) -> Option<u32>
-    ensures { (t : ℕ) → (result ≡ Some t) ↔ IsTooManyMust bookings.now channels t }
+pub(crate) fn too_many_must(demand: &Demand<'_>, channels: ChannelSet) -> Option<u32>
+    ensures { (t : ℕ) → (result ≡ Some t) ↔ IsTooManyMust demand.now channels t }
 {
     let count = channels.count();
     let mut first: Option<u32> = None;
-    for i in 0..bookings.len() {
-        if is_crowded(bookings, count, i) {
-            first = Some(earlier(first, bookings.nth(i).start()));
+    for i in 0..demand.len() {
+        if is_crowded(demand, count, i) {
+            first = Some(earlier(first, demand.nth(i).start()));
         }
     }
     first
 }
 
 /// Whether the booking has to be held, and more of these run at its start than there are channels.
-fn is_crowded(bookings: &Bookings, count: u8, index: u16) -> bool
-    requires { index < length bookings.now }
-    ensures { result ≡ ((row_at bookings.now index).must && nat_lt count (musts_at bookings.now (row_at bookings.now index).start)) }
+fn is_crowded(demand: &Demand<'_>, count: u8, index: u16) -> bool
+    requires { index < length demand.now }
+    ensures { result ≡ ((row_at demand.now index).must && nat_lt count (musts_at demand.now (row_at demand.now index).start)) }
 {
-    let booking = bookings.nth(index);
-    booking.is_must() && running_musts(bookings, booking.start()) > u16::from(count)
+    let booking = demand.nth(index);
+    booking.is_must() && running_musts(demand, booking.start()) > u16::from(count)
 }
 
 /// How many bookings that each plan has to hold run at this moment.
-fn running_musts(bookings: &Bookings, moment: u32) -> u16
-    ensures { result ≡ musts_at bookings.now moment }
+fn running_musts(demand: &Demand<'_>, moment: u32) -> u16
+    ensures { result ≡ musts_at demand.now moment }
 {
     let mut running = 0;
-    for i in 0..bookings.len() {
-        let booking = bookings.nth(i);
+    for i in 0..demand.len() {
+        let booking = demand.nth(i);
         if booking.is_must() && booking.runs_at(moment) {
             running += 1;
         }

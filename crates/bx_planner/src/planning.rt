@@ -9,6 +9,7 @@ ghost use Rattle.bx_planner.specs.Choices.{IsBest, IsFirstFitPlan, ProvesBest};
 ghost use Rattle.bx_planner.specs.LeastProofs.{IsLeastBound, IsLeastProof};
 
 use crate::choice::{best_choice, total_of};
+use crate::demand::Demand;
 use crate::musts::too_many_must;
 use bx_base::{Bookings, ChannelSet, Plan};
 use bx_colour::colour;
@@ -43,7 +44,8 @@ pub fn plan(alloc: Global, bookings: &Bookings, channels: ChannelSet) -> Result<
     ensures best { IfOk result (λ p. IsBest bookings.now channels p.total) }
     ensures least { IfOk result (λ p. IsLeastProof bookings.now channels p.prices.items (is_accepted p.assigned.items)) }
 {
-    if let Some(moment) = too_many_must(bookings, channels) {
+    let none = Bookings::new(alloc);
+    if let Some(moment) = too_many_must(&Demand::fresh(&none, bookings), channels) {
         return Err(PlanFail::TooManyMust(moment));
     }
     match best_plan(alloc, bookings, channels) {
@@ -53,7 +55,11 @@ pub fn plan(alloc: Global, bookings: &Bookings, channels: ChannelSet) -> Result<
 }
 
 /// The same where at no moment more bookings have to be held than there are channels.
-fn best_plan(alloc: Global, bookings: &Bookings, channels: ChannelSet) -> Result<Plan, AllocError>
+pub(crate) fn best_plan(
+    alloc: Global,
+    bookings: &Bookings,
+    channels: ChannelSet,
+) -> Result<Plan, AllocError>
     requires { (s : ℕ) → musts_at bookings.now s ≤ count_of channels }
     ensures bookings { IfOk result (λ p. p.bookings ≡ bookings.now) }
     ensures channels { IfOk result (λ p. p.channels ≡ channels) }

@@ -4,6 +4,8 @@
 #[cfg(test)]
 mod all_choices;
 #[cfg(test)]
+mod amended_plans;
+#[cfg(test)]
 mod channels;
 #[cfg(test)]
 mod distances;

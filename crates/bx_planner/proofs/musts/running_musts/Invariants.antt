@@ -6,6 +6,6 @@ use Rattle.bx_planner.proofs.musts.running_musts.Given as goal
 abbrev pub invariant-loop-i : goal.invariant-loop-i
 invariant-loop-i l =
     record {
-      so_far : l.running ≡ sum_below l.i (λ i. cond ((row_at l.bookings i).must && is_running (row_at l.bookings i) l.moment) 1 0);
+      so_far : l.running ≡ sum_below l.i (λ i. cond ((row_at l.demand i).must && is_running (row_at l.demand i) l.moment) 1 0);
       few : l.running ≤ l.i;
     }

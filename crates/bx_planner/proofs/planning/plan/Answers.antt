@@ -1,17 +1,31 @@
-use Rattle.std.proofs.Common.{◌≡◌, ℕ, ◌+◌, ap, arith, Some, refl}
+use Rattle.std.proofs.Common.{◌≡◌, ℕ, ◌+◌, ap, arith, List, Some, refl, subst, sym}
+use Rattle.bx_base.specs.Bookings.{Row}
 use Rattle.bx_base.specs.Plans.{is_accepted}
+use Rattle.bx_planner.specs.Musts.{IsTooManyMust}
 use Rattle.bx_planner.proofs.Chosen.{best_from_proof, room_from_none}
 use Rattle.bx_planner.proofs.SamePrices.{least_proof}
 use Rattle.bx_planner.proofs.planning.plan.Goals as goal
 
 pub returns-in-Some-clause-musts : goal.returns-in-Some-clause-musts
 returns-in-Some-clause-musts c = λ t. (
-  λ e. let same : c.in-Some.moment ≡ t = cc in (c.in-Some.ensures t).0 (ap (λ (x : ℕ). Some x) same),
-  λ h. let found = (c.in-Some.ensures t).1 h in let same : c.in-Some.moment ≡ t = cc in rw same refl,
+  λ e. let same : c.in-Some.moment ≡ t = cc in subst (λ (rows : List Row). IsTooManyMust rows c.args.channels t) c.fresh.ensures ((c.in-Some.ensures t).0 (ap (λ (x : ℕ). Some x) same)),
+  λ h. let found = (c.in-Some.ensures t).1 (subst (λ (rows : List Row). IsTooManyMust rows c.args.channels t) (sym c.fresh.ensures) h) in let same : c.in-Some.moment ≡ t = cc in rw same refl,
 )
 
 pub best_plan-requires : goal.best_plan-requires
-best_plan-requires c = λ s. room_from_none c.args.bookings.now c.args.channels (λ t h. let found = (c.in_default.ensures t).1 h in cc) (s + 1) s (omega arith)
+best_plan-requires c = λ s. room_from_none c.args.bookings.now c.args.channels (λ t h. let found = (c.in_default.ensures t).1 (subst (λ (rows : List Row). IsTooManyMust rows c.args.channels t) (sym c.fresh.ensures) h) in cc) (s + 1) s (omega arith)
+
+pub returns-in-Ok-clause-musts : goal.returns-in-Ok-clause-musts
+returns-in-Ok-clause-musts c = λ t. (
+  λ e. absurd (cc),
+  λ h. let found = (c.in_default.ensures t).1 (subst (λ (rows : List Row). IsTooManyMust rows c.args.channels t) (sym c.fresh.ensures) h) in absurd (cc),
+)
+
+pub returns-clause-musts : goal.returns-clause-musts
+returns-clause-musts c = λ t. (
+  λ e. absurd (cc),
+  λ h. let found = (c.in_default.ensures t).1 (subst (λ (rows : List Row). IsTooManyMust rows c.args.channels t) (sym c.fresh.ensures) h) in absurd (cc),
+)
 
 pub returns-in-Ok-clause-best : goal.returns-in-Ok-clause-best
 returns-in-Ok-clause-best c = best_from_proof c.args.bookings.now c.args.channels c.in-Ok.plan.prices.items c.in-Ok.plan.total c.in-Ok.ensures.prices

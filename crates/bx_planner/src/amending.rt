@@ -1,0 +1,68 @@
+//! A plan that keeps the promises of another.
+
+ghost use Rattle.std.specs.Prelude.{◌≡◌, ◌≤◌, ◌<◌, ◌+◌, ◌↔◌, ℕ, IfOk, Err, length};
+ghost use Rattle.bx_base.specs.Channels.{count_of};
+ghost use Rattle.bx_base.specs.PlanParts.{parts_of};
+ghost use Rattle.bx_planner.specs.Amending.{amended, IsBestPlan, KeepsPromises};
+ghost use Rattle.bx_planner.specs.Musts.{musts_at, IsTooManyMust};
+
+use crate::demand::Demand;
+use crate::musts::too_many_must;
+use crate::planning::best_plan;
+use bx_base::{Bookings, ChannelSet, Plan};
+use std::alloc::{AllocError, Global};
+use thiserror::Error;
+
+/// Why a plan was not amended.
+#[derive(Clone, Copy, Debug, PartialEq, Eq, Error)]
+pub enum AmendFail {
+    /// Both together have more than 4,000 bookings.
+    #[error("K2 TooMany")]
+    TooMany,
+    /// At this moment, in seconds of the day, more promised and must bookings run than there are channels; at no earlier
+    /// one.
+    #[error("K1 TooManyMust {0}")]
+    TooManyMust(u32),
+    /// A growth was refused.
+    #[error("Memory")]
+    Memory,
+}
+
+/// A best plan for the bookings of a plan, followed by more, on the plan's channels: each booking that the plan accepts is
+/// promised, so it has to be held, each that it refuses is free, and the new ones keep their marks. It has all that `plan`
+/// promises of these bookings, so no promised call is dropped, and nothing better holds all promises. Channels may change.
+/// The plan need not be proved, or carried; its prices and its total do not matter. `TooMany` is tested first, then
+/// `TooManyMust`, both without memory; a refusal leaves both as they are.
+pub fn amend(alloc: Global, plan: &Plan, more: &Bookings) -> Result<Plan, AmendFail>
+    ensures full { (result ≡ Err AmendFail.TooMany) ↔ (4000 < length plan.now.bookings + length more.now) }
+    ensures musts { (t : ℕ) → (result ≡ Err (AmendFail.TooManyMust t)) ↔ ((length plan.now.bookings + length more.now ≤ 4000) × IsTooManyMust (amended plan.now.bookings plan.now.assigned.items more.now) plan.now.channels t) }
+    ensures planned { IfOk result (λ p. IsBestPlan (amended plan.now.bookings plan.now.assigned.items more.now) plan.now.channels (parts_of p)) }
+    ensures kept { IfOk result (λ p. KeepsPromises plan.now.bookings plan.now.assigned.items p.assigned.items) }
+{
+    if plan.bookings.len() + more.len() > 4000 {
+        return Err(AmendFail::TooMany);
+    }
+    let demand = Demand::of(&plan.bookings, &plan.assigned, more);
+    if let Some(moment) = too_many_must(&demand, plan.channels) {
+        return Err(AmendFail::TooManyMust(moment));
+    }
+    match planned_anew(alloc, &demand, plan.channels) {
+        Ok(amended) => Ok(amended),
+        Err(_) => Err(AmendFail::Memory),
+    }
+}
+
+/// The best plan for all of the demand.
+fn planned_anew(
+    alloc: Global,
+    demand: &Demand<'_>,
+    channels: ChannelSet,
+) -> Result<Plan, AllocError>
+    requires few { length demand.now ≤ 4000 }
+    requires room { (s : ℕ) → musts_at demand.now s ≤ count_of channels }
+    ensures { IfOk result (λ p. IsBestPlan demand.now channels (parts_of p)) }
+{
+    let bookings = demand.bookings(alloc)?;
+    let plan = best_plan(alloc, &bookings, channels)?;
+    Ok(plan)
+}
