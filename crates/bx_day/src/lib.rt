@@ -11,15 +11,9 @@ mod moving;
 mod opening;
 mod outcome;
 mod outcome_lines;
-#[cfg(test)]
-mod receive_tests;
 mod receiving;
 mod replaying;
 mod scheduling;
-#[cfg(test)]
-mod tests;
-#[cfg(test)]
-mod tick_tests;
 mod ticking;
 
 pub use exchange::Exchange;

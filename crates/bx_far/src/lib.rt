@@ -8,8 +8,6 @@ mod receiving;
 mod row;
 mod script;
 mod slots;
-#[cfg(test)]
-mod tests;
 mod text;
 mod ticking;
 mod turn;
