@@ -20,11 +20,11 @@ use Rattle.bx_day.proofs.Law.{orderly}
 use Rattle.bx_day.proofs.Receive.{all_at}
 use Rattle.bx_ends.specs.World.{World}
 use Rattle.bx_ends.specs.TwoEnds.{IsTwoEnds, IsUserActive, far_holds, acknowledges}
-use Rattle.bx_ends.proofs.NetworkRows.{is_connect_kind}
 use Rattle.bx_ends.proofs.UserRows.{is_talking}
-use Rattle.bx_ends.proofs.History.{from_other, connects, clears, found, other_parts}
+use Rattle.bx_ends.proofs.History.{from_other, clears, found, other_parts}
 use Rattle.bx_ends.proofs.Outward.{OutwardStanding, OutwardCall, Kept, Holds, Maintained, Cleared, OutwardReply, OfferedCall, KeepsOutward}
 use Rattle.bx_ends.proofs.FarCalls.{all_calls}
+use Rattle.bx_ends.specs.TwoEndsInward.{connects, is_connect_kind}
 
 on_live : (s : Standing) (P : PlainNetCall → Activity → Type 0) → ((c : PlainNetCall) (a : Activity) → s ≡ OnCall c a → P c a) → OnLive s P
 on_live (OnCall c a) P f = f c a refl

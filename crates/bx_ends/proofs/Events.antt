@@ -17,13 +17,14 @@ use Rattle.bx_far.specs.FarDay.{FarDay, FarSent, FarAnswered, far_ticked, far_re
 use Rattle.bx_ends.specs.World.{World, WorldEvent, TickExchange, TickFar, ToExchange, ToFar, exchange_becomes, far_becomes, comes_to_exchange, comes_to_far, message_nth, world_happens}
 use Rattle.bx_ends.specs.TwoEnds.{acknowledges, AreOnTheirOwn, IsScriptRow}
 use Rattle.bx_ends.proofs.Delivery.{Sendable, said_from, receive_sent, far_receive_sent}
-use Rattle.bx_ends.proofs.History.{sets_up, clears, connects, has_more, all_map, all_both, all_in, IsIn, IfMessage, nth_holds}
+use Rattle.bx_ends.proofs.History.{sets_up, clears, has_more, all_map, all_both, all_in, IsIn, IfMessage, nth_holds}
 use Rattle.bx_ends.proofs.Outward.{Seats, OutwardSent, OutwardSents, OutwardStanding, OutwardStandings, Kept, Holds, Maintained, Cleared, OutwardReply, OutwardReplies, OfferedCall, OfferedCalls, KeepsOutward}
 use Rattle.bx_ends.proofs.ExchangeTicks.{sents_grow, tick_says, tick_sents, tick_standings, tick_seats}
 use Rattle.bx_ends.proofs.ExchangeHears.{receive_keeps, standing_grows}
 use Rattle.bx_ends.proofs.FarCalls.{all_calls}
 use Rattle.bx_ends.proofs.FarHears.{FarBefore, saids_grow, far_receive_keeps}
 use Rattle.bx_ends.proofs.FarTicks.{far_ticked_keeps}
+use Rattle.bx_ends.specs.TwoEndsInward.{connects}
 
 -- ---- what the exchange does leaves the far end as it is
 
@@ -54,7 +55,7 @@ exchange_step rows assigned w d more k run seats sents standings = record {
 standing_hears : (r : ℕ) (sent far_sent more : List Outgoing) (s : Standing) → OutwardStanding r sent far_sent s → OutwardStanding r sent (far_sent ++ more) s
 standing_hears r sent far_sent more Refused h = tt
 standing_hears r sent far_sent more Unoffered h = tt
-standing_hears r sent far_sent more (OnCall c a) h = λ f. record { known = (h f).known; calm = (h f).calm; active = λ q. has_more (connects r) far_sent more ((h f).active q); three = (h f).three }
+standing_hears r sent far_sent more (OnCall c a) h = λ f. record { known = (h f).known; calm = (h f).calm; active = λ q. has_more (connects r) far_sent more ((h f).active q); proceeding = (h f).proceeding }
 standing_hears r sent far_sent more (Carried from until) h = tt
 standing_hears r sent far_sent more Unanswered h = tt
 standing_hears r sent far_sent more Missed h = tt

@@ -31,10 +31,11 @@ use Rattle.bx_day.proofs.Said.{OfSaid}
 use Rattle.bx_day.proofs.Sent.{row_plain, is_plain}
 use Rattle.bx_day.proofs.Tick.{by_cases, with_standing}
 use Rattle.bx_ends.proofs.Delivery.{said_from}
-use Rattle.bx_ends.proofs.NetworkRows.{row_goes, row_says, OfCall, Mild, clears_as, is_connect_kind}
-use Rattle.bx_ends.proofs.History.{from_beginner, from_other, is_setup_kind, sets_up, clears, connects, has_more, has_none, none_all, IsIn, beginner_parts, is_from_other, not_both, listed, said_map, said_both}
+use Rattle.bx_ends.proofs.NetworkRows.{row_goes, row_says, OfCall, Mild, clears_as}
+use Rattle.bx_ends.proofs.History.{from_beginner, from_other, is_setup_kind, sets_up, clears, has_more, has_none, none_all, IsIn, beginner_parts, is_from_other, not_both, listed, said_map, said_both}
 use Rattle.bx_ends.proofs.Outward.{is_started, Seat, Seats, OutwardSent, OutwardSents, OutwardStanding, OutwardStandings}
 use Rattle.bx_ends.proofs.ExchangeTicks.{sents_grow, goes_outward, follow_calm, follow_started, outward_row}
+use Rattle.bx_ends.specs.TwoEndsInward.{is_connect_kind, connects}
 
 -- what an answer of the exchange leaves true
 pub record ExchangeKeeps (assigned : List (Option ℕ)) (sent far_sent : List Outgoing) (x : Answered) : Type 0 where
@@ -54,7 +55,7 @@ standing_grows r sent more far_sent (OnCall c a) h calm = λ f. record {
   known = has_more (sets_up r) sent more (h f).known;
   calm = λ q. has_none (clears r) sent more ((h f).calm q) (calm f);
   active = (h f).active;
-  three = (h f).three;
+  proceeding = (h f).proceeding;
 }
 standing_grows r sent more far_sent (Carried from until) h calm = tt
 standing_grows r sent more far_sent Unanswered h calm = tt

@@ -27,11 +27,12 @@ use Rattle.bx_day.proofs.Receive.{OpenAt, open_parts, open_index, open_lowest}
 use Rattle.bx_day.proofs.Said.{OfSaid, all_said}
 use Rattle.bx_day.proofs.Tick.{by_cases, offers, with_standing}
 use Rattle.bx_ends.proofs.Delivery.{Sendable, said_from}
-use Rattle.bx_ends.proofs.NetworkRows.{Goes, OnNext, second_goes, row_goes, is_connect_kind}
+use Rattle.bx_ends.proofs.NetworkRows.{Goes, OnNext, second_goes, row_goes}
 use Rattle.bx_ends.proofs.Outward.{Seat, Seats}
 use Rattle.bx_ends.proofs.ExchangeTicks.{after_at, all_from, follow_said}
 use Rattle.bx_ends.proofs.ExchangeHears.{set_at}
 use Rattle.bx_ends.proofs.MessageLimits.{NumberOf, row_ok, second_ok, unknown_ok, refusal_ok, channel_ok, setup_ok}
+use Rattle.bx_ends.specs.TwoEndsInward.{is_connect_kind}
 
 pub record CallWithin (c : PlainNetCall) : Type 0 where
   pub reference : IsCallReference c.reference

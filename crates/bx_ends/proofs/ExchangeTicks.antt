@@ -31,8 +31,9 @@ use Rattle.bx_day.proofs.Receive.{all_at}
 use Rattle.bx_day.proofs.Said.{OfSaid, all_said}
 use Rattle.bx_day.proofs.Tick.{by_cases, offers, second_refused}
 use Rattle.bx_ends.proofs.NetworkRows.{Goes, OnNext, Speaks, Mild, second_goes, second_speaks, clears_as, is_proceeding}
-use Rattle.bx_ends.proofs.History.{from_beginner, is_setup_kind, sets_up, clears, connects, has_more, has_new, has_none, none_all, found, all_joined, all_map, IsIn, all_in, all_both, beginner_parts, is_from_beginner, not_both, said_both, implied_false}
+use Rattle.bx_ends.proofs.History.{from_beginner, is_setup_kind, sets_up, clears, has_more, has_new, has_none, none_all, found, all_joined, all_map, IsIn, all_in, all_both, beginner_parts, is_from_beginner, not_both, said_both, implied_false}
 use Rattle.bx_ends.proofs.Outward.{is_started, is_calm, Seat, Seats, OutwardSent, OutwardSents, OutwardStanding, OutwardStandings}
+use Rattle.bx_ends.specs.TwoEndsInward.{connects}
 
 -- what the booking of index i says at a tick after which it stands so
 pub record TickSays (assigned : List (Option ℕ)) (sent : List Outgoing) (i : ℕ) (after : Standing) (o : Outgoing) : Type 0 where
@@ -294,8 +295,8 @@ goes_outward i sent more far_sent s k a t reply said (Live c) g outward connecte
     record {
       known = has_more (sets_up (suc i)) sent more old.known;
       calm = λ q. has_none (clears (suc i)) sent more (old.calm (g.mild q).0) (calm (ap not q) f');
-      active = λ q. talks (is_active s.state) k (is_proceeding s.state) (g.active q) old.three old.active (connected f');
-      three = implied_false (is_proceeding c.state) (is_proceeding s.state) g.three old.three;
+      active = λ q. talks (is_active s.state) k (is_proceeding s.state) (g.active q) old.proceeding old.active (connected f');
+      proceeding = implied_false (is_proceeding c.state) (is_proceeding s.state) g.proceeding old.proceeding;
     }
   where
     talks : (x y z : Bool) → (x || (y || z)) ≡ true → z ≡ false → (x ≡ true → list_any (connects (suc i)) far_sent ≡ true) → (y ≡ true → list_any (connects (suc i)) far_sent ≡ true) → list_any (connects (suc i)) far_sent ≡ true
@@ -315,7 +316,7 @@ waits_outward assigned i t sent more far_sent e free seat clean =
       known = has_new (sets_up (suc i)) sent more (said (sets_up (suc i)) (and_from ((e.row == suc i) && true) true (and_from (e.row == suc i) true (eq-eqb e.row (suc i) seat.row) refl) refl));
       calm = λ q. has_none (clears (suc i)) sent more clean (calm refl);
       active = λ q. absurd (false≢true q);
-      three = refl;
+      proceeding = refl;
     })
     (λ _. by_cases (nat_le e.booking.end t) _ _ (OutwardAfter i sent more far_sent) (λ _ said calm. tt) (λ _ said calm. tt))
 

@@ -26,13 +26,14 @@ use Rattle.bx_far.specs.FarDay.{FarDay, FarAnswered, bool_eq, far_names, far_fol
 use Rattle.bx_far.specs.Policies.{policy_of}
 use Rattle.bx_ends.specs.TwoEnds.{offered_as, acknowledges, is_acknowledge, AreOnTheirOwn}
 use Rattle.bx_ends.proofs.Delivery.{said_from}
-use Rattle.bx_ends.proofs.NetworkRows.{clears_as, is_connect_kind}
+use Rattle.bx_ends.proofs.NetworkRows.{clears_as}
 use Rattle.bx_ends.proofs.UserRows.{Moves, UserSpeaks, row_moves, row_speaks, is_talking, is_calling}
 use Rattle.bx_ends.proofs.History.{from_beginner, sets_up, clears, IsIn, all_joined, all_map, is_from_beginner, listed, implied_false, said_map, or_three, or_first}
 use Rattle.bx_ends.proofs.Outward.{OutwardSent, Kept, Holds, Maintained, Cleared, OutwardReply, OutwardReplies, OfferedCall, OfferedCalls}
 use Rattle.bx_ends.proofs.ExchangeHears.{Unknown, unknown_says}
 use Rattle.bx_ends.proofs.FarCalls.{insert_all, insert_apart, insert_any, none_on, first_found, only_one, OnLive, settle_all, settle_apart, settle_any, next_passes}
 use Rattle.bx_day.proofs.Tick.{by_cases}
+use Rattle.bx_ends.specs.TwoEndsInward.{is_connect_kind}
 
 pub record FarKeeps (assigned : List (Option ℕ)) (sent far_sent : List Outgoing) (f : FarDay) (x : FarAnswered) : Type 0 where
   pub replies : OutwardReplies assigned sent x.day (far_sent ++ reply_list x.reply)

@@ -7,7 +7,7 @@ use Rattle.bx_q931.specs.Outgoing.{Outgoing}
 use Rattle.bx_q931.specs.declared.kind.Kind.{Kind}
 use Rattle.bx_q931.specs.declared.kind.Kind.TheVariants.{Setup}
 use Rattle.bx_ends.specs.World.{message_nth}
-use Rattle.bx_ends.proofs.NetworkRows.{clears_as, is_connect_kind}
+use Rattle.bx_ends.proofs.NetworkRows.{clears_as}
 use Rattle.bx_day.proofs.Said.{OfSaid}
 use Rattle.bx_day.specs.Run.{reply_list}
 
@@ -27,9 +27,6 @@ sets_up r o = from_beginner r o && is_setup_kind o.kind
 
 abbrev pub clears : ℕ → Outgoing → Bool
 clears r o = from_beginner r o && clears_as o.kind o.state
-
-abbrev pub connects : ℕ → Outgoing → Bool
-connects r o = from_other r o && is_connect_kind o.kind
 
 pub has_more : (p : Outgoing → Bool) (xs ys : List Outgoing) → list_any p xs ≡ true → list_any p (xs ++ ys) ≡ true
 has_more p xs ys h = list_any-append p xs ys ∙ or_left (list_any p xs) (list_any p ys) h

@@ -15,3 +15,6 @@ pub mod Openings
 pub mod Events
 pub mod Points
 pub mod Conclusions
+pub mod InwardRows
+pub mod Inward
+pub mod InwardExchange

@@ -19,6 +19,7 @@ use Rattle.bx_day.specs.Day.{is_active}
 use Rattle.bx_day.proofs.Said.{OfSaid}
 use Rattle.bx_day.proofs.Second.{call_of}
 use Rattle.bx_day.proofs.Tick.{by_cases}
+use Rattle.bx_ends.specs.TwoEndsInward.{is_connect_kind}
 
 -- messages that end a call: DISCONNECT, RELEASE, RELEASE COMPLETE, and STATUS that reports Null
 abbrev pub clears_as : Kind → Option ℕ → Bool
@@ -27,10 +28,6 @@ clears_as Release state = true
 clears_as ReleaseComplete state = true
 clears_as Status state = reports_null state
 clears_as _ state = false
-
-abbrev pub is_connect_kind : Kind → Bool
-is_connect_kind Connect = true
-is_connect_kind _ = false
 
 abbrev pub is_proceeding : NetState → Bool
 is_proceeding OutgoingCallProceeding = true
@@ -46,7 +43,7 @@ pub record Goes (r ch : ℕ) (o : NetOrigin) (s : NetState) (k : Bool) (reply : 
   pub origin : c.origin ≡ o
   pub mild : net_is_clearing c.state ≡ false → (net_is_clearing s ≡ false) × OfSaid Mild reply
   pub active : is_active c.state ≡ true → (is_active s || (k || is_proceeding s)) ≡ true
-  pub three : is_proceeding c.state ≡ true → is_proceeding s ≡ true
+  pub proceeding : is_proceeding c.state ≡ true → is_proceeding s ≡ true
 
 abbrev pub OnNext : (PlainNetCall → Type 0) → Next PlainNetCall → Type 0
 OnNext P (Live c) = P c
@@ -68,19 +65,19 @@ live_state (ReleaseRequest again cause due) = refl
 
 -- the same, with a mild reply
 same : (r ch : ℕ) (o : NetOrigin) (s : NetState) (k : Bool) (reply : Option Outgoing) → OfSaid Mild reply → Goes r ch o s k reply (call_of r ch o s)
-same r ch o s k reply h = record { reference = refl; channel = refl; origin = refl; mild = λ c. (c, h); active = λ a. or_left (is_active s) (k || is_proceeding s) a; three = λ a. a }
+same r ch o s k reply h = record { reference = refl; channel = refl; origin = refl; mild = λ c. (c, h); active = λ a. or_left (is_active s) (k || is_proceeding s) a; proceeding = λ a. a }
 
 -- to a state of clearing
 clearing : (r ch : ℕ) (o : NetOrigin) (s s' : NetState) (k : Bool) (reply : Option Outgoing) → net_is_clearing s' ≡ true → is_active s' ≡ false → is_proceeding s' ≡ false → Goes r ch o s k reply (call_of r ch o s')
-clearing r ch o s s' k reply h a b = record { reference = refl; channel = refl; origin = refl; mild = λ c. absurd (false≢true (sym c ∙ h)); active = λ c. absurd (false≢true (sym a ∙ c)); three = λ c. absurd (false≢true (sym b ∙ c)) }
+clearing r ch o s s' k reply h a b = record { reference = refl; channel = refl; origin = refl; mild = λ c. absurd (false≢true (sym c ∙ h)); active = λ c. absurd (false≢true (sym a ∙ c)); proceeding = λ c. absurd (false≢true (sym b ∙ c)) }
 
 -- to another state of setting up
 ringing : (r ch : ℕ) (o : NetOrigin) (s s' : NetState) (k : Bool) (reply : Option Outgoing) → net_is_clearing s ≡ false → is_active s' ≡ false → is_proceeding s' ≡ false → OfSaid Mild reply → Goes r ch o s k reply (call_of r ch o s')
-ringing r ch o s s' k reply h a b m = record { reference = refl; channel = refl; origin = refl; mild = λ c. (h, m); active = λ c. absurd (false≢true (sym a ∙ c)); three = λ c. absurd (false≢true (sym b ∙ c)) }
+ringing r ch o s s' k reply h a b m = record { reference = refl; channel = refl; origin = refl; mild = λ c. (h, m); active = λ c. absurd (false≢true (sym a ∙ c)); proceeding = λ c. absurd (false≢true (sym b ∙ c)) }
 
 -- Active
 talking : (r ch : ℕ) (o : NetOrigin) (s : NetState) (k : Bool) (reply : Option Outgoing) → net_is_clearing s ≡ false → (is_active s || (k || is_proceeding s)) ≡ true → OfSaid Mild reply → Goes r ch o s k reply (call_of r ch o Active)
-talking r ch o s k reply h a m = record { reference = refl; channel = refl; origin = refl; mild = λ c. (h, m); active = λ c. a; three = λ c. absurd (false≢true c) }
+talking r ch o s k reply h a m = record { reference = refl; channel = refl; origin = refl; mild = λ c. (h, m); active = λ c. a; proceeding = λ c. absurd (false≢true c) }
 
 pub row_goes : (r ch : ℕ) (o : NetOrigin) (t : ℕ) (m : Heard) (s : NetState) (k : Kind) → GoesOn r ch o s (is_connect_kind k) (net_row (call_of r ch o s) m t s k)
 row_goes r ch o t m s ReleaseComplete = tt

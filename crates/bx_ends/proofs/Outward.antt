@@ -45,9 +45,10 @@ use Rattle.bx_day.proofs.Law.{RunFits}
 use Rattle.bx_far.specs.FarDay.{FarDay}
 use Rattle.bx_ends.specs.World.{World}
 use Rattle.bx_ends.specs.TwoEnds.{far_holds, acknowledges, AreOnTheirOwn, IsScriptRow}
-use Rattle.bx_ends.proofs.NetworkRows.{is_connect_kind, is_proceeding}
+use Rattle.bx_ends.proofs.NetworkRows.{is_proceeding}
 use Rattle.bx_ends.proofs.UserRows.{is_talking, is_calling}
-use Rattle.bx_ends.proofs.History.{sets_up, clears, connects}
+use Rattle.bx_ends.proofs.History.{sets_up, clears}
+use Rattle.bx_ends.specs.TwoEndsInward.{connects, is_connect_kind}
 
 abbrev pub is_started : Standing → Bool
 is_started (OnCall call activity) = true
@@ -86,7 +87,7 @@ pub record OutwardCall (r : ℕ) (sent far_sent : List Outgoing) (c : PlainNetCa
   pub known : list_any (sets_up r) sent ≡ true
   pub calm : net_is_clearing c.state ≡ false → list_any (clears r) sent ≡ false
   pub active : is_active c.state ≡ true → list_any (connects r) far_sent ≡ true
-  pub three : is_proceeding c.state ≡ false
+  pub proceeding : is_proceeding c.state ≡ false
 
 abbrev pub OutwardStanding : ℕ → List Outgoing → List Outgoing → Standing → Type 0
 OutwardStanding r sent far_sent (OnCall call activity) = net_flag call.origin ≡ false → OutwardCall r sent far_sent call

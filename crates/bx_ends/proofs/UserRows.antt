@@ -17,8 +17,9 @@ use Rattle.bx_calls.specs.Hearing.{Heard, names_channel, reports_null}
 use Rattle.bx_calls.specs.UserTable.{user_row, user_second, user_takes, user_answers, user_clears, user_flag, user_releases}
 use Rattle.bx_day.proofs.Said.{OfSaid}
 use Rattle.bx_ends.specs.TwoEnds.{is_acknowledge}
-use Rattle.bx_ends.proofs.NetworkRows.{clears_as, is_connect_kind}
+use Rattle.bx_ends.proofs.NetworkRows.{clears_as}
 use Rattle.bx_day.proofs.Tick.{by_cases}
+use Rattle.bx_ends.specs.TwoEndsInward.{is_connect_kind}
 
 abbrev pub user_call_of : ℕ → ℕ → UserOrigin → UserState → PlainUserCall
 user_call_of r ch o s = record { reference = r; channel = ch; origin = o; state = s }
