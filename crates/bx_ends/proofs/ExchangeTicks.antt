@@ -70,7 +70,7 @@ follow_said P a t said (Live c) h = h
 follow_said P a t said Over h = h
 follow_said P a t said Broken h = h
 
-under_said : (A : Type 0) (P : Outgoing → Type 0) (said : Option Outgoing) → (A → OfSaid P said) → OfSaid (λ o. A → P o) said
+pub under_said : (A : Type 0) (P : Outgoing → Type 0) (said : Option Outgoing) → (A → OfSaid P said) → OfSaid (λ o. A → P o) said
 under_said A P None f = tt
 under_said A P (Some o) f = f
 

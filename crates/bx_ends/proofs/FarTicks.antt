@@ -182,7 +182,7 @@ calls_in : (cs : List PlainUserCall) → AllByRecursion (CallIn cs) cs
 calls_in [] = tt
 calls_in (c ∷ cs) = ((λ p h. or_left (p c) (list_any p cs) h), all_calls (CallIn cs) (CallIn (c ∷ cs)) (λ x k p h. or_right (p c) (list_any p cs) (k p h)) cs (calls_in cs))
 
-both_calls : (P Q : PlainUserCall → Type 0) (cs : List PlainUserCall) → AllByRecursion P cs → AllByRecursion Q cs → AllByRecursion (λ c. P c × Q c) cs
+pub both_calls : (P Q : PlainUserCall → Type 0) (cs : List PlainUserCall) → AllByRecursion P cs → AllByRecursion Q cs → AllByRecursion (λ c. P c × Q c) cs
 both_calls P Q [] h k = tt
 both_calls P Q (c ∷ cs) h k = ((h.0, k.0), both_calls P Q cs h.1 k.1)
 

@@ -17,7 +17,7 @@
 -- clears no other. A new call has a reference beyond all that were given, so nothing was said of it yet.
 -- It is not needed that a reference is used for one call only at the exchange: a SETUP that comes again opens it on the
 -- same channel.
-use Rattle.std.proofs.Common.{◌≡◌, ℕ, ◌<◌, Bool, true, false, List, Some, length}
+use Rattle.std.proofs.Common.{◌≡◌, ℕ, ◌<◌, true, false, List, Some, length}
 use Rattle.std.specs.List.{AllByRecursion, list_any}
 use Rattle.bx_q931.specs.declared.kind.Kind.TheVariants.{Setup}
 use Rattle.bx_q931.specs.Outgoing.{Outgoing}

@@ -1,5 +1,5 @@
 -- A tick of the exchange, and a message that comes to it, keep what is true of calls that the far end began.
-use Rattle.std.proofs.Common.{◌≡◌, ◌⊎◌, inl, inr, ℕ, zero, suc, ◌+◌, ◌<◌, ◌==◌, ◌&&◌, ◌||◌, not, Bool, true, false, List, [], ◌∷◌, ◌++◌, map, length, Option, Some, None, refl, sym, ap, subst, ◌∙◌, arith, if◌then◌else◌, nat_le, slice_set, length-set}
+use Rattle.std.proofs.Common.{◌≡◌, ◌⊎◌, inl, inr, ℕ, zero, suc, ◌+◌, ◌<◌, ◌==◌, ◌&&◌, not, Bool, true, false, List, [], ◌∷◌, ◌++◌, map, length, Option, Some, None, refl, sym, ap, subst, ◌∙◌, arith, nat_le, slice_set, length-set}
 use Rattle.std.specs.List.{AllByRecursion, list_any}
 use Rattle.std.proofs.lemmas.Bool.{false≢true, true≢false, and_parts, and_from, eq-eqb, eqb-true, or_left, or_right, or_cases, not-true}
 use Rattle.bx_base.specs.Bookings.{is_running}
@@ -21,7 +21,7 @@ use Rattle.bx_day.specs.declared.entry.Entry.{Entry}
 use Rattle.bx_day.specs.declared.entry.Moved.{Moved}
 use Rattle.bx_day.specs.declared.entry.Standing.{Standing}
 use Rattle.bx_day.specs.declared.entry.Standing.TheVariants.{Refused, Unoffered, OnCall, Carried, Unanswered, Missed}
-use Rattle.bx_day.specs.Day.{Day, Answered, entry_at, is_set, is_free, is_unoffered, is_open, opens, index_of, names, names_call, bool_eq, hears, takes_call, takes_or, called_on, called, stray, received_at, receive, unchanged, with_moved, follow, over_at, waits, second_at, second_of, after_second, breaks_on, maintained, ticked, every_channel}
+use Rattle.bx_day.specs.Day.{Day, Answered, entry_at, is_set, is_free, is_unoffered, is_open, opens, index_of, names, names_call, bool_eq, hears, takes_call, takes_or, called_on, called, stray, received_at, receive, with_moved, follow, over_at, waits, second_at, second_of, after_second, breaks_on, maintained, ticked, every_channel}
 use Rattle.bx_day.specs.Run.{reply_list}
 use Rattle.bx_day.specs.Law.{standing_at}
 use Rattle.bx_day.specs.Invariant.{is_refused}
@@ -36,7 +36,7 @@ use Rattle.bx_ends.proofs.ExchangeTicks.{all_from, follow_said}
 use Rattle.bx_ends.proofs.ExchangeHears.{Unknown, unknown_says}
 use Rattle.bx_ends.proofs.FarHears.{set_now, set_stays}
 use Rattle.bx_ends.proofs.InwardRows.{is_presented, NetMoves, net_row_moves, net_second_moves}
-use Rattle.bx_ends.proofs.Inward.{InwardSent, KeptInward, Holds, Maintained, Cleared, InwardReply, InwardReplies, TakenCall, TakenStanding, TakenEntries}
+use Rattle.bx_ends.proofs.Inward.{InwardSent, KeptInward, Holds, Maintained, Cleared, InwardReply, InwardReplies, TakenStanding, TakenEntries}
 
 -- a live call is on the channel of its booking
 abbrev pub PlacedAt : Entry → Standing → Type 0
@@ -217,8 +217,8 @@ pub ticked_takes : (named : ℕ → ℕ) (next : ℕ) (sent far_sent : List Outg
 ticked_takes named next sent far_sent d b =
     let d' : Day = (ticked d).day in
     let moves : (i : ℕ) → Moves named next far_sent d (entry_at d.entries i) = λ i.
-        let e = entry_at d.entries i in
-        second_moved named next far_sent e (d.moment + 1) (is_free d e.channel) e.standing (all_at (λ x. TakenStanding named next x.standing) tt d.entries i b.entries) (b.placed i) in
+    let e = entry_at d.entries i in
+    second_moved named next far_sent e (d.moment + 1) (is_free d e.channel) e.standing (all_at (λ x. TakenStanding named next x.standing) tt d.entries i b.entries) (b.placed i) in
     let all : AllByRecursion (Moves named next far_sent d) d.entries = all_from (Moves named next far_sent d) d.entries moves in
     let kept : (r : ℕ) → KeptInward named far_sent d r → KeptInward named far_sent d' r = λ r k. keep all r k in
     let P : Outgoing → Type 0 = λ o. o.flag ≡ true → InwardReply named next far_sent d' o in
@@ -327,7 +327,7 @@ named_accepted o Missed h = absurd (false≢true h)
 abbrev Plain : ℕ → Outgoing → Type 0
 Plain next o = o.flag ≡ true → (o.reference < next) × (is_connect_kind o.kind ≡ false)
 
-unchanged_takes : (named : ℕ → ℕ) (next : ℕ) (sent far_sent : List Outgoing) (d : Day) (reply : Option Outgoing) → TakenBefore named next sent far_sent d → OfSaid (Plain next) reply → TakenAfter named next sent far_sent (reply_list reply) d
+pub unchanged_takes : (named : ℕ → ℕ) (next : ℕ) (sent far_sent : List Outgoing) (d : Day) (reply : Option Outgoing) → TakenBefore named next sent far_sent d → OfSaid (Plain next) reply → TakenAfter named next sent far_sent (reply_list reply) d
 unchanged_takes named next sent far_sent d reply b h = record {
   replies = replies_grow named next sent far_sent (reply_list reply) d d (λ r k. k) b.replies
       (listed (λ o. o.flag ≡ true → InwardReply named next far_sent d o) reply (said_map (Plain next) (λ o. o.flag ≡ true → InwardReply named next far_sent d o) (λ o p f. record { given = (p f).0; kept = λ q. absurd (false≢true (sym (p f).1 ∙ q)) }) reply h));

@@ -13,7 +13,7 @@ use Rattle.bx_calls.specs.declared.net_state.NetOrigin.TheVariants.{Outward, Inw
 use Rattle.bx_calls.specs.declared.net_state.NetState.{NetState}
 use Rattle.bx_calls.specs.declared.net_state.NetState.TheVariants as net
 use Rattle.bx_calls.specs.declared.user_state.UserOrigin.{UserOrigin}
-use Rattle.bx_calls.specs.declared.user_state.UserOrigin.TheVariants.{Offered, Calling}
+use Rattle.bx_calls.specs.declared.user_state.UserOrigin.TheVariants.{Calling}
 use Rattle.bx_calls.specs.declared.user_state.UserState.{UserState}
 use Rattle.bx_calls.specs.declared.user_state.UserState.TheVariants as user
 use Rattle.bx_calls.specs.Hearing.{Heard, names_channel, reports_null}

@@ -18,3 +18,6 @@ pub mod Conclusions
 pub mod InwardRows
 pub mod Inward
 pub mod InwardExchange
+pub mod InwardFar
+pub mod InwardFarTicks
+pub mod InwardPoints

@@ -37,7 +37,7 @@ far_within w (Some o) l s = subst (λ (x : FarAnswered). WorldWithin (far_become
     (let x = far_receive_ok w.far o o.called l.far s in
     record { messages = record { sent = l.messages.sent; far_sent = all_joined Sendable w.far_sent (reply_list (far_receive w.far (said_from o) o.called).reply) l.messages.far_sent (listed Sendable (far_receive w.far (said_from o) o.called).reply x.reply) }; exchange = l.exchange; far = x.lims })
 
-happens_within : (rows : List Row) (assigned : List (Option ℕ)) (w : World) (e : WorldEvent) → KeepsOutward rows assigned w → WorldWithin w → WorldWithin (world_happens w e)
+pub happens_within : (rows : List Row) (assigned : List (Option ℕ)) (w : World) (e : WorldEvent) → KeepsOutward rows assigned w → WorldWithin w → WorldWithin (world_happens w e)
 happens_within rows assigned w TickExchange k l = record {
   messages = record { sent = all_joined Sendable w.sent (tick w.exchange).sent l.messages.sent (tick_sendable assigned w.exchange k.seats l.exchange); far_sent = l.messages.far_sent };
   exchange = tick_within assigned w.exchange k.seats l.exchange;
@@ -57,7 +57,7 @@ opening_standing k (b ∷ bs) (None ∷ as') zero = tt
 opening_standing k (b ∷ bs) (Some c ∷ as') zero = tt
 opening_standing k (b ∷ bs) (a ∷ as') (suc i) = opening_standing (k + 1) bs as' i
 
-opening_within : (rows : List Row) (assigned : List (Option ℕ)) (script : List ScriptRow) → AreScriptRows script → WorldWithin (world_opening rows assigned script)
+pub opening_within : (rows : List Row) (assigned : List (Option ℕ)) (script : List ScriptRow) → AreScriptRows script → WorldWithin (world_opening rows assigned script)
 opening_within rows assigned script s = record {
   messages = record { sent = tt; far_sent = tt };
   exchange = opening_standing 1 rows assigned;

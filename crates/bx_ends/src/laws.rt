@@ -1,6 +1,7 @@
 //! What holds of two ends over every list of events.
 
 ghost use Rattle.bx_ends.specs.TwoEnds.{TwoEnds};
+ghost use Rattle.bx_ends.specs.TwoEndsInward.{TwoEndsInward};
 
 /// The two ends agree on each call that the exchange began (ITU-T Q.931, 5.2 and 5.3), whatever is lost, repeated,
 /// delayed or reordered between them. For every carried plan, every script and every list of events: while such a
@@ -9,4 +10,11 @@ ghost use Rattle.bx_ends.specs.TwoEnds.{TwoEnds};
 /// exchange has sent CONNECT ACKNOWLEDGE with its reference.
 pub fn two_ends()
     ensures { TwoEnds }
+{}
+
+/// The two ends agree on each call that the far end began (ITU-T Q.931, 5.1 and 5.3), in the same way: while it is
+/// Active at the far end, the exchange holds a call of its reference on its channel or has that channel in
+/// maintenance, and has sent CONNECT with its reference.
+pub fn two_ends_inward()
+    ensures { TwoEndsInward }
 {}
