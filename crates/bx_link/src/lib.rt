@@ -6,16 +6,12 @@ mod connection;
 mod day;
 mod end;
 mod far_session;
-#[cfg(test)]
-mod far_tests;
 mod fault;
 mod frame;
 mod frame_reading;
 mod frame_writing;
 mod octet_reading;
 mod session;
-#[cfg(test)]
-mod tests;
 mod turn;
 
 pub use both_ends::run_both_ends;

@@ -1,0 +1,65 @@
+//! How a turn of the exchange ends, by what comes.
+
+use crate::frames::{END_OF_TURN, OPENED, REFUSAL, STRAY, repeated};
+use crate::two_ends::exchange;
+use bx_base::Watched;
+use bx_link::{LinkFault, Session};
+use std::alloc::Global;
+
+/// So many frames that are refused, and what comes behind them; how the turn ends, and how many octets are left.
+type Ending = (u8, &'static [u8], Result<(), LinkFault>, usize);
+
+static ENDINGS: [Ending; 19] = [
+    (0, END_OF_TURN, Ok(()), 0),
+    (2, END_OF_TURN, Ok(()), 0),
+    (64, END_OF_TURN, Ok(()), 0),
+    (65, END_OF_TURN, Err(LinkFault::MoreThan64Messages), 12),
+    (64, &[1, 0, 5], Err(LinkFault::MoreThan64Messages), 0),
+    (64, &[1, 1, 5], Err(LinkFault::BadLength), 0),
+    (0, &[4], Err(LinkFault::UnknownKind), 0),
+    (1, &[0, 0, 0], Err(LinkFault::UnknownKind), 2),
+    (0, &[3, 0, 0], Err(LinkFault::UnknownKind), 2),
+    (0, &[1, 1, 5], Err(LinkFault::BadLength), 0),
+    (0, &[2, 0, 3], Err(LinkFault::BadLength), 0),
+    (3, &[2, 1, 4, 0], Err(LinkFault::BadLength), 1),
+    (0, &[], Err(LinkFault::EndedInFrame), 0),
+    (1, &[1], Err(LinkFault::EndedInFrame), 0),
+    (0, &[1, 1], Err(LinkFault::EndedInFrame), 0),
+    (1, &[1, 0, 10, 8, 2], Err(LinkFault::EndedInFrame), 0),
+    (0, &[2, 0, 4, 0, 0, 0], Err(LinkFault::EndedInFrame), 0),
+    (0, &[2, 0, 4, 0, 0, 0, 2], Err(LinkFault::WrongMoment), 0),
+    (1, &[2, 0, 4, 1, 0, 0, 1], Err(LinkFault::WrongMoment), 0),
+];
+
+/// Whether this is the opening of the turn, and then so many refusals.
+fn is_written(alloc: Global, octets: &[u8], refusals: u8) -> bool {
+    match repeated(alloc, REFUSAL, refusals, &[]) {
+        Some(replies) => octets.strip_prefix(OPENED) == Some(replies.as_slice()),
+        None => false,
+    }
+}
+
+/// Whether the turn is opened, ends so at moment 1, leaves so many octets, and writes just its replies.
+fn ends_so(alloc: Global, ending: &Ending) -> Option<bool> {
+    let (count, behind, expected, left) = *ending;
+    let input = repeated(alloc, STRAY, count, behind)?;
+    let mut exchange = exchange(alloc)?;
+    let mut session = Session::new();
+    let mut reader = Watched::new(input.as_slice());
+    let mut writer = Watched::new(Vec::new(alloc));
+    session.open_turn(&mut exchange, &mut writer).ok()?;
+    let was_open = session.turn_is_open();
+    let result = session.close_turn(&mut exchange, &mut reader, &mut writer);
+    let is_ended = result == expected && exchange.moment() == 1;
+    let is_closed = was_open && !session.turn_is_open();
+    let is_left = reader.into_inner().len() == left;
+    let octets = writer.into_inner();
+    Some(is_ended && is_closed && is_left && is_written(alloc, &octets, count.min(64)))
+}
+
+#[test]
+fn endings_of_a_turn(rt: HostRuntime) {
+    for (index, ending) in ENDINGS.iter().enumerate() {
+        assert!(rt; ends_so(rt.alloc(), ending) == Some(true), "ending {index}");
+    }
+}
