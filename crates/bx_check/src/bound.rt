@@ -5,8 +5,10 @@ ghost use Rattle.std.specs.List.Sorted.{IsStrictlyIncreasing};
 ghost use Rattle.bx_base.specs.Channels.{count_of};
 ghost use Rattle.bx_base.specs.Bookings.{pay_of, IsLawful};
 ghost use Rattle.bx_base.specs.Plans.{is_accepted};
-ghost use Rattle.bx_base.specs.Bound.{cost_of, sum_of_prices, gain_of, loss_of, bound_of};
+ghost use Rattle.bx_base.specs.Bound.{sum_of_prices, gain_of, loss_of, bound_of};
+ghost use Rattle.bx_check.specs.Before.{AreSums};
 
+use crate::sums::{Sums, cost, sums_of};
 use bx_base::{Booking, Bookings, Channel, ChannelSet, Price};
 
 /// What the accepted rows pay together.
@@ -50,41 +52,28 @@ pub fn price_sum(prices: &[Price]) -> u64
     sum
 }
 
-/// What the booking costs at these prices.
-pub fn cost(booking: &Booking, prices: &[Price]) -> u64
-    requires { length prices.now ≤ 8000 }
-    ensures value { result ≡ cost_of prices.now booking.now }
-    ensures limit { result ≤ length prices.now * 4000000000000 }
-{
-    let mut cost = 0;
-    for price in prices {
-        if booking.runs_at(price.moment) {
-            cost += price.amount;
-        }
-    }
-    cost
-}
-
 /// What the row brings to the bound.
-fn gain(booking: &Booking, prices: &[Price]) -> u64
-    requires { length prices.now ≤ 8000 }
+fn gain(booking: &Booking, prices: &[Price], sums: &Sums) -> u64
+    requires rising { IsStrictlyIncreasing (map (λ p. p.moment) prices.now) }
+    requires sums { AreSums prices.now sums.now.items }
     ensures value { result ≡ gain_of prices.now booking.now }
     ensures limit { result ≤ 1000000000 }
 {
     if booking.is_must() {
         booking.pay()
     } else {
-        booking.pay().saturating_sub(cost(booking, prices))
+        booking.pay().saturating_sub(cost(booking, prices, sums))
     }
 }
 
 /// What the row takes from the bound.
-fn loss(booking: &Booking, prices: &[Price]) -> u64
-    requires { length prices.now ≤ 8000 }
+fn loss(booking: &Booking, prices: &[Price], sums: &Sums) -> u64
+    requires rising { IsStrictlyIncreasing (map (λ p. p.moment) prices.now) }
+    requires sums { AreSums prices.now sums.now.items }
     ensures { result ≡ loss_of prices.now booking.now }
 {
     if booking.is_must() {
-        cost(booking, prices)
+        cost(booking, prices, sums)
     } else {
         0
     }
@@ -99,16 +88,18 @@ pub fn bound(
     prices: &[Price],
 ) -> u64
     requires few { length prices.now ≤ 8000 }
+    requires rising { IsStrictlyIncreasing (map (λ p. p.moment) prices.now) }
     requires lawful { IsLawful bookings.now channels (is_accepted assigned.now) }
     ensures value { pos result ≡ bound_of bookings.now (count_of channels) prices.now }
     ensures limit { result < 1000000000000000000 }
 {
     let mut gained = u64::from(channels.count()) * price_sum(prices);
     let mut lost = 0;
+    let sums = sums_of(prices);
     for i in 0..bookings.len() {
         let booking = bookings.nth(i);
-        gained += gain(&booking, prices);
-        lost += loss(&booking, prices);
+        gained += gain(&booking, prices, &sums);
+        lost += loss(&booking, prices, &sums);
     }
     gained - lost
 }

@@ -55,8 +55,8 @@ fn first_must_left_out(plan: &Plan) -> Option<u16>
 }
 
 /// The total of the plan, where it is a plan of these bookings and channels in service whose prices prove that
-/// no lawful set pays more; else the first fault. Takes no memory. Compares rows in pairs where they are on one
-/// channel, and each row with the prices: rows times rows and rows times prices steps at most (Carlisle and
+/// no lawful set pays more; else the first fault. Takes no memory: the sums of the prices stand on the stack, so the
+/// cost of a row takes two searches by halving. Compares rows in pairs where they are on one channel (Carlisle and
 /// Lloyd 1995 for the problem; the prices are the dual of their flow).
 pub fn check(bookings: &Bookings, channels: ChannelSet, plan: &Plan) -> Result<u64, CheckFault>
     ensures outcome { IsOutcome bookings.now channels (parts_of plan.now) result }

@@ -3,5 +3,6 @@
 
 mod bound;
 mod judge;
+mod sums;
 
 pub use judge::{CheckFault, check};

@@ -23,13 +23,15 @@ use Rattle.bx_dist.specs.declared.step.Step.{Step}
 use Rattle.bx_dist.specs.declared.step.Step.TheVariants.{Idle, Back, Take, Give}
 use Rattle.bx_dist.proofs.After.{distances_fit}
 use Rattle.bx_planner.specs.Prices.{fall_at, charges}
-use Rattle.bx_planner.specs.LeastProofs.{sum_before, IsLeastBound}
+use Rattle.bx_planner.specs.LeastProofs.{IsLeastBound}
 use Rattle.bx_planner.specs.Tight.{runs_at, IsTight}
 use Rattle.bx_planner.proofs.Tightness.{tight}
 use Rattle.bx_planner.proofs.Placed.{same_tests}
 use Rattle.bx_planner.proofs.Falling.{before}
 use Rattle.bx_planner.proofs.Priced.{sum_of_charges}
-use Rattle.bx_planner.proofs.Before.{cost_between, before_rises, before_whole, before_same, charges_before}
+use Rattle.bx_check.specs.Before.{sum_before}
+use Rattle.bx_check.proofs.Before.{cost_between}
+use Rattle.bx_planner.proofs.Before.{before_rises, before_whole, before_same, charges_before}
 
 -- heights of any kind rise along a walk by no more than it costs, where they do along each step
 pub walk_rises : (part : Part) (line : Network) (flow : Flow) (height : ℕ → ℤ) → ((step : Step) → IsOpen part line flow step → height (step_to line step) ≤ℤ (height (step_from line step) +ℤ step_cost line step)) → (from to : ℕ) (walk : List Step) → IsWalk part line flow from to walk → height to ≤ℤ (height from +ℤ walk_length line walk)

@@ -2,11 +2,8 @@
 use Rattle.std.specs.Prelude.{◌≡◌, ℕ, ◌≤◌, nat_lt, Bool, List, All, pos, sum_by, if◌then◌else◌}
 use Rattle.bx_base.specs.Bookings.{Row}
 use Rattle.bx_base.specs.Bound.{Charge, IsPriceList, Proves, bound_of, sum_of_prices}
+use Rattle.bx_check.specs.Before.{sum_before}
 use Rattle.bx_line.specs.Moments.{IsMoment}
-
--- what the prices before a moment come to
-abbrev pub sum_before : List Charge → ℕ → ℕ
-sum_before prices moment = sum_by (λ p. if nat_lt p.moment moment then p.amount else 0) prices
 
 -- the prices prove the set, stand where rows start and end, and come to no more, before each of these moments and
 -- altogether, than any price list that proves the set
