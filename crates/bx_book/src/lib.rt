@@ -9,8 +9,6 @@ mod place;
 pub mod records;
 mod row;
 mod stream;
-#[cfg(test)]
-mod tests;
 mod text;
 mod time;
 
