@@ -4,14 +4,10 @@
 mod channel_list;
 mod commands;
 mod fault;
-#[cfg(test)]
-mod file_tests;
 mod loopback;
 mod planning;
 mod request;
 mod running;
-#[cfg(test)]
-mod tests;
 mod words;
 
 pub use bx_commands::check_self;

@@ -4,8 +4,6 @@
 mod checking;
 mod decoding;
 mod fault;
-#[cfg(test)]
-mod tests;
 
 pub use checking::{check_against, check_self, proved_plan};
 pub use decoding::decode;

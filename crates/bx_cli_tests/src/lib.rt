@@ -1,0 +1,23 @@
+//! Tests of the commands over failing devices, of the command line, and of the commands on files.
+#![tactic(auto)]
+
+#[cfg(test)]
+mod broken_outputs;
+#[cfg(test)]
+mod channel_lists;
+#[cfg(test)]
+mod check_devices;
+#[cfg(test)]
+mod file_commands;
+#[cfg(test)]
+mod files;
+#[cfg(test)]
+mod plan_writers;
+#[cfg(test)]
+mod ports;
+#[cfg(test)]
+mod program;
+#[cfg(test)]
+mod worked_texts;
+#[cfg(test)]
+mod worked_words;

@@ -1,0 +1,36 @@
+//! The program on words and an input, in memory.
+
+use bx_base::Watched;
+use bx_cli::main_words;
+
+/// What the program does: its status, standard output and standard error.
+#[derive(Drop)]
+pub(crate) struct Done {
+    pub(crate) status: u8,
+    pub(crate) output: Vec<u8>,
+    pub(crate) errors: Vec<u8>,
+}
+
+/// A status, standard output, and how standard error begins.
+pub(crate) type Expected<'a> = (u8, &'a str, &'a str);
+
+pub(crate) fn run(rt: &HostRuntime, words: &[&str], text: &str) -> Done {
+    let mut input = Watched::new(text.as_bytes());
+    let mut output = Watched::new(Vec::new(rt.alloc()));
+    let mut errors = Watched::new(Vec::new(rt.alloc()));
+    let status = main_words(rt, words, &mut input, &mut output, &mut errors);
+    Done {
+        status,
+        output: output.into_inner(),
+        errors: errors.into_inner(),
+    }
+}
+
+/// Whether this is done. Where nothing is expected on standard error, nothing stands there.
+pub(crate) fn is_done(done: &Done, expected: Expected<'_>) -> bool {
+    let (status, output, errors) = expected;
+    done.status == status
+        && done.output.as_slice() == output.as_bytes()
+        && done.errors.starts_with(errors.as_bytes())
+        && done.errors.is_empty() == errors.is_empty()
+}
