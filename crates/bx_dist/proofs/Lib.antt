@@ -9,3 +9,12 @@ pub mod Rounding
 pub mod RoundSteps
 pub mod Steep
 pub mod WalkTests
+pub mod Fronts
+pub mod Searches
+pub mod Lists
+pub mod Rows
+pub mod Settled
+pub mod Queueing
+pub mod Popping
+pub mod Sound
+pub mod Trails

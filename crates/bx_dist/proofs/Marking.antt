@@ -19,10 +19,10 @@ use Rattle.bx_dist.proofs.Simple.{pairs_from_simple}
 abbrev pub marked : List ℕ → ℕ → ℕ
 marked ranks v = cond (ltb 0 (get_or ranks v 0)) 1 0
 
-marked_one : (ranks : List ℕ) (v : ℕ) → 0 < get_or ranks v 0 → marked ranks v ≡ 1
+pub marked_one : (ranks : List ℕ) (v : ℕ) → 0 < get_or ranks v 0 → marked ranks v ≡ 1
 marked_one ranks v h = cond-true {A = ℕ} (ltb 0 (get_or ranks v 0)) 1 0 (lt-ltb 0 (get_or ranks v 0) h)
 
-marked_none : (ranks : List ℕ) (v : ℕ) → get_or ranks v 0 ≡ 0 → marked ranks v ≡ 0
+pub marked_none : (ranks : List ℕ) (v : ℕ) → get_or ranks v 0 ≡ 0 → marked ranks v ≡ 0
 marked_none ranks v h = rw h refl
 
 ones : (n : ℕ) → sum_below n (λ _. 1) ≡ n
@@ -36,7 +36,7 @@ marked_few ranks v = grind (arith, nat_tests)
 pub marks_few : (n : ℕ) (ranks : List ℕ) → sum_below n (marked ranks) ≤ n
 marks_few n ranks = omega (arith, ones n, sum_below-le n (marked ranks) (λ _. 1) (λ v h. marked_few ranks v))
 
-zero_in : (n v : ℕ) → ◌≡◌ {A = ℕ} (get_or (replicate n 0) v 0) 0
+pub zero_in : (n v : ℕ) → ◌≡◌ {A = ℕ} (get_or (replicate n 0) v 0) 0
 zero_in n v = elim (cases_lt v n) [ inl h ↦ get_or-replicate n v 0 0 h | inr h ↦ get_or_past (replicate n 0) v 0 (omega (arith, length-replicate {A = ℕ} n 0)) ]
 
 pub first_marks : (line : Network) (steps : List Step) (lengths : List ℤ) → 0 < places_of line → AreMarks line steps lengths (set (replicate (places_of line) 0) 0 1) (replicate (places_of line) (Idle 0)) 1

@@ -1,6 +1,6 @@
 //! Flows.
 
-ghost use Rattle.std.specs.Prelude.{◌≡◌, ◌≤◌, ◌<◌, ◌-◌, ◌↔◌, IfOk, IsTrue, false};
+ghost use Rattle.std.specs.Prelude.{◌≡◌, ◌≤◌, ◌<◌, ◌-◌, ◌↔◌, IfOk, IsTrue, false, length};
 ghost use Rattle.bx_line.specs.Flows.{IsFlow, IsSized, is_carried, idle_at, crossing_at};
 ghost use Rattle.bx_dist.specs.Sending.{empty_flow, sent, after_step, CanTake};
 ghost use Rattle.bx_dist.specs.Walks.{IsPath};
@@ -52,6 +52,14 @@ impl Carried {
         row != 0 && row as usize <= self.accepted.len() && self.accepted[row as usize - 1]
     }
 
+    /// The same of a row that there is, counted from 0.
+    pub(crate) fn carries(&self, index: u16) -> bool
+        requires { index < length self.now.accepted }
+        ensures { result ≡ is_carried self.now index }
+    {
+        self.accepted[index as usize]
+    }
+
     /// How many units are idle between this place and the next; 0 for no such place.
     pub fn idle(&self, place: u16) -> u8
         ensures { result ≡ idle_at self.now place }
@@ -61,6 +69,14 @@ impl Carried {
         } else {
             0
         }
+    }
+
+    /// The same of a place with a next one.
+    pub(crate) fn idle_in(&self, gap: u16) -> u8
+        requires { gap < length self.now.idle }
+        ensures { result ≡ idle_at self.now gap }
+    {
+        self.idle[gap as usize]
     }
 
     /// How many units there are.

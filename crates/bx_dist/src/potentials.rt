@@ -47,6 +47,15 @@ impl Potentials {
         }
     }
 
+    /// The same of a place that there is.
+    pub(crate) fn height(&self, place: u16) -> i64
+        requires { place < length self.now }
+        ensures value { result ≡ height_at self.now place }
+        ensures small { AreSmall self.now }
+    {
+        self.heights[place as usize]
+    }
+
     /// Whether no step of the flow's residual network has a negative cost once reduced by these numbers, and there
     /// is one for each place. Takes no memory.
     pub fn fits(&self, line: &Line, carried: &Carried) -> bool

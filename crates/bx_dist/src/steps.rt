@@ -1,6 +1,7 @@
 //! The steps of the residual network.
 
-ghost use Rattle.std.specs.Prelude.{◌≡◌, ◌≤◌, ◌<◌, ◌↔◌, IfOk, OnOk, IsTrue, nat_abs};
+ghost use Rattle.std.specs.Prelude.{◌≡◌, ◌≤◌, ◌<◌, ◌↔◌, IfOk, OnOk, IsTrue, length, nat_abs};
+ghost use Rattle.bx_line.specs.Flows.{IsSized};
 ghost use Rattle.bx_line.specs.Network.{places_of};
 ghost use Rattle.bx_dist.specs.Residual.{IsOpen, HasRow, step_from, step_to, step_cost};
 ghost use Rattle.bx_dist.specs.Search.{IsStep, AreOpenSteps, AreListed, AddsOpen};
@@ -48,6 +49,30 @@ pub fn is_open(line: &Line, carried: &Carried, part: Part, step: Step) -> bool
         Step::Take(row) => has_row(line, part, row) && !carried.accepted(row),
         Step::Give(row) => has_row(line, part, row) && carried.accepted(row),
     }
+}
+
+/// The same of a step that names places and rows of the line.
+pub fn is_there(line: &Line, carried: &Carried, part: Part, step: Step) -> bool
+    requires step { IsStep line.now step }
+    requires sized { IsSized line.now carried.now }
+    ensures { IsTrue result ↔ IsOpen part line.now carried.now step }
+{
+    let _places = line.places();
+    match step {
+        Step::Idle(_) => true,
+        Step::Back(place) => carried.idle_in(place) > 0,
+        Step::Take(row) => !carried.carries(row - 1) && is_in_part(line, part, row),
+        Step::Give(row) => carried.carries(row - 1) && is_in_part(line, part, row),
+    }
+}
+
+/// Whether the part has the arc of a row that there is.
+fn is_in_part(line: &Line, part: Part, row: u16) -> bool
+    requires named { 1 ≤ row }
+    requires within { row ≤ length line.now.arcs }
+    ensures { IsTrue result ↔ HasRow part line.now row }
+{
+    part == Part::Whole || !line.arc(row - 1).must
 }
 
 /// Whether the part has the arc of a row.
