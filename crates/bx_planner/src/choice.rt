@@ -9,7 +9,7 @@ ghost use Rattle.bx_planner.specs.Choices.{IsBestChoice};
 
 use crate::prices::prices_of;
 use bx_base::{Bookings, Price};
-use bx_dist::{Carried, Rounds};
+use bx_dist::{Carried, HeapDist};
 use bx_flow::least_cost;
 use bx_line::Line;
 use std::alloc::{AllocError, Global};
@@ -27,7 +27,7 @@ pub(crate) fn best_choice(
 {
     let _rows = bookings.len();
     let line = Line::of(alloc, bookings)?;
-    let (carried, potentials) = least_cost(alloc, &line, count, &Rounds)?;
+    let (carried, potentials) = least_cost(alloc, &line, count, &HeapDist)?;
     let accepted = marks_of(alloc, &carried, bookings.len())?;
     let prices = prices_of(alloc, &line, &potentials)?;
     Ok((accepted, prices))
