@@ -10,6 +10,6 @@ mod planning;
 mod prices;
 mod running;
 
-pub use amending::{AmendFail, amend};
+pub use amending::{AmendFail, AmendFault, amend, write_amended};
 pub use planning::{PlanFail, plan};
 pub use running::{RunFault, plan_run};
