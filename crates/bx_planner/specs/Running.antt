@@ -1,5 +1,5 @@
 -- What a planning run has read and written, and what each of its refusals says.
-use Rattle.std.specs.Prelude.{◌≡◌, ℕ, true, Bool, List, Ok}
+use Rattle.std.specs.Prelude.{◌≡◌, ℕ, true, false, Bool, List, Ok}
 use Rattle.std.specs.Io.KnownBytes.{Appends}
 use Rattle.bx_base.specs.Bookings.{Row}
 use Rattle.bx_base.specs.Devices.{Reading, Writing, KeepsOutput}
@@ -48,7 +48,7 @@ abbrev pub IsUnread : Reading → Span → RunFault → Type 0
 IsUnread input span ReadFailed = IsStreamFault input span stream.ReadFailed
 IsUnread input span TooLong = IsStreamFault input span stream.TooLong
 IsUnread input span (Book fault) = IsStreamFault input span (stream.Book fault)
-IsUnread input span Memory = Unit {0}
+IsUnread input span Memory = IsStreamFault input span stream.Memory
 IsUnread input span _ = ⊥
 
 -- why there is no plan
@@ -64,4 +64,4 @@ IsRunRefusal input output span channels TooLong = IsStreamFault input span strea
 IsRunRefusal input output span channels (Book fault) = IsStreamFault input span (stream.Book fault) × KeepsOutput output
 IsRunRefusal input output span channels (TooManyMust moment) = ((rows : List Row) × IsBookRead input span rows × IsTooManyMust rows channels moment) × KeepsOutput output
 IsRunRefusal input output span channels WriteFailed = (output.is_faulted ≡ true) × IsCut input output span channels
-IsRunRefusal input output span channels Memory = KeepsOutput output
+IsRunRefusal input output span channels Memory = (input.is_faulted ≡ false) × KeepsOutput output
