@@ -12,8 +12,6 @@ mod far_days;
 #[cfg(test)]
 mod far_octets;
 #[cfg(test)]
-mod hostile_octets;
-#[cfg(test)]
 mod one_booking;
 #[cfg(test)]
 mod openings;
