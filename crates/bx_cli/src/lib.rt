@@ -1,12 +1,9 @@
 //! What the program does for the words of its command line.
 #![tactic(auto)]
 
-mod channel_list;
-mod commands;
 mod fault;
 mod loopback;
 mod planning;
-mod request;
 mod running;
 mod words;
 

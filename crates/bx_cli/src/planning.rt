@@ -1,11 +1,11 @@
 //! The commands on a file of bookings.
 
 use crate::fault::CliFault;
-use crate::request::Terms;
 use bx_base::{Bookings, ChannelSet, Watched};
 use bx_book::{Day, StreamFault, read_bookings_from};
 use bx_commands::{CommandFault, check_against};
 use bx_planner::plan_run;
+use bx_words::Terms;
 use std::alloc::Global;
 use std::fs;
 use std::fs::Files;

@@ -10,10 +10,10 @@ ghost use Rattle.bx_commands.specs.declared.fault.CommandFault.{CommandFault};
 
 use crate::fault::CliFault;
 use crate::planning::{check_file, plan_file};
-use crate::request::{Refusal, Request, read_words};
 use crate::running::{day_of_files, far_file, serve_file};
 use bx_base::{Watched, write_octets};
 use bx_commands::{CommandFault, check_self, decode};
+use bx_words::{Refusal, Request, read_words};
 use std::fs::Files;
 use std::io::{Read, Write};
 use std::net::{Net, TcpListener, TcpStream};

@@ -1,7 +1,7 @@
 //! What a command line asks for.
 
 use crate::channel_list::channel_numbers;
-use crate::commands::commands;
+use crate::command_line::program_of_words;
 use clap::error::ErrorKind;
 use clap::{ArgMatches, Error};
 use std::alloc::{AllocError, AllocFailed, Global};
@@ -88,7 +88,7 @@ fn refusal_of(alloc: Global, error: Error) -> Refusal {
 
 /// Wrong words, in the form of `clap`'s own refusals.
 fn wrong(alloc: Global, message: &str) -> Refusal {
-    let Ok(mut command) = commands(alloc) else {
+    let Ok(mut command) = program_of_words(alloc) else {
         return Refusal::Memory;
     };
     match command.error(ErrorKind::ValueValidation, message) {
@@ -162,7 +162,7 @@ fn request_of<'a>(
 
 /// The command of these words, which stand behind the program's name.
 pub fn read_words<'a>(alloc: Global, words: &'a [&'a str]) -> Result<Request<'a>, Refusal> {
-    match commands(alloc)?.try_get_matches_from(words) {
+    match program_of_words(alloc)?.try_get_matches_from(words) {
         Ok(matches) => match matches.subcommand() {
             Some((name, found)) => request_of(alloc, name, found),
             None => Err(Refusal::Wrong(String::new(alloc))),

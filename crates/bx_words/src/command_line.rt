@@ -1,0 +1,99 @@
+//! The command line as `clap` knows it.
+
+use crate::arguments::{
+    Argument, BOOKINGS, CHANNELS, DATE, OCTETS, PLAN, PORT, SCRIPT, TURNS, ZONE, arg_of,
+};
+use clap::Command;
+use std::alloc::{AllocError, Global};
+
+const VERSION: &str = "0.1.0";
+
+const ABOUT: &str =
+    "Booked calls on one ISDN primary rate interface: plans that are proved best, and days that set up and clear their calls by Q.931 messages.
+
+Without words, reads a plan text on standard input, checks it against the bookings and channels that it states itself, and prints `proved ` and the total.";
+
+const USAGE: &str = "bx < PLAN
+       bx <COMMAND>";
+
+const AFTER: &str = "Examples:
+  bx plan --date 2026-03-29 --zone CET-1CEST,M3.5.0,M10.5.0/3 day.csv > plan.txt
+  bx check --date 2026-03-29 --zone CET-1CEST,M3.5.0,M10.5.0/3 day.csv plan.txt
+  bx < plan.txt
+  bx day plan.txt script.csv
+  bx serve plan.txt --port 9931
+  bx far script.csv --port 9931
+  bx decode 080280015A08028091
+
+Status: 0 done, 1 refused (one line on standard error says why), 2 wrong words.";
+
+/// A command: its name, its help, and its arguments in the order of the help.
+struct Words {
+    name: &'static str,
+    about: &'static str,
+    arguments: &'static [Argument],
+}
+
+static COMMANDS: [Words; 6] = [
+    Words {
+        name: "plan",
+        about: "Print the best plan of a day's bookings",
+        arguments: &[DATE, ZONE, CHANNELS, BOOKINGS],
+    },
+    Words {
+        name: "check",
+        about: "Check a plan against a day's bookings, and print `proved ` and the total",
+        arguments: &[DATE, ZONE, CHANNELS, BOOKINGS, PLAN],
+    },
+    Words {
+        name: "day",
+        about: "Run both ends of a proved plan's day over one TCP connection to 127.0.0.1, and print what became of each booking; may run long in silence",
+        arguments: &[PLAN, SCRIPT, TURNS],
+    },
+    Words {
+        name: "serve",
+        about: "Run the exchange's end of a proved plan's day towards the first peer on 127.0.0.1, and print what became of each booking; may wait and run long in silence",
+        arguments: &[PLAN, PORT, TURNS],
+    },
+    Words {
+        name: "far",
+        about: "Run the far end of a day by a script, towards an exchange that serves on 127.0.0.1; may wait and run long in silence",
+        arguments: &[SCRIPT, PORT],
+    },
+    Words {
+        name: "decode",
+        about: "Print the type, the reference and the elements of a Q.931 message",
+        arguments: &[OCTETS],
+    },
+];
+
+fn command_of<'a>(alloc: Global, words: &Words) -> Result<Command<'a>, AllocError> {
+    let mut command = Command::new(alloc, words.name).about(words.about);
+    for argument in words.arguments {
+        command = command.arg(arg_of(alloc, argument))?;
+    }
+    Ok(command)
+}
+
+/// The program's name, help and version.
+fn program<'a>(alloc: Global) -> Result<Command<'a>, AllocError> {
+    Ok(
+        Command::new(alloc, "bx")
+            .no_binary_name(true)
+            .bin_name("bx")?
+            .override_usage(USAGE)
+            .subcommand_required(true)
+            .version(VERSION)
+            .about(ABOUT)
+            .after_help(AFTER),
+    )
+}
+
+/// The program with its commands.
+pub fn program_of_words<'a>(alloc: Global) -> Result<Command<'a>, AllocError> {
+    let mut all = program(alloc)?;
+    for words in &COMMANDS {
+        all = all.subcommand(command_of(alloc, words)?)?;
+    }
+    Ok(all)
+}

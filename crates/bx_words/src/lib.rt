@@ -1,0 +1,9 @@
+//! What the words of a command line ask for.
+#![tactic(auto)]
+
+mod arguments;
+mod channel_list;
+mod command_line;
+mod request;
+
+pub use request::{Refusal, Request, Terms, read_words};
