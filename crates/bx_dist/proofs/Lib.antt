@@ -18,3 +18,4 @@ pub mod Queueing
 pub mod Popping
 pub mod Sound
 pub mod Trails
+pub mod Along

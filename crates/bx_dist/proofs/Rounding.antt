@@ -70,10 +70,10 @@ module _ (part : Part) (line : Network) (flow : Flow) where
       within : (step_from line step < places_of line) × (step_to line step < places_of line)
       within = step_within part line flow network step open_step
 
-      new_at : height_at new (step_to line step) ≡ (height_at lengths (step_from line step) +ℤ step_cost line step)
+      pub new_at : height_at new (step_to line step) ≡ (height_at lengths (step_from line step) +ℤ step_cost line step)
       new_at = ap (λ (l : List ℤ). height_at l (step_to line step)) shorter.now ∙ get_or-set_same lengths (step_to line step) (height_at lengths (step_from line step) +ℤ step_cost line step) (pos 0) (omega (arith, bounds.one_each, within.1))
 
-      other_at : (v : ℕ) → v ≢ step_to line step → height_at new v ≡ height_at lengths v
+      pub other_at : (v : ℕ) → v ≢ step_to line step → height_at new v ≡ height_at lengths v
       other_at v d = ap (λ (l : List ℤ). height_at l v) shorter.now ∙ get_or-set_other lengths (step_to line step) v (height_at lengths (step_from line step) +ℤ step_cost line step) (pos 0) d
 
       reached_after : AreReached part line flow new

@@ -36,7 +36,7 @@ fewer_left n row None h there = omega arith
 fewer_left n row (Some k) h there = let t = there k refl in omega (arith, t.0, t.1)
 
 -- the rows from one on on a side are those from the next one of the place on
-from_next : (side : Side) (line : Network) (place least row : ℕ) (next : Option ℕ) → IsFirstRow side line.arcs place least next → 1 ≤ row → row ≤ length line.arcs → place_on side (row_arc line row) ≡ place → least < row → IsFrom next row
+pub from_next : (side : Side) (line : Network) (place least row : ℕ) (next : Option ℕ) → IsFirstRow side line.arcs place least next → 1 ≤ row → row ≤ length line.arcs → place_on side (row_arc line row) ≡ place → least < row → IsFrom next row
 from_next side line place least row None first named within at h = first.none refl (row - 1) (omega arith) (omega arith) at
 from_next side line place least row (Some k) first named within at h = elim (cases_lt k row) [ inl a ↦ a | inr a ↦ absurd (first.before k refl (row - 1) (omega arith) (omega arith) at) ]
 

@@ -1,14 +1,12 @@
 -- Potentials that fall from place to place by as much as any arc pays fit where nothing is carried.
-use Rattle.std.proofs.Common.{◌≡◌, ℕ, ◌+◌, ◌-◌, ◌*◌, ◌<◌, ◌≤◌, List, [], ◌∷◌, ◌++◌, length, ℤ, pos, neg_ℤ, refl, sym, ◌∙◌, ap, arith, inl, inr}
+use Rattle.std.proofs.Common.{◌≡◌, ℕ, ◌+◌, ◌-◌, ◌*◌, ◌<◌, List, [], ◌∷◌, ◌++◌, length, ℤ, pos, neg_ℤ, refl, sym, ◌∙◌, ap, arith, inl, inr}
 use Rattle.std.proofs.lemmas.Int.{ints}
 use Rattle.std.proofs.lemmas.Bool.{cases_lt}
-use Rattle.std.proofs.lemmas.List.{get_or_past, get_or_append_left, get_or_push, length_push}
+use Rattle.std.proofs.lemmas.List.{get_or_append_left, get_or_push, length_push}
 use Rattle.bx_line.specs.Network.{Network, IsNetwork, places_of, gaps_of}
-use Rattle.bx_dist.specs.declared.part.Part.{Part}
 use Rattle.bx_dist.specs.declared.part.Part.TheVariants.{Whole}
 use Rattle.bx_dist.specs.declared.step.Step.TheVariants.{Idle, Back, Take, Give}
-use Rattle.bx_dist.specs.Residual.{Fits, ArePotentials, AreSmall, height_at, row_arc}
-use Rattle.bx_dist.specs.Walks.{AreLeast}
+use Rattle.bx_dist.specs.Residual.{Fits, ArePotentials, height_at, row_arc}
 use Rattle.bx_dist.specs.Sending.{empty_flow}
 use Rattle.bx_dist.proofs.Sending.{empty_is_flow, nothing_idle, nothing_carried}
 use Rattle.bx_dist.proofs.After.{row_within}
@@ -31,13 +29,6 @@ steep_more n heights z e s =
       ];
     }
 
-pub steep_small : (n : ℕ) (heights : List ℤ) → n ≤ 8000 → AreSteep n heights → AreSmall heights
-steep_small n heights few s v =
-    elim (cases_lt v n) [
-      | inl h ↦ omega (arith, ints, s.each v h)
-      | inr h ↦ (let past = get_or_past heights v (pos 0) (omega (arith, s.size)) in omega (arith, ints, past))
-    ]
-
 module _ (line : Network) (network : IsNetwork line) (heights : List ℤ) (steep : AreSteep (places_of line) heights) where
   steep_fits : Fits Whole line (empty_flow line) heights
   steep_fits (Idle v) o = omega (arith, ints, steep.each v (omega arith), steep.each (v + 1) o)
@@ -49,6 +40,3 @@ module _ (line : Network) (network : IsNetwork line) (heights : List ℤ) (steep
 
   pub steep_potentials : ArePotentials line (empty_flow line) heights
   steep_potentials = record { one_each = steep.size; sized = (empty_is_flow line network).sized; fits = steep_fits }
-
-pub no_places : (part : Part) (line : Network) → places_of line ≡ 0 → AreLeast part line (empty_flow line) []
-no_places part line e = record { one_each = sym e; reached = λ v h. absurd (omega (arith, e, h)); least = λ v w h i. absurd (omega (arith, e, h)) }

@@ -5,3 +5,4 @@ pub mod Search
 pub mod Nearness
 pub mod Front
 pub mod Searching
+pub mod Passing

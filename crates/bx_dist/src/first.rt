@@ -1,45 +1,44 @@
 //! Potentials to begin with.
 
-ghost use Rattle.std.specs.Prelude.{IfOk};
-ghost use Rattle.bx_dist.specs.declared.part.Part.TheVariants.{Whole};
-ghost use Rattle.bx_dist.specs.Residual.{ArePotentials};
+ghost use Rattle.bx_dist.specs.Passing.{IsPassed};
 ghost use Rattle.bx_dist.specs.Sending.{empty_flow};
 ghost use Rattle.bx_dist.specs.Walks.{AreLeast};
+ghost use Rattle.bx_dist.specs.declared.part.Part.TheVariants.{Whole};
+ghost use Rattle.bx_line.specs.Network.{IsNetwork, places_of};
+ghost use Rattle.std.specs.Prelude.{◌<◌, ◌+◌, IfOk};
 
-use crate::carried::Carried;
-use crate::dist::{Dist, Distances};
-use crate::part::Part;
+use crate::dist::Dist;
 use crate::potentials::Potentials;
-use crate::rounds::Rounds;
-use bx_line::Line;
+use crate::relax::shorten;
+use crate::step::Step;
+use bx_line::{Line, Side};
 use std::alloc::{AllocError, Global};
 
-/// More than the arc of a row pays.
-const STEEP: i64 = 5_001_000_000_000;
-
 impl Potentials {
-    /// The distances from the first place where nothing is carried. No step leads back there, so one round along the
+    /// The distances from the first place where nothing is carried. No step leads back there, so one pass along the
     /// line finds them.
     pub fn first(alloc: Global, line: &Line) -> Result<Potentials, AllocError>
         ensures { IfOk result (AreLeast Whole line.now (empty_flow line.now)) }
     {
-        if line.places() == 0 {
-            return Ok(Potentials::of(Dist::new(Vec::new(alloc), Vec::new(alloc))));
+        let mut lengths = vec![in alloc; 0; line.places() as usize]?;
+        for next in 1..line.places() {
+            pass(&mut lengths, line, next - 1);
         }
-        let carried = Carried::empty(alloc, line)?;
-        let steep = steep(alloc, line)?;
-        let dist = Rounds.from_first(alloc, line, &carried, &steep, Part::Whole)?;
-        Ok(Potentials::of(dist))
+        Ok(Potentials::of(Dist::new(lengths, Vec::new(alloc))))
     }
 }
 
-/// Potentials that fall by as much as an arc may pay from each place to the next.
-fn steep(alloc: Global, line: &Line) -> Result<Potentials, AllocError>
-    ensures { IfOk result (ArePotentials line.now (empty_flow line.now)) }
+/// Takes the steps from a place to later ones.
+fn pass(lengths: &mut [i64], line: &Line, place: u16)
+    requires limits { IsNetwork line.now }
+    requires within { place + 1 < places_of line.now }
+    requires passed { IsPassed line.now place lengths.old }
+    ensures { IsPassed line.now (place + 1) lengths.new }
 {
-    let mut heights = Vec::new(alloc);
-    for v in 0..line.places() {
-        heights.push(-STEEP * i64::from(v))?;
+    shorten(lengths, line, Step::Idle(place));
+    let mut next = line.first_row(place, Side::Leaving);
+    while let Some(row) = next {
+        shorten(lengths, line, Step::Take(row + 1));
+        next = line.next_row(row, Side::Leaving);
     }
-    Ok(Potentials::of(Dist::new(heights, Vec::new(alloc))))
 }
