@@ -8,7 +8,7 @@ use bx_book::{BookFault, DayFault};
 use bx_commands::CommandFault;
 use bx_far::ScriptFault;
 use bx_link::LinkFault;
-use bx_planner::RunFault;
+use bx_planner::{AmendFault, RunFault};
 use thiserror::Error;
 
 /// The refusal of a command line, which is printed behind `bx: `.
@@ -29,6 +29,9 @@ pub enum CliFault<'a> {
     /// The planning run was refused.
     #[error("{0}")]
     Run(RunFault),
+    /// The plan was not amended.
+    #[error("{0}")]
+    Amend(AmendFault),
     /// What was read is no script.
     #[error("{0}")]
     Script(ScriptFault),

@@ -3,8 +3,8 @@
 use crate::fault::CliFault;
 use bx_base::{Bookings, ChannelSet, Watched};
 use bx_book::{Day, StreamFault, read_bookings_from};
-use bx_commands::{CommandFault, check_against};
-use bx_planner::plan_run;
+use bx_commands::{CommandFault, check_against, plan_from};
+use bx_planner::{plan_run, write_amended};
 use bx_words::Terms;
 use std::alloc::Global;
 use std::fs;
@@ -17,8 +17,13 @@ fn channels_and_day<'a>(terms: &Terms<'_>) -> Result<(ChannelSet, Day), CliFault
         Ok(channels) => channels,
         Err(fault) => return Err(CliFault::Channels(fault)),
     };
-    match Day::new(terms.date, terms.zone) {
-        Ok(day) => Ok((channels, day)),
+    Ok((channels, day_of(terms.date, terms.zone)?))
+}
+
+/// The day that these words name.
+fn day_of<'a>(date: &str, zone: &str) -> Result<Day, CliFault<'a>> {
+    match Day::new(date, zone) {
+        Ok(day) => Ok(day),
         Err(fault) => Err(CliFault::Day(fault)),
     }
 }
@@ -75,4 +80,23 @@ pub fn check_file<'a, H: Files + AllocGlobal, W: Write>(
     let mut input = open(rt, plan)?;
     check_against(rt.alloc(), plan, &rows, channels, &mut input, output)?;
     Ok(())
+}
+
+/// Writes the plan that holds all that the plan in one file accepts, for its bookings and those in another.
+pub fn amend_file<'a, H: Files + AllocGlobal, W: Write>(
+    rt: &H,
+    day: (&str, &str),
+    plan: &'a str,
+    bookings: &'a str,
+    output: &mut Watched<W>,
+) -> Result<(), CliFault<'a>> {
+    let day = day_of(day.0, day.1)?;
+    let mut input = open(rt, plan)?;
+    let earlier = plan_from(rt.alloc(), plan, &mut input)?;
+    let mut input = open(rt, bookings)?;
+    let more = bookings_in(rt.alloc(), bookings, &mut input, &day)?;
+    match write_amended(rt.alloc(), &earlier, &more, output) {
+        Ok(_) => Ok(()),
+        Err(fault) => Err(CliFault::Amend(fault)),
+    }
 }

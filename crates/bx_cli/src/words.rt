@@ -9,7 +9,7 @@ ghost use Rattle.bx_commands.specs.Refusals.{IsRefusal};
 ghost use Rattle.bx_commands.specs.declared.fault.CommandFault.{CommandFault};
 
 use crate::fault::CliFault;
-use crate::planning::{check_file, plan_file};
+use crate::planning::{amend_file, check_file, plan_file};
 use crate::running::{day_of_files, far_file, serve_file};
 use bx_base::{Watched, write_octets};
 use bx_commands::{CommandFault, check_self, decode};
@@ -73,6 +73,12 @@ fn run<'a, H: Files + AllocGlobal + Net<Listener = TcpListener, Stream = TcpStre
             bookings,
             plan,
         } => check_file(rt, &terms, bookings, plan, output),
+        Request::Amend {
+            date,
+            zone,
+            plan,
+            bookings,
+        } => amend_file(rt, (date, zone), plan, bookings, output),
         Request::Day {
             plan,
             script,

@@ -146,6 +146,53 @@ static CHECKS: [Case; 9] = [
     ),
 ];
 
+static AMENDMENTS: [Case; 9] = [
+    (
+        "amend --date 2026-01-05 @four.txt @late.csv",
+        0,
+        "bx-plan 3\nchannels 1 2\nbookings 5\n0 10 3 100 1 must out\n0 10 2 101 - free out\n5 15 4 102 2 must out\n12 20 1 103 1 must out\n10 20 7 1234 - free out\nprices 2\n5 2\n12 7\ntotal 8\nend\n",
+        "",
+    ),
+    (
+        "amend --date 2026-01-05 @four.txt @must.csv",
+        1,
+        "",
+        "bx: K1 TooManyMust 5\n",
+    ),
+    (
+        "amend --date 2026-01-05 @four.txt @bad.csv",
+        1,
+        "",
+        "bx: B7 BadNumber 1\n",
+    ),
+    (
+        "amend --date 2026-01-05 @short.txt @bad.csv",
+        1,
+        "",
+        "bx: P1 BadLine 3\n",
+    ),
+    (
+        "amend --date 2026-01-05 @missing @bad.csv",
+        1,
+        "",
+        "bx: F1 CannotRead @missing\n",
+    ),
+    (
+        "amend --date 2026-01-05 @four.txt @gone",
+        1,
+        "",
+        "bx: F1 CannotRead @gone\n",
+    ),
+    (
+        "amend --date 2026-02-29 @gone @gone",
+        1,
+        "",
+        "bx: A1 BadDate\n",
+    ),
+    ("amend @four.txt @late.csv", 2, "", "error: "),
+    ("amend --date 2026-01-05 @four.txt", 2, "", "error: "),
+];
+
 static DAYS: [Case; 13] = [
     (
         "day @one.txt @answer.csv --turns 98",
@@ -232,6 +279,7 @@ fn files_and_options(rt: HostRuntime) -> Result<(), Fail> {
     let folder = folder(&rt)?;
     assert_eq!(rt; first_wrong(&rt, &folder, &PLANS)?, None);
     assert_eq!(rt; first_wrong(&rt, &folder, &CHECKS)?, None);
+    assert_eq!(rt; first_wrong(&rt, &folder, &AMENDMENTS)?, None);
     assert_eq!(rt; first_wrong(&rt, &folder, &DAYS)?, None);
     assert_eq!(rt; first_wrong(&rt, &folder, &OPTIONS)?, None);
     fs::remove_dir_all(&rt, folder.as_str())?;

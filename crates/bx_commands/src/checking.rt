@@ -19,8 +19,8 @@ use itoa::Buffer;
 use std::alloc::Global;
 use std::io::{Read, Write};
 
-/// The plan whose text is read to the end of an input of this name.
-fn plan_from<'a, R: Read>(
+/// The plan whose text is read to the end of an input of this name. It need not be proved.
+pub fn plan_from<'a, R: Read>(
     alloc: Global,
     name: &'a str,
     input: &mut Watched<R>,

@@ -5,6 +5,6 @@ mod checking;
 mod decoding;
 mod fault;
 
-pub use checking::{check_against, check_self, proved_plan};
+pub use checking::{check_against, check_self, plan_from, proved_plan};
 pub use decoding::decode;
 pub use fault::CommandFault;

@@ -20,6 +20,7 @@ const AFTER: &str = "Examples:
   bx plan --date 2026-03-29 --zone CET-1CEST,M3.5.0,M10.5.0/3 day.csv > plan.txt
   bx check --date 2026-03-29 --zone CET-1CEST,M3.5.0,M10.5.0/3 day.csv plan.txt
   bx < plan.txt
+  bx amend --date 2026-03-29 --zone CET-1CEST,M3.5.0,M10.5.0/3 plan.txt more.csv > amended.txt
   bx day plan.txt script.csv
   bx serve plan.txt --port 9931
   bx far script.csv --port 9931
@@ -34,7 +35,7 @@ struct Words {
     arguments: &'static [Argument],
 }
 
-static COMMANDS: [Words; 6] = [
+static COMMANDS: [Words; 7] = [
     Words {
         name: "plan",
         about: "Print the best plan of a day's bookings",
@@ -44,6 +45,11 @@ static COMMANDS: [Words; 6] = [
         name: "check",
         about: "Check a plan against a day's bookings, and print `proved ` and the total",
         arguments: &[DATE, ZONE, CHANNELS, BOOKINGS, PLAN],
+    },
+    Words {
+        name: "amend",
+        about: "Print the best plan that holds all that a plan accepts, for its bookings and more of the day",
+        arguments: &[DATE, ZONE, PLAN, BOOKINGS],
     },
     Words {
         name: "day",

@@ -28,6 +28,13 @@ pub enum Request<'a> {
         bookings: &'a str,
         plan: &'a str,
     },
+    /// Print the best plan that holds all that the plan in one file accepts, for its bookings and those in another.
+    Amend {
+        date: &'a str,
+        zone: &'a str,
+        plan: &'a str,
+        bookings: &'a str,
+    },
     /// Run both ends of a plan's day.
     Day {
         plan: &'a str,
@@ -139,6 +146,12 @@ fn request_of<'a>(
             terms: terms_of(alloc, matches)?,
             bookings: word(matches, "bookings"),
             plan: word(matches, "plan"),
+        }),
+        "amend" => Ok(Request::Amend {
+            date: word(matches, "date"),
+            zone: word(matches, "zone"),
+            plan: word(matches, "plan"),
+            bookings: word(matches, "bookings"),
         }),
         "day" => Ok(Request::Day {
             plan: word(matches, "plan"),
