@@ -15,7 +15,8 @@ use Rattle.bx_day.proofs.Law.{RunFits, run_fits}
 use Rattle.bx_day.proofs.Tick.{by_cases}
 use Rattle.bx_far.specs.FarDay.{FarDay, FarSent, FarAnswered, far_ticked, far_receive}
 use Rattle.bx_ends.specs.World.{World, WorldEvent, TickExchange, TickFar, ToExchange, ToFar, exchange_becomes, far_becomes, comes_to_exchange, comes_to_far, message_nth, world_happens}
-use Rattle.bx_ends.specs.TwoEnds.{acknowledges, AreOnTheirOwn, IsScriptRow}
+use Rattle.bx_ends.specs.Scripts.{IsScriptRow}
+use Rattle.bx_ends.specs.TwoEnds.{acknowledges, AreOnTheirOwn}
 use Rattle.bx_ends.proofs.Delivery.{Sendable, said_from, receive_sent, far_receive_sent}
 use Rattle.bx_ends.proofs.History.{sets_up, clears, has_more, all_map, all_both, all_in, IsIn, IfMessage, nth_holds}
 use Rattle.bx_ends.proofs.Outward.{Seats, OutwardSent, OutwardSents, OutwardStanding, OutwardStandings, Kept, Holds, Maintained, Cleared, OutwardReply, OutwardReplies, OfferedCall, OfferedCalls, KeepsOutward}

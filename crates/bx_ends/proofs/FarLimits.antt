@@ -24,7 +24,8 @@ use Rattle.bx_far.specs.Seats.{calls_now, calls_later}
 use Rattle.bx_far.specs.declared.row.ScriptRow.{ScriptRow}
 use Rattle.bx_far.specs.declared.row.ScriptRow.TheVariants.{Follows, Calls}
 use Rattle.bx_far.proofs.Passing.{now_split, row_room, rows_room, later_split}
-use Rattle.bx_ends.specs.TwoEnds.{IsScriptRow, is_acknowledge}
+use Rattle.bx_ends.specs.Scripts.{IsScriptRow}
+use Rattle.bx_ends.specs.TwoEnds.{is_acknowledge}
 use Rattle.bx_ends.proofs.NetworkRows.{clears_as}
 use Rattle.bx_ends.proofs.Delivery.{Sendable, said_from}
 use Rattle.bx_ends.proofs.UserRows.{Moves, row_moves, second_moves}

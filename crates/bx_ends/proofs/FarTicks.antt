@@ -15,7 +15,8 @@ use Rattle.bx_day.proofs.Said.{OfSaid}
 use Rattle.bx_far.specs.FarDay.{FarDay, FarSent, Begun, begin_row, begin_rows, far_begun, far_ticked, second_calls, second_maintenance, second_said, with_held, in_order, no_messages, next_then, settle_maintenance}
 use Rattle.bx_far.specs.declared.row.ScriptRow.{ScriptRow}
 use Rattle.bx_far.specs.declared.row.ScriptRow.TheVariants.{Follows, Calls}
-use Rattle.bx_ends.specs.TwoEnds.{offered_as, IsScriptRow, AreOnTheirOwn}
+use Rattle.bx_ends.specs.Scripts.{IsScriptRow}
+use Rattle.bx_ends.specs.TwoEnds.{offered_as, AreOnTheirOwn}
 use Rattle.bx_ends.proofs.UserRows.{UserSpeaks, second_moves, second_speaks}
 use Rattle.bx_ends.proofs.History.{sets_up, said_map}
 use Rattle.bx_ends.proofs.Outward.{Kept, Holds, Maintained, Cleared, OutwardReply, OutwardReplies, OfferedCall, OfferedCalls}

@@ -21,7 +21,8 @@ use Rattle.bx_day.proofs.Tick.{by_cases}
 use Rattle.bx_far.specs.FarDay.{FarDay, FarSent, FarAnswered, far_ticked, far_receive}
 use Rattle.bx_far.specs.declared.row.ScriptRow.{ScriptRow}
 use Rattle.bx_ends.specs.World.{World, WorldEvent, TickExchange, TickFar, ToExchange, ToFar, exchange_becomes, far_becomes, comes_to_exchange, comes_to_far, message_nth, world_happens, world_opening, world_after}
-use Rattle.bx_ends.specs.TwoEnds.{AreScriptRows, IsUserActive}
+use Rattle.bx_ends.specs.Scripts.{AreScriptRows}
+use Rattle.bx_ends.specs.TwoEnds.{IsUserActive}
 use Rattle.bx_ends.specs.TwoEndsInward.{exchange_holds, is_connect_kind, connects, IsConnected, IsTwoEndsInward}
 use Rattle.bx_ends.proofs.Delivery.{Sendable, said_from, receive_sent, far_receive_sent}
 use Rattle.bx_ends.proofs.History.{from_other, clears, found, other_parts, has_more, all_map, all_both, all_in, IsIn, IfMessage, nth_holds}

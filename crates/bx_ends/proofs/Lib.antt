@@ -21,3 +21,4 @@ pub mod InwardExchange
 pub mod InwardFar
 pub mod InwardFarTicks
 pub mod InwardPoints
+pub mod ReadScripts

@@ -10,7 +10,7 @@ use Rattle.bx_day.specs.Invariant.{is_refused}
 use Rattle.bx_day.proofs.Law.{IsFrame, opening_fits, opening_framed, opening_placed}
 use Rattle.bx_far.specs.declared.row.ScriptRow.{ScriptRow}
 use Rattle.bx_ends.specs.World.{world_opening}
-use Rattle.bx_ends.specs.TwoEnds.{AreScriptRows}
+use Rattle.bx_ends.specs.Scripts.{AreScriptRows}
 use Rattle.bx_ends.proofs.Outward.{Seats, OutwardStanding, KeepsOutward}
 
 seated : (k : ℕ) (rows : List Row) (assigned : List (Option ℕ)) (i n : ℕ) → k + i ≡ n → is_refused (entry_at (entries_from k rows assigned) i).standing ≡ false → (i < length rows) × ((entry_at (entries_from k rows assigned) i).row ≡ n)

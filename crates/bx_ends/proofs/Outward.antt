@@ -44,7 +44,8 @@ use Rattle.bx_day.specs.Invariant.{is_refused}
 use Rattle.bx_day.proofs.Law.{RunFits}
 use Rattle.bx_far.specs.FarDay.{FarDay}
 use Rattle.bx_ends.specs.World.{World}
-use Rattle.bx_ends.specs.TwoEnds.{far_holds, acknowledges, AreOnTheirOwn, IsScriptRow}
+use Rattle.bx_ends.specs.Scripts.{IsScriptRow}
+use Rattle.bx_ends.specs.TwoEnds.{far_holds, acknowledges, AreOnTheirOwn}
 use Rattle.bx_ends.proofs.NetworkRows.{is_proceeding}
 use Rattle.bx_ends.proofs.UserRows.{is_talking, is_calling}
 use Rattle.bx_ends.proofs.History.{sets_up, clears}

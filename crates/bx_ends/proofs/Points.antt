@@ -10,7 +10,8 @@ use Rattle.bx_far.specs.FarDay.{FarAnswered, far_tick, far_receive}
 use Rattle.bx_far.specs.declared.row.ScriptRow.{ScriptRow}
 use Rattle.bx_far.proofs.Kept.{later_few}
 use Rattle.bx_ends.specs.World.{World, WorldEvent, TickExchange, TickFar, ToExchange, ToFar, exchange_becomes, far_becomes, comes_to_exchange, comes_to_far, message_nth, world_happens, world_opening, world_after}
-use Rattle.bx_ends.specs.TwoEnds.{AreScriptRows, IsTwoEnds}
+use Rattle.bx_ends.specs.Scripts.{AreScriptRows}
+use Rattle.bx_ends.specs.TwoEnds.{IsTwoEnds}
 use Rattle.bx_ends.proofs.Delivery.{Sendable, said_from, receive_sent, far_receive_sent}
 use Rattle.bx_ends.proofs.History.{all_joined, IfMessage, nth_holds, listed}
 use Rattle.bx_ends.proofs.Outward.{KeepsOutward}

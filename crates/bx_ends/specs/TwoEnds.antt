@@ -18,11 +18,10 @@
 --
 -- Not said: that a message comes or a call is answered; that a call which is Active at the far end is still live at the
 -- exchange. A SETUP that comes again can open there a call that is over here, and the exchange then clears it.
-use Rattle.std.specs.Prelude.{◌≡◌, ◌≢◌, ◌⊎◌, ℕ, ◌+◌, ◌≤◌, ◌<◌, [], ◌∷◌, ◌==◌, ◌&&◌, not, Bool, true, false, List, length, Option}
+use Rattle.std.specs.Prelude.{◌≡◌, ◌≢◌, ◌⊎◌, ℕ, ◌+◌, ◌<◌, [], ◌∷◌, ◌==◌, ◌&&◌, not, Bool, true, false, List, length, Option}
 use Rattle.std.specs.List.{AllByRecursion, list_any}
 use Rattle.bx_base.specs.Bookings.{Row, AreBookings, Carries}
-use Rattle.bx_base.specs.Channels.{IsChannel, IsChannelSet}
-use Rattle.bx_base.specs.Numbers.{IsNumber}
+use Rattle.bx_base.specs.Channels.{IsChannelSet}
 use Rattle.bx_base.specs.Plans.{is_accepted, channel_at}
 use Rattle.bx_q931.specs.declared.kind.Kind.{Kind}
 use Rattle.bx_q931.specs.declared.kind.Kind.TheVariants.{ConnectAcknowledge}
@@ -36,18 +35,8 @@ use Rattle.bx_calls.specs.declared.user_state.UserState.TheVariants as user
 use Rattle.bx_day.specs.Law.{OnLive, standing_at}
 use Rattle.bx_day.specs.Day.{is_set}
 use Rattle.bx_far.specs.declared.row.ScriptRow.{ScriptRow}
-use Rattle.bx_far.specs.declared.row.ScriptRow.TheVariants.{Follows, Calls}
+use Rattle.bx_ends.specs.Scripts.{AreScriptRows}
 use Rattle.bx_ends.specs.World.{World, WorldEvent, world_opening, world_after}
-
--- ---- premises: a script within its limits
-
-abbrev pub IsScriptRow : ScriptRow → Type 0
-IsScriptRow (Follows number policy) = Unit {0}
-IsScriptRow (Calls number moment channel) = IsNumber number × IsChannel channel
-
-pub record AreScriptRows (script : List ScriptRow) : Type 0 where
-  pub few : length script ≤ 4000
-  pub each : AllByRecursion IsScriptRow script
 
 -- ---- what is seen at the ends
 

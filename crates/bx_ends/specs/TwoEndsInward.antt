@@ -26,7 +26,8 @@ use Rattle.bx_day.specs.declared.entry.Standing.{Standing}
 use Rattle.bx_day.specs.declared.entry.Standing.TheVariants.{OnCall}
 use Rattle.bx_far.specs.declared.row.ScriptRow.{ScriptRow}
 use Rattle.bx_ends.specs.World.{World, WorldEvent, world_opening, world_after}
-use Rattle.bx_ends.specs.TwoEnds.{AreScriptRows, IsUserActive}
+use Rattle.bx_ends.specs.Scripts.{AreScriptRows}
+use Rattle.bx_ends.specs.TwoEnds.{IsUserActive}
 
 -- ---- what is seen at the ends
 

@@ -1,5 +1,6 @@
 //! What holds of two ends over every list of events.
 
+ghost use Rattle.bx_ends.specs.Scripts.{ScriptsFit};
 ghost use Rattle.bx_ends.specs.TwoEnds.{TwoEnds};
 ghost use Rattle.bx_ends.specs.TwoEndsInward.{TwoEndsInward};
 
@@ -17,4 +18,10 @@ pub fn two_ends()
 /// maintenance, and has sent CONNECT with its reference.
 pub fn two_ends_inward()
     ensures { TwoEndsInward }
+{}
+
+/// Every script that is read keeps the premise of both laws: its rows that call name a number of 1 to 15 digits and a
+/// B channel. That it has at most 4,000 rows is in the type of what `Script::read` answers.
+pub fn scripts_fit()
+    ensures { ScriptsFit }
 {}
