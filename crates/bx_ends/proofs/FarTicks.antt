@@ -32,7 +32,7 @@ pub second_all : (P Q : PlainUserCall → Type 0) (t : ℕ) → ((c : PlainUserC
 second_all P Q t f [] h = tt
 second_all P Q t f (c ∷ cs) h = next_all P (user_second c t).next (second_calls t cs) (f c h.0) (second_all P Q t f cs h.1)
 
-live_map : (P Q : PlainUserCall → Type 0) → ((c : PlainUserCall) → P c → Q c) → (n : Next PlainUserCall) → OnLive P n → OnLive Q n
+pub live_map : (P Q : PlainUserCall → Type 0) → ((c : PlainUserCall) → P c → Q c) → (n : Next PlainUserCall) → OnLive P n → OnLive Q n
 live_map P Q f (Live c) h = f c h
 live_map P Q f Over h = h
 live_map P Q f Broken h = h

@@ -1,21 +1,21 @@
--- What stays true of two ends, for calls that the far end began. Each part is of one element, as for calls that the exchange
--- began (Outward), with the ends exchanged. What the plan's channel is there, the channel that the far end's
--- SETUPs of a reference name is here: `named` gives it for each reference that was given, and grows with each new call.
+-- What stays true of two ends, for calls that the far end began. Each part is of one element, as for calls that the
+-- exchange began (Outward), with the ends exchanged. What the plan's channel is there is here the channel that the far
+-- end's SETUPs of a reference name: `named` gives it for each reference that was given, and grows with each new call.
 --
---   sents    each message of the far end for a call of its own has a reference that was given; a SETUP names the channel
---            of its reference;
---   calls    so has a call of its own, and it is on that channel; it is not in U8, from which CONNECT ACKNOWLEDGE leads
---            to Active; while it is not being cleared the far end has sent nothing that clears it; if it is
---            Active, the exchange has sent CONNECT;
---   replies  each message of the exchange for such a call has a reference that was given; for each CONNECT of r the exchange
---            holds r on its channel, or has that in maintenance, or the far end has cleared r (`KeptInward`);
---   entries  a live inward call has a reference that was given and is on its channel; it is not in N6, from which a tick ends
---            it with nothing left behind.
+--   sents    a message of the far end for a call of its own has a reference that was given; a SETUP names the channel of
+--            its reference;
+--   calls    a call of its own has such a reference too, and is on its channel; it is not in U8, from which CONNECT
+--            ACKNOWLEDGE leads to Active; while it is not being cleared the far end has sent nothing that clears it;
+--            if it is Active, the exchange has sent CONNECT;
+--   replies  a message of the exchange for such a call has a reference that was given; for each CONNECT of r the
+--            exchange holds r on its channel, or has that in maintenance, or the far end has cleared r (`KeptInward`);
+--   entries  a live inward call of the exchange has a reference that was given, and is on its channel; it is not in N6,
+--            from which a tick ends a call and leaves nothing behind.
 --
--- That says the law, as there. Each event keeps it: the exchange takes a SETUP on the channel that it names alone; at the far
--- end two calls of its own with one reference would be on one channel, so there are none, and what one of them says
--- clears no other. A new call has a reference beyond all that were given, so nothing was said of it yet.
--- It is not needed that a reference is used for one call only at the exchange: a SETUP that comes again opens it on the
+-- That says the law, as there. Each event keeps it. The exchange takes a SETUP on the channel that it names and on no
+-- other. At the far end two calls of its own with one reference would be on one channel, so there are none, and what
+-- one of them says clears no other. A new call has a reference beyond all that were given, so nothing was said of it
+-- yet. At the exchange a reference may be used for one call after another: a SETUP that comes again opens it on the
 -- same channel.
 use Rattle.std.proofs.Common.{◌≡◌, ℕ, ◌<◌, true, false, List, Some, length}
 use Rattle.std.specs.List.{AllByRecursion, list_any}

@@ -27,7 +27,7 @@ use Rattle.bx_ends.proofs.History.{from_beginner, clears, has_none, none_all, al
 use Rattle.bx_ends.proofs.Inward.{InwardSent, InwardSents, InwardCall, InwardCalls}
 use Rattle.bx_ends.proofs.ExchangeTicks.{under_said}
 use Rattle.bx_ends.proofs.FarCalls.{all_calls, insert_all, OnLive, OnlyOne}
-use Rattle.bx_ends.proofs.FarTicks.{both_calls, second_all, second_said_all, none_said, set_all, ordered}
+use Rattle.bx_ends.proofs.FarTicks.{live_map, both_calls, second_all, second_said_all, none_said, set_all, ordered}
 use Rattle.bx_ends.proofs.InwardFar.{Own, all_true, stays_calm, calm_mild, own_after}
 
 -- ---- a second of a call of its own
@@ -213,11 +213,6 @@ pub record TickedInward (before : ℕ → ℕ) (next : ℕ) (sent far_sent more 
   pub grown : next ≤ f.next
   pub sents : InwardSents named f.next (far_sent ++ more)
   pub calls : InwardCalls named f.next sent (far_sent ++ more) f.calls
-
-live_map : (P Q : PlainUserCall → Type 0) → ((c : PlainUserCall) → P c → Q c) → (n : Next PlainUserCall) → OnLive P n → OnLive Q n
-live_map P Q f (Live c) h = f c h
-live_map P Q f Over h = h
-live_map P Q f Broken h = h
 
 -- a call that was live before the tick
 old_after : (named : ℕ → ℕ) (next t : ℕ) (sent far_sent more : List Outgoing) (c : PlainUserCall) → Own named next sent far_sent c → Spared t more c → OnLive (Own named next sent (far_sent ++ more)) (user_second c t).next
