@@ -17,7 +17,7 @@
 -- sent by the other end. Nothing is assumed of what lies between them.
 --
 -- Not said: that a message comes or a call is answered; that a call which is Active at the far end is still live at the
--- exchange. A SETUP that comes again can open there a call that is over here, and the exchange then clears it.
+-- exchange. A SETUP that comes again can open there a call that is over here; the exchange clears it once it hears of it.
 use Rattle.std.specs.Prelude.{◌≡◌, ◌≢◌, ◌⊎◌, ℕ, ◌+◌, ◌<◌, [], ◌∷◌, ◌==◌, ◌&&◌, not, Bool, true, false, List, length, Option}
 use Rattle.std.specs.List.{AllByRecursion, list_any}
 use Rattle.bx_base.specs.Bookings.{Row, AreBookings, Carries}

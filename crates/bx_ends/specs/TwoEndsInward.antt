@@ -6,9 +6,9 @@
 --   held       the exchange holds a call of its reference on its channel, or has that channel in maintenance;
 --   connected  and it has sent CONNECT with that reference.
 --
--- Not said: that the call is Active at the exchange too, or that a booking is used up by a call which the far end still
--- holds. A SETUP of the far end that comes again, after its call was over at both ends, can take another inward booking that is
--- open on the same channel.
+-- Not said: that the call is Active at the exchange too; that each call which takes a booking at the exchange is live at
+-- the far end. A SETUP of the far end that comes again, after its call was over at both ends, can take another inward
+-- booking that is open on the same channel, and use it up.
 use Rattle.std.specs.Prelude.{◌≡◌, ◌⊎◌, ℕ, ◌==◌, ◌&&◌, Bool, true, false, List, Option}
 use Rattle.std.specs.List.{AllByRecursion, list_any}
 use Rattle.bx_base.specs.Bookings.{Row, AreBookings, Carries}
