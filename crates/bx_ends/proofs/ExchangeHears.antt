@@ -157,14 +157,6 @@ flags_meet true f h q = absurd (true≢false q)
 flags_meet false true h q = refl
 flags_meet false false h q = absurd (false≢true h)
 
-hears_started : (m : Said) (t : ℕ) (s : Standing) → is_started s ≡ true → is_started (hears m t s).standing ≡ true
-hears_started m t (OnCall c a) h = follow_started a t (net_message c m.heard t).reply (net_message c m.heard t).next
-hears_started m t (Carried from until) h = h
-hears_started m t Unanswered h = h
-hears_started m t Refused h = absurd (false≢true h)
-hears_started m t Unoffered h = absurd (false≢true h)
-hears_started m t Missed h = absurd (false≢true h)
-
 not_setup : (k : Kind) → is_plain k ≡ true → is_setup_kind k ≡ false
 not_setup Setup h = absurd (false≢true h)
 not_setup CallProceeding h = refl
@@ -270,9 +262,6 @@ unknown_stray assigned sent far_sent d o k b none known =
           ∙ outward_named assigned d.moment i (said_from o) (entry_at d.entries i) (standing_at d i) live (b.seats i) (all_at (EntryFits d.moment) tt d.entries i b.fits.each) (sym u.reference ∙ r) flag)),
     ))
     (unknown_row Network o.reference (not o.flag) (said_from o).heard k) (unknown_says Network o.reference (not o.flag) (said_from o).heard k)
-
-abbrev Ex : List (Option ℕ) → List Outgoing → List Outgoing → Answered → Type 0
-Ex assigned sent far_sent x = ExchangeKeeps assigned sent far_sent x
 
 silent_keeps : (assigned : List (Option ℕ)) (sent far_sent : List Outgoing) (d : Day) (reply : Option Outgoing) → Before assigned sent far_sent d → OfSaid (λ o. o.flag ≡ true) reply → ExchangeKeeps assigned sent far_sent (unchanged d reply)
 silent_keeps assigned sent far_sent d reply b h = unchanged_keeps assigned sent far_sent d reply (said_map (λ o. o.flag ≡ true) (Stray sent d) (λ o p f. absurd (true≢false (sym p ∙ f))) reply h) b.seats b.sents b.standings

@@ -126,10 +126,6 @@ test_said : (P : Outgoing → Type 0) (b : Bool) (x y : Step PlainNetCall) → O
 test_said P true x y f g = f
 test_said P false x y f g = g
 
-releases_said : (r ch : ℕ) (o : NetOrigin) (s : NetState) (again : Bool) (cause : Option ℕ) (t : ℕ) → OfSaid (OfCall r o) (net_releases (call_of r ch o s) again cause t).reply
-releases_said r ch o s again None t = (refl, refl)
-releases_said r ch o s again (Some cause) t = (refl, refl)
-
 pub row_says : (r ch : ℕ) (o : NetOrigin) (t : ℕ) (m : Heard) (s : NetState) (k : Kind) → OfSaid (OfCall r o) (net_row (call_of r ch o s) m t s k).reply
 row_says r ch o t m s ReleaseComplete = tt
 row_says r ch o t m s StatusEnquiry = (refl, refl)
