@@ -4,10 +4,14 @@ use crate::ends::{Ends, Event, Row, opened};
 use bx_base::Channel;
 use bx_calls::CallState;
 use bx_q931::Octets;
+use bx_worked::{
+    CONNECT_ACKNOWLEDGE, CONNECT_CHANNEL_1, DISCONNECT_16, FAR_RELEASE, FAR_RELEASE_COMPLETE,
+    PROCEEDING_CHANNEL_1, RELEASE, RELEASE_COMPLETE, SETUP, STATUS_101,
+};
 use std::alloc::Global;
 use std::test::Fail;
 
-/// An event that happens so often, and what is sent for it the last time: nothing goes before that.
+/// An event that happens so often, and all that is sent for it.
 type Step<'a> = (u32, Event, &'a [&'a [u8]]);
 
 /// Bookings, a script and what happens.
@@ -19,29 +23,16 @@ struct Course<'a> {
     held: (Option<(u16, CallState)>, Option<(u16, CallState)>),
 }
 
-/// A call that the exchange begins, and one that the far end begins: reference 1, channel 1.
-const SETUP: &[u8] = &[
-    0x08, 0x02, 0x00, 0x01, 0x05, 0xA1, 0x04, 0x02, 0x88, 0x90, 0x18, 0x03, 0xA9, 0x83, 0x81, 0x70,
-    0x05, 0x81, 0x31, 0x32, 0x33, 0x34,
-];
-
-const CONNECT: &[u8] = &[0x08, 0x02, 0x80, 0x01, 0x07, 0x18, 0x03, 0xA9, 0x83, 0x81];
-
-const PROCEEDING: &[u8] = &[0x08, 0x02, 0x80, 0x01, 0x02, 0x18, 0x03, 0xA9, 0x83, 0x81];
-
-const ACKNOWLEDGE: &[u8] = &[0x08, 0x02, 0x00, 0x01, 0x0F];
-
-/// The exchange clears a call that it began, and one that the far end began.
-const DISCONNECT: &[u8] = &[0x08, 0x02, 0x00, 0x01, 0x45, 0x08, 0x02, 0x82, 0x90];
-
+/// The exchange clears a call that the far end began.
 const DISCONNECT_INWARD: &[u8] = &[0x08, 0x02, 0x80, 0x01, 0x45, 0x08, 0x02, 0x82, 0x90];
 
-const RELEASE: &[u8] = &[0x08, 0x02, 0x80, 0x01, 0x4D];
+/// The exchange has no call of this reference.
+const RELEASE_COMPLETE_81: &[u8] = &[0x08, 0x02, 0x00, 0x01, 0x5A, 0x08, 0x02, 0x82, 0xD1];
 
-const RELEASE_COMPLETE: &[u8] = &[0x08, 0x02, 0x00, 0x01, 0x5A];
-
-/// There is no call of this reference.
-const NO_CALL: &[u8] = &[0x08, 0x02, 0x00, 0x01, 0x5A, 0x08, 0x02, 0x82, 0xD1];
+/// The far end did not expect that of a call which it began, and which is Active.
+const USER_STATUS_101: &[u8] = &[
+    0x08, 0x02, 0x00, 0x01, 0x7D, 0x08, 0x02, 0x80, 0xE5, 0x14, 0x01, 0x0A,
+];
 
 const ANSWERS: &str = "number,policy,seconds\n*,answer,0\n";
 
@@ -53,16 +44,16 @@ const RUNS: [Course<'static>; 3] = [
         steps: &[
             (1, Event::TickExchange, &[SETUP]),
             (1, Event::ToFar(0), &[]),
-            (1, Event::TickFar, &[CONNECT]),
-            (1, Event::ToExchange(0), &[ACKNOWLEDGE]),
+            (1, Event::TickFar, &[CONNECT_CHANNEL_1]),
+            (1, Event::ToExchange(0), &[CONNECT_ACKNOWLEDGE]),
             (1, Event::ToFar(1), &[]),
-            (59, Event::TickExchange, &[DISCONNECT]),
-            (1, Event::ToFar(2), &[RELEASE]),
+            (59, Event::TickExchange, &[DISCONNECT_16]),
+            (1, Event::ToFar(2), &[FAR_RELEASE]),
             (1, Event::ToExchange(1), &[RELEASE_COMPLETE]),
             (1, Event::ToFar(3), &[]),
             (1, Event::ToFar(0), &[]),
-            (1, Event::TickFar, &[CONNECT]),
-            (1, Event::ToExchange(2), &[NO_CALL]),
+            (1, Event::TickFar, &[CONNECT_CHANNEL_1]),
+            (1, Event::ToExchange(2), &[RELEASE_COMPLETE_81]),
             (1, Event::ToFar(4), &[]),
         ],
         held: (None, None),
@@ -74,15 +65,9 @@ const RUNS: [Course<'static>; 3] = [
         steps: &[
             (1, Event::TickExchange, &[SETUP]),
             (3, Event::ToFar(0), &[]),
-            (1, Event::TickFar, &[CONNECT]),
-            (1, Event::ToExchange(0), &[ACKNOWLEDGE]),
-            (
-                1,
-                Event::ToExchange(0),
-                &[&[
-                    0x08, 0x02, 0x00, 0x01, 0x7D, 0x08, 0x02, 0x82, 0xE5, 0x14, 0x01, 0x0A,
-                ]],
-            ),
+            (1, Event::TickFar, &[CONNECT_CHANNEL_1]),
+            (1, Event::ToExchange(0), &[CONNECT_ACKNOWLEDGE]),
+            (1, Event::ToExchange(0), &[STATUS_101]),
             (3, Event::ToFar(0), &[]),
             (1, Event::ToFar(1), &[]),
         ],
@@ -97,22 +82,16 @@ const RUNS: [Course<'static>; 3] = [
             (1, Event::TickFar, &[SETUP]),
             (4, Event::TickFar, &[SETUP]),
             (3, Event::TickExchange, &[]),
-            (1, Event::ToExchange(1), &[PROCEEDING]),
+            (1, Event::ToExchange(1), &[PROCEEDING_CHANNEL_1]),
             (1, Event::ToExchange(0), &[]),
-            (1, Event::TickExchange, &[CONNECT]),
+            (1, Event::TickExchange, &[CONNECT_CHANNEL_1]),
             (1, Event::ToFar(1), &[]),
-            (
-                1,
-                Event::ToFar(0),
-                &[&[
-                    0x08, 0x02, 0x00, 0x01, 0x7D, 0x08, 0x02, 0x80, 0xE5, 0x14, 0x01, 0x0A,
-                ]],
-            ),
+            (1, Event::ToFar(0), &[USER_STATUS_101]),
             (56, Event::TickExchange, &[DISCONNECT_INWARD]),
-            (1, Event::ToFar(2), &[&[0x08, 0x02, 0x00, 0x01, 0x4D]]),
-            (1, Event::ToExchange(3), &[&[0x08, 0x02, 0x80, 0x01, 0x5A]]),
+            (1, Event::ToFar(2), &[RELEASE]),
+            (1, Event::ToExchange(3), &[FAR_RELEASE_COMPLETE]),
             (1, Event::ToFar(3), &[]),
-            (1, Event::ToExchange(0), &[PROCEEDING]),
+            (1, Event::ToExchange(0), &[PROCEEDING_CHANNEL_1]),
         ],
         held: (Some((2, CallState::OutgoingCallProceeding)), None),
     },
