@@ -12,6 +12,8 @@ mod distances;
 #[cfg(test)]
 mod flows;
 #[cfg(test)]
+mod heap_distances;
+#[cfg(test)]
 mod lines;
 #[cfg(test)]
 mod plan_texts;
