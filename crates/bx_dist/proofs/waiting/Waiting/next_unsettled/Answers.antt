@@ -33,7 +33,7 @@ returns-then-ranks-place-eq0-clause-nearest c =
     let n = c.in-Some.field-0-0 in
     let place = c.in-Some.place in
     let rest = c.in-Some.ensures.rest in
-    (n, c.loop-place.invariant.only n place (popped_there before after n place rest), omega (arith, c.if-ranks-place-eq0.true), λ m v h u. popped_nearest before after n place rest c.in-Some.ensures.nearest m v (c.loop-place.invariant.kept m v h u))
+    (n, c.loop-place.invariant.only n place (popped_there before after n place rest), omega arith, λ m v h u. popped_nearest before after n place rest c.in-Some.ensures.nearest m v (c.loop-place.invariant.kept m v h u))
 
 pub loop-place-smaller : goal.loop-place-smaller
 loop-place-smaller c =
@@ -48,7 +48,7 @@ loop-place-preserved c =
     let rest = c.in-Some.ensures.rest in
     record {
       kept = λ m v h u. elim (popped_kept before after n place rest m v (c.loop-place.invariant.kept m v h u)) [
-        | inl e ↦ (let is = ap (λ (x : ℕ × ℕ). get_or c.args.ranks.now x.1 0) e in absurd (omega (arith, is, u, c.if-ranks-place-eq0.false)))
+        | inl e ↦ (let is = ap (λ (x : ℕ × ℕ). get_or c.args.ranks.now x.1 0) e in absurd (omega (arith, is, u)))
         | inr a ↦ a
       ];
       only = λ m v h. c.loop-place.invariant.only m v (popped_only before after n place rest m v h);
