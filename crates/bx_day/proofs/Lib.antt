@@ -16,3 +16,5 @@ pub mod ToldLines
 pub mod Replays
 pub mod Quiet
 pub mod Openings
+pub mod Dues
+pub mod Skips

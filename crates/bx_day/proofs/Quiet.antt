@@ -48,7 +48,7 @@ quiet_all d h (c ∷ cs) = ap₂ (λ xs ys. xs ++ ys) (quiet_on d c d.entries h)
 abbrev pub later : Day → Day
 later d = record d { moment = d.moment + 1 }
 
-quiet_tick : (d : Day) → AllByRecursion (λ e. second_of d e ≡ stays e.standing) d.entries → ticked d ≡ record { day = later d; sent = [] }
+pub quiet_tick : (d : Day) → AllByRecursion (λ e. second_of d e ≡ stays e.standing) d.entries → ticked d ≡ record { day = later d; sent = [] }
 quiet_tick d h =
     let entries = quiet_entries d d.entries h in
     let maintenance : maintained d 0 d.maintenance ≡ d.maintenance = sym (marks_all d 0 d.maintenance) ∙ quiet_marks d d.maintenance d.entries h in
@@ -105,7 +105,7 @@ woken_scheduled t i es ms wakes due e h s = record { exchange = h; quiet = woken
 
 -- ---- the first due moment of one booking
 
-late : (m t : ℕ) → t < m → nat_le m t ≡ false
+pub late : (m t : ℕ) → t < m → nat_le m t ≡ false
 late m t h = decide (nat_le m t) (λ yes. absurd (let le : m ≤ t = leb-true m t yes in omega (arith, le, h))) (λ less. less)
 
 -- a call in its state stays in its activity
@@ -151,10 +151,10 @@ call_quiet : (moment t : ℕ) (free : Bool) (e : Entry) (c : PlainNetCall) (a : 
 call_quiet moment t free e c a fits lt = ap (follows a t) (at_rest c c.state t e.booking.end lt) ∙ ap (λ b. stays (OnCall c b)) (activity_stays moment t e.booking c.state a fits.activity)
 
 -- one that is not offered and not missed goes on waiting
-waits_on : (e : Entry) (t : ℕ) (free : Bool) → offers e t free ≡ false → t < e.booking.end → waits e t free ≡ stays Unoffered
+pub waits_on : (e : Entry) (t : ℕ) (free : Bool) → offers e t free ≡ false → t < e.booking.end → waits e t free ≡ stays Unoffered
 waits_on e t free unoffered early = ap (λ b. if b then (becomes (OnCall (net_offered e.row e.channel e.booking.number t) Never) (Some (setup_of e.row e.channel e.booking.number))) else (if nat_le e.booking.end t then stays Missed else stays Unoffered)) unoffered ∙ ap (λ b. if b then stays Missed else stays Unoffered) (late e.booking.end t early)
 
-not_offered : (a b c : Bool) → (b || not c) ≡ true → (a && not b && c) ≡ false
+pub not_offered : (a b c : Bool) → (b || not c) ≡ true → (a && not b && c) ≡ false
 not_offered true true c h = refl
 not_offered true false true h = absurd (false≢true h)
 not_offered true false false h = refl
@@ -171,7 +171,7 @@ waits_quiet t free e order lt = decide e.booking.inward
     let early : t < e.booking.start = subst (λ b. t < (if b then e.booking.end else e.booking.start)) outward lt in
     waits_on e t free (not_begun (is_running e.booking t) e.booking.inward free (running_late e.booking t early)) (omega (arith, early, order)))
 
-booking_quiet : (moment t : ℕ) (free : Bool) (e : Entry) (s : Standing) → EntryFits moment (with_standing e s) → e.booking.start ≤ e.booking.end → t < booking_due e s → second_at e t free s ≡ stays s
+pub booking_quiet : (moment t : ℕ) (free : Bool) (e : Entry) (s : Standing) → EntryFits moment (with_standing e s) → e.booking.start ≤ e.booking.end → t < booking_due e s → second_at e t free s ≡ stays s
 booking_quiet moment t free e Refused h order lt = refl
 booking_quiet moment t free e Unoffered h order lt = waits_quiet t free e order lt
 booking_quiet moment t free e (OnCall c a) h order lt = call_quiet moment t free (with_standing e (OnCall c a)) c a h lt
@@ -194,7 +194,7 @@ pub record Waking (d : Day) (i : ℕ) (wakes : List ℕ) : Type 0 where
 pub none_woken : (d : Day) (wakes : List ℕ) → AreWakes d wakes → Waking d 0 wakes
 none_woken d wakes h = record { size = h.size; done = λ k lt. absurd (omega (arith, lt)); left = λ k le inside. h.each k inside }
 
-up_to : (P : ℕ → Type 0) (i : ℕ) → ((k : ℕ) → k < i → P k) → P i → (k : ℕ) → k < i + 1 → P k
+pub up_to : (P : ℕ → Type 0) (i : ℕ) → ((k : ℕ) → k < i → P k) → P i → (k : ℕ) → k < i + 1 → P k
 up_to P i before here k lt = decide (nat_lt k i) (λ yes. before k (ltb-true k i yes)) (λ late. subst P (let le : i ≤ k = ltb-false k i late in let same : i ≡ k = omega (arith, le, lt) in same) here)
 
 -- one that sleeps stays as it is

@@ -10,3 +10,4 @@ pub mod Writing
 pub mod Replaying
 pub mod Quiet
 pub mod Calling
+pub mod QuietSeconds

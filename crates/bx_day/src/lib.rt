@@ -11,6 +11,7 @@ mod moving;
 mod opening;
 mod outcome;
 mod outcome_lines;
+mod quiet_seconds;
 mod receiving;
 mod replaying;
 mod scheduling;

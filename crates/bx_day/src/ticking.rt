@@ -16,7 +16,7 @@ use bx_base::{Channel, ChannelSet};
 use bx_q931::{Octets, Out, encode};
 
 /// The moment at which a day stands still.
-const LAST_MOMENT: u32 = 300000;
+pub(crate) const LAST_MOMENT: u32 = 300000;
 
 impl Exchange {
     /// The next second: the moment rises by one, live calls follow their table, bookings that start are

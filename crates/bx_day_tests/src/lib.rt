@@ -18,6 +18,8 @@ mod openings;
 #[cfg(test)]
 mod outcome_writers;
 #[cfg(test)]
+mod quiet_seconds;
+#[cfg(test)]
 mod replayed_days;
 #[cfg(test)]
 mod script_faults;

@@ -1,0 +1,183 @@
+-- The next tick that does something: none before does, and it does.
+use Rattle.std.proofs.Common.{◌≡◌, ℕ, suc, min, ◌+◌, ◌≤◌, ◌<◌, ◌&&◌, not, Bool, true, false, List, [], length, arith, refl, sym, subst, ap, ◌∙◌, nat_le, nat_lt, if◌then◌else◌}
+use Rattle.std.proofs.Math.Nat.{le-min, min-le_left, min-le_right}
+use Rattle.std.proofs.lemmas.Bool.{true≢false, leb-true, leb-false, le-leb, lt-ltb, and_from, or_right}
+use Rattle.bx_base.specs.Bookings.{is_running}
+use Rattle.bx_calls.specs.PlainCalls.{PlainNetCall}
+use Rattle.bx_calls.specs.declared.step.Step.{Step}
+use Rattle.bx_calls.specs.declared.net_state.NetState.{NetState}
+use Rattle.bx_calls.specs.declared.net_state.NetState.TheVariants.{OutgoingCallProceeding, CallPresent, IncomingCallProceeding, CallReceived, Active, DisconnectIndication, ReleaseRequest}
+use Rattle.bx_calls.specs.NetTable.{net_second}
+use Rattle.bx_day.specs.Day.{Day, Sent, is_set, is_free, second_at, second_of, after_second, stays, over_at, follows, waits, entry_at, tick, ticked}
+use Rattle.bx_day.specs.Invariant.{EntryFits}
+use Rattle.bx_day.specs.Quiet.{call_due}
+use Rattle.bx_day.specs.Passing.{AreBlocked}
+use Rattle.bx_day.specs.QuietSeconds.{later_by, IsQuietTick, tick_due, due_at, IsDue}
+use Rattle.bx_day.specs.Reading.{IsExchange}
+use Rattle.bx_day.specs.declared.entry.Moved.{Moved}
+use Rattle.bx_day.specs.declared.entry.Entry.{Entry}
+use Rattle.bx_day.specs.declared.entry.Standing.{Standing}
+use Rattle.bx_day.specs.declared.entry.Activity.{Activity}
+use Rattle.bx_day.specs.declared.entry.Standing.TheVariants.{Refused, Unoffered, OnCall, Carried, Unanswered, Missed}
+use Rattle.bx_day.specs.declared.entry.Activity.TheVariants.{Never, Since, Was}
+use Rattle.bx_day.proofs.Tick.{with_standing, offers, by_cases}
+use Rattle.bx_day.proofs.Once.{decide, each_at}
+use Rattle.bx_day.proofs.Passing.{tick_is, free_is}
+use Rattle.bx_day.proofs.Law.{at_map}
+use Rattle.bx_day.proofs.Quiet.{quiet_tick, all_at, booking_quiet, waits_on, not_offered, up_to}
+
+-- ---- before it is due, a booking stays as it is
+
+due_quiet : (moment t : ℕ) (free : Bool) (e : Entry) (s : Standing) → EntryFits moment (with_standing e s) → e.booking.start ≤ e.booking.end → t < tick_due e free s → second_at e t free s ≡ stays s
+due_quiet moment t true e Unoffered h order lt = booking_quiet moment t true e Unoffered h order lt
+due_quiet moment t false e Unoffered h order lt = waits_on e t false (not_offered (is_running e.booking t) e.booking.inward false (or_right e.booking.inward true refl)) lt
+due_quiet moment t free e Refused h order lt = refl
+due_quiet moment t free e (OnCall c a) h order lt = booking_quiet moment t free e (OnCall c a) h order lt
+due_quiet moment t free e (Carried from until) h order lt = refl
+due_quiet moment t free e Unanswered h order lt = refl
+due_quiet moment t free e Missed h order lt = refl
+
+pub quiet_until : (d : Day) (due k : ℕ) → IsExchange d → IsDue d (length d.entries) due → d.moment + k + 1 < due → IsQuietTick (later_by k d)
+quiet_until d due k h is lt =
+    tick_is (later_by k d) (let limit : due ≤ 300001 = is.limit in omega (arith, lt, limit))
+    ∙ quiet_tick (later_by k d) (all_at (λ e. second_of (later_by k d) e ≡ stays e.standing) d.entries (λ i inside.
+    let e = entry_at d.entries i in
+    let before : due ≤ due_at d i = is.before i inside in
+    due_quiet d.moment (d.moment + k + 1) (is_free d e.channel) e e.standing (each_at (EntryFits d.moment) d.entries i inside h.day.each) (is.ordered i inside) (omega (arith, lt, before))))
+
+-- ---- a tick that does something to a booking shows in its stage
+
+abbrev pub state_stage : NetState → ℕ
+state_stage OutgoingCallProceeding = 2
+state_stage (CallPresent false due) = 3
+state_stage (CallPresent true due) = 4
+state_stage (IncomingCallProceeding due) = 5
+state_stage (CallReceived due) = 6
+state_stage Active = 7
+state_stage (DisconnectIndication cause due) = 8
+state_stage (ReleaseRequest false cause due) = 9
+state_stage (ReleaseRequest true cause due) = 10
+
+abbrev pub stage : Standing → ℕ
+stage Refused = 0
+stage Unoffered = 1
+stage (OnCall call activity) = state_stage call.state
+stage (Carried from until) = 11
+stage Unanswered = 11
+stage Missed = 11
+
+over_stage : (a : Activity) (t : ℕ) → stage (over_at a t) ≡ 11
+over_stage Never t = refl
+over_stage (Since from) t = refl
+over_stage (Was from until) t = refl
+
+-- a step of a call at moment t to a later stage than n
+abbrev pub Rises : ℕ → Activity → ℕ → Step PlainNetCall → Type 0
+Rises t a n step = n < stage (follows a t step).standing
+
+neither : (due end t : ℕ) → min due end ≤ t → nat_le end t ≡ false → nat_le due t ≡ false → ⊥
+neither due end t le early waiting =
+    let a : t < end = leb-false end t early in
+    let b : t < due = leb-false due t waiting in
+    let c : suc t ≤ min due end = le-min (omega (arith, b)) (omega (arith, a)) in
+    omega (arith, le, c)
+
+call_rises : (c : PlainNetCall) (s : NetState) (a : Activity) (t end : ℕ) → call_due s end ≤ t → Rises t a (state_stage s) (net_second (record c { state = s }) t end)
+call_rises c OutgoingCallProceeding a t end le = by_cases (nat_le end t) _ _ (Rises t a 2) (λ ended. let lt : 2 < 8 = omega arith in lt) (λ _. let lt : 2 < 7 = omega arith in lt)
+call_rises c (CallPresent false due) a t end le =
+    by_cases (nat_le end t) _ _ (Rises t a 3)
+    (λ ended. let lt : 3 < 8 = omega arith in lt)
+    (λ early. by_cases (nat_le due t) _ _ (Rises t a 3) (λ fires. let lt : 3 < 4 = omega arith in lt) (λ waiting. absurd (neither due end t le early waiting)))
+call_rises c (CallPresent true due) a t end le =
+    by_cases (nat_le end t) _ _ (Rises t a 4)
+    (λ ended. let lt : 4 < 8 = omega arith in lt)
+    (λ early. by_cases (nat_le due t) _ _ (Rises t a 4) (λ fires. subst (λ n. 4 < n) (sym (over_stage a t)) (let lt : 4 < 11 = omega arith in lt)) (λ waiting. absurd (neither due end t le early waiting)))
+call_rises c (IncomingCallProceeding due) a t end le =
+    by_cases (nat_le end t) _ _ (Rises t a 5)
+    (λ ended. let lt : 5 < 8 = omega arith in lt)
+    (λ early. by_cases (nat_le due t) _ _ (Rises t a 5) (λ fires. let lt : 5 < 8 = omega arith in lt) (λ waiting. absurd (neither due end t le early waiting)))
+call_rises c (CallReceived due) a t end le =
+    by_cases (nat_le end t) _ _ (Rises t a 6)
+    (λ ended. let lt : 6 < 8 = omega arith in lt)
+    (λ early. by_cases (nat_le due t) _ _ (Rises t a 6) (λ fires. let lt : 6 < 8 = omega arith in lt) (λ waiting. absurd (neither due end t le early waiting)))
+call_rises c Active a t end le =
+    by_cases (nat_le end t) _ _ (Rises t a 7) (λ ended. let lt : 7 < 8 = omega arith in lt) (λ early. absurd (true≢false (sym (le-leb end t le) ∙ early)))
+call_rises c (DisconnectIndication cause due) a t end le =
+    by_cases (nat_le due t) _ _ (Rises t a 8) (λ fires. let lt : 8 < 9 = omega arith in lt) (λ early. absurd (true≢false (sym (le-leb due t le) ∙ early)))
+call_rises c (ReleaseRequest false cause due) a t end le =
+    by_cases (nat_le due t) _ _ (Rises t a 9) (λ fires. let lt : 9 < 10 = omega arith in lt) (λ early. absurd (true≢false (sym (le-leb due t le) ∙ early)))
+call_rises c (ReleaseRequest true cause due) a t end le =
+    by_cases (nat_le due t) _ _ (Rises t a 10) (λ fires. subst (λ n. 10 < n) (sym (over_stage a t)) (let lt : 10 < 11 = omega arith in lt)) (λ early. absurd (true≢false (sym (le-leb due t le) ∙ early)))
+
+-- one that is due before its end is offered
+must_offer : (start end t : ℕ) (inward free : Bool) → (if free then (if inward then end else start) else end) ≤ t → t < end → (nat_le start t && nat_lt t end && not inward && free) ≡ true
+must_offer start end t inward false h early = absurd (omega (arith, h, early))
+must_offer start end t true true h early = absurd (omega (arith, h, early))
+must_offer start end t false true h early = and_from (nat_le start t && nat_lt t end && true) true (and_from (nat_le start t && nat_lt t end) true (and_from (nat_le start t) (nat_lt t end) (le-leb start t h) (lt-ltb t end early)) refl) refl
+
+waits_rises : (t : ℕ) (free : Bool) (e : Entry) → tick_due e free Unoffered ≤ t → 1 < stage (waits e t free).standing
+waits_rises t free e le =
+    by_cases (offers e t free) _ _ (λ (m : Moved). 1 < stage m.standing)
+    (λ offered. let lt : 1 < 3 = omega arith in lt)
+    (λ kept. by_cases (nat_le e.booking.end t) _ _ (λ (m : Moved). 1 < stage m.standing)
+    (λ ended. let lt : 1 < 11 = omega arith in lt)
+    (λ going. absurd (true≢false (sym (must_offer e.booking.start e.booking.end t e.booking.inward free le (leb-false e.booking.end t going)) ∙ kept))))
+
+due_rises : (t : ℕ) (free : Bool) (e : Entry) (s : Standing) → t ≤ 300000 → tick_due e free s ≤ t → stage s < stage (second_at e t free s).standing
+due_rises t free e Refused low le = absurd (let late : 4294967295 ≤ t = le in omega (arith, low, late))
+due_rises t free e Unoffered low le = waits_rises t free e le
+due_rises t free e (OnCall c a) low le = call_rises c c.state a t e.booking.end le
+due_rises t free e (Carried from until) low le = absurd (let late : 4294967295 ≤ t = le in omega (arith, low, late))
+due_rises t free e Unanswered low le = absurd (let late : 4294967295 ≤ t = le in omega (arith, low, late))
+due_rises t free e Missed low le = absurd (let late : 4294967295 ≤ t = le in omega (arith, low, late))
+
+-- ---- a quiet tick comes before anything is due
+
+pub quiet_early : (d : Day) → IsQuietTick d → d.moment < 300000
+quiet_early d quiet = decide (nat_le 300000 d.moment)
+    (λ last.
+    let still : tick d ≡ record { day = d; sent = [] } = ap (λ b. if b then (record { day = d; sent = [] }) else ticked d) last in
+    let same : d.moment ≡ d.moment + 1 = ap (λ (s : Sent). s.day.moment) (sym still ∙ quiet) in
+    absurd (omega (arith, same)))
+    (λ going. leb-false 300000 d.moment going)
+
+quiet_booking : (d : Day) (i : ℕ) → IsQuietTick d → d.moment + 2 ≤ due_at d i
+quiet_booking d i quiet =
+    let early = quiet_early d quiet in
+    let e = entry_at d.entries i in
+    let same : after_second d e ≡ e = sym (at_map d d.entries i) ∙ ap (λ (s : Sent). entry_at s.day.entries i) (sym (tick_is d early) ∙ quiet) in
+    decide (nat_le (due_at d i) (d.moment + 1))
+    (λ due.
+    let le : due_at d i ≤ d.moment + 1 = leb-true (due_at d i) (d.moment + 1) due in
+    let rises : stage e.standing < stage (second_of d e).standing = due_rises (d.moment + 1) (is_free d e.channel) e e.standing (omega (arith, early)) le in
+    let kept : stage (second_of d e).standing ≡ stage e.standing = ap (λ (x : Entry). stage x.standing) same in
+    absurd (omega (arith, rises, kept)))
+    (λ later. let lt : d.moment + 1 < due_at d i = leb-false (due_at d i) (d.moment + 1) later in omega (arith, lt))
+
+-- behind the quiet seconds a tick is not quiet
+pub not_quiet : (d : Day) (due k : ℕ) → IsDue d (length d.entries) due → due ≤ d.moment + k + 1 → IsQuietTick (later_by k d) → ⊥
+not_quiet d due k is le quiet =
+    let early : d.moment + k < 300000 = quiet_early (later_by k d) quiet in
+    let late : d.moment + k + 2 ≤ due = is.latest (d.moment + k + 2) (omega (arith, early)) (λ i inside. quiet_booking (later_by k d) i quiet) in
+    omega (arith, le, late)
+
+-- ---- over the bookings, one by one
+
+pub none_due : (d : Day) → IsDue d 0 300001
+none_due d = record { limit = omega arith; ordered = λ i lt. absurd (omega (arith, lt)); before = λ i lt. absurd (omega (arith, lt)); latest = λ t le each. le }
+
+pub next_due : (d : Day) (i due own : ℕ) → own ≡ due_at d i → (entry_at d.entries i).booking.start ≤ (entry_at d.entries i).booking.end → IsDue d i due → IsDue d (i + 1) (min due own)
+next_due d i due own is order h =
+    let left : min due own ≤ due = min-le_left due own in
+    let right : min due own ≤ own = min-le_right due own in
+    let limit : due ≤ 300001 = h.limit in
+    record {
+      limit = omega (arith, left, limit);
+      ordered = up_to (λ k. (entry_at d.entries k).booking.start ≤ (entry_at d.entries k).booking.end) i h.ordered order;
+      before = up_to (λ k. min due own ≤ due_at d k) i (λ k lt. let le : due ≤ due_at d k = h.before k lt in omega (arith, left, le)) (omega (arith, right, is));
+      latest = λ t low each. le-min (h.latest t low (λ k lt. each k (omega (arith, lt)))) (let le : t ≤ due_at d i = each i (omega arith) in omega (arith, le, is));
+    }
+
+-- by the channels that are held or in maintenance
+pub due_by : (d : Day) (blocked : List Bool) (e : Entry) → AreBlocked d blocked → tick_due e (not (is_set blocked e.channel)) e.standing ≡ tick_due e (is_free d e.channel) e.standing
+due_by d blocked e h = ap (λ free. tick_due e free e.standing) (free_is d blocked e.channel e.channel refl h)
