@@ -10,3 +10,4 @@ pub mod UserTable
 pub mod UnknownTable
 pub mod Setups
 pub mod Said
+pub mod Shared

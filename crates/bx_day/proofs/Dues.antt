@@ -8,7 +8,8 @@ use Rattle.bx_calls.specs.declared.step.Step.{Step}
 use Rattle.bx_calls.specs.declared.net_state.NetState.{NetState}
 use Rattle.bx_calls.specs.declared.net_state.NetState.TheVariants.{OutgoingCallProceeding, CallPresent, IncomingCallProceeding, CallReceived, Active, DisconnectIndication, ReleaseRequest}
 use Rattle.bx_calls.specs.NetTable.{net_second}
-use Rattle.bx_day.specs.Day.{Day, Sent, is_set, is_free, second_at, second_of, after_second, stays, over_at, follows, waits, entry_at, tick, ticked}
+use Rattle.bx_calls.specs.Shared.{is_set}
+use Rattle.bx_day.specs.Day.{Day, Sent, is_free, second_at, second_of, after_second, stays, over_at, follows, waits, entry_at, tick, ticked}
 use Rattle.bx_day.specs.Invariant.{EntryFits}
 use Rattle.bx_day.specs.Quiet.{call_due}
 use Rattle.bx_day.specs.Passing.{AreBlocked}

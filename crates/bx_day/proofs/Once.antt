@@ -4,7 +4,8 @@ use Rattle.std.specs.List.{AllByRecursion}
 use Rattle.std.proofs.lemmas.Bool.{false≢true, eqb-true}
 use Rattle.bx_base.specs.Channels.{IsChannel}
 use Rattle.bx_q931.specs.Outgoing.{Outgoing}
-use Rattle.bx_day.specs.Day.{Day, is_live, is_held, is_free, second_at, second_of, waits, said_on, cons_some, entry_at}
+use Rattle.bx_calls.specs.Shared.{cons_some}
+use Rattle.bx_day.specs.Day.{Day, is_live, is_held, is_free, second_at, second_of, waits, said_on, entry_at}
 use Rattle.bx_day.specs.Invariant.{Apart, Pairs, is_refused}
 use Rattle.bx_day.specs.Reading.{Seated, IsExchange}
 use Rattle.bx_day.specs.Passing.{SaysOnce}

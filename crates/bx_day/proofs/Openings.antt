@@ -8,7 +8,8 @@ use Rattle.std.proofs.lemmas.List.{take_more}
 use Rattle.std.proofs.lemmas.List.Folds.{list_any-append}
 use Rattle.bx_base.specs.Bookings.{is_running}
 use Rattle.bx_base.specs.Channels.{IsChannel}
-use Rattle.bx_day.specs.Day.{Day, is_set, is_held, is_free, is_open, is_unoffered, opens, index_of, one_more, lowest_open, every_channel, entry_at, no_entry}
+use Rattle.bx_calls.specs.Shared.{is_set}
+use Rattle.bx_day.specs.Day.{Day, is_held, is_free, is_open, is_unoffered, opens, index_of, one_more, lowest_open, every_channel, entry_at, no_entry}
 use Rattle.bx_day.specs.declared.entry.Entry.{Entry}
 use Rattle.bx_day.specs.Passing.{AreBlocked}
 use Rattle.bx_day.specs.Reading.{Seated}

@@ -6,7 +6,8 @@ use Rattle.std.proofs.lemmas.List.{get_or-set_same, get_or-set_other, drop_all}
 use Rattle.bx_base.specs.Channels.{IsChannel}
 use Rattle.bx_q931.specs.Outgoing.{Outgoing}
 use Rattle.bx_calls.specs.PlainCalls.{PlainNetCall}
-use Rattle.bx_day.specs.Day.{Day, is_live, is_held, is_free, is_set, holds, second_at, second_of, after_second, said_on, cons_some, breaks_on, maintained, every_channel, entry_at, stays, no_entry, tick, ticked}
+use Rattle.bx_calls.specs.Shared.{is_set, cons_some}
+use Rattle.bx_day.specs.Day.{Day, is_live, is_held, is_free, holds, second_at, second_of, after_second, said_on, breaks_on, maintained, every_channel, entry_at, stays, no_entry, tick, ticked}
 use Rattle.bx_day.specs.Invariant.{is_refused, EntryFits, StandingFits}
 use Rattle.bx_day.specs.Reading.{Seated, IsExchange}
 use Rattle.bx_day.specs.Passing.{day_of, somes, SaysOnEach, AreBlocked, moved_first, marks, SlotsBefore, Passed}

@@ -3,7 +3,8 @@ use Rattle.std.proofs.Common.{ℕ, ◌==◌, List, [], ◌∷◌, ◌++◌, Opti
 use Rattle.std.specs.List.{AllByRecursion, flat_map}
 use Rattle.bx_q931.specs.Outgoing.{Outgoing}
 use Rattle.bx_day.specs.declared.entry.Entry.{Entry}
-use Rattle.bx_day.specs.Day.{Day, Sent, tick, second_of, said_on, cons_some, every_channel}
+use Rattle.bx_calls.specs.Shared.{cons_some}
+use Rattle.bx_day.specs.Day.{Day, Sent, tick, second_of, said_on, every_channel}
 use Rattle.bx_day.proofs.Tick.{by_cases}
 
 abbrev pub OfSaid : (Outgoing → Type 0) → Option Outgoing → Type 0

@@ -7,7 +7,8 @@ use Rattle.bx_calls.specs.PlainCalls.{PlainNetCall}
 use Rattle.bx_calls.specs.declared.step.Next.{Next}
 use Rattle.bx_calls.specs.declared.step.Next.TheVariants.{Live, Over, Broken}
 use Rattle.bx_base.specs.Bookings.{Row, is_running}
-use Rattle.bx_day.specs.Day.{Sent, Day, is_live, holds, is_held, is_free, is_set, second_at, after_second, waits, tick, ticked, follow, over_at}
+use Rattle.bx_calls.specs.Shared.{is_set}
+use Rattle.bx_day.specs.Day.{Sent, Day, is_live, holds, is_held, is_free, second_at, after_second, waits, tick, ticked, follow, over_at}
 use Rattle.bx_day.specs.declared.entry.Moved.{Moved}
 use Rattle.bx_day.specs.declared.entry.Entry.{Entry}
 use Rattle.bx_day.specs.declared.entry.Standing.{Standing}

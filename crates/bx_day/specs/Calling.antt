@@ -1,7 +1,8 @@
 -- Bookings that the far end may call.
 use Rattle.std.specs.Prelude.{ℕ, ◌==◌, ◌&&◌, not, Bool, List}
 use Rattle.bx_base.specs.Bookings.{is_running}
-use Rattle.bx_day.specs.Day.{is_set, is_unoffered}
+use Rattle.bx_calls.specs.Shared.{is_set}
+use Rattle.bx_day.specs.Day.{is_unoffered}
 use Rattle.bx_day.specs.declared.entry.Entry.{Entry}
 
 -- an inward booking of a channel that runs, and was never live

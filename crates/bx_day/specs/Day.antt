@@ -6,6 +6,7 @@ use Rattle.bx_q931.specs.declared.kind.Kind.TheVariants.{Setup}
 use Rattle.bx_q931.specs.declared.channel_field.ChannelField.{ChannelField}
 use Rattle.bx_q931.specs.declared.channel_field.ChannelField.TheVariants.{Absent, Named, AnyChannel, Unread}
 use Rattle.bx_q931.specs.Outgoing.{Outgoing}
+use Rattle.bx_calls.specs.Shared.{is_set, no_channel, cons_some, bool_eq}
 use Rattle.bx_calls.specs.declared.step.Step.{Step}
 use Rattle.bx_calls.specs.declared.step.Next.{Next}
 use Rattle.bx_calls.specs.declared.step.Next.TheVariants.{Live, Over, Broken}
@@ -29,9 +30,6 @@ pub record Day : Type 0 where
   pub moment : ℕ
   pub entries : List Entry
   pub maintenance : List Bool
-
-abbrev pub is_set : List Bool → ℕ → Bool
-is_set channels c = slice_index_or channels c false
 
 -- channels in rising order
 abbrev pub every_channel : List ℕ
@@ -105,10 +103,6 @@ abbrev pub after_second : Day → Entry → Entry
 after_second d e = record e { standing = (second_of d e).standing }
 
 -- what is said on a channel at a tick
-abbrev pub cons_some : Option Outgoing → List Outgoing → List Outgoing
-cons_some None rest = rest
-cons_some (Some o) rest = o ∷ rest
-
 abbrev pub said_on : Day → ℕ → List Entry → List Outgoing
 said_on d c [] = []
 said_on d c (e ∷ es) = if e.channel == c then cons_some (second_of d e).said (said_on d c es) else said_on d c es
@@ -135,10 +129,6 @@ ticked d = record {
 
 abbrev pub tick : Day → Sent
 tick d = if nat_le 300000 d.moment then record { day = d; sent = [] } else ticked d
-
-abbrev pub bool_eq : Bool → Bool → Bool
-bool_eq true b = b
-bool_eq false b = not b
 
 -- whether a message names this live booking: flag 1 names calls that the exchange began
 abbrev pub names_call : Said → Standing → Bool
@@ -251,9 +241,6 @@ abbrev pub entries_from : ℕ → List Row → List (Option ℕ) → List Entry
 entries_from row [] assigned = []
 entries_from row (b ∷ bs) [] = entry_of row b None ∷ entries_from (row + 1) bs []
 entries_from row (b ∷ bs) (a ∷ as') = entry_of row b a ∷ entries_from (row + 1) bs as'
-
-abbrev pub no_channel : List Bool
-no_channel = replicate 32 false
 
 abbrev pub opening : List Row → List (Option ℕ) → Day
 opening rows assigned = record { moment = 0; entries = entries_from 1 rows assigned; maintenance = no_channel }

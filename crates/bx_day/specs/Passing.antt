@@ -2,7 +2,8 @@
 use Rattle.std.specs.Prelude.{◌≡◌, ◌≤◌, ◌+◌, ℕ, zero, suc, Bool, List, [], ◌∷◌, ◌||◌, length, drop, Option, None, slice_index_or}
 use Rattle.std.specs.List.{flat_map, list_any}
 use Rattle.bx_q931.specs.Outgoing.{Outgoing}
-use Rattle.bx_day.specs.Day.{Day, is_set, is_held, after_second, breaks_on, said_on, cons_some}
+use Rattle.bx_calls.specs.Shared.{is_set, cons_some}
+use Rattle.bx_day.specs.Day.{Day, is_held, after_second, breaks_on, said_on}
 use Rattle.bx_day.specs.declared.entry.Entry.{Entry}
 
 -- a day from its parts

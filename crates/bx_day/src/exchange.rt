@@ -3,7 +3,8 @@
 ghost use Rattle.std.specs.Prelude.{◌≡◌, ◌<◌, length, IfOk, IfSome, IfNone, true, false, ℕ};
 ghost use Rattle.bx_base.specs.Bookings.{Carries};
 ghost use Rattle.bx_base.specs.Plans.{is_accepted, channel_at};
-ghost use Rattle.bx_day.specs.Day.{is_set, opening, holds, index_of};
+ghost use Rattle.bx_calls.specs.Shared.{is_set};
+ghost use Rattle.bx_day.specs.Day.{opening, holds, index_of};
 ghost use Rattle.bx_day.specs.Reading.{IsExchange, on_channel, outcome_at};
 
 use crate::entry::{Entry, Standing};

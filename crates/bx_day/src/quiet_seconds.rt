@@ -3,7 +3,7 @@
 ghost use Rattle.std.specs.Prelude.{◌≡◌, ◌≤◌, ◌-◌, length, not, replicate};
 ghost use Rattle.bx_base.specs.Bookings.{IsBooking};
 ghost use Rattle.bx_base.specs.Channels.{IsChannel};
-ghost use Rattle.bx_day.specs.Day.{is_set};
+ghost use Rattle.bx_calls.specs.Shared.{is_set};
 ghost use Rattle.bx_day.specs.QuietSeconds.{later_by, IsQuietTick, IsQuietFor, IsDue, tick_due};
 ghost use Rattle.bx_day.specs.Reading.{Seated};
 ghost use Rattle.bx_day.specs.Run.{Tick, day_after};

@@ -22,7 +22,8 @@ use Rattle.bx_day.specs.declared.entry.Entry.{Entry}
 use Rattle.bx_day.specs.declared.entry.Moved.{Moved}
 use Rattle.bx_day.specs.declared.entry.Standing.{Standing}
 use Rattle.bx_day.specs.declared.entry.Standing.TheVariants.{Refused, Unoffered, OnCall, Carried, Unanswered, Missed}
-use Rattle.bx_day.specs.Day.{Day, Answered, entry_at, no_entry, names, names_call, bool_eq, index_of, one_more, hears, takes_call, takes_or, takes_preferred, called_on, called, stray, received_at, receive, unchanged, with_moved, opens, lowest_open, every_channel, follow}
+use Rattle.bx_calls.specs.Shared.{bool_eq}
+use Rattle.bx_day.specs.Day.{Day, Answered, entry_at, no_entry, names, names_call, index_of, one_more, hears, takes_call, takes_or, takes_preferred, called_on, called, stray, received_at, receive, unchanged, with_moved, opens, lowest_open, every_channel, follow}
 use Rattle.bx_day.specs.Run.{reply_list}
 use Rattle.bx_day.specs.Invariant.{EntryFits, DayFits, is_refused}
 use Rattle.bx_day.specs.Law.{standing_at}

@@ -19,10 +19,12 @@ use Rattle.bx_calls.specs.declared.user_state.Policy.{Policy}
 use Rattle.bx_calls.specs.declared.user_state.Policy.TheVariants.{Answer, Busy, Silent, Alert, Proceed, Clear}
 use Rattle.bx_calls.specs.declared.user_state.UserOrigin.{UserOrigin}
 use Rattle.bx_calls.specs.declared.user_state.UserState.{UserState}
-use Rattle.bx_day.specs.Day.{Day, is_set}
+use Rattle.bx_calls.specs.Shared.{is_set}
+use Rattle.bx_day.specs.Day.{Day}
 use Rattle.bx_day.specs.Run.{reply_list}
 use Rattle.bx_day.proofs.Said.{OfSaid}
-use Rattle.bx_far.specs.FarDay.{FarDay, FarAnswered, bool_eq, far_names, far_follow, far_refuses, far_takes, far_called_on, far_called, far_stray, far_received_by, far_receive, far_unchanged, first_call, is_taken, holder, insert_call, settle_maintenance}
+use Rattle.bx_calls.specs.Shared.{bool_eq}
+use Rattle.bx_far.specs.FarDay.{FarDay, FarAnswered, far_names, far_follow, far_refuses, far_takes, far_called_on, far_called, far_stray, far_received_by, far_receive, far_unchanged, first_call, is_taken, holder, insert_call, settle_maintenance}
 use Rattle.bx_far.specs.Policies.{policy_of}
 use Rattle.bx_ends.specs.TwoEnds.{offered_as, acknowledges, is_acknowledge, AreOnTheirOwn}
 use Rattle.bx_ends.proofs.Delivery.{said_from}

@@ -18,7 +18,8 @@ use Rattle.bx_calls.specs.declared.step.Next.{Next}
 use Rattle.bx_calls.specs.declared.step.Next.TheVariants.{Live, Over, Broken}
 use Rattle.bx_calls.specs.declared.unknown_reference.End.TheVariants.{User}
 use Rattle.bx_day.proofs.Said.{OfSaid}
-use Rattle.bx_far.specs.FarDay.{FarDay, FarSent, FarAnswered, Begun, is_set, begin_row, begin_rows, far_begun, far_ticked, far_tick, second_calls, second_said, with_held, no_messages, far_follow, far_takes, far_called_on, far_called, far_stray, far_received_by, far_receive, far_names, first_call, is_taken}
+use Rattle.bx_calls.specs.Shared.{is_set}
+use Rattle.bx_far.specs.FarDay.{FarDay, FarSent, FarAnswered, Begun, begin_row, begin_rows, far_begun, far_ticked, far_tick, second_calls, second_said, with_held, no_messages, far_follow, far_takes, far_called_on, far_called, far_stray, far_received_by, far_receive, far_names, first_call, is_taken}
 use Rattle.bx_far.specs.Policies.{policy_of}
 use Rattle.bx_far.specs.Seats.{calls_now, calls_later}
 use Rattle.bx_far.specs.declared.row.ScriptRow.{ScriptRow}

@@ -10,7 +10,7 @@ use Rattle.bx_calls.specs.UserTable.{user_flag, user_second, user_calling}
 use Rattle.bx_calls.specs.Saying.{setup_of}
 use Rattle.bx_calls.specs.declared.step.Next.{Next}
 use Rattle.bx_calls.specs.declared.step.Next.TheVariants.{Live, Over, Broken}
-use Rattle.bx_day.specs.Day.{is_set}
+use Rattle.bx_calls.specs.Shared.{is_set}
 use Rattle.bx_day.proofs.Said.{OfSaid}
 use Rattle.bx_far.specs.FarDay.{FarDay, FarSent, Begun, begin_row, begin_rows, far_begun, far_ticked, second_calls, second_maintenance, second_said, with_held, in_order, no_messages, next_then, settle_maintenance}
 use Rattle.bx_far.specs.declared.row.ScriptRow.{ScriptRow}

@@ -24,7 +24,8 @@ use Rattle.bx_q931.specs.Outgoing.{Outgoing}
 use Rattle.bx_calls.specs.PlainCalls.{PlainNetCall, PlainUserCall}
 use Rattle.bx_calls.specs.NetTable.{net_flag}
 use Rattle.bx_calls.specs.UserTable.{user_flag}
-use Rattle.bx_day.specs.Day.{Day, is_set}
+use Rattle.bx_calls.specs.Shared.{is_set}
+use Rattle.bx_day.specs.Day.{Day}
 use Rattle.bx_day.specs.declared.entry.Entry.{Entry}
 use Rattle.bx_day.specs.declared.entry.Standing.{Standing}
 use Rattle.bx_day.specs.declared.entry.Standing.TheVariants.{OnCall}

@@ -21,7 +21,8 @@ use Rattle.bx_day.specs.declared.entry.Entry.{Entry}
 use Rattle.bx_day.specs.declared.entry.Moved.{Moved}
 use Rattle.bx_day.specs.declared.entry.Standing.{Standing}
 use Rattle.bx_day.specs.declared.entry.Standing.TheVariants.{Refused, Unoffered, OnCall, Carried, Unanswered, Missed}
-use Rattle.bx_day.specs.Day.{Day, Answered, entry_at, is_set, is_free, is_unoffered, is_open, opens, index_of, names, names_call, bool_eq, hears, takes_call, takes_or, called_on, called, stray, received_at, receive, with_moved, follow, over_at, waits, second_at, second_of, after_second, breaks_on, maintained, ticked, every_channel}
+use Rattle.bx_calls.specs.Shared.{is_set, bool_eq}
+use Rattle.bx_day.specs.Day.{Day, Answered, entry_at, is_free, is_unoffered, is_open, opens, index_of, names, names_call, hears, takes_call, takes_or, called_on, called, stray, received_at, receive, with_moved, follow, over_at, waits, second_at, second_of, after_second, breaks_on, maintained, ticked, every_channel}
 use Rattle.bx_day.specs.Run.{reply_list}
 use Rattle.bx_day.specs.Law.{standing_at}
 use Rattle.bx_day.specs.Invariant.{is_refused}

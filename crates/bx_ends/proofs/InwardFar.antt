@@ -19,7 +19,8 @@ use Rattle.bx_calls.specs.declared.user_state.Policy.TheVariants.{Answer, Busy, 
 use Rattle.bx_day.specs.Run.{reply_list}
 use Rattle.bx_day.proofs.Said.{OfSaid}
 use Rattle.bx_day.proofs.Tick.{by_cases}
-use Rattle.bx_far.specs.FarDay.{FarDay, FarAnswered, bool_eq, far_names, far_follow, far_takes, far_called_on, far_called, far_stray, far_received_by, far_receive, far_unchanged, first_call, is_taken, insert_call, settle_calls}
+use Rattle.bx_calls.specs.Shared.{bool_eq}
+use Rattle.bx_far.specs.FarDay.{FarDay, FarAnswered, far_names, far_follow, far_takes, far_called_on, far_called, far_stray, far_received_by, far_receive, far_unchanged, first_call, is_taken, insert_call, settle_calls}
 use Rattle.bx_far.specs.Policies.{policy_of}
 use Rattle.bx_ends.specs.TwoEnds.{AreOnTheirOwn}
 use Rattle.bx_ends.specs.TwoEndsInward.{connects, is_connect_kind}

@@ -12,7 +12,7 @@ use Rattle.bx_calls.specs.declared.step.Next.TheVariants.{Live, Over, Broken}
 use Rattle.bx_calls.specs.declared.user_state.UserOrigin.{UserOrigin}
 use Rattle.bx_calls.specs.declared.user_state.UserOrigin.TheVariants.{Offered, Calling}
 use Rattle.bx_calls.specs.declared.user_state.UserState.{UserState}
-use Rattle.bx_day.specs.Day.{is_set}
+use Rattle.bx_calls.specs.Shared.{is_set}
 use Rattle.bx_day.proofs.Said.{OfSaid}
 use Rattle.bx_day.proofs.Tick.{by_cases}
 use Rattle.bx_far.specs.FarDay.{FarDay, Begun, begin_call, begin_row, begin_rows, far_begun, far_ticked, second_calls, second_said, with_held, no_messages}

@@ -13,7 +13,8 @@ use Rattle.bx_calls.specs.declared.user_state.UserState.TheVariants as user
 use Rattle.bx_day.specs.declared.entry.Entry.{Entry}
 use Rattle.bx_day.specs.declared.entry.Standing.{Standing}
 use Rattle.bx_day.specs.declared.entry.Standing.TheVariants.{Refused, Unoffered, OnCall, Carried, Unanswered, Missed}
-use Rattle.bx_day.specs.Day.{Day, Sent, Answered, entries_from, entry_at, is_set, receive, ticked}
+use Rattle.bx_calls.specs.Shared.{is_set}
+use Rattle.bx_day.specs.Day.{Day, Sent, Answered, entries_from, entry_at, receive, ticked}
 use Rattle.bx_day.specs.Run.{reply_list}
 use Rattle.bx_day.specs.Invariant.{EntryFits, StandingFits}
 use Rattle.bx_day.proofs.Receive.{all_at}

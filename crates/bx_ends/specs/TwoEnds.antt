@@ -33,7 +33,7 @@ use Rattle.bx_calls.specs.declared.net_state.NetState.TheVariants.{Active}
 use Rattle.bx_calls.specs.declared.user_state.UserState.{UserState}
 use Rattle.bx_calls.specs.declared.user_state.UserState.TheVariants as user
 use Rattle.bx_day.specs.Law.{OnLive, standing_at}
-use Rattle.bx_day.specs.Day.{is_set}
+use Rattle.bx_calls.specs.Shared.{is_set}
 use Rattle.bx_far.specs.declared.row.ScriptRow.{ScriptRow}
 use Rattle.bx_ends.specs.Scripts.{AreScriptRows}
 use Rattle.bx_ends.specs.World.{World, WorldEvent, world_opening, world_after}

@@ -20,7 +20,7 @@ use Rattle.bx_q931.specs.Outgoing.{Outgoing}
 use Rattle.bx_calls.specs.PlainCalls.{PlainUserCall}
 use Rattle.bx_calls.specs.NetTable.{net_flag}
 use Rattle.bx_calls.specs.UserTable.{user_flag}
-use Rattle.bx_day.specs.Day.{is_set}
+use Rattle.bx_calls.specs.Shared.{is_set}
 use Rattle.bx_day.specs.declared.entry.Entry.{Entry}
 use Rattle.bx_day.specs.declared.entry.Standing.{Standing}
 use Rattle.bx_day.specs.declared.entry.Standing.TheVariants.{OnCall}

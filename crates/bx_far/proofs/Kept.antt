@@ -9,7 +9,8 @@ use Rattle.bx_calls.specs.declared.user_state.Policy.{Policy}
 use Rattle.bx_calls.specs.declared.user_state.Policy.TheVariants.{Answer, Busy, Silent, Alert, Proceed, Clear}
 use Rattle.bx_far.specs.declared.row.ScriptRow.{ScriptRow}
 use Rattle.bx_far.specs.declared.row.ScriptRow.TheVariants.{Follows, Calls}
-use Rattle.bx_far.specs.FarDay.{FarDay, far_takes, holder, is_taken, is_set, insert_call, first_call}
+use Rattle.bx_calls.specs.Shared.{is_set}
+use Rattle.bx_far.specs.FarDay.{FarDay, far_takes, holder, is_taken, insert_call, first_call}
 use Rattle.bx_far.specs.Seats.{live_calls, slot_at, IsSeat, AreSeated, IsFar, calls_later}
 use Rattle.bx_far.proofs.Seats.{holder_is, seated_set}
 

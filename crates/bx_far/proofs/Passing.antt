@@ -12,7 +12,8 @@ use Rattle.bx_calls.specs.declared.step.Step.{Step}
 use Rattle.bx_calls.specs.declared.user_state.Policy.TheVariants.{Answer}
 use Rattle.bx_far.specs.declared.row.ScriptRow.{ScriptRow}
 use Rattle.bx_far.specs.declared.row.ScriptRow.TheVariants.{Follows, Calls}
-use Rattle.bx_far.specs.FarDay.{FarDay, far_tick, far_ticked, Begun, begin_call, begin_row, insert_call, begin_rows, in_order, no_messages, second_calls, second_maintenance, second_said, settle_maintenance, next_then, is_set, with_held}
+use Rattle.bx_calls.specs.Shared.{is_set}
+use Rattle.bx_far.specs.FarDay.{FarDay, far_tick, far_ticked, Begun, begin_call, begin_row, insert_call, begin_rows, in_order, no_messages, second_calls, second_maintenance, second_said, settle_maintenance, next_then, with_held}
 use Rattle.bx_far.specs.Seats.{live_calls, live_of, slot_at, IsSeat, AreSeated, calls_now, calls_later}
 use Rattle.bx_far.specs.Turns.{after_slot, AreSpoken, IsFree, IsTurn}
 use Rattle.bx_far.proofs.Seats.{seat_at, next_is, seated_set, insert_is}

@@ -7,6 +7,7 @@ use Rattle.bx_q931.specs.declared.kind.Kind.TheVariants.{Setup}
 use Rattle.bx_q931.specs.declared.channel_field.ChannelField.{ChannelField}
 use Rattle.bx_q931.specs.declared.channel_field.ChannelField.TheVariants.{Absent, Named, AnyChannel, Unread}
 use Rattle.bx_q931.specs.Outgoing.{Outgoing}
+use Rattle.bx_calls.specs.Shared.{is_set, no_channel, cons_some, bool_eq}
 use Rattle.bx_calls.specs.declared.step.Step.{Step}
 use Rattle.bx_calls.specs.declared.step.Next.{Next}
 use Rattle.bx_calls.specs.declared.step.Next.TheVariants.{Live, Over, Broken}
@@ -29,9 +30,6 @@ pub record FarDay : Type 0 where
   pub maintenance : List Bool
   -- the reference of the next call that it begins
   pub next : ℕ
-
-abbrev pub is_set : List Bool → ℕ → Bool
-is_set channels c = slice_index_or channels c false
 
 -- ---- calls in rising order of channel
 
@@ -76,10 +74,6 @@ settle_maintenance c next maintenance = maintenance
 
 abbrev pub no_messages : List (Option Outgoing)
 no_messages = replicate 32 None
-
-abbrev pub cons_some : Option Outgoing → List Outgoing → List Outgoing
-cons_some None rest = rest
-cons_some (Some o) rest = o ∷ rest
 
 abbrev pub in_order : List (Option Outgoing) → List Outgoing
 in_order said = flat_map (λ o. cons_some o []) said
@@ -160,10 +154,6 @@ pub record FarAnswered : Type 0 where
 abbrev pub far_unchanged : FarDay → Option Outgoing → FarAnswered
 far_unchanged d reply = record { day = d; reply = reply }
 
-abbrev pub bool_eq : Bool → Bool → Bool
-bool_eq true b = b
-bool_eq false b = not b
-
 -- whether a message names this call: flag 0 names calls that the network began
 abbrev pub far_names : Said → PlainUserCall → Bool
 far_names m call = (call.reference == m.reference) && bool_eq (user_flag call.origin) (not m.flag)
@@ -208,9 +198,6 @@ far_received_by d m called (Some call) = far_follow d call.channel (user_message
 -- a message that was read, with neither the dummy nor the global reference, and the number that it calls
 abbrev pub far_receive : FarDay → Said → Option (List ℕ) → FarAnswered
 far_receive d m called = far_received_by d m called (first_call (far_names m) d.calls)
-
-abbrev pub no_channel : List Bool
-no_channel = replicate 32 false
 
 abbrev pub far_opening : List ScriptRow → FarDay
 far_opening script = record { script = script; moment = 0; calls = []; maintenance = no_channel; next = 1 }

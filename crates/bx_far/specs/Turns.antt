@@ -4,7 +4,7 @@ use Rattle.bx_base.specs.Channels.{IsChannel}
 use Rattle.bx_q931.specs.Outgoing.{Outgoing}
 use Rattle.bx_calls.specs.PlainCalls.{PlainUserCall}
 use Rattle.bx_calls.specs.UserTable.{user_second}
-use Rattle.bx_far.specs.FarDay.{is_set}
+use Rattle.bx_calls.specs.Shared.{is_set}
 use Rattle.bx_far.specs.Seats.{AreSeated, live_of, slot_at}
 
 -- what a second leaves in a slot

@@ -2,7 +2,8 @@
 
 ghost use Rattle.std.specs.Prelude.{◌≡◌, ◌≤◌, option_map};
 ghost use Rattle.bx_calls.specs.States.{user_state};
-ghost use Rattle.bx_far.specs.FarDay.{is_set, is_taken, holder, far_opening};
+ghost use Rattle.bx_calls.specs.Shared.{is_set};
+ghost use Rattle.bx_far.specs.FarDay.{is_taken, holder, far_opening};
 
 use crate::script::Script;
 use bx_base::{Channel, ChannelSet};

@@ -1,7 +1,8 @@
 //! Rows that call, at a tick.
 
 ghost use Rattle.std.specs.Prelude.{◌≡◌, ◌≤◌, ◌+◌, false, [], ◌∷◌};
-ghost use Rattle.bx_far.specs.FarDay.{begin_call, begin_row, begin_rows, is_set};
+ghost use Rattle.bx_calls.specs.Shared.{is_set};
+ghost use Rattle.bx_far.specs.FarDay.{begin_call, begin_row, begin_rows};
 ghost use Rattle.bx_far.specs.Seats.{calls_now};
 
 use crate::row::ScriptRow;

@@ -2,7 +2,8 @@ use Rattle.std.proofs.Common.{◌≡◌, ◌<◌, ◌+◌, not, List, length, sy
 use Rattle.std.proofs.lemmas.Bool.{false≢true}
 use Rattle.std.proofs.lemmas.List.{get_or_default}
 use Rattle.bx_base.specs.Channels.{IsChannel}
-use Rattle.bx_day.specs.Day.{entry_at, no_entry, is_set, second_at}
+use Rattle.bx_calls.specs.Shared.{is_set}
+use Rattle.bx_day.specs.Day.{entry_at, no_entry, second_at}
 use Rattle.bx_day.specs.declared.entry.Entry.{Entry}
 use Rattle.bx_day.proofs.Passing.{passed_next, passed_by, moved_is, moved_at, moved_size}
 use Rattle.bx_day.proofs.ticking.move_one.Goals as goal

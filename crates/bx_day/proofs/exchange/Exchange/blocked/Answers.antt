@@ -1,6 +1,7 @@
 use Rattle.std.proofs.Common.{◌≡◌, ◌<◌, ◌+◌, ◌||◌, ℕ, Bool, true, List, ◌∷◌, length, sym, ap, subst, ◌∙◌, drop}
 use Rattle.std.proofs.lemmas.List.{get_or_default}
-use Rattle.bx_day.specs.Day.{Day, entry_at, no_entry, is_held, is_set, is_live}
+use Rattle.bx_calls.specs.Shared.{is_set}
+use Rattle.bx_day.specs.Day.{Day, entry_at, no_entry, is_held, is_live}
 use Rattle.bx_day.specs.Invariant.{EntryFits}
 use Rattle.bx_day.specs.Reading.{IsExchange}
 use Rattle.bx_day.specs.declared.entry.Entry.{Entry}

@@ -1,5 +1,6 @@
 use Rattle.std.proofs.Common.{◌||◌, drop}
-use Rattle.bx_day.specs.Day.{is_held, is_set}
+use Rattle.bx_calls.specs.Shared.{is_set}
+use Rattle.bx_day.specs.Day.{is_held}
 use Rattle.bx_day.proofs.Passing.{BlockedBefore}
 use Rattle.bx_day.proofs.exchange.Exchange.blocked.Given as goal
 

@@ -1,5 +1,6 @@
 use Rattle.std.proofs.Common.{◌∙◌, ap, not}
-use Rattle.bx_day.specs.Day.{Day, is_set}
+use Rattle.bx_calls.specs.Shared.{is_set}
+use Rattle.bx_day.specs.Day.{Day}
 use Rattle.bx_day.proofs.Received.{free_unheld, free_held}
 use Rattle.bx_day.proofs.exchange.Exchange.is_free.Goals as goal
 

@@ -1,7 +1,8 @@
 use Rattle.std.proofs.Common.{◌≡◌, ℕ, true, false, refl, sym, subst, ap, arith, ◌∙◌, inl, inr}
 use Rattle.std.proofs.lemmas.Bool.{cases_eq, false≢true}
 use Rattle.bx_base.specs.Channels.{IsChannel}
-use Rattle.bx_day.specs.Day.{index_of, opens, is_set}
+use Rattle.bx_calls.specs.Shared.{is_set}
+use Rattle.bx_day.specs.Day.{index_of, opens}
 use Rattle.bx_day.proofs.Openings.{lowest_is, not_opened}
 use Rattle.bx_day.proofs.exchange.Exchange.lowest.Goals.{in-Some+else-has, in_default}
 use Rattle.bx_day.proofs.exchange.Exchange.lowest.Goals as goal

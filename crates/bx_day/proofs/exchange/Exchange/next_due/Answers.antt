@@ -1,6 +1,7 @@
 use Rattle.std.proofs.Common.{◌≡◌, ◌<◌, ◌+◌, ◌∙◌, List, arith, not, sym, ap, subst}
 use Rattle.std.proofs.lemmas.List.{get_or_default}
-use Rattle.bx_day.specs.Day.{Day, entry_at, no_entry, is_set}
+use Rattle.bx_calls.specs.Shared.{is_set}
+use Rattle.bx_day.specs.Day.{Day, entry_at, no_entry}
 use Rattle.bx_day.specs.QuietSeconds.{IsDue, tick_due, due_at}
 use Rattle.bx_day.specs.declared.entry.Entry.{Entry}
 use Rattle.bx_day.proofs.Dues.{none_due, next_due, due_by}

@@ -2,7 +2,8 @@ use Rattle.std.proofs.Common.{◌≡◌, ◌≢◌, None, true, sym, subst, ap, 
 use Rattle.bx_calls.specs.PlainCalls.{PlainUserCall}
 use Rattle.bx_calls.specs.Saying.{setup_of}
 use Rattle.bx_calls.specs.UserTable.{user_calling}
-use Rattle.bx_far.specs.FarDay.{Begun, begin_call, is_set}
+use Rattle.bx_calls.specs.Shared.{is_set}
+use Rattle.bx_far.specs.FarDay.{Begun, begin_call}
 use Rattle.bx_far.specs.Seats.{slot_at}
 use Rattle.bx_far.proofs.Passing.{turn_begun, begin_value}
 use Rattle.bx_far.proofs.turn.Turn.begin.Goals as goal

@@ -1,0 +1,21 @@
+-- Small definitions that the days of both ends have.
+use Rattle.std.specs.Prelude.{ℕ, not, Bool, true, false, List, ◌∷◌, Option, Some, None, slice_index_or, replicate}
+use Rattle.bx_q931.specs.Outgoing.{Outgoing}
+
+-- whether a channel is in a set of them
+abbrev pub is_set : List Bool → ℕ → Bool
+is_set channels c = slice_index_or channels c false
+
+-- no channel
+abbrev pub no_channel : List Bool
+no_channel = replicate 32 false
+
+-- what is sent, in front of the rest
+abbrev pub cons_some : Option Outgoing → List Outgoing → List Outgoing
+cons_some None rest = rest
+cons_some (Some o) rest = o ∷ rest
+
+-- whether both are the same
+abbrev pub bool_eq : Bool → Bool → Bool
+bool_eq true b = b
+bool_eq false b = not b
