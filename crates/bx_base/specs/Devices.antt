@@ -4,16 +4,17 @@ use Rattle.std.specs.Io.KnownBytes.{Keeps}
 use Rattle.bx_base.specs.Watching.{device_of, is_faulted, reads_of}
 use Rattle.bx_base.specs.declared.watched.Watched.{Watched}
 
--- a reader before and after: the octets that are left, whether it is faulted afterwards, and how many reads it has seen
+-- a reader before and after: the octets that are left, whether it was and is faulted, and how many reads it had seen
 pub record Reading : Type 0 where
   pub before : Option (List ℕ)
   pub after : Option (List ℕ)
+  pub was_faulted : Bool
   pub is_faulted : Bool
-  pub reads : ℕ
+  pub reads_before : ℕ
 
 -- the same of a watched reader
 abbrev pub reading_of : {R : Type 0} → (R → Option (List ℕ)) → Watched R → Watched R → Reading
-reading_of remaining old new = record { before = remaining (device_of old); after = remaining (device_of new); is_faulted = is_faulted new; reads = reads_of new }
+reading_of remaining old new = record { before = remaining (device_of old); after = remaining (device_of new); was_faulted = is_faulted old; is_faulted = is_faulted new; reads_before = reads_of old }
 
 -- a writer before and after: the octets that it holds, and whether it is faulted afterwards
 pub record Writing : Type 0 where

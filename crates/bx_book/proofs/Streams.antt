@@ -1,13 +1,13 @@
 -- What is known of a reader from what was counted of it.
-use Rattle.std.proofs.Common.{◌≡◌, ◌≢◌, ◌∙◌, ◌⊎◌, inl, inr, ◌≤◌, Bool, true, false, ℕ, zero, suc, List, [], ◌∷◌, Option, Some, None, IfSome, length, take, drop, sym, ap, refl, arith, length-drop, append-nil}
+use Rattle.std.proofs.Common.{◌≡◌, ◌≢◌, ◌∙◌, ◌⊎◌, inl, inr, ◌≤◌, ◌+◌, Bool, true, false, ℕ, zero, suc, List, [], ◌∷◌, Option, Some, None, IfSome, length, take, drop, sym, ap, refl, arith, length-drop, append-nil}
 use Rattle.std.proofs.lemmas.List.{take-append-drop, length-take-le}
 use Rattle.std.proofs.lemmas.Bool.Decides.{nat_tests}
 use Rattle.csv.specs.Reading.{strip_bom}
-use Rattle.bx_base.specs.Octets.{ReadsAll, ReadsFront}
+use Rattle.bx_base.specs.Octets.{ReadsAll, ReadsFront, ReadsWithin, RunsOutOfReads}
 use Rattle.bx_base.specs.Watching.{device_of, is_faulted, reads_of}
 use Rattle.bx_base.specs.declared.watched.Watched.{Watched}
 use Rattle.bx_base.specs.Bookings.{Row}
-use Rattle.bx_book.specs.Passed.{HasPassed, HasNoneLeft, is_spent}
+use Rattle.bx_book.specs.Passed.{HasPassed, HasNoneLeft, is_spent, reads_of_none}
 use Rattle.bx_book.specs.Rows.{Span}
 use Rattle.bx_book.specs.Texts.{IsBook, IsBookFault}
 use Rattle.bx_base.specs.Devices.{reading_of}
@@ -41,12 +41,24 @@ whole before after octets text passed none few known =
     let size = ap length nothing in
     (rw (known, after_is) (sym (append-nil text), refl), omega (arith, size, length-drop octets text))
 
+within : (before after : Option (List ℕ)) (n most : ℕ) → HasPassed before n after → n ≤ most → ReadsWithin before after most
+within before after n most passed few = (n, few, front before after n passed)
+
 module _ {R : Type 0} (rem : R → Option (List ℕ)) (old new : Watched R) (span : Span) (octets : ℕ) (passed : HasPassed (rem (device_of old)) octets (rem (device_of new))) where
-  pub short : (fault : StreamFault) → IsMeterFault (is_faulted new) octets (reads_of new) fault → IsStreamFault (reading_of rem old new) span fault
-  short stream.ReadFailed h = h
-  short stream.TooLong h = (h.0, rw h.1 at (front (rem (device_of old)) (rem (device_of new)) octets passed))
-  short (stream.Book e) h = absurd h
-  short stream.Memory h = absurd h
+  -- with no end and no failed read, each read that was passed on gave an octet
+  vain : (has_ended : Bool) → is_faulted new ≡ false → has_ended ≡ false → octets ≤ 4_194_304 → reads_of new ≡ 8_388_608
+      → reads_of new ≤ reads_of old + (octets + reads_of_none has_ended (is_faulted new)) → RunsOutOfReads (rem (device_of old)) (rem (device_of new)) (reads_of old)
+  vain has_ended sound goes few most each =
+      let each_gave : reads_of new ≤ reads_of old + (octets + 0) = rw (goes, sound) at each in
+      (octets, few, front (rem (device_of old)) (rem (device_of new)) octets passed, omega (arith, most, each_gave))
+
+  pub short : (has_ended : Bool) → reads_of new ≤ reads_of old + (octets + reads_of_none has_ended (is_faulted new))
+      → (fault : StreamFault) → IsMeterFault (is_faulted new) has_ended octets (reads_of new) fault → IsStreamFault (reading_of rem old new) span fault
+  short has_ended each stream.ReadFailed (inl h) = inl h
+  short has_ended each stream.ReadFailed (inr h) = inr (vain has_ended h.0 h.1 h.2 h.3 each)
+  short has_ended each stream.TooLong h = (h.0, rw h.1 at (front (rem (device_of old)) (rem (device_of new)) octets passed))
+  short has_ended each (stream.Book e) h = absurd h
+  short has_ended each stream.Memory h = absurd h
 
   module _ (has_ended : Bool) (none : has_ended ≡ true → HasNoneLeft (rem (device_of new))) (sound : is_faulted new ≡ false) (few : octets ≤ 4_194_304) (more : reads_of new ≡ 8_388_608 → has_ended ≡ true) where
     said : (P : List ℕ → Type 0) → is_spent has_ended (is_faulted new) octets (reads_of new) ≡ true → IfSome (rem (device_of old)) P
@@ -87,4 +99,4 @@ module _ {R : Type 0} (rem : R → Option (List ℕ)) (old new : Watched R) (spa
     book_fault f.TooMany s h = fault_said f.TooMany (λ e. cc) s h
     book_fault (f.BadMust r) s h = fault_said (f.BadMust r) (λ e. cc) s h
     book_fault (f.BadDirection r) s h = fault_said (f.BadDirection r) (λ e. cc) s h
-    book_fault f.Memory s h = sound
+    book_fault f.Memory s h = (sound, within (rem (device_of old)) (rem (device_of new)) octets 4_194_304 passed few)

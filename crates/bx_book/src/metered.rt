@@ -1,29 +1,33 @@
 //! A reader that counts what it passes on.
 
-ghost use Rattle.std.specs.Prelude.{◌≡◌, ◌≤◌, ◌+◌, ℕ, List, Option, None, true, false};
+ghost use Rattle.std.specs.Prelude.{◌≡◌, ◌≤◌, ◌<◌, ◌+◌, ℕ, List, length, Option, None, true, false};
 ghost use Rattle.std.specs.Borrow.{GName};
 ghost use Rattle.std.specs.Io.{ReadsAtMost};
 ghost use Rattle.std.specs.Io.KnownBytes.{ReadConsumes};
 ghost use Rattle.bx_base.specs.Watching.{device_of, is_faulted, reads_of};
-ghost use Rattle.bx_book.specs.Passed.{HasPassed, HasNoneLeft, is_spent};
+ghost use Rattle.bx_book.specs.Passed.{HasPassed, HasNoneLeft, is_spent, reads_of_none};
 
 use bx_base::{MAX_OCTETS, MAX_READS, Watched};
 use std::io;
 use std::io::{Error, ErrorKind, Read};
 use std::marker::{Brand, PhantomData};
 
-/// Which reader it is, and what it had left at first. `csv` says of the reader under it what is left, but not that
+/// Which reader it is, and what it had left and had seen of reads at first. `csv` says of the reader under it what is left, but not that
 /// it is the same one, nor anything once it gave no record. So the type says it: a caller picks both by `Brand`.
 pub trait Origin {
     ghost name: { GName };
 
     ghost text: { Option (List ℕ) };
+
+    ghost reads: { ℕ };
 }
 
 impl Origin for Brand {
     ghost name = { 0 };
 
     ghost text = { None };
+
+    ghost reads = { 0 };
 }
 
 /// Passes reads on until the end, a failed read, the 4,194,305th octet or the 8,388,608th read.
@@ -37,6 +41,7 @@ pub struct Metered<'a, R: Read, O: Origin> {
     ghost limit: { octets ≤ 4194305 },
     ghost passed: { HasPassed O.text octets (R.remaining (device_of reader.now)) },
     ghost ended: { has_ended ≡ true → HasNoneLeft (R.remaining (device_of reader.now)) },
+    ghost each: { reads_of reader.now ≤ O.reads + (octets + reads_of_none has_ended (is_faulted reader.now)) },
 }
 
 impl<'a, R: Read, O: Origin> Metered<'a, R, O> {
@@ -72,9 +77,9 @@ impl<R: Read, O: Origin> Read for Metered<'_, R, O> {
     fn read(&mut self, buf: &mut [u8]) -> io::Result<usize>
         ensures bound { ReadsAtMost result buf.new }
         ensures bytes { ReadConsumes (R.remaining (device_of (watched_of self.old))) (R.remaining (device_of (watched_of self.new))) result buf.new }
-        ensures reads { is_spent (has_ended self.old) (is_faulted (watched_of self.old)) (octets_of self.old) (reads_of (watched_of self.old)) ≡ false → reads_of (watched_of self.new) ≡ reads_of (watched_of self.old) + 1 }
+        ensures reads { is_spent (has_ended self.old) (is_faulted (watched_of self.old)) (octets_of self.old) (reads_of (watched_of self.old)) ≡ false → 0 < length buf.new → reads_of (watched_of self.new) ≡ reads_of (watched_of self.old) + 1 }
     {
-        if self.has_ended {
+        if self.has_ended || buf.is_empty() {
             return Ok(0);
         }
         if self.is_spent() {
@@ -83,7 +88,7 @@ impl<R: Read, O: Origin> Read for Metered<'_, R, O> {
         let room = buf.len().min(MAX_OCTETS + 1 - self.octets);
         let read = self.reader.read(&mut buf[..room])?;
         self.octets += read;
-        self.has_ended = read == 0 && room > 0;
+        self.has_ended = read == 0;
         Ok(read)
     }
 }

@@ -1,10 +1,10 @@
 //! The bookings of a text that a reader gives.
 
-ghost use Rattle.std.specs.Prelude.{◌≡◌, ◌≤◌, ◌⊎◌, true, false, IfOk, IfErr, IfSome, MatchOption, Err};
+ghost use Rattle.std.specs.Prelude.{◌≡◌, ◌≤◌, ◌+◌, ◌⊎◌, true, false, IfOk, IfErr, IfSome, MatchOption, Err};
 ghost use Rattle.csv.specs.Reading.{strip_bom};
 ghost use Rattle.bx_base.specs.Devices.{reading_of};
 ghost use Rattle.bx_base.specs.Watching.{device_of, is_faulted, reads_of};
-ghost use Rattle.bx_book.specs.Passed.{HasPassed, HasNoneLeft, is_spent};
+ghost use Rattle.bx_book.specs.Passed.{HasPassed, HasNoneLeft, is_spent, reads_of_none};
 ghost use Rattle.bx_book.specs.Rows.{span_of};
 ghost use Rattle.bx_book.specs.Texts.{IsBook, IsBookFault};
 ghost use Rattle.bx_book.specs.Streams.{IsBookRead, IsStreamFault, IsMeterFault, told_as};
@@ -41,7 +41,7 @@ fn short_of_end<R>(reader: &Watched<R>, octets: usize, has_ended: bool) -> Optio
     requires { octets ≤ 4194305 }
     ensures { MatchOption result
         ((is_faulted reader.now ≡ false) × (octets ≤ 4194304) × (reads_of reader.now ≡ 8388608 → has_ended ≡ true))
-        (IsMeterFault (is_faulted reader.now) octets (reads_of reader.now)) }
+        (IsMeterFault (is_faulted reader.now) has_ended octets (reads_of reader.now)) }
 {
     if reader.faulted() {
         return Some(StreamFault::ReadFailed);
@@ -82,9 +82,11 @@ fn read_metered<'a, R: Read, O: Origin>(
 ) -> Outcome<'a, R>
     requires same { reader.ghost_name ≡ O.name }
     requires text { R.remaining (device_of reader.now) ≡ O.text }
+    requires reads { reads_of reader.now ≡ O.reads }
     ensures same_reference { result.reader.ghost_name ≡ reader.entry.ghost_name }
     ensures passed { HasPassed (R.remaining (device_of reader.old)) result.octets (R.remaining (device_of result.reader.now)) }
     ensures limit { result.octets ≤ 4194305 }
+    ensures each { reads_of result.reader.now ≤ reads_of reader.old + (result.octets + reads_of_none result.has_ended (is_faulted result.reader.now)) }
     ensures ended { result.has_ended ≡ true → HasNoneLeft (R.remaining (device_of result.reader.now)) }
     ensures over { (result.bookings ≡ Err BookFault.Memory) ⊎ (is_spent result.has_ended (is_faulted result.reader.now) result.octets (reads_of result.reader.now) ≡ true) }
     ensures ok { IfOk result.bookings (λ bookings. IfSome (R.remaining (device_of reader.old)) (λ text. IsBook (strip_bom text) (span_of day.now) bookings)) }

@@ -1,8 +1,8 @@
 //! The bookings of a text.
 
-ghost use Rattle.std.specs.Prelude.{◌≡◌, [], List, ℕ, OnOk, IfSome, IfOk, IfErr, option_map};
+ghost use Rattle.std.specs.Prelude.{◌≡◌, [], true, List, ℕ, OnOk, IfSome, IfOk, IfErr, option_map};
 ghost use Rattle.std.specs.Str.{bytes_eq};
-ghost use Rattle.csv.specs.Reading.{reader_state, reader_source, ReadRecord, source_of, strip_bom};
+ghost use Rattle.csv.specs.Reading.{reader_state, reader_source, has_failed, ReadRecord, source_of, strip_bom};
 ghost use Rattle.csv.specs.declared.parser.State.TheVariants as st;
 ghost use Rattle.csv.specs.Records.{fields_of};
 ghost use Rattle.bx_book.specs.Rows.{Span, span_of, field_of};
@@ -42,14 +42,15 @@ fn columns_under(header: &ByteRecord) -> Option<usize>
     }
 }
 
-/// Reads the next record, if there is one. The only fault is `Memory`.
+/// Reads the next record, if there is one. The only fault is `Memory`: the reader underneath failed, or a growth was
+/// refused.
 pub fn read_next<R: Read>(
     records: &mut Reader<R>,
     fields: &mut ByteRecord,
 ) -> Result<bool, BookFault>
     requires { IsReading records.old }
     ensures ok { IfOk result (λ found. IsReading records.new × ReadRecord R.remaining records.old records.new found (fields_of fields.new)) }
-    ensures err { IfErr result (λ e. e ≡ BookFault.Memory) }
+    ensures err { IfErr result (λ e. (e ≡ BookFault.Memory) × (has_failed records.new ≡ true)) }
 {
     match records.read_byte_record(fields) {
         Ok(found) => Ok(found),

@@ -2,7 +2,7 @@
 use Rattle.std.specs.Prelude.{◌≡◌, ℕ, true, Bool, List, Some, Err, codes, ◌⊎◌}
 use Rattle.bx_base.specs.Bookings.{Row}
 use Rattle.bx_base.specs.Devices.{Reading, Writing, KeepsOutput}
-use Rattle.bx_base.specs.Octets.{AppendsPrefix, ReadsFront}
+use Rattle.bx_base.specs.Octets.{AppendsPrefix, ReadsFront, ReadsWithin, RunsOutOfReads}
 use Rattle.bx_base.specs.PlanParts.{Parts}
 use Rattle.bx_planfile.specs.Reading.{read_all}
 use Rattle.bx_check.specs.Check.{IsOutcome}
@@ -11,15 +11,20 @@ use Rattle.bx_check.specs.declared.judge.CheckFault.{CheckFault}
 use Rattle.bx_commands.specs.declared.fault.CommandFault.{CommandFault}
 use Rattle.bx_commands.specs.declared.fault.CommandFault.TheVariants.{CannotRead, CannotWrite, Plan, Check, Memory}
 
--- an input of this name was not read to its end: it failed, or 8,388,608 reads did not reach the end, or it is too long
+-- an input of this name was not read to its end: it failed, or 8,388,608 reads did not reach the end though each gave an
+-- octet, or it is too long
 abbrev pub IsUnread : List ℕ → Reading → List ℕ → Type 0
-IsUnread name input said = (said ≡ name) × ((input.is_faulted ≡ true) ⊎ (input.reads ≡ 8388608) ⊎ ReadsFront input.before input.after 4194305)
+IsUnread name input said = (said ≡ name) × ((input.is_faulted ≡ true) ⊎ RunsOutOfReads input.before input.after input.reads_before ⊎ ReadsFront input.before input.after 4194305)
+
+-- a growth was refused while an input was read or its plan built: no read had failed, and no octet too many had come
+abbrev pub IsRefusedGrowth : Reading → Type 0
+IsRefusedGrowth input = (input.is_faulted ≡ input.was_faulted) × ReadsWithin input.before input.after 4194304
 
 -- why there is no plan of an input
 abbrev pub IsNoPlan : List ℕ → Reading → CommandFault → Type 0
 IsNoPlan name input (CannotRead n) = IsUnread name input n.now
 IsNoPlan name input (Plan fault) = (text : List ℕ) → input.before ≡ Some text → read_all text ≡ Err fault
-IsNoPlan name input Memory = Unit {0}
+IsNoPlan name input Memory = IsRefusedGrowth input
 IsNoPlan name input _ = ⊥
 
 -- why a plan is not proved
@@ -44,7 +49,7 @@ abbrev pub IsUnproved : List ℕ → Reading → CommandFault → Type 0
 IsUnproved name input (CannotRead n) = IsUnread name input n.now
 IsUnproved name input (Plan fault) = (text : List ℕ) → input.before ≡ Some text → read_all text ≡ Err fault
 IsUnproved name input (Check fault) = (text : List ℕ) → input.before ≡ Some text → IsFaultyText text fault
-IsUnproved name input Memory = Unit {0}
+IsUnproved name input Memory = IsRefusedGrowth input
 IsUnproved name input _ = ⊥
 
 -- the same for these bookings and channels
@@ -59,7 +64,7 @@ IsRefusal input output (CannotRead n) = IsUnread (codes "-") input n.now × Keep
 IsRefusal input output CannotWrite = (output.is_faulted ≡ true) × ((text : List ℕ) → input.before ≡ Some text → (total : ℕ) × IsProvedText text total × AppendsPrefix output.before output.after (proved_line total))
 IsRefusal input output (Plan fault) = ((text : List ℕ) → input.before ≡ Some text → read_all text ≡ Err fault) × KeepsOutput output
 IsRefusal input output (Check fault) = ((text : List ℕ) → input.before ≡ Some text → IsFaultyText text fault) × KeepsOutput output
-IsRefusal input output Memory = KeepsOutput output
+IsRefusal input output Memory = IsRefusedGrowth input × KeepsOutput output
 IsRefusal input output _ = ⊥
 
 -- the same for a plan of an input of this name, against these bookings and channels
@@ -68,5 +73,5 @@ IsRefusalAgainst rows channels name input output (CannotRead n) = IsUnread name 
 IsRefusalAgainst rows channels name input output CannotWrite = (output.is_faulted ≡ true) × ((text : List ℕ) → input.before ≡ Some text → (total : ℕ) × IsProvedAgainst rows channels text total × AppendsPrefix output.before output.after (proved_line total))
 IsRefusalAgainst rows channels name input output (Plan fault) = ((text : List ℕ) → input.before ≡ Some text → read_all text ≡ Err fault) × KeepsOutput output
 IsRefusalAgainst rows channels name input output (Check fault) = ((text : List ℕ) → input.before ≡ Some text → IsFaultyAgainst rows channels text fault) × KeepsOutput output
-IsRefusalAgainst rows channels name input output Memory = KeepsOutput output
+IsRefusalAgainst rows channels name input output Memory = IsRefusedGrowth input × KeepsOutput output
 IsRefusalAgainst rows channels name input output _ = ⊥

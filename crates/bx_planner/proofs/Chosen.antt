@@ -1,13 +1,15 @@
 -- A flow of least cost with its distances is a best choice.
 use Rattle.std.proofs.Common.{zero, suc, ◌≡◌, ℕ, ◌+◌, ◌-◌, ◌<◌, ◌≤◌, Bool, true, false, cond, List, [], length, get_or, refl, sym, ◌∙◌, arith, inl, inr}
 use Rattle.std.specs.Prelude.{ℤ, pos, neg_ℤ, ◌≤ℤ◌}
+use Rattle.std.specs.List.{All}
 use Rattle.std.proofs.lemmas.Int.{ints}
+use Rattle.std.proofs.lemmas.List.Kept.{AllPairs-from_increasing}
 use Rattle.std.proofs.lemmas.Bool.{cases_lt}
 use Rattle.std.proofs.lemmas.List.{ext_get_or}
 use Rattle.std.proofs.lemmas.List.Elements.{Contains-get_or}
 use Rattle.bx_base.specs.Bookings.{Row, row_at, AreBookings, pay_of}
 use Rattle.bx_base.specs.Channels.{count_of}
-use Rattle.bx_base.specs.Bound.{Charge}
+use Rattle.bx_base.specs.Bound.{Charge, IsCharge}
 use Rattle.bx_base.proofs.Duality.{pay-le-bound}
 use Rattle.bx_colour.specs.Colouring.{is_in}
 use Rattle.bx_line.specs.Moments.{IsMoment, HasJustMoments}
@@ -61,12 +63,23 @@ module _ (rows : List Row) (line : Network) (flow : Flow) (heights : List ℤ) (
       rw a.must (free_limit (row_at rows i).must (row_at rows i).pay (arc_at line i).pay a.pay (bookings.each i b).pay_limit)) in
       omega (arith, few, network.few_rows)
 
-  pub falls_small : (0 < places_of line → neg_ℤ (pos (free_pays line)) ≤ℤ height_at heights (places_of line - 1)) → (v : ℕ) → v < gaps_of line → fall_at heights v ≤ 4000000000000
+  -- how far the heights fall at most
+  abbrev Deep : Type 0
+  Deep = 0 < places_of line → neg_ℤ (pos (free_pays line)) ≤ℤ height_at heights (places_of line - 1)
+
+  pub falls_small : Deep → (v : ℕ) → v < gaps_of line → fall_at heights v ≤ 4000000000000
   falls_small deep v h =
       let some : 0 < places_of line = omega arith in
       let first = lengths.least 0 [] some refl in
       let at_most = price_at_most line flow heights network (distances_fit Free line flow heights network lengths) (free_pays line) first (deep some) v h in
       omega (arith, at_most, free_pays_few)
+
+  in_limits : Deep → All IsCharge (charges line.moments heights (gaps_of line))
+  in_limits deep = all_charges IsCharge line.moments heights (gaps_of line) (λ v h some. record {
+    in_day = omega (arith, AllPairs-from_increasing line.moments network.rising v (v + 1) 0 (omega arith) (omega arith), network.in_day (v + 1) (omega arith));
+    positive = omega (arith, some);
+    limit = falls_small deep v h;
+  })
 
   placed_each : HasJustMoments rows line.moments → (v : ℕ) → v < gaps_of line → IsMoment rows (get_or line.moments v 0)
   placed_each just v h = (just (get_or line.moments v 0)).0 (Contains-get_or line.moments v 0 (omega arith))
@@ -76,8 +89,8 @@ module _ (rows : List Row) (line : Network) (flow : Flow) (heights : List ℤ) (
       let some : 0 < places_of line = (let b = (arcs.each i h).from_within in omega (arith, b)) in
       all_musts rows line network bookings arcs count room some flow least (same some) i h must
 
-  chosen : HasJustMoments rows line.moments → ((s : ℕ) → musts_at rows s ≤ count) → IsBestChoice rows count flow.accepted (charges line.moments heights (gaps_of line))
-  chosen just room =
+  chosen : HasJustMoments rows line.moments → ((s : ℕ) → musts_at rows s ≤ count) → Deep → IsBestChoice rows count flow.accepted (charges line.moments heights (gaps_of line))
+  chosen just room deep =
       let gaps = gaps_of line in
       let crosses = crosses_from_flow line flow network least.is_flow in
       let few = few_charges line.moments heights gaps in
@@ -86,6 +99,7 @@ module _ (rows : List Row) (line : Network) (flow : Flow) (heights : List ℤ) (
         enough = flow_has_room rows line network arcs flow crosses count (λ some. let e = same some in omega (arith, e));
         musts = has_musts room;
         few = omega (arith, few, network.few_places);
+        limits = in_limits deep;
         proof = record {
           list = record {
             rising = charges_rise line.moments heights network.rising gaps (omega arith);
@@ -97,7 +111,7 @@ module _ (rows : List Row) (line : Network) (flow : Flow) (heights : List ℤ) (
         least = least_bound rows line flow network arcs heights count bookings crosses same lengths just (flow_has_room rows line network arcs flow crosses count (λ some. let e = same some in omega (arith, e))) (has_musts room);
       }
 
-  pub chosen_marks : HasJustMoments rows line.moments → ((s : ℕ) → musts_at rows s ≤ count) → (accepted : List Bool) → length accepted ≡ length rows → ((i : ℕ) → i < length rows → is_in accepted i ≡ is_carried flow i) → IsBestChoice rows count accepted (charges line.moments heights (gaps_of line))
-  chosen_marks just room accepted size each =
+  pub chosen_marks : HasJustMoments rows line.moments → ((s : ℕ) → musts_at rows s ≤ count) → Deep → (accepted : List Bool) → length accepted ≡ length rows → ((i : ℕ) → i < length rows → is_in accepted i ≡ is_carried flow i) → IsBestChoice rows count accepted (charges line.moments heights (gaps_of line))
+  chosen_marks just room deep accepted size each =
       let marks : accepted ≡ flow.accepted = ext_get_or false accepted flow.accepted (size ∙ (sym arcs.one_each ∙ sym least.is_flow.sized.rows)) (λ i h. each i (omega (arith, h, size))) in
-      rw marks (chosen just room)
+      rw marks (chosen just room deep)

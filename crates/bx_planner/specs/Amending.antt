@@ -1,5 +1,5 @@
 -- Planning anew for the bookings of a plan, and for more: what the plan accepts is promised, and so must be held.
-use Rattle.std.specs.Prelude.{◌≡◌, ℕ, ◌+◌, ◌<◌, ◌++◌, Bool, true, false, List, [], ◌∷◌, length, Option, is_some}
+use Rattle.std.specs.Prelude.{◌≡◌, ℕ, ◌<◌, ◌++◌, Bool, true, false, List, [], ◌∷◌, length, Option, is_some}
 use Rattle.std.specs.Io.KnownBytes.{Appends}
 use Rattle.bx_base.specs.Bookings.{Row, row_of, Carries, IsLawful, pay_of}
 use Rattle.bx_base.specs.Channels.{count_of}
@@ -58,6 +58,7 @@ pub record IsAmended (rows : List Row) (channels : List Bool) (output : Writing)
 -- a front of such a text was written
 pub record IsCutAmended (rows : List Row) (channels : List Bool) (output : Writing) : Type 0 where
   pub plan : Parts
+  pub limits : IsPlan plan
   pub best : IsBestPlan rows channels plan
   pub written : AppendsPrefix output.before output.after (plan_text Three plan)
 

@@ -1,7 +1,7 @@
 -- Which rows a plan is to accept, and the prices that prove it best.
 use Rattle.std.specs.Prelude.{◌≡◌, ℕ, ◌<◌, ◌≤◌, Bool, true, List, length, All, Option, pos}
 use Rattle.bx_base.specs.Bookings.{Row, row_at, IsLawful, pay_of}
-use Rattle.bx_base.specs.Bound.{Charge, IsPriceList, bound_of}
+use Rattle.bx_base.specs.Bound.{Charge, IsCharge, IsPriceList, bound_of}
 use Rattle.bx_base.specs.PlanParts.{Parts}
 use Rattle.bx_base.specs.Plans.{is_accepted}
 use Rattle.bx_line.specs.Moments.{IsMoment}
@@ -24,6 +24,7 @@ pub record IsBestChoice (rows : List Row) (count : ℕ) (accepted : List Bool) (
   pub enough : (moment : ℕ) → running_at rows accepted moment ≤ count
   pub musts : (i : ℕ) → i < length rows → (row_at rows i).must ≡ true → is_in accepted i ≡ true
   pub few : length prices ≤ 8000
+  pub limits : All IsCharge prices
   pub proof : ProvesBest rows count prices (pay_of rows (is_in accepted))
   pub least : IsLeastBound rows count prices (pay_of rows (is_in accepted))
 

@@ -1,5 +1,5 @@
 -- The least of all price lists that prove a set.
-use Rattle.std.specs.Prelude.{◌≡◌, ℕ, ◌≤◌, nat_lt, Bool, List, All, pos, sum_by, if◌then◌else◌}
+use Rattle.std.specs.Prelude.{◌≡◌, ℕ, ◌≤◌, Bool, List, All, pos}
 use Rattle.bx_base.specs.Bookings.{Row}
 use Rattle.bx_base.specs.Bound.{Charge, IsPriceList, Proves, bound_of, sum_of_prices}
 use Rattle.bx_check.specs.Before.{sum_before}

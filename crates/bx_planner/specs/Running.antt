@@ -3,7 +3,7 @@ use Rattle.std.specs.Prelude.{◌≡◌, ℕ, true, false, Bool, List, Ok}
 use Rattle.std.specs.Io.KnownBytes.{Appends}
 use Rattle.bx_base.specs.Bookings.{Row}
 use Rattle.bx_base.specs.Devices.{Reading, Writing, KeepsOutput}
-use Rattle.bx_base.specs.Octets.{AppendsPrefix}
+use Rattle.bx_base.specs.Octets.{AppendsPrefix, ReadsWithin}
 use Rattle.bx_base.specs.PlanParts.{Parts, IsPlan}
 use Rattle.bx_base.specs.Plans.{is_accepted}
 use Rattle.bx_book.specs.Rows.{Span}
@@ -40,6 +40,7 @@ pub record IsCut (input : Reading) (output : Writing) (span : Span) (channels : 
   pub rows : List Row
   pub read : IsBookRead input span rows
   pub plan : Parts
+  pub limits : IsPlan plan
   pub proved : IsProved rows channels plan
   pub written : AppendsPrefix output.before output.after (plan_text Three plan)
 
@@ -64,4 +65,4 @@ IsRunRefusal input output span channels TooLong = IsStreamFault input span strea
 IsRunRefusal input output span channels (Book fault) = IsStreamFault input span (stream.Book fault) × KeepsOutput output
 IsRunRefusal input output span channels (TooManyMust moment) = ((rows : List Row) × IsBookRead input span rows × IsTooManyMust rows channels moment) × KeepsOutput output
 IsRunRefusal input output span channels WriteFailed = (output.is_faulted ≡ true) × IsCut input output span channels
-IsRunRefusal input output span channels Memory = (input.is_faulted ≡ false) × KeepsOutput output
+IsRunRefusal input output span channels Memory = ((input.is_faulted ≡ false) × ReadsWithin input.before input.after 4_194_304) × KeepsOutput output

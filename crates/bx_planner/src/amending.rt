@@ -3,7 +3,7 @@
 ghost use Rattle.std.specs.Prelude.{◌≡◌, ◌≤◌, ◌<◌, ◌+◌, ◌↔◌, ℕ, IfOk, IfErr, Err, length};
 ghost use Rattle.bx_base.specs.Channels.{count_of};
 ghost use Rattle.bx_base.specs.Devices.{writing_of};
-ghost use Rattle.bx_base.specs.PlanParts.{parts_of};
+ghost use Rattle.bx_base.specs.PlanParts.{IsPlan, parts_of};
 ghost use Rattle.bx_planner.specs.Amending.{amended, IsAmended, IsAmendFail, IsAmendRefusal, IsBestPlan, KeepsPromises};
 ghost use Rattle.bx_planner.specs.Musts.{musts_at, IsTooManyMust};
 
@@ -40,6 +40,7 @@ pub fn amend(alloc: Global, plan: &Plan, more: &Bookings) -> Result<Plan, AmendF
     ensures full { (result ≡ Err AmendFail.TooMany) ↔ (4000 < length plan.now.bookings + length more.now) }
     ensures musts { (t : ℕ) → (result ≡ Err (AmendFail.TooManyMust t)) ↔ ((length plan.now.bookings + length more.now ≤ 4000) × IsTooManyMust (amended plan.now.bookings plan.now.assigned.items more.now) plan.now.channels t) }
     ensures planned { IfOk result (λ p. IsBestPlan (amended plan.now.bookings plan.now.assigned.items more.now) plan.now.channels (parts_of p)) }
+    ensures limits { IfOk result (λ p. IsPlan (parts_of p)) }
     ensures fail { IfErr result (IsAmendFail (amended plan.now.bookings plan.now.assigned.items more.now) plan.now.channels) }
     ensures kept { IfOk result (λ p. KeepsPromises plan.now.bookings plan.now.assigned.items p.assigned.items) }
 {
@@ -64,7 +65,8 @@ fn planned_anew(
 ) -> Result<Plan, AllocError>
     requires few { length demand.now ≤ 4000 }
     requires room { (s : ℕ) → musts_at demand.now s ≤ count_of channels }
-    ensures { IfOk result (λ p. IsBestPlan demand.now channels (parts_of p)) }
+    ensures planned { IfOk result (λ p. IsBestPlan demand.now channels (parts_of p)) }
+    ensures limits { IfOk result (λ p. IsPlan (parts_of p)) }
 {
     let bookings = demand.bookings(alloc)?;
     let plan = best_plan(alloc, &bookings, channels)?;

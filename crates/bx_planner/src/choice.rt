@@ -1,7 +1,7 @@
 //! The best choice of bookings.
 
 ghost use Rattle.std.specs.Prelude.{◌≡◌, ◌≤◌, ◌<◌, ℕ, IfOk, length};
-ghost use Rattle.bx_base.specs.Bookings.{pay_of};
+ghost use Rattle.bx_base.specs.Bookings.{AreBookings, pay_of};
 ghost use Rattle.bx_colour.specs.Colouring.{is_in};
 ghost use Rattle.bx_line.specs.Flows.{is_carried};
 ghost use Rattle.bx_planner.specs.Musts.{musts_at};
@@ -23,7 +23,8 @@ pub(crate) fn best_choice(
 ) -> Result<(Vec<bool>, Vec<Price>), AllocError>
     requires few { count ≤ 30 }
     requires room { (s : ℕ) → musts_at bookings.now s ≤ count }
-    ensures { IfOk result (λ r. IsBestChoice bookings.now count r.0.items r.1.items) }
+    ensures best { IfOk result (λ r. IsBestChoice bookings.now count r.0.items r.1.items) }
+    ensures bookings { AreBookings bookings.now }
 {
     let _rows = bookings.len();
     let line = Line::of(alloc, bookings)?;

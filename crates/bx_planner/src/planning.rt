@@ -3,6 +3,7 @@
 ghost use Rattle.std.specs.Prelude.{◌≡◌, ◌↔◌, ◌≤◌, ℕ, IfOk, Err};
 ghost use Rattle.bx_base.specs.Bookings.{Carries, IsLawful, pay_of};
 ghost use Rattle.bx_base.specs.Channels.{count_of};
+ghost use Rattle.bx_base.specs.PlanParts.{IsPlan, parts_of};
 ghost use Rattle.bx_base.specs.Plans.{is_accepted, channel_at};
 ghost use Rattle.bx_planner.specs.Musts.{musts_at, IsTooManyMust};
 ghost use Rattle.bx_planner.specs.Choices.{IsBest, IsFirstFitPlan, ProvesBest};
@@ -43,6 +44,7 @@ pub fn plan(alloc: Global, bookings: &Bookings, channels: ChannelSet) -> Result<
     ensures prices { IfOk result (λ p. ProvesBest bookings.now (count_of channels) p.prices.items p.total) }
     ensures best { IfOk result (λ p. IsBest bookings.now channels p.total) }
     ensures least { IfOk result (λ p. IsLeastProof bookings.now channels p.prices.items (is_accepted p.assigned.items)) }
+    ensures limits { IfOk result (λ p. IsPlan (parts_of p)) }
 {
     let none = Bookings::new(alloc);
     if let Some(moment) = too_many_must(&Demand::fresh(&none, bookings), channels) {
@@ -69,6 +71,7 @@ pub(crate) fn best_plan(
     ensures total { IfOk result (λ p. p.total ≡ pay_of bookings.now (is_accepted p.assigned.items)) }
     ensures prices { IfOk result (λ p. ProvesBest bookings.now (count_of channels) p.prices.items p.total) }
     ensures least { IfOk result (λ p. IsLeastBound bookings.now (count_of channels) p.prices.items p.total) }
+    ensures limits { IfOk result (λ p. IsPlan (parts_of p)) }
 {
     let (accepted, prices) = best_choice(alloc, bookings, channels.count())?;
     let assigned = colour(alloc, bookings, &accepted, channels)?;

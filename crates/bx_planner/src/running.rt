@@ -1,7 +1,7 @@
 //! From a booking text to a plan text.
 
 ghost use Rattle.std.specs.Prelude.{IfOk, IfErr};
-ghost use Rattle.bx_base.specs.PlanParts.{parts_of};
+ghost use Rattle.bx_base.specs.PlanParts.{IsPlan, parts_of};
 ghost use Rattle.bx_base.specs.Devices.{reading_of, writing_of};
 ghost use Rattle.bx_book.specs.Rows.{span_of};
 ghost use Rattle.bx_book.specs.Streams.{IsBookRead};
@@ -59,6 +59,7 @@ fn bookings_of<R: Read>(
 /// The best plan, with the faults of a run.
 fn plan_of(alloc: Global, bookings: &Bookings, channels: ChannelSet) -> Result<Plan, RunFault>
     ensures ok { IfOk result (λ p. IsProved bookings.now channels (parts_of p)) }
+    ensures limits { IfOk result (λ p. IsPlan (parts_of p)) }
     ensures err { IfErr result (IsPlanFail bookings.now channels) }
 {
     match plan(alloc, bookings, channels) {

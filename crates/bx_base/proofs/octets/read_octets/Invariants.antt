@@ -1,4 +1,4 @@
-use Rattle.std.proofs.Common.{◌≡◌, ◌-◌, ◌≤◌, length, vec_len}
+use Rattle.std.proofs.Common.{◌≡◌, ◌-◌, ◌+◌, ◌≤◌, length, vec_len}
 use Rattle.std.specs.Io.KnownBytes.{Consumes}
 use Rattle.bx_base.specs.Watching.{device_of, is_faulted, reads_of}
 use Rattle.bx_base.proofs.octets.read_octets.Given as goal
@@ -11,6 +11,7 @@ invariant-loop-buf g l =
       fits : vec_len l.octets ≤ 4194304;
       read : Consumes (remaining (device_of l.fn.r)) (remaining (device_of l.r)) l.octets.items;
       unfaulted : is_faulted l.r ≡ is_faulted l.fn.r;
+      each : reads_of l.r ≤ reads_of l.fn.r + vec_len l.octets;
     }
 
 abbrev pub decreases-loop-buf : goal.decreases-loop-buf

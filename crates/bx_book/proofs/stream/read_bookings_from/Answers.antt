@@ -11,7 +11,7 @@ use Rattle.bx_book.proofs.stream.read_bookings_from.Goals as goal
 pub returns-in-Some-clause-err : goal.returns-in-Some-clause-err
 returns-in-Some-clause-err g c =
     let read = c.read_metered-reader in
-    let said = short g.R.Read.remaining c.args.reader.now read.result.reader.now (span_of c.args.day.now) read.result.octets read.ensures.passed c.in-Some.fault c.in-Some.ensures in
+    let said = short g.R.Read.remaining c.args.reader.now read.result.reader.now (span_of c.args.day.now) read.result.octets read.ensures.passed read.result.has_ended read.ensures.each c.in-Some.fault c.in-Some.ensures in
     search rules
 
 pub returns-in-Ok-clause-ok : goal.returns-in-Ok-clause-ok

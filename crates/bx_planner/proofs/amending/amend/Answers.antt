@@ -24,7 +24,7 @@ planned_anew-requires-clause-few c = let n = length_amended c.args.plan.now.book
 pub returns-in-Ok-clause-kept : goal.returns-in-Ok-clause-kept
 returns-in-Ok-clause-kept c =
     let all = c.of-demand.ensures ∙ ap (λ (a : List (Option ℕ)). amended c.args.plan.now.bookings a c.args.more.now) c.deref.ensures.value in
-    keeps c.args.plan.now.bookings c.args.plan.now.assigned.items c.args.more.now c.args.plan.now.channels c.in-Ok.amended.assigned.items (subst (λ (rows : List Row). IsLawful rows c.args.plan.now.channels (is_accepted c.in-Ok.amended.assigned.items)) all c.in-Ok.ensures.lawful)
+    keeps c.args.plan.now.bookings c.args.plan.now.assigned.items c.args.more.now c.args.plan.now.channels c.in-Ok.amended.assigned.items (subst (λ (rows : List Row). IsLawful rows c.args.plan.now.channels (is_accepted c.in-Ok.amended.assigned.items)) all c.in-Ok.ensures.planned.lawful)
 
 pub returns-then-len-gt4000-clause-fail : goal.returns-then-len-gt4000-clause-fail
 returns-then-len-gt4000-clause-fail c = let n = length_amended c.args.plan.now.bookings c.args.plan.now.assigned.items c.args.more.now in omega (arith, n)
