@@ -1,3 +1,4 @@
 pub mod Sound
 pub mod Rising
 pub mod Before
+pub mod One

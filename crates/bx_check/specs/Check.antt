@@ -1,4 +1,4 @@
--- The answers of the check, each with what it says: the faults exclude one another, and one answer always applies.
+-- The answers of the check, each with what it says. Just one applies to a plan.
 use Rattle.std.specs.Prelude.{◌≡◌, ◌≢◌, ℕ, ◌-◌, ◌<◌, ◌≤◌, pos, Bool, List, length, map, Result, Ok, Err}
 use Rattle.std.specs.List.Sorted.{IsStrictlyIncreasing}
 use Rattle.bx_base.specs.Channels.{count_of}
@@ -81,3 +81,7 @@ IsOutcome rows channels plan (Err WrongTotal) = IsSound rows channels plan × ¬
 IsOutcome rows channels plan (Err PricesOutOfOrder) = IsSound rows channels plan × IsTotalRight plan × ¬ IsRising plan.prices
 IsOutcome rows channels plan (Err (NotProved bound)) = IsSound rows channels plan × IsTotalRight plan × IsRising plan.prices × (pos bound ≡ bound_of plan.rows (count_of plan.channels) plan.prices) × (bound ≢ plan.total)
 IsOutcome rows channels plan (Ok total) = IsSound rows channels plan × IsTotalRight plan × IsRising plan.prices × (bound_of plan.rows (count_of plan.channels) plan.prices ≡ pos plan.total) × (total ≡ plan.total)
+
+-- two answers for one plan, and the same bookings and channels, are equal
+abbrev pub AreAnswersOne : Type 0
+AreAnswersOne = (rows : List Row) (channels : List Bool) (plan : Parts) (a b : Result ℕ CheckFault) → IsOutcome rows channels plan a → IsOutcome rows channels plan b → a ≡ b

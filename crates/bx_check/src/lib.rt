@@ -3,6 +3,7 @@
 
 mod bound;
 mod judge;
+pub mod laws;
 mod sums;
 
 pub use judge::{CheckFault, check};

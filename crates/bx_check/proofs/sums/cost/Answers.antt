@@ -1,5 +1,5 @@
-use Rattle.std.proofs.Common.{◌≡◌, ◌<◌, arith, slice_index_or}
-use Rattle.bx_check.proofs.Before.{IsCountBefore, cost_from}
+use Rattle.std.proofs.Common.{arith}
+use Rattle.bx_check.proofs.Before.{cost_from}
 use Rattle.bx_check.proofs.sums.cost.Goals as goal
 
 pub overflow_sub-result : goal.overflow_sub-result
