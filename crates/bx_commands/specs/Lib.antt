@@ -1,3 +1,4 @@
 pub mod Proved
 pub mod Refusals
+pub mod MessageLines
 pub mod Decoding

@@ -4,6 +4,7 @@
 mod checking;
 mod decoding;
 mod fault;
+mod message_lines;
 
 pub use checking::{check_against, check_self, plan_from, proved_plan};
 pub use decoding::decode;
