@@ -4,8 +4,9 @@
 use bx_base::Watched;
 use bx_cli::main_words;
 use std::alloc::{AllocError, Global};
-use std::env;
+use std::io::ErrorKind;
 use std::process::ExitCode;
+use std::{env, io};
 
 /// The words as texts.
 fn texts(alloc: Global, words: &[String]) -> Result<Vec<&str>, AllocError> {
@@ -25,15 +26,25 @@ fn status_of(rt: &HostRuntime, words: &[String]) -> Result<u8, AllocError> {
     Ok(status)
 }
 
-/// The status where the words themselves found no memory.
+/// The status where the words themselves could not be had: 2 where one of them is no text, else 1.
+fn without_words(rt: &HostRuntime, error: &io::Error) -> u8 {
+    if error.kind() == ErrorKind::InvalidData {
+        let _ = rt.eprintln("error: a word is no text in UTF-8");
+        return 2;
+    }
+    no_memory(rt)
+}
+
+/// The status where the words found no memory.
 fn no_memory(rt: &HostRuntime) -> u8 {
     let _ = rt.eprintln("bx: Memory");
     1
 }
 
 fn main(rt: HostRuntime) -> ExitCode {
-    let Ok(words) = env::args(&rt) else {
-        return ExitCode::from(no_memory(&rt));
+    let words = match env::args(&rt) {
+        Ok(words) => words,
+        Err(error) => return ExitCode::from(without_words(&rt, &error)),
     };
     let Ok(words) = words.skip(1).collect::<Vec<String>>(rt.alloc()) else {
         return ExitCode::from(no_memory(&rt));
