@@ -2,9 +2,11 @@
 #![tactic(auto)]
 
 mod colouring;
+mod load;
 mod order;
 mod running;
 mod sweep;
 
 pub use colouring::colour;
+pub use load::Load;
 pub use running::fits;

@@ -1,4 +1,3 @@
-pub mod MustLemmas
 pub mod Placed
 pub mod AllMusts
 pub mod Falling

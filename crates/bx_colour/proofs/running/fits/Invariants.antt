@@ -1,7 +1,12 @@
-use Rattle.std.proofs.Common.{◌≡◌, ℕ, ◌<◌, ◌≤◌, true}
-use Rattle.bx_base.specs.Bookings.{row_at}
-use Rattle.bx_colour.specs.Colouring.{is_in, running_at}
+use Rattle.std.proofs.Common.{◌≡◌, ℕ, ◌≤◌, ◌&&◌, cond}
+use Rattle.bx_base.specs.Sums.{sum_below}
+use Rattle.bx_base.specs.Bookings.{row_at, is_running}
+use Rattle.bx_colour.specs.Colouring.{is_in}
+use Rattle.bx_colour.specs.Loads.{load_at, size_of}
 use Rattle.bx_colour.proofs.running.fits.Given as goal
 
 abbrev pub invariant-loop-i : goal.invariant-loop-i
-invariant-loop-i l = (k : ℕ) → k < l.i → is_in l.accepted k ≡ true → running_at l.bookings l.accepted (row_at l.bookings k).start ≤ l.count
+invariant-loop-i l = record {
+  each : (t : ℕ) → load_at l.load t ≡ sum_below l.i (λ j. cond (is_in l.accepted j && is_running (row_at l.bookings j) t) 1 0);
+  few : size_of l.load ≤ l.i;
+}
