@@ -7,3 +7,4 @@ pub mod laws;
 mod sums;
 
 pub use judge::{CheckFault, check};
+pub use sums::{Sums, cost, sums_of};

@@ -1,0 +1,9 @@
+pub mod Places
+pub mod Deciding
+pub mod Picking
+pub mod Crowding
+pub mod Holding
+pub mod Weighed
+pub mod Settling
+pub mod Quoted
+pub mod Told

@@ -1,0 +1,57 @@
+-- What was written of an answer.
+use Rattle.std.proofs.Common.{◌≡◌, ℕ, ◌+◌, Bool, true, false, List, [], ◌∷◌, ◌++◌, length, Result, Ok, Err, sym, ◌∙◌, ap, subst, arith, add-one, refl, not}
+use Rattle.std.specs.Prelude.{OnOk, IfErr}
+use Rattle.std.specs.List.{flat_map}
+use Rattle.std.specs.Io.KnownBytes.{Appends}
+use Rattle.std.proofs.lemmas.Grind.{flat_map-append}
+use Rattle.std.proofs.lemmas.List.{append-nil, length_push}
+use Rattle.bx_base.specs.Bookings.{Row}
+use Rattle.bx_base.specs.Devices.{Writing}
+use Rattle.bx_base.specs.Octets.{AppendsPrefix}
+use Rattle.bx_base.specs.PlanParts.{Parts}
+use Rattle.bx_base.specs.Plans.{is_accepted}
+use Rattle.bx_quote.specs.declared.answer.Quote.{Quote}
+use Rattle.bx_quote.specs.declared.writing.QuoteFault.{QuoteFault}
+use Rattle.bx_quote.specs.declared.writing.QuoteFault.TheVariants as fault
+use Rattle.bx_quote.specs.Named.{picked}
+use Rattle.bx_quote.specs.Quotes.{IsQuote}
+use Rattle.bx_quote.specs.Texts.{refused_line, refused_rows}
+use Rattle.bx_quote.specs.Writing.{IsTold, IsWriteFault}
+
+abbrev pub Put : Type 0
+Put = Result (Unit {0}) QuoteFault
+
+pub told : (r : Put) (rows : List Row) (plan : Parts) (i : ℕ) (text : Quote → List ℕ) (quote : Quote) (output : Writing) (octets : List ℕ) → IsQuote rows plan i quote → octets ≡ text quote → OnOk r (Appends output.before output.after octets) → OnOk r (IsTold rows plan i text output)
+told (Ok x) rows plan i text quote output octets is same written = record { quote = quote; is = is; written = subst (λ (t : List ℕ). Appends output.before output.after t) same written }
+told (Err e) rows plan i text quote output octets is same written = tt
+
+-- the one way in which a text is not written
+pub not_written : (r : Put) (P : QuoteFault → Type 0) (output : Writing) (octets text : List ℕ) → octets ≡ text → (output.is_faulted ≡ true → AppendsPrefix output.before output.after text → P fault.WriteFailed) → IfErr r (IsWriteFault output octets) → IfErr r P
+not_written (Ok x) P output octets text same then fails = tt
+not_written (Err fault.WriteFailed) P output octets text same then fails = then fails.0 (subst (λ (t : List ℕ). AppendsPrefix output.before output.after t) same fails.1)
+not_written (Err (fault.Quote fail)) P output octets text same then fails = absurd fails
+
+picked_more : (test : ℕ → Bool) (n : ℕ) → test n ≡ true → picked test (n + 1) ≡ picked test n ++ (n + 1) ∷ []
+picked_more test n h = rw (add-one, h) refl
+
+picked_same : (test : ℕ → Bool) (n : ℕ) → test n ≡ false → picked test (n + 1) ≡ picked test n
+picked_same test n h = rw (add-one, h) (append-nil (picked test n))
+
+refused_test : (plan : Parts) (n : ℕ) (b : Bool) → is_accepted plan.assigned n ≡ b → not (is_accepted plan.assigned n) ≡ not b
+refused_test plan n b h = ap not h
+
+-- one more row, which is refused
+pub lines_more : (plan : Parts) (n : ℕ) (before after : List ℕ) → is_accepted plan.assigned n ≡ false → before ≡ flat_map (refused_line plan) (refused_rows plan n) → after ≡ before ++ refused_line plan (n + 1) → after ≡ flat_map (refused_line plan) (refused_rows plan (n + 1))
+lines_more plan n before after h b a =
+    let rows = picked_more (λ j. not (is_accepted plan.assigned j)) n (refused_test plan n false h) in
+    let split = flat_map-append (refused_line plan) (refused_rows plan n) ((n + 1) ∷ []) in
+    a ∙ (ap (λ (t : List ℕ). t ++ refused_line plan (n + 1)) b ∙ (ap (λ (t : List ℕ). flat_map (refused_line plan) (refused_rows plan n) ++ t) (sym (append-nil (refused_line plan (n + 1)))) ∙ (sym split ∙ ap (λ (named : List ℕ). flat_map (refused_line plan) named) (sym rows))))
+
+pub count_more : (plan : Parts) (n refused : ℕ) → is_accepted plan.assigned n ≡ false → refused ≡ length (refused_rows plan n) → refused + 1 ≡ length (refused_rows plan (n + 1))
+count_more plan n refused h e =
+    let rows = ap (λ (named : List ℕ). length named) (picked_more (λ j. not (is_accepted plan.assigned j)) n (refused_test plan n false h)) in
+    omega (arith, rows, length_push (refused_rows plan n) (n + 1), e)
+
+-- one more row, which is accepted
+pub rows_same : (plan : Parts) (n : ℕ) → is_accepted plan.assigned n ≡ true → refused_rows plan (n + 1) ≡ refused_rows plan n
+rows_same plan n h = picked_same (λ j. not (is_accepted plan.assigned j)) n (refused_test plan n true h)

@@ -1,0 +1,7 @@
+pub mod Thresholds
+pub mod Rooms
+pub mod Named
+pub mod Weighing
+pub mod Quotes
+pub mod Texts
+pub mod Writing

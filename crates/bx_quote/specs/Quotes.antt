@@ -1,0 +1,53 @@
+-- What a quote says, and why there is none.
+use Rattle.std.specs.Prelude.{◌≡◌, ℕ, ◌+◌, ◌-◌, ◌≤◌, ◌==◌, ◌&&◌, not, true, false, List, [], ◌∷◌, ◌++◌, length}
+use Rattle.bx_base.specs.Bookings.{Row, row_at, IsLawful}
+use Rattle.bx_base.specs.Bound.{cost_of}
+use Rattle.bx_base.specs.PlanParts.{Parts}
+use Rattle.bx_base.specs.Plans.{is_accepted}
+use Rattle.bx_quote.specs.declared.answer.Quote.{Quote}
+use Rattle.bx_quote.specs.declared.answer.QuoteFail.{QuoteFail}
+use Rattle.bx_quote.specs.declared.answer.QuoteFail.TheVariants.{TooMany, NoChannel, NoSuchRow, Accepted, Memory}
+use Rattle.bx_quote.specs.Named.{AreRows, pay_of_rows, traded}
+use Rattle.bx_quote.specs.Rooms.{IsNoChannel}
+use Rattle.bx_quote.specs.Thresholds.{IsThreshold, Decides}
+
+-- the rows with one more behind them, which a plan is free to leave out
+abbrev pub asked : List Row → Row → List Row
+asked rows row = rows ++ record row { must = false } ∷ []
+
+-- what a quote of the row at i among these rows says beside a plan of them, or of those before the last of them
+pub record IsQuote (rows : List Row) (plan : Parts) (i : ℕ) (quote : Quote) : Type 0 where
+  pub threshold_of : IsThreshold rows plan.channels i quote.threshold
+  pub decides : Decides rows plan.channels i quote.threshold
+  -- what its seconds cost at the plan's prices, which is an honest bound
+  pub costs : quote.cost ≡ cost_of plan.prices (row_at rows i)
+  pub bound : quote.cost ≤ quote.threshold
+  -- one best set with it leaves out these accepted rows, and takes these refused rows and the row itself
+  pub instead_rows : AreRows (length plan.rows) (is_accepted plan.assigned) quote.instead.items
+  pub besides_rows : AreRows (length plan.rows) (λ j. not (j == i) && not (is_accepted plan.assigned j)) quote.besides.items
+  pub lawful : IsLawful rows plan.channels (traded (is_accepted plan.assigned) i quote.instead.items quote.besides.items)
+  pub settled : quote.threshold + pay_of_rows rows quote.besides.items ≡ pay_of_rows rows quote.instead.items
+
+-- a row of the plan
+abbrev pub IsRowOf : Parts → ℕ → Type 0
+IsRowOf plan row = (1 ≤ row) × (row ≤ length plan.rows)
+
+-- a row that the plan refuses
+pub record IsRefused (plan : Parts) (row : ℕ) : Type 0 where
+  pub row_of : IsRowOf plan row
+  pub left_out : is_accepted plan.assigned (row - 1) ≡ false
+
+-- why a booking has no quote
+abbrev pub IsQuoteFail : Parts → Row → QuoteFail → Type 0
+IsQuoteFail plan booking TooMany = 4000 ≤ length plan.rows
+IsQuoteFail plan booking (NoChannel moment) = IsNoChannel plan.rows plan.channels booking moment
+IsQuoteFail plan booking Memory = Unit {0}
+IsQuoteFail plan booking _ = ⊥
+
+-- why a row has none
+abbrev pub IsExplainFail : Parts → ℕ → QuoteFail → Type 0
+IsExplainFail plan row NoSuchRow = ¬ IsRowOf plan row
+IsExplainFail plan row (Accepted named) = (named ≡ row) × IsRowOf plan row × (is_accepted plan.assigned (row - 1) ≡ true)
+IsExplainFail plan row (NoChannel moment) = IsRefused plan row × IsNoChannel plan.rows plan.channels (row_at plan.rows (row - 1)) moment
+IsExplainFail plan row Memory = Unit {0}
+IsExplainFail plan row _ = ⊥

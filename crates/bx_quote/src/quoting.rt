@@ -1,0 +1,112 @@
+//! What a booking has to pay to be taken.
+
+ghost use Rattle.std.specs.Prelude.{◌≡◌, ◌≤◌, ◌<◌, ◌-◌, ◌↔◌, ℕ, true, false, Ok, Err, IfOk, IfErr, length};
+ghost use Rattle.bx_base.specs.Bookings.{row_at, is_running};
+ghost use Rattle.bx_base.specs.Channels.{count_of};
+ghost use Rattle.bx_base.specs.PlanParts.{parts_of};
+ghost use Rattle.bx_base.specs.Plans.{is_accepted};
+ghost use Rattle.bx_check.specs.Check.{IsOutcome};
+ghost use Rattle.bx_quote.specs.Quotes.{IsQuote, IsQuoteFail, IsExplainFail, IsRefused, IsRowOf, asked};
+ghost use Rattle.bx_quote.specs.Rooms.{IsNoChannel};
+ghost use Rattle.bx_quote.specs.Weighing.{held};
+
+use crate::answer::{Quote, QuoteFail};
+use crate::rooms::no_channel;
+use crate::weighing::weighed;
+use bx_base::{Booking, Bookings, Plan};
+use std::alloc::{AllocError, Global};
+
+/// What a booking that is not in the plan has to pay to be taken, where nothing else changes. Neither its own pay nor
+/// its must mark counts. `TooMany` is tested first, then `NoChannel`, both without memory. By two best plans: the one
+/// given, and one that has to hold the booking.
+pub fn quote(alloc: Global, plan: &Plan, booking: &Booking) -> Result<Quote, QuoteFail>
+    requires proved { IsOutcome plan.now.bookings plan.now.channels (parts_of plan.now) (Ok plan.now.total) }
+    ensures full { (result ≡ Err QuoteFail.TooMany) ↔ (4000 ≤ length plan.now.bookings) }
+    ensures no_channel { (t : ℕ) → (result ≡ Err (QuoteFail.NoChannel t)) ↔ ((length plan.now.bookings < 4000) × IsNoChannel plan.now.bookings plan.now.channels booking.now t) }
+    ensures quoted { IfOk result (IsQuote (asked plan.now.bookings booking.now) (parts_of plan.now) (length plan.now.bookings)) }
+    ensures fail { IfErr result (IsQuoteFail (parts_of plan.now) booking.now) }
+{
+    if plan.bookings.len() >= 4000 {
+        return Err(QuoteFail::TooMany);
+    }
+    if let Some(moment) = no_channel(&plan.bookings, plan.channels, booking) {
+        return Err(QuoteFail::NoChannel(moment));
+    }
+    match quoted(alloc, plan, booking) {
+        Ok(quote) => Ok(quote),
+        Err(_) => Err(QuoteFail::Memory),
+    }
+}
+
+/// What a row that the plan refuses has to pay to be taken. Its own pay does not count. `NoSuchRow`, `Accepted` and
+/// `NoChannel` are tested in this order, without memory.
+pub fn explain(alloc: Global, plan: &Plan, row: u16) -> Result<Quote, QuoteFail>
+    requires proved { IsOutcome plan.now.bookings plan.now.channels (parts_of plan.now) (Ok plan.now.total) }
+    ensures no_row { (result ≡ Err QuoteFail.NoSuchRow) ↔ (¬ IsRowOf (parts_of plan.now) row) }
+    ensures accepted { (named : ℕ) → (result ≡ Err (QuoteFail.Accepted named)) ↔ ((named ≡ row) × IsRowOf (parts_of plan.now) row × (is_accepted plan.now.assigned.items (row - 1) ≡ true)) }
+    ensures no_channel { (t : ℕ) → (result ≡ Err (QuoteFail.NoChannel t)) ↔ (IsRefused (parts_of plan.now) row × IsNoChannel plan.now.bookings plan.now.channels (row_at plan.now.bookings (row - 1)) t) }
+    ensures explained { IfOk result (IsQuote plan.now.bookings (parts_of plan.now) (row - 1)) }
+    ensures fail { IfErr result (IsExplainFail (parts_of plan.now) row) }
+{
+    let Some(booking) = plan.bookings.get(row) else {
+        return Err(QuoteFail::NoSuchRow);
+    };
+    if plan.assigned[row as usize - 1].is_some() {
+        return Err(QuoteFail::Accepted(row));
+    }
+    if let Some(moment) = no_channel(&plan.bookings, plan.channels, &booking) {
+        return Err(QuoteFail::NoChannel(moment));
+    }
+    match explained(alloc, plan, row - 1) {
+        Ok(quote) => Ok(quote),
+        Err(_) => Err(QuoteFail::Memory),
+    }
+}
+
+/// The quote of a booking that has a channel.
+fn quoted(alloc: Global, plan: &Plan, booking: &Booking) -> Result<Quote, AllocError>
+    requires proved { IsOutcome plan.now.bookings plan.now.channels (parts_of plan.now) (Ok plan.now.total) }
+    requires few { length plan.now.bookings < 4000 }
+    requires room { (t : ℕ) → ¬ IsNoChannel plan.now.bookings plan.now.channels booking.now t }
+    ensures { IfOk result (IsQuote (asked plan.now.bookings booking.now) (parts_of plan.now) (length plan.now.bookings)) }
+{
+    let mut rows = plan.bookings.copy()?;
+    match rows.push(booking.as_must()) {
+        Ok(()) => {}
+        Err(_) => return Err(AllocError),
+    }
+    weighed(alloc, plan, &rows, plan.bookings.len())
+}
+
+/// The quote of a refused row that has a channel, by its place.
+fn explained(alloc: Global, plan: &Plan, index: u16) -> Result<Quote, AllocError>
+    requires proved { IsOutcome plan.now.bookings plan.now.channels (parts_of plan.now) (Ok plan.now.total) }
+    requires inside { index < length plan.now.bookings }
+    requires refused { is_accepted plan.now.assigned.items index ≡ false }
+    requires room { (t : ℕ) → ¬ IsNoChannel plan.now.bookings plan.now.channels (row_at plan.now.bookings index) t }
+    ensures { IfOk result (IsQuote plan.now.bookings (parts_of plan.now) index) }
+{
+    let rows = with_must(alloc, &plan.bookings, index)?;
+    weighed(alloc, plan, &rows, index)
+}
+
+/// The bookings, of which each plan has to hold the one at this place.
+fn with_must(alloc: Global, bookings: &Bookings, index: u16) -> Result<Bookings, AllocError>
+    requires { index < length bookings.now }
+    ensures { IfOk result (λ b. b ≡ held bookings.now index) }
+{
+    let mut rows = Bookings::new(alloc);
+    for place in 0..bookings.len() {
+        let booking = bookings.nth(place);
+        let marked = if place == index {
+            booking.as_must()
+        } else {
+            booking
+        };
+        match rows.push(marked) {
+            Ok(()) => {}
+            Err(_) => return Err(AllocError),
+        }
+    }
+    Ok(rows)
+}

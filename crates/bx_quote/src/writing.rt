@@ -1,0 +1,106 @@
+//! Quotes, written.
+
+ghost use Rattle.std.specs.Prelude.{◌≡◌, ◌-◌, Ok, IfErr, OnOk, length};
+ghost use Rattle.bx_base.specs.Bookings.{row_at};
+ghost use Rattle.std.specs.Io.KnownBytes.{Appends};
+ghost use Rattle.bx_base.specs.Devices.{writing_of};
+ghost use Rattle.bx_base.specs.Watching.{device_of};
+ghost use Rattle.bx_base.specs.PlanParts.{parts_of};
+ghost use Rattle.bx_check.specs.Check.{IsOutcome};
+ghost use Rattle.bx_quote.specs.Quotes.{asked};
+ghost use Rattle.bx_quote.specs.Texts.{quote_text, explained_text, refused_text};
+ghost use Rattle.bx_quote.specs.Writing.{IsTold, IsQuoteRefusal, IsExplainRefusal, IsListRefusal, IsWriteFault};
+
+use crate::answer::QuoteFail;
+use crate::quoting::{explain, quote};
+use crate::texts::{explained_text, quote_text, refused_text};
+use bx_base::{Booking, Plan, Watched, write_octets};
+use std::alloc::Global;
+use std::io::Write;
+use thiserror::Error;
+
+/// Why a quote was not written.
+#[derive(Clone, Copy, Debug, PartialEq, Eq, Error)]
+pub enum QuoteFault {
+    /// There is none.
+    #[error("{0}")]
+    Quote(QuoteFail),
+    /// A write failed, or took none of what it was given: a front of the lines was written.
+    #[error("F2 CannotWrite")]
+    WriteFailed,
+}
+
+/// Writes what a booking that is not in the plan has to pay to be taken: `its seconds cost`, `taken above`, `instead of`
+/// and `besides`, a line each.
+pub fn write_quote<W: Write>(
+    alloc: Global,
+    plan: &Plan,
+    booking: &Booking,
+    output: &mut Watched<W>,
+) -> Result<(), QuoteFault>
+    requires proved { IsOutcome plan.now.bookings plan.now.channels (parts_of plan.now) (Ok plan.now.total) }
+    ensures told { OnOk result (IsTold (asked plan.now.bookings booking.now) (parts_of plan.now) (length plan.now.bookings) quote_text (writing_of W.contents output.old output.new)) }
+    ensures refused { IfErr result (IsQuoteRefusal (parts_of plan.now) booking.now (writing_of W.contents output.old output.new)) }
+{
+    let quote = match quote(alloc, plan, booking) {
+        Ok(quote) => quote,
+        Err(fail) => return Err(QuoteFault::Quote(fail)),
+    };
+    match quote_text(alloc, &quote) {
+        Ok(text) => put(output, &text),
+        Err(_) => Err(QuoteFault::Quote(QuoteFail::Memory)),
+    }
+}
+
+/// Writes what a row that the plan refuses has to pay to be taken: the same behind a line `row`, its name, `pays`, and
+/// what it pays.
+pub fn write_explained<W: Write>(
+    alloc: Global,
+    plan: &Plan,
+    row: u16,
+    output: &mut Watched<W>,
+) -> Result<(), QuoteFault>
+    requires proved { IsOutcome plan.now.bookings plan.now.channels (parts_of plan.now) (Ok plan.now.total) }
+    ensures told { OnOk result (IsTold plan.now.bookings (parts_of plan.now) (row - 1) (explained_text row (row_at plan.now.bookings (row - 1)).pay) (writing_of W.contents output.old output.new)) }
+    ensures refused { IfErr result (IsExplainRefusal (parts_of plan.now) row (writing_of W.contents output.old output.new)) }
+{
+    let Some(booking) = plan.bookings.get(row) else {
+        return Err(QuoteFault::Quote(QuoteFail::NoSuchRow));
+    };
+    let quote = match explain(alloc, plan, row) {
+        Ok(quote) => quote,
+        Err(fail) => return Err(QuoteFault::Quote(fail)),
+    };
+    match explained_text(alloc, row, booking.pay(), &quote) {
+        Ok(text) => put(output, &text),
+        Err(_) => Err(QuoteFault::Quote(QuoteFail::Memory)),
+    }
+}
+
+/// Writes a line for each row that the plan refuses, its name, `pays`, what it pays, `of`, and what its seconds cost at
+/// the plan's prices; then a line `refused`, how many these are, `of`, and how many rows the plan has.
+pub fn write_refused<W: Write>(
+    alloc: Global,
+    plan: &Plan,
+    output: &mut Watched<W>,
+) -> Result<(), QuoteFault>
+    requires proved { IsOutcome plan.now.bookings plan.now.channels (parts_of plan.now) (Ok plan.now.total) }
+    ensures told { OnOk result (Appends (W.contents (device_of output.old)) (W.contents (device_of output.new)) (refused_text (parts_of plan.now))) }
+    ensures refused { IfErr result (IsListRefusal (parts_of plan.now) (writing_of W.contents output.old output.new)) }
+{
+    match refused_text(alloc, plan) {
+        Ok(text) => put(output, &text),
+        Err(_) => Err(QuoteFault::Quote(QuoteFail::Memory)),
+    }
+}
+
+/// Writes a text.
+fn put<W: Write>(output: &mut Watched<W>, text: &[u8]) -> Result<(), QuoteFault>
+    ensures all { OnOk result (Appends (W.contents (device_of output.old)) (W.contents (device_of output.new)) text.now) }
+    ensures fault { IfErr result (IsWriteFault (writing_of W.contents output.old output.new) text.now) }
+{
+    match write_octets(output, text) {
+        Ok(()) => Ok(()),
+        Err(_) => Err(QuoteFault::WriteFailed),
+    }
+}

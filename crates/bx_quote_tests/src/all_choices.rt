@@ -1,0 +1,195 @@
+//! Quotes and explanations against a search through all choices of six bookings.
+
+use crate::rows::{Row, booking_of, plan_of};
+use crate::sets::{best_sets, first_full, is_in, is_lawful, most_beside, pay_beside, power_of};
+use bx_base::{Channel, Price};
+use bx_quote::{Quote, QuoteFail, explain, quote};
+use std::alloc::Global;
+use std::test::Fail;
+
+/// Six rows on so many channels, of which the one at this index is asked for and free. The plan is for the first rows:
+/// for all six, or for all but the last.
+#[derive(Drop)]
+struct Asked<'a> {
+    rows: &'a [Row],
+    count: usize,
+    index: usize,
+}
+
+/// The next number of a simple generator.
+fn next(seed: u32) -> u32 {
+    seed.wrapping_mul(1_103_515_245).wrapping_add(12_345) % 2_147_483_648
+}
+
+/// Six rows within twelve seconds, of few different pays, so that there are ties.
+fn random_rows(mut seed: u32) -> [Row; 6] {
+    let mut rows = [(0, 1, 1, false); 6];
+    for row in rows.iter_mut() {
+        let a = next(seed);
+        let b = next(a);
+        let c = next(b);
+        seed = c;
+        let start = (a / 65536) % 8;
+        let length = 1 + (b / 65536) % 4;
+        let pay = 1 + u64::from((c / 65536) % 5);
+        *row = (start, start + length, pay, (c / 1024) % 7 == 0);
+    }
+    rows
+}
+
+/// What the seconds of the row cost.
+fn cost_at(row: &Row, prices: &[Price]) -> u64 {
+    let mut cost = 0u64;
+    for price in prices {
+        if row.0 <= price.moment && price.moment < row.1 {
+            cost = cost.saturating_add(price.amount);
+        }
+    }
+    cost
+}
+
+/// The set of the rows that have a channel.
+fn set_of(assigned: &[Option<Channel>]) -> u32 {
+    let mut set = 0;
+    for (index, channel) in assigned.iter().enumerate() {
+        if channel.is_some() {
+            set |= power_of(index);
+        }
+    }
+    set
+}
+
+/// The set of these rows, named 1, 2, ..
+fn set_of_named(named: &[u16]) -> u32 {
+    let mut set = 0;
+    for row in named {
+        set |= power_of((*row as usize).saturating_sub(1));
+    }
+    set
+}
+
+/// Whether accepted rows are traded for refused ones and the row, so that what is left is lawful, and pays what is due.
+fn is_traded(asked: &Asked<'_>, accepted: u32, quote: &Quote) -> bool {
+    let instead = set_of_named(&quote.instead);
+    let besides = set_of_named(&quote.besides) | power_of(asked.index);
+    let paid = quote
+        .threshold
+        .saturating_add(pay_beside(asked.rows, besides, asked.index));
+    instead & !accepted == 0
+        && besides & accepted == 0
+        && !is_in(set_of_named(&quote.besides), asked.index)
+        && is_lawful(asked.rows, (accepted & !instead) | besides, asked.count)
+        && paid == pay_beside(asked.rows, instead, 6)
+}
+
+/// Whether best sets hold the row as they should, where it pays so much.
+fn is_decided(asked: &Asked<'_>, threshold: u64, pay: u64) -> bool {
+    let mut rows = [(0, 1, 1, false); 6];
+    for (index, row) in rows.iter_mut().enumerate() {
+        if let Some(given) = asked.rows.get(index) {
+            *row = *given;
+        }
+        if index == asked.index {
+            row.2 = pay;
+        }
+    }
+    best_sets(&rows, asked.count, asked.index) == (pay >= threshold, pay <= threshold)
+}
+
+/// Whether they do so at pays below, at and above the threshold.
+fn decides(asked: &Asked<'_>, threshold: u64) -> bool {
+    let above = threshold.saturating_add(1);
+    let pays = [
+        1,
+        threshold.saturating_sub(1),
+        threshold,
+        above,
+        1_000_000_000,
+    ];
+    pays.iter().all(|pay| is_decided(asked, threshold, *pay))
+}
+
+/// Whether the quote is the one that the search finds.
+fn is_right(asked: &Asked<'_>, accepted: u32, prices: &[Price], quote: &Quote) -> bool {
+    let without = most_beside(asked.rows, asked.count, asked.index, false);
+    let beside = most_beside(asked.rows, asked.count, asked.index, true);
+    let (Some(without), Some(beside), Some(row)) = (without, beside, asked.rows.get(asked.index))
+    else {
+        return false;
+    };
+    quote.threshold.saturating_add(beside) == without
+        && quote.cost == cost_at(row, prices)
+        && quote.cost <= quote.threshold
+        && is_traded(asked, accepted, quote)
+        && decides(asked, quote.threshold)
+}
+
+/// Whether the answer is the one that the search finds, for a row that is not accepted.
+fn is_answer(
+    asked: &Asked<'_>,
+    accepted: u32,
+    prices: &[Price],
+    answer: &Result<Quote, QuoteFail>,
+) -> bool {
+    match answer {
+        Ok(quote) => is_right(asked, accepted, prices, quote),
+        Err(QuoteFail::NoChannel(moment)) => {
+            most_beside(asked.rows, asked.count, asked.index, true).is_none()
+                && first_full(asked.rows, asked.count, asked.index) == Some(*moment)
+        }
+        Err(_) => false,
+    }
+}
+
+/// Whether the row at this index is explained rightly, where there is a plan.
+fn is_explained(alloc: Global, rows: &[Row], count: usize, index: u16) -> bool {
+    let Some(plan) = plan_of(alloc, rows, count) else {
+        return true;
+    };
+    let accepted = set_of(&plan.assigned);
+    let row = index.saturating_add(1);
+    let answer = explain(alloc, &plan, row);
+    if is_in(accepted, index as usize) {
+        return matches!(answer, Err(QuoteFail::Accepted(named)) if named == row);
+    }
+    let asked = Asked {
+        rows,
+        count,
+        index: index as usize,
+    };
+    is_answer(&asked, accepted, &plan.prices, &answer)
+}
+
+/// Whether the last row is quoted rightly beside a plan of the five before it, where there is one.
+fn is_quoted(alloc: Global, rows: &[Row; 6], count: usize) -> bool {
+    let Some(plan) = plan_of(alloc, &rows[..5], count) else {
+        return true;
+    };
+    let Some(booking) = booking_of(&rows[5]) else {
+        return false;
+    };
+    let mut free = *rows;
+    free[5].3 = false;
+    let asked = Asked {
+        rows: &free,
+        count,
+        index: 5,
+    };
+    let answer = quote(alloc, &plan, &booking);
+    is_answer(&asked, set_of(&plan.assigned), &plan.prices, &answer)
+}
+
+#[test]
+fn no_choice_contradicts_a_quote(rt: HostRuntime) -> Result<(), Fail> {
+    for seed in 0..60u32 {
+        let rows = random_rows(seed.wrapping_mul(7919));
+        for count in 0..3usize {
+            assert!(rt; is_quoted(rt.alloc(), &rows, count), "quote {seed} {count}");
+            for index in 0..6u16 {
+                let explained = is_explained(rt.alloc(), &rows, count, index);
+                assert!(rt; explained, "explain {seed} {count} {index}");
+            }
+        }
+    }
+    Ok(())
+}

@@ -1,0 +1,146 @@
+//! Quotes of worked days.
+
+use crate::rows::{Row, booking_of, plan_of};
+use bx_quote::{Quote, QuoteFail, explain, quote};
+use std::alloc::Global;
+
+/// What is asked for.
+enum Ask {
+    /// A booking behind the plan's rows.
+    New(Row),
+    /// A row of the plan.
+    Refused(u16),
+}
+
+/// The rows of a day on so many channels, what is asked, and the whole answer.
+struct Worked {
+    rows: &'static [Row],
+    count: usize,
+    ask: Ask,
+    threshold: u64,
+    cost: u64,
+    instead: &'static [u16],
+    besides: &'static [u16],
+}
+
+static WORKED: [Worked; 9] = [
+    // the place is free
+    Worked {
+        rows: &[(0, 10, 5, false)],
+        count: 1,
+        ask: Ask::New((10, 20, 1, false)),
+        threshold: 0,
+        cost: 0,
+        instead: &[],
+        besides: &[],
+    },
+    // it has to beat the one that is there, and its own mark and pay do not count
+    Worked {
+        rows: &[(0, 60, 5, false)],
+        count: 1,
+        ask: Ask::New((30, 90, 1_000_000_000, true)),
+        threshold: 5,
+        cost: 0,
+        instead: &[1],
+        besides: &[],
+    },
+    // a refused row has to beat both that it would displace, which is more than its seconds cost
+    Worked {
+        rows: &[(0, 10, 4, false), (5, 15, 6, false), (10, 20, 4, false)],
+        count: 1,
+        ask: Ask::Refused(2),
+        threshold: 8,
+        cost: 6,
+        instead: &[1, 3],
+        besides: &[],
+    },
+    // what it displaces had kept two others out
+    Worked {
+        rows: &[(0, 30, 10, false), (0, 10, 4, false), (20, 30, 5, false)],
+        count: 1,
+        ask: Ask::New((10, 20, 7, false)),
+        threshold: 1,
+        cost: 0,
+        instead: &[1],
+        besides: &[2, 3],
+    },
+    // a refused row comes back beside a refused row
+    Worked {
+        rows: &[(0, 30, 10, false), (0, 10, 4, false), (20, 30, 5, false)],
+        count: 1,
+        ask: Ask::Refused(2),
+        threshold: 5,
+        cost: 4,
+        instead: &[1],
+        besides: &[3],
+    },
+    // a must row stays, though it pays less
+    Worked {
+        rows: &[(0, 10, 1, true), (0, 10, 7, false), (0, 10, 9, false)],
+        count: 2,
+        ask: Ask::Refused(2),
+        threshold: 9,
+        cost: 7,
+        instead: &[3],
+        besides: &[],
+    },
+    // the threshold is above every pay
+    Worked {
+        rows: &[
+            (0, 10, 1_000_000_000, false),
+            (10, 20, 1_000_000_000, false),
+            (20, 30, 1_000_000_000, false),
+        ],
+        count: 1,
+        ask: Ask::New((5, 25, 1_000_000_000, false)),
+        threshold: 3_000_000_000,
+        cost: 0,
+        instead: &[1, 2, 3],
+        besides: &[],
+    },
+    // of two channels one gets free where it is cheaper
+    Worked {
+        rows: &[(0, 20, 8, false), (0, 10, 3, false), (10, 20, 4, false)],
+        count: 2,
+        ask: Ask::New((5, 15, 5, false)),
+        threshold: 7,
+        cost: 0,
+        instead: &[2, 3],
+        besides: &[],
+    },
+    Worked {
+        rows: &[],
+        count: 2,
+        ask: Ask::New((0, 200_000, 5, false)),
+        threshold: 0,
+        cost: 0,
+        instead: &[],
+        besides: &[],
+    },
+];
+
+fn answer(alloc: Global, case: &Worked) -> Option<Result<Quote, QuoteFail>> {
+    let plan = plan_of(alloc, case.rows, case.count)?;
+    Some(match &case.ask {
+        Ask::New(row) => quote(alloc, &plan, &booking_of(row)?),
+        Ask::Refused(row) => explain(alloc, &plan, *row),
+    })
+}
+
+fn is_as(quote: &Quote, case: &Worked) -> bool {
+    quote.threshold == case.threshold
+        && quote.cost == case.cost
+        && quote.instead.as_slice() == case.instead
+        && quote.besides.as_slice() == case.besides
+}
+
+#[test]
+fn answers_are_whole(rt: HostRuntime) {
+    for (index, case) in WORKED.iter().enumerate() {
+        let found = match answer(rt.alloc(), case) {
+            Some(Ok(quote)) => is_as(&quote, case),
+            _ => false,
+        };
+        assert!(rt; found, "case {index}");
+    }
+}
