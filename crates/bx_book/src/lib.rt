@@ -14,5 +14,6 @@ mod time;
 
 pub use day::{Day, DayFault, MAX_DAY};
 pub use fault::BookFault;
+pub use field::moment;
 pub use stream::{StreamFault, read_bookings_from};
 pub use text::read_bookings;

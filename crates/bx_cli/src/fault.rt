@@ -9,6 +9,7 @@ use bx_commands::CommandFault;
 use bx_far::ScriptFault;
 use bx_link::LinkFault;
 use bx_planner::{AmendFault, RunFault};
+use bx_quote::QuoteFault;
 use thiserror::Error;
 
 /// The refusal of a command line, which is printed behind `bx: `.
@@ -32,6 +33,9 @@ pub enum CliFault<'a> {
     /// The plan was not amended.
     #[error("{0}")]
     Amend(AmendFault),
+    /// No quote was written.
+    #[error("{0}")]
+    Quote(QuoteFault),
     /// What was read is no script.
     #[error("{0}")]
     Script(ScriptFault),

@@ -4,6 +4,7 @@
 mod fault;
 mod loopback;
 mod planning;
+mod quoting;
 mod running;
 mod words;
 

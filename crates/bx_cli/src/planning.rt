@@ -21,7 +21,7 @@ fn channels_and_day<'a>(terms: &Terms<'_>) -> Result<(ChannelSet, Day), CliFault
 }
 
 /// The day that these words name.
-fn day_of<'a>(date: &str, zone: &str) -> Result<Day, CliFault<'a>> {
+pub fn day_of<'a>(date: &str, zone: &str) -> Result<Day, CliFault<'a>> {
     match Day::new(date, zone) {
         Ok(day) => Ok(day),
         Err(fault) => Err(CliFault::Day(fault)),

@@ -10,6 +10,7 @@ ghost use Rattle.bx_commands.specs.declared.fault.CommandFault.{CommandFault};
 
 use crate::fault::CliFault;
 use crate::planning::{amend_file, check_file, plan_file};
+use crate::quoting::{explain_file, quote_file};
 use crate::running::{day_of_files, far_file, serve_file};
 use bx_base::{Watched, write_octets};
 use bx_commands::{CommandFault, check_self, decode};
@@ -79,6 +80,8 @@ fn run<'a, H: Files + AllocGlobal + Net<Listener = TcpListener, Stream = TcpStre
             plan,
             bookings,
         } => amend_file(rt, (date, zone), plan, bookings, output),
+        Request::Explain { plan, row } => explain_file(rt, plan, row, output),
+        Request::Quote { plan, call } => quote_file(rt, plan, &call, output),
         Request::Day {
             plan,
             script,

@@ -5,7 +5,7 @@ use std::fs;
 use std::test::Fail;
 
 /// Words with spaces between, status, standard output, and how standard error begins.
-type Case = (&'static str, u8, &'static str, &'static str);
+pub(crate) type Case = (&'static str, u8, &'static str, &'static str);
 
 static PLANS: [Case; 14] = [
     (
@@ -261,7 +261,7 @@ static OPTIONS: [Case; 8] = [
 ];
 
 /// The first words that do something else.
-fn first_wrong(
+pub(crate) fn first_wrong(
     rt: &HostRuntime,
     folder: &str,
     cases: &[Case],

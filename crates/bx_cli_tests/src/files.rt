@@ -6,7 +6,7 @@ use std::test::Fail;
 use std::{env, fs};
 
 /// The files of the cases. In what follows `@` stands for the folder that they lie in.
-static FILES: [(&str, &str); 18] = [
+static FILES: [(&str, &str); 21] = [
     (
         "one.csv",
         "start,end,number,pay\n2026-01-05T00:00:00Z,2026-01-05T00:01:00Z,1234,5\n",
@@ -57,6 +57,18 @@ static FILES: [(&str, &str); 18] = [
         "number,policy,seconds,channel\n1234,call,12,2\n1234,silent,0,\n",
     ),
     ("dance.csv", "number,policy,seconds\n*,dance,0\n"),
+    (
+        "trade.txt",
+        "bx-plan 3\nchannels 1\nbookings 3\n0 30 10 1 1 free out\n0 10 4 2 - free out\n20 30 5 3 - free out\nprices 2\n0 4\n20 5\ntotal 10\nend\n",
+    ),
+    (
+        "must.txt",
+        "bx-plan 3\nchannels 1\nbookings 2\n0 60 5 1234 1 must out\n30 90 7 1234 - free out\nprices 1\n30 7\ntotal 5\nend\n",
+    ),
+    (
+        "unproved.txt",
+        "bx-plan 3\nchannels 1\nbookings 1\n0 60 5 1234 - free out\nprices 0\ntotal 0\nend\n",
+    ),
     (
         "none.txt",
         "bx-plan 3\nchannels 1\nbookings 0\nprices 0\ntotal 0\nend\n",

@@ -18,6 +18,8 @@ mod ports;
 #[cfg(test)]
 mod program;
 #[cfg(test)]
+mod quote_commands;
+#[cfg(test)]
 mod worked_texts;
 #[cfg(test)]
 mod worked_words;

@@ -1,16 +1,24 @@
 //! The arguments that commands take.
 
-use clap::{Arg, value_parser};
-use std::alloc::Global;
+use clap::{Arg, ArgAction, value_parser};
+use std::alloc::{AllocError, Global};
 
 /// How an argument is written.
 pub enum Form {
     /// A word at its place, which has to be there.
     Place,
+    /// A number at its place, which may be left out.
+    Number,
     /// An option that has to be there.
     Needed,
     /// An option that stands for this where it is not there.
     Default(&'static str),
+    /// An option that may be left out.
+    Optional,
+    /// An option that may be left out, and stands only beside another.
+    Beside(&'static str),
+    /// An option without a value.
+    Flag,
     /// An option for a number of seconds of a day, from 1 on.
     Seconds,
     /// An option for a port, which has to be there.
@@ -88,15 +96,62 @@ pub const OCTETS: Argument = Argument {
     help: "The octets of the message, in hexadecimal",
 };
 
+pub const ROW: Argument = Argument {
+    name: "row",
+    value: "ROW",
+    form: Form::Number,
+    help: "The row of the plan, counted from 1; without it all refused rows",
+};
+
+pub const START: Argument = Argument {
+    name: "start",
+    value: "START",
+    form: Form::Place,
+    help: "The first second of the call: a second of the day, or with --date a time as 2026-01-05T08:00:00Z",
+};
+
+pub const END: Argument = Argument {
+    name: "end",
+    value: "END",
+    form: Form::Place,
+    help: "The first second behind the call, in the same form",
+};
+
+pub const INWARD: Argument = Argument {
+    name: "inward",
+    value: "",
+    form: Form::Flag,
+    help: "The far end makes the call",
+};
+
+pub const DAY: Argument = Argument {
+    name: "date",
+    value: "DATE",
+    form: Form::Optional,
+    help: "The day of the plan, as YYYY-MM-DD, where START and END are times",
+};
+
+pub const DAY_ZONE: Argument = Argument {
+    name: "zone",
+    value: "RULE",
+    form: Form::Beside("date"),
+    help: "The zone of its midnights, as a POSIX rule like CET-1CEST,M3.5.0,M10.5.0/3 [default: UTC0]",
+};
+
 /// The argument as `clap` knows it.
-pub fn arg_of<'a>(alloc: Global, argument: &Argument) -> Arg<'a> {
-    let arg = Arg::new(alloc, argument.name)
-        .value_name(argument.value)
-        .help(argument.help);
-    match argument.form {
+pub fn arg_of<'a>(alloc: Global, argument: &Argument) -> Result<Arg<'a>, AllocError> {
+    let arg = Arg::new(alloc, argument.name).help(argument.help);
+    if let Form::Flag = argument.form {
+        return Ok(arg.long(argument.name).action(ArgAction::SetTrue));
+    }
+    let arg = arg.value_name(argument.value);
+    Ok(match argument.form {
         Form::Place => arg.required(true),
+        Form::Number => arg.value_parser(value_parser!(u16)),
         Form::Needed => arg.long(argument.name).required(true),
         Form::Default(value) => arg.long(argument.name).default_value(value),
+        Form::Optional | Form::Flag => arg.long(argument.name),
+        Form::Beside(other) => arg.long(argument.name).requires_arg(other)?,
         Form::Seconds => arg
             .long(argument.name)
             .value_parser(value_parser!(u32).range(1..=300_000)),
@@ -104,5 +159,5 @@ pub fn arg_of<'a>(alloc: Global, argument: &Argument) -> Arg<'a> {
             .long(argument.name)
             .required(true)
             .value_parser(value_parser!(u16).range(1..)),
-    }
+    })
 }

@@ -1,7 +1,8 @@
 //! The command line as `clap` knows it.
 
 use crate::arguments::{
-    Argument, BOOKINGS, CHANNELS, DATE, OCTETS, PLAN, PORT, SCRIPT, TURNS, ZONE, arg_of,
+    Argument, BOOKINGS, CHANNELS, DATE, DAY, DAY_ZONE, END, INWARD, OCTETS, PLAN, PORT, ROW,
+    SCRIPT, START, TURNS, ZONE, arg_of,
 };
 use clap::Command;
 use std::alloc::{AllocError, Global};
@@ -21,6 +22,8 @@ const AFTER: &str = "Examples:
   bx check --date 2026-03-29 --zone CET-1CEST,M3.5.0,M10.5.0/3 day.csv plan.txt
   bx < plan.txt
   bx amend --date 2026-03-29 --zone CET-1CEST,M3.5.0,M10.5.0/3 plan.txt more.csv > amended.txt
+  bx explain plan.txt 2
+  bx quote plan.txt 28800 30600
   bx day plan.txt script.csv
   bx serve plan.txt --port 9931
   bx far script.csv --port 9931
@@ -35,7 +38,7 @@ struct Words {
     arguments: &'static [Argument],
 }
 
-static COMMANDS: [Words; 7] = [
+static COMMANDS: [Words; 9] = [
     Words {
         name: "plan",
         about: "Print the best plan of a day's bookings",
@@ -50,6 +53,16 @@ static COMMANDS: [Words; 7] = [
         name: "amend",
         about: "Print the best plan that holds all that a plan accepts, for its bookings and more of the day",
         arguments: &[DATE, ZONE, PLAN, BOOKINGS],
+    },
+    Words {
+        name: "explain",
+        about: "Print what each booking that a proved plan refuses pays, and what its seconds cost; or what one of them has to pay to be taken",
+        arguments: &[PLAN, ROW],
+    },
+    Words {
+        name: "quote",
+        about: "Print what a further booking has to pay to be taken beside those of a proved plan",
+        arguments: &[PLAN, START, END, INWARD, DAY, DAY_ZONE],
     },
     Words {
         name: "day",
@@ -76,7 +89,7 @@ static COMMANDS: [Words; 7] = [
 fn command_of<'a>(alloc: Global, words: &Words) -> Result<Command<'a>, AllocError> {
     let mut command = Command::new(alloc, words.name).about(words.about);
     for argument in words.arguments {
-        command = command.arg(arg_of(alloc, argument))?;
+        command = command.arg(arg_of(alloc, argument)?)?;
     }
     Ok(command)
 }

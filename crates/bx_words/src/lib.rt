@@ -6,4 +6,4 @@ mod channel_list;
 mod command_line;
 mod request;
 
-pub use request::{Refusal, Request, Terms, read_words};
+pub use request::{Call, Refusal, Request, Terms, read_words};

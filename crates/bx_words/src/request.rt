@@ -14,6 +14,16 @@ pub struct Terms<'a> {
     pub channels: Vec<u8>,
 }
 
+/// A call that is asked for, as the words name it.
+#[derive(Clone, Copy)]
+pub struct Call<'a> {
+    pub start: &'a str,
+    pub end: &'a str,
+    pub inward: bool,
+    /// The date and the zone of the day, where the start and the end are times.
+    pub day: Option<(&'a str, &'a str)>,
+}
+
 /// One command, with its words.
 #[derive(Drop)]
 pub enum Request<'a> {
@@ -34,6 +44,16 @@ pub enum Request<'a> {
         zone: &'a str,
         plan: &'a str,
         bookings: &'a str,
+    },
+    /// Print what each row that a plan refuses pays, and what its seconds cost; or what one row has to pay to be taken.
+    Explain {
+        plan: &'a str,
+        row: Option<u16>,
+    },
+    /// Print what a further call has to pay to be taken beside those of a plan.
+    Quote {
+        plan: &'a str,
+        call: Call<'a>,
     },
     /// Run both ends of a plan's day.
     Day {
@@ -132,6 +152,17 @@ fn terms_of<'a>(alloc: Global, matches: &ArgMatches<'a>) -> Result<Terms<'a>, Re
     }
 }
 
+/// The call that these words name.
+fn call_of<'a>(matches: &ArgMatches<'a>) -> Call<'a> {
+    let zone = matches.get_str("zone").unwrap_or("UTC0");
+    Call {
+        start: word(matches, "start"),
+        end: word(matches, "end"),
+        inward: matches.get_flag("inward"),
+        day: matches.get_str("date").map(|date| (date, zone)),
+    }
+}
+
 fn request_of<'a>(
     alloc: Global,
     name: &str,
@@ -152,6 +183,14 @@ fn request_of<'a>(
             zone: word(matches, "zone"),
             plan: word(matches, "plan"),
             bookings: word(matches, "bookings"),
+        }),
+        "explain" => Ok(Request::Explain {
+            plan: word(matches, "plan"),
+            row: matches.get_one::<u16>("row"),
+        }),
+        "quote" => Ok(Request::Quote {
+            plan: word(matches, "plan"),
+            call: call_of(matches),
         }),
         "day" => Ok(Request::Day {
             plan: word(matches, "plan"),

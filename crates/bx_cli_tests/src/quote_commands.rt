@@ -1,0 +1,164 @@
+//! The commands that answer for what a plan refuses, with what they print.
+
+use crate::file_commands::{Case, first_wrong};
+use crate::files::{folder, placed};
+use bx_base::{Failing, Watched};
+use bx_cli::main_words;
+use std::fs;
+use std::test::Fail;
+
+static EXPLAINED: [Case; 14] = [
+    (
+        "explain @four.txt",
+        0,
+        "2 pays 2 of 2\nrefused 1 of 4\n",
+        "",
+    ),
+    (
+        "explain @trade.txt",
+        0,
+        "2 pays 4 of 4\n3 pays 5 of 5\nrefused 2 of 3\n",
+        "",
+    ),
+    ("explain @none.txt", 0, "refused 0 of 0\n", ""),
+    (
+        "explain @four.txt 2",
+        0,
+        "row 2 pays 2\nits seconds cost 2\ntaken above 3\ninstead of 1\nbesides none\n",
+        "",
+    ),
+    (
+        "explain @trade.txt 2",
+        0,
+        "row 2 pays 4\nits seconds cost 4\ntaken above 5\ninstead of 1\nbesides 3\n",
+        "",
+    ),
+    (
+        "explain @must.txt",
+        0,
+        "2 pays 7 of 7\nrefused 1 of 2\n",
+        "",
+    ),
+    ("explain @must.txt 2", 1, "", "bx: Q1 NoChannel 30\n"),
+    ("explain @four.txt 0", 1, "", "bx: Q2 NoSuchRow\n"),
+    ("explain @four.txt 5", 1, "", "bx: Q2 NoSuchRow\n"),
+    ("explain @four.txt 4", 1, "", "bx: Q3 Accepted 4\n"),
+    ("explain @unproved.txt", 1, "", "bx: C7 NotProved 5\n"),
+    ("explain @gone 1", 1, "", "bx: F1 CannotRead @gone\n"),
+    ("explain @four.txt x", 2, "", "error: "),
+    ("explain", 2, "", "error: "),
+];
+
+static QUOTED: [Case; 22] = [
+    (
+        "quote @four.txt 10 20",
+        0,
+        "its seconds cost 0\ntaken above 1\ninstead of 4\nbesides none\n",
+        "",
+    ),
+    (
+        "quote @four.txt 2026-01-05T00:00:10Z 2026-01-05T01:00:20.0+01:00 --date 2026-01-05",
+        0,
+        "its seconds cost 0\ntaken above 1\ninstead of 4\nbesides none\n",
+        "",
+    ),
+    (
+        "quote @four.txt 2026-01-04T23:00:10Z 2026-01-04T23:00:20Z --zone CET-1CEST,M3.5.0,M10.5.0/3 --date 2026-01-05",
+        0,
+        "its seconds cost 0\ntaken above 1\ninstead of 4\nbesides none\n",
+        "",
+    ),
+    (
+        "quote --inward @trade.txt 10 20",
+        0,
+        "its seconds cost 0\ntaken above 1\ninstead of 1\nbesides 2 3\n",
+        "",
+    ),
+    (
+        "quote @four.txt 20 200000",
+        0,
+        "its seconds cost 0\ntaken above 0\ninstead of none\nbesides none\n",
+        "",
+    ),
+    (
+        "quote @trade.txt 0 30",
+        0,
+        "its seconds cost 9\ntaken above 10\ninstead of 1\nbesides none\n",
+        "",
+    ),
+    ("quote @must.txt 59 90", 1, "", "bx: Q1 NoChannel 59\n"),
+    ("quote @unproved.txt 0 10", 1, "", "bx: C7 NotProved 5\n"),
+    ("quote @short.txt 0 10", 1, "", "bx: P1 BadLine 3\n"),
+    ("quote @gone 0 10", 1, "", "bx: F1 CannotRead @gone\n"),
+    ("quote @gone 00 10", 1, "", "bx: B3 NotATime 1\n"),
+    ("quote @gone 0 1x", 1, "", "bx: B3 NotATime 1\n"),
+    ("quote @gone 10 200001", 1, "", "bx: B5 OutsideDay 1\n"),
+    (
+        "quote @gone 10 99999999999999999999",
+        1,
+        "",
+        "bx: B5 OutsideDay 1\n",
+    ),
+    ("quote @gone 10 10", 1, "", "bx: B6 EndNotAfterStart 1\n"),
+    (
+        "quote @gone 10 20 --date 2026-01-05",
+        1,
+        "",
+        "bx: B3 NotATime 1\n",
+    ),
+    (
+        "quote @gone 2026-01-05T00:00:10.5Z 2026-01-05T00:00:20Z --date 2026-01-05",
+        1,
+        "",
+        "bx: B4 NotWholeSeconds 1\n",
+    ),
+    (
+        "quote @gone 2026-01-04T23:59:59Z 2026-01-05T00:00:20Z --date 2026-01-05",
+        1,
+        "",
+        "bx: B5 OutsideDay 1\n",
+    ),
+    (
+        "quote @gone x x --date 2026-02-29",
+        1,
+        "",
+        "bx: A1 BadDate\n",
+    ),
+    ("quote @four.txt 10 20 --zone UTC0", 2, "", "error: "),
+    ("quote @four.txt 10", 2, "", "error: "),
+    ("quote @four.txt 10 20 30", 2, "", "error: "),
+];
+
+/// What is written of a row, whole.
+static TEXT: &str = "row 2 pays 4\nits seconds cost 4\ntaken above 5\ninstead of 1\nbesides 3\n";
+
+/// Whether a writer that fails after so many writes of an octet has that front of the lines, and the failure is
+/// printed and answered where that is not all.
+fn writes(rt: &HostRuntime, plan: &str, calls: u32) -> bool {
+    let mut input = Watched::new(b"".as_slice());
+    let mut output = Watched::new(Failing::new(Vec::new(rt.alloc()), calls, 1));
+    let mut errors = Watched::new(Vec::new(rt.alloc()));
+    let words = ["explain", plan, "2"];
+    let status = main_words(rt, &words, &mut input, &mut output, &mut errors);
+    let written = output.into_inner().into_inner();
+    let is_front = written.len() == calls as usize && TEXT.as_bytes().starts_with(&written);
+    let (expected, said) = if written.len() == TEXT.len() {
+        (0, "")
+    } else {
+        (1, "bx: F2 CannotWrite\n")
+    };
+    is_front && status == expected && errors.into_inner().as_slice() == said.as_bytes()
+}
+
+#[test]
+fn answers_for_what_is_refused(rt: HostRuntime) -> Result<(), Fail> {
+    let folder = folder(&rt)?;
+    assert_eq!(rt; first_wrong(&rt, &folder, &EXPLAINED)?, None);
+    assert_eq!(rt; first_wrong(&rt, &folder, &QUOTED)?, None);
+    let plan = placed(rt.alloc(), "@trade.txt", &folder)?;
+    for calls in 0..70u32 {
+        assert!(rt; writes(&rt, &plan, calls), "{calls}");
+    }
+    fs::remove_dir_all(&rt, folder.as_str())?;
+    Ok(())
+}
