@@ -29,7 +29,7 @@ const AFTER: &str = "Examples:
   bx far script.csv --port 9931
   bx decode 080280015A08028091
 
-Status: 0 done, 1 refused (one line on standard error says why), 2 wrong words.";
+Status: 0 done, 1 refused (one line on standard error says why; `bx help faults` says what each means), 2 wrong words.";
 
 /// A command: its name, its help, and its arguments in the order of the help.
 struct Words {

@@ -4,6 +4,7 @@
 mod arguments;
 mod channel_list;
 mod command_line;
+mod faults;
 mod request;
 
 pub use request::{Call, Refusal, Request, Terms, read_words};

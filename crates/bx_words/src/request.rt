@@ -2,6 +2,7 @@
 
 use crate::channel_list::channel_numbers;
 use crate::command_line::program_of_words;
+use crate::faults::FAULTS;
 use clap::error::ErrorKind;
 use clap::{ArgMatches, Error};
 use std::alloc::{AllocError, AllocFailed, Global};
@@ -212,8 +213,20 @@ fn request_of<'a>(
     }
 }
 
-/// The command of these words, which stand behind the program's name.
+/// The list of faults.
+fn faults(alloc: Global) -> Refusal {
+    match String::from_str(alloc, FAULTS) {
+        Ok(text) => Refusal::Help(text),
+        Err(_) => Refusal::Memory,
+    }
+}
+
+/// The command of these words, which stand behind the program's name. `help faults` is no command: it asks for the list
+/// of faults.
 pub fn read_words<'a>(alloc: Global, words: &'a [&'a str]) -> Result<Request<'a>, Refusal> {
+    if let ["help", "faults"] = words {
+        return Err(faults(alloc));
+    }
     match program_of_words(alloc)?.try_get_matches_from(words) {
         Ok(matches) => match matches.subcommand() {
             Some((name, found)) => request_of(alloc, name, found),
