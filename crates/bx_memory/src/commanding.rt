@@ -1,0 +1,111 @@
+//! The commands over readers and writers. A refused growth has to leave the output empty.
+
+use crate::world::{Answer, BOOKINGS, World};
+use bx_base::Watched;
+use bx_check::check;
+use bx_commands::{CommandFault, check_against, check_self, decode};
+use bx_planner::{RunFault, plan_run};
+use bx_quote::{QuoteFail, QuoteFault, write_explained, write_refused};
+use std::alloc::Global;
+
+/// A writer that has room for all that is written here, and does not grow.
+fn output_of(alloc: Global) -> Option<Watched<Vec<u8>>> {
+    match Vec::with_capacity(alloc, 4096) {
+        Ok(room) => Some(Watched::new(room)),
+        Err(_) => None,
+    }
+}
+
+/// What was written, by its length, where the call was done; nothing, where a growth was refused.
+fn told(output: Watched<Vec<u8>>, is_done: bool) -> Answer {
+    let written = output.into_inner().len() as u64;
+    if is_done {
+        return Answer::Right(written);
+    }
+    if written > 0 {
+        return Answer::Wrong;
+    }
+    Answer::Refused
+}
+
+pub fn plan_run_done(alloc: Global, world: &World) -> Answer {
+    let Some(mut output) = output_of(alloc) else {
+        return Answer::Refused;
+    };
+    let mut input = Watched::new(BOOKINGS);
+    match plan_run(alloc, &mut input, &mut output, &world.day, world.channels) {
+        Ok(_) => told(output, true),
+        Err(RunFault::Memory) => told(output, false),
+        Err(_) => Answer::Wrong,
+    }
+}
+
+pub fn checked(alloc: Global, world: &World) -> Answer {
+    let Some(mut output) = output_of(alloc) else {
+        return Answer::Refused;
+    };
+    let mut input = Watched::new(world.text.as_slice());
+    match check_self(alloc, &mut input, &mut output) {
+        Ok(_) => told(output, true),
+        Err(CommandFault::Memory) => told(output, false),
+        Err(_) => Answer::Wrong,
+    }
+}
+
+pub fn checked_against(alloc: Global, world: &World) -> Answer {
+    let Some(mut output) = output_of(alloc) else {
+        return Answer::Refused;
+    };
+    let mut input = Watched::new(world.text.as_slice());
+    match check_against(
+        alloc,
+        "plan.txt",
+        &world.bookings,
+        world.channels,
+        &mut input,
+        &mut output,
+    ) {
+        Ok(_) => told(output, true),
+        Err(CommandFault::Memory) => told(output, false),
+        Err(_) => Answer::Wrong,
+    }
+}
+
+pub fn refused_told(alloc: Global, world: &World) -> Answer {
+    let Some(mut output) = output_of(alloc) else {
+        return Answer::Refused;
+    };
+    if check(&world.plan.bookings, world.plan.channels, &world.plan).is_err() {
+        return Answer::Wrong;
+    }
+    match write_refused(alloc, &world.plan, &mut output) {
+        Ok(()) => told(output, true),
+        Err(QuoteFault::Quote(QuoteFail::Memory)) => told(output, false),
+        Err(_) => Answer::Wrong,
+    }
+}
+
+pub fn row_explained(alloc: Global, world: &World) -> Answer {
+    let Some(mut output) = output_of(alloc) else {
+        return Answer::Refused;
+    };
+    if check(&world.plan.bookings, world.plan.channels, &world.plan).is_err() {
+        return Answer::Wrong;
+    }
+    match write_explained(alloc, &world.plan, 2, &mut output) {
+        Ok(()) => told(output, true),
+        Err(QuoteFault::Quote(QuoteFail::Memory)) => told(output, false),
+        Err(_) => Answer::Wrong,
+    }
+}
+
+pub fn decoded(alloc: Global) -> Answer {
+    let Some(mut output) = output_of(alloc) else {
+        return Answer::Refused;
+    };
+    match decode(alloc, "080280015A08028091", &mut output) {
+        Ok(()) => told(output, true),
+        Err(CommandFault::Memory) => told(output, false),
+        Err(_) => Answer::Wrong,
+    }
+}
