@@ -1,69 +1,235 @@
--- The far end's turn: what was heard, and the tick behind it.
-use Rattle.std.proofs.Common.{◌≡◌, ℕ, ◌+◌, min, List, ◌++◌, refl, sym, ap, ◌∙◌, subst, append-nil, Option, Result, Err, Bool, true, false, ◌⊎◌, inl, inr}
+-- Turns of the far end, one after another.
+use Rattle.std.proofs.Common.{◌≡◌, ℕ, ◌+◌, ◌≤◌, min, zero, suc, List, [], ◌∷◌, ◌++◌, refl, sym, ap, ◌∙◌, subst, arith, Option, Result, Ok, Err, Bool, true, false, ◌⊎◌, inl, inr}
+use Rattle.bx_base.specs.declared.octets.WriteFailed.{WriteFailed as Failed}
 use Rattle.bx_base.specs.declared.watched.Watched.{Watched}
-use Rattle.bx_base.specs.Watching.{device_of, is_faulted}
-use Rattle.bx_far.specs.FarDay.{FarDay, far_tick}
-use Rattle.bx_link.specs.Talking.{Turn}
-use Rattle.bx_link.specs.Ends.{replies_over, far_next, far_reply}
-use Rattle.bx_link.specs.FarTurns.{TakesTurn, IsCutTurn, IsWholeTurn, IsTurnAnswer, far_due, far_turn, far_text, tick_text, goes_on}
-use Rattle.bx_link.specs.Hearing.{IsWhole, IsHeard, WritesAll, HearsBy}
+use Rattle.bx_day.specs.Run.{Event, Tick}
+use Rattle.bx_day.specs.Writing.{Writes}
+use Rattle.bx_far.specs.FarDay.{FarDay}
+use Rattle.bx_link.specs.Ends.{after, ticks_of, far_next, far_text}
+use Rattle.bx_link.specs.Talking.{Talk, stop, follow, follow_by, far_hears, far_turn, ticked, closed_before, far_talk_in}
+use Rattle.bx_link.specs.Hearing.{Goes, Went, no_tick, TakesTurn}
+use Rattle.bx_link.specs.Days.{FarTalks}
 use Rattle.bx_link.specs.declared.fault.LinkFault.{LinkFault}
-use Rattle.bx_link.specs.declared.fault.LinkFault.TheVariants.{WriteFailed}
-use Rattle.bx_link.specs.declared.fault.LinkFault.TheVariants as link
+use Rattle.bx_link.specs.declared.fault.LinkFault.TheVariants.{WriteFailed, Closed}
 use Rattle.bx_link.specs.declared.frame.Side.TheVariants.{FarEnd}
-use Rattle.bx_link.proofs.WritingAll.{gave, all_written, same_writer, writes_behind}
-use Rattle.bx_link.proofs.Hearing.{as_ended, not_faulted}
+use Rattle.bx_link.proofs.Composing.{gave, faulty, SoFar, nothing_yet, then_goes, then_so_far, all_goes}
+use Rattle.bx_link.proofs.Events.{ticks_more, no_last}
+use Rattle.bx_link.proofs.Following.{IsQuiet, follow_on, follow_fault, follow_day}
+use Rattle.bx_link.proofs.Hearing.{one_told, one_failed}
+use Rattle.bx_link.proofs.Turns.{IsEnded, IsLocalTalk, turn_nothing, turn_local}
+use Rattle.bx_link.proofs.WritingFrames.{done, stopped}
 
 -- the moment that is due, by a moment that is the same
 pub due_at : (due n m : ℕ) → due ≡ min (n + 1) 300000 → n ≡ m → due ≡ min (m + 1) 300000
 due_at due n m e f = e ∙ ap (λ (x : ℕ). min (x + 1) 300000) f
 
-whole_turn : (turn : Turn) (messages : List (List ℕ)) (b : Bool) (left : Option (List ℕ)) → IsHeard as_ended turn messages (gave b) left → IsWhole as_ended turn messages (gave b) left
-whole_turn turn messages b left (inl (front, inl e)) = cc
-whole_turn turn messages b left (inl (front, inr e)) = cc
-whole_turn turn messages b left (inr whole) = whole
+-- the ending is what it was said to be
+ended_so : (talk : Talk) (b : Bool) → talk.ending ≡ Ok b → talk ≡ record { events = talk.events; ending = Ok b; rest = talk.rest; behind = talk.behind }
+ended_so talk b e = ap (λ (x : Result Bool LinkFault). record { events = talk.events; ending = x; rest = talk.rest; behind = talk.behind }) e
 
-no_tick : (turn : Turn) (messages : List (List ℕ)) (result : Result Bool LinkFault) (left : Option (List ℕ)) → false ≡ goes_on result
-    → IsHeard as_ended turn messages result left → IsCutTurn turn messages false result ⊎ IsWholeTurn turn messages false result left
-no_tick turn messages result left stops (inl (front, failed)) = inl (record { front = front; stays = refl; failed = failed })
-no_tick turn messages result left stops (inr whole) = inr (record { all = whole.all; ticks = stops ∙ ap goes_on whole.ending; ending = inl whole.ending; rest = whole.rest })
+-- ---- one turn
 
 module _ {R W : Type 0} (remaining : R → Option (List ℕ)) (contents : W → Option (List ℕ)) (r r1 : Watched R) (w w1 : Watched W) (d d1 : FarDay) where
   abbrev HearsFar : Result Bool LinkFault → Type 0
-  HearsFar result = HearsBy far_next far_reply FarEnd (far_due d) remaining contents r r1 w w1 d d1 result
+  HearsFar result = Went far_next far_text (far_hears d) no_tick remaining contents r r1 w w1 d d1 result
 
-  -- a fault, or the end of the day: there is no tick
-  pub turn_stays : (result : Result Bool LinkFault) → IsTurnAnswer false result → false ≡ goes_on result → HearsFar result → TakesTurn remaining contents r r1 w w1 d d1 result
-  turn_stays result answers stops hears = record {
-    messages = hears.messages;
-    ticked = false;
-    day = hears.day;
-    turn = λ text known. no_tick (far_turn d text) hears.messages result (remaining (device_of r1)) stops (hears.turn text known);
-    answer = answers;
-    written = subst (WritesAll contents w w1 result) (sym (append-nil (replies_over far_next far_reply hears.messages d))) hears.replies;
-    faulted = hears.faulted;
-    unfaulted = hears.unfaulted;
+  abbrev Behind : List Event → List ℕ → Talk
+  Behind events = ticked
+
+  -- there is no tick
+  pub turn_stopped : (fault : LinkFault) → HearsFar (faulty fault) → TakesTurn remaining contents r r1 w w1 d d1 (faulty fault)
+  turn_stopped fault hears = record {
+    events = hears.events;
+    goes = follow_fault (far_hears d) Behind (far_hears d) far_next far_text remaining contents r r1 w w1 d d1 hears.events fault (λ last. absurd (no_last hears.events hears.ticks last)) hears.goes;
+    ticks = inl hears.ticks;
   }
 
-  -- the end of the turn, and a tick whose messages were written, or a front of them
-  module _ (hears : HearsFar (gave true)) (w2 : Watched W) (d2 : FarDay) (step : d2 ≡ (far_tick d1).day) (result : Result Bool LinkFault) (answers : IsTurnAnswer true result)
-      (which : (result ≡ gave true) ⊎ (result ≡ Err WriteFailed)) (told : WritesAll contents w1 w2 result (tick_text d1)) where
-    ends : (turn : Turn) → gave true ≡ turn.ending → (result ≡ gave true) ⊎ (result ≡ Err WriteFailed) → (result ≡ turn.ending) ⊎ ((true ≡ true) × (result ≡ Err WriteFailed))
-    ends turn e (inl whole) = inl (whole ∙ e)
-    ends turn e (inr failed) = inr (refl, failed)
+  pub day_over : HearsFar (gave false) → TakesTurn remaining contents r r1 w w1 d d1 (gave false)
+  day_over hears = record {
+    events = hears.events;
+    goes = follow_day (far_hears d) Behind (far_hears d) far_next far_text remaining contents r r1 w w1 d d1 hears.events (gave false) (λ e. cc) (λ e. cc) (λ known e. ended_so (far_hears d known) false e) hears.goes;
+    ticks = hears.ticks;
+  }
 
-    pub turn_ticks : (result ≡ Err link.ReadFailed → ⊥) → TakesTurn remaining contents r r1 w w2 d d2 result
-    turn_ticks other = record {
-      messages = hears.messages;
-      ticked = true;
-      day = step ∙ ap (λ (x : FarDay). (far_tick x).day) hears.day;
-      turn = λ text known.
-          let whole = whole_turn (far_turn d text) hears.messages true (remaining (device_of r1)) (hears.turn text known) in
-          inr (record { all = whole.all; ticks = ap goes_on whole.ending; ending = ends (far_turn d text) whole.ending which; rest = whole.rest });
-      answer = answers;
-      written = writes_behind contents w w1 w2 result (replies_over far_next far_reply hears.messages d) (tick_text d1) (far_text true hears.messages d)
-          (all_written contents w w1 w1 true (replies_over far_next far_reply hears.messages d) hears.replies) (same_writer true (is_faulted w1 ≡ is_faulted w) hears.replies.unfaulted)
-          (ap (λ (x : FarDay). replies_over far_next far_reply hears.messages d ++ tick_text x) hears.day) told;
-      faulted = λ e. absurd (other e);
-      unfaulted = inl (not_faulted true (is_faulted r1 ≡ is_faulted r) hears.unfaulted);
+  -- a tick, whose messages were written, or a front of them
+  module _ (hears : HearsFar (gave true)) (w2 : Watched W) (d2 : FarDay) (step : d2 ≡ far_next d1 Tick) where
+    at_tick : SoFar far_next far_text (far_turn d) ticked remaining contents r r1 w w1 d d1 hears.events
+    at_tick = follow_on (far_hears d) Behind (far_hears d) far_next far_text remaining contents r r1 w w1 d d1 hears.events (turn_local FarEnd (min (d.moment + 1) 300000) 64) hears.goes
+
+    one_tick : ticks_of (hears.events ++ Tick ∷ []) ≡ 1
+    one_tick = omega (arith, ticks_more hears.events (Tick ∷ []), hears.ticks)
+
+    pub turn_ticked : Writes contents w1 w2 done (far_text d1 Tick) → TakesTurn remaining contents r r1 w w2 d d2 (gave true)
+    turn_ticked writes = record {
+      events = hears.events ++ Tick ∷ [];
+      goes = then_goes far_next far_text (far_turn d) ticked remaining contents r r1 r1 w w1 w2 d d1 d2 hears.events (Tick ∷ []) at_tick (gave true) (record {
+        day = step;
+        talk = λ known e. inl (record { all = refl; ending = refl; rest = e });
+        written = one_told far_next far_text contents w1 w2 d1 Tick true writes;
+        faulted = λ e. cc;
+        unfaulted = inl refl;
+      });
+      ticks = one_tick;
+    }
+
+    pub tick_failed : (f : Failed) → Writes contents w1 w2 (stopped f) (far_text d1 Tick) → TakesTurn remaining contents r r1 w w2 d d2 (faulty WriteFailed)
+    tick_failed f writes = record {
+      events = hears.events ++ Tick ∷ [];
+      goes = then_goes far_next far_text (far_turn d) ticked remaining contents r r1 r1 w w1 w2 d d1 d2 hears.events (Tick ∷ []) at_tick (faulty WriteFailed) (record {
+        day = step;
+        talk = λ known e. inr (inr (refl, record { read = []; is_read = record { rest = known; splits = refl; is_left = e }; all = refl; behind = refl; rest = refl; cut = inr (refl, refl) }));
+        written = one_failed far_next far_text contents w1 w2 d1 Tick f writes;
+        faulted = λ e. cc;
+        unfaulted = inl refl;
+      });
+      ticks = inr (one_tick, refl);
+    }
+
+-- ---- a turn that ended depends on what was read alone
+
+module _ (d : FarDay) (text : List ℕ) (b : Bool) where
+  by_ending : (a : Result Bool LinkFault) → (far_hears d text).ending ≡ a → gave b ≡ (follow_by a (far_hears d text) (λ events. ticked) (far_hears d text)).ending
+      → IsEnded (far_turn d) text b (follow_by a (far_hears d text) (λ events. ticked) (far_hears d text))
+  by_ending (Ok true) s e =
+      let i = turn_local FarEnd (min (d.moment + 1) 300000) 64 text true (sym s) in
+      let same : true ≡ b = cc in
+      record {
+        read = i.read;
+        splits = i.splits;
+        onward = λ more. ap (λ (t : Talk). follow t (λ events. ticked) (far_hears d (i.read ++ more))) (i.onward more)
+            ∙ ap (λ (c : Bool). record { events = (far_hears d text).events ++ Tick ∷ []; ending = Ok c; rest = more; behind = more }) same;
+      }
+  by_ending (Ok false) s e =
+      let i = turn_local FarEnd (min (d.moment + 1) 300000) 64 text false (sym s) in
+      let same : false ≡ b = cc in
+      record {
+        read = i.read;
+        splits = i.splits;
+        onward = λ more. ap (λ (t : Talk). follow t (λ events. ticked) t) (i.onward more) ∙ ap (λ (c : Bool). record { events = (far_hears d text).events; ending = Ok c; rest = more; behind = more }) same;
+      }
+  by_ending (Err fault) s e = cc
+
+pub far_turn_local : (d : FarDay) → IsLocalTalk (far_turn d)
+far_turn_local d text b e = by_ending d text b (far_hears d text).ending refl e
+
+-- ---- several turns
+
+abbrev Next : ℕ → FarDay → List Event → List ℕ → Talk
+Next turns d events = far_talk_in turns (after far_next events d)
+
+abbrev Over : ℕ → FarDay → List ℕ → Talk
+Over turns d text = closed_before turns (far_turn d text)
+
+abbrev FollowsFar : ℕ → FarDay → List ℕ → Talk
+FollowsFar turns d text = follow (far_turn d text) (Next turns d) (Over turns d text)
+
+no_turn : (d : FarDay) (text : List ℕ) → far_talk_in 0 d text ≡ stop (Ok true) text text
+unfolding far_talk_in
+no_turn d text = refl
+
+next_turn : (turns : ℕ) (d : FarDay) → far_talk_in (suc turns) d ≡ FollowsFar turns d
+unfolding far_talk_in
+next_turn turns d = refl
+
+far_quiet : (turns : ℕ) (d : FarDay) → IsQuiet (far_talk_in turns d [])
+unfolding far_talk_in
+far_quiet zero d = inl refl
+far_quiet (suc turns) d =
+    inr (ap (λ (t : Talk). follow (follow t (λ events. ticked) t) (Next turns d) (closed_before turns (follow t (λ events. ticked) t))) (turn_nothing FarEnd (min (d.moment + 1) 300000) 64))
+
+module _ {R W : Type 0} (remaining : R → Option (List ℕ)) (contents : W → Option (List ℕ)) (turns : ℕ) (r r1 : Watched R) (w w1 : Watched W) (d d1 : FarDay) where
+  abbrev GoesFar : ℕ → List Event → Result Bool LinkFault → Type 0
+  GoesFar n events result = Goes far_next far_text (far_talk_in n d) remaining contents r r1 w w1 d d1 events result
+
+  pub next_went : (turn : TakesTurn remaining contents r r1 w w1 d d1 (gave true)) → SoFar far_next far_text (far_talk_in (suc turns) d) (far_talk_in turns d1) remaining contents r r1 w w1 d d1 turn.events
+  next_went turn =
+      let so = follow_on (far_turn d) (Next turns d) (Over turns d) far_next far_text remaining contents r r1 w w1 d d1 turn.events (far_turn_local d) turn.goes in
+      subst (λ (f : List ℕ → Talk). SoFar far_next far_text f (far_talk_in turns d1) remaining contents r r1 w w1 d d1 turn.events) (sym (next_turn turns d))
+      (subst (λ (x : FarDay). SoFar far_next far_text (FollowsFar turns d) (far_talk_in turns x) remaining contents r r1 w w1 d d1 turn.events) (sym turn.goes.day) so)
+
+  pub next_failed : (fault : LinkFault) (turn : TakesTurn remaining contents r r1 w w1 d d1 (faulty fault)) → GoesFar (suc turns) turn.events (faulty fault)
+  next_failed fault turn =
+      subst (λ (f : List ℕ → Talk). Goes far_next far_text f remaining contents r r1 w w1 d d1 turn.events (faulty fault)) (sym (next_turn turns d))
+      (follow_fault (far_turn d) (Next turns d) (Over turns d) far_next far_text remaining contents r r1 w w1 d d1 turn.events fault (λ last. far_quiet turns (after far_next turn.events d)) turn.goes)
+
+module _ {R W : Type 0} (remaining : R → Option (List ℕ)) (contents : W → Option (List ℕ)) (r r1 : Watched R) (w w1 : Watched W) (d d1 : FarDay) (turn : TakesTurn remaining contents r r1 w w1 d d1 (gave false)) where
+  -- the end of the day, as the last turn
+  pub last_went : Goes far_next far_text (far_talk_in 1 d) remaining contents r r1 w w1 d d1 turn.events (gave false)
+  last_went =
+      subst (λ (f : List ℕ → Talk). Goes far_next far_text f remaining contents r r1 w w1 d d1 turn.events (gave false)) (sym (next_turn 0 d))
+      (follow_day (far_turn d) (Next 0 d) (Over 0 d) far_next far_text remaining contents r r1 w w1 d d1 turn.events (gave false) (λ e. cc) (λ e. cc) (λ known e. ended_so (far_turn d known) false e) turn.goes)
+
+  -- or with another behind it
+  pub closed_went : (turns : ℕ) → Goes far_next far_text (far_talk_in (suc (suc turns)) d) remaining contents r r1 w w1 d d1 turn.events (faulty Closed)
+  closed_went turns =
+      subst (λ (f : List ℕ → Talk). Goes far_next far_text f remaining contents r r1 w w1 d d1 turn.events (faulty Closed)) (sym (next_turn (suc turns) d))
+      (follow_day (far_turn d) (Next (suc turns) d) (Over (suc turns) d) far_next far_text remaining contents r r1 w w1 d d1 turn.events (faulty Closed) (λ e. cc) (λ e. cc) (λ known e. refl) turn.goes)
+
+-- ---- a session
+
+-- so many turns of a session went well, and its day goes on
+pub record FarSoFar {R W : Type 0} (remaining : R → Option (List ℕ)) (contents : W → Option (List ℕ)) (count : ℕ) (r r' : Watched R) (w w' : Watched W) (d d' : FarDay) : Type 0 where
+  pub events : List Event
+  pub so_far : (turns : ℕ) → SoFar far_next far_text (far_talk_in (count + turns) d) (far_talk_in turns d') remaining contents r r' w w' d d' events
+  pub ticks : ticks_of events ≡ count
+
+pub no_turn_yet : {R W : Type 0} (remaining : R → Option (List ℕ)) (contents : W → Option (List ℕ)) (r : Watched R) (w : Watched W) (d : FarDay) → FarSoFar remaining contents 0 r r w w d d
+no_turn_yet remaining contents r w d = record {
+  events = [];
+  so_far = λ turns.
+      let same : turns ≡ 0 + turns = omega arith in
+      subst (λ (n : ℕ). SoFar far_next far_text (far_talk_in n d) (far_talk_in turns d) remaining contents r r w w d d []) same (nothing_yet far_next far_text (far_talk_in turns d) remaining contents r w d);
+  ticks = refl;
+}
+
+module _ {R W : Type 0} (remaining : R → Option (List ℕ)) (contents : W → Option (List ℕ)) (count : ℕ) (r r1 : Watched R) (w w1 : Watched W) (d d1 : FarDay) (p : FarSoFar remaining contents count r r1 w w1 d d1) where
+  -- no more turns are to come
+  pub far_stands : FarTalks remaining contents count r r1 w w1 d d1 (gave true)
+  far_stands =
+      let same : count + 0 ≡ count = omega arith in
+      record {
+        events = p.events;
+        goes = subst (λ (n : ℕ). Goes far_next far_text (far_talk_in n d) remaining contents r r1 w w1 d d1 p.events (gave true)) same
+            (all_goes far_next far_text (far_talk_in (count + 0) d) (far_talk_in 0 d1) remaining contents r r1 w w1 d d1 p.events (no_turn d1) (p.so_far 0));
+        ticks = p.ticks;
+      }
+
+  module _ (r2 : Watched R) (w2 : Watched W) (d2 : FarDay) where
+    behind : (n : ℕ) (events : List Event) (result : Result Bool LinkFault) → Goes far_next far_text (far_talk_in n d1) remaining contents r1 r2 w1 w2 d1 d2 events result
+        → Goes far_next far_text (far_talk_in (count + n) d) remaining contents r r2 w w2 d d2 (p.events ++ events) result
+    behind n events result q = then_goes far_next far_text (far_talk_in (count + n) d) (far_talk_in n d1) remaining contents r r1 r2 w w1 w2 d d1 d2 p.events events (p.so_far n) result q
+
+    pub far_goes_on : TakesTurn remaining contents r1 r2 w1 w2 d1 d2 (gave true) → FarSoFar remaining contents (count + 1) r r2 w w2 d d2
+    far_goes_on turn = record {
+      events = p.events ++ turn.events;
+      so_far = λ turns.
+          let same : count + suc turns ≡ (count + 1) + turns = omega arith in
+          subst (λ (n : ℕ). SoFar far_next far_text (far_talk_in n d) (far_talk_in turns d2) remaining contents r r2 w w2 d d2 (p.events ++ turn.events)) same
+          (then_so_far far_next far_text (far_talk_in (count + suc turns) d) (far_talk_in (suc turns) d1) remaining contents r r1 r2 w w1 w2 d d1 d2 p.events turn.events (p.so_far (suc turns))
+          (far_talk_in turns d2) (next_went remaining contents turns r1 r2 w1 w2 d1 d2 turn));
+      ticks = omega (arith, ticks_more p.events turn.events, p.ticks, turn.ticks);
+    }
+
+    pub far_failed : (fault : LinkFault) → TakesTurn remaining contents r1 r2 w1 w2 d1 d2 (faulty fault) → FarTalks remaining contents (count + 1) r r2 w w2 d d2 (faulty fault)
+    far_failed fault turn = record {
+      events = p.events ++ turn.events;
+      goes = behind 1 turn.events (faulty fault) (next_failed remaining contents 0 r1 r2 w1 w2 d1 d2 fault turn);
+      ticks = (omega arith, at_most turn.ticks);
+    } where
+      at_most : (ticks_of turn.events ≡ 0) ⊎ ((ticks_of turn.events ≡ 1) × (fault ≡ WriteFailed)) → ticks_of (p.events ++ turn.events) ≤ count + 1
+      at_most (inl e) = omega (arith, ticks_more p.events turn.events, p.ticks, e)
+      at_most (inr (e, f)) = omega (arith, ticks_more p.events turn.events, p.ticks, e)
+
+    pub far_ended : TakesTurn remaining contents r1 r2 w1 w2 d1 d2 (gave false) → FarTalks remaining contents (count + 1) r r2 w w2 d d2 (gave false)
+    far_ended turn = record {
+      events = p.events ++ turn.events;
+      goes = behind 1 turn.events (gave false) (last_went remaining contents r1 r2 w1 w2 d1 d2 turn);
+      ticks = omega (arith, ticks_more p.events turn.events, p.ticks, turn.ticks);
+    }
+
+    pub far_closed : TakesTurn remaining contents r1 r2 w1 w2 d1 d2 (gave false) → FarTalks remaining contents (count + 2) r r2 w w2 d d2 (faulty Closed)
+    far_closed turn = record {
+      events = p.events ++ turn.events;
+      goes = behind 2 turn.events (faulty Closed) (closed_went remaining contents r1 r2 w1 w2 d1 d2 turn 0);
+      ticks = (omega arith, omega (arith, ticks_more p.events turn.events, p.ticks, turn.ticks));
     }

@@ -1,8 +1,13 @@
 pub mod OctetSteps
 pub mod WritingFrames
-pub mod WritingAll
+pub mod Events
+pub mod Composing
+pub mod Locality
+pub mod ReadingSteps
 pub mod Turns
+pub mod Following
 pub mod Hearing
-pub mod Runs
+pub mod ExchangeTurns
 pub mod FarTurns
-pub mod Days
+pub mod BothEnds
+pub mod FarMoments

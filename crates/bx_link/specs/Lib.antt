@@ -1,7 +1,8 @@
 pub mod Frames
 pub mod Reading
-pub mod Talking
 pub mod Ends
+pub mod Talking
 pub mod Hearing
+pub mod Days
+pub mod BothEnds
 pub mod Sessions
-pub mod FarTurns

@@ -1,100 +1,95 @@
--- Turns and days: what an exchange hears in the octets that come, and what is written for it.
-use Rattle.std.specs.Prelude.{ℕ, zero, suc, ◌==◌, Bool, true, false, List, [], ◌∷◌, ◌++◌, map, if◌then◌else◌, Result, Ok, Err}
-use Rattle.std.specs.List.{flat_map}
-use Rattle.arrayvec.specs.ArrayVec.{ArrayVec}
-use Rattle.bx_q931.specs.Outgoing.{Outgoing}
-use Rattle.bx_day.specs.Day.{Day, tick}
-use Rattle.bx_day.specs.Run.{Event, Tick, Receive, happens, day_after}
-use Rattle.bx_day.specs.Spelling.{spelled}
-use Rattle.bx_link.specs.Frames.{Found, frame_in, message_frame, turn_frame}
+-- Turns and days: what each end hears in the octets that come.
+use Rattle.std.specs.Prelude.{ℕ, ◌+◌, min, zero, suc, ◌==◌, Bool, true, false, List, [], ◌∷◌, ◌++◌, if◌then◌else◌, Result, Ok, Err}
+use Rattle.bx_day.specs.Day.{Day}
+use Rattle.bx_day.specs.Run.{Event, Tick, Receive}
+use Rattle.bx_far.specs.FarDay.{FarDay}
+use Rattle.bx_link.specs.Ends.{after, exchange_next, far_next}
+use Rattle.bx_link.specs.Frames.{Found, frame_in}
 use Rattle.bx_link.specs.declared.fault.LinkFault.{LinkFault}
-use Rattle.bx_link.specs.declared.fault.LinkFault.TheVariants.{MoreThan64Messages, WrongMoment}
+use Rattle.bx_link.specs.declared.fault.LinkFault.TheVariants.{MoreThan64Messages, WrongMoment, Closed}
 use Rattle.bx_link.specs.declared.frame.Side.{Side}
-use Rattle.bx_link.specs.declared.frame.Side.TheVariants.{Exchange}
+use Rattle.bx_link.specs.declared.frame.Side.TheVariants.{Exchange, FarEnd}
 use Rattle.bx_link.specs.declared.frame.Frame.{Frame}
 use Rattle.bx_link.specs.declared.frame.Frame.TheVariants as frames
 
--- ---- what is written
-
-abbrev pub frame_with : ArrayVec ℕ → List ℕ
-frame_with message = message_frame message.items
-
-abbrev pub frames_of : List Outgoing → List ℕ
-frames_of messages = flat_map frame_with (spelled messages)
-
--- for a tick its messages and the end of turn, for a message the reply to it
-abbrev pub written_for : Day → Event → List ℕ
-written_for d Tick = frames_of (tick d).sent ++ turn_frame (tick d).day.moment
-written_for d (Receive octets) = frames_of (happens d (Receive octets)).sent
-
-abbrev pub written_over : List Event → Day → List ℕ
-written_over [] d = []
-written_over (e ∷ es) d = written_for d e ++ written_over es (happens d e).day
-
--- ---- what is heard
-
--- the messages of a turn; how it ended: with an end of turn, with the end of the day, or by a fault; and the
--- octets that are left
-pub record Turn : Type 0 where
-  pub messages : List (List ℕ)
-  pub ending : Result Bool LinkFault
-  pub rest : List ℕ
-
-abbrev pub no_more : Result Bool LinkFault → List ℕ → Turn
-no_more ending rest = record { messages = []; ending = ending; rest = rest }
-
-abbrev pub with_messages : List (List ℕ) → Turn → Turn
-with_messages messages turn = record turn { messages = messages ++ turn.messages }
-
--- by the next frame, where the turn ends at this moment
-abbrev pub turn_by : ℕ → (List ℕ → Turn) → Result Frame LinkFault → List ℕ → Turn
-turn_by moment more (Ok (frames.Message octets)) rest = with_messages (octets.items ∷ []) (more rest)
-turn_by moment more (Ok (frames.EndOfTurn said)) rest = no_more (if said == moment then Ok true else Err WrongMoment) rest
-turn_by moment more (Ok frames.EndOfDay) rest = no_more (Ok false) rest
-turn_by moment more (Err fault) rest = no_more (Err fault) rest
-
-abbrev pub turn_from : ℕ → (List ℕ → Turn) → Found Frame → Turn
-turn_from moment more first = turn_by moment more first.answer first.rest
-
--- a turn in which so many messages may still come
-unfoldable pub turn_in : Side → ℕ → ℕ → List ℕ → Turn
-turn_in side moment zero text = turn_from moment (no_more (Err MoreThan64Messages)) (frame_in side 0 text)
-turn_in side moment (suc room) text = turn_from moment (turn_in side moment room) (frame_in side (suc room) text)
-
-abbrev pub heard : List (List ℕ) → List Event
-heard messages = map Receive messages
-
--- what an exchange hears whose turn is open
-abbrev pub exchange_turn : Day → List ℕ → Turn
-exchange_turn d text = turn_in Exchange d.moment 64 text
-
--- whether it is over, and by which fault
-abbrev pub ended : Result Bool LinkFault → Result (Unit {0}) LinkFault
-ended (Ok _) = Ok tt
-ended (Err fault) = Err fault
-
--- ---- several turns
-
--- what happens; how it ends; and the octets that are left
+-- what happens; how it ends: with an end of turn (true), with the end of the day (false), or by a fault; the octets
+-- that are left behind what was looked at; and those behind the last frame that was heard
 pub record Talk : Type 0 where
   pub events : List Event
-  pub ending : Result (Unit {0}) LinkFault
+  pub ending : Result Bool LinkFault
   pub rest : List ℕ
+  pub behind : List ℕ
+
+-- nothing more happens
+abbrev pub stop : Result Bool LinkFault → List ℕ → List ℕ → Talk
+stop ending rest behind = record { events = []; ending = ending; rest = rest; behind = behind }
 
 abbrev pub with_events : List Event → Talk → Talk
 with_events events talk = record talk { events = events ++ talk.events }
 
-abbrev pub events_of : Turn → List Event
-events_of turn = Tick ∷ heard turn.messages
+-- ---- one turn
 
-abbrev pub talk_by : List Event → (List ℕ → Talk) → Result Bool LinkFault → List ℕ → Talk
-talk_by events more (Ok _) rest = with_events events (more rest)
-talk_by events more (Err fault) rest = record { events = events; ending = Err fault; rest = rest }
+-- by the next frame of the text, where the turn ends at this moment
+abbrev pub turn_by : ℕ → (List ℕ → Talk) → List ℕ → Result Frame LinkFault → List ℕ → Talk
+turn_by moment more text (Ok (frames.Message octets)) rest = with_events (Receive octets.items ∷ []) (more rest)
+turn_by moment more text (Ok (frames.EndOfTurn said)) rest = if said == moment then stop (Ok true) rest rest else stop (Err WrongMoment) rest text
+turn_by moment more text (Ok frames.EndOfDay) rest = stop (Ok false) rest rest
+turn_by moment more text (Err fault) rest = stop (Err fault) rest text
 
-abbrev pub talk_from : Day → (Day → List ℕ → Talk) → Turn → Talk
-talk_from d more turn = talk_by (events_of turn) (more (day_after (events_of turn) d)) turn.ending turn.rest
+abbrev pub turn_from : ℕ → (List ℕ → Talk) → List ℕ → Found Frame → Talk
+turn_from moment more text first = turn_by moment more text first.answer first.rest
 
--- so many turns from a day on
+-- a turn in which so many messages may still come
+unfoldable pub turn_in : Side → ℕ → ℕ → List ℕ → Talk
+turn_in side moment zero text = turn_from moment (λ rest. stop (Err MoreThan64Messages) rest rest) text (frame_in side 0 text)
+turn_in side moment (suc room) text = turn_from moment (turn_in side moment room) text (frame_in side (suc room) text)
+
+-- ---- one after another
+
+abbrev pub follow_by : Result Bool LinkFault → Talk → (List Event → List ℕ → Talk) → Talk → Talk
+follow_by (Ok true) first next over = with_events first.events (next first.events first.rest)
+follow_by (Ok false) first next over = over
+follow_by (Err fault) first next over = first
+
+-- what happens behind an end of turn, by what happened before it; and what there is where the day ended
+abbrev pub follow : Talk → (List Event → List ℕ → Talk) → Talk → Talk
+follow first next over = follow_by first.ending first next over
+
+-- ---- the exchange
+
+-- what it hears when its turn is open
+abbrev pub exchange_turn : Day → List ℕ → Talk
+exchange_turn d text = turn_in Exchange d.moment 64 text
+
+-- so many turns from a day on, each opened by a tick
 unfoldable pub talk_in : ℕ → Day → List ℕ → Talk
-talk_in zero d text = record { events = []; ending = Ok tt; rest = text }
-talk_in (suc turns) d text = talk_from d (talk_in turns) (exchange_turn (tick d).day text)
+talk_in zero d text = stop (Ok true) text text
+talk_in (suc turns) d text =
+    let first = exchange_turn (exchange_next d Tick) text in
+    with_events (Tick ∷ []) (follow first (λ events. talk_in turns (after exchange_next events (exchange_next d Tick))) first)
+
+-- ---- the far end
+
+-- the moment with which its turn ends
+abbrev pub far_due : FarDay → ℕ
+far_due d = min (d.moment + 1) 300000
+
+-- what it hears, and a tick behind the end of turn
+abbrev pub far_hears : FarDay → List ℕ → Talk
+far_hears d text = turn_in FarEnd (far_due d) 64 text
+
+abbrev pub ticked : List ℕ → Talk
+ticked text = record { events = Tick ∷ []; ending = Ok true; rest = text; behind = text }
+
+abbrev pub far_turn : FarDay → List ℕ → Talk
+far_turn d text = follow (far_hears d text) (λ events. ticked) (far_hears d text)
+
+-- where more turns were to come, the end of the day has closed the session
+abbrev pub closed_before : ℕ → Talk → Talk
+closed_before zero talk = talk
+closed_before (suc turns) talk = record talk { ending = Err Closed }
+
+-- so many turns of a session from a day on; the last of them may be the end of the day
+unfoldable pub far_talk_in : ℕ → FarDay → List ℕ → Talk
+far_talk_in zero d text = stop (Ok true) text text
+far_talk_in (suc turns) d text = follow (far_turn d text) (λ events. far_talk_in turns (after far_next events d)) (closed_before turns (far_turn d text))

@@ -1,7 +1,8 @@
 //! The exchange's side of a whole day.
 
 ghost use Rattle.std.specs.Prelude.{◌≡◌, ◌-◌, min};
-ghost use Rattle.bx_link.specs.Hearing.{Talks, RunsDay};
+ghost use Rattle.bx_link.specs.Days.{Talks, RunsDay};
+ghost use Rattle.bx_link.specs.Hearing.{turned};
 
 use crate::fault::LinkFault;
 use crate::frame_writing::write_end_of_day;
@@ -20,7 +21,7 @@ fn run_turns<R: Read, W: Write>(
     writer: &mut Watched<W>,
     turns: u32,
 ) -> Result<(), LinkFault>
-    ensures { Talks R.remaining W.contents turns reader.old reader.new writer.old writer.new exchange.old exchange.new result }
+    ensures { Talks R.remaining W.contents turns reader.old reader.new writer.old writer.new exchange.old exchange.new (turned result) }
 {
     let mut session = Session::new();
     for _turn in 0..turns {
@@ -37,17 +38,17 @@ fn run_turns<R: Read, W: Write>(
 }
 
 /// Opens and closes so many turns, or as many as there are to moment 300,000 where that is fewer, and then
-/// writes the end of the day. Each turn is written out before its answer is waited for, and nothing is read
-/// behind the last end of turn. Takes no memory. At a fault the exchange has gone through all whole turns, the
-/// next tick, and the messages that came whole before the fault; what was written is theirs, and where a
-/// write failed a front of it.
+/// writes the end of the day. Each of these turns has its tick, and nothing is read behind the last end of turn.
+/// Takes no memory. At a fault the exchange has gone through all whole turns, the next tick, and each message of
+/// that turn that came whole; what was written is theirs. Where a write failed it was that of the last of these, or
+/// of the end of the day; a front of that was written, and nothing was read behind the last of these.
 pub fn run_day<R: Read, W: Write>(
     exchange: &mut Exchange,
     reader: &mut Watched<R>,
     writer: &mut Watched<W>,
     turns: u32,
 ) -> Result<(), LinkFault>
-    ensures { RunsDay R.remaining W.contents (min turns (300000 - exchange.old.moment)) reader.old reader.new writer.old writer.new exchange.old exchange.new result }
+    ensures { RunsDay R.remaining W.contents (min turns (300000 - exchange.old.moment)) reader.old reader.new writer.old writer.new exchange.old exchange.new (turned result) }
 {
     let count = turns.min(LAST_MOMENT - exchange.moment());
     match run_turns(exchange, reader, writer, count) {

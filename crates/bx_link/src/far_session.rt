@@ -2,20 +2,21 @@
 //! day.
 
 ghost use Rattle.std.specs.Prelude.{◌≡◌, not, true, false, Err};
-ghost use Rattle.bx_link.specs.FarTurns.{TakesTurn, goes_on, is_far_over};
+ghost use Rattle.bx_link.specs.Hearing.{TakesTurn, goes_on};
+ghost use Rattle.bx_link.specs.Sessions.{is_far_over};
 ghost use Rattle.bx_link.specs.declared.fault.LinkFault.TheVariants.{Closed};
 
 use crate::day::LAST_MOMENT;
 use crate::fault::LinkFault;
 use crate::frame::Side;
-use crate::turn::{hear_turn, write_far_tick};
+use crate::turn::{hear_turn, write_tick};
 use bx_base::Watched;
 use bx_far::Far;
 use std::io::{Read, Write};
 
 /// A session of the far end. After a fault, and after the end of the day, it is closed, and neither reads nor
 /// writes.
-#[derive(Clone, Copy, Debug, PartialEq, Eq)]
+#[derive(Debug, Drop, PartialEq, Eq)]
 pub struct FarSession {
     is_open: bool,
 }
@@ -35,16 +36,17 @@ impl FarSession {
         !self.is_open
     }
 
-    /// Takes a turn: each message that comes is received by the far end, and the reply is written at once, up to
-    /// the end of turn with the moment that is due, one after the far end's, and at 300,000 the same. Then the
-    /// far end ticks, and each message that it sends is written as a frame, in order, and behind them the end of
-    /// turn with its moment. Answers true; or false where the end of the day comes in place of the end of turn,
-    /// and the far end does not tick. Nothing is read behind either. Takes no memory.
+    /// Takes a turn: each message that comes is received by the far end, and the reply is written, up to the end of
+    /// turn with the moment that is due, one after the far end's, and at 300,000 the same. Then the far end ticks,
+    /// and each message that it sends is written as a frame, in order, and behind them the end of turn with its
+    /// moment. Answers true; or false where the end of the day comes in place of the end of turn, and the far end
+    /// does not tick. Nothing is read behind either. Takes no memory.
     ///
     /// Another moment is `WrongMoment`, and the far end does not tick; a 65th message is `MoreThan64Messages`. A
-    /// closed session answers `Closed`, and neither reads nor writes. At any fault the session is closed:
-    /// the far end has received the messages that came whole before it, and no more; where a write failed, a
-    /// front of these octets was written, and a tick that was begun has happened.
+    /// closed session answers `Closed`, and neither reads nor writes. At any fault the session is closed: the far end
+    /// has received each message that came whole, and no more. Where a write failed it was that of the reply to the
+    /// last message that was received, and nothing was read behind that message; or it was that of the tick, which has
+    /// happened. All that is written before it was written whole.
     pub fn far_turn<R: Read, W: Write>(
         &mut self,
         far: &mut Far,
@@ -85,7 +87,7 @@ fn take_turn<R: Read, W: Write>(
         Ok(false) => return Ok(false),
         Err(fault) => return Err(fault),
     }
-    match write_far_tick(far, writer) {
+    match write_tick(far, writer) {
         Ok(()) => Ok(true),
         Err(_) => Err(LinkFault::WriteFailed),
     }

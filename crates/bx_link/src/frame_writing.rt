@@ -5,7 +5,7 @@ ghost use Rattle.std.specs.List.{flat_map};
 ghost use Rattle.arrayvec.specs.ArrayVec.{array_vec_len};
 ghost use Rattle.bx_day.specs.Writing.{Writes};
 ghost use Rattle.bx_link.specs.Frames.{message_frame, turn_frame, day_frame};
-ghost use Rattle.bx_link.specs.Talking.{frame_with};
+ghost use Rattle.bx_link.specs.Ends.{frame_with};
 
 use arrayvec::ArrayVec;
 use bx_base::{Watched, WriteFailed, write_octets};

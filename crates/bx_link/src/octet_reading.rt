@@ -1,6 +1,6 @@
 //! The loop that reads a given count of octets.
 
-ghost use Rattle.std.specs.Prelude.{◌≡◌, ◌≤◌, ◌<◌, true, length, take, IfOk, OnOk, OnErr};
+ghost use Rattle.std.specs.Prelude.{◌≡◌, ◌≤◌, ◌<◌, ℕ, List, true, length, take, IfOk, OnOk, OnErr};
 ghost use Rattle.std.specs.Io.KnownBytes.{Consumes, IsAtEnd};
 ghost use Rattle.bx_base.specs.Watching.{device_of, is_faulted};
 
@@ -13,7 +13,7 @@ use std::io::Read;
 pub struct ReadFailed;
 
 /// Reads until the buffer is full or the input ends, in as many reads as it takes. Answers how many octets
-/// were read.
+/// were read; at a failed read fewer than the buffer holds.
 pub(crate) fn read_exact_octets<R: Read>(
     r: &mut Watched<R>,
     buf: &mut [u8],
@@ -22,6 +22,7 @@ pub(crate) fn read_exact_octets<R: Read>(
     ensures octets { IfOk result (λ n. Consumes (R.remaining (device_of r.old)) (R.remaining (device_of r.new)) (take n buf.new)) }
     ensures end { IfOk result (λ n. n < length buf.new → IsAtEnd (R.remaining (device_of r.new))) }
     ensures failed { OnErr result (is_faulted r.new ≡ true) }
+    ensures part { OnErr result ((read : List ℕ) × (length read < length buf.new) × Consumes (R.remaining (device_of r.old)) (R.remaining (device_of r.new)) read) }
     ensures unfaulted { OnOk result (is_faulted r.new ≡ is_faulted r.old) }
 {
     let mut at = 0;

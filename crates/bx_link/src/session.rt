@@ -22,7 +22,7 @@ enum Stage {
 
 /// A session of the exchange. Its turns are opened and closed one after another; after a fault it is closed,
 /// and neither reads nor writes.
-#[derive(Clone, Copy, Debug, PartialEq, Eq)]
+#[derive(Debug, Drop, PartialEq, Eq)]
 pub struct Session {
     stage: Stage,
 }
@@ -80,10 +80,11 @@ impl Session {
         }
     }
 
-    /// Closes a turn: each message that comes is received by the exchange, and the reply is written at once,
-    /// up to the end of turn with the exchange's moment. Nothing is read behind it. Takes no memory. A closed
-    /// session answers `Closed`, and neither reads nor writes. At any other fault the session is closed: the
-    /// exchange has received the messages that came whole before it, and no more.
+    /// Closes a turn: each message that comes is received by the exchange, and the reply is written, up to the end
+    /// of turn with the exchange's moment. Nothing is read behind it. Takes no memory. A closed session answers
+    /// `Closed`, and neither reads nor writes. At any other fault the session is closed: the exchange has received
+    /// each message that came whole, and no more. Where a write failed it was that of the reply to the last message
+    /// that was received, nothing was read behind that message, and all replies before were written whole.
     pub fn close_turn<R: Read, W: Write>(
         &mut self,
         exchange: &mut Exchange,

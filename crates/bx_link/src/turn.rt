@@ -1,16 +1,13 @@
 //! The two halves of a turn: the messages that come, and the tick with what it sends.
 
-ghost use Rattle.std.specs.Prelude.{◌≡◌, ◌++◌};
+ghost use Rattle.std.specs.Prelude.{◌≡◌, ◌++◌, ◌∷◌, [], Ok, false, true};
 ghost use Rattle.std.specs.List.{flat_map};
-ghost use Rattle.bx_day.specs.Day.{tick};
-ghost use Rattle.bx_day.specs.Run.{Tick};
+ghost use Rattle.bx_day.specs.Run.{Tick, Receive};
 ghost use Rattle.bx_day.specs.Writing.{Writes};
-ghost use Rattle.bx_far.specs.FarDay.{far_tick};
-ghost use Rattle.bx_link.specs.Ends.{reply_text};
-ghost use Rattle.bx_link.specs.FarTurns.{tick_text};
-ghost use Rattle.bx_link.specs.Frames.{turn_frame};
-ghost use Rattle.bx_link.specs.Hearing.{HearsBy};
-ghost use Rattle.bx_link.specs.Talking.{frame_with, written_for};
+ghost use Rattle.bx_link.specs.Ends.{frame_with};
+ghost use Rattle.bx_link.specs.Frames.{turn_frame, is_far};
+ghost use Rattle.bx_link.specs.Hearing.{Went, no_tick};
+ghost use Rattle.bx_link.specs.Talking.{turn_in};
 
 use crate::end::End;
 use crate::fault::LinkFault;
@@ -18,8 +15,6 @@ use crate::frame::{Frame, Side};
 use crate::frame_reading::read_frame;
 use crate::frame_writing::{write_end_of_turn, write_message, write_messages};
 use bx_base::{Watched, WriteFailed};
-use bx_day::Exchange;
-use bx_far::Far;
 use bx_q931::Octets;
 use std::io::{Read, Write};
 
@@ -38,28 +33,16 @@ fn write_turn<W: Write>(
     write_end_of_turn(writer, moment)
 }
 
-/// The exchange ticks, and what it sends and the end of the turn are written.
-pub(crate) fn write_tick<W: Write>(
-    exchange: &mut Exchange,
+/// The end ticks, and what it sends and the end of the turn are written.
+pub(crate) fn write_tick<E: End, W: Write>(
+    end: &mut E,
     writer: &mut Watched<W>,
 ) -> Result<(), WriteFailed>
-    ensures day { exchange.new ≡ (tick exchange.old).day }
-    ensures written { Writes W.contents writer.old writer.new result (written_for exchange.old Tick) }
+    ensures day { end.new ≡ E.next end.old Tick }
+    ensures written { Writes W.contents writer.old writer.new result (E.text end.old Tick) }
 {
-    let sent = exchange.tick();
-    write_turn(writer, &sent, exchange.moment())
-}
-
-/// The far end ticks, and what it sends and the end of the turn are written.
-pub(crate) fn write_far_tick<W: Write>(
-    far: &mut Far,
-    writer: &mut Watched<W>,
-) -> Result<(), WriteFailed>
-    ensures day { far.new ≡ (far_tick far.old).day }
-    ensures written { Writes W.contents writer.old writer.new result (tick_text far.old) }
-{
-    let sent = far.tick();
-    write_turn(writer, &sent, far.moment())
+    let sent = end.next_second();
+    write_turn(writer, &sent, end.reached())
 }
 
 /// Hears one message, and writes the reply to it.
@@ -68,8 +51,8 @@ fn answer<E: End, W: Write>(
     octets: &[u8],
     writer: &mut Watched<W>,
 ) -> Result<(), WriteFailed>
-    ensures day { end.new ≡ E.next end.old octets.now }
-    ensures written { Writes W.contents writer.old writer.new result (reply_text (E.reply end.old octets.now)) }
+    ensures day { end.new ≡ E.next end.old (Receive octets.now) }
+    ensures written { Writes W.contents writer.old writer.new result (E.text end.old (Receive octets.now)) }
 {
     match end.hear(octets) {
         Some(reply) => write_message(writer, &reply),
@@ -86,7 +69,8 @@ pub(crate) fn hear_turn<E: End, R: Read, W: Write>(
     reader: &mut Watched<R>,
     writer: &mut Watched<W>,
 ) -> Result<bool, LinkFault>
-    ensures { HearsBy E.next E.reply side moment R.remaining W.contents reader.old reader.new writer.old writer.new end.old end.new result }
+    ensures went { Went E.next E.text (turn_in side moment 64) no_tick R.remaining W.contents reader.old reader.new writer.old writer.new end.old end.new result }
+    ensures far { result ≡ Ok false → is_far side ≡ true }
 {
     let mut room = MAX_MESSAGES;
     loop {

@@ -1,5 +1,5 @@
 use Rattle.std.proofs.Common.{◌≡◌, ℕ, ◌+◌, ◌-◌, suc, subst, arith}
-use Rattle.bx_link.proofs.Runs.{TalkedSoFar, nothing_happened, talk_over, open_failed, turn_over, turn_failed}
+use Rattle.bx_link.proofs.ExchangeTurns.{TalkedSoFar, nothing_happened, talk_over, talk_not_opened, turn_over, turn_failed}
 use Rattle.bx_link.proofs.day.run_turns.Goals as goal
 
 pub returns-in-Err : goal.returns-in-Err
@@ -9,7 +9,7 @@ returns-in-Err g c =
     let k = n - (l._turn + 1) in
     let next : n - l._turn ≡ suc k = omega (arith, c.loop-turn-test.true) in
     let so_far = subst (λ (m : ℕ). TalkedSoFar g.R.Read.remaining g.W.Write.contents n m c.args.reader.now l.reader c.args.writer.now l.writer c.args.exchange.now l.exchange) next l.invariant.talked in
-    open_failed g.R.Read.remaining g.W.Write.contents n k c.args.reader.now l.reader c.args.writer.now l.writer c.args.exchange.now l.exchange so_far
+    talk_not_opened g.R.Read.remaining g.W.Write.contents n k c.args.reader.now l.reader c.args.writer.now l.writer c.args.exchange.now l.exchange so_far
     c.open_turn.new.writer c.open_turn.new.exchange c.in-Err.fault (c.in-Err.ensures.opened l.invariant.going_on)
 
 pub returns-in-Err-close_turn : goal.returns-in-Err-close_turn

@@ -1,6 +1,6 @@
 use Rattle.std.proofs.Common.{◌≡◌, ◌-◌, false}
 use Rattle.bx_link.specs.Sessions.{is_turn_open, is_closed}
-use Rattle.bx_link.proofs.Runs.{TalkedSoFar}
+use Rattle.bx_link.proofs.ExchangeTurns.{TalkedSoFar}
 use Rattle.bx_link.proofs.day.run_turns.Given as goal
 
 abbrev pub invariant-loop-turn : goal.invariant-loop-turn

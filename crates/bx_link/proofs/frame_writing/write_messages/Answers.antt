@@ -1,5 +1,5 @@
 use Rattle.std.proofs.lemmas.Result.{err_from_is_err_and}
-use Rattle.bx_link.specs.Talking.{frame_with}
+use Rattle.bx_link.specs.Ends.{frame_with}
 use Rattle.bx_link.proofs.WritingFrames.{text_written, text_failed}
 use Rattle.bx_link.proofs.frame_writing.write_messages.Goals as goal
 

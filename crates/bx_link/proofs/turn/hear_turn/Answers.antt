@@ -1,51 +1,70 @@
-use Rattle.std.proofs.Common.{true, arith}
-use Rattle.bx_link.specs.declared.fault.LinkFault.TheVariants.{WrongMoment}
-use Rattle.bx_link.proofs.WritingAll.{gave, faulty}
-use Rattle.bx_link.proofs.Hearing.{heard_message, reply_failed, heard_end, heard_day_end, heard_fault, ended_right, ended_wrong}
+use Rattle.std.proofs.Common.{true, false, ◌++◌, ◌∷◌, [], ◌-◌, refl, arith}
+use Rattle.bx_day.specs.Run.{Receive}
+use Rattle.bx_link.specs.Talking.{turn_in}
+use Rattle.bx_link.specs.declared.fault.LinkFault.TheVariants.{WriteFailed, WrongMoment}
+use Rattle.bx_link.proofs.Composing.{gave, faulty, nothing_yet, then_so_far}
+use Rattle.bx_link.proofs.Hearing.{message_heard, reply_failed, ended_right, ended_wrong, day_ended, frame_fault, none_ticked, turn_went}
 use Rattle.bx_link.proofs.turn.hear_turn.Goals as goal
+
+pub loop-octets-init : goal.loop-octets-init
+loop-octets-init g c = record {
+  within = omega arith;
+  events = [];
+  heard = nothing_yet g.E.End.next g.E.End.text (turn_in c.args.side c.args.moment 64) g.R.Read.remaining g.W.Write.contents c.args.reader.now c.args.writer.now c.args.end.now;
+  ticks = refl;
+}
 
 pub loop-octets-preserved : goal.loop-octets-preserved
 loop-octets-preserved g c =
     let l = c.loop-octets in
+    let side = c.args.side in
+    let moment = c.args.moment in
     let frame = rw c.in-Ok-Message.field-0-is at c.in-Ok-Message.ensures in
     let same = c.deref.ensures.0 in
+    let octets = c.in-Ok-Message.octets in
+    let one = message_heard g.E.End.next g.E.End.text side moment l.room g.R.Read.remaining g.W.Write.contents l.reader c.read_frame.new.r l.writer l.end octets frame.comes frame.read
+    c.answer.new.writer c.answer.new.end (rw same at c.in-Ok.ensures.day) (rw same at c.in-Ok.ensures.written) in
     record {
       within = omega (arith, l.invariant.within);
-      heard = heard_message g.E.End.next g.E.End.reply c.args.side c.args.moment g.R.Read.remaining g.W.Write.contents c.args.reader.now l.reader c.args.writer.now l.writer c.args.end.now l.end l.room l.invariant.heard
-          c.in-Ok-Message.octets c.read_frame.new.r c.answer.new.writer c.answer.new.end frame.comes frame.read (rw same at c.in-Ok.ensures.day) (rw same at c.in-Ok.ensures.written);
+      events = l.invariant.events ++ Receive octets.items ∷ [];
+      heard = then_so_far g.E.End.next g.E.End.text (turn_in side moment 64) (turn_in side moment l.room) g.R.Read.remaining g.W.Write.contents c.args.reader.now l.reader c.read_frame.new.r c.args.writer.now l.writer c.answer.new.writer
+          c.args.end.now l.end c.answer.new.end l.invariant.events (Receive octets.items ∷ []) l.invariant.heard (turn_in side moment (l.room - 1)) one;
+      ticks = none_ticked l.invariant.events (Receive octets.items ∷ []) l.invariant.ticks refl;
     }
 
-pub returns-in-Err-answer : goal.returns-in-Err-answer
-returns-in-Err-answer g c =
+pub returns-in-Err-answer-clause-went : goal.returns-in-Err-answer-clause-went
+returns-in-Err-answer-clause-went g c =
     let l = c.loop-octets in
     let frame = rw c.in-Ok-Message.field-0-is at c.in-Ok-Message.ensures in
     let same = c.deref.ensures.0 in
-    reply_failed g.E.End.next g.E.End.reply c.args.side c.args.moment g.R.Read.remaining g.W.Write.contents c.args.reader.now l.reader c.args.writer.now l.writer c.args.end.now l.end l.room l.invariant.heard
-    c.in-Ok-Message.octets c.read_frame.new.r c.answer.new.writer c.answer.new.end c.in-Err-answer.field-0 frame.comes frame.read (rw same at c.in-Err-answer.ensures.day) (rw same at c.in-Err-answer.ensures.written)
+    let octets = c.in-Ok-Message.octets in
+    turn_went l.invariant.events (Receive octets.items ∷ []) l.invariant.heard l.invariant.ticks refl (faulty WriteFailed)
+    (reply_failed g.E.End.next g.E.End.text c.args.side c.args.moment l.room g.R.Read.remaining g.W.Write.contents l.reader c.read_frame.new.r l.writer l.end octets frame.comes frame.read
+    c.answer.new.writer c.answer.new.end c.in-Err-answer.field-0 (rw same at c.in-Err-answer.ensures.day) (rw same at c.in-Err-answer.ensures.written))
 
-pub returns-then-said-moment : goal.returns-then-said-moment
-returns-then-said-moment g c =
+pub returns-then-said-moment-clause-went : goal.returns-then-said-moment-clause-went
+returns-then-said-moment-clause-went g c =
     let l = c.loop-octets in
     let frame = rw c.in-Ok-EndOfTurn.field-0-is at c.in-Ok-EndOfTurn.ensures in
-    heard_end g.E.End.next g.E.End.reply c.args.side c.args.moment g.R.Read.remaining g.W.Write.contents c.args.reader.now l.reader c.args.writer.now l.writer c.args.end.now l.end l.room l.invariant.heard
-    c.in-Ok-EndOfTurn.said c.read_frame.new.r (gave true) frame.read (ended_right c.in-Ok-EndOfTurn.said c.args.moment c.if-said-moment.true) (λ e. cc) (λ e. cc)
+    turn_went l.invariant.events [] l.invariant.heard l.invariant.ticks refl (gave true)
+    (ended_right g.E.End.next g.E.End.text c.args.side c.args.moment l.room g.R.Read.remaining g.W.Write.contents l.reader c.read_frame.new.r l.writer l.end c.in-Ok-EndOfTurn.said c.if-said-moment.true frame.read)
 
-pub returns-else-said-moment : goal.returns-else-said-moment
-returns-else-said-moment g c =
+pub returns-else-said-moment-clause-went : goal.returns-else-said-moment-clause-went
+returns-else-said-moment-clause-went g c =
     let l = c.loop-octets in
     let frame = rw c.in-Ok-EndOfTurn.field-0-is at c.in-Ok-EndOfTurn.ensures in
-    heard_end g.E.End.next g.E.End.reply c.args.side c.args.moment g.R.Read.remaining g.W.Write.contents c.args.reader.now l.reader c.args.writer.now l.writer c.args.end.now l.end l.room l.invariant.heard
-    c.in-Ok-EndOfTurn.said c.read_frame.new.r (faulty WrongMoment) frame.read (ended_wrong c.in-Ok-EndOfTurn.said c.args.moment c.if-said-moment.false) (λ e. cc) (λ e. cc)
+    turn_went l.invariant.events [] l.invariant.heard l.invariant.ticks refl (faulty WrongMoment)
+    (ended_wrong g.E.End.next g.E.End.text c.args.side c.args.moment l.room g.R.Read.remaining g.W.Write.contents l.reader c.read_frame.new.r l.writer l.end c.in-Ok-EndOfTurn.said c.if-said-moment.false frame.read)
 
-pub returns-in-Ok-EndOfDay : goal.returns-in-Ok-EndOfDay
-returns-in-Ok-EndOfDay g c =
+pub returns-in-Ok-EndOfDay-clause-went : goal.returns-in-Ok-EndOfDay-clause-went
+returns-in-Ok-EndOfDay-clause-went g c =
     let l = c.loop-octets in
     let frame = rw c.in-Ok-EndOfDay.field-0-is at c.in-Ok-EndOfDay.ensures in
-    heard_day_end g.E.End.next g.E.End.reply c.args.side c.args.moment g.R.Read.remaining g.W.Write.contents c.args.reader.now l.reader c.args.writer.now l.writer c.args.end.now l.end l.room l.invariant.heard
-    c.read_frame.new.r frame.read
+    turn_went l.invariant.events [] l.invariant.heard l.invariant.ticks refl (gave false)
+    (day_ended g.E.End.next g.E.End.text c.args.side c.args.moment l.room g.R.Read.remaining g.W.Write.contents l.reader c.read_frame.new.r l.writer l.end frame.read)
 
-pub returns-in-Err : goal.returns-in-Err
-returns-in-Err g c =
+pub returns-in-Err-clause-went : goal.returns-in-Err-clause-went
+returns-in-Err-clause-went g c =
     let l = c.loop-octets in
-    heard_fault g.E.End.next g.E.End.reply c.args.side c.args.moment g.R.Read.remaining g.W.Write.contents c.args.reader.now l.reader c.args.writer.now l.writer c.args.end.now l.end l.room l.invariant.heard
-    c.in-Err.fault c.read_frame.new.r c.in-Err.ensures.read
+    turn_went l.invariant.events [] l.invariant.heard l.invariant.ticks refl (faulty c.in-Err.fault)
+    (frame_fault g.E.End.next g.E.End.text c.args.side c.args.moment l.room g.R.Read.remaining g.W.Write.contents l.reader c.read_frame.new.r l.writer l.end c.in-Err.fault c.in-Err.ensures.read)

@@ -1,11 +1,16 @@
-use Rattle.std.proofs.Common.{◌≤◌}
-use Rattle.bx_link.proofs.Hearing.{HeardSoFar}
+use Rattle.std.proofs.Common.{◌≡◌, ◌≤◌, List}
+use Rattle.bx_day.specs.Run.{Event}
+use Rattle.bx_link.specs.Ends.{ticks_of}
+use Rattle.bx_link.specs.Talking.{turn_in}
+use Rattle.bx_link.proofs.Composing.{SoFar}
 use Rattle.bx_link.proofs.turn.hear_turn.Given as goal
 
 abbrev pub invariant-loop-octets : goal.invariant-loop-octets
 invariant-loop-octets g l = record {
   within : l.room ≤ 64;
-  heard : HeardSoFar g.E.End.next g.E.End.reply l.side l.moment g.R.Read.remaining g.W.Write.contents l.fn.reader l.reader l.fn.writer l.writer l.fn.end l.end l.room;
+  events : List Event;
+  heard : SoFar g.E.End.next g.E.End.text (turn_in l.side l.moment 64) (turn_in l.side l.moment l.room) g.R.Read.remaining g.W.Write.contents l.fn.reader l.reader l.fn.writer l.writer l.fn.end l.end events;
+  ticks : ticks_of events ≡ 0;
 }
 
 abbrev pub decreases-loop-octets : goal.decreases-loop-octets

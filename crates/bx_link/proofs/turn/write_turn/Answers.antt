@@ -3,7 +3,7 @@ use Rattle.std.specs.List.{flat_map}
 use Rattle.std.proofs.lemmas.Result.{err_from_is_err_and}
 use Rattle.bx_day.proofs.WritingSteps.{writes_then, writes_failed}
 use Rattle.bx_link.specs.Frames.{turn_frame}
-use Rattle.bx_link.specs.Talking.{frame_with}
+use Rattle.bx_link.specs.Ends.{frame_with}
 use Rattle.bx_link.proofs.turn.write_turn.Goals as goal
 
 pub returns-in_err-write_messages : goal.returns-in_err-write_messages

@@ -1,12 +1,19 @@
-use Rattle.std.proofs.Common.{inl, refl}
+use Rattle.std.proofs.Common.{true, inl, inr, refl}
 use Rattle.bx_day.specs.Run.{Tick}
-use Rattle.bx_link.specs.Talking.{written_for}
-use Rattle.bx_link.proofs.WritingAll.{over, no_write, writes_all}
+use Rattle.bx_link.specs.Ends.{exchange_next, exchange_text}
+use Rattle.bx_link.proofs.Hearing.{one_told, one_failed}
 use Rattle.bx_link.proofs.session.Session.open_turn.Goals as goal
 
 pub returns-in-Ok-clause-opened : goal.returns-in-Ok-clause-opened
 returns-in-Ok-clause-opened g c = λ _. record {
   day = c.in-Ok.ensures.day;
-  written = writes_all g.W.Write.contents c.args.writer.now c.write_tick.new.writer over (written_for c.args.exchange.now Tick) (no_write tt) c.in-Ok.ensures.written.written c.in-Ok.ensures.written.unfaulted;
+  written = one_told exchange_next exchange_text g.W.Write.contents c.args.writer.now c.write_tick.new.writer c.args.exchange.now Tick true c.in-Ok.ensures.written;
   answer = inl refl;
+}
+
+pub returns-in-Err-clause-opened : goal.returns-in-Err-clause-opened
+returns-in-Err-clause-opened g c = λ _. record {
+  day = c.in-Err.ensures.day;
+  written = one_failed exchange_next exchange_text g.W.Write.contents c.args.writer.now c.write_tick.new.writer c.args.exchange.now Tick c.in-Err.field-0 c.in-Err.ensures.written;
+  answer = inr refl;
 }

@@ -1,0 +1,72 @@
+-- What both ends and their devices are after several turns, and after a day.
+use Rattle.std.specs.Prelude.{◌≡◌, ℕ, ◌+◌, ◌≤◌, ◌<◌, Bool, true, false, List, Option, Result, Ok, Err, ◌⊎◌, min}
+use Rattle.std.specs.Io.KnownBytes.{Appends}
+use Rattle.bx_base.specs.declared.watched.Watched.{Watched}
+use Rattle.bx_base.specs.Watching.{device_of, is_faulted}
+use Rattle.bx_base.specs.Octets.{AppendsPrefix}
+use Rattle.bx_day.specs.Day.{Day}
+use Rattle.bx_far.specs.FarDay.{FarDay}
+use Rattle.bx_link.specs.Ends.{ticks_of, exchange_next, exchange_text, far_next, far_text}
+use Rattle.bx_link.specs.Frames.{day_frame}
+use Rattle.bx_link.specs.Talking.{talk_in, far_talk_in}
+use Rattle.bx_link.specs.Hearing.{Went}
+use Rattle.bx_link.specs.declared.fault.LinkFault.{LinkFault}
+use Rattle.bx_link.specs.declared.fault.LinkFault.TheVariants.{WriteFailed, Closed}
+
+-- ---- several turns of the exchange
+
+-- of so many turns each was opened; or at a fault the one in which it was, and none behind it
+abbrev pub opened : ℕ → Result Bool LinkFault → ℕ → Type 0
+opened turns (Ok b) n = n ≡ turns
+opened turns (Err fault) n = (0 < n) × (n ≤ turns)
+
+-- an exchange went through so many turns
+abbrev pub Talks : {R W : Type 0} → (R → Option (List ℕ)) → (W → Option (List ℕ)) → ℕ → Watched R → Watched R → Watched W → Watched W → Day → Day → Result Bool LinkFault → Type 0
+Talks remaining contents turns r r' w w' d d' result = Went exchange_next exchange_text (talk_in turns d) (opened turns) remaining contents r r' w w' d d' result
+
+-- the end of the day was written, or a front of it
+pub record EndsDay {W : Type 0} (contents : W → Option (List ℕ)) (w w' : Watched W) (result : Result Bool LinkFault) : Type 0 where
+  pub whole : (result ≡ Err WriteFailed) ⊎ ((result ≡ Ok true) × Appends (contents (device_of w)) (contents (device_of w')) day_frame)
+  pub part : AppendsPrefix (contents (device_of w)) (contents (device_of w')) day_frame
+  pub faulted : result ≡ Err WriteFailed → is_faulted w' ≡ true
+  pub unfaulted : (is_faulted w' ≡ is_faulted w) ⊎ (result ≡ Err WriteFailed)
+
+-- behind its last turn an exchange wrote the end of the day
+pub record TalksToEnd {R W : Type 0} (remaining : R → Option (List ℕ)) (contents : W → Option (List ℕ)) (turns : ℕ) (r r' : Watched R) (w w' : Watched W) (d d' : Day) (result : Result Bool LinkFault) : Type 0 where
+  pub last : Watched W
+  pub talks : Talks remaining contents turns r r' w last d d' (Ok true)
+  pub ends : EndsDay contents last w' result
+
+-- an exchange went through a day of so many turns; or it stopped in one of them
+abbrev pub RunsDay : {R W : Type 0} → (R → Option (List ℕ)) → (W → Option (List ℕ)) → ℕ → Watched R → Watched R → Watched W → Watched W → Day → Day → Result Bool LinkFault → Type 0
+RunsDay remaining contents turns r r' w w' d d' result =
+    TalksToEnd remaining contents turns r r' w w' d d' result ⊎ (¬ (result ≡ Ok true) × Talks remaining contents turns r r' w w' d d' result)
+
+-- ---- several turns of the far end
+
+-- of so many turns each had its tick, but for one that was the end of the day or had a fault
+abbrev pub taken : ℕ → Result Bool LinkFault → ℕ → Type 0
+taken turns (Ok true) n = n ≡ turns
+taken turns (Ok false) n = n + 1 ≡ turns
+taken turns (Err fault) n = (0 < turns) × (n ≤ turns)
+
+-- a far end took so many turns of a session
+abbrev pub FarTalks : {R W : Type 0} → (R → Option (List ℕ)) → (W → Option (List ℕ)) → ℕ → Watched R → Watched R → Watched W → Watched W → FarDay → FarDay → Result Bool LinkFault → Type 0
+FarTalks remaining contents turns r r' w w' d d' result = Went far_next far_text (far_talk_in turns d) (taken turns) remaining contents r r' w w' d d' result
+
+-- the most turns that are counted
+abbrev pub most_turns : ℕ
+most_turns = 18446744073709551615
+
+-- how a day of the far end ends: with the end of the day, or by the fault of a turn
+abbrev pub EndsFarDay : Result (Unit {0}) LinkFault → ℕ → Result Bool LinkFault → Type 0
+EndsFarDay (Ok _) turns ending = ending ≡ Ok false
+EndsFarDay (Err fault) turns ending = (ending ≡ Err fault) ⊎ (((ending ≡ Ok true) × (turns ≡ most_turns)) × (fault ≡ Closed))
+
+-- a far end took turns until its day ended; the moment that it has reached tells how many of them had a tick
+pub record RunsFarDay {R W : Type 0} (remaining : R → Option (List ℕ)) (contents : W → Option (List ℕ)) (r r' : Watched R) (w w' : Watched W) (d d' : FarDay) (result : Result (Unit {0}) LinkFault) : Type 0 where
+  pub turns : ℕ
+  pub ending : Result Bool LinkFault
+  pub talks : FarTalks remaining contents turns r r' w w' d d' ending
+  pub moment : d.moment ≤ 300000 → d'.moment ≡ min (d.moment + ticks_of talks.events) 300000
+  pub ends : EndsFarDay result turns ending

@@ -1,0 +1,32 @@
+//! The far end's side of a whole day.
+
+ghost use Rattle.bx_link.specs.Days.{RunsFarDay};
+
+use crate::far_session::FarSession;
+use crate::fault::LinkFault;
+use bx_base::Watched;
+use bx_far::Far;
+use std::io::{Read, Write};
+
+/// More turns than a connection lasts for.
+const MOST_TURNS: u64 = u64::MAX;
+
+/// Takes turns until the exchange ends the day; each but the last of them has its tick. Nothing is read behind the end
+/// of the day. Takes no memory. The first fault of a turn is answered; and `Closed` behind 2^64 - 1 turns.
+pub fn run_far_day<R: Read, W: Write>(
+    far: &mut Far,
+    reader: &mut Watched<R>,
+    writer: &mut Watched<W>,
+) -> Result<(), LinkFault>
+    ensures { RunsFarDay R.remaining W.contents reader.old reader.new writer.old writer.new far.old far.new result }
+{
+    let mut session = FarSession::new();
+    for _turn in 0..MOST_TURNS {
+        match session.far_turn(far, reader, writer) {
+            Ok(true) => {}
+            Ok(false) => return Ok(()),
+            Err(fault) => return Err(fault),
+        }
+    }
+    Err(LinkFault::Closed)
+}
