@@ -3,11 +3,11 @@
 use crate::frames::{
     CONNECT, CONNECT_ACKNOWLEDGE, DISCONNECT, END_OF_DAY, OPENED, RELEASE, RELEASE_COMPLETE, joined,
 };
-use crate::two_ends::{exchange, far_end};
+use crate::two_ends::{connection, exchange, far_end};
 use bx_base::Watched;
 use bx_day::Exchange;
 use bx_far::Far;
-use bx_link::{Connection, FarSession, Session, run_both_ends};
+use bx_link::{FarSession, Session, run_both_ends};
 use std::alloc::Global;
 use std::mem;
 use std::test::Fail;
@@ -128,14 +128,6 @@ fn day_of_both_ends(rt: HostRuntime) -> Result<(), Fail> {
     let ended = is_ended(rt.alloc(), &mut far, &mut far_session);
     assert!(rt; ended, "the end of the day");
     Ok(())
-}
-
-/// A connection that gives these octets, and holds what is written.
-fn connection<'a>(alloc: Global, octets: &'a [u8]) -> Connection<&'a [u8], Vec<u8>> {
-    Connection {
-        reader: Watched::new(octets),
-        writer: Watched::new(Vec::new(alloc)),
-    }
 }
 
 /// Whether one turn of both writes what each end is given of the other.

@@ -16,6 +16,8 @@ mod frames;
 #[cfg(test)]
 mod printed_faults;
 #[cfg(test)]
+mod torn_days;
+#[cfg(test)]
 mod turn_endings;
 #[cfg(test)]
 mod two_ends;

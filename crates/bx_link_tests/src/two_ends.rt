@@ -1,8 +1,9 @@
-//! An exchange with one booking, and a far end that answers at once.
+//! An exchange with one booking, a far end that answers at once, and connections in memory.
 
-use bx_base::{Booking, Bookings, Channel, ChannelSet, Number, Plan};
+use bx_base::{Booking, Bookings, Channel, ChannelSet, Number, Plan, Watched};
 use bx_day::Exchange;
 use bx_far::{Far, Script};
+use bx_link::Connection;
 use std::alloc::Global;
 
 /// A plan of one booking from 0 to 60 on channel 1.
@@ -30,4 +31,12 @@ pub(crate) fn exchange(alloc: Global) -> Option<Exchange> {
 pub(crate) fn far_end(alloc: Global) -> Option<Far> {
     let script = Script::read(alloc, b"number,policy,seconds\n*,answer,0\n").ok()?;
     Some(Far::new(script))
+}
+
+/// A connection that gives these octets, and holds what is written.
+pub(crate) fn connection<'a>(alloc: Global, octets: &'a [u8]) -> Connection<&'a [u8], Vec<u8>> {
+    Connection {
+        reader: Watched::new(octets),
+        writer: Watched::new(Vec::new(alloc)),
+    }
 }
