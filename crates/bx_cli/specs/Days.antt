@@ -1,22 +1,61 @@
--- The day of a proved plan, and what is told of it.
-use Rattle.std.specs.Prelude.{◌≡◌, ℕ, List, Option}
+-- The days that the commands run, and what is told of them.
+use Rattle.std.specs.Prelude.{◌≡◌, ℕ, ◌+◌, ◌≤◌, ◌<◌, min, true, false, List, [], ◌∷◌, ◌++◌, length, Option, Some, None, codes, decimal, ◌⊎◌}
 use Rattle.std.specs.Io.KnownBytes.{Appends}
+use Rattle.bx_base.specs.Bookings.{Row, row_at}
 use Rattle.bx_base.specs.PlanParts.{Parts}
+use Rattle.bx_base.specs.Plans.{is_accepted}
 use Rattle.bx_commands.specs.Proved.{IsProvedFor}
 use Rattle.bx_day.specs.Day.{Day, opening}
 use Rattle.bx_day.specs.Run.{Event, day_after}
 use Rattle.bx_day.specs.Telling.{outcomes_text}
+use Rattle.bx_far.specs.FarDay.{far_opening}
+use Rattle.bx_far.specs.ScriptTexts.{IsScript}
+use Rattle.bx_far.specs.declared.row.ScriptRow.{ScriptRow}
+use Rattle.bx_link.specs.Ends.{after, ticks_of, far_next}
 
--- the opening day of a plan that is proved for its own bookings and channels
-pub record IsOpening (day : Day) : Type 0 where
+-- ---- the exchange
+
+-- the greatest moment at which the call of one of the first so many rows, where it is accepted, may end: 38 seconds
+-- behind the end of the row; 1 where none is accepted
+pub record IsLastOf (rows : List Row) (assigned : List (Option ℕ)) (count turns : ℕ) : Type 0 where
+  pub each : (i : ℕ) → i < count → is_accepted assigned i ≡ true → (row_at rows i).end + 38 ≤ turns
+  pub one : ((i : ℕ) × (i < count) × (is_accepted assigned i ≡ true) × (turns ≡ (row_at rows i).end + 38)) ⊎ (((i : ℕ) → i < count → is_accepted assigned i ≡ false) × (turns ≡ 1))
+
+-- how many turns a day has: as many as were asked for, or all that its accepted rows need
+abbrev pub AreTurns : Option ℕ → Parts → ℕ → Type 0
+AreTurns (Some asked) plan turns = turns ≡ asked
+AreTurns None plan turns = IsLastOf plan.rows plan.assigned (length plan.rows) turns
+
+-- the opening day of a plan that is proved for its own bookings and channels, and how many turns it is to have
+pub record IsOpening (asked : Option ℕ) (day : Day) (turns : ℕ) : Type 0 where
   pub plan : Parts
   pub total : ℕ
   pub proved : IsProvedFor plan.rows plan.channels plan total
   pub opens : day ≡ opening plan.rows plan.assigned
+  pub are_turns : AreTurns asked plan turns
 
--- what has become of each booking was written, after some events of such a day
-pub record IsDayTold (before after : Option (List ℕ)) : Type 0 where
+-- what has become of each booking was written, after events of such a day with just as many ticks, and no more than
+-- there are moments
+pub record IsDayTold (asked : Option ℕ) (before after : Option (List ℕ)) : Type 0 where
   pub opened : Day
-  pub opens : IsOpening opened
+  pub turns : ℕ
+  pub opens : IsOpening asked opened turns
   pub events : List Event
+  pub ticks : ticks_of events ≡ min turns 300000
   pub written : Appends before after (outcomes_text (day_after events opened))
+
+-- ---- the far end
+
+-- the line of the moment at which a day ended
+abbrev pub ended_line : ℕ → List ℕ
+ended_line moment = codes "ended at " ++ (decimal moment ++ 10 ∷ [])
+
+-- the moment was written that the day of a script has reached after these events: as many seconds as there were ticks,
+-- and no more than a day has
+pub record IsFarTold (old new : Option (List ℕ)) : Type 0 where
+  pub script : List ScriptRow
+  pub text : List ℕ
+  pub read : IsScript text script
+  pub events : List Event
+  pub moment : (after far_next events (far_opening script)).moment ≡ min (ticks_of events) 300000
+  pub written : Appends old new (ended_line (after far_next events (far_opening script)).moment)

@@ -1,23 +1,27 @@
 //! The commands that run a day.
 
-ghost use Rattle.std.specs.Prelude.{◌≡◌, ◌≤◌, ◌<◌, ◌+◌, ℕ, List, length, true, IfOk, OnOk};
+ghost use Rattle.std.specs.Prelude.{◌≡◌, ◌≤◌, ◌<◌, ◌+◌, ℕ, List, length, true, false, if◌then◌else◌, IfOk, OnOk};
 ghost use Rattle.std.specs.Io.KnownBytes.{Appends};
 ghost use Rattle.bx_base.specs.Bookings.{row_at};
 ghost use Rattle.bx_base.specs.Plans.{is_accepted};
 ghost use Rattle.bx_base.specs.Watching.{device_of};
 ghost use Rattle.bx_day.specs.Telling.{outcomes_text};
-ghost use Rattle.bx_cli.specs.Days.{IsOpening, IsDayTold};
+ghost use Rattle.bx_far.specs.FarDay.{far_opening};
+ghost use Rattle.bx_far.specs.ScriptTexts.{IsScript};
+ghost use Rattle.bx_far.specs.declared.row.ScriptRow.{ScriptRow};
+ghost use Rattle.bx_cli.specs.Days.{IsLastOf, IsOpening, IsDayTold, IsFarTold, ended_line};
 
 use crate::fault::CliFault;
 use crate::loopback::{accepted, both_ends, connected};
 use crate::planning::open;
-use bx_base::{Plan, ReadFault, Watched, read_octets};
+use bx_base::{Plan, ReadFault, Watched, WriteFailed, read_octets, write_octets};
 use bx_commands::{CommandFault, proved_plan};
 use bx_day::Exchange;
 use bx_far::{Far, Script, ScriptFault};
-use bx_link::{Connection, FarSession, run_both_ends, run_day};
+use bx_link::{Connection, run_both_ends, run_day, run_far_day};
+use itoa::Buffer;
 use std::fs::Files;
-use std::io::{Read, Write};
+use std::io::Write;
 use std::net::{Net, TcpListener, TcpStream};
 
 /// How many seconds a call can outlive its booking: T305, and T308 twice.
@@ -27,7 +31,7 @@ const AFTER_THE_LAST: u32 = 38;
 fn over_from(plan: &Plan, index: u16) -> u32
     requires { index < length plan.now.bookings }
     ensures limit { (1 ≤ result) × (result ≤ 200038) }
-    ensures over { is_accepted plan.now.assigned.items index ≡ true → (row_at plan.now.bookings index).end + 38 ≤ result }
+    ensures over { result ≡ (if is_accepted plan.now.assigned.items index then (row_at plan.now.bookings index).end + 38 else 1) }
 {
     match plan.assigned[index as usize] {
         Some(_) => plan.bookings.nth(index).end() + AFTER_THE_LAST,
@@ -37,8 +41,7 @@ fn over_from(plan: &Plan, index: u16) -> u32
 
 /// How many turns it takes until the call of each accepted booking is over: 1 where none is accepted.
 fn turns_of(plan: &Plan) -> u32
-    ensures limit { (1 ≤ result) × (result ≤ 200038) }
-    ensures over { (i : ℕ) → i < length plan.now.bookings → is_accepted plan.now.assigned.items i ≡ true → (row_at plan.now.bookings i).end + 38 ≤ result }
+    ensures { IsLastOf plan.now.bookings plan.now.assigned.items (length plan.now.bookings) result }
 {
     let mut turns = 1;
     for index in 0..plan.bookings.len() {
@@ -53,11 +56,14 @@ fn opening_of<'a, H: Files + AllocGlobal>(
     name: &'a str,
     turns: Option<u32>,
 ) -> Result<(Exchange, u32), CliFault<'a>>
-    ensures { IfOk result (λ opened. IsOpening opened.0) }
+    ensures { IfOk result (λ opened. IsOpening turns opened.0 opened.1) }
 {
     let mut input = open(rt, name)?;
     let plan = proved_plan(rt.alloc(), name, &mut input)?;
-    let turns = turns.unwrap_or_else(|| turns_of(&plan));
+    let turns = match turns {
+        Some(turns) => turns,
+        None => turns_of(&plan),
+    };
     match Exchange::new(rt.alloc(), &plan) {
         Ok(exchange) => Ok((exchange, turns)),
         Err(_) => Err(CliFault::Command(CommandFault::Memory)),
@@ -65,7 +71,9 @@ fn opening_of<'a, H: Files + AllocGlobal>(
 }
 
 /// The far end at the opening of its day by the script in a file.
-fn far_end_of<'a, H: Files + AllocGlobal>(rt: &H, name: &'a str) -> Result<Far, CliFault<'a>> {
+fn far_end_of<'a, H: Files + AllocGlobal>(rt: &H, name: &'a str) -> Result<Far, CliFault<'a>>
+    ensures { IfOk result (λ far. (script : List ScriptRow) × (text : List ℕ) × IsScript text script × (far ≡ far_opening script)) }
+{
     let mut input = open(rt, name)?;
     let text = match read_octets(rt.alloc(), &mut input) {
         Ok(text) => text,
@@ -112,7 +120,7 @@ pub fn day_of_files<
     turns: Option<u32>,
     output: &mut Watched<W>,
 ) -> Result<(), CliFault<'a>>
-    ensures { OnOk result (IsDayTold (W.contents (device_of output.old)) (W.contents (device_of output.new))) }
+    ensures { OnOk result (IsDayTold turns (W.contents (device_of output.old)) (W.contents (device_of output.new))) }
 {
     let (mut exchange, turns) = opening_of(rt, plan, turns)?;
     let mut far = far_end_of(rt, script)?;
@@ -138,7 +146,7 @@ pub fn serve_file<
     turns: Option<u32>,
     output: &mut Watched<W>,
 ) -> Result<(), CliFault<'a>>
-    ensures { OnOk result (IsDayTold (W.contents (device_of output.old)) (W.contents (device_of output.new))) }
+    ensures { OnOk result (IsDayTold turns (W.contents (device_of output.old)) (W.contents (device_of output.new))) }
 {
     let (mut exchange, turns) = opening_of(rt, plan, turns)?;
     let peer = accepted(rt, port)?;
@@ -150,24 +158,13 @@ pub fn serve_file<
     }
 }
 
-/// More turns than a connection can last for.
-const WITHOUT_END: u64 = u64::MAX;
-
-/// Runs the far end of a day until the exchange ends it.
-fn run_far<'a, R: Read, W: Write>(
-    far: &mut Far,
-    reader: &mut Watched<R>,
-    writer: &mut Watched<W>,
-) -> Result<(), CliFault<'a>> {
-    let mut session = FarSession::new();
-    for _turn in 0..WITHOUT_END {
-        match session.far_turn(far, reader, writer) {
-            Ok(true) => {}
-            Ok(false) => return Ok(()),
-            Err(fault) => return Err(CliFault::Link(fault)),
-        }
-    }
-    Ok(())
+/// Writes `ended at `, the moment and LF.
+fn write_ended<W: Write>(output: &mut Watched<W>, moment: u32) -> Result<(), WriteFailed>
+    ensures { OnOk result (Appends (W.contents (device_of output.old)) (W.contents (device_of output.new)) (ended_line moment)) }
+{
+    write_octets(output, b"ended at ")?;
+    write_octets(output, Buffer::new().format(moment).as_bytes())?;
+    write_octets(output, b"\n")
 }
 
 /// Runs the far end of a day by a script, towards the exchange that serves on the port, and writes the moment at which
@@ -176,13 +173,18 @@ pub fn far_file<
     'a,
     H: Files + AllocGlobal + Net<Listener = TcpListener, Stream = TcpStream>,
     W: Write,
->(rt: &H, script: &'a str, port: u16, output: &mut Watched<W>) -> Result<(), CliFault<'a>> {
+>(rt: &H, script: &'a str, port: u16, output: &mut Watched<W>) -> Result<(), CliFault<'a>>
+    ensures { OnOk result (IsFarTold (W.contents (device_of output.old)) (W.contents (device_of output.new))) }
+{
     let mut far = far_end_of(rt, script)?;
     let peer = connected(rt, port)?;
     let mut from_exchange = Watched::new(&peer);
     let mut to_exchange = Watched::new(&peer);
-    run_far(&mut far, &mut from_exchange, &mut to_exchange)?;
-    match writeln!(output, "ended at {}", far.moment()) {
+    match run_far_day(&mut far, &mut from_exchange, &mut to_exchange) {
+        Ok(()) => {}
+        Err(fault) => return Err(CliFault::Link(fault)),
+    }
+    match write_ended(output, far.moment()) {
         Ok(()) => Ok(()),
         Err(_) => Err(CliFault::Command(CommandFault::CannotWrite)),
     }
