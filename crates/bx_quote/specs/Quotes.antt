@@ -8,7 +8,7 @@ use Rattle.bx_quote.specs.declared.answer.Quote.{Quote}
 use Rattle.bx_quote.specs.declared.answer.QuoteFail.{QuoteFail}
 use Rattle.bx_quote.specs.declared.answer.QuoteFail.TheVariants.{TooMany, NoChannel, NoSuchRow, Accepted, Memory}
 use Rattle.bx_quote.specs.Named.{AreRows, pay_of_rows, traded}
-use Rattle.bx_quote.specs.Rooms.{IsNoChannel}
+use Rattle.bx_quote.specs.Rooms.{IsNoChannel, IsNeverTaken}
 use Rattle.bx_quote.specs.Thresholds.{IsThreshold, Decides}
 
 -- the rows with one more behind them, which a plan is free to leave out
@@ -40,7 +40,7 @@ pub record IsRefused (plan : Parts) (row : ℕ) : Type 0 where
 -- why a booking has no quote
 abbrev pub IsQuoteFail : Parts → Row → QuoteFail → Type 0
 IsQuoteFail plan booking TooMany = 4000 ≤ length plan.rows
-IsQuoteFail plan booking (NoChannel moment) = IsNoChannel plan.rows plan.channels booking moment
+IsQuoteFail plan booking (NoChannel moment) = IsNoChannel plan.rows plan.channels booking moment × IsNeverTaken (asked plan.rows booking) plan.channels (length plan.rows)
 IsQuoteFail plan booking Memory = Unit {0}
 IsQuoteFail plan booking _ = ⊥
 
@@ -48,6 +48,6 @@ IsQuoteFail plan booking _ = ⊥
 abbrev pub IsExplainFail : Parts → ℕ → QuoteFail → Type 0
 IsExplainFail plan row NoSuchRow = ¬ IsRowOf plan row
 IsExplainFail plan row (Accepted named) = (named ≡ row) × IsRowOf plan row × (is_accepted plan.assigned (row - 1) ≡ true)
-IsExplainFail plan row (NoChannel moment) = IsRefused plan row × IsNoChannel plan.rows plan.channels (row_at plan.rows (row - 1)) moment
+IsExplainFail plan row (NoChannel moment) = IsRefused plan row × IsNoChannel plan.rows plan.channels (row_at plan.rows (row - 1)) moment × IsNeverTaken plan.rows plan.channels (row - 1)
 IsExplainFail plan row Memory = Unit {0}
 IsExplainFail plan row _ = ⊥

@@ -1,7 +1,17 @@
-use Rattle.std.proofs.Common.{◌≡◌, ℕ, Some, ap, rules, subst, sym, refl}
+use Rattle.std.proofs.Common.{◌≡◌, ℕ, ◌-◌, ◌<◌, length, arith, false, Some, ap, rules, subst, sym, refl}
 use Rattle.bx_base.specs.Bookings.{Row}
 use Rattle.bx_quote.specs.Rooms.{IsNoChannel}
+use Rattle.bx_base.specs.PlanParts.{parts_of}
+use Rattle.bx_base.specs.Plans.{is_accepted}
+use Rattle.bx_check.proofs.Sound.{sound-lawful_itself}
+use Rattle.bx_quote.proofs.Crowding.{few_musts, never_taken}
+use Rattle.bx_quote.proofs.Settling.{is_free}
 use Rattle.bx_quote.proofs.quoting.explain.Goals as goal
+
+pub no_channel-requires : goal.no_channel-requires
+no_channel-requires c =
+    let plan = parts_of c.args.plan.now in
+    few_musts plan.rows plan.channels (is_accepted plan.assigned) (sound-lawful_itself plan.rows plan.channels plan c.requires.proved.0)
 
 pub returns-in-Some-no_channel-clause-no_channel : goal.returns-in-Some-no_channel-clause-no_channel
 returns-in-Some-no_channel-clause-no_channel c =
@@ -17,8 +27,14 @@ returns-in-Some-no_channel-clause-no_channel c =
 
 pub returns-in-Some-no_channel-clause-fail : goal.returns-in-Some-no_channel-clause-fail
 returns-in-Some-no_channel-clause-fail c =
-    let plan = c.args.plan.now in
-    let moment = c.in-Some-no_channel.moment in (
-      record { row_of = c.in-Some.ensures.exactly.0 (search rules); left_out = search rules },
-      subst (λ (row : Row). IsNoChannel plan.bookings plan.channels row moment) c.in-Some.ensures.value ((c.in-Some-no_channel.ensures moment).0 refl),
+    let plan = parts_of c.args.plan.now in
+    let moment = c.in-Some-no_channel.moment in
+    let i = c.args.row - 1 in
+    let row_of = c.in-Some.ensures.exactly.0 (search rules) in
+    let out : is_accepted plan.assigned i ≡ false = search rules in
+    let inside : i < length plan.rows = omega (arith, row_of.0, row_of.1) in
+    let found = subst (λ (row : Row). IsNoChannel plan.rows plan.channels row moment) c.in-Some.ensures.value ((c.in-Some-no_channel.ensures moment).0 refl) in (
+      record { row_of = row_of; left_out = out },
+      found,
+      never_taken plan.rows i inside (is_free plan i c.requires.proved inside out) plan.channels moment found.running found.full,
     )

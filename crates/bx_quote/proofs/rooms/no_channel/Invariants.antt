@@ -1,14 +1,12 @@
-use Rattle.std.proofs.Common.{◌-◌, ◌<◌, ◌≤◌, ℕ}
-use Rattle.bx_planner.specs.Musts.{musts_at}
+use Rattle.std.proofs.Common.{◌≡◌, ℕ, ◌+◌, ◌≤◌, ◌&&◌, cond}
+use Rattle.bx_base.specs.Sums.{sum_below}
+use Rattle.bx_base.specs.Bookings.{row_at, is_running}
+use Rattle.bx_colour.specs.Loads.{load_at, size_of}
 use Rattle.bx_quote.proofs.rooms.no_channel.Given as goal
 
-abbrev pub invariant-loop-moment : goal.invariant-loop-moment
-invariant-loop-moment l =
+abbrev pub invariant-loop-i : goal.invariant-loop-i
+invariant-loop-i l =
     record {
-      late : l.booking.start ≤ l.moment;
-      limit : l.moment ≤ l.end;
-      none : (s : ℕ) → l.booking.start ≤ s → s < l.moment → musts_at l.bookings s < l.count;
+      each : (t : ℕ) → load_at l.load t ≡ sum_below l.i (λ j. cond ((row_at l.bookings j).must && is_running (row_at l.bookings j) t) 1 0) + cond (is_running l.booking t) 1 0;
+      few : size_of l.load ≤ l.i + 1;
     }
-
-abbrev pub decreases-loop-moment : goal.decreases-loop-moment
-decreases-loop-moment l = l.end - l.moment
