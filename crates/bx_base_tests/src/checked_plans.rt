@@ -19,6 +19,8 @@ type Planned = (
 
 const THREE: &[Row] = &[(0, 10, 4, 1), (5, 15, 6, 0), (10, 20, 4, 1)];
 
+const THIRD_LEFT_OUT: &[Row] = &[(0, 10, 4, 1), (5, 15, 6, 0), (10, 20, 4, 0)];
+
 const SECOND: &[Row] = &[(0, 10, 4, 0), (5, 15, 6, 1), (10, 20, 4, 0)];
 
 const FOUR: &[Row] = &[(0, 10, 3, 1), (0, 10, 2, 0), (5, 15, 4, 2), (12, 20, 1, 1)];
@@ -28,7 +30,7 @@ const FOUR_ON_ONE: &[Row] = &[(0, 10, 3, 1), (0, 10, 2, 0), (5, 15, 4, 1), (12, 
 const FOUR_OUTSIDE: &[Row] = &[(0, 10, 3, 1), (0, 10, 2, 0), (5, 15, 4, 3), (12, 20, 1, 1)];
 
 /// Plans, and what the check says of each as a plan of its own bookings and channels.
-static PLANS: [(Planned, &str); 18] = [
+static PLANS: [(Planned, &str); 21] = [
     ((&[(0, 60, 5, 1)], 0, &[1], &[], 5), "5"),
     ((&[], 0, &[1, 2, 3], &[], 0), "0"),
     ((&[(10, 20, 7, 0)], 0, &[], &[(10, 7)], 0), "0"),
@@ -52,6 +54,13 @@ static PLANS: [(Planned, &str); 18] = [
     ),
     ((THREE, 0, &[1], &[(5, 1), (10, 4)], 8), "C7 NotProved 9"),
     ((THREE, 0, &[1], &[(5, 2), (10, 4)], 9), "C5 WrongTotal"),
+    (
+        (THIRD_LEFT_OUT, 0, &[1], &[(5, 2), (10, 4)], 8),
+        "C5 WrongTotal",
+    ),
+    // A bound over the accepted rows alone would be 0, the total of these.
+    ((&[(0, 60, 5, 0)], 0, &[1], &[], 0), "C7 NotProved 5"),
+    ((&[(0, 60, 5, 0)], 0, &[1], &[(0, 5)], 0), "C7 NotProved 5"),
     (
         (THREE, 0, &[1], &[(10, 4), (5, 2)], 8),
         "C6 PricesOutOfOrder",

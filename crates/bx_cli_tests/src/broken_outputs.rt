@@ -1,4 +1,4 @@
-//! Words while neither standard output nor standard error takes an octet.
+//! Words while standard input, standard output or standard error fails.
 
 use crate::worked_texts::ONE;
 use bx_base::{Failing, Watched};
@@ -24,4 +24,27 @@ fn words_without_outputs(rt: HostRuntime) {
     for (index, (words, status)) in CASES.iter().enumerate() {
         assert!(rt; status_of(&rt, words) == *status, "words {index}");
     }
+}
+
+/// What is printed on standard error without words, where standard input fails at its first read, or standard output at its
+/// first write.
+fn printed(rt: &HostRuntime, reads: u32, writes: u32) -> Vec<u8> {
+    let mut input = Watched::new(Failing::new(ONE.as_bytes(), reads, 100));
+    let mut output = Watched::new(Failing::new(Vec::new(rt.alloc()), writes, 100));
+    let mut errors = Watched::new(Vec::new(rt.alloc()));
+    let _ = main_words(rt, &[], &mut input, &mut output, &mut errors);
+    errors.into_inner()
+}
+
+#[test]
+fn faults_as_they_are_printed(rt: HostRuntime) {
+    assert!(rt;
+        printed(&rt, 0, 100).as_slice() == b"bx: F1 CannotRead -\n".as_slice(),
+        "standard input"
+    );
+    assert!(rt;
+        printed(&rt, 100, 0).as_slice() == b"bx: F2 CannotWrite\n".as_slice(),
+        "standard output"
+    );
+    assert!(rt; printed(&rt, 100, 100).is_empty(), "neither");
 }

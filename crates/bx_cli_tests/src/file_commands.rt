@@ -7,7 +7,13 @@ use std::test::Fail;
 /// Words with spaces between, status, standard output, and how standard error begins.
 pub(crate) type Case = (&'static str, u8, &'static str, &'static str);
 
-static PLANS: [Case; 14] = [
+static PLANS: [Case; 15] = [
+    (
+        "plan --date 2026-01-05 --channels 1,2 @mixed.csv",
+        0,
+        "bx-plan 3\nchannels 1 2\nbookings 3\n0 10 4 1 1 must out\n5 15 6 2 2 free in\n8 12 5 3 - free out\nprices 1\n8 5\ntotal 10\nend\n",
+        "",
+    ),
     (
         "plan --date 2026-01-05 --channels 1 @one.csv",
         0,
@@ -193,7 +199,7 @@ static AMENDMENTS: [Case; 9] = [
     ("amend --date 2026-01-05 @four.txt", 2, "", "error: "),
 ];
 
-static DAYS: [Case; 13] = [
+static DAYS: [Case; 15] = [
     (
         "day @one.txt @answer.csv --turns 98",
         0,
@@ -222,6 +228,13 @@ static DAYS: [Case; 13] = [
     ("day @short.txt @gone", 1, "", "bx: P1 BadLine 3\n"),
     ("day @gone @dance.csv", 1, "", "bx: F1 CannotRead @gone\n"),
     ("day @one.txt @gone", 1, "", "bx: F1 CannotRead @gone\n"),
+    ("day @unproved.txt @gone", 1, "", "bx: C7 NotProved 5\n"),
+    (
+        "serve @unproved.txt --port 1",
+        1,
+        "",
+        "bx: C7 NotProved 5\n",
+    ),
     ("day @one.txt @answer.csv --turns 0", 2, "", "error: "),
     ("day @one.txt @answer.csv --turns 300001", 2, "", "error: "),
     ("serve @one.txt --port 0", 2, "", "error: "),
@@ -229,12 +242,24 @@ static DAYS: [Case; 13] = [
     ("far @answer.csv", 2, "", "error: "),
 ];
 
-static OPTIONS: [Case; 8] = [
+static OPTIONS: [Case; 10] = [
     (
         "plan --date 2026-02-29 --channels 0 @gone",
         1,
         "",
         "bx: N1 NotABChannel 0\n",
+    ),
+    (
+        "plan --date 2026-01-05 --channels 1-31 @one.csv",
+        1,
+        "",
+        "bx: N1 NotABChannel 16\n",
+    ),
+    (
+        "plan --date 2026-03-08 --zone AAA-24BBB24,M3.2.0,M11.1.0 @gone",
+        1,
+        "",
+        "bx: A4 OddDay\n",
     ),
     ("plan --date 2026-02-29 @gone", 1, "", "bx: A1 BadDate\n"),
     (

@@ -6,7 +6,7 @@ use std::test::Fail;
 use std::{env, fs};
 
 /// The files of the cases. In what follows `@` stands for the folder that they lie in.
-static FILES: [(&str, &str); 21] = [
+static FILES: [(&str, &str); 22] = [
     (
         "one.csv",
         "start,end,number,pay\n2026-01-05T00:00:00Z,2026-01-05T00:01:00Z,1234,5\n",
@@ -27,6 +27,10 @@ static FILES: [(&str, &str); 21] = [
     (
         "must.csv",
         "start,end,number,pay,must,direction\n2026-01-05T00:00:00Z,2026-01-05T00:00:10Z,1,4,yes,out\n2026-01-05T00:00:05Z,2026-01-05T00:00:15Z,1,6,yes,in\n",
+    ),
+    (
+        "mixed.csv",
+        "start,end,number,pay,must,direction\n2026-01-05T00:00:00Z,2026-01-05T00:00:10Z,1,4,yes,out\n2026-01-05T00:00:05Z,2026-01-05T00:00:15Z,2,6,no,in\n2026-01-05T00:00:08Z,2026-01-05T00:00:12Z,3,5,no,out\n",
     ),
     (
         "bad.csv",

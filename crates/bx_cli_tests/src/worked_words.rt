@@ -39,3 +39,29 @@ fn words_and_what_is_printed(rt: HostRuntime) {
         assert!(rt; is_done(&done, (*status, output, errors)), "words {index}");
     }
 }
+
+/// Words that ask for help, and how what is printed begins.
+static HELPS: [(&[&str], &str); 4] = [
+    (
+        &["--help"],
+        "Booked calls on one ISDN primary rate interface",
+    ),
+    (&["help"], "Booked calls on one ISDN primary rate interface"),
+    (&["help", "plan"], "Print the best plan of a day's bookings"),
+    (
+        &["help", "faults"],
+        "P1 BadLine n          line n of a plan",
+    ),
+];
+
+#[test]
+fn help_on_standard_output(rt: HostRuntime) {
+    for (index, (words, begins)) in HELPS.iter().enumerate() {
+        let done = run(&rt, words, "");
+        let is_shown = done.output.starts_with(begins.as_bytes());
+        assert!(rt;
+            done.status == 0 && is_shown && done.errors.is_empty(),
+            "help {index}"
+        );
+    }
+}

@@ -1,27 +1,60 @@
 //! Plans of days with their totals and prices, the two largest among them, and a day that has no plan.
 
 use crate::rows::{Row, bookings_of};
-use bx_base::{Bookings, ChannelSet, Plan, Price};
+use bx_base::{Bookings, Channel, ChannelSet, Plan, Price};
+use bx_check::check;
 use bx_planner::{PlanFail, plan};
 use std::alloc::Global;
 use std::test::Fail;
 
-/// The channels and bookings of a day, what its best plan pays, and the prices (moments and amounts) that prove it.
-type Day = (&'static [u8], &'static [Row], u64, &'static [(u32, u64)]);
+/// The channels and bookings of a day, the channels of its best plan (0: refused), what it pays, and the prices (moments and
+/// amounts) that prove it.
+type Day = (
+    &'static [u8],
+    &'static [Row],
+    &'static [u8],
+    u64,
+    &'static [(u32, u64)],
+);
 
 static DAYS: [Day; 9] = [
-    (&[1, 2, 3], &[], 0, &[]),
-    (&[], &[(10, 20, 7, false)], 0, &[(10, 7)]),
+    (&[1, 2, 3], &[], &[], 0, &[]),
+    (&[], &[(10, 20, 7, false)], &[0], 0, &[(10, 7)]),
     (
         &[1],
         &[(0, 10, 4, false), (5, 15, 6, false), (10, 20, 4, false)],
+        &[1, 0, 1],
         8,
         &[(5, 2), (10, 4)],
     ),
-    (&[1], &[(0, 10, 3, false), (10, 20, 3, false)], 6, &[]),
-    (&[1], &[(0, 10, 5, false), (5, 15, 3, false)], 5, &[(5, 3)]),
-    (&[15, 17], &[(0, 10, 1, false), (0, 10, 1, false)], 2, &[]),
-    (&[1], &[(0, 10, 5, false), (0, 10, 5, false)], 5, &[(0, 5)]),
+    (
+        &[1],
+        &[(0, 10, 3, false), (10, 20, 3, false)],
+        &[1, 1],
+        6,
+        &[],
+    ),
+    (
+        &[1],
+        &[(0, 10, 5, false), (5, 15, 3, false)],
+        &[1, 0],
+        5,
+        &[(5, 3)],
+    ),
+    (
+        &[15, 17],
+        &[(0, 10, 1, false), (0, 10, 1, false)],
+        &[15, 17],
+        2,
+        &[],
+    ),
+    (
+        &[1],
+        &[(0, 10, 5, false), (0, 10, 5, false)],
+        &[1, 0],
+        5,
+        &[(0, 5)],
+    ),
     (
         &[1, 2],
         &[
@@ -30,12 +63,14 @@ static DAYS: [Day; 9] = [
             (5, 15, 4, false),
             (12, 20, 1, false),
         ],
+        &[1, 0, 2, 1],
         8,
         &[(5, 2)],
     ),
     (
         &[1],
         &[(0, 10, 4, false), (5, 15, 6, true), (10, 20, 4, false)],
+        &[0, 1, 0],
         6,
         &[(5, 4), (10, 4)],
     ),
@@ -57,10 +92,26 @@ fn are(found: &[Price], expected: &[(u32, u64)]) -> bool {
     same
 }
 
-/// Whether the best plan of the day is carried, and has this total and these prices.
+/// Whether the bookings have just these channels (0: none).
+fn are_given(assigned: &[Option<Channel>], numbers: &[u8]) -> bool {
+    let mut same = assigned.len() == numbers.len();
+    for (channel, number) in assigned.iter().zip(numbers) {
+        same &= *channel == Channel::new(*number);
+    }
+    same
+}
+
+/// Whether the best plan of the day has these channels, this total and these prices, and the checker says so.
 fn is_planned(alloc: Global, day: &Day) -> Option<bool> {
-    let best = plan_on(alloc, &bookings_of(alloc, day.1)?, day.0)?;
-    Some(best.total == day.2 && are(&best.prices, day.3) && best.carried())
+    let bookings = bookings_of(alloc, day.1)?;
+    let best = plan_on(alloc, &bookings, day.0)?;
+    let is_proved = check(&bookings, best.channels, &best) == Ok(day.3);
+    Some(
+        is_proved
+            && best.total == day.3
+            && are(&best.prices, day.4)
+            && are_given(&best.assigned, day.2),
+    )
 }
 
 #[test]
