@@ -1,6 +1,6 @@
 -- The next tick that does something: none before does, and it does.
-use Rattle.std.proofs.Common.{◌≡◌, ℕ, suc, min, ◌+◌, ◌≤◌, ◌<◌, ◌&&◌, not, Bool, true, false, List, [], length, arith, refl, sym, subst, ap, ◌∙◌, nat_le, nat_lt, if◌then◌else◌}
-use Rattle.std.proofs.Math.Nat.{le-min, min-le_left, min-le_right}
+use Rattle.std.proofs.Common.{◌≡◌, ℕ, suc, min, ◌+◌, ◌≤◌, ◌<◌, ◌&&◌, not, Bool, true, false, [], length, arith, refl, sym, subst, ap, ◌∙◌, nat_le, nat_lt, if◌then◌else◌}
+use Rattle.std.proofs.Math.Nat.{le-min}
 use Rattle.std.proofs.lemmas.Bool.{true≢false, leb-true, leb-false, le-leb, lt-ltb, and_from, or_right}
 use Rattle.bx_base.specs.Bookings.{is_running}
 use Rattle.bx_calls.specs.PlainCalls.{PlainNetCall}
@@ -8,11 +8,9 @@ use Rattle.bx_calls.specs.declared.step.Step.{Step}
 use Rattle.bx_calls.specs.declared.net_state.NetState.{NetState}
 use Rattle.bx_calls.specs.declared.net_state.NetState.TheVariants.{OutgoingCallProceeding, CallPresent, IncomingCallProceeding, CallReceived, Active, DisconnectIndication, ReleaseRequest}
 use Rattle.bx_calls.specs.NetTable.{net_second}
-use Rattle.bx_calls.specs.Shared.{is_set}
 use Rattle.bx_day.specs.Day.{Day, Sent, is_free, second_at, second_of, after_second, stays, over_at, follows, waits, entry_at, tick, ticked}
 use Rattle.bx_day.specs.Invariant.{EntryFits}
 use Rattle.bx_day.specs.Quiet.{call_due}
-use Rattle.bx_day.specs.Passing.{AreBlocked}
 use Rattle.bx_day.specs.QuietSeconds.{later_by, IsQuietTick, tick_due, due_at, IsDue}
 use Rattle.bx_day.specs.Reading.{IsExchange}
 use Rattle.bx_day.specs.declared.entry.Moved.{Moved}
@@ -23,9 +21,9 @@ use Rattle.bx_day.specs.declared.entry.Standing.TheVariants.{Refused, Unoffered,
 use Rattle.bx_day.specs.declared.entry.Activity.TheVariants.{Never, Since, Was}
 use Rattle.bx_day.proofs.Tick.{with_standing, offers, by_cases}
 use Rattle.bx_day.proofs.Once.{decide, each_at}
-use Rattle.bx_day.proofs.Passing.{tick_is, free_is}
+use Rattle.bx_day.proofs.Passing.{tick_is}
 use Rattle.bx_day.proofs.Law.{at_map}
-use Rattle.bx_day.proofs.Quiet.{quiet_tick, all_at, booking_quiet, waits_on, not_offered, up_to}
+use Rattle.bx_day.proofs.Quiet.{quiet_tick, all_at, booking_quiet, waits_on, not_offered}
 
 -- ---- before it is due, a booking stays as it is
 
@@ -161,24 +159,3 @@ not_quiet d due k is le quiet =
     let early : d.moment + k < 300000 = quiet_early (later_by k d) quiet in
     let late : d.moment + k + 2 ≤ due = is.latest (d.moment + k + 2) (omega (arith, early)) (λ i inside. quiet_booking (later_by k d) i quiet) in
     omega (arith, le, late)
-
--- ---- over the bookings, one by one
-
-pub none_due : (d : Day) → IsDue d 0 300001
-none_due d = record { limit = omega arith; ordered = λ i lt. absurd (omega (arith, lt)); before = λ i lt. absurd (omega (arith, lt)); latest = λ t le each. le }
-
-pub next_due : (d : Day) (i due own : ℕ) → own ≡ due_at d i → (entry_at d.entries i).booking.start ≤ (entry_at d.entries i).booking.end → IsDue d i due → IsDue d (i + 1) (min due own)
-next_due d i due own is order h =
-    let left : min due own ≤ due = min-le_left due own in
-    let right : min due own ≤ own = min-le_right due own in
-    let limit : due ≤ 300001 = h.limit in
-    record {
-      limit = omega (arith, left, limit);
-      ordered = up_to (λ k. (entry_at d.entries k).booking.start ≤ (entry_at d.entries k).booking.end) i h.ordered order;
-      before = up_to (λ k. min due own ≤ due_at d k) i (λ k lt. let le : due ≤ due_at d k = h.before k lt in omega (arith, left, le)) (omega (arith, right, is));
-      latest = λ t low each. le-min (h.latest t low (λ k lt. each k (omega (arith, lt)))) (let le : t ≤ due_at d i = each i (omega arith) in omega (arith, le, is));
-    }
-
--- by the channels that are held or in maintenance
-pub due_by : (d : Day) (blocked : List Bool) (e : Entry) → AreBlocked d blocked → tick_due e (not (is_set blocked e.channel)) e.standing ≡ tick_due e (is_free d e.channel) e.standing
-due_by d blocked e h = ap (λ free. tick_due e free e.standing) (free_is d blocked e.channel e.channel refl h)

@@ -90,7 +90,7 @@ opening_framed k (b ∷ bs) (a ∷ as') (suc i) lt = opening_framed (k + 1) bs a
 waits_refused : (e : Entry) (t : ℕ) (free : Bool) → is_refused (waits e t free).standing ≡ false
 waits_refused e t free = by_cases (offers e t free) _ _ (λ (m : Moved). is_refused m.standing ≡ false) (λ _. refl) (λ _. by_cases (nat_le e.booking.end t) _ _ (λ (m : Moved). is_refused m.standing ≡ false) (λ _. refl) (λ _. refl))
 
-second_same : (e : Entry) (t : ℕ) (free : Bool) (s : Standing) → is_refused (second_at e t free s).standing ≡ is_refused s
+pub second_same : (e : Entry) (t : ℕ) (free : Bool) (s : Standing) → is_refused (second_at e t free s).standing ≡ is_refused s
 second_same e t free Refused = refl
 second_same e t free Unoffered = waits_refused e t free
 second_same e t free (OnCall c a) = follow_refused a t (net_second c t e.booking.end).reply (net_second c t e.booking.end).next
@@ -98,7 +98,7 @@ second_same e t free (Carried from until) = refl
 second_same e t free Unanswered = refl
 second_same e t free Missed = refl
 
-hears_same : (m : Said) (t : ℕ) (s : Standing) → is_refused (hears m t s).standing ≡ is_refused s
+pub hears_same : (m : Said) (t : ℕ) (s : Standing) → is_refused (hears m t s).standing ≡ is_refused s
 hears_same m t Refused = refl
 hears_same m t Unoffered = refl
 hears_same m t (OnCall c a) = follow_refused a t (net_message c m.heard t).reply (net_message c m.heard t).next

@@ -15,6 +15,11 @@ pub mod WritingSteps
 pub mod ToldLines
 pub mod Replays
 pub mod Quiet
-pub mod Openings
 pub mod Dues
 pub mod Skips
+pub mod SlotLemmas
+pub mod DueSlots
+pub mod SettleLemmas
+pub mod PutLemmas
+pub mod LinkLemmas
+pub mod IndexLemmas

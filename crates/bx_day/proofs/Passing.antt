@@ -5,16 +5,14 @@ use Rattle.std.proofs.lemmas.Bool.{false≢true, eq-eqb, eqb-true, leb-true}
 use Rattle.std.proofs.lemmas.List.{get_or-set_same, get_or-set_other, drop_all}
 use Rattle.bx_base.specs.Channels.{IsChannel}
 use Rattle.bx_q931.specs.Outgoing.{Outgoing}
-use Rattle.bx_calls.specs.PlainCalls.{PlainNetCall}
 use Rattle.bx_calls.specs.Shared.{is_set, cons_some}
-use Rattle.bx_day.specs.Day.{Day, is_live, is_held, is_free, holds, second_at, second_of, after_second, said_on, breaks_on, maintained, every_channel, entry_at, stays, no_entry, tick, ticked}
-use Rattle.bx_day.specs.Invariant.{is_refused, EntryFits, StandingFits}
+use Rattle.bx_day.specs.Day.{Day, is_held, is_free, second_at, second_of, after_second, said_on, breaks_on, maintained, every_channel, entry_at, stays, no_entry, tick, ticked}
+use Rattle.bx_day.specs.Invariant.{is_refused}
 use Rattle.bx_day.specs.Reading.{Seated, IsExchange}
 use Rattle.bx_day.specs.Passing.{day_of, somes, SaysOnEach, AreBlocked, moved_first, marks, SlotsBefore, Passed}
 use Rattle.bx_day.specs.declared.entry.Moved.{Moved}
 use Rattle.bx_day.specs.declared.entry.Entry.{Entry}
 use Rattle.bx_day.specs.declared.entry.Standing.{Standing}
-use Rattle.bx_day.specs.declared.entry.Activity.{Activity}
 use Rattle.bx_day.specs.declared.entry.Standing.TheVariants.{Refused, Unoffered, OnCall, Carried, Unanswered, Missed}
 use Rattle.bx_day.proofs.Tick.{by_cases, all_hold, second_refused, ticked_fits}
 use Rattle.bx_day.proofs.Once.{decide, each_at, once, off_channel, says_once}
@@ -142,33 +140,6 @@ marks_next d bs e es true h = sym (marks_broken d 0 e.channel bs e es h (omega a
 marks_next d bs e es false h = sym (marks_whole d 0 bs e es h)
 
 -- ---- the channels that are held or in maintenance
-
-abbrev pub BlockedBefore : List Entry → (ℕ → Bool) → List Bool → Type 0
-BlockedBefore rest whole blocked = (c : ℕ) → (is_held rest c || is_set blocked c) ≡ whole c
-
-pub blocked_live : (e : Entry) (rest : List Entry) (whole : ℕ → Bool) (b b' : List Bool) (k : ℕ) → is_live e.standing ≡ true → k ≡ e.channel → is_set b' k ≡ true → ((n : ℕ) → n ≢ k → is_set b' n ≡ is_set b n) → BlockedBefore (e ∷ rest) whole b → BlockedBefore rest whole b'
-blocked_live e rest whole b b' k live on added others before c = decide (e.channel == c)
-    (λ same.
-    let here : e.channel ≡ c = eqb-true e.channel c same in
-    ap (λ x. is_held rest c || x) (subst (λ n. is_set b' n ≡ true) (on ∙ here) added) ∙ or_true (is_held rest c) ∙ sym (ap₂ (λ x y. ((x && y) || is_held rest c) || is_set b c) live same) ∙ before c)
-    (λ off.
-    let free : holds c e ≡ false = ap (λ x. is_live e.standing && x) off ∙ and_false (is_live e.standing) in
-    ap (λ x. is_held rest c || x) (others c (λ r. false≢true (sym off ∙ eq-eqb e.channel c (sym (r ∙ on))))) ∙ sym (ap (λ x. (x || is_held rest c) || is_set b c) free) ∙ before c)
-
-pub blocked_idle : (e : Entry) (rest : List Entry) (whole : ℕ → Bool) (b : List Bool) → is_live e.standing ≡ false → BlockedBefore (e ∷ rest) whole b → BlockedBefore rest whole b
-blocked_idle e rest whole b idle before c = sym (ap (λ x. ((x && (e.channel == c)) || is_held rest c) || is_set b c) idle) ∙ before c
-
-pub not_live : (s : Standing) → ((call : PlainNetCall) (a : Activity) → s ≡ OnCall call a → ⊥) → is_live s ≡ false
-not_live Refused never = refl
-not_live Unoffered never = refl
-not_live (OnCall call a) never = absurd (never call a refl)
-not_live (Carried from until) never = refl
-not_live Unanswered never = refl
-not_live Missed never = refl
-
--- the call of a live booking is on its channel
-pub on_its_channel : (t : ℕ) (e : Entry) (call : PlainNetCall) (a : Activity) → e.standing ≡ OnCall call a → EntryFits t e → call.channel ≡ e.channel
-on_its_channel t e call a is fits = (subst (StandingFits t e) is fits).channel
 
 not_or : (a b : Bool) → not (a || b) ≡ (not a && not b)
 not_or true b = refl

@@ -123,7 +123,7 @@ free_unheld d c o e none = ap (λ (b : Bool). not b && not (is_set d.maintenance
 pub free_held : (d : Day) (c : ℕ) (o : Option ℕ) → o ≡ index_of (holds c) d.entries → is_some o ≡ true → false ≡ is_free d c
 free_held d c o e some = ap (λ (b : Bool). not b && not (is_set d.maintenance c)) (sym (held_index c d.entries ∙ ap is_some (sym e) ∙ some))
 
-opens_free : (d : Day) (c : ℕ) (e : Entry) → is_free d c ≡ true → opens d c e ≡ awaits d.moment c e
+pub opens_free : (d : Day) (c : ℕ) (e : Entry) → is_free d c ≡ true → opens d c e ≡ awaits d.moment c e
 opens_free d c e free = step (is_unoffered e.standing && e.booking.inward && is_running e.booking d.moment) (is_free d e.channel) (e.channel == c) (λ same. subst (λ (n : ℕ). is_free d n ≡ true) (sym (eqb-true e.channel c same)) free)
   where
     step : (w f b : Bool) → (b ≡ true → f ≡ true) → (w && f && b) ≡ (w && b)
@@ -132,7 +132,7 @@ opens_free d c e free = step (is_unoffered e.standing && e.booking.inward && is_
     step true false false h = refl
     step false f b h = refl
 
-opens_taken : (d : Day) (c : ℕ) (e : Entry) → is_free d c ≡ false → opens d c e ≡ false
+pub opens_taken : (d : Day) (c : ℕ) (e : Entry) → is_free d c ≡ false → opens d c e ≡ false
 opens_taken d c e taken = false_from_ne_true (opens d c e) (λ h.
     let p = and_parts (is_open d e) (e.channel == c) h in
     let free = (open_parts d e p.0).free in

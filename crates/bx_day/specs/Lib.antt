@@ -11,3 +11,5 @@ pub mod Replaying
 pub mod Quiet
 pub mod Calling
 pub mod QuietSeconds
+pub mod Slots
+pub mod Linking

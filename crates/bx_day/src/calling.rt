@@ -8,7 +8,7 @@ ghost use Rattle.bx_q931.specs.Outgoing.{IsCallReference};
 ghost use Rattle.bx_calls.specs.Said.{said_of};
 ghost use Rattle.bx_calls.specs.Shared.{is_set};
 ghost use Rattle.bx_day.specs.Day.{index_of, is_free, is_open, opens, entry_at, lowest_open, every_channel, or_else, takes_or, called_on, called};
-ghost use Rattle.bx_day.specs.Calling.{awaits, may_open};
+ghost use Rattle.bx_day.specs.Calling.{awaits};
 
 use crate::entry::{Activity, Entry, Moved, Standing};
 use crate::exchange::Exchange;
@@ -98,12 +98,13 @@ impl Exchange {
             return None;
         }
         let number = channel.number();
-        for i in 0..self.entries.len() {
-            if awaits_call(&self.entries[i], number, self.moment) {
-                return Some(i);
-            }
+        let Some(index) = self.waiting[number as usize] else {
+            return None;
+        };
+        if !awaits_call(&self.entries[index as usize], number, self.moment) {
+            return None;
         }
-        None
+        Some(index as usize)
     }
 
     /// On the channel, and else on the lowest that is open.
@@ -122,34 +123,18 @@ impl Exchange {
         ensures first { result ≡ lowest_open self.now every_channel }
         ensures inside { IfSome result (λ i. i < length self.now.entries) }
     {
-        let open = self.open_channels();
         for number in 1..32 {
             if let Some(channel) = Channel::new(number) {
-                if open.has(channel) {
-                    return self.opening(channel);
+                if let Some(index) = self.opening(channel) {
+                    return Some(index);
                 }
             }
         }
         None
     }
 
-    /// The channels that are open.
-    fn open_channels(&self) -> ChannelSet
-        ensures { (c : ℕ) → is_set result c ≡ list_any (opens self.now c) self.now.entries }
-    {
-        let moment = self.moment();
-        let blocked = self.blocked();
-        let mut open = ChannelSet::empty();
-        for entry in &self.entries {
-            if let Some(channel) = channel_opened(entry, moment, blocked) {
-                open = open.with(channel);
-            }
-        }
-        open
-    }
-
     /// Whether the channel is neither held nor in maintenance.
-    fn is_free(&self, channel: Channel) -> bool
+    pub(crate) fn is_free(&self, channel: Channel) -> bool
         ensures { result ≡ is_free self.now channel }
     {
         self.holder(channel).is_none() && !self.maintenance.has(channel)
@@ -165,17 +150,5 @@ fn awaits_call(entry: &Entry, number: u8, moment: u32) -> bool
             entry.booking.is_inward() && entry.booking.runs_at(moment) && entry.channel == number
         }
         _ => false,
-    }
-}
-
-/// The channel of a booking that may be called now, by the channels that are held or in maintenance.
-fn channel_opened(entry: &Entry, moment: u32, blocked: ChannelSet) -> Option<Channel>
-    ensures { MatchOption result (IsChannel entry.now.channel → may_open moment blocked entry.now ≡ false) (λ c. (c ≡ entry.now.channel) × (may_open moment blocked entry.now ≡ true)) }
-{
-    let channel = Channel::new(entry.channel)?;
-    if awaits_call(entry, entry.channel, moment) && !blocked.has(channel) {
-        Some(channel)
-    } else {
-        None
     }
 }

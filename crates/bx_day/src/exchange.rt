@@ -8,6 +8,7 @@ ghost use Rattle.bx_day.specs.Day.{opening, holds, index_of};
 ghost use Rattle.bx_day.specs.Reading.{IsExchange, on_channel, outcome_at};
 
 use crate::entry::{Entry, Standing};
+use crate::linking::linked;
 use crate::opening::entries;
 use crate::outcome::{Outcome, told};
 use bx_base::{Channel, ChannelSet, Plan};
@@ -22,6 +23,12 @@ pub struct Exchange {
     pub(crate) moment: u32,
     pub(crate) entries: Vec<Entry>,
     pub(crate) maintenance: ChannelSet,
+    /// For each channel the index of its live booking.
+    pub(crate) live: [Option<u16>; 32],
+    /// For each channel the index of the first of its bookings that wait.
+    pub(crate) waiting: [Option<u16>; 32],
+    /// For each booking the index of the next one on its channel.
+    pub(crate) behind: Vec<Option<u16>>,
     /// For each booking a moment: no tick before does anything to it.
     pub(crate) wakes: Vec<u32>,
     /// Not after any of these.
@@ -30,13 +37,13 @@ pub struct Exchange {
 
 impl Model for Exchange {
     ghost use Rattle.bx_day.specs.Day.{Day};
-    ghost use Rattle.bx_day.specs.Quiet.{IsScheduled};
+    ghost use Rattle.bx_day.specs.Slots.{IsIndexed};
 
     ghost Value = { Day };
 
     ghost view = { λ x. record { moment = x.moment; entries = x.entries.items; maintenance = x.maintenance } };
 
-    ghost invariant = { λ x. IsScheduled (record { moment = x.moment; entries = x.entries.items; maintenance = x.maintenance }) x.wakes.items x.due };
+    ghost invariant = { λ x. IsIndexed (record { moment = x.moment; entries = x.entries.items; maintenance = x.maintenance }) x.live x.waiting x.behind.items x.wakes.items x.due };
 }
 
 impl Exchange {
@@ -48,10 +55,15 @@ impl Exchange {
     {
         let _rows = plan.bookings.len();
         let _channels = plan.channels.count();
+        let entries = entries(alloc, plan)?;
+        let links = linked(alloc, &entries)?;
         Ok(Exchange {
             moment: 0,
-            entries: entries(alloc, plan)?,
+            entries,
             maintenance: ChannelSet::empty(),
+            live: [None; 32],
+            waiting: links.first,
+            behind: links.behind,
             wakes: vec![in alloc; 0; plan.bookings.len() as usize]?,
             due: 0,
         })
@@ -76,18 +88,15 @@ impl Exchange {
         }
     }
 
-    /// The index of the first booking that holds the channel.
+    /// The index of the booking that holds the channel.
     pub(crate) fn holder(&self, channel: Channel) -> Option<usize>
         ensures first { result ≡ index_of (holds channel) self.now.entries }
         ensures inside { IfSome result (λ i. i < length self.now.entries) }
     {
-        let number = channel.number();
-        for i in 0..self.entries.len() {
-            if holds_channel(&self.entries[i], number) {
-                return Some(i);
-            }
+        match self.live[channel.number() as usize] {
+            Some(index) => Some(index as usize),
+            None => None,
         }
-        None
     }
 
     /// Whether the channel is in maintenance: a call on it was given up without an answer to its release.
@@ -105,15 +114,5 @@ impl Exchange {
             return None;
         }
         Some(told(self.entries[row as usize - 1].standing))
-    }
-}
-
-/// Whether a booking holds the channel of this number.
-fn holds_channel(entry: &Entry, number: u8) -> bool
-    ensures { result ≡ holds number entry.now }
-{
-    match entry.standing {
-        Standing::OnCall { .. } => entry.channel == number,
-        _ => false,
     }
 }

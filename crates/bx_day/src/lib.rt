@@ -7,6 +7,7 @@ mod calling;
 mod entry;
 mod exchange;
 pub mod laws;
+mod linking;
 mod moving;
 mod opening;
 mod outcome;
@@ -15,6 +16,7 @@ mod quiet_seconds;
 mod receiving;
 mod replaying;
 mod scheduling;
+mod settling;
 mod ticking;
 
 pub use exchange::Exchange;

@@ -1,18 +1,15 @@
 //! Seconds in which nothing happens.
 
 ghost use Rattle.std.specs.Prelude.{◌≡◌, ◌≤◌, ◌-◌, length, not, replicate};
-ghost use Rattle.bx_base.specs.Bookings.{IsBooking};
-ghost use Rattle.bx_base.specs.Channels.{IsChannel};
-ghost use Rattle.bx_calls.specs.Shared.{is_set};
-ghost use Rattle.bx_day.specs.QuietSeconds.{later_by, IsQuietTick, IsQuietFor, IsDue, tick_due};
-ghost use Rattle.bx_day.specs.Reading.{Seated};
+ghost use Rattle.bx_day.specs.QuietSeconds.{later_by, IsQuietTick, IsQuietFor, IsDue, IsDueOn, tick_due};
+ghost use Rattle.bx_day.specs.Slots.{IsInside, slot_due};
 ghost use Rattle.bx_day.specs.Run.{Tick, day_after};
 
 use crate::entry::{Entry, Standing};
 use crate::exchange::Exchange;
 use crate::scheduling::booking_due;
 use crate::ticking::LAST_MOMENT;
-use bx_base::{Channel, ChannelSet};
+use bx_base::Channel;
 
 impl Exchange {
     /// For how many seconds nothing happens where no message comes: each of so many ticks sends nothing and
@@ -38,37 +35,48 @@ impl Exchange {
     }
 
     /// The first tick that does something to a booking, or the one behind the day's last.
-    fn next_due(&self) -> u32
+    pub(crate) fn next_due(&self) -> u32
         ensures { IsDue self.now (length self.now.entries) result }
     {
-        let blocked = self.blocked();
+        let _moment = self.moment;
         let mut due = LAST_MOMENT + 1;
-        for entry in &self.entries {
-            due = due.min(tick_due(entry, blocked));
+        for number in 1..32 {
+            if let Some(channel) = Channel::new(number) {
+                due = due.min(self.due_on(channel));
+            }
         }
         due
     }
-}
 
-/// The first tick that does something to a booking, by the channels that are held or in maintenance.
-fn tick_due(entry: &Entry, blocked: ChannelSet) -> u32
-    requires { Seated entry.now }
-    ensures value { result ≡ tick_due entry.now (not (is_set blocked entry.now.channel)) entry.now.standing }
-    ensures booking { IsBooking entry.now.booking }
-{
-    match entry.standing {
-        Standing::Unoffered if is_among(entry.channel, blocked) => entry.booking.end(),
-        _ => booking_due(entry),
+    /// The same of the bookings of one channel, where some is due before the day's last tick: that of its live one
+    /// and of the first that waits.
+    fn due_on(&self, channel: Channel) -> u32
+        ensures { IsDueOn self.now channel result }
+    {
+        let free = self.is_free(channel);
+        let live = slot_due(&self.entries, self.live[channel.number() as usize], free);
+        let waiting = slot_due(&self.entries, self.waiting[channel.number() as usize], free);
+        live.min(waiting)
     }
 }
 
-/// Whether the channel of this number is among these.
-fn is_among(number: u8, channels: ChannelSet) -> bool
-    requires { IsChannel number }
-    ensures { result ≡ is_set channels number }
+/// Of the booking of a slot, by whether its channel is neither held nor in maintenance.
+fn slot_due(entries: &[Entry], slot: Option<u16>, free: bool) -> u32
+    requires { IsInside entries.now slot }
+    ensures { result ≡ slot_due entries.now free slot }
 {
-    match Channel::new(number) {
-        Some(channel) => channels.has(channel),
-        None => false,
+    match slot {
+        Some(index) => tick_due(&entries[index as usize], free),
+        None => LAST_MOMENT + 1,
+    }
+}
+
+/// The first tick that does something to a booking, by whether its channel is neither held nor in maintenance.
+fn tick_due(entry: &Entry, free: bool) -> u32
+    ensures { result ≡ tick_due entry.now free entry.now.standing }
+{
+    match entry.standing {
+        Standing::Unoffered if !free => entry.booking.end(),
+        _ => booking_due(entry),
     }
 }

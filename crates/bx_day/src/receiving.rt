@@ -1,11 +1,13 @@
 //! What the exchange does with octets that come.
 
-ghost use Rattle.std.specs.Prelude.{◌≡◌, ◌<◌, ℕ, Bool, true, false, length, IfSome, option_map};
+ghost use Rattle.std.specs.Prelude.{◌≡◌, ◌<◌, ℕ, Bool, true, false, length, Option, Some, None, IfSome, option_map, ◌||◌, if◌then◌else◌};
 ghost use Rattle.bx_q931.specs.Messages.{PlainMessage};
 ghost use Rattle.bx_q931.specs.Outgoing.{IsCallReference, out_octets};
 ghost use Rattle.bx_calls.specs.Said.{said_of};
-ghost use Rattle.bx_day.specs.Day.{index_of, names, with_moved, received_at, stray, receive};
+ghost use Rattle.bx_day.specs.Day.{index_of, names, with_moved, received_at, stray, receive, is_live, is_open, is_unoffered, entry_at};
+ghost use Rattle.bx_day.specs.Slots.{earlier};
 ghost use Rattle.bx_day.specs.Run.{receive_from, receive_octets};
+ghost use Rattle.bx_day.specs.Invariant.{is_refused};
 ghost use Rattle.bx_day.specs.Reading.{IsExchange};
 
 use crate::entry::{Entry, Moved, Standing};
@@ -90,17 +92,21 @@ impl Exchange {
         ensures first { (m : PlainMessage) → result ≡ index_of (names (said_of reference false m)) self.now.entries }
         ensures inside { IfSome result (λ i. i < length self.now.entries) }
     {
-        for i in 0..self.entries.len() {
-            if is_named(&self.entries[i], reference, false) {
-                return Some(i);
+        let mut first = None;
+        for number in 0..32 {
+            if let Some(index) = self.live[number] {
+                if is_named(&self.entries[index as usize], reference, false) {
+                    first = Some(earlier(first, index as usize));
+                }
             }
         }
-        None
+        first
     }
 
     /// The live booking of this index hears a message of its call.
     fn follow(&mut self, index: usize, message: &Message<'_>) -> Option<Out>
-        requires { index < length self.old.entries }
+        requires inside { index < length self.old.entries }
+        requires live { is_live (entry_at self.old.entries index).standing ≡ true }
         ensures day { (reference : ℕ) (flag : Bool) → self.new ≡ (received_at self.old (said_of reference flag message.now) (Some index)).day }
         ensures reply { (reference : ℕ) (flag : Bool) → result ≡ (received_at self.old (said_of reference flag message.now) (Some index)).reply }
     {
@@ -114,10 +120,21 @@ impl Exchange {
         requires inside { index < length self.old.entries }
         requires whole { moved.broken ≡ false }
         requires exchange { IsExchange (with_moved self.old index moved).day }
+        requires turn { (is_live (entry_at self.old.entries index).standing || is_open self.old (entry_at self.old.entries index)) ≡ true }
+        requires begun { is_unoffered moved.standing ≡ false }
+        requires accepted { is_refused moved.standing ≡ false }
         ensures day { self.new ≡ (with_moved self.old index moved).day }
         ensures reply { result ≡ moved.said }
     {
+        let entry = self.entries[index];
+        let channel = entry.channel as usize;
         self.entries[index].standing = moved.standing;
+        self.live[channel] = live_slot(index, moved.standing);
+        self.waiting[channel] = waiting_slot(
+            entry.standing,
+            self.waiting[channel],
+            self.behind[index],
+        );
         self.wakes[index] = 0;
         self.due = 0;
         moved.said
@@ -135,6 +152,37 @@ impl Exchange {
             Kind::Setup => self.called(reference, message),
             _ => unknown(End::Network, message),
         }
+    }
+}
+
+/// The slot of the channel's live booking, where it can be none but this.
+fn live_slot(index: usize, standing: Standing) -> Option<u16>
+    requires { index < 4000 }
+    ensures { result ≡ (if is_live standing then Some index else None) }
+{
+    match standing {
+        Standing::OnCall { .. } => Some(index as u16),
+        _ => None,
+    }
+}
+
+/// The slot of the channel's first booking that waits, once one of this standing does not.
+fn waiting_slot(standing: Standing, first: Option<u16>, behind: Option<u16>) -> Option<u16>
+    ensures { result ≡ (if is_unoffered standing then behind else first) }
+{
+    match standing {
+        Standing::Unoffered => behind,
+        _ => first,
+    }
+}
+
+/// The lower of these indices.
+fn earlier(first: Option<usize>, index: usize) -> usize
+    ensures { result ≡ earlier first index }
+{
+    match first {
+        Some(other) => other.min(index),
+        None => index,
     }
 }
 

@@ -11,6 +11,7 @@ use crate::entry::{Entry, Moved, Standing};
 use crate::exchange::Exchange;
 use crate::moving::second;
 use crate::scheduling::{booking_due, first};
+use crate::settling::settle;
 use arrayvec::ArrayVec;
 use bx_base::{Channel, ChannelSet};
 use bx_q931::{Octets, Out, encode};
@@ -51,6 +52,12 @@ impl Exchange {
             blocked,
             self.moment,
         );
+        settle(
+            &self.entries,
+            &self.behind,
+            &mut self.live,
+            &mut self.waiting,
+        );
         self.moment += 1;
         self.due = first(&self.wakes);
         spell(&said)
@@ -61,9 +68,11 @@ impl Exchange {
         ensures { AreBlocked self.now result }
     {
         let mut blocked = self.maintenance;
-        for entry in &self.entries {
-            if let Standing::OnCall { call, .. } = entry.standing {
-                blocked = blocked.with(call.channel());
+        for number in 1..32 {
+            if let Some(channel) = Channel::new(number) {
+                if self.live[number as usize].is_some() {
+                    blocked = blocked.with(channel);
+                }
             }
         }
         blocked

@@ -1,30 +1,36 @@
-use Rattle.std.proofs.Common.{◌≡◌, ◌<◌, ◌+◌, ◌||◌, ℕ, Bool, true, List, ◌∷◌, length, sym, ap, subst, ◌∙◌, drop}
+use Rattle.std.proofs.Common.{◌≡◌, ◌<◌, ◌+◌, None, sym, subst, ap, ◌∙◌, length, arith}
+use Rattle.std.proofs.lemmas.Bool.{false≢true}
 use Rattle.std.proofs.lemmas.List.{get_or_default}
-use Rattle.bx_calls.specs.Shared.{is_set}
-use Rattle.bx_day.specs.Day.{Day, entry_at, no_entry, is_held, is_live}
-use Rattle.bx_day.specs.Invariant.{EntryFits}
+use Rattle.std.specs.Prelude.{is_some}
+use Rattle.bx_day.specs.Day.{Day, is_held}
 use Rattle.bx_day.specs.Reading.{IsExchange}
-use Rattle.bx_day.specs.declared.entry.Entry.{Entry}
-use Rattle.bx_day.proofs.Once.{each_at}
-use Rattle.bx_day.proofs.Passing.{BlockedBefore, blocked_live, blocked_idle, not_live, on_its_channel, rest_is}
-use Rattle.bx_day.proofs.exchange.Exchange.blocked.Goals.{in-OnCall, in_default}
+use Rattle.bx_day.specs.Slots.{slot_at, IsLiveOn}
+use Rattle.bx_day.proofs.SlotLemmas.{IsBlockedBelow, none_blocked, blocked_held, blocked_free, all_blocked, held_is, unheld}
+use Rattle.bx_day.proofs.exchange.Exchange.blocked.Goals.{in-Some+then-is_some, in-Some+else-is_some, in_default}
 use Rattle.bx_day.proofs.exchange.Exchange.blocked.Goals as goal
 
-pub loop-entry-preserved : goal.loop-entry-preserved
-loop-entry-preserved c =
+pub loop-number-init : goal.loop-number-init
+loop-number-init c =
     let d = c.args.self.now in
-    let i = c.loop-entry.entry-index in
-    let whole : ℕ → Bool = λ k. is_held d.entries k || is_set d.maintenance k in
-    let rest : List Entry = drop (i + 1) d.entries in
-    let items : c.deref-entry-items.result.now ≡ d.entries = c.deref-entry-items.ensures.value ∙ ap (λ (x : Day). x.entries) c.self.view_is in
-    let lt : i < length d.entries = subst (λ (xs : List Entry). i < length xs) items c.loop-entry-test.true in
-    let same : c.entry-item.result ≡ entry_at d.entries i = c.entry-item.is ∙ get_or_default c.deref-entry-items.result.now i c.entry-item.result no_entry c.loop-entry-test.true ∙ ap (λ (xs : List Entry). entry_at xs i) items in
-    let whole_day : IsExchange d = subst IsExchange c.self.view_is c.self.invariant.exchange in
-    let fits : EntryFits d.moment c.entry-item.result = subst (EntryFits d.moment) (sym same) (each_at (EntryFits d.moment) d.entries i lt whole_day.day.each) in
-    let before : BlockedBefore (c.entry-item.result ∷ rest) whole c.loop-entry.blocked = subst (λ (xs : List Entry). BlockedBefore xs whole c.loop-entry.blocked) (rest_is d i lt ∙ ap (λ (x : Entry). x ∷ rest) (sym same)) c.loop-entry.invariant in
-    elim c.match-entry.branch [
-      | in-OnCall w ↦
-          let live : is_live c.entry-item.result.standing ≡ true = ap is_live w.in-OnCall.is in
-          subst (BlockedBefore rest whole) (sym w.blocked-is) (blocked_live c.entry-item.result rest whole c.loop-entry.blocked w.with-blocked.result w.channel.result live (w.channel.ensures ∙ on_its_channel d.moment c.entry-item.result w.in-OnCall.call w.in-OnCall.activity w.in-OnCall.is fits) w.with-blocked.ensures.added w.with-blocked.ensures.others before)
-      | in_default w ↦ subst (BlockedBefore rest whole) (sym w.blocked-is) (blocked_idle c.entry-item.result rest whole c.loop-entry.blocked (not_live c.entry-item.result.standing w.in_default.not-OnCall) before)
+    subst (IsBlockedBelow d 1) (sym (ap (λ (y : Day). y.maintenance) c.self.view_is)) (none_blocked d (subst IsExchange c.self.view_is c.self.invariant.exchange))
+
+pub loop-number-preserved : goal.loop-number-preserved
+loop-number-preserved c =
+    let d = c.args.self.now in
+    let x = c.self.inside in
+    let n = c.loop-number.number in
+    let h : IsExchange d = subst IsExchange c.self.view_is c.self.invariant.exchange in
+    let size : n < length x.live = omega (arith, c.self.invariant.slots.live_size, c.loop-number-test.true) in
+    let lives : IsLiveOn d.entries n (slot_at x.live n) = subst (λ (y : Day). IsLiveOn y.entries n (slot_at x.live n)) c.self.view_is (c.self.invariant.slots.lives n) in
+    let held : is_held d.entries n ≡ is_some (slot_at x.live n) = held_is d.entries n (slot_at x.live n) lives in
+    elim c.match-new.branch [
+      | in-Some+then-is_some w ↦
+          subst (IsBlockedBelow d (n + 1)) (sym w.blocked-is) (blocked_held d n w.in-Some.channel c.loop-number.blocked w.with-blocked.result w.in-Some.ensures.value (held ∙ ap is_some (get_or_default x.live n None _ size) ∙ sym w.is_some.ensures ∙ w.if-is_some.true) w.with-blocked.ensures.added w.with-blocked.ensures.others c.loop-number.invariant)
+      | in-Some+else-is_some w ↦
+          subst (IsBlockedBelow d (n + 1)) (sym w.blocked-is) (blocked_free d n c.loop-number.blocked (held ∙ ap is_some (get_or_default x.live n None _ size) ∙ sym w.is_some.ensures ∙ w.if-is_some.false) c.loop-number.invariant)
+      | in_default w ↦
+          subst (IsBlockedBelow d (n + 1)) (sym w.blocked-is) (blocked_free d n c.loop-number.blocked (unheld d n h (λ is. false≢true (w.in_default.ensures.exactly.1 is))) c.loop-number.invariant)
     ]
+
+pub returns : goal.returns
+returns c = all_blocked c.args.self.now c.loop-number.number c.loop-number.blocked (subst IsExchange c.self.view_is c.self.invariant.exchange) (omega (arith, c.loop-number-test.false)) c.loop-number.invariant

@@ -1,0 +1,10 @@
+use Rattle.std.proofs.Common.{◌≡◌, map}
+use Rattle.bx_day.specs.Day.{Day, after_second}
+use Rattle.bx_day.proofs.SettleLemmas.{AreSettledBelow, AreLeft}
+use Rattle.bx_day.proofs.settling.settle.Given as goal
+
+abbrev pub invariant-loop-number : goal.invariant-loop-number
+invariant-loop-number l = record {
+  left : AreLeft l.number l.fn.live l.fn.waiting l.live l.waiting;
+  settled : (d : Day) → l.entries ≡ map (after_second d) d.entries → AreSettledBelow d l.number l.fn.live l.fn.waiting l.behind l.live l.waiting;
+}

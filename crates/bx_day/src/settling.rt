@@ -1,0 +1,108 @@
+//! The slots of the channels after a tick.
+
+ghost use Rattle.std.specs.Prelude.{◌≡◌, ◌<◌, ℕ, length, map};
+ghost use Rattle.bx_day.specs.Day.{Day, after_second, ticked};
+ghost use Rattle.bx_day.specs.Reading.{IsExchange};
+ghost use Rattle.bx_day.specs.Slots.{AreSlots, slot_at, follower, live_of, waiting_of, is_live_at, is_waiting_at, IsInside};
+
+use crate::entry::{Entry, Standing};
+
+/// Brings the slots up to date after a tick. What was live, what waited first on a channel and what comes behind
+/// that are all that can be live now; and what waited still does, but for these.
+pub fn settle(
+    entries: &[Entry],
+    behind: &[Option<u16>],
+    live: &mut [Option<u16>; 32],
+    waiting: &mut [Option<u16>; 32],
+)
+    requires size { length behind.now ≡ length entries.now }
+    requires live { (c : ℕ) → IsInside entries.now (slot_at live.old c) }
+    requires waiting { (c : ℕ) → IsInside entries.now (slot_at waiting.old c) }
+    requires second { (c : ℕ) → IsInside entries.now (follower behind.now (slot_at waiting.old c)) }
+    ensures { (d : Day) → IsExchange d → d.moment < 300000 → entries.now ≡ map (after_second d) d.entries → AreSlots d live.old waiting.old behind.now → AreSlots (ticked d).day live.new waiting.new behind.now }
+{
+    for number in 0..32 {
+        let first = waiting[number];
+        let second = follower(behind, first);
+        live[number] = live_of(entries, live[number], first, second);
+        waiting[number] = waiting_of(entries, behind, first, second);
+    }
+}
+
+/// The booking behind this one.
+fn follower(behind: &[Option<u16>], index: Option<u16>) -> Option<u16>
+    requires { (i : ℕ) → index ≡ Some i → i < length behind.now }
+    ensures { result ≡ follower behind.now index }
+{
+    behind[index? as usize]
+}
+
+/// The first of these that is live.
+fn live_of(
+    entries: &[Entry],
+    first: Option<u16>,
+    second: Option<u16>,
+    third: Option<u16>,
+) -> Option<u16>
+    requires first { IsInside entries.now first }
+    requires second { IsInside entries.now second }
+    requires third { IsInside entries.now third }
+    ensures { result ≡ live_of entries.now first second third }
+{
+    if is_live_at(entries, first) {
+        first
+    } else if is_live_at(entries, second) {
+        second
+    } else if is_live_at(entries, third) {
+        third
+    } else {
+        None
+    }
+}
+
+/// The first of these that waits, or else the one behind them.
+fn waiting_of(
+    entries: &[Entry],
+    behind: &[Option<u16>],
+    first: Option<u16>,
+    second: Option<u16>,
+) -> Option<u16>
+    requires size { length behind.now ≡ length entries.now }
+    requires first { IsInside entries.now first }
+    requires second { IsInside entries.now second }
+    ensures { result ≡ waiting_of entries.now behind.now first second }
+{
+    if is_waiting_at(entries, first) {
+        first
+    } else if is_waiting_at(entries, second) {
+        second
+    } else {
+        follower(behind, second)
+    }
+}
+
+fn is_live_at(entries: &[Entry], slot: Option<u16>) -> bool
+    requires { IsInside entries.now slot }
+    ensures { result ≡ is_live_at entries.now slot }
+{
+    let Some(index) = slot else {
+        return false;
+    };
+    match entries[index as usize].standing {
+        Standing::OnCall { .. } => true,
+        _ => false,
+    }
+}
+
+fn is_waiting_at(entries: &[Entry], slot: Option<u16>) -> bool
+    requires { IsInside entries.now slot }
+    ensures { result ≡ is_waiting_at entries.now slot }
+{
+    let Some(index) = slot else {
+        return false;
+    };
+    match entries[index as usize].standing {
+        Standing::Unoffered => true,
+        _ => false,
+    }
+}
