@@ -1,23 +1,24 @@
 -- The index while the day changes.
-use Rattle.std.proofs.Common.{◌≡◌, ℕ, ◌+◌, ◌<◌, Bool, true, false, List, length, Option, Some, None, arith, refl, sym, subst, ap, ap₂, subst₂, ◌∙◌, ◌++◌, map, take, drop, replicate}
+use Rattle.std.proofs.Common.{◌≡◌, ℕ, ◌+◌, ◌<◌, Bool, true, false, List, length, Option, Some, None, arith, refl, sym, subst, ap, ap₂, ◌∙◌, ◌++◌, map, take, drop, replicate}
 use Rattle.std.specs.Prelude.{is_some}
 use Rattle.std.proofs.lemmas.Bool.{true≢false, false≢true}
 use Rattle.bx_base.specs.Bookings.{Row, row_at, AreBookings}
-use Rattle.bx_day.specs.Passing.{day_of}
-use Rattle.bx_day.specs.Quiet.{AreWakes, IsFirst}
-use Rattle.bx_day.proofs.Passing.{map_size, refilled}
-use Rattle.bx_day.specs.Day.{after_second, maintained, ticked, Day, is_live, is_unoffered, entry_at, entries_from, entry_of}
+use Rattle.bx_q931.specs.Outgoing.{Outgoing}
+use Rattle.bx_day.specs.Passing.{day_of, AreBlocked, AreTouched, IsTicked}
+use Rattle.bx_day.proofs.Passing.{map_size, refilled, ticked_stays}
+use Rattle.bx_day.proofs.TouchSlots.{touched_of}
+use Rattle.bx_day.proofs.Dues.{quiet_until}
+use Rattle.bx_day.specs.Day.{after_second, ticked, Day, is_live, is_unoffered, entry_at, entries_from, entry_of}
 use Rattle.bx_day.specs.Invariant.{is_refused}
 use Rattle.bx_day.specs.Linking.{AreLinks}
-use Rattle.bx_day.specs.QuietSeconds.{later_by, IsQuietFor}
+use Rattle.bx_day.specs.QuietSeconds.{later_by, IsQuietTick, IsQuietFor, IsDue}
 use Rattle.bx_day.specs.Reading.{IsExchange}
-use Rattle.bx_day.specs.Slots.{AreSlots, IsIndexed}
+use Rattle.bx_day.specs.Slots.{slot_at, follower, AreSlots, IsIndexed}
 use Rattle.bx_day.specs.declared.entry.Entry.{Entry}
 use Rattle.bx_day.proofs.LinkLemmas.{none_in}
 use Rattle.bx_day.proofs.OpeningDay.{opening_at, opening_size}
-use Rattle.bx_day.proofs.Quiet.{later, idle_scheduled, pass_scheduled}
-use Rattle.bx_day.proofs.Skips.{skip_scheduled}
-use Rattle.bx_day.proofs.SettleLemmas.{unoffered_accepted}
+use Rattle.bx_day.proofs.Skips.{later_none, skip_stays}
+use Rattle.bx_day.proofs.Turns.{unoffered_accepted}
 use Rattle.bx_day.proofs.SlotLemmas.{holds_parts, waits_parts, waits_from}
 
 -- the slots do not depend on the moment, but for the bookings that are to come
@@ -33,15 +34,26 @@ slots_later n d live waiting behind h = record {
   ahead = λ i lt accepted early. h.ahead i lt accepted (omega (arith, early));
 }
 
-pub skip_indexed : (n : ℕ) (d : Day) (live waiting behind : List (Option ℕ)) (wakes : List ℕ) (due : ℕ) → IsQuietFor n d → IsIndexed d live waiting behind wakes due → IsIndexed (later_by n d) live waiting behind wakes due
-skip_indexed n d live waiting behind wakes due quiet h =
-    let s = skip_scheduled n d wakes due quiet h.schedule in
-    record { exchange = s.exchange; schedule = s; slots = slots_later n d live waiting behind h.slots }
+pub skip_indexed : (n : ℕ) (d : Day) (live waiting behind : List (Option ℕ)) (due : ℕ) → IsQuietFor n d → IsIndexed d live waiting behind due → IsIndexed (later_by n d) live waiting behind due
+skip_indexed n d live waiting behind due quiet h = record {
+  exchange = skip_stays n d h.exchange quiet;
+  slots = slots_later n d live waiting behind h.slots;
+  idle = λ k lt. subst IsQuietTick (ap (λ t. record d { moment = t }) (let same : d.moment + (n + k) ≡ d.moment + n + k = omega arith in same)) (h.idle (n + k) (omega (arith, lt)));
+}
 
-pub idle_indexed : (d : Day) (live waiting behind : List (Option ℕ)) (wakes : List ℕ) (due : ℕ) → d.moment < 300000 → d.moment + 1 < due → IsIndexed d live waiting behind wakes due → IsIndexed (later d) live waiting behind wakes due
-idle_indexed d live waiting behind wakes due early lt h =
-    let s = idle_scheduled d wakes due early lt h.schedule in
-    record { exchange = s.exchange; schedule = s; slots = slots_later 1 d live waiting behind h.slots }
+-- before the next due moment a tick is quiet
+pub idle_now : (d : Day) (live waiting behind : List (Option ℕ)) (due : ℕ) → d.moment + 1 < due → IsIndexed d live waiting behind due → IsQuietTick d
+idle_now d live waiting behind due lt h = subst IsQuietTick (later_none d) (h.idle 0 (omega (arith, lt)))
+
+pub idle_indexed : (d : Day) (live waiting behind : List (Option ℕ)) (due : ℕ) → d.moment + 1 < due → IsIndexed d live waiting behind due → IsIndexed (later_by 1 d) live waiting behind due
+idle_indexed d live waiting behind due lt h = skip_indexed 1 d live waiting behind due (λ k small. h.idle k (omega (arith, lt, small))) h
+
+-- where nothing is promised of a tick, and where the next due moment is known
+pub indexed_now : (d : Day) (live waiting behind : List (Option ℕ)) → IsExchange d → AreSlots d live waiting behind → IsIndexed d live waiting behind 0
+indexed_now d live waiting behind h s = record { exchange = h; slots = s; idle = λ k lt. absurd (omega (arith, lt)) }
+
+pub indexed_due : (d : Day) (live waiting behind : List (Option ℕ)) (due due' : ℕ) → IsDue d (length d.entries) due' → IsIndexed d live waiting behind due → IsIndexed d live waiting behind due'
+indexed_due d live waiting behind due due' is h = record { exchange = h.exchange; slots = h.slots; idle = λ k lt. quiet_until d due' k h.exchange is lt }
 
 -- ---- the opening: nothing is live, and each accepted booking waits
 
@@ -89,25 +101,35 @@ opening_slots rows assigned d heads behind b is l =
 
 -- ---- after a pass over the bookings
 
-pub pass_indexed : (t n k : ℕ) (items es new seen : List Entry) (ms ms' : List Bool) (slots ws ws' looked : List ℕ) (due : ℕ) (live waiting behind live' waiting' : List (Option ℕ)) → t < 300000 → IsIndexed (day_of t items ms) live waiting behind slots due → es ≡ items → n ≡ length items → k ≡ length slots → ws ≡ slots
-    → new ≡ map (after_second (day_of t es ms)) es → ms' ≡ maintained (day_of t es ms) 0 ms → AreWakes (ticked (day_of t es ms)).day ws' → looked ≡ take k (ws' ++ drop (length ws') slots) → (due' : ℕ) → IsFirst due' looked
-    → seen ≡ take n (new ++ drop (length new) items) → ((d : Day) → IsExchange d → d.moment < 300000 → seen ≡ map (after_second d) d.entries → AreSlots d live waiting behind → AreSlots (ticked d).day live' waiting' behind)
-    → IsIndexed (day_of (t + 1) (take n (new ++ drop (length new) items)) ms') live' waiting' behind (take k (ws' ++ drop (length ws') slots)) due'
-pass_indexed t n k items es new seen ms ms' slots ws ws' looked due live waiting behind live' waiting' early h same all every slotted entries maintenance quiet read due' least is settled =
+-- what it leaves
+pub pass_moved : (t : ℕ) (items es new : List Entry) (ms ms' : List Bool) (said : List (Option Outgoing)) (live waiting behind seen second : List (Option ℕ)) (due : ℕ) (blocked : List Bool) (now : Day) → IsIndexed (day_of t items ms) live waiting behind due → es ≡ items → seen ≡ behind → day_of t items ms ≡ now → AreBlocked now blocked → ((c : ℕ) → slot_at second c ≡ follower seen (slot_at waiting c))
+    → ((d : Day) → d ≡ day_of t es ms → IsExchange d → AreBlocked d blocked → AreTouched d live waiting second → IsTicked d new ms' said) → IsTicked (day_of t es ms) new ms' said
+pass_moved t items es new ms ms' said live waiting behind seen second due blocked now h same read view free follows moved =
     let d = day_of t es ms in
-    let old : AreWakes d ws = subst₂ (λ (xs : List Entry) vs. AreWakes (day_of t xs ms) vs) (sym same) (sym slotted) h.schedule.quiet in
-    let whole : IsExchange d = subst (λ (xs : List Entry). IsExchange (day_of t xs ms)) (sym same) h.exchange in
-    let count : length new ≡ length items = ap length entries ∙ map_size d es ∙ ap length same in
-    let moved : take n (new ++ drop (length new) items) ≡ map (after_second d) es = refilled n new items count all ∙ entries in
-    let schedule = pass_scheduled t n k items es new ms ms' slots ws ws' looked due' early h.exchange same all every slotted old entries maintenance quiet read least in
-    record {
-      exchange = schedule.exchange;
-      schedule = schedule;
-      slots = subst (λ (x : Day). AreSlots x live' waiting' behind) (sym (ap₂ (day_of (t + 1)) moved maintenance)) (settled d whole early (is ∙ moved) (subst (λ (xs : List Entry). AreSlots (day_of t xs ms) live waiting behind) (sym same) h.slots));
-    }
+    let day : day_of t items ms ≡ d = ap (λ (xs : List Entry). day_of t xs ms) (sym same) in
+    let whole : IsExchange d = subst IsExchange day h.exchange in
+    let slots : AreSlots d live waiting behind = subst (λ (x : Day). AreSlots x live waiting behind) day h.slots in
+    moved d refl whole (subst (λ (x : Day). AreBlocked x blocked) (sym view ∙ day) free) (touched_of d live waiting behind second whole slots (λ c. follows c ∙ ap (λ b. follower b (slot_at waiting c)) read))
 
-pub pass_size : (t n : ℕ) (items es new seen : List Entry) (ms : List Bool) → es ≡ items → n ≡ length items → new ≡ map (after_second (day_of t es ms)) es → seen ≡ take n (new ++ drop (length new) items) → length seen ≡ length items
-pass_size t n items es new seen ms same all entries is =
+pub pass_indexed : (t n : ℕ) (items es new seen : List Entry) (ms ms' : List Bool) (said : List (Option Outgoing)) (live waiting behind live' waiting' : List (Option ℕ)) → t < 300000 → IsExchange (day_of t items ms) → AreSlots (day_of t items ms) live waiting behind → es ≡ items → n ≡ length items
+    → IsTicked (day_of t es ms) new ms' said → seen ≡ take n (new ++ drop (length new) items) → ((d : Day) → IsExchange d → d.moment < 300000 → seen ≡ map (after_second d) d.entries → AreSlots d live waiting behind → AreSlots (ticked d).day live' waiting' behind)
+    → IsIndexed (day_of (t + 1) (take n (new ++ drop (length new) items)) ms') live' waiting' behind 0
+pass_indexed t n items es new seen ms ms' said live waiting behind live' waiting' early h slots same all moved is settled =
     let d = day_of t es ms in
-    let count : length new ≡ length items = ap length entries ∙ map_size d es ∙ ap length same in
+    let whole : IsExchange d = subst (λ (xs : List Entry). IsExchange (day_of t xs ms)) (sym same) h in
+    let count : length new ≡ length items = ap length moved.entries ∙ map_size d es ∙ ap length same in
+    let entries : take n (new ++ drop (length new) items) ≡ map (after_second d) es = refilled n new items count all ∙ moved.entries in
+    let day : day_of (t + 1) (take n (new ++ drop (length new) items)) ms' ≡ (ticked d).day = ap₂ (day_of (t + 1)) entries moved.maintenance in
+    subst (λ (x : Day). IsIndexed x live' waiting' behind 0) (sym day) (indexed_now (ticked d).day live' waiting' behind (ticked_stays d early whole) (settled d whole early (is ∙ entries) (subst (λ (xs : List Entry). AreSlots (day_of t xs ms) live waiting behind) (sym same) slots)))
+
+pub pass_size : (t n : ℕ) (items es new seen : List Entry) (ms ms' : List Bool) (said : List (Option Outgoing)) → es ≡ items → n ≡ length items → IsTicked (day_of t es ms) new ms' said → seen ≡ take n (new ++ drop (length new) items) → length seen ≡ length items
+pass_size t n items es new seen ms ms' said same all moved is =
+    let d = day_of t es ms in
+    let count : length new ≡ length items = ap length moved.entries ∙ map_size d es ∙ ap length same in
     ap length (is ∙ refilled n new items count all) ∙ count
+
+pub pass_day : (t n : ℕ) (items es new : List Entry) (ms ms' : List Bool) (said : List (Option Outgoing)) → es ≡ items → n ≡ length items → IsTicked (day_of t es ms) new ms' said → day_of (t + 1) (take n (new ++ drop (length new) items)) ms' ≡ (ticked (day_of t items ms)).day
+pass_day t n items es new ms ms' said same all moved =
+    let d = day_of t es ms in
+    let count : length new ≡ length items = ap length moved.entries ∙ map_size d es ∙ ap length same in
+    ap₂ (day_of (t + 1)) (refilled n new items count all ∙ moved.entries) moved.maintenance ∙ ap (λ (xs : List Entry). (ticked (day_of t xs ms)).day) same

@@ -19,7 +19,13 @@ pub mod Dues
 pub mod Skips
 pub mod SlotLemmas
 pub mod DueSlots
+pub mod Seats
+pub mod Turns
+pub mod LiveTurns
 pub mod SettleLemmas
 pub mod PutLemmas
 pub mod LinkLemmas
 pub mod IndexLemmas
+pub mod SaidOnce
+pub mod TouchLemmas
+pub mod TouchSlots

@@ -19,13 +19,10 @@ use Rattle.bx_day.specs.Reading.{Seated}
 use Rattle.bx_day.specs.Slots.{slot_at, IsBehind}
 use Rattle.bx_day.specs.declared.entry.Entry.{Entry}
 use Rattle.bx_day.proofs.Once.{each_at}
-use Rattle.bx_day.proofs.SettleLemmas.{pairs_at}
+use Rattle.bx_day.proofs.LiveTurns.{pairs_at}
 use Rattle.bx_day.proofs.SlotLemmas.{some_is}
 
 -- ---- the accepted ones, in the order of the bookings
-
-pub no_starts : (es : List Entry) → AreStarts es 0 []
-no_starts es = record { each = λ k h. absurd (omega arith); below = λ k h. absurd (omega arith); all = λ i h. absurd (omega arith); rising = λ a b l h. absurd (omega arith) }
 
 pub starts_skip : (es : List Entry) (n : ℕ) (order : List (ℕ × ℕ)) → is_refused (entry_at es n).standing ≡ true → AreStarts es n order → AreStarts es (n + 1) order
 starts_skip es n order out l = record {

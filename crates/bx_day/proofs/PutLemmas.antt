@@ -15,7 +15,8 @@ use Rattle.bx_day.specs.declared.entry.Standing.TheVariants.{Refused, Unoffered,
 use Rattle.bx_day.proofs.Once.{decide, each_at}
 use Rattle.bx_day.proofs.Receive.{open_parts, Passes, index_passes}
 use Rattle.bx_day.proofs.Law.{hears_same}
-use Rattle.bx_day.proofs.SettleLemmas.{SameSeats, behind_kept, ordered_kept, behind_first, follow_waits}
+use Rattle.bx_day.proofs.Seats.{SameSeats, behind_kept, ordered_kept}
+use Rattle.bx_day.proofs.Turns.{behind_first, follow_waits}
 use Rattle.bx_day.proofs.SlotLemmas.{live_accepted, named_live, some_is, holds_parts, holds_from, waits_parts, waits_from, ends_later, open_first, open_there, held_is}
 use Rattle.bx_day.proofs.Tick.{by_cases, runs_at, with_standing, free_held}
 
@@ -144,7 +145,7 @@ next_put d i s o h lt begun same waits order ahead first b =
 off_channel : (c k : ℕ) (e : Entry) → e.channel ≡ c → k ≢ c → waits_on k e ≡ false
 off_channel c k e on away = decide (waits_on k e) (λ waits. absurd (away (sym (waits_parts k e waits).1 ∙ on))) (λ idle. idle)
 
-live_waits : (s : Standing) → is_live s ≡ true → is_unoffered s ≡ false
+pub live_waits : (s : Standing) → is_live s ≡ true → is_unoffered s ≡ false
 live_waits (OnCall c a) h = refl
 live_waits Refused h = refl
 live_waits Unoffered h = absurd (false≢true h)

@@ -141,12 +141,6 @@ opens_taken d c e taken = false_from_ne_true (opens d c e) (λ h.
 pub opening_taken : (d : Day) (c : ℕ) → is_free d c ≡ false → index_of (opens d c) d.entries ≡ None
 opening_taken d c taken = index_none (opens d c) d.entries (λ k lt. opens_taken d c (entry_at d.entries k) taken)
 
-pub opening_found : (d : Day) (c i : ℕ) → is_free d c ≡ true → i < length d.entries → awaits d.moment c (entry_at d.entries i) ≡ true → ((k : ℕ) → k < i → awaits d.moment c (entry_at d.entries k) ≡ false) → index_of (opens d c) d.entries ≡ Some i
-opening_found d c i free lt here before = index_found (opens d c) d.entries i lt (opens_free d c (entry_at d.entries i) free ∙ here) (λ k less. opens_free d c (entry_at d.entries k) free ∙ before k less)
-
-pub opening_none : (d : Day) (c : ℕ) → is_free d c ≡ true → ((k : ℕ) → k < length d.entries → awaits d.moment c (entry_at d.entries k) ≡ false) → index_of (opens d c) d.entries ≡ None
-opening_none d c free before = index_none (opens d c) d.entries (λ k less. opens_free d c (entry_at d.entries k) free ∙ before k less)
-
 -- ---- the lowest open channel
 
 -- the channel is among these, which rise to it

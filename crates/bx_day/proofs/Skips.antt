@@ -1,17 +1,16 @@
 -- Quiet ticks one after another.
-use Rattle.std.proofs.Common.{◌≡◌, ℕ, zero, suc, replicate, ◌+◌, List, arith, sym, subst, ap, ◌∙◌}
+use Rattle.std.proofs.Common.{◌≡◌, ℕ, zero, suc, replicate, ◌+◌, arith, sym, subst, ap, ◌∙◌}
 use Rattle.bx_day.specs.Day.{Day, Sent}
-use Rattle.bx_day.specs.Quiet.{IsScheduled}
 use Rattle.bx_day.specs.QuietSeconds.{later_by, IsQuietTick, IsQuietFor}
 use Rattle.bx_day.specs.Reading.{IsExchange}
 use Rattle.bx_day.specs.Run.{Tick, day_after}
 use Rattle.bx_day.proofs.Passing.{tick_is, ticked_stays}
 use Rattle.bx_day.proofs.Dues.{quiet_early}
 
-later_none : (d : Day) → later_by 0 d ≡ d
+pub later_none : (d : Day) → later_by 0 d ≡ d
 later_none d = ap (λ t. record d { moment = t }) (let same : d.moment + 0 ≡ d.moment = omega arith in same)
 
-later_more : (n : ℕ) (d : Day) → later_by n (later_by 1 d) ≡ later_by (suc n) d
+pub later_more : (n : ℕ) (d : Day) → later_by n (later_by 1 d) ≡ later_by (suc n) d
 later_more n d = ap (λ t. record d { moment = t }) (let same : d.moment + 1 + n ≡ d.moment + suc n = omega arith in same)
 
 first_quiet : (n : ℕ) (d : Day) → IsQuietFor (suc n) d → IsQuietTick d
@@ -32,10 +31,3 @@ skip_stays (suc n) d h quiet =
     let early = quiet_early d (first_quiet n d quiet) in
     let next : IsExchange (later_by 1 d) = subst (λ (s : Sent). IsExchange s.day) (sym (tick_is d early) ∙ first_quiet n d quiet) (ticked_stays d early h) in
     subst IsExchange (later_more n d) (skip_stays n (later_by 1 d) next (rest_quiet n d quiet))
-
-pub skip_scheduled : (n : ℕ) (d : Day) (wakes : List ℕ) (due : ℕ) → IsQuietFor n d → IsScheduled d wakes due → IsScheduled (later_by n d) wakes due
-skip_scheduled n d wakes due quiet h = record {
-  exchange = skip_stays n d h.exchange quiet;
-  quiet = record { size = h.quiet.size; each = λ i inside t free low high. h.quiet.each i inside t free (omega (arith, low)) high };
-  first = h.first;
-}

@@ -48,10 +48,6 @@ holder_is es c (Some i) h =
     sym (index_found (holds c) es i p.0 p.1 (λ k less. false_from_ne_true (holds c (entry_at es k)) (λ t.
     let same : i ≡ k = some_is i k (h.each k (omega (arith, less, p.0)) t) in absurd (omega (arith, less, same)))))
 
-pub holder_inside : (es : List Entry) (c : ℕ) (o : Option ℕ) → IsLiveOn es c o → IfSome o (λ i. i < length es)
-holder_inside es c None h = tt
-holder_inside es c (Some i) h = (h.there i refl).0
-
 -- the channels below c that are held, and those in maintenance
 pub record IsBlockedBelow (d : Day) (c : ℕ) (blocked : List Bool) : Type 0 where
   pub done : (k : ℕ) → k < c → is_set blocked k ≡ (is_held d.entries k || is_set d.maintenance k)

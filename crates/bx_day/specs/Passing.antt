@@ -1,9 +1,10 @@
--- A tick as one pass over the bookings.
-use Rattle.std.specs.Prelude.{◌≡◌, ◌≤◌, ◌+◌, ℕ, zero, suc, Bool, List, [], ◌∷◌, ◌||◌, length, drop, Option, None, slice_index_or}
-use Rattle.std.specs.List.{flat_map, list_any}
+-- A tick as a pass over some of the bookings.
+use Rattle.std.specs.Prelude.{◌≡◌, ◌≤◌, ◌<◌, ◌==◌, ℕ, Bool, true, false, List, [], ◌∷◌, ◌||◌, length, map, Option, Some, None, slice_index_or, if◌then◌else◌}
+use Rattle.std.specs.List.{flat_map}
 use Rattle.bx_q931.specs.Outgoing.{Outgoing}
 use Rattle.bx_calls.specs.Shared.{is_set, cons_some}
-use Rattle.bx_day.specs.Day.{Day, is_held, after_second, breaks_on, said_on}
+use Rattle.bx_day.specs.Day.{Day, is_held, second_of, after_second, breaks_on, said_on, maintained, stays, entry_at}
+use Rattle.bx_day.specs.Slots.{slot_at}
 use Rattle.bx_day.specs.declared.entry.Entry.{Entry}
 
 -- a day from its parts
@@ -26,24 +27,44 @@ SaysOnEach d said = (c : ℕ) → cons_some (slice_index_or said c None) [] ≡ 
 abbrev pub SaysOnce : Day → Type 0
 SaysOnce d = (c : ℕ) → length (said_on d c d.entries) ≤ 1
 
--- the bookings of which the first n were moved on
-abbrev pub moved_first : Day → ℕ → List Entry → List Entry
-moved_first d zero es = es
-moved_first d (suc n) [] = []
-moved_first d (suc n) (e ∷ es) = after_second d e ∷ moved_first d n es
+-- whether an index stands in a slot
+abbrev pub is_slot : Option ℕ → ℕ → Bool
+is_slot None i = false
+is_slot (Some j) i = j == i
 
--- channels in maintenance: each bit, or whether some entry of these breaks it
-abbrev pub marks : Day → ℕ → List Bool → List Entry → List Bool
-marks d c [] es = []
-marks d c (b ∷ bs) es = (b || list_any (breaks_on d c) es) ∷ marks d (c + 1) bs es
+-- the bookings that were moved on, and with them those of slots of their channels
+abbrev pub with_slots : Day → List (Option ℕ) → (ℕ → Bool) → ℕ → Bool
+with_slots d slots done i = done i || is_slot (slot_at slots (entry_at d.entries i).channel) i
 
--- what is said so far on each channel, if anything, is followed by what these entries say on it
-abbrev pub SlotsBefore : Day → List Entry → List (Option Outgoing) → Type 0
-SlotsBefore d rest said = (c : ℕ) → cons_some (slice_index_or said c None) (said_on d c rest) ≡ said_on d c d.entries
+-- each slot has a booking of its channel, if it has one
+abbrev pub AreOwn : Day → List (Option ℕ) → Type 0
+AreOwn d slots = (c i : ℕ) → slot_at slots c ≡ Some i → (i < length d.entries) × ((entry_at d.entries i).channel ≡ c)
 
--- what holds after the first i bookings
-pub record Passed (d : Day) (i : ℕ) (entries : List Entry) (maintenance : List Bool) (slots : List (Option Outgoing)) : Type 0 where
-  pub moved : entries ≡ moved_first d i d.entries
-  pub marked : marks d 0 maintenance (drop i d.entries) ≡ marks d 0 d.maintenance d.entries
-  pub size : length slots ≡ 32
-  pub said : SlotsBefore d (drop i d.entries) slots
+-- what holds where these bookings were moved on, and no other
+pub record Passed (d : Day) (done : ℕ → Bool) (entries : List Entry) (maintenance : List Bool) (slots : List (Option Outgoing)) : Type 0 where
+  pub size : length entries ≡ length d.entries
+  pub rows : (i : ℕ) → i < length d.entries → entry_at entries i ≡ (if done i then after_second d (entry_at d.entries i) else entry_at d.entries i)
+  pub channels : length maintenance ≡ length d.maintenance
+  pub kept : (c : ℕ) → is_set d.maintenance c ≡ true → is_set maintenance c ≡ true
+  pub broken : (i : ℕ) → i < length d.entries → done i ≡ true → (entry_at d.entries i).channel < length d.maintenance → (second_of d (entry_at d.entries i)).broken ≡ true → is_set maintenance (entry_at d.entries i).channel ≡ true
+  pub whole : (c : ℕ) → is_set d.maintenance c ≡ false → ((i : ℕ) → i < length d.entries → breaks_on d c (entry_at d.entries i) ≡ false) → is_set maintenance c ≡ false
+  pub sizes : length slots ≡ 32
+  pub said : (c : ℕ) (o : Outgoing) → slice_index_or slots c None ≡ Some o → said_on d c d.entries ≡ o ∷ []
+  pub silent : (i : ℕ) → i < length d.entries → done i ≡ true → slice_index_or slots (entry_at d.entries i).channel None ≡ None → (second_of d (entry_at d.entries i)).said ≡ None
+
+-- bookings of slots, no booking twice, and a tick does nothing to any other
+pub record AreTouched (d : Day) (first second third : List (Option ℕ)) : Type 0 where
+  pub firsts : AreOwn d first
+  pub seconds : AreOwn d second
+  pub thirds : AreOwn d third
+  pub apart : (c i : ℕ) → slot_at second c ≡ Some i → slot_at first c ≡ Some i → ⊥
+  pub third_apart : (c i : ℕ) → slot_at third c ≡ Some i → slot_at first c ≡ Some i → ⊥
+  pub last_apart : (c i : ℕ) → slot_at third c ≡ Some i → slot_at second c ≡ Some i → ⊥
+  pub others : (i : ℕ) → i < length d.entries → (slot_at first (entry_at d.entries i).channel ≡ Some i → ⊥) → (slot_at second (entry_at d.entries i).channel ≡ Some i → ⊥) → (slot_at third (entry_at d.entries i).channel ≡ Some i → ⊥) → second_of d (entry_at d.entries i) ≡ stays (entry_at d.entries i).standing
+
+-- what a tick leaves, and what it says
+pub record IsTicked (d : Day) (es : List Entry) (ms : List Bool) (slots : List (Option Outgoing)) : Type 0 where
+  pub entries : es ≡ map (after_second d) d.entries
+  pub maintenance : ms ≡ maintained d 0 d.maintenance
+  pub said : SaysOnEach d slots
+  pub sizes : length slots ≡ 32

@@ -29,9 +29,7 @@ pub struct Exchange {
     pub(crate) waiting: [Option<u16>; 32],
     /// For each booking the index of the next one on its channel.
     pub(crate) behind: Vec<Option<u16>>,
-    /// For each booking a moment: no tick before does anything to it.
-    pub(crate) wakes: Vec<u32>,
-    /// Not after any of these.
+    /// No tick before this one does anything but raise the moment.
     pub(crate) due: u32,
 }
 
@@ -43,7 +41,7 @@ impl Model for Exchange {
 
     ghost view = { λ x. record { moment = x.moment; entries = x.entries.items; maintenance = x.maintenance } };
 
-    ghost invariant = { λ x. IsIndexed (record { moment = x.moment; entries = x.entries.items; maintenance = x.maintenance }) x.live x.waiting x.behind.items x.wakes.items x.due };
+    ghost invariant = { λ x. IsIndexed (record { moment = x.moment; entries = x.entries.items; maintenance = x.maintenance }) x.live x.waiting x.behind.items x.due };
 }
 
 impl Exchange {
@@ -57,14 +55,14 @@ impl Exchange {
         let _channels = plan.channels.count();
         let entries = entries(alloc, plan)?;
         let links = linked(alloc, &entries)?;
+        let waiting = links.first;
         Ok(Exchange {
             moment: 0,
             entries,
             maintenance: ChannelSet::empty(),
             live: [None; 32],
-            waiting: links.first,
+            waiting,
             behind: links.behind,
-            wakes: vec![in alloc; 0; plan.bookings.len() as usize]?,
             due: 0,
         })
     }

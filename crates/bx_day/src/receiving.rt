@@ -135,7 +135,6 @@ impl Exchange {
             self.waiting[channel],
             self.behind[index],
         );
-        self.wakes[index] = 0;
         self.due = 0;
         moved.said
     }

@@ -2,7 +2,7 @@
 
 ghost use Rattle.std.specs.Prelude.{◌≡◌};
 ghost use Rattle.bx_base.specs.Bookings.{IsBooking};
-ghost use Rattle.bx_day.specs.Quiet.{IsFirst, call_due, booking_due};
+ghost use Rattle.bx_day.specs.Quiet.{call_due, booking_due};
 
 use crate::entry::{Entry, Standing};
 use bx_calls::{CallState, NetCall};
@@ -31,15 +31,4 @@ fn call_due(call: NetCall, end: u32) -> u32
         CallState::DisconnectIndication | CallState::ReleaseRequest => due,
         _ => due.min(end),
     }
-}
-
-/// The first of these moments.
-pub fn first(wakes: &[u32]) -> u32
-    ensures { IsFirst result wakes.now }
-{
-    let mut first = u32::MAX;
-    for wake in wakes {
-        first = first.min(*wake);
-    }
-    first
 }

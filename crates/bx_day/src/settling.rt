@@ -1,6 +1,6 @@
 //! The slots of the channels after a tick.
 
-ghost use Rattle.std.specs.Prelude.{◌≡◌, ◌<◌, ℕ, length, map};
+ghost use Rattle.std.specs.Prelude.{◌≡◌, ◌<◌, ℕ, Some, length, map};
 ghost use Rattle.bx_day.specs.Day.{Day, after_second, ticked};
 ghost use Rattle.bx_day.specs.Reading.{IsExchange};
 ghost use Rattle.bx_day.specs.Slots.{AreSlots, slot_at, follower, live_of, waiting_of, is_live_at, is_waiting_at, IsInside};
@@ -27,6 +27,18 @@ pub fn settle(
         live[number] = live_of(entries, live[number], first, second);
         waiting[number] = waiting_of(entries, behind, first, second);
     }
+}
+
+/// For each channel the booking behind the first that waits.
+pub fn followers(behind: &[Option<u16>], waiting: &[Option<u16>; 32]) -> [Option<u16>; 32]
+    requires { (c i : ℕ) → slot_at waiting.now c ≡ Some i → i < length behind.now }
+    ensures { (c : ℕ) → slot_at result c ≡ follower behind.now (slot_at waiting.now c) }
+{
+    let mut second = [None; 32];
+    for number in 0..32 {
+        second[number] = follower(behind, waiting[number]);
+    }
+    second
 }
 
 /// The booking behind this one.

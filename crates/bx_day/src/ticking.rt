@@ -1,17 +1,17 @@
 //! The ticks of a day.
 
-ghost use Rattle.std.specs.Prelude.{◌≡◌, ◌≤◌, ◌<◌, ◌+◌, true, length, map, is_some, slice_set, if◌then◌else◌};
-ghost use Rattle.bx_day.specs.Day.{Day, tick, ticked, after_second, maintained, entry_at};
-ghost use Rattle.bx_day.specs.Passing.{day_of, AreBlocked, Passed, SaysOnEach, SaysOnce, somes};
+ghost use Rattle.std.specs.Prelude.{◌≡◌, ◌≤◌, ◌<◌, ◌==◌, ◌||◌, ℕ, Bool, Some, true, false, length, is_some, slice_set, if◌then◌else◌};
+ghost use Rattle.std.specs.List.{AllByRecursion};
+ghost use Rattle.bx_day.specs.Day.{Day, tick, ticked};
+ghost use Rattle.bx_day.specs.Passing.{day_of, AreBlocked, AreOwn, AreTouched, IsTicked, Passed, SaysOnEach, SaysOnce, somes, with_slots};
 ghost use Rattle.bx_day.specs.Reading.{IsExchange, Seated};
-ghost use Rattle.bx_day.specs.Quiet.{AreWakes};
+ghost use Rattle.bx_day.specs.Slots.{IsInside, slot_at};
 ghost use Rattle.bx_day.specs.Spelling.{spelled};
 
-use crate::entry::{Entry, Moved, Standing};
+use crate::entry::{Entry, Moved};
 use crate::exchange::Exchange;
 use crate::moving::second;
-use crate::scheduling::{booking_due, first};
-use crate::settling::settle;
+use crate::settling::{followers, settle};
 use arrayvec::ArrayVec;
 use bx_base::{Channel, ChannelSet};
 use bx_q931::{Octets, Out, encode};
@@ -35,20 +35,26 @@ impl Exchange {
             self.moment += 1;
             return ArrayVec::new();
         }
-        self.pass()
+        let said = self.pass();
+        self.due = self.next_due();
+        spell(&said)
     }
 
-    /// A tick that does something to some bookings.
-    fn pass(&mut self) -> ArrayVec<Octets, 30>
+    /// A tick that may do something to some bookings. Answers what is said, by the number of its channel.
+    fn pass(&mut self) -> [Option<Out>; 32]
         requires { self.old.moment < 300000 }
         ensures day { self.new ≡ (ticked self.old).day }
-        ensures sent { result.items ≡ spelled (ticked self.old).sent }
+        ensures said { SaysOnEach self.old result }
+        ensures slots { length result ≡ 32 }
     {
         let blocked = self.blocked();
+        let second = followers(&self.behind, &self.waiting);
         let said = move_on(
             &mut self.entries,
-            &mut self.wakes,
             &mut self.maintenance,
+            &self.live,
+            &self.waiting,
+            &second,
             blocked,
             self.moment,
         );
@@ -59,8 +65,8 @@ impl Exchange {
             &mut self.waiting,
         );
         self.moment += 1;
-        self.due = first(&self.wakes);
-        spell(&said)
+        self.due = 0;
+        said
     }
 
     /// The channels that are held by a live booking, or in maintenance.
@@ -103,8 +109,10 @@ fn move_one(
 )
     requires inside { index < length entries.old }
     requires early { moment < 300000 }
-    requires seated { Seated (entry_at entries.old index) }
-    ensures { (d : Day) → d.moment ≡ moment → IsExchange d → AreBlocked d blocked → Passed d index entries.old maintenance.old said.old → Passed d (index + 1) entries.new maintenance.new said.new }
+    requires seated { AllByRecursion Seated entries.old }
+    ensures seated { AllByRecursion Seated entries.new }
+    ensures size { length entries.new ≡ length entries.old }
+    ensures moved { (d : Day) (done : ℕ → Bool) → d.moment ≡ moment → IsExchange d → AreBlocked d blocked → done index ≡ false → Passed d done entries.old maintenance.old said.old → Passed d (λ i. (i == index) || done i) entries.new maintenance.new said.new }
 {
     let entry = entries[index];
     if let Some(channel) = Channel::new(entry.channel) {
@@ -114,32 +122,51 @@ fn move_one(
     }
 }
 
-/// Moves each booking on from this moment, and puts channels that break into maintenance. Answers what is
-/// said, by the number of its channel.
-fn move_on(
+/// Moves the bookings of slots on.
+fn move_all(
     entries: &mut [Entry],
-    wakes: &mut [u32],
+    slots: &[Option<u16>; 32],
+    said: &mut [Option<Out>; 32],
     maintenance: &mut ChannelSet,
     blocked: ChannelSet,
     moment: u32,
-) -> [Option<Out>; 32]
-    requires day { IsExchange (day_of moment entries.old maintenance.old) }
-    requires wakes { AreWakes (day_of moment entries.old maintenance.old) wakes.old }
+)
+    requires inside { (c : ℕ) → IsInside entries.old (slot_at slots.now c) }
     requires early { moment < 300000 }
-    requires blocked { AreBlocked (day_of moment entries.old maintenance.old) blocked }
-    ensures entries { entries.new ≡ map (after_second (day_of moment entries.old maintenance.old)) entries.old }
-    ensures maintenance { maintenance.new ≡ maintained (day_of moment entries.old maintenance.old) 0 maintenance.old }
-    ensures said { SaysOnEach (day_of moment entries.old maintenance.old) result }
-    ensures slots { length result ≡ 32 }
-    ensures wakes { AreWakes (ticked (day_of moment entries.old maintenance.old)).day wakes.new }
+    requires seated { AllByRecursion Seated entries.old }
+    ensures seated { AllByRecursion Seated entries.new }
+    ensures size { length entries.new ≡ length entries.old }
+    ensures moved { (d : Day) (done : ℕ → Bool) → d.moment ≡ moment → IsExchange d → AreBlocked d blocked → AreOwn d slots.now → ((c i : ℕ) → slot_at slots.now c ≡ Some i → done i ≡ false) → Passed d done entries.old maintenance.old said.old → Passed d (with_slots d slots.now done) entries.new maintenance.new said.new }
 {
-    let mut said = [None; 32];
-    for i in 0..entries.len() {
-        if wakes[i] <= moment + 1 {
-            move_one(entries, i, &mut said, maintenance, blocked, moment);
-            wakes[i] = booking_due(&entries[i]);
+    for number in 0..32 {
+        if let Some(index) = slots[number] {
+            move_one(entries, index as usize, said, maintenance, blocked, moment);
         }
     }
+}
+
+/// Moves the bookings on to which a tick may do something: on each channel the live one, the first that waits, and
+/// the second behind that, which may start when the first ends. Puts channels that break into maintenance, and answers what is said, by the number of its channel.
+fn move_on(
+    entries: &mut [Entry],
+    maintenance: &mut ChannelSet,
+    live: &[Option<u16>; 32],
+    waiting: &[Option<u16>; 32],
+    second: &[Option<u16>; 32],
+    blocked: ChannelSet,
+    moment: u32,
+) -> [Option<Out>; 32]
+    requires early { moment < 300000 }
+    requires seated { AllByRecursion Seated entries.old }
+    requires live { (c : ℕ) → IsInside entries.old (slot_at live.now c) }
+    requires waiting { (c : ℕ) → IsInside entries.old (slot_at waiting.now c) }
+    requires second { (c : ℕ) → IsInside entries.old (slot_at second.now c) }
+    ensures { (d : Day) → d ≡ day_of moment entries.old maintenance.old → IsExchange d → AreBlocked d blocked → AreTouched d live.now waiting.now second.now → IsTicked d entries.new maintenance.new result }
+{
+    let mut said = [None; 32];
+    move_all(entries, live, &mut said, maintenance, blocked, moment);
+    move_all(entries, waiting, &mut said, maintenance, blocked, moment);
+    move_all(entries, second, &mut said, maintenance, blocked, moment);
     said
 }
 

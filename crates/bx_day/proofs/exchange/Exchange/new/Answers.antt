@@ -1,15 +1,13 @@
-use Rattle.std.proofs.Common.{◌≡◌, ◌≤◌, ◌<◌, ℕ, sym, ap, subst, ◌∙◌, length, List, Bool}
+use Rattle.std.proofs.Common.{◌≤◌, ◌<◌, ℕ, sym, subst, arith, ◌∙◌, length, List, Bool}
 use Rattle.std.specs.List.{AllByRecursion}
 use Rattle.bx_day.specs.Day.{entries_from, entry_at}
 use Rattle.bx_day.specs.Invariant.{Pairs, Apart}
 use Rattle.bx_day.specs.Linking.{AreLinks}
 use Rattle.bx_day.specs.Passing.{day_of}
-use Rattle.bx_day.specs.Quiet.{IsScheduled}
 use Rattle.bx_day.specs.Reading.{IsExchange, Seated}
 use Rattle.bx_day.specs.declared.entry.Entry.{Entry}
 use Rattle.bx_day.proofs.IndexLemmas.{opening_ordered, opening_slots}
-use Rattle.bx_day.proofs.OpeningDay.{opening_is, opening_size}
-use Rattle.bx_day.proofs.Quiet.{unscheduled}
+use Rattle.bx_day.proofs.OpeningDay.{opening_is}
 use Rattle.bx_day.proofs.exchange.Exchange.new.Goals as goal
 
 pub linked-requires-clause-few : goal.linked-requires-clause-few
@@ -40,10 +38,9 @@ invariant_of-result c =
     let with_set = subst (λ (m : List Bool). IsExchange (record { moment = 0; entries = entries_from 1 plan.bookings plan.assigned.items; maintenance = m })) (sym c.empty.ensures) whole in
     let day = day_of 0 es c.empty.result in
     let exchange : IsExchange day = subst (λ (xs : List Entry). IsExchange (record { moment = 0; entries = xs; maintenance = c.empty.result })) (sym c.in_ok-entries.ensures) with_set in
-    let size : c.len.result ≡ length es = c.len.ensures.count ∙ sym (opening_size 1 plan.bookings plan.assigned.items) ∙ ap length (sym c.in_ok-entries.ensures) in
     let links : AreLinks es c.in_ok-links.links.first c.in_ok-links.links.behind.items = subst (λ (xs : List Entry). AreLinks xs c.in_ok-links.links.first c.in_ok-links.links.behind.items) c.deref.ensures.value c.in_ok-links.ensures in
     record {
       exchange = exchange;
-      schedule = subst (λ (ws : List ℕ). IsScheduled day ws 0) (sym (c.in_ok-vec.ensures.items_if_clones_equal (λ y same. same))) (unscheduled day c.len.result size exchange);
+      idle = λ k lt. absurd (omega (arith, lt));
       slots = opening_slots plan.bookings plan.assigned.items day c.in_ok-links.links.first c.in_ok-links.links.behind.items c.len-rows.ensures.bookings c.in_ok-entries.ensures links;
     }

@@ -1,0 +1,166 @@
+-- On a channel a tick does something to three bookings at most: the live one, the first that waits, which may end, and
+-- the one behind that, which may start then.
+use Rattle.std.proofs.Common.{◌≡◌, ◌≢◌, ℕ, ◌+◌, ◌≤◌, ◌<◌, Bool, true, false, List, map, length, Option, Some, None, arith, refl, sym, subst, ap, ◌∙◌, inl, inr, if◌then◌else◌}
+use Rattle.std.proofs.lemmas.Bool.{true≢false, false≢true, cases_lt}
+use Rattle.bx_q931.specs.Outgoing.{Outgoing}
+use Rattle.bx_calls.specs.PlainCalls.{PlainNetCall}
+use Rattle.bx_calls.specs.declared.step.Next.{Next}
+use Rattle.bx_calls.specs.declared.step.Next.TheVariants.{Live, Over, Broken}
+use Rattle.bx_calls.specs.NetTable.{net_second}
+use Rattle.bx_day.specs.Day.{Day, is_live, is_unoffered, is_free, second_at, second_of, after_second, stays, follow, over_at, waits, entry_at}
+use Rattle.bx_day.specs.Invariant.{EntryFits, is_refused}
+use Rattle.bx_day.specs.Quiet.{booking_due}
+use Rattle.bx_day.specs.Reading.{IsExchange}
+use Rattle.bx_day.specs.Slots.{waits_on, IsLiveOn, IsWaitingOn, IsLater, IsBehind}
+use Rattle.bx_day.specs.declared.entry.Activity.{Activity}
+use Rattle.bx_day.specs.declared.entry.Activity.TheVariants.{Never, Since, Was}
+use Rattle.bx_day.specs.declared.entry.Entry.{Entry}
+use Rattle.bx_day.specs.declared.entry.Standing.{Standing}
+use Rattle.bx_day.specs.declared.entry.Standing.TheVariants.{Refused, Unoffered, OnCall, Carried, Unanswered, Missed}
+use Rattle.bx_day.proofs.Law.{at_map, second_same}
+use Rattle.bx_day.proofs.Once.{decide, each_at}
+use Rattle.bx_day.proofs.Passing.{map_size}
+use Rattle.bx_day.proofs.Quiet.{booking_quiet}
+use Rattle.bx_day.proofs.SlotLemmas.{holds_from, waits_parts, waits_from, ends_later}
+use Rattle.bx_day.proofs.Seats.{SameSeats}
+
+-- ---- a tick, booking by booking
+
+abbrev pub After : Day → List Entry
+After d = map (after_second d) d.entries
+
+pub tick_seats : (d : Day) → SameSeats d.entries (After d)
+tick_seats d = record {
+  size = sym (map_size d d.entries);
+  booking = λ i. ap (λ (e : Entry). e.booking) (sym (at_map d d.entries i));
+  channel = λ i. ap (λ (e : Entry). e.channel) (sym (at_map d d.entries i));
+  refused = λ i. sym (ap (λ (e : Entry). is_refused e.standing) (at_map d d.entries i) ∙ (let e = entry_at d.entries i in second_same e (d.moment + 1) (is_free d e.channel) e.standing));
+}
+
+pub over_waits : (a : Activity) (t : ℕ) → is_unoffered (over_at a t) ≡ false
+over_waits Never t = refl
+over_waits (Since from) t = refl
+over_waits (Was from until) t = refl
+
+pub follow_waits : (a : Activity) (t : ℕ) (said : Option Outgoing) (n : Next PlainNetCall) → is_unoffered (follow a t said n).standing ≡ false
+follow_waits a t said (Live c) = refl
+follow_waits a t said Over = over_waits a t
+follow_waits a t said Broken = over_waits a t
+
+-- one that waits after a tick waited before it
+pub second_waits : (t : ℕ) (free : Bool) (e : Entry) (s : Standing) → is_unoffered (second_at e t free s).standing ≡ true → is_unoffered s ≡ true
+second_waits t free e Refused h = h
+second_waits t free e Unoffered h = refl
+second_waits t free e (OnCall c a) h = absurd (true≢false (sym h ∙ follow_waits a t (net_second c t e.booking.end).reply (net_second c t e.booking.end).next))
+second_waits t free e (Carried from until) h = h
+second_waits t free e Unanswered h = h
+second_waits t free e Missed h = h
+
+pub waited : (d : Day) (c i : ℕ) → waits_on c (entry_at (After d) i) ≡ true → waits_on c (entry_at d.entries i) ≡ true
+waited d c i h =
+    let e = entry_at d.entries i in
+    let p = waits_parts c (entry_at (After d) i) h in
+    waits_from c e (second_waits (d.moment + 1) (is_free d e.channel) e e.standing (ap (λ (x : Entry). is_unoffered x.standing) (sym (at_map d d.entries i)) ∙ p.0)) (ap (λ (x : Entry). x.channel) (sym (at_map d d.entries i)) ∙ p.1)
+
+pub soon : (t start end : ℕ) (b : Bool) → t < start → start < end → t < (if b then end else start)
+soon t start end true lt order = omega (arith, lt, order)
+soon t start end false lt order = lt
+
+pub waits_is : (s : Standing) → is_unoffered s ≡ true → s ≡ Unoffered
+waits_is Unoffered h = refl
+waits_is Refused h = absurd (false≢true h)
+waits_is (OnCall c a) h = absurd (false≢true h)
+waits_is (Carried from until) h = absurd (false≢true h)
+waits_is Unanswered h = absurd (false≢true h)
+waits_is Missed h = absurd (false≢true h)
+
+-- one that starts later goes on waiting
+pub ahead_waits : (d : Day) (i : ℕ) → IsExchange d → i < length d.entries → (entry_at d.entries i).booking.start < (entry_at d.entries i).booking.end → is_unoffered (entry_at d.entries i).standing ≡ true → d.moment + 1 < (entry_at d.entries i).booking.start → second_of d (entry_at d.entries i) ≡ stays (entry_at d.entries i).standing
+ahead_waits d i h lt order waits early =
+    let e = entry_at d.entries i in
+    let t = d.moment + 1 in
+    let due : t < booking_due e e.standing = subst (λ (s : Standing). t < booking_due e s) (sym (waits_is e.standing waits)) (soon t e.booking.start e.booking.end e.booking.inward early order) in
+    booking_quiet d.moment t (is_free d e.channel) e e.standing (each_at (EntryFits d.moment) d.entries i lt h.day.each) (omega (arith, order)) due
+
+-- ---- which bookings of a channel a tick may touch
+
+abbrev pub IsNone : Option ℕ → ℕ → Type 0
+IsNone o i = o ≡ Some i → ⊥
+
+pub idle_stays : (t : ℕ) (free : Bool) (e : Entry) (s : Standing) → is_live s ≡ false → is_unoffered s ≡ false → second_at e t free s ≡ stays s
+idle_stays t free e Refused live waits = refl
+idle_stays t free e Unoffered live waits = absurd (true≢false waits)
+idle_stays t free e (OnCall c a) live waits = absurd (true≢false live)
+idle_stays t free e (Carried from until) live waits = refl
+idle_stays t free e Unanswered live waits = refl
+idle_stays t free e Missed live waits = refl
+
+pub unoffered_accepted : (s : Standing) → is_unoffered s ≡ true → is_refused s ≡ false
+unoffered_accepted s h = ap is_refused (waits_is s h)
+
+-- one that waits, and is not the first
+pub behind_first : (es : List Entry) (c i r : ℕ) → IsWaitingOn es c (Some r) → i < length es → waits_on c (entry_at es i) ≡ true → i ≢ r → IsLater es r i
+behind_first es c i r h lt waits other =
+    let p = h.there r refl in
+    let q = waits_parts c (entry_at es i) waits in
+    record {
+      inside = lt;
+      accepted = unoffered_accepted (entry_at es i).standing q.0;
+      channel = q.1 ∙ sym (waits_parts c (entry_at es r) p.1).1;
+      later = elim (cases_lt (entry_at es i).booking.start (entry_at es r).booking.end) [ inl less ↦ absurd (other (h.first i r lt waits refl less)) | inr le ↦ le ];
+    }
+
+-- nor the one behind that
+pub behind_second : (es : List Entry) (i r s : ℕ) → IsBehind es r (Some s) → IsLater es r i → i ≢ s → IsLater es s i
+behind_second es i r s h later other =
+    let p = h.there s refl in
+    record {
+      inside = later.inside;
+      accepted = later.accepted;
+      channel = later.channel ∙ sym p.channel;
+      later = elim (cases_lt (entry_at es i).booking.start (entry_at es s).booking.end) [ inl less ↦ absurd (other (h.first i s later refl less)) | inr le ↦ le ];
+    }
+
+-- the second behind the first starts behind the next tick
+pub far_ahead : (d : Day) (i r s : ℕ) → IsExchange d → ((k : ℕ) → k < length d.entries → (entry_at d.entries k).booking.start < (entry_at d.entries k).booking.end) → r < length d.entries → is_unoffered (entry_at d.entries r).standing ≡ true → IsLater d.entries r s → IsLater d.entries s i → d.moment + 1 < (entry_at d.entries i).booking.start
+far_ahead d i r s h order lt waits one two =
+    let a : d.moment < (entry_at d.entries r).booking.end = ends_later d r h lt waits in
+    let b : (entry_at d.entries r).booking.end ≤ (entry_at d.entries s).booking.start = one.later in
+    let c : (entry_at d.entries s).booking.start < (entry_at d.entries s).booking.end = order s one.inside in
+    let e : (entry_at d.entries s).booking.end ≤ (entry_at d.entries i).booking.start = two.later in
+    omega (arith, a, b, c, e)
+
+-- what follows is said of a channel with a live booking a, a first w that waits, and s behind that
+pub record IsTurn (d : Day) (c : ℕ) (a w s u : Option ℕ) : Type 0 where
+  pub exchange : IsExchange d
+  pub ordered : (k : ℕ) → k < length d.entries → (entry_at d.entries k).booking.start < (entry_at d.entries k).booking.end
+  pub ahead : (i : ℕ) → i < length d.entries → is_refused (entry_at d.entries i).standing ≡ false → d.moment < (entry_at d.entries i).booking.start → is_unoffered (entry_at d.entries i).standing ≡ true
+  pub live : IsLiveOn d.entries c a
+  pub waiting : IsWaitingOn d.entries c w
+  pub second : (r : ℕ) → w ≡ Some r → IsBehind d.entries r s
+  pub third : (r : ℕ) → s ≡ Some r → IsBehind d.entries r u
+  pub no_second : w ≡ None → s ≡ None
+  pub no_third : s ≡ None → u ≡ None
+
+pub waits_alone : (d : Day) (c i : ℕ) (a w s u : Option ℕ) → IsTurn d c a w s u → i < length d.entries → waits_on c (entry_at d.entries i) ≡ true → IsNone w i → IsNone s i → second_of d (entry_at d.entries i) ≡ stays (entry_at d.entries i).standing
+waits_alone d c i a None s u t lt waits nw ns = absurd (false≢true (t.waiting.each i lt waits))
+waits_alone d c i a (Some r) None u t lt waits nw ns =
+    let later = behind_first d.entries c i r t.waiting lt waits (λ q. nw (ap (λ k. Some k) (sym q))) in
+    absurd (false≢true ((t.second r refl).each i later))
+waits_alone d c i a (Some r) (Some s) u t lt waits nw ns =
+    let later = behind_first d.entries c i r t.waiting lt waits (λ q. nw (ap (λ k. Some k) (sym q))) in
+    let b = t.second r refl in
+    let last = behind_second d.entries i r s b later (λ q. ns (ap (λ k. Some k) (sym q))) in
+    let p = t.waiting.there r refl in
+    ahead_waits d i t.exchange lt (t.ordered i lt) (waits_parts c (entry_at d.entries i) waits).0
+    (far_ahead d i r s t.exchange t.ordered p.0 (waits_parts c (entry_at d.entries r) p.1).0 (b.there s refl) last)
+
+-- a tick does nothing to the others of the channel
+pub others_stay : (d : Day) (c i : ℕ) (a w s u : Option ℕ) → IsTurn d c a w s u → i < length d.entries → (entry_at d.entries i).channel ≡ c → IsNone a i → IsNone w i → IsNone s i → second_of d (entry_at d.entries i) ≡ stays (entry_at d.entries i).standing
+others_stay d c i a w s u t lt on na nw ns =
+    let e = entry_at d.entries i in
+    decide (is_live e.standing)
+    (λ live. absurd (na (t.live.each i lt (holds_from c e live on))))
+    (λ idle. decide (is_unoffered e.standing)
+    (λ waits. waits_alone d c i a w s u t lt (waits_from c e waits on) nw ns)
+    (λ done. idle_stays (d.moment + 1) (is_free d e.channel) e e.standing idle done))
