@@ -38,22 +38,22 @@ pub skip_indexed : (n : ℕ) (d : Day) (live waiting behind : List (Option ℕ))
 skip_indexed n d live waiting behind due quiet h = record {
   exchange = skip_stays n d h.exchange quiet;
   slots = slots_later n d live waiting behind h.slots;
-  idle = λ k lt. subst IsQuietTick (ap (λ t. record d { moment = t }) (let same : d.moment + (n + k) ≡ d.moment + n + k = omega arith in same)) (h.idle (n + k) (omega (arith, lt)));
+  known = λ one. (let is = h.known one in record { limit = is.limit; ordered = is.ordered; before = is.before; latest = is.latest });
 }
 
 -- before the next due moment a tick is quiet
 pub idle_now : (d : Day) (live waiting behind : List (Option ℕ)) (due : ℕ) → d.moment + 1 < due → IsIndexed d live waiting behind due → IsQuietTick d
-idle_now d live waiting behind due lt h = subst IsQuietTick (later_none d) (h.idle 0 (omega (arith, lt)))
+idle_now d live waiting behind due lt h = subst IsQuietTick (later_none d) (quiet_until d due 0 h.exchange (h.known (omega (arith, lt))) (omega (arith, lt)))
 
 pub idle_indexed : (d : Day) (live waiting behind : List (Option ℕ)) (due : ℕ) → d.moment + 1 < due → IsIndexed d live waiting behind due → IsIndexed (later_by 1 d) live waiting behind due
-idle_indexed d live waiting behind due lt h = skip_indexed 1 d live waiting behind due (λ k small. h.idle k (omega (arith, lt, small))) h
+idle_indexed d live waiting behind due lt h = skip_indexed 1 d live waiting behind due (λ k small. quiet_until d due k h.exchange (h.known (omega (arith, lt))) (omega (arith, lt, small))) h
 
--- where nothing is promised of a tick, and where the next due moment is known
+-- where nothing is known of the next due moment, and where it is
 pub indexed_now : (d : Day) (live waiting behind : List (Option ℕ)) → IsExchange d → AreSlots d live waiting behind → IsIndexed d live waiting behind 0
-indexed_now d live waiting behind h s = record { exchange = h; slots = s; idle = λ k lt. absurd (omega (arith, lt)) }
+indexed_now d live waiting behind h s = record { exchange = h; slots = s; known = λ one. absurd (omega (arith, one)) }
 
 pub indexed_due : (d : Day) (live waiting behind : List (Option ℕ)) (due due' : ℕ) → IsDue d (length d.entries) due' → IsIndexed d live waiting behind due → IsIndexed d live waiting behind due'
-indexed_due d live waiting behind due due' is h = record { exchange = h.exchange; slots = h.slots; idle = λ k lt. quiet_until d due' k h.exchange is lt }
+indexed_due d live waiting behind due due' is h = record { exchange = h.exchange; slots = h.slots; known = λ one. is }
 
 -- ---- the opening: nothing is live, and each accepted booking waits
 

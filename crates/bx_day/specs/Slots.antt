@@ -1,8 +1,8 @@
 -- Where the live booking of each channel stands, and the first of those that wait: an index, which the day forgets.
-use Rattle.std.specs.Prelude.{◌≡◌, ℕ, ◌+◌, ◌<◌, ◌≤◌, ◌==◌, ◌&&◌, Bool, true, false, List, length, Option, Some, None, is_some, min, slice_index_or, if◌then◌else◌}
+use Rattle.std.specs.Prelude.{◌≡◌, ℕ, ◌<◌, ◌≤◌, ◌==◌, ◌&&◌, Bool, true, false, List, length, Option, Some, None, is_some, min, slice_index_or, if◌then◌else◌}
 use Rattle.bx_day.specs.Day.{Day, is_live, is_unoffered, holds, entry_at}
 use Rattle.bx_day.specs.Invariant.{is_refused}
-use Rattle.bx_day.specs.QuietSeconds.{later_by, IsQuietTick, tick_due}
+use Rattle.bx_day.specs.QuietSeconds.{IsDue, tick_due}
 use Rattle.bx_day.specs.Reading.{IsExchange}
 use Rattle.bx_day.specs.declared.entry.Entry.{Entry}
 
@@ -47,11 +47,11 @@ pub record AreSlots (d : Day) (live waiting behind : List (Option ℕ)) : Type 0
   pub ahead : (i : ℕ) → i < length d.entries → is_refused (entry_at d.entries i).standing ≡ false → d.moment < (entry_at d.entries i).booking.start → is_unoffered (entry_at d.entries i).standing ≡ true
   pub ordered : (i : ℕ) → i < length d.entries → (entry_at d.entries i).booking.start < (entry_at d.entries i).booking.end
 
--- what an exchange keeps: a day, its slots, and a tick before which none does anything
+-- what an exchange keeps: a day, its slots, and the first tick that does something again, or 0 where that is not known
 pub record IsIndexed (d : Day) (live waiting behind : List (Option ℕ)) (due : ℕ) : Type 0 where
   pub exchange : IsExchange d
   pub slots : AreSlots d live waiting behind
-  pub idle : (k : ℕ) → d.moment + k + 1 < due → IsQuietTick (later_by k d)
+  pub known : 1 ≤ due → IsDue d (length d.entries) due
 
 -- the slot behind the one of this booking
 abbrev pub follower : List (Option ℕ) → Option ℕ → Option ℕ

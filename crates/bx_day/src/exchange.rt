@@ -29,7 +29,7 @@ pub struct Exchange {
     pub(crate) waiting: [Option<u16>; 32],
     /// For each booking the index of the next one on its channel.
     pub(crate) behind: Vec<Option<u16>>,
-    /// No tick before this one does anything but raise the moment.
+    /// The first tick that does something again, or the one behind the day's last; 0 where that is not known.
     pub(crate) due: u32,
 }
 

@@ -14,14 +14,14 @@ use bx_base::Channel;
 impl Exchange {
     /// For how many seconds nothing happens where no message comes: each of so many ticks sends nothing and
     /// changes nothing but the moment, and the one behind them does something, or finds the day over. At most
-    /// 300,000 less the moment. It looks at each booking, and takes no memory.
+    /// 300,000 less the moment. It looks at no more than each channel's slots, and takes no memory.
     pub fn quiet(&self) -> u32
         ensures each { IsQuietFor result self.now }
         ensures exact { ¬ IsQuietTick (later_by result self.now) }
         ensures limit { result ≤ 300000 - self.now.moment }
     {
         let moment = self.moment();
-        self.next_due().saturating_sub(moment + 1)
+        self.known_due().saturating_sub(moment + 1)
     }
 
     /// So many seconds later, where all of them are quiet: at once what that many ticks would leave. It takes no
@@ -34,7 +34,19 @@ impl Exchange {
         self.moment += seconds;
     }
 
-    /// The first tick that does something to a booking, or the one behind the day's last.
+    /// The first tick that does something to a booking, or the one behind the day's last. It is looked for only where
+    /// it is not known, as behind a message.
+    fn known_due(&self) -> u32
+        ensures { IsDue self.now (length self.now.entries) result }
+    {
+        if self.due > 0 {
+            self.due
+        } else {
+            self.next_due()
+        }
+    }
+
+    /// The same, channel by channel.
     pub(crate) fn next_due(&self) -> u32
         ensures { IsDue self.now (length self.now.entries) result }
     {

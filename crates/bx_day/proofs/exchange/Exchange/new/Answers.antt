@@ -41,6 +41,6 @@ invariant_of-result c =
     let links : AreLinks es c.in_ok-links.links.first c.in_ok-links.links.behind.items = subst (λ (xs : List Entry). AreLinks xs c.in_ok-links.links.first c.in_ok-links.links.behind.items) c.deref.ensures.value c.in_ok-links.ensures in
     record {
       exchange = exchange;
-      idle = λ k lt. absurd (omega (arith, lt));
+      known = λ one. absurd (omega (arith, one));
       slots = opening_slots plan.bookings plan.assigned.items day c.in_ok-links.links.first c.in_ok-links.links.behind.items c.len-rows.ensures.bookings c.in_ok-entries.ensures links;
     }

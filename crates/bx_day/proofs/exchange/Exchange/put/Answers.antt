@@ -29,7 +29,7 @@ invariant_of-self c =
     let kept = put_slots d i m.standing x.live x.waiting behind c.live_slot.result c.self.invariant.exchange lt turn c.requires.begun c.requires.accepted (turned_accepted d (entry_at es i) turn) c.live_slot.ensures slots in
     record {
       exchange = now;
-      idle = λ k lt. absurd (omega (arith, lt));
+      known = λ one. absurd (omega (arith, one));
       slots =
           subst (λ (o : Option ℕ). AreSlots (day_of x.moment (slice_set es i (record c.index_mut.result.now { standing = m.standing })) x.maintenance) (slice_set x.live c.index-entry.result.now.channel c.live_slot.result) (slice_set x.waiting c.index-entry.result.now.channel o) behind) next
           (subst (λ (n : ℕ). AreSlots (day_of x.moment (slice_set es i (record c.index_mut.result.now { standing = m.standing })) x.maintenance) (slice_set x.live n c.live_slot.result) (slice_set x.waiting n (next_slot d i x.waiting behind)) behind) (ap (λ (e : Entry). e.channel) old)
