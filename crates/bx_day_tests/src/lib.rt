@@ -8,6 +8,8 @@ mod days_of_messages;
 #[cfg(test)]
 mod days_of_ticks;
 #[cfg(test)]
+mod drawn_days;
+#[cfg(test)]
 mod far_days;
 #[cfg(test)]
 mod far_octets;

@@ -158,10 +158,10 @@ fn is_same_on(first: &Exchange, second: &Exchange, channel: Channel) -> bool {
         && first.in_maintenance(channel) == second.in_maintenance(channel)
 }
 
-/// Whether two exchanges of up to three bookings on channels 1 and 2 look the same, but for the moment.
-fn look_same(first: &Exchange, second: &Exchange) -> bool {
+/// Whether two exchanges of up to six bookings on channels 1 and 2 look the same, but for the moment.
+pub(crate) fn look_same(first: &Exchange, second: &Exchange) -> bool {
     let mut same = true;
-    for number in 1..=3 {
+    for number in 1..=6 {
         same &= first.outcome(number) == second.outcome(number);
     }
     for number in 1..=2 {
@@ -186,7 +186,7 @@ fn is_counted(exchange: &mut Exchange, before: &mut Exchange) -> bool {
 }
 
 /// Ticks to a moment, each as the quiet seconds say.
-fn are_counted(exchange: &mut Exchange, before: &mut Exchange, moment: u32) -> bool {
+pub(crate) fn are_counted(exchange: &mut Exchange, before: &mut Exchange, moment: u32) -> bool {
     let mut counted = true;
     for _now in exchange.moment()..moment {
         counted &= is_counted(exchange, before);
@@ -195,7 +195,7 @@ fn are_counted(exchange: &mut Exchange, before: &mut Exchange, moment: u32) -> b
 }
 
 /// To a moment by what is quiet and by single ticks.
-fn skip_to(exchange: &mut Exchange, moment: u32) {
+pub(crate) fn skip_to(exchange: &mut Exchange, moment: u32) {
     for _now in exchange.moment()..moment {
         let left = moment.saturating_sub(exchange.moment());
         skip_some(exchange, left);
