@@ -115,7 +115,8 @@ impl Exchange {
         self.put(index, moved)
     }
 
-    /// What the booking of this index did; it broke no channel, which only time does.
+    /// What the booking of this index did, which is live or is called now; it broke no channel, which only time does.
+    /// The slots of its channel follow, and what is due next is not known then.
     pub(crate) fn put(&mut self, index: usize, moved: Moved) -> Option<Out>
         requires inside { index < length self.old.entries }
         requires whole { moved.broken ≡ false }
