@@ -61,9 +61,10 @@ is_setup Setup = true
 is_setup _ = false
 
 -- a SETUP with this reference, for the booking of this index
-setup_at : (rows : List Row) (assigned : List (Option ℕ)) (t i r ch : ℕ) (called : List ℕ) → r - 1 ≡ i → is_accepted assigned i ≡ true → (row_at rows i).inward ≡ false → is_running (row_at rows i) t ≡ true → ch ≡ channel_at assigned i → OutFits rows assigned t (setup_of r ch called)
-setup_at rows assigned t i r ch called q accepted outward runs channel = record {
+setup_at : (rows : List Row) (assigned : List (Option ℕ)) (t i r ch : ℕ) (called : List ℕ) → r ≡ suc i → is_accepted assigned i ≡ true → (row_at rows i).inward ≡ false → is_running (row_at rows i) t ≡ true → ch ≡ channel_at assigned i → OutFits rows assigned t (setup_of r ch called)
+setup_at rows assigned t i r ch called is accepted outward runs channel = let q = less r i is in record {
   setup = λ _. record {
+    named = omega (arith, is);
     accepted = subst (λ j. is_accepted assigned j ≡ true) (sym q) accepted;
     outward = subst (λ j. (row_at rows j).inward ≡ false) (sym q) outward;
     runs = subst (λ j. is_running (row_at rows j) t ≡ true) (sym q) runs;
@@ -71,6 +72,9 @@ setup_at rows assigned t i r ch called q accepted outward runs channel = record 
   };
   proceeding = λ k. absurd (true≢false (ap is_setup k));
 }
+  where
+    less : (x y : ℕ) → x ≡ suc y → x - 1 ≡ y
+    less x y q = omega arith
 
 pub proceeding_fits : (rows : List Row) (assigned : List (Option ℕ)) (t i r ch : ℕ) → is_accepted assigned i ≡ true → (row_at rows i).inward ≡ true → is_running (row_at rows i) t ≡ true → ch ≡ channel_at assigned i → OutFits rows assigned t (proceeding_of r ch)
 proceeding_fits rows assigned t i r ch accepted inward runs channel = record {
@@ -96,14 +100,11 @@ placed_accepted rows assigned e p accepted = not_refused (is_accepted assigned p
 -- a SETUP for a booking that runs, from the exchange
 pub setup_fits : (rows : List Row) (assigned : List (Option ℕ)) (t : ℕ) (e : Entry) (r ch : ℕ) (called : List ℕ) → Placed rows assigned e → is_refused e.standing ≡ false → e.booking.inward ≡ false → is_running e.booking t ≡ true → r ≡ e.row → ch ≡ e.channel → OutFits rows assigned t (setup_of r ch called)
 setup_fits rows assigned t e r ch called p accepted outward runs same on =
-    setup_at rows assigned t p.index r ch called (less r p.index (same ∙ p.row))
+    setup_at rows assigned t p.index r ch called (same ∙ p.row)
     (placed_accepted rows assigned e p accepted)
     (subst (λ b. b.inward ≡ false) p.booking outward)
     (subst (λ b. is_running b t ≡ true) p.booking runs)
     (on ∙ p.channel)
-  where
-    less : (x y : ℕ) → x ≡ suc y → x - 1 ≡ y
-    less x y q = omega arith
 
 -- what a message makes the exchange say is neither
 pub test_said : (P : Outgoing → Type 0) (b : Bool) (x y : Step PlainNetCall) → (b ≡ true → OfSaid P x.reply) → (b ≡ false → OfSaid P y.reply) → OfSaid P (if b then x else y).reply

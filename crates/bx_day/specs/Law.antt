@@ -37,6 +37,7 @@ pub record IsOrderly (rows : List Row) (assigned : List (Option ℕ)) (d : Day) 
 
 -- a SETUP is sent for an accepted outward booking that runs, which its reference names, on its channel
 pub record SetupFits (rows : List Row) (assigned : List (Option ℕ)) (t : ℕ) (o : Outgoing) : Type 0 where
+  pub named : 1 ≤ o.reference
   pub accepted : is_accepted assigned (o.reference - 1) ≡ true
   pub outward : (row_at rows (o.reference - 1)).inward ≡ false
   pub runs : is_running (row_at rows (o.reference - 1)) t ≡ true
