@@ -8,24 +8,32 @@ use std::test::Fail;
 static PLAN: &str =
     "bx-plan 3\nchannels 1\nbookings 1\n0 60 5 1234 1 free out\nprices 0\ntotal 5\nend\n";
 
-/// How many writes succeed, how much each takes at most, and what is then written.
-static WRITERS: [(u32, usize, &str); 2] = [(21, 1, "bx-plan 3\nchannels 1\n"), (99, 0, "")];
-
-/// Whether the writing fails, and just this is written.
-fn stops_behind(alloc: Global, plan: &Plan, writer: &(u32, usize, &str)) -> bool {
-    let (calls, most, front) = *writer;
+/// Writes the plan to a writer that takes so much a call and fails after so many; answers whether it then has that front of
+/// the text, and is faulted where that is not all.
+fn writes_front(alloc: Global, plan: &Plan, calls: u32, most: usize) -> bool {
     let mut w = Watched::new(Failing::new(Vec::new(alloc), calls, most));
-    let failed = write_plan(plan, &mut w) == Err(PlanWriteFault::WriteFailed);
+    let done = write_plan(plan, &mut w);
     let faulted = w.faulted();
-    failed && faulted && w.into_inner().into_inner().as_slice() == front.as_bytes()
+    let octets = w.into_inner().into_inner();
+    let expected = if octets.len() == PLAN.len() {
+        Ok(())
+    } else {
+        Err(PlanWriteFault::WriteFailed)
+    };
+    let is_front = octets.len() == calls as usize * most && PLAN.as_bytes().starts_with(&octets);
+    is_front && done == expected && faulted == done.is_err()
 }
 
 #[test]
 fn failing_writers(rt: HostRuntime) -> Result<(), Fail> {
     let plan = read_plan(rt.alloc(), PLAN.as_bytes())?;
-    for writer in &WRITERS {
-        assert!(rt; stops_behind(rt.alloc(), &plan, writer), "{}", writer.2);
+    for calls in 0..77u32 {
+        assert!(rt; writes_front(rt.alloc(), &plan, calls, 1), "{calls}");
     }
+    assert!(rt;
+        writes_front(rt.alloc(), &plan, 99, 0),
+        "one that takes none"
+    );
     let printed = PlanWriteFault::WriteFailed.to_string(rt.alloc())?;
     assert_eq!(rt; printed.as_str(), "P5 WriteFailed");
     Ok(())

@@ -2,7 +2,7 @@
 
 use crate::worked_texts::ONE;
 use bx_base::{Failing, Watched};
-use bx_commands::{CommandFault, check_self, decode, proved_plan};
+use bx_commands::{CommandFault, check_against, check_self, decode, proved_plan};
 use std::alloc::{AllocError, Global};
 use std::test::Fail;
 
@@ -57,7 +57,66 @@ fn writers_that_fail(rt: HostRuntime) {
     for calls in 0..10u32 {
         assert!(rt; writes(rt.alloc(), calls), "{calls}");
     }
-    let mut output = Watched::new(Failing::new(Vec::new(rt.alloc()), 0, 1));
-    let done = decode(rt.alloc(), "080280015A", &mut output);
-    assert!(rt; done == Err(CommandFault::CannotWrite), "decode");
+}
+
+static LINES: &str = "type 5A RELEASE COMPLETE\nreference 1 flag 1\nelement 0 08 8091\n";
+
+/// Whether a message is decoded to a writer that takes so much a call and fails after so many, up to there.
+fn decodes(alloc: Global, calls: u32, most: usize) -> bool {
+    let mut output = Watched::new(Failing::new(Vec::new(alloc), calls, most));
+    let done = decode(alloc, "080280015A08028091", &mut output);
+    let written = output.into_inner().into_inner();
+    let is_front = written.len() == calls as usize * most && LINES.as_bytes().starts_with(&written);
+    is_front && done.is_ok() == (written.len() == LINES.len())
+}
+
+#[test]
+fn messages_to_writers_that_fail(rt: HostRuntime) {
+    for calls in 0..63u32 {
+        assert!(rt; decodes(rt.alloc(), calls, 1), "{calls}");
+    }
+    assert!(rt; decodes(rt.alloc(), 99, 0), "one that takes none");
+}
+
+/// What a check of the plan against itself answers, and how much it wrote, where its reader and its writer fail after so
+/// many calls, and the writer takes so much a call.
+fn against(alloc: Global, devices: (u32, u32, usize)) -> Option<(bool, usize)> {
+    let (reads, writes, most) = devices;
+    let plan = proved_plan(alloc, "-", &mut Watched::new(ONE.as_bytes())).ok()?;
+    let mut input = Watched::new(Failing::new(ONE.as_bytes(), reads, 1));
+    let mut output = Watched::new(Failing::new(Vec::new(alloc), writes, most));
+    let done = check_against(
+        alloc,
+        "plan",
+        &plan.bookings,
+        plan.channels,
+        &mut input,
+        &mut output,
+    );
+    let expected = if reads < 68 {
+        Err(CommandFault::CannotRead("plan"))
+    } else if writes < 9 || most == 0 {
+        Err(CommandFault::CannotWrite)
+    } else {
+        Ok(5)
+    };
+    let written = output.into_inner().into_inner();
+    let is_front = b"proved 5\n".starts_with(&written);
+    Some((done == expected && is_front, written.len()))
+}
+
+#[test]
+fn checks_over_devices_that_fail(rt: HostRuntime) {
+    for reads in 0..68u32 {
+        let is_refused = against(rt.alloc(), (reads, 99, 1)) == Some((true, 0));
+        assert!(rt; is_refused, "read {reads}");
+    }
+    for writes in 0..10u32 {
+        let is_cut = against(rt.alloc(), (68, writes, 1)) == Some((true, writes as usize));
+        assert!(rt; is_cut, "write {writes}");
+    }
+    assert!(rt;
+        against(rt.alloc(), (68, 99, 0)) == Some((true, 0)),
+        "one that takes none"
+    );
 }

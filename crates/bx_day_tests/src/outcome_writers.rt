@@ -28,5 +28,10 @@ fn failing_writers(rt: HostRuntime) -> Result<(), Fail> {
         let is_front = writes_front(rt.alloc(), &exchange, TEXT.as_bytes(), calls);
         assert!(rt; is_front, "{calls}");
     }
+    let mut none = Watched::new(Failing::new(Vec::new(rt.alloc()), 99, 0));
+    assert!(rt;
+        exchange.write_outcomes(&mut none).is_err() && none.faulted(),
+        "one that takes none"
+    );
     Ok(())
 }

@@ -88,6 +88,16 @@ fn failing_readers(rt: HostRuntime) {
     }
 }
 
+/// Whether a writer that takes none of what it is given is a failed one.
+fn none_is_taken(alloc: Global) -> Option<bool> {
+    let day = Day::new("2026-01-05", "UTC0").ok()?;
+    let channels = ChannelSet::from_numbers(&[1]).ok()?;
+    let mut output = Watched::new(Failing::new(Vec::new(alloc), 99, 0));
+    let mut input = Watched::new(ONE.as_bytes());
+    let result = plan_run(alloc, &mut input, &mut output, &day, channels);
+    Some(result == Err(RunFault::WriteFailed) && output.faulted())
+}
+
 #[test]
 fn failing_writers(rt: HostRuntime) {
     for writes in 0..76u32 {
@@ -95,6 +105,7 @@ fn failing_writers(rt: HostRuntime) {
         let is_failed = is_answered(rt.alloc(), ONE, (100, writes, 1), failed, writes as usize);
         assert!(rt; is_failed, "{writes}");
     }
+    assert!(rt; none_is_taken(rt.alloc()) == Some(true), "none");
     let whole = is_answered(rt.alloc(), ONE, (100, 76, 1), Ok(5), 76);
     assert!(rt; whole, "the whole plan");
 }
