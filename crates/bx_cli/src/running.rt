@@ -1,10 +1,10 @@
 //! The commands that run a day.
 
-ghost use Rattle.std.specs.Prelude.{◌≡◌, ◌≤◌, ◌<◌, ◌+◌, ℕ, List, length, true, false, if◌then◌else◌, IfOk, OnOk};
+ghost use Rattle.std.specs.Prelude.{◌≡◌, ◌≤◌, ◌<◌, ◌+◌, ◌⊎◌, ℕ, List, length, true, if◌then◌else◌, IfOk, OnOk, OnErr};
 ghost use Rattle.std.specs.Io.KnownBytes.{Appends};
 ghost use Rattle.bx_base.specs.Bookings.{row_at};
 ghost use Rattle.bx_base.specs.Plans.{is_accepted};
-ghost use Rattle.bx_base.specs.Watching.{device_of};
+ghost use Rattle.bx_base.specs.Watching.{device_of, is_faulted};
 ghost use Rattle.bx_day.specs.Telling.{outcomes_text};
 ghost use Rattle.bx_far.specs.FarDay.{far_opening};
 ghost use Rattle.bx_far.specs.ScriptTexts.{IsScript};
@@ -92,7 +92,8 @@ fn write_outcomes<'a, W: Write>(
     exchange: &Exchange,
     output: &mut Watched<W>,
 ) -> Result<(), CliFault<'a>>
-    ensures { OnOk result (Appends (W.contents (device_of output.old)) (W.contents (device_of output.new)) (outcomes_text exchange.now)) }
+    ensures told { OnOk result (Appends (W.contents (device_of output.old)) (W.contents (device_of output.new)) (outcomes_text exchange.now)) }
+    ensures refused { OnErr result (is_faulted output.new ≡ true) }
 {
     match exchange.write_outcomes(output) {
         Ok(()) => Ok(()),
@@ -120,7 +121,8 @@ pub fn day_of_files<
     turns: Option<u32>,
     output: &mut Watched<W>,
 ) -> Result<(), CliFault<'a>>
-    ensures { OnOk result (IsDayTold turns (W.contents (device_of output.old)) (W.contents (device_of output.new))) }
+    ensures told { OnOk result (IsDayTold turns (W.contents (device_of output.old)) (W.contents (device_of output.new))) }
+    ensures refused { OnErr result ((output.new ≡ output.old) ⊎ (is_faulted output.new ≡ true)) }
 {
     let (mut exchange, turns) = opening_of(rt, plan, turns)?;
     let mut far = far_end_of(rt, script)?;
@@ -146,7 +148,8 @@ pub fn serve_file<
     turns: Option<u32>,
     output: &mut Watched<W>,
 ) -> Result<(), CliFault<'a>>
-    ensures { OnOk result (IsDayTold turns (W.contents (device_of output.old)) (W.contents (device_of output.new))) }
+    ensures told { OnOk result (IsDayTold turns (W.contents (device_of output.old)) (W.contents (device_of output.new))) }
+    ensures refused { OnErr result ((output.new ≡ output.old) ⊎ (is_faulted output.new ≡ true)) }
 {
     let (mut exchange, turns) = opening_of(rt, plan, turns)?;
     let peer = accepted(rt, port)?;
@@ -160,7 +163,8 @@ pub fn serve_file<
 
 /// Writes `ended at `, the moment and LF.
 fn write_ended<W: Write>(output: &mut Watched<W>, moment: u32) -> Result<(), WriteFailed>
-    ensures { OnOk result (Appends (W.contents (device_of output.old)) (W.contents (device_of output.new)) (ended_line moment)) }
+    ensures told { OnOk result (Appends (W.contents (device_of output.old)) (W.contents (device_of output.new)) (ended_line moment)) }
+    ensures refused { OnErr result (is_faulted output.new ≡ true) }
 {
     write_octets(output, b"ended at ")?;
     write_octets(output, Buffer::new().format(moment).as_bytes())?;
@@ -174,7 +178,8 @@ pub fn far_file<
     H: Files + AllocGlobal + Net<Listener = TcpListener, Stream = TcpStream>,
     W: Write,
 >(rt: &H, script: &'a str, port: u16, output: &mut Watched<W>) -> Result<(), CliFault<'a>>
-    ensures { OnOk result (IsFarTold (W.contents (device_of output.old)) (W.contents (device_of output.new))) }
+    ensures told { OnOk result (IsFarTold (W.contents (device_of output.old)) (W.contents (device_of output.new))) }
+    ensures refused { OnErr result ((output.new ≡ output.old) ⊎ (is_faulted output.new ≡ true)) }
 {
     let mut far = far_end_of(rt, script)?;
     let peer = connected(rt, port)?;
