@@ -1,14 +1,18 @@
 //! Sessions: the turns of the exchange, opened and closed one after another, until a fault.
 
 ghost use Rattle.std.specs.Prelude.{◌≡◌, true, false, is_ok, is_err, Err};
+ghost use Rattle.bx_day.specs.Run.{Tick};
+ghost use Rattle.bx_day.specs.Writing.{Writes};
+ghost use Rattle.bx_link.specs.Ends.{exchange_next, exchange_text};
 ghost use Rattle.bx_link.specs.Hearing.{Hears, Opens};
 ghost use Rattle.bx_link.specs.Sessions.{is_turn_open, is_closed};
 ghost use Rattle.bx_link.specs.declared.fault.LinkFault.TheVariants.{Closed};
 
 use crate::fault::LinkFault;
 use crate::frame::Side;
+use crate::frame_writing::write_end_of_turn;
 use crate::turn::{hear_turn, write_tick};
-use bx_base::Watched;
+use bx_base::{Watched, WriteFailed};
 use bx_day::Exchange;
 use std::io::{Read, Write};
 
@@ -25,6 +29,21 @@ enum Stage {
 #[derive(Debug, Drop, PartialEq, Eq)]
 pub struct Session {
     stage: Stage,
+}
+
+/// The exchange ticks, and what it sends and the end of the turn are written. A quiet second is skipped.
+fn write_opening<W: Write>(
+    exchange: &mut Exchange,
+    writer: &mut Watched<W>,
+) -> Result<(), WriteFailed>
+    ensures day { exchange.new ≡ exchange_next exchange.old Tick }
+    ensures written { Writes W.contents writer.old writer.new result (exchange_text exchange.old Tick) }
+{
+    if exchange.quiet() > 0 {
+        exchange.skip(1);
+        return write_end_of_turn(writer, exchange.moment());
+    }
+    write_tick(exchange, writer)
 }
 
 impl Session {
@@ -68,7 +87,7 @@ impl Session {
         if let Stage::Over = self.stage {
             return Err(LinkFault::Closed);
         }
-        match write_tick(exchange, writer) {
+        match write_opening(exchange, writer) {
             Ok(()) => {
                 self.stage = Stage::InTurn;
                 Ok(())
