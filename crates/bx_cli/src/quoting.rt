@@ -1,5 +1,9 @@
 //! The commands that answer for what a plan refuses.
 
+ghost use Rattle.std.specs.Prelude.{OnOk};
+ghost use Rattle.bx_base.specs.Devices.{writing_of};
+ghost use Rattle.bx_cli.specs.Answers.{IsExplained, IsQuoted};
+
 use crate::fault::CliFault;
 use crate::planning::{day_of, open};
 use bx_base::{Booking, Number, Watched};
@@ -17,7 +21,9 @@ pub fn explain_file<'a, H: Files + AllocGlobal, W: Write>(
     plan: &'a str,
     row: Option<u16>,
     output: &mut Watched<W>,
-) -> Result<(), CliFault<'a>> {
+) -> Result<(), CliFault<'a>>
+    ensures { OnOk result (IsExplained row (writing_of W.contents output.old output.new)) }
+{
     let mut input = open(rt, plan)?;
     let plan = proved_plan(rt.alloc(), plan, &mut input)?;
     let done = match row {
@@ -36,7 +42,9 @@ pub fn quote_file<'a, H: Files + AllocGlobal, W: Write>(
     plan: &'a str,
     call: &Call<'_>,
     output: &mut Watched<W>,
-) -> Result<(), CliFault<'a>> {
+) -> Result<(), CliFault<'a>>
+    ensures { OnOk result (IsQuoted (writing_of W.contents output.old output.new)) }
+{
     let booking = booking_of(call)?;
     let mut input = open(rt, plan)?;
     let plan = proved_plan(rt.alloc(), plan, &mut input)?;
