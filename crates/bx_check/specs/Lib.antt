@@ -1,3 +1,4 @@
 pub mod Before
 pub mod Check
+pub mod Seats
 pub mod Faults

@@ -7,6 +7,7 @@ ghost use Rattle.bx_base.specs.PlanParts.{parts_of};
 ghost use Rattle.bx_check.specs.Check.{IsOutcome};
 ghost use Rattle.bx_check.specs.Faults.{IsBoundAbove};
 
+use crate::apart::first_overlap;
 use crate::bound::{bound, is_rising, total_pay};
 use bx_base::{Bookings, ChannelSet, Plan};
 use thiserror::Error;
@@ -56,8 +57,8 @@ fn first_must_left_out(plan: &Plan) -> Option<u16>
 
 /// The total of the plan, where it is a plan of these bookings and channels in service whose prices prove that
 /// no lawful set pays more; else the first fault. Takes no memory: the sums of the prices stand on the stack, so the
-/// cost of a row takes two searches by halving. Compares rows in pairs where they are on one channel (Carlisle and
-/// Lloyd 1995 for the problem; the prices are the dual of their flow).
+/// cost of a row takes two searches by halving, and so do the accepted rows, sorted by channel and start: only where two
+/// overlap rows are compared in pairs (Carlisle and Lloyd 1995 for the problem; the prices are the dual of their flow).
 pub fn check(bookings: &Bookings, channels: ChannelSet, plan: &Plan) -> Result<u64, CheckFault>
     ensures outcome { IsOutcome bookings.now channels (parts_of plan.now) result }
     // The plan's own channels carry its accepted rows, and these hold each must row.
@@ -78,7 +79,7 @@ pub fn check(bookings: &Bookings, channels: ChannelSet, plan: &Plan) -> Result<u
     if let Some(row) = plan.first_out_of_service() {
         return Err(CheckFault::NotInService(row));
     }
-    if let Some((first, second)) = plan.first_overlap() {
+    if let Some((first, second)) = first_overlap(plan) {
         return Err(CheckFault::Overlap(first, second));
     }
     if let Some(row) = first_must_left_out(plan) {

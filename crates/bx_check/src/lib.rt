@@ -1,6 +1,7 @@
 //! Whether the prices of a plan prove that no choice of bookings pays more.
 #![tactic(auto)]
 
+mod apart;
 mod bound;
 mod judge;
 pub mod laws;
