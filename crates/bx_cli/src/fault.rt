@@ -5,6 +5,7 @@ ghost use Rattle.bx_cli.specs.declared.fault.CliFault.TheVariants.{Command};
 
 use bx_base::ChannelFault;
 use bx_book::{BookFault, DayFault};
+use bx_chart::ChartFault;
 use bx_commands::CommandFault;
 use bx_far::ScriptFault;
 use bx_link::LinkFault;
@@ -36,6 +37,9 @@ pub enum CliFault<'a> {
     /// No quote was written.
     #[error("{0}")]
     Quote(QuoteFault),
+    /// No picture was written.
+    #[error("{0}")]
+    Chart(ChartFault),
     /// What was read is no script.
     #[error("{0}")]
     Script(ScriptFault),

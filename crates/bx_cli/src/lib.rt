@@ -1,6 +1,7 @@
 //! What the program does for the words of its command line.
 #![tactic(auto)]
 
+mod charting;
 mod fault;
 mod loopback;
 mod planning;

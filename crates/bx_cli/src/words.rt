@@ -8,6 +8,7 @@ ghost use Rattle.bx_commands.specs.Proved.{IsProvedText, proved_line};
 ghost use Rattle.bx_commands.specs.Refusals.{IsRefusal};
 ghost use Rattle.bx_commands.specs.declared.fault.CommandFault.{CommandFault};
 
+use crate::charting::chart_file;
 use crate::fault::CliFault;
 use crate::planning::{amend_file, check_file, plan_file};
 use crate::quoting::{explain_file, quote_file};
@@ -82,6 +83,7 @@ fn run<'a, H: Files + AllocGlobal + Net<Listener = TcpListener, Stream = TcpStre
         } => amend_file(rt, (date, zone), plan, bookings, output),
         Request::Explain { plan, row } => explain_file(rt, plan, row, output),
         Request::Quote { plan, call } => quote_file(rt, plan, &call, output),
+        Request::Chart { plan, day } => chart_file(rt, plan, day, output),
         Request::Day {
             plan,
             script,

@@ -131,6 +131,13 @@ pub const DAY: Argument = Argument {
     help: "The day of the plan, as YYYY-MM-DD, where START and END are times",
 };
 
+pub const PICTURED_DAY: Argument = Argument {
+    name: "date",
+    value: "DATE",
+    form: Form::Optional,
+    help: "The day of the plan, as YYYY-MM-DD: the picture is as long as it",
+};
+
 pub const DAY_ZONE: Argument = Argument {
     name: "zone",
     value: "RULE",

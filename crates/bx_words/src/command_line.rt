@@ -1,8 +1,8 @@
 //! The command line as `clap` knows it.
 
 use crate::arguments::{
-    Argument, BOOKINGS, CHANNELS, DATE, DAY, DAY_ZONE, END, INWARD, OCTETS, PLAN, PORT, ROW,
-    SCRIPT, START, TURNS, ZONE, arg_of,
+    Argument, BOOKINGS, CHANNELS, DATE, DAY, DAY_ZONE, END, INWARD, OCTETS, PICTURED_DAY, PLAN,
+    PORT, ROW, SCRIPT, START, TURNS, ZONE, arg_of,
 };
 use clap::Command;
 use std::alloc::{AllocError, Global};
@@ -24,6 +24,7 @@ const AFTER: &str = "Examples:
   bx amend --date 2026-03-29 --zone CET-1CEST,M3.5.0,M10.5.0/3 plan.txt more.csv > amended.txt
   bx explain plan.txt 2
   bx quote plan.txt 28800 30600
+  bx chart plan.txt > plan.svg
   bx day plan.txt script.csv
   bx serve plan.txt --port 9931
   bx far script.csv --port 9931
@@ -38,7 +39,7 @@ struct Words {
     arguments: &'static [Argument],
 }
 
-static COMMANDS: [Words; 9] = [
+static COMMANDS: [Words; 10] = [
     Words {
         name: "plan",
         about: "Print the best plan of a day's bookings",
@@ -63,6 +64,11 @@ static COMMANDS: [Words; 9] = [
         name: "quote",
         about: "Print what a further booking has to pay to be taken beside those of a proved plan",
         arguments: &[PLAN, START, END, INWARD, DAY, DAY_ZONE],
+    },
+    Words {
+        name: "chart",
+        about: "Print a proved plan as a picture in SVG: what each channel carries, what is refused, and the prices",
+        arguments: &[PLAN, PICTURED_DAY, DAY_ZONE],
     },
     Words {
         name: "day",

@@ -56,6 +56,11 @@ pub enum Request<'a> {
         plan: &'a str,
         call: Call<'a>,
     },
+    /// Print a plan as a picture, of the day with this date and zone where one is named.
+    Chart {
+        plan: &'a str,
+        day: Option<(&'a str, &'a str)>,
+    },
     /// Run both ends of a plan's day.
     Day {
         plan: &'a str,
@@ -153,14 +158,19 @@ fn terms_of<'a>(alloc: Global, matches: &ArgMatches<'a>) -> Result<Terms<'a>, Re
     }
 }
 
+/// The date and the zone that these words name, where they name a date.
+fn day_of<'a>(matches: &ArgMatches<'a>) -> Option<(&'a str, &'a str)> {
+    let zone = matches.get_str("zone").unwrap_or("UTC0");
+    matches.get_str("date").map(|date| (date, zone))
+}
+
 /// The call that these words name.
 fn call_of<'a>(matches: &ArgMatches<'a>) -> Call<'a> {
-    let zone = matches.get_str("zone").unwrap_or("UTC0");
     Call {
         start: word(matches, "start"),
         end: word(matches, "end"),
         inward: matches.get_flag("inward"),
-        day: matches.get_str("date").map(|date| (date, zone)),
+        day: day_of(matches),
     }
 }
 
@@ -192,6 +202,10 @@ fn request_of<'a>(
         "quote" => Ok(Request::Quote {
             plan: word(matches, "plan"),
             call: call_of(matches),
+        }),
+        "chart" => Ok(Request::Chart {
+            plan: word(matches, "plan"),
+            day: day_of(matches),
         }),
         "day" => Ok(Request::Day {
             plan: word(matches, "plan"),

@@ -1,0 +1,67 @@
+-- The bars of a picture: one for each booking that the plan accepts.
+use Rattle.std.specs.Prelude.{ℕ, ◌+◌, ◌-◌, ◌*◌, Bool, List, [], ◌++◌, length, codes, decimal, nat_lt, ◌/◌, ◌%◌, if◌then◌else◌, zero, suc}
+use Rattle.bx_base.specs.Bookings.{Row, row_at}
+use Rattle.bx_base.specs.Channels.{has_channel}
+use Rattle.bx_base.specs.PlanParts.{Parts}
+use Rattle.bx_base.specs.Plans.{is_accepted, channel_at}
+use Rattle.bx_base.specs.Sums.{sum_below}
+
+-- the lane of a channel: how many channels in service have a lower number
+abbrev pub lane_of : List Bool → ℕ → ℕ
+lane_of channels channel = sum_below channel (λ n. if has_channel channels n then 1 else 0)
+
+-- two digits
+abbrev pub two_digits : ℕ → List ℕ
+two_digits n = (if nat_lt n 10 then codes "0" else []) ++ decimal n
+
+-- a second of the day as hours, minutes and seconds behind its midnight
+abbrev pub clock : ℕ → List ℕ
+clock second = decimal (second / 3600) ++ codes ":" ++ two_digits (second / 60 % 60) ++ codes ":" ++ two_digits (second % 60)
+
+-- how a bar looks: the must ones taller, the inward ones with a stripe
+abbrev pub class_of : Row → List ℕ
+class_of row = (if row.must then codes "must " else codes "free ") ++ (if row.inward then codes "in" else codes "out")
+
+-- a bar in its lane, which is ten units high
+abbrev pub top_of : Row → ℕ → ℕ
+top_of row lane = 10 * lane + (if row.must then 1 else 3)
+
+abbrev pub height_of : Row → ℕ
+height_of row = if row.must then 9 else 5
+
+-- its number and its pay
+abbrev pub pay_of : Row → List ℕ
+pay_of row = row.number ++ codes " pays " ++ decimal row.pay
+
+-- the booking, in words
+abbrev pub words_of : Row → ℕ → List ℕ
+words_of row name = (codes "<title>row " ++ decimal name ++ codes ": ") ++ pay_of row
+
+-- its start and its end
+abbrev pub times_of : Row → List ℕ
+times_of row = codes ", " ++ clock row.start ++ codes " to " ++ clock row.end ++ codes "</title>"
+
+-- how wide and how high a bar is: a unit of its width is a second
+abbrev pub size_of : Row → List ℕ
+size_of row = codes "' width='" ++ decimal (row.end - row.start) ++ codes "' height='" ++ decimal (height_of row) ++ codes "'>"
+
+-- where it begins
+abbrev pub place_of : Row → ℕ → List ℕ
+place_of row lane = (codes "<rect class='" ++ class_of row) ++ (codes "' x='" ++ decimal row.start ++ codes "' y='" ++ decimal (top_of row lane))
+
+-- the bar of a booking
+abbrev pub bar_of : Row → ℕ → ℕ → List ℕ
+bar_of row lane name = place_of row lane ++ size_of row ++ words_of row name ++ times_of row ++ codes "</rect>\n"
+
+-- the bar of the booking at a place, or none where the plan refuses it
+abbrev pub bar_at : Parts → ℕ → List ℕ
+bar_at plan i = if is_accepted plan.assigned i then bar_of (row_at plan.rows i) (lane_of plan.channels (channel_at plan.assigned i)) (i + 1) else []
+
+-- the bars of the first n bookings, in their order
+abbrev pub bars_below : Parts → ℕ → List ℕ
+bars_below plan zero = []
+bars_below plan (suc n) = bars_below plan n ++ bar_at plan n
+
+-- the bars of all that the plan accepts
+abbrev pub bars : Parts → List ℕ
+bars plan = bars_below plan (length plan.rows)

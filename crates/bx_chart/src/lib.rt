@@ -1,0 +1,13 @@
+//! A plan as a picture.
+#![tactic(auto)]
+
+mod bars;
+mod frame;
+mod hours;
+mod levels;
+mod picture;
+mod prices;
+mod sheet;
+mod writing;
+
+pub use writing::{ChartFault, write_chart};

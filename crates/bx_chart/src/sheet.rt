@@ -1,0 +1,102 @@
+//! Where things stand in a picture.
+
+ghost use Rattle.std.specs.Prelude.{◌≤◌};
+
+use bx_base::Plan;
+use bx_book::Day;
+
+/// Where the day begins, how wide it is, and where the lanes begin, in units of the picture.
+pub(crate) const LEFT: u64 = 56;
+
+pub(crate) const WIDTH: u64 = 1120;
+
+pub(crate) const TOP: u64 = 92;
+/// How high a lane is, and each of the two bands below the lanes.
+pub(crate) const LANE: u64 = 16;
+
+pub(crate) const BAND: u64 = 70;
+/// How much lies between the lanes and a band, for the hours or words.
+pub(crate) const GAP: u64 = 44;
+
+/// What a picture has room for: so many seconds from midnight on, and so many lanes, one at least.
+#[derive(Clone, Copy)]
+pub(crate) struct Sheet {
+    pub seconds: u32,
+    pub lanes: u8,
+    ghost limits: { (1 ≤ seconds) × (seconds ≤ 200000) × (1 ≤ lanes) × (lanes ≤ 30) },
+}
+
+/// How long the day is, or 86,400 seconds where none is given.
+fn length_of(day: Option<&Day>) -> u32
+    ensures { (1 ≤ result) × (result ≤ 200000) }
+{
+    match day {
+        Some(day) => day.length(),
+        None => 86_400,
+    }
+}
+
+/// So many seconds, or as many as the latest end asks for.
+fn seconds_of(plan: &Plan, length: u32) -> u32
+    requires { (1 ≤ length) × (length ≤ 200000) }
+    ensures { (1 ≤ result) × (result ≤ 200000) }
+{
+    let mut seconds = length;
+    for index in 0..plan.bookings.len() {
+        let end = plan.bookings.nth(index).end();
+        if seconds < end {
+            seconds = end;
+        }
+    }
+    seconds
+}
+
+/// A lane for each channel in service, one at least.
+fn lanes_of(plan: &Plan) -> u8
+    ensures { (1 ≤ result) × (result ≤ 30) }
+{
+    let count = plan.channels.count();
+    if count == 0 { 1 } else { count }
+}
+
+impl Sheet {
+    /// The sheet of a plan: of the whole day, or of 86,400 seconds where none is given, and up to its latest end.
+    pub(crate) fn of(plan: &Plan, day: Option<&Day>) -> Sheet {
+        let seconds = seconds_of(plan, length_of(day));
+        let lanes = lanes_of(plan);
+        Sheet { seconds, lanes }
+    }
+
+    /// The end of the lanes.
+    pub(crate) fn lanes_end(&self) -> u64
+        ensures { result ≤ 600 }
+    {
+        TOP + LANE * u64::from(self.lanes)
+    }
+
+    /// Where the band of what is refused begins.
+    pub(crate) fn refused_top(&self) -> u64
+        ensures { (44 ≤ result) × (result ≤ 700) }
+    {
+        self.lanes_end() + GAP
+    }
+
+    /// Where the band of the prices begins.
+    pub(crate) fn prices_top(&self) -> u64
+        ensures { (44 ≤ result) × (result ≤ 900) }
+    {
+        self.refused_top() + BAND + GAP
+    }
+
+    /// The end of the picture.
+    pub(crate) fn height(&self) -> u64
+        ensures { result ≤ 1100 }
+    {
+        self.prices_top() + BAND + 24
+    }
+
+    /// How far from the left a second is, in tenths of a unit.
+    pub(crate) fn tenths(&self, second: u32) -> u64 {
+        10 * LEFT + 10 * WIDTH * u64::from(second) / u64::from(self.seconds)
+    }
+}

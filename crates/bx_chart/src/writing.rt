@@ -1,0 +1,74 @@
+//! A picture, written.
+
+ghost use Rattle.std.specs.Prelude.{IfOk, IfErr, OnOk};
+ghost use Rattle.bx_base.specs.Devices.{writing_of};
+ghost use Rattle.bx_base.specs.PlanParts.{parts_of};
+ghost use Rattle.bx_chart.specs.Charts.{IsChart, IsDrawn, IsChartRefusal};
+
+use crate::bars::bars;
+use crate::frame::front;
+use crate::hours::add_hours;
+use crate::levels::add_refused;
+use crate::picture::Picture;
+use crate::prices::add_prices;
+use crate::sheet::Sheet;
+use bx_base::{Plan, Watched, write_octets};
+use bx_book::Day;
+use std::alloc::{AllocError, Global};
+use std::io::Write;
+use thiserror::Error;
+
+/// Why a picture was not written.
+#[derive(Clone, Copy, Debug, PartialEq, Eq, Error)]
+pub enum ChartFault {
+    /// A growth was refused: nothing was written.
+    #[error("Memory")]
+    Memory,
+    /// A write failed, or took none of what it was given: a front of the picture was written.
+    #[error("F2 CannotWrite")]
+    WriteFailed,
+}
+
+/// What stands behind the bars.
+fn behind(alloc: Global, plan: &Plan, sheet: &Sheet) -> Result<Picture, AllocError> {
+    let mut picture = Picture::new(alloc);
+    picture.add(b"</svg>\n")?;
+    add_refused(alloc, &mut picture, plan, sheet)?;
+    add_prices(&mut picture, plan, sheet)?;
+    add_hours(&mut picture, sheet)?;
+    picture.add(b"</svg>\n")?;
+    Ok(picture)
+}
+
+/// The whole picture.
+fn chart(alloc: Global, plan: &Plan, day: Option<&Day>) -> Result<Picture, AllocError>
+    ensures { IfOk result (λ picture. IsChart (parts_of plan.now) picture.text.items) }
+{
+    let sheet = Sheet::of(plan, day);
+    let mut picture = front(alloc, plan, &sheet)?;
+    let bars = bars(alloc, plan)?;
+    let behind = behind(alloc, plan, &sheet)?;
+    picture.add(bars.text())?;
+    picture.add(behind.text())?;
+    let _text = picture.text();
+    Ok(picture)
+}
+
+/// Writes a picture of a plan, in SVG 1.1.
+pub fn write_chart<W: Write>(
+    alloc: Global,
+    plan: &Plan,
+    day: Option<&Day>,
+    output: &mut Watched<W>,
+) -> Result<(), ChartFault>
+    ensures drawn { OnOk result (IsDrawn (parts_of plan.now) (writing_of W.contents output.old output.new)) }
+    ensures refused { IfErr result (IsChartRefusal (parts_of plan.now) (writing_of W.contents output.old output.new)) }
+{
+    let Ok(picture) = chart(alloc, plan, day) else {
+        return Err(ChartFault::Memory);
+    };
+    match write_octets(output, picture.text()) {
+        Ok(()) => Ok(()),
+        Err(_) => Err(ChartFault::WriteFailed),
+    }
+}
