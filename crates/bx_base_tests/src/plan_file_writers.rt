@@ -20,7 +20,8 @@ fn writes_front(alloc: Global, plan: &Plan, calls: u32, most: usize) -> bool {
     } else {
         Err(PlanWriteFault::WriteFailed)
     };
-    let is_front = octets.len() == calls as usize * most && PLAN.as_bytes().starts_with(&octets);
+    let is_front = octets.len() == (calls as usize).saturating_mul(most)
+        && PLAN.as_bytes().starts_with(&octets);
     is_front && done == expected && faulted == done.is_err()
 }
 

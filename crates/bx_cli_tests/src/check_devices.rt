@@ -66,7 +66,8 @@ fn decodes(alloc: Global, calls: u32, most: usize) -> bool {
     let mut output = Watched::new(Failing::new(Vec::new(alloc), calls, most));
     let done = decode(alloc, "080280015A08028091", &mut output);
     let written = output.into_inner().into_inner();
-    let is_front = written.len() == calls as usize * most && LINES.as_bytes().starts_with(&written);
+    let is_front = written.len() == (calls as usize).saturating_mul(most)
+        && LINES.as_bytes().starts_with(&written);
     is_front && done.is_ok() == (written.len() == LINES.len())
 }
 

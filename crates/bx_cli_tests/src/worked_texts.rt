@@ -12,9 +12,21 @@ const MUST: &str =
 /// Input, status, standard output and standard error.
 type Case = (&'static str, u8, &'static str, &'static str);
 
-static CASES: [Case; 13] = [
+static CASES: [Case; 15] = [
     (ONE, 0, "proved 5\n", ""),
     (MUST, 0, "proved 6\n", ""),
+    (
+        "bx-plan 1\nchannels 1 2 3\nbookings 0\nprices 0\ntotal 0\nend\n",
+        0,
+        "proved 0\n",
+        "",
+    ),
+    (
+        "bx-plan 2\nchannels 1\nbookings 3\n0 10 4 1234 - free\n5 15 6 1234 - must\n10 20 4 1234 - free\nprices 2\n5 4\n10 4\ntotal 6\nend\n",
+        1,
+        "",
+        "bx: C8 MustLeftOut 2\n",
+    ),
     ("", 1, "", "bx: P1 BadLine 1\n"),
     ("bx-plan 1\r\n", 1, "", "bx: P1 BadLine 1\n"),
     ("\u{0}\u{1}\u{7f}", 1, "", "bx: P1 BadLine 1\n"),
