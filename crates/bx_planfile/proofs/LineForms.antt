@@ -13,7 +13,8 @@ use Rattle.bx_base.specs.Bound.{Charge, IsCharge, charge_of}
 use Rattle.bx_planfile.specs.declared.version.Version.{Version}
 use Rattle.bx_planfile.specs.declared.version.Version.TheVariants.{One, Two, Three}
 use Rattle.bx_planfile.specs.Lines.{field, fields_from}
-use Rattle.bx_planfile.specs.Text.{version_field, numbers_from, channel_field, must_field, direction_field, mark_fields, booking_fields, price_fields, named, IsTold}
+use Rattle.bx_text.specs.Lines.{named}
+use Rattle.bx_planfile.specs.Text.{version_field, numbers_from, channel_field, must_field, direction_field, mark_fields, booking_fields, price_fields, IsTold}
 use Rattle.bx_planfile.specs.Forms.{Entry, Marks, marks, is_nothing, is_digits, is_decimal, value_of, version_of, header_form, named_form, channels_form, channel_set, is_channel_field, channel_of, is_must_field, is_direction_field, marks_form, entry_of, marked, booking_form, is_assignable, is_within, price_form, is_charge, is_end}
 use Rattle.bx_planfile.proofs.Digits.{and_both}
 use Rattle.bx_planfile.proofs.DecimalLaws.{is_decimal-decimal, value-decimal, decimal-value, some_digits, digits_from_decimal, digits-decimal}

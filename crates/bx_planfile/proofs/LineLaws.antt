@@ -11,7 +11,8 @@ use Rattle.bx_planfile.specs.declared.version.Version.{Version}
 use Rattle.bx_planfile.specs.declared.version.Version.TheVariants.{One, Two, Three}
 use Rattle.bx_planfile.specs.declared.fault.PlanFault.{PlanFault}
 use Rattle.bx_planfile.specs.declared.fault.PlanFault.TheVariants.{BadLine, BadCount, OutOfLimits, Trailing}
-use Rattle.bx_planfile.specs.Text.{version_field, channel_field, must_field, direction_field, mark_fields, booking_fields, price_fields, named, IsTold}
+use Rattle.bx_text.specs.Lines.{named}
+use Rattle.bx_planfile.specs.Text.{version_field, channel_field, must_field, direction_field, mark_fields, booking_fields, price_fields, IsTold}
 use Rattle.bx_planfile.specs.Forms.{Entry, named_form, booking_form, is_assignable, is_within, price_form, is_charge, is_end}
 use Rattle.bx_planfile.specs.Reading.{◌>>=◌, or_fault, where_holds, read_count, read_booking, read_price, read_total, read_end}
 use Rattle.bx_planfile.proofs.Digits.{and_both}

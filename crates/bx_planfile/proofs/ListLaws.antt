@@ -6,7 +6,7 @@ use Rattle.bx_base.specs.Channels.{IsChannel}
 use Rattle.bx_base.specs.Bookings.{Row, IsBooking, row_at}
 use Rattle.bx_base.specs.Bound.{Charge, IsCharge, price_at}
 use Rattle.bx_planfile.specs.declared.version.Version.{Version}
-use Rattle.bx_planfile.specs.Lines.{line_text}
+use Rattle.bx_text.specs.Lines.{line_text}
 use Rattle.bx_planfile.specs.Text.{channel_field, mark_fields, booking_fields, price_fields, booking_lines, IsTold}
 use Rattle.bx_planfile.specs.Forms.{Entry, is_assignable}
 use Rattle.bx_planfile.specs.Reading.{◌>>=◌, Entries, entries, read_line, read_booking, read_price, read_bookings, read_prices}

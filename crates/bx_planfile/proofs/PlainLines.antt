@@ -8,7 +8,8 @@ use Rattle.std.proofs.lemmas.List.{take_at, drop_at, take-append-drop, length-ap
 use Rattle.std.proofs.lemmas.List.Quantifiers.{position-Some}
 use Rattle.std.proofs.lemmas.List.Splits.{join_with_byte-slice_split, slice_split_at, slice_split_none}
 use Rattle.bx_planfile.specs.declared.fault.PlanFault.TheVariants.{BadLine}
-use Rattle.bx_planfile.specs.Lines.{is_lf, is_space, line_text, fields_of, cut_line, first_line}
+use Rattle.bx_text.specs.Lines.{line_text}
+use Rattle.bx_planfile.specs.Lines.{is_lf, is_space, fields_of, cut_line, first_line}
 use Rattle.bx_planfile.specs.Reading.{or_fault, read_line}
 use Rattle.bx_planfile.proofs.Digits.{and_both}
 

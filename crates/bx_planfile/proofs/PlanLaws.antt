@@ -11,8 +11,8 @@ use Rattle.bx_base.specs.declared.plan.Plan.{Plan}
 use Rattle.bx_planfile.specs.declared.version.Version.{Version}
 use Rattle.bx_planfile.specs.declared.fault.PlanFault.{PlanFault}
 use Rattle.bx_planfile.specs.declared.fault.PlanFault.TheVariants.{BadLine, OutOfLimits}
-use Rattle.bx_planfile.specs.Lines.{line_text}
-use Rattle.bx_planfile.specs.Text.{version_field, numbers_from, price_fields, named, booking_lines, plan_text, HasText, IsTextOf}
+use Rattle.bx_text.specs.Lines.{line_text, named}
+use Rattle.bx_planfile.specs.Text.{version_field, numbers_from, price_fields, booking_lines, plan_text, HasText, IsTextOf}
 use Rattle.bx_planfile.specs.Forms.{header_form, channels_form, channel_set}
 use Rattle.bx_planfile.specs.Reading.{◌>>=◌, Gives, or_fault, entries, Head, head_of, read_head, read_line, read_header, read_channels, read_count, read_total, read_end, read_bookings, read_prices, read_tail, read_all}
 use Rattle.bx_planfile.proofs.PlainLines.{line_again, line_takes}

@@ -4,9 +4,8 @@ use Rattle.std.specs.Prelude.{decimal}
 use Rattle.std.specs.List.{flat_map, join_with_byte}
 use Rattle.std.proofs.lemmas.List.{append-nil, take_all}
 use Rattle.bx_base.specs.Channels.{has_channel}
-use Rattle.bx_planfile.specs.Lines.{line_text}
+use Rattle.bx_text.specs.Lines.{line_text, member_text}
 use Rattle.bx_planfile.specs.Text.{numbers_from}
-use Rattle.bx_planfile.specs.Writing.{member_text}
 
 -- numbers, each with a space before it
 abbrev pub spaced : List ℕ → List ℕ

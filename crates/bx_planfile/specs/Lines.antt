@@ -1,16 +1,12 @@
 -- Lines of octets: fields with single spaces between them, and an LF at the end.
-use Rattle.std.specs.Prelude.{ℕ, suc, zero, ◌+◌, ◌==◌, Bool, List, [], ◌∷◌, ◌++◌, take, drop, Option, Some, None, position}
-use Rattle.std.specs.List.{join_with_byte, slice_split}
+use Rattle.std.specs.Prelude.{ℕ, suc, zero, ◌+◌, ◌==◌, Bool, List, [], ◌∷◌, take, drop, Option, Some, None, position}
+use Rattle.std.specs.List.{slice_split}
 
 abbrev pub is_lf : ℕ → Bool
 is_lf octet = octet == 10
 
 abbrev pub is_space : ℕ → Bool
 is_space octet = octet == 32
-
--- a line from its fields
-abbrev pub line_text : List (List ℕ) → List ℕ
-line_text fields = join_with_byte 32 fields ++ 10 ∷ []
 
 -- the fields of a line, whose LF is cut off
 abbrev pub fields_of : List ℕ → List (List ℕ)

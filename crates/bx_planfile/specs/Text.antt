@@ -6,7 +6,7 @@ use Rattle.bx_base.specs.Bound.{Charge}
 use Rattle.bx_base.specs.PlanParts.{Parts}
 use Rattle.bx_planfile.specs.declared.version.Version.{Version}
 use Rattle.bx_planfile.specs.declared.version.Version.TheVariants.{One, Two, Three}
-use Rattle.bx_planfile.specs.Lines.{line_text}
+use Rattle.bx_text.specs.Lines.{line_text, named}
 
 abbrev pub version_field : Version → List ℕ
 version_field One = codes "1"
@@ -42,10 +42,6 @@ booking_fields version row channel =
 
 abbrev pub price_fields : Charge → List (List ℕ)
 price_fields price = decimal price.moment ∷ decimal price.amount ∷ []
-
--- a word, and a number behind it
-abbrev pub named : List ℕ → ℕ → List (List ℕ)
-named word n = word ∷ decimal n ∷ []
 
 -- the lines of bookings
 abbrev pub booking_lines : Version → List Row → List (Option ℕ) → List (List (List ℕ))

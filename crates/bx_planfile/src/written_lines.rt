@@ -5,59 +5,11 @@ ghost use Rattle.arrayvec.specs.ArrayVec.{array_vec_len};
 ghost use Rattle.bx_base.specs.Bound.{IsCharge};
 ghost use Rattle.bx_base.specs.Channels.{IsChannel, IsChannelSet, has_channel};
 ghost use Rattle.bx_planfile.specs.declared.version.Version.TheVariants.{Three};
-ghost use Rattle.bx_planfile.specs.Lines.{line_text};
-ghost use Rattle.bx_planfile.specs.Writing.{member_text};
-ghost use Rattle.bx_planfile.specs.Text.{booking_fields, price_fields, named, numbers_from, must_field, direction_field, channel_field};
+ghost use Rattle.bx_text.specs.Lines.{line_text, member_text, named};
+ghost use Rattle.bx_planfile.specs.Text.{booking_fields, price_fields, numbers_from, must_field, direction_field, channel_field};
 
-use arrayvec::ArrayVec;
 use bx_base::{Booking, Channel, ChannelSet, Price};
-use itoa::Buffer;
-
-/// A line, or its front: no line of a plan text is as long.
-pub type Line = ArrayVec<u8, 128>;
-
-/// Adds octets.
-fn append(line: &mut Line, octets: &[u8])
-    requires { array_vec_len line.old + length octets.now ≤ 128 }
-    ensures items { line.new.items ≡ line.old.items ++ octets.now }
-    ensures len { array_vec_len line.new ≡ array_vec_len line.old + length octets.now }
-{
-    match line.try_extend_from_slice(octets) {
-        Ok(()) => {}
-        Err(_) => unreachable!(),
-    }
-}
-
-/// Adds a field, and what stands behind it.
-fn add(line: &mut Line, field: &[u8], stop: u8)
-    requires { array_vec_len line.old + length field.now < 128 }
-    ensures items { line.new.items ≡ line.old.items ++ (field.now ++ stop ∷ []) }
-    ensures len { array_vec_len line.new ≡ array_vec_len line.old + length field.now + 1 }
-{
-    append(line, field);
-    line.push(stop);
-}
-
-/// Adds a decimal, and what stands behind it.
-fn add_decimal(line: &mut Line, number: u64, stop: u8)
-    requires { array_vec_len line.old ≤ 107 }
-    ensures items { line.new.items ≡ line.old.items ++ (decimal number ++ stop ∷ []) }
-    ensures len { array_vec_len line.new ≤ array_vec_len line.old + 21 }
-{
-    let mut digits = Buffer::new();
-    add(line, digits.format(number).as_bytes(), stop);
-}
-
-/// A line of a word and a decimal.
-pub fn named_line(word: &[u8], number: u64) -> Line
-    requires { length word.now ≤ 20 }
-    ensures { result.items ≡ line_text (named word.now number) }
-{
-    let mut line = Line::new();
-    add(&mut line, word, b' ');
-    add_decimal(&mut line, number, b'\n');
-    line
-}
+use bx_text::{Line, add, add_decimal, add_member, append};
 
 /// The line of a price.
 pub fn price_line(price: &Price) -> Line
@@ -111,23 +63,6 @@ pub fn booking_line(booking: Booking, channel: Option<Channel>) -> Line
     add(&mut line, must_word(booking.is_must()), b' ');
     add(&mut line, direction_word(booking.is_inward()), b'\n');
     line
-}
-
-/// Adds a space and the number of a channel, if it is in the set.
-fn add_member(line: &mut Line, channels: &ChannelSet, number: u8)
-    requires room { array_vec_len line.old ≤ 124 }
-    requires set { IsChannelSet channels.now }
-    ensures items { line.new.items ≡ line.old.items ++ member_text (has_channel channels.now number) number }
-    ensures len { array_vec_len line.new ≤ array_vec_len line.old + 3 }
-{
-    let Some(channel) = Channel::new(number) else {
-        return;
-    };
-    if channels.has(channel) {
-        let mut digits = Buffer::new();
-        line.push(b' ');
-        append(line, digits.format(number).as_bytes());
-    }
 }
 
 /// The line of the channels.

@@ -1,7 +1,7 @@
 use Rattle.std.proofs.Common.{◌≡◌, ◌≤◌, length, arith, ap, refl, ◌∙◌}
 use Rattle.std.specs.Prelude.{decimal}
 use Rattle.std.proofs.lemmas.Fmt.{length-decimal-le}
-use Rattle.bx_planfile.proofs.written_lines.add_member.Goals as goal
+use Rattle.bx_text.proofs.lines.add_member.Goals as goal
 
 pub returns-then-has-clause-len : goal.returns-then-has-clause-len
 returns-then-has-clause-len c =

@@ -1,4 +1,4 @@
-use Rattle.std.proofs.Common.{◌≡◌, ℕ, [], ◌<◌, ◌≤◌, length, get_or, Option, Some, None, refl, sym, ap, subst, ◌∙◌, arith, inl, inr}
+use Rattle.std.proofs.Common.{◌≡◌, ℕ, zero, suc, List, ◌∷◌, [], ◌<◌, ◌≤◌, length, get_or, Option, Some, None, refl, sym, ap, subst, ◌∙◌, arith, inl, inr}
 use Rattle.std.proofs.lemmas.Bool.{cases_eq}
 use Rattle.std.proofs.lemmas.List.{get_or_read}
 use Rattle.std.proofs.lemmas.Result.{err_from_is_err_and}
@@ -6,8 +6,10 @@ use Rattle.std.specs.Prelude.{IfSome}
 use Rattle.bx_base.specs.Channels.{IsChannel}
 use Rattle.bx_planfile.specs.declared.version.Version.TheVariants.{Three}
 use Rattle.bx_planfile.specs.Text.{booking_fields, booking_lines}
-use Rattle.bx_planfile.proofs.WritingSteps.{line_written, line_failed, lines_written, length-booking_lines, booking_line_at}
-use Rattle.bx_planfile.proofs.writing.write_bookings.Goals as goal
+use Rattle.bx_planfile.proofs.WritingSteps.{length-booking_lines, booking_line_at}
+use Rattle.bx_text.proofs.GatheringSteps.{line_put, line_failed, lines_put}
+use Rattle.bx_text.specs.Gathering.{held}
+use Rattle.bx_planfile.proofs.writing.put_bookings.Goals as goal
 
 if_some : (o : Option ℕ) (c : ℕ) → o ≡ Some c → IfSome o IsChannel → IsChannel c
 if_some None c e h = absurd cc
@@ -24,7 +26,7 @@ returns-in_err-put-clause-text g c =
     let within : i < length lines = omega (arith, length-booking_lines Three plan.bookings plan.assigned.items one_each) in
     let channel = get_or_read plan.assigned.items i c.index-channel.result.now (omega arith) c.index-channel.ensures None in
     let line : get_or lines i [] ≡ booking_fields Three c.nth.result c.index-channel.result.now = booking_line_at Three plan.bookings plan.assigned.items i one_each below ∙ rw (c.nth.ensures.value, ← channel) refl in
-    rw p.1 (line_failed g.W.Write.contents lines i c.args.w.now c.loop-i.w c.put.new.w c.in_err-put.field-0.0 p.0 (booking_fields Three c.nth.result c.index-channel.result.now) c.deref.result.now within line
+    rw p.1 (line_failed g.W.Write.contents lines i (held c.args.w.now c.args.block.now) (held c.loop-i.w c.loop-i.block) (held c.put.new.w c.put.new.block) c.in_err-put.field-0.0 p.0 (booking_fields Three c.nth.result c.index-channel.result.now) c.deref.result.now within line
     (c.deref.ensures.0 ∙ c.booking_line.ensures.text) c.loop-i.invariant.text c.in_err-put.ensures)
 
 pub loop-i-preserved : goal.loop-i-preserved
@@ -38,7 +40,7 @@ loop-i-preserved g c =
     let channel = get_or_read plan.assigned.items i c.index-channel.result.now (omega arith) c.index-channel.ensures None in
     let line : get_or lines i [] ≡ booking_fields Three c.nth.result c.index-channel.result.now = booking_line_at Three plan.bookings plan.assigned.items i one_each below ∙ rw (c.nth.ensures.value, ← channel) refl in
     record {
-      text = line_written g.W.Write.contents lines i c.args.w.now c.loop-i.w c.put.new.w (booking_fields Three c.nth.result c.index-channel.result.now) c.deref.result.now within line
+      text = line_put g.W.Write.contents lines i (held c.args.w.now c.args.block.now) (held c.loop-i.w c.loop-i.block) (held c.put.new.w c.put.new.block) (booking_fields Three c.nth.result c.index-channel.result.now) c.deref.result.now within line
           (c.deref.ensures.0 ∙ c.booking_line.ensures.text) c.loop-i.invariant.text c.in_ok-put.ensures;
       limits = λ k n lt e. elim (cases_eq k i) [
         | inl same ↦ if_some c.index-channel.result.now n (channel ∙ ap (λ (m : ℕ). get_or plan.assigned.items m None) (sym same) ∙ e) c.booking_line.ensures.limits
@@ -52,4 +54,15 @@ returns-clause-text g c =
     let lines = booking_lines Three plan.bookings plan.assigned.items in
     let one_each : length plan.assigned.items ≡ length plan.bookings = omega (arith, plan.assigned.ok.0, plan.one_each) in
     let all : length lines ≤ c.loop-i.i = omega (arith, length-booking_lines Three plan.bookings plan.assigned.items one_each, c.loop-i-test.false, c.len-i-end.ensures.count) in
-    lines_written g.W.Write.contents lines c.loop-i.i c.args.w.now c.loop-i.w all c.loop-i.invariant.text
+    lines_put g.W.Write.contents lines c.loop-i.i (held c.args.w.now c.args.block.now) (held c.loop-i.w c.loop-i.block) all c.loop-i.invariant.text
+
+within : (xs : List (Option ℕ)) (k n : ℕ) → get_or xs k None ≡ Some n → k < length xs
+within [] k n e = absurd cc
+within (x ∷ xs) zero n e = omega arith
+within (x ∷ xs) (suc k) n e = let more = within xs k n e in omega (arith, more)
+
+pub returns-clause-limits : goal.returns-clause-limits
+returns-clause-limits g c = λ k n e.
+    let plan = c.args.plan.now in
+    let all = within plan.assigned.items k n e in
+    c.loop-i.invariant.limits k n (omega (arith, all, plan.assigned.ok.0, plan.one_each, c.loop-i-test.false, c.len-i-end.ensures.count)) e
