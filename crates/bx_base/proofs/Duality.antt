@@ -9,7 +9,8 @@ use Rattle.std.proofs.lemmas.Bool.{cases_lt, cond-true, cond-false, false_from_n
 use Rattle.bx_base.specs.Sums.{sum_below, sum_ints_below}
 use Rattle.bx_base.specs.Channels.{has_channel, count_of}
 use Rattle.bx_base.specs.Bookings.{Row, row_at, is_running, Carries, IsLawful, pay_of}
-use Rattle.bx_base.specs.Bound.{Charge, sum_of_prices, cost_of, gain_of, loss_of, term_of, bound_of}
+use Rattle.bx_base.specs.Bound.{Charge, sum_of_prices, cost_of, term_of, bound_of}
+use Rattle.bx_base.specs.Sides.{gain_of, loss_of}
 use Rattle.bx_base.proofs.SumLemmas.{sum_below-le, sum_below-zero, sum_below-add, sum_below-mul, sum_below-same, sum_below-sum_by, sum_below-swap, sum_below-term, sum_below-more, sum_by-le_each, sum_by-mul, sum_below-one}
 
 -- a number beyond the list is no channel

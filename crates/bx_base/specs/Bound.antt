@@ -46,13 +46,6 @@ cost_of prices row = sum_by (λ p. if is_running row p.moment then p.amount else
 abbrev pub term_of : List Charge → Row → ℤ
 term_of prices row = if row.must then pos row.pay -ℤ pos (cost_of prices row) else pos (row.pay - cost_of prices row)
 
--- the two sides of a term as numbers from 0 on: what the row brings, less what it takes
-abbrev pub gain_of : List Charge → Row → ℕ
-gain_of prices row = if row.must then row.pay else row.pay - cost_of prices row
-
-abbrev pub loss_of : List Charge → Row → ℕ
-loss_of prices row = if row.must then cost_of prices row else 0
-
 -- the bound on the pay of each lawful set
 abbrev pub bound_of : List Row → ℕ → List Charge → ℤ
 bound_of rows count prices = pos (count * sum_of_prices prices) +ℤ sum_ints_below (length rows) (λ i. term_of prices (row_at rows i))

@@ -5,6 +5,7 @@ pub mod Numbers
 pub mod NumberInside
 pub mod Bookings
 pub mod Bound
+pub mod Sides
 pub mod Plans
 pub mod PlanParts
 pub mod Watching

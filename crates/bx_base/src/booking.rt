@@ -6,6 +6,12 @@ ghost use Rattle.bx_base.specs.Bookings.{IsBooking, Overlap, is_running, row_of}
 use crate::number::Number;
 use std::marker::Model;
 
+/// The last moment at which a booking may end, in seconds of the day.
+pub const MAX_MOMENT: u32 = 200_000;
+
+/// The most that a booking pays.
+pub const MAX_PAY: u64 = 1_000_000_000;
+
 /// A call that someone wants for a part of the day, and what it pays. It runs from its start, in seconds of
 /// the day, until just before its end.
 #[derive(Clone, Copy, Debug, PartialEq, Eq)]
@@ -37,8 +43,9 @@ impl Booking {
         ensures exactly { IsSome result ↔ IsBooking (row_of start end pay number false false) }
         ensures value { IfSome result (λ b. b ≡ row_of start end pay number false false) }
     {
+        // Read for the prover alone, which learns a limit from it.
         let _digits = number.digits();
-        if start < end && end <= 200000 && pay >= 1 && pay <= 1000000000 {
+        if start < end && end <= MAX_MOMENT && pay >= 1 && pay <= MAX_PAY {
             Some(Booking {
                 start,
                 end,

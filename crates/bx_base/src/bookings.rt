@@ -56,6 +56,7 @@ impl Bookings {
         if self.rows.len() >= MAX_BOOKINGS {
             return Err(AddFault::Full);
         }
+        // Read for the prover alone, which learns a limit from it.
         let _start = booking.start();
         match self.rows.push(booking) {
             Ok(()) => Ok(()),
@@ -90,6 +91,7 @@ impl Bookings {
         ensures limits { IsBooking result }
     {
         let booking = self.rows[index as usize];
+        // Read for the prover alone, which learns a limit from it.
         let _start = booking.start();
         booking
     }

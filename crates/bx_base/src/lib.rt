@@ -14,7 +14,7 @@ mod plan;
 mod price;
 mod watched;
 
-pub use booking::Booking;
+pub use booking::{Booking, MAX_MOMENT, MAX_PAY};
 pub use bookings::{AddFault, Bookings, MAX_BOOKINGS};
 pub use channel::Channel;
 pub use channel_set::{ChannelFault, ChannelSet};

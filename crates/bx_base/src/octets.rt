@@ -3,7 +3,7 @@
 ghost use Rattle.std.specs.Prelude.{◌≡◌, ◌+◌, ◌≤◌, ◌<◌, ◌↔◌, ◌⊎◌, ℕ, List, true, false, length, min, take, Ok, IsTrue, IsErr, IsErrOf, OnOk, OnErr, IfOk, IfSome, vec_len};
 ghost use Rattle.std.specs.Io.KnownBytes.{Appends, Consumes, IsAtEnd};
 ghost use Rattle.bx_base.specs.Watching.{device_of, is_faulted, reads_of};
-ghost use Rattle.bx_base.specs.Octets.{AppendsPrefix, ReadsAll, ReadsFront, ReadsWithin, RunsOutOfReads};
+ghost use Rattle.bx_base.specs.Octets.{AppendsPart, AppendsPrefix, ReadsAll, ReadsFront, ReadsWithin, RunsOutOfReads};
 
 use crate::watched::{MAX_READS, Watched};
 use std::alloc::{AllocError, Global};
@@ -14,10 +14,11 @@ use std::io::{Read, Write};
 pub struct WriteFailed;
 
 /// Writes all the octets, in as many writes as it takes. At a fault the writer is faulted, and a front of the
-/// octets was written.
+/// octets was written, but not all of them.
 pub fn write_octets<W: Write>(w: &mut Watched<W>, bytes: &[u8]) -> Result<(), WriteFailed>
     ensures ok { OnOk result (Appends (W.contents (device_of w.old)) (W.contents (device_of w.new)) bytes.now) }
     ensures prefix { OnErr result (AppendsPrefix (W.contents (device_of w.old)) (W.contents (device_of w.new)) bytes.now) }
+    ensures part { OnErr result (AppendsPart (W.contents (device_of w.old)) (W.contents (device_of w.new)) bytes.now) }
     ensures err { OnErr result (IsTrue (is_faulted w.new)) }
     ensures unfaulted { OnOk result (is_faulted w.new ≡ is_faulted w.old) }
     ensures reads { reads_of w.new ≡ reads_of w.old }

@@ -8,8 +8,8 @@ use Rattle.bx_base.specs.Bound.{bound_of}
 use Rattle.bx_base.specs.Channels.{count_of}
 use Rattle.bx_base.specs.PlanParts.{Parts}
 use Rattle.bx_check.specs.Check.{IsFor, AllInService, NoneOverlap, IsTotalRight, IsRising, IsNotInService, IsOverlap, IsMustMissing, IsSound, IsOutcome}
-use Rattle.bx_check.specs.declared.judge.CheckFault.{CheckFault}
-use Rattle.bx_check.specs.declared.judge.CheckFault.TheVariants.{OtherBookings, OtherChannels, NotInService, Overlap, MustLeftOut, WrongTotal, PricesOutOfOrder, NotProved}
+use Rattle.bx_check.specs.declared.checker.CheckFault.{CheckFault}
+use Rattle.bx_check.specs.declared.checker.CheckFault.TheVariants.{OtherBookings, OtherChannels, NotInService, Overlap, MustLeftOut, WrongTotal, PricesOutOfOrder, NotProved}
 
 -- how many tests were passed before an answer
 abbrev tests : Result ℕ CheckFault → ℕ

@@ -6,8 +6,8 @@ use Rattle.bx_base.specs.Bookings.{Row, pay_of}
 use Rattle.bx_base.specs.Bound.{Charge, bound_of}
 use Rattle.bx_base.specs.Plans.{is_accepted, IsOutOfService, Clash, IsMustLeftOut}
 use Rattle.bx_base.specs.PlanParts.{Parts}
-use Rattle.bx_check.specs.declared.judge.CheckFault.{CheckFault}
-use Rattle.bx_check.specs.declared.judge.CheckFault.TheVariants.{OtherBookings, OtherChannels, NotInService, Overlap, MustLeftOut, WrongTotal, PricesOutOfOrder, NotProved}
+use Rattle.bx_check.specs.declared.checker.CheckFault.{CheckFault}
+use Rattle.bx_check.specs.declared.checker.CheckFault.TheVariants.{OtherBookings, OtherChannels, NotInService, Overlap, MustLeftOut, WrongTotal, PricesOutOfOrder, NotProved}
 
 -- the plan is one of these bookings and channels
 pub record IsFor (rows : List Row) (channels : List Bool) (plan : Parts) : Type 0 where

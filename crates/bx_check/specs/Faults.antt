@@ -1,7 +1,7 @@
 -- What the bound of a plan that is not proved says.
 use Rattle.std.specs.Prelude.{ℕ, ◌<◌}
-use Rattle.bx_check.specs.declared.judge.CheckFault.{CheckFault}
-use Rattle.bx_check.specs.declared.judge.CheckFault.TheVariants.{NotProved}
+use Rattle.bx_check.specs.declared.checker.CheckFault.{CheckFault}
+use Rattle.bx_check.specs.declared.checker.CheckFault.TheVariants.{NotProved}
 
 -- where the fault is a bound, that is above the total and below 10 ^ 18
 abbrev pub IsBoundAbove : ℕ → CheckFault → Type 0

@@ -1,4 +1,4 @@
--- The accepted rows of a plan, each with its channel and its start.
+-- Private: the accepted rows of a plan, each with its channel and its start.
 use Rattle.std.specs.Prelude.{◌≡◌, ℕ, ◌<◌, ◌≤◌, ◌+◌, true, slice_index_or, List, length, Option, All, Contains}
 use Rattle.bx_base.specs.Bookings.{Row, row_at}
 use Rattle.bx_base.specs.Plans.{is_accepted, channel_at}

@@ -5,7 +5,8 @@ ghost use Rattle.std.specs.List.Sorted.{IsStrictlyIncreasing};
 ghost use Rattle.bx_base.specs.Channels.{count_of};
 ghost use Rattle.bx_base.specs.Bookings.{pay_of, IsLawful};
 ghost use Rattle.bx_base.specs.Plans.{is_accepted};
-ghost use Rattle.bx_base.specs.Bound.{sum_of_prices, gain_of, loss_of, bound_of};
+ghost use Rattle.bx_base.specs.Bound.{sum_of_prices, bound_of};
+ghost use Rattle.bx_base.specs.Sides.{gain_of, loss_of};
 ghost use Rattle.bx_check.specs.Before.{AreSums};
 
 use crate::sums::{Sums, cost, sums_of};

@@ -3,9 +3,9 @@
 
 mod apart;
 mod bound;
-mod judge;
+mod checker;
 pub mod laws;
 mod sums;
 
-pub use judge::{CheckFault, check};
+pub use checker::{CheckFault, check};
 pub use sums::{Sums, cost, sums_of};

@@ -7,9 +7,11 @@ use Rattle.std.proofs.lemmas.Bool.Decides.{nat_tests}
 use Rattle.bx_base.specs.Bound.{Charge}
 use Rattle.bx_planfile.specs.declared.fault.PlanFault.TheVariants.{BadLine, OutOfLimits}
 use Rattle.bx_planfile.specs.Forms.{Entry, is_channel, is_assignable, is_within, is_charge}
-use Rattle.bx_planfile.specs.Capped.{capped, capped_entry, capped_charge}
-use Rattle.bx_planfile.specs.Reading.{◌>>=◌, Answers, or_fault, where_holds}
-use Rattle.bx_planfile.proofs.Digits.{and_both}
+use Rattle.bx_planfile.specs.Capped.{capped_entry, capped_charge}
+use Rattle.bx_text.specs.Digits.{capped}
+use Rattle.bx_planfile.specs.Reading.{◌>>=◌, or_fault, where_holds}
+use Rattle.bx_planfile.specs.Inside.{Answers}
+use Rattle.bx_text.proofs.DigitSteps.{and_both}
 
 pub leb-capped : (n limit : ℕ) → limit < 2 ^ 64 - 1 → leb (capped n) limit ≡ leb n limit
 leb-capped n limit lt =

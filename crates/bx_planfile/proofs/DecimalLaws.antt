@@ -8,8 +8,9 @@ use Rattle.std.proofs.lemmas.Bool.{eqb-true, lt-ltb, ltb-true}
 use Rattle.std.proofs.lemmas.Bool.Decides.{nat_tests}
 use Rattle.std.proofs.lemmas.Str.Parse.{IsDigitsTest, IsNumeralModel, numerals_by_value}
 use Rattle.std.proofs.lemmas.Fmt.{digits_decimal, digits_value-decimal, decimal-digits_value, decimal_nonempty, first_decimal, decimal_digit}
-use Rattle.bx_planfile.specs.Forms.{is_digits, is_decimal, value_of}
-use Rattle.bx_planfile.proofs.Digits.{and_both, digit_between, digit_from_between}
+use Rattle.bx_planfile.specs.Forms.{is_digits, is_decimal}
+use Rattle.bx_text.specs.Digits.{decimal_value}
+use Rattle.bx_text.proofs.DigitSteps.{and_both, digit_between, digit_from_between}
 
 abbrev AreDigits : List ℕ → Type 0
 AreDigits ds = list_all is_ascii_digit ds ≡ true
@@ -27,7 +28,7 @@ own = numerals_by_value AreDigits tells_digits
 pub digits-decimal : (n : ℕ) → n < 2 ^ 64 → list_all is_ascii_digit (decimal n) ≡ true
 digits-decimal n small = digits_decimal own n small
 
-pub value-decimal : (n : ℕ) → n < 2 ^ 64 → value_of (decimal n) ≡ n
+pub value-decimal : (n : ℕ) → n < 2 ^ 64 → decimal_value (decimal n) ≡ n
 value-decimal n small = digits_value-decimal own n small
 
 or_true : (a b : Bool) → a ≡ true → (a || b) ≡ true
@@ -55,7 +56,7 @@ or_right : (a b : Bool) → (not a || b) ≡ true → a ≡ true → b ≡ true
 or_right true b h e = h
 or_right false b h e = absurd cc
 
-pub decimal-value : (ds : List ℕ) → is_decimal ds ≡ true → value_of ds < 2 ^ 64 → decimal (value_of ds) ≡ ds
+pub decimal-value : (ds : List ℕ) → is_decimal ds ≡ true → decimal_value ds < 2 ^ 64 → decimal (decimal_value ds) ≡ ds
 decimal-value ds h small =
     let parts = and_both (is_digits ds) (not (eqb (get_or ds 0 0) 48) || eqb (length ds) 1) h in
     let digits = (and_both _ _ parts.0).1 in

@@ -7,7 +7,7 @@ use Rattle.std.proofs.lemmas.Bool.{ltb-true, lt-ltb, leb-true}
 use Rattle.bx_base.specs.Numbers.{IsNumber}
 use Rattle.bx_base.specs.Bookings.{IsBooking}
 use Rattle.bx_planfile.specs.Forms.{Entry, is_digits, is_assignable, is_within}
-use Rattle.bx_planfile.proofs.Digits.{and_both, all_from_test, test_from_all}
+use Rattle.bx_text.proofs.DigitSteps.{and_both, all_from_test, test_from_all}
 
 pub IsNumber-from_test : (ds : List ℕ) → is_digits ds ≡ true → length ds ≤ 15 → IsNumber ds
 IsNumber-from_test ds e le =

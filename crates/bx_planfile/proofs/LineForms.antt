@@ -13,10 +13,11 @@ use Rattle.bx_base.specs.Bound.{Charge, IsCharge, charge_of}
 use Rattle.bx_planfile.specs.declared.version.Version.{Version}
 use Rattle.bx_planfile.specs.declared.version.Version.TheVariants.{One, Two, Three}
 use Rattle.bx_planfile.specs.Lines.{field, fields_from}
-use Rattle.bx_text.specs.Lines.{named}
-use Rattle.bx_planfile.specs.Text.{version_field, numbers_from, channel_field, must_field, direction_field, mark_fields, booking_fields, price_fields, IsTold}
-use Rattle.bx_planfile.specs.Forms.{Entry, Marks, marks, is_nothing, is_digits, is_decimal, value_of, version_of, header_form, named_form, channels_form, channel_set, is_channel_field, channel_of, is_must_field, is_direction_field, marks_form, entry_of, marked, booking_form, is_assignable, is_within, price_form, is_charge, is_end}
-use Rattle.bx_planfile.proofs.Digits.{and_both}
+use Rattle.bx_text.specs.Lines.{members_from, named}
+use Rattle.bx_planfile.specs.Text.{version_field, channel_field, must_field, direction_field, mark_fields, booking_fields, price_fields, IsTold}
+use Rattle.bx_planfile.specs.Forms.{Entry, Marks, marks, is_nothing, is_digits, is_decimal, version_of, header_form, named_form, channels_form, channel_set, is_channel_field, channel_of, is_must_field, is_direction_field, marks_form, entry_of, marked, booking_form, is_assignable, is_within, price_form, is_charge, is_end}
+use Rattle.bx_text.specs.Digits.{decimal_value}
+use Rattle.bx_text.proofs.DigitSteps.{and_both}
 use Rattle.bx_planfile.proofs.DecimalLaws.{is_decimal-decimal, value-decimal, decimal-value, some_digits, digits_from_decimal, digits-decimal}
 use Rattle.bx_planfile.proofs.Limits.{from_within, test_from_number, false_from_not}
 use Rattle.bx_planfile.proofs.ChannelSets.{set_is_listed, listed_gives, taken_branch, IsChannel-from_test}
@@ -90,7 +91,7 @@ header_again Three = refl
 pub named_takes : (word : List ℕ) (fs : List (List ℕ)) (n : ℕ) → named_form word fs ≡ Some n → n < 2 ^ 64 → fs ≡ named word n
 unfolding named_form
 named_takes word fs n e small =
-    let c = cond_some (bytes_eq (field 0 fs) word && is_decimal (field 1 fs) && is_nothing (fields_from 2 fs)) (value_of (field 1 fs)) n e in
+    let c = cond_some (bytes_eq (field 0 fs) word && is_decimal (field 1 fs) && is_nothing (fields_from 2 fs)) (decimal_value (field 1 fs)) n e in
     let t = and_both _ (is_nothing (fields_from 2 fs)) c.0 in
     let u = and_both (bytes_eq (field 0 fs) word) (is_decimal (field 1 fs)) t.0 in
     let named_so = bytes_is (field 0 fs) word u.0 in
@@ -104,49 +105,49 @@ named_again word n small = rw (bytes_same word, is_decimal-decimal n small, valu
 
 -- ---- the channels
 
-decimals_spelled : (fs : List (List ℕ)) → list_all is_decimal fs ≡ true → ((i : ℕ) → get_or (map value_of fs) i 0 ≤ 31) → map decimal (map value_of fs) ≡ fs
+decimals_spelled : (fs : List (List ℕ)) → list_all is_decimal fs ≡ true → ((i : ℕ) → get_or (map decimal_value fs) i 0 ≤ 31) → map decimal (map decimal_value fs) ≡ fs
 decimals_spelled [] e small = refl
 decimals_spelled (f ∷ fs) e small =
     let t = and_both (is_decimal f) (list_all is_decimal fs) e in
-    let low : value_of f ≤ 31 = small 0 in
-    let below : value_of f < 2 ^ 64 = omega arith in
+    let low : decimal_value f ≤ 31 = small 0 in
+    let below : decimal_value f < 2 ^ 64 = omega arith in
     rw (decimal-value f t.0 below, decimals_spelled fs t.1 (λ i. small (suc i))) refl
 
 pub channels_take : (fs : List (List ℕ)) (ns : List ℕ) (bs : List Bool) → channels_form fs ≡ Some ns → channel_set ns ≡ Some bs
-    → (fs ≡ codes "channels" ∷ map decimal (numbers_from 0 bs)) × IsChannelSet bs
+    → (fs ≡ codes "channels" ∷ map decimal (members_from 0 bs)) × IsChannelSet bs
 unfolding channels_form
 channels_take fs ns bs e made =
-    let c = cond_some (bytes_eq (field 0 fs) (codes "channels") && list_all is_decimal (fields_from 1 fs)) (map value_of (fields_from 1 fs)) ns e in
+    let c = cond_some (bytes_eq (field 0 fs) (codes "channels") && list_all is_decimal (fields_from 1 fs)) (map decimal_value (fields_from 1 fs)) ns e in
     let t = and_both (bytes_eq (field 0 fs) (codes "channels")) (list_all is_decimal (fields_from 1 fs)) c.0 in
     let added = set_is_listed ns bs made in
-    let listed : numbers_from 0 bs ≡ ns = added.listed in
+    let listed : members_from 0 bs ≡ ns = added.listed in
     let word = bytes_is (field 0 fs) (codes "channels") t.0 in
     let some : 0 < length (field 0 fs) = rw word (lit< tt) in
     let spelled : map decimal ns ≡ fields_from 1 fs = ap (map decimal) (sym c.1) ∙ decimals_spelled (fields_from 1 fs) t.1 (λ i. rw c.1 (added.small i)) in
     (one_field fs some ∙ rw (word, listed, spelled) refl, added.channels)
 
-all_decimals : (ns : List ℕ) → ((i : ℕ) → get_or ns i 0 < 2 ^ 64) → (list_all is_decimal (map decimal ns) ≡ true) × (map value_of (map decimal ns) ≡ ns)
+all_decimals : (ns : List ℕ) → ((i : ℕ) → get_or ns i 0 < 2 ^ 64) → (list_all is_decimal (map decimal ns) ≡ true) × (map decimal_value (map decimal ns) ≡ ns)
 all_decimals [] small = (refl, refl)
 all_decimals (n ∷ ns) small =
     let more = all_decimals ns (λ i. small (suc i)) in
     (rw (is_decimal-decimal n (small 0)) more.0, rw (value-decimal n (small 0), more.1) refl)
 
-pub channels_again : (bs : List Bool) → IsChannelSet bs → (channels_form (codes "channels" ∷ map decimal (numbers_from 0 bs)) ≡ Some (numbers_from 0 bs)) × (channel_set (numbers_from 0 bs) ≡ Some bs)
+pub channels_again : (bs : List Bool) → IsChannelSet bs → (channels_form (codes "channels" ∷ map decimal (members_from 0 bs)) ≡ Some (members_from 0 bs)) × (channel_set (members_from 0 bs) ≡ Some bs)
 unfolding channels_form
 channels_again bs h =
     let made = listed_gives bs h in
-    let added = set_is_listed (numbers_from 0 bs) bs made in
-    let all = all_decimals (numbers_from 0 bs) (λ i. let low = added.small i in omega arith) in
+    let added = set_is_listed (members_from 0 bs) bs made in
+    let all = all_decimals (members_from 0 bs) (λ i. let low = added.small i in omega arith) in
     (rw (all.0, all.1) refl, made)
 
 -- ---- a booking
 
-channel_takes : (f : List ℕ) (dash : Bool) → bytes_eq f (codes "-") ≡ dash → (dash || is_decimal f) ≡ true → is_assignable (cond dash None (Some (value_of f))) ≡ true
-    → (channel_field (cond dash None (Some (value_of f))) ≡ f) × (0 < length f)
+channel_takes : (f : List ℕ) (dash : Bool) → bytes_eq f (codes "-") ≡ dash → (dash || is_decimal f) ≡ true → is_assignable (cond dash None (Some (decimal_value f))) ≡ true
+    → (channel_field (cond dash None (Some (decimal_value f))) ≡ f) × (0 < length f)
 channel_takes f true e form fits = let is = bytes_is f (codes "-") e in (sym is, rw is (lit< tt))
 channel_takes f false e form fits =
-    let t = and_both _ (not (eqb (value_of f) 16)) fits in
-    let low : value_of f < 32 = ltb-true _ _ (and_both (ltb 0 (value_of f)) (ltb (value_of f) 32) t.0).1 in
+    let t = and_both _ (not (eqb (decimal_value f) 16)) fits in
+    let low : decimal_value f < 32 = ltb-true _ _ (and_both (ltb 0 (decimal_value f)) (ltb (decimal_value f) 32) t.0).1 in
     (decimal-value f form (omega arith), some_decimal f form)
 
 must_takes : (f : List ℕ) (is : Bool) → bytes_eq f (codes "must") ≡ is → (is || bytes_eq f (codes "free")) ≡ true → f ≡ must_field is
@@ -233,9 +234,9 @@ booking_takes version fs e form within =
     let limits = from_within made t3.1 fits in
     let booking = limits.0 in
     let marked_so = marks_take version (fields_from 5 fs) m made.row found.1 refl refl in
-    let start : decimal (value_of (field 0 fs)) ≡ field 0 fs = decimal-value (field 0 fs) t1.0 (omega (arith, booking.in_order, booking.in_day)) in
-    let end : decimal (value_of (field 1 fs)) ≡ field 1 fs = decimal-value (field 1 fs) t1.1 (omega (arith, booking.in_day)) in
-    let pay : decimal (value_of (field 2 fs)) ≡ field 2 fs = decimal-value (field 2 fs) t2.1 (omega (arith, booking.pay_limit)) in
+    let start : decimal (decimal_value (field 0 fs)) ≡ field 0 fs = decimal-value (field 0 fs) t1.0 (omega (arith, booking.in_order, booking.in_day)) in
+    let end : decimal (decimal_value (field 1 fs)) ≡ field 1 fs = decimal-value (field 1 fs) t1.1 (omega (arith, booking.in_day)) in
+    let pay : decimal (decimal_value (field 2 fs)) ≡ field 2 fs = decimal-value (field 2 fs) t2.1 (omega (arith, booking.pay_limit)) in
     let channel = channel_takes (field 4 fs) (bytes_eq (field 4 fs) (codes "-")) refl t4.1 limits.1 in
     let spelled : fs ≡ booking_fields version made.row made.channel
     = five_fields fs channel.1 ∙ rw (start, end, pay, channel.0, ← marked_so.spelled) refl in
@@ -280,14 +281,14 @@ booking_again version e booking told assigned =
 pub price_takes : (fs : List (List ℕ)) (p : Charge) → price_form fs ≡ Some p → is_charge p ≡ true → (fs ≡ price_fields p) × IsCharge p
 unfolding price_form is_charge
 price_takes fs p form within =
-    let c = cond_some (is_decimal (field 0 fs) && is_decimal (field 1 fs) && is_nothing (fields_from 2 fs)) (charge_of (value_of (field 0 fs)) (value_of (field 1 fs))) p form in
+    let c = cond_some (is_decimal (field 0 fs) && is_decimal (field 1 fs) && is_nothing (fields_from 2 fs)) (charge_of (decimal_value (field 0 fs)) (decimal_value (field 1 fs))) p form in
     let t = and_both _ (is_nothing (fields_from 2 fs)) c.0 in
     let u = and_both (is_decimal (field 0 fs)) (is_decimal (field 1 fs)) t.0 in
     let v = and_both _ (leb p.amount 4000000000000) within in
     let w = and_both (ltb p.moment 200000) (leb 1 p.amount) v.0 in
     let limits : IsCharge p = record { in_day = ltb-true _ _ w.0; positive = leb-true _ _ w.1; limit = leb-true _ _ v.1 } in
-    let moment : value_of (field 0 fs) ≡ p.moment = ap (λ (x : Charge). x.moment) c.1 in
-    let amount : value_of (field 1 fs) ≡ p.amount = ap (λ (x : Charge). x.amount) c.1 in
+    let moment : decimal_value (field 0 fs) ≡ p.moment = ap (λ (x : Charge). x.moment) c.1 in
+    let amount : decimal_value (field 1 fs) ≡ p.amount = ap (λ (x : Charge). x.amount) c.1 in
     let first_is : decimal p.moment ≡ field 0 fs = ap decimal (sym moment) ∙ decimal-value (field 0 fs) u.0 (omega (arith, moment, limits.in_day)) in
     let second_is : decimal p.amount ≡ field 1 fs = ap decimal (sym amount) ∙ decimal-value (field 1 fs) u.1 (omega (arith, amount, limits.limit)) in
     (two_fields fs (some_decimal (field 1 fs) u.1) ∙ rw (first_is, second_is, nothing_is (fields_from 2 fs) t.1) refl, limits)

@@ -15,7 +15,7 @@ use Rattle.bx_text.specs.Lines.{named}
 use Rattle.bx_planfile.specs.Text.{version_field, channel_field, must_field, direction_field, mark_fields, booking_fields, price_fields, IsTold}
 use Rattle.bx_planfile.specs.Forms.{Entry, named_form, booking_form, is_assignable, is_within, price_form, is_charge, is_end}
 use Rattle.bx_planfile.specs.Reading.{◌>>=◌, or_fault, where_holds, read_count, read_booking, read_price, read_total, read_end}
-use Rattle.bx_planfile.proofs.Digits.{and_both}
+use Rattle.bx_text.proofs.DigitSteps.{and_both}
 use Rattle.bx_planfile.proofs.DecimalLaws.{digits-decimal}
 use Rattle.bx_planfile.proofs.PlainLines.{is_plain, are_plain, plain_from_digits}
 use Rattle.bx_planfile.proofs.ChannelSets.{IsChannel-from_test}

@@ -11,7 +11,7 @@ use Rattle.bx_planfile.specs.declared.fault.PlanFault.TheVariants.{BadLine}
 use Rattle.bx_text.specs.Lines.{line_text}
 use Rattle.bx_planfile.specs.Lines.{is_lf, is_space, fields_of, cut_line, first_line}
 use Rattle.bx_planfile.specs.Reading.{or_fault, read_line}
-use Rattle.bx_planfile.proofs.Digits.{and_both}
+use Rattle.bx_text.proofs.DigitSteps.{and_both}
 
 -- an octet, a field and fields with neither spaces nor LFs
 abbrev pub is_inner : ℕ → Bool

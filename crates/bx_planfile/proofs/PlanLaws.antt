@@ -11,8 +11,8 @@ use Rattle.bx_base.specs.declared.plan.Plan.{Plan}
 use Rattle.bx_planfile.specs.declared.version.Version.{Version}
 use Rattle.bx_planfile.specs.declared.fault.PlanFault.{PlanFault}
 use Rattle.bx_planfile.specs.declared.fault.PlanFault.TheVariants.{BadLine, OutOfLimits}
-use Rattle.bx_text.specs.Lines.{line_text, named}
-use Rattle.bx_planfile.specs.Text.{version_field, numbers_from, price_fields, booking_lines, plan_text, HasText, IsTextOf}
+use Rattle.bx_text.specs.Lines.{line_text, members_from, named}
+use Rattle.bx_planfile.specs.Text.{version_field, price_fields, booking_lines, plan_text, HasText, IsTextOf}
 use Rattle.bx_planfile.specs.Forms.{header_form, channels_form, channel_set}
 use Rattle.bx_planfile.specs.Reading.{◌>>=◌, Gives, or_fault, entries, Head, head_of, read_head, read_line, read_header, read_channels, read_count, read_total, read_end, read_bookings, read_prices, read_tail, read_all}
 use Rattle.bx_planfile.proofs.PlainLines.{line_again, line_takes}
@@ -91,10 +91,10 @@ pub record ReadsAll (bytes : List ℕ) (parts : Parts) : Type 0 where
 
 -- the text of a plan, line for line
 whole_text : (version : Version) (parts : Parts) → plan_text version parts
-    ≡ line_text (codes "bx-plan" ∷ version_field version ∷ []) ++ (line_text (codes "channels" ∷ map decimal (numbers_from 0 parts.channels)) ++ (line_text (named (codes "bookings") (length parts.rows))
+    ≡ line_text (codes "bx-plan" ∷ version_field version ∷ []) ++ (line_text (codes "channels" ∷ map decimal (members_from 0 parts.channels)) ++ (line_text (named (codes "bookings") (length parts.rows))
     ++ (flat_map line_text (booking_lines version parts.rows parts.assigned) ++ flat_map line_text (tail_lines parts.prices parts.total))))
 whole_text version parts =
-    ap (λ (r : List ℕ). line_text (codes "bx-plan" ∷ version_field version ∷ []) ++ (line_text (codes "channels" ∷ map decimal (numbers_from 0 parts.channels)) ++ (line_text (named (codes "bookings") (length parts.rows)) ++ r)))
+    ap (λ (r : List ℕ). line_text (codes "bx-plan" ∷ version_field version ∷ []) ++ (line_text (codes "channels" ∷ map decimal (members_from 0 parts.channels)) ++ (line_text (named (codes "bookings") (length parts.rows)) ++ r)))
     (flat_map-append line_text (booking_lines version parts.rows parts.assigned) (tail_lines parts.prices parts.total))
 
 header_line : (n : ℕ) (fs : List (List ℕ)) (version : Version) → read_header n fs ≡ Ok version → fs ≡ codes "bx-plan" ∷ version_field version ∷ []
@@ -105,19 +105,19 @@ header_line_again : (n : ℕ) (version : Version) → read_header n (codes "bx-p
 unfolding read_header
 header_line_again n version = ap (or_fault (BadLine n)) (header_again version)
 
-channels_line : (n : ℕ) (fs : List (List ℕ)) (bs : List Bool) → read_channels n fs ≡ Ok bs → (fs ≡ codes "channels" ∷ map decimal (numbers_from 0 bs)) × IsChannelSet bs
+channels_line : (n : ℕ) (fs : List (List ℕ)) (bs : List Bool) → read_channels n fs ≡ Ok bs → (fs ≡ codes "channels" ∷ map decimal (members_from 0 bs)) × IsChannelSet bs
 unfolding read_channels
 channels_line n fs bs e =
     let a = bind_ok (or_fault (BadLine n) (channels_form fs)) (λ numbers. or_fault (OutOfLimits n) (channel_set numbers)) bs e in
     channels_take fs a.0 bs (or_ok (BadLine n) (channels_form fs) a.0 a.1) (or_ok (OutOfLimits n) (channel_set a.0) bs a.2)
 
-channels_line_again : (n : ℕ) (bs : List Bool) → IsChannelSet bs → read_channels n (codes "channels" ∷ map decimal (numbers_from 0 bs)) ≡ Ok bs
+channels_line_again : (n : ℕ) (bs : List Bool) → IsChannelSet bs → read_channels n (codes "channels" ∷ map decimal (members_from 0 bs)) ≡ Ok bs
 unfolding read_channels
 channels_line_again n bs h = let again = channels_again bs h in rw (again.0, again.1) refl
 
 -- what stands before the bookings
 record ReadsHead (bytes : List ℕ) (x : Head) : Type 0 where
-  spelled : bytes ≡ line_text (codes "bx-plan" ∷ version_field x.version ∷ []) ++ (line_text (codes "channels" ∷ map decimal (numbers_from 0 x.channels)) ++ (line_text (named (codes "bookings") x.count) ++ x.rest))
+  spelled : bytes ≡ line_text (codes "bx-plan" ∷ version_field x.version ∷ []) ++ (line_text (codes "channels" ∷ map decimal (members_from 0 x.channels)) ++ (line_text (named (codes "bookings") x.count) ++ x.rest))
   channels : IsChannelSet x.channels
   few : x.count ≤ 4000
 
@@ -129,7 +129,7 @@ module _ (version : Version) (count : ℕ) (bytes r1 r2 r3 : List ℕ) (f1 f2 f3
       let channelled = channels_line 2 f2 channels set in
       let counted = count_takes (codes "bookings") 4000 3 f3 count (lit< tt) counted1 in
       let third : r2 ≡ line_text (named (codes "bookings") count) ++ r3 = line_takes 3 r2 (f3, r3) line3 ∙ ap (λ (fs : List (List ℕ)). line_text fs ++ r3) counted.0 in
-      let second : r1 ≡ line_text (codes "channels" ∷ map decimal (numbers_from 0 channels)) ++ r2 = line_takes 2 r1 (f2, r2) line2 ∙ ap (λ (fs : List (List ℕ)). line_text fs ++ r2) channelled.0 in
+      let second : r1 ≡ line_text (codes "channels" ∷ map decimal (members_from 0 channels)) ++ r2 = line_takes 2 r1 (f2, r2) line2 ∙ ap (λ (fs : List (List ℕ)). line_text fs ++ r2) channelled.0 in
       let first : bytes ≡ line_text (codes "bx-plan" ∷ version_field version ∷ []) ++ r1 = line_takes 1 bytes (f1, r1) line1 ∙ ap (λ (fs : List (List ℕ)). line_text fs ++ r1) head in
       record { spelled = first ∙ rw (second, third) refl; channels = channelled.1; few = counted.1 }
 
@@ -187,7 +187,7 @@ all_again version parts plan told =
     let tail = flat_map line_text (tail_lines parts.prices parts.total) in
     let listed = flat_map line_text (booking_lines version parts.rows parts.assigned) ++ tail in
     let third = line_text (named (codes "bookings") count) ++ listed in
-    let numbers = numbers_from 0 parts.channels in
+    let numbers = members_from 0 parts.channels in
     let second = line_text (codes "channels" ∷ map decimal numbers) ++ third in
     let small = (set_is_listed numbers parts.channels (listed_gives parts.channels plan.channels)).small in
     let few : count < 2 ^ 64 = omega (arith, plan.rows.few) in
@@ -215,8 +215,8 @@ is_only bytes r given parts plan text = subst (λ (f : Result Parts PlanFault). 
 -- one text is one plan's, in one version
 pub same_version : (v w : Version) (a b : Parts) → plan_text v a ≡ plan_text w b → v ≡ w
 same_version v w a b e =
-    let behind_v = line_text (codes "channels" ∷ map decimal (numbers_from 0 a.channels)) ++ (line_text (named (codes "bookings") (length a.rows)) ++ (flat_map line_text (booking_lines v a.rows a.assigned) ++ flat_map line_text (tail_lines a.prices a.total))) in
-    let behind_w = line_text (codes "channels" ∷ map decimal (numbers_from 0 b.channels)) ++ (line_text (named (codes "bookings") (length b.rows)) ++ (flat_map line_text (booking_lines w b.rows b.assigned) ++ flat_map line_text (tail_lines b.prices b.total))) in
+    let behind_v = line_text (codes "channels" ∷ map decimal (members_from 0 a.channels)) ++ (line_text (named (codes "bookings") (length a.rows)) ++ (flat_map line_text (booking_lines v a.rows a.assigned) ++ flat_map line_text (tail_lines a.prices a.total))) in
+    let behind_w = line_text (codes "channels" ∷ map decimal (members_from 0 b.channels)) ++ (line_text (named (codes "bookings") (length b.rows)) ++ (flat_map line_text (booking_lines w b.rows b.assigned) ++ flat_map line_text (tail_lines b.prices b.total))) in
     let first_v = ap (read_line 1) (whole_text v a) ∙ line_again 1 (codes "bx-plan") (version_field v ∷ []) behind_v (plain_version v) in
     let first_w = ap (read_line 1) (whole_text w b) ∙ line_again 1 (codes "bx-plan") (version_field w ∷ []) behind_w (plain_version w) in
     let same = ok_is (codes "bx-plan" ∷ version_field v ∷ [], behind_v) (codes "bx-plan" ∷ version_field w ∷ [], behind_w) (sym first_v ∙ ap (read_line 1) e ∙ first_w) in

@@ -1,13 +1,10 @@
--- Values as the code keeps them: it counts no higher than the greatest number of 64 bits, which is beyond each
+-- Private: values as the code keeps them: it counts no higher than the greatest number of 64 bits, which is beyond each
 -- limit.
-use Rattle.std.specs.Prelude.{ℕ, ◌-◌, ◌^◌, min}
 use Rattle.std.specs.Option.{option_map}
 use Rattle.bx_base.specs.Bookings.{row_of}
 use Rattle.bx_base.specs.Bound.{Charge, charge_of}
+use Rattle.bx_text.specs.Digits.{capped}
 use Rattle.bx_planfile.specs.Forms.{Entry}
-
-abbrev pub capped : ℕ → ℕ
-capped n = min n (2 ^ 64 - 1)
 
 abbrev pub capped_entry : Entry → Entry
 capped_entry e = record {

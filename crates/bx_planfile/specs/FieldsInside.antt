@@ -1,4 +1,4 @@
--- The fields that are left of a line, by what the code keeps of it.
+-- Private: the fields that are left of a line, by what the code keeps of it.
 use Rattle.std.specs.Prelude.{◌≡◌, ℕ, Bool, List, [], true, length, if◌then◌else◌}
 use Rattle.bx_planfile.specs.declared.fields.Fields.TheInside.{Inside}
 use Rattle.bx_planfile.specs.Lines.{fields_of}

@@ -3,11 +3,11 @@ use Rattle.std.specs.Prelude.{ℕ, ◌==◌, ◌&&◌, ◌||◌, not, nat_lt, na
 use Rattle.std.specs.List.{list_all}
 use Rattle.std.specs.Char.{is_ascii_digit}
 use Rattle.std.specs.Str.{bytes_eq}
-use Rattle.std.specs.Str.Parse.{digits_value}
 use Rattle.bx_base.specs.Bookings.{Row, row_of}
 use Rattle.bx_base.specs.Bound.{Charge, charge_of}
 use Rattle.bx_planfile.specs.declared.version.Version.{Version}
 use Rattle.bx_planfile.specs.declared.version.Version.TheVariants.{One, Two, Three}
+use Rattle.bx_text.specs.Digits.{decimal_value}
 use Rattle.bx_planfile.specs.Lines.{field, fields_from}
 
 abbrev pub is_nothing : List (List ℕ) → Bool
@@ -20,9 +20,6 @@ is_digits field = nat_lt 0 (length field) && list_all is_ascii_digit field
 -- `0`, or digits with no zero in front
 abbrev pub is_decimal : List ℕ → Bool
 is_decimal field = is_digits field && (not (slice_index field 0 == 48) || (length field == 1))
-
-abbrev pub value_of : List ℕ → ℕ
-value_of field = digits_value 10 field
 
 -- ---- the first line
 
@@ -40,14 +37,14 @@ header_form fields =
 unfoldable pub named_form : List ℕ → List (List ℕ) → Option ℕ
 named_form word fields =
     if bytes_eq (field 0 fields) word && is_decimal (field 1 fields) && is_nothing (fields_from 2 fields)
-    then Some (value_of (field 1 fields)) else None
+    then Some (decimal_value (field 1 fields)) else None
 
 -- ---- the channels
 
 unfoldable pub channels_form : List (List ℕ) → Option (List ℕ)
 channels_form fields =
     if bytes_eq (field 0 fields) (codes "channels") && list_all is_decimal (fields_from 1 fields)
-    then Some (map value_of (fields_from 1 fields)) else None
+    then Some (map decimal_value (fields_from 1 fields)) else None
 
 -- the number of a B channel
 abbrev pub is_channel : ℕ → Bool
@@ -72,7 +69,7 @@ abbrev pub is_channel_field : List ℕ → Bool
 is_channel_field field = bytes_eq field (codes "-") || is_decimal field
 
 abbrev pub channel_of : List ℕ → Option ℕ
-channel_of field = if bytes_eq field (codes "-") then None else Some (value_of field)
+channel_of field = if bytes_eq field (codes "-") then None else Some (decimal_value field)
 
 abbrev pub is_must_field : List ℕ → Bool
 is_must_field field = bytes_eq field (codes "must") || bytes_eq field (codes "free")
@@ -99,7 +96,7 @@ marks_form Three fields =
 
 abbrev pub entry_of : List (List ℕ) → Marks → Entry
 entry_of fields marks = record {
-  row = row_of (value_of (field 0 fields)) (value_of (field 1 fields)) (value_of (field 2 fields)) (field 3 fields) marks.must marks.inward;
+  row = row_of (decimal_value (field 0 fields)) (decimal_value (field 1 fields)) (decimal_value (field 2 fields)) (field 3 fields) marks.must marks.inward;
   channel = channel_of (field 4 fields);
 }
 
@@ -128,7 +125,7 @@ is_within entry =
 unfoldable pub price_form : List (List ℕ) → Option Charge
 price_form fields =
     if is_decimal (field 0 fields) && is_decimal (field 1 fields) && is_nothing (fields_from 2 fields)
-    then Some (charge_of (value_of (field 0 fields)) (value_of (field 1 fields))) else None
+    then Some (charge_of (decimal_value (field 0 fields)) (decimal_value (field 1 fields))) else None
 
 unfoldable pub is_charge : Charge → Bool
 is_charge price = nat_lt price.moment 200000 && nat_le 1 price.amount && nat_le price.amount 4000000000000

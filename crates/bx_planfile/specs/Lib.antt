@@ -3,6 +3,7 @@ pub mod FieldsInside
 pub mod Text
 pub mod Forms
 pub mod Reading
+pub mod Inside
 pub mod Capped
 pub mod Values
 pub mod Writing

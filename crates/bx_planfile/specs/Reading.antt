@@ -26,11 +26,6 @@ abbrev pub Gives : {X Y : Type 0} → (X → Y) → Result X PlanFault → Resul
 Gives view (Ok x) read = read ≡ Ok (view x)
 Gives view (Err e) read = Fails e read
 
--- the same where no memory is taken: a fault is always that of reading
-abbrev pub Answers : {X Y : Type 0} → (X → Y) → Result X PlanFault → Result Y PlanFault → Type 0
-Answers view (Ok x) read = read ≡ Ok (view x)
-Answers view (Err e) read = read ≡ Err e
-
 -- a value where there is one, and else this fault
 abbrev pub or_fault : {A : Type 0} → PlanFault → Option A → Result A PlanFault
 or_fault e None = Err e

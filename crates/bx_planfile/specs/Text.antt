@@ -1,23 +1,17 @@
 -- The text of a plan.
-use Rattle.std.specs.Prelude.{◌≡◌, ℕ, ◌+◌, ◌<◌, List, [], ◌∷◌, ◌++◌, Bool, true, false, Option, Some, None, length, map, codes, decimal, if◌then◌else◌}
+use Rattle.std.specs.Prelude.{◌≡◌, ℕ, ◌<◌, List, [], ◌∷◌, ◌++◌, Bool, false, Option, Some, None, length, map, codes, decimal, if◌then◌else◌}
 use Rattle.std.specs.List.{flat_map, zip}
 use Rattle.bx_base.specs.Bookings.{Row, row_at}
 use Rattle.bx_base.specs.Bound.{Charge}
 use Rattle.bx_base.specs.PlanParts.{Parts}
 use Rattle.bx_planfile.specs.declared.version.Version.{Version}
 use Rattle.bx_planfile.specs.declared.version.Version.TheVariants.{One, Two, Three}
-use Rattle.bx_text.specs.Lines.{line_text, named}
+use Rattle.bx_text.specs.Lines.{line_text, members_from, named}
 
 abbrev pub version_field : Version → List ℕ
 version_field One = codes "1"
 version_field Two = codes "2"
 version_field Three = codes "3"
-
--- the places from n on that are in the set, in rising order
-abbrev pub numbers_from : ℕ → List Bool → List ℕ
-numbers_from n [] = []
-numbers_from n (true ∷ others) = n ∷ numbers_from (n + 1) others
-numbers_from n (false ∷ others) = numbers_from (n + 1) others
 
 -- the channel of an accepted booking, and a dash for another
 abbrev pub channel_field : Option ℕ → List ℕ
@@ -51,7 +45,7 @@ booking_lines version rows assigned = map (λ entry. booking_fields version entr
 abbrev pub plan_lines : Version → Parts → List (List (List ℕ))
 plan_lines version parts =
     (codes "bx-plan" ∷ version_field version ∷ [])
-    ∷ (codes "channels" ∷ map decimal (numbers_from 0 parts.channels))
+    ∷ (codes "channels" ∷ map decimal (members_from 0 parts.channels))
     ∷ named (codes "bookings") (length parts.rows)
     ∷ (booking_lines version parts.rows parts.assigned
     ++ (named (codes "prices") (length parts.prices)

@@ -1,4 +1,4 @@
--- What the code keeps of a booking's line, as an entry.
+-- Private: what the code keeps of a booking's line, as an entry.
 use Rattle.std.specs.Prelude.{ℕ, Option}
 use Rattle.bx_base.specs.Bookings.{Row, row_of}
 use Rattle.bx_planfile.specs.declared.booking_line.BookingValues.{BookingValues}

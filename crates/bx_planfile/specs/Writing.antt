@@ -1,10 +1,10 @@
--- What the lines of a plan are, in parts.
+-- Private: what the lines of a plan are, in parts.
 use Rattle.std.specs.Prelude.{◌≡◌, ℕ, List, [], ◌∷◌, codes, decimal, length, map, slice_index_or, Option, Some, None}
 use Rattle.bx_base.specs.Channels.{IsChannel}
 use Rattle.bx_base.specs.declared.plan.Plan.{Plan}
 use Rattle.bx_planfile.specs.declared.version.Version.TheVariants.{Three}
-use Rattle.bx_text.specs.Lines.{named}
-use Rattle.bx_planfile.specs.Text.{numbers_from, version_field}
+use Rattle.bx_text.specs.Lines.{members_from, named}
+use Rattle.bx_planfile.specs.Text.{version_field}
 
 -- channels that bookings have
 abbrev pub AreAssigned : List (Option ℕ) → Type 0
@@ -12,7 +12,7 @@ AreAssigned assigned = (i c : ℕ) → slice_index_or assigned i None ≡ Some c
 
 -- the lines before the bookings, and those behind the prices
 abbrev pub head_lines : Plan → List (List (List ℕ))
-head_lines plan = (codes "bx-plan" ∷ version_field Three ∷ []) ∷ (codes "channels" ∷ map decimal (numbers_from 0 plan.channels)) ∷ named (codes "bookings") (length plan.bookings) ∷ []
+head_lines plan = (codes "bx-plan" ∷ version_field Three ∷ []) ∷ (codes "channels" ∷ map decimal (members_from 0 plan.channels)) ∷ named (codes "bookings") (length plan.bookings) ∷ []
 
 abbrev pub foot_lines : Plan → List (List (List ℕ))
 foot_lines plan = named (codes "total") plan.total ∷ (codes "end" ∷ []) ∷ []

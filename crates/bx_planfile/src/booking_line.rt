@@ -5,9 +5,11 @@ ghost use Rattle.std.specs.Option.{option_map};
 ghost use Rattle.std.specs.Str.{bytes_eq};
 ghost use Rattle.bx_base.specs.Bookings.{IsBooking};
 ghost use Rattle.bx_planfile.specs.Forms.{is_digits, is_channel_field, channel_of, is_must_field, is_direction_field, marks, marks_form, booking_form, is_assignable, is_within};
-ghost use Rattle.bx_planfile.specs.Capped.{capped, capped_entry};
+ghost use Rattle.bx_planfile.specs.Capped.{capped_entry};
+ghost use Rattle.bx_text.specs.Digits.{capped};
 ghost use Rattle.bx_planfile.specs.Values.{entry_of_values, entry_of};
-ghost use Rattle.bx_planfile.specs.Reading.{Answers, read_booking};
+ghost use Rattle.bx_planfile.specs.Reading.{read_booking};
+ghost use Rattle.bx_planfile.specs.Inside.{Answers};
 
 use crate::decimals::{decimal, is_digits};
 use crate::fault::PlanFault;

@@ -2,8 +2,10 @@
 
 ghost use Rattle.std.specs.Prelude.{◌≡◌, ◌<◌, None, Some, map, true, false};
 ghost use Rattle.std.specs.List.{list_all};
-ghost use Rattle.bx_planfile.specs.Forms.{is_decimal, value_of, channel_set, channels_form};
-ghost use Rattle.bx_planfile.specs.Reading.{Answers, read_channels};
+ghost use Rattle.bx_planfile.specs.Forms.{is_decimal, channel_set, channels_form};
+ghost use Rattle.bx_text.specs.Digits.{decimal_value};
+ghost use Rattle.bx_planfile.specs.Reading.{read_channels};
+ghost use Rattle.bx_planfile.specs.Inside.{Answers};
 
 use crate::decimals::decimal;
 use crate::fault::PlanFault;
@@ -25,7 +27,7 @@ fn all_decimals(mut fields: Fields<'_>) -> bool
 /// The set of the channels whose numbers are left, where they rise.
 fn rising_channels(mut fields: Fields<'_>) -> Option<ChannelSet>
     requires { list_all is_decimal fields ≡ true }
-    ensures { result ≡ channel_set (map value_of fields.entry) }
+    ensures { result ≡ channel_set (map decimal_value fields.entry) }
 {
     let mut set = ChannelSet::empty();
     let mut last = 0;

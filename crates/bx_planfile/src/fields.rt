@@ -3,7 +3,8 @@
 ghost use Rattle.std.specs.Prelude.{◌≡◌, ◌==◌, position, List, true};
 ghost use Rattle.bx_planfile.specs.Lines.{first, others, fields_of};
 ghost use Rattle.bx_planfile.specs.Forms.{is_nothing};
-ghost use Rattle.bx_planfile.specs.Reading.{Answers, read_line};
+ghost use Rattle.bx_planfile.specs.Reading.{read_line};
+ghost use Rattle.bx_planfile.specs.Inside.{Answers};
 
 use crate::fault::PlanFault;
 use std::marker::Model;

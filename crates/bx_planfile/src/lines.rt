@@ -3,15 +3,17 @@
 ghost use Rattle.std.specs.Prelude.{◌≡◌, ◌≤◌, ◌<◌, MatchOption, None, Some, true, false, IfOk};
 ghost use Rattle.std.specs.Option.{option_map};
 ghost use Rattle.bx_planfile.specs.Forms.{header_form, named_form, price_form, is_charge};
-ghost use Rattle.bx_planfile.specs.Capped.{capped, capped_charge};
+ghost use Rattle.bx_planfile.specs.Capped.{capped_charge};
+ghost use Rattle.bx_text.specs.Digits.{capped};
 ghost use Rattle.bx_planfile.specs.Values.{charge_of_values};
-ghost use Rattle.bx_planfile.specs.Reading.{Answers, read_header, read_count, read_total, read_end, read_price};
+ghost use Rattle.bx_planfile.specs.Reading.{read_header, read_count, read_total, read_end, read_price};
+ghost use Rattle.bx_planfile.specs.Inside.{Answers};
 
 use crate::decimals::decimal;
 use crate::fault::PlanFault;
 use crate::fields::Fields;
 use crate::version::Version;
-use bx_base::Price;
+use bx_base::{MAX_TOTAL, Price};
 
 #[tactic(auto, unfolding(crate::specs::Forms::header_form))]
 fn version_of(mut fields: Fields<'_>) -> Option<Version>
@@ -74,7 +76,7 @@ pub fn total_of(fields: Fields<'_>, n: u32) -> Result<u64, PlanFault>
     ensures limit { IfOk result (λ x. x ≤ 4000000000000) }
 {
     let total = number_behind(b"total", fields).ok_or(PlanFault::BadLine(n))?;
-    if total > 4_000_000_000_000 {
+    if total > MAX_TOTAL {
         return Err(PlanFault::OutOfLimits(n));
     }
     Ok(total)

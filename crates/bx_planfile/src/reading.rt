@@ -10,12 +10,8 @@ use crate::fault::PlanFault;
 use crate::fields::line_of;
 use crate::lines::{count_of, ends, header_of, total_of};
 use crate::lists::{bookings_of, prices_of};
-use bx_base::{Plan, Price};
+use bx_base::{MAX_BOOKINGS, MAX_PRICES, Plan, Price};
 use std::alloc::Global;
-
-const MAX_BOOKINGS: u16 = 4000;
-
-const MAX_PRICES: u16 = 8000;
 
 /// The prices and the total, from the count of the prices in line `n` to the end.
 #[tactic(auto, unfolding(crate::specs::Reading::read_tail))]
@@ -26,7 +22,7 @@ fn tail_of(alloc: Global, bytes: &[u8], n: u32) -> Result<(Vec<Price>, u64), Pla
     ensures limits { IfOk result (λ x. (vec_len x.0 ≤ 8000) × (x.1 ≤ 4000000000000)) }
 {
     let (fields, rest) = line_of(bytes, n)?;
-    let count = count_of(b"prices", MAX_PRICES, fields, n)?;
+    let count = count_of(b"prices", MAX_PRICES as u16, fields, n)?;
     let (prices, rest) = prices_of(alloc, count, rest, n + 1)?;
     let n = n + 1 + u32::from(count);
     let (fields, rest) = line_of(rest, n)?;
@@ -46,7 +42,7 @@ fn plan_of(alloc: Global, bytes: &[u8]) -> Result<Plan, PlanFault>
     let (fields, rest) = line_of(rest, 2)?;
     let channels = channels_of(fields, 2)?;
     let (fields, rest) = line_of(rest, 3)?;
-    let count = count_of(b"bookings", MAX_BOOKINGS, fields, 3)?;
+    let count = count_of(b"bookings", MAX_BOOKINGS as u16, fields, 3)?;
     let (bookings, assigned, rest) = bookings_of(alloc, version, count, rest, 4)?;
     let (prices, total) = tail_of(alloc, rest, 4 + u32::from(count))?;
     Ok(Plan {

@@ -3,13 +3,13 @@
 ghost use Rattle.std.specs.Prelude.{◌≡◌, ◌+◌, ◌<◌, ◌≤◌, ◌++◌, ◌∷◌, [], length, codes, decimal, map, IfSome};
 ghost use Rattle.arrayvec.specs.ArrayVec.{array_vec_len};
 ghost use Rattle.bx_base.specs.Bound.{IsCharge};
-ghost use Rattle.bx_base.specs.Channels.{IsChannel, IsChannelSet, has_channel};
+ghost use Rattle.bx_base.specs.Channels.{IsChannel, IsChannelSet};
 ghost use Rattle.bx_planfile.specs.declared.version.Version.TheVariants.{Three};
-ghost use Rattle.bx_text.specs.Lines.{line_text, member_text, named};
-ghost use Rattle.bx_planfile.specs.Text.{booking_fields, price_fields, numbers_from, must_field, direction_field, channel_field};
+ghost use Rattle.bx_text.specs.Lines.{line_text, members_from, named};
+ghost use Rattle.bx_planfile.specs.Text.{booking_fields, price_fields, must_field, direction_field, channel_field};
 
 use bx_base::{Booking, Channel, ChannelSet, Price};
-use bx_text::{Line, add, add_decimal, add_member, append};
+use bx_text::{Line, add, add_decimal, add_members, append};
 
 /// The line of a price.
 pub fn price_line(price: &Price) -> Line
@@ -67,16 +67,12 @@ pub fn booking_line(booking: Booking, channel: Option<Channel>) -> Line
 
 /// The line of the channels.
 pub fn channels_line(channels: ChannelSet) -> Line
-    ensures text { result.items ≡ line_text (codes "channels" ∷ map decimal (numbers_from 0 channels)) }
+    ensures text { result.items ≡ line_text (codes "channels" ∷ map decimal (members_from 0 channels)) }
     ensures limits { IsChannelSet channels }
 {
     let mut line = Line::new();
-    // What is counted are channels, none of them above 31.
-    let _count = channels.count();
     append(&mut line, b"channels");
-    for number in 0..32 {
-        add_member(&mut line, &channels, number);
-    }
+    add_members(&mut line, &channels);
     line.push(b'\n');
     line
 }

@@ -6,7 +6,8 @@ use Rattle.bx_base.specs.Sums.{sum_below}
 use Rattle.bx_base.specs.Channels.{count_of}
 use Rattle.bx_base.specs.Bookings.{Row, row_at}
 use Rattle.bx_base.specs.Plans.{is_accepted}
-use Rattle.bx_base.specs.Bound.{Charge, sum_of_prices, gain_of, loss_of, bound_of}
+use Rattle.bx_base.specs.Bound.{Charge, sum_of_prices, bound_of}
+use Rattle.bx_base.specs.Sides.{gain_of, loss_of}
 use Rattle.bx_base.proofs.SumLemmas.{sum_below-next}
 use Rattle.bx_base.proofs.Duality.{losses-le, bound_and_losses}
 use Rattle.bx_check.proofs.bound.bound.Goals as goal

@@ -2,7 +2,8 @@ use Rattle.std.proofs.Common.{◌≡◌, ◌≤◌, ◌+◌, ◌*◌}
 use Rattle.bx_base.specs.Sums.{sum_below}
 use Rattle.bx_base.specs.Channels.{count_of}
 use Rattle.bx_base.specs.Bookings.{row_at}
-use Rattle.bx_base.specs.Bound.{gain_of, loss_of, sum_of_prices}
+use Rattle.bx_base.specs.Bound.{sum_of_prices}
+use Rattle.bx_base.specs.Sides.{gain_of, loss_of}
 use Rattle.bx_check.proofs.bound.bound.Given as goal
 
 abbrev pub invariant-loop-i : goal.invariant-loop-i

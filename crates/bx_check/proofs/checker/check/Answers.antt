@@ -6,7 +6,7 @@ use Rattle.bx_base.specs.Bound.{bound_of}
 use Rattle.bx_base.specs.PlanParts.{Parts, parts_of}
 use Rattle.bx_check.specs.Check.{IsSound, IsTotalRight, AllInService, NoneOverlap, HasMusts}
 use Rattle.bx_check.proofs.Sound.{sound-lawful, sound-lawful_itself, sound-best, total-le-bound}
-use Rattle.bx_check.proofs.judge.check.Goals as goal
+use Rattle.bx_check.proofs.checker.check.Goals as goal
 
 sound : (rows : List Row) (channels : List Bool) (plan : Parts) → rows ≡ plan.rows → channels ≡ plan.channels → AllInService plan → NoneOverlap plan → HasMusts plan → IsSound rows channels plan
 sound rows channels plan b s i n m = record { parts = record { bookings = b; channels_too = s }; in_service = i; none_overlap = n; has_musts = m }
