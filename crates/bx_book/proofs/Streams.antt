@@ -11,7 +11,8 @@ use Rattle.bx_book.specs.Passed.{HasPassed, HasNoneLeft, is_spent, reads_of_none
 use Rattle.bx_book.specs.Rows.{Span}
 use Rattle.bx_book.specs.Texts.{IsBook, IsBookFault}
 use Rattle.bx_base.specs.Devices.{reading_of}
-use Rattle.bx_book.specs.Streams.{IsWhole, IsBookRead, IsStreamFault, IsMeterFault, told_as}
+use Rattle.bx_book.specs.Streams.{IsWhole, IsBookRead, IsStreamFault}
+use Rattle.bx_book.specs.Told.{IsMeterFault, told_as}
 use Rattle.bx_book.specs.declared.fault.BookFault.{BookFault}
 use Rattle.bx_book.specs.declared.fault.BookFault.TheVariants as f
 use Rattle.bx_book.specs.declared.stream.StreamFault.{StreamFault}

@@ -2,10 +2,12 @@ pub mod Places
 pub mod Dates
 pub mod Days
 pub mod DayParts
+pub mod Clocks
 pub mod Times
 pub mod Rows
+pub mod Inside
 pub mod Texts
-pub mod Fronts
 pub mod Passed
 pub mod Metering
 pub mod Streams
+pub mod Told

@@ -1,4 +1,4 @@
--- How much of a text a reader has passed on.
+-- Private: how much of a text a reader has passed on.
 use Rattle.std.specs.Prelude.{◌≡◌, ◌≤◌, ◌==◌, ◌||◌, nat_lt, ℕ, Bool, List, [], Option, Some, length, drop, if◌then◌else◌}
 use Rattle.std.specs.Option.{ForSome}
 

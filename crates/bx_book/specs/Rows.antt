@@ -1,12 +1,12 @@
 -- The booking of a row, and the first fault of one.
-use Rattle.std.specs.Prelude.{◌-◌, ◌^◌, min, ◌≡◌, ◌≢◌, ◌⊎◌, ◌<◌, ◌≤◌, ℕ, ◌&&◌, nat_le, nat_lt, if◌then◌else◌, Bool, true, false, ℤ, pos, ◌-ℤ◌, ◌<ℤ◌, List, [], length, unwrap_or, codes, Option, Some, None, Result, Ok, Err}
+use Rattle.std.specs.Prelude.{◌≡◌, ◌≢◌, ◌⊎◌, ◌<◌, ◌≤◌, ℕ, ◌&&◌, nat_le, nat_lt, if◌then◌else◌, Bool, true, false, ℤ, pos, ◌-ℤ◌, ◌<ℤ◌, List, length, codes, Option, Some, None, Result, Ok, Err}
 use Rattle.std.specs.List.{list_all}
 use Rattle.std.specs.Char.{is_ascii_digit}
 use Rattle.std.specs.Str.{bytes_eq}
-use Rattle.std.specs.Str.Parse.{digits_value}
-use Rattle.csv.specs.Records.{field_at}
 use Rattle.bx_base.specs.Bookings.{Row}
 use Rattle.bx_base.specs.Numbers.{IsNumber}
+use Rattle.bx_text.specs.Digits.{decimal_value}
+use Rattle.bx_text.specs.Records.{field_of}
 use Rattle.bx_book.specs.DayParts.{start_of, length_of}
 use Rattle.bx_book.specs.Times.{IsTime, is_whole_time, instant_of}
 use Rattle.bx_book.specs.declared.day.Day.{Day}
@@ -20,10 +20,6 @@ pub record Span : Type 0 where
 
 abbrev pub span_of : Day → Span
 span_of day = record { start = start_of day; length = length_of day }
-
--- the field of a place, counted from 0, and an empty one beyond the last
-abbrev pub field_of : List (List ℕ) → ℕ → List ℕ
-field_of fields place = unwrap_or (field_at fields place) []
 
 -- the seconds from the start of the day to the time
 abbrev pub since_start : ℤ → List ℕ → ℤ
@@ -51,11 +47,7 @@ IsMomentRead span row field (Err e) = IsTimeFault span row field e
 
 -- 1 to 10 digits with a value of 1 to 1,000,000,000
 abbrev pub pay_value : List ℕ → ℕ
-pay_value field = digits_value 10 field
-
--- a value as the code keeps it: no higher than the greatest number of 64 bits
-abbrev pub capped : ℕ → ℕ
-capped n = min n (2 ^ 64 - 1)
+pay_value field = decimal_value field
 
 abbrev pub is_pay : List ℕ → Bool
 is_pay field = nat_le (length field) 10 && list_all is_ascii_digit field && nat_lt 0 (pay_value field) && nat_le (pay_value field) 1_000_000_000
@@ -108,8 +100,3 @@ IsRowFault span columns row fields (f.BadMust r) = (r ≡ row) × IsRightToPay s
 IsRowFault span columns row fields (f.BadDirection r) = (r ≡ row) × IsRightToPay span columns fields × ((b : Bool) × (must_of columns fields ≡ Some b)) × (inward_of columns fields ≡ None)
 IsRowFault span columns row fields e = (length fields ≡ columns)
     × (IsTimeFault span row (field_of fields 0) e ⊎ ((start : ℕ) × IsMomentOf span (field_of fields 0) start × IsTimeFault span row (field_of fields 1) e))
-
--- the booking of a row, or its first fault
-abbrev pub IsRowRead : Span → ℕ → ℕ → List (List ℕ) → Result Row BookFault → Type 0
-IsRowRead span columns row fields (Ok booking) = IsRowOf span columns fields booking
-IsRowRead span columns row fields (Err e) = IsRowFault span columns row fields e

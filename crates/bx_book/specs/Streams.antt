@@ -1,12 +1,11 @@
 -- What is said of a reader that bookings were read from.
-use Rattle.std.specs.Prelude.{◌≡◌, ◌⊎◌, ◌≤◌, ℕ, Bool, true, false, List, Some, length}
+use Rattle.std.specs.Prelude.{◌≡◌, ◌⊎◌, ◌≤◌, ℕ, true, false, List, Some, length}
 use Rattle.csv.specs.Reading.{strip_bom}
 use Rattle.bx_base.specs.Devices.{Reading}
 use Rattle.bx_base.specs.Octets.{ReadsAll, ReadsFront, ReadsWithin, RunsOutOfReads}
 use Rattle.bx_base.specs.Bookings.{Row}
 use Rattle.bx_book.specs.Rows.{Span}
 use Rattle.bx_book.specs.Texts.{IsBook, IsBookFault}
-use Rattle.bx_book.specs.declared.fault.BookFault.{BookFault}
 use Rattle.bx_book.specs.declared.fault.BookFault.TheVariants as f
 use Rattle.bx_book.specs.declared.stream.StreamFault.{StreamFault}
 use Rattle.bx_book.specs.declared.stream.StreamFault.TheVariants as stream
@@ -29,16 +28,3 @@ IsStreamFault reading span (stream.Book f.Memory) = ⊥
 IsStreamFault reading span (stream.Book e) = (reading.is_faulted ≡ false)
     × ((text : List ℕ) → reading.before ≡ Some text → IsWhole reading text × IsBookFault (strip_bom text) span e)
 IsStreamFault reading span stream.Memory = (reading.is_faulted ≡ false) × ReadsWithin reading.before reading.after 4_194_304
-
--- why less than the whole was read, by what was counted
-abbrev pub IsMeterFault : Bool → Bool → ℕ → ℕ → StreamFault → Type 0
-IsMeterFault is_faulted has_ended octets reads stream.ReadFailed = (is_faulted ≡ true)
-    ⊎ ((is_faulted ≡ false) × (has_ended ≡ false) × (octets ≤ 4_194_304) × (reads ≡ 8_388_608))
-IsMeterFault is_faulted has_ended octets reads stream.TooLong = (is_faulted ≡ false) × (octets ≡ 4_194_305)
-IsMeterFault is_faulted has_ended octets reads (stream.Book e) = ⊥
-IsMeterFault is_faulted has_ended octets reads stream.Memory = ⊥
-
--- a fault of a text as one of its reader
-abbrev pub told_as : BookFault → StreamFault
-told_as f.Memory = stream.Memory
-told_as e = stream.Book e

@@ -1,13 +1,13 @@
 //! Fields of a row.
 
-ghost use Rattle.std.specs.Prelude.{◌≡◌, ◌≤◌, ◌<◌, ◌⊎◌, ◌-ℤ◌, ◌<ℤ◌, ◌≤ℤ◌, IsTrue, IfSome, IfNone, MatchOption, false, true, codes, length, pos, neg_ℤ};
-ghost use Rattle.std.specs.List.{list_all};
-ghost use Rattle.std.specs.Char.{is_ascii_digit};
-ghost use Rattle.bx_book.specs.Rows.{capped, span_of, IsMomentRead, is_pay, pay_value, word_value};
+ghost use Rattle.std.specs.Prelude.{◌≡◌, ◌≤◌, ◌<◌, ◌⊎◌, ◌-ℤ◌, ◌<ℤ◌, ◌≤ℤ◌, IfSome, IfNone, MatchOption, false, true, codes, length, pos, neg_ℤ};
+ghost use Rattle.bx_book.specs.Rows.{span_of, IsMomentRead, is_pay, pay_value, word_value};
 
 use crate::day::Day;
 use crate::fault::BookFault;
 use crate::time::instant_at;
+use bx_base::MAX_PAY;
+use bx_text::{all_digits, digits_value};
 
 /// How far a second is from the start of a day, where it is neither before it nor after the day's end.
 fn place_in_day(second: i64, start: i64, length: u32) -> Option<u32>
@@ -43,27 +43,6 @@ pub fn moment(field: &[u8], day: &Day, row: u16) -> Result<u32, BookFault>
     }
 }
 
-/// Whether all octets are ASCII digits.
-pub fn all_digits(field: &[u8]) -> bool
-    ensures { result ≡ list_all is_ascii_digit field.now }
-{
-    field.iter().all(|octet| octet.is_ascii_digit())
-}
-
-/// The value of digits, where it is below `u64::MAX`, and else that.
-pub fn digits_value(digits: &[u8]) -> u64
-    requires { IsTrue (list_all is_ascii_digit digits.now) }
-    ensures { result ≡ capped (pay_value digits.now) }
-{
-    let mut value = 0u64;
-    for digit in digits {
-        value = value
-            .saturating_mul(10)
-            .saturating_add(u64::from(*digit - b'0'));
-    }
-    value
-}
-
 /// The pay that a field names.
 pub fn pay(field: &[u8]) -> Option<u64>
     ensures { MatchOption result (is_pay field.now ≡ false) (λ n. (is_pay field.now ≡ true) × (n ≡ pay_value field.now)) }
@@ -72,7 +51,7 @@ pub fn pay(field: &[u8]) -> Option<u64>
         return None;
     }
     let value = digits_value(field);
-    if value >= 1 && value <= 1_000_000_000 {
+    if value >= 1 && value <= MAX_PAY {
         Some(value)
     } else {
         None

@@ -2,23 +2,15 @@
 
 ghost use Rattle.std.specs.Prelude.{◌≡◌, false};
 ghost use Rattle.csv.specs.Records.{fields_of};
-ghost use Rattle.bx_book.specs.Rows.{span_of, field_of, must_of, inward_of, IsRowRead};
+ghost use Rattle.bx_book.specs.Rows.{span_of, must_of, inward_of};
+ghost use Rattle.bx_book.specs.Inside.{IsRowRead};
 
 use crate::day::Day;
 use crate::fault::BookFault;
 use crate::field::{inward, moment, must, pay};
 use bx_base::{Booking, Number};
+use bx_text::field;
 use csv::ByteRecord;
-
-/// The field of a place, counted from 0, and an empty one beyond the last.
-pub fn field(fields: &ByteRecord, place: usize) -> &[u8]
-    ensures { result.now ≡ field_of (fields_of fields.now) place }
-{
-    match fields.get(place) {
-        Some(field) => field,
-        None => &[],
-    }
-}
 
 /// Whether a row is a must row: none is, where the header has no such field.
 fn must_mark(fields: &ByteRecord, columns: usize) -> Option<bool>

@@ -7,13 +7,15 @@ ghost use Rattle.bx_base.specs.Watching.{device_of, is_faulted, reads_of};
 ghost use Rattle.bx_book.specs.Passed.{HasPassed, HasNoneLeft, is_spent, reads_of_none};
 ghost use Rattle.bx_book.specs.Rows.{span_of};
 ghost use Rattle.bx_book.specs.Texts.{IsBook, IsBookFault};
-ghost use Rattle.bx_book.specs.Streams.{IsBookRead, IsStreamFault, IsMeterFault, told_as};
+ghost use Rattle.bx_book.specs.Streams.{IsBookRead, IsStreamFault};
+ghost use Rattle.bx_book.specs.Told.{IsMeterFault, told_as};
 
 use crate::day::Day;
 use crate::fault::BookFault;
 use crate::metered::{Metered, Origin};
-use crate::text::{read_records, records_of};
+use crate::text::read_book;
 use bx_base::{Bookings, MAX_OCTETS, MAX_READS, Watched};
+use bx_text::records_of;
 use std::alloc::Global;
 use std::io::Read;
 use std::marker::{Brand, PhantomData};
@@ -99,7 +101,7 @@ fn read_metered<'a, R: Read, O: Origin>(
         origin: PhantomData,
     };
     let mut records = records_of(alloc, metered);
-    let bookings = read_records(alloc, &mut records, day);
+    let bookings = read_book(alloc, &mut records, day);
     let mut metered = records.into_inner();
     if !matches!(bookings, Err(BookFault::Memory)) {
         metered.read_on();

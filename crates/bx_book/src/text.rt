@@ -1,28 +1,22 @@
 //! The bookings of a text.
 
-ghost use Rattle.std.specs.Prelude.{◌≡◌, [], true, List, ℕ, OnOk, IfSome, IfOk, IfErr, option_map};
-ghost use Rattle.std.specs.Str.{bytes_eq};
-ghost use Rattle.csv.specs.Reading.{reader_state, reader_source, has_failed, ReadRecord, source_of, strip_bom};
+ghost use Rattle.std.specs.Prelude.{◌≡◌, IfSome, IfOk, IfErr};
+ghost use Rattle.csv.specs.Reading.{reader_state, source_of, strip_bom};
 ghost use Rattle.csv.specs.declared.parser.State.TheVariants as st;
 ghost use Rattle.csv.specs.Records.{fields_of};
-ghost use Rattle.bx_book.specs.Rows.{Span, span_of, field_of};
+ghost use Rattle.bx_text.specs.Records.{IsReading};
+ghost use Rattle.bx_book.specs.Rows.{span_of};
 ghost use Rattle.bx_book.specs.Texts.{header_columns, IsBook, IsBookFault};
-ghost use Rattle.bx_book.specs.Fronts.{IsReading, Front};
+ghost use Rattle.bx_book.specs.Inside.{told_as};
 
 use crate::day::Day;
 use crate::fault::BookFault;
-use crate::row::{booking, field};
-use bx_base::Bookings;
-use csv::{ByteRecord, Reader, ReaderBuilder};
-use std::alloc::Global;
+use crate::row::booking;
+use bx_base::{Booking, Bookings};
+use bx_text::{RowForm, RowsFault, is_named, read_records, records_of};
+use csv::{ByteRecord, Reader};
+use std::alloc::{AllocError, Global};
 use std::io::Read;
-
-/// Whether the field of this place is this word.
-fn is_named(header: &ByteRecord, place: usize, name: &str) -> bool
-    ensures { result ≡ bytes_eq (field_of (fields_of header.now) place) name.now }
-{
-    field(header, place) == name.as_bytes()
-}
 
 /// How many columns the rows under this header have.
 fn columns_under(header: &ByteRecord) -> Option<usize>
@@ -42,72 +36,60 @@ fn columns_under(header: &ByteRecord) -> Option<usize>
     }
 }
 
-/// Reads the next record, if there is one. The only fault is `Memory`: the reader underneath failed, or a growth was
-/// refused.
-pub fn read_next<R: Read>(
-    records: &mut Reader<R>,
-    fields: &mut ByteRecord,
-) -> Result<bool, BookFault>
-    requires { IsReading records.old }
-    ensures ok { IfOk result (λ found. IsReading records.new × ReadRecord R.remaining records.old records.new found (fields_of fields.new)) }
-    ensures err { IfErr result (λ e. (e ≡ BookFault.Memory) × (has_failed records.new ≡ true)) }
-{
-    match records.read_byte_record(fields) {
-        Ok(found) => Ok(found),
-        Err(_) => Err(BookFault::Memory),
+/// The rows of a booking text are bookings of its day.
+impl RowForm for Day {
+    ghost use Rattle.bx_book.specs.Rows.{span_of};
+    ghost use Rattle.bx_book.specs.Texts.{book_form};
+
+    type Row = Booking;
+
+    type Fault = BookFault;
+
+    type List = Bookings;
+
+    ghost form = { λ day. book_form (span_of day) };
+
+    ghost rows = { λ bookings. bookings };
+
+    fn columns_under(&self, header: &ByteRecord) -> Option<usize> {
+        columns_under(header)
+    }
+
+    fn read_row(
+        &self,
+        fields: &ByteRecord,
+        columns: usize,
+        number: u16,
+    ) -> Result<Booking, BookFault> {
+        booking(fields, columns, self, number)
+    }
+
+    fn none(alloc: Global) -> Bookings {
+        Bookings::new(alloc)
+    }
+
+    fn keep(bookings: &mut Bookings, booking: Booking) -> Result<(), AllocError> {
+        match bookings.push(booking) {
+            Ok(()) => Ok(()),
+            Err(_) => Err(AllocError),
+        }
     }
 }
 
-/// Reads the header, and answers how many columns the rows have.
-fn read_header<R: Read>(
-    records: &mut Reader<R>,
-    fields: &mut ByteRecord,
-) -> Result<usize, BookFault>
-    requires { IsReading records.old × (reader_state records.old ≡ st.StartRecord) }
-    ensures ok { IfOk result (λ columns. IsReading records.new × ((span : Span) → IfSome (source_of R.remaining records.old) (λ text. Front R.remaining records.new text span columns []))) }
-    ensures err { IfErr result (λ e. (span : Span) → IfSome (source_of R.remaining records.old) (λ text. IsBookFault text span e)) }
+/// A fault of rows as one of a booking text.
+fn told_as(fault: RowsFault<BookFault>) -> BookFault
+    ensures { result ≡ told_as fault }
 {
-    if !read_next(records, fields)? {
-        return Err(BookFault::BadHeader);
+    match fault {
+        RowsFault::BadHeader => BookFault::BadHeader,
+        RowsFault::Row(fault) => fault,
+        RowsFault::TooMany => BookFault::TooMany,
+        RowsFault::Memory => BookFault::Memory,
     }
-    match columns_under(fields) {
-        Some(columns) => Ok(columns),
-        None => Err(BookFault::BadHeader),
-    }
-}
-
-/// Reads the rows behind the header.
-fn read_rows<R: Read>(
-    records: &mut Reader<R>,
-    fields: &mut ByteRecord,
-    columns: usize,
-    day: &Day,
-    bookings: &mut Bookings,
-) -> Result<(), BookFault>
-    requires { IsReading records.old }
-    ensures ok { (text : List ℕ) → Front R.remaining records.old text (span_of day.now) columns [] → bookings.old ≡ [] → OnOk result (IsBook text (span_of day.now) bookings.new) }
-    ensures err { (text : List ℕ) → Front R.remaining records.old text (span_of day.now) columns [] → bookings.old ≡ [] → IfErr result (IsBookFault text (span_of day.now)) }
-{
-    for row in 1..4001u16 {
-        if !read_next(records, fields)? {
-            return Ok(());
-        }
-        let booking = match booking(fields, columns, day, row) {
-            Ok(booking) => booking,
-            Err(fault) => return Err(fault),
-        };
-        if bookings.push(booking).is_err() {
-            return Err(BookFault::Memory);
-        }
-    }
-    if read_next(records, fields)? {
-        return Err(BookFault::TooMany);
-    }
-    Ok(())
 }
 
 /// Reads the header and the rows.
-pub fn read_records<R: Read>(
+pub fn read_book<R: Read>(
     alloc: Global,
     records: &mut Reader<R>,
     day: &Day,
@@ -116,28 +98,10 @@ pub fn read_records<R: Read>(
     ensures ok { IfOk result (λ bookings. IfSome (source_of R.remaining records.old) (λ text. IsBook text (span_of day.now) bookings)) }
     ensures err { IfErr result (λ e. IfSome (source_of R.remaining records.old) (λ text. IsBookFault text (span_of day.now) e)) }
 {
-    let mut fields = ByteRecord::new(alloc);
-    let columns = match read_header(records, &mut fields) {
-        Ok(columns) => columns,
-        Err(fault) => return Err(fault),
-    };
-    let mut bookings = Bookings::new(alloc);
-    match read_rows(records, &mut fields, columns, day, &mut bookings) {
-        Ok(()) => Ok(bookings),
-        Err(fault) => Err(fault),
+    match read_records(alloc, day, records) {
+        Ok(bookings) => Ok(bookings),
+        Err(fault) => Err(told_as(fault)),
     }
-}
-
-/// A reader of records that takes any number of fields, over these octets.
-pub fn records_of<R: Read>(alloc: Global, reader: R) -> Reader<R>
-    ensures ready { IsReading result × (reader_state result ≡ st.StartRecord) }
-    ensures source { source_of R.remaining result ≡ option_map strip_bom (R.remaining reader) }
-    ensures reader { reader_source result ≡ reader }
-{
-    ReaderBuilder::new()
-        .has_headers(false)
-        .flexible(true)
-        .from_reader(alloc, reader)
 }
 
 /// Reads the booking text of a day, RFC 4180 records as `csv` reads them: a header `start,end,number,pay`, which may
@@ -148,5 +112,5 @@ pub fn read_bookings(alloc: Global, bytes: &[u8], day: &Day) -> Result<Bookings,
     ensures err { IfErr result (IsBookFault (strip_bom bytes.now) (span_of day.now)) }
 {
     let mut records = records_of(alloc, bytes);
-    read_records(alloc, &mut records, day)
+    read_book(alloc, &mut records, day)
 }

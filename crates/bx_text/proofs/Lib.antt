@@ -1,1 +1,4 @@
 pub mod GatheringSteps
+pub mod DigitSteps
+mod Fronts
+pub mod MemberSteps

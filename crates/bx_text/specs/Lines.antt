@@ -1,6 +1,6 @@
 -- Lines of octets: fields with single spaces between them, and an LF at the end.
-use Rattle.std.specs.Prelude.{ℕ, Bool, List, [], ◌∷◌, ◌++◌, decimal, if◌then◌else◌}
-use Rattle.std.specs.List.{join_with_byte}
+use Rattle.std.specs.Prelude.{ℕ, ◌+◌, Bool, true, false, List, [], ◌∷◌, ◌++◌, decimal}
+use Rattle.std.specs.List.{flat_map, join_with_byte}
 
 -- a line from its fields
 abbrev pub line_text : List (List ℕ) → List ℕ
@@ -10,6 +10,12 @@ line_text fields = join_with_byte 32 fields ++ 10 ∷ []
 abbrev pub named : List ℕ → ℕ → List (List ℕ)
 named word n = word ∷ decimal n ∷ []
 
--- what a line of channels has for a number, in the set or not
-abbrev pub member_text : Bool → ℕ → List ℕ
-member_text is_member number = if is_member then 32 ∷ decimal number else []
+-- the numbers from n on that are in the set, in rising order
+abbrev pub members_from : ℕ → List Bool → List ℕ
+members_from n [] = []
+members_from n (true ∷ others) = n ∷ members_from (n + 1) others
+members_from n (false ∷ others) = members_from (n + 1) others
+
+-- numbers, each with a space before it
+abbrev pub spaced : List ℕ → List ℕ
+spaced numbers = flat_map (λ n. 32 ∷ decimal n) numbers

@@ -3,7 +3,8 @@
 ghost use Rattle.std.specs.Prelude.{◌≡◌, ◌+◌, ◌<◌, ◌≤◌, ◌++◌, ◌∷◌, [], length, decimal};
 ghost use Rattle.arrayvec.specs.ArrayVec.{array_vec_len};
 ghost use Rattle.bx_base.specs.Channels.{IsChannelSet, has_channel};
-ghost use Rattle.bx_text.specs.Lines.{line_text, member_text, named};
+ghost use Rattle.bx_text.specs.Lines.{line_text, members_from, named, spaced};
+ghost use Rattle.bx_text.specs.Inside.{member_text};
 
 use arrayvec::ArrayVec;
 use bx_base::{Channel, ChannelSet};
@@ -56,7 +57,7 @@ pub fn named_line(word: &[u8], number: u64) -> Line
 }
 
 /// Adds a space and the number of a channel, if it is in the set.
-pub fn add_member(line: &mut Line, channels: &ChannelSet, number: u8)
+fn add_member(line: &mut Line, channels: &ChannelSet, number: u8)
     requires room { array_vec_len line.old ≤ 124 }
     requires set { IsChannelSet channels.now }
     ensures items { line.new.items ≡ line.old.items ++ member_text (has_channel channels.now number) number }
@@ -69,5 +70,19 @@ pub fn add_member(line: &mut Line, channels: &ChannelSet, number: u8)
         let mut digits = Buffer::new();
         line.push(b' ');
         append(line, digits.format(number).as_bytes());
+    }
+}
+
+/// Adds the numbers of the channels in the set, in rising order, each with a space before it.
+pub fn add_members(line: &mut Line, channels: &ChannelSet)
+    requires { array_vec_len line.old ≤ 31 }
+    ensures items { line.new.items ≡ line.old.items ++ spaced (members_from 0 channels.now) }
+    ensures len { array_vec_len line.new ≤ array_vec_len line.old + 96 }
+    ensures set { IsChannelSet channels.now }
+{
+    // Read for the prover alone, which learns a limit from it.
+    let _count = channels.count();
+    for number in 0..32 {
+        add_member(line, channels, number);
     }
 }

@@ -1,0 +1,19 @@
+-- Private: the faults of a text as those of a reader.
+use Rattle.std.specs.Prelude.{◌≡◌, ◌⊎◌, ◌≤◌, ℕ, Bool, true, false}
+use Rattle.bx_book.specs.declared.fault.BookFault.{BookFault}
+use Rattle.bx_book.specs.declared.fault.BookFault.TheVariants as f
+use Rattle.bx_book.specs.declared.stream.StreamFault.{StreamFault}
+use Rattle.bx_book.specs.declared.stream.StreamFault.TheVariants as stream
+
+-- why less than the whole was read, by what was counted
+abbrev pub IsMeterFault : Bool → Bool → ℕ → ℕ → StreamFault → Type 0
+IsMeterFault is_faulted has_ended octets reads stream.ReadFailed = (is_faulted ≡ true)
+    ⊎ ((is_faulted ≡ false) × (has_ended ≡ false) × (octets ≤ 4_194_304) × (reads ≡ 8_388_608))
+IsMeterFault is_faulted has_ended octets reads stream.TooLong = (is_faulted ≡ false) × (octets ≡ 4_194_305)
+IsMeterFault is_faulted has_ended octets reads (stream.Book e) = ⊥
+IsMeterFault is_faulted has_ended octets reads stream.Memory = ⊥
+
+-- a fault of a text as one of its reader
+abbrev pub told_as : BookFault → StreamFault
+told_as f.Memory = stream.Memory
+told_as e = stream.Book e

@@ -1,0 +1,51 @@
+//! A day with the clock of its zone.
+
+ghost use Rattle.std.specs.Prelude.{◌≡◌, ◌+ℤ◌, pos, IfOk, IfSome};
+
+use crate::day::{Day, DayFault};
+use jiff::Timestamp;
+use jiff::tz::TimeZone;
+
+/// A day, and the clock of the zone in which it lies.
+#[derive(Clone, Copy)]
+pub struct Clock {
+    day: Day,
+    zone: TimeZone<'static>,
+}
+
+impl Clock {
+    ghost use Rattle.bx_book.specs.Clocks.{IsClock, Shows, clock_day, clock_start, clock_zone};
+
+    /// The clock of a date under a POSIX zone rule, with the faults of `Day::new`.
+    pub fn new(date: &str, zone: &str) -> Result<Clock, DayFault>
+        ensures { IfOk result (IsClock date.now zone.now) }
+    {
+        let day = Day::new(date, zone)?;
+        match TimeZone::posix(zone) {
+            Ok(zone) => Ok(Clock { day, zone }),
+            Err(_) => Err(DayFault::BadZone),
+        }
+    }
+
+    /// The day.
+    pub fn day(&self) -> &Day
+        ensures { result.now ≡ clock_day self.now }
+    {
+        &self.day
+    }
+
+    /// The hour and the minute that the clock shows so many seconds behind the day's start; none where that is outside
+    /// the range of `jiff`.
+    pub fn shown(&self, moment: u32) -> Option<(u8, u8)>
+        ensures { IfSome result (λ shown. Shows (clock_zone self.now) (clock_start self.now +ℤ pos moment) shown.0 shown.1) }
+    {
+        let second = self.day.start() + i64::from(moment);
+        match Timestamp::from_second(second) {
+            Ok(at) => {
+                let shown = self.zone.to_datetime(at);
+                Some((shown.hour().unsigned_abs(), shown.minute().unsigned_abs()))
+            }
+            Err(_) => None,
+        }
+    }
+}
