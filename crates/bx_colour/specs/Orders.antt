@@ -1,4 +1,4 @@
--- Lists of accepted rows, each with its start.
+-- Private: lists of accepted rows, each with its start.
 use Rattle.std.specs.Prelude.{◌≡◌, ℕ, ◌<◌, Bool, true, List, length, slice_index_or}
 use Rattle.bx_base.specs.Bookings.{Row, row_at}
 use Rattle.bx_colour.specs.Colouring.{is_in, IsEarlier}

@@ -25,6 +25,7 @@ pub fn colour(
 {
     let order = in_order(alloc, bookings, accepted)?;
     let mut assigned = none_given(alloc, bookings.len())?;
+    // Read for the prover alone, which learns a limit from it.
     let _count = channels.count();
     let mut until = [0; 32];
     for (_, row) in &order {

@@ -2,11 +2,11 @@
 #![tactic(auto)]
 
 mod colouring;
+mod fitting;
 mod load;
 mod order;
-mod running;
 mod sweep;
 
 pub use colouring::colour;
+pub use fitting::fits;
 pub use load::Load;
-pub use running::fits;

@@ -8,7 +8,8 @@ use Rattle.bx_dist.specs.declared.part.Part.{Part}
 use Rattle.bx_dist.specs.declared.part.Part.TheVariants.{Whole}
 use Rattle.bx_dist.specs.declared.step.Step.{Step}
 use Rattle.bx_dist.specs.declared.step.Step.TheVariants.{Idle, Back, Take, Give}
-use Rattle.bx_dist.specs.Residual.{IsOpen, IsRowAt, Fits, RowFits, GapFits, height_at, step_to}
+use Rattle.bx_dist.specs.Residual.{IsOpen, IsRowAt, Fits, height_at, step_to}
+use Rattle.bx_dist.specs.Inside.{RowFits, GapFits}
 use Rattle.bx_dist.specs.Walks.{IsWalk, walk_length}
 
 -- each walk is at least as long as heights that fit rise along it

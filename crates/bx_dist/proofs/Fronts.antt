@@ -9,7 +9,8 @@ use Rattle.bx_dist.specs.declared.part.Part.{Part}
 use Rattle.bx_dist.specs.declared.step.Step.{Step}
 use Rattle.bx_dist.specs.declared.step.Step.TheVariants.{Idle, Back, Take, Give}
 use Rattle.bx_dist.specs.Residual.{IsOpen, Fits, AreSmall, height_at, step_from, step_to, step_cost}
-use Rattle.bx_dist.specs.Walks.{IsWalk, walk_length, AreLeast, AreDistances, Avoids, IsSimple, lengths_of}
+use Rattle.bx_dist.specs.Walks.{IsWalk, walk_length, AreLeast, AreDistances, lengths_of}
+use Rattle.bx_dist.specs.Inside.{Avoids, IsSimple}
 use Rattle.bx_dist.proofs.Simple.{pairs_from_simple}
 use Rattle.bx_dist.proofs.Fitting.{walk_long}
 use Rattle.bx_dist.specs.Search.{IsSettled, Shortens, last_step}

@@ -12,7 +12,7 @@ use Rattle.bx_dist.specs.declared.step.Step.TheVariants.{Idle}
 use Rattle.bx_dist.specs.Residual.{step_from, step_to}
 use Rattle.bx_dist.specs.Search.{IsTight, IsTightWalk, AreMarks, IsLastStep, last_step, Extends, IsFound}
 use Rattle.bx_dist.proofs.Sending.{sum_below-change}
-use Rattle.bx_dist.specs.Walks.{Avoids, IsSimple}
+use Rattle.bx_dist.specs.Inside.{Avoids, IsSimple}
 use Rattle.bx_dist.proofs.Simple.{pairs_from_simple}
 
 -- whether a place is marked, as a number

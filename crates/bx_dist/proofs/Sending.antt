@@ -18,8 +18,8 @@ use Rattle.bx_dist.specs.declared.step.Step.{Step}
 use Rattle.bx_dist.specs.declared.step.Step.TheVariants.{Idle, Back, Take, Give}
 use Rattle.bx_dist.specs.Residual.{IsOpen, HasRow, IsRowAt, step_from, step_to}
 use Rattle.bx_dist.specs.Walks.{IsWalk, IsPath}
-use Rattle.bx_dist.specs.Sending.{empty_flow, after_step, after_walk, sent, CanTake, CanTakeAll}
-use Rattle.bx_dist.specs.Walks.{Avoids, IsSimple}
+use Rattle.bx_dist.specs.Sending.{empty_flow, after_step, after_walk, sent}
+use Rattle.bx_dist.specs.Inside.{CanTake, CanTakeAll, Avoids, IsSimple}
 use Rattle.bx_dist.proofs.Simple.{simple_from_pairs}
 
 -- sums that differ in one term

@@ -6,7 +6,8 @@ use Rattle.std.proofs.lemmas.List.Kept.{AllPairs-cons}
 use Rattle.bx_line.specs.Network.{Network}
 use Rattle.bx_dist.specs.declared.step.Step.{Step}
 use Rattle.bx_dist.specs.Residual.{step_to}
-use Rattle.bx_dist.specs.Walks.{places_met, Avoids, IsSimple}
+use Rattle.bx_dist.specs.Walks.{places_met}
+use Rattle.bx_dist.specs.Inside.{Avoids, IsSimple}
 
 pub avoids_from_all : (line : Network) (x from : ℕ) (walk : List Step) → All (λ b. x ≢ b) (places_met line from walk) → Avoids line x from walk
 avoids_from_all line x from [] h = All-head (λ b. x ≢ b) from [] h

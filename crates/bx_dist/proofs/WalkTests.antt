@@ -7,7 +7,8 @@ use Rattle.bx_dist.specs.declared.step.Step.{Step}
 use Rattle.bx_dist.specs.declared.step.Step.TheVariants.{Idle}
 use Rattle.bx_dist.specs.Residual.{IsOpen, step_from, step_to}
 use Rattle.bx_dist.specs.Search.{IsStep, AreSteps}
-use Rattle.bx_dist.specs.Walks.{IsWalk, Avoids, IsSimple}
+use Rattle.bx_dist.specs.Walks.{IsWalk}
+use Rattle.bx_dist.specs.Inside.{Avoids, IsSimple}
 use Rattle.bx_dist.proofs.Rounding.{open_is_step}
 use Rattle.bx_dist.proofs.Sending.{next_step}
 

@@ -1,4 +1,4 @@
--- Places that are reached by the steps from settled ones.
+-- Private: places that are reached by the steps from settled ones.
 use Rattle.std.specs.Prelude.{◌≡◌, ◌≢◌, ℕ, ◌<◌, List, length, ℤ, pos, ◌-ℤ◌, ◌≤ℤ◌, ◌⊎◌, slice_index}
 use Rattle.bx_line.specs.Network.{Network, places_of}
 use Rattle.bx_line.specs.Flows.{Flow}

@@ -1,4 +1,5 @@
 pub mod Residual
+pub mod Inside
 pub mod Walks
 pub mod Sending
 pub mod Search

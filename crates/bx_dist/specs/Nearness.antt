@@ -1,4 +1,4 @@
--- A heap of places with how near each is.
+-- Private: a heap of places with how near each is.
 use Rattle.std.specs.Prelude.{◌≡◌, ℕ, ◌≤◌, List, Contains, slice_index}
 use Rattle.std.specs.Ordering.{nat_cmp, ordering_then}
 use Rattle.std.specs.declared.cmp.Ordering.{Ordering}

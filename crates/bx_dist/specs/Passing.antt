@@ -1,4 +1,4 @@
--- A pass along the line on which nothing is carried.
+-- Private: a pass along the line on which nothing is carried.
 use Rattle.std.specs.Prelude.{◌≡◌, ℕ, ◌<◌, List, length, ℤ, pos, ◌≤ℤ◌}
 use Rattle.bx_line.specs.Network.{Network, places_of}
 use Rattle.bx_dist.specs.declared.part.Part.TheVariants.{Whole}

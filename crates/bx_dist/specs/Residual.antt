@@ -1,5 +1,5 @@
 -- The residual network of a flow: what one more unit may do, step by step, and what each step costs.
-use Rattle.std.specs.Prelude.{◌≡◌, ℕ, ◌+◌, ◌-◌, ◌<◌, ◌≤◌, Bool, true, false, List, length, ℤ, pos, neg_ℤ, nat_abs, ◌+ℤ◌, ◌-ℤ◌, ◌≤ℤ◌, slice_index_or}
+use Rattle.std.specs.Prelude.{◌≡◌, ℕ, ◌+◌, ◌-◌, ◌<◌, ◌≤◌, Bool, true, false, List, length, ℤ, pos, neg_ℤ, nat_abs, ◌+ℤ◌, ◌≤ℤ◌, slice_index_or}
 use Rattle.bx_line.specs.declared.arc.Arc.{Arc}
 use Rattle.bx_line.specs.Network.{Network, places_of, arc_at}
 use Rattle.bx_line.specs.Flows.{Flow, IsSized, is_carried, idle_at}
@@ -72,12 +72,3 @@ pub record ArePotentials (line : Network) (flow : Flow) (heights : List ℤ) : T
   pub one_each : length heights ≡ places_of line
   pub sized : IsSized line flow
   pub fits : Fits Whole line flow heights
-
--- what fitting says of a row, and of a gap
-pub record RowFits (line : Network) (flow : Flow) (heights : List ℤ) (row : ℕ) : Type 0 where
-  pub onward : is_carried flow (row - 1) ≡ false → height_at heights (row_arc line row).to ≤ℤ (height_at heights (row_arc line row).from -ℤ pos (row_arc line row).pay)
-  pub back : is_carried flow (row - 1) ≡ true → height_at heights (row_arc line row).from ≤ℤ (height_at heights (row_arc line row).to +ℤ pos (row_arc line row).pay)
-
-pub record GapFits (flow : Flow) (heights : List ℤ) (v : ℕ) : Type 0 where
-  pub onward : height_at heights (v + 1) ≤ℤ height_at heights v
-  pub back : 0 < idle_at flow v → height_at heights v ≤ℤ height_at heights (v + 1)

@@ -1,4 +1,4 @@
--- Lists of steps, steps that shorten, and places that tight steps reach.
+-- Private: lists of steps, steps that shorten, and places that tight steps reach.
 use Rattle.std.specs.Prelude.{◌≡◌, ◌≢◌, ℕ, ◌+◌, ◌<◌, ◌≤◌, nat_lt, if◌then◌else◌, List, [], ◌∷◌, length, Contains, ℤ, nat_abs, ◌+ℤ◌, ◌≤ℤ◌, ◌<ℤ◌, slice_index, slice_index_or, slice_set, AllPairs, ◌-◌, ◌⊎◌}
 use Rattle.bx_base.specs.Sums.{sum_below}
 use Rattle.bx_line.specs.Network.{Network, places_of}

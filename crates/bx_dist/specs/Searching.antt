@@ -1,4 +1,4 @@
--- A search for distances: places that are settled, one that is in hand, and places that wait.
+-- Private: a search for distances: places that are settled, one that is in hand, and places that wait.
 use Rattle.std.specs.Prelude.{◌≡◌, ◌≢◌, ℕ, ◌<◌, ◌≤◌, ◌+◌, ◌-◌, List, [], ◌∷◌, ◌++◌, length, ℤ, pos, nat_abs, ◌-ℤ◌, ◌≤ℤ◌, ◌⊎◌, slice_index, slice_set, Contains, nat_lt, if◌then◌else◌}
 use Rattle.std.specs.BinaryHeap.{heap_items}
 use Rattle.bx_base.specs.Sums.{sum_below}

@@ -1,5 +1,5 @@
 -- What one more unit does to a flow.
-use Rattle.std.specs.Prelude.{◌+◌, ◌-◌, ◌<◌, ◌≤◌, List, [], ◌∷◌, true, false, length, replicate, slice_set}
+use Rattle.std.specs.Prelude.{◌+◌, ◌-◌, List, [], ◌∷◌, true, false, length, replicate, slice_set}
 use Rattle.bx_line.specs.Network.{Network, gaps_of}
 use Rattle.bx_line.specs.Flows.{Flow, flow_of, idle_at}
 use Rattle.bx_dist.specs.declared.step.Step.{Step}
@@ -24,15 +24,3 @@ after_walk flow (step ∷ walk) = after_walk (after_step flow step) walk
 -- the flow with one more unit, which took the walk
 abbrev pub sent : Flow → List Step → Flow
 sent flow walk = record (after_walk flow walk) { units = flow.units + 1 }
-
--- the flow has what the step changes, with room for one more idle unit
-abbrev pub CanTake : Flow → Step → Type 0
-CanTake flow (Idle v) = (v < length flow.idle) × (idle_at flow v < 255)
-CanTake flow (Back v) = (v < length flow.idle) × (0 < idle_at flow v)
-CanTake flow (Take row) = (1 ≤ row) × (row ≤ length flow.accepted)
-CanTake flow (Give row) = (1 ≤ row) × (row ≤ length flow.accepted)
-
--- the same of each step in turn
-abbrev pub CanTakeAll : Flow → List Step → Type 0
-CanTakeAll flow [] = Unit {0}
-CanTakeAll flow (step ∷ walk) = CanTake flow step × CanTakeAll (after_step flow step) walk

@@ -21,16 +21,6 @@ abbrev pub places_met : Network → ℕ → List Step → List ℕ
 places_met line from [] = from ∷ []
 places_met line from (step ∷ walk) = from ∷ places_met line (step_to line step) walk
 
--- the walk from here does not meet a place
-abbrev pub Avoids : Network → ℕ → ℕ → List Step → Type 0
-Avoids line x from [] = x ≢ from
-Avoids line x from (step ∷ walk) = (x ≢ from) × Avoids line x (step_to line step) walk
-
--- the walk from here meets no place twice
-abbrev pub IsSimple : Network → ℕ → List Step → Type 0
-IsSimple line from [] = Unit {0}
-IsSimple line from (step ∷ walk) = Avoids line from (step_to line step) walk × IsSimple line (step_to line step) walk
-
 -- a walk from the first place to the last that meets no place twice
 pub record IsPath (part : Part) (line : Network) (flow : Flow) (walk : List Step) : Type 0 where
   pub some_place : 0 < places_of line

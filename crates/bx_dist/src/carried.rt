@@ -2,7 +2,8 @@
 
 ghost use Rattle.std.specs.Prelude.{◌≡◌, ◌≤◌, ◌<◌, ◌-◌, ◌↔◌, IfOk, IsTrue, false, length};
 ghost use Rattle.bx_line.specs.Flows.{IsFlow, IsSized, is_carried, idle_at, crossing_at};
-ghost use Rattle.bx_dist.specs.Sending.{empty_flow, sent, after_step, CanTake};
+ghost use Rattle.bx_dist.specs.Sending.{empty_flow, sent, after_step};
+ghost use Rattle.bx_dist.specs.Inside.{CanTake};
 ghost use Rattle.bx_dist.specs.Walks.{IsPath};
 
 use crate::dist::Dist;
@@ -134,6 +135,7 @@ impl Carried {
         ensures sent { self.new ≡ sent self.old dist.now.walk }
         ensures flow { IsFlow line.now self.new }
     {
+        // Read for the prover alone, which learns a limit from it.
         let _places = line.places();
         for step in dist.walk() {
             self.take(*step);

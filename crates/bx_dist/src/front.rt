@@ -83,6 +83,7 @@ impl Front {
         requires one_each { length potentials.now ≡ places_of line.now }
         ensures { OnOk result ((part : Part) (flow : Flow) → Queues (setting_of part line.now flow potentials.now) place (state_of self.old) (state_of self.new)) }
     {
+        // Read for the prover alone, which learns a limit from it.
         let _places = line.places();
         if self.reduced(potentials, place) == self.level {
             self.tight.push(place)?;

@@ -28,6 +28,7 @@ impl Distances for HeapDist {
         potentials: &Potentials,
         part: Part,
     ) -> Result<Dist, AllocError> {
+        // Read for the prover alone, which learns a limit from it.
         let _small = potentials.at(0);
         let mut front = Front::new(alloc, line, potentials)?;
         while front.count < line.places() {

@@ -56,6 +56,7 @@ fn extend(marks: &mut Marks, line: &Line, steps: &[Step], lengths: &[i64], step:
     ensures same { result ≡ false → marks.new ≡ marks.old }
     ensures done { result ≡ false → Extends line.now lengths.now marks.old.ranks.items step }
 {
+    // Read for the prover alone, which learns a limit from it.
     let _places = line.places();
     let (from, to, _) = ends_of(line, step);
     if marks.ranks[from as usize] == 0

@@ -1,7 +1,8 @@
 //! Potentials.
 
 ghost use Rattle.std.specs.Prelude.{◌≡◌, ◌≤◌, ◌<◌, ◌↔◌, IsTrue, length};
-ghost use Rattle.bx_dist.specs.Residual.{height_at, AreSmall, ArePotentials, RowFits, GapFits};
+ghost use Rattle.bx_dist.specs.Residual.{height_at, AreSmall, ArePotentials};
+ghost use Rattle.bx_dist.specs.Inside.{RowFits, GapFits};
 
 use crate::carried::Carried;
 use crate::dist::Dist;

@@ -26,6 +26,7 @@ impl Distances for Rounds {
         part: Part,
     ) -> Result<Dist, AllocError> {
         let steps = open_steps(alloc, line, carried, part)?;
+        // Read for the prover alone, which learns a limit from it.
         let _small = potentials.at(0);
         let mut lengths = vec![in alloc; 0; line.places() as usize]?;
         let mut at = 0;

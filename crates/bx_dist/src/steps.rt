@@ -22,6 +22,7 @@ pub fn ends_of(line: &Line, step: Step) -> (u16, u16, i64)
     ensures to_within { result.1 < places_of line.now }
     ensures small { nat_abs result.2 ≤ 5001000000000 }
 {
+    // Read for the prover alone, which learns a limit from it.
     let _places = line.places();
     match step {
         Step::Idle(place) => (place, place + 1, 0),
@@ -57,6 +58,7 @@ pub fn is_there(line: &Line, carried: &Carried, part: Part, step: Step) -> bool
     requires sized { IsSized line.now carried.now }
     ensures { IsTrue result ↔ IsOpen part line.now carried.now step }
 {
+    // Read for the prover alone, which learns a limit from it.
     let _places = line.places();
     match step {
         Step::Idle(_) => true,

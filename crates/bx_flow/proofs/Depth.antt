@@ -12,7 +12,8 @@ use Rattle.bx_dist.specs.declared.part.Part.TheVariants.{Free}
 use Rattle.bx_dist.specs.declared.step.Step.{Step}
 use Rattle.bx_dist.specs.declared.step.Step.TheVariants.{Idle, Back, Take, Give}
 use Rattle.bx_dist.specs.Residual.{row_arc, step_to, height_at}
-use Rattle.bx_dist.specs.Walks.{IsWalk, walk_length, Avoids, IsSimple, AreDistances, Lengths}
+use Rattle.bx_dist.specs.Walks.{IsWalk, walk_length, AreDistances, Lengths}
+use Rattle.bx_dist.specs.Inside.{Avoids, IsSimple}
 use Rattle.bx_dist.proofs.Simple.{simple_from_pairs}
 use Rattle.bx_flow.specs.Costs.{free_pays}
 

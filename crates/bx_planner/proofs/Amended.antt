@@ -1,15 +1,13 @@
 -- The rows that are planned anew, one by one.
 use Rattle.std.proofs.Common.{zero, suc, ◌≡◌, ℕ, ◌+◌, ◌-◌, ◌<◌, ◌≤◌, Bool, List, [], ◌∷◌, ◌++◌, length, Option, refl, sym, ◌∙◌, ap, arith}
 use Rattle.std.proofs.lemmas.List.{length-append, get_or_append_left, get_or-append_right}
-use Rattle.bx_base.specs.Bookings.{Row, row_at, no_row}
-use Rattle.bx_base.specs.Plans.{is_accepted}
-use Rattle.bx_base.specs.Bookings.{Carries, IsLawful, pay_of}
+use Rattle.bx_base.specs.Bookings.{Row, row_at, no_row, Carries, IsLawful, pay_of}
+use Rattle.bx_base.specs.Plans.{is_accepted, channel_at}
 use Rattle.bx_base.specs.Channels.{count_of}
 use Rattle.bx_base.specs.PlanParts.{Parts}
-use Rattle.bx_base.specs.Plans.{channel_at}
 use Rattle.bx_planner.specs.Amending.{promised, promised_rows, amended, IsBestPlan, KeepsPromises}
 use Rattle.bx_planner.specs.Choices.{IsFirstFitPlan, ProvesBest}
-use Rattle.bx_planner.specs.LeastProofs.{IsLeastBound}
+use Rattle.bx_planner.specs.Inside.{IsLeastBound}
 use Rattle.bx_planner.proofs.Chosen.{best_from_proof}
 use Rattle.bx_planner.proofs.SamePrices.{least_proof}
 

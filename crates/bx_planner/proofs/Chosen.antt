@@ -23,7 +23,8 @@ use Rattle.bx_dist.proofs.After.{distances_fit}
 use Rattle.bx_flow.specs.Costs.{IsLeastCost, free_pays}
 use Rattle.bx_planner.specs.Musts.{musts_at, IsTooManyMust}
 use Rattle.bx_planner.specs.Prices.{fall_at, charges}
-use Rattle.bx_planner.specs.Choices.{IsBestChoice, ProvesBest, IsBest}
+use Rattle.bx_planner.specs.Choices.{ProvesBest, IsBest}
+use Rattle.bx_planner.specs.Inside.{IsBestChoice}
 use Rattle.bx_planner.proofs.Placed.{flow_has_room}
 use Rattle.bx_planner.proofs.AllMusts.{all_musts, sum_of_few}
 use Rattle.bx_planner.proofs.Falling.{price_at_most}

@@ -6,7 +6,8 @@ use Rattle.std.proofs.lemmas.Bool.{cases_lt}
 use Rattle.bx_base.specs.Sums.{sum_below}
 use Rattle.bx_base.proofs.SumLemmas.{sum_below-same, sum_below-add, sum_below-mul, sum_below-zero}
 use Rattle.bx_base.specs.Bookings.{Row, row_at, is_running, pay_of}
-use Rattle.bx_base.specs.Bound.{Charge, sum_of_prices, cost_of, gain_of, loss_of, bound_of}
+use Rattle.bx_base.specs.Bound.{Charge, sum_of_prices, cost_of, bound_of}
+use Rattle.bx_base.specs.Sides.{gain_of, loss_of}
 use Rattle.bx_base.proofs.Duality.{bound_and_losses}
 use Rattle.bx_line.specs.Network.{Network, IsNetwork, AreArcsOf, places_of, gaps_of, arc_at, spans}
 use Rattle.bx_line.specs.Flows.{Flow, CrossesEachGap, is_carried, idle_at}

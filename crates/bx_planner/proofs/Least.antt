@@ -23,7 +23,7 @@ use Rattle.bx_dist.specs.declared.step.Step.{Step}
 use Rattle.bx_dist.specs.declared.step.Step.TheVariants.{Idle, Back, Take, Give}
 use Rattle.bx_dist.proofs.After.{distances_fit}
 use Rattle.bx_planner.specs.Prices.{fall_at, charges}
-use Rattle.bx_planner.specs.LeastProofs.{IsLeastBound}
+use Rattle.bx_planner.specs.Inside.{IsLeastBound}
 use Rattle.bx_planner.specs.Tight.{runs_at, IsTight}
 use Rattle.bx_planner.proofs.Tightness.{tight}
 use Rattle.bx_planner.proofs.Placed.{same_tests}

@@ -12,4 +12,3 @@ pub mod SamePrices
 pub mod Proved
 pub mod NotLeast
 pub mod Amended
-pub mod Readings

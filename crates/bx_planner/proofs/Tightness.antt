@@ -7,9 +7,9 @@ use Rattle.std.proofs.lemmas.Int.{ints}
 use Rattle.std.proofs.Math.Nat.{mul-le-mul_right}
 use Rattle.bx_base.specs.Sums.{sum_below}
 use Rattle.bx_base.specs.Bookings.{Row, row_at, pay_of}
-use Rattle.bx_base.specs.Bound.{Charge, sum_of_prices, cost_of, gain_of, loss_of, bound_of}
+use Rattle.bx_base.specs.Bound.{Charge, sum_of_prices, cost_of, bound_of, Proves}
+use Rattle.bx_base.specs.Sides.{gain_of, loss_of}
 use Rattle.bx_base.proofs.SumLemmas.{sum_below-add, sum_below-mul, sum_below-same, sum_below-sum_by, sum_by-le_each, sum_by-mul, sum_below-same_terms, sum_by-same_terms}
-use Rattle.bx_base.specs.Bound.{Proves}
 use Rattle.bx_base.specs.Channels.{count_of}
 use Rattle.bx_base.proofs.Duality.{runs, cost_by_prices, one_row, bound_and_losses, running-le-count}
 use Rattle.bx_planner.specs.Tight.{runs_at, IsTight}

@@ -1,18 +1,11 @@
 -- Planning anew for the bookings of a plan, and for more: what the plan accepts is promised, and so must be held.
 use Rattle.std.specs.Prelude.{◌≡◌, ℕ, ◌<◌, ◌++◌, Bool, true, false, List, [], ◌∷◌, length, Option, is_some}
-use Rattle.std.specs.Io.KnownBytes.{Appends}
 use Rattle.bx_base.specs.Bookings.{Row, row_of, Carries, IsLawful, pay_of}
 use Rattle.bx_base.specs.Channels.{count_of}
-use Rattle.bx_base.specs.Devices.{Writing, KeepsOutput}
-use Rattle.bx_base.specs.Octets.{AppendsPrefix}
-use Rattle.bx_base.specs.PlanParts.{Parts, IsPlan}
+use Rattle.bx_base.specs.PlanParts.{Parts}
 use Rattle.bx_base.specs.Plans.{is_accepted, channel_at}
-use Rattle.bx_planfile.specs.declared.version.Version.TheVariants.{Three}
-use Rattle.bx_planfile.specs.Text.{plan_text}
 use Rattle.bx_planner.specs.declared.amending.AmendFail.{AmendFail}
 use Rattle.bx_planner.specs.declared.amending.AmendFail.TheVariants.{TooMany, TooManyMust, Memory}
-use Rattle.bx_planner.specs.declared.amending.AmendFault.{AmendFault}
-use Rattle.bx_planner.specs.declared.amending.AmendFault.TheVariants.{Amend, WriteFailed}
 use Rattle.bx_planner.specs.Musts.{IsTooManyMust}
 use Rattle.bx_planner.specs.LeastProofs.{IsLeastProof}
 use Rattle.bx_planner.specs.Choices.{IsBest, IsFirstFitPlan, ProvesBest}
@@ -47,28 +40,8 @@ pub record IsBestPlan (rows : List Row) (channels : List Bool) (plan : Parts) : 
 abbrev pub KeepsPromises : List Row → List (Option ℕ) → List (Option ℕ) → Type 0
 KeepsPromises rows before after = (i : ℕ) → i < length rows → is_accepted before i ≡ true → is_accepted after i ≡ true
 
--- the text of a best plan of these rows and channels was written
-pub record IsAmended (rows : List Row) (channels : List Bool) (output : Writing) (total : ℕ) : Type 0 where
-  pub plan : Parts
-  pub limits : IsPlan plan
-  pub best : IsBestPlan rows channels plan
-  pub total_is : plan.total ≡ total
-  pub written : Appends output.before output.after (plan_text Three plan)
-
--- a front of such a text was written
-pub record IsCutAmended (rows : List Row) (channels : List Bool) (output : Writing) : Type 0 where
-  pub plan : Parts
-  pub limits : IsPlan plan
-  pub best : IsBestPlan rows channels plan
-  pub written : AppendsPrefix output.before output.after (plan_text Three plan)
-
 -- why nothing was amended
 abbrev pub IsAmendFail : List Row → List Bool → AmendFail → Type 0
 IsAmendFail rows channels TooMany = 4000 < length rows
 IsAmendFail rows channels (TooManyMust moment) = IsTooManyMust rows channels moment
 IsAmendFail rows channels Memory = Unit {0}
-
--- each refusal: what went wrong, and that nothing was written, but where the output failed
-abbrev pub IsAmendRefusal : List Row → List Bool → Writing → AmendFault → Type 0
-IsAmendRefusal rows channels output (Amend fail) = IsAmendFail rows channels fail × KeepsOutput output
-IsAmendRefusal rows channels output WriteFailed = (output.is_faulted ≡ true) × IsCutAmended rows channels output

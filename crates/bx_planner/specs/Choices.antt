@@ -1,12 +1,11 @@
 -- Which rows a plan is to accept, and the prices that prove it best.
-use Rattle.std.specs.Prelude.{◌≡◌, ℕ, ◌<◌, ◌≤◌, Bool, true, List, length, All, Option, pos}
-use Rattle.bx_base.specs.Bookings.{Row, row_at, IsLawful, pay_of}
-use Rattle.bx_base.specs.Bound.{Charge, IsCharge, IsPriceList, bound_of}
+use Rattle.std.specs.Prelude.{◌≡◌, ℕ, ◌≤◌, Bool, List, All, Option, pos}
+use Rattle.bx_base.specs.Bookings.{Row, IsLawful, pay_of}
+use Rattle.bx_base.specs.Bound.{Charge, IsPriceList, bound_of}
 use Rattle.bx_base.specs.PlanParts.{Parts}
 use Rattle.bx_base.specs.Plans.{is_accepted}
 use Rattle.bx_line.specs.Moments.{IsMoment}
-use Rattle.bx_planner.specs.LeastProofs.{IsLeastBound}
-use Rattle.bx_colour.specs.Colouring.{is_in, running_at, IsFirstFit}
+use Rattle.bx_colour.specs.Colouring.{is_in, IsFirstFit}
 
 -- no lawful set pays more
 abbrev pub IsBest : List Row → List Bool → ℕ → Type 0
@@ -17,16 +16,6 @@ pub record ProvesBest (rows : List Row) (count : ℕ) (prices : List Charge) (to
   pub list : IsPriceList prices
   pub placed : All (λ p. IsMoment rows p.moment) prices
   pub exact : bound_of rows count prices ≡ pos total
-
--- marks for rows that so many channels can carry, with all must rows, and prices that prove them best
-pub record IsBestChoice (rows : List Row) (count : ℕ) (accepted : List Bool) (prices : List Charge) : Type 0 where
-  pub one_each : length accepted ≡ length rows
-  pub enough : (moment : ℕ) → running_at rows accepted moment ≤ count
-  pub musts : (i : ℕ) → i < length rows → (row_at rows i).must ≡ true → is_in accepted i ≡ true
-  pub few : length prices ≤ 8000
-  pub limits : All IsCharge prices
-  pub proof : ProvesBest rows count prices (pay_of rows (is_in accepted))
-  pub least : IsLeastBound rows count prices (pay_of rows (is_in accepted))
 
 -- the assignment is the first-fit colouring of the rows that it accepts
 abbrev pub IsFirstFitPlan : List Row → List Bool → List (Option ℕ) → Type 0

@@ -1,7 +1,7 @@
 -- The least of all price lists that prove a set.
-use Rattle.std.specs.Prelude.{◌≡◌, ℕ, ◌≤◌, Bool, List, All, pos}
+use Rattle.std.specs.Prelude.{◌≡◌, ℕ, ◌≤◌, Bool, List, All}
 use Rattle.bx_base.specs.Bookings.{Row}
-use Rattle.bx_base.specs.Bound.{Charge, IsPriceList, Proves, bound_of, sum_of_prices}
+use Rattle.bx_base.specs.Bound.{Charge, IsPriceList, Proves, sum_of_prices}
 use Rattle.bx_check.specs.Before.{sum_before}
 use Rattle.bx_line.specs.Moments.{IsMoment}
 
@@ -13,11 +13,6 @@ pub record IsLeastProof (rows : List Row) (channels : List Bool) (prices : List 
   pub proves : Proves rows channels prices set
   pub before : (other : List Charge) → IsPriceList other → Proves rows channels other set → (moment : ℕ) → IsMoment rows moment → sum_before prices moment ≤ sum_before other moment
   pub whole : (other : List Charge) → IsPriceList other → Proves rows channels other set → sum_of_prices prices ≤ sum_of_prices other
-
--- no charges that set this bound come to less, before a moment of the rows or altogether
-pub record IsLeastBound (rows : List Row) (count : ℕ) (prices : List Charge) (total : ℕ) : Type 0 where
-  pub before : (other : List Charge) → bound_of rows count other ≡ pos total → (moment : ℕ) → IsMoment rows moment → sum_before prices moment ≤ sum_before other moment
-  pub whole : (other : List Charge) → bound_of rows count other ≡ pos total → sum_of_prices prices ≤ sum_of_prices other
 
 -- two price lists of which each is the least proof of some set are equal
 abbrev pub ArePricesUnique : Type 0

@@ -1,4 +1,4 @@
--- The prices that heights at the places of a line set: what they fall by from place to place.
+-- Private: the prices that heights at the places of a line set: what they fall by from place to place.
 use Rattle.std.proofs.Common.{zero, suc}
 use Rattle.std.specs.Prelude.{ℕ, ◌+◌, ◌==◌, List, [], ◌∷◌, ◌++◌, ℤ, nat_abs, ◌-ℤ◌, slice_index, if◌then◌else◌}
 use Rattle.bx_base.specs.Bound.{Charge, charge_of}

@@ -2,18 +2,15 @@
 
 ghost use Rattle.std.specs.Prelude.{◌≡◌, ◌≤◌, ◌<◌, ◌+◌, ◌↔◌, ℕ, IfOk, IfErr, Err, length};
 ghost use Rattle.bx_base.specs.Channels.{count_of};
-ghost use Rattle.bx_base.specs.Devices.{writing_of};
 ghost use Rattle.bx_base.specs.PlanParts.{IsPlan, parts_of};
-ghost use Rattle.bx_planner.specs.Amending.{amended, IsAmended, IsAmendFail, IsAmendRefusal, IsBestPlan, KeepsPromises};
+ghost use Rattle.bx_planner.specs.Amending.{amended, IsAmendFail, IsBestPlan, KeepsPromises};
 ghost use Rattle.bx_planner.specs.Musts.{musts_at, IsTooManyMust};
 
 use crate::demand::Demand;
 use crate::musts::too_many_must;
 use crate::planning::best_plan;
-use bx_base::{Bookings, ChannelSet, Plan, Watched};
-use bx_planfile::write_plan;
+use bx_base::{Bookings, ChannelSet, MAX_BOOKINGS, Plan};
 use std::alloc::{AllocError, Global};
-use std::io::Write;
 use thiserror::Error;
 
 /// Why a plan was not amended.
@@ -44,7 +41,7 @@ pub fn amend(alloc: Global, plan: &Plan, more: &Bookings) -> Result<Plan, AmendF
     ensures fail { IfErr result (IsAmendFail (amended plan.now.bookings plan.now.assigned.items more.now) plan.now.channels) }
     ensures kept { IfOk result (λ p. KeepsPromises plan.now.bookings plan.now.assigned.items p.assigned.items) }
 {
-    if plan.bookings.len() + more.len() > 4000 {
+    if (plan.bookings.len() + more.len()) as usize > MAX_BOOKINGS {
         return Err(AmendFail::TooMany);
     }
     let demand = Demand::of(&plan.bookings, &plan.assigned, more);
@@ -71,35 +68,4 @@ fn planned_anew(
     let bookings = demand.bookings(alloc)?;
     let plan = best_plan(alloc, &bookings, channels)?;
     Ok(plan)
-}
-
-/// Why no amended plan was written.
-#[derive(Clone, Copy, Debug, PartialEq, Eq, Error)]
-pub enum AmendFault {
-    /// There is none.
-    #[error("{0}")]
-    Amend(AmendFail),
-    /// A write failed, or took none of what it was given: a front of the plan's text was written.
-    #[error("F2 CannotWrite")]
-    WriteFailed,
-}
-
-/// Amends the plan by more bookings, and writes the text of the new plan. Answers its total.
-pub fn write_amended<W: Write>(
-    alloc: Global,
-    plan: &Plan,
-    more: &Bookings,
-    output: &mut Watched<W>,
-) -> Result<u64, AmendFault>
-    ensures amended { IfOk result (IsAmended (amended plan.now.bookings plan.now.assigned.items more.now) plan.now.channels (writing_of W.contents output.old output.new)) }
-    ensures refused { IfErr result (IsAmendRefusal (amended plan.now.bookings plan.now.assigned.items more.now) plan.now.channels (writing_of W.contents output.old output.new)) }
-{
-    let amended = match amend(alloc, plan, more) {
-        Ok(amended) => amended,
-        Err(fail) => return Err(AmendFault::Amend(fail)),
-    };
-    match write_plan(&amended, output) {
-        Ok(()) => Ok(amended.total),
-        Err(_) => Err(AmendFault::WriteFailed),
-    }
 }

@@ -5,7 +5,7 @@ ghost use Rattle.bx_base.specs.Bookings.{AreBookings, pay_of};
 ghost use Rattle.bx_colour.specs.Colouring.{is_in};
 ghost use Rattle.bx_line.specs.Flows.{is_carried};
 ghost use Rattle.bx_planner.specs.Musts.{musts_at};
-ghost use Rattle.bx_planner.specs.Choices.{IsBestChoice};
+ghost use Rattle.bx_planner.specs.Inside.{IsBestChoice};
 
 use crate::prices::prices_of;
 use bx_base::{Bookings, Price};
@@ -26,6 +26,7 @@ pub(crate) fn best_choice(
     ensures best { IfOk result (λ r. IsBestChoice bookings.now count r.0.items r.1.items) }
     ensures bookings { AreBookings bookings.now }
 {
+    // Read for the prover alone, which learns a limit from it.
     let _rows = bookings.len();
     let line = Line::of(alloc, bookings)?;
     let (carried, potentials) = least_cost(alloc, &line, count, &HeapDist)?;

@@ -8,8 +8,6 @@ pub mod laws;
 mod musts;
 mod planning;
 mod prices;
-mod running;
 
-pub use amending::{AmendFail, AmendFault, amend, write_amended};
+pub use amending::{AmendFail, amend};
 pub use planning::{PlanFail, plan};
-pub use running::{RunFault, plan_run};

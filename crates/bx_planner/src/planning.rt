@@ -7,7 +7,8 @@ ghost use Rattle.bx_base.specs.PlanParts.{IsPlan, parts_of};
 ghost use Rattle.bx_base.specs.Plans.{is_accepted, channel_at};
 ghost use Rattle.bx_planner.specs.Musts.{musts_at, IsTooManyMust};
 ghost use Rattle.bx_planner.specs.Choices.{IsBest, IsFirstFitPlan, ProvesBest};
-ghost use Rattle.bx_planner.specs.LeastProofs.{IsLeastBound, IsLeastProof};
+ghost use Rattle.bx_planner.specs.LeastProofs.{IsLeastProof};
+ghost use Rattle.bx_planner.specs.Inside.{IsLeastBound};
 
 use crate::choice::{best_choice, total_of};
 use crate::demand::Demand;

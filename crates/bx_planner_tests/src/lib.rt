@@ -1,4 +1,4 @@
-//! Tests of the planning: the line, channels, distances, flows, plans, and planning from a text to a text.
+//! Tests of the planning: the line, channels, distances, flows and plans.
 #![tactic(auto)]
 
 #[cfg(test)]
@@ -15,8 +15,6 @@ mod flows;
 mod heap_distances;
 #[cfg(test)]
 mod lines;
-#[cfg(test)]
-mod plan_texts;
 #[cfg(test)]
 mod rows;
 #[cfg(test)]

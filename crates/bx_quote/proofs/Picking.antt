@@ -10,7 +10,8 @@ use Rattle.std.proofs.lemmas.List.Elements.{All-nil, All-push}
 use Rattle.std.proofs.lemmas.List.Quantifiers.{all_pairs_push}
 use Rattle.bx_base.specs.Sums.{sum_below}
 use Rattle.bx_base.specs.Bookings.{Row, row_at}
-use Rattle.bx_quote.specs.Named.{AreRows, pay_of_rows, is_named, traded, picked, is_apart}
+use Rattle.bx_quote.specs.Named.{AreRows, pay_of_rows, is_named, traded, picked}
+use Rattle.bx_quote.specs.Inside.{is_apart}
 
 all_with : (P : ℕ → Type 0) (xs : List ℕ) (x : ℕ) (b : Bool) → All P xs → (b ≡ true → P x) → All P (xs ++ cond b (x ∷ []) [])
 all_with P xs x true all h = All-push P xs x all (h refl)

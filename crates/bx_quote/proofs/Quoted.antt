@@ -7,7 +7,8 @@ use Rattle.bx_base.specs.PlanParts.{Parts}
 use Rattle.bx_base.specs.Plans.{is_accepted}
 use Rattle.bx_planner.specs.Amending.{IsBestPlan}
 use Rattle.bx_quote.specs.declared.answer.Quote.{Quote}
-use Rattle.bx_quote.specs.Named.{picked, is_apart}
+use Rattle.bx_quote.specs.Named.{picked}
+use Rattle.bx_quote.specs.Inside.{is_apart}
 use Rattle.bx_quote.specs.Quotes.{IsQuote}
 use Rattle.bx_quote.specs.Weighing.{IsSettled, held, freed}
 use Rattle.bx_quote.proofs.Deciding.{threshold_decides}

@@ -16,7 +16,8 @@ use Rattle.bx_quote.specs.declared.writing.QuoteFault.TheVariants as fault
 use Rattle.bx_quote.specs.Named.{picked}
 use Rattle.bx_quote.specs.Quotes.{IsQuote}
 use Rattle.bx_quote.specs.Texts.{refused_line, refused_rows}
-use Rattle.bx_quote.specs.Writing.{IsTold, IsWriteFault}
+use Rattle.bx_quote.specs.Writing.{IsTold}
+use Rattle.bx_quote.specs.Inside.{IsWriteFault}
 
 abbrev pub Put : Type 0
 Put = Result (Unit {0}) QuoteFault

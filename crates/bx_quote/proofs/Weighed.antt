@@ -12,7 +12,8 @@ use Rattle.bx_base.specs.Plans.{is_accepted}
 use Rattle.bx_base.proofs.Duality.{pay-le-bound}
 use Rattle.bx_base.proofs.SumLemmas.{sum_below-same, sum_below-add}
 use Rattle.bx_planner.specs.Amending.{IsBestPlan}
-use Rattle.bx_quote.specs.Named.{AreRows, pay_of_rows, traded, picked, is_apart}
+use Rattle.bx_quote.specs.Named.{AreRows, pay_of_rows, traded, picked}
+use Rattle.bx_quote.specs.Inside.{is_apart}
 use Rattle.bx_quote.specs.Thresholds.{others, offered, IsThreshold}
 use Rattle.bx_quote.specs.Weighing.{IsSettled, held}
 use Rattle.bx_quote.proofs.Places.{pay_offered, pay_split, lawful_offered}

@@ -1,6 +1,7 @@
 pub mod Thresholds
 pub mod Rooms
 pub mod Named
+pub mod Inside
 pub mod Weighing
 pub mod Quotes
 pub mod Texts

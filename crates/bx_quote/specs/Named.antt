@@ -25,7 +25,3 @@ traded set i instead besides j = (j == i) || (is_named besides j || (set j && no
 abbrev pub picked : (ℕ → Bool) → ℕ → List ℕ
 picked test zero = []
 picked test (suc n) = picked test n ++ (if test n then suc n ∷ [] else [])
-
--- whether a row other than that at i is in the one set, and not in the other
-abbrev pub is_apart : (ℕ → Bool) → (ℕ → Bool) → ℕ → ℕ → Bool
-is_apart one other i j = not (j == i) && (one j && not (other j))

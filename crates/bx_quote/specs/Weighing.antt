@@ -1,4 +1,4 @@
--- A plan beside rows of which one is not among those that it accepts.
+-- Private: a plan beside rows of which one is not among those that it accepts.
 use Rattle.std.specs.Prelude.{◌≡◌, ◌≢◌, ℕ, ◌<◌, true, false, pos, List, length, slice_set}
 use Rattle.bx_base.specs.Bookings.{Row, row_at, IsLawful, pay_of}
 use Rattle.bx_base.specs.Bound.{bound_of}

@@ -38,8 +38,3 @@ IsExplainRefusal plan row output fault.WriteFailed = (output.is_faulted ≡ true
 abbrev pub IsListRefusal : Parts → Writing → QuoteFault → Type 0
 IsListRefusal plan output (fault.Quote fail) = (fail ≡ Memory) × KeepsOutput output
 IsListRefusal plan output fault.WriteFailed = (output.is_faulted ≡ true) × AppendsPrefix output.before output.after (refused_text plan)
-
--- a text was not written: the output failed, and a front of it was
-abbrev pub IsWriteFault : Writing → List ℕ → QuoteFault → Type 0
-IsWriteFault output text fault.WriteFailed = (output.is_faulted ≡ true) × AppendsPrefix output.before output.after text
-IsWriteFault output text _ = ⊥

@@ -2,7 +2,8 @@
 
 ghost use Rattle.std.specs.Prelude.{◌≡◌, ◌≤◌, IfOk};
 ghost use Rattle.bx_base.specs.Plans.{is_accepted};
-ghost use Rattle.bx_quote.specs.Named.{picked, is_apart};
+ghost use Rattle.bx_quote.specs.Named.{picked};
+ghost use Rattle.bx_quote.specs.Inside.{is_apart};
 
 use bx_base::Channel;
 use std::alloc::{AllocError, Global};

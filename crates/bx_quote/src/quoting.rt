@@ -13,7 +13,7 @@ ghost use Rattle.bx_quote.specs.Weighing.{held};
 use crate::answer::{Quote, QuoteFail};
 use crate::rooms::no_channel;
 use crate::weighing::weighed;
-use bx_base::{Booking, Bookings, Plan};
+use bx_base::{Booking, Bookings, MAX_BOOKINGS, Plan};
 use std::alloc::{AllocError, Global};
 
 /// What a booking that is not in the plan has to pay to be taken, where nothing else changes. Neither its own pay nor
@@ -26,7 +26,7 @@ pub fn quote(alloc: Global, plan: &Plan, booking: &Booking) -> Result<Quote, Quo
     ensures quoted { IfOk result (IsQuote (asked plan.now.bookings booking.now) (parts_of plan.now) (length plan.now.bookings)) }
     ensures fail { IfErr result (IsQuoteFail (parts_of plan.now) booking.now) }
 {
-    if plan.bookings.len() >= 4000 {
+    if plan.bookings.len() as usize >= MAX_BOOKINGS {
         return Err(QuoteFail::TooMany);
     }
     if let Some(moment) = no_channel(&plan.bookings, plan.channels, booking) {

@@ -1,6 +1,6 @@
 //! The lines of quotes.
 
-ghost use Rattle.std.specs.Prelude.{◌≡◌, ◌≤◌, ◌++◌, length, IfOk, OnOk, decimal};
+ghost use Rattle.std.specs.Prelude.{◌≡◌, ◌≤◌, ◌++◌, length, IfOk, OnOk};
 ghost use Rattle.bx_base.specs.PlanParts.{parts_of};
 ghost use Rattle.bx_check.specs.Before.{AreSums};
 ghost use Rattle.bx_check.specs.Check.{IsRising};
@@ -9,7 +9,7 @@ ghost use Rattle.bx_quote.specs.Texts.{number_line, names_line, quote_text, expl
 use crate::answer::Quote;
 use bx_base::Plan;
 use bx_check::{Sums, cost, sums_of};
-use itoa::Buffer;
+use bx_text::append_decimal;
 use std::alloc::{AllocError, Global};
 
 /// What a quote says, in four lines.
@@ -31,8 +31,8 @@ pub(crate) fn explained_text(
     ensures { IfOk result (λ text. text.items ≡ explained_text row pay quote.now) }
 {
     let mut text = Vec::new(alloc);
-    add(&mut text, b"row ")?;
-    add_decimal(&mut text, u64::from(row))?;
+    text.extend_from_slice(b"row ")?;
+    append_decimal(&mut text, u64::from(row))?;
     add_number(&mut text, b" pays ", pay)?;
     add_quote(&mut text, quote)?;
     Ok(text)
@@ -52,8 +52,8 @@ pub(crate) fn refused_text(alloc: Global, plan: &Plan) -> Result<Vec<u8>, AllocE
             refused += 1;
         }
     }
-    add(&mut text, b"refused ")?;
-    add_decimal(&mut text, u64::from(refused))?;
+    text.extend_from_slice(b"refused ")?;
+    append_decimal(&mut text, u64::from(refused))?;
     add_number(&mut text, b" of ", u64::from(plan.bookings.len()))?;
     Ok(text)
 }
@@ -66,9 +66,9 @@ fn add_refused(text: &mut Vec<u8>, plan: &Plan, sums: &Sums, row: u16) -> Result
     ensures { OnOk result (text.new.items ≡ text.old.items ++ refused_line (parts_of plan.now) row) }
 {
     let booking = plan.bookings.nth(row - 1);
-    add_decimal(text, u64::from(row))?;
-    add(text, b" pays ")?;
-    add_decimal(text, booking.pay())?;
+    append_decimal(text, u64::from(row))?;
+    text.extend_from_slice(b" pays ")?;
+    append_decimal(text, booking.pay())?;
     add_number(text, b" of ", cost(&booking, &plan.prices, sums))
 }
 
@@ -86,37 +86,22 @@ fn add_quote(text: &mut Vec<u8>, quote: &Quote) -> Result<(), AllocError>
 fn add_number(text: &mut Vec<u8>, words: &[u8], number: u64) -> Result<(), AllocError>
     ensures { OnOk result (text.new.items ≡ text.old.items ++ number_line words.now number) }
 {
-    add(text, words)?;
-    add_decimal(text, number)?;
-    add(text, b"\n")
+    text.extend_from_slice(words)?;
+    append_decimal(text, number)?;
+    text.extend_from_slice(b"\n")
 }
 
 /// Adds words, the names of rows, each behind a space, or none, and the end of the line.
 fn add_names(text: &mut Vec<u8>, words: &[u8], rows: &[u16]) -> Result<(), AllocError>
     ensures { OnOk result (text.new.items ≡ text.old.items ++ names_line words.now rows.now) }
 {
-    add(text, words)?;
+    text.extend_from_slice(words)?;
     if rows.is_empty() {
-        return add(text, b" none\n");
+        return text.extend_from_slice(b" none\n");
     }
     for row in rows {
-        add(text, b" ")?;
-        add_decimal(text, u64::from(*row))?;
+        text.extend_from_slice(b" ")?;
+        append_decimal(text, u64::from(*row))?;
     }
-    add(text, b"\n")
-}
-
-/// Adds octets.
-fn add(text: &mut Vec<u8>, octets: &[u8]) -> Result<(), AllocError>
-    ensures { OnOk result (text.new.items ≡ text.old.items ++ octets.now) }
-{
-    text.extend_from_slice(octets)
-}
-
-/// Adds a decimal.
-fn add_decimal(text: &mut Vec<u8>, number: u64) -> Result<(), AllocError>
-    ensures { OnOk result (text.new.items ≡ text.old.items ++ decimal number) }
-{
-    let mut digits = Buffer::new();
-    add(text, digits.format(number).as_bytes())
+    text.extend_from_slice(b"\n")
 }

@@ -9,7 +9,8 @@ ghost use Rattle.bx_base.specs.PlanParts.{parts_of};
 ghost use Rattle.bx_check.specs.Check.{IsOutcome};
 ghost use Rattle.bx_quote.specs.Quotes.{asked};
 ghost use Rattle.bx_quote.specs.Texts.{quote_text, explained_text, refused_text};
-ghost use Rattle.bx_quote.specs.Writing.{IsTold, IsQuoteRefusal, IsExplainRefusal, IsListRefusal, IsWriteFault};
+ghost use Rattle.bx_quote.specs.Writing.{IsTold, IsQuoteRefusal, IsExplainRefusal, IsListRefusal};
+ghost use Rattle.bx_quote.specs.Inside.{IsWriteFault};
 
 use crate::answer::QuoteFail;
 use crate::quoting::{explain, quote};

@@ -1,5 +1,5 @@
 use Rattle.std.proofs.Common.{◌↔◌, drop}
-use Rattle.bx_dist.specs.Walks.{Avoids}
+use Rattle.bx_dist.specs.Inside.{Avoids}
 use Rattle.bx_dist.proofs.path.avoids.Given as goal
 
 abbrev pub invariant-loop-step : goal.invariant-loop-step

@@ -1,5 +1,5 @@
 use Rattle.std.proofs.Common.{◌↔◌, drop}
-use Rattle.bx_dist.specs.Walks.{IsSimple}
+use Rattle.bx_dist.specs.Inside.{IsSimple}
 use Rattle.bx_dist.proofs.path.is_simple.Given as goal
 
 abbrev pub invariant-loop-i : goal.invariant-loop-i

@@ -26,8 +26,8 @@ returns-in-Ok-clause-kept c =
     let all = c.of-demand.ensures ∙ ap (λ (a : List (Option ℕ)). amended c.args.plan.now.bookings a c.args.more.now) c.deref.ensures.value in
     keeps c.args.plan.now.bookings c.args.plan.now.assigned.items c.args.more.now c.args.plan.now.channels c.in-Ok.amended.assigned.items (subst (λ (rows : List Row). IsLawful rows c.args.plan.now.channels (is_accepted c.in-Ok.amended.assigned.items)) all c.in-Ok.ensures.planned.lawful)
 
-pub returns-then-len-gt4000-clause-fail : goal.returns-then-len-gt4000-clause-fail
-returns-then-len-gt4000-clause-fail c = let n = length_amended c.args.plan.now.bookings c.args.plan.now.assigned.items c.args.more.now in omega (arith, n)
+pub returns-then-len-gt-MAX_BOOKINGS-clause-fail : goal.returns-then-len-gt-MAX_BOOKINGS-clause-fail
+returns-then-len-gt-MAX_BOOKINGS-clause-fail c = let n = length_amended c.args.plan.now.bookings c.args.plan.now.assigned.items c.args.more.now in omega (arith, n)
 
 pub returns-in-Some-clause-fail : goal.returns-in-Some-clause-fail
 returns-in-Some-clause-fail c =

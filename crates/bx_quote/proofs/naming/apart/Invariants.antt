@@ -1,6 +1,7 @@
 use Rattle.std.proofs.Common.{◌≡◌}
 use Rattle.bx_base.specs.Plans.{is_accepted}
-use Rattle.bx_quote.specs.Named.{picked, is_apart}
+use Rattle.bx_quote.specs.Named.{picked}
+use Rattle.bx_quote.specs.Inside.{is_apart}
 use Rattle.bx_quote.proofs.naming.apart.Given as goal
 
 abbrev pub invariant-loop-index : goal.invariant-loop-index

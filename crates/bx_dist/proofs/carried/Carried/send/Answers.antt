@@ -1,7 +1,8 @@
 use Rattle.std.proofs.Common.{◌≡◌, [], drop, refl, sym, ◌∙◌, ap, subst, arith}
 use Rattle.std.proofs.lemmas.List.{drop_all}
 use Rattle.bx_line.specs.Flows.{Flow, IsFlow, flow_of}
-use Rattle.bx_dist.specs.Sending.{CanTakeAll, after_walk}
+use Rattle.bx_dist.specs.Sending.{after_walk}
+use Rattle.bx_dist.specs.Inside.{CanTakeAll}
 use Rattle.bx_dist.proofs.Sending.{takes_path, sent_is_flow, units_same, next_step, sent_is}
 use Rattle.bx_dist.proofs.carried.Carried.send.Goals as goal
 

@@ -1,5 +1,6 @@
 use Rattle.std.proofs.Common.{◌≡◌, drop}
-use Rattle.bx_dist.specs.Sending.{after_walk, CanTakeAll}
+use Rattle.bx_dist.specs.Sending.{after_walk}
+use Rattle.bx_dist.specs.Inside.{CanTakeAll}
 use Rattle.bx_dist.proofs.carried.Carried.send.Given as goal
 
 abbrev pub invariant-loop-step : goal.invariant-loop-step

@@ -1,5 +1,5 @@
 use Rattle.std.proofs.Common.{◌-◌, ◌+◌, ℤ, length, ap, arith, below_more, refl}
-use Rattle.bx_dist.specs.Residual.{RowFits}
+use Rattle.bx_dist.specs.Inside.{RowFits}
 use Rattle.bx_dist.proofs.Fitting.{fits_from_parts, RowFits-from_fits, GapFits-from_fits}
 use Rattle.bx_dist.proofs.potentials.Potentials.fits.Goals as goal
 

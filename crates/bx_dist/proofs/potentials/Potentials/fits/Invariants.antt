@@ -1,5 +1,5 @@
 use Rattle.std.proofs.Common.{ℕ, ◌+◌, ◌<◌}
-use Rattle.bx_dist.specs.Residual.{RowFits, GapFits}
+use Rattle.bx_dist.specs.Inside.{RowFits, GapFits}
 use Rattle.bx_dist.proofs.potentials.Potentials.fits.Given as goal
 
 abbrev pub invariant-loop-i : goal.invariant-loop-i

@@ -2,7 +2,8 @@ use Rattle.std.proofs.Common.{◌≡◌, ℕ, ◌-◌, ◌≤◌, ◌↔◌, tru
 use Rattle.bx_line.specs.declared.arc.Arc.{Arc}
 use Rattle.bx_line.specs.Network.{Network}
 use Rattle.bx_line.specs.Flows.{Flow, is_carried}
-use Rattle.bx_dist.specs.Residual.{height_at, row_arc, RowFits}
+use Rattle.bx_dist.specs.Residual.{height_at, row_arc}
+use Rattle.bx_dist.specs.Inside.{RowFits}
 use Rattle.bx_dist.proofs.Fitting.{test_up, test_down}
 use Rattle.bx_dist.proofs.potentials.Potentials.row_fits.Goals as goal
 

@@ -2,8 +2,8 @@ use Rattle.std.proofs.Common.{◌≡◌, ℕ, true, false, arith, length}
 use Rattle.bx_colour.specs.Colouring.{is_in, running_at}
 use Rattle.bx_colour.specs.Loads.{load_at}
 use Rattle.bx_colour.proofs.LoadLemmas.{add_marked, none_found, if_none, all_rows}
-use Rattle.bx_colour.proofs.running.fits.Goals as goal
-use Rattle.bx_colour.proofs.running.fits.Goals.{then-accepted-i, else-accepted-i}
+use Rattle.bx_colour.proofs.fitting.fits.Goals as goal
+use Rattle.bx_colour.proofs.fitting.fits.Goals.{then-accepted-i, else-accepted-i}
 
 pub loop-i-preserved : goal.loop-i-preserved
 loop-i-preserved c =

@@ -3,7 +3,7 @@ use Rattle.bx_base.specs.Sums.{sum_below}
 use Rattle.bx_base.specs.Bookings.{row_at, is_running}
 use Rattle.bx_colour.specs.Colouring.{is_in}
 use Rattle.bx_colour.specs.Loads.{load_at, size_of}
-use Rattle.bx_colour.proofs.running.fits.Given as goal
+use Rattle.bx_colour.proofs.fitting.fits.Given as goal
 
 abbrev pub invariant-loop-i : goal.invariant-loop-i
 invariant-loop-i l = record {
