@@ -1,4 +1,4 @@
--- Which messages only some states expect.
+-- Private: which messages only some states expect.
 use Rattle.bx_q931.specs.declared.kind.Kind.{Kind}
 use Rattle.bx_q931.specs.declared.kind.Kind.TheVariants.{Setup, Disconnect, Release, ReleaseComplete, StatusEnquiry, Status}
 

@@ -11,3 +11,4 @@ pub mod UnknownTable
 pub mod Setups
 pub mod Said
 pub mod Shared
+pub mod Sending

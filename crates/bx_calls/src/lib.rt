@@ -2,14 +2,15 @@
 //! goes by (ITU-T Q.931, 5.1 to 5.3 and 5.8). Nothing here takes memory or refuses.
 #![tactic(auto)]
 
+mod bearer;
 mod call_state;
 mod hearing;
 mod net_call;
 mod net_messages;
 mod net_seconds;
 mod net_state;
-mod saying;
-mod setup;
+mod outgoing;
+mod sending;
 mod step;
 pub mod timers;
 mod unknown_reference;
@@ -18,10 +19,11 @@ mod user_messages;
 mod user_seconds;
 mod user_state;
 
+pub use bearer::bearer_fault;
 pub use call_state::CallState;
 pub use net_call::NetCall;
 pub use net_state::{NetOrigin, NetState};
-pub use setup::bearer_fault;
+pub use sending::spell;
 pub use step::{Next, Step};
 pub use unknown_reference::{End, refuse, unknown};
 pub use user_call::UserCall;

@@ -9,7 +9,7 @@ ghost use Rattle.bx_calls.specs.NetTable.{net_flag, net_says, net_says_cause, ne
 
 use crate::call_state::CallState;
 use crate::net_state::{NetOrigin, NetState};
-use crate::saying::{plain, setup};
+use crate::outgoing::{plain, setup};
 use crate::step::Step;
 use crate::timers::{T303, T305, T308};
 use bx_base::{Channel, Number};

@@ -5,7 +5,7 @@ ghost use Rattle.bx_calls.specs.NetTable.{net_is_clearing, net_setup_again, net_
 
 use crate::net_call::NetCall;
 use crate::net_state::{NetOrigin, NetState};
-use crate::saying::setup;
+use crate::outgoing::setup;
 use crate::step::Step;
 use crate::timers::T303;
 use bx_q931::cause::{NORMAL_CALL_CLEARING, RECOVERY_ON_TIMER_EXPIRY};

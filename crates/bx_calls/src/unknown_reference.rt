@@ -6,7 +6,7 @@ ghost use Rattle.bx_calls.specs.UnknownTable.{location_of, refusal_of, unknown_r
 ghost use Rattle.bx_calls.specs.Hearing.{heard_of};
 
 use crate::call_state::CallState;
-use crate::saying::plain;
+use crate::outgoing::plain;
 use bx_q931::cause::{
     INVALID_CALL_REFERENCE, LOCATION_LOCAL_NETWORK, LOCATION_USER, MESSAGE_NOT_COMPATIBLE,
     RESPONSE_TO_STATUS_ENQUIRY,

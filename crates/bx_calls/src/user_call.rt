@@ -8,7 +8,7 @@ ghost use Rattle.bx_calls.specs.Saying.{setup_of};
 ghost use Rattle.bx_calls.specs.UserTable.{user_flag, user_says, user_says_channel, user_says_cause, user_status, user_offered, user_calling, user_same, user_to, user_releases, user_disconnects, user_connects, user_setup_again, user_row, user_message, user_takes, user_answers, user_clears, user_second_row, user_second};
 
 use crate::call_state::CallState;
-use crate::saying::{plain, setup};
+use crate::outgoing::{plain, setup};
 use crate::step::Step;
 use crate::timers::{T303, T305, T308, T313};
 use crate::user_state::{Policy, UserOrigin, UserState};

@@ -3,7 +3,7 @@
 ghost use Rattle.std.specs.Prelude.{◌≡◌, ◌≤◌};
 ghost use Rattle.bx_calls.specs.UserTable.{user_setup_again, user_takes, user_answers, user_clears, user_second_row, user_second};
 
-use crate::saying::setup;
+use crate::outgoing::setup;
 use crate::step::Step;
 use crate::timers::T303;
 use crate::user_call::UserCall;

@@ -1,7 +1,7 @@
 -- How the moments of a call's activity go on.
 use Rattle.std.proofs.Common.{ℕ, ◌≤◌, true, false, arith}
 use Rattle.bx_base.specs.Bookings.{Row}
-use Rattle.bx_day.specs.Day.{activity_after, over_at}
+use Rattle.bx_day.specs.Moves.{activity_after, over_at}
 use Rattle.bx_day.specs.declared.entry.Entry.{Entry}
 use Rattle.bx_day.specs.declared.entry.Activity.{Activity}
 use Rattle.bx_day.specs.declared.entry.Activity.TheVariants.{Never, Since, Was}

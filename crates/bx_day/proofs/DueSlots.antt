@@ -6,9 +6,10 @@ use Rattle.bx_base.specs.Channels.{IsChannel}
 use Rattle.bx_day.specs.Day.{Day, is_live, is_unoffered, is_free, entry_at}
 use Rattle.bx_day.specs.Invariant.{is_refused}
 use Rattle.bx_day.specs.Quiet.{never}
-use Rattle.bx_day.specs.QuietSeconds.{IsDue, IsDueOn, tick_due, due_at}
+use Rattle.bx_day.specs.QuietSeconds.{IsDue, tick_due, due_at}
+use Rattle.bx_day.specs.SlotSteps.{IsDueOn, slot_due}
 use Rattle.bx_day.specs.Reading.{IsExchange, Seated}
-use Rattle.bx_day.specs.Slots.{IsLiveOn, IsWaitingOn, slot_due}
+use Rattle.bx_day.specs.Slots.{IsLiveOn, IsWaitingOn}
 use Rattle.bx_day.specs.declared.entry.Entry.{Entry}
 use Rattle.bx_day.specs.declared.entry.Standing.{Standing}
 use Rattle.bx_day.specs.declared.entry.Standing.TheVariants.{Refused, Unoffered, OnCall, Carried, Unanswered, Missed}

@@ -8,7 +8,10 @@ use Rattle.bx_calls.specs.declared.step.Step.{Step}
 use Rattle.bx_calls.specs.declared.net_state.NetState.{NetState}
 use Rattle.bx_calls.specs.declared.net_state.NetState.TheVariants.{OutgoingCallProceeding, CallPresent, IncomingCallProceeding, CallReceived, Active, DisconnectIndication, ReleaseRequest}
 use Rattle.bx_calls.specs.NetTable.{net_second}
-use Rattle.bx_day.specs.Day.{Day, Sent, is_free, second_at, second_of, after_second, stays, over_at, follows, waits, entry_at, tick, ticked}
+use Rattle.bx_day.specs.Day.{Day, is_free, entry_at}
+use Rattle.bx_day.specs.Ticks.{second_at, second_of, after_second, waits, tick, ticked}
+use Rattle.bx_day.specs.Moves.{stays, over_at, follows}
+use Rattle.bx_calls.specs.Sending.{Sent}
 use Rattle.bx_day.specs.Invariant.{EntryFits}
 use Rattle.bx_day.specs.Quiet.{call_due}
 use Rattle.bx_day.specs.QuietSeconds.{later_by, IsQuietTick, tick_due, due_at, IsDue}
@@ -136,7 +139,7 @@ pub quiet_early : (d : Day) → IsQuietTick d → d.moment < 300000
 quiet_early d quiet = decide (nat_le 300000 d.moment)
     (λ last.
     let still : tick d ≡ record { day = d; sent = [] } = ap (λ b. if b then (record { day = d; sent = [] }) else ticked d) last in
-    let same : d.moment ≡ d.moment + 1 = ap (λ (s : Sent). s.day.moment) (sym still ∙ quiet) in
+    let same : d.moment ≡ d.moment + 1 = ap (λ (s : Sent Day). s.day.moment) (sym still ∙ quiet) in
     absurd (omega (arith, same)))
     (λ going. leb-false 300000 d.moment going)
 
@@ -144,7 +147,7 @@ quiet_booking : (d : Day) (i : ℕ) → IsQuietTick d → d.moment + 2 ≤ due_a
 quiet_booking d i quiet =
     let early = quiet_early d quiet in
     let e = entry_at d.entries i in
-    let same : after_second d e ≡ e = sym (at_map d d.entries i) ∙ ap (λ (s : Sent). entry_at s.day.entries i) (sym (tick_is d early) ∙ quiet) in
+    let same : after_second d e ≡ e = sym (at_map d d.entries i) ∙ ap (λ (s : Sent Day). entry_at s.day.entries i) (sym (tick_is d early) ∙ quiet) in
     decide (nat_le (due_at d i) (d.moment + 1))
     (λ due.
     let le : due_at d i ≤ d.moment + 1 = leb-true (due_at d i) (d.moment + 1) due in

@@ -9,7 +9,7 @@ use Rattle.bx_calls.specs.declared.net_state.NetState.{NetState}
 use Rattle.bx_calls.specs.declared.net_state.NetState.TheVariants.{OutgoingCallProceeding, CallPresent, IncomingCallProceeding, CallReceived, Active, DisconnectIndication, ReleaseRequest}
 use Rattle.bx_calls.specs.Hearing.{Heard, names_channel, reports_null}
 use Rattle.bx_calls.specs.NetTable.{net_row}
-use Rattle.bx_day.specs.Day.{over_at}
+use Rattle.bx_day.specs.Moves.{over_at}
 use Rattle.bx_day.specs.declared.entry.Entry.{Entry}
 use Rattle.bx_day.specs.declared.entry.Activity.{Activity}
 use Rattle.bx_day.specs.Invariant.{CallFits, EntryFits}

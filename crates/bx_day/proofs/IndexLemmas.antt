@@ -8,12 +8,14 @@ use Rattle.bx_day.specs.Passing.{day_of, AreBlocked, AreTouched, IsTicked}
 use Rattle.bx_day.proofs.Passing.{map_size, refilled, ticked_stays}
 use Rattle.bx_day.proofs.TouchSlots.{touched_of}
 use Rattle.bx_day.proofs.Dues.{quiet_until}
-use Rattle.bx_day.specs.Day.{after_second, ticked, Day, is_live, is_unoffered, entry_at, entries_from, entry_of}
+use Rattle.bx_day.specs.Day.{Day, is_live, is_unoffered, entry_at, entries_from, entry_of}
+use Rattle.bx_day.specs.Ticks.{after_second, ticked}
 use Rattle.bx_day.specs.Invariant.{is_refused}
 use Rattle.bx_day.specs.Linking.{AreLinks}
 use Rattle.bx_day.specs.QuietSeconds.{later_by, IsQuietTick, IsQuietFor, IsDue}
 use Rattle.bx_day.specs.Reading.{IsExchange}
-use Rattle.bx_day.specs.Slots.{slot_at, follower, AreSlots, IsIndexed}
+use Rattle.bx_day.specs.Slots.{slot_at, AreSlots, IsIndexed}
+use Rattle.bx_day.specs.SlotSteps.{follower}
 use Rattle.bx_day.specs.declared.entry.Entry.{Entry}
 use Rattle.bx_day.proofs.LinkLemmas.{none_in}
 use Rattle.bx_day.proofs.OpeningDay.{opening_at, opening_size}

@@ -14,15 +14,17 @@ use Rattle.bx_calls.specs.declared.net_state.NetState.TheVariants.{OutgoingCallP
 use Rattle.bx_calls.specs.NetTable.{net_message, net_second}
 use Rattle.bx_base.specs.Bookings.{Row, row_at, is_running, AreBookings, Carries}
 use Rattle.bx_base.specs.Plans.{is_accepted, channel_at}
-use Rattle.bx_calls.specs.Said.{Said}
+use Rattle.bx_calls.specs.Said.{Said, said_of}
 use Rattle.bx_day.specs.declared.entry.Activity.{Activity}
 use Rattle.bx_day.specs.declared.entry.Standing.{Standing}
 use Rattle.bx_day.specs.declared.entry.Standing.TheVariants.{Refused, Unoffered, OnCall, Carried, Unanswered, Missed}
 use Rattle.bx_day.specs.declared.entry.Entry.{Entry}
 use Rattle.bx_day.specs.declared.entry.Moved.{Moved}
-use Rattle.bx_day.specs.Day.{Day, Sent, Answered, entry_at, no_entry, after_second, second_at, waits, hears, takes_call, takes_or, takes_preferred, called_on, called, stray, received_at, receive, tick, opening, entry_of, entries_from, is_free, is_live, opens, index_of, lowest_open, every_channel, names, with_moved}
+use Rattle.bx_day.specs.Day.{Day, entry_at, no_entry, opening, entry_of, entries_from, is_free, is_live, index_of, every_channel}
+use Rattle.bx_day.specs.Ticks.{after_second, second_at, waits, tick}
+use Rattle.bx_day.specs.Receipts.{hears, takes_call, takes_or, takes_preferred, called_on, called, stray, received_at, receive, opens, lowest_open, names, with_moved}
+use Rattle.bx_calls.specs.Sending.{Sent, Answered}
 use Rattle.bx_day.specs.Run.{Event, Tick, Receive, receive_from, receive_read, happens, day_after}
-use Rattle.bx_calls.specs.Said.{said_of}
 use Rattle.bx_q931.specs.Messages.{PlainMessage, message_at}
 use Rattle.bx_q931.specs.declared.reference.Reference.{Reference}
 use Rattle.bx_q931.specs.declared.reference.Reference.TheVariants.{Dummy, Value}
@@ -167,7 +169,7 @@ all_update P (e ∷ es) zero y f h = (f h.0, h.1)
 all_update P (e ∷ es) (suc i) y f h = (h.0, all_update P es i y f h.1)
 
 tick_framed : (rows : List Row) (assigned : List (Option ℕ)) (d : Day) → Framed rows assigned d → Framed rows assigned (tick d).day
-tick_framed rows assigned d h = by_cases (nat_le 300000 d.moment) _ _ (λ (s : Sent). Framed rows assigned s.day) (λ _. h)
+tick_framed rows assigned d h = by_cases (nat_le 300000 d.moment) _ _ (λ (s : Sent Day). Framed rows assigned s.day) (λ _. h)
     (λ _. (
       (λ i lt. let e = entry_at d.entries i in
           subst (IsFrame (row_at rows i) (slice_index_or assigned i None)) (sym (at_map d d.entries i))
@@ -201,7 +203,7 @@ called_framed rows assigned d m (Some cause) h = h
 called_framed rows assigned d m None h = on_framed rows assigned d m m.heard.channel h
 
 stray_framed : (rows : List Row) (assigned : List (Option ℕ)) (d : Day) (m : Said) (k : Kind) → Framed rows assigned d → Framed rows assigned (stray d m k).day
-stray_framed rows assigned d m Setup h = by_cases m.flag _ _ (λ (x : Answered). Framed rows assigned x.day) (λ _. h) (λ _. called_framed rows assigned d m m.refused h)
+stray_framed rows assigned d m Setup h = by_cases m.flag _ _ (λ (x : Answered Day). Framed rows assigned x.day) (λ _. h) (λ _. called_framed rows assigned d m m.refused h)
 stray_framed rows assigned d m k h = h
 
 received_framed : (rows : List Row) (assigned : List (Option ℕ)) (d : Day) (m : Said) (o : Option ℕ) → Framed rows assigned d → Framed rows assigned (received_at d m o).day
@@ -218,7 +220,7 @@ received_run rows assigned d m h = record { day = receive_fits d m h.day; framed
 
 from_run : (rows : List Row) (assigned : List (Option ℕ)) (d : Day) (m : PlainMessage) (r : Reference) → RunFits rows assigned d → RunFits rows assigned (receive_from d m r).day
 from_run rows assigned d m Dummy h = h
-from_run rows assigned d m (Value value flag) h = by_cases (value == 0) _ _ (λ (x : Answered). RunFits rows assigned x.day) (λ _. h) (λ _. received_run rows assigned d (said_of value flag m) h)
+from_run rows assigned d m (Value value flag) h = by_cases (value == 0) _ _ (λ (x : Answered Day). RunFits rows assigned x.day) (λ _. h) (λ _. received_run rows assigned d (said_of value flag m) h)
 
 read_run : (rows : List Row) (assigned : List (Option ℕ)) (d : Day) (r : Result PlainMessage MessageFault) → RunFits rows assigned d → RunFits rows assigned (receive_read d r).day
 read_run rows assigned d (Err fault) h = h

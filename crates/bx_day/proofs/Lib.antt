@@ -11,7 +11,6 @@ pub mod OpeningDay
 pub mod Once
 pub mod Passing
 pub mod Received
-pub mod WritingSteps
 pub mod ToldLines
 pub mod Replays
 pub mod Quiet

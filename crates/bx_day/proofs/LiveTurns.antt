@@ -4,7 +4,8 @@ use Rattle.std.specs.Prelude.{is_some}
 use Rattle.std.proofs.lemmas.Bool.{true≢false, false≢true, cases_eq, cases_lt}
 use Rattle.bx_day.specs.Day.{Day, is_live, holds, entry_at}
 use Rattle.bx_day.specs.Invariant.{Apart, Pairs}
-use Rattle.bx_day.specs.Slots.{IsLiveOn, is_live_at, live_of}
+use Rattle.bx_day.specs.Slots.{IsLiveOn}
+use Rattle.bx_day.specs.SlotSteps.{is_live_at, live_of}
 use Rattle.bx_day.specs.declared.entry.Entry.{Entry}
 use Rattle.bx_day.specs.declared.entry.Moved.{Moved}
 use Rattle.bx_day.proofs.Law.{at_map}

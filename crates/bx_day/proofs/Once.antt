@@ -5,10 +5,10 @@ use Rattle.std.proofs.lemmas.Bool.{false≢true, eqb-true}
 use Rattle.bx_base.specs.Channels.{IsChannel}
 use Rattle.bx_q931.specs.Outgoing.{Outgoing}
 use Rattle.bx_calls.specs.Shared.{cons_some}
-use Rattle.bx_day.specs.Day.{Day, is_live, is_held, is_free, second_at, second_of, waits, said_on, entry_at}
+use Rattle.bx_day.specs.Day.{Day, is_live, is_held, is_free, entry_at}
+use Rattle.bx_day.specs.Ticks.{second_at, second_of, waits, said_on, SaysOnce}
 use Rattle.bx_day.specs.Invariant.{Apart, Pairs, is_refused}
 use Rattle.bx_day.specs.Reading.{Seated, IsExchange}
-use Rattle.bx_day.specs.Passing.{SaysOnce}
 use Rattle.bx_day.specs.declared.entry.Moved.{Moved}
 use Rattle.bx_day.specs.declared.entry.Entry.{Entry}
 use Rattle.bx_day.specs.declared.entry.Standing.{Standing}

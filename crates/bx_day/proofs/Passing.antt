@@ -6,10 +6,13 @@ use Rattle.std.proofs.lemmas.List.{drop_all}
 use Rattle.bx_base.specs.Channels.{IsChannel}
 use Rattle.bx_q931.specs.Outgoing.{Outgoing}
 use Rattle.bx_calls.specs.Shared.{is_set, cons_some}
-use Rattle.bx_day.specs.Day.{Day, is_held, is_free, second_at, second_of, after_second, said_on, every_channel, stays, tick, ticked}
+use Rattle.bx_day.specs.Day.{Day, is_held, is_free, every_channel}
+use Rattle.bx_day.specs.Ticks.{second_at, second_of, after_second, said_on, tick, ticked}
+use Rattle.bx_day.specs.Moves.{stays}
 use Rattle.bx_day.specs.Invariant.{is_refused}
 use Rattle.bx_day.specs.Reading.{Seated, IsExchange}
-use Rattle.bx_day.specs.Passing.{somes, SaysOnEach, AreBlocked}
+use Rattle.bx_day.specs.Passing.{SaysOnEach, AreBlocked}
+use Rattle.bx_calls.specs.Sending.{in_order}
 use Rattle.bx_day.specs.declared.entry.Moved.{Moved}
 use Rattle.bx_day.specs.declared.entry.Entry.{Entry}
 use Rattle.bx_day.specs.declared.entry.Standing.{Standing}
@@ -56,14 +59,14 @@ abbrev numbers : ℕ → ℕ → List ℕ
 numbers zero n = []
 numbers (suc k) n = n ∷ numbers k (n + 1)
 
-somes_on : (f : ℕ → List Outgoing) (n : ℕ) (said : List (Option Outgoing)) → ((c : ℕ) → c < length said → cons_some (slice_index_or said c None) [] ≡ f (n + c)) → somes said ≡ flat_map f (numbers (length said) n)
+somes_on : (f : ℕ → List Outgoing) (n : ℕ) (said : List (Option Outgoing)) → ((c : ℕ) → c < length said → cons_some (slice_index_or said c None) [] ≡ f (n + c)) → in_order said ≡ flat_map f (numbers (length said) n)
 somes_on f n [] h = refl
 somes_on f n (o ∷ os) h = ap₂ (λ x xs. x ++ xs) (h 0 (omega arith) ∙ ap f (let q : n + 0 ≡ n = omega arith in q)) (somes_on f (n + 1) os (λ c lt. h (suc c) (omega (arith, lt)) ∙ ap f (let q : n + suc c ≡ (n + 1) + c = omega arith in q)))
 
 without : (f : ℕ → List Outgoing) → f 0 ≡ [] → f 16 ≡ [] → flat_map f (numbers 32 0) ≡ flat_map f every_channel
 without f none signalling = rw none (rw signalling refl)
 
-pub all_somes : (d : Day) (said : List (Option Outgoing)) → length said ≡ 32 → AllByRecursion Seated d.entries → SaysOnEach d said → somes said ≡ flat_map (λ c. said_on d c d.entries) every_channel
+pub all_somes : (d : Day) (said : List (Option Outgoing)) → length said ≡ 32 → AllByRecursion Seated d.entries → SaysOnEach d said → in_order said ≡ flat_map (λ c. said_on d c d.entries) every_channel
 all_somes d said size seats slots =
     let f : ℕ → List Outgoing = λ c. said_on d c d.entries in
     somes_on f 0 said (λ c lt. slots c ∙ ap f (let q : c ≡ 0 + c = omega arith in q)) ∙ ap (λ n. flat_map f (numbers n 0)) size ∙ without f (off_channel d 0 d.entries seats (λ i. absurd (omega (arith, i.0)))) (off_channel d 16 d.entries seats (λ i. i.2 refl))
@@ -77,10 +80,10 @@ few_said d one = few_each (λ c. said_on d c d.entries) one every_channel
 
 -- ---- the whole tick
 
-pub sent_is : (d : Day) (said : List (Option Outgoing)) → IsExchange d → length said ≡ 32 → SaysOnEach d said → somes said ≡ (ticked d).sent
+pub sent_is : (d : Day) (said : List (Option Outgoing)) → IsExchange d → length said ≡ 32 → SaysOnEach d said → in_order said ≡ (ticked d).sent
 sent_is d said h size each = all_somes d said size h.seated each
 
-pub few_somes : (d : Day) (said : List (Option Outgoing)) → IsExchange d → length said ≡ 32 → SaysOnEach d said → length (somes said) ≤ 30
+pub few_somes : (d : Day) (said : List (Option Outgoing)) → IsExchange d → length said ≡ 32 → SaysOnEach d said → length (in_order said) ≤ 30
 few_somes d said h size each = subst (λ (os : List Outgoing). length os ≤ 30) (sym (sent_is d said h size each)) (few_said d (says_once d h))
 
 all_seated : (d : Day) (es : List Entry) → AllByRecursion Seated es → AllByRecursion Seated (map (after_second d) es)

@@ -5,7 +5,8 @@ use Rattle.std.proofs.lemmas.Bool.{true≢false, false≢true, cases_eq, or_case
 use Rattle.std.proofs.lemmas.List.{get_or-set_same, get_or-set_other}
 use Rattle.bx_calls.specs.NetTable.{net_message}
 use Rattle.bx_calls.specs.Said.{Said}
-use Rattle.bx_day.specs.Day.{hears, names, index_of, Day, is_live, is_unoffered, is_open, holds, entry_at, no_entry}
+use Rattle.bx_day.specs.Day.{index_of, Day, is_live, is_unoffered, holds, entry_at, no_entry}
+use Rattle.bx_day.specs.Receipts.{hears, names, is_open}
 use Rattle.bx_day.specs.Invariant.{is_refused}
 use Rattle.bx_day.specs.Reading.{IsExchange, Seated}
 use Rattle.bx_day.specs.Slots.{slot_at, waits_on, IsLiveOn, IsWaitingOn, IsLater, IsBehind, AreSlots}

@@ -1,6 +1,6 @@
 -- When a tick does nothing to a booking, and nothing at all.
 use Rattle.std.proofs.Common.{◌≡◌, ◌==◌, ℕ, suc, ◌+◌, ◌≤◌, ◌<◌, ◌&&◌, ◌||◌, not, Bool, true, false, List, [], ◌∷◌, ◌++◌, map, length, Some, None, arith, refl, subst, ap, ap₂, ◌∙◌, nat_le, nat_lt, if◌then◌else◌, flat_map}
-use Rattle.std.specs.List.{AllByRecursion}
+use Rattle.std.specs.List.{AllByRecursion, list_any}
 use Rattle.std.proofs.Math.Nat.{min-le_left, min-le_right}
 use Rattle.std.proofs.lemmas.Bool.{true≢false, false≢true, leb-true}
 use Rattle.bx_base.specs.Bookings.{Row, is_running}
@@ -9,11 +9,12 @@ use Rattle.bx_calls.specs.declared.net_state.NetState.{NetState}
 use Rattle.bx_calls.specs.declared.net_state.NetState.TheVariants.{OutgoingCallProceeding, CallPresent, IncomingCallProceeding, CallReceived, Active, DisconnectIndication, ReleaseRequest}
 use Rattle.bx_calls.specs.NetTable.{net_second, net_same, net_offered}
 use Rattle.bx_calls.specs.Saying.{setup_of}
-use Rattle.bx_day.specs.Day.{Day, is_active, activity_after, second_at, second_of, after_second, stays, becomes, follows, waits, said_on, maintained, breaks_on, every_channel, entry_at, ticked}
+use Rattle.bx_day.specs.Day.{Day, every_channel, entry_at}
+use Rattle.bx_day.specs.Ticks.{second_at, second_of, after_second, waits, said_on, maintained, breaks_on, ticked}
+use Rattle.bx_day.specs.Moves.{is_active, activity_after, stays, becomes, follows}
 use Rattle.bx_day.specs.Invariant.{phase_of, ActivityFits, EntryFits, CallFits}
 use Rattle.bx_q931.specs.Outgoing.{Outgoing}
 use Rattle.bx_calls.specs.Shared.{cons_some}
-use Rattle.std.specs.List.{list_any}
 use Rattle.bx_day.specs.Quiet.{call_due, booking_due}
 use Rattle.bx_day.specs.QuietSeconds.{later_by}
 use Rattle.bx_day.specs.declared.entry.Moved.{Moved}

@@ -8,7 +8,9 @@ use Rattle.bx_q931.specs.declared.channel_field.ChannelField.{ChannelField}
 use Rattle.bx_q931.specs.declared.channel_field.ChannelField.TheVariants.{Absent, Named, AnyChannel, Unread}
 use Rattle.bx_base.specs.Bookings.{is_running}
 use Rattle.bx_calls.specs.Said.{Said}
-use Rattle.bx_day.specs.Day.{Day, Answered, is_live, is_held, is_free, is_open, is_unoffered, opens, index_of, one_more, or_else, lowest_open, entry_at, no_entry, names, hears, takes_call, takes_or, takes_preferred, called_on, called, stray, received_at, receive, every_channel}
+use Rattle.bx_day.specs.Day.{Day, is_live, is_held, is_free, is_unoffered, index_of, one_more, entry_at, no_entry, every_channel}
+use Rattle.bx_day.specs.Receipts.{is_open, opens, or_else, lowest_open, names, hears, takes_call, takes_or, takes_preferred, called_on, called, stray, received_at, receive}
+use Rattle.bx_calls.specs.Sending.{Answered}
 use Rattle.bx_day.specs.declared.entry.Entry.{Entry}
 use Rattle.bx_day.specs.declared.entry.Standing.{Standing}
 use Rattle.bx_day.specs.declared.entry.Standing.TheVariants.{Refused, Unoffered, OnCall, Carried, Unanswered, Missed}
@@ -176,7 +178,7 @@ called_fits d m (Some cause) fits = fits
 called_fits d m None fits = on_fits d m m.heard.channel fits
 
 pub stray_fits : (d : Day) (m : Said) (k : Kind) → DayFits d → DayFits (stray d m k).day
-stray_fits d m Setup fits = by_cases m.flag _ _ (λ (x : Answered). DayFits x.day) (λ _. fits) (λ _. called_fits d m m.refused fits)
+stray_fits d m Setup fits = by_cases m.flag _ _ (λ (x : Answered Day). DayFits x.day) (λ _. fits) (λ _. called_fits d m m.refused fits)
 stray_fits d m k fits = fits
 
 pub received_fits : (d : Day) (m : Said) (o : Option ℕ) → DayFits d → DayFits (received_at d m o).day

@@ -17,7 +17,9 @@ use Rattle.bx_base.specs.Bookings.{is_running}
 use Rattle.bx_base.specs.Channels.{IsChannel}
 use Rattle.bx_calls.specs.Said.{Said}
 use Rattle.bx_calls.specs.Shared.{bool_eq, is_set}
-use Rattle.bx_day.specs.Day.{Day, becomes, follows, holds, is_held, is_free, is_open, is_unoffered, opens, index_of, one_more, or_else, lowest_open, every_channel, entry_at, names, names_call, hears, takes_call, takes_or, takes_preferred, with_moved, received_at}
+use Rattle.bx_day.specs.Day.{Day, holds, is_held, is_free, is_unoffered, index_of, one_more, every_channel, entry_at}
+use Rattle.bx_day.specs.Receipts.{is_open, opens, or_else, lowest_open, names, names_call, hears, takes_call, takes_or, takes_preferred, with_moved, received_at}
+use Rattle.bx_day.specs.Moves.{becomes, follows}
 use Rattle.bx_day.specs.declared.entry.Activity.{Activity}
 use Rattle.bx_day.specs.declared.entry.Activity.TheVariants.{Never}
 use Rattle.bx_day.specs.declared.entry.Entry.{Entry}

@@ -4,7 +4,7 @@ use Rattle.std.proofs.lemmas.List.{append-nil, take_more}
 use Rattle.bx_q931.specs.Outgoing.{Outgoing, out_octets}
 use Rattle.bx_day.specs.Day.{Day}
 use Rattle.bx_day.specs.Run.{Event, Tick, happens, day_after, sent_over}
-use Rattle.bx_day.specs.Spelling.{spelled}
+use Rattle.bx_calls.specs.Sending.{spelled}
 
 day_more : (xs : List Event) (e : Event) (d : Day) → day_after (xs ++ e ∷ []) d ≡ (happens (day_after xs d) e).day
 day_more [] e d = refl

@@ -4,7 +4,9 @@ use Rattle.std.specs.List.{AllByRecursion, flat_map}
 use Rattle.bx_q931.specs.Outgoing.{Outgoing}
 use Rattle.bx_day.specs.declared.entry.Entry.{Entry}
 use Rattle.bx_calls.specs.Shared.{cons_some}
-use Rattle.bx_day.specs.Day.{Day, Sent, tick, second_of, said_on, every_channel}
+use Rattle.bx_day.specs.Day.{Day, every_channel}
+use Rattle.bx_day.specs.Ticks.{tick, second_of, said_on}
+use Rattle.bx_calls.specs.Sending.{Sent}
 use Rattle.bx_day.proofs.Tick.{by_cases}
 
 abbrev pub OfSaid : (Outgoing → Type 0) → Option Outgoing → Type 0
@@ -29,4 +31,4 @@ all_over P d (c ∷ cs) h = all_append P (said_on d c d.entries) (flat_map (λ k
 
 -- what holds of all that bookings say holds of all messages of a tick
 pub all_said : (P : Outgoing → Type 0) (d : Day) → AllByRecursion (λ e. OfSaid P (second_of d e).said) d.entries → AllByRecursion P (tick d).sent
-all_said P d h = by_cases (nat_le 300000 d.moment) _ _ (λ (s : Sent). AllByRecursion P s.sent) (λ _. tt) (λ _. all_over P d every_channel h)
+all_said P d h = by_cases (nat_le 300000 d.moment) _ _ (λ (s : Sent Day). AllByRecursion P s.sent) (λ _. tt) (λ _. all_over P d every_channel h)

@@ -4,7 +4,8 @@ use Rattle.std.specs.List.{list_any}
 use Rattle.std.proofs.lemmas.Bool.{true≢false, false≢true, eqb-true, eq-eqb, or_cases}
 use Rattle.bx_q931.specs.Outgoing.{Outgoing}
 use Rattle.bx_calls.specs.Shared.{is_set, cons_some}
-use Rattle.bx_day.specs.Day.{Day, second_of, said_on, breaks_on, maintained, entry_at}
+use Rattle.bx_day.specs.Day.{Day, entry_at}
+use Rattle.bx_day.specs.Ticks.{second_of, said_on, breaks_on, maintained}
 use Rattle.bx_day.specs.declared.entry.Entry.{Entry}
 use Rattle.bx_day.proofs.Tick.{by_cases}
 

@@ -20,7 +20,7 @@ use Rattle.bx_calls.specs.declared.net_state.NetState.TheVariants.{OutgoingCallP
 use Rattle.bx_calls.specs.Hearing.{Heard, names_channel, reports_null}
 use Rattle.bx_calls.specs.NetTable.{net_row, net_message, net_second, net_releases, net_setup_again, proceeding_of}
 use Rattle.bx_calls.specs.Saying.{setup_of}
-use Rattle.bx_day.specs.Law.{OutFits}
+use Rattle.bx_day.specs.Law.{OutFits, SentFits}
 use Rattle.bx_q931.specs.Messages.{PlainMessage, message_at}
 use Rattle.bx_q931.specs.declared.reference.Reference.{Reference}
 use Rattle.bx_q931.specs.declared.reference.Reference.TheVariants.{Dummy, Value}
@@ -30,8 +30,12 @@ use Rattle.bx_q931.specs.declared.channel_field.ChannelField.TheVariants.{Absent
 use Rattle.bx_calls.specs.UnknownTable.{unknown_row, unknown_status}
 use Rattle.bx_calls.specs.declared.unknown_reference.End.TheVariants.{Network}
 use Rattle.bx_calls.specs.Said.{Said, said_of}
-use Rattle.bx_day.specs.Day.{Day, Sent, Answered, entry_at, is_free, opens, index_of, lowest_open, every_channel, names, hears, takes_or, takes_preferred, called_on, called, stray, received_at, follow, waits, second_at, second_of, tick}
-use Rattle.bx_day.specs.Run.{Event, Tick, Receive, receive_from, receive_read, happens, reply_list}
+use Rattle.bx_day.specs.Day.{Day, entry_at, is_free, index_of, every_channel}
+use Rattle.bx_day.specs.Ticks.{waits, second_at, second_of, tick}
+use Rattle.bx_day.specs.Receipts.{opens, lowest_open, names, hears, takes_or, takes_preferred, called_on, called, stray, received_at}
+use Rattle.bx_day.specs.Moves.{follow}
+use Rattle.bx_calls.specs.Sending.{Sent, Answered, reply_list}
+use Rattle.bx_day.specs.Run.{Event, Tick, Receive, receive_from, receive_read, happens}
 use Rattle.bx_day.specs.declared.entry.Standing.{Standing}
 use Rattle.bx_day.specs.declared.entry.Standing.TheVariants.{Refused, Unoffered, OnCall, Carried, Unanswered, Missed}
 use Rattle.bx_day.specs.declared.entry.Moved.{Moved}
@@ -42,7 +46,6 @@ use Rattle.bx_day.proofs.Second.{call_of}
 use Rattle.bx_day.proofs.Said.{OfSaid, all_over}
 use Rattle.bx_day.proofs.Tick.{by_cases, with_standing, offers, offers_parts, all_weaker}
 use Rattle.bx_day.proofs.Receive.{all_at, OpenAt, Open, open_parts, open_index, open_lowest}
-use Rattle.bx_day.specs.Law.{SentFits}
 
 -- neither SETUP nor CALL PROCEEDING
 abbrev pub is_plain : Kind → Bool
@@ -215,12 +218,12 @@ entries_said rows assigned d (e ∷ es) p h = (entry_said rows assigned d.moment
 
 -- a tick
 pub tick_said : (rows : List Row) (assigned : List (Option ℕ)) (d : Day) → AllByRecursion (Placed rows assigned) d.entries → DayFits d → AllByRecursion (OutFits rows assigned (tick d).day.moment) (tick d).sent
-tick_said rows assigned d p h = by_cases (nat_le 300000 d.moment) _ _ (λ (s : Sent). AllByRecursion (OutFits rows assigned s.day.moment) s.sent)
+tick_said rows assigned d p h = by_cases (nat_le 300000 d.moment) _ _ (λ (s : Sent Day). AllByRecursion (OutFits rows assigned s.day.moment) s.sent)
     (λ _. tt)
     (λ _. all_over (OutFits rows assigned (d.moment + 1)) d every_channel (entries_said rows assigned d d.entries p h.each))
 
 -- a receipt
-abbrev pub ReplyFits : List Row → List (Option ℕ) → Answered → Type 0
+abbrev pub ReplyFits : List Row → List (Option ℕ) → Answered Day → Type 0
 ReplyFits rows assigned x = OfSaid (OutFits rows assigned x.day.moment) x.reply
 
 placed_at : (rows : List Row) (assigned : List (Option ℕ)) (es : List Entry) (i : ℕ) → AllByRecursion (Placed rows assigned) es → is_refused (entry_at es i).standing ≡ false → Placed rows assigned (entry_at es i)
@@ -275,7 +278,7 @@ unknown_plain r flag m StatusEnquiry = refl
 unknown_plain r flag m k = refl
 
 stray_said : (rows : List Row) (assigned : List (Option ℕ)) (d : Day) (m : Said) (k : Kind) → AllByRecursion (Placed rows assigned) d.entries → ReplyFits rows assigned (stray d m k)
-stray_said rows assigned d m Setup p = by_cases m.flag _ _ (λ (x : Answered). ReplyFits rows assigned x) (λ _. tt) (λ _. called_said rows assigned d m m.refused p)
+stray_said rows assigned d m Setup p = by_cases m.flag _ _ (λ (x : Answered Day). ReplyFits rows assigned x) (λ _. tt) (λ _. called_said rows assigned d m m.refused p)
 stray_said rows assigned d m k p = plain_said rows assigned d.moment (unknown_row Network m.reference (not m.flag) m.heard k) (unknown_plain m.reference (not m.flag) m.heard k)
 
 received_said : (rows : List Row) (assigned : List (Option ℕ)) (d : Day) (m : Said) (o : Option ℕ) → AllByRecursion (Placed rows assigned) d.entries → ReplyFits rows assigned (received_at d m o)
@@ -284,7 +287,7 @@ received_said rows assigned d m (Some i) p = plain_said rows assigned d.moment (
 
 from_said : (rows : List Row) (assigned : List (Option ℕ)) (d : Day) (m : PlainMessage) (r : Reference) → AllByRecursion (Placed rows assigned) d.entries → ReplyFits rows assigned (receive_from d m r)
 from_said rows assigned d m Dummy p = tt
-from_said rows assigned d m (Value value flag) p = by_cases (value == 0) _ _ (λ (x : Answered). ReplyFits rows assigned x) (λ _. tt) (λ _. received_said rows assigned d (said_of value flag m) (index_of (names (said_of value flag m)) d.entries) p)
+from_said rows assigned d m (Value value flag) p = by_cases (value == 0) _ _ (λ (x : Answered Day). ReplyFits rows assigned x) (λ _. tt) (λ _. received_said rows assigned d (said_of value flag m) (index_of (names (said_of value flag m)) d.entries) p)
 
 read_said : (rows : List Row) (assigned : List (Option ℕ)) (d : Day) (r : Result PlainMessage MessageFault) → AllByRecursion (Placed rows assigned) d.entries → ReplyFits rows assigned (receive_read d r)
 read_said rows assigned d (Err fault) p = tt

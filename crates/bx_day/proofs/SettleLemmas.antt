@@ -4,10 +4,12 @@ use Rattle.std.specs.Prelude.{is_some}
 use Rattle.std.proofs.lemmas.Bool.{true≢false, false≢true, cases_eq, cases_lt}
 use Rattle.std.proofs.lemmas.List.{get_or-set_same, get_or-set_other}
 use Rattle.bx_base.specs.Bookings.{Row}
-use Rattle.bx_day.specs.Day.{Day, is_unoffered, waits, entry_at, ticked}
+use Rattle.bx_day.specs.Day.{Day, is_unoffered, entry_at}
+use Rattle.bx_day.specs.Ticks.{waits, ticked}
 use Rattle.bx_day.specs.Invariant.{is_refused}
 use Rattle.bx_day.specs.Reading.{IsExchange}
-use Rattle.bx_day.specs.Slots.{slot_at, waits_on, IsLiveOn, IsWaitingOn, IsLater, IsBehind, AreSlots, follower, is_waiting_at, live_of, waiting_of, IsInside}
+use Rattle.bx_day.specs.Slots.{slot_at, waits_on, IsLiveOn, IsWaitingOn, IsLater, IsBehind, AreSlots}
+use Rattle.bx_day.specs.SlotSteps.{follower, is_waiting_at, live_of, waiting_of, IsInside}
 use Rattle.bx_day.specs.declared.entry.Entry.{Entry}
 use Rattle.bx_day.specs.declared.entry.Moved.{Moved}
 use Rattle.bx_day.proofs.Law.{at_map}

@@ -1,6 +1,7 @@
 -- Quiet ticks one after another.
 use Rattle.std.proofs.Common.{◌≡◌, ℕ, zero, suc, replicate, ◌+◌, arith, sym, subst, ap, ◌∙◌}
-use Rattle.bx_day.specs.Day.{Day, Sent}
+use Rattle.bx_day.specs.Day.{Day}
+use Rattle.bx_calls.specs.Sending.{Sent}
 use Rattle.bx_day.specs.QuietSeconds.{later_by, IsQuietTick, IsQuietFor}
 use Rattle.bx_day.specs.Reading.{IsExchange}
 use Rattle.bx_day.specs.Run.{Tick, day_after}
@@ -23,11 +24,11 @@ pub skipped : (n : ℕ) (d : Day) → IsQuietFor n d → later_by n d ≡ day_af
 skipped zero d h = later_none d
 skipped (suc n) d h =
     sym (later_more n d) ∙ skipped n (later_by 1 d) (rest_quiet n d h)
-    ∙ sym (ap (λ (s : Sent). day_after (replicate n Tick) s.day) (first_quiet n d h))
+    ∙ sym (ap (λ (s : Sent Day). day_after (replicate n Tick) s.day) (first_quiet n d h))
 
 pub skip_stays : (n : ℕ) (d : Day) → IsExchange d → IsQuietFor n d → IsExchange (later_by n d)
 skip_stays zero d h quiet = subst IsExchange (sym (later_none d)) h
 skip_stays (suc n) d h quiet =
     let early = quiet_early d (first_quiet n d quiet) in
-    let next : IsExchange (later_by 1 d) = subst (λ (s : Sent). IsExchange s.day) (sym (tick_is d early) ∙ first_quiet n d quiet) (ticked_stays d early h) in
+    let next : IsExchange (later_by 1 d) = subst (λ (s : Sent Day). IsExchange s.day) (sym (tick_is d early) ∙ first_quiet n d quiet) (ticked_stays d early h) in
     subst IsExchange (later_more n d) (skip_stays n (later_by 1 d) next (rest_quiet n d quiet))

@@ -7,10 +7,12 @@ use Rattle.std.proofs.lemmas.List.{get_or_default}
 use Rattle.bx_base.specs.Channels.{IsChannel}
 use Rattle.bx_calls.specs.Said.{Said}
 use Rattle.bx_calls.specs.Shared.{is_set}
-use Rattle.bx_day.specs.Day.{Day, is_live, is_held, is_free, is_unoffered, is_open, opens, holds, index_of, entry_at, no_entry, names, names_call}
+use Rattle.bx_day.specs.Day.{Day, is_live, is_held, is_free, is_unoffered, holds, index_of, entry_at, no_entry}
+use Rattle.bx_day.specs.Receipts.{is_open, opens, names, names_call}
 use Rattle.bx_day.specs.Invariant.{EntryFits, StandingFits, is_refused}
 use Rattle.bx_day.specs.Reading.{IsExchange, Seated}
-use Rattle.bx_day.specs.Slots.{slot_at, waits_on, IsLiveOn, IsWaitingOn, earlier}
+use Rattle.bx_day.specs.Slots.{slot_at, waits_on, IsLiveOn, IsWaitingOn}
+use Rattle.bx_day.specs.SlotSteps.{earlier}
 use Rattle.bx_day.specs.declared.entry.Entry.{Entry}
 use Rattle.bx_day.specs.declared.entry.Standing.{Standing}
 use Rattle.bx_day.specs.declared.entry.Standing.TheVariants.{Refused, Unoffered, OnCall, Carried, Unanswered, Missed}

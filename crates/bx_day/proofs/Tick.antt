@@ -8,7 +8,10 @@ use Rattle.bx_calls.specs.declared.step.Next.{Next}
 use Rattle.bx_calls.specs.declared.step.Next.TheVariants.{Live, Over, Broken}
 use Rattle.bx_base.specs.Bookings.{Row, is_running}
 use Rattle.bx_calls.specs.Shared.{is_set}
-use Rattle.bx_day.specs.Day.{Sent, Day, is_live, holds, is_held, is_free, second_at, after_second, waits, tick, ticked, follow, over_at}
+use Rattle.bx_day.specs.Day.{Day, is_live, holds, is_held, is_free}
+use Rattle.bx_day.specs.Ticks.{second_at, after_second, waits, tick, ticked}
+use Rattle.bx_day.specs.Moves.{follow, over_at}
+use Rattle.bx_calls.specs.Sending.{Sent}
 use Rattle.bx_day.specs.declared.entry.Moved.{Moved}
 use Rattle.bx_day.specs.declared.entry.Entry.{Entry}
 use Rattle.bx_day.specs.declared.entry.Standing.{Standing}
@@ -158,4 +161,4 @@ pub ticked_fits : (d : Day) → DayFits d → DayFits (ticked d).day
 ticked_fits d h = record { each = all_fit d.moment d refl d.entries h.each; pairs = pairs_apart d d.entries (all_hold d.entries) h.pairs }
 
 pub tick_fits : (d : Day) → DayFits d → DayFits (tick d).day
-tick_fits d h = by_cases (nat_le 300000 d.moment) _ _ (λ (s : Sent). DayFits s.day) (λ _. h) (λ _. ticked_fits d h)
+tick_fits d h = by_cases (nat_le 300000 d.moment) _ _ (λ (s : Sent Day). DayFits s.day) (λ _. h) (λ _. ticked_fits d h)

@@ -5,7 +5,9 @@ use Rattle.std.proofs.lemmas.Bool.{true≢false, false≢true, cases_eq, cases_l
 use Rattle.std.proofs.lemmas.List.{get_or-set_same, get_or-set_other}
 use Rattle.bx_q931.specs.Outgoing.{Outgoing}
 use Rattle.bx_calls.specs.Shared.{is_set}
-use Rattle.bx_day.specs.Day.{Day, second_of, after_second, said_on, breaks_on, entry_at, no_entry, stays}
+use Rattle.bx_day.specs.Day.{Day, entry_at, no_entry}
+use Rattle.bx_day.specs.Ticks.{second_of, after_second, said_on, breaks_on}
+use Rattle.bx_day.specs.Moves.{stays}
 use Rattle.bx_day.specs.Invariant.{is_refused}
 use Rattle.bx_day.specs.Passing.{Passed}
 use Rattle.bx_day.specs.Reading.{IsExchange}

@@ -5,10 +5,13 @@ use Rattle.std.specs.List.{list_any}
 use Rattle.std.proofs.lemmas.Bool.{true≢false, false≢true, cases_eq, cases_lt, eqb-true, eq-eqb, and_parts, lt-ltb, ltb-true, false_from_ne_true}
 use Rattle.bx_q931.specs.Outgoing.{Outgoing}
 use Rattle.bx_calls.specs.Shared.{is_set, cons_some}
-use Rattle.bx_day.specs.Day.{Day, is_unoffered, second_of, after_second, said_on, breaks_on, maintained, entry_at, stays}
+use Rattle.bx_day.specs.Day.{Day, is_unoffered, entry_at}
+use Rattle.bx_day.specs.Ticks.{second_of, after_second, said_on, breaks_on, maintained}
+use Rattle.bx_day.specs.Moves.{stays}
 use Rattle.bx_day.specs.Passing.{is_slot, with_slots, Passed, AreTouched, IsTicked}
 use Rattle.bx_day.specs.Reading.{IsExchange}
-use Rattle.bx_day.specs.Slots.{slot_at, AreSlots, follower}
+use Rattle.bx_day.specs.Slots.{slot_at, AreSlots}
+use Rattle.bx_day.specs.SlotSteps.{follower}
 use Rattle.bx_day.specs.declared.entry.Entry.{Entry}
 use Rattle.bx_day.specs.declared.entry.Moved.{Moved}
 use Rattle.bx_day.proofs.Law.{at_map}

@@ -7,7 +7,9 @@ use Rattle.bx_calls.specs.PlainCalls.{PlainNetCall}
 use Rattle.bx_calls.specs.declared.step.Next.{Next}
 use Rattle.bx_calls.specs.declared.step.Next.TheVariants.{Live, Over, Broken}
 use Rattle.bx_calls.specs.NetTable.{net_second}
-use Rattle.bx_day.specs.Day.{Day, is_live, is_unoffered, is_free, second_at, second_of, after_second, stays, follow, over_at, waits, entry_at}
+use Rattle.bx_day.specs.Day.{Day, is_live, is_unoffered, is_free, entry_at}
+use Rattle.bx_day.specs.Ticks.{second_at, second_of, after_second, waits}
+use Rattle.bx_day.specs.Moves.{stays, follow, over_at}
 use Rattle.bx_day.specs.Invariant.{EntryFits, is_refused}
 use Rattle.bx_day.specs.Quiet.{booking_due}
 use Rattle.bx_day.specs.Reading.{IsExchange}

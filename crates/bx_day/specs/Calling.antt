@@ -1,4 +1,4 @@
--- Bookings that the far end may call.
+-- Private: bookings that the far end may call.
 use Rattle.std.specs.Prelude.{ℕ, ◌==◌, ◌&&◌, Bool}
 use Rattle.bx_base.specs.Bookings.{is_running}
 use Rattle.bx_day.specs.Day.{is_unoffered}

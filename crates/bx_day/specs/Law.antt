@@ -6,7 +6,8 @@ use Rattle.bx_calls.specs.PlainCalls.{PlainNetCall}
 use Rattle.bx_calls.specs.declared.net_state.NetState.TheVariants.{Active}
 use Rattle.bx_base.specs.Bookings.{Row, row_at, is_running}
 use Rattle.bx_base.specs.Plans.{is_accepted, channel_at}
-use Rattle.bx_day.specs.Day.{Day, entry_at, Sent}
+use Rattle.bx_day.specs.Day.{Day, entry_at}
+use Rattle.bx_calls.specs.Sending.{Sent}
 use Rattle.bx_day.specs.declared.entry.Standing.{Standing}
 use Rattle.bx_day.specs.declared.entry.Activity.{Activity}
 use Rattle.bx_day.specs.declared.entry.Standing.TheVariants.{Unoffered, OnCall, Carried}
@@ -55,5 +56,5 @@ pub record OutFits (rows : List Row) (assigned : List (Option ℕ)) (t : ℕ) (o
   pub setup : o.kind ≡ Setup → SetupFits rows assigned t o
   pub proceeding : o.kind ≡ CallProceeding → ProceedingFits rows assigned t o
 
-pub record SentFits (rows : List Row) (assigned : List (Option ℕ)) (s : Sent) : Type 0 where
+pub record SentFits (rows : List Row) (assigned : List (Option ℕ)) (s : Sent Day) : Type 0 where
   pub each : All (OutFits rows assigned s.day.moment) s.sent

@@ -1,4 +1,4 @@
--- The bookings of each channel in the order of their starts, as each one's follower.
+-- Private: the bookings of each channel in the order of their starts, as each one's follower.
 use Rattle.std.specs.Prelude.{◌≡◌, ◌≢◌, ℕ, ◌<◌, ◌≤◌, false, true, List, length, Option, Some, is_some, slice_index_or}
 use Rattle.bx_day.specs.Day.{entry_at}
 use Rattle.bx_day.specs.Invariant.{is_refused}

@@ -1,9 +1,10 @@
--- A tick as a pass over some of the bookings.
-use Rattle.std.specs.Prelude.{◌≡◌, ◌≤◌, ◌<◌, ◌==◌, ℕ, Bool, true, false, List, [], ◌∷◌, ◌||◌, length, map, Option, Some, None, slice_index_or, if◌then◌else◌}
-use Rattle.std.specs.List.{flat_map}
+-- Private: a tick as a pass over some of the bookings.
+use Rattle.std.specs.Prelude.{◌≡◌, ◌<◌, ◌==◌, ℕ, Bool, true, false, List, [], ◌∷◌, ◌||◌, length, map, Option, Some, None, slice_index_or, if◌then◌else◌}
 use Rattle.bx_q931.specs.Outgoing.{Outgoing}
 use Rattle.bx_calls.specs.Shared.{is_set, cons_some}
-use Rattle.bx_day.specs.Day.{Day, is_held, second_of, after_second, breaks_on, said_on, maintained, stays, entry_at}
+use Rattle.bx_day.specs.Day.{Day, is_held, entry_at}
+use Rattle.bx_day.specs.Ticks.{second_of, after_second, breaks_on, said_on, maintained}
+use Rattle.bx_day.specs.Moves.{stays}
 use Rattle.bx_day.specs.Slots.{slot_at}
 use Rattle.bx_day.specs.declared.entry.Entry.{Entry}
 
@@ -15,17 +16,9 @@ day_of moment entries maintenance = record { moment = moment; entries = entries;
 abbrev pub AreBlocked : Day → List Bool → Type 0
 AreBlocked d blocked = (c : ℕ) → is_set blocked c ≡ (is_held d.entries c || is_set d.maintenance c)
 
--- what is said, of a list that says for each channel what is said on it, if anything
-abbrev pub somes : List (Option Outgoing) → List Outgoing
-somes said = flat_map (λ o. cons_some o []) said
-
 -- what a tick says on each channel
 abbrev pub SaysOnEach : Day → List (Option Outgoing) → Type 0
 SaysOnEach d said = (c : ℕ) → cons_some (slice_index_or said c None) [] ≡ said_on d c d.entries
-
--- at most one message on each channel
-abbrev pub SaysOnce : Day → Type 0
-SaysOnce d = (c : ℕ) → length (said_on d c d.entries) ≤ 1
 
 -- whether an index stands in a slot
 abbrev pub is_slot : Option ℕ → ℕ → Bool

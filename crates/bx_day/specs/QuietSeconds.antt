@@ -1,7 +1,7 @@
 -- Seconds in which nothing happens, and when something happens again.
-use Rattle.std.specs.Prelude.{◌≡◌, ℕ, ◌+◌, ◌≤◌, ◌<◌, Bool, false, [], length, min, if◌then◌else◌}
-use Rattle.bx_day.specs.Day.{Day, tick, is_free, entry_at}
-use Rattle.bx_day.specs.Invariant.{is_refused}
+use Rattle.std.specs.Prelude.{◌≡◌, ℕ, ◌+◌, ◌≤◌, ◌<◌, Bool, [], if◌then◌else◌}
+use Rattle.bx_day.specs.Day.{Day, is_free, entry_at}
+use Rattle.bx_day.specs.Ticks.{tick}
 use Rattle.bx_day.specs.Quiet.{booking_due}
 use Rattle.bx_day.specs.declared.entry.Entry.{Entry}
 use Rattle.bx_day.specs.declared.entry.Standing.{Standing}
@@ -35,8 +35,3 @@ pub record IsDue (d : Day) (n due : ℕ) : Type 0 where
   pub ordered : (i : ℕ) → i < n → (entry_at d.entries i).booking.start ≤ (entry_at d.entries i).booking.end
   pub before : (i : ℕ) → i < n → due ≤ due_at d i
   pub latest : (t : ℕ) → t ≤ 300001 → ((i : ℕ) → i < n → t ≤ due_at d i) → t ≤ due
-
--- the first of these ticks over the accepted bookings of one channel, where one is before the day's last
-pub record IsDueOn (d : Day) (c due : ℕ) : Type 0 where
-  pub before : (i : ℕ) → i < length d.entries → is_refused (entry_at d.entries i).standing ≡ false → (entry_at d.entries i).channel ≡ c → min 300001 due ≤ due_at d i
-  pub latest : (t : ℕ) → t ≤ 300001 → ((i : ℕ) → i < length d.entries → t ≤ due_at d i) → t ≤ due

@@ -1,8 +1,8 @@
 -- Where the live booking of each channel stands, and the first of those that wait: an index, which the day forgets.
-use Rattle.std.specs.Prelude.{◌≡◌, ℕ, ◌<◌, ◌≤◌, ◌==◌, ◌&&◌, Bool, true, false, List, length, Option, Some, None, is_some, min, slice_index_or, if◌then◌else◌}
-use Rattle.bx_day.specs.Day.{Day, is_live, is_unoffered, holds, entry_at}
+use Rattle.std.specs.Prelude.{◌≡◌, ℕ, ◌<◌, ◌≤◌, ◌==◌, ◌&&◌, Bool, true, false, List, length, Option, Some, None, is_some, slice_index_or}
+use Rattle.bx_day.specs.Day.{Day, is_unoffered, holds, entry_at}
 use Rattle.bx_day.specs.Invariant.{is_refused}
-use Rattle.bx_day.specs.QuietSeconds.{IsDue, tick_due}
+use Rattle.bx_day.specs.QuietSeconds.{IsDue}
 use Rattle.bx_day.specs.Reading.{IsExchange}
 use Rattle.bx_day.specs.declared.entry.Entry.{Entry}
 
@@ -52,37 +52,3 @@ pub record IsIndexed (d : Day) (live waiting behind : List (Option ℕ)) (due : 
   pub exchange : IsExchange d
   pub slots : AreSlots d live waiting behind
   pub known : 1 ≤ due → IsDue d (length d.entries) due
-
--- the slot behind the one of this booking
-abbrev pub follower : List (Option ℕ) → Option ℕ → Option ℕ
-follower behind None = None
-follower behind (Some i) = slot_at behind i
-
-abbrev pub is_live_at : List Entry → Option ℕ → Bool
-is_live_at es None = false
-is_live_at es (Some i) = is_live (entry_at es i).standing
-
-abbrev pub is_waiting_at : List Entry → Option ℕ → Bool
-is_waiting_at es None = false
-is_waiting_at es (Some i) = is_unoffered (entry_at es i).standing
-
--- after a tick, by what was live, what waited first, and what was behind that
-abbrev pub live_of : List Entry → Option ℕ → Option ℕ → Option ℕ → Option ℕ
-live_of es a b c = if is_live_at es a then a else if is_live_at es b then b else if is_live_at es c then c else None
-
-abbrev pub waiting_of : List Entry → List (Option ℕ) → Option ℕ → Option ℕ → Option ℕ
-waiting_of es behind a b = if is_waiting_at es a then a else if is_waiting_at es b then b else follower behind b
-
--- a slot of an index inside
-abbrev pub IsInside : List Entry → Option ℕ → Type 0
-IsInside es o = (i : ℕ) → o ≡ Some i → i < length es
-
--- the lower of two indices, of which the first may not be there
-abbrev pub earlier : Option ℕ → ℕ → ℕ
-earlier None i = i
-earlier (Some other) i = min other i
-
--- the first tick that does something to the booking of a slot, or the one behind the day's last
-abbrev pub slot_due : List Entry → Bool → Option ℕ → ℕ
-slot_due es free None = 300001
-slot_due es free (Some i) = tick_due (entry_at es i) free (entry_at es i).standing

@@ -1,15 +1,12 @@
 -- How a day is told: a line for each booking, and one for the channels in maintenance.
-use Rattle.std.specs.Prelude.{ℕ, ◌+◌, List, [], ◌∷◌, ◌++◌, Bool, true, false, map, codes, decimal, if◌then◌else◌}
-use Rattle.std.specs.List.{flat_map, join_with_byte}
+use Rattle.std.specs.Prelude.{ℕ, List, [], ◌∷◌, ◌++◌, Bool, map, codes, decimal}
+use Rattle.std.specs.List.{flat_map}
+use Rattle.bx_text.specs.Lines.{line_text, members_from}
 use Rattle.bx_day.specs.Day.{Day}
 use Rattle.bx_day.specs.Reading.{outcome_of}
 use Rattle.bx_day.specs.declared.entry.Entry.{Entry}
 use Rattle.bx_day.specs.declared.outcome.Outcome.{Outcome}
 use Rattle.bx_day.specs.declared.outcome.Outcome.TheVariants.{Refused, Waiting, Live, Carried, Unanswered, Missed}
-
--- a line from its fields: single spaces between them, and an LF at the end
-abbrev pub line_text : List (List ℕ) → List ℕ
-line_text fields = join_with_byte 32 fields ++ 10 ∷ []
 
 abbrev pub outcome_fields : Outcome → List (List ℕ)
 outcome_fields Refused = codes "refused" ∷ []
@@ -23,12 +20,6 @@ outcome_fields Missed = codes "missed" ∷ []
 abbrev pub entry_fields : Entry → List (List ℕ)
 entry_fields e = decimal e.row ∷ outcome_fields (outcome_of e.standing)
 
--- the numbers from n on that are in the set, in rising order
-abbrev pub members_from : ℕ → List Bool → List ℕ
-members_from n [] = []
-members_from n (true ∷ others) = n ∷ members_from (n + 1) others
-members_from n (false ∷ others) = members_from (n + 1) others
-
 abbrev pub or_none : List (List ℕ) → List (List ℕ)
 or_none [] = codes "none" ∷ []
 or_none (field ∷ fields) = field ∷ fields
@@ -38,7 +29,3 @@ maintenance_fields channels = codes "maintenance" ∷ or_none (map decimal (memb
 
 abbrev pub outcomes_text : Day → List ℕ
 outcomes_text d = flat_map line_text (map entry_fields d.entries) ++ line_text (maintenance_fields d.maintenance)
-
--- what the line of channels has for a number, in the set or not
-abbrev pub member_text : Bool → ℕ → List ℕ
-member_text is_member number = if is_member then 32 ∷ decimal number else []

@@ -7,7 +7,8 @@ ghost use Rattle.bx_q931.specs.Messages.{PlainMessage};
 ghost use Rattle.bx_q931.specs.Outgoing.{IsCallReference};
 ghost use Rattle.bx_calls.specs.Said.{said_of};
 ghost use Rattle.bx_calls.specs.Shared.{is_set};
-ghost use Rattle.bx_day.specs.Day.{index_of, is_free, is_open, opens, entry_at, lowest_open, every_channel, or_else, takes_or, called_on, called};
+ghost use Rattle.bx_day.specs.Day.{index_of, is_free, entry_at, every_channel};
+ghost use Rattle.bx_day.specs.Receipts.{is_open, opens, lowest_open, or_else, takes_or, called_on, called};
 ghost use Rattle.bx_day.specs.Calling.{awaits};
 
 use crate::entry::{Activity, Entry, Moved, Standing};

@@ -51,6 +51,7 @@ impl Exchange {
         requires { Carries plan.now.bookings plan.now.channels (is_accepted plan.now.assigned.items) (channel_at plan.now.assigned.items) }
         ensures { IfOk result (λ x. x ≡ opening plan.now.bookings plan.now.assigned.items) }
     {
+        // Read for the prover alone, which learns a limit from it.
         let _rows = plan.bookings.len();
         let _channels = plan.channels.count();
         let entries = entries(alloc, plan)?;

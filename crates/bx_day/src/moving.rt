@@ -2,7 +2,9 @@
 
 ghost use Rattle.std.specs.Prelude.{◌≡◌, ◌≤◌, ℕ, Bool};
 ghost use Rattle.bx_q931.specs.Outgoing.{IsCallReference};
-ghost use Rattle.bx_day.specs.Day.{activity_after, over_at, follows, hears, second_at};
+ghost use Rattle.bx_day.specs.Ticks.{second_at};
+ghost use Rattle.bx_day.specs.Receipts.{hears};
+ghost use Rattle.bx_day.specs.Moves.{activity_after, over_at, follows};
 ghost use Rattle.bx_calls.specs.Said.{said_of};
 
 use crate::entry::{Activity, Entry, Moved, Standing};

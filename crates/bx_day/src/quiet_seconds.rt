@@ -1,15 +1,15 @@
 //! Seconds in which nothing happens.
 
 ghost use Rattle.std.specs.Prelude.{◌≡◌, ◌≤◌, ◌-◌, length, not, replicate};
-ghost use Rattle.bx_day.specs.QuietSeconds.{later_by, IsQuietTick, IsQuietFor, IsDue, IsDueOn, tick_due};
-ghost use Rattle.bx_day.specs.Slots.{IsInside, slot_due};
+ghost use Rattle.bx_day.specs.QuietSeconds.{later_by, IsQuietTick, IsQuietFor, IsDue, tick_due};
+ghost use Rattle.bx_day.specs.SlotSteps.{IsDueOn, IsInside, slot_due};
 ghost use Rattle.bx_day.specs.Run.{Tick, day_after};
 
 use crate::entry::{Entry, Standing};
 use crate::exchange::Exchange;
 use crate::scheduling::booking_due;
-use crate::ticking::LAST_MOMENT;
 use bx_base::Channel;
+use bx_calls::timers::LAST_MOMENT;
 
 impl Exchange {
     /// For how many seconds nothing happens where no message comes: each of so many ticks sends nothing and
@@ -50,6 +50,7 @@ impl Exchange {
     pub(crate) fn next_due(&self) -> u32
         ensures { IsDue self.now (length self.now.entries) result }
     {
+        // Read for the prover alone, which learns a limit from it.
         let _moment = self.moment;
         let mut due = LAST_MOMENT + 1;
         for number in 1..32 {

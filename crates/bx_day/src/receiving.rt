@@ -4,8 +4,9 @@ ghost use Rattle.std.specs.Prelude.{◌≡◌, ◌<◌, ℕ, Bool, true, false, 
 ghost use Rattle.bx_q931.specs.Messages.{PlainMessage};
 ghost use Rattle.bx_q931.specs.Outgoing.{IsCallReference, out_octets};
 ghost use Rattle.bx_calls.specs.Said.{said_of};
-ghost use Rattle.bx_day.specs.Day.{index_of, names, with_moved, received_at, stray, receive, is_live, is_open, is_unoffered, entry_at};
-ghost use Rattle.bx_day.specs.Slots.{earlier};
+ghost use Rattle.bx_day.specs.Day.{index_of, is_live, is_unoffered, entry_at};
+ghost use Rattle.bx_day.specs.Receipts.{names, with_moved, received_at, stray, receive, is_open};
+ghost use Rattle.bx_day.specs.SlotSteps.{earlier};
 ghost use Rattle.bx_day.specs.Run.{receive_from, receive_octets};
 ghost use Rattle.bx_day.specs.Invariant.{is_refused};
 ghost use Rattle.bx_day.specs.Reading.{IsExchange};

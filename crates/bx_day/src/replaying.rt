@@ -5,7 +5,7 @@ ghost use Rattle.bx_base.specs.Bookings.{Carries};
 ghost use Rattle.bx_base.specs.Plans.{is_accepted, channel_at};
 ghost use Rattle.bx_day.specs.Day.{opening};
 ghost use Rattle.bx_day.specs.Run.{happens, day_after, sent_over};
-ghost use Rattle.bx_day.specs.Spelling.{spelled};
+ghost use Rattle.bx_calls.specs.Sending.{spelled};
 ghost use Rattle.bx_day.specs.Replaying.{event_of};
 
 use crate::exchange::Exchange;

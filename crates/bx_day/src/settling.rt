@@ -1,9 +1,11 @@
 //! The slots of the channels after a tick.
 
 ghost use Rattle.std.specs.Prelude.{◌≡◌, ◌<◌, ℕ, Some, length, map};
-ghost use Rattle.bx_day.specs.Day.{Day, after_second, ticked};
+ghost use Rattle.bx_day.specs.Day.{Day};
+ghost use Rattle.bx_day.specs.Ticks.{after_second, ticked};
 ghost use Rattle.bx_day.specs.Reading.{IsExchange};
-ghost use Rattle.bx_day.specs.Slots.{AreSlots, slot_at, follower, live_of, waiting_of, is_live_at, is_waiting_at, IsInside};
+ghost use Rattle.bx_day.specs.Slots.{AreSlots, slot_at};
+ghost use Rattle.bx_day.specs.SlotSteps.{follower, live_of, waiting_of, is_live_at, is_waiting_at, IsInside};
 
 use crate::entry::{Entry, Standing};
 

@@ -2,11 +2,13 @@
 
 ghost use Rattle.std.specs.Prelude.{◌≡◌, ◌≤◌, ◌<◌, ◌==◌, ◌||◌, ℕ, Bool, Some, true, false, length, is_some, slice_set, if◌then◌else◌};
 ghost use Rattle.std.specs.List.{AllByRecursion};
-ghost use Rattle.bx_day.specs.Day.{Day, tick, ticked};
-ghost use Rattle.bx_day.specs.Passing.{day_of, AreBlocked, AreOwn, AreTouched, IsTicked, Passed, SaysOnEach, SaysOnce, somes, with_slots};
+ghost use Rattle.bx_day.specs.Day.{Day};
+ghost use Rattle.bx_day.specs.Ticks.{tick, ticked, SaysOnce};
+ghost use Rattle.bx_day.specs.Passing.{day_of, AreBlocked, AreOwn, AreTouched, IsTicked, Passed, SaysOnEach, with_slots};
+ghost use Rattle.bx_calls.specs.Sending.{in_order, spelled};
 ghost use Rattle.bx_day.specs.Reading.{IsExchange, Seated};
-ghost use Rattle.bx_day.specs.Slots.{IsInside, slot_at};
-ghost use Rattle.bx_day.specs.Spelling.{spelled};
+ghost use Rattle.bx_day.specs.Slots.{slot_at};
+ghost use Rattle.bx_day.specs.SlotSteps.{IsInside};
 
 use crate::entry::{Entry, Moved};
 use crate::exchange::Exchange;
@@ -14,10 +16,9 @@ use crate::moving::second;
 use crate::settling::{followers, settle};
 use arrayvec::ArrayVec;
 use bx_base::{Channel, ChannelSet};
-use bx_q931::{Octets, Out, encode};
-
-/// The moment at which a day stands still.
-pub(crate) const LAST_MOMENT: u32 = 300000;
+use bx_calls::spell;
+use bx_calls::timers::LAST_MOMENT;
+use bx_q931::{Octets, Out};
 
 impl Exchange {
     /// The next second: the moment rises by one, live calls follow their table, bookings that start are
@@ -168,18 +169,4 @@ fn move_on(
     move_all(entries, waiting, &mut said, maintenance, blocked, moment);
     move_all(entries, second, &mut said, maintenance, blocked, moment);
     said
-}
-
-/// The octets of what is said, in order.
-fn spell(said: &[Option<Out>]) -> ArrayVec<Octets, 30>
-    requires { length (somes said.now) ≤ 30 }
-    ensures { result.items ≡ spelled (somes said.now) }
-{
-    let mut sent = ArrayVec::new();
-    for message in said {
-        if let Some(out) = message {
-            sent.push(encode(out));
-        }
-    }
-    sent
 }

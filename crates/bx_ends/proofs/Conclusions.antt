@@ -14,7 +14,8 @@ use Rattle.bx_day.specs.declared.entry.Activity.{Activity}
 use Rattle.bx_day.specs.declared.entry.Standing.{Standing}
 use Rattle.bx_day.specs.declared.entry.Standing.TheVariants.{Refused, Unoffered, OnCall, Carried, Unanswered, Missed}
 use Rattle.bx_calls.specs.Shared.{is_set}
-use Rattle.bx_day.specs.Day.{is_active, entry_at}
+use Rattle.bx_day.specs.Day.{entry_at}
+use Rattle.bx_day.specs.Moves.{is_active}
 use Rattle.bx_day.specs.Invariant.{EntryFits, StandingFits, is_refused}
 use Rattle.bx_day.specs.Law.{OnLive, standing_at}
 use Rattle.bx_day.proofs.Law.{orderly}

@@ -12,9 +12,11 @@ use Rattle.bx_q931.specs.declared.kind.Kind.{Kind}
 use Rattle.bx_q931.proofs.PartsLemmas.{written_again, has_parts}
 use Rattle.bx_calls.specs.Said.{Said, said_of}
 use Rattle.bx_calls.specs.Setups.{bearer_fault_in}
-use Rattle.bx_day.specs.Day.{Day, receive, unchanged}
+use Rattle.bx_day.specs.Day.{Day}
+use Rattle.bx_day.specs.Receipts.{receive}
+use Rattle.bx_calls.specs.Sending.{unchanged}
 use Rattle.bx_day.specs.Run.{receive_octets, receive_read}
-use Rattle.bx_far.specs.FarDay.{FarDay, far_receive, far_unchanged}
+use Rattle.bx_far.specs.FarDay.{FarDay, far_receive}
 use Rattle.bx_far.specs.FarRun.{far_receive_octets, far_receive_read}
 
 -- what can be sent
@@ -54,6 +56,6 @@ pub far_receive_sent : (d : FarDay) (o : Outgoing) → Sendable o → far_receiv
 far_receive_sent d o h =
     let p = has_parts o h.out h.channel h.called in
     ap (far_receive_read d) (written_again o h.out h.called)
-    ∙ ap (λ (b : Bool). if b then far_unchanged d None else far_receive d (said_of o.reference o.flag (message_of o)) (called_of (message_of o))) (not_zero o.reference h.out.reference.0)
+    ∙ ap (λ (b : Bool). if b then unchanged d None else far_receive d (said_of o.reference o.flag (message_of o)) (called_of (message_of o))) (not_zero o.reference h.out.reference.0)
     ∙ ap (λ x. far_receive d x (called_of (message_of o))) (heard_again o p)
     ∙ ap (far_receive d (said_from o)) p.called

@@ -8,12 +8,15 @@ use Rattle.bx_calls.specs.PlainCalls.{PlainUserCall}
 use Rattle.bx_calls.specs.UserTable.{user_flag}
 use Rattle.bx_day.specs.declared.entry.Standing.{Standing}
 use Rattle.bx_day.specs.declared.entry.Standing.TheVariants.{Refused, Unoffered, OnCall, Carried, Unanswered, Missed}
-use Rattle.bx_day.specs.Day.{Day, Sent, Answered, tick, ticked, receive}
-use Rattle.bx_day.specs.Run.{Tick, Receive, reply_list}
+use Rattle.bx_day.specs.Day.{Day}
+use Rattle.bx_day.specs.Ticks.{tick, ticked}
+use Rattle.bx_day.specs.Receipts.{receive}
+use Rattle.bx_calls.specs.Sending.{Sent, Answered, reply_list}
+use Rattle.bx_day.specs.Run.{Tick, Receive}
 use Rattle.bx_day.specs.Law.{standing_at}
 use Rattle.bx_day.proofs.Law.{RunFits, run_fits}
 use Rattle.bx_day.proofs.Tick.{by_cases}
-use Rattle.bx_far.specs.FarDay.{FarDay, FarSent, FarAnswered, far_ticked, far_receive}
+use Rattle.bx_far.specs.FarDay.{FarDay, far_ticked, far_receive}
 use Rattle.bx_ends.specs.World.{World, WorldEvent, TickExchange, TickFar, ToExchange, ToFar, exchange_becomes, far_becomes, comes_to_exchange, comes_to_far, message_nth, world_happens}
 use Rattle.bx_ends.specs.Scripts.{IsScriptRow}
 use Rattle.bx_ends.specs.TwoEnds.{acknowledges, AreOnTheirOwn}
@@ -82,12 +85,12 @@ tick_exchange : (rows : List Row) (assigned : List (Option ℕ)) (w : World) →
 tick_exchange rows assigned w k = decide (nat_le 300000 w.exchange.moment) refl (run_fits rows assigned (Tick ∷ []) w.exchange k.run)
   where
     decide : (b : Bool) → nat_le 300000 w.exchange.moment ≡ b → RunFits rows assigned (tick w.exchange).day → KeepsOutward rows assigned (exchange_becomes w (tick w.exchange).day (tick w.exchange).sent)
-    decide true q run = subst (λ (s : Sent). RunFits rows assigned s.day → KeepsOutward rows assigned (exchange_becomes w s.day s.sent)) (sym (ends q))
+    decide true q run = subst (λ (s : Sent Day). RunFits rows assigned s.day → KeepsOutward rows assigned (exchange_becomes w s.day s.sent)) (sym (ends q))
         (λ r. exchange_step rows assigned w w.exchange [] k r k.seats (sents_grow assigned w.sent [] w.exchange w.exchange (λ i h. h) k.sents tt) (λ i. standing_grows (suc i) w.sent [] w.far_sent (standing_at w.exchange i) (k.standings i) (λ _. refl))) run
       where
         ends : nat_le 300000 w.exchange.moment ≡ true → tick w.exchange ≡ record { day = w.exchange; sent = [] }
         ends h = ap (λ (b : Bool). if b then record { day = w.exchange; sent = [] } else ticked w.exchange) h
-    decide false q run = subst (λ (s : Sent). RunFits rows assigned s.day → KeepsOutward rows assigned (exchange_becomes w s.day s.sent)) (sym (goes q))
+    decide false q run = subst (λ (s : Sent Day). RunFits rows assigned s.day → KeepsOutward rows assigned (exchange_becomes w s.day s.sent)) (sym (goes q))
         (λ r. let says = tick_says assigned w.sent w.far_sent w.exchange k.run.day k.seats k.standings q in
         exchange_step rows assigned w (ticked w.exchange).day (ticked w.exchange).sent k r (tick_seats assigned w.exchange k.seats) (tick_sents assigned w.sent w.exchange says k.sents) (tick_standings assigned w.sent w.far_sent w.exchange k.seats k.sents says k.standings)) run
       where
@@ -98,7 +101,7 @@ far_before : (rows : List Row) (assigned : List (Option ℕ)) (w : World) → Ke
 far_before rows assigned w k = record { replies = k.replies; calls = k.calls; apart = k.apart; size = k.size; places = k.places }
 
 tick_far : (rows : List Row) (assigned : List (Option ℕ)) (w : World) → KeepsOutward rows assigned w → KeepsOutward rows assigned (world_happens w TickFar)
-tick_far rows assigned w k = by_cases (nat_le 300000 w.far.moment) _ _ (λ (s : FarSent). KeepsOutward rows assigned (far_becomes w s.day s.sent))
+tick_far rows assigned w k = by_cases (nat_le 300000 w.far.moment) _ _ (λ (s : Sent FarDay). KeepsOutward rows assigned (far_becomes w s.day s.sent))
     (λ _. far_step rows assigned w w.far [] k (saids_grow assigned w.sent w.far_sent [] w.far w.far (λ r h. h) k.replies tt) k.calls k.apart k.size k.places k.script)
     (λ _. let t = far_ticked_keeps assigned w.sent w.far_sent w.far k.script (far_before rows assigned w k) in
     far_step rows assigned w (far_ticked w.far).day (far_ticked w.far).sent k t.replies t.calls t.apart t.size t.places k.script)
@@ -113,7 +116,7 @@ pub record MessagesWithin (w : World) : Type 0 where
 to_exchange : (rows : List Row) (assigned : List (Option ℕ)) (w : World) (o : Option Outgoing) → KeepsOutward rows assigned w → IfMessage (λ x. (IsIn w.far_sent x × (x.flag ≡ true → OutwardReply assigned w.sent w.far x)) × Sendable x) o → KeepsOutward rows assigned (comes_to_exchange w o)
 to_exchange rows assigned w None k h = k
 to_exchange rows assigned w (Some o) k h =
-    subst (λ (x : Answered). RunFits rows assigned x.day → KeepsOutward rows assigned (exchange_becomes w x.day (reply_list x.reply))) (sym (receive_sent w.exchange o h.1))
+    subst (λ (x : Answered Day). RunFits rows assigned x.day → KeepsOutward rows assigned (exchange_becomes w x.day (reply_list x.reply))) (sym (receive_sent w.exchange o h.1))
     (λ run. let x = receive_keeps assigned w.sent w.far_sent w.exchange o (record { fits = k.run.day; seats = k.seats; sents = k.sents; standings = k.standings }) (λ f. (h.0.1 f).known) h.0.0 in
     exchange_step rows assigned w (receive w.exchange (said_from o)).day (reply_list (receive w.exchange (said_from o)).reply) k run x.seats x.sents x.standings)
     (run_fits rows assigned (Receive (out_octets o) ∷ []) w.exchange k.run)
@@ -121,7 +124,7 @@ to_exchange rows assigned w (Some o) k h =
 to_far : (rows : List Row) (assigned : List (Option ℕ)) (w : World) (o : Option Outgoing) → KeepsOutward rows assigned w → IfMessage (λ x. (IsIn w.sent x × (x.flag ≡ false → OutwardSent assigned w.exchange w.sent x)) × Sendable x) o → KeepsOutward rows assigned (comes_to_far w o)
 to_far rows assigned w None k h = k
 to_far rows assigned w (Some o) k h =
-    subst (λ (x : FarAnswered). KeepsOutward rows assigned (far_becomes w x.day (reply_list x.reply))) (sym (far_receive_sent w.far o h.1))
+    subst (λ (x : Answered FarDay). KeepsOutward rows assigned (far_becomes w x.day (reply_list x.reply))) (sym (far_receive_sent w.far o h.1))
     (let x = far_receive_keeps assigned w.sent w.far_sent w.exchange w.far o o.called (far_before rows assigned w k) h.0.1 h.0.0 in
     far_step rows assigned w (far_receive w.far (said_from o) o.called).day (reply_list (far_receive w.far (said_from o) o.called).reply) k x.replies x.calls x.apart x.size x.places (subst (AllByRecursion IsScriptRow) (sym x.script) k.script))
 

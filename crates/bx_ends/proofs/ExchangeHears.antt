@@ -23,8 +23,10 @@ use Rattle.bx_day.specs.declared.entry.Moved.{Moved}
 use Rattle.bx_day.specs.declared.entry.Standing.{Standing}
 use Rattle.bx_day.specs.declared.entry.Standing.TheVariants.{Refused, Unoffered, OnCall, Carried, Unanswered, Missed}
 use Rattle.bx_calls.specs.Shared.{bool_eq}
-use Rattle.bx_day.specs.Day.{Day, Answered, entry_at, no_entry, names, names_call, index_of, one_more, hears, takes_call, takes_or, takes_preferred, called_on, called, stray, received_at, receive, unchanged, with_moved, opens, lowest_open, every_channel, follow}
-use Rattle.bx_day.specs.Run.{reply_list}
+use Rattle.bx_day.specs.Day.{Day, entry_at, no_entry, index_of, one_more, every_channel}
+use Rattle.bx_day.specs.Receipts.{names, names_call, hears, takes_call, takes_or, takes_preferred, called_on, called, stray, received_at, receive, with_moved, opens, lowest_open}
+use Rattle.bx_day.specs.Moves.{follow}
+use Rattle.bx_calls.specs.Sending.{Answered, unchanged, reply_list}
 use Rattle.bx_day.specs.Invariant.{EntryFits, DayFits, is_refused}
 use Rattle.bx_day.specs.Law.{standing_at}
 use Rattle.bx_day.proofs.Receive.{all_at, Passes, index_passes, OpenAt, open_parts, open_index, open_lowest}
@@ -39,7 +41,7 @@ use Rattle.bx_ends.proofs.ExchangeTicks.{sents_grow, goes_outward, follow_calm, 
 use Rattle.bx_ends.specs.TwoEndsInward.{is_connect_kind, connects}
 
 -- what an answer of the exchange leaves true
-pub record ExchangeKeeps (assigned : List (Option ℕ)) (sent far_sent : List Outgoing) (x : Answered) : Type 0 where
+pub record ExchangeKeeps (assigned : List (Option ℕ)) (sent far_sent : List Outgoing) (x : Answered Day) : Type 0 where
   pub seats : Seats assigned x.day.entries
   pub sents : OutwardSents assigned x.day (sent ++ reply_list x.reply) (sent ++ reply_list x.reply)
   pub standings : OutwardStandings (sent ++ reply_list x.reply) far_sent x.day

@@ -20,7 +20,11 @@ use Rattle.bx_day.specs.declared.entry.Entry.{Entry}
 use Rattle.bx_day.specs.declared.entry.Moved.{Moved}
 use Rattle.bx_day.specs.declared.entry.Standing.{Standing}
 use Rattle.bx_day.specs.declared.entry.Standing.TheVariants.{Refused, Unoffered, OnCall, Carried, Unanswered, Missed}
-use Rattle.bx_day.specs.Day.{Day, Sent, Answered, entry_at, second_of, second_at, waits, follow, over_at, is_free, index_of, names, hears, takes_call, takes_or, takes_preferred, called_on, called, stray, received_at, receive, with_moved, opens, lowest_open, every_channel, tick}
+use Rattle.bx_day.specs.Day.{Day, entry_at, is_free, index_of, every_channel}
+use Rattle.bx_day.specs.Ticks.{second_of, second_at, waits, tick}
+use Rattle.bx_day.specs.Receipts.{names, hears, takes_call, takes_or, takes_preferred, called_on, called, stray, received_at, receive, with_moved, opens, lowest_open}
+use Rattle.bx_day.specs.Moves.{follow, over_at}
+use Rattle.bx_calls.specs.Sending.{Sent, Answered}
 use Rattle.bx_day.specs.Invariant.{is_refused}
 use Rattle.bx_day.specs.Law.{standing_at}
 use Rattle.bx_day.proofs.Receive.{OpenAt, open_parts, open_index, open_lowest}
@@ -88,11 +92,11 @@ pub tick_sendable : (assigned : List (Option ℕ)) (d : Day) → Seats assigned 
 tick_sendable assigned d seats h = all_said Sendable d (all_from (λ e. OfSaid Sendable (second_of d e).said) d.entries (λ i. (at_second assigned d i seats h).said))
 
 pub tick_within : (assigned : List (Option ℕ)) (d : Day) → Seats assigned d.entries → ExchangeWithin d → ExchangeWithin (tick d).day
-tick_within assigned d seats h = by_cases (nat_le 300000 d.moment) _ _ (λ (s : Sent). ExchangeWithin s.day) (λ _. h) (λ _ i. subst StandingWithin (sym (after_at d i)) (at_second assigned d i seats h).standing)
+tick_within assigned d seats h = by_cases (nat_le 300000 d.moment) _ _ (λ (s : Sent Day). ExchangeWithin s.day) (λ _. h) (λ _ i. subst StandingWithin (sym (after_at d i)) (at_second assigned d i seats h).standing)
 
 -- ---- messages
 
-pub record AnswerOk (x : Answered) : Type 0 where
+pub record AnswerOk (x : Answered Day) : Type 0 where
   pub reply : OfSaid Sendable x.reply
   pub lims : ExchangeWithin x.day
 

@@ -24,7 +24,9 @@ use Rattle.bx_day.specs.declared.entry.Moved.{Moved}
 use Rattle.bx_day.specs.declared.entry.Standing.{Standing}
 use Rattle.bx_day.specs.declared.entry.Standing.TheVariants.{Refused, Unoffered, OnCall, Carried, Unanswered, Missed}
 use Rattle.bx_calls.specs.Shared.{cons_some}
-use Rattle.bx_day.specs.Day.{Day, entry_at, is_active, is_free, second_of, second_at, waits, follow, over_at, said_on, every_channel, ticked}
+use Rattle.bx_day.specs.Day.{Day, entry_at, is_free, every_channel}
+use Rattle.bx_day.specs.Ticks.{second_of, second_at, waits, said_on, ticked}
+use Rattle.bx_day.specs.Moves.{is_active, follow, over_at}
 use Rattle.bx_day.specs.Invariant.{EntryFits, CallFits, OriginFits, DayFits, is_refused}
 use Rattle.bx_day.specs.Law.{standing_at}
 use Rattle.bx_day.proofs.Law.{at_map}

@@ -19,12 +19,11 @@ use Rattle.bx_calls.specs.declared.user_state.Policy.{Policy}
 use Rattle.bx_calls.specs.declared.user_state.Policy.TheVariants.{Answer, Busy, Silent, Alert, Proceed, Clear}
 use Rattle.bx_calls.specs.declared.user_state.UserOrigin.{UserOrigin}
 use Rattle.bx_calls.specs.declared.user_state.UserState.{UserState}
-use Rattle.bx_calls.specs.Shared.{is_set}
+use Rattle.bx_calls.specs.Shared.{is_set, bool_eq}
 use Rattle.bx_day.specs.Day.{Day}
-use Rattle.bx_day.specs.Run.{reply_list}
+use Rattle.bx_calls.specs.Sending.{reply_list, Answered, unchanged}
 use Rattle.bx_day.proofs.Said.{OfSaid}
-use Rattle.bx_calls.specs.Shared.{bool_eq}
-use Rattle.bx_far.specs.FarDay.{FarDay, FarAnswered, far_names, far_follow, far_refuses, far_takes, far_called_on, far_called, far_stray, far_received_by, far_receive, far_unchanged, first_call, is_taken, holder, insert_call, settle_maintenance}
+use Rattle.bx_far.specs.FarDay.{FarDay, far_names, far_follow, far_refuses, far_takes, far_called_on, far_called, far_stray, far_received_by, far_receive, first_call, is_taken, holder, insert_call, settle_maintenance}
 use Rattle.bx_far.specs.Policies.{policy_of}
 use Rattle.bx_ends.specs.TwoEnds.{offered_as, acknowledges, is_acknowledge, AreOnTheirOwn}
 use Rattle.bx_ends.proofs.Delivery.{said_from}
@@ -37,7 +36,7 @@ use Rattle.bx_ends.proofs.FarCalls.{insert_all, insert_apart, insert_any, none_o
 use Rattle.bx_day.proofs.Tick.{by_cases}
 use Rattle.bx_ends.specs.TwoEndsInward.{is_connect_kind}
 
-pub record FarKeeps (assigned : List (Option ℕ)) (sent far_sent : List Outgoing) (f : FarDay) (x : FarAnswered) : Type 0 where
+pub record FarKeeps (assigned : List (Option ℕ)) (sent far_sent : List Outgoing) (f : FarDay) (x : Answered FarDay) : Type 0 where
   pub replies : OutwardReplies assigned sent x.day (far_sent ++ reply_list x.reply)
   pub calls : OfferedCalls assigned sent x.day.calls
   pub apart : AreOnTheirOwn x.day.calls
@@ -59,7 +58,7 @@ saids_grow assigned sent far_sent more f f' kept h k = all_joined (λ o. o.flag 
 -- ---- an answer that changes nothing
 
 unchanged_keeps : (assigned : List (Option ℕ)) (sent far_sent : List Outgoing) (f : FarDay) (reply : Option Outgoing) → FarBefore assigned sent far_sent f
-    → OfSaid (λ o. o.flag ≡ true → (list_any (sets_up o.reference) sent ≡ true) × (is_connect_kind o.kind ≡ false)) reply → FarKeeps assigned sent far_sent f (far_unchanged f reply)
+    → OfSaid (λ o. o.flag ≡ true → (list_any (sets_up o.reference) sent ≡ true) × (is_connect_kind o.kind ≡ false)) reply → FarKeeps assigned sent far_sent f (unchanged f reply)
 unchanged_keeps assigned sent far_sent f reply b h = record {
   replies = saids_grow assigned sent far_sent (reply_list reply) f f (λ r k. k) b.replies
       (listed (λ o. o.flag ≡ true → OutwardReply assigned sent f o) reply (said_map (λ o. o.flag ≡ true → (list_any (sets_up o.reference) sent ≡ true) × (is_connect_kind o.kind ≡ false)) (λ o. o.flag ≡ true → OutwardReply assigned sent f o) (λ o p q. record { known = (p q).0; kept = λ c. absurd (false≢true (sym (p q).1 ∙ c)) }) reply h));

@@ -19,9 +19,11 @@ use Rattle.bx_calls.specs.declared.step.Next.TheVariants.{Live, Over, Broken}
 use Rattle.bx_calls.specs.declared.unknown_reference.End.TheVariants.{User}
 use Rattle.bx_day.proofs.Said.{OfSaid}
 use Rattle.bx_calls.specs.Shared.{is_set}
-use Rattle.bx_far.specs.FarDay.{FarDay, FarSent, FarAnswered, Begun, begin_row, begin_rows, far_begun, far_ticked, far_tick, second_calls, second_said, with_held, no_messages, far_follow, far_takes, far_called_on, far_called, far_stray, far_received_by, far_receive, far_names, first_call, is_taken}
+use Rattle.bx_far.specs.FarDay.{FarDay, Begun, begin_row, begin_rows, far_begun, far_ticked, far_tick, second_calls, second_said, with_held, no_messages, far_follow, far_takes, far_called_on, far_called, far_stray, far_received_by, far_receive, far_names, first_call, is_taken}
+use Rattle.bx_calls.specs.Sending.{Sent, Answered}
 use Rattle.bx_far.specs.Policies.{policy_of}
-use Rattle.bx_far.specs.Seats.{calls_now, calls_later}
+use Rattle.bx_far.specs.Seats.{calls_later}
+use Rattle.bx_far.specs.Inside.{calls_now}
 use Rattle.bx_far.specs.declared.row.ScriptRow.{ScriptRow}
 use Rattle.bx_far.specs.declared.row.ScriptRow.TheVariants.{Follows, Calls}
 use Rattle.bx_far.proofs.Passing.{now_split, row_room, rows_room, later_split}
@@ -77,7 +79,7 @@ pub record FarWithin (f : FarDay) : Type 0 where
   pub first : 1 ≤ f.next
   pub room : f.next + calls_later f.moment f.script ≤ 4001
 
-pub record FarTickOk (x : FarSent) : Type 0 where
+pub record FarTickOk (x : Sent FarDay) : Type 0 where
   pub sent : AllByRecursion Sendable x.sent
   pub lims : FarWithin x.day
 
@@ -100,7 +102,7 @@ far_tick_ok f script h = by_cases (nat_le 300000 f.moment) _ _ FarTickOk (λ _. 
 
 -- ---- messages
 
-pub record FarAnswerOk (x : FarAnswered) : Type 0 where
+pub record FarAnswerOk (x : Answered FarDay) : Type 0 where
   pub reply : OfSaid Sendable x.reply
   pub lims : FarWithin x.day
 

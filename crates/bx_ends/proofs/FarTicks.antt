@@ -12,7 +12,8 @@ use Rattle.bx_calls.specs.declared.step.Next.{Next}
 use Rattle.bx_calls.specs.declared.step.Next.TheVariants.{Live, Over, Broken}
 use Rattle.bx_calls.specs.Shared.{is_set}
 use Rattle.bx_day.proofs.Said.{OfSaid}
-use Rattle.bx_far.specs.FarDay.{FarDay, FarSent, Begun, begin_row, begin_rows, far_begun, far_ticked, second_calls, second_maintenance, second_said, with_held, in_order, no_messages, next_then, settle_maintenance}
+use Rattle.bx_far.specs.FarDay.{FarDay, Begun, begin_row, begin_rows, far_begun, far_ticked, second_calls, second_maintenance, second_said, with_held, no_messages, next_then, settle_maintenance}
+use Rattle.bx_calls.specs.Sending.{Sent, in_order}
 use Rattle.bx_far.specs.declared.row.ScriptRow.{ScriptRow}
 use Rattle.bx_far.specs.declared.row.ScriptRow.TheVariants.{Follows, Calls}
 use Rattle.bx_ends.specs.Scripts.{IsScriptRow}
@@ -187,7 +188,7 @@ pub both_calls : (P Q : PlainUserCall → Type 0) (cs : List PlainUserCall) → 
 both_calls P Q [] h k = tt
 both_calls P Q (c ∷ cs) h k = ((h.0, k.0), both_calls P Q cs h.1 k.1)
 
-pub record FarTicked (assigned : List (Option ℕ)) (sent far_sent : List Outgoing) (x : FarSent) : Type 0 where
+pub record FarTicked (assigned : List (Option ℕ)) (sent far_sent : List Outgoing) (x : Sent FarDay) : Type 0 where
   pub replies : OutwardReplies assigned sent x.day (far_sent ++ x.sent)
   pub calls : OfferedCalls assigned sent x.day.calls
   pub apart : AreOnTheirOwn x.day.calls

@@ -9,7 +9,7 @@ use Rattle.bx_q931.specs.declared.kind.Kind.TheVariants.{Setup}
 use Rattle.bx_ends.specs.World.{message_nth}
 use Rattle.bx_ends.proofs.NetworkRows.{clears_as}
 use Rattle.bx_day.proofs.Said.{OfSaid}
-use Rattle.bx_day.specs.Run.{reply_list}
+use Rattle.bx_calls.specs.Sending.{reply_list}
 
 -- a message of the exchange for a call that it began, and one of the far end for such a call
 abbrev pub from_beginner : ℕ → Outgoing → Bool

@@ -22,8 +22,11 @@ use Rattle.bx_day.specs.declared.entry.Moved.{Moved}
 use Rattle.bx_day.specs.declared.entry.Standing.{Standing}
 use Rattle.bx_day.specs.declared.entry.Standing.TheVariants.{Refused, Unoffered, OnCall, Carried, Unanswered, Missed}
 use Rattle.bx_calls.specs.Shared.{is_set, bool_eq}
-use Rattle.bx_day.specs.Day.{Day, Answered, entry_at, is_free, is_unoffered, is_open, opens, index_of, names, names_call, hears, takes_call, takes_or, called_on, called, stray, received_at, receive, with_moved, follow, over_at, waits, second_at, second_of, after_second, breaks_on, maintained, ticked, every_channel}
-use Rattle.bx_day.specs.Run.{reply_list}
+use Rattle.bx_day.specs.Day.{Day, entry_at, is_free, is_unoffered, index_of, every_channel}
+use Rattle.bx_day.specs.Ticks.{waits, second_at, second_of, after_second, breaks_on, maintained, ticked}
+use Rattle.bx_day.specs.Receipts.{is_open, opens, names, names_call, hears, takes_call, takes_or, called_on, called, stray, received_at, receive, with_moved}
+use Rattle.bx_day.specs.Moves.{follow, over_at}
+use Rattle.bx_calls.specs.Sending.{Answered, reply_list}
 use Rattle.bx_day.specs.Law.{standing_at}
 use Rattle.bx_day.specs.Invariant.{is_refused}
 use Rattle.bx_day.proofs.Receive.{all_set, all_at, Passes, index_passes, open_parts}
@@ -336,7 +339,7 @@ unchanged_takes named next sent far_sent d reply b h = record {
   size = b.size;
 }
 
-abbrev Takes : (ℕ → ℕ) → ℕ → List Outgoing → List Outgoing → Answered → Type 0
+abbrev Takes : (ℕ → ℕ) → ℕ → List Outgoing → List Outgoing → Answered Day → Type 0
 Takes named next sent far_sent x = TakenAfter named next sent far_sent (reply_list x.reply) x.day
 
 unoffered_free : (r ch : ℕ) (s : Standing) → is_unoffered s ≡ true → answered_as r ch s ≡ true → ⊥

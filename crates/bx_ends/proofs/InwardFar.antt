@@ -16,11 +16,11 @@ use Rattle.bx_calls.specs.declared.step.Next.{Next}
 use Rattle.bx_calls.specs.declared.step.Next.TheVariants.{Live, Over, Broken}
 use Rattle.bx_calls.specs.declared.user_state.Policy.{Policy}
 use Rattle.bx_calls.specs.declared.user_state.Policy.TheVariants.{Answer, Busy, Silent, Alert, Proceed, Clear}
-use Rattle.bx_day.specs.Run.{reply_list}
+use Rattle.bx_calls.specs.Sending.{reply_list, Answered, unchanged}
 use Rattle.bx_day.proofs.Said.{OfSaid}
 use Rattle.bx_day.proofs.Tick.{by_cases}
 use Rattle.bx_calls.specs.Shared.{bool_eq}
-use Rattle.bx_far.specs.FarDay.{FarDay, FarAnswered, far_names, far_follow, far_takes, far_called_on, far_called, far_stray, far_received_by, far_receive, far_unchanged, first_call, is_taken, insert_call, settle_calls}
+use Rattle.bx_far.specs.FarDay.{FarDay, far_names, far_follow, far_takes, far_called_on, far_called, far_stray, far_received_by, far_receive, first_call, is_taken, insert_call, settle_calls}
 use Rattle.bx_far.specs.Policies.{policy_of}
 use Rattle.bx_ends.specs.TwoEnds.{AreOnTheirOwn}
 use Rattle.bx_ends.specs.TwoEndsInward.{connects, is_connect_kind}
@@ -38,7 +38,7 @@ abbrev pub Own : (ℕ → ℕ) → ℕ → List Outgoing → List Outgoing → P
 Own named next sent far_sent c = user_flag c.origin ≡ false → InwardCall named next sent far_sent c
 
 -- what an answer of the far end leaves
-pub record InwardAfter (named : ℕ → ℕ) (next : ℕ) (sent far_sent : List Outgoing) (x : FarAnswered) : Type 0 where
+pub record InwardAfter (named : ℕ → ℕ) (next : ℕ) (sent far_sent : List Outgoing) (x : Answered FarDay) : Type 0 where
   pub sents : InwardSents named next (far_sent ++ reply_list x.reply)
   pub calls : InwardCalls named next sent (far_sent ++ reply_list x.reply) x.day.calls
   pub next_stays : x.day.next ≡ next
@@ -78,17 +78,17 @@ Plain next o = o.flag ≡ false → (o.reference < next) × (is_setup_kind o.kin
 plain_sent : (named : ℕ → ℕ) (next : ℕ) (o : Outgoing) → Plain next o → o.flag ≡ false → InwardSent named next o
 plain_sent named next o h f = record { given = (h f).0; channel = λ k. absurd (false≢true (sym (h f).1 ∙ ap is_setup_kind k)) }
 
-unchanged_inward : (named : ℕ → ℕ) (sent far_sent : List Outgoing) (f : FarDay) (reply : Option Outgoing) → InwardSents named f.next far_sent → InwardCalls named f.next sent far_sent f.calls → OfSaid (Plain f.next) reply → AllByRecursion (Quiet (reply_list reply)) f.calls → InwardAfter named f.next sent far_sent (far_unchanged f reply)
+unchanged_inward : (named : ℕ → ℕ) (sent far_sent : List Outgoing) (f : FarDay) (reply : Option Outgoing) → InwardSents named f.next far_sent → InwardCalls named f.next sent far_sent f.calls → OfSaid (Plain f.next) reply → AllByRecursion (Quiet (reply_list reply)) f.calls → InwardAfter named f.next sent far_sent (unchanged f reply)
 unchanged_inward named sent far_sent f reply sents calls plain quiet = record {
   sents = all_joined (λ o. o.flag ≡ false → InwardSent named f.next o) far_sent (reply_list reply) sents (listed (λ o. o.flag ≡ false → InwardSent named f.next o) reply (said_map (Plain f.next) (λ o. o.flag ≡ false → InwardSent named f.next o) (plain_sent named f.next) reply plain));
   calls = calls_grow named f.next sent far_sent (reply_list reply) f.calls quiet calls;
   next_stays = refl;
 }
 
-pub silent_inward : (named : ℕ → ℕ) (sent far_sent : List Outgoing) (f : FarDay) → InwardSents named f.next far_sent → InwardCalls named f.next sent far_sent f.calls → InwardAfter named f.next sent far_sent (far_unchanged f None)
+pub silent_inward : (named : ℕ → ℕ) (sent far_sent : List Outgoing) (f : FarDay) → InwardSents named f.next far_sent → InwardCalls named f.next sent far_sent f.calls → InwardAfter named f.next sent far_sent (unchanged f None)
 silent_inward named sent far_sent f sents calls = unchanged_inward named sent far_sent f None sents calls tt (all_true (Quiet []) (λ c u. refl) f.calls)
 
-refused_inward : (named : ℕ → ℕ) (sent far_sent : List Outgoing) (f : FarDay) (r cause : ℕ) → InwardSents named f.next far_sent → InwardCalls named f.next sent far_sent f.calls → InwardAfter named f.next sent far_sent (far_unchanged f (Some (refusal_of User r true cause)))
+refused_inward : (named : ℕ → ℕ) (sent far_sent : List Outgoing) (f : FarDay) (r cause : ℕ) → InwardSents named f.next far_sent → InwardCalls named f.next sent far_sent f.calls → InwardAfter named f.next sent far_sent (unchanged f (Some (refusal_of User r true cause)))
 refused_inward named sent far_sent f r cause sents calls = unchanged_inward named sent far_sent f (Some (refusal_of User r true cause)) sents calls (λ q. absurd (true≢false q))
     (all_true (Quiet (refusal_of User r true cause ∷ [])) (λ c u. none_clears c.reference (Some (refusal_of User r true cause)) (to_other c.reference (refusal_of User r true cause) refl)) f.calls)
 

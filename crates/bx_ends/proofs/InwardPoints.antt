@@ -14,12 +14,14 @@ use Rattle.bx_day.specs.declared.entry.Entry.{Entry}
 use Rattle.bx_day.specs.declared.entry.Standing.{Standing}
 use Rattle.bx_day.specs.declared.entry.Standing.TheVariants.{Refused, Unoffered, OnCall, Carried, Unanswered, Missed}
 use Rattle.bx_calls.specs.Shared.{is_set}
-use Rattle.bx_day.specs.Day.{Day, Sent, Answered, entries_from, entry_at, receive, ticked}
-use Rattle.bx_day.specs.Run.{reply_list}
+use Rattle.bx_day.specs.Day.{Day, entries_from, entry_at}
+use Rattle.bx_day.specs.Ticks.{ticked}
+use Rattle.bx_day.specs.Receipts.{receive}
+use Rattle.bx_calls.specs.Sending.{Sent, Answered, reply_list}
 use Rattle.bx_day.specs.Invariant.{EntryFits, StandingFits}
 use Rattle.bx_day.proofs.Receive.{all_at}
 use Rattle.bx_day.proofs.Tick.{by_cases}
-use Rattle.bx_far.specs.FarDay.{FarDay, FarSent, FarAnswered, far_ticked, far_receive}
+use Rattle.bx_far.specs.FarDay.{FarDay, far_ticked, far_receive}
 use Rattle.bx_far.specs.declared.row.ScriptRow.{ScriptRow}
 use Rattle.bx_ends.specs.World.{World, WorldEvent, TickExchange, TickFar, ToExchange, ToFar, exchange_becomes, far_becomes, comes_to_exchange, comes_to_far, message_nth, world_happens, world_opening, world_after}
 use Rattle.bx_ends.specs.Scripts.{AreScriptRows}
@@ -105,26 +107,26 @@ before rows assigned w o k = record {
 }
 
 tick_exchange : (rows : List Row) (assigned : List (Option ℕ)) (w : World) → KeepsOutward rows assigned w → KeepsInward w → KeepsInward (world_happens w TickExchange)
-tick_exchange rows assigned w o k = by_cases (nat_le 300000 w.exchange.moment) _ _ (λ (s : Sent). KeepsInward (exchange_becomes w s.day s.sent))
+tick_exchange rows assigned w o k = by_cases (nat_le 300000 w.exchange.moment) _ _ (λ (s : Sent Day). KeepsInward (exchange_becomes w s.day s.sent))
     (λ _. exchange_inward w w.exchange [] k (unchanged_takes k.named w.far.next w.sent w.far_sent w.exchange None (before rows assigned w o k) tt))
     (λ _. exchange_inward w (ticked w.exchange).day (ticked w.exchange).sent k (ticked_takes k.named w.far.next w.sent w.far_sent w.exchange (before rows assigned w o k)))
 
 tick_far : (rows : List Row) (assigned : List (Option ℕ)) (w : World) → KeepsOutward rows assigned w → KeepsInward w → KeepsInward (world_happens w TickFar)
-tick_far rows assigned w o k = by_cases (nat_le 300000 w.far.moment) _ _ (λ (s : FarSent). KeepsInward (far_becomes w s.day s.sent))
+tick_far rows assigned w o k = by_cases (nat_le 300000 w.far.moment) _ _ (λ (s : Sent FarDay). KeepsInward (far_becomes w s.day s.sent))
     (λ _. let x = silent_inward k.named w.sent w.far_sent w.far k.sents k.calls in far_inward w w.far [] k k.named (λ r l. refl) (omega arith) x.sents x.calls)
     (λ _. let x = far_ticked_inward k.named w.sent w.far_sent w.far k.sents k.calls o.apart in far_inward w (far_ticked w.far).day (far_ticked w.far).sent k x.named x.agrees x.grown x.sents x.calls)
 
 to_exchange : (rows : List Row) (assigned : List (Option ℕ)) (w : World) (m : Option Outgoing) → KeepsOutward rows assigned w → (k : KeepsInward w) → IfMessage (λ x. (IsIn w.far_sent x × (x.flag ≡ false → InwardSent k.named w.far.next x)) × Sendable x) m → KeepsInward (comes_to_exchange w m)
 to_exchange rows assigned w None o k h = k
 to_exchange rows assigned w (Some m) o k h =
-    subst (λ (x : Answered). KeepsInward (exchange_becomes w x.day (reply_list x.reply))) (sym (receive_sent w.exchange m h.1))
+    subst (λ (x : Answered Day). KeepsInward (exchange_becomes w x.day (reply_list x.reply))) (sym (receive_sent w.exchange m h.1))
     (exchange_inward w (receive w.exchange (said_from m)).day (reply_list (receive w.exchange (said_from m)).reply) k
     (receive_takes k.named w.far.next w.sent w.far_sent w.exchange m (before rows assigned w o k) h.0.1 h.0.0))
 
 to_far : (rows : List Row) (assigned : List (Option ℕ)) (w : World) (m : Option Outgoing) → KeepsOutward rows assigned w → (k : KeepsInward w) → IfMessage (λ x. (IsIn w.sent x × (x.flag ≡ true → InwardReply k.named w.far.next w.far_sent w.exchange x)) × Sendable x) m → KeepsInward (comes_to_far w m)
 to_far rows assigned w None o k h = k
 to_far rows assigned w (Some m) o k h =
-    subst (λ (x : FarAnswered). KeepsInward (far_becomes w x.day (reply_list x.reply))) (sym (far_receive_sent w.far m h.1))
+    subst (λ (x : Answered FarDay). KeepsInward (far_becomes w x.day (reply_list x.reply))) (sym (far_receive_sent w.far m h.1))
     (let x = far_receive_inward k.named w.sent w.far_sent w.far m m.called k.sents k.calls o.apart (λ f. (h.0.1 f).given) h.0.0 in
     let day : FarDay = (far_receive w.far (said_from m) m.called).day in
     far_inward w day (reply_list (far_receive w.far (said_from m) m.called).reply) k k.named (λ r l. refl) (omega (arith, x.next_stays))

@@ -15,7 +15,7 @@ use Rattle.bx_calls.specs.Hearing.{Heard, names_channel, reports_null}
 use Rattle.bx_calls.specs.States.{state_value, net_state}
 use Rattle.bx_calls.specs.NetTable.{net_row, net_second, net_timer, net_flag, net_is_clearing, net_releases}
 use Rattle.std.proofs.lemmas.Bool.{false≢true, or_left}
-use Rattle.bx_day.specs.Day.{is_active}
+use Rattle.bx_day.specs.Moves.{is_active}
 use Rattle.bx_day.proofs.Said.{OfSaid}
 use Rattle.bx_day.proofs.Second.{call_of}
 use Rattle.bx_day.proofs.Tick.{by_cases}

@@ -39,7 +39,8 @@ use Rattle.bx_day.specs.declared.entry.Entry.{Entry}
 use Rattle.bx_day.specs.declared.entry.Standing.{Standing}
 use Rattle.bx_day.specs.declared.entry.Standing.TheVariants.{OnCall, Carried, Unanswered}
 use Rattle.bx_calls.specs.Shared.{is_set}
-use Rattle.bx_day.specs.Day.{Day, is_active, entry_at}
+use Rattle.bx_day.specs.Day.{Day, entry_at}
+use Rattle.bx_day.specs.Moves.{is_active}
 use Rattle.bx_day.specs.Law.{standing_at}
 use Rattle.bx_day.specs.Invariant.{is_refused}
 use Rattle.bx_day.proofs.Law.{RunFits}

@@ -4,9 +4,11 @@ use Rattle.bx_base.specs.Channels.{IsChannelSet}
 use Rattle.bx_base.specs.Bookings.{Row, AreBookings, Carries}
 use Rattle.bx_base.specs.Plans.{is_accepted, channel_at}
 use Rattle.bx_q931.specs.Outgoing.{Outgoing}
-use Rattle.bx_day.specs.Day.{Answered, entries_from, entry_at, receive, tick}
-use Rattle.bx_day.specs.Run.{reply_list}
-use Rattle.bx_far.specs.FarDay.{FarAnswered, far_tick, far_receive}
+use Rattle.bx_day.specs.Day.{Day, entries_from, entry_at}
+use Rattle.bx_day.specs.Ticks.{tick}
+use Rattle.bx_day.specs.Receipts.{receive}
+use Rattle.bx_calls.specs.Sending.{Answered, reply_list}
+use Rattle.bx_far.specs.FarDay.{FarDay, far_tick, far_receive}
 use Rattle.bx_far.specs.declared.row.ScriptRow.{ScriptRow}
 use Rattle.bx_far.proofs.Kept.{later_few}
 use Rattle.bx_ends.specs.World.{World, WorldEvent, TickExchange, TickFar, ToExchange, ToFar, exchange_becomes, far_becomes, comes_to_exchange, comes_to_far, message_nth, world_happens, world_opening, world_after}
@@ -28,13 +30,13 @@ pub record WorldWithin (w : World) : Type 0 where
 
 exchange_within : (rows : List Row) (assigned : List (Option ℕ)) (w : World) (o : Option Outgoing) → KeepsOutward rows assigned w → WorldWithin w → IfMessage Sendable o → WorldWithin (comes_to_exchange w o)
 exchange_within rows assigned w None k l s = l
-exchange_within rows assigned w (Some o) k l s = subst (λ (x : Answered). WorldWithin (exchange_becomes w x.day (reply_list x.reply))) (sym (receive_sent w.exchange o s))
+exchange_within rows assigned w (Some o) k l s = subst (λ (x : Answered Day). WorldWithin (exchange_becomes w x.day (reply_list x.reply))) (sym (receive_sent w.exchange o s))
     (let x = receive_ok assigned w.exchange o k.seats l.exchange s in
     record { messages = record { sent = all_joined Sendable w.sent (reply_list (receive w.exchange (said_from o)).reply) l.messages.sent (listed Sendable (receive w.exchange (said_from o)).reply x.reply); far_sent = l.messages.far_sent }; exchange = x.lims; far = l.far })
 
 far_within : (w : World) (o : Option Outgoing) → WorldWithin w → IfMessage Sendable o → WorldWithin (comes_to_far w o)
 far_within w None l s = l
-far_within w (Some o) l s = subst (λ (x : FarAnswered). WorldWithin (far_becomes w x.day (reply_list x.reply))) (sym (far_receive_sent w.far o s))
+far_within w (Some o) l s = subst (λ (x : Answered FarDay). WorldWithin (far_becomes w x.day (reply_list x.reply))) (sym (far_receive_sent w.far o s))
     (let x = far_receive_ok w.far o o.called l.far s in
     record { messages = record { sent = l.messages.sent; far_sent = all_joined Sendable w.far_sent (reply_list (far_receive w.far (said_from o) o.called).reply) l.messages.far_sent (listed Sendable (far_receive w.far (said_from o) o.called).reply x.reply) }; exchange = l.exchange; far = x.lims })
 

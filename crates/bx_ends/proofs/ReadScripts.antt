@@ -10,10 +10,11 @@ use Rattle.bx_base.specs.Numbers.{IsNumber}
 use Rattle.bx_q931.specs.Values.{is_number, is_channel}
 use Rattle.bx_q931.proofs.ValueLemmas.{number_decides}
 use Rattle.bx_calls.specs.declared.user_state.Policy.{Policy}
-use Rattle.bx_book.specs.Rows.{field_of}
+use Rattle.bx_text.specs.Records.{field_of}
+use Rattle.bx_text.specs.Rows.{AreRows}
 use Rattle.bx_day.proofs.Tick.{by_cases}
-use Rattle.bx_far.specs.ScriptRows.{number_of, names_channel, channel_of, seconds_of, policy_word, follows_row, calls_at, calls_row, policy_row, row_in, row_of}
-use Rattle.bx_far.specs.ScriptTexts.{IsScript, AreRowsOf}
+use Rattle.bx_far.specs.ScriptRows.{number_of, names_channel, channel_of, seconds_of, policy_word, follows_row, calls_at, calls_row, policy_row, row_in, row_of, IsRowOf}
+use Rattle.bx_far.specs.ScriptTexts.{IsScript}
 use Rattle.bx_far.specs.declared.row.ScriptRow.{ScriptRow}
 use Rattle.bx_far.specs.declared.row.ScriptRow.TheVariants.{Follows}
 use Rattle.bx_ends.specs.Scripts.{IsScriptRow}
@@ -64,7 +65,7 @@ row_fits columns fields = made IsScriptRow (row_in columns fields)
     (λ seconds. by_cases ((columns == 4) && bytes_eq (field_of fields 1) (codes "call")) _ _ (Where IsScriptRow)
     (λ _. calling_fits (field_of fields 0) seconds (field_of fields 3)) (λ _. policy_fits fields seconds)) (seconds_of (field_of fields 2))
 
-rows_fit : (columns : ℕ) (records : List (List (List ℕ))) (rows : List ScriptRow) → AreRowsOf columns records rows → AllByRecursion IsScriptRow rows
+rows_fit : (columns : ℕ) (records : List (List (List ℕ))) (rows : List ScriptRow) → AreRows (IsRowOf columns) records rows → AllByRecursion IsScriptRow rows
 rows_fit columns [] [] h = tt
 rows_fit columns [] (b ∷ bs) h = absurd h
 rows_fit columns (r ∷ rs) [] h = absurd h

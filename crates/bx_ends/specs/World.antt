@@ -4,8 +4,10 @@
 use Rattle.std.specs.Prelude.{ℕ, zero, suc, List, [], ◌∷◌, ◌++◌, Option, Some, None}
 use Rattle.bx_base.specs.Bookings.{Row}
 use Rattle.bx_q931.specs.Outgoing.{Outgoing, out_octets}
-use Rattle.bx_day.specs.Day.{Day, tick, opening}
-use Rattle.bx_day.specs.Run.{receive_octets, reply_list}
+use Rattle.bx_day.specs.Day.{Day, opening}
+use Rattle.bx_day.specs.Ticks.{tick}
+use Rattle.bx_day.specs.Run.{receive_octets}
+use Rattle.bx_calls.specs.Sending.{reply_list}
 use Rattle.bx_far.specs.FarDay.{FarDay, far_tick, far_opening}
 use Rattle.bx_far.specs.FarRun.{far_receive_octets}
 use Rattle.bx_far.specs.declared.row.ScriptRow.{ScriptRow}

@@ -11,7 +11,8 @@ use Rattle.bx_far.specs.declared.row.ScriptRow.{ScriptRow}
 use Rattle.bx_far.specs.declared.row.ScriptRow.TheVariants.{Follows, Calls}
 use Rattle.bx_calls.specs.Shared.{is_set}
 use Rattle.bx_far.specs.FarDay.{FarDay, far_takes, holder, is_taken, insert_call, first_call}
-use Rattle.bx_far.specs.Seats.{live_calls, slot_at, IsSeat, AreSeated, IsFar, calls_later}
+use Rattle.bx_far.specs.Seats.{live_calls, IsSeat, AreSeated, IsFar, calls_later}
+use Rattle.bx_far.specs.Inside.{slot_at}
 use Rattle.bx_far.proofs.Seats.{holder_is, seated_set}
 
 pub slot_read : (slots : List (Option PlainUserCall)) (k : ℕ) (r : Option PlainUserCall) → r ≡ slice_index_or slots k r → k < length slots → slot_at slots k ≡ r

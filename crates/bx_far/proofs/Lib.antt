@@ -1,4 +1,4 @@
-pub mod ScriptFronts
+pub mod ScriptFaults
 pub mod Seats
 pub mod Keeping
 pub mod Kept

@@ -13,9 +13,11 @@ use Rattle.bx_calls.specs.declared.user_state.Policy.TheVariants.{Answer}
 use Rattle.bx_far.specs.declared.row.ScriptRow.{ScriptRow}
 use Rattle.bx_far.specs.declared.row.ScriptRow.TheVariants.{Follows, Calls}
 use Rattle.bx_calls.specs.Shared.{is_set}
-use Rattle.bx_far.specs.FarDay.{FarDay, far_tick, far_ticked, Begun, begin_call, begin_row, insert_call, begin_rows, in_order, no_messages, second_calls, second_maintenance, second_said, settle_maintenance, next_then, with_held}
-use Rattle.bx_far.specs.Seats.{live_calls, live_of, slot_at, IsSeat, AreSeated, calls_now, calls_later}
-use Rattle.bx_far.specs.Turns.{after_slot, AreSpoken, IsFree, IsTurn}
+use Rattle.bx_far.specs.FarDay.{FarDay, far_tick, far_ticked, Begun, begin_call, begin_row, insert_call, begin_rows, no_messages, second_calls, second_maintenance, second_said, settle_maintenance, next_then, with_held}
+use Rattle.bx_calls.specs.Sending.{in_order}
+use Rattle.bx_far.specs.Seats.{live_calls, IsSeat, AreSeated, calls_later}
+use Rattle.bx_far.specs.Inside.{live_of, slot_at, calls_now}
+use Rattle.bx_far.specs.BegunTicks.{after_slot, AreSpoken, IsFree, IsBegunTick}
 use Rattle.bx_far.proofs.Seats.{seat_at, next_is, seated_set, insert_is}
 use Rattle.bx_far.proofs.Keeping.{seat_of, second_keeps}
 use Rattle.bx_far.proofs.Kept.{rest_is}
@@ -236,7 +238,7 @@ free_kept slots n call blocked blocked' added others h c unset = decide (c == n)
 
 pub turn_begun : (calls : List (Option PlainUserCall)) (said : List (Option Outgoing)) (blocked blocked' : List Bool) (next n : ℕ) (call : PlainUserCall) (out : Outgoing)
     → IsChannel n → call.channel ≡ n → is_set blocked' n ≡ true → ((k : ℕ) → k ≢ n → is_set blocked' k ≡ is_set blocked k)
-    → IsTurn calls said blocked next → IsTurn (slice_set calls n (Some call)) (slice_set said n (Some out)) blocked' (next + 1)
+    → IsBegunTick calls said blocked next → IsBegunTick (slice_set calls n (Some call)) (slice_set said n (Some out)) blocked' (next + 1)
 turn_begun calls said blocked blocked' next n call out channel on added others h = record {
   size = length-set calls n (Some call) ∙ h.size;
   seated = seated_set 0 n n (Some call) calls (omega arith) (on, channel) h.seated;

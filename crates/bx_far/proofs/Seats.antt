@@ -7,7 +7,8 @@ use Rattle.bx_calls.specs.PlainCalls.{PlainUserCall}
 use Rattle.bx_calls.specs.declared.step.Next.{Next}
 use Rattle.bx_calls.specs.declared.step.Next.TheVariants.{Live, Over, Broken}
 use Rattle.bx_far.specs.FarDay.{first_call, is_on, insert_call, settle_calls, next_then}
-use Rattle.bx_far.specs.Seats.{live_calls, slot_at, live_of, IsSeat, AreSeated}
+use Rattle.bx_far.specs.Seats.{live_calls, IsSeat, AreSeated}
+use Rattle.bx_far.specs.Inside.{slot_at, live_of}
 
 pub none≢some : {X : Type 0} (x : X) → None ≡ Some x → ⊥
 none≢some x e = false≢true (ap is_some e)

@@ -1,13 +1,12 @@
 -- The day of the far end: what its script says, its live calls in rising order of channel, and the channels in
 -- maintenance.
-use Rattle.std.specs.Prelude.{ℕ, ◌+◌, ◌==◌, nat_le, nat_lt, ◌&&◌, ◌||◌, not, Bool, true, false, List, [], ◌∷◌, Option, Some, None, if◌then◌else◌, is_some, slice_index_or, slice_set, replicate}
-use Rattle.std.specs.List.{flat_map}
+use Rattle.std.specs.Prelude.{ℕ, ◌+◌, ◌==◌, nat_le, nat_lt, ◌&&◌, ◌||◌, not, Bool, true, List, [], ◌∷◌, Option, Some, None, if◌then◌else◌, is_some, slice_set, replicate}
 use Rattle.bx_q931.specs.declared.kind.Kind.{Kind}
 use Rattle.bx_q931.specs.declared.kind.Kind.TheVariants.{Setup}
 use Rattle.bx_q931.specs.declared.channel_field.ChannelField.{ChannelField}
 use Rattle.bx_q931.specs.declared.channel_field.ChannelField.TheVariants.{Absent, Named, AnyChannel, Unread}
 use Rattle.bx_q931.specs.Outgoing.{Outgoing}
-use Rattle.bx_calls.specs.Shared.{is_set, no_channel, cons_some, bool_eq}
+use Rattle.bx_calls.specs.Shared.{is_set, no_channel, bool_eq}
 use Rattle.bx_calls.specs.declared.step.Step.{Step}
 use Rattle.bx_calls.specs.declared.step.Next.{Next}
 use Rattle.bx_calls.specs.declared.step.Next.TheVariants.{Live, Over, Broken}
@@ -22,6 +21,7 @@ use Rattle.bx_calls.specs.UserTable.{user_flag, user_second, user_message, user_
 use Rattle.bx_far.specs.Policies.{policy_of}
 use Rattle.bx_far.specs.declared.row.ScriptRow.{ScriptRow}
 use Rattle.bx_far.specs.declared.row.ScriptRow.TheVariants.{Follows, Calls}
+use Rattle.bx_calls.specs.Sending.{Sent, Answered, unchanged, in_order}
 
 pub record FarDay : Type 0 where
   pub script : List ScriptRow
@@ -75,9 +75,6 @@ settle_maintenance c next maintenance = maintenance
 abbrev pub no_messages : List (Option Outgoing)
 no_messages = replicate 32 None
 
-abbrev pub in_order : List (Option Outgoing) → List Outgoing
-in_order said = flat_map (λ o. cons_some o []) said
-
 -- the calls that were live, at a tick to moment t
 abbrev pub second_calls : ℕ → List PlainUserCall → List PlainUserCall
 second_calls t [] = []
@@ -120,10 +117,6 @@ abbrev pub begin_rows : ℕ → List ScriptRow → Begun → Begun
 begin_rows t [] b = b
 begin_rows t (row ∷ rows) b = begin_rows t rows (begin_row t row b)
 
-pub record FarSent : Type 0 where
-  pub day : FarDay
-  pub sent : List Outgoing
-
 -- channels that were held or in maintenance before the tick are not called on
 abbrev pub far_begun : FarDay → ℕ → Begun
 far_begun d t = begin_rows t d.script (record {
@@ -133,70 +126,63 @@ far_begun d t = begin_rows t d.script (record {
   next = d.next;
 })
 
-abbrev pub far_after : FarDay → ℕ → Begun → FarSent
+abbrev pub far_after : FarDay → ℕ → Begun → Sent FarDay
 far_after d t b = record {
   day = record d { moment = t; calls = b.calls; maintenance = second_maintenance t d.calls d.maintenance; next = b.next };
   sent = in_order b.said;
 }
 
-abbrev pub far_ticked : FarDay → FarSent
+abbrev pub far_ticked : FarDay → Sent FarDay
 far_ticked d = far_after d (d.moment + 1) (far_begun d (d.moment + 1))
 
-abbrev pub far_tick : FarDay → FarSent
+abbrev pub far_tick : FarDay → Sent FarDay
 far_tick d = if nat_le 300000 d.moment then record { day = d; sent = [] } else far_ticked d
 
 -- ---- a receipt
-
-pub record FarAnswered : Type 0 where
-  pub day : FarDay
-  pub reply : Option Outgoing
-
-abbrev pub far_unchanged : FarDay → Option Outgoing → FarAnswered
-far_unchanged d reply = record { day = d; reply = reply }
 
 -- whether a message names this call: flag 0 names calls that the network began
 abbrev pub far_names : Said → PlainUserCall → Bool
 far_names m call = (call.reference == m.reference) && bool_eq (user_flag call.origin) (not m.flag)
 
 -- a call took this step
-abbrev pub far_follow : FarDay → ℕ → Step PlainUserCall → FarAnswered
+abbrev pub far_follow : FarDay → ℕ → Step PlainUserCall → Answered FarDay
 far_follow d c step = record {
   day = record d { calls = settle_calls c step.next d.calls; maintenance = settle_maintenance c step.next d.maintenance };
   reply = step.reply;
 }
 
-abbrev pub far_refuses : FarDay → Said → ℕ → FarAnswered
-far_refuses d m cause = far_unchanged d (Some (refusal_of User m.reference true cause))
+abbrev pub far_refuses : FarDay → Said → ℕ → Answered FarDay
+far_refuses d m cause = unchanged d (Some (refusal_of User m.reference true cause))
 
 -- a SETUP that is not refused for what it asks, by the policy of its number
-abbrev pub far_takes : FarDay → Said → ℕ → Policy → FarAnswered
-far_takes d m c Silent = far_unchanged d None
+abbrev pub far_takes : FarDay → Said → ℕ → Policy → Answered FarDay
+far_takes d m c Silent = unchanged d None
 far_takes d m c Busy = far_refuses d m 17
 far_takes d m c policy = record { day = record d { calls = insert_call (user_offered m.reference c policy d.moment) d.calls }; reply = None }
 
 -- a SETUP with a good bearer capability, by its channel identification
-abbrev pub far_called_on : FarDay → Said → Option (List ℕ) → ChannelField → FarAnswered
+abbrev pub far_called_on : FarDay → Said → Option (List ℕ) → ChannelField → Answered FarDay
 far_called_on d m called Absent = far_refuses d m 96
 far_called_on d m called AnyChannel = far_refuses d m 44
 far_called_on d m called Unread = far_refuses d m 44
 far_called_on d m called (Named c exclusive) = if is_taken d c then far_refuses d m 44 else far_takes d m c (policy_of d.script called)
 
 -- a SETUP that begins a call, by the cause with which its bearer capability is refused, if any
-abbrev pub far_called : FarDay → Said → Option (List ℕ) → Option ℕ → FarAnswered
+abbrev pub far_called : FarDay → Said → Option (List ℕ) → Option ℕ → Answered FarDay
 far_called d m called (Some cause) = far_refuses d m cause
 far_called d m called None = far_called_on d m called m.heard.channel
 
 -- a message that names no live call
-abbrev pub far_stray : FarDay → Said → Option (List ℕ) → Kind → FarAnswered
-far_stray d m called Setup = if m.flag then far_unchanged d None else far_called d m called m.refused
-far_stray d m called kind = far_unchanged d (unknown_row User m.reference (not m.flag) m.heard kind)
+abbrev pub far_stray : FarDay → Said → Option (List ℕ) → Kind → Answered FarDay
+far_stray d m called Setup = if m.flag then unchanged d None else far_called d m called m.refused
+far_stray d m called kind = unchanged d (unknown_row User m.reference (not m.flag) m.heard kind)
 
-abbrev pub far_received_by : FarDay → Said → Option (List ℕ) → Option PlainUserCall → FarAnswered
+abbrev pub far_received_by : FarDay → Said → Option (List ℕ) → Option PlainUserCall → Answered FarDay
 far_received_by d m called None = far_stray d m called m.heard.kind
 far_received_by d m called (Some call) = far_follow d call.channel (user_message call m.heard d.moment)
 
 -- a message that was read, with neither the dummy nor the global reference, and the number that it calls
-abbrev pub far_receive : FarDay → Said → Option (List ℕ) → FarAnswered
+abbrev pub far_receive : FarDay → Said → Option (List ℕ) → Answered FarDay
 far_receive d m called = far_received_by d m called (first_call (far_names m) d.calls)
 
 abbrev pub far_opening : List ScriptRow → FarDay

@@ -1,8 +1,8 @@
 pub mod ScriptRows
+pub mod Inside
 pub mod Policies
 pub mod ScriptTexts
-pub mod ScriptFronts
 pub mod FarDay
 pub mod FarRun
 pub mod Seats
-pub mod Turns
+pub mod BegunTicks

@@ -1,13 +1,13 @@
 -- The rows of a script.
-use Rattle.std.specs.Prelude.{◌≡◌, ◌≢◌, ℕ, ◌==◌, ◌&&◌, nat_le, if◌then◌else◌, Bool, List, length, codes, Option, Some, None, Result, Ok, Err, option_map, option_and_then}
+use Rattle.std.specs.Prelude.{◌≡◌, ◌≢◌, ℕ, ◌==◌, ◌&&◌, nat_le, if◌then◌else◌, Bool, List, length, codes, Option, Some, None, option_map, option_and_then}
 use Rattle.std.specs.List.{list_all}
 use Rattle.std.specs.Char.{is_ascii_digit}
 use Rattle.std.specs.Str.{bytes_eq}
-use Rattle.std.specs.Str.Parse.{digits_value}
 use Rattle.bx_q931.specs.Values.{is_number, is_channel}
 use Rattle.bx_calls.specs.declared.user_state.Policy.{Policy}
 use Rattle.bx_calls.specs.declared.user_state.Policy.TheVariants.{Answer, Busy, Silent, Alert, Proceed, Clear}
-use Rattle.bx_book.specs.Rows.{field_of}
+use Rattle.bx_text.specs.Digits.{decimal_value}
+use Rattle.bx_text.specs.Records.{field_of}
 use Rattle.bx_far.specs.declared.row.ScriptRow.{ScriptRow}
 use Rattle.bx_far.specs.declared.row.ScriptRow.TheVariants.{Follows, Calls}
 use Rattle.bx_far.specs.declared.fault.ScriptFault.{ScriptFault}
@@ -19,17 +19,17 @@ number_of field = if is_number field then Some field else None
 
 -- 1 to 6 digits with a value of 0 to 100,000
 abbrev pub is_seconds : List ℕ → Bool
-is_seconds field = nat_le 1 (length field) && nat_le (length field) 6 && list_all is_ascii_digit field && nat_le (digits_value 10 field) 100000
+is_seconds field = nat_le 1 (length field) && nat_le (length field) 6 && list_all is_ascii_digit field && nat_le (decimal_value field) 100000
 
 abbrev pub seconds_of : List ℕ → Option ℕ
-seconds_of field = if is_seconds field then Some (digits_value 10 field) else None
+seconds_of field = if is_seconds field then Some (decimal_value field) else None
 
 -- a B channel, in one or two digits
 abbrev pub names_channel : List ℕ → Bool
-names_channel field = nat_le (length field) 2 && list_all is_ascii_digit field && is_channel (digits_value 10 field)
+names_channel field = nat_le (length field) 2 && list_all is_ascii_digit field && is_channel (decimal_value field)
 
 abbrev pub channel_of : List ℕ → Option ℕ
-channel_of field = if names_channel field then Some (digits_value 10 field) else None
+channel_of field = if names_channel field then Some (decimal_value field) else None
 
 abbrev pub policy_word : List ℕ → ℕ → Option Policy
 policy_word name seconds =
@@ -82,7 +82,3 @@ abbrev pub IsRowFault : ℕ → ℕ → List (List ℕ) → ScriptFault → Type
 IsRowFault columns row fields (f.WrongColumns r) = (r ≡ row) × (length fields ≢ columns)
 IsRowFault columns row fields (f.BadEntry r) = (r ≡ row) × (length fields ≡ columns) × (row_of columns fields ≡ None)
 IsRowFault columns row fields e = ⊥
-
-abbrev pub IsRowRead : ℕ → ℕ → List (List ℕ) → Result ScriptRow ScriptFault → Type 0
-IsRowRead columns row fields (Ok entry) = IsRowOf columns fields entry
-IsRowRead columns row fields (Err e) = IsRowFault columns row fields e

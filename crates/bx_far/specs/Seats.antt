@@ -1,9 +1,7 @@
 -- Calls as they are kept: each in the slot of its channel.
-use Rattle.std.specs.Prelude.{◌≡◌, ◌≤◌, ⊤, ℕ, suc, ◌+◌, ◌==◌, nat_lt, List, [], ◌∷◌, length, Option, Some, None, if◌then◌else◌, slice_index_or}
+use Rattle.std.specs.Prelude.{◌≡◌, ◌≤◌, ⊤, ℕ, suc, ◌+◌, nat_lt, List, [], ◌∷◌, length, Option, Some, None, if◌then◌else◌}
 use Rattle.bx_base.specs.Channels.{IsChannel}
 use Rattle.bx_calls.specs.PlainCalls.{PlainUserCall}
-use Rattle.bx_calls.specs.declared.step.Next.{Next}
-use Rattle.bx_calls.specs.declared.step.Next.TheVariants.{Live, Over, Broken}
 use Rattle.bx_far.specs.declared.row.ScriptRow.{ScriptRow}
 use Rattle.bx_far.specs.declared.row.ScriptRow.TheVariants.{Follows, Calls}
 
@@ -13,15 +11,6 @@ live_calls [] = []
 live_calls (None ∷ slots) = live_calls slots
 live_calls (Some call ∷ slots) = call ∷ live_calls slots
 
-abbrev pub slot_at : List (Option PlainUserCall) → ℕ → Option PlainUserCall
-slot_at slots c = slice_index_or slots c None
-
--- what is left in the slot of a call of which this became
-abbrev pub live_of : Next PlainUserCall → Option PlainUserCall
-live_of (Live call) = Some call
-live_of Over = None
-live_of Broken = None
-
 -- a call stands in the slot of its channel
 abbrev pub IsSeat : ℕ → Option PlainUserCall → Type 0
 IsSeat k None = ⊤
@@ -30,12 +19,6 @@ IsSeat k (Some call) = (call.channel ≡ k) × IsChannel k
 abbrev pub AreSeated : ℕ → List (Option PlainUserCall) → Type 0
 AreSeated k [] = ⊤
 AreSeated k (slot ∷ slots) = IsSeat k slot × AreSeated (suc k) slots
-
--- how many rows call at this moment, and how many after it
-abbrev pub calls_now : ℕ → List ScriptRow → ℕ
-calls_now t [] = 0
-calls_now t (Follows number policy ∷ rows) = calls_now t rows
-calls_now t (Calls number moment channel ∷ rows) = if moment == t then suc (calls_now t rows) else calls_now t rows
 
 abbrev pub calls_later : ℕ → List ScriptRow → ℕ
 calls_later t [] = 0

@@ -40,6 +40,7 @@ impl Far {
     pub fn new(script: Script) -> Far
         ensures { result ≡ far_opening script }
     {
+        // Read for the prover alone, which learns a limit from it.
         let _rows = script.count();
         Far {
             script,

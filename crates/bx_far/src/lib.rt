@@ -2,6 +2,7 @@
 //! itself.
 #![tactic(auto)]
 
+mod begun_tick;
 mod far;
 mod fault;
 mod receiving;
@@ -10,7 +11,6 @@ mod script;
 mod slots;
 mod text;
 mod ticking;
-mod turn;
 
 pub use far::Far;
 pub use fault::ScriptFault;

@@ -3,12 +3,13 @@
 ghost use Rattle.std.specs.Prelude.{◌≡◌};
 ghost use Rattle.std.specs.Str.{bytes_eq};
 ghost use Rattle.csv.specs.Records.{fields_of};
-ghost use Rattle.bx_far.specs.ScriptRows.{number_of, seconds_of, channel_of, policy_word, follows_row, calls_row, row_of, IsRowRead};
+ghost use Rattle.bx_far.specs.ScriptRows.{number_of, seconds_of, channel_of, policy_word, follows_row, calls_row, row_of};
+ghost use Rattle.bx_far.specs.Inside.{IsRowRead};
 
 use crate::fault::ScriptFault;
 use bx_base::{Channel, Number};
-use bx_book::records::{all_digits, digits_value, field};
 use bx_calls::Policy;
+use bx_text::{all_digits, digits_value, field};
 use csv::ByteRecord;
 
 /// A row of a script: what the far end does with calls of a number, or of any number, or a call that it begins
@@ -64,7 +65,7 @@ fn channel(field: &[u8]) -> Option<Channel>
 }
 
 /// Whether a field is this word.
-pub fn is_word(field: &[u8], word: &str) -> bool
+fn is_word(field: &[u8], word: &str) -> bool
     ensures { result ≡ bytes_eq field.now word.now }
 {
     field == word.as_bytes()

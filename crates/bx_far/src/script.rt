@@ -7,10 +7,10 @@ ghost use Rattle.bx_far.specs.ScriptTexts.{IsScript, IsScriptFault};
 
 use crate::fault::ScriptFault;
 use crate::row::ScriptRow;
-use crate::text::read_records;
+use crate::text::read_script;
 use bx_base::Number;
-use bx_book::records::records_of;
 use bx_calls::Policy;
+use bx_text::records_of;
 use std::alloc::{AllocError, Global};
 use std::marker::Model;
 
@@ -39,7 +39,7 @@ impl Script {
         ensures err { IfErr result (IsScriptFault (strip_bom octets.now)) }
     {
         let mut records = records_of(alloc, octets);
-        read_records(alloc, &mut records)
+        read_script(alloc, &mut records)
     }
 
     /// The rows, in their order.

@@ -4,7 +4,8 @@ ghost use Rattle.std.specs.Prelude.{◌≡◌, IfSome, length, slice_set, Some};
 ghost use Rattle.bx_q931.specs.Messages.{PlainMessage};
 ghost use Rattle.bx_calls.specs.Said.{said_of};
 ghost use Rattle.bx_far.specs.FarDay.{far_names, first_call, settle_maintenance};
-ghost use Rattle.bx_far.specs.Seats.{AreSeated, live_calls, live_of, slot_at};
+ghost use Rattle.bx_far.specs.Seats.{AreSeated, live_calls};
+ghost use Rattle.bx_far.specs.Inside.{live_of, slot_at};
 
 use bx_base::{Channel, ChannelSet};
 use bx_calls::{Next, UserCall};

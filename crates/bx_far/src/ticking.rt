@@ -1,22 +1,20 @@
 //! The ticks of a day.
 
 ghost use Rattle.std.specs.Prelude.{◌≡◌, ◌≤◌, length, map};
-ghost use Rattle.bx_far.specs.FarDay.{far_tick, in_order, no_messages, second_maintenance, second_said, with_held};
-ghost use Rattle.bx_far.specs.FarRun.{spelled};
+ghost use Rattle.bx_far.specs.FarDay.{far_tick, no_messages, second_maintenance, second_said, with_held};
+ghost use Rattle.bx_calls.specs.Sending.{in_order, spelled};
 ghost use Rattle.bx_far.specs.Seats.{AreSeated, live_calls};
-ghost use Rattle.bx_far.specs.Turns.{AreSpoken, IsFree, after_slot};
+ghost use Rattle.bx_far.specs.BegunTicks.{AreSpoken, IsFree, after_slot};
 
+use crate::begun_tick::BegunTick;
 use crate::far::Far;
 use crate::slots::settle;
-use crate::turn::Turn;
 use arrayvec::ArrayVec;
 use bx_base::ChannelSet;
-use bx_calls::UserCall;
-use bx_q931::{Octets, Out, encode};
+use bx_calls::timers::LAST_MOMENT;
+use bx_calls::{UserCall, spell};
+use bx_q931::{Octets, Out};
 use std::mem;
-
-/// The moment at which a day stands still.
-const LAST_MOMENT: u32 = 300000;
 
 impl Far {
     /// The next second: the moment rises by one, live calls follow their table, and the rows of the script that
@@ -34,14 +32,14 @@ impl Far {
         let mut calls = mem::replace(&mut self.calls, [None; 32]);
         let blocked = held(&calls, self.maintenance);
         let said = second(&mut calls, &mut self.maintenance, moment);
-        let mut turn = Turn {
+        let mut turn = BegunTick {
             calls,
             said,
             blocked,
             next: self.next,
         };
         turn.begin_rows(self.script.rows(), moment);
-        let Turn {
+        let BegunTick {
             calls,
             said,
             blocked: _,
@@ -96,18 +94,4 @@ fn second(
         }
     }
     said
-}
-
-/// The octets of what is said, in order.
-fn spell(said: &[Option<Out>]) -> ArrayVec<Octets, 30>
-    requires { length (in_order said.now) ≤ 30 }
-    ensures { result.items ≡ spelled (in_order said.now) }
-{
-    let mut sent = ArrayVec::new();
-    for message in said {
-        if let Some(out) = message {
-            sent.push(encode(out));
-        }
-    }
-    sent
 }

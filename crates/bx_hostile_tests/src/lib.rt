@@ -8,6 +8,10 @@ mod codec;
 #[cfg(test)]
 mod exchange;
 #[cfg(test)]
+mod exchange_days;
+#[cfg(test)]
+mod far_days;
+#[cfg(test)]
 mod far_end;
 #[cfg(test)]
 mod hostile;

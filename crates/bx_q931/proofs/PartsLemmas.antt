@@ -14,7 +14,8 @@ use Rattle.bx_q931.specs.Kinds.{kind_of, octet_of, IsNamed}
 use Rattle.bx_q931.specs.References.{reference_of}
 use Rattle.bx_q931.specs.Messages.{message_at}
 use Rattle.bx_q931.specs.Values.{first_in, if_there, cause_in, state_in, called_in, channel_in, channel_if_there, is_channel}
-use Rattle.bx_q931.specs.Outgoing.{Outgoing, IsOutgoing, cause_contents, state_contents, channel_contents, called_contents, bearer_contents, table_of, optional_item, optional_octets, items_of_table, out_items, out_octets, message_of}
+use Rattle.bx_q931.specs.Outgoing.{Outgoing, IsOutgoing, cause_contents, state_contents, channel_contents, called_contents, bearer_contents, table_of, optional_item, items_of_table, out_items, out_octets, message_of}
+use Rattle.bx_q931.specs.Inside.{optional_octets}
 use Rattle.bx_q931.specs.Parts.{HasParts, channel_part}
 use Rattle.bx_q931.specs.declared.kind.Kind.{Kind}
 use Rattle.bx_q931.specs.declared.kind.Kind.TheVariants.{Alerting, CallProceeding, Progress, Setup, Connect, SetupAcknowledge, ConnectAcknowledge, Disconnect, Release, ReleaseComplete, Notify, StatusEnquiry, Information, Status, Other}

@@ -7,5 +7,6 @@ pub mod Messages
 pub mod Grammar
 pub mod Values
 pub mod ElementViews
+pub mod Inside
 pub mod Outgoing
 pub mod Parts

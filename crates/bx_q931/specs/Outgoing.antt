@@ -82,9 +82,6 @@ abbrev pub optional_item : ℕ → Option (List ℕ) → List PlainItem
 optional_item id None = []
 optional_item id (Some contents) = plain_item id contents ∷ []
 
-abbrev pub optional_octets : ℕ → Option (List ℕ) → List ℕ
-optional_octets id contents = flat_map item_octets (optional_item id contents)
-
 abbrev pub items_of_table : List (ℕ × Option (List ℕ)) → List PlainItem
 items_of_table table = flat_map (λ p. optional_item p.0 p.1) table
 

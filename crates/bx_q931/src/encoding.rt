@@ -5,7 +5,8 @@ ghost use Rattle.arrayvec.specs.ArrayVec.{array_vec_len};
 ghost use Rattle.bx_base.specs.Channels.{IsChannel};
 ghost use Rattle.bx_base.specs.Numbers.{IsNumber};
 ghost use Rattle.bx_q931.specs.Messages.{message_at};
-ghost use Rattle.bx_q931.specs.Outgoing.{header_octets, optional_octets, bearer_contents, cause_contents, state_contents, channel_contents, called_contents, out_octets, message_of};
+ghost use Rattle.bx_q931.specs.Outgoing.{header_octets, bearer_contents, cause_contents, state_contents, channel_contents, called_contents, out_octets, message_of};
+ghost use Rattle.bx_q931.specs.Inside.{optional_octets};
 ghost use Rattle.bx_q931.specs.Parts.{HasParts};
 
 use crate::kind::Kind;

@@ -2,7 +2,7 @@
 
 ghost use Rattle.std.specs.Prelude.{◌≡◌, option_map, is_some};
 ghost use Rattle.bx_q931.specs.Items.{item_at, all_items};
-ghost use Rattle.bx_q931.specs.ElementViews.{item_view};
+ghost use Rattle.bx_q931.specs.Inside.{item_view};
 
 /// An item: its first octet, and what it contains.
 #[derive(Clone, Copy)]

@@ -1,7 +1,7 @@
 use Rattle.std.proofs.Common.{◌≡◌, map, take}
 use Rattle.bx_day.specs.Day.{opening}
 use Rattle.bx_day.specs.Run.{day_after, sent_over}
-use Rattle.bx_day.specs.Spelling.{spelled}
+use Rattle.bx_calls.specs.Sending.{spelled}
 use Rattle.bx_day.specs.Replaying.{event_of}
 use Rattle.bx_day.proofs.replaying.replay.Given as goal
 

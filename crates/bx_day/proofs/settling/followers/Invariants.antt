@@ -1,5 +1,6 @@
 use Rattle.std.proofs.Common.{◌≡◌, ◌<◌, ℕ, length}
-use Rattle.bx_day.specs.Slots.{slot_at, follower}
+use Rattle.bx_day.specs.Slots.{slot_at}
+use Rattle.bx_day.specs.SlotSteps.{follower}
 use Rattle.bx_day.proofs.settling.followers.Given as goal
 
 abbrev pub invariant-loop-number : goal.invariant-loop-number

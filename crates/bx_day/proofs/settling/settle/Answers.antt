@@ -1,6 +1,7 @@
 use Rattle.std.proofs.Common.{◌≡◌, List, map, sym, ap, ap₂, ◌∙◌, arith, refl}
-use Rattle.bx_day.specs.Day.{after_second}
-use Rattle.bx_day.specs.Slots.{slot_at, follower, live_of, waiting_of}
+use Rattle.bx_day.specs.Ticks.{after_second}
+use Rattle.bx_day.specs.Slots.{slot_at}
+use Rattle.bx_day.specs.SlotSteps.{follower, live_of, waiting_of}
 use Rattle.bx_day.specs.declared.entry.Entry.{Entry}
 use Rattle.bx_day.proofs.SettleLemmas.{none_settled, one_settled, one_less, all_settled}
 use Rattle.bx_day.proofs.settling.settle.Goals as goal

@@ -1,5 +1,6 @@
 use Rattle.std.proofs.Common.{◌≡◌, map}
-use Rattle.bx_day.specs.Day.{Day, after_second}
+use Rattle.bx_day.specs.Day.{Day}
+use Rattle.bx_day.specs.Ticks.{after_second}
 use Rattle.bx_day.proofs.SettleLemmas.{AreSettledBelow, AreLeft}
 use Rattle.bx_day.proofs.settling.settle.Given as goal
 

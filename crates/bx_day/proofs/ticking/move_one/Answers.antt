@@ -3,7 +3,8 @@ use Rattle.std.proofs.lemmas.Bool.{false≢true}
 use Rattle.std.proofs.lemmas.List.{get_or_default}
 use Rattle.bx_base.specs.Channels.{IsChannel}
 use Rattle.bx_calls.specs.Shared.{is_set}
-use Rattle.bx_day.specs.Day.{entry_at, no_entry, second_at, after_second}
+use Rattle.bx_day.specs.Day.{entry_at, no_entry}
+use Rattle.bx_day.specs.Ticks.{second_at, after_second}
 use Rattle.bx_day.specs.Reading.{Seated}
 use Rattle.bx_day.specs.declared.entry.Entry.{Entry}
 use Rattle.bx_day.proofs.Once.{each_at}

@@ -1,7 +1,7 @@
 use Rattle.std.proofs.Common.{◌≡◌, ◌<◌, Some, length, arith, sym, subst, ◌∙◌}
 use Rattle.bx_calls.specs.Said.{said_of}
 use Rattle.bx_far.specs.FarDay.{far_names}
-use Rattle.bx_far.specs.Seats.{slot_at}
+use Rattle.bx_far.specs.Inside.{slot_at}
 use Rattle.bx_far.proofs.Seats.{seat_at}
 use Rattle.bx_far.proofs.Kept.{slot_read, not_some, passes_here, passes_not, passes_none}
 use Rattle.bx_far.proofs.slots.first_named.Goals.{in-Some+else-is_named, in_default}

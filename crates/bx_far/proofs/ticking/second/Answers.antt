@@ -1,6 +1,6 @@
 use Rattle.std.proofs.Common.{◌≡◌, ◌<◌, Option, List, length, arith, sym, ap, ◌∙◌}
 use Rattle.bx_calls.specs.PlainCalls.{PlainUserCall}
-use Rattle.bx_far.specs.Seats.{slot_at}
+use Rattle.bx_far.specs.Inside.{slot_at}
 use Rattle.bx_far.proofs.Kept.{slot_read, not_some}
 use Rattle.bx_far.proofs.Passing.{none_passed, passed_call, passed_by, all_passed, moved_at, moved_size}
 use Rattle.bx_far.proofs.ticking.second.Goals.{in-Some, in_default}

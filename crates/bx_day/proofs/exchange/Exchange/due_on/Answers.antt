@@ -1,6 +1,7 @@
 use Rattle.std.proofs.Common.{◌≡◌, ◌<◌, ℕ, List, min, sym, subst, ap, ap₂, ◌∙◌, length}
 use Rattle.bx_day.specs.Day.{Day, entry_at}
-use Rattle.bx_day.specs.Slots.{slot_at, slot_due, IsLiveOn, IsWaitingOn}
+use Rattle.bx_day.specs.Slots.{slot_at, IsLiveOn, IsWaitingOn}
+use Rattle.bx_day.specs.SlotSteps.{slot_due}
 use Rattle.bx_day.specs.declared.entry.Entry.{Entry}
 use Rattle.bx_day.proofs.DueSlots.{due_on_is}
 use Rattle.bx_day.proofs.exchange.Exchange.due_on.Goals as goal

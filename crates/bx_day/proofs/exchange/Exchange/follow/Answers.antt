@@ -1,7 +1,8 @@
 use Rattle.std.proofs.Common.{◌≡◌, ◌<◌, ◌∙◌, true, false, ℕ, sym, subst, ap, length}
 use Rattle.std.proofs.lemmas.List.{get_or_default}
 use Rattle.bx_calls.specs.Said.{said_of}
-use Rattle.bx_day.specs.Day.{Day, is_live, is_unoffered, entry_at, no_entry, hears, with_moved}
+use Rattle.bx_day.specs.Day.{Day, is_live, is_unoffered, entry_at, no_entry}
+use Rattle.bx_day.specs.Receipts.{hears, with_moved}
 use Rattle.bx_day.specs.declared.entry.Entry.{Entry}
 use Rattle.bx_day.specs.declared.entry.Moved.{Moved}
 use Rattle.bx_day.specs.Invariant.{is_refused}

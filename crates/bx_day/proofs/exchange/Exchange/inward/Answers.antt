@@ -5,7 +5,8 @@ use Rattle.bx_calls.specs.Said.{said_of}
 use Rattle.bx_q931.specs.Messages.{PlainMessage, plain_message}
 use Rattle.bx_q931.specs.declared.kind.Kind.TheVariants.{Setup}
 use Rattle.bx_q931.specs.declared.reference.Reference.TheVariants.{Dummy}
-use Rattle.bx_day.specs.Day.{Day, names, entry_at}
+use Rattle.bx_day.specs.Day.{Day, entry_at}
+use Rattle.bx_day.specs.Receipts.{names}
 use Rattle.bx_day.specs.Reading.{IsExchange}
 use Rattle.bx_day.specs.Slots.{slot_at, IsLiveOn}
 use Rattle.bx_day.specs.declared.entry.Entry.{Entry}

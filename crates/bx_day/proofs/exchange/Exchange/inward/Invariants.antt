@@ -1,7 +1,7 @@
 use Rattle.std.proofs.Common.{false}
 use Rattle.bx_q931.specs.Messages.{PlainMessage}
 use Rattle.bx_calls.specs.Said.{said_of}
-use Rattle.bx_day.specs.Day.{names}
+use Rattle.bx_day.specs.Receipts.{names}
 use Rattle.bx_day.proofs.SlotLemmas.{IsFirstBelow}
 use Rattle.bx_day.proofs.exchange.Exchange.inward.Given as goal
 

@@ -1,6 +1,7 @@
 use Rattle.std.proofs.Common.{◌≡◌, ◌<◌, ℕ, None}
 use Rattle.bx_base.specs.Channels.{IsChannel}
-use Rattle.bx_day.specs.Day.{index_of, opens}
+use Rattle.bx_day.specs.Day.{index_of}
+use Rattle.bx_day.specs.Receipts.{opens}
 use Rattle.bx_day.proofs.exchange.Exchange.lowest.Given as goal
 
 abbrev pub invariant-loop-number : goal.invariant-loop-number

@@ -1,7 +1,7 @@
 use Rattle.std.proofs.Common.{◌<◌, ◌+◌, ◌∙◌, ℕ, List, arith, sym, ap, subst, length}
 use Rattle.std.proofs.lemmas.Bool.{false≢true}
 use Rattle.bx_day.specs.Day.{Day, entry_at}
-use Rattle.bx_day.specs.QuietSeconds.{IsDueOn}
+use Rattle.bx_day.specs.SlotSteps.{IsDueOn}
 use Rattle.bx_day.specs.Reading.{IsExchange}
 use Rattle.bx_day.specs.declared.entry.Entry.{Entry}
 use Rattle.bx_day.proofs.DueSlots.{IsDueBelow, none_below, below_more, below_past, all_below}

@@ -1,6 +1,7 @@
 use Rattle.std.proofs.Common.{◌≡◌, ◌<◌, Some, None, true, false, sym, subst, ap, ◌∙◌, length, arith}
 use Rattle.bx_day.specs.Calling.{awaits}
-use Rattle.bx_day.specs.Day.{Day, is_free, opens, entry_at}
+use Rattle.bx_day.specs.Day.{Day, is_free, entry_at}
+use Rattle.bx_day.specs.Receipts.{opens}
 use Rattle.bx_day.specs.Reading.{IsExchange}
 use Rattle.bx_day.specs.Slots.{slot_at, IsWaitingOn}
 use Rattle.bx_day.specs.declared.entry.Entry.{Entry}

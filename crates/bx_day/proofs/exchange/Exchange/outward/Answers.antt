@@ -1,7 +1,8 @@
 use Rattle.std.proofs.Common.{◌≡◌, ◌≤◌, ◌<◌, ◌+◌, ◌-◌, true, false, refl, sym, subst, arith, ◌∙◌, ap, length}
 use Rattle.std.proofs.lemmas.List.{get_or_default}
 use Rattle.bx_calls.specs.Said.{said_of}
-use Rattle.bx_day.specs.Day.{Day, names, entry_at, no_entry}
+use Rattle.bx_day.specs.Day.{Day, entry_at, no_entry}
+use Rattle.bx_day.specs.Receipts.{names}
 use Rattle.bx_day.specs.declared.entry.Entry.{Entry}
 use Rattle.bx_day.specs.Reading.{IsExchange}
 use Rattle.bx_day.proofs.Received.{outward_found, outward_none}

@@ -1,8 +1,10 @@
 use Rattle.std.proofs.Common.{◌≡◌, ◌<◌, ℕ, Option, Some, map, List, length, sym, ap, subst, ◌∙◌, refl, arith}
-use Rattle.bx_day.specs.Day.{Day, after_second, ticked}
+use Rattle.bx_day.specs.Day.{Day}
+use Rattle.bx_day.specs.Ticks.{after_second, ticked}
 use Rattle.bx_day.specs.Passing.{day_of, SaysOnEach}
 use Rattle.bx_day.specs.Reading.{IsExchange}
-use Rattle.bx_day.specs.Slots.{AreSlots, IsInside, follower, slot_at}
+use Rattle.bx_day.specs.Slots.{AreSlots, slot_at}
+use Rattle.bx_day.specs.SlotSteps.{IsInside, follower}
 use Rattle.bx_day.specs.declared.entry.Entry.{Entry}
 use Rattle.bx_day.proofs.IndexLemmas.{pass_moved, pass_indexed, pass_size, pass_day}
 use Rattle.bx_day.proofs.SettleLemmas.{live_inside, waiting_inside, second_inside}

@@ -1,6 +1,7 @@
 use Rattle.std.proofs.Common.{◌≡◌, ◌<◌, ◌∙◌, ℕ, Option, true, length, if◌then◌else◌, slice_set, sym, subst, ap, arith}
 use Rattle.std.proofs.lemmas.List.{get_or_default}
-use Rattle.bx_day.specs.Day.{Day, is_unoffered, entry_at, no_entry, with_moved}
+use Rattle.bx_day.specs.Day.{Day, is_unoffered, entry_at, no_entry}
+use Rattle.bx_day.specs.Receipts.{with_moved}
 use Rattle.bx_day.specs.Passing.{day_of}
 use Rattle.bx_day.specs.Reading.{IsExchange}
 use Rattle.bx_day.specs.Slots.{slot_at, AreSlots}

@@ -3,7 +3,9 @@ use Rattle.std.specs.Prelude.{IfSome}
 use Rattle.std.proofs.lemmas.List.{get_or_default}
 use Rattle.bx_calls.specs.PlainCalls.{PlainNetCall}
 use Rattle.bx_calls.specs.NetTable.{net_answered}
-use Rattle.bx_day.specs.Day.{Day, becomes, entry_at, no_entry, is_open, with_moved}
+use Rattle.bx_day.specs.Day.{Day, entry_at, no_entry}
+use Rattle.bx_day.specs.Receipts.{is_open, with_moved}
+use Rattle.bx_day.specs.Moves.{becomes}
 use Rattle.bx_day.specs.declared.entry.Activity.TheVariants.{Never}
 use Rattle.bx_day.specs.declared.entry.Standing.TheVariants.{OnCall}
 use Rattle.bx_day.specs.declared.entry.Entry.{Entry}

@@ -7,7 +7,8 @@ use Rattle.bx_calls.specs.PlainCalls.{PlainUserCall}
 use Rattle.bx_calls.specs.UserTable.{user_message}
 use Rattle.bx_calls.specs.declared.step.Step.{Step}
 use Rattle.bx_far.specs.FarDay.{FarDay, first_call, far_names, far_follow, far_received_by, settle_calls, settle_maintenance}
-use Rattle.bx_far.specs.Seats.{live_calls, live_of, IsFar}
+use Rattle.bx_far.specs.Seats.{live_calls, IsFar}
+use Rattle.bx_far.specs.Inside.{live_of}
 use Rattle.bx_far.proofs.Seats.{seat_at, settle_is}
 use Rattle.bx_far.proofs.Keeping.{Keeps, seat_of, message_keeps}
 use Rattle.bx_far.proofs.Kept.{far_with}

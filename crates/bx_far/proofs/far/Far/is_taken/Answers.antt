@@ -1,7 +1,7 @@
 use Rattle.std.proofs.Common.{◌≡◌, ◌<◌, ◌||◌, Bool, length, is_some, arith, sym, subst, ap, ◌∙◌}
 use Rattle.bx_calls.specs.Shared.{is_set}
 use Rattle.bx_far.specs.FarDay.{FarDay, holder}
-use Rattle.bx_far.specs.Seats.{slot_at}
+use Rattle.bx_far.specs.Inside.{slot_at}
 use Rattle.bx_far.proofs.Kept.{slot_read, holder_slot}
 use Rattle.bx_far.proofs.far.Far.is_taken.Goals as goal
 

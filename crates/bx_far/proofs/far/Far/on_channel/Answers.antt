@@ -3,7 +3,7 @@ use Rattle.bx_calls.specs.PlainCalls.{PlainUserCall}
 use Rattle.bx_calls.specs.States.{user_state}
 use Rattle.bx_calls.specs.declared.call_state.CallState.{CallState}
 use Rattle.bx_far.specs.FarDay.{FarDay, holder}
-use Rattle.bx_far.specs.Seats.{slot_at}
+use Rattle.bx_far.specs.Inside.{slot_at}
 use Rattle.bx_far.proofs.Kept.{slot_read, holder_slot}
 use Rattle.bx_far.proofs.far.Far.on_channel.Goals as goal
 

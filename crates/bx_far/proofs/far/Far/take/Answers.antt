@@ -3,8 +3,10 @@ use Rattle.bx_q931.specs.Messages.{PlainMessage}
 use Rattle.bx_calls.specs.Said.{said_of}
 use Rattle.bx_calls.specs.PlainCalls.{PlainUserCall}
 use Rattle.bx_calls.specs.UserTable.{user_offered}
-use Rattle.bx_far.specs.FarDay.{FarDay, FarAnswered, insert_call}
-use Rattle.bx_far.specs.Seats.{live_calls, slot_at}
+use Rattle.bx_far.specs.FarDay.{FarDay, insert_call}
+use Rattle.bx_calls.specs.Sending.{Answered}
+use Rattle.bx_far.specs.Seats.{live_calls}
+use Rattle.bx_far.specs.Inside.{slot_at}
 use Rattle.bx_far.proofs.Seats.{insert_is}
 use Rattle.bx_far.proofs.Kept.{far_with, free_slot, takes_other}
 use Rattle.bx_far.proofs.far.Far.take.Goals as goal
@@ -31,6 +33,6 @@ returns-in_default c =
           ap (λ (cs : List PlainUserCall). record v { calls = cs }) inserted
           ∙ ap (λ (k : PlainUserCall). record v { calls = insert_call k (live_calls x.calls) }) c.offered-call.ensures
           ∙ ap (λ (y : FarDay). record y { calls = insert_call (user_offered c.args.reference c.args.channel c.args.policy y.moment) y.calls }) c.self.view_is
-          ∙ sym (ap (λ (a : FarAnswered). a.day) (other flag m));
-      reply = λ flag m. sym (ap (λ (a : FarAnswered). a.reply) (other flag m));
+          ∙ sym (ap (λ (a : Answered FarDay). a.day) (other flag m));
+      reply = λ flag m. sym (ap (λ (a : Answered FarDay). a.reply) (other flag m));
     }

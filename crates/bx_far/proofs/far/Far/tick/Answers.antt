@@ -1,10 +1,11 @@
 use Rattle.std.proofs.Common.{◌≡◌, ◌≤◌, ◌+◌, Bool, List, Option, None, length, map, arith, sym, subst, ap, ◌∙◌}
 use Rattle.bx_calls.specs.PlainCalls.{PlainUserCall}
 use Rattle.bx_far.specs.declared.row.ScriptRow.{ScriptRow}
-use Rattle.bx_far.specs.FarDay.{FarDay, FarSent, Begun, begin_rows, far_begun, far_tick, in_order, no_messages, second_calls, second_said, second_maintenance, with_held}
-use Rattle.bx_far.specs.FarRun.{spelled}
-use Rattle.bx_far.specs.Seats.{AreSeated, calls_now, live_calls, slot_at}
-use Rattle.bx_far.specs.Turns.{after_slot}
+use Rattle.bx_far.specs.FarDay.{FarDay, Begun, begin_rows, far_begun, far_tick, no_messages, second_calls, second_said, second_maintenance, with_held}
+use Rattle.bx_calls.specs.Sending.{Sent, in_order, spelled}
+use Rattle.bx_far.specs.Seats.{AreSeated, live_calls}
+use Rattle.bx_far.specs.Inside.{calls_now, slot_at}
+use Rattle.bx_far.specs.BegunTicks.{after_slot}
 use Rattle.bx_far.proofs.Passing.{few, started, early, ticked_is, later_split, rows_room, seconds_size, seconds_seated, seconds_free}
 use Rattle.bx_far.proofs.far.Far.tick.Goals as goal
 
@@ -73,7 +74,7 @@ returns-clause-day c =
     let maintenance = c.second-said.ensures.maintenance ∙ ap (λ (xs : List (Option PlainUserCall)). second_maintenance t (live_calls xs) x.maintenance) was in
     ap (λ (b : Begun). record v { moment = t; calls = b.calls; maintenance = c.second-said.new.maintenance; next = b.next }) begun
     ∙ ap (λ (ms : List Bool). record v { moment = t; calls = (far_begun v t).calls; maintenance = ms; next = (far_begun v t).next }) maintenance
-    ∙ sym (ap (λ (s : FarSent). s.day) (ticked_is v (early x.moment (omega (arith, c.if-self-ge-LAST_MOMENT.false)))))
+    ∙ sym (ap (λ (s : Sent FarDay). s.day) (ticked_is v (early x.moment (omega (arith, c.if-self-ge-LAST_MOMENT.false)))))
     ∙ ap (λ (d : FarDay). (far_tick d).day) c.self.view_is
 
 pub returns-clause-sent : goal.returns-clause-sent
@@ -92,5 +93,5 @@ returns-clause-sent c =
     ∙ ap (begin_rows t x.script) (started t x.calls c.second-said.new.calls x.maintenance c.held-blocked.result c.second-said.result x.next now said blocked) in
     c.spell.ensures
     ∙ ap (λ (b : Begun). spelled (in_order b.said)) begun
-    ∙ sym (ap (λ (s : FarSent). spelled s.sent) (ticked_is v (early x.moment (omega (arith, c.if-self-ge-LAST_MOMENT.false)))))
+    ∙ sym (ap (λ (s : Sent FarDay). spelled s.sent) (ticked_is v (early x.moment (omega (arith, c.if-self-ge-LAST_MOMENT.false)))))
     ∙ ap (λ (d : FarDay). spelled (far_tick d).sent) c.self.view_is
