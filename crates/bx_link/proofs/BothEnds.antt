@@ -80,7 +80,7 @@ module _ {R W : Type 0} (remaining : R → Option (List ℕ)) (contents : W → 
   Events_now = p.events ++ Tick ∷ []
 
   -- a turn is open, and nothing was heard of it
-  pub waits_now : (opened + 1) + turns ≡ all → NearWaits all (opened + 1) (passage remaining contents (record { reader = r; writer = w }) (record { reader = r1; writer = w2 }) d d2)
+  abbrev pub waits_now : (opened + 1) + turns ≡ all → NearWaits all (opened + 1) (passage remaining contents (record { reader = r; writer = w }) (record { reader = r1; writer = w2 }) d d2)
   waits_now count =
       let so_far = opened_so_far remaining contents all turns r r1 w w1 d d1 p w2 d2 opens r1 w2 d2 in
       record {

@@ -1,17 +1,17 @@
 -- What an end has gone through so far, and what it goes through behind that.
-use Rattle.std.proofs.Common.{◌≡◌, ℕ, ◌+◌, List, [], ◌∷◌, ◌++◌, length, take, refl, sym, ap, ◌∙◌, subst, append_assoc, append-nil, length-append, arith, Option, Some, Result, Ok, Err, Bool, true, false, ◌⊎◌, inl, inr}
+use Rattle.std.proofs.Common.{◌≡◌, ℕ, ◌+◌, ◌≤◌, List, [], ◌∷◌, ◌++◌, length, take, refl, sym, ap, ◌∙◌, subst, append_assoc, append-nil, length-append, arith, Option, Some, Result, Ok, Err, Bool, true, ◌⊎◌, inl, inr}
 use Rattle.std.proofs.Math.Seq.{take-append-add}
 use Rattle.std.specs.Io.KnownBytes.{Appends}
 use Rattle.std.proofs.KnownBytes.{Appends-nil, Appends-trans}
 use Rattle.bx_base.specs.declared.watched.Watched.{Watched}
-use Rattle.bx_base.specs.Watching.{device_of, is_faulted}
+use Rattle.bx_base.specs.Watching.{device_of, is_faulted, reads_of}
 use Rattle.bx_day.specs.Run.{Event}
-use Rattle.bx_link.specs.Ends.{after, told, ticks_last}
-use Rattle.bx_link.specs.Reading.{IsRead}
+use Rattle.bx_link.specs.Ends.{after, told}
+use Rattle.bx_link.specs.Reading.{IsRead, FailsToRead}
 use Rattle.bx_link.specs.Talking.{Talk, with_events, stop}
-use Rattle.bx_link.specs.Hearing.{IsWhole, IsHeard, IsCutShort, Tells, Goes}
+use Rattle.bx_link.specs.Hearing.{IsWhole, BreaksOff, IsHeard, IsCutShort, Tells, Goes}
 use Rattle.bx_link.specs.declared.fault.LinkFault.{LinkFault}
-use Rattle.bx_link.specs.declared.fault.LinkFault.TheVariants.{EndedInFrame}
+use Rattle.bx_link.specs.declared.frame.Side.{Side}
 use Rattle.bx_link.proofs.Events.{after_more, told_more, last_behind}
 
 -- an answer, as what it may be
@@ -37,6 +37,7 @@ pub record SoFar {D R W : Type 0} (next : D → Event → D) (text : D → Event
   pub talk : (known : List ℕ) → remaining (device_of r) ≡ Some known → IsBeyond finds onward known events (remaining (device_of r'))
   pub written : Appends (contents (device_of w)) (contents (device_of w')) (told next text events d)
   pub reader : is_faulted r' ≡ is_faulted r
+  pub counted : reads_of r ≤ reads_of r'
   pub writer : is_faulted w' ≡ is_faulted w
 
 -- ---- what was heard, behind what was heard before
@@ -45,8 +46,8 @@ module _ (finds onward : List ℕ → Talk) (xs : List Event) where
   pub read_on : (text : List ℕ) (left : Option (List ℕ)) (a : IsBeyond finds onward text xs left) (read : List ℕ) (later : Option (List ℕ)) → IsRead a.is_read.rest read later → IsRead text (a.read ++ read) later
   read_on text left a read later b = record { rest = b.rest; splits = a.is_read.splits ∙ ap (λ (l : List ℕ). a.read ++ l) b.splits ∙ sym (append_assoc a.read read b.rest); is_left = b.is_left }
 
-  module _ (text : List ℕ) (ys : List Event) (result : Result Bool LinkFault) (left later : Option (List ℕ)) (a : IsBeyond finds onward text xs left) where
-    pub heard_on : IsHeard onward a.is_read.rest ys result later → IsHeard finds text (xs ++ ys) result later
+  module _ (side : Side) (text : List ℕ) (ys : List Event) (result : Result Bool LinkFault) (left later : Option (List ℕ)) (a : IsBeyond finds onward text xs left) where
+    pub heard_on : IsHeard side onward a.is_read.rest ys result later → IsHeard side finds text (xs ++ ys) result later
     heard_on (inl whole) =
         let e : finds text ≡ with_events xs (onward a.is_read.rest) = ap finds a.is_read.splits ∙ a.splits a.is_read.rest in
         inl (record {
@@ -78,12 +79,15 @@ module _ (finds onward : List ℕ → Talk) (xs : List Event) where
             cut = cut_on unread.read e unread.cut;
           },
         )) where
-          cut_on : (read : List ℕ) → finds (a.read ++ read) ≡ with_events xs (onward read) → ((onward read).ending ≡ Err EndedInFrame) ⊎ (((onward read).ending ≡ Ok true) × (ticks_last false ys ≡ true))
-              → ((finds (a.read ++ read)).ending ≡ Err EndedInFrame) ⊎ (((finds (a.read ++ read)).ending ≡ Ok true) × (ticks_last false (xs ++ ys) ≡ true))
+          cut_on : (read : List ℕ) → finds (a.read ++ read) ≡ with_events xs (onward read) → BreaksOff side (onward read).ending ys → BreaksOff side (finds (a.read ++ read)).ending (xs ++ ys)
           cut_on read e (inl cut) = inl (ap (λ (t : Talk). t.ending) e ∙ cut)
-          cut_on read e (inr (ended, last)) = inr (ap (λ (t : Talk). t.ending) e ∙ ended, last_behind xs ys last)
+          cut_on read e (inr (ended, last, far)) = inr (ap (λ (t : Talk). t.ending) e ∙ ended, last_behind xs ys last, far)
 
 -- ---- both
+
+-- a read that failed behind others
+pub fails_behind : {R : Type 0} (a b c : Watched R) → reads_of a ≤ reads_of b → FailsToRead b c → FailsToRead a c
+fails_behind a b c le p = record { faulted = p.faulted; passed_on = omega (arith, le, p.passed_on) }
 
 pub either_later : {P Q S : Type 0} → (Q → S) → P ⊎ Q → P ⊎ S
 either_later f (inl p) = inl p
@@ -100,6 +104,7 @@ module _ {D R W : Type 0} (next : D → Event → D) (text : D → Event → Lis
     talk = λ known e. record { read = []; is_read = record { rest = known; splits = refl; is_left = e }; splits = λ more. refl };
     written = Appends-nil (contents (device_of w));
     reader = refl;
+    counted = omega arith;
     writer = refl;
   }
 
@@ -141,12 +146,13 @@ module _ {D R W : Type 0} (next : D → Event → D) (text : D → Event → Lis
   }
 
   -- behind what went well
-  pub then_goes : (result : Result Bool LinkFault) → Goes next text onward remaining contents r1 r2 w1 w2 d1 d2 ys result → Goes next text finds remaining contents r r2 w w2 d d2 (xs ++ ys) result
-  then_goes result p = record {
+  pub then_goes : (side : Side) (result : Result Bool LinkFault) → Goes side next text onward remaining contents r1 r2 w1 w2 d1 d2 ys result → Goes side next text finds remaining contents r r2 w w2 d d2 (xs ++ ys) result
+  then_goes side result p = record {
     day = day_on p.day;
-    talk = λ known e. let a = before.talk known e in heard_on finds onward xs known ys result (remaining (device_of r1)) (remaining (device_of r2)) a (p.talk a.is_read.rest a.is_read.is_left);
+    talk = λ known e. let a = before.talk known e in heard_on finds onward xs side known ys result (remaining (device_of r1)) (remaining (device_of r2)) a (p.talk a.is_read.rest a.is_read.is_left);
     written = tells_on result p.written;
-    faulted = p.faulted;
+    faulted = λ e. fails_behind r r1 r2 before.counted (p.faulted e);
+    counted = omega (arith, before.counted, p.counted);
     unfaulted = either_first (λ q. q ∙ before.reader) p.unfaulted;
   }
 
@@ -163,6 +169,7 @@ module _ {D R W : Type 0} (next : D → Event → D) (text : D → Event → Lis
         };
     written = appends_on ys p.written;
     reader = p.reader ∙ before.reader;
+    counted = omega (arith, before.counted, p.counted);
     writer = p.writer ∙ before.writer;
   }
 
@@ -178,11 +185,12 @@ module _ {D R W : Type 0} (next : D → Event → D) (text : D → Event → Lis
         rest = a.is_read.is_left ∙ sym (ap (λ (t : Talk). Some t.rest) e);
       }
 
-  pub all_goes : SoFar next text finds onward remaining contents r r1 w w1 d d1 xs → Goes next text finds remaining contents r r1 w w1 d d1 xs (Ok true)
-  all_goes p = record {
+  pub all_goes : (side : Side) → SoFar next text finds onward remaining contents r r1 w w1 d d1 xs → Goes side next text finds remaining contents r r1 w w1 d d1 xs (Ok true)
+  all_goes side p = record {
     day = p.day;
     talk = λ known e. inl (is_whole known (remaining (device_of r1)) (p.talk known e));
     written = record { whole = inr p.written; part = λ e. cc; faulted = λ e. cc; unfaulted = inl p.writer };
     faulted = λ e. cc;
+    counted = p.counted;
     unfaulted = inl p.reader;
   }

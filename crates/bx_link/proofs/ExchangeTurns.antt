@@ -1,15 +1,14 @@
 -- Turns of the exchange, one after another.
-use Rattle.std.proofs.Common.{◌≡◌, ℕ, ◌+◌, suc, List, [], ◌∷◌, ◌++◌, length, refl, sym, ap, ◌∙◌, subst, arith, Option, Result, Ok, Err, Bool, true, false, ◌⊎◌, inl, inr}
-use Rattle.std.proofs.lemmas.List.{take_all}
+use Rattle.std.proofs.Common.{◌≡◌, ℕ, ◌+◌, suc, List, [], ◌∷◌, ◌++◌, refl, sym, ap, ◌∙◌, subst, arith, Option, Result, Ok, Err, Bool, true, false, ◌⊎◌, inl, inr}
 use Rattle.std.specs.Io.KnownBytes.{Appends}
 use Rattle.bx_base.specs.declared.watched.Watched.{Watched}
 use Rattle.bx_base.specs.Watching.{device_of, is_faulted}
 use Rattle.bx_day.specs.Day.{Day}
 use Rattle.bx_base.specs.declared.octets.WriteFailed.{WriteFailed as Failed}
 use Rattle.bx_day.specs.Run.{Event, Tick}
-use Rattle.bx_day.specs.Writing.{Writes}
 use Rattle.bx_link.specs.Ends.{after, told, ticks_of, exchange_next, exchange_text}
 use Rattle.bx_link.specs.Frames.{is_far, day_frame}
+use Rattle.bx_link.specs.Inside.{Sends}
 use Rattle.bx_link.specs.Talking.{Talk, stop, with_events, follow, exchange_turn, talk_in}
 use Rattle.bx_link.specs.Hearing.{Goes, Went, no_tick, Opens, Hears}
 use Rattle.bx_link.specs.Days.{Talks, EndsDay}
@@ -30,10 +29,11 @@ abbrev pub broken : LinkFault → Result (Unit {0}) LinkFault
 broken fault = Err fault
 
 -- the end of the day does not come to an exchange
-pub as_turned : {D R W : Type 0} {next : D → Event → D} {text : D → Event → List ℕ} {finds : List ℕ → Talk} {remaining : R → Option (List ℕ)} {contents : W → Option (List ℕ)} {r r1 : Watched R} {w w1 : Watched W} {d d1 : D} (b : Bool)
-    → (gave b ≡ Ok false → is_far Exchange ≡ true) → Went next text finds no_tick remaining contents r r1 w w1 d d1 (gave b) → Went next text finds no_tick remaining contents r r1 w w1 d d1 (gave true)
-as_turned true none p = p
-as_turned false none p = let e = none refl in cc
+pub as_turned : {D R W : Type 0} {next : D → Event → D} {text : D → Event → List ℕ} {finds : List ℕ → Talk} {remaining : R → Option (List ℕ)} {contents : W → Option (List ℕ)} {r r1 : Watched R} {w w1 : Watched W} {d d1 : D}
+    (kept : List Event → Type 0) (b : Bool) → (gave b ≡ Ok false → is_far Exchange ≡ true) → (went : Went Exchange next text finds no_tick remaining contents r r1 w w1 d d1 (gave b)) × kept went.events
+    → (went : Went Exchange next text finds no_tick remaining contents r r1 w w1 d d1 (gave true)) × kept went.events
+as_turned kept true none p = p
+as_turned kept false none p = let e = none refl in cc
 
 -- ---- one more turn
 
@@ -65,11 +65,12 @@ module _ {R W : Type 0} (remaining : R → Option (List ℕ)) (contents : W → 
     talk = λ known e. record { read = []; is_read = record { rest = known; splits = refl; is_left = e }; splits = by_tick p.day };
     written = written_whole true (Appends (contents (device_of w)) (contents (device_of w1)) (told exchange_next exchange_text (Tick ∷ []) d)) p.written.whole;
     reader = refl;
+    counted = omega arith;
     writer = still_written true (is_faulted w1 ≡ is_faulted w) p.written.unfaulted;
   }
 
   -- or not whole
-  pub open_failed : (fault : LinkFault) → Opens contents w w1 d d1 (broken fault) → Goes exchange_next exchange_text (talk_in (suc turns) d) remaining contents r r w w1 d d1 (Tick ∷ []) (faulty fault)
+  pub open_failed : (fault : LinkFault) → Opens contents w w1 d d1 (broken fault) → Goes Exchange exchange_next exchange_text (talk_in (suc turns) d) remaining contents r r w w1 d d1 (Tick ∷ []) (faulty fault)
   open_failed fault p =
       let write = only_write fault p.answer in
       record {
@@ -89,6 +90,7 @@ module _ {R W : Type 0} (remaining : R → Option (List ℕ)) (contents : W → 
             ));
         written = p.written;
         faulted = λ e. let read : fault ≡ ReadFailed = cc in cc;
+        counted = omega arith;
         unfaulted = inl refl;
       }
 
@@ -97,14 +99,14 @@ module _ {R W : Type 0} (remaining : R → Option (List ℕ)) (contents : W → 
   pub turn_closed : (hears : Hears remaining contents r r1 w w1 d1 d2 over)
       → SoFar exchange_next exchange_text (Open turns d1) (talk_in turns d2) remaining contents r r1 w w1 d1 d2 hears.events
   turn_closed hears =
-      let so = follow_on (exchange_turn d1) (Onward turns d1) (exchange_turn d1) exchange_next exchange_text remaining contents r r1 w w1 d1 d2 hears.events (turn_local Exchange d1.moment 64) hears.goes in
+      let so = follow_on Exchange (exchange_turn d1) (Onward turns d1) (exchange_turn d1) exchange_next exchange_text remaining contents r r1 w w1 d1 d2 hears.events (turn_local Exchange d1.moment 64) hears.goes in
       subst (λ (x : Day). SoFar exchange_next exchange_text (Open turns d1) (talk_in turns x) remaining contents r r1 w w1 d1 d2 hears.events) (sym hears.goes.day) so
 
   -- or it had a fault
   pub close_failed : (fault : LinkFault) (hears : Hears remaining contents r r1 w w1 d1 d2 (broken fault))
-      → Goes exchange_next exchange_text (Open turns d1) remaining contents r r1 w w1 d1 d2 hears.events (faulty fault)
+      → Goes Exchange exchange_next exchange_text (Open turns d1) remaining contents r r1 w w1 d1 d2 hears.events (faulty fault)
   close_failed fault hears =
-      follow_fault (exchange_turn d1) (Onward turns d1) (exchange_turn d1) exchange_next exchange_text remaining contents r r1 w w1 d1 d2 hears.events fault
+      follow_fault Exchange (exchange_turn d1) (Onward turns d1) (exchange_turn d1) exchange_next exchange_text remaining contents r r1 w w1 d1 d2 hears.events fault
       (λ last. absurd (no_last hears.events hears.ticks last)) hears.goes
 
 -- ---- all turns
@@ -115,19 +117,23 @@ pub record TalkedSoFar {R W : Type 0} (remaining : R → Option (List ℕ)) (con
   pub so_far : SoFar exchange_next exchange_text (talk_in all d) (talk_in turns d') remaining contents r r' w w' d d' events
   pub ticks : ticks_of events + turns ≡ all
 
+-- and this was kept of them
+abbrev pub KeptSoFar : {R W : Type 0} → (R → Option (List ℕ)) → (W → Option (List ℕ)) → ℕ → ℕ → Watched R → Watched R → Watched W → Watched W → Day → Day → (List Event → Type 0) → Type 0
+KeptSoFar remaining contents all turns r r' w w' d d' kept = (p : TalkedSoFar remaining contents all turns r r' w w' d d') × kept p.events
+
 module _ {R W : Type 0} (remaining : R → Option (List ℕ)) (contents : W → Option (List ℕ)) (all : ℕ) (r : Watched R) (w : Watched W) (d : Day) where
-  pub nothing_happened : TalkedSoFar remaining contents all all r r w w d d
+  abbrev pub nothing_happened : TalkedSoFar remaining contents all all r r w w d d
   nothing_happened = record { events = []; so_far = nothing_yet exchange_next exchange_text (talk_in all d) remaining contents r w d; ticks = omega arith }
 
 module _ {R W : Type 0} (remaining : R → Option (List ℕ)) (contents : W → Option (List ℕ)) (all turns : ℕ) (r r1 : Watched R) (w w1 : Watched W) (d d1 : Day) where
-  no_more_turns : (more : List ℕ) → talk_in 0 d1 more ≡ stop (Ok true) more more
+  pub no_more_turns : (more : List ℕ) → talk_in 0 d1 more ≡ stop (Ok true) more more
   unfolding talk_in
   no_more_turns more = refl
 
-  pub talk_over : TalkedSoFar remaining contents all 0 r r1 w w1 d d1 → Talks remaining contents all r r1 w w1 d d1 (gave true)
+  abbrev pub talk_over : TalkedSoFar remaining contents all 0 r r1 w w1 d d1 → Talks remaining contents all r r1 w w1 d d1 (gave true)
   talk_over p = record {
     events = p.events;
-    goes = all_goes exchange_next exchange_text (talk_in all d) (talk_in 0 d1) remaining contents r r1 w w1 d d1 p.events no_more_turns p.so_far;
+    goes = all_goes exchange_next exchange_text (talk_in all d) (talk_in 0 d1) remaining contents r r1 w w1 d d1 p.events no_more_turns Exchange p.so_far;
     ticks = omega (arith, p.ticks);
   }
 
@@ -136,7 +142,7 @@ module _ {R W : Type 0} (remaining : R → Option (List ℕ)) (contents : W → 
     abbrev pub talk_not_opened : (fault : LinkFault) → Opens contents w1 w2 d1 d2 (broken fault) → Talks remaining contents all r r1 w w2 d d2 (faulty fault)
     talk_not_opened fault opens = record {
       events = p.events ++ Tick ∷ [];
-      goes = then_goes exchange_next exchange_text (talk_in all d) (talk_in (suc turns) d1) remaining contents r r1 r1 w w1 w2 d d1 d2 p.events (Tick ∷ []) p.so_far (faulty fault)
+      goes = then_goes exchange_next exchange_text (talk_in all d) (talk_in (suc turns) d1) remaining contents r r1 r1 w w1 w2 d d1 d2 p.events (Tick ∷ []) p.so_far Exchange (faulty fault)
           (open_failed remaining contents turns r1 w1 w2 d1 d2 fault opens);
       ticks = (omega (arith, p.ticks, ticks_more p.events (Tick ∷ [])), omega (arith, p.ticks, ticks_more p.events (Tick ∷ [])));
     }
@@ -148,7 +154,7 @@ module _ {R W : Type 0} (remaining : R → Option (List ℕ)) (contents : W → 
           (turn_opened remaining contents turns r1 w1 w2 d1 d2 opens)
 
       -- the turn was heard to its end
-      pub turn_over : Hears remaining contents r1 r3 w2 w3 d2 d3 over → TalkedSoFar remaining contents all turns r r3 w w3 d d3
+      abbrev pub turn_over : Hears remaining contents r1 r3 w2 w3 d2 d3 over → TalkedSoFar remaining contents all turns r r3 w w3 d d3
       turn_over hears = record {
         events = (p.events ++ Tick ∷ []) ++ hears.events;
         so_far = then_so_far exchange_next exchange_text (talk_in all d) (Open turns d2) remaining contents r r1 r3 w w2 w3 d d2 d3 (p.events ++ Tick ∷ []) hears.events opened_so_far
@@ -160,7 +166,7 @@ module _ {R W : Type 0} (remaining : R → Option (List ℕ)) (contents : W → 
       abbrev pub turn_failed : (fault : LinkFault) → Hears remaining contents r1 r3 w2 w3 d2 d3 (broken fault) → Talks remaining contents all r r3 w w3 d d3 (faulty fault)
       turn_failed fault hears = record {
         events = (p.events ++ Tick ∷ []) ++ hears.events;
-        goes = then_goes exchange_next exchange_text (talk_in all d) (Open turns d2) remaining contents r r1 r3 w w2 w3 d d2 d3 (p.events ++ Tick ∷ []) hears.events opened_so_far (faulty fault)
+        goes = then_goes exchange_next exchange_text (talk_in all d) (Open turns d2) remaining contents r r1 r3 w w2 w3 d d2 d3 (p.events ++ Tick ∷ []) hears.events opened_so_far Exchange (faulty fault)
             (close_failed remaining contents turns r1 r3 w2 w3 d2 d3 fault hears);
         ticks = (
           omega (arith, p.ticks, ticks_more p.events (Tick ∷ []), ticks_more (p.events ++ Tick ∷ []) hears.events, hears.ticks),
@@ -170,16 +176,16 @@ module _ {R W : Type 0} (remaining : R → Option (List ℕ)) (contents : W → 
 
 -- ---- the end of the day
 
-pub day_written : {W : Type 0} (contents : W → Option (List ℕ)) (w w1 : Watched W) → Writes contents w w1 done day_frame → EndsDay contents w w1 (gave true)
+pub day_written : {W : Type 0} (contents : W → Option (List ℕ)) (w w1 : Watched W) → Sends contents w w1 done day_frame → EndsDay contents w w1 (gave true)
 day_written contents w w1 p = record {
   whole = inr (refl, p.written);
-  part = (length day_frame, omega arith, subst (Appends (contents (device_of w)) (contents (device_of w1))) (sym (take_all (length day_frame) day_frame (omega arith))) p.written);
+  part = λ e. cc;
   faulted = λ e. cc;
   unfaulted = inl p.unfaulted;
 }
 
-pub day_not_written : {W : Type 0} (contents : W → Option (List ℕ)) (w w1 : Watched W) (e : Failed) → Writes contents w w1 (stopped e) day_frame → EndsDay contents w w1 (faulty WriteFailed)
-day_not_written contents w w1 e p = record { whole = inl refl; part = p.prefix; faulted = λ _. search (p.faulted); unfaulted = inr refl }
+pub day_not_written : {W : Type 0} (contents : W → Option (List ℕ)) (w w1 : Watched W) (e : Failed) → Sends contents w w1 (stopped e) day_frame → EndsDay contents w w1 (faulty WriteFailed)
+day_not_written contents w w1 e p = record { whole = inl refl; part = λ _. p.part; faulted = λ _. search (p.faulted); unfaulted = inr refl }
 
 pub no_end : (fault : LinkFault) → ¬ (faulty fault ≡ gave true)
 no_end fault e = cc

@@ -15,7 +15,8 @@ use Rattle.bx_calls.specs.Said.{Said, said_of}
 use Rattle.bx_calls.specs.declared.user_state.Policy.{Policy}
 use Rattle.bx_calls.specs.declared.user_state.Policy.TheVariants as policies
 use Rattle.bx_day.specs.Run.{Event, Tick, Receive}
-use Rattle.bx_far.specs.FarDay.{FarDay, FarSent, FarAnswered, far_tick, far_ticked, far_unchanged, far_refuses, far_takes, far_called_on, far_called, far_stray, far_received_by, far_receive, is_taken, first_call, far_names}
+use Rattle.bx_far.specs.FarDay.{FarDay, far_tick, far_ticked, far_refuses, far_takes, far_called_on, far_called, far_stray, far_received_by, far_receive, is_taken, first_call, far_names}
+use Rattle.bx_calls.specs.Sending.{Sent, Answered, unchanged}
 use Rattle.bx_far.specs.FarRun.{far_receive_from, far_receive_read, far_receive_octets}
 use Rattle.bx_far.specs.Policies.{policy_of}
 use Rattle.bx_base.specs.declared.watched.Watched.{Watched}
@@ -24,7 +25,7 @@ use Rattle.bx_link.specs.Ends.{after, ticks_of, far_next}
 use Rattle.bx_link.specs.declared.fault.LinkFault.{LinkFault}
 
 -- the moment stays
-abbrev Stays : FarDay → FarAnswered → Type 0
+abbrev Stays : FarDay → Answered FarDay → Type 0
 Stays d answered = answered.day.moment ≡ d.moment
 
 module _ (d : FarDay) (m : Said) (called : Option (List ℕ)) where
@@ -47,7 +48,7 @@ module _ (d : FarDay) (m : Said) (called : Option (List ℕ)) where
   called_stays (Some cause) = refl
   called_stays None = called_on_stays m.heard.channel
 
-  setup_stays : (b : Bool) → Stays d (if b then far_unchanged d None else far_called d m called m.refused)
+  setup_stays : (b : Bool) → Stays d (if b then unchanged d None else far_called d m called m.refused)
   setup_stays true = refl
   setup_stays false = called_stays m.refused
 
@@ -61,7 +62,7 @@ module _ (d : FarDay) (m : Said) (called : Option (List ℕ)) where
 
 receive_stays : (d : FarDay) (octets : List ℕ) → Stays d (far_receive_octets d octets)
 receive_stays d octets = by_read (message_at octets) where
-  by_value : (m : PlainMessage) (value : ℕ) (flag b : Bool) → Stays d (if b then far_unchanged d None else far_receive d (said_of value flag m) (called_of m))
+  by_value : (m : PlainMessage) (value : ℕ) (flag b : Bool) → Stays d (if b then unchanged d None else far_receive d (said_of value flag m) (called_of m))
   by_value m value flag true = refl
   by_value m value flag false = by_call d (said_of value flag m) (called_of m) (first_call (far_names (said_of value flag m)) d.calls)
 
@@ -75,7 +76,7 @@ receive_stays d octets = by_read (message_at octets) where
 
 tick_moves : (d : FarDay) → d.moment ≤ 300000 → (far_tick d).day.moment ≡ min (d.moment + 1) 300000
 tick_moves d within = by_test (nat_le 300000 d.moment) refl where
-  by_test : (b : Bool) → nat_le 300000 d.moment ≡ b → (let s : FarSent = if b then record { day = d; sent = [] } else far_ticked d in s).day.moment ≡ min (d.moment + 1) 300000
+  by_test : (b : Bool) → nat_le 300000 d.moment ≡ b → (let s : Sent FarDay = if b then record { day = d; sent = [] } else far_ticked d in s).day.moment ≡ min (d.moment + 1) 300000
   by_test true e = let last : 300000 ≤ d.moment = grind (arith, nat_tests) in omega (arith, last, within)
   by_test false e = let more : d.moment < 300000 = grind (arith, nat_tests) in omega (arith, more)
 
@@ -91,9 +92,9 @@ far_moment (Receive octets ∷ events) d within =
     let rest = far_moment events (far_receive_octets d octets).day (omega (arith, same, within)) in
     omega (arith, rest, same)
 
-moment_of : (events : List Event) (d d1 : FarDay) → d1 ≡ after far_next events d → d.moment ≤ 300000 → d1.moment ≡ min (d.moment + ticks_of events) 300000
+pub moment_of : (events : List Event) (d d1 : FarDay) → d1 ≡ after far_next events d → d.moment ≤ 300000 → d1.moment ≡ min (d.moment + ticks_of events) 300000
 moment_of events d d1 e within = ap (λ (x : FarDay). x.moment) e ∙ far_moment events d within
 
-pub runs_so : {R W : Type 0} {remaining : R → Option (List ℕ)} {contents : W → Option (List ℕ)} {r r1 : Watched R} {w w1 : Watched W} {d d1 : FarDay} (result : Result (Unit {0}) LinkFault) (turns : ℕ) (ending : Result Bool LinkFault)
+abbrev pub runs_so : {R W : Type 0} {remaining : R → Option (List ℕ)} {contents : W → Option (List ℕ)} {r r1 : Watched R} {w w1 : Watched W} {d d1 : FarDay} (result : Result (Unit {0}) LinkFault) (turns : ℕ) (ending : Result Bool LinkFault)
     → FarTalks remaining contents turns r r1 w w1 d d1 ending → EndsFarDay result turns ending → RunsFarDay remaining contents r r1 w w1 d d1 result
 runs_so {d = d} {d1 = d1} result turns ending talks ends = record { turns = turns; ending = ending; talks = talks; moment = λ within. moment_of talks.events d d1 talks.goes.day within; ends = ends }

@@ -3,9 +3,9 @@ use Rattle.std.proofs.Common.{◌≡◌, ℕ, ◌+◌, ◌≤◌, min, zero, suc
 use Rattle.bx_base.specs.declared.octets.WriteFailed.{WriteFailed as Failed}
 use Rattle.bx_base.specs.declared.watched.Watched.{Watched}
 use Rattle.bx_day.specs.Run.{Event, Tick}
-use Rattle.bx_day.specs.Writing.{Writes}
 use Rattle.bx_far.specs.FarDay.{FarDay}
 use Rattle.bx_link.specs.Ends.{after, ticks_of, far_next, far_text}
+use Rattle.bx_link.specs.Inside.{Sends}
 use Rattle.bx_link.specs.Talking.{Talk, stop, follow, follow_by, far_hears, far_turn, ticked, closed_before, far_talk_in}
 use Rattle.bx_link.specs.Hearing.{Goes, Went, no_tick, TakesTurn}
 use Rattle.bx_link.specs.Days.{FarTalks}
@@ -19,67 +19,65 @@ use Rattle.bx_link.proofs.Hearing.{one_told, one_failed}
 use Rattle.bx_link.proofs.Turns.{IsEnded, IsLocalTalk, turn_nothing, turn_local}
 use Rattle.bx_link.proofs.WritingFrames.{done, stopped}
 
--- the moment that is due, by a moment that is the same
-pub due_at : (due n m : ℕ) → due ≡ min (n + 1) 300000 → n ≡ m → due ≡ min (m + 1) 300000
-due_at due n m e f = e ∙ ap (λ (x : ℕ). min (x + 1) 300000) f
-
 -- the ending is what it was said to be
-ended_so : (talk : Talk) (b : Bool) → talk.ending ≡ Ok b → talk ≡ record { events = talk.events; ending = Ok b; rest = talk.rest; behind = talk.behind }
+pub ended_so : (talk : Talk) (b : Bool) → talk.ending ≡ Ok b → talk ≡ record { events = talk.events; ending = Ok b; rest = talk.rest; behind = talk.behind }
 ended_so talk b e = ap (λ (x : Result Bool LinkFault). record { events = talk.events; ending = x; rest = talk.rest; behind = talk.behind }) e
 
 -- ---- one turn
 
 module _ {R W : Type 0} (remaining : R → Option (List ℕ)) (contents : W → Option (List ℕ)) (r r1 : Watched R) (w w1 : Watched W) (d d1 : FarDay) where
   abbrev HearsFar : Result Bool LinkFault → Type 0
-  HearsFar result = Went far_next far_text (far_hears d) no_tick remaining contents r r1 w w1 d d1 result
+  HearsFar result = Went FarEnd far_next far_text (far_hears d) no_tick remaining contents r r1 w w1 d d1 result
 
   abbrev Behind : List Event → List ℕ → Talk
   Behind events = ticked
 
   -- there is no tick
-  pub turn_stopped : (fault : LinkFault) → HearsFar (faulty fault) → TakesTurn remaining contents r r1 w w1 d d1 (faulty fault)
+  abbrev pub turn_stopped : (fault : LinkFault) → HearsFar (faulty fault) → TakesTurn remaining contents r r1 w w1 d d1 (faulty fault)
   turn_stopped fault hears = record {
     events = hears.events;
-    goes = follow_fault (far_hears d) Behind (far_hears d) far_next far_text remaining contents r r1 w w1 d d1 hears.events fault (λ last. absurd (no_last hears.events hears.ticks last)) hears.goes;
+    goes = follow_fault FarEnd (far_hears d) Behind (far_hears d) far_next far_text remaining contents r r1 w w1 d d1 hears.events fault (λ last. absurd (no_last hears.events hears.ticks last)) hears.goes;
     ticks = inl hears.ticks;
   }
 
-  pub day_over : HearsFar (gave false) → TakesTurn remaining contents r r1 w w1 d d1 (gave false)
+  abbrev pub day_over : HearsFar (gave false) → TakesTurn remaining contents r r1 w w1 d d1 (gave false)
   day_over hears = record {
     events = hears.events;
-    goes = follow_day (far_hears d) Behind (far_hears d) far_next far_text remaining contents r r1 w w1 d d1 hears.events (gave false) (λ e. cc) (λ e. cc) (λ known e. ended_so (far_hears d known) false e) hears.goes;
+    goes = follow_day FarEnd (far_hears d) Behind (far_hears d) far_next far_text remaining contents r r1 w w1 d d1 hears.events (gave false) (λ e. cc) (λ e. cc) (λ known e. ended_so (far_hears d known) false e) hears.goes;
     ticks = hears.ticks;
   }
 
   -- a tick, whose messages were written, or a front of them
   module _ (hears : HearsFar (gave true)) (w2 : Watched W) (d2 : FarDay) (step : d2 ≡ far_next d1 Tick) where
-    at_tick : SoFar far_next far_text (far_turn d) ticked remaining contents r r1 w w1 d d1 hears.events
-    at_tick = follow_on (far_hears d) Behind (far_hears d) far_next far_text remaining contents r r1 w w1 d d1 hears.events (turn_local FarEnd (min (d.moment + 1) 300000) 64) hears.goes
+    pub at_tick : SoFar far_next far_text (far_turn d) ticked remaining contents r r1 w w1 d d1 hears.events
+    at_tick = follow_on FarEnd (far_hears d) Behind (far_hears d) far_next far_text remaining contents r r1 w w1 d d1 hears.events (turn_local FarEnd (min (d.moment + 1) 300000) 64) hears.goes
 
-    one_tick : ticks_of (hears.events ++ Tick ∷ []) ≡ 1
+    pub one_tick : ticks_of (hears.events ++ Tick ∷ []) ≡ 1
     one_tick = omega (arith, ticks_more hears.events (Tick ∷ []), hears.ticks)
 
-    pub turn_ticked : Writes contents w1 w2 done (far_text d1 Tick) → TakesTurn remaining contents r r1 w w2 d d2 (gave true)
+    abbrev pub turn_ticked : Sends contents w1 w2 done (far_text d1 Tick) → TakesTurn remaining contents r r1 w w2 d d2 (gave true)
     turn_ticked writes = record {
       events = hears.events ++ Tick ∷ [];
-      goes = then_goes far_next far_text (far_turn d) ticked remaining contents r r1 r1 w w1 w2 d d1 d2 hears.events (Tick ∷ []) at_tick (gave true) (record {
+      goes = then_goes far_next far_text (far_turn d) ticked remaining contents r r1 r1 w w1 w2 d d1 d2 hears.events (Tick ∷ []) at_tick FarEnd (gave true) (record {
         day = step;
         talk = λ known e. inl (record { all = refl; ending = refl; rest = e });
         written = one_told far_next far_text contents w1 w2 d1 Tick true writes;
         faulted = λ e. cc;
+        counted = omega arith;
         unfaulted = inl refl;
       });
       ticks = one_tick;
     }
 
-    pub tick_failed : (f : Failed) → Writes contents w1 w2 (stopped f) (far_text d1 Tick) → TakesTurn remaining contents r r1 w w2 d d2 (faulty WriteFailed)
+    abbrev pub tick_failed : (f : Failed) → Sends contents w1 w2 (stopped f) (far_text d1 Tick) → TakesTurn remaining contents r r1 w w2 d d2 (faulty WriteFailed)
     tick_failed f writes = record {
       events = hears.events ++ Tick ∷ [];
-      goes = then_goes far_next far_text (far_turn d) ticked remaining contents r r1 r1 w w1 w2 d d1 d2 hears.events (Tick ∷ []) at_tick (faulty WriteFailed) (record {
+      goes = then_goes far_next far_text (far_turn d) ticked remaining contents r r1 r1 w w1 w2 d d1 d2 hears.events (Tick ∷ []) at_tick FarEnd (faulty WriteFailed) (record {
         day = step;
-        talk = λ known e. inr (inr (refl, record { read = []; is_read = record { rest = known; splits = refl; is_left = e }; all = refl; behind = refl; rest = refl; cut = inr (refl, refl) }));
+        talk = λ known e. inr (inr (refl, record { read = []; is_read = record { rest = known; splits = refl; is_left = e }; all = refl; behind = refl; rest = refl; cut = inr (refl, refl, refl) }));
         written = one_failed far_next far_text contents w1 w2 d1 Tick f writes;
         faulted = λ e. cc;
+        counted = omega arith;
         unfaulted = inl refl;
       });
       ticks = inr (one_tick, refl);
@@ -123,7 +121,7 @@ Over turns d text = closed_before turns (far_turn d text)
 abbrev FollowsFar : ℕ → FarDay → List ℕ → Talk
 FollowsFar turns d text = follow (far_turn d text) (Next turns d) (Over turns d text)
 
-no_turn : (d : FarDay) (text : List ℕ) → far_talk_in 0 d text ≡ stop (Ok true) text text
+pub no_turn : (d : FarDay) (text : List ℕ) → far_talk_in 0 d text ≡ stop (Ok true) text text
 unfolding far_talk_in
 no_turn d text = refl
 
@@ -139,31 +137,31 @@ far_quiet (suc turns) d =
 
 module _ {R W : Type 0} (remaining : R → Option (List ℕ)) (contents : W → Option (List ℕ)) (turns : ℕ) (r r1 : Watched R) (w w1 : Watched W) (d d1 : FarDay) where
   abbrev GoesFar : ℕ → List Event → Result Bool LinkFault → Type 0
-  GoesFar n events result = Goes far_next far_text (far_talk_in n d) remaining contents r r1 w w1 d d1 events result
+  GoesFar n events result = Goes FarEnd far_next far_text (far_talk_in n d) remaining contents r r1 w w1 d d1 events result
 
   pub next_went : (turn : TakesTurn remaining contents r r1 w w1 d d1 (gave true)) → SoFar far_next far_text (far_talk_in (suc turns) d) (far_talk_in turns d1) remaining contents r r1 w w1 d d1 turn.events
   next_went turn =
-      let so = follow_on (far_turn d) (Next turns d) (Over turns d) far_next far_text remaining contents r r1 w w1 d d1 turn.events (far_turn_local d) turn.goes in
+      let so = follow_on FarEnd (far_turn d) (Next turns d) (Over turns d) far_next far_text remaining contents r r1 w w1 d d1 turn.events (far_turn_local d) turn.goes in
       subst (λ (f : List ℕ → Talk). SoFar far_next far_text f (far_talk_in turns d1) remaining contents r r1 w w1 d d1 turn.events) (sym (next_turn turns d))
       (subst (λ (x : FarDay). SoFar far_next far_text (FollowsFar turns d) (far_talk_in turns x) remaining contents r r1 w w1 d d1 turn.events) (sym turn.goes.day) so)
 
   pub next_failed : (fault : LinkFault) (turn : TakesTurn remaining contents r r1 w w1 d d1 (faulty fault)) → GoesFar (suc turns) turn.events (faulty fault)
   next_failed fault turn =
-      subst (λ (f : List ℕ → Talk). Goes far_next far_text f remaining contents r r1 w w1 d d1 turn.events (faulty fault)) (sym (next_turn turns d))
-      (follow_fault (far_turn d) (Next turns d) (Over turns d) far_next far_text remaining contents r r1 w w1 d d1 turn.events fault (λ last. far_quiet turns (after far_next turn.events d)) turn.goes)
+      subst (λ (f : List ℕ → Talk). Goes FarEnd far_next far_text f remaining contents r r1 w w1 d d1 turn.events (faulty fault)) (sym (next_turn turns d))
+      (follow_fault FarEnd (far_turn d) (Next turns d) (Over turns d) far_next far_text remaining contents r r1 w w1 d d1 turn.events fault (λ last. far_quiet turns (after far_next turn.events d)) turn.goes)
 
 module _ {R W : Type 0} (remaining : R → Option (List ℕ)) (contents : W → Option (List ℕ)) (r r1 : Watched R) (w w1 : Watched W) (d d1 : FarDay) (turn : TakesTurn remaining contents r r1 w w1 d d1 (gave false)) where
   -- the end of the day, as the last turn
-  pub last_went : Goes far_next far_text (far_talk_in 1 d) remaining contents r r1 w w1 d d1 turn.events (gave false)
+  pub last_went : Goes FarEnd far_next far_text (far_talk_in 1 d) remaining contents r r1 w w1 d d1 turn.events (gave false)
   last_went =
-      subst (λ (f : List ℕ → Talk). Goes far_next far_text f remaining contents r r1 w w1 d d1 turn.events (gave false)) (sym (next_turn 0 d))
-      (follow_day (far_turn d) (Next 0 d) (Over 0 d) far_next far_text remaining contents r r1 w w1 d d1 turn.events (gave false) (λ e. cc) (λ e. cc) (λ known e. ended_so (far_turn d known) false e) turn.goes)
+      subst (λ (f : List ℕ → Talk). Goes FarEnd far_next far_text f remaining contents r r1 w w1 d d1 turn.events (gave false)) (sym (next_turn 0 d))
+      (follow_day FarEnd (far_turn d) (Next 0 d) (Over 0 d) far_next far_text remaining contents r r1 w w1 d d1 turn.events (gave false) (λ e. cc) (λ e. cc) (λ known e. ended_so (far_turn d known) false e) turn.goes)
 
   -- or with another behind it
-  pub closed_went : (turns : ℕ) → Goes far_next far_text (far_talk_in (suc (suc turns)) d) remaining contents r r1 w w1 d d1 turn.events (faulty Closed)
+  pub closed_went : (turns : ℕ) → Goes FarEnd far_next far_text (far_talk_in (suc (suc turns)) d) remaining contents r r1 w w1 d d1 turn.events (faulty Closed)
   closed_went turns =
-      subst (λ (f : List ℕ → Talk). Goes far_next far_text f remaining contents r r1 w w1 d d1 turn.events (faulty Closed)) (sym (next_turn (suc turns) d))
-      (follow_day (far_turn d) (Next (suc turns) d) (Over (suc turns) d) far_next far_text remaining contents r r1 w w1 d d1 turn.events (faulty Closed) (λ e. cc) (λ e. cc) (λ known e. refl) turn.goes)
+      subst (λ (f : List ℕ → Talk). Goes FarEnd far_next far_text f remaining contents r r1 w w1 d d1 turn.events (faulty Closed)) (sym (next_turn (suc turns) d))
+      (follow_day FarEnd (far_turn d) (Next (suc turns) d) (Over (suc turns) d) far_next far_text remaining contents r r1 w w1 d d1 turn.events (faulty Closed) (λ e. cc) (λ e. cc) (λ known e. refl) turn.goes)
 
 -- ---- a session
 
@@ -173,7 +171,11 @@ pub record FarSoFar {R W : Type 0} (remaining : R → Option (List ℕ)) (conten
   pub so_far : (turns : ℕ) → SoFar far_next far_text (far_talk_in (count + turns) d) (far_talk_in turns d') remaining contents r r' w w' d d' events
   pub ticks : ticks_of events ≡ count
 
-pub no_turn_yet : {R W : Type 0} (remaining : R → Option (List ℕ)) (contents : W → Option (List ℕ)) (r : Watched R) (w : Watched W) (d : FarDay) → FarSoFar remaining contents 0 r r w w d d
+-- and this was kept of them
+abbrev pub KeptFarSoFar : {R W : Type 0} → (R → Option (List ℕ)) → (W → Option (List ℕ)) → ℕ → Watched R → Watched R → Watched W → Watched W → FarDay → FarDay → (List Event → Type 0) → Type 0
+KeptFarSoFar remaining contents count r r' w w' d d' kept = (p : FarSoFar remaining contents count r r' w w' d d') × kept p.events
+
+abbrev pub no_turn_yet : {R W : Type 0} (remaining : R → Option (List ℕ)) (contents : W → Option (List ℕ)) (r : Watched R) (w : Watched W) (d : FarDay) → FarSoFar remaining contents 0 r r w w d d
 no_turn_yet remaining contents r w d = record {
   events = [];
   so_far = λ turns.
@@ -184,22 +186,22 @@ no_turn_yet remaining contents r w d = record {
 
 module _ {R W : Type 0} (remaining : R → Option (List ℕ)) (contents : W → Option (List ℕ)) (count : ℕ) (r r1 : Watched R) (w w1 : Watched W) (d d1 : FarDay) (p : FarSoFar remaining contents count r r1 w w1 d d1) where
   -- no more turns are to come
-  pub far_stands : FarTalks remaining contents count r r1 w w1 d d1 (gave true)
+  abbrev pub far_stands : FarTalks remaining contents count r r1 w w1 d d1 (gave true)
   far_stands =
       let same : count + 0 ≡ count = omega arith in
       record {
         events = p.events;
-        goes = subst (λ (n : ℕ). Goes far_next far_text (far_talk_in n d) remaining contents r r1 w w1 d d1 p.events (gave true)) same
-            (all_goes far_next far_text (far_talk_in (count + 0) d) (far_talk_in 0 d1) remaining contents r r1 w w1 d d1 p.events (no_turn d1) (p.so_far 0));
+        goes = subst (λ (n : ℕ). Goes FarEnd far_next far_text (far_talk_in n d) remaining contents r r1 w w1 d d1 p.events (gave true)) same
+            (all_goes far_next far_text (far_talk_in (count + 0) d) (far_talk_in 0 d1) remaining contents r r1 w w1 d d1 p.events (no_turn d1) FarEnd (p.so_far 0));
         ticks = p.ticks;
       }
 
   module _ (r2 : Watched R) (w2 : Watched W) (d2 : FarDay) where
-    behind : (n : ℕ) (events : List Event) (result : Result Bool LinkFault) → Goes far_next far_text (far_talk_in n d1) remaining contents r1 r2 w1 w2 d1 d2 events result
-        → Goes far_next far_text (far_talk_in (count + n) d) remaining contents r r2 w w2 d d2 (p.events ++ events) result
-    behind n events result q = then_goes far_next far_text (far_talk_in (count + n) d) (far_talk_in n d1) remaining contents r r1 r2 w w1 w2 d d1 d2 p.events events (p.so_far n) result q
+    pub behind : (n : ℕ) (events : List Event) (result : Result Bool LinkFault) → Goes FarEnd far_next far_text (far_talk_in n d1) remaining contents r1 r2 w1 w2 d1 d2 events result
+        → Goes FarEnd far_next far_text (far_talk_in (count + n) d) remaining contents r r2 w w2 d d2 (p.events ++ events) result
+    behind n events result q = then_goes far_next far_text (far_talk_in (count + n) d) (far_talk_in n d1) remaining contents r r1 r2 w w1 w2 d d1 d2 p.events events (p.so_far n) FarEnd result q
 
-    pub far_goes_on : TakesTurn remaining contents r1 r2 w1 w2 d1 d2 (gave true) → FarSoFar remaining contents (count + 1) r r2 w w2 d d2
+    abbrev pub far_goes_on : TakesTurn remaining contents r1 r2 w1 w2 d1 d2 (gave true) → FarSoFar remaining contents (count + 1) r r2 w w2 d d2
     far_goes_on turn = record {
       events = p.events ++ turn.events;
       so_far = λ turns.
@@ -210,7 +212,7 @@ module _ {R W : Type 0} (remaining : R → Option (List ℕ)) (contents : W → 
       ticks = omega (arith, ticks_more p.events turn.events, p.ticks, turn.ticks);
     }
 
-    pub far_failed : (fault : LinkFault) → TakesTurn remaining contents r1 r2 w1 w2 d1 d2 (faulty fault) → FarTalks remaining contents (count + 1) r r2 w w2 d d2 (faulty fault)
+    abbrev pub far_failed : (fault : LinkFault) → TakesTurn remaining contents r1 r2 w1 w2 d1 d2 (faulty fault) → FarTalks remaining contents (count + 1) r r2 w w2 d d2 (faulty fault)
     far_failed fault turn = record {
       events = p.events ++ turn.events;
       goes = behind 1 turn.events (faulty fault) (next_failed remaining contents 0 r1 r2 w1 w2 d1 d2 fault turn);
@@ -220,7 +222,7 @@ module _ {R W : Type 0} (remaining : R → Option (List ℕ)) (contents : W → 
       at_most (inl e) = omega (arith, ticks_more p.events turn.events, p.ticks, e)
       at_most (inr (e, f)) = omega (arith, ticks_more p.events turn.events, p.ticks, e)
 
-    pub far_ended : TakesTurn remaining contents r1 r2 w1 w2 d1 d2 (gave false) → FarTalks remaining contents (count + 1) r r2 w w2 d d2 (gave false)
+    abbrev pub far_ended : TakesTurn remaining contents r1 r2 w1 w2 d1 d2 (gave false) → FarTalks remaining contents (count + 1) r r2 w w2 d d2 (gave false)
     far_ended turn = record {
       events = p.events ++ turn.events;
       goes = behind 1 turn.events (gave false) (last_went remaining contents r1 r2 w1 w2 d1 d2 turn);

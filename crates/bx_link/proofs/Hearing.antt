@@ -7,11 +7,10 @@ use Rattle.bx_base.specs.declared.watched.Watched.{Watched}
 use Rattle.bx_base.specs.Watching.{device_of, is_faulted}
 use Rattle.bx_base.specs.declared.octets.WriteFailed.{WriteFailed}
 use Rattle.bx_day.specs.Run.{Event, Receive}
-use Rattle.bx_day.specs.Writing.{Writes}
 use Rattle.bx_link.specs.Ends.{told, ticks_of}
 use Rattle.bx_link.specs.Frames.{Found, frame_in}
 use Rattle.bx_link.specs.Talking.{Talk, stop, with_events, turn_in}
-use Rattle.bx_link.specs.Reading.{IsFound, IsCut, Reads}
+use Rattle.bx_link.specs.Inside.{IsFound, IsCut, Reads, Sends}
 use Rattle.bx_link.specs.Hearing.{IsHeard, Tells, Goes, Went, no_tick}
 use Rattle.bx_link.specs.declared.fault.LinkFault.{LinkFault}
 use Rattle.bx_link.specs.declared.fault.LinkFault.TheVariants as link
@@ -32,26 +31,26 @@ module _ {D W : Type 0} (next : D → Event → D) (text : D → Event → List 
   abbrev One : List ℕ
   One = told next text (e ∷ []) d
 
-  pub one_written : Writes contents w w1 done (text d e) → Appends (contents (device_of w)) (contents (device_of w1)) One
+  pub one_written : Sends contents w w1 done (text d e) → Appends (contents (device_of w)) (contents (device_of w1)) One
   one_written p = subst (Appends (contents (device_of w)) (contents (device_of w1))) (sym (append-nil (text d e))) p.written
 
-  pub one_failed : (f : WriteFailed) → Writes contents w w1 (stopped f) (text d e) → Tells next text contents w w1 d (e ∷ []) (faulty link.WriteFailed)
+  pub one_failed : (f : WriteFailed) → Sends contents w w1 (stopped f) (text d e) → Tells next text contents w w1 d (e ∷ []) (faulty link.WriteFailed)
   one_failed f p = record {
     whole = inl refl;
     part = λ _. record {
       before = [];
       last = e;
       all = refl;
-      count = p.prefix.0;
+      count = p.part.0;
       least = omega arith;
-      most = omega (arith, p.prefix.1, ap (λ (l : List ℕ). length l) (append-nil (text d e)));
-      written = subst (Appends (contents (device_of w)) (contents (device_of w1))) (ap (take p.prefix.0) (sym (append-nil (text d e)))) p.prefix.2;
+      most = omega (arith, p.part.1, ap (λ (l : List ℕ). length l) (append-nil (text d e)));
+      written = subst (Appends (contents (device_of w)) (contents (device_of w1))) (ap (take p.part.0) (sym (append-nil (text d e)))) p.part.2;
     };
     faulted = λ _. search (p.faulted);
     unfaulted = inr refl;
   }
 
-  pub one_told : (b : Bool) → Writes contents w w1 done (text d e) → Tells next text contents w w1 d (e ∷ []) (gave b)
+  pub one_told : (b : Bool) → Sends contents w w1 done (text d e) → Tells next text contents w w1 d (e ∷ []) (gave b)
   one_told b p = record { whole = inr (one_written p); part = λ f. cc; faulted = λ f. cc; unfaulted = inl p.unfaulted }
 
 -- nothing is written
@@ -83,19 +82,20 @@ module _ {D R W : Type 0} (next : D → Event → D) (text : D → Event → Lis
         }
 
     -- and its reply written
-    pub message_heard : (w1 : Watched W) (d1 : D) → d1 ≡ next d (Receive octets.items) → Writes contents w w1 done (text d (Receive octets.items))
+    pub message_heard : (w1 : Watched W) (d1 : D) → d1 ≡ next d (Receive octets.items) → Sends contents w w1 done (text d (Receive octets.items))
         → SoFar next text FindsTurn (turn_in side moment (room - 1)) remaining contents r r1 w w1 d d1 One_message
     message_heard w1 d1 step writes = record {
       day = step;
       talk = after_message;
       written = one_written next text contents w w1 d (Receive octets.items) writes;
+      counted = reads.counted;
       reader = not_faulted (frames.Message octets) (is_faulted r1 ≡ is_faulted r) reads.unfaulted;
       writer = writes.unfaulted;
     }
 
     -- or its reply not written whole
-    pub reply_failed : (w1 : Watched W) (d1 : D) (f : WriteFailed) → d1 ≡ next d (Receive octets.items) → Writes contents w w1 (stopped f) (text d (Receive octets.items))
-        → Goes next text FindsTurn remaining contents r r1 w w1 d d1 One_message (faulty link.WriteFailed)
+    pub reply_failed : (w1 : Watched W) (d1 : D) (f : WriteFailed) → d1 ≡ next d (Receive octets.items) → Sends contents w w1 (stopped f) (text d (Receive octets.items))
+        → Goes side next text FindsTurn remaining contents r r1 w w1 d d1 One_message (faulty link.WriteFailed)
     reply_failed w1 d1 f step writes = record {
       day = step;
       talk = λ known e.
@@ -115,11 +115,12 @@ module _ {D R W : Type 0} (next : D → Event → D) (text : D → Event → Lis
           ));
       written = one_failed next text contents w w1 d (Receive octets.items) f writes;
       faulted = λ e. cc;
+      counted = reads.counted;
       unfaulted = inl (not_faulted (frames.Message octets) (is_faulted r1 ≡ is_faulted r) reads.unfaulted);
     }
 
   abbrev Nothing_more : Result Bool LinkFault → Type 0
-  Nothing_more result = Goes next text FindsTurn remaining contents r r1 w w d d [] result
+  Nothing_more result = Goes side next text FindsTurn remaining contents r r1 w w d d [] result
 
   -- another frame was read, and the turn is over
   stopped_by : (frame : Frame) → Reads remaining r r1 (gave frame) (frame_in side room) → (result : Result Bool LinkFault) (behind : List ℕ → List ℕ)
@@ -133,6 +134,7 @@ module _ {D R W : Type 0} (next : D → Event → D) (text : D → Event → Lis
         inl (record { all = sym (ap (λ (t : Talk). t.events) same); ending = sym (ap (λ (t : Talk). t.ending) same); rest = f.rest ∙ sym (ap (λ (t : Talk). Some t.rest) same) });
     written = none_told next text contents w d result no_write;
     faulted = λ e. absurd (no_read e);
+    counted = reads.counted;
     unfaulted = inl (not_faulted frame (is_faulted r1 ≡ is_faulted r) reads.unfaulted);
   }
 
@@ -152,10 +154,11 @@ module _ {D R W : Type 0} (next : D → Event → D) (text : D → Event → Lis
     talk = λ known e. each known (reads.found known e);
     written = none_told next text contents w d (faulty fault) (λ e. reads.reads (same_fault fault link.WriteFailed e));
     faulted = λ e. reads.failed (same_fault fault ReadFailed e);
+    counted = reads.counted;
     unfaulted = either reads.unfaulted;
   } where
     each : (known : List ℕ) → IsFound (frame_in side room known) (faulty fault) (remaining (device_of r1)) ⊎ ((faulty {A = Frame} fault ≡ Err ReadFailed) × IsCut (frame_in side room) known (remaining (device_of r1)))
-        → IsHeard FindsTurn known [] (faulty fault) (remaining (device_of r1))
+        → IsHeard side FindsTurn known [] (faulty fault) (remaining (device_of r1))
     each known (inl f) =
         let same = turn_fault side moment known room fault f.answer in
         inl (record { all = sym (ap (λ (t : Talk). t.events) same); ending = sym (ap (λ (t : Talk). t.ending) same); rest = f.rest ∙ sym (ap (λ (t : Talk). Some t.rest) same) })
@@ -172,8 +175,8 @@ module _ {D R W : Type 0} (next : D → Event → D) (text : D → Event → Lis
 pub none_ticked : (xs ys : List Event) → ticks_of xs ≡ 0 → ticks_of ys ≡ 0 → ticks_of (xs ++ ys) ≡ 0
 none_ticked xs ys none still = omega (arith, ticks_more xs ys, none, still)
 
-module _ {D R W : Type 0} {next : D → Event → D} {text : D → Event → List ℕ} {finds onward : List ℕ → Talk} {remaining : R → Option (List ℕ)} {contents : W → Option (List ℕ)} {r r1 r2 : Watched R} {w w1 w2 : Watched W} {d d1 d2 : D} where
-  pub turn_went : (xs ys : List Event) → SoFar next text finds onward remaining contents r r1 w w1 d d1 xs → ticks_of xs ≡ 0 → ticks_of ys ≡ 0 → (result : Result Bool LinkFault)
-      → Goes next text onward remaining contents r1 r2 w1 w2 d1 d2 ys result → Went next text finds no_tick remaining contents r r2 w w2 d d2 result
+module _ {D R W : Type 0} {side : Side} {next : D → Event → D} {text : D → Event → List ℕ} {finds onward : List ℕ → Talk} {remaining : R → Option (List ℕ)} {contents : W → Option (List ℕ)} {r r1 r2 : Watched R} {w w1 w2 : Watched W} {d d1 d2 : D} where
+  abbrev pub turn_went : (xs ys : List Event) → SoFar next text finds onward remaining contents r r1 w w1 d d1 xs → ticks_of xs ≡ 0 → ticks_of ys ≡ 0 → (result : Result Bool LinkFault)
+      → Goes side next text onward remaining contents r1 r2 w1 w2 d1 d2 ys result → Went side next text finds no_tick remaining contents r r2 w w2 d d2 result
   turn_went xs ys so_far none still result p =
-      record { events = xs ++ ys; goes = then_goes next text finds onward remaining contents r r1 r2 w w1 w2 d d1 d2 xs ys so_far result p; ticks = none_ticked xs ys none still }
+      record { events = xs ++ ys; goes = then_goes next text finds onward remaining contents r r1 r2 w w1 w2 d d1 d2 xs ys so_far side result p; ticks = none_ticked xs ys none still }

@@ -6,7 +6,7 @@ use Rattle.std.proofs.Math.Seq.{take-append_seam, drop-append_seam}
 use Rattle.std.specs.Int.{w16, from_be_bytes}
 use Rattle.arrayvec.specs.ArrayVec.{ArrayVec}
 use Rattle.bx_link.specs.Frames.{Found, found, and_then, continue_by, octet_in, octets_in, length_in, fits, is_message, frame_of, contents_in, sized_in, kind_of, kind_in, frame_in}
-use Rattle.bx_link.specs.Reading.{IsCut}
+use Rattle.bx_link.specs.Inside.{IsCut}
 use Rattle.bx_link.specs.declared.fault.LinkFault.{LinkFault}
 use Rattle.bx_link.specs.declared.fault.LinkFault.TheVariants.{EndedInFrame, BadLength, MoreThan64Messages}
 use Rattle.bx_link.specs.declared.frame.Side.{Side}

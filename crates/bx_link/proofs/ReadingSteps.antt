@@ -7,10 +7,11 @@ use Rattle.bx_base.specs.Watching.{device_of, is_faulted}
 use Rattle.bx_link.specs.Frames.{Found, found, and_then, continue_by, octets_in, fits, is_message, contents_in, sized_in}
 use Rattle.bx_link.specs.declared.frame.FrameKind.{FrameKind}
 use Rattle.bx_link.specs.declared.frame.Frame.{Frame}
-use Rattle.bx_link.specs.Reading.{IsRead, IsFound, IsCut, Reads}
+use Rattle.bx_link.specs.Reading.{IsRead}
+use Rattle.bx_link.specs.Inside.{IsFound, IsCut, Reads}
 use Rattle.bx_link.specs.declared.fault.LinkFault.{LinkFault}
 use Rattle.bx_link.specs.declared.fault.LinkFault.TheVariants.{ReadFailed, WriteFailed}
-use Rattle.bx_link.proofs.Composing.{gave, faulty, either_first}
+use Rattle.bx_link.proofs.Composing.{gave, faulty, either_first, fails_behind}
 use Rattle.bx_link.proofs.Locality.{IsLocal, octets_by, sized_by, cut_first, cut_later}
 
 -- of known octets these were read
@@ -44,6 +45,7 @@ module _ {R A B : Type 0} (remaining : R → Option (List ℕ)) (first : List �
   reads_fault fault p = record {
     found = λ text known. each text (p.found text known);
     failed = λ e. p.failed (same_fault fault ReadFailed e);
+    counted = p.counted;
     unfaulted = either p.unfaulted;
     reads = λ e. p.reads (same_fault fault WriteFailed e);
   } where
@@ -62,7 +64,8 @@ module _ {R A B : Type 0} (remaining : R → Option (List ℕ)) (first : List �
     found = λ text known.
         let f = was_found first text x (remaining (device_of b)) (p.found text known) in
         each text f (q.found (first text).rest f.rest);
-    failed = q.failed;
+    failed = λ e. fails_behind a b c p.counted (q.failed e);
+    counted = omega (arith, p.counted, q.counted);
     unfaulted = either_first (λ e. e ∙ not_faulted x (is_faulted b ≡ is_faulted a) p.unfaulted) q.unfaulted;
     reads = q.reads;
   } where

@@ -1,7 +1,7 @@
 -- What both ends and their connections are after a day of both.
 use Rattle.std.specs.Prelude.{◌≡◌, ℕ, ◌+◌, Bool, true, false, List, Option, Some, Result, Ok, Err, ◌⊎◌}
+use Rattle.std.proofs.Common.{inl, inr}
 use Rattle.std.specs.Io.KnownBytes.{Appends}
-use Rattle.bx_base.specs.declared.watched.Watched.{Watched}
 use Rattle.bx_base.specs.Watching.{device_of, is_faulted}
 use Rattle.bx_day.specs.Day.{Day}
 use Rattle.bx_day.specs.Run.{Event}
@@ -13,6 +13,7 @@ use Rattle.bx_link.specs.Days.{Talks, TalksToEnd, FarTalks}
 use Rattle.bx_link.specs.declared.connection.Connection.{Connection}
 use Rattle.bx_link.specs.declared.fault.LinkFault.{LinkFault}
 use Rattle.bx_link.specs.declared.fault.LinkFault.TheVariants.{WriteFailed, Closed}
+use Rattle.bx_link.specs.declared.frame.Side.TheVariants.{Exchange}
 
 -- an end before and after: its connection, with what that tells, and its day
 pub record Passage (D R W : Type 0) : Type 0 where
@@ -44,7 +45,7 @@ NearEnded turns p ending = TalksToEnd p.remaining p.contents turns p.old.reader 
 pub record NearWaits {R W : Type 0} (turns opened : ℕ) (p : Passage Day R W) : Type 0 where
   pub events : List Event
   pub day : p.reached ≡ after exchange_next events p.opened
-  pub talk : (known : List ℕ) → p.remaining (device_of p.old.reader) ≡ Some known → IsUnread (talk_in turns p.opened) known events (p.remaining (device_of p.new.reader))
+  pub talk : (known : List ℕ) → p.remaining (device_of p.old.reader) ≡ Some known → IsUnread Exchange (talk_in turns p.opened) known events (p.remaining (device_of p.new.reader))
   pub written : Appends (p.contents (device_of p.old.writer)) (p.contents (device_of p.new.writer)) (told exchange_next exchange_text events p.opened)
   pub reader : is_faulted p.new.reader ≡ is_faulted p.old.reader
   pub writer : is_faulted p.new.writer ≡ is_faulted p.old.writer
@@ -101,3 +102,11 @@ pub record FarFailedAtEnd {R W S T : Type 0} (turns : ℕ) (near : Passage Day R
 abbrev pub RunsBoth : {R W S T : Type 0} → ℕ → Passage Day R W → Passage FarDay S T → Result Bool LinkFault → Type 0
 RunsBoth turns near far result =
     BothDone turns near far result ⊎ (NearFailed turns near far result ⊎ (EndFailed turns near far result ⊎ (FarFailed turns near far result ⊎ FarFailedAtEnd turns near far result)))
+
+-- the events by which the exchange's day went on
+abbrev pub events_of_near : {R W S T : Type 0} {turns : ℕ} {near : Passage Day R W} {far : Passage FarDay S T} {result : Result Bool LinkFault} → RunsBoth turns near far result → List Event
+events_of_near (inl done) = done.near_side.talks.events
+events_of_near (inr (inl failed)) = failed.near_side.events
+events_of_near (inr (inr (inl failed))) = failed.near_side.talks.events
+events_of_near (inr (inr (inr (inl failed)))) = failed.near_side.events
+events_of_near (inr (inr (inr (inr failed)))) = failed.near_side.talks.events

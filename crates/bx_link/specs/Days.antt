@@ -1,17 +1,20 @@
 -- What both ends and their devices are after several turns, and after a day.
 use Rattle.std.specs.Prelude.{◌≡◌, ℕ, ◌+◌, ◌≤◌, ◌<◌, Bool, true, false, List, Option, Result, Ok, Err, ◌⊎◌, min}
+use Rattle.std.proofs.Common.{inl, inr}
 use Rattle.std.specs.Io.KnownBytes.{Appends}
 use Rattle.bx_base.specs.declared.watched.Watched.{Watched}
 use Rattle.bx_base.specs.Watching.{device_of, is_faulted}
-use Rattle.bx_base.specs.Octets.{AppendsPrefix}
 use Rattle.bx_day.specs.Day.{Day}
 use Rattle.bx_far.specs.FarDay.{FarDay}
+use Rattle.bx_day.specs.Run.{Event}
 use Rattle.bx_link.specs.Ends.{ticks_of, exchange_next, exchange_text, far_next, far_text}
 use Rattle.bx_link.specs.Frames.{day_frame}
+use Rattle.bx_base.specs.Octets.{AppendsPart}
 use Rattle.bx_link.specs.Talking.{talk_in, far_talk_in}
 use Rattle.bx_link.specs.Hearing.{Went}
 use Rattle.bx_link.specs.declared.fault.LinkFault.{LinkFault}
 use Rattle.bx_link.specs.declared.fault.LinkFault.TheVariants.{WriteFailed, Closed}
+use Rattle.bx_link.specs.declared.frame.Side.TheVariants.{Exchange, FarEnd}
 
 -- ---- several turns of the exchange
 
@@ -22,12 +25,12 @@ opened turns (Err fault) n = (0 < n) × (n ≤ turns)
 
 -- an exchange went through so many turns
 abbrev pub Talks : {R W : Type 0} → (R → Option (List ℕ)) → (W → Option (List ℕ)) → ℕ → Watched R → Watched R → Watched W → Watched W → Day → Day → Result Bool LinkFault → Type 0
-Talks remaining contents turns r r' w w' d d' result = Went exchange_next exchange_text (talk_in turns d) (opened turns) remaining contents r r' w w' d d' result
+Talks remaining contents turns r r' w w' d d' result = Went Exchange exchange_next exchange_text (talk_in turns d) (opened turns) remaining contents r r' w w' d d' result
 
--- the end of the day was written, or a front of it
+-- the end of the day was written; or a write failed, and a front of it was written, which is not the whole
 pub record EndsDay {W : Type 0} (contents : W → Option (List ℕ)) (w w' : Watched W) (result : Result Bool LinkFault) : Type 0 where
   pub whole : (result ≡ Err WriteFailed) ⊎ ((result ≡ Ok true) × Appends (contents (device_of w)) (contents (device_of w')) day_frame)
-  pub part : AppendsPrefix (contents (device_of w)) (contents (device_of w')) day_frame
+  pub part : result ≡ Err WriteFailed → AppendsPart (contents (device_of w)) (contents (device_of w')) day_frame
   pub faulted : result ≡ Err WriteFailed → is_faulted w' ≡ true
   pub unfaulted : (is_faulted w' ≡ is_faulted w) ⊎ (result ≡ Err WriteFailed)
 
@@ -42,6 +45,12 @@ abbrev pub RunsDay : {R W : Type 0} → (R → Option (List ℕ)) → (W → Opt
 RunsDay remaining contents turns r r' w w' d d' result =
     TalksToEnd remaining contents turns r r' w w' d d' result ⊎ (¬ (result ≡ Ok true) × Talks remaining contents turns r r' w w' d d' result)
 
+-- the events by which it went on
+abbrev pub events_of_day : {R W : Type 0} {remaining : R → Option (List ℕ)} {contents : W → Option (List ℕ)} {turns : ℕ} {r r' : Watched R} {w w' : Watched W} {d d' : Day} {result : Result Bool LinkFault}
+    → RunsDay remaining contents turns r r' w w' d d' result → List Event
+events_of_day (inl ended) = ended.talks.events
+events_of_day (inr (stopped, talks)) = talks.events
+
 -- ---- several turns of the far end
 
 -- of so many turns each had its tick, but for one that was the end of the day or had a fault
@@ -52,7 +61,7 @@ taken turns (Err fault) n = (0 < turns) × (n ≤ turns)
 
 -- a far end took so many turns of a session
 abbrev pub FarTalks : {R W : Type 0} → (R → Option (List ℕ)) → (W → Option (List ℕ)) → ℕ → Watched R → Watched R → Watched W → Watched W → FarDay → FarDay → Result Bool LinkFault → Type 0
-FarTalks remaining contents turns r r' w w' d d' result = Went far_next far_text (far_talk_in turns d) (taken turns) remaining contents r r' w w' d d' result
+FarTalks remaining contents turns r r' w w' d d' result = Went FarEnd far_next far_text (far_talk_in turns d) (taken turns) remaining contents r r' w w' d d' result
 
 -- the most turns that are counted
 abbrev pub most_turns : ℕ

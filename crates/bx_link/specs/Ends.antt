@@ -3,9 +3,10 @@ use Rattle.std.specs.Prelude.{ℕ, suc, Bool, true, false, List, [], ◌∷◌, 
 use Rattle.std.specs.List.{flat_map}
 use Rattle.arrayvec.specs.ArrayVec.{ArrayVec}
 use Rattle.bx_q931.specs.Outgoing.{Outgoing}
-use Rattle.bx_day.specs.Day.{Day, tick}
-use Rattle.bx_day.specs.Run.{Event, Tick, Receive, receive_octets, reply_list, happens}
-use Rattle.bx_day.specs.Spelling.{spelled}
+use Rattle.bx_day.specs.Day.{Day}
+use Rattle.bx_day.specs.Ticks.{tick}
+use Rattle.bx_day.specs.Run.{Event, Tick, Receive, receive_octets, happens}
+use Rattle.bx_calls.specs.Sending.{reply_list, spelled}
 use Rattle.bx_far.specs.FarDay.{FarDay, far_tick}
 use Rattle.bx_far.specs.FarRun.{far_receive_octets}
 use Rattle.bx_link.specs.Frames.{message_frame, turn_frame}
@@ -22,6 +23,11 @@ frames_of messages = flat_map frame_with (spelled messages)
 abbrev pub reply_frame : Option (ArrayVec ℕ) → List ℕ
 reply_frame None = []
 reply_frame (Some reply) = frame_with reply
+
+-- the messages of a reply: one, or none
+abbrev pub reply_messages : Option (ArrayVec ℕ) → List (ArrayVec ℕ)
+reply_messages None = []
+reply_messages (Some reply) = reply ∷ []
 
 -- ---- events one after another
 
@@ -52,6 +58,10 @@ ticks_last said (Receive octets ∷ es) = ticks_last false es
 abbrev pub exchange_next : Day → Event → Day
 exchange_next d e = (happens d e).day
 
+-- the messages that it sends
+abbrev pub exchange_sent : Day → Event → List (ArrayVec ℕ)
+exchange_sent d e = spelled (happens d e).sent
+
 abbrev pub exchange_text : Day → Event → List ℕ
 exchange_text d Tick = frames_of (tick d).sent ++ turn_frame (tick d).day.moment
 exchange_text d (Receive octets) = frames_of (reply_list (receive_octets d octets).reply)
@@ -61,6 +71,10 @@ exchange_text d (Receive octets) = frames_of (reply_list (receive_octets d octet
 abbrev pub far_next : FarDay → Event → FarDay
 far_next d Tick = (far_tick d).day
 far_next d (Receive octets) = (far_receive_octets d octets).day
+
+abbrev pub far_sent : FarDay → Event → List (ArrayVec ℕ)
+far_sent d Tick = spelled (far_tick d).sent
+far_sent d (Receive octets) = spelled (reply_list (far_receive_octets d octets).reply)
 
 abbrev pub far_text : FarDay → Event → List ℕ
 far_text d Tick = frames_of (far_tick d).sent ++ turn_frame (far_tick d).day.moment

@@ -1,6 +1,6 @@
 -- Frames, and what is found of them in octets: a kind octet, the length of the contents in two octets, the high
 -- one first, and the contents.
-use Rattle.std.specs.Prelude.{ℕ, ◌≡◌, ◌<◌, ◌==◌, ◌&&◌, nat_le, nat_lt, not, Bool, true, false, List, [], ◌∷◌, ◌++◌, length, take, drop, if◌then◌else◌, Option, Some, None, Result, Ok, Err}
+use Rattle.std.specs.Prelude.{ℕ, ◌==◌, ◌&&◌, nat_le, nat_lt, not, Bool, true, false, List, [], ◌∷◌, ◌++◌, length, take, drop, if◌then◌else◌, Option, Some, None, Result, Ok, Err}
 use Rattle.std.specs.Int.{w16, w32, to_be_bytes, from_be_bytes}
 use Rattle.arrayvec.specs.ArrayVec.{ArrayVec}
 use Rattle.bx_link.specs.declared.fault.LinkFault.{LinkFault}
@@ -92,14 +92,3 @@ kind_in (Some kind) room text = and_then (length_in text) (sized_in kind room)
 -- the next frame, of which this side is the reader
 abbrev pub frame_in : Side → ℕ → List ℕ → Found Frame
 frame_in side room text = and_then (octet_in text) (λ octet rest. kind_in (kind_of side octet) room rest)
-
--- which frames come: a message only while there is room for one, and the end of the day only to the far end
-abbrev pub MayCome : Side → ℕ → Frame → Type 0
-MayCome side room (frames.Message octets) = 0 < room
-MayCome side room (frames.EndOfTurn moment) = Unit {0}
-MayCome side room frames.EndOfDay = is_far side ≡ true
-
-abbrev pub ComesAs : FrameKind → ℕ → Frame → Type 0
-ComesAs kind room (frames.Message octets) = 0 < room
-ComesAs kind room (frames.EndOfTurn moment) = Unit {0}
-ComesAs kind room frames.EndOfDay = kind ≡ kinds.EndOfDay

@@ -1,4 +1,5 @@
 pub mod Frames
+pub mod Inside
 pub mod Reading
 pub mod Ends
 pub mod Talking

@@ -1,11 +1,12 @@
 //! A day of both ends in one process.
 
 ghost use Rattle.std.specs.Prelude.{◌≡◌, ◌-◌, min};
-ghost use Rattle.bx_link.specs.BothEnds.{RunsBoth, passage};
+ghost use Rattle.bx_link.specs.BothEnds.{RunsBoth, events_of_near, passage};
 ghost use Rattle.bx_link.specs.Hearing.{turned};
 
 use crate::connection::Connection;
 use crate::day::LAST_MOMENT;
+use crate::end::End;
 use crate::far_session::FarSession;
 use crate::fault::LinkFault;
 use crate::frame_writing::write_end_of_day;
@@ -19,16 +20,16 @@ use std::io::{Read, Write};
 /// exchange writes the end of the day, and the far end hears it. Takes no memory. The first fault of either end's
 /// session is answered, and nothing is done behind it; and `Closed` where an end of turn comes to the far end in
 /// place of the end of the day, since the exchange's session is closed then.
-pub fn run_both_ends<R: Read, W: Write, S: Read, T: Write>(
-    exchange: &mut Exchange,
+pub fn run_both_ends<E: End<Exchange>, R: Read, W: Write, S: Read, T: Write>(
+    exchange: &mut E,
     near: &mut Connection<R, W>,
     far: &mut Far,
     distant: &mut Connection<S, T>,
     turns: u32,
 ) -> Result<(), LinkFault>
-    ensures { RunsBoth (min turns (300000 - exchange.old.moment)) (passage R.remaining W.contents near.old near.new exchange.old exchange.new) (passage S.remaining T.contents distant.old distant.new far.old far.new) (turned result) }
+    ensures { (ran : RunsBoth (min turns (300000 - (E.day exchange.old).moment)) (passage R.remaining W.contents near.old near.new (E.day exchange.old) (E.day exchange.new)) (passage S.remaining T.contents distant.old distant.new far.old far.new) (turned result)) × E.kept exchange.old (events_of_near ran) exchange.new }
 {
-    let count = turns.min(LAST_MOMENT - exchange.moment());
+    let count = turns.min(LAST_MOMENT - exchange.reached());
     let mut session = Session::new();
     let mut far_session = FarSession::new();
     for _turn in 0..count {

@@ -1,9 +1,10 @@
 //! The exchange's side of a whole day.
 
 ghost use Rattle.std.specs.Prelude.{◌≡◌, ◌-◌, min};
-ghost use Rattle.bx_link.specs.Days.{Talks, RunsDay};
+ghost use Rattle.bx_link.specs.Days.{Talks, RunsDay, events_of_day};
 ghost use Rattle.bx_link.specs.Hearing.{turned};
 
+use crate::end::End;
 use crate::fault::LinkFault;
 use crate::frame_writing::write_end_of_day;
 use crate::session::Session;
@@ -15,13 +16,13 @@ use std::io::{Read, Write};
 pub(crate) const LAST_MOMENT: u32 = 300_000;
 
 /// Opens and closes so many turns.
-fn run_turns<R: Read, W: Write>(
-    exchange: &mut Exchange,
+fn run_turns<E: End<Exchange>, R: Read, W: Write>(
+    exchange: &mut E,
     reader: &mut Watched<R>,
     writer: &mut Watched<W>,
     turns: u32,
 ) -> Result<(), LinkFault>
-    ensures { Talks R.remaining W.contents turns reader.old reader.new writer.old writer.new exchange.old exchange.new (turned result) }
+    ensures { (talked : Talks R.remaining W.contents turns reader.old reader.new writer.old writer.new (E.day exchange.old) (E.day exchange.new) (turned result)) × E.kept exchange.old talked.events exchange.new }
 {
     let mut session = Session::new();
     for _turn in 0..turns {
@@ -41,16 +42,17 @@ fn run_turns<R: Read, W: Write>(
 /// writes the end of the day. Each of these turns has its tick, and nothing is read behind the last end of turn.
 /// Takes no memory. At a fault the exchange has gone through all whole turns, the next tick, and each message of
 /// that turn that came whole; what was written is theirs. Where a write failed it was that of the last of these, or
-/// of the end of the day; a front of that was written, and nothing was read behind the last of these.
-pub fn run_day<R: Read, W: Write>(
-    exchange: &mut Exchange,
+/// of the end of the day; a front of that was written, but not all of it, and nothing was read behind the last of
+/// these.
+pub fn run_day<E: End<Exchange>, R: Read, W: Write>(
+    exchange: &mut E,
     reader: &mut Watched<R>,
     writer: &mut Watched<W>,
     turns: u32,
 ) -> Result<(), LinkFault>
-    ensures { RunsDay R.remaining W.contents (min turns (300000 - exchange.old.moment)) reader.old reader.new writer.old writer.new exchange.old exchange.new (turned result) }
+    ensures { (ran : RunsDay R.remaining W.contents (min turns (300000 - (E.day exchange.old).moment)) reader.old reader.new writer.old writer.new (E.day exchange.old) (E.day exchange.new) (turned result)) × E.kept exchange.old (events_of_day ran) exchange.new }
 {
-    let count = turns.min(LAST_MOMENT - exchange.moment());
+    let count = turns.min(LAST_MOMENT - exchange.reached());
     match run_turns(exchange, reader, writer, count) {
         Ok(()) => {}
         Err(fault) => return Err(fault),

@@ -2,6 +2,7 @@
 
 ghost use Rattle.bx_link.specs.Days.{RunsFarDay};
 
+use crate::end::End;
 use crate::far_session::FarSession;
 use crate::fault::LinkFault;
 use bx_base::Watched;
@@ -13,12 +14,12 @@ const MOST_TURNS: u64 = u64::MAX;
 
 /// Takes turns until the exchange ends the day; each but the last of them has its tick. Nothing is read behind the end
 /// of the day. Takes no memory. The first fault of a turn is answered; and `Closed` behind 2^64 - 1 turns.
-pub fn run_far_day<R: Read, W: Write>(
-    far: &mut Far,
+pub fn run_far_day<E: End<Far>, R: Read, W: Write>(
+    far: &mut E,
     reader: &mut Watched<R>,
     writer: &mut Watched<W>,
 ) -> Result<(), LinkFault>
-    ensures { RunsFarDay R.remaining W.contents reader.old reader.new writer.old writer.new far.old far.new result }
+    ensures { (ran : RunsFarDay R.remaining W.contents reader.old reader.new writer.old writer.new (E.day far.old) (E.day far.new) result) × E.kept far.old ran.talks.events far.new }
 {
     let mut session = FarSession::new();
     for _turn in 0..MOST_TURNS {

@@ -6,7 +6,7 @@ ghost use Rattle.bx_link.specs.Hearing.{TakesTurn, goes_on};
 ghost use Rattle.bx_link.specs.Sessions.{is_far_over};
 ghost use Rattle.bx_link.specs.declared.fault.LinkFault.TheVariants.{Closed};
 
-use crate::day::LAST_MOMENT;
+use crate::end::End;
 use crate::fault::LinkFault;
 use crate::frame::Side;
 use crate::turn::{hear_turn, write_tick};
@@ -46,14 +46,14 @@ impl FarSession {
     /// closed session answers `Closed`, and neither reads nor writes. At any fault the session is closed: the far end
     /// has received each message that came whole, and no more. Where a write failed it was that of the reply to the
     /// last message that was received, and nothing was read behind that message; or it was that of the tick, which has
-    /// happened. All that is written before it was written whole.
-    pub fn far_turn<R: Read, W: Write>(
+    /// happened. It was not written whole, and all that is written before it was.
+    pub fn far_turn<E: End<Far>, R: Read, W: Write>(
         &mut self,
-        far: &mut Far,
+        far: &mut E,
         reader: &mut Watched<R>,
         writer: &mut Watched<W>,
     ) -> Result<bool, LinkFault>
-        ensures taken { is_far_over self.old ≡ false → TakesTurn R.remaining W.contents reader.old reader.new writer.old writer.new far.old far.new result }
+        ensures taken { is_far_over self.old ≡ false → (took : TakesTurn R.remaining W.contents reader.old reader.new writer.old writer.new (E.day far.old) (E.day far.new) result) × E.kept far.old took.events far.new }
         ensures refused { is_far_over self.old ≡ true → result ≡ Err Closed }
         ensures far { is_far_over self.old ≡ true → far.new ≡ far.old }
         ensures reader { is_far_over self.old ≡ true → reader.new ≡ reader.old }
@@ -63,25 +63,31 @@ impl FarSession {
         if self.is_over() {
             return Err(LinkFault::Closed);
         }
-        match take_turn(far, reader, writer) {
-            Ok(true) => Ok(true),
-            ended => {
-                self.is_open = false;
-                ended
-            }
-        }
+        let ended = take_turn(far, reader, writer);
+        self.is_open = may_go_on(&ended);
+        ended
+    }
+}
+
+/// Whether more turns may follow one that ended so.
+fn may_go_on(ended: &Result<bool, LinkFault>) -> bool
+    ensures { result ≡ goes_on ended.now }
+{
+    match ended {
+        Ok(goes_on) => *goes_on,
+        Err(_) => false,
     }
 }
 
 /// Hears the messages of a turn, and ticks at its end.
-fn take_turn<R: Read, W: Write>(
-    far: &mut Far,
+fn take_turn<E: End<Far>, R: Read, W: Write>(
+    far: &mut E,
     reader: &mut Watched<R>,
     writer: &mut Watched<W>,
 ) -> Result<bool, LinkFault>
-    ensures { TakesTurn R.remaining W.contents reader.old reader.new writer.old writer.new far.old far.new result }
+    ensures { (took : TakesTurn R.remaining W.contents reader.old reader.new writer.old writer.new (E.day far.old) (E.day far.new) result) × E.kept far.old took.events far.new }
 {
-    let due = (far.moment() + 1).min(LAST_MOMENT);
+    let due = far.turn();
     match hear_turn(far, Side::FarEnd, due, reader, writer) {
         Ok(true) => {}
         Ok(false) => return Ok(false),

@@ -1,8 +1,8 @@
 //! Reading the next frame.
 
 ghost use Rattle.std.specs.Prelude.{◌≡◌, ◌≤◌, true, length, Some, IfOk};
-ghost use Rattle.bx_link.specs.Frames.{octet_in, octets_in, length_in, fits, frame_of, kind_in, frame_in, ComesAs, MayCome};
-ghost use Rattle.bx_link.specs.Reading.{Reads};
+ghost use Rattle.bx_link.specs.Frames.{octet_in, octets_in, length_in, fits, frame_of, kind_in, frame_in};
+ghost use Rattle.bx_link.specs.Inside.{ComesAs, MayCome, Reads};
 
 use crate::fault::LinkFault;
 use crate::frame::{Frame, FrameKind, Side};

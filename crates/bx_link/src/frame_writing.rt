@@ -3,9 +3,9 @@
 ghost use Rattle.std.specs.Prelude.{◌≡◌, ◌+◌, ◌≤◌, ◌<◌, ◌++◌, length};
 ghost use Rattle.std.specs.List.{flat_map};
 ghost use Rattle.arrayvec.specs.ArrayVec.{array_vec_len};
-ghost use Rattle.bx_day.specs.Writing.{Writes};
 ghost use Rattle.bx_link.specs.Frames.{message_frame, turn_frame, day_frame};
 ghost use Rattle.bx_link.specs.Ends.{frame_with};
+ghost use Rattle.bx_link.specs.Inside.{Sends};
 
 use arrayvec::ArrayVec;
 use bx_base::{Watched, WriteFailed, write_octets};
@@ -33,7 +33,7 @@ pub(crate) fn write_message<W: Write>(
     w: &mut Watched<W>,
     message: &Octets,
 ) -> Result<(), WriteFailed>
-    ensures { Writes W.contents w.old w.new result (message_frame message.now.items) }
+    ensures { Sends W.contents w.old w.new result (message_frame message.now.items) }
 {
     write_octets(w, &message_octets(message))
 }
@@ -43,7 +43,7 @@ pub(crate) fn write_messages<W: Write>(
     w: &mut Watched<W>,
     messages: &[Octets],
 ) -> Result<(), WriteFailed>
-    ensures { Writes W.contents w.old w.new result (flat_map frame_with messages.now) }
+    ensures { Sends W.contents w.old w.new result (flat_map frame_with messages.now) }
 {
     for message in messages {
         write_message(w, message)?;
@@ -56,7 +56,7 @@ pub(crate) fn write_end_of_turn<W: Write>(
     w: &mut Watched<W>,
     moment: u32,
 ) -> Result<(), WriteFailed>
-    ensures { Writes W.contents w.old w.new result (turn_frame moment) }
+    ensures { Sends W.contents w.old w.new result (turn_frame moment) }
 {
     let [first, second, third, last] = moment.to_be_bytes();
     write_octets(w, &[2, 0, 4, first, second, third, last])
@@ -64,7 +64,7 @@ pub(crate) fn write_end_of_turn<W: Write>(
 
 /// Writes the end of the day.
 pub(crate) fn write_end_of_day<W: Write>(w: &mut Watched<W>) -> Result<(), WriteFailed>
-    ensures { Writes W.contents w.old w.new result day_frame }
+    ensures { Sends W.contents w.old w.new result day_frame }
 {
     write_octets(w, &[3, 0, 0])
 }

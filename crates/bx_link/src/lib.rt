@@ -18,6 +18,7 @@ mod turn;
 pub use both_ends::run_both_ends;
 pub use connection::Connection;
 pub use day::run_day;
+pub use end::{Course, End};
 pub use far_day::run_far_day;
 pub use far_session::FarSession;
 pub use fault::LinkFault;

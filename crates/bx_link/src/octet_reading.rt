@@ -1,8 +1,9 @@
 //! The loop that reads a given count of octets.
 
-ghost use Rattle.std.specs.Prelude.{◌≡◌, ◌≤◌, ◌<◌, ℕ, List, true, length, take, IfOk, OnOk, OnErr};
+ghost use Rattle.std.specs.Prelude.{◌≡◌, ◌≤◌, ◌<◌, ℕ, List, length, take, IfOk, OnOk, OnErr};
 ghost use Rattle.std.specs.Io.KnownBytes.{Consumes, IsAtEnd};
-ghost use Rattle.bx_base.specs.Watching.{device_of, is_faulted};
+ghost use Rattle.bx_base.specs.Watching.{device_of, is_faulted, reads_of};
+ghost use Rattle.bx_link.specs.Reading.{FailsToRead};
 
 use crate::fault::LinkFault;
 use bx_base::Watched;
@@ -21,9 +22,10 @@ pub(crate) fn read_exact_octets<R: Read>(
     ensures bound { IfOk result (λ n. n ≤ length buf.new) }
     ensures octets { IfOk result (λ n. Consumes (R.remaining (device_of r.old)) (R.remaining (device_of r.new)) (take n buf.new)) }
     ensures end { IfOk result (λ n. n < length buf.new → IsAtEnd (R.remaining (device_of r.new))) }
-    ensures failed { OnErr result (is_faulted r.new ≡ true) }
+    ensures failed { OnErr result (FailsToRead r.old r.new) }
     ensures part { OnErr result ((read : List ℕ) × (length read < length buf.new) × Consumes (R.remaining (device_of r.old)) (R.remaining (device_of r.new)) read) }
     ensures unfaulted { OnOk result (is_faulted r.new ≡ is_faulted r.old) }
+    ensures counted { reads_of r.old ≤ reads_of r.new }
 {
     let mut at = 0;
     while at < buf.len() {

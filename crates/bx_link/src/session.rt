@@ -1,18 +1,16 @@
 //! Sessions: the turns of the exchange, opened and closed one after another, until a fault.
 
-ghost use Rattle.std.specs.Prelude.{◌≡◌, true, false, is_ok, is_err, Err};
+ghost use Rattle.std.specs.Prelude.{◌≡◌, ◌∷◌, [], true, false, is_ok, is_err, Err};
 ghost use Rattle.bx_day.specs.Run.{Tick};
-ghost use Rattle.bx_day.specs.Writing.{Writes};
-ghost use Rattle.bx_link.specs.Ends.{exchange_next, exchange_text};
 ghost use Rattle.bx_link.specs.Hearing.{Hears, Opens};
 ghost use Rattle.bx_link.specs.Sessions.{is_turn_open, is_closed};
 ghost use Rattle.bx_link.specs.declared.fault.LinkFault.TheVariants.{Closed};
 
+use crate::end::End;
 use crate::fault::LinkFault;
 use crate::frame::Side;
-use crate::frame_writing::write_end_of_turn;
 use crate::turn::{hear_turn, write_tick};
-use bx_base::{Watched, WriteFailed};
+use bx_base::Watched;
 use bx_day::Exchange;
 use std::io::{Read, Write};
 
@@ -29,21 +27,6 @@ enum Stage {
 #[derive(Debug, Drop, PartialEq, Eq)]
 pub struct Session {
     stage: Stage,
-}
-
-/// The exchange ticks, and what it sends and the end of the turn are written. A quiet second is skipped.
-fn write_opening<W: Write>(
-    exchange: &mut Exchange,
-    writer: &mut Watched<W>,
-) -> Result<(), WriteFailed>
-    ensures day { exchange.new ≡ exchange_next exchange.old Tick }
-    ensures written { Writes W.contents writer.old writer.new result (exchange_text exchange.old Tick) }
-{
-    if exchange.quiet() > 0 {
-        exchange.skip(1);
-        return write_end_of_turn(writer, exchange.moment());
-    }
-    write_tick(exchange, writer)
 }
 
 impl Session {
@@ -70,14 +53,15 @@ impl Session {
     /// Opens a turn: the exchange ticks, and each message that it sends is written as a frame, in order, and
     /// then the end of turn with its moment. Takes no memory. A closed session answers `Closed`, and neither
     /// ticks nor writes. Where a write fails the session is closed: the tick has happened, and a front of
-    /// these octets was written.
-    pub fn open_turn<W: Write>(
+    /// these octets was written, but not all of them.
+    pub fn open_turn<E: End<Exchange>, W: Write>(
         &mut self,
-        exchange: &mut Exchange,
+        exchange: &mut E,
         writer: &mut Watched<W>,
     ) -> Result<(), LinkFault>
         requires { is_turn_open self.old ≡ false }
-        ensures opened { is_closed self.old ≡ false → Opens W.contents writer.old writer.new exchange.old exchange.new result }
+        ensures opened { is_closed self.old ≡ false → Opens W.contents writer.old writer.new (E.day exchange.old) (E.day exchange.new) result }
+        ensures kept { is_closed self.old ≡ false → E.kept exchange.old (Tick ∷ []) exchange.new }
         ensures refused { is_closed self.old ≡ true → result ≡ Err Closed }
         ensures exchange { is_closed self.old ≡ true → exchange.new ≡ exchange.old }
         ensures writer { is_closed self.old ≡ true → writer.new ≡ writer.old }
@@ -87,7 +71,7 @@ impl Session {
         if let Stage::Over = self.stage {
             return Err(LinkFault::Closed);
         }
-        match write_opening(exchange, writer) {
+        match write_tick(exchange, writer) {
             Ok(()) => {
                 self.stage = Stage::InTurn;
                 Ok(())
@@ -103,15 +87,16 @@ impl Session {
     /// of turn with the exchange's moment. Nothing is read behind it. Takes no memory. A closed session answers
     /// `Closed`, and neither reads nor writes. At any other fault the session is closed: the exchange has received
     /// each message that came whole, and no more. Where a write failed it was that of the reply to the last message
-    /// that was received, nothing was read behind that message, and all replies before were written whole.
-    pub fn close_turn<R: Read, W: Write>(
+    /// that was received: it was not written whole, nothing was read behind that message, and all replies before were
+    /// written whole.
+    pub fn close_turn<E: End<Exchange>, R: Read, W: Write>(
         &mut self,
-        exchange: &mut Exchange,
+        exchange: &mut E,
         reader: &mut Watched<R>,
         writer: &mut Watched<W>,
     ) -> Result<(), LinkFault>
         requires { is_closed self.old ≡ false → is_turn_open self.old ≡ true }
-        ensures heard { is_closed self.old ≡ false → Hears R.remaining W.contents reader.old reader.new writer.old writer.new exchange.old exchange.new result }
+        ensures heard { is_closed self.old ≡ false → (heard : Hears R.remaining W.contents reader.old reader.new writer.old writer.new (E.day exchange.old) (E.day exchange.new) result) × E.kept exchange.old heard.events exchange.new }
         ensures refused { is_closed self.old ≡ true → result ≡ Err Closed }
         ensures exchange { is_closed self.old ≡ true → exchange.new ≡ exchange.old }
         ensures reader { is_closed self.old ≡ true → reader.new ≡ reader.old }
@@ -122,7 +107,7 @@ impl Session {
         if let Stage::Over = self.stage {
             return Err(LinkFault::Closed);
         }
-        let moment = exchange.moment();
+        let moment = exchange.turn();
         match hear_turn(exchange, Side::Exchange, moment, reader, writer) {
             Ok(_) => {
                 self.stage = Stage::BetweenTurns;

@@ -3,13 +3,13 @@
 ghost use Rattle.std.specs.Prelude.{◌≡◌, ◌++◌, ◌∷◌, [], Ok, false, true};
 ghost use Rattle.std.specs.List.{flat_map};
 ghost use Rattle.bx_day.specs.Run.{Tick, Receive};
-ghost use Rattle.bx_day.specs.Writing.{Writes};
 ghost use Rattle.bx_link.specs.Ends.{frame_with};
 ghost use Rattle.bx_link.specs.Frames.{turn_frame, is_far};
 ghost use Rattle.bx_link.specs.Hearing.{Went, no_tick};
+ghost use Rattle.bx_link.specs.Inside.{Sends};
 ghost use Rattle.bx_link.specs.Talking.{turn_in};
 
-use crate::end::End;
+use crate::end::{Course, End};
 use crate::fault::LinkFault;
 use crate::frame::{Frame, Side};
 use crate::frame_reading::read_frame;
@@ -27,34 +27,39 @@ fn write_turn<W: Write>(
     sent: &[Octets],
     moment: u32,
 ) -> Result<(), WriteFailed>
-    ensures { Writes W.contents writer.old writer.new result (flat_map frame_with sent.now ++ turn_frame moment) }
+    ensures { Sends W.contents writer.old writer.new result (flat_map frame_with sent.now ++ turn_frame moment) }
 {
     write_messages(writer, sent)?;
     write_end_of_turn(writer, moment)
 }
 
-/// The end ticks, and what it sends and the end of the turn are written.
-pub(crate) fn write_tick<E: End, W: Write>(
+/// The end ticks, and what it sends and the end of the turn are written. A second that is known to be quiet is skipped.
+pub(crate) fn write_tick<L: Course, E: End<L>, W: Write>(
     end: &mut E,
     writer: &mut Watched<W>,
 ) -> Result<(), WriteFailed>
-    ensures day { end.new ≡ E.next end.old Tick }
-    ensures written { Writes W.contents writer.old writer.new result (E.text end.old Tick) }
+    ensures day { E.day end.new ≡ L.next (E.day end.old) Tick }
+    ensures written { Sends W.contents writer.old writer.new result (L.text (E.day end.old) Tick) }
+    ensures kept { E.kept end.old (Tick ∷ []) end.new }
 {
+    if end.skip_quiet_second() {
+        return write_end_of_turn(writer, end.reached());
+    }
     let sent = end.next_second();
     write_turn(writer, &sent, end.reached())
 }
 
 /// Hears one message, and writes the reply to it.
-fn answer<E: End, W: Write>(
+fn answer<L: Course, E: End<L>, W: Write>(
     end: &mut E,
-    octets: &[u8],
+    message: &Octets,
     writer: &mut Watched<W>,
 ) -> Result<(), WriteFailed>
-    ensures day { end.new ≡ E.next end.old (Receive octets.now) }
-    ensures written { Writes W.contents writer.old writer.new result (E.text end.old (Receive octets.now)) }
+    ensures day { E.day end.new ≡ L.next (E.day end.old) (Receive message.now.items) }
+    ensures written { Sends W.contents writer.old writer.new result (L.text (E.day end.old) (Receive message.now.items)) }
+    ensures kept { E.kept end.old (Receive message.now.items ∷ []) end.new }
 {
-    match end.hear(octets) {
+    match end.hear(message) {
         Some(reply) => write_message(writer, &reply),
         None => Ok(()),
     }
@@ -62,14 +67,14 @@ fn answer<E: End, W: Write>(
 
 /// Hears the messages of a turn up to its end, and writes each reply before more is read. Answers whether it
 /// ended with an end of turn, which has this moment; else it ended with the end of the day.
-pub(crate) fn hear_turn<E: End, R: Read, W: Write>(
+pub(crate) fn hear_turn<L: Course, E: End<L>, R: Read, W: Write>(
     end: &mut E,
     side: Side,
     moment: u32,
     reader: &mut Watched<R>,
     writer: &mut Watched<W>,
 ) -> Result<bool, LinkFault>
-    ensures went { Went E.next E.text (turn_in side moment 64) no_tick R.remaining W.contents reader.old reader.new writer.old writer.new end.old end.new result }
+    ensures went { (went : Went side L.next L.text (turn_in side moment 64) no_tick R.remaining W.contents reader.old reader.new writer.old writer.new (E.day end.old) (E.day end.new) result) × E.kept end.old went.events end.new }
     ensures far { result ≡ Ok false → is_far side ≡ true }
 {
     let mut room = MAX_MESSAGES;

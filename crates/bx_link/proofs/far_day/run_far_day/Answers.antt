@@ -10,39 +10,55 @@ pub loop-turn-init : goal.loop-turn-init
 loop-turn-init g c = record {
   going_on = c.new-session.ensures;
   within = omega arith;
-  so_far = no_turn_yet g.R.Read.remaining g.W.Write.contents c.args.reader.now c.args.writer.now c.args.far.now;
+  so_far = (no_turn_yet g.R.Read.remaining g.W.Write.contents c.args.reader.now c.args.writer.now (g.E.End.day c.args.far.now), g.met.E.End.keeps_nothing c.args.far.now);
 }
 
 pub loop-turn-preserved : goal.loop-turn-preserved
 loop-turn-preserved g c =
     let l = c.loop-turn in
     let call = rw c.in-Ok-true.field-0-test at c.in-Ok-true.ensures in
+    let took = call.taken l.invariant.going_on in
+    let so_far = l.invariant.so_far in
     record {
       going_on = call.over;
       within = omega (arith, c.loop-turn-test.true);
-      so_far = far_goes_on g.R.Read.remaining g.W.Write.contents l._turn c.args.reader.now l.reader c.args.writer.now l.writer c.args.far.now l.far l.invariant.so_far
-          c.far_turn.new.reader c.far_turn.new.writer c.far_turn.new.far (call.taken l.invariant.going_on);
+      so_far = (
+        far_goes_on g.R.Read.remaining g.W.Write.contents l._turn c.args.reader.now l.reader c.args.writer.now l.writer (g.E.End.day c.args.far.now) (g.E.End.day l.far) so_far.0
+            c.far_turn.new.reader c.far_turn.new.writer (g.E.End.day c.far_turn.new.far) took.0,
+        g.met.E.End.keeps_on c.args.far.now l.far c.far_turn.new.far so_far.0.events took.0.events so_far.1 took.1,
+      );
     }
 
 pub returns-in-Ok-false : goal.returns-in-Ok-false
 returns-in-Ok-false g c =
     let l = c.loop-turn in
     let call = rw c.in-Ok-false.field-0-test at c.in-Ok-false.ensures in
-    runs_so over (l._turn + 1) (gave false)
-    (far_ended g.R.Read.remaining g.W.Write.contents l._turn c.args.reader.now l.reader c.args.writer.now l.writer c.args.far.now l.far l.invariant.so_far
-    c.far_turn.new.reader c.far_turn.new.writer c.far_turn.new.far (call.taken l.invariant.going_on)) refl
+    let took = call.taken l.invariant.going_on in
+    let so_far = l.invariant.so_far in (
+      runs_so over (l._turn + 1) (gave false)
+          (far_ended g.R.Read.remaining g.W.Write.contents l._turn c.args.reader.now l.reader c.args.writer.now l.writer (g.E.End.day c.args.far.now) (g.E.End.day l.far) so_far.0
+          c.far_turn.new.reader c.far_turn.new.writer (g.E.End.day c.far_turn.new.far) took.0) refl,
+      g.met.E.End.keeps_on c.args.far.now l.far c.far_turn.new.far so_far.0.events took.0.events so_far.1 took.1,
+    )
 
 pub returns-in-Err : goal.returns-in-Err
 returns-in-Err g c =
     let l = c.loop-turn in
     let fault = c.in-Err.fault in
-    runs_so (broken fault) (l._turn + 1) (faulty fault)
-    (far_failed g.R.Read.remaining g.W.Write.contents l._turn c.args.reader.now l.reader c.args.writer.now l.writer c.args.far.now l.far l.invariant.so_far
-    c.far_turn.new.reader c.far_turn.new.writer c.far_turn.new.far fault (c.in-Err.ensures.taken l.invariant.going_on)) (inl refl)
+    let took = c.in-Err.ensures.taken l.invariant.going_on in
+    let so_far = l.invariant.so_far in (
+      runs_so (broken fault) (l._turn + 1) (faulty fault)
+          (far_failed g.R.Read.remaining g.W.Write.contents l._turn c.args.reader.now l.reader c.args.writer.now l.writer (g.E.End.day c.args.far.now) (g.E.End.day l.far) so_far.0
+          c.far_turn.new.reader c.far_turn.new.writer (g.E.End.day c.far_turn.new.far) fault took.0) (inl refl),
+      g.met.E.End.keeps_on c.args.far.now l.far c.far_turn.new.far so_far.0.events took.0.events so_far.1 took.1,
+    )
 
 pub returns : goal.returns
 returns g c =
     let l = c.loop-turn in
-    runs_so (broken Closed) l._turn (gave true)
-    (far_stands g.R.Read.remaining g.W.Write.contents l._turn c.args.reader.now l.reader c.args.writer.now l.writer c.args.far.now l.far l.invariant.so_far)
-    (inr ((refl, omega (arith, c.loop-turn-test.false, l.invariant.within)), refl))
+    let so_far = l.invariant.so_far in (
+      runs_so (broken Closed) l._turn (gave true)
+          (far_stands g.R.Read.remaining g.W.Write.contents l._turn c.args.reader.now l.reader c.args.writer.now l.writer (g.E.End.day c.args.far.now) (g.E.End.day l.far) so_far.0)
+          (inr ((refl, omega (arith, c.loop-turn-test.false, l.invariant.within)), refl)),
+      so_far.1,
+    )

@@ -1,6 +1,6 @@
 use Rattle.std.proofs.Common.{rules, ◌≡◌, Option, Some, subst}
 use Rattle.bx_link.specs.Frames.{octet_in, kind_of, kind_in}
-use Rattle.bx_link.specs.Reading.{Reads}
+use Rattle.bx_link.specs.Inside.{Reads}
 use Rattle.bx_link.specs.declared.frame.FrameKind.{FrameKind}
 use Rattle.bx_link.proofs.Locality.{octet_local}
 use Rattle.bx_link.proofs.ReadingSteps.{reads_then}

@@ -1,4 +1,4 @@
-use Rattle.std.proofs.Common.{◌∙◌}
+use Rattle.std.proofs.Common.{◌∙◌, arith}
 use Rattle.std.proofs.Math.Bool.{or-false}
 use Rattle.bx_base.specs.Watching.{is_faulted}
 use Rattle.bx_base.proofs.OctetLemmas.{length-from_place}
@@ -14,6 +14,7 @@ loop-at-preserved g c =
       within = read_within buf part c.loop-at.at c.in-Ok.n c.loop-at.invariant.within bound;
       read = Consumes-next buf part c.loop-at.at c.in-Ok.n c.loop-at.invariant.within bound _ _ _ c.loop-at.invariant.read c.in-Ok.ensures.bytes.0;
       unfaulted = c.in-Ok.ensures.faulted ∙ or-false (is_faulted c.loop-at.r) ∙ c.loop-at.invariant.unfaulted;
+      counted = omega (arith, c.in-Ok.ensures.reads, c.loop-at.invariant.counted, c.loop-at.r.counted);
     }
 
 pub returns-in-Err-clause-part : goal.returns-in-Err-clause-part
