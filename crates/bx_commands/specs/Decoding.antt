@@ -26,12 +26,6 @@ pub record IsCutDecoded (text : List ℕ) (output : Writing) : Type 0 where
   pub text_of : IsHexMessage text message
   pub written : AppendsPrefix output.before output.after (message_lines message)
 
--- the text is no hexadecimal, or there was no memory for its octets
-abbrev pub IsHexFault : List ℕ → CommandFault → Type 0
-IsHexFault text NotHex = (e : FromHexError) × (decode_of text ≡ Err e)
-IsHexFault text Memory = Unit {0}
-IsHexFault text _ = ⊥
-
 -- a refusal: the text is no hexadecimal, its octets are no message, the output failed, or a growth was refused
 abbrev pub IsDecodeRefusal : List ℕ → Writing → CommandFault → Type 0
 IsDecodeRefusal text output NotHex = ((e : FromHexError) × (decode_of text ≡ Err e)) × KeepsOutput output

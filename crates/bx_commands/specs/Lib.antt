@@ -2,3 +2,7 @@ pub mod Proved
 pub mod Refusals
 pub mod MessageLines
 pub mod Decoding
+pub mod Inside
+pub mod Planning
+pub mod Amending
+pub mod Unplanned

@@ -6,8 +6,8 @@ use Rattle.bx_base.specs.Octets.{AppendsPrefix, ReadsFront, ReadsWithin, RunsOut
 use Rattle.bx_base.specs.PlanParts.{Parts}
 use Rattle.bx_planfile.specs.Reading.{read_all}
 use Rattle.bx_check.specs.Check.{IsOutcome}
-use Rattle.bx_commands.specs.Proved.{IsPlanText, IsProvedFor, IsProvedText, IsProvedAgainst, proved_line}
-use Rattle.bx_check.specs.declared.judge.CheckFault.{CheckFault}
+use Rattle.bx_commands.specs.Proved.{IsPlanText, IsProvedText, IsProvedAgainst, proved_line}
+use Rattle.bx_check.specs.declared.checker.CheckFault.{CheckFault}
 use Rattle.bx_commands.specs.declared.fault.CommandFault.{CommandFault}
 use Rattle.bx_commands.specs.declared.fault.CommandFault.TheVariants.{CannotRead, CannotWrite, Plan, Check, Memory}
 
@@ -26,17 +26,6 @@ IsNoPlan name input (CannotRead n) = IsUnread name input n.now
 IsNoPlan name input (Plan fault) = (text : List ℕ) → input.before ≡ Some text → read_all text ≡ Err fault
 IsNoPlan name input Memory = IsRefusedGrowth input
 IsNoPlan name input _ = ⊥
-
--- why a plan is not proved
-abbrev pub IsFaulty : List Row → List Bool → Parts → CommandFault → Type 0
-IsFaulty rows channels plan (Check fault) = IsOutcome rows channels plan (Err fault)
-IsFaulty rows channels plan _ = ⊥
-
--- why a plan is not proved, or its proof not written
-abbrev pub IsJudged : List Row → List Bool → Parts → Writing → CommandFault → Type 0
-IsJudged rows channels plan output (Check fault) = IsOutcome rows channels plan (Err fault) × KeepsOutput output
-IsJudged rows channels plan output CannotWrite = (output.is_faulted ≡ true) × ((total : ℕ) × IsProvedFor rows channels plan total × AppendsPrefix output.before output.after (proved_line total))
-IsJudged rows channels plan output _ = ⊥
 
 -- the octets are a plan's text, and this fault is the first that the check finds in it
 pub record IsFaultyText (text : List ℕ) (fault : CheckFault) : Type 0 where

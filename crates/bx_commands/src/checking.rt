@@ -7,7 +7,8 @@ ghost use Rattle.bx_base.specs.Watching.{device_of, is_faulted};
 ghost use Rattle.bx_base.specs.Octets.{AppendsPrefix};
 ghost use Rattle.bx_base.specs.PlanParts.{parts_of};
 ghost use Rattle.bx_commands.specs.Proved.{IsPlanText, IsProvedFor, IsProvedText, IsProvedAgainst, proved_line};
-ghost use Rattle.bx_commands.specs.Refusals.{IsNoPlan, IsFaulty, IsUnproved, IsJudged, IsRefusal, IsRefusalAgainst};
+ghost use Rattle.bx_commands.specs.Refusals.{IsNoPlan, IsUnproved, IsRefusal, IsRefusalAgainst};
+ghost use Rattle.bx_commands.specs.Inside.{IsFaulty, IsJudged};
 
 use crate::fault::CommandFault;
 use bx_base::{

@@ -1,12 +1,12 @@
 //! What a message says, in lines.
 
-ghost use Rattle.std.specs.Prelude.{◌≡◌, ◌++◌, ℕ, List, codes, decimal, OnOk, IfOk};
+ghost use Rattle.std.specs.Prelude.{◌≡◌, ◌++◌, ℕ, List, codes, OnOk, IfOk};
 ghost use Rattle.hex.specs.Hex.{encode_upper};
 ghost use Rattle.bx_q931.specs.ElementViews.{element_view};
 ghost use Rattle.bx_commands.specs.MessageLines.{type_line, reference_line, contents_field, element_line, message_lines};
 
 use bx_q931::{Element, Kind, Message, Reference};
-use itoa::Buffer;
+use bx_text::append_decimal;
 use std::alloc::{AllocError, Global};
 
 /// Appends octets in hexadecimal digits.
@@ -15,13 +15,6 @@ fn put_hex(alloc: Global, lines: &mut Vec<u8>, octets: &[u8]) -> Result<(), Allo
 {
     let digits = hex::encode_upper(alloc, octets)?;
     lines.extend_from_slice(digits.as_bytes())
-}
-
-/// Appends a number in decimal digits.
-fn put_decimal(lines: &mut Vec<u8>, number: u16) -> Result<(), AllocError>
-    ensures { OnOk result (lines.new.items ≡ lines.old.items ++ decimal number) }
-{
-    lines.extend_from_slice(Buffer::new().format(number).as_bytes())
 }
 
 /// Appends the line of a type: its octet and its name.
@@ -43,7 +36,7 @@ fn put_reference(lines: &mut Vec<u8>, reference: Reference) -> Result<(), AllocE
         Reference::Dummy => lines.extend_from_slice(b"reference dummy\n"),
         Reference::Value { value, flag } => {
             lines.extend_from_slice(b"reference ")?;
-            put_decimal(lines, value)?;
+            append_decimal(lines, u64::from(value))?;
             lines.extend_from_slice(b" flag ")?;
             lines.extend_from_slice(if flag { b"1" } else { b"0" })?;
             lines.extend_from_slice(b"\n")
@@ -67,7 +60,7 @@ fn put_element(alloc: Global, lines: &mut Vec<u8>, element: &Element<'_>) -> Res
     ensures { OnOk result (lines.new.items ≡ lines.old.items ++ element_line (element_view element.now)) }
 {
     lines.extend_from_slice(b"element ")?;
-    put_decimal(lines, u16::from(element.codeset))?;
+    append_decimal(lines, u64::from(element.codeset))?;
     lines.extend_from_slice(b" ")?;
     put_hex(alloc, lines, &[element.id])?;
     put_contents(alloc, lines, element.contents)?;
