@@ -1,0 +1,4 @@
+pub mod Packets
+pub mod Starts
+pub mod Captures
+pub mod Keeping

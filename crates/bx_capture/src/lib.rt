@@ -1,0 +1,12 @@
+//! Captures of a day: the messages that go over the link, as packets that Wireshark reads.
+#![tactic(auto)]
+
+mod captured;
+mod fault;
+mod packet;
+mod start;
+
+pub use captured::Captured;
+pub use fault::BeyondCapture;
+pub use packet::{Direction, write_file_header, write_packet};
+pub use start::first_second;
