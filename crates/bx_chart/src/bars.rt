@@ -25,7 +25,7 @@ pub(crate) fn bars(alloc: Global, plan: &Plan) -> Result<Picture, AllocError>
 }
 
 /// How many channels in service have a lower number.
-fn lane_of(channels: &ChannelSet, channel: Channel) -> u8
+pub(crate) fn lane_of(channels: &ChannelSet, channel: Channel) -> u8
     ensures value { result ≡ lane_of channels.now channel }
     ensures limit { result ≤ 31 }
 {
@@ -42,6 +42,7 @@ fn lane_of(channels: &ChannelSet, channel: Channel) -> u8
 pub(crate) fn is_in_service(channels: &ChannelSet, number: u8) -> bool
     ensures { result ≡ has_channel channels.now number }
 {
+    // Read for the prover alone, which learns a limit from it.
     let _count = channels.count();
     match Channel::new(number) {
         Some(channel) => channels.has(channel),

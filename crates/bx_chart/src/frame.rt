@@ -22,6 +22,7 @@ text{font:12px sans-serif;fill:#222}
 .free.in{fill:url(#free)}
 .must.out{fill:#f5a742}
 .must.in{fill:url(#must)}
+.start{fill:none;stroke:#fff;stroke-width:.7}
 .refused{fill:#b5538a}
 .prices{fill:#5b9a68}
 .edge{fill:none;stroke:#7a8691;stroke-width:.8}

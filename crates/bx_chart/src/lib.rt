@@ -8,6 +8,7 @@ mod levels;
 mod picture;
 mod prices;
 mod sheet;
+mod starts;
 mod writing;
 
 pub use writing::{ChartFault, write_chart};

@@ -3,7 +3,7 @@
 ghost use Rattle.std.specs.Prelude.{◌≤◌};
 
 use bx_base::Plan;
-use bx_book::Day;
+use bx_book::Clock;
 
 /// Where the day begins, how wide it is, and where the lanes begin, in units of the picture.
 pub(crate) const LEFT: u64 = 56;
@@ -27,11 +27,11 @@ pub(crate) struct Sheet {
 }
 
 /// How long the day is, or 86,400 seconds where none is given.
-fn length_of(day: Option<&Day>) -> u32
+fn length_of(clock: Option<&Clock>) -> u32
     ensures { (1 ≤ result) × (result ≤ 200000) }
 {
-    match day {
-        Some(day) => day.length(),
+    match clock {
+        Some(clock) => clock.day().length(),
         None => 86_400,
     }
 }
@@ -61,8 +61,8 @@ fn lanes_of(plan: &Plan) -> u8
 
 impl Sheet {
     /// The sheet of a plan: of the whole day, or of 86,400 seconds where none is given, and up to its latest end.
-    pub(crate) fn of(plan: &Plan, day: Option<&Day>) -> Sheet {
-        let seconds = seconds_of(plan, length_of(day));
+    pub(crate) fn of(plan: &Plan, clock: Option<&Clock>) -> Sheet {
+        let seconds = seconds_of(plan, length_of(clock));
         let lanes = lanes_of(plan);
         Sheet { seconds, lanes }
     }

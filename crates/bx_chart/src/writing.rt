@@ -12,8 +12,9 @@ use crate::levels::add_refused;
 use crate::picture::Picture;
 use crate::prices::add_prices;
 use crate::sheet::Sheet;
+use crate::starts::starts;
 use bx_base::{Plan, Watched, write_octets};
-use bx_book::Day;
+use bx_book::Clock;
 use std::alloc::{AllocError, Global};
 use std::io::Write;
 use thiserror::Error;
@@ -30,41 +31,50 @@ pub enum ChartFault {
 }
 
 /// What stands behind the bars.
-fn behind(alloc: Global, plan: &Plan, sheet: &Sheet) -> Result<Picture, AllocError> {
+fn behind(
+    alloc: Global,
+    plan: &Plan,
+    clock: Option<&Clock>,
+    sheet: &Sheet,
+) -> Result<Picture, AllocError> {
     let mut picture = Picture::new(alloc);
     picture.add(b"</svg>\n")?;
+    let starts = starts(alloc, plan, sheet)?;
+    picture.add(starts.text())?;
     add_refused(alloc, &mut picture, plan, sheet)?;
     add_prices(&mut picture, plan, sheet)?;
-    add_hours(&mut picture, sheet)?;
+    add_hours(&mut picture, sheet, clock)?;
     picture.add(b"</svg>\n")?;
     Ok(picture)
 }
 
 /// The whole picture.
-fn chart(alloc: Global, plan: &Plan, day: Option<&Day>) -> Result<Picture, AllocError>
+fn chart(alloc: Global, plan: &Plan, clock: Option<&Clock>) -> Result<Picture, AllocError>
     ensures { IfOk result (λ picture. IsChart (parts_of plan.now) picture.text.items) }
 {
-    let sheet = Sheet::of(plan, day);
+    let sheet = Sheet::of(plan, clock);
     let mut picture = front(alloc, plan, &sheet)?;
     let bars = bars(alloc, plan)?;
-    let behind = behind(alloc, plan, &sheet)?;
+    let behind = behind(alloc, plan, clock, &sheet)?;
     picture.add(bars.text())?;
     picture.add(behind.text())?;
+    // Read for the prover alone, which learns a limit from it.
     let _text = picture.text();
     Ok(picture)
 }
 
-/// Writes a picture of a plan, in SVG 1.1.
+/// Writes a picture of a plan, in SVG 1.1: of the day of a clock with the hours that it shows, or of 86,400 seconds with the
+/// hours from midnight on.
 pub fn write_chart<W: Write>(
     alloc: Global,
     plan: &Plan,
-    day: Option<&Day>,
+    clock: Option<&Clock>,
     output: &mut Watched<W>,
 ) -> Result<(), ChartFault>
     ensures drawn { OnOk result (IsDrawn (parts_of plan.now) (writing_of W.contents output.old output.new)) }
     ensures refused { IfErr result (IsChartRefusal (parts_of plan.now) (writing_of W.contents output.old output.new)) }
 {
-    let Ok(picture) = chart(alloc, plan, day) else {
+    let Ok(picture) = chart(alloc, plan, clock) else {
         return Err(ChartFault::Memory);
     };
     match write_octets(output, picture.text()) {

@@ -18,6 +18,7 @@ text{font:12px sans-serif;fill:#222}
 .free.in{fill:url(#free)}
 .must.out{fill:#f5a742}
 .must.in{fill:url(#must)}
+.start{fill:none;stroke:#fff;stroke-width:.7}
 .refused{fill:#b5538a}
 .prices{fill:#5b9a68}
 .edge{fill:none;stroke:#7a8691;stroke-width:.8}
@@ -39,6 +40,7 @@ text{font:12px sans-serif;fill:#222}
 <rect class='free out' x='28800' y='3' width='3600' height='5'><title>row 1: 4930111 pays 7, 8:00:00 to 9:00:00</title></rect>
 <rect class='must in' x='30600' y='11' width='4500' height='9'><title>row 2: 4930112 pays 9, 8:30:00 to 9:45:00</title></rect>
 </svg>
+<path class='start' d='M429.3 93v14M452.6 109v14'/>
 <text x='56' y='162'>Refused calls at each moment, 1 at most</text>
 <path class='edge' d='M56 168V238H1176'/>
 <text class='small right' x='50' y='176'>1</text><text class='small right' x='50' y='238'>0</text>
