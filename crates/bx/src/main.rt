@@ -4,7 +4,7 @@
 use bx_base::Watched;
 use bx_cli::main_words;
 use std::alloc::{AllocError, Global};
-use std::io::ErrorKind;
+use std::io::{ErrorKind, IsTerminal};
 use std::process::ExitCode;
 use std::{env, io};
 
@@ -22,7 +22,15 @@ fn status_of(rt: &HostRuntime, words: &[String]) -> Result<u8, AllocError> {
     let mut input = Watched::new(rt.stdin());
     let mut output = Watched::new(rt.stdout());
     let mut errors = Watched::new(rt.stderr());
-    let status = main_words(rt, &texts, &mut input, &mut output, &mut errors);
+    let is_terminal = rt.stderr().is_terminal();
+    let status = main_words(
+        rt,
+        &texts,
+        &mut input,
+        &mut output,
+        &mut errors,
+        is_terminal,
+    );
     Ok(status)
 }
 

@@ -1,2 +1,3 @@
 mod LastTurns
 mod ToldDays
+mod Refusals

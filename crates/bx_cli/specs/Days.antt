@@ -2,13 +2,14 @@
 use Rattle.std.specs.Prelude.{◌≡◌, ℕ, ◌+◌, ◌≤◌, ◌<◌, min, true, false, List, [], ◌∷◌, ◌++◌, length, Option, Some, None, codes, decimal, ◌⊎◌}
 use Rattle.std.specs.Io.KnownBytes.{Appends}
 use Rattle.bx_base.specs.Bookings.{Row, row_at}
+use Rattle.bx_base.specs.Octets.{AppendsPrefix}
 use Rattle.bx_base.specs.PlanParts.{Parts}
 use Rattle.bx_base.specs.Plans.{is_accepted}
 use Rattle.bx_commands.specs.Proved.{IsProvedFor}
 use Rattle.bx_day.specs.Day.{Day, opening}
 use Rattle.bx_day.specs.Run.{Event, day_after}
 use Rattle.bx_day.specs.Telling.{outcomes_text}
-use Rattle.bx_far.specs.FarDay.{far_opening}
+use Rattle.bx_far.specs.FarDay.{FarDay, far_opening}
 use Rattle.bx_far.specs.ScriptTexts.{IsScript}
 use Rattle.bx_far.specs.declared.row.ScriptRow.{ScriptRow}
 use Rattle.bx_link.specs.Ends.{after, ticks_of, far_next}
@@ -34,15 +35,26 @@ pub record IsOpening (asked : Option ℕ) (day : Day) (turns : ℕ) : Type 0 whe
   pub opens : day ≡ opening plan.rows plan.assigned
   pub are_turns : AreTurns asked plan turns
 
--- what has become of each booking was written, after events of such a day with just as many ticks, and no more than
--- there are moments
-pub record IsDayTold (asked : Option ℕ) (before after : Option (List ℕ)) : Type 0 where
+-- such a day after events with just as many ticks, and no more than there are moments
+pub record IsDayRun (asked : Option ℕ) (day : Day) : Type 0 where
   pub opened : Day
   pub turns : ℕ
   pub opens : IsOpening asked opened turns
   pub events : List Event
   pub ticks : ticks_of events ≡ min turns 300000
-  pub written : Appends before after (outcomes_text (day_after events opened))
+  pub reached : day ≡ day_after events opened
+
+-- what has become of each booking of such a day was written
+pub record IsDayTold (asked : Option ℕ) (before after : Option (List ℕ)) : Type 0 where
+  pub day : Day
+  pub run : IsDayRun asked day
+  pub written : Appends before after (outcomes_text day)
+
+-- or a front of that
+pub record IsDayCut (asked : Option ℕ) (before after : Option (List ℕ)) : Type 0 where
+  pub day : Day
+  pub run : IsDayRun asked day
+  pub written : AppendsPrefix before after (outcomes_text day)
 
 -- ---- the far end
 
@@ -50,12 +62,29 @@ pub record IsDayTold (asked : Option ℕ) (before after : Option (List ℕ)) : T
 abbrev pub ended_line : ℕ → List ℕ
 ended_line moment = codes "ended at " ++ (decimal moment ++ 10 ∷ [])
 
--- the moment was written that the day of a script has reached after these events: as many seconds as there were ticks,
--- and no more than a day has
-pub record IsFarTold (old new : Option (List ℕ)) : Type 0 where
+-- a far end at the opening of the day of a script
+pub record IsFarOpening (far : FarDay) : Type 0 where
   pub script : List ScriptRow
   pub text : List ℕ
   pub read : IsScript text script
+  pub opens : far ≡ far_opening script
+
+-- the moment that such a day has reached after events: as many seconds as there were ticks, and no more than a day has
+pub record IsFarRun (moment : ℕ) : Type 0 where
+  pub opened : FarDay
+  pub opens : IsFarOpening opened
   pub events : List Event
-  pub moment : (after far_next events (far_opening script)).moment ≡ min (ticks_of events) 300000
-  pub written : Appends old new (ended_line (after far_next events (far_opening script)).moment)
+  pub reached : moment ≡ (after far_next events opened).moment
+  pub ticks : moment ≡ min (ticks_of events) 300000
+
+-- this moment was written
+pub record IsFarTold (old new : Option (List ℕ)) : Type 0 where
+  pub moment : ℕ
+  pub run : IsFarRun moment
+  pub written : Appends old new (ended_line moment)
+
+-- or a front of its line
+pub record IsFarCut (old new : Option (List ℕ)) : Type 0 where
+  pub moment : ℕ
+  pub run : IsFarRun moment
+  pub written : AppendsPrefix old new (ended_line moment)

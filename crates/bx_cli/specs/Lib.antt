@@ -1,2 +1,4 @@
 pub mod Days
+pub mod DayRefusals
+pub mod Inside
 pub mod Answers

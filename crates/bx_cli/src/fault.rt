@@ -5,11 +5,11 @@ ghost use Rattle.bx_cli.specs.declared.fault.CliFault.TheVariants.{Command};
 
 use bx_base::ChannelFault;
 use bx_book::{BookFault, DayFault};
+use bx_capture::BeyondCapture;
 use bx_chart::ChartFault;
-use bx_commands::CommandFault;
+use bx_commands::{AmendFault, CommandFault, RunFault};
 use bx_far::ScriptFault;
 use bx_link::LinkFault;
-use bx_planner::{AmendFault, RunFault};
 use bx_quote::QuoteFault;
 use thiserror::Error;
 
@@ -49,6 +49,12 @@ pub enum CliFault<'a> {
     /// No exchange listens on the port.
     #[error("F4 CannotConnect")]
     CannotConnect,
+    /// The capture file of this name cannot be created, or a write of it failed.
+    #[error("F5 CannotWrite {0}")]
+    CannotCapture(&'a str),
+    /// A capture cannot name the seconds of the day.
+    #[error("{0}")]
+    Capture(BeyondCapture),
     /// The session of the day ended before the day did.
     #[error("{0}")]
     Link(LinkFault),

@@ -1,12 +1,15 @@
 //! What the program does for the words of its command line.
 #![tactic(auto)]
 
-mod charting;
+mod capturing;
+mod chart_files;
+mod day_files;
 mod fault;
 mod loopback;
-mod planning;
-mod quoting;
-mod running;
+mod openings;
+mod plan_files;
+mod progress;
+mod quote_files;
 mod words;
 
 pub use bx_commands::check_self;

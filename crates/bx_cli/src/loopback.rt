@@ -1,5 +1,8 @@
 //! TCP connections on 127.0.0.1.
 
+ghost use Rattle.std.specs.Prelude.{◌⊎◌, IfErr};
+ghost use Rattle.bx_cli.specs.DayRefusals.{IsUnheard, IsUnconnected};
+
 use crate::fault::CliFault;
 use std::net::{Ipv4Addr, Net, TcpListener, TcpStream};
 
@@ -13,31 +16,51 @@ fn at_once(stream: TcpStream) -> TcpStream {
 fn listener<'a, H: Net<Listener = TcpListener, Stream = TcpStream>>(
     rt: &H,
     port: u16,
-) -> Result<TcpListener, CliFault<'a>> {
-    TcpListener::bind(rt, (Ipv4Addr::LOCALHOST, port)).map_err(|_| CliFault::CannotListen)
+) -> Result<TcpListener, CliFault<'a>>
+    ensures { IfErr result IsUnheard }
+{
+    match TcpListener::bind(rt, (Ipv4Addr::LOCALHOST, port)) {
+        Ok(listener) => Ok(listener),
+        Err(_) => Err(CliFault::CannotListen),
+    }
 }
 
 /// The next peer that connects.
-fn next_peer<'a>(listener: &TcpListener) -> Result<TcpStream, CliFault<'a>> {
+fn next_peer<'a>(listener: &TcpListener) -> Result<TcpStream, CliFault<'a>>
+    ensures { IfErr result IsUnheard }
+{
     match listener.accept() {
         Ok((stream, _)) => Ok(at_once(stream)),
         Err(_) => Err(CliFault::CannotListen),
     }
 }
 
-/// The first peer that connects to the port. Waits for it.
-pub fn accepted<'a, H: Net<Listener = TcpListener, Stream = TcpStream>>(
+/// The first peer that connects to the port. Waits for it, and says before that it does, where that is to be said.
+pub fn accepted<'a, H: Net<Listener = TcpListener, Stream = TcpStream> + Eprint>(
     rt: &H,
     port: u16,
-) -> Result<TcpStream, CliFault<'a>> {
-    next_peer(&listener(rt, port)?)
+    is_said: bool,
+) -> Result<TcpStream, CliFault<'a>>
+    ensures { IfErr result IsUnheard }
+{
+    match listener(rt, port) {
+        Ok(listener) => {
+            if is_said {
+                let _ = eprintln!(rt; "listening on 127.0.0.1:{port}");
+            }
+            next_peer(&listener)
+        }
+        Err(fault) => Err(fault),
+    }
 }
 
 /// A connection to the port.
 pub fn connected<'a, H: Net<Listener = TcpListener, Stream = TcpStream>>(
     rt: &H,
     port: u16,
-) -> Result<TcpStream, CliFault<'a>> {
+) -> Result<TcpStream, CliFault<'a>>
+    ensures { IfErr result IsUnconnected }
+{
     match TcpStream::connect(rt, (Ipv4Addr::LOCALHOST, port)) {
         Ok(stream) => Ok(at_once(stream)),
         Err(_) => Err(CliFault::CannotConnect),
@@ -47,12 +70,23 @@ pub fn connected<'a, H: Net<Listener = TcpListener, Stream = TcpStream>>(
 /// Both ends of one connection on a free port.
 pub fn both_ends<'a, H: Net<Listener = TcpListener, Stream = TcpStream>>(
     rt: &H,
-) -> Result<(TcpStream, TcpStream), CliFault<'a>> {
-    let listener = listener(rt, 0)?;
+) -> Result<(TcpStream, TcpStream), CliFault<'a>>
+    ensures { IfErr result (λ fault. IsUnheard fault ⊎ IsUnconnected fault) }
+{
+    let listener = match listener(rt, 0) {
+        Ok(listener) => listener,
+        Err(fault) => return Err(fault),
+    };
     let port = match listener.local_addr() {
         Ok(address) => address.port(),
         Err(_) => return Err(CliFault::CannotListen),
     };
-    let near = connected(rt, port)?;
-    Ok((near, next_peer(&listener)?))
+    let near = match connected(rt, port) {
+        Ok(near) => near,
+        Err(fault) => return Err(fault),
+    };
+    match next_peer(&listener) {
+        Ok(distant) => Ok((near, distant)),
+        Err(fault) => Err(fault),
+    }
 }

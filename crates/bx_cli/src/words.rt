@@ -8,23 +8,25 @@ ghost use Rattle.bx_commands.specs.Proved.{IsProvedText, proved_line};
 ghost use Rattle.bx_commands.specs.Refusals.{IsRefusal};
 ghost use Rattle.bx_commands.specs.declared.fault.CommandFault.{CommandFault};
 
-use crate::charting::chart_file;
+use crate::chart_files::chart_file;
+use crate::day_files::{day_of_files, far_file, serve_file};
 use crate::fault::CliFault;
-use crate::planning::{amend_file, check_file, plan_file};
-use crate::quoting::{explain_file, quote_file};
-use crate::running::{day_of_files, far_file, serve_file};
+use crate::plan_files::{amend_file, check_file, plan_file};
+use crate::quote_files::{explain_file, quote_file};
 use bx_base::{Watched, write_octets};
 use bx_commands::{CommandFault, check_self, decode};
-use bx_words::{Refusal, Request, read_words};
+use bx_words::{Refusal, Request, Sight, read_words};
 use std::fs::Files;
 use std::io::{Read, Write};
 use std::net::{Net, TcpListener, TcpStream};
+use std::rt::Clock;
 
 /// Does what the words behind the program's name ask for, and answers the status: 0 done, 1 refused, 2 wrong
 /// words. Without words it is `check_self`, whose refusal is printed behind `bx: ` as one line on standard error.
-/// A failing standard error changes no status.
+/// A failing standard error changes no status. While a day runs its moment is shown on standard error, where that is a
+/// terminal.
 pub fn main_words<
-    H: Files + AllocGlobal + Net<Listener = TcpListener, Stream = TcpStream>,
+    H: Files + AllocGlobal + Clock + Eprint + Net<Listener = TcpListener, Stream = TcpStream>,
     R: Read,
     W: Write,
     E: Write,
@@ -34,6 +36,7 @@ pub fn main_words<
     input: &mut Watched<R>,
     output: &mut Watched<W>,
     errors: &mut Watched<E>,
+    is_terminal: bool,
 ) -> u8
     // Without words, 0 says that what was read is the text of a plan that is proved with some total, and that just
     // the line of that total was written.
@@ -52,7 +55,7 @@ pub fn main_words<
         return status_of(done, errors);
     }
     match read_words(rt.alloc(), words) {
-        Ok(request) => status_of(run(rt, request, output), errors),
+        Ok(request) => status_of(run(rt, request, output, is_terminal), errors),
         Err(Refusal::Help(text)) => status_of(show(&text, output), errors),
         Err(Refusal::Wrong(text)) => {
             let _ = write_octets(errors, text.as_bytes());
@@ -63,10 +66,15 @@ pub fn main_words<
 }
 
 /// Does one command.
-fn run<'a, H: Files + AllocGlobal + Net<Listener = TcpListener, Stream = TcpStream>, W: Write>(
+fn run<
+    'a,
+    H: Files + AllocGlobal + Clock + Eprint + Net<Listener = TcpListener, Stream = TcpStream>,
+    W: Write,
+>(
     rt: &H,
     request: Request<'a>,
     output: &mut Watched<W>,
+    is_terminal: bool,
 ) -> Result<(), CliFault<'a>> {
     match request {
         Request::Plan { terms, bookings } => plan_file(rt, &terms, bookings, output),
@@ -88,10 +96,45 @@ fn run<'a, H: Files + AllocGlobal + Net<Listener = TcpListener, Stream = TcpStre
             plan,
             script,
             turns,
-        } => day_of_files(rt, plan, script, turns, output),
-        Request::Serve { plan, port, turns } => serve_file(rt, plan, port, turns, output),
-        Request::Far { script, port } => far_file(rt, script, port, output),
+            sight,
+        } => {
+            let sight = seen(sight, is_terminal);
+            captured(sight, day_of_files(rt, plan, script, turns, sight, output)?)
+        }
+        Request::Serve {
+            plan,
+            port,
+            turns,
+            sight,
+        } => {
+            let sight = seen(sight, is_terminal);
+            captured(sight, serve_file(rt, plan, port, turns, sight, output)?)
+        }
+        Request::Far {
+            script,
+            port,
+            sight,
+        } => {
+            let sight = seen(sight, is_terminal);
+            captured(sight, far_file(rt, script, port, sight, output)?)
+        }
         Request::Decode { octets } => Ok(decode(rt.alloc(), octets, output)?),
+    }
+}
+
+/// What is to be seen, where progress is shown on a terminal alone.
+fn seen<'a>(sight: Sight<'a>, is_terminal: bool) -> Sight<'a> {
+    Sight {
+        capture: sight.capture,
+        is_quiet: sight.is_quiet || !is_terminal,
+    }
+}
+
+/// What is told of a day that is done: nothing, or that its capture is not whole.
+fn captured<'a>(sight: Sight<'a>, is_whole: bool) -> Result<(), CliFault<'a>> {
+    match sight.capture {
+        Some(capture) if !is_whole => Err(CliFault::CannotCapture(capture.file)),
+        _ => Ok(()),
     }
 }
 

@@ -16,7 +16,7 @@ fn status_of(rt: &HostRuntime, words: &[&str]) -> u8 {
     let mut input = Watched::new(ONE.as_bytes());
     let mut output = Watched::new(Failing::new(Vec::new(rt.alloc()), 0, 1));
     let mut errors = Watched::new(Failing::new(Vec::new(rt.alloc()), 0, 1));
-    main_words(rt, words, &mut input, &mut output, &mut errors)
+    main_words(rt, words, &mut input, &mut output, &mut errors, false)
 }
 
 #[test]
@@ -32,7 +32,7 @@ fn printed(rt: &HostRuntime, reads: u32, writes: u32) -> Vec<u8> {
     let mut input = Watched::new(Failing::new(ONE.as_bytes(), reads, 100));
     let mut output = Watched::new(Failing::new(Vec::new(rt.alloc()), writes, 100));
     let mut errors = Watched::new(Vec::new(rt.alloc()));
-    let _ = main_words(rt, &[], &mut input, &mut output, &mut errors);
+    let _ = main_words(rt, &[], &mut input, &mut output, &mut errors, false);
     errors.into_inner()
 }
 

@@ -1,5 +1,6 @@
 //! The commands on files and wrong options, with what they print.
 
+use crate::day_commands::DAYS;
 use crate::files::{does, folder};
 use std::fs;
 use std::test::Fail;
@@ -197,49 +198,6 @@ static AMENDMENTS: [Case; 9] = [
     ),
     ("amend @four.txt @late.csv", 2, "", "error: "),
     ("amend --date 2026-01-05 @four.txt", 2, "", "error: "),
-];
-
-static DAYS: [Case; 15] = [
-    (
-        "day @one.txt @answer.csv --turns 98",
-        0,
-        "1 carried 1 60\nmaintenance none\n",
-        "",
-    ),
-    (
-        "day @one.txt @answer.csv",
-        0,
-        "1 carried 1 60\nmaintenance none\n",
-        "",
-    ),
-    (
-        "day @one.txt @answer.csv --turns 1",
-        0,
-        "1 live\nmaintenance none\n",
-        "",
-    ),
-    (
-        "day @two.txt @calls.csv",
-        0,
-        "1 unanswered\n2 carried 13 20\n3 refused\nmaintenance none\n",
-        "",
-    ),
-    ("day @four.txt @dance.csv", 1, "", "bx: S3 BadEntry 1\n"),
-    ("day @short.txt @gone", 1, "", "bx: P1 BadLine 3\n"),
-    ("day @gone @dance.csv", 1, "", "bx: F1 CannotRead @gone\n"),
-    ("day @one.txt @gone", 1, "", "bx: F1 CannotRead @gone\n"),
-    ("day @unproved.txt @gone", 1, "", "bx: C7 NotProved 5\n"),
-    (
-        "serve @unproved.txt --port 1",
-        1,
-        "",
-        "bx: C7 NotProved 5\n",
-    ),
-    ("day @one.txt @answer.csv --turns 0", 2, "", "error: "),
-    ("day @one.txt @answer.csv --turns 300001", 2, "", "error: "),
-    ("serve @one.txt --port 0", 2, "", "error: "),
-    ("far @answer.csv --port 65536", 2, "", "error: "),
-    ("far @answer.csv", 2, "", "error: "),
 ];
 
 static OPTIONS: [Case; 10] = [

@@ -4,13 +4,19 @@
 #[cfg(test)]
 mod broken_outputs;
 #[cfg(test)]
+mod captures;
+#[cfg(test)]
 mod channel_lists;
 #[cfg(test)]
 mod check_devices;
 #[cfg(test)]
+mod day_commands;
+#[cfg(test)]
 mod file_commands;
 #[cfg(test)]
 mod files;
+#[cfg(test)]
+mod plan_texts;
 #[cfg(test)]
 mod plan_writers;
 #[cfg(test)]

@@ -16,7 +16,7 @@ fn writes(rt: &HostRuntime, bookings: &str, calls: u32) -> bool {
     let mut output = Watched::new(Failing::new(Vec::new(rt.alloc()), calls, 1));
     let mut errors = Watched::new(Vec::new(rt.alloc()));
     let words = ["plan", "--date", "2026-01-05", "--channels", "1", bookings];
-    let status = main_words(rt, &words, &mut input, &mut output, &mut errors);
+    let status = main_words(rt, &words, &mut input, &mut output, &mut errors, false);
     let written = output.into_inner().into_inner();
     let is_front = written.len() == calls as usize && PLAN.as_bytes().starts_with(&written);
     let (expected, said) = if calls == 76 {

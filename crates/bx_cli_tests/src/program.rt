@@ -18,7 +18,7 @@ pub(crate) fn run(rt: &HostRuntime, words: &[&str], text: &str) -> Done {
     let mut input = Watched::new(text.as_bytes());
     let mut output = Watched::new(Vec::new(rt.alloc()));
     let mut errors = Watched::new(Vec::new(rt.alloc()));
-    let status = main_words(rt, words, &mut input, &mut output, &mut errors);
+    let status = main_words(rt, words, &mut input, &mut output, &mut errors, false);
     Done {
         status,
         output: output.into_inner(),

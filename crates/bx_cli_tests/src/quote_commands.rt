@@ -139,7 +139,7 @@ fn writes(rt: &HostRuntime, plan: &str, calls: u32) -> bool {
     let mut output = Watched::new(Failing::new(Vec::new(rt.alloc()), calls, 1));
     let mut errors = Watched::new(Vec::new(rt.alloc()));
     let words = ["explain", plan, "2"];
-    let status = main_words(rt, &words, &mut input, &mut output, &mut errors);
+    let status = main_words(rt, &words, &mut input, &mut output, &mut errors, false);
     let written = output.into_inner().into_inner();
     let is_front = written.len() == calls as usize && TEXT.as_bytes().starts_with(&written);
     let (expected, said) = if written.len() == TEXT.len() {

@@ -138,6 +138,27 @@ pub const PICTURED_DAY: Argument = Argument {
     help: "The day of the plan, as YYYY-MM-DD: the picture is as long as it",
 };
 
+pub const CAPTURE: Argument = Argument {
+    name: "capture",
+    value: "FILE",
+    form: Form::Optional,
+    help: "Write each message that goes over the link into this capture file, which Wireshark reads",
+};
+
+pub const CAPTURED_DAY: Argument = Argument {
+    name: "date",
+    value: "DATE",
+    form: Form::Beside("capture"),
+    help: "The day, as YYYY-MM-DD: the time stamps of the capture are its instants, and not seconds of the day",
+};
+
+pub const QUIET: Argument = Argument {
+    name: "quiet",
+    value: "",
+    form: Form::Flag,
+    help: "Show no progress, which else stands on standard error where that is a terminal",
+};
+
 pub const DAY_ZONE: Argument = Argument {
     name: "zone",
     value: "RULE",

@@ -1,8 +1,8 @@
 //! The command line as `clap` knows it.
 
 use crate::arguments::{
-    Argument, BOOKINGS, CHANNELS, DATE, DAY, DAY_ZONE, END, INWARD, OCTETS, PICTURED_DAY, PLAN,
-    PORT, ROW, SCRIPT, START, TURNS, ZONE, arg_of,
+    Argument, BOOKINGS, CAPTURE, CAPTURED_DAY, CHANNELS, DATE, DAY, DAY_ZONE, END, INWARD, OCTETS,
+    PICTURED_DAY, PLAN, PORT, QUIET, ROW, SCRIPT, START, TURNS, ZONE, arg_of,
 };
 use clap::Command;
 use std::alloc::{AllocError, Global};
@@ -25,7 +25,7 @@ const AFTER: &str = "Examples:
   bx explain plan.txt 2
   bx quote plan.txt 28800 30600
   bx chart plan.txt > plan.svg
-  bx day plan.txt script.csv
+  bx day plan.txt script.csv --capture day.pcap
   bx serve plan.txt --port 9931
   bx far script.csv --port 9931
   bx decode 080280015A08028091
@@ -72,18 +72,18 @@ static COMMANDS: [Words; 10] = [
     },
     Words {
         name: "day",
-        about: "Run both ends of a proved plan's day over one TCP connection to 127.0.0.1, and print what became of each booking; may run long in silence",
-        arguments: &[PLAN, SCRIPT, TURNS],
+        about: "Run both ends of a proved plan's day over one TCP connection to 127.0.0.1, and print what became of each booking; may run long",
+        arguments: &[PLAN, SCRIPT, TURNS, CAPTURE, CAPTURED_DAY, DAY_ZONE, QUIET],
     },
     Words {
         name: "serve",
-        about: "Run the exchange's end of a proved plan's day towards the first peer on 127.0.0.1, and print what became of each booking; may wait and run long in silence",
-        arguments: &[PLAN, PORT, TURNS],
+        about: "Run the exchange's end of a proved plan's day towards the first peer on 127.0.0.1, and print what became of each booking; may wait and run long",
+        arguments: &[PLAN, PORT, TURNS, CAPTURE, CAPTURED_DAY, DAY_ZONE, QUIET],
     },
     Words {
         name: "far",
-        about: "Run the far end of a day by a script, towards an exchange that serves on 127.0.0.1; may wait and run long in silence",
-        arguments: &[SCRIPT, PORT],
+        about: "Run the far end of a day by a script, towards an exchange that serves on 127.0.0.1; may wait and run long",
+        arguments: &[SCRIPT, PORT, CAPTURE, CAPTURED_DAY, DAY_ZONE, QUIET],
     },
     Words {
         name: "decode",

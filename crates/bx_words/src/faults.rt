@@ -19,6 +19,7 @@ F1 CannotRead NAME    the file cannot be opened or read, or has more than 4,194,
 F2 CannotWrite        standard output failed
 F3 CannotListen       the port cannot be listened on
 F4 CannotConnect      nobody listens on the port
+F5 CannotWrite NAME   the capture file cannot be created, or a write of it failed
 G1 ReadFailed         a read of the bookings failed
 G2 TooLong            the bookings have more than 4,194,304 octets
 G4 WriteFailed        standard output failed while the plan was written
@@ -32,6 +33,7 @@ A1 BadDate            the date is not of the form YYYY-MM-DD, or names no day
 A2 BadZone            the zone rule cannot be read
 A3 OutOfRange         the day is outside the calendar's range
 A4 OddDay             the day is not 1 to 200,000 seconds long
+A5 BeyondCapture      a capture cannot name the seconds of the day: they are before 1970, or behind 2106-02-07T06:28:15Z
 B1 BadHeader          the first record of the bookings is none of the headers
 B2 WrongColumns r     row r has another number of fields than the header
 B3 NotATime r         a field of row r is not a time

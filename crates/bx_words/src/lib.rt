@@ -7,4 +7,4 @@ mod command_line;
 mod faults;
 mod request;
 
-pub use request::{Call, Refusal, Request, Terms, read_words};
+pub use request::{Call, CaptureWords, Refusal, Request, Sight, Terms, read_words};

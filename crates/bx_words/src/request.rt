@@ -25,6 +25,21 @@ pub struct Call<'a> {
     pub day: Option<(&'a str, &'a str)>,
 }
 
+/// A capture file that is to be written, as the words name it.
+#[derive(Clone, Copy)]
+pub struct CaptureWords<'a> {
+    pub file: &'a str,
+    /// The date and the zone of the day, where its time stamps are instants.
+    pub day: Option<(&'a str, &'a str)>,
+}
+
+/// What is to be seen of a day while it runs.
+#[derive(Clone, Copy)]
+pub struct Sight<'a> {
+    pub capture: Option<CaptureWords<'a>>,
+    pub is_quiet: bool,
+}
+
 /// One command, with its words.
 #[derive(Drop)]
 pub enum Request<'a> {
@@ -66,17 +81,20 @@ pub enum Request<'a> {
         plan: &'a str,
         script: &'a str,
         turns: Option<u32>,
+        sight: Sight<'a>,
     },
     /// Run the exchange's end of a plan's day.
     Serve {
         plan: &'a str,
         port: u16,
         turns: Option<u32>,
+        sight: Sight<'a>,
     },
     /// Run the far end of a day.
     Far {
         script: &'a str,
         port: u16,
+        sight: Sight<'a>,
     },
     /// Print what a message says.
     Decode {
@@ -164,6 +182,17 @@ fn day_of<'a>(matches: &ArgMatches<'a>) -> Option<(&'a str, &'a str)> {
     matches.get_str("date").map(|date| (date, zone))
 }
 
+/// What these words want to see of a day.
+fn sight_of<'a>(matches: &ArgMatches<'a>) -> Sight<'a> {
+    let day = day_of(matches);
+    Sight {
+        capture: matches
+            .get_str("capture")
+            .map(|file| CaptureWords { file, day }),
+        is_quiet: matches.get_flag("quiet"),
+    }
+}
+
 /// The call that these words name.
 fn call_of<'a>(matches: &ArgMatches<'a>) -> Call<'a> {
     Call {
@@ -211,15 +240,18 @@ fn request_of<'a>(
             plan: word(matches, "plan"),
             script: word(matches, "script"),
             turns: matches.get_one::<u32>("turns"),
+            sight: sight_of(matches),
         }),
         "serve" => Ok(Request::Serve {
             plan: word(matches, "plan"),
             port: port_of(matches),
             turns: matches.get_one::<u32>("turns"),
+            sight: sight_of(matches),
         }),
         "far" => Ok(Request::Far {
             script: word(matches, "script"),
             port: port_of(matches),
+            sight: sight_of(matches),
         }),
         _ => Ok(Request::Decode {
             octets: word(matches, "octets"),

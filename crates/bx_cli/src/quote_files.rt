@@ -5,7 +5,7 @@ ghost use Rattle.bx_base.specs.Devices.{writing_of};
 ghost use Rattle.bx_cli.specs.Answers.{IsExplained, IsQuoted};
 
 use crate::fault::CliFault;
-use crate::planning::{day_of, open};
+use crate::plan_files::{day_of, open};
 use bx_base::{Booking, Number, Watched};
 use bx_book::{BookFault, moment};
 use bx_commands::proved_plan;

@@ -1,10 +1,12 @@
 //! The commands on a file of bookings.
 
+ghost use Rattle.std.specs.Prelude.{IfErr};
+ghost use Rattle.bx_cli.specs.Inside.{IsNoDay, IsUnopened};
+
 use crate::fault::CliFault;
 use bx_base::{Bookings, ChannelSet, Watched};
 use bx_book::{Day, StreamFault, read_bookings_from};
-use bx_commands::{CommandFault, check_against, plan_from};
-use bx_planner::{plan_run, write_amended};
+use bx_commands::{CommandFault, check_against, plan_from, plan_run, write_amended};
 use bx_words::Terms;
 use std::alloc::Global;
 use std::fs;
@@ -21,7 +23,9 @@ fn channels_and_day<'a>(terms: &Terms<'_>) -> Result<(ChannelSet, Day), CliFault
 }
 
 /// The day that these words name.
-pub fn day_of<'a>(date: &str, zone: &str) -> Result<Day, CliFault<'a>> {
+pub fn day_of<'a>(date: &str, zone: &str) -> Result<Day, CliFault<'a>>
+    ensures { IfErr result IsNoDay }
+{
     match Day::new(date, zone) {
         Ok(day) => Ok(day),
         Err(fault) => Err(CliFault::Day(fault)),
@@ -29,7 +33,9 @@ pub fn day_of<'a>(date: &str, zone: &str) -> Result<Day, CliFault<'a>> {
 }
 
 /// The file of this name, to be read.
-pub fn open<'a, H: Files>(rt: &H, name: &'a str) -> Result<Watched<H::File>, CliFault<'a>> {
+pub fn open<'a, H: Files>(rt: &H, name: &'a str) -> Result<Watched<H::File>, CliFault<'a>>
+    ensures { IfErr result (IsUnopened name.now) }
+{
     match fs::open(rt, name) {
         Ok(file) => Ok(Watched::new(file)),
         Err(_) => Err(CliFault::Command(CommandFault::CannotRead(name))),

@@ -1,6 +1,6 @@
 use Rattle.std.proofs.Common.{◌≤◌}
 use Rattle.bx_cli.specs.Days.{IsLastOf}
-use Rattle.bx_cli.proofs.running.turns_of.Given as goal
+use Rattle.bx_cli.proofs.openings.turns_of.Given as goal
 
 abbrev pub invariant-loop-index : goal.invariant-loop-index
 invariant-loop-index l = record {

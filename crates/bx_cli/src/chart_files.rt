@@ -1,12 +1,21 @@
 //! The command that draws a plan.
 
 use crate::fault::CliFault;
-use crate::planning::{day_of, open};
+use crate::plan_files::open;
 use bx_base::Watched;
+use bx_book::Clock;
 use bx_chart::write_chart;
 use bx_commands::proved_plan;
 use std::fs::Files;
 use std::io::Write;
+
+/// The clock of the day that these words name.
+fn clock_of<'a>(date: &str, zone: &str) -> Result<Clock, CliFault<'a>> {
+    match Clock::new(date, zone) {
+        Ok(clock) => Ok(clock),
+        Err(fault) => Err(CliFault::Day(fault)),
+    }
+}
 
 /// Writes a picture of the plan in a file, of the day with this date and zone where one is named.
 pub fn chart_file<'a, H: Files + AllocGlobal, W: Write>(
@@ -15,13 +24,13 @@ pub fn chart_file<'a, H: Files + AllocGlobal, W: Write>(
     day: Option<(&str, &str)>,
     output: &mut Watched<W>,
 ) -> Result<(), CliFault<'a>> {
-    let day = match day {
-        Some((date, zone)) => Some(day_of(date, zone)?),
+    let clock = match day {
+        Some((date, zone)) => Some(clock_of(date, zone)?),
         None => None,
     };
     let mut input = open(rt, plan)?;
     let plan = proved_plan(rt.alloc(), plan, &mut input)?;
-    match write_chart(rt.alloc(), &plan, day.as_ref(), output) {
+    match write_chart(rt.alloc(), &plan, clock.as_ref(), output) {
         Ok(()) => Ok(()),
         Err(fault) => Err(CliFault::Chart(fault)),
     }

@@ -2,7 +2,7 @@ use Rattle.std.proofs.Common.{◌≡◌, ℕ, ◌+◌, max, length, subst, sym, 
 use Rattle.std.proofs.lemmas.Grind.{common_steps}
 use Rattle.bx_cli.specs.Days.{IsLastOf}
 use Rattle.bx_cli.proofs.LastTurns.{none_yet, next_row}
-use Rattle.bx_cli.proofs.running.turns_of.Goals as goal
+use Rattle.bx_cli.proofs.openings.turns_of.Goals as goal
 
 pub loop-index-init : goal.loop-index-init
 loop-index-init c = record { limit = omega arith; last = none_yet c.args.plan.now.bookings c.args.plan.now.assigned.items }

@@ -1,0 +1,81 @@
+-- Why a command of a day is refused, and what it did to its output then.
+use Rattle.std.specs.Prelude.{◌≡◌, ℕ, true, IsTrue, List, Option, Some, None, is_some, ◌⊎◌}
+use Rattle.bx_base.specs.declared.watched.Watched.{Watched}
+use Rattle.bx_base.specs.Watching.{device_of, is_faulted}
+use Rattle.bx_commands.specs.declared.fault.CommandFault.TheVariants.{CannotRead, CannotWrite, Plan, Check, Memory}
+use Rattle.bx_far.specs.declared.fault.ScriptFault.TheVariants as scripts
+use Rattle.bx_cli.specs.Days.{IsDayCut, IsFarCut}
+use Rattle.bx_cli.specs.declared.fault.CliFault.{CliFault}
+use Rattle.bx_cli.specs.declared.fault.CliFault.TheVariants.{Command, Day, Script, CannotListen, CannotConnect, CannotCapture, Capture, Link}
+use Rattle.bx_words.specs.declared.request.CaptureWords.{CaptureWords}
+
+-- ---- before anything is written
+
+-- a file of this name is not read, or holds no plan that is proved, or a growth is refused
+abbrev pub IsNoOpening : List ℕ → CliFault → Type 0
+IsNoOpening name (Command (CannotRead n)) = n.now ≡ name
+IsNoOpening name (Command (Plan fault)) = Unit {0}
+IsNoOpening name (Command (Check fault)) = Unit {0}
+IsNoOpening name (Command Memory) = Unit {0}
+IsNoOpening name _ = ⊥
+
+-- a file of this name is not read, or holds no script, or a growth is refused
+abbrev pub IsNoFarEnd : List ℕ → CliFault → Type 0
+IsNoFarEnd name (Command (CannotRead n)) = n.now ≡ name
+IsNoFarEnd name (Command Memory) = Unit {0}
+IsNoFarEnd name (Script fault) = ¬ (fault ≡ scripts.Memory)
+IsNoFarEnd name _ = ⊥
+
+-- the file of this capture
+abbrev pub IsFileOf : Option CaptureWords → List ℕ → Type 0
+IsFileOf None name = ⊥
+IsFileOf (Some capture) name = name ≡ capture.file.now
+
+-- there is to be a capture, and its day is none, or beyond what it can name; or its file is not written
+abbrev pub IsNoCapture : Option CaptureWords → CliFault → Type 0
+IsNoCapture capture (Day fault) = IsTrue (is_some capture)
+IsNoCapture capture (Capture fault) = IsTrue (is_some capture)
+IsNoCapture capture (CannotCapture name) = IsFileOf capture name.now
+IsNoCapture capture _ = ⊥
+
+-- there is no listener, or no peer
+abbrev pub IsUnheard : CliFault → Type 0
+IsUnheard CannotListen = Unit {0}
+IsUnheard _ = ⊥
+
+-- there is no exchange
+abbrev pub IsUnconnected : CliFault → Type 0
+IsUnconnected CannotConnect = Unit {0}
+IsUnconnected _ = ⊥
+
+-- the session had a fault
+abbrev pub IsSessionFault : CliFault → Type 0
+IsSessionFault (Link fault) = Unit {0}
+IsSessionFault _ = ⊥
+
+-- why a day of both ends does not come to its end, or the exchange's, or the far end's
+abbrev pub StopsDay : List ℕ → List ℕ → Option CaptureWords → CliFault → Type 0
+StopsDay plan script capture fault = IsNoCapture capture fault ⊎ IsNoOpening plan fault ⊎ IsNoFarEnd script fault ⊎ IsUnheard fault ⊎ IsUnconnected fault ⊎ IsSessionFault fault
+
+abbrev pub StopsServing : List ℕ → Option CaptureWords → CliFault → Type 0
+StopsServing plan capture fault = IsNoCapture capture fault ⊎ IsNoOpening plan fault ⊎ IsUnheard fault ⊎ IsSessionFault fault
+
+abbrev pub StopsFarEnd : List ℕ → Option CaptureWords → CliFault → Type 0
+StopsFarEnd script capture fault = IsNoCapture capture fault ⊎ IsNoFarEnd script fault ⊎ IsUnconnected fault ⊎ IsSessionFault fault
+
+-- ---- what was written
+
+-- the output has failed, and a front of what was to be written was written; at any other fault there is this reason
+-- for it, and the output is as it was
+abbrev pub IsRefusedRun : {W : Type 0} → (CliFault → Type 0) → (Option (List ℕ) → Option (List ℕ) → Type 0) → (W → Option (List ℕ)) → Watched W → Watched W → CliFault → Type 0
+IsRefusedRun reason cut contents old new (Command CannotWrite) = (is_faulted new ≡ true) × cut (contents (device_of old)) (contents (device_of new))
+IsRefusedRun reason cut contents old new fault = reason fault × (new ≡ old)
+
+abbrev pub IsDayRefusal : {W : Type 0} → List ℕ → List ℕ → Option CaptureWords → Option ℕ → (W → Option (List ℕ)) → Watched W → Watched W → CliFault → Type 0
+IsDayRefusal plan script capture asked contents old new fault = IsRefusedRun (StopsDay plan script capture) (IsDayCut asked) contents old new fault
+
+abbrev pub IsServeRefusal : {W : Type 0} → List ℕ → Option CaptureWords → Option ℕ → (W → Option (List ℕ)) → Watched W → Watched W → CliFault → Type 0
+IsServeRefusal plan capture asked contents old new fault = IsRefusedRun (StopsServing plan capture) (IsDayCut asked) contents old new fault
+
+abbrev pub IsFarRefusal : {W : Type 0} → List ℕ → Option CaptureWords → (W → Option (List ℕ)) → Watched W → Watched W → CliFault → Type 0
+IsFarRefusal script capture contents old new fault = IsRefusedRun (StopsFarEnd script capture) IsFarCut contents old new fault
