@@ -14,8 +14,9 @@ pub(crate) fn line_of(alloc: Global, rows: &[Row]) -> Option<Line> {
     Line::of(alloc, &bookings_of(alloc, rows)?).ok()
 }
 
-/// The distances, where what they need is there.
-pub(crate) fn distances_of(
+/// The distances by this method, where what they need is there.
+pub(crate) fn distances_by<D: Distances>(
+    method: &D,
     alloc: Global,
     line: &Line,
     carried: &Carried,
@@ -25,9 +26,20 @@ pub(crate) fn distances_of(
     if line.places() == 0 || !carried.belongs_to(line) || !potentials.fits(line, carried) {
         return None;
     }
-    Rounds
+    method
         .from_first(alloc, line, carried, potentials, part)
         .ok()
+}
+
+/// The distances by rounds, where what they need is there.
+pub(crate) fn distances_of(
+    alloc: Global,
+    line: &Line,
+    carried: &Carried,
+    potentials: &Potentials,
+    part: Part,
+) -> Option<Dist> {
+    distances_by(&Rounds, alloc, line, carried, potentials, part)
 }
 
 /// Whether the distances are these.

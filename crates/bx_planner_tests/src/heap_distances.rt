@@ -1,8 +1,8 @@
 //! Distances by a heap: a chain, many small days by rounds too, and a day on which forty calls at a time want thirty
 //! channels.
 
-use crate::distances::{are, distances_of, line_of, send};
-use crate::rows::{Row, bookings_of};
+use crate::distances::{are, distances_by, distances_of, line_of, send};
+use crate::rows::{Drawn, Row, bookings_of, random_rows};
 use bx_base::{Bookings, ChannelSet, Plan};
 use bx_dist::{Carried, Dist, Distances, HeapDist, Part, Potentials, Rounds, Step};
 use bx_flow::least_cost;
@@ -11,6 +11,13 @@ use bx_planner::plan;
 use std::alloc::Global;
 
 static CHAIN: [Row; 3] = [(0, 10, 4, false), (5, 15, 6, false), (10, 20, 4, false)];
+
+/// Pays that are often the same.
+static OFTEN_THE_SAME: Drawn = Drawn {
+    starts: 9,
+    lengths: 5,
+    pays: 3,
+};
 
 /// How many units are sent along the line of these bookings.
 type Day = (u8, &'static [Row]);
@@ -40,22 +47,6 @@ static DAYS: [Day; 9] = [
         &[(0, 10, 4, false), (5, 15, 6, true), (10, 20, 4, false)],
     ),
 ];
-
-/// The distances by a heap, where what they need is there.
-fn by_heap(
-    alloc: Global,
-    line: &Line,
-    carried: &Carried,
-    potentials: &Potentials,
-    part: Part,
-) -> Option<Dist> {
-    if line.places() == 0 || !carried.belongs_to(line) || !potentials.fits(line, carried) {
-        return None;
-    }
-    HeapDist
-        .from_first(alloc, line, carried, potentials, part)
-        .ok()
-}
 
 /// What the arc of a row pays.
 fn pay_of(line: &Line, row: u16) -> i64 {
@@ -95,8 +86,8 @@ fn as_by_rounds(
     part: Part,
 ) -> Option<Dist> {
     let rounds = Potentials::of(distances_of(alloc, line, carried, potentials, part)?);
-    let again = Potentials::of(by_heap(alloc, line, carried, potentials, part)?);
-    let heap = by_heap(alloc, line, carried, potentials, part)?;
+    let again = Potentials::of(distances_by(&HeapDist, alloc, line, carried, potentials, part)?);
+    let heap = distances_by(&HeapDist, alloc, line, carried, potentials, part)?;
     let length = heap.length(line.places().saturating_sub(1));
     let is_least = walk_cost(line, heap.walk()) == length && heap.belongs_to(line, carried);
     if is_least && are_same(&again, &rounds, line.places()) {
@@ -129,20 +120,6 @@ fn are_all_as_by_rounds(alloc: Global, rows: &[Row]) -> Option<bool> {
     Some(true)
 }
 
-/// Eight rows from the seed on, whose pays are often the same, and the next seed.
-fn random_rows(first: u32) -> ([Row; 8], u32) {
-    let mut seed = first;
-    let mut rows = [(0, 1, 1, false); 8];
-    for row in rows.iter_mut() {
-        seed = seed.wrapping_mul(1_103_515_245).wrapping_add(12_345);
-        let start = (seed >> 8) % 9;
-        let end = start + 1 + (seed >> 12) % 5;
-        let pay = u64::from(1 + (seed >> 16) % 3);
-        *row = (start, end, pay, (seed >> 24) % 5 == 0);
-    }
-    (rows, seed)
-}
-
 #[test]
 fn a_chain(rt: HostRuntime) {
     let walk = [Step::Take(1), Step::Take(3)];
@@ -159,14 +136,14 @@ fn chain_by_heap(alloc: Global) -> Option<Dist> {
     let line = line_of(alloc, &CHAIN)?;
     let nothing = Carried::empty(alloc, &line).ok()?;
     let first = Potentials::first(alloc, &line).ok()?;
-    by_heap(alloc, &line, &nothing, &first, Part::Whole)
+    distances_by(&HeapDist, alloc, &line, &nothing, &first, Part::Whole)
 }
 
 #[test]
 fn as_by_rounds_over_many_small_days(rt: HostRuntime) {
     let mut seed: u32 = 7;
     for day in 0..200 {
-        let (rows, next) = random_rows(seed);
+        let (rows, next) = random_rows::<8>(seed, &OFTEN_THE_SAME);
         assert!(rt;
             are_all_as_by_rounds(rt.alloc(), &rows) == Some(true),
             "day {day}"

@@ -20,3 +20,34 @@ pub(crate) fn bookings_of(alloc: Global, rows: &[Row]) -> Option<Bookings> {
     }
     Some(bookings)
 }
+
+/// Limits of what is drawn: how many starts there are, lengths and pays.
+pub(crate) struct Drawn {
+    pub(crate) starts: u32,
+    pub(crate) lengths: u32,
+    pub(crate) pays: u32,
+}
+
+/// A row from these bits. One of five is a must booking.
+fn random_row(bits: u32, drawn: &Drawn) -> Row {
+    let start = (bits >> 8) % drawn.starts.max(1);
+    let length = 1 + (bits >> 12) % drawn.lengths.max(1);
+    let pay = u64::from((bits >> 16) % drawn.pays.max(1)) + 1;
+    (
+        start,
+        start.saturating_add(length),
+        pay,
+        (bits >> 24) % 5 == 0,
+    )
+}
+
+/// Rows from the seed on, and the next seed.
+pub(crate) fn random_rows<const ROWS: usize>(first: u32, drawn: &Drawn) -> ([Row; ROWS], u32) {
+    let mut seed = first;
+    let mut rows = [(0, 1, 1, false); ROWS];
+    for row in rows.iter_mut() {
+        seed = seed.wrapping_mul(1_103_515_245).wrapping_add(12_345);
+        *row = random_row(seed, drawn);
+    }
+    (rows, seed)
+}

@@ -1,11 +1,17 @@
 //! Distances against a slow and simple program, over many small days.
 
 use crate::distances::{are, distances_of, line_of, send};
-use crate::rows::Row;
+use crate::rows::{Drawn, Row, random_rows};
 use bx_dist::{Carried, Part, Potentials};
 use bx_line::Line;
 use std::alloc::{AllocError, Global};
 use std::test::Fail;
+
+static SMALL_DAYS: Drawn = Drawn {
+    starts: 7,
+    lengths: 4,
+    pays: 9,
+};
 
 /// Takes the step where it shortens the way to its end.
 fn relax(best: &mut [i64], from: u16, to: u16, cost: i64) {
@@ -95,25 +101,11 @@ fn are_all_as_slow(alloc: Global, rows: &[Row]) -> Option<bool> {
     Some(true)
 }
 
-/// Six rows from the seed on, and the next seed.
-fn random_rows(first: u32) -> ([Row; 6], u32) {
-    let mut seed = first;
-    let mut rows = [(0, 1, 1, false); 6];
-    for row in rows.iter_mut() {
-        seed = seed.wrapping_mul(1_103_515_245).wrapping_add(12_345);
-        let start = (seed >> 8) % 7;
-        let end = start + 1 + (seed >> 12) % 4;
-        let pay = u64::from(1 + (seed >> 16) % 9);
-        *row = (start, end, pay, (seed >> 24) % 5 == 0);
-    }
-    (rows, seed)
-}
-
 #[test]
 fn as_a_slow_program_over_many_small_days(rt: HostRuntime) {
     let mut seed: u32 = 1;
     for day in 0..200 {
-        let (rows, next) = random_rows(seed);
+        let (rows, next) = random_rows::<6>(seed, &SMALL_DAYS);
         assert!(rt;
             are_all_as_slow(rt.alloc(), &rows) == Some(true),
             "day {day}"
