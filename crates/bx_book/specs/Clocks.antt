@@ -1,5 +1,6 @@
 -- What the clock of a zone shows.
-use Rattle.std.specs.Prelude.{◌≡◌, ℕ, ℤ, List, pos, ◌+ℤ◌, ◌*ℤ◌}
+use Rattle.std.specs.Prelude.{◌≡◌, ◌&&◌, ◌/◌, ◌%◌, ℕ, ℤ, Bool, List, Option, Some, None, pos, neg_ℤ, ◌+ℤ◌, ◌*ℤ◌, int_le, unsigned_abs, if◌then◌else◌}
+use Rattle.std.specs.Int.{int_rem_euclid}
 use Rattle.jiff.specs.Placed.{IsPosixZone}
 use Rattle.jiff.specs.Words.{plain_zone}
 use Rattle.jiff_core.specs.DateTime.{civil_nanos}
@@ -35,3 +36,17 @@ pub record Shows (zone : TimeZone) (second : ℤ) (hour minute : ℕ) : Type 0 w
   pub moved : civil_nanos at ≡ ((second *ℤ pos 1_000_000_000) +ℤ nanos_of_seconds (offset_at zone (second *ℤ pos 1_000_000_000)))
   pub hour_is : hour ≡ at.time.hour
   pub minute_is : minute ≡ at.time.minute
+
+-- the same as a function: how many seconds from midnight on the zone's clock shows at this second
+abbrev pub shown_second : TimeZone → ℤ → ℕ
+shown_second zone second = unsigned_abs (int_rem_euclid (second +ℤ offset_at zone (second *ℤ pos 1_000_000_000)) (pos 86_400))
+
+-- whether this second is one of a `Timestamp`
+abbrev pub is_instant : ℤ → Bool
+is_instant second = int_le (neg_ℤ (pos 377_705_023_201)) second && int_le second (pos 253_402_207_200)
+
+-- the hour and the minute that a clock shows so many seconds behind its day's start, or none outside that range
+unfoldable pub shown_by : Clock → ℕ → Option (ℕ × ℕ)
+shown_by c moment = let second = clock_start c +ℤ pos moment in
+    let shown = shown_second (clock_zone c) second in
+    if is_instant second then Some (shown / 3600, shown / 60 % 60) else None

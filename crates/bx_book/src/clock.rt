@@ -1,6 +1,7 @@
 //! A day with the clock of its zone.
 
-ghost use Rattle.std.specs.Prelude.{◌≡◌, ◌+ℤ◌, pos, IfOk, IfSome};
+ghost use Rattle.std.specs.Prelude.{◌≡◌, ◌+ℤ◌, ◌*ℤ◌, ◌↔◌, pos, IfOk, IfSome, IfNone, None, Err};
+ghost use Rattle.jiff.specs.Words.{IsTimestampNanos, read_whole};
 
 use crate::day::{Day, DayFault};
 use jiff::Timestamp;
@@ -14,11 +15,17 @@ pub struct Clock {
 }
 
 impl Clock {
-    ghost use Rattle.bx_book.specs.Clocks.{IsClock, Shows, clock_day, clock_start, clock_zone};
+    ghost use Rattle.bx_book.specs.Clocks.{IsClock, Shows, clock_day, clock_start, clock_zone, shown_by};
+    ghost use Rattle.bx_book.specs.Dates.{IsDateText, day_number};
+    ghost use Rattle.bx_book.specs.Days.{IsOut, IsOdd, InZone};
 
     /// The clock of a date under a POSIX zone rule, with the faults of `Day::new`.
     pub fn new(date: &str, zone: &str) -> Result<Clock, DayFault>
-        ensures { IfOk result (IsClock date.now zone.now) }
+        ensures clock { IfOk result (IsClock date.now zone.now) }
+        ensures bad_date { (result ≡ Err DayFault.BadDate) ↔ ¬ IsDateText date.now }
+        ensures bad_zone { result ≡ Err DayFault.BadZone → IsDateText date.now × (read_whole zone.now ≡ None) }
+        ensures out { result ≡ Err DayFault.OutOfRange → IsDateText date.now × InZone zone.now (λ z. IsOut z (day_number date.now)) }
+        ensures odd { result ≡ Err DayFault.OddDay → IsDateText date.now × InZone zone.now (λ z. IsOdd z (day_number date.now)) }
     {
         let day = Day::new(date, zone)?;
         match TimeZone::posix(zone) {
@@ -37,7 +44,9 @@ impl Clock {
     /// The hour and the minute that the clock shows so many seconds behind the day's start; none where that is outside
     /// the range of `jiff`.
     pub fn shown(&self, moment: u32) -> Option<(u8, u8)>
-        ensures { IfSome result (λ shown. Shows (clock_zone self.now) (clock_start self.now +ℤ pos moment) shown.0 shown.1) }
+        ensures some { IfSome result (λ shown. Shows (clock_zone self.now) (clock_start self.now +ℤ pos moment) shown.0 shown.1) }
+        ensures none { IfNone result (¬ IsTimestampNanos ((clock_start self.now +ℤ pos moment) *ℤ pos 1_000_000_000)) }
+        ensures value { result ≡ shown_by self.now moment }
     {
         let second = self.day.start() + i64::from(moment);
         match Timestamp::from_second(second) {
