@@ -1,34 +1,36 @@
 -- What is written of a plan.
-use Rattle.std.specs.Prelude.{◌≡◌, ◌++◌, true, List, ℕ}
+use Rattle.std.specs.Prelude.{◌≡◌, ◌++◌, true, List, Option, ℕ, codes}
 use Rattle.std.specs.Io.KnownBytes.{Appends}
 use Rattle.bx_base.specs.Devices.{Writing, KeepsOutput}
 use Rattle.bx_base.specs.Octets.{AppendsPrefix}
 use Rattle.bx_base.specs.PlanParts.{Parts}
+use Rattle.bx_book.specs.declared.clock.Clock.{Clock}
 use Rattle.bx_chart.specs.Plain.{is_plain}
 use Rattle.bx_chart.specs.Bars.{bars}
+use Rattle.bx_chart.specs.Hours.{hours}
 use Rattle.bx_chart.specs.declared.writing.ChartFault.{ChartFault}
 use Rattle.bx_chart.specs.declared.writing.ChartFault.TheVariants as fault
 
--- a picture of a plan: LF and printable ASCII, with the bars of all that the plan accepts in the order of the rows
-pub record IsChart (plan : Parts) (text : List ℕ) : Type 0 where
+-- a picture: LF and printable ASCII, with the bars of all that the plan accepts in the order of the rows, and the hours at its end
+pub record IsChart (plan : Parts) (clock : Option Clock) (text : List ℕ) : Type 0 where
   pub plain : is_plain text ≡ true
   pub front : List ℕ
-  pub behind : List ℕ
-  pub has_bars : text ≡ (front ++ bars plan) ++ behind
+  pub between : List ℕ
+  pub parts : text ≡ (((front ++ bars plan) ++ between) ++ hours plan clock) ++ codes "</svg>\n"
 
 -- one was written
-pub record IsDrawn (plan : Parts) (output : Writing) : Type 0 where
+pub record IsDrawn (plan : Parts) (clock : Option Clock) (output : Writing) : Type 0 where
   pub text : List ℕ
-  pub is : IsChart plan text
+  pub is : IsChart plan clock text
   pub written : Appends output.before output.after text
 
 -- a front of one was
-pub record IsCutDrawn (plan : Parts) (output : Writing) : Type 0 where
+pub record IsCutDrawn (plan : Parts) (clock : Option Clock) (output : Writing) : Type 0 where
   pub text : List ℕ
-  pub is : IsChart plan text
+  pub is : IsChart plan clock text
   pub written : AppendsPrefix output.before output.after text
 
 -- each refusal: nothing was written, or the output failed
-abbrev pub IsChartRefusal : Parts → Writing → ChartFault → Type 0
-IsChartRefusal plan output fault.Memory = KeepsOutput output
-IsChartRefusal plan output fault.WriteFailed = (output.is_faulted ≡ true) × IsCutDrawn plan output
+abbrev pub IsChartRefusal : Parts → Option Clock → Writing → ChartFault → Type 0
+IsChartRefusal plan clock output fault.Memory = KeepsOutput output
+IsChartRefusal plan clock output fault.WriteFailed = (output.is_faulted ≡ true) × IsCutDrawn plan clock output

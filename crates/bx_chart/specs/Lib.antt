@@ -1,3 +1,5 @@
 pub mod Plain
 pub mod Bars
+pub mod Hours
+pub mod Sheets
 pub mod Charts

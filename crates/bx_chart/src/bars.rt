@@ -164,7 +164,7 @@ fn add_clock(picture: &mut Picture, second: u32) -> Result<(), AllocError>
 }
 
 /// Adds a number below 60 as two digits.
-fn add_two_digits(picture: &mut Picture, number: u32) -> Result<(), AllocError>
+pub(crate) fn add_two_digits(picture: &mut Picture, number: u32) -> Result<(), AllocError>
     ensures { OnOk result (picture.new.text.items ≡ picture.old.text.items ++ two_digits number) }
 {
     if number < 10 {

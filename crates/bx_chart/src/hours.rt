@@ -1,5 +1,10 @@
 //! The hours of the day, as its clock shows them.
 
+ghost use Rattle.std.specs.Prelude.{◌≡◌, ◌+◌, ◌/◌, ◌++◌, OnOk, option_copied};
+ghost use Rattle.bx_chart.specs.Hours.{hour_part, hours_below, line, lines, name, shown_at, shown_text, tenths};
+ghost use Rattle.bx_chart.specs.Sheets.{room};
+
+use crate::bars::add_two_digits;
 use crate::picture::Picture;
 use crate::sheet::{BAND, Sheet, TOP};
 use bx_book::Clock;
@@ -11,23 +16,39 @@ pub(crate) fn add_hours(
     picture: &mut Picture,
     sheet: &Sheet,
     clock: Option<&Clock>,
-) -> Result<(), AllocError> {
+) -> Result<(), AllocError>
+    ensures { OnOk result (picture.new.text.items ≡ picture.old.text.items ++ hours_below (room sheet.now) (option_copied clock.entry) ((room sheet.now).seconds / 3600 + 1)) }
+{
     let apart = sheet.seconds / 93_600 + 1;
-    for hour in 0..56u32 {
-        let second = hour * 3600;
-        if second <= sheet.seconds && hour % apart == 0 {
-            let across = sheet.tenths(second);
-            let shown = shown_at(clock, hour as u8);
-            add_lines(picture, sheet, across)?;
-            add_name(picture, across, TOP - 5, shown)?;
-            add_name(picture, across, sheet.lanes_end() + 13, shown)?;
+    for hour in 0..sheet.seconds / 3600 + 1 {
+        if hour % apart == 0 {
+            add_hour(picture, sheet, clock, hour as u8)?;
         }
     }
     Ok(())
 }
 
+/// Adds an hour from the day's start: its lines, and its name above and below the lanes.
+#[tactic(auto, unfolding(crate::specs::Hours::hour_part))]
+fn add_hour(
+    picture: &mut Picture,
+    sheet: &Sheet,
+    clock: Option<&Clock>,
+    hour: u8,
+) -> Result<(), AllocError>
+    ensures { OnOk result (picture.new.text.items ≡ picture.old.text.items ++ hour_part (room sheet.now) (option_copied clock.entry) hour) }
+{
+    let across = sheet.tenths(u32::from(hour) * 3600);
+    let shown = shown_at(clock, hour);
+    add_lines(picture, sheet, across)?;
+    add_name(picture, across, TOP - 5, shown)?;
+    add_name(picture, across, sheet.lanes_end() + 13, shown)
+}
+
 /// The hour and the minute that name an hour from the day's start.
-fn shown_at(clock: Option<&Clock>, hour: u8) -> (u8, u8) {
+fn shown_at(clock: Option<&Clock>, hour: u8) -> (u8, u8)
+    ensures { result ≡ shown_at (option_copied clock.entry) hour }
+{
     match clock {
         Some(clock) => match clock.shown(u32::from(hour) * 3600) {
             Some(shown) => shown,
@@ -38,7 +59,10 @@ fn shown_at(clock: Option<&Clock>, hour: u8) -> (u8, u8) {
 }
 
 /// Adds the lines of an hour.
-fn add_lines(picture: &mut Picture, sheet: &Sheet, across: u64) -> Result<(), AllocError> {
+#[tactic(auto, unfolding(crate::specs::Hours::lines))]
+fn add_lines(picture: &mut Picture, sheet: &Sheet, across: u64) -> Result<(), AllocError>
+    ensures { OnOk result (picture.new.text.items ≡ picture.old.text.items ++ lines (room sheet.now) across) }
+{
     add_line(picture, across, TOP, sheet.lanes_end())?;
     add_line(
         picture,
@@ -55,7 +79,10 @@ fn add_lines(picture: &mut Picture, sheet: &Sheet, across: u64) -> Result<(), Al
 }
 
 /// Adds a line.
-fn add_line(picture: &mut Picture, across: u64, top: u64, end: u64) -> Result<(), AllocError> {
+#[tactic(auto, unfolding(crate::specs::Hours::line))]
+fn add_line(picture: &mut Picture, across: u64, top: u64, end: u64) -> Result<(), AllocError>
+    ensures { OnOk result (picture.new.text.items ≡ picture.old.text.items ++ line across top end) }
+{
     picture.add(b"<path class='hour' d='M")?;
     add_tenths(picture, across)?;
     picture.add_number(b" ", top)?;
@@ -64,23 +91,36 @@ fn add_line(picture: &mut Picture, across: u64, top: u64, end: u64) -> Result<()
 }
 
 /// Adds the name of an hour.
+#[tactic(auto, unfolding(crate::specs::Hours::name))]
 fn add_name(
     picture: &mut Picture,
     across: u64,
     down: u64,
     shown: (u8, u8),
-) -> Result<(), AllocError> {
+) -> Result<(), AllocError>
+    ensures { OnOk result (picture.new.text.items ≡ picture.old.text.items ++ name across down shown) }
+{
     picture.add(b"<text class='small middle' x='")?;
     add_tenths(picture, across)?;
     picture.add_number(b"' y='", down)?;
-    picture.add_number(b"'>", u64::from(shown.0))?;
-    let colon: &[u8] = if shown.1 < 10 { b":0" } else { b":" };
-    picture.add_number(colon, u64::from(shown.1))?;
+    picture.add(b"'>")?;
+    add_shown(picture, shown)?;
     picture.add(b"</text>\n")
 }
 
+/// Adds an hour and a minute.
+fn add_shown(picture: &mut Picture, shown: (u8, u8)) -> Result<(), AllocError>
+    ensures { OnOk result (picture.new.text.items ≡ picture.old.text.items ++ shown_text shown) }
+{
+    picture.add_decimal(u64::from(shown.0))?;
+    picture.add(b":")?;
+    add_two_digits(picture, u32::from(shown.1))
+}
+
 /// Adds so many tenths.
-pub(crate) fn add_tenths(picture: &mut Picture, tenths: u64) -> Result<(), AllocError> {
-    picture.add_decimal(tenths / 10)?;
-    picture.add_number(b".", tenths % 10)
+pub(crate) fn add_tenths(picture: &mut Picture, count: u64) -> Result<(), AllocError>
+    ensures { OnOk result (picture.new.text.items ≡ picture.old.text.items ++ tenths count) }
+{
+    picture.add_decimal(count / 10)?;
+    picture.add_number(b".", count % 10)
 }

@@ -1,6 +1,9 @@
 //! Where things stand in a picture.
 
-ghost use Rattle.std.specs.Prelude.{◌≤◌};
+ghost use Rattle.std.specs.Prelude.{◌≡◌, ◌≤◌, ◌+◌, max, option_copied, length};
+ghost use Rattle.bx_base.specs.PlanParts.{parts_of};
+ghost use Rattle.bx_base.specs.Channels.{count_of};
+ghost use Rattle.bx_chart.specs.Hours.{across, day_length, latest_below, lanes_end, prices_top, refused_top, room_of};
 
 use bx_base::Plan;
 use bx_book::Clock;
@@ -28,7 +31,8 @@ pub(crate) struct Sheet {
 
 /// How long the day is, or 86,400 seconds where none is given.
 fn length_of(clock: Option<&Clock>) -> u32
-    ensures { (1 ≤ result) × (result ≤ 200000) }
+    ensures value { result ≡ day_length (option_copied clock.entry) }
+    ensures limits { (1 ≤ result) × (result ≤ 200000) }
 {
     match clock {
         Some(clock) => clock.day().length(),
@@ -37,11 +41,12 @@ fn length_of(clock: Option<&Clock>) -> u32
 }
 
 /// So many seconds, or as many as the latest end asks for.
-fn seconds_of(plan: &Plan, length: u32) -> u32
-    requires { (1 ≤ length) × (length ≤ 200000) }
-    ensures { (1 ≤ result) × (result ≤ 200000) }
+fn seconds_of(plan: &Plan, least: u32) -> u32
+    requires { (1 ≤ least) × (least ≤ 200000) }
+    ensures value { result ≡ latest_below (parts_of plan.now).rows least (length (parts_of plan.now).rows) }
+    ensures limits { (1 ≤ result) × (result ≤ 200000) }
 {
-    let mut seconds = length;
+    let mut seconds = least;
     for index in 0..plan.bookings.len() {
         let end = plan.bookings.nth(index).end();
         if seconds < end {
@@ -53,15 +58,20 @@ fn seconds_of(plan: &Plan, length: u32) -> u32
 
 /// A lane for each channel in service, one at least.
 fn lanes_of(plan: &Plan) -> u8
-    ensures { (1 ≤ result) × (result ≤ 30) }
+    ensures value { result ≡ max 1 (count_of (parts_of plan.now).channels) }
+    ensures limits { (1 ≤ result) × (result ≤ 30) }
 {
     let count = plan.channels.count();
     if count == 0 { 1 } else { count }
 }
 
 impl Sheet {
+    ghost use Rattle.bx_chart.specs.Sheets.{room};
+
     /// The sheet of a plan: of the whole day, or of 86,400 seconds where none is given, and up to its latest end.
-    pub(crate) fn of(plan: &Plan, clock: Option<&Clock>) -> Sheet {
+    pub(crate) fn of(plan: &Plan, clock: Option<&Clock>) -> Sheet
+        ensures { room result ≡ room_of (parts_of plan.now) (option_copied clock.entry) }
+    {
         let seconds = seconds_of(plan, length_of(clock));
         let lanes = lanes_of(plan);
         Sheet { seconds, lanes }
@@ -69,21 +79,24 @@ impl Sheet {
 
     /// The end of the lanes.
     pub(crate) fn lanes_end(&self) -> u64
-        ensures { result ≤ 600 }
+        ensures value { result ≡ lanes_end (room self.now) }
+        ensures limits { result ≤ 600 }
     {
         TOP + LANE * u64::from(self.lanes)
     }
 
     /// Where the band of what is refused begins.
     pub(crate) fn refused_top(&self) -> u64
-        ensures { (44 ≤ result) × (result ≤ 700) }
+        ensures value { result ≡ refused_top (room self.now) }
+        ensures limits { (44 ≤ result) × (result ≤ 700) }
     {
         self.lanes_end() + GAP
     }
 
     /// Where the band of the prices begins.
     pub(crate) fn prices_top(&self) -> u64
-        ensures { (44 ≤ result) × (result ≤ 900) }
+        ensures value { result ≡ prices_top (room self.now) }
+        ensures limits { (44 ≤ result) × (result ≤ 900) }
     {
         self.refused_top() + BAND + GAP
     }
@@ -96,7 +109,9 @@ impl Sheet {
     }
 
     /// How far from the left a second is, in tenths of a unit.
-    pub(crate) fn tenths(&self, second: u32) -> u64 {
+    pub(crate) fn tenths(&self, second: u32) -> u64
+        ensures { result ≡ across (room self.now) second }
+    {
         10 * LEFT + 10 * WIDTH * u64::from(second) / u64::from(self.seconds)
     }
 }

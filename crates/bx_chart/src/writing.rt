@@ -1,6 +1,6 @@
 //! A picture, written.
 
-ghost use Rattle.std.specs.Prelude.{IfOk, IfErr, OnOk};
+ghost use Rattle.std.specs.Prelude.{IfOk, IfErr, OnOk, option_copied};
 ghost use Rattle.bx_base.specs.Devices.{writing_of};
 ghost use Rattle.bx_base.specs.PlanParts.{parts_of};
 ghost use Rattle.bx_chart.specs.Charts.{IsChart, IsDrawn, IsChartRefusal};
@@ -30,34 +30,29 @@ pub enum ChartFault {
     WriteFailed,
 }
 
-/// What stands behind the bars.
-fn behind(
-    alloc: Global,
-    plan: &Plan,
-    clock: Option<&Clock>,
-    sheet: &Sheet,
-) -> Result<Picture, AllocError> {
+/// What stands between the bars and the hours.
+fn between(alloc: Global, plan: &Plan, sheet: &Sheet) -> Result<Picture, AllocError> {
     let mut picture = Picture::new(alloc);
     picture.add(b"</svg>\n")?;
     let starts = starts(alloc, plan, sheet)?;
     picture.add(starts.text())?;
     add_refused(alloc, &mut picture, plan, sheet)?;
     add_prices(&mut picture, plan, sheet)?;
-    add_hours(&mut picture, sheet, clock)?;
-    picture.add(b"</svg>\n")?;
     Ok(picture)
 }
 
 /// The whole picture.
 fn chart(alloc: Global, plan: &Plan, clock: Option<&Clock>) -> Result<Picture, AllocError>
-    ensures { IfOk result (λ picture. IsChart (parts_of plan.now) picture.text.items) }
+    ensures { IfOk result (λ picture. IsChart (parts_of plan.now) (option_copied clock.entry) picture.text.items) }
 {
     let sheet = Sheet::of(plan, clock);
     let mut picture = front(alloc, plan, &sheet)?;
     let bars = bars(alloc, plan)?;
-    let behind = behind(alloc, plan, clock, &sheet)?;
+    let between = between(alloc, plan, &sheet)?;
     picture.add(bars.text())?;
-    picture.add(behind.text())?;
+    picture.add(between.text())?;
+    add_hours(&mut picture, &sheet, clock)?;
+    picture.add(b"</svg>\n")?;
     // Read for the prover alone, which learns a limit from it.
     let _text = picture.text();
     Ok(picture)
@@ -71,8 +66,8 @@ pub fn write_chart<W: Write>(
     clock: Option<&Clock>,
     output: &mut Watched<W>,
 ) -> Result<(), ChartFault>
-    ensures drawn { OnOk result (IsDrawn (parts_of plan.now) (writing_of W.contents output.old output.new)) }
-    ensures refused { IfErr result (IsChartRefusal (parts_of plan.now) (writing_of W.contents output.old output.new)) }
+    ensures drawn { OnOk result (IsDrawn (parts_of plan.now) (option_copied clock.entry) (writing_of W.contents output.old output.new)) }
+    ensures refused { IfErr result (IsChartRefusal (parts_of plan.now) (option_copied clock.entry) (writing_of W.contents output.old output.new)) }
 {
     let Ok(picture) = chart(alloc, plan, clock) else {
         return Err(ChartFault::Memory);
