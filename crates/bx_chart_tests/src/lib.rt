@@ -2,6 +2,8 @@
 #![tactic(auto)]
 
 #[cfg(test)]
+mod hour_names;
+#[cfg(test)]
 mod pictures;
 #[cfg(test)]
 mod small_picture;

@@ -2,6 +2,7 @@
 
 use crate::small_picture::SMALL;
 use bx_base::{Booking, Bookings, Channel, ChannelSet, Failing, Number, Plan, Price, Watched};
+use bx_book::Clock;
 use bx_chart::{ChartFault, write_chart};
 use std::alloc::Global;
 use std::test::Fail;
@@ -33,17 +34,21 @@ fn small_plan(alloc: Global) -> Option<Plan> {
     Plan::new(bookings(alloc)?, channels, assigned, prices, 16)
 }
 
-/// What is written of the small plan where so many octets can be, and why no more.
-fn written(alloc: Global, octets: u32) -> Option<(Vec<u8>, Option<ChartFault>)> {
+/// What is written of the small plan, on the day of a clock where one is given, where so many octets can be, and why no more.
+pub(crate) fn written(
+    alloc: Global,
+    clock: Option<&Clock>,
+    octets: u32,
+) -> Option<(Vec<u8>, Option<ChartFault>)> {
     let plan = small_plan(alloc)?;
     let mut output = Watched::new(Failing::new(Vec::new(alloc), octets, 1));
-    let fault = write_chart(alloc, &plan, None, &mut output).err();
+    let fault = write_chart(alloc, &plan, clock, &mut output).err();
     Some((output.into_inner().into_inner(), fault))
 }
 
 #[test]
 fn a_small_plan(rt: HostRuntime) -> Result<(), Fail> {
-    let (text, fault) = written(rt.alloc(), 100_000).ok_or("no plan")?;
+    let (text, fault) = written(rt.alloc(), None, 100_000).ok_or("no plan")?;
     assert!(rt; fault.is_none(), "a fault");
     assert!(rt; text.as_slice() == SMALL.as_bytes(), "another picture");
     Ok(())
@@ -51,7 +56,7 @@ fn a_small_plan(rt: HostRuntime) -> Result<(), Fail> {
 
 #[test]
 fn an_output_that_fails(rt: HostRuntime) -> Result<(), Fail> {
-    let (text, fault) = written(rt.alloc(), 700).ok_or("no plan")?;
+    let (text, fault) = written(rt.alloc(), None, 700).ok_or("no plan")?;
     assert!(rt; fault == Some(ChartFault::WriteFailed), "no fault");
     assert!(rt; text.as_slice() == &SMALL.as_bytes()[..700], "no front");
     Ok(())
