@@ -1,7 +1,7 @@
 //! Quiet seconds on drawn days: counted tick by tick, and skipped.
 
-use crate::booked_days::{Row, opened};
 use crate::quiet_seconds::{are_counted, look_same, skip_to};
+use bx_worked_days::{Row, exchange_of};
 use std::alloc::Global;
 
 const SETUP: u8 = 0x05;
@@ -71,9 +71,9 @@ impl Drawn {
 fn goes_quietly(alloc: Global, seed: u32) -> Option<bool> {
     let mut drawn = Drawn { state: seed };
     let rows = drawn.rows();
-    let mut ticking = opened(alloc, &rows)?;
-    let mut before = opened(alloc, &rows)?;
-    let mut skipping = opened(alloc, &rows)?;
+    let mut ticking = exchange_of(alloc, &rows)?;
+    let mut before = exchange_of(alloc, &rows)?;
+    let mut skipping = exchange_of(alloc, &rows)?;
     let mut same = true;
     let mut moment: u32 = 0;
     for _message in 0..24 {

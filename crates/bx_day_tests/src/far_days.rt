@@ -3,13 +3,14 @@
 use crate::steps::{Step, first_wrong};
 use bx_base::Channel;
 use bx_calls::CallState;
-use bx_far::{Far, Script};
+use bx_far::Far;
 use bx_worked::{
     ALERTING_CHANNEL_1, CONNECT, CONNECT_ACKNOWLEDGE, CONNECT_CHANNEL_1, FAR_DISCONNECT_16,
     FAR_DISCONNECT_102, FAR_RELEASE_16, FAR_RELEASE_COMPLETE, FAR_RELEASE_COMPLETE_17,
     FAR_RELEASE_COMPLETE_44, PROCEEDING_CHANNEL_1, RELEASE, SETUP, SETUP_CHANNEL_2,
     SETUP_REFERENCE_2, SETUP_REFERENCE_3_CHANNEL_3, USER_RELEASE_COMPLETE_102,
 };
+use bx_worked_days::far_of;
 use std::alloc::Global;
 use std::test::Fail;
 
@@ -170,11 +171,6 @@ pub(crate) fn ends(far: &Far, held: Option<(u16, CallState)>, maintenance: bool)
         }
         None => false,
     }
-}
-
-/// The far end of this script at the opening.
-pub(crate) fn far_of(alloc: Global, script: &str) -> Option<Far> {
-    Some(Far::new(Script::read(alloc, script.as_bytes()).ok()?))
 }
 
 /// Runs a day, and refuses one that goes otherwise.

@@ -1,10 +1,11 @@
 //! Octets that are no message, messages of calls that are not known, and SETUPs that ask for what is not there: what
 //! the far end answers.
 
-use crate::far_days::{ends, far_of};
-use crate::steps::{End, Messages, are_short_ignored};
+use crate::far_days::ends;
+use crate::steps::{Messages, answers, are_short_ignored};
 use bx_far::Far;
 use bx_worked::FAR_RELEASE_COMPLETE_44;
+use bx_worked_days::far_of;
 use std::test::Fail;
 
 /// What comes, and what is sent for it.
@@ -75,7 +76,7 @@ static STRANGERS: [Receipt; 18] = [
 /// How many of the first receipts are answered so.
 fn strangers(far: &mut Far) -> usize {
     for (index, (octets, expected)) in STRANGERS.iter().enumerate() {
-        if !far.answers(octets, expected) {
+        if !answers(far, octets, expected) {
             return index;
         }
     }
@@ -86,7 +87,7 @@ fn strangers(far: &mut Far) -> usize {
 fn strangers_and_short_octets(rt: HostRuntime) -> Result<(), Fail> {
     let mut far = far_of(rt.alloc(), "number,policy,seconds").ok_or("script")?;
     assert_eq!(rt; strangers(&mut far), STRANGERS.len());
-    assert!(rt; far.answers(&[], &[]), "no octet");
+    assert!(rt; answers(&mut far, &[], &[]), "no octet");
     assert!(rt; are_short_ignored(&mut far), "short");
     assert!(rt; ends(&far, None, false), "channel 1");
     Ok(())

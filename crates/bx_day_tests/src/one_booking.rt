@@ -1,10 +1,10 @@
 //! The day of one booking, event by event, with another that waits for its channel.
 
-use crate::booked_days::{Row, opened};
 use crate::steps::{Step, first_wrong};
 use bx_base::Channel;
 use bx_day::{Exchange, Outcome};
 use bx_worked::{CONNECT, CONNECT_ACKNOWLEDGE, DISCONNECT_16, RELEASE_16, SETUP};
+use bx_worked_days::{Row, exchange_of};
 use std::alloc::Global;
 
 /// A step, what the two bookings are told to be then, and whether their channel is in maintenance.
@@ -52,7 +52,7 @@ fn is_told(exchange: &Exchange, outcomes: &[Outcome; 2], is_broken: bool) -> boo
 
 /// The index of the first line that goes otherwise.
 fn first_wrong_line(alloc: Global) -> Option<usize> {
-    let mut exchange = opened(alloc, &ROWS)?;
+    let mut exchange = exchange_of(alloc, &ROWS)?;
     for (index, (step, outcomes, is_broken)) in LINES.iter().enumerate() {
         let goes = first_wrong(&mut exchange, &[*step]).is_none();
         if !goes || !is_told(&exchange, outcomes, *is_broken) {
@@ -69,7 +69,7 @@ fn day_of_one_booking(rt: HostRuntime) {
 
 /// What is told of a booking whose end is the first tick.
 fn told_at_the_end(alloc: Global) -> Option<Outcome> {
-    let mut exchange = opened(alloc, &[(0, 1, 1, false)])?;
+    let mut exchange = exchange_of(alloc, &[(0, 1, 1, false)])?;
     let sent = exchange.tick();
     if sent.is_empty() {
         exchange.outcome(1)

@@ -1,8 +1,8 @@
 //! The opening of a day.
 
-use crate::booked_days::{Row, opened};
 use bx_base::Channel;
 use bx_day::{Exchange, Outcome};
+use bx_worked_days::{Row, exchange_of};
 use std::test::Fail;
 
 static ROWS: [Row; 3] = [(0, 60, 1, false), (0, 50, 0, false), (0, 40, 2, false)];
@@ -38,7 +38,7 @@ fn first_mistold(exchange: &Exchange) -> Option<u16> {
 
 #[test]
 fn opening_of_a_day(rt: HostRuntime) -> Result<(), Fail> {
-    let exchange = opened(rt.alloc(), &ROWS).ok_or("opening")?;
+    let exchange = exchange_of(rt.alloc(), &ROWS).ok_or("opening")?;
     assert!(rt; exchange.moment() == 0, "moment");
     for number in [1, 2, 31] {
         assert!(rt; is_open(&exchange, number), "channel {number}");

@@ -1,8 +1,8 @@
 //! Outcomes on writers that fail at each place.
 
-use crate::booked_days::{Row, opened};
 use bx_base::{Failing, Watched};
 use bx_day::Exchange;
+use bx_worked_days::{Row, exchange_of};
 use std::alloc::Global;
 use std::test::Fail;
 
@@ -23,7 +23,7 @@ fn writes_front(alloc: Global, exchange: &Exchange, text: &[u8], calls: u32) -> 
 
 #[test]
 fn failing_writers(rt: HostRuntime) -> Result<(), Fail> {
-    let exchange = opened(rt.alloc(), &ROWS).ok_or("opening")?;
+    let exchange = exchange_of(rt.alloc(), &ROWS).ok_or("opening")?;
     for calls in 0..=TEXT.len() as u32 {
         let is_front = writes_front(rt.alloc(), &exchange, TEXT.as_bytes(), calls);
         assert!(rt; is_front, "{calls}");

@@ -1,6 +1,5 @@
 //! Quiet seconds: how many there are, and that to skip them leaves the day that ticks leave.
 
-use crate::booked_days::{Row, opened};
 use crate::steps::{Step, first_wrong};
 use bx_base::Channel;
 use bx_day::Exchange;
@@ -8,6 +7,7 @@ use bx_worked::{
     CONNECT, CONNECT_ACKNOWLEDGE, DISCONNECT_16, FAR_DISCONNECT_16, FAR_RELEASE, RELEASE_16,
     RELEASE_COMPLETE, RELEASE_COMPLETE_102, SETUP, SETUP_REFERENCE_2, SETUP_REFERENCE_7,
 };
+use bx_worked_days::{Row, exchange_of};
 use std::alloc::Global;
 
 /// Bookings, and steps with the quiet seconds behind each.
@@ -90,7 +90,7 @@ static WORKED: [Worked; 6] = [
 
 /// The moment of the first step that goes otherwise, or has other quiet seconds behind it.
 fn first_unquiet(alloc: Global, worked: &Worked) -> Option<u32> {
-    let mut exchange = opened(alloc, worked.bookings)?;
+    let mut exchange = exchange_of(alloc, worked.bookings)?;
     for (step, seconds) in worked.steps {
         if first_wrong(&mut exchange, &[*step]).is_some() || exchange.quiet() != *seconds {
             return Some(step.0);
@@ -117,7 +117,7 @@ fn skip_some(exchange: &mut Exchange, most: u32) {
 
 /// Whether a day of no bookings is over after its quiet seconds.
 fn is_over(alloc: Global) -> Option<bool> {
-    let mut exchange = opened(alloc, &[])?;
+    let mut exchange = exchange_of(alloc, &[])?;
     skip_some(&mut exchange, u32::MAX);
     Some(exchange.moment() == 300_000 && exchange.quiet() == 0)
 }
@@ -207,9 +207,9 @@ pub(crate) fn skip_to(exchange: &mut Exchange, moment: u32) {
 
 /// Whether each tick of a day goes as its quiet seconds say, and a day that skips them looks the same.
 fn goes_quietly(alloc: Global, rows: &[Row], script: Script) -> Option<bool> {
-    let mut ticking = opened(alloc, rows)?;
-    let mut before = opened(alloc, rows)?;
-    let mut skipping = opened(alloc, rows)?;
+    let mut ticking = exchange_of(alloc, rows)?;
+    let mut before = exchange_of(alloc, rows)?;
+    let mut skipping = exchange_of(alloc, rows)?;
     let mut same = true;
     for (moment, octets) in script {
         same &= are_counted(&mut ticking, &mut before, *moment);

@@ -1,9 +1,9 @@
 //! A day replayed from its events.
 
-use crate::booked_days::{Row, plan_of};
 use crate::steps::are_same;
 use bx_day::{Event, Replayed, replay};
 use bx_worked::{CONNECT, CONNECT_ACKNOWLEDGE, SETUP};
+use bx_worked_days::{Row, plan_of};
 use std::alloc::Global;
 
 static ROWS: [Row; 1] = [(0, 60, 1, false)];

@@ -1,25 +1,13 @@
 //! What comes to an end of the link and what it sends, step by step.
 
-use bx_day::Exchange;
-use bx_far::Far;
 use bx_q931::Octets;
+use bx_worked_days::End;
 
 /// The messages that are sent.
 pub(crate) type Messages = &'static [&'static [u8]];
 
 /// A moment, what comes (nothing: ticks to that moment, all silent but the last) and the messages that are sent.
 pub(crate) type Step = (u32, &'static [u8], Messages);
-
-/// The exchange or the far end.
-pub(crate) trait End {
-    fn now(&self) -> u32;
-
-    /// Whether a tick sends just these messages.
-    fn ticks(&mut self, expected: &[&[u8]]) -> bool;
-
-    /// Whether this message, or none, is the answer to these octets.
-    fn answers(&mut self, octets: &[u8], expected: &[&[u8]]) -> bool;
-}
 
 /// Whether these messages are, one by one, these octets.
 pub(crate) fn are_same(sent: &[Octets], expected: &[&[u8]]) -> bool {
@@ -37,32 +25,14 @@ fn is_same(reply: Option<Octets>, expected: &[&[u8]]) -> bool {
     }
 }
 
-impl End for Exchange {
-    fn now(&self) -> u32 {
-        self.moment()
-    }
-
-    fn ticks(&mut self, expected: &[&[u8]]) -> bool {
-        are_same(self.tick().as_slice(), expected)
-    }
-
-    fn answers(&mut self, octets: &[u8], expected: &[&[u8]]) -> bool {
-        is_same(self.receive(octets), expected)
-    }
+/// Whether a tick sends just these messages.
+fn ticks<E: End>(end: &mut E, expected: &[&[u8]]) -> bool {
+    are_same(end.next_second().as_slice(), expected)
 }
 
-impl End for Far {
-    fn now(&self) -> u32 {
-        self.moment()
-    }
-
-    fn ticks(&mut self, expected: &[&[u8]]) -> bool {
-        are_same(self.tick().as_slice(), expected)
-    }
-
-    fn answers(&mut self, octets: &[u8], expected: &[&[u8]]) -> bool {
-        is_same(self.receive(octets), expected)
-    }
+/// Whether this message, or none, is the answer to these octets.
+pub(crate) fn answers<E: End>(end: &mut E, octets: &[u8], expected: &[&[u8]]) -> bool {
+    is_same(end.hear(octets), expected)
 }
 
 /// Ticks to the moment, and answers whether only the last tick sends something, and just these messages.
@@ -70,9 +40,9 @@ fn ticks_to<E: End>(end: &mut E, moment: u32, expected: &[&[u8]]) -> bool {
     let mut same = true;
     for before in end.now()..moment {
         if before.saturating_add(1) < moment {
-            same &= end.ticks(&[]);
+            same &= ticks(end, &[]);
         } else {
-            same &= end.ticks(expected);
+            same &= ticks(end, expected);
         }
     }
     same
@@ -83,7 +53,7 @@ fn goes<E: End>(end: &mut E, step: &Step) -> bool {
     let same = if step.1.is_empty() {
         ticks_to(end, step.0, step.2)
     } else {
-        end.answers(step.1, step.2)
+        answers(end, step.1, step.2)
     };
     same && end.now() == step.0.min(300_000)
 }
@@ -102,9 +72,9 @@ pub(crate) fn first_wrong<E: End>(end: &mut E, steps: &[Step]) -> Option<u32> {
 pub(crate) fn are_short_ignored<E: End>(end: &mut E) -> bool {
     let mut ignored = true;
     for first in 0..=255u8 {
-        ignored &= end.answers(&[first], &[]);
+        ignored &= answers(end, &[first], &[]);
         for second in 0..=255u8 {
-            ignored &= end.answers(&[first, second], &[]);
+            ignored &= answers(end, &[first, second], &[]);
         }
     }
     ignored

@@ -1,8 +1,8 @@
 //! Octets that are no message, and messages of calls that are not known: what the exchange answers.
 
-use crate::booked_days::opened;
-use crate::steps::{End, Messages};
+use crate::steps::{Messages, answers};
 use bx_day::{Exchange, Outcome};
+use bx_worked_days::exchange_of;
 use std::alloc::Global;
 
 /// What comes, and what is sent for it.
@@ -49,12 +49,12 @@ static STRANGERS: [Receipt; 13] = [
 
 /// Receives, at the opening, and answers whether just this is sent and the booking still waits.
 fn is_stray(exchange: &mut Exchange, receipt: &Receipt) -> bool {
-    exchange.answers(receipt.0, receipt.1) && exchange.outcome(1) == Some(Outcome::Waiting)
+    answers(exchange, receipt.0, receipt.1) && exchange.outcome(1) == Some(Outcome::Waiting)
 }
 
 /// How many of the first receipts are answered so, with one booking that is inward or not.
 fn strangers(alloc: Global, is_inward: bool) -> Option<usize> {
-    let mut exchange = opened(alloc, &[(0, 60, 1, is_inward)])?;
+    let mut exchange = exchange_of(alloc, &[(0, 60, 1, is_inward)])?;
     for (index, receipt) in STRANGERS.iter().enumerate() {
         if !is_stray(&mut exchange, receipt) {
             return Some(index);

@@ -1,0 +1,8 @@
+//! Days for tests: either end at the opening of its day, and what a test does with any end.
+#![tactic(auto)]
+
+mod ends;
+mod openings;
+
+pub use ends::{End, TICK, goes_through};
+pub use openings::{Row, exchange, exchange_of, far_end, far_of, plan_of};
