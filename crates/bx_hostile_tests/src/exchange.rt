@@ -2,9 +2,9 @@
 
 use crate::exchange_days::{DAYS, Ready, at};
 use crate::hostile::{Subject, first_wrong};
-use crate::replies::{Reply, Sent, sent_for};
+use crate::replies::{Reply, Sent, is_sent, sent_for};
 use crate::second_reading::{Heard, Naming, read_again};
-use crate::tables::{Call, Next, at_network, of_no_call};
+use crate::tables::{Call, at_network, of_no_call};
 use bx_base::Channel;
 use bx_day::Exchange;
 use std::alloc::Global;
@@ -87,11 +87,7 @@ impl Ready {
                 from_network: !self.inward,
             };
             let (reply, next) = at_network(call, heard);
-            let state = match next {
-                Next::Same => self.state,
-                Next::Over => 0,
-                Next::To(state) => state,
-            };
+            let state = next.after(self.state);
             return Expected {
                 reply,
                 states: (state, 0),
@@ -144,11 +140,7 @@ impl AtDay {
 impl Subject for AtDay {
     fn takes_rightly(&mut self, octets: &[u8]) -> bool {
         let (sent, states) = self.expected(octets);
-        let right = match (self.exchange.receive(octets), sent) {
-            (Some(reply), Some(expected)) => reply.as_slice() == expected.as_slice(),
-            (None, None) => true,
-            _ => false,
-        };
+        let right = is_sent(self.exchange.receive(octets), sent);
         let is_there = self.is_at(states);
         if states != (self.day.state, 0) {
             match at(self.alloc, self.day) {

@@ -2,9 +2,9 @@
 
 use crate::far_days::{DAYS, MAINTENANCE, Ready, SILENT, at};
 use crate::hostile::{Subject, first_wrong};
-use crate::replies::{Reply, Sent, sent_for};
+use crate::replies::{Reply, Sent, is_sent, sent_for};
 use crate::second_reading::{Heard, Naming, read_again};
-use crate::tables::{Call, Next, at_user, of_no_call};
+use crate::tables::{Call, at_user, of_no_call};
 use bx_base::Channel;
 use bx_far::Far;
 use std::alloc::Global;
@@ -79,11 +79,7 @@ impl Ready {
                 from_network: self.from_network,
             };
             let (reply, next) = at_user(call, heard);
-            let state = match next {
-                Next::Same => self.state,
-                Next::Over => 0,
-                Next::To(state) => state,
-            };
+            let state = next.after(self.state);
             return Expected {
                 reply,
                 state,
@@ -141,11 +137,7 @@ impl AtDay {
 impl Subject for AtDay {
     fn takes_rightly(&mut self, octets: &[u8]) -> bool {
         let (sent, state, opened, reference) = self.expected(octets);
-        let right = match (self.far.receive(octets), sent) {
-            (Some(reply), Some(expected)) => reply.as_slice() == expected.as_slice(),
-            (None, None) => true,
-            _ => false,
-        };
+        let right = is_sent(self.far.receive(octets), sent);
         let is_there = self.is_at(state, opened, reference);
         if state != self.day.state || opened != 0 {
             match at(self.alloc, self.day) {

@@ -1,6 +1,7 @@
 //! What is sent for a message, as octets written for these tests alone.
 
 use arrayvec::ArrayVec;
+use bx_q931::Octets;
 
 /// What is sent for a message.
 #[derive(Clone, Copy, Debug, PartialEq, Eq)]
@@ -58,4 +59,13 @@ pub(crate) fn sent_for(reply: Reply, reference: u16, flag: bool, location: u8) -
         _ => {}
     }
     Some(sent)
+}
+
+/// Whether these octets, or none, are what is sent.
+pub(crate) fn is_sent(reply: Option<Octets>, sent: Option<Sent>) -> bool {
+    match (reply, sent) {
+        (Some(octets), Some(expected)) => octets.as_slice() == expected.as_slice(),
+        (None, None) => true,
+        _ => false,
+    }
 }

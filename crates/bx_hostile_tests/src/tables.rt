@@ -11,6 +11,17 @@ pub(crate) enum Next {
     To(u8),
 }
 
+impl Next {
+    /// The number of the state behind this one, 0 where the call is over.
+    pub(crate) fn after(self, state: u8) -> u8 {
+        match self {
+            Next::Same => state,
+            Next::Over => 0,
+            Next::To(next) => next,
+        }
+    }
+}
+
 /// A call: the number of its state, its channel, and whether the network began it.
 #[derive(Clone, Copy)]
 pub(crate) struct Call {
