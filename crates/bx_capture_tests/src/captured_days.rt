@@ -1,12 +1,12 @@
 //! A day of one turn that is captured, at each of its ends, into files that fail at each place.
 
-use crate::days::{exchange, far_end};
 use crate::octets::packet;
 use bx_base::{Channel, Failing, Watched};
 use bx_calls::CallState;
 use bx_capture::{Captured, Direction};
 use bx_link::{run_day, run_far_day};
 use bx_worked::{CONNECT_ACKNOWLEDGE, CONNECT_CHANNEL_1, SETUP};
+use bx_worked_days::{exchange, far_end};
 use std::alloc::Global;
 
 /// CONNECT and the end of turn, as frames to the exchange.

@@ -4,8 +4,6 @@
 #[cfg(test)]
 mod captured_days;
 #[cfg(test)]
-mod days;
-#[cfg(test)]
 mod octets;
 #[cfg(test)]
 mod starts;

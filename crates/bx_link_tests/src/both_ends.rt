@@ -1,13 +1,14 @@
 //! Both ends together: a whole day turn by turn, and one turn of both in one call.
 
 use crate::frames::{
-    CONNECT, CONNECT_ACKNOWLEDGE, DISCONNECT, END_OF_DAY, OPENED, RELEASE, RELEASE_COMPLETE, joined,
+    CONNECT, CONNECT_ACKNOWLEDGE, DISCONNECT, END_OF_DAY, OPENED, RELEASE, RELEASE_COMPLETE,
+    connection, joined,
 };
-use crate::two_ends::{connection, exchange, far_end};
 use bx_base::Watched;
 use bx_day::Exchange;
 use bx_far::Far;
 use bx_link::{FarSession, Session, run_both_ends};
+use bx_worked_days::{exchange, far_end};
 use std::alloc::Global;
 use std::mem;
 use std::test::Fail;

@@ -1,11 +1,11 @@
 //! Sessions that a fault closes, and that stay closed.
 
 use crate::frames::{CONNECT, TORN};
-use crate::two_ends::exchange;
 use bx_base::{Channel, Failing, Watched};
 use bx_calls::CallState;
 use bx_day::Exchange;
 use bx_link::{LinkFault, Session};
+use bx_worked_days::exchange;
 use std::alloc::Global;
 
 /// After how many writes the writer fails, and what comes; how the turn is opened and with which fault it ends, and

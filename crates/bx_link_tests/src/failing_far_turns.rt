@@ -1,9 +1,9 @@
 //! A turn of the far end over readers that give one octet a read and writers that take one, which fail at each place.
 
 use crate::frames::{END_OF_TURN, FAR_REFUSAL, FAR_STRAY, repeated};
-use crate::two_ends::far_end;
 use bx_base::{Failing, Watched};
 use bx_link::{FarSession, LinkFault};
+use bx_worked_days::far_end;
 use std::alloc::Global;
 
 /// A message of no call and the end of the turn, and what is written for them.

@@ -1,9 +1,9 @@
 //! How a turn of the far end ends, by what comes.
 
 use crate::frames::{END_OF_TURN, FAR_REFUSAL, FAR_STRAY, repeated};
-use crate::two_ends::far_end;
 use bx_base::Watched;
 use bx_link::{FarSession, LinkFault};
+use bx_worked_days::far_end;
 use std::alloc::Global;
 
 /// So many frames that are refused, and what comes behind them; how the turn ends, and how many octets are left.

@@ -1,5 +1,7 @@
-//! Worked frames, of a call with reference 1 on channel 1 to the number 1234.
+//! Worked frames, of a call with reference 1 on channel 1 to the number 1234, and connections that give them.
 
+use bx_base::Watched;
+use bx_link::Connection;
 use std::alloc::Global;
 
 /// The SETUP of the one booking, and the end of the turn with moment 1.
@@ -63,4 +65,12 @@ pub(crate) fn joined(alloc: Global, parts: [&[u8]; 3]) -> Option<Vec<u8>> {
         octets.extend_from_slice(part).ok()?;
     }
     Some(octets)
+}
+
+/// A connection that gives these octets, and holds what is written.
+pub(crate) fn connection<'a>(alloc: Global, octets: &'a [u8]) -> Connection<&'a [u8], Vec<u8>> {
+    Connection {
+        reader: Watched::new(octets),
+        writer: Watched::new(Vec::new(alloc)),
+    }
 }

@@ -19,5 +19,3 @@ mod printed_faults;
 mod torn_days;
 #[cfg(test)]
 mod turn_endings;
-#[cfg(test)]
-mod two_ends;

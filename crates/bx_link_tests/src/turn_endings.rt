@@ -1,9 +1,9 @@
 //! How a turn of the exchange ends, by what comes.
 
 use crate::frames::{END_OF_TURN, OPENED, REFUSAL, STRAY, repeated};
-use crate::two_ends::exchange;
 use bx_base::Watched;
 use bx_link::{LinkFault, Session};
+use bx_worked_days::exchange;
 use std::alloc::Global;
 
 /// So many frames that are refused, and what comes behind them; how the turn ends, and how many octets are left.
