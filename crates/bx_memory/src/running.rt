@@ -48,14 +48,7 @@ pub fn replayed(alloc: Global, world: &World) -> Answer {
     if !world.plan.carried() {
         return Answer::Wrong;
     }
-    let events = [
-        Event::Tick,
-        Event::Tick,
-        Event::Tick,
-        Event::Tick,
-        Event::Tick,
-        Event::Tick,
-    ];
+    let events = [Event::Tick; 6];
     match replay(alloc, &world.plan, &events) {
         Ok(replayed) => Answer::Right(replayed.sent.len() as u64),
         Err(_) => Answer::Refused,
