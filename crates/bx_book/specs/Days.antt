@@ -1,9 +1,9 @@
 -- The two midnights of a day.
-use Rattle.std.specs.Prelude.{◌≡◌, ◌⊎◌, ℕ, ℤ, List, pos, int_div, ◌+ℤ◌, ◌-ℤ◌, ◌<ℤ◌, ◌≤ℤ◌}
+use Rattle.std.specs.Prelude.{◌≡◌, ◌⊎◌, ℕ, ℤ, List, None, pos, int_div, ◌+ℤ◌, ◌-ℤ◌, ◌<ℤ◌, ◌≤ℤ◌}
 use Rattle.jiff_core.specs.declared.civil.datetime.DateTime.{DateTime}
 use Rattle.jiff_tz.specs.declared.timezone.TimeZone.{TimeZone}
 use Rattle.jiff.specs.Placed.{IsPosixZone}
-use Rattle.jiff.specs.Words.{epoch_day, time_nanos, picked_instant, IsTimestampNanos}
+use Rattle.jiff.specs.Words.{epoch_day, time_nanos, picked_instant, read_whole, IsTimestampNanos}
 
 -- n is the instant to which the zone's clock at 00:00:00 of the date with that day number is converted, in
 -- nanoseconds: in a gap by the offset before it, in a fold the earlier one
@@ -40,3 +40,7 @@ IsOdd zone day = (start length : ℤ) × IsDay zone day start length × ((length
 -- what is said of the zone that a rule is read as
 abbrev pub InZone : List ℕ → (TimeZone → Type 0) → Type 0
 InZone rule P = (zone : TimeZone) × IsPosixZone rule zone × P zone
+
+-- the rule names no zone
+abbrev pub IsNoZone : List ℕ → Type 0
+IsNoZone rule = read_whole rule ≡ None

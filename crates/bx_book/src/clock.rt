@@ -1,7 +1,7 @@
 //! A day with the clock of its zone.
 
-ghost use Rattle.std.specs.Prelude.{◌≡◌, ◌+ℤ◌, ◌*ℤ◌, ◌↔◌, pos, IfOk, IfSome, IfNone, None, Err};
-ghost use Rattle.jiff.specs.Words.{IsTimestampNanos, read_whole};
+ghost use Rattle.std.specs.Prelude.{◌≡◌, ◌+ℤ◌, ◌*ℤ◌, ◌↔◌, pos, IfOk, IfSome, IfNone, Err};
+ghost use Rattle.jiff.specs.Words.{IsTimestampNanos};
 
 use crate::day::{Day, DayFault};
 use jiff::Timestamp;
@@ -17,13 +17,13 @@ pub struct Clock {
 impl Clock {
     ghost use Rattle.bx_book.specs.Clocks.{IsClock, Shows, clock_day, clock_start, clock_zone, shown_by};
     ghost use Rattle.bx_book.specs.Dates.{IsDateText, day_number};
-    ghost use Rattle.bx_book.specs.Days.{IsOut, IsOdd, InZone};
+    ghost use Rattle.bx_book.specs.Days.{IsOut, IsOdd, InZone, IsNoZone};
 
     /// The clock of a date under a POSIX zone rule, with the faults of `Day::new`.
     pub fn new(date: &str, zone: &str) -> Result<Clock, DayFault>
         ensures clock { IfOk result (IsClock date.now zone.now) }
         ensures bad_date { (result ≡ Err DayFault.BadDate) ↔ ¬ IsDateText date.now }
-        ensures bad_zone { result ≡ Err DayFault.BadZone → IsDateText date.now × (read_whole zone.now ≡ None) }
+        ensures bad_zone { result ≡ Err DayFault.BadZone → IsDateText date.now × IsNoZone zone.now }
         ensures out { result ≡ Err DayFault.OutOfRange → IsDateText date.now × InZone zone.now (λ z. IsOut z (day_number date.now)) }
         ensures odd { result ≡ Err DayFault.OddDay → IsDateText date.now × InZone zone.now (λ z. IsOdd z (day_number date.now)) }
     {

@@ -1,9 +1,9 @@
 //! A day, from one local midnight to the next.
 
-ghost use Rattle.std.specs.Prelude.{◌≡◌, ◌≢◌, ◌*◌, ◌<◌, ◌≤◌, ◌+ℤ◌, ◌-ℤ◌, ◌<ℤ◌, ◌≤ℤ◌, ◌⊎◌, ◌↔◌, ℕ, ℤ, pos, neg_ℤ, IfOk, IfSome, IfNone, None, Err};
-ghost use Rattle.jiff.specs.Words.{epoch_day, IsTimestampNanos, plain_zone, read_whole};
+ghost use Rattle.std.specs.Prelude.{◌≡◌, ◌≢◌, ◌*◌, ◌<◌, ◌≤◌, ◌+ℤ◌, ◌-ℤ◌, ◌<ℤ◌, ◌≤ℤ◌, ◌⊎◌, ◌↔◌, ℕ, ℤ, pos, neg_ℤ, IfOk, IfSome, IfNone, Err};
+ghost use Rattle.jiff.specs.Words.{epoch_day, IsTimestampNanos, plain_zone};
 ghost use Rattle.bx_book.specs.Dates.{IsDateText, day_number};
-ghost use Rattle.bx_book.specs.Days.{IsMidnight, NoMidnight, IsDay, IsOut, IsOdd, InZone, seconds_of};
+ghost use Rattle.bx_book.specs.Days.{IsMidnight, NoMidnight, IsDay, IsOut, IsOdd, InZone, IsNoZone, seconds_of};
 
 use crate::place::first_date;
 use jiff::civil::Date;
@@ -96,7 +96,7 @@ impl Day {
     pub fn new(date: &str, zone: &str) -> Result<Day, DayFault>
         ensures day { IfOk result (λ d. IsDateText date.now × InZone zone.now (λ z. IsDay z (day_number date.now) (start_of d) (pos (length_of d)))) }
         ensures bad_date { (result ≡ Err DayFault.BadDate) ↔ ¬ IsDateText date.now }
-        ensures bad_zone { result ≡ Err DayFault.BadZone → IsDateText date.now × (read_whole zone.now ≡ None) }
+        ensures bad_zone { result ≡ Err DayFault.BadZone → IsDateText date.now × IsNoZone zone.now }
         ensures out { result ≡ Err DayFault.OutOfRange → IsDateText date.now × InZone zone.now (λ z. IsOut z (day_number date.now)) }
         ensures odd { result ≡ Err DayFault.OddDay → IsDateText date.now × InZone zone.now (λ z. IsOdd z (day_number date.now)) }
     {
