@@ -1,3 +1,4 @@
 mod LastTurns
 mod ToldDays
 mod Refusals
+mod FileRefusals

@@ -1,5 +1,5 @@
 -- What a command of a day that stops before anything is written did to its output: nothing.
-use Rattle.std.proofs.Common.{ℕ, List, Option, refl, inl, inr, ◌⊎◌}
+use Rattle.std.proofs.Common.{ℕ, List, Option, refl, inl, inr}
 use Rattle.bx_base.specs.declared.watched.Watched.{Watched}
 use Rattle.bx_commands.specs.declared.fault.CommandFault.TheVariants.{CannotWrite}
 use Rattle.bx_words.specs.declared.request.CaptureWords.{CaptureWords}

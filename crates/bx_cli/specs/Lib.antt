@@ -1,4 +1,5 @@
 pub mod Days
 pub mod DayRefusals
-pub mod Inside
+pub mod FilePlans
+pub mod FileRefusals
 pub mod Answers

@@ -1,11 +1,10 @@
 //! The command that draws a plan.
 
 use crate::fault::CliFault;
-use crate::plan_files::open;
+use crate::plan_files::proved_in;
 use bx_base::Watched;
 use bx_book::Clock;
 use bx_chart::write_chart;
-use bx_commands::proved_plan;
 use std::fs::Files;
 use std::io::Write;
 
@@ -28,8 +27,7 @@ pub fn chart_file<'a, H: Files + AllocGlobal, W: Write>(
         Some((date, zone)) => Some(clock_of(date, zone)?),
         None => None,
     };
-    let mut input = open(rt, plan)?;
-    let plan = proved_plan(rt.alloc(), plan, &mut input)?;
+    let plan = proved_in(rt, plan)?;
     match write_chart(rt.alloc(), &plan, clock.as_ref(), output) {
         Ok(()) => Ok(()),
         Err(fault) => Err(CliFault::Chart(fault)),

@@ -7,10 +7,10 @@ ghost use Rattle.bx_cli.specs.DayRefusals.{IsNoOpening, IsNoFarEnd};
 ghost use Rattle.bx_cli.specs.Days.{IsLastOf, IsOpening, IsFarOpening};
 
 use crate::fault::CliFault;
-use crate::plan_files::open;
+use crate::plan_files::{open, proved_in};
 use bx_base::{Plan, ReadFault, read_octets};
 use bx_calls::timers::{T305, T308};
-use bx_commands::{CommandFault, proved_plan};
+use bx_commands::CommandFault;
 use bx_day::Exchange;
 use bx_far::{Far, Script, ScriptFault};
 use std::fs::Files;
@@ -50,13 +50,9 @@ pub fn opening_of<'a, H: Files + AllocGlobal>(
     ensures opened { IfOk result (λ opened. IsOpening turns opened.0 opened.1) }
     ensures refused { IfErr result (IsNoOpening name.now) }
 {
-    let mut input = match open(rt, name) {
-        Ok(input) => input,
-        Err(fault) => return Err(fault),
-    };
-    let plan = match proved_plan(rt.alloc(), name, &mut input) {
+    let plan = match proved_in(rt, name) {
         Ok(plan) => plan,
-        Err(fault) => return Err(CliFault::Command(fault)),
+        Err(fault) => return Err(fault),
     };
     let turns = match turns {
         Some(turns) => turns,

@@ -1,0 +1,28 @@
+-- What a planning run that wrote no plan says of the words.
+use Rattle.std.proofs.Common.{◌≡◌, List, Bool, subst}
+use Rattle.bx_base.specs.Devices.{Reading, Writing}
+use Rattle.bx_book.specs.Rows.{Span, span_of}
+use Rattle.bx_book.specs.Streams.{IsStreamFault}
+use Rattle.bx_book.specs.declared.day.Day.{Day}
+use Rattle.bx_book.specs.declared.fault.BookFault.{BookFault}
+use Rattle.bx_book.specs.declared.fault.BookFault.TheVariants as book
+use Rattle.bx_book.specs.declared.stream.StreamFault.TheVariants as stream
+use Rattle.bx_cli.specs.FilePlans.{AreTerms}
+use Rattle.bx_cli.specs.FileRefusals.{IsUnplanned}
+use Rattle.bx_commands.specs.Planning.{IsRunRefusal}
+use Rattle.bx_commands.specs.declared.planning.RunFault.{RunFault}
+use Rattle.bx_commands.specs.declared.planning.RunFault.TheVariants as run
+use Rattle.bx_words.specs.declared.request.Terms.{Terms}
+
+-- want of memory is no fault of a text
+no_memory : (file : Reading) (span : Span) (fault : BookFault) → IsStreamFault file span (stream.Book fault) → ¬ (fault ≡ book.Memory)
+no_memory file span fault why e = subst (λ (f : BookFault). IsStreamFault file span (stream.Book f)) e why
+
+pub unplanned : (terms : Terms) (file : Reading) (output : Writing) (channels : List Bool) (day : Day) (fault : RunFault) → AreTerms terms channels day
+    → IsRunRefusal file output (span_of day) channels fault → IsUnplanned terms output fault
+unplanned terms file output channels day run.ReadFailed named (why, kept) = kept
+unplanned terms file output channels day run.TooLong named (why, kept) = kept
+unplanned terms file output channels day (run.Book fault) named (why, kept) = (no_memory file (span_of day) fault why, kept)
+unplanned terms file output channels day (run.TooManyMust moment) named ((rows, read, many), kept) = (record { channels = channels; day = day; named = named; rows = rows; too_many = many }, kept)
+unplanned terms file output channels day run.WriteFailed named (faulted, cut) = (faulted, record { channels = channels; day = day; named = named; file = file; run = cut })
+unplanned terms file output channels day run.Memory named (why, kept) = kept
