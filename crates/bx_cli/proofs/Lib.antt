@@ -2,3 +2,4 @@ mod LastTurns
 mod ToldDays
 mod Refusals
 mod FileRefusals
+mod CallTimes

@@ -2,4 +2,6 @@ pub mod Days
 pub mod DayRefusals
 pub mod FilePlans
 pub mod FileRefusals
+pub mod PlanRefusals
+pub mod Inside
 pub mod Answers

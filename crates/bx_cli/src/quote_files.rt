@@ -1,31 +1,36 @@
 //! The commands that answer for what a plan refuses.
 
-ghost use Rattle.std.specs.Prelude.{OnOk};
+ghost use Rattle.std.specs.Prelude.{◌≤◌, ◌⊎◌, IfOk, IfErr, OnOk};
 ghost use Rattle.bx_base.specs.Devices.{writing_of};
+ghost use Rattle.bx_book.specs.Rows.{IsTimeFault, span_of};
 ghost use Rattle.bx_cli.specs.Answers.{IsExplained, IsQuoted};
+ghost use Rattle.bx_cli.specs.Inside.{AreTimesOf};
+ghost use Rattle.bx_cli.specs.PlanRefusals.{IsNotExplained, AreTimes, AreNoSeconds, IsNoCall, IsNotQuoted};
 
 use crate::fault::CliFault;
-use crate::plan_files::{day_of, open};
+use crate::plan_files::{day_of, proved_in};
 use bx_base::{Booking, Number, Watched};
-use bx_book::{BookFault, moment};
-use bx_commands::proved_plan;
+use bx_book::{BookFault, Day, moment};
 use bx_quote::{write_explained, write_quote, write_refused};
 use bx_words::Call;
 use std::fs::Files;
 use std::io::Write;
 
 /// Writes what each row that the plan in a file refuses pays, and what its seconds cost; or what one of them has to pay
-/// to be taken.
+/// to be taken. At a refusal nothing was written, except that where the output failed a front of that was.
 pub fn explain_file<'a, H: Files + AllocGlobal, W: Write>(
     rt: &H,
     plan: &'a str,
     row: Option<u16>,
     output: &mut Watched<W>,
 ) -> Result<(), CliFault<'a>>
-    ensures { OnOk result (IsExplained row (writing_of W.contents output.old output.new)) }
+    ensures explained { OnOk result (IsExplained row (writing_of W.contents output.old output.new)) }
+    ensures refused { IfErr result (IsNotExplained row plan.now W.contents output.old output.new) }
 {
-    let mut input = open(rt, plan)?;
-    let plan = proved_plan(rt.alloc(), plan, &mut input)?;
+    let plan = match proved_in(rt, plan) {
+        Ok(plan) => plan,
+        Err(fault) => return Err(fault),
+    };
     let done = match row {
         Some(row) => write_explained(rt.alloc(), &plan, row, output),
         None => write_refused(rt.alloc(), &plan, output),
@@ -36,18 +41,25 @@ pub fn explain_file<'a, H: Files + AllocGlobal, W: Write>(
     }
 }
 
-/// Writes what a call has to pay to be taken beside those of the plan in a file.
+/// Writes what a call has to pay to be taken beside those of the plan in a file. At a refusal nothing was written, except that
+/// where the output failed a front of that was.
 pub fn quote_file<'a, H: Files + AllocGlobal, W: Write>(
     rt: &H,
     plan: &'a str,
     call: &Call<'_>,
     output: &mut Watched<W>,
 ) -> Result<(), CliFault<'a>>
-    ensures { OnOk result (IsQuoted (writing_of W.contents output.old output.new)) }
+    ensures quoted { OnOk result (IsQuoted (writing_of W.contents output.old output.new)) }
+    ensures refused { IfErr result (IsNotQuoted call.now plan.now W.contents output.old output.new) }
 {
-    let booking = booking_of(call)?;
-    let mut input = open(rt, plan)?;
-    let plan = proved_plan(rt.alloc(), plan, &mut input)?;
+    let booking = match booking_of(call) {
+        Ok(booking) => booking,
+        Err(fault) => return Err(fault),
+    };
+    let plan = match proved_in(rt, plan) {
+        Ok(plan) => plan,
+        Err(fault) => return Err(fault),
+    };
     match write_quote(rt.alloc(), &plan, &booking, output) {
         Ok(()) => Ok(()),
         Err(fault) => Err(CliFault::Quote(fault)),
@@ -55,8 +67,13 @@ pub fn quote_file<'a, H: Files + AllocGlobal, W: Write>(
 }
 
 /// The booking of the call. Its pay and its number do not count.
-fn booking_of<'a>(call: &Call<'_>) -> Result<Booking, CliFault<'a>> {
-    let (start, end) = seconds_of(call)?;
+fn booking_of<'a>(call: &Call<'_>) -> Result<Booking, CliFault<'a>>
+    ensures { IfErr result (IsNoCall call.now) }
+{
+    let (start, end) = match seconds_of(call) {
+        Ok(seconds) => seconds,
+        Err(fault) => return Err(fault),
+    };
     if end <= start {
         return Err(CliFault::Book(BookFault::EndNotAfterStart(1)));
     }
@@ -71,25 +88,65 @@ fn booking_of<'a>(call: &Call<'_>) -> Result<Booking, CliFault<'a>> {
 }
 
 /// The seconds of the day at which the call starts and ends.
-fn seconds_of<'a>(call: &Call<'_>) -> Result<(u32, u32), CliFault<'a>> {
-    let read = match call.day {
-        Some((date, zone)) => {
-            let day = day_of(date, zone)?;
-            (
-                moment(call.start.as_bytes(), &day, 1),
-                moment(call.end.as_bytes(), &day, 1),
-            )
-        }
-        None => (second(call.start), second(call.end)),
+fn seconds_of<'a>(call: &Call<'_>) -> Result<(u32, u32), CliFault<'a>>
+    ensures times { IfOk result (λ s. AreTimesOf call.now s.0 s.1) }
+    ensures limit { IfOk result (λ s. s.1 ≤ 200000) }
+    ensures none { IfErr result (IsNoCall call.now) }
+{
+    let Some((date, zone)) = call.day else {
+        return match counted(call) {
+            Ok(seconds) => Ok(seconds),
+            Err(fault) => Err(CliFault::Book(fault)),
+        };
     };
-    match read {
-        (Ok(start), Ok(end)) => Ok((start, end)),
-        (Err(fault), _) | (_, Err(fault)) => Err(CliFault::Book(fault)),
+    let day = match day_of(date, zone) {
+        Ok(day) => day,
+        Err(fault) => return Err(fault),
+    };
+    match times_of(call, &day) {
+        Ok(seconds) => Ok(seconds),
+        Err(fault) => Err(CliFault::Book(fault)),
+    }
+}
+
+/// The seconds of the day at which the times of the call lie.
+fn times_of(call: &Call<'_>, day: &Day) -> Result<(u32, u32), BookFault>
+    ensures times { IfOk result (λ s. AreTimes (span_of day.now) call.now s.0 s.1) }
+    ensures limit { IfOk result (λ s. s.1 ≤ 200000) }
+    ensures none { IfErr result (λ fault. IsTimeFault (span_of day.now) 1 call.now.start.now fault ⊎ IsTimeFault (span_of day.now) 1 call.now.end.now fault) }
+{
+    // Read for the prover alone, which learns a limit from it.
+    let _seconds = day.length();
+    let start = match moment(call.start.as_bytes(), day, 1) {
+        Ok(start) => start,
+        Err(fault) => return Err(fault),
+    };
+    match moment(call.end.as_bytes(), day, 1) {
+        Ok(end) => Ok((start, end)),
+        Err(fault) => Err(fault),
+    }
+}
+
+/// The seconds of the call where they are counted.
+fn counted(call: &Call<'_>) -> Result<(u32, u32), BookFault>
+    ensures limit { IfOk result (λ s. s.1 ≤ 200000) }
+    ensures none { IfErr result AreNoSeconds }
+{
+    let start = match second(call.start) {
+        Ok(start) => start,
+        Err(fault) => return Err(fault),
+    };
+    match second(call.end) {
+        Ok(end) => Ok((start, end)),
+        Err(fault) => Err(fault),
     }
 }
 
 /// The second of a day that a decimal names, as in a plan text.
-fn second(word: &str) -> Result<u32, BookFault> {
+fn second(word: &str) -> Result<u32, BookFault>
+    ensures limit { IfOk result (λ second. second ≤ 200000) }
+    ensures none { IfErr result AreNoSeconds }
+{
     let is_decimal = word.bytes().all(|digit| digit.is_ascii_digit())
         && (word.len() == 1 || !word.starts_with('0'));
     if !is_decimal || word.is_empty() {
