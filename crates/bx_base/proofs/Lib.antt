@@ -3,3 +3,4 @@ pub mod Duality
 pub mod Overlaps
 pub mod OctetLemmas
 pub mod ChannelLists
+pub mod Orders

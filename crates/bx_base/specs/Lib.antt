@@ -12,3 +12,4 @@ pub mod Watching
 pub mod Octets
 pub mod FailingDevice
 pub mod Devices
+pub mod Orders

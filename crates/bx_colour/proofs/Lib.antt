@@ -1,5 +1,4 @@
 pub mod RunningLemmas
-pub mod OrderLemmas
 pub mod Sweeping
 pub mod Counting
 pub mod Outcome

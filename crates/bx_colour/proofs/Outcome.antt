@@ -6,7 +6,8 @@ use Rattle.bx_base.specs.Channels.{has_channel}
 use Rattle.bx_base.specs.Bookings.{Row, row_at, AreBookings, Overlap, is_running, Carries}
 use Rattle.bx_base.specs.Plans.{is_accepted, channel_at}
 use Rattle.bx_colour.specs.Colouring.{is_in, IsEarlier, channel_of, IsLowestFree, IsGiven, IsFirstFit, FitsChannels}
-use Rattle.bx_colour.specs.Orders.{row_in, IsOrder}
+use Rattle.bx_base.specs.Orders.{index_in as row_in}
+use Rattle.bx_colour.specs.Orders.{IsOrder}
 use Rattle.bx_colour.proofs.Sweeping.{IsSwept, has_one, running_on, no_channel_yet}
 use Rattle.bx_colour.proofs.Counting.{one_too_many}
 
@@ -38,8 +39,8 @@ some_free rows channels accepted order bookings is_order k here assigned until s
     let only : (j c : ℕ) → channel_of assigned j ≡ Some c → (j < length rows) × (is_in accepted j ≡ true) = λ j c e.
     (let m = swept.only j c e in
     let in_order : m.0 < length order = omega (arith, m.1) in
-    (omega (arith, has_one assigned j c e, swept.one_each), subst (λ i. is_in accepted i ≡ true) m.2 (is_order.each m.0 in_order).is_accepted)) in
-    let run = and_from (is_in accepted next) (is_running (row_at rows next) moment) entry.is_accepted (and_from _ _ (le-leb moment moment (omega arith)) (lt-ltb moment (row_at rows next).end (bookings.each next entry.within).in_order)) in
+    (omega (arith, has_one assigned j c e, swept.one_each), subst (λ i. is_in accepted i ≡ true) m.2 (is_order.each m.0 in_order).passes)) in
+    let run = and_from (is_in accepted next) (is_running (row_at rows next) moment) entry.passes (and_from _ _ (le-leb moment moment (omega arith)) (lt-ltb moment (row_at rows next).end (bookings.each next entry.within).in_order)) in
     let many = one_too_many rows channels accepted assigned moment on_each only next entry.within (no_channel_yet rows channels accepted order bookings is_order k here assigned until swept) run in
     omega (arith, many, fits.enough moment)
 
@@ -51,7 +52,7 @@ module _ (rows : List Row) (channels accepted : List Bool) (order : List (ℕ ×
   none_given i None e f = e
   none_given i (Some c) e f =
       let m = swept.only i c e in
-      let t = subst (λ j. is_in accepted j ≡ true) m.2 (is_order.each m.0 m.1).is_accepted in
+      let t = subst (λ j. is_in accepted j ≡ true) m.2 (is_order.each m.0 m.1).passes in
       cc
 
   pub first_fit : IsFirstFit rows channels accepted assigned

@@ -11,7 +11,8 @@ use Rattle.bx_base.specs.Channels.{has_channel}
 use Rattle.bx_base.specs.Bookings.{Row, row_at, AreBookings, is_running}
 use Rattle.bx_base.proofs.Overlaps.{ends_from_overlap}
 use Rattle.bx_colour.specs.Colouring.{IsEarlier, channel_of, IsTaken, IsLowestFree, IsGiven}
-use Rattle.bx_colour.specs.Orders.{row_in, IsOrder}
+use Rattle.bx_base.specs.Orders.{index_in as row_in}
+use Rattle.bx_colour.specs.Orders.{IsOrder}
 
 -- the first k rows in order have their channels, no other row has one, and until says when each channel's last row ends
 pub record IsSwept (rows : List Row) (channels : List Bool) (order : List (ℕ × ℕ)) (k : ℕ) (assigned : List (Option ℕ)) (until : List ℕ) : Type 0 where

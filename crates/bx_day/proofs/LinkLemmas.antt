@@ -1,110 +1,21 @@
 -- The accepted bookings by their starts, and from the last to the first each linked to the one before it.
-use Rattle.std.proofs.Common.{◌≡◌, ◌≢◌, ℕ, zero, suc, ◌+◌, ◌-◌, ◌≤◌, ◌<◌, Bool, true, false, eqb, List, [], ◌∷◌, ◌++◌, length, get_or, Option, Some, None, arith, refl, sym, subst, ap, ◌∙◌, inl, inr, slice_set, length-set, replicate}
+use Rattle.std.proofs.Common.{◌≡◌, ◌≢◌, ℕ, zero, suc, ◌+◌, ◌≤◌, ◌<◌, true, false, List, length, Option, Some, None, arith, refl, sym, subst, ap, ◌∙◌, inl, inr, slice_set, length-set, replicate}
 use Rattle.std.specs.Prelude.{is_some}
 use Rattle.std.specs.List.{AllByRecursion}
-use Rattle.std.specs.List.Sorted.{IsPermutation, IsSorted}
-use Rattle.std.specs.declared.cmp.Ordering.{Ordering}
-use Rattle.std.specs.Ordering.{nat_cmp, ordering_then, is_lt}
-use Rattle.std.proofs.lemmas.Bool.{true≢false, false≢true, cases_eq, cases_lt, eqb-true, eq-eqb, and_from, le-leb, lt-ltb, false_from_ne_true}
-use Rattle.std.proofs.lemmas.Bool.Decides.{nat_tests}
-use Rattle.std.proofs.lemmas.List.{get_or-set_same, get_or-set_other, get_or_default, get_or_append_left, get_or_push, length_push}
-use Rattle.std.proofs.lemmas.List.Elements.{All-from_get_or, Contains-get_or}
-use Rattle.std.proofs.lemmas.List.Sorted.{All-permutation, Contains-permutation}
-use Rattle.std.proofs.lemmas.Map.Keys.{apart_from_distinct, IsDistinct-from_apart, IsDistinct-IsPermutation}
+use Rattle.std.proofs.lemmas.Bool.{false≢true, cases_eq, cases_lt, and_from, le-leb, lt-ltb}
+use Rattle.std.proofs.lemmas.List.{get_or-set_same, get_or-set_other}
 use Rattle.bx_base.specs.Bookings.{is_running}
 use Rattle.bx_day.specs.Day.{entry_at}
 use Rattle.bx_day.specs.Invariant.{Apart, Pairs, is_refused}
-use Rattle.bx_day.specs.Linking.{no_start, index_in, start_in, IsStart, AreStarts, AreByStart, AreLinks}
+use Rattle.bx_base.specs.Orders.{index_in}
+use Rattle.bx_base.proofs.Orders.{not_later, indices_differ}
+use Rattle.bx_day.specs.Linking.{IsOffered, begins, AreByStart, AreLinks}
 use Rattle.bx_day.specs.Reading.{Seated}
 use Rattle.bx_day.specs.Slots.{slot_at, IsBehind}
 use Rattle.bx_day.specs.declared.entry.Entry.{Entry}
 use Rattle.bx_day.proofs.Once.{each_at}
 use Rattle.bx_day.proofs.LiveTurns.{pairs_at}
 use Rattle.bx_day.proofs.SlotLemmas.{some_is}
-
--- ---- the accepted ones, in the order of the bookings
-
-pub starts_skip : (es : List Entry) (n : ℕ) (order : List (ℕ × ℕ)) → is_refused (entry_at es n).standing ≡ true → AreStarts es n order → AreStarts es (n + 1) order
-starts_skip es n order out l = record {
-  each = l.each;
-  below = λ k h. omega (arith, l.below k h);
-  all = λ i h a. elim (cases_lt i n) [ inl b ↦ l.all i b a | inr b ↦ absurd (let e : i ≡ n = omega (arith, h, b) in true≢false (sym out ∙ subst (λ k. is_refused (entry_at es k).standing ≡ false) e a)) ];
-  rising = l.rising;
-}
-
-pub starts_more : (es : List Entry) (n : ℕ) (order : List (ℕ × ℕ)) (start : ℕ) → n < length es → is_refused (entry_at es n).standing ≡ false → start ≡ (entry_at es n).booking.start → AreStarts es n order → AreStarts es (n + 1) (order ++ (start, n) ∷ [])
-starts_more es n order start within taken start_is l =
-    let place : ℕ × ℕ = (start, n) in
-    let longer = order ++ place ∷ [] in
-    let size = length_push order place in
-    let old : (k : ℕ) → k < length order → get_or longer k no_start ≡ get_or order k no_start = λ k h. get_or_append_left order (place ∷ []) no_start k h in
-    let new : (k : ℕ) → k ≡ length order → get_or longer k no_start ≡ place = λ k e. get_or_push order place no_start k (sym e) in
-    let last : IsStart es place = record { inside = within; accepted = taken; start = start_is } in
-    record {
-      each = λ k h. elim (cases_lt k (length order)) [
-        | inl a ↦ subst (IsStart es) (sym (old k a)) (l.each k a)
-        | inr a ↦ subst (IsStart es) (sym (new k (omega arith))) last
-      ];
-      below = λ k h. elim (cases_lt k (length order)) [
-        | inl a ↦ omega (arith, ap (λ (p : ℕ × ℕ). p.1) (old k a), l.below k a)
-        | inr a ↦ omega (arith, ap (λ (p : ℕ × ℕ). p.1) (new k (omega arith)))
-      ];
-      all = λ i h t. elim (cases_lt i n) [
-        | inl a ↦ (let f = l.all i a t in (f.0, omega (arith, f.1, size), ap (λ (p : ℕ × ℕ). p.1) (old f.0 f.1) ∙ f.2))
-        | inr a ↦ (length order, omega (arith, size), ap (λ (p : ℕ × ℕ). p.1) (new (length order) refl) ∙ omega arith)
-      ];
-      rising = λ a b lt h.
-          let within_a : a < length order = omega arith in
-          let first = ap (λ (p : ℕ × ℕ). p.1) (old a within_a) in
-          elim (cases_lt b (length order)) [
-            | inl c ↦ omega (arith, first, ap (λ (p : ℕ × ℕ). p.1) (old b c), l.rising a b lt c)
-            | inr c ↦ omega (arith, first, ap (λ (p : ℕ × ℕ). p.1) (new b (omega arith)), l.below a within_a)
-          ];
-    }
-
--- ---- the same, sorted
-
-eqb_flips : (x y : ℕ) → eqb x y ≡ eqb y x
-eqb_flips x y = grind (arith, nat_tests)
-
-abbrev same_index : ℕ × ℕ → ℕ × ℕ → Bool
-same_index p q = eqb p.1 q.1
-
-abbrev pub pair_cmp : ℕ × ℕ → ℕ × ℕ → Ordering
-pair_cmp p q = ordering_then (nat_cmp p.0 q.0) (nat_cmp p.1 q.1)
-
-not_below : (a b c d : ℕ) → is_lt (ordering_then (nat_cmp a b) (nat_cmp c d)) ≡ false → b ≤ a
-not_below a b c d h = elim (cases_lt a b) [ inl l ↦ grind (arith, nat_tests) | inr l ↦ l ]
-
-rising_next : (order : List (ℕ × ℕ)) → IsSorted pair_cmp order → (k : ℕ) → k + 1 < length order → start_in order k ≤ start_in order (k + 1)
-rising_next order sorted k h = not_below (get_or order (k + 1) no_start).0 (get_or order k no_start).0 (get_or order (k + 1) no_start).1 (get_or order k no_start).1 (sorted k no_start (omega arith) h)
-
-rising_after : (order : List (ℕ × ℕ)) → IsSorted pair_cmp order → (a n : ℕ) → a + n + 1 < length order → start_in order a ≤ start_in order (a + n + 1)
-rising_after order sorted a zero h = subst (λ m. start_in order a ≤ start_in order (m + 1)) (omega arith) (rising_next order sorted a (omega arith))
-rising_after order sorted a (suc n) h =
-    let before = rising_after order sorted a n (omega arith) in
-    let last = rising_next order sorted (a + n + 1) (omega arith) in
-    subst (λ m. start_in order a ≤ start_in order m) (let q : a + n + 1 + 1 ≡ a + suc n + 1 = omega arith in q) (omega (arith, before, last))
-
-pub by_start_of : (es : List Entry) (listed order : List (ℕ × ℕ)) → AreStarts es (length es) listed → IsPermutation listed order → IsSorted pair_cmp order → AreByStart es order
-by_start_of es listed order l moved sorted =
-    let places = All-permutation (IsStart es) listed order moved (All-from_get_or (IsStart es) listed no_start l.each) in
-    let apart : (i j : ℕ) (d : ℕ × ℕ) → i < j → j < length listed → same_index (get_or listed i d) (get_or listed j d) ≡ false = λ i j d a b. false_from_ne_true _ (λ t.
-    let e = eqb-true _ _ t in
-    let first = get_or_default listed i d no_start (omega arith) in
-    let second = get_or_default listed j d no_start b in
-    omega (arith, l.rising i j a b, e, ap (λ (p : ℕ × ℕ). p.1) first, ap (λ (p : ℕ × ℕ). p.1) second)) in
-    let distinct = IsDistinct-IsPermutation same_index (λ x y. eqb_flips x.1 y.1) listed order moved (IsDistinct-from_apart same_index listed apart) in
-    record {
-      each = λ k h. places k no_start h;
-      all = λ i h t.
-          let f = l.all i h t in
-          let there = Contains-permutation listed order (get_or listed f.0 no_start) moved (Contains-get_or listed f.0 no_start f.1) in
-          let read = get_or_default order there.0 no_start (get_or listed f.0 no_start) there.1 ∙ there.2 in
-          (there.0, there.1, ap (λ (p : ℕ × ℕ). p.1) read ∙ f.2);
-      rising = λ a b lt h. subst (λ m. start_in order a ≤ start_in order m) (let q : a + (b - a - 1) + 1 ≡ b = omega (arith, lt) in q) (rising_after order sorted a (b - a - 1) (omega (arith, lt, h)));
-      apart = λ a b lt h same. true≢false (sym (eq-eqb _ _ same) ∙ apart_from_distinct same_index order a b no_start distinct lt h);
-    }
 
 -- ---- of two bookings of a channel the earlier ends before the later starts
 
@@ -162,14 +73,13 @@ later_place es order p i h lt inside accepted late =
     let f = h.sorted.all i inside accepted in
     let r = index_in order p in
     let here = h.sorted.each p lt in
-    let there = h.sorted.each f.0 f.1 in
-    let own : (entry_at es r).booking.start < (entry_at es r).booking.end = h.ordered r here.inside in
-    let place : start_in order f.0 ≡ (entry_at es i).booking.start = there.start ∙ ap (λ n. (entry_at es n).booking.start) f.2 in
+    let own : (entry_at es r).booking.start < (entry_at es r).booking.end = h.ordered r here.within in
+    let place : begins es (index_in order f.0) ≡ begins es i = ap (begins es) f.2 in
     elim (cases_lt p f.0) [
       | inl less ↦ (f.0, omega (arith, less), f.1, f.2)
       | inr le ↦ elim (cases_eq f.0 p) [
-        | inl same ↦ absurd (let q : start_in order f.0 ≡ start_in order p = ap (start_in order) same in omega (arith, q, place, here.start, own, late))
-        | inr other ↦ absurd (let q : start_in order f.0 ≤ start_in order p = h.sorted.rising f.0 p (omega (arith, le, other)) lt in omega (arith, q, place, here.start, own, late))
+        | inl same ↦ absurd (let q : begins es (index_in order f.0) ≡ begins es (index_in order p) = ap (λ n. begins es (index_in order n)) same in omega (arith, q, place, own, late))
+        | inr other ↦ absurd (let q = not_later (length es) (IsOffered es) (begins es) order h.sorted f.0 p (omega (arith, le, other)) lt in omega (arith, q, place, own, late))
       ]
     ]
 
@@ -178,7 +88,7 @@ place_ends : (es : List Entry) (order : List (ℕ × ℕ)) (p q : ℕ) → IsPla
 place_ends es order p q h less lt same =
     let a = h.sorted.each p (omega (arith, less, lt)) in
     let b = h.sorted.each q lt in
-    ends_first es (index_in order p) (index_in order q) h.apart a.inside b.inside (h.sorted.apart p q less lt) a.accepted b.accepted same (omega (arith, h.sorted.rising p q less lt, a.start, b.start)) (h.ordered (index_in order q) b.inside)
+    ends_first es (index_in order p) (index_in order q) h.apart a.within b.within (indices_differ (length es) (IsOffered es) (begins es) order h.sorted p q less lt) a.passes b.passes same (not_later (length es) (IsOffered es) (begins es) order h.sorted p q less lt) (h.ordered (index_in order q) b.within)
 
 -- the slot of the channel says what comes behind the next place
 behind_place : (es : List Entry) (order : List (ℕ × ℕ)) (p : ℕ) (heads behind : List (Option ℕ)) → IsPlan es order → p < length order → AreLinkedFrom es order (p + 1) heads behind → IsBehind es (index_in order p) (slot_at heads (entry_at es (index_in order p)).channel)
@@ -190,8 +100,8 @@ behind_place es order p heads behind h lt l =
           let b = h.sorted.each t.0 t.2 in
           let ends = place_ends es order p t.0 h (omega (arith, t.1)) t.2 (sym t.4 ∙ ap (λ n. (entry_at es n).channel) (sym t.3)) in
           record {
-            inside = subst (λ n. n < length es) t.3 b.inside;
-            accepted = subst (λ n. is_refused (entry_at es n).standing ≡ false) t.3 b.accepted;
+            inside = subst (λ n. n < length es) t.3 b.within;
+            accepted = subst (λ n. is_refused (entry_at es n).standing ≡ false) t.3 b.passes;
             channel = t.4;
             later = subst (λ n. (entry_at es r).booking.end ≤ (entry_at es n).booking.start) t.3 ends;
           };
@@ -209,8 +119,8 @@ from_next p q le other = omega (arith, le, other)
 pub one_linked : (es : List Entry) (order : List (ℕ × ℕ)) (p r c : ℕ) (heads behind : List (Option ℕ)) (o : Option ℕ) → IsPlan es order → p < length order → r ≡ index_in order p → c ≡ (entry_at es r).channel → o ≡ slot_at heads c → AreLinkedFrom es order (p + 1) heads behind → AreLinkedFrom es order p (slice_set heads c (Some r)) (slice_set behind r o)
 one_linked es order p r c heads behind o h lt is on follows l =
     let here = h.sorted.each p lt in
-    let inside : r < length es = subst (λ n. n < length es) (sym is) here.inside in
-    let high : (entry_at es (index_in order p)).channel ≤ 31 = ((each_at Seated es (index_in order p) here.inside h.seated).channel here.accepted).1 in
+    let inside : r < length es = subst (λ n. n < length es) (sym is) here.within in
+    let high : (entry_at es (index_in order p)).channel ≤ 31 = ((each_at Seated es (index_in order p) here.within h.seated).channel here.passes).1 in
     let at_c : c ≡ (entry_at es (index_in order p)).channel = on ∙ ap (λ n. (entry_at es n).channel) is in
     let own : slot_at (slice_set heads c (Some r)) c ≡ Some r = get_or-set_same heads c (Some r) None (omega (arith, high, at_c, l.head_size)) in
     let other : (k : ℕ) → k ≢ c → slot_at (slice_set heads c (Some r)) k ≡ slot_at heads k = λ k off. get_or-set_other heads c k (Some r) None off in
@@ -244,7 +154,7 @@ one_linked es order p r c heads behind o h lt is on follows l =
             let read : slot_at (slice_set behind r o) (index_in order p) ≡ slot_at heads (entry_at es (index_in order p)).channel = ap (slot_at (slice_set behind r o)) (sym is) ∙ get_or-set_same behind r o None (omega (arith, inside, l.behind_size)) ∙ follows ∙ ap (slot_at heads) at_c in
             subst (λ n. IsBehind es (index_in order n) (slot_at (slice_set behind r o) (index_in order n))) (sym e) (subst (IsBehind es (index_in order p)) (sym read) (behind_place es order p heads behind h lt l)))
         | inr away ↦ (
-            let differ : index_in order q ≢ r = λ same. h.sorted.apart p q (omega (arith, low, away)) inside' (sym is ∙ sym same) in
+            let differ : index_in order q ≢ r = λ same. indices_differ (length es) (IsOffered es) (begins es) order h.sorted p q (omega (arith, low, away)) inside' (sym is ∙ sym same) in
             subst (IsBehind es (index_in order q)) (sym (get_or-set_other behind r (index_in order q) o None differ)) (l.behinds q (from_next p q low away) inside'))
       ];
     }
@@ -257,7 +167,7 @@ all_linked es order heads behind h l = record {
     there = λ r is. (
         let t = l.there c r is in
         let b = h.sorted.each t.0 t.2 in
-        (subst (λ n. n < length es) t.3 b.inside, subst (λ n. is_refused (entry_at es n).standing ≡ false) t.3 b.accepted, t.4));
+        (subst (λ n. n < length es) t.3 b.within, subst (λ n. is_refused (entry_at es n).standing ≡ false) t.3 b.passes, t.4));
     each = λ i lt accepted on. (let f = h.sorted.all i lt accepted in subst (λ k. is_some (slot_at heads k) ≡ true) (ap (λ n. (entry_at es n).channel) f.2 ∙ on) (l.each f.0 (omega arith) f.1));
     first = λ i r lt accepted on is less. (
         let f = h.sorted.all i lt accepted in

@@ -1,39 +1,24 @@
 -- Private: the bookings of each channel in the order of their starts, as each one's follower.
-use Rattle.std.specs.Prelude.{◌≡◌, ◌≢◌, ℕ, ◌<◌, ◌≤◌, false, true, List, length, Option, Some, is_some, slice_index_or}
+use Rattle.std.specs.Prelude.{◌≡◌, ℕ, ◌<◌, false, true, List, length, Option, Some, is_some}
+use Rattle.bx_base.specs.Orders.{AreListed, AreInOrder}
 use Rattle.bx_day.specs.Day.{entry_at}
 use Rattle.bx_day.specs.Invariant.{is_refused}
 use Rattle.bx_day.specs.Slots.{slot_at, IsBehind}
 use Rattle.bx_day.specs.declared.entry.Entry.{Entry}
 
--- what stands in place of a booking beyond the last one of a list of starts and indices
-abbrev pub no_start : ℕ × ℕ
-no_start = (0, 0)
+abbrev pub IsOffered : List Entry → ℕ → Type 0
+IsOffered es i = is_refused (entry_at es i).standing ≡ false
 
-abbrev pub index_in : List (ℕ × ℕ) → ℕ → ℕ
-index_in order k = (slice_index_or order k no_start).1
+abbrev pub begins : List Entry → ℕ → ℕ
+begins es i = (entry_at es i).booking.start
 
-abbrev pub start_in : List (ℕ × ℕ) → ℕ → ℕ
-start_in order k = (slice_index_or order k no_start).0
-
--- an accepted booking with its start
-pub record IsStart (es : List Entry) (place : ℕ × ℕ) : Type 0 where
-  pub inside : place.1 < length es
-  pub accepted : is_refused (entry_at es place.1).standing ≡ false
-  pub start : place.0 ≡ (entry_at es place.1).booking.start
-
--- each accepted booking of the first n, in their order
-pub record AreStarts (es : List Entry) (n : ℕ) (order : List (ℕ × ℕ)) : Type 0 where
-  pub each : (k : ℕ) → k < length order → IsStart es (slice_index_or order k no_start)
-  pub below : (k : ℕ) → k < length order → index_in order k < n
-  pub all : (i : ℕ) → i < n → is_refused (entry_at es i).standing ≡ false → (k : ℕ) × (k < length order) × (index_in order k ≡ i)
-  pub rising : (a b : ℕ) → a < b → b < length order → index_in order a < index_in order b
+-- each accepted booking of the first n with its start, in their order
+abbrev pub AreStarts : List Entry → ℕ → List (ℕ × ℕ) → Type 0
+AreStarts es n order = AreListed (length es) (IsOffered es) (begins es) n order
 
 -- each accepted booking once, in the order of the starts
-pub record AreByStart (es : List Entry) (order : List (ℕ × ℕ)) : Type 0 where
-  pub each : (k : ℕ) → k < length order → IsStart es (slice_index_or order k no_start)
-  pub all : (i : ℕ) → i < length es → is_refused (entry_at es i).standing ≡ false → (k : ℕ) × (k < length order) × (index_in order k ≡ i)
-  pub rising : (a b : ℕ) → a < b → b < length order → start_in order a ≤ start_in order b
-  pub apart : (a b : ℕ) → a < b → b < length order → index_in order a ≢ index_in order b
+abbrev pub AreByStart : List Entry → List (ℕ × ℕ) → Type 0
+AreByStart es order = AreInOrder (length es) (IsOffered es) (begins es) order
 
 -- the first accepted booking of a channel, if it has one
 pub record IsFirstOn (es : List Entry) (c : ℕ) (o : Option ℕ) : Type 0 where

@@ -1,7 +1,7 @@
 use Rattle.std.proofs.Common.{◌≡◌, ◌<◌, ◌≤◌, ◌+◌, ◌-◌, ℕ, Some, None, slice_set, length, sym, ap, subst, ◌∙◌, arith, slice_index_or, refl}
 use Rattle.std.proofs.lemmas.List.{get_or_default}
 use Rattle.bx_day.specs.Day.{entry_at, no_entry}
-use Rattle.bx_day.specs.Linking.{no_start, index_in}
+use Rattle.bx_base.specs.Orders.{no_place as no_start, index_in}
 use Rattle.bx_day.specs.Reading.{Seated}
 use Rattle.bx_day.specs.declared.entry.Entry.{Entry}
 use Rattle.bx_day.proofs.Once.{each_at}
@@ -22,8 +22,8 @@ bounds-first-channel c =
     let place : c.index.result.now ≡ slice_index_or order p no_start = c.index.ensures ∙ get_or_default order p c.index.result.now no_start lt in
     let r = c.index.result.now.1 in
     let here = c.in_ok-order.ensures.each p lt in
-    let inside : r < length es = subst (λ (x : ℕ × ℕ). x.1 < length es) (sym place) here.inside in
-    let high : (entry_at es (index_in order p)).channel ≤ 31 = ((each_at Seated es (index_in order p) here.inside c.requires.seated).channel here.accepted).1 in
+    let inside : r < length es = subst (λ (x : ℕ × ℕ). x.1 < length es) (sym place) here.within in
+    let high : (entry_at es (index_in order p)).channel ≤ 31 = ((each_at Seated es (index_in order p) here.within c.requires.seated).channel here.passes).1 in
     omega (arith, high, ap (λ (x : ℕ × ℕ). (entry_at es x.1).channel) place, ap (λ (e : Entry). e.channel) (get_or_default es r c.index-entries-index.result no_entry inside))
 
 pub bounds-first-channel-in-loop-k : goal.bounds-first-channel-in-loop-k
@@ -35,8 +35,8 @@ bounds-first-channel-in-loop-k c =
     let place : c.index.result.now ≡ slice_index_or order p no_start = c.index.ensures ∙ get_or_default order p c.index.result.now no_start lt in
     let r = c.index.result.now.1 in
     let here = c.in_ok-order.ensures.each p lt in
-    let inside : r < length es = subst (λ (x : ℕ × ℕ). x.1 < length es) (sym place) here.inside in
-    let high : (entry_at es (index_in order p)).channel ≤ 31 = ((each_at Seated es (index_in order p) here.inside c.requires.seated).channel here.accepted).1 in
+    let inside : r < length es = subst (λ (x : ℕ × ℕ). x.1 < length es) (sym place) here.within in
+    let high : (entry_at es (index_in order p)).channel ≤ 31 = ((each_at Seated es (index_in order p) here.within c.requires.seated).channel here.passes).1 in
     omega (arith, high, ap (λ (x : ℕ × ℕ). (entry_at es x.1).channel) place, ap (λ (e : Entry). e.channel) (get_or_default es r c.index-entries-index.result no_entry inside))
 
 pub loop-k-preserved : goal.loop-k-preserved
@@ -48,7 +48,7 @@ loop-k-preserved c =
     let place : c.index.result.now ≡ slice_index_or order p no_start = c.index.ensures ∙ get_or_default order p c.index.result.now no_start lt in
     let r = c.index.result.now.1 in
     let is : r ≡ index_in order p = ap (λ (x : ℕ × ℕ). x.1) place in
-    let inside : r < length es = subst (λ (x : ℕ × ℕ). x.1 < length es) (sym place) (c.in_ok-order.ensures.each p lt).inside in
+    let inside : r < length es = subst (λ (x : ℕ × ℕ). x.1 < length es) (sym place) (c.in_ok-order.ensures.each p lt).within in
     let channel = (slice_index_or es r c.index-entries-index.result).channel in
     let on : channel ≡ (entry_at es r).channel = ap (λ (e : Entry). e.channel) (get_or_default es r c.index-entries-index.result no_entry inside) in
     let plan : IsPlan es order = record { sorted = c.in_ok-order.ensures; apart = c.requires.apart; seated = c.requires.seated; ordered = c.requires.ordered } in
