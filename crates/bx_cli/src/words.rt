@@ -41,7 +41,7 @@ pub fn main_words<
     // Without words, 0 says that what was read is the text of a plan that is proved with some total, and that just
     // the line of that total was written.
     ensures done { words.now ≡ [] → result ≡ 0 → (total : ℕ)
-        × ((text : List ℕ) → R.remaining (device_of input.old) ≡ Some text → IsProvedText text total)
+        × IsProvedText (R.remaining (device_of input.old)) total
         × Appends (W.contents (device_of output.old)) (W.contents (device_of output.new)) (proved_line total) }
     // Else it was refused.
     ensures refused { words.now ≡ [] → result ≢ 0 → (result ≡ 1) × (fault : CommandFault) × IsRefusal (reading_of R.remaining input.old input.new) (writing_of W.contents output.old output.new) fault }

@@ -1,5 +1,5 @@
 -- What a proved plan text says.
-use Rattle.std.specs.Prelude.{◌≡◌, ℕ, ◌≤◌, Bool, List, [], ◌∷◌, ◌++◌, Ok, codes, decimal}
+use Rattle.std.specs.Prelude.{◌≡◌, ℕ, ◌≤◌, Bool, List, [], ◌∷◌, ◌++◌, Option, Some, Ok, codes, decimal}
 use Rattle.bx_base.specs.Bookings.{Row, Carries, IsLawful, pay_of}
 use Rattle.bx_base.specs.Plans.{is_accepted, channel_at}
 use Rattle.bx_base.specs.PlanParts.{Parts, IsPlan}
@@ -24,16 +24,16 @@ pub record IsProvedFor (rows : List Row) (channels : List Bool) (plan : Parts) (
   pub outcome : IsOutcome rows channels plan (Ok total)
   pub best : IsBest plan total
 
--- the octets are the text of a plan that is proved for these bookings and channels
-pub record IsProvedAgainst (rows : List Row) (channels : List Bool) (text : List ℕ) (total : ℕ) : Type 0 where
+-- a plan is proved for these bookings and channels, and what there was to read, where the input tells it, is its text
+pub record IsProvedAgainst (rows : List Row) (channels : List Bool) (before : Option (List ℕ)) (total : ℕ) : Type 0 where
   pub plan : Parts
-  pub text_of : IsPlanText text plan
+  pub text_of : (text : List ℕ) → before ≡ Some text → IsPlanText text plan
   pub proved : IsProvedFor rows channels plan total
 
--- the octets are the text of a plan that is proved for its own bookings and channels
-pub record IsProvedText (text : List ℕ) (total : ℕ) : Type 0 where
+-- the same of a plan that is proved for its own bookings and channels
+pub record IsProvedText (before : Option (List ℕ)) (total : ℕ) : Type 0 where
   pub plan : Parts
-  pub text_of : IsPlanText text plan
+  pub text_of : (text : List ℕ) → before ≡ Some text → IsPlanText text plan
   pub proved : IsProvedFor plan.rows plan.channels plan total
 
 -- what is written of a proved total

@@ -1,5 +1,5 @@
 -- What each refusal of a check says of the octets that were read, and of what was written.
-use Rattle.std.specs.Prelude.{◌≡◌, ℕ, true, Bool, List, Some, Err, codes, ◌⊎◌}
+use Rattle.std.specs.Prelude.{◌≡◌, ℕ, true, Bool, List, Option, Some, Err, codes, ◌⊎◌}
 use Rattle.bx_base.specs.Bookings.{Row}
 use Rattle.bx_base.specs.Devices.{Reading, Writing, KeepsOutput}
 use Rattle.bx_base.specs.Octets.{AppendsPrefix, ReadsFront, ReadsWithin, RunsOutOfReads}
@@ -27,40 +27,40 @@ IsNoPlan name input (Plan fault) = (text : List ℕ) → input.before ≡ Some t
 IsNoPlan name input Memory = IsRefusedGrowth input
 IsNoPlan name input _ = ⊥
 
--- the octets are a plan's text, and this fault is the first that the check finds in it
-pub record IsFaultyText (text : List ℕ) (fault : CheckFault) : Type 0 where
+-- this fault is the first that the check finds in a plan, and what there was to read, where the input tells it, is its text
+pub record IsFaultyText (before : Option (List ℕ)) (fault : CheckFault) : Type 0 where
   pub plan : Parts
-  pub text_of : IsPlanText text plan
+  pub text_of : (text : List ℕ) → before ≡ Some text → IsPlanText text plan
   pub outcome : IsOutcome plan.rows plan.channels plan (Err fault)
 
 -- why there is no plan of an input that is proved for its own bookings and channels
 abbrev pub IsUnproved : List ℕ → Reading → CommandFault → Type 0
 IsUnproved name input (CannotRead n) = IsUnread name input n.now
 IsUnproved name input (Plan fault) = (text : List ℕ) → input.before ≡ Some text → read_all text ≡ Err fault
-IsUnproved name input (Check fault) = (text : List ℕ) → input.before ≡ Some text → IsFaultyText text fault
+IsUnproved name input (Check fault) = IsFaultyText input.before fault
 IsUnproved name input Memory = IsRefusedGrowth input
 IsUnproved name input _ = ⊥
 
--- the same for these bookings and channels
-pub record IsFaultyAgainst (rows : List Row) (channels : List Bool) (text : List ℕ) (fault : CheckFault) : Type 0 where
+-- the same against these bookings and channels
+pub record IsFaultyAgainst (rows : List Row) (channels : List Bool) (before : Option (List ℕ)) (fault : CheckFault) : Type 0 where
   pub plan : Parts
-  pub text_of : IsPlanText text plan
+  pub text_of : (text : List ℕ) → before ≡ Some text → IsPlanText text plan
   pub outcome : IsOutcome rows channels plan (Err fault)
 
 -- a refusal says what went wrong, and that nothing was written, or a front of what was to be written
 abbrev pub IsRefusal : Reading → Writing → CommandFault → Type 0
 IsRefusal input output (CannotRead n) = IsUnread (codes "-") input n.now × KeepsOutput output
-IsRefusal input output CannotWrite = (output.is_faulted ≡ true) × ((text : List ℕ) → input.before ≡ Some text → (total : ℕ) × IsProvedText text total × AppendsPrefix output.before output.after (proved_line total))
+IsRefusal input output CannotWrite = (output.is_faulted ≡ true) × ((total : ℕ) × IsProvedText input.before total × AppendsPrefix output.before output.after (proved_line total))
 IsRefusal input output (Plan fault) = ((text : List ℕ) → input.before ≡ Some text → read_all text ≡ Err fault) × KeepsOutput output
-IsRefusal input output (Check fault) = ((text : List ℕ) → input.before ≡ Some text → IsFaultyText text fault) × KeepsOutput output
+IsRefusal input output (Check fault) = IsFaultyText input.before fault × KeepsOutput output
 IsRefusal input output Memory = IsRefusedGrowth input × KeepsOutput output
 IsRefusal input output _ = ⊥
 
 -- the same for a plan of an input of this name, against these bookings and channels
 abbrev pub IsRefusalAgainst : List Row → List Bool → List ℕ → Reading → Writing → CommandFault → Type 0
 IsRefusalAgainst rows channels name input output (CannotRead n) = IsUnread name input n.now × KeepsOutput output
-IsRefusalAgainst rows channels name input output CannotWrite = (output.is_faulted ≡ true) × ((text : List ℕ) → input.before ≡ Some text → (total : ℕ) × IsProvedAgainst rows channels text total × AppendsPrefix output.before output.after (proved_line total))
+IsRefusalAgainst rows channels name input output CannotWrite = (output.is_faulted ≡ true) × ((total : ℕ) × IsProvedAgainst rows channels input.before total × AppendsPrefix output.before output.after (proved_line total))
 IsRefusalAgainst rows channels name input output (Plan fault) = ((text : List ℕ) → input.before ≡ Some text → read_all text ≡ Err fault) × KeepsOutput output
-IsRefusalAgainst rows channels name input output (Check fault) = ((text : List ℕ) → input.before ≡ Some text → IsFaultyAgainst rows channels text fault) × KeepsOutput output
+IsRefusalAgainst rows channels name input output (Check fault) = IsFaultyAgainst rows channels input.before fault × KeepsOutput output
 IsRefusalAgainst rows channels name input output Memory = IsRefusedGrowth input × KeepsOutput output
 IsRefusalAgainst rows channels name input output _ = ⊥

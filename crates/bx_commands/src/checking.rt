@@ -120,8 +120,8 @@ pub fn check_self<'a, R: Read, W: Write>(
     input: &mut Watched<R>,
     output: &mut Watched<W>,
 ) -> Result<u64, CommandFault<'a>>
-    // What was read to its end is the text of a plan that is proved with this total.
-    ensures proved { IfOk result (λ total. (text : List ℕ) → R.remaining (device_of input.old) ≡ Some text → IsProvedText text total) }
+    // A plan is proved with this total, and what was read to its end is its text.
+    ensures proved { IfOk result (IsProvedText (R.remaining (device_of input.old))) }
     ensures read { OnOk result (IsAtEnd (R.remaining (device_of input.new))) }
     ensures written { IfOk result (λ total. Appends (W.contents (device_of output.old)) (W.contents (device_of output.new)) (proved_line total)) }
     ensures refused { IfErr result (IsRefusal (reading_of R.remaining input.old input.new) (writing_of W.contents output.old output.new)) }
@@ -142,7 +142,7 @@ pub fn check_against<'a, R: Read, W: Write>(
     input: &mut Watched<R>,
     output: &mut Watched<W>,
 ) -> Result<u64, CommandFault<'a>>
-    ensures proved { IfOk result (λ total. (text : List ℕ) → R.remaining (device_of input.old) ≡ Some text → IsProvedAgainst bookings.now channels text total) }
+    ensures proved { IfOk result (IsProvedAgainst bookings.now channels (R.remaining (device_of input.old))) }
     ensures read { OnOk result (IsAtEnd (R.remaining (device_of input.new))) }
     ensures written { IfOk result (λ total. Appends (W.contents (device_of output.old)) (W.contents (device_of output.new)) (proved_line total)) }
     ensures refused { IfErr result (IsRefusalAgainst bookings.now channels name.now (reading_of R.remaining input.old input.new) (writing_of W.contents output.old output.new)) }
