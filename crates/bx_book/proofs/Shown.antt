@@ -6,12 +6,12 @@ use Rattle.std.specs.Int.{int_rem_euclid}
 use Rattle.jiff_core.specs.Date.{epoch_day}
 use Rattle.jiff_core.specs.DateTime.{civil_nanos}
 use Rattle.jiff_core.specs.Time.{time_seconds}
-use Rattle.jiff_core.specs.Timestamp.{IsTimestampNanos}
+use Rattle.jiff_core.specs.Timestamp.{IsTimestampNanos, nanos_of_seconds}
 use Rattle.jiff_core.specs.declared.civil.datetime.DateTime.{DateTime}
 use Rattle.jiff_core.specs.declared.civil.time.Time.{Time}
 use Rattle.jiff_tz.specs.Zone.{offset_at}
 use Rattle.jiff_tz.specs.declared.timezone.TimeZone.{TimeZone}
-use Rattle.bx_book.specs.Clocks.{Shows, shown_second, is_instant, shown_by, clock_start, clock_zone}
+use Rattle.bx_book.specs.Clocks.{Shows, shown_second, is_instant, shown_by, second_shown_by, clock_start, clock_zone}
 use Rattle.bx_book.specs.declared.clock.Clock.{Clock}
 
 -- whole seconds on both sides leave no fraction
@@ -42,13 +42,16 @@ nanos_are at local e = whole (epoch_day at.date) local (time_seconds at.time) at
 joined : (second offset : ℤ) → (second *ℤ pos 1_000_000_000) +ℤ (offset *ℤ pos 1_000_000_000) ≡ (second +ℤ offset) *ℤ pos 1_000_000_000
 joined second offset = omega (arith, ints)
 
+seconds_are : (zone : TimeZone) (second : ℤ) (at : DateTime) → civil_nanos at ≡ (second *ℤ pos 1_000_000_000) +ℤ nanos_of_seconds (offset_at zone (second *ℤ pos 1_000_000_000)) → shown_second zone second ≡ time_seconds at.time
+seconds_are zone second at moved =
+    let offset = offset_at zone (second *ℤ pos 1_000_000_000) in
+    let local = nanos_are at (second +ℤ offset) (moved ∙ joined second offset) in
+    ap unsigned_abs (rest (epoch_day at.date) (second +ℤ offset) (time_seconds at.time) (below at.time) local)
+
 pub shown_is : (zone : TimeZone) (second : ℤ) (h m : ℕ) → Shows zone second h m → (h ≡ shown_second zone second / 3600) × (m ≡ shown_second zone second / 60 % 60)
 shown_is zone second h m s =
-    let offset = offset_at zone (second *ℤ pos 1_000_000_000) in
     let time = s.at.time in
-    let local = nanos_are s.at (second +ℤ offset) (s.moved ∙ joined second offset) in
-    let seconds : shown_second zone second ≡ time_seconds time = ap unsigned_abs (rest (epoch_day s.at.date) (second +ℤ offset) (time_seconds time) (below time) local) in
-    let is = parts time.hour time.minute time.second (shown_second zone second) time.minute_in time.second_in seconds in
+    let is = parts time.hour time.minute time.second (shown_second zone second) time.minute_in time.second_in (seconds_are zone second s.at s.moved) in
     (s.hour_is ∙ is.0, s.minute_is ∙ is.1)
 
 in_range : (second : ℤ) → is_instant second ≡ true → IsTimestampNanos (second *ℤ pos 1_000_000_000)
@@ -73,7 +76,7 @@ is_out second h = by (is_instant second) refl
     by true e = absurd (h (in_range second e))
     by false e = refl
 
-chosen : (b t : Bool) (o : Option (ℕ × ℕ)) → b ≡ t → (if t then o else None) ≡ (if b then o else None)
+chosen : {A : Type 0} (b t : Bool) (o : Option A) → b ≡ t → (if t then o else None) ≡ (if b then o else None)
 chosen b t o e = ap (λ x. if x then o else None) (sym e)
 
 pub none_shown : (clock : Clock) (moment : ℕ) → ¬ IsTimestampNanos ((clock_start clock +ℤ pos moment) *ℤ pos 1_000_000_000) → None ≡ shown_by clock moment
@@ -86,3 +89,17 @@ some_shown clock moment h m range shows =
     let second = clock_start clock +ℤ pos moment in
     let is = shown_is (clock_zone clock) second h m shows in
     ap (λ x. Some (x, m)) is.0 ∙ ap (λ x. Some (shown_second (clock_zone clock) second / 3600, x)) is.1 ∙ chosen (is_instant second) true _ (is_in second range)
+
+pub no_second : (clock : Clock) (moment : ℕ) → ¬ IsTimestampNanos ((clock_start clock +ℤ pos moment) *ℤ pos 1_000_000_000) → None ≡ second_shown_by clock moment
+unfolding second_shown_by
+no_second clock moment h = chosen (is_instant (clock_start clock +ℤ pos moment)) false _ (is_out (clock_start clock +ℤ pos moment) h)
+
+moved_by : (zone : TimeZone) (second n : ℤ) (at : DateTime) → n ≡ second *ℤ pos 1_000_000_000 → civil_nanos at ≡ n +ℤ nanos_of_seconds (offset_at zone n) → civil_nanos at ≡ (second *ℤ pos 1_000_000_000) +ℤ nanos_of_seconds (offset_at zone (second *ℤ pos 1_000_000_000))
+moved_by zone second n at e moved = moved ∙ ap (λ (x : ℤ). x +ℤ nanos_of_seconds (offset_at zone x)) e
+
+pub second_is : (clock : Clock) (moment : ℕ) (n : ℤ) (at : DateTime) (s : ℕ) → IsTimestampNanos ((clock_start clock +ℤ pos moment) *ℤ pos 1_000_000_000) → n ≡ (clock_start clock +ℤ pos moment) *ℤ pos 1_000_000_000 → civil_nanos at ≡ n +ℤ nanos_of_seconds (offset_at (clock_zone clock) n) → s ≡ time_seconds at.time → Some s ≡ second_shown_by clock moment
+unfolding second_shown_by
+second_is clock moment n at s range e moved is =
+    let second = clock_start clock +ℤ pos moment in
+    let seconds = seconds_are (clock_zone clock) second at (moved_by (clock_zone clock) second n at e moved) in
+    ap Some (is ∙ sym seconds) ∙ chosen (is_instant second) true _ (is_in second range)

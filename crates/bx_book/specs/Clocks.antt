@@ -50,3 +50,8 @@ unfoldable pub shown_by : Clock → ℕ → Option (ℕ × ℕ)
 shown_by c moment = let second = clock_start c +ℤ pos moment in
     let shown = shown_second (clock_zone c) second in
     if is_instant second then Some (shown / 3600, shown / 60 % 60) else None
+
+-- how many seconds from midnight on a clock shows then, or none outside that range
+unfoldable pub second_shown_by : Clock → ℕ → Option ℕ
+second_shown_by c moment = let second = clock_start c +ℤ pos moment in
+    if is_instant second then Some (shown_second (clock_zone c) second) else None

@@ -1,6 +1,6 @@
 //! A day with the clock of its zone.
 
-ghost use Rattle.std.specs.Prelude.{◌≡◌, ◌+ℤ◌, ◌*ℤ◌, ◌↔◌, pos, IfOk, IfSome, IfNone, Err};
+ghost use Rattle.std.specs.Prelude.{◌≡◌, ◌<◌, ◌+ℤ◌, ◌*ℤ◌, ◌↔◌, pos, IfOk, IfSome, IfNone, Err};
 ghost use Rattle.jiff.specs.Words.{IsTimestampNanos};
 
 use crate::day::{Day, DayFault};
@@ -15,7 +15,7 @@ pub struct Clock {
 }
 
 impl Clock {
-    ghost use Rattle.bx_book.specs.Clocks.{IsClock, Shows, clock_day, clock_start, clock_zone, shown_by};
+    ghost use Rattle.bx_book.specs.Clocks.{IsClock, Shows, clock_day, clock_start, clock_zone, second_shown_by, shown_by};
     ghost use Rattle.bx_book.specs.Dates.{IsDateText, day_number};
     ghost use Rattle.bx_book.specs.Days.{IsOut, IsOdd, InZone, IsNoZone};
 
@@ -53,6 +53,24 @@ impl Clock {
             Ok(at) => {
                 let shown = self.zone.to_datetime(at);
                 Some((shown.hour().unsigned_abs(), shown.minute().unsigned_abs()))
+            }
+            Err(_) => None,
+        }
+    }
+
+    /// How many seconds from midnight on the clock shows so many seconds behind the day's start, below 86,400; none where that
+    /// is outside the range of `jiff`.
+    pub fn second_shown(&self, moment: u32) -> Option<u32>
+        ensures value { result ≡ second_shown_by self.now moment }
+        ensures limit { IfSome result (λ second. second < 86400) }
+    {
+        let instant = self.day.start() + i64::from(moment);
+        match Timestamp::from_second(instant) {
+            Ok(at) => {
+                let shown = self.zone.to_datetime(at);
+                let minutes = u32::from(shown.hour().unsigned_abs()) * 60
+                    + u32::from(shown.minute().unsigned_abs());
+                Some(minutes * 60 + u32::from(shown.second().unsigned_abs()))
             }
             Err(_) => None,
         }
