@@ -1,10 +1,12 @@
 -- The bars of a picture: one for each booking that the plan accepts.
-use Rattle.std.specs.Prelude.{ℕ, ◌+◌, ◌-◌, ◌*◌, Bool, List, [], ◌++◌, length, codes, decimal, nat_lt, ◌/◌, ◌%◌, if◌then◌else◌, zero, suc}
+use Rattle.std.specs.Prelude.{ℕ, ◌+◌, ◌-◌, ◌*◌, Bool, List, [], ◌++◌, length, codes, decimal, nat_lt, ◌/◌, ◌%◌, if◌then◌else◌, zero, suc, Option, Some, None, unwrap_or}
 use Rattle.bx_base.specs.Bookings.{Row, row_at}
 use Rattle.bx_base.specs.Channels.{has_channel}
 use Rattle.bx_base.specs.PlanParts.{Parts}
 use Rattle.bx_base.specs.Plans.{is_accepted, channel_at}
 use Rattle.bx_base.specs.Sums.{sum_below}
+use Rattle.bx_book.specs.Clocks.{second_shown_by}
+use Rattle.bx_book.specs.declared.clock.Clock.{Clock}
 
 -- the lane of a channel: how many channels in service have a lower number
 abbrev pub lane_of : List Bool → ℕ → ℕ
@@ -14,7 +16,7 @@ lane_of channels channel = sum_below channel (λ n. if has_channel channels n th
 abbrev pub two_digits : ℕ → List ℕ
 two_digits n = (if nat_lt n 10 then codes "0" else []) ++ decimal n
 
--- a second of the day as hours, minutes and seconds behind its midnight
+-- seconds from midnight on as hours, minutes and seconds
 abbrev pub clock : ℕ → List ℕ
 clock second = decimal (second / 3600) ++ codes ":" ++ two_digits (second / 60 % 60) ++ codes ":" ++ two_digits (second % 60)
 
@@ -37,9 +39,14 @@ pay_of row = row.number ++ codes " pays " ++ decimal row.pay
 abbrev pub words_of : Row → ℕ → List ℕ
 words_of row name = (codes "<title>row " ++ decimal name ++ codes ": ") ++ pay_of row
 
+-- a second behind the day's start in seconds from midnight: as the day's clock shows it, or without one, or out of its range, the same
+abbrev pub second_at : Option Clock → ℕ → ℕ
+second_at None second = second
+second_at (Some day_clock) second = unwrap_or (second_shown_by day_clock second) second
+
 -- its start and its end
-abbrev pub times_of : Row → List ℕ
-times_of row = codes ", " ++ clock row.start ++ codes " to " ++ clock row.end ++ codes "</title>"
+abbrev pub times_of : Option Clock → Row → List ℕ
+times_of day_clock row = codes ", " ++ clock (second_at day_clock row.start) ++ codes " to " ++ clock (second_at day_clock row.end) ++ codes "</title>"
 
 -- how wide and how high a bar is: a unit of its width is a second
 abbrev pub size_of : Row → List ℕ
@@ -50,18 +57,18 @@ abbrev pub place_of : Row → ℕ → List ℕ
 place_of row lane = (codes "<rect class='" ++ class_of row) ++ (codes "' x='" ++ decimal row.start ++ codes "' y='" ++ decimal (top_of row lane))
 
 -- the bar of a booking
-abbrev pub bar_of : Row → ℕ → ℕ → List ℕ
-bar_of row lane name = place_of row lane ++ size_of row ++ words_of row name ++ times_of row ++ codes "</rect>\n"
+abbrev pub bar_of : Option Clock → Row → ℕ → ℕ → List ℕ
+bar_of day_clock row lane name = place_of row lane ++ size_of row ++ words_of row name ++ times_of day_clock row ++ codes "</rect>\n"
 
 -- the bar of the booking at a place, or none where the plan refuses it
-abbrev pub bar_at : Parts → ℕ → List ℕ
-bar_at plan i = if is_accepted plan.assigned i then bar_of (row_at plan.rows i) (lane_of plan.channels (channel_at plan.assigned i)) (i + 1) else []
+abbrev pub bar_at : Parts → Option Clock → ℕ → List ℕ
+bar_at plan day_clock i = if is_accepted plan.assigned i then bar_of day_clock (row_at plan.rows i) (lane_of plan.channels (channel_at plan.assigned i)) (i + 1) else []
 
 -- the bars of the first n bookings, in their order
-abbrev pub bars_below : Parts → ℕ → List ℕ
-bars_below plan zero = []
-bars_below plan (suc n) = bars_below plan n ++ bar_at plan n
+abbrev pub bars_below : Parts → Option Clock → ℕ → List ℕ
+bars_below plan day_clock zero = []
+bars_below plan day_clock (suc n) = bars_below plan day_clock n ++ bar_at plan day_clock n
 
--- the bars of all that the plan accepts
-abbrev pub bars : Parts → List ℕ
-bars plan = bars_below plan (length plan.rows)
+-- the bars of all that the plan accepts, with the times of a clock where there is one
+abbrev pub bars : Parts → Option Clock → List ℕ
+bars plan day_clock = bars_below plan day_clock (length plan.rows)

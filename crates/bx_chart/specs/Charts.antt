@@ -16,7 +16,7 @@ pub record IsChart (plan : Parts) (clock : Option Clock) (text : List ℕ) : Typ
   pub plain : is_plain text ≡ true
   pub front : List ℕ
   pub between : List ℕ
-  pub parts : text ≡ (((front ++ bars plan) ++ between) ++ hours plan clock) ++ codes "</svg>\n"
+  pub parts : text ≡ (((front ++ bars plan clock) ++ between) ++ hours plan clock) ++ codes "</svg>\n"
 
 -- one was written
 pub record IsDrawn (plan : Parts) (clock : Option Clock) (output : Writing) : Type 0 where

@@ -1,24 +1,31 @@
 //! The bars of the accepted bookings.
 
-ghost use Rattle.std.specs.Prelude.{◌≡◌, ◌+◌, ◌<◌, ◌≤◌, ◌++◌, length, IfOk, OnOk, codes, decimal};
+ghost use Rattle.std.specs.Prelude.{◌≡◌, ◌+◌, ◌<◌, ◌≤◌, ◌++◌, length, IfOk, OnOk, codes, decimal, option_copied};
 ghost use Rattle.bx_base.specs.Bookings.{IsBooking};
 ghost use Rattle.bx_base.specs.Channels.{has_channel};
 ghost use Rattle.bx_base.specs.PlanParts.{parts_of};
-ghost use Rattle.bx_chart.specs.Bars.{lane_of, two_digits, clock, class_of, top_of, pay_of, words_of, times_of, size_of, place_of, bar_of, bars};
+ghost use Rattle.bx_chart.specs.Bars.{lane_of, two_digits, clock, class_of, top_of, pay_of, words_of, second_at, times_of, size_of, place_of, bar_of, bars};
 
 use crate::picture::Picture;
 use bx_base::{Booking, Channel, ChannelSet, Plan};
+use bx_book::Clock;
 use std::alloc::{AllocError, Global};
 
 /// The bars of all that the plan accepts.
-pub(crate) fn bars(alloc: Global, plan: &Plan) -> Result<Picture, AllocError>
-    ensures { IfOk result (λ picture. picture.text.items ≡ bars (parts_of plan.now)) }
+pub(crate) fn bars(alloc: Global, plan: &Plan, clock: Option<&Clock>) -> Result<Picture, AllocError>
+    ensures { IfOk result (λ picture. picture.text.items ≡ bars (parts_of plan.now) (option_copied clock.entry)) }
 {
     let mut picture = Picture::new(alloc);
     for index in 0..plan.bookings.len() {
         if let Some(channel) = plan.assigned[index as usize] {
             let lane = lane_of(&plan.channels, channel);
-            add_bar(&mut picture, &plan.bookings.nth(index), lane, index + 1)?;
+            add_bar(
+                &mut picture,
+                clock,
+                &plan.bookings.nth(index),
+                lane,
+                index + 1,
+            )?;
         }
     }
     Ok(picture)
@@ -51,14 +58,20 @@ pub(crate) fn is_in_service(channels: &ChannelSet, number: u8) -> bool
 }
 
 /// Adds the bar of a booking.
-fn add_bar(picture: &mut Picture, booking: &Booking, lane: u8, row: u16) -> Result<(), AllocError>
+fn add_bar(
+    picture: &mut Picture,
+    clock: Option<&Clock>,
+    booking: &Booking,
+    lane: u8,
+    row: u16,
+) -> Result<(), AllocError>
     requires lane { lane ≤ 31 }
-    ensures { OnOk result (picture.new.text.items ≡ picture.old.text.items ++ bar_of booking.now lane row) }
+    ensures { OnOk result (picture.new.text.items ≡ picture.old.text.items ++ bar_of (option_copied clock.entry) booking.now lane row) }
 {
     add_place(picture, booking, lane)?;
     add_size(picture, booking)?;
     add_words(picture, booking, row)?;
-    add_times(picture, booking)?;
+    add_times(picture, clock, booking)?;
     picture.add(b"</rect>\n")
 }
 
@@ -142,17 +155,34 @@ fn add_digits(picture: &mut Picture, booking: &Booking) -> Result<(), AllocError
 }
 
 /// Adds its start and its end.
-fn add_times(picture: &mut Picture, booking: &Booking) -> Result<(), AllocError>
-    ensures { OnOk result (picture.new.text.items ≡ picture.old.text.items ++ times_of booking.now) }
+fn add_times(
+    picture: &mut Picture,
+    clock: Option<&Clock>,
+    booking: &Booking,
+) -> Result<(), AllocError>
+    ensures { OnOk result (picture.new.text.items ≡ picture.old.text.items ++ times_of (option_copied clock.entry) booking.now) }
 {
     picture.add(b", ")?;
-    add_clock(picture, booking.start())?;
+    add_clock(picture, second_at(clock, booking.start()))?;
     picture.add(b" to ")?;
-    add_clock(picture, booking.end())?;
+    add_clock(picture, second_at(clock, booking.end()))?;
     picture.add(b"</title>")
 }
 
-/// Adds a second of the day as hours, minutes and seconds.
+/// A second behind the day's start in seconds from midnight on, as the day's clock shows it.
+fn second_at(clock: Option<&Clock>, second: u32) -> u32
+    ensures { result ≡ second_at (option_copied clock.entry) second }
+{
+    match clock {
+        Some(clock) => match clock.second_shown(second) {
+            Some(shown) => shown,
+            None => second,
+        },
+        None => second,
+    }
+}
+
+/// Adds seconds from midnight on as hours, minutes and seconds.
 fn add_clock(picture: &mut Picture, second: u32) -> Result<(), AllocError>
     ensures { OnOk result (picture.new.text.items ≡ picture.old.text.items ++ clock second) }
 {

@@ -47,7 +47,7 @@ fn chart(alloc: Global, plan: &Plan, clock: Option<&Clock>) -> Result<Picture, A
 {
     let sheet = Sheet::of(plan, clock);
     let mut picture = front(alloc, plan, &sheet)?;
-    let bars = bars(alloc, plan)?;
+    let bars = bars(alloc, plan, clock)?;
     let between = between(alloc, plan, &sheet)?;
     picture.add(bars.text())?;
     picture.add(between.text())?;
