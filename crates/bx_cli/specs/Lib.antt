@@ -3,5 +3,6 @@ pub mod DayRefusals
 pub mod FilePlans
 pub mod FileRefusals
 pub mod PlanRefusals
+pub mod Pictures
 pub mod Inside
 pub mod Answers
