@@ -1,5 +1,6 @@
--- What a planning run that wrote no plan says of the words.
-use Rattle.std.proofs.Common.{◌≡◌, List, Bool, subst}
+-- What a planning run that wrote no plan, and a check that wrote no total, say of the words.
+use Rattle.std.proofs.Common.{◌≡◌, ℕ, List, Bool, subst, inr}
+use Rattle.bx_base.specs.Bookings.{Row}
 use Rattle.bx_base.specs.Devices.{Reading, Writing}
 use Rattle.bx_book.specs.Rows.{Span, span_of}
 use Rattle.bx_book.specs.Streams.{IsStreamFault}
@@ -8,8 +9,11 @@ use Rattle.bx_book.specs.declared.fault.BookFault.{BookFault}
 use Rattle.bx_book.specs.declared.fault.BookFault.TheVariants as book
 use Rattle.bx_book.specs.declared.stream.StreamFault.TheVariants as stream
 use Rattle.bx_cli.specs.FilePlans.{AreTerms}
-use Rattle.bx_cli.specs.FileRefusals.{IsUnplanned}
+use Rattle.bx_cli.specs.FileRefusals.{IsUnplanned, IsUnchecked}
 use Rattle.bx_commands.specs.Planning.{IsRunRefusal}
+use Rattle.bx_commands.specs.Refusals.{IsRefusalAgainst}
+use Rattle.bx_commands.specs.declared.fault.CommandFault.{CommandFault}
+use Rattle.bx_commands.specs.declared.fault.CommandFault.TheVariants.{CannotRead, CannotWrite, Plan, Check, NotHex, Message, Memory}
 use Rattle.bx_commands.specs.declared.planning.RunFault.{RunFault}
 use Rattle.bx_commands.specs.declared.planning.RunFault.TheVariants as run
 use Rattle.bx_words.specs.declared.request.Terms.{Terms}
@@ -26,3 +30,15 @@ unplanned terms file output channels day (run.Book fault) named (why, kept) = (n
 unplanned terms file output channels day (run.TooManyMust moment) named ((rows, read, many), kept) = (record { channels = channels; day = day; named = named; rows = rows; too_many = many }, kept)
 unplanned terms file output channels day run.WriteFailed named (faulted, cut) = (faulted, record { channels = channels; day = day; named = named; file = file; run = cut })
 unplanned terms file output channels day run.Memory named (why, kept) = kept
+
+pub unchecked : (terms : Terms) (bookings plan : List ℕ) (file : Reading) (output : Writing) (rows : List Row) (channels : List Bool) (day : Day) (fault : CommandFault) → AreTerms terms channels day
+    → IsRefusalAgainst rows channels plan file output fault → IsUnchecked terms bookings plan output fault
+unchecked terms bookings plan file output rows channels day (CannotRead n) named ((same, why), kept) = (inr same, kept)
+unchecked terms bookings plan file output rows channels day CannotWrite named (faulted, (total, proved, cut)) =
+    (faulted, record { total = total; proved = record { channels = channels; day = day; named = named; rows = rows; plan = proved.plan; proved = proved.proved }; written = cut })
+unchecked terms bookings plan file output rows channels day (Plan fault) named (why, kept) = kept
+unchecked terms bookings plan file output rows channels day (Check fault) named (found, kept) =
+    (record { channels = channels; day = day; named = named; rows = rows; plan = found.plan; outcome = found.outcome }, kept)
+unchecked terms bookings plan file output rows channels day Memory named (why, kept) = kept
+unchecked terms bookings plan file output rows channels day NotHex named why = absurd why
+unchecked terms bookings plan file output rows channels day (Message fault) named why = absurd why

@@ -4,6 +4,7 @@ use Rattle.std.specs.Io.KnownBytes.{Appends}
 use Rattle.bx_base.specs.Bookings.{Row}
 use Rattle.bx_base.specs.Channels.{AreChannels, HasJust}
 use Rattle.bx_base.specs.Devices.{Reading, Writing}
+use Rattle.bx_base.specs.Octets.{AppendsPrefix}
 use Rattle.bx_base.specs.PlanParts.{Parts}
 use Rattle.bx_book.specs.Dates.{IsDateText, day_number}
 use Rattle.bx_book.specs.DayParts.{start_of, length_of}
@@ -12,7 +13,7 @@ use Rattle.bx_book.specs.Rows.{span_of}
 use Rattle.bx_book.specs.declared.day.Day.{Day}
 use Rattle.bx_commands.specs.Amending.{IsAmended}
 use Rattle.bx_commands.specs.Planning.{IsRun, IsCut}
-use Rattle.bx_commands.specs.Proved.{proved_line}
+use Rattle.bx_commands.specs.Proved.{IsProvedFor, proved_line}
 use Rattle.bx_planner.specs.Amending.{amended}
 use Rattle.bx_words.specs.declared.request.Terms.{Terms}
 
@@ -43,13 +44,26 @@ pub record IsPlanCut (terms : Terms) (output : Writing) : Type 0 where
   pub file : Reading
   pub run : IsCut file output (span_of day) channels
 
--- the words name a day and channels, and the line of a total was written
-pub record IsChecked (terms : Terms) (output : Writing) : Type 0 where
+-- a plan is proved with this total for some bookings on just the channels that the words name
+pub record IsProvedWith (terms : Terms) (total : ℕ) : Type 0 where
   pub channels : List Bool
   pub day : Day
   pub named : AreTerms terms channels day
+  pub rows : List Row
+  pub plan : Parts
+  pub proved : IsProvedFor rows channels plan total
+
+-- the line of such a total was written
+pub record IsChecked (terms : Terms) (output : Writing) : Type 0 where
   pub total : ℕ
+  pub proved : IsProvedWith terms total
   pub written : Appends output.before output.after (proved_line total)
+
+-- or a front of it
+pub record IsCheckCut (terms : Terms) (output : Writing) : Type 0 where
+  pub total : ℕ
+  pub proved : IsProvedWith terms total
+  pub written : AppendsPrefix output.before output.after (proved_line total)
 
 -- the words name a day, and the text of a best plan was written that holds all that some earlier plan accepts, for its
 -- bookings and for more

@@ -1,17 +1,19 @@
 -- Why a command on files is refused, and what it did to its output then.
-use Rattle.std.specs.Prelude.{◌≡◌, ℕ, true, Bool, List, Option, ◌⊎◌}
+use Rattle.std.specs.Prelude.{◌≡◌, ℕ, true, Bool, List, Option, Err, ◌⊎◌}
 use Rattle.bx_base.specs.Bookings.{Row}
 use Rattle.bx_base.specs.ChannelFaults.{IsFirstFault}
 use Rattle.bx_base.specs.Devices.{Writing, KeepsOutput, writing_of}
 use Rattle.bx_base.specs.PlanParts.{Parts}
 use Rattle.bx_base.specs.declared.watched.Watched.{Watched}
 use Rattle.bx_book.specs.Dates.{IsDateText, day_number}
-use Rattle.bx_book.specs.Days.{InZone, IsOut, IsOdd}
+use Rattle.bx_book.specs.Days.{InZone, IsNoZone, IsOut, IsOdd}
 use Rattle.bx_book.specs.declared.day.Day.{Day}
 use Rattle.bx_book.specs.declared.day.DayFault.{DayFault}
 use Rattle.bx_book.specs.declared.day.DayFault.TheVariants as day
 use Rattle.bx_book.specs.declared.fault.BookFault.TheVariants as book
-use Rattle.bx_cli.specs.FilePlans.{AreTerms, IsPlanCut}
+use Rattle.bx_check.specs.Check.{IsOutcome}
+use Rattle.bx_check.specs.declared.checker.CheckFault.{CheckFault}
+use Rattle.bx_cli.specs.FilePlans.{AreTerms, IsPlanCut, IsCheckCut}
 use Rattle.bx_cli.specs.declared.fault.CliFault.{CliFault}
 use Rattle.bx_cli.specs.declared.fault.CliFault.TheVariants as cli
 use Rattle.bx_commands.specs.Amending.{IsAmendRefusal}
@@ -29,7 +31,7 @@ use Rattle.bx_words.specs.declared.request.Terms.{Terms}
 -- this date and this zone name no day, and this is why
 abbrev pub IsDayFault : List ℕ → List ℕ → DayFault → Type 0
 IsDayFault date zone day.BadDate = ¬ IsDateText date
-IsDayFault date zone day.BadZone = IsDateText date
+IsDayFault date zone day.BadZone = IsDateText date × IsNoZone zone
 IsDayFault date zone day.OutOfRange = IsDateText date × InZone zone (λ z. IsOut z (day_number date))
 IsDayFault date zone day.OddDay = IsDateText date × InZone zone (λ z. IsOdd z (day_number date))
 
@@ -83,18 +85,27 @@ abbrev pub IsPlanRefusal : {W : Type 0} → Terms → List ℕ → (W → Option
 IsPlanRefusal terms bookings contents old new (cli.Run fault) = IsUnplanned terms (writing_of contents old new) fault
 IsPlanRefusal terms bookings contents old new fault = (AreNoTerms terms fault ⊎ IsUnopened bookings fault) × (new ≡ old)
 
--- no total was written: the output has failed; or nothing was, and one of the two files is not read, the second holds no plan text,
--- or none that is proved, or a growth was refused
-abbrev pub IsUnchecked : List ℕ → List ℕ → Writing → CommandFault → Type 0
-IsUnchecked bookings plan output (CannotRead n) = ((n.now ≡ bookings) ⊎ (n.now ≡ plan)) × KeepsOutput output
-IsUnchecked bookings plan output CannotWrite = output.is_faulted ≡ true
-IsUnchecked bookings plan output (Plan fault) = KeepsOutput output
-IsUnchecked bookings plan output (Check fault) = KeepsOutput output
-IsUnchecked bookings plan output Memory = KeepsOutput output
-IsUnchecked bookings plan output _ = ⊥
+-- this fault is the first that the check finds in some plan, for some bookings on just the channels that the words name
+pub record IsFoundFaulty (terms : Terms) (fault : CheckFault) : Type 0 where
+  pub channels : List Bool
+  pub day : Day
+  pub named : AreTerms terms channels day
+  pub rows : List Row
+  pub plan : Parts
+  pub outcome : IsOutcome rows channels plan (Err fault)
+
+-- no total was written: the output has failed behind a front of its line; or nothing was, and one of the two files is not read,
+-- the second holds no plan text, or none that is proved, or a growth was refused
+abbrev pub IsUnchecked : Terms → List ℕ → List ℕ → Writing → CommandFault → Type 0
+IsUnchecked terms bookings plan output (CannotRead n) = ((n.now ≡ bookings) ⊎ (n.now ≡ plan)) × KeepsOutput output
+IsUnchecked terms bookings plan output CannotWrite = (output.is_faulted ≡ true) × IsCheckCut terms output
+IsUnchecked terms bookings plan output (Plan fault) = KeepsOutput output
+IsUnchecked terms bookings plan output (Check fault) = IsFoundFaulty terms fault × KeepsOutput output
+IsUnchecked terms bookings plan output Memory = KeepsOutput output
+IsUnchecked terms bookings plan output _ = ⊥
 
 abbrev pub IsCheckRefusal : {W : Type 0} → Terms → List ℕ → List ℕ → (W → Option (List ℕ)) → Watched W → Watched W → CliFault → Type 0
-IsCheckRefusal terms bookings plan contents old new (cli.Command fault) = IsUnchecked bookings plan (writing_of contents old new) fault
+IsCheckRefusal terms bookings plan contents old new (cli.Command fault) = IsUnchecked terms bookings plan (writing_of contents old new) fault
 IsCheckRefusal terms bookings plan contents old new (cli.Book fault) = (¬ (fault ≡ book.Memory)) × (new ≡ old)
 IsCheckRefusal terms bookings plan contents old new fault = AreNoTerms terms fault × (new ≡ old)
 
