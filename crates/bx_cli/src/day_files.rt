@@ -17,8 +17,8 @@ use bx_capture::Captured;
 use bx_commands::CommandFault;
 use bx_day::Exchange;
 use bx_link::{Connection, End, run_both_ends, run_day, run_far_day};
+use bx_text::named_line;
 use bx_words::Sight;
-use itoa::Buffer;
 use std::fs::Files;
 use std::io::Write;
 use std::net::{Net, TcpListener, TcpStream};
@@ -189,9 +189,7 @@ fn write_ended<W: Write>(output: &mut Watched<W>, moment: u32) -> Result<(), Wri
     ensures cut { OnErr result (AppendsPrefix (W.contents (device_of output.old)) (W.contents (device_of output.new)) (ended_line moment)) }
     ensures refused { OnErr result (is_faulted output.new ≡ true) }
 {
-    write_octets(output, b"ended at ")?;
-    write_octets(output, Buffer::new().format(moment).as_bytes())?;
-    write_octets(output, b"\n")
+    write_octets(output, &named_line(b"ended at", u64::from(moment)))
 }
 
 /// The moment at which the day of a script ended, which was run towards the exchange that serves on the port, and whether all that

@@ -16,7 +16,7 @@ use bx_base::{
 };
 use bx_check::check;
 use bx_planfile::{PlanFault, read_plan};
-use itoa::Buffer;
+use bx_text::named_line;
 use std::alloc::Global;
 use std::io::{Read, Write};
 
@@ -86,9 +86,7 @@ fn write_proved<W: Write>(output: &mut Watched<W>, total: u64) -> Result<(), Wri
     ensures err { OnErr result (IsTrue (is_faulted output.new)) }
     ensures unfaulted { OnOk result (is_faulted output.new ≡ is_faulted output.old) }
 {
-    write_octets(output, b"proved ")?;
-    write_octets(output, Buffer::new().format(total).as_bytes())?;
-    write_octets(output, b"\n")
+    write_octets(output, &named_line(b"proved", total))
 }
 
 /// Checks the plan against these bookings and channels, and writes `proved `, the total and LF.
