@@ -1,5 +1,4 @@
 mod LastTurns
 mod ToldDays
 mod Refusals
-mod FileRefusals
-mod CallTimes
+mod Captures

@@ -30,12 +30,12 @@ module _ {R W : Type 0} {remaining : R → Option (List ℕ)} {contents : W → 
   run_alone (inl ended) = run_by ended.talks
   run_alone (inr (not_done, talks)) = absurd (not_done refl)
 
-  pub run_both : {S T : Type 0} {far : Passage FarDay S T} {near near' : Connection R W} → RunsBoth (min turns (300000 - d.moment)) (passage remaining contents near near' d d1) far (gave true) → IsDayRun asked d1
-  run_both (inl done) = run_by done.near_side.talks
-  run_both (inr (inl stopped)) = absurd (no_fault stopped.fault stopped.failed)
-  run_both (inr (inr (inl stopped))) = let e = stopped.failed in cc
-  run_both (inr (inr (inr (inl stopped)))) = absurd (no_fault stopped.fault stopped.failed)
-  run_both (inr (inr (inr (inr stopped)))) = absurd (no_fault stopped.fault stopped.failed)
+  pub run_both : {S T : Type 0} {near near' : Connection R W} (far : Passage FarDay S T) → RunsBoth (min turns (300000 - d.moment)) (passage remaining contents near near' d d1) far (gave true) → IsDayRun asked d1
+  run_both far (inl done) = run_by done.near_side.talks
+  run_both far (inr (inl stopped)) = absurd (no_fault stopped.fault stopped.failed)
+  run_both far (inr (inr (inl stopped))) = let e = stopped.failed in cc
+  run_both far (inr (inr (inr (inl stopped)))) = absurd (no_fault stopped.fault stopped.failed)
+  run_both far (inr (inr (inr (inr stopped)))) = absurd (no_fault stopped.fault stopped.failed)
 
 -- ---- the far end
 

@@ -1,28 +1,33 @@
 -- Why a command of a day is refused, and what it did to its output then.
-use Rattle.std.specs.Prelude.{◌≡◌, ℕ, true, IsTrue, List, Option, Some, None, is_some, ◌⊎◌}
+use Rattle.std.specs.Prelude.{◌≡◌, ℕ, true, List, Option, Some, None, MatchOption, ◌⊎◌}
 use Rattle.bx_base.specs.declared.watched.Watched.{Watched}
 use Rattle.bx_base.specs.Watching.{device_of, is_faulted}
-use Rattle.bx_commands.specs.declared.fault.CommandFault.TheVariants.{CannotRead, CannotWrite, Plan, Check, Memory}
+use Rattle.bx_book.specs.DayParts.{start_of}
+use Rattle.bx_book.specs.declared.day.Day.{Day}
+use Rattle.bx_book.specs.declared.day.DayFault.{DayFault}
+use Rattle.bx_capture.specs.Starts.{IsNameable}
+use Rattle.bx_commands.specs.declared.fault.CommandFault.TheVariants.{CannotRead, CannotWrite, Memory}
 use Rattle.bx_far.specs.declared.fault.ScriptFault.TheVariants as scripts
 use Rattle.bx_cli.specs.Days.{IsDayCut, IsFarCut}
 use Rattle.bx_cli.specs.declared.fault.CliFault.{CliFault}
-use Rattle.bx_cli.specs.declared.fault.CliFault.TheVariants.{Command, Day, Script, CannotListen, CannotConnect, CannotCapture, Capture, Link}
+use Rattle.bx_cli.specs.declared.fault.CliFault.TheVariants.{File, Script, CannotListen, CannotConnect, CannotCapture, Capture, Link}
+use Rattle.bx_files.specs.FilePlans.{IsDayOf}
+use Rattle.bx_files.specs.FileRefusals.{HasNoProvedPlan, IsDayFault}
+use Rattle.bx_files.specs.declared.fault.FileFault.TheVariants.{Command}
+use Rattle.bx_files.specs.declared.fault.FileFault.TheVariants as files
 use Rattle.bx_words.specs.declared.request.CaptureWords.{CaptureWords}
 
 -- ---- before anything is written
 
 -- a file of this name is not read, or holds no plan that is proved, or a growth is refused
 abbrev pub IsNoOpening : List ℕ → CliFault → Type 0
-IsNoOpening name (Command (CannotRead n)) = n.now ≡ name
-IsNoOpening name (Command (Plan fault)) = Unit {0}
-IsNoOpening name (Command (Check fault)) = Unit {0}
-IsNoOpening name (Command Memory) = Unit {0}
+IsNoOpening name (File fault) = HasNoProvedPlan name fault
 IsNoOpening name _ = ⊥
 
 -- a file of this name is not read, or holds no script, or a growth is refused
 abbrev pub IsNoFarEnd : List ℕ → CliFault → Type 0
-IsNoFarEnd name (Command (CannotRead n)) = n.now ≡ name
-IsNoFarEnd name (Command Memory) = Unit {0}
+IsNoFarEnd name (File (Command (CannotRead n))) = n.now ≡ name
+IsNoFarEnd name (File (Command Memory)) = Unit {0}
 IsNoFarEnd name (Script fault) = ¬ (fault ≡ scripts.Memory)
 IsNoFarEnd name _ = ⊥
 
@@ -31,10 +36,20 @@ abbrev pub IsFileOf : Option CaptureWords → List ℕ → Type 0
 IsFileOf None name = ⊥
 IsFileOf (Some capture) name = name ≡ capture.file.now
 
+-- the day of this capture is none, by just this fault
+abbrev pub IsNoCaptureDay : Option CaptureWords → DayFault → Type 0
+IsNoCaptureDay None fault = ⊥
+IsNoCaptureDay (Some capture) fault = MatchOption capture.day ⊥ (λ words. IsDayFault words.0.now words.1.now fault)
+
+-- the seconds of the day of this capture are beyond what it can name
+abbrev pub IsUnnameable : Option CaptureWords → Type 0
+IsUnnameable None = ⊥
+IsUnnameable (Some capture) = MatchOption capture.day ⊥ (λ words. (day : Day) × IsDayOf words.0.now words.1.now day × (¬ IsNameable (start_of day)))
+
 -- there is to be a capture, and its day is none, or beyond what it can name; or its file is not written
 abbrev pub IsNoCapture : Option CaptureWords → CliFault → Type 0
-IsNoCapture capture (Day fault) = IsTrue (is_some capture)
-IsNoCapture capture (Capture fault) = IsTrue (is_some capture)
+IsNoCapture capture (File (files.Day fault)) = IsNoCaptureDay capture fault
+IsNoCapture capture (Capture fault) = IsUnnameable capture
 IsNoCapture capture (CannotCapture name) = IsFileOf capture name.now
 IsNoCapture capture _ = ⊥
 
@@ -68,7 +83,7 @@ StopsFarEnd script capture fault = IsNoCapture capture fault ⊎ IsNoFarEnd scri
 -- the output has failed, and a front of what was to be written was written; at any other fault there is this reason
 -- for it, and the output is as it was
 abbrev pub IsRefusedRun : {W : Type 0} → (CliFault → Type 0) → (Option (List ℕ) → Option (List ℕ) → Type 0) → (W → Option (List ℕ)) → Watched W → Watched W → CliFault → Type 0
-IsRefusedRun reason cut contents old new (Command CannotWrite) = (is_faulted new ≡ true) × cut (contents (device_of old)) (contents (device_of new))
+IsRefusedRun reason cut contents old new (File (Command CannotWrite)) = (is_faulted new ≡ true) × cut (contents (device_of old)) (contents (device_of new))
 IsRefusedRun reason cut contents old new fault = reason fault × (new ≡ old)
 
 abbrev pub IsDayRefusal : {W : Type 0} → List ℕ → List ℕ → Option CaptureWords → Option ℕ → (W → Option (List ℕ)) → Watched W → Watched W → CliFault → Type 0

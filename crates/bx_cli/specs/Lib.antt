@@ -1,8 +1,2 @@
 pub mod Days
 pub mod DayRefusals
-pub mod FilePlans
-pub mod FileRefusals
-pub mod PlanRefusals
-pub mod Pictures
-pub mod Inside
-pub mod Answers

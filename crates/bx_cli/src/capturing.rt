@@ -4,9 +4,9 @@ ghost use Rattle.std.specs.Prelude.{◌≤◌, IfOk, IfErr};
 ghost use Rattle.bx_cli.specs.DayRefusals.{IsNoCapture};
 
 use crate::fault::CliFault;
-use crate::plan_files::day_of;
 use bx_base::Watched;
 use bx_capture::{first_second, write_file_header};
+use bx_files::day_of;
 use bx_words::CaptureWords;
 use std::fs;
 use std::fs::Files;
@@ -24,7 +24,7 @@ pub fn first_of<'a>(capture: Option<CaptureWords<'a>>) -> Result<u32, CliFault<'
     };
     let day = match day_of(date, zone) {
         Ok(day) => day,
-        Err(fault) => return Err(fault),
+        Err(fault) => return Err(CliFault::File(fault)),
     };
     match first_second(&day) {
         Ok(first) => Ok(first),

@@ -109,7 +109,7 @@ pub fn day_of_files<
     };
     match exchange.write_outcomes(output) {
         Ok(()) => Ok(is_whole),
-        Err(_) => Err(CliFault::Command(CommandFault::CannotWrite)),
+        Err(_) => Err(CliFault::from(CommandFault::CannotWrite)),
     }
 }
 
@@ -179,7 +179,7 @@ pub fn serve_file<
     };
     match exchange.write_outcomes(output) {
         Ok(()) => Ok(is_whole),
-        Err(_) => Err(CliFault::Command(CommandFault::CannotWrite)),
+        Err(_) => Err(CliFault::from(CommandFault::CannotWrite)),
     }
 }
 
@@ -251,6 +251,6 @@ pub fn far_file<
     };
     match write_ended(output, moment) {
         Ok(()) => Ok(is_whole),
-        Err(_) => Err(CliFault::Command(CommandFault::CannotWrite)),
+        Err(_) => Err(CliFault::from(CommandFault::CannotWrite)),
     }
 }

@@ -1,45 +1,22 @@
 //! Why the words were refused.
 
 ghost use Rattle.std.specs.Prelude.{◌≡◌};
-ghost use Rattle.bx_cli.specs.declared.fault.CliFault.TheVariants.{Command};
+ghost use Rattle.bx_cli.specs.declared.fault.CliFault.TheVariants.{File};
+ghost use Rattle.bx_files.specs.declared.fault.FileFault.TheVariants.{Command};
 
-use bx_base::ChannelFault;
-use bx_book::{BookFault, DayFault};
 use bx_capture::BeyondCapture;
-use bx_chart::ChartFault;
-use bx_commands::{AmendFault, CommandFault, RunFault};
+use bx_commands::CommandFault;
 use bx_far::ScriptFault;
+use bx_files::FileFault;
 use bx_link::LinkFault;
-use bx_quote::QuoteFault;
 use thiserror::Error;
 
 /// The refusal of a command line, which is printed behind `bx: `.
 #[derive(Clone, Copy, Debug, PartialEq, Eq, Error)]
 pub enum CliFault<'a> {
-    /// The command over its reader and its writer was refused.
+    /// A command on files was refused, or what another one does with a file, its output or memory was.
     #[error("{0}")]
-    Command(CommandFault<'a>),
-    /// A number of the list of channels is no B channel, or stands there twice.
-    #[error("{0}")]
-    Channels(ChannelFault),
-    /// The date and the zone name no day.
-    #[error("{0}")]
-    Day(DayFault),
-    /// What was read is no booking text of the day.
-    #[error("{0}")]
-    Book(BookFault),
-    /// The planning run was refused.
-    #[error("{0}")]
-    Run(RunFault),
-    /// The plan was not amended.
-    #[error("{0}")]
-    Amend(AmendFault),
-    /// No quote was written.
-    #[error("{0}")]
-    Quote(QuoteFault),
-    /// No picture was written.
-    #[error("{0}")]
-    Chart(ChartFault),
+    File(FileFault<'a>),
     /// What was read is no script.
     #[error("{0}")]
     Script(ScriptFault),
@@ -60,10 +37,18 @@ pub enum CliFault<'a> {
     Link(LinkFault),
 }
 
+impl<'a> From<FileFault<'a>> for CliFault<'a> {
+    fn from(fault: FileFault<'a>) -> CliFault<'a>
+        ensures { result ≡ File fault.entry }
+    {
+        CliFault::File(fault)
+    }
+}
+
 impl<'a> From<CommandFault<'a>> for CliFault<'a> {
     fn from(fault: CommandFault<'a>) -> CliFault<'a>
-        ensures { result ≡ Command fault.entry }
+        ensures { result ≡ File (Command fault.entry) }
     {
-        CliFault::Command(fault)
+        CliFault::File(FileFault::Command(fault))
     }
 }

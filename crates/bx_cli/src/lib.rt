@@ -2,14 +2,11 @@
 #![tactic(auto)]
 
 mod capturing;
-mod chart_files;
 mod day_files;
 mod fault;
 mod loopback;
 mod openings;
-mod plan_files;
 mod progress;
-mod quote_files;
 mod words;
 
 pub use bx_commands::check_self;

@@ -7,12 +7,12 @@ ghost use Rattle.bx_cli.specs.DayRefusals.{IsNoOpening, IsNoFarEnd};
 ghost use Rattle.bx_cli.specs.Days.{IsLastOf, IsOpening, IsFarOpening};
 
 use crate::fault::CliFault;
-use crate::plan_files::{open, proved_in};
 use bx_base::{Plan, ReadFault, read_octets};
 use bx_calls::timers::{T305, T308};
 use bx_commands::CommandFault;
 use bx_day::Exchange;
 use bx_far::{Far, Script, ScriptFault};
+use bx_files::{open, proved_in};
 use std::fs::Files;
 
 /// How many seconds a call can outlive its booking: T305, and T308 twice.
@@ -52,7 +52,7 @@ pub fn opening_of<'a, H: Files + AllocGlobal>(
 {
     let plan = match proved_in(rt, name) {
         Ok(plan) => plan,
-        Err(fault) => return Err(fault),
+        Err(fault) => return Err(CliFault::File(fault)),
     };
     let turns = match turns {
         Some(turns) => turns,
@@ -60,7 +60,7 @@ pub fn opening_of<'a, H: Files + AllocGlobal>(
     };
     match Exchange::new(rt.alloc(), &plan) {
         Ok(exchange) => Ok((exchange, turns)),
-        Err(_) => Err(CliFault::Command(CommandFault::Memory)),
+        Err(_) => Err(CliFault::from(CommandFault::Memory)),
     }
 }
 
@@ -71,16 +71,16 @@ pub fn far_end_of<'a, H: Files + AllocGlobal>(rt: &H, name: &'a str) -> Result<F
 {
     let mut input = match open(rt, name) {
         Ok(input) => input,
-        Err(fault) => return Err(fault),
+        Err(fault) => return Err(CliFault::File(fault)),
     };
     let text = match read_octets(rt.alloc(), &mut input) {
         Ok(text) => text,
-        Err(ReadFault::Memory) => return Err(CliFault::Command(CommandFault::Memory)),
-        Err(_) => return Err(CliFault::Command(CommandFault::CannotRead(name))),
+        Err(ReadFault::Memory) => return Err(CliFault::from(CommandFault::Memory)),
+        Err(_) => return Err(CliFault::from(CommandFault::CannotRead(name))),
     };
     match Script::read(rt.alloc(), &text) {
         Ok(script) => Ok(Far::new(script)),
-        Err(ScriptFault::Memory) => Err(CliFault::Command(CommandFault::Memory)),
+        Err(ScriptFault::Memory) => Err(CliFault::from(CommandFault::Memory)),
         Err(fault) => Err(CliFault::Script(fault)),
     }
 }

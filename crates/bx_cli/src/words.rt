@@ -8,13 +8,11 @@ ghost use Rattle.bx_commands.specs.Proved.{IsProvedText, proved_line};
 ghost use Rattle.bx_commands.specs.Refusals.{IsRefusal};
 ghost use Rattle.bx_commands.specs.declared.fault.CommandFault.{CommandFault};
 
-use crate::chart_files::chart_file;
 use crate::day_files::{day_of_files, far_file, serve_file};
 use crate::fault::CliFault;
-use crate::plan_files::{amend_file, check_file, plan_file};
-use crate::quote_files::{explain_file, quote_file};
 use bx_base::{Watched, write_octets};
 use bx_commands::{CommandFault, check_self, decode};
+use bx_files::{amend_file, chart_file, check_file, explain_file, plan_file, quote_file};
 use bx_words::{Refusal, Request, Sight, read_words};
 use std::fs::Files;
 use std::io::{Read, Write};
@@ -48,11 +46,10 @@ pub fn main_words<
     ensures status { result ≤ 2 }
 {
     if words.is_empty() {
-        let done = match check_self(rt.alloc(), input, output) {
-            Ok(_) => Ok(()),
-            Err(fault) => Err(CliFault::Command(fault)),
+        return match check_self(rt.alloc(), input, output) {
+            Ok(_) => 0,
+            Err(fault) => refused(CliFault::from(fault), errors),
         };
-        return status_of(done, errors);
     }
     match read_words(rt.alloc(), words) {
         Ok(request) => status_of(run(rt, request, output, is_terminal), errors),
@@ -61,7 +58,7 @@ pub fn main_words<
             let _ = write_octets(errors, text.as_bytes());
             2
         }
-        Err(Refusal::Memory) => status_of(Err(CliFault::Command(CommandFault::Memory)), errors),
+        Err(Refusal::Memory) => refused(CliFault::from(CommandFault::Memory), errors),
     }
 }
 
@@ -77,21 +74,21 @@ fn run<
     is_terminal: bool,
 ) -> Result<(), CliFault<'a>> {
     match request {
-        Request::Plan { terms, bookings } => plan_file(rt, &terms, bookings, output),
+        Request::Plan { terms, bookings } => Ok(plan_file(rt, &terms, bookings, output)?),
         Request::Check {
             terms,
             bookings,
             plan,
-        } => check_file(rt, &terms, bookings, plan, output),
+        } => Ok(check_file(rt, &terms, bookings, plan, output)?),
         Request::Amend {
             date,
             zone,
             plan,
             bookings,
-        } => amend_file(rt, (date, zone), plan, bookings, output),
-        Request::Explain { plan, row } => explain_file(rt, plan, row, output),
-        Request::Quote { plan, call } => quote_file(rt, plan, &call, output),
-        Request::Chart { plan, day } => chart_file(rt, plan, day, output),
+        } => Ok(amend_file(rt, (date, zone), plan, bookings, output)?),
+        Request::Explain { plan, row } => Ok(explain_file(rt, plan, row, output)?),
+        Request::Quote { plan, call } => Ok(quote_file(rt, plan, &call, output)?),
+        Request::Chart { plan, day } => Ok(chart_file(rt, plan, day, output)?),
         Request::Day {
             plan,
             script,
@@ -142,20 +139,25 @@ fn captured<'a>(sight: Sight<'a>, is_whole: bool) -> Result<(), CliFault<'a>> {
 fn show<'a, W: Write>(text: &str, output: &mut Watched<W>) -> Result<(), CliFault<'a>> {
     match write_octets(output, text.as_bytes()) {
         Ok(()) => Ok(()),
-        Err(_) => Err(CliFault::Command(CommandFault::CannotWrite)),
+        Err(_) => Err(CliFault::from(CommandFault::CannotWrite)),
     }
 }
 
-/// The status of what was done, or of its refusal, which is printed as one line.
+/// The status of what was done, or of its refusal.
 fn status_of<E: Write>(done: Result<(), CliFault<'_>>, errors: &mut Watched<E>) -> u8
     ensures done { (result ≡ 0) ↔ IsOk done.entry }
     ensures refused { IsErr done.entry → result ≡ 1 }
 {
     match done {
         Ok(()) => 0,
-        Err(fault) => {
-            let _ = writeln!(errors, "bx: {fault}");
-            1
-        }
+        Err(fault) => refused(fault, errors),
     }
+}
+
+/// The status of a refusal, which is printed as one line.
+fn refused<E: Write>(fault: CliFault<'_>, errors: &mut Watched<E>) -> u8
+    ensures { result ≡ 1 }
+{
+    let _ = writeln!(errors, "bx: {fault}");
+    1
 }

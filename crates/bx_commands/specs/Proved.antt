@@ -6,8 +6,10 @@ use Rattle.bx_base.specs.PlanParts.{Parts, IsPlan}
 use Rattle.bx_planfile.specs.Text.{IsTextOf}
 use Rattle.bx_check.specs.Check.{IsOutcome}
 
--- the octets are this plan's text
-pub record IsPlanText (text : List ℕ) (plan : Parts) : Type 0 where
+-- this is the text of a plan, and what there was to read, where the input tells it
+pub record IsPlanRead (before : Option (List ℕ)) (plan : Parts) : Type 0 where
+  pub text : List ℕ
+  pub told : (known : List ℕ) → before ≡ Some known → text ≡ known
   pub limits : IsPlan plan
   pub text_of : IsTextOf text plan
 
@@ -24,16 +26,16 @@ pub record IsProvedFor (rows : List Row) (channels : List Bool) (plan : Parts) (
   pub outcome : IsOutcome rows channels plan (Ok total)
   pub best : IsBest plan total
 
--- a plan is proved for these bookings and channels, and what there was to read, where the input tells it, is its text
+-- a plan that was read is proved for these bookings and channels
 pub record IsProvedAgainst (rows : List Row) (channels : List Bool) (before : Option (List ℕ)) (total : ℕ) : Type 0 where
   pub plan : Parts
-  pub text_of : (text : List ℕ) → before ≡ Some text → IsPlanText text plan
+  pub read : IsPlanRead before plan
   pub proved : IsProvedFor rows channels plan total
 
--- the same of a plan that is proved for its own bookings and channels
+-- or for its own bookings and channels
 pub record IsProvedText (before : Option (List ℕ)) (total : ℕ) : Type 0 where
   pub plan : Parts
-  pub text_of : (text : List ℕ) → before ≡ Some text → IsPlanText text plan
+  pub read : IsPlanRead before plan
   pub proved : IsProvedFor plan.rows plan.channels plan total
 
 -- what is written of a proved total

@@ -5,8 +5,9 @@ use Rattle.bx_base.specs.Devices.{Reading, Writing, KeepsOutput}
 use Rattle.bx_base.specs.Octets.{AppendsPrefix, ReadsFront, ReadsWithin, RunsOutOfReads}
 use Rattle.bx_base.specs.PlanParts.{Parts}
 use Rattle.bx_planfile.specs.Reading.{read_all}
+use Rattle.bx_planfile.specs.declared.fault.PlanFault.{PlanFault}
 use Rattle.bx_check.specs.Check.{IsOutcome}
-use Rattle.bx_commands.specs.Proved.{IsPlanText, IsProvedText, IsProvedAgainst, proved_line}
+use Rattle.bx_commands.specs.Proved.{IsPlanRead, IsProvedText, IsProvedAgainst, proved_line}
 use Rattle.bx_check.specs.declared.checker.CheckFault.{CheckFault}
 use Rattle.bx_commands.specs.declared.fault.CommandFault.{CommandFault}
 use Rattle.bx_commands.specs.declared.fault.CommandFault.TheVariants.{CannotRead, CannotWrite, Plan, Check, Memory}
@@ -20,47 +21,47 @@ IsUnread name input said = (said ≡ name) × ((input.is_faulted ≡ true) ⊎ R
 abbrev pub IsRefusedGrowth : Reading → Type 0
 IsRefusedGrowth input = (input.is_faulted ≡ input.was_faulted) × ReadsWithin input.before input.after 4194304
 
+-- this text, which is what there was to read where the input tells it, is no plan text, with this first fault
+pub record IsNoPlanText (before : Option (List ℕ)) (fault : PlanFault) : Type 0 where
+  pub text : List ℕ
+  pub told : (known : List ℕ) → before ≡ Some known → text ≡ known
+  pub first : read_all text ≡ Err fault
+
 -- why there is no plan of an input
 abbrev pub IsNoPlan : List ℕ → Reading → CommandFault → Type 0
 IsNoPlan name input (CannotRead n) = IsUnread name input n.now
-IsNoPlan name input (Plan fault) = (text : List ℕ) → input.before ≡ Some text → read_all text ≡ Err fault
+IsNoPlan name input (Plan fault) = IsNoPlanText input.before fault
 IsNoPlan name input Memory = IsRefusedGrowth input
 IsNoPlan name input _ = ⊥
 
--- this fault is the first that the check finds in a plan, and what there was to read, where the input tells it, is its text
+-- this fault is the first that the check finds in a plan that was read
 pub record IsFaultyText (before : Option (List ℕ)) (fault : CheckFault) : Type 0 where
   pub plan : Parts
-  pub text_of : (text : List ℕ) → before ≡ Some text → IsPlanText text plan
+  pub read : IsPlanRead before plan
   pub outcome : IsOutcome plan.rows plan.channels plan (Err fault)
 
 -- why there is no plan of an input that is proved for its own bookings and channels
 abbrev pub IsUnproved : List ℕ → Reading → CommandFault → Type 0
-IsUnproved name input (CannotRead n) = IsUnread name input n.now
-IsUnproved name input (Plan fault) = (text : List ℕ) → input.before ≡ Some text → read_all text ≡ Err fault
 IsUnproved name input (Check fault) = IsFaultyText input.before fault
-IsUnproved name input Memory = IsRefusedGrowth input
-IsUnproved name input _ = ⊥
+IsUnproved name input fault = IsNoPlan name input fault
 
--- the same against these bookings and channels
+-- or against these bookings and channels
 pub record IsFaultyAgainst (rows : List Row) (channels : List Bool) (before : Option (List ℕ)) (fault : CheckFault) : Type 0 where
   pub plan : Parts
-  pub text_of : (text : List ℕ) → before ≡ Some text → IsPlanText text plan
+  pub read : IsPlanRead before plan
   pub outcome : IsOutcome rows channels plan (Err fault)
 
 -- a refusal says what went wrong, and that nothing was written, or a front of what was to be written
 abbrev pub IsRefusal : Reading → Writing → CommandFault → Type 0
-IsRefusal input output (CannotRead n) = IsUnread (codes "-") input n.now × KeepsOutput output
 IsRefusal input output CannotWrite = (output.is_faulted ≡ true) × ((total : ℕ) × IsProvedText input.before total × AppendsPrefix output.before output.after (proved_line total))
-IsRefusal input output (Plan fault) = ((text : List ℕ) → input.before ≡ Some text → read_all text ≡ Err fault) × KeepsOutput output
-IsRefusal input output (Check fault) = IsFaultyText input.before fault × KeepsOutput output
-IsRefusal input output Memory = IsRefusedGrowth input × KeepsOutput output
-IsRefusal input output _ = ⊥
+IsRefusal input output fault = IsUnproved (codes "-") input fault × KeepsOutput output
+
+-- why a plan of an input is not proved against these bookings and channels
+abbrev pub IsUnprovedAgainst : List Row → List Bool → List ℕ → Reading → CommandFault → Type 0
+IsUnprovedAgainst rows channels name input (Check fault) = IsFaultyAgainst rows channels input.before fault
+IsUnprovedAgainst rows channels name input fault = IsNoPlan name input fault
 
 -- the same for a plan of an input of this name, against these bookings and channels
 abbrev pub IsRefusalAgainst : List Row → List Bool → List ℕ → Reading → Writing → CommandFault → Type 0
-IsRefusalAgainst rows channels name input output (CannotRead n) = IsUnread name input n.now × KeepsOutput output
 IsRefusalAgainst rows channels name input output CannotWrite = (output.is_faulted ≡ true) × ((total : ℕ) × IsProvedAgainst rows channels input.before total × AppendsPrefix output.before output.after (proved_line total))
-IsRefusalAgainst rows channels name input output (Plan fault) = ((text : List ℕ) → input.before ≡ Some text → read_all text ≡ Err fault) × KeepsOutput output
-IsRefusalAgainst rows channels name input output (Check fault) = IsFaultyAgainst rows channels input.before fault × KeepsOutput output
-IsRefusalAgainst rows channels name input output Memory = IsRefusedGrowth input × KeepsOutput output
-IsRefusalAgainst rows channels name input output _ = ⊥
+IsRefusalAgainst rows channels name input output fault = IsUnprovedAgainst rows channels name input fault × KeepsOutput output

@@ -1,12 +1,12 @@
 //! The checks of a plan text: against bookings and channels, and against those that it states itself.
 
-ghost use Rattle.std.specs.Prelude.{◌≡◌, ℕ, List, Some, Ok, IfOk, IfErr, OnOk, OnErr, IsTrue};
+ghost use Rattle.std.specs.Prelude.{◌≡◌, ℕ, Ok, IfOk, IfErr, OnOk, OnErr, IsTrue};
 ghost use Rattle.std.specs.Io.KnownBytes.{Appends, IsAtEnd};
 ghost use Rattle.bx_base.specs.Devices.{reading_of, writing_of};
 ghost use Rattle.bx_base.specs.Watching.{device_of, is_faulted};
 ghost use Rattle.bx_base.specs.Octets.{AppendsPrefix};
 ghost use Rattle.bx_base.specs.PlanParts.{parts_of};
-ghost use Rattle.bx_commands.specs.Proved.{IsPlanText, IsProvedFor, IsProvedText, IsProvedAgainst, proved_line};
+ghost use Rattle.bx_commands.specs.Proved.{IsPlanRead, IsProvedFor, IsProvedText, IsProvedAgainst, proved_line};
 ghost use Rattle.bx_commands.specs.Refusals.{IsNoPlan, IsUnproved, IsRefusal, IsRefusalAgainst};
 ghost use Rattle.bx_commands.specs.Inside.{IsFaulty, IsJudged};
 
@@ -26,7 +26,7 @@ pub fn plan_from<'a, R: Read>(
     name: &'a str,
     input: &mut Watched<R>,
 ) -> Result<Plan, CommandFault<'a>>
-    ensures found { IfOk result (λ plan. (text : List ℕ) → R.remaining (device_of input.old) ≡ Some text → IsPlanText text (parts_of plan)) }
+    ensures found { IfOk result (λ plan. IsPlanRead (R.remaining (device_of input.old)) (parts_of plan)) }
     ensures ended { OnOk result (IsAtEnd (R.remaining (device_of input.new))) }
     ensures none { IfErr result (IsNoPlan name.now (reading_of R.remaining input.old input.new)) }
 {
@@ -64,7 +64,7 @@ pub fn proved_plan<'a, R: Read>(
     name: &'a str,
     input: &mut Watched<R>,
 ) -> Result<Plan, CommandFault<'a>>
-    ensures found { IfOk result (λ plan. (text : List ℕ) → R.remaining (device_of input.old) ≡ Some text → IsPlanText text (parts_of plan)) }
+    ensures found { IfOk result (λ plan. IsPlanRead (R.remaining (device_of input.old)) (parts_of plan)) }
     ensures proved { IfOk result (λ plan. (total : ℕ) × IsProvedFor plan.bookings plan.channels (parts_of plan) total) }
     ensures read { OnOk result (IsAtEnd (R.remaining (device_of input.new))) }
     ensures refused { IfErr result (IsUnproved name.now (reading_of R.remaining input.old input.new)) }

@@ -1,5 +1,0 @@
-use Rattle.bx_cli.proofs.CallTimes.{turned}
-use Rattle.bx_cli.proofs.quote_files.booking_of.Goals as goal
-
-pub returns-then-end-start : goal.returns-then-end-start
-returns-then-end-start c = turned c.args.call.now.day (λ words. words.0.now) (λ words. words.1.now) c.args.call.now _ _ c.in-Ok.ensures.times c.if-end-start.true

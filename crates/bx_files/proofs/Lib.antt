@@ -1,0 +1,2 @@
+mod FileRefusals
+mod CallTimes

@@ -1,0 +1,16 @@
+//! The commands on files of bookings and plans: plan, check, amend, explain, quote, chart.
+#![tactic(auto)]
+
+mod chart_files;
+mod fault;
+mod inputs;
+mod naming;
+mod plan_files;
+mod quote_files;
+
+pub use chart_files::chart_file;
+pub use fault::FileFault;
+pub use inputs::{open, proved_in};
+pub use naming::day_of;
+pub use plan_files::{amend_file, check_file, plan_file};
+pub use quote_files::{explain_file, quote_file};
