@@ -7,6 +7,7 @@ use Rattle.bx_book.specs.declared.day.Day.{Day}
 use Rattle.bx_book.specs.declared.day.DayFault.{DayFault}
 use Rattle.bx_capture.specs.Starts.{IsNameable}
 use Rattle.bx_commands.specs.declared.fault.CommandFault.TheVariants.{CannotRead, CannotWrite, Memory}
+use Rattle.bx_far.specs.ScriptTexts.{IsScriptFault}
 use Rattle.bx_far.specs.declared.fault.ScriptFault.TheVariants as scripts
 use Rattle.bx_cli.specs.Days.{IsDayCut, IsFarCut}
 use Rattle.bx_cli.specs.declared.fault.CliFault.{CliFault}
@@ -24,11 +25,11 @@ abbrev pub IsNoOpening : List ℕ → CliFault → Type 0
 IsNoOpening name (File fault) = HasNoProvedPlan name fault
 IsNoOpening name _ = ⊥
 
--- a file of this name is not read, or holds no script, or a growth is refused
+-- a file of this name is not read, or holds a text that is no script, with just this first fault, or a growth is refused
 abbrev pub IsNoFarEnd : List ℕ → CliFault → Type 0
 IsNoFarEnd name (File (Command (CannotRead n))) = n.now ≡ name
 IsNoFarEnd name (File (Command Memory)) = Unit {0}
-IsNoFarEnd name (Script fault) = ¬ (fault ≡ scripts.Memory)
+IsNoFarEnd name (Script fault) = (¬ (fault ≡ scripts.Memory)) × ((text : List ℕ) × IsScriptFault text fault)
 IsNoFarEnd name _ = ⊥
 
 -- the file of this capture

@@ -1,4 +1,4 @@
-use Rattle.std.proofs.Common.{rules, ◌≡◌, Some, refl, sym, subst}
+use Rattle.std.proofs.Common.{rules, refl, sym, subst}
 use Rattle.bx_cli.specs.DayRefusals.{IsUnnameable}
 use Rattle.bx_cli.proofs.Captures.{at_some}
 use Rattle.bx_cli.proofs.capturing.first_of.Goals as goal

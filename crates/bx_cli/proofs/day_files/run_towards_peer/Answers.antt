@@ -10,4 +10,4 @@ returns-in-Ok-done-clause-ran g c =
     let first = c.new-end.result.end.end in
     let same : opened.0 ≡ first = search (c.new-end.ensures.end, c.new.ensures) in
     let opens = subst (λ (d : Day). IsOpening c.args.turns d opened.1) same c.in-Ok-opening_of.ensures.opened in
-    subst (IsDayRun c.args.turns) (sym c.exchange_of.ensures) (run_alone first c.run_day-done.new.exchange.end.end c.args.turns opened.1 opens c.in-Ok-done.ensures.0)
+    subst (IsDayRun c.args.turns) (sym c.exchange_of.ensures) (run_alone first c.run_day-done.new.exchange.end.end c.args.turns opened.1 opens {r1 = c.run_day-done.new.reader} {w1 = c.run_day-done.new.writer} c.in-Ok-done.ensures.0)
