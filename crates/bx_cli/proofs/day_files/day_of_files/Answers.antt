@@ -1,5 +1,15 @@
+use Rattle.std.proofs.Common.{rules, sym, subst}
+use Rattle.bx_cli.specs.DayRefusals.{IsDayRefusal}
 use Rattle.bx_cli.proofs.Refusals.{day_refused}
 use Rattle.bx_cli.proofs.day_files.day_of_files.Goals as goal
 
 pub returns-in-Err-clause-refused : goal.returns-in-Err-clause-refused
 returns-in-Err-clause-refused g c = day_refused g.W.Write.contents c.args.plan.now c.args.script.now c.args.sight.capture c.args.turns c.args.output.now c.in-Err.fault c.in-Err.ensures.stopped
+
+pub returns-in-Ok-write_outcomes-clause-told : goal.returns-in-Ok-write_outcomes-clause-told
+returns-in-Ok-write_outcomes-clause-told g c = record { day = c.in-Ok.ran.0; run = c.in-Ok.ensures.ran; written = search rules }
+
+pub returns-clause-refused : goal.returns-clause-refused
+returns-clause-refused g c =
+    subst (IsDayRefusal c.args.plan.now c.args.script.now c.args.sight.capture c.args.turns g.W.Write.contents c.args.output.now c.write_outcomes.new.writer) (sym c.from.ensures)
+        (search rules, record { day = c.in-Ok.ran.0; run = c.in-Ok.ensures.ran; written = search rules })

@@ -1,0 +1,11 @@
+use Rattle.std.proofs.Common.{arith}
+use Rattle.bx_cli.proofs.words.main_words.Goals as goal
+
+pub returns-in-Ok-clause-done : goal.returns-in-Ok-clause-done
+returns-in-Ok-clause-done g c none done = (c.in-Ok.field-0, c.in-Ok.ensures.proved, c.in-Ok.ensures.written)
+
+pub returns-in-Err-clause-refused : goal.returns-in-Err-clause-refused
+returns-in-Err-clause-refused g c none some = (c.refused.ensures, c.in-Err.fault, c.in-Err.ensures.refused)
+
+pub returns-in-Err-Wrong-clause-status : goal.returns-in-Err-Wrong-clause-status
+returns-in-Err-Wrong-clause-status g c = omega arith
