@@ -1,15 +1,14 @@
 //! A day replayed from its events.
 
-use crate::steps::are_same;
 use bx_day::{Event, Replayed, replay};
 use bx_worked::{CONNECT, CONNECT_ACKNOWLEDGE, SETUP};
-use bx_worked_days::{Row, plan_of};
+use bx_worked_days::{Row, are_same, plan_of};
 use std::alloc::Global;
 
 static ROWS: [Row; 1] = [(0, 60, 1, false)];
 
 fn replayed(alloc: Global, events: &[Event<'_>]) -> Option<Replayed> {
-    let plan = plan_of(alloc, &ROWS)?;
+    let plan = plan_of(alloc, &ROWS, &[])?;
     if !plan.carried() {
         return None;
     }

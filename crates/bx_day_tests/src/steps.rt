@@ -1,22 +1,13 @@
 //! What comes to an end of the link and what it sends, step by step.
 
 use bx_q931::Octets;
-use bx_worked_days::End;
+use bx_worked_days::{End, are_same};
 
 /// The messages that are sent.
 pub(crate) type Messages = &'static [&'static [u8]];
 
 /// A moment, what comes (nothing: ticks to that moment, all silent but the last) and the messages that are sent.
 pub(crate) type Step = (u32, &'static [u8], Messages);
-
-/// Whether these messages are, one by one, these octets.
-pub(crate) fn are_same(sent: &[Octets], expected: &[&[u8]]) -> bool {
-    let mut same = sent.len() == expected.len();
-    for (octets, message) in sent.iter().zip(expected) {
-        same &= octets.as_slice() == *message;
-    }
-    same
-}
 
 fn is_same(reply: Option<Octets>, expected: &[&[u8]]) -> bool {
     match reply {

@@ -1,10 +1,11 @@
 //! Whether two ends agree, as their readers and their answers to STATUS ENQUIRY tell it.
 
-use crate::ends::{Ends, Row};
+use crate::ends::Ends;
 use bx_base::Channel;
 use bx_calls::CallState;
 use bx_day::Outcome;
 use bx_q931::Octets;
+use bx_worked_days::Row;
 
 /// The flag octet of messages from the end that began the call, and of messages to it.
 const FROM: u8 = 0x00;

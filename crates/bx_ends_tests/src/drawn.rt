@@ -2,24 +2,28 @@
 //! leave channels in maintenance at either end.
 
 use crate::agreement::agree;
-use crate::ends::{Ends, Event, Row, opened};
+use crate::ends::{Ends, Event, opened};
 use bx_base::Channel;
 use bx_calls::CallState;
+use bx_worked_days::Row;
 use std::alloc::Global;
 use std::test::Fail;
 
 /// Three channels, outward and inward bookings on each.
 const ROWS: [Row; 9] = [
-    (1, 60, 1, false, b"1"),
-    (0, 50, 2, true, b"2"),
-    (2, 40, 3, false, b"3"),
-    (45, 100, 3, true, b"4"),
-    (65, 110, 1, false, b"5"),
-    (50, 90, 2, false, b"6"),
-    (95, 140, 2, true, b"7"),
-    (115, 150, 1, true, b"8"),
-    (105, 150, 3, false, b"9"),
+    (1, 60, 1, false),
+    (0, 50, 2, true),
+    (2, 40, 3, false),
+    (45, 100, 3, true),
+    (65, 110, 1, false),
+    (50, 90, 2, false),
+    (95, 140, 2, true),
+    (115, 150, 1, true),
+    (105, 150, 3, false),
 ];
+
+/// The number of each booking.
+static NUMBERS: [&[u8]; 9] = [b"1", b"2", b"3", b"4", b"5", b"6", b"7", b"8", b"9"];
 
 const SCRIPT: &str =
     "number,policy,seconds,channel\n1,answer,0,\n3,answer,4,\n5,clear,9,\n6,alert,0,\n9,answer,0,\n1,call,3,2\n1,call,47,3\n1,call,60,2\n1,call,96,2\n1,call,116,1\n1,call,130,2\n";
@@ -141,7 +145,7 @@ fn all_agree(ends: &mut Ends, generator: &mut Generator, seen: &mut Seen) -> boo
 
 /// Draws a list, and refuses one on which the ends do not agree.
 fn drawn(alloc: Global, list: u32, seen: &mut Seen) -> Result<(), Fail> {
-    let mut ends = opened(alloc, &ROWS, SCRIPT).ok_or("opening")?;
+    let mut ends = opened(alloc, &ROWS, &NUMBERS, SCRIPT).ok_or("opening")?;
     let mut generator = Generator {
         state: list,
         line: Line::Whole,

@@ -1,13 +1,10 @@
 //! Two running ends, and all that each ever sent.
 
-use bx_base::{Booking, Bookings, Channel, ChannelSet, Number, Plan};
 use bx_day::Exchange;
-use bx_far::{Far, Script};
+use bx_far::Far;
 use bx_q931::Octets;
+use bx_worked_days::{End, Row, exchange_of_numbers, far_of};
 use std::alloc::{AllocError, Global};
-
-/// A booking by its start, its end, its channel, whether it is inward, and its number.
-pub(crate) type Row = (u32, u32, u8, bool, &'static [u8]);
 
 /// A tick of one end, or a message of the other's list that comes to it, by its index.
 #[derive(Clone, Copy)]
@@ -26,94 +23,47 @@ pub(crate) struct Ends {
     pub(crate) far_sent: Vec<Octets>,
 }
 
+/// A tick of an end, and what it sends then.
+fn tick<E: End>(end: &mut E, sent: &mut Vec<Octets>) -> Result<(), AllocError> {
+    for octets in end.next_second() {
+        sent.push(octets).map_err(|_| AllocError)?;
+    }
+    Ok(())
+}
+
+/// Brings an end the message of this index, where there is one, and keeps what it answers.
+fn bring<E: End>(
+    end: &mut E,
+    messages: &[Octets],
+    index: usize,
+    sent: &mut Vec<Octets>,
+) -> Result<(), AllocError> {
+    if let Some(octets) = messages.get(index)
+        && let Some(reply) = end.hear(octets)
+    {
+        sent.push(reply).map_err(|_| AllocError)?;
+    }
+    Ok(())
+}
+
 impl Ends {
-    fn tick_exchange(&mut self) -> Result<(), AllocError> {
-        for octets in self.exchange.tick() {
-            self.sent.push(octets).map_err(|_| AllocError)?;
-        }
-        Ok(())
-    }
-
-    fn tick_far(&mut self) -> Result<(), AllocError> {
-        for octets in self.far.tick() {
-            self.far_sent.push(octets).map_err(|_| AllocError)?;
-        }
-        Ok(())
-    }
-
-    fn to_exchange(&mut self, index: usize) -> Result<(), AllocError> {
-        if index >= self.far_sent.len() {
-            return Ok(());
-        }
-        if let Some(reply) = self.exchange.receive(&self.far_sent[index]) {
-            self.sent.push(reply).map_err(|_| AllocError)?;
-        }
-        Ok(())
-    }
-
-    fn to_far(&mut self, index: usize) -> Result<(), AllocError> {
-        if index >= self.sent.len() {
-            return Ok(());
-        }
-        if let Some(reply) = self.far.receive(&self.sent[index]) {
-            self.far_sent.push(reply).map_err(|_| AllocError)?;
-        }
-        Ok(())
-    }
-
     pub(crate) fn happens(&mut self, event: Event) -> Result<(), AllocError> {
         match event {
-            Event::TickExchange => self.tick_exchange(),
-            Event::TickFar => self.tick_far(),
-            Event::ToExchange(index) => self.to_exchange(index),
-            Event::ToFar(index) => self.to_far(index),
+            Event::TickExchange => tick(&mut self.exchange, &mut self.sent),
+            Event::TickFar => tick(&mut self.far, &mut self.far_sent),
+            Event::ToExchange(index) => {
+                bring(&mut self.exchange, &self.far_sent, index, &mut self.sent)
+            }
+            Event::ToFar(index) => bring(&mut self.far, &self.sent, index, &mut self.far_sent),
         }
     }
 }
 
-fn booked(row: &Row) -> Option<Booking> {
-    let booking = Booking::new(row.0, row.1, 5, Number::new(row.4)?)?;
-    Some(if row.3 { booking.as_inward() } else { booking })
-}
-
-fn bookings_of(alloc: Global, rows: &[Row]) -> Option<Bookings> {
-    let mut bookings = Bookings::new(alloc);
-    for row in rows {
-        bookings.push(booked(row)?).ok()?;
-    }
-    Some(bookings)
-}
-
-fn assigned_of(alloc: Global, rows: &[Row]) -> Option<Vec<Option<Channel>>> {
-    let mut assigned = Vec::new(alloc);
-    for row in rows {
-        assigned.push(Channel::new(row.2)).ok()?;
-    }
-    Some(assigned)
-}
-
-fn exchange_of(alloc: Global, rows: &[Row]) -> Option<Exchange> {
-    let channels = ChannelSet::from_numbers(&[1, 2, 3]).ok()?;
-    let plan = Plan::new(
-        bookings_of(alloc, rows)?,
-        channels,
-        assigned_of(alloc, rows)?,
-        Vec::new(alloc),
-        0,
-    )?;
-    if !plan.carried() {
-        return None;
-    }
-    Exchange::new(alloc, &plan).ok()
-}
-
-/// Both ends at the opening of their days.
-pub(crate) fn opened(alloc: Global, rows: &[Row], script: &str) -> Option<Ends> {
-    let exchange = exchange_of(alloc, rows)?;
-    let script = Script::read(alloc, script.as_bytes()).ok()?;
+/// Both ends at the opening of their days; bookings behind the numbers are of 1234.
+pub(crate) fn opened(alloc: Global, rows: &[Row], numbers: &[&[u8]], script: &str) -> Option<Ends> {
     Some(Ends {
-        exchange,
-        far: Far::new(script),
+        exchange: exchange_of_numbers(alloc, rows, numbers)?,
+        far: far_of(alloc, script)?,
         sent: Vec::new(alloc),
         far_sent: Vec::new(alloc),
     })

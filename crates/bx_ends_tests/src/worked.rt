@@ -1,6 +1,6 @@
 //! Worked lists of events, with each message that is sent.
 
-use crate::ends::{Ends, Event, Row, opened};
+use crate::ends::{Ends, Event, opened};
 use bx_base::Channel;
 use bx_calls::CallState;
 use bx_q931::Octets;
@@ -8,13 +8,14 @@ use bx_worked::{
     CONNECT_ACKNOWLEDGE, CONNECT_CHANNEL_1, DISCONNECT_16, FAR_RELEASE, FAR_RELEASE_COMPLETE,
     PROCEEDING_CHANNEL_1, RELEASE, RELEASE_COMPLETE, SETUP, STATUS_101,
 };
+use bx_worked_days::{Row, are_same};
 use std::alloc::Global;
 use std::test::Fail;
 
 /// An event that happens so often, and all that is sent for it.
 type Step<'a> = (u32, Event, &'a [&'a [u8]]);
 
-/// Bookings, a script and what happens.
+/// Bookings of the number 1234, a script and what happens.
 struct Course<'a> {
     rows: &'a [Row],
     script: &'a str,
@@ -39,7 +40,7 @@ const ANSWERS: &str = "number,policy,seconds\n*,answer,0\n";
 const RUNS: [Course<'static>; 3] = [
     // a call is over at both ends, and its SETUP comes again: the exchange clears what the far end opens
     Course {
-        rows: &[(0, 60, 1, false, b"1234")],
+        rows: &[(0, 60, 1, false)],
         script: ANSWERS,
         steps: &[
             (1, Event::TickExchange, &[SETUP]),
@@ -60,7 +61,7 @@ const RUNS: [Course<'static>; 3] = [
     },
     // what is repeated of a call that is Active changes nothing; its CONNECT is answered by STATUS
     Course {
-        rows: &[(0, 60, 1, false, b"1234")],
+        rows: &[(0, 60, 1, false)],
         script: ANSWERS,
         steps: &[
             (1, Event::TickExchange, &[SETUP]),
@@ -76,7 +77,7 @@ const RUNS: [Course<'static>; 3] = [
     // a SETUP of the far end is lost and sent again; the call is connected, and cleared at its end. Its SETUP that comes
     // again takes the next booking of the channel, while the far end holds no such call
     Course {
-        rows: &[(0, 60, 1, true, b"1234"), (60, 90, 1, true, b"1234")],
+        rows: &[(0, 60, 1, true), (60, 90, 1, true)],
         script: "number,policy,seconds,channel\n1234,call,1,1\n",
         steps: &[
             (1, Event::TickFar, &[SETUP]),
@@ -96,15 +97,6 @@ const RUNS: [Course<'static>; 3] = [
         held: (Some((2, CallState::OutgoingCallProceeding)), None),
     },
 ];
-
-/// Whether these messages are, one by one, these octets.
-fn are_same(sent: &[Octets], expected: &[&[u8]]) -> bool {
-    let mut same = sent.len() == expected.len();
-    for (octets, message) in sent.iter().zip(expected) {
-        same &= octets.as_slice() == *message;
-    }
-    same
-}
 
 /// Whether so many messages were sent before, and these since.
 fn since(sent: &[Octets], before: usize, expected: &[&[u8]]) -> bool {
@@ -145,7 +137,7 @@ fn steps_that_go(ends: &mut Ends, steps: &[Step<'_>]) -> usize {
 }
 
 fn runs(alloc: Global, course: &Course<'_>) -> Result<(), Fail> {
-    let mut ends = opened(alloc, course.rows, course.script).ok_or("opening")?;
+    let mut ends = opened(alloc, course.rows, &[], course.script).ok_or("opening")?;
     let done = steps_that_go(&mut ends, course.steps);
     if done < course.steps.len() {
         return Err(Fail::new(done));

@@ -58,3 +58,12 @@ pub fn goes_through<E: End>(end: &mut E, steps: &[&[u8]]) {
         }
     }
 }
+
+/// Whether these messages are, one by one, these octets.
+pub fn are_same(sent: &[Octets], expected: &[&[u8]]) -> bool {
+    let mut same = sent.len() == expected.len();
+    for (octets, message) in sent.iter().zip(expected) {
+        same &= octets.as_slice() == *message;
+    }
+    same
+}

@@ -5,18 +5,27 @@ use bx_day::Exchange;
 use bx_far::{Far, Script};
 use std::alloc::Global;
 
-/// A booking of the number 1234 by its start and its end in seconds, its channel (0: refused) and whether it is inward.
+/// A booking by its start and its end in seconds, its channel (0: refused) and whether it is inward.
 pub type Row = (u32, u32, u8, bool);
 
-fn booking_of(row: &Row) -> Option<Booking> {
-    let booking = Booking::new(row.0, row.1, 5, Number::new(b"1234")?)?;
+/// The number at this index; 1234 where there is none.
+fn number_at(numbers: &[&[u8]], index: usize) -> Option<Number> {
+    match numbers.get(index) {
+        Some(digits) => Number::new(digits),
+        None => Number::new(b"1234"),
+    }
+}
+
+fn booking_of(row: &Row, number: Number) -> Option<Booking> {
+    let booking = Booking::new(row.0, row.1, 5, number)?;
     Some(if row.3 { booking.as_inward() } else { booking })
 }
 
-fn bookings_of(alloc: Global, rows: &[Row]) -> Option<Bookings> {
+fn bookings_of(alloc: Global, rows: &[Row], numbers: &[&[u8]]) -> Option<Bookings> {
     let mut bookings = Bookings::new(alloc);
-    for row in rows {
-        bookings.push(booking_of(row)?).ok()?;
+    for (index, row) in rows.iter().enumerate() {
+        let booking = booking_of(row, number_at(numbers, index)?)?;
+        bookings.push(booking).ok()?;
     }
     Some(bookings)
 }
@@ -29,21 +38,28 @@ fn channels_of(alloc: Global, rows: &[Row]) -> Option<Vec<Option<Channel>>> {
     Some(assigned)
 }
 
-/// A plan of these bookings on channels 1 and 2.
-pub fn plan_of(alloc: Global, rows: &[Row]) -> Option<Plan> {
-    let channels = ChannelSet::from_numbers(&[1, 2]).ok()?;
-    let bookings = bookings_of(alloc, rows)?;
+/// A plan on channels 1, 2 and 3 of bookings of these numbers, those behind them of 1234. Its total is not that of the
+/// bookings: no day reads it.
+pub fn plan_of(alloc: Global, rows: &[Row], numbers: &[&[u8]]) -> Option<Plan> {
+    let channels = ChannelSet::from_numbers(&[1, 2, 3]).ok()?;
+    let bookings = bookings_of(alloc, rows, numbers)?;
     let assigned = channels_of(alloc, rows)?;
-    Plan::new(bookings, channels, assigned, Vec::new(alloc), 5)
+    Plan::new(bookings, channels, assigned, Vec::new(alloc), 0)
 }
 
-/// The exchange at the opening of a day with these bookings; none where their channels do not carry them.
-pub fn exchange_of(alloc: Global, rows: &[Row]) -> Option<Exchange> {
-    let plan = plan_of(alloc, rows)?;
+/// The exchange at the opening of a day with bookings of these numbers, those behind them of 1234; none where their
+/// channels do not carry them.
+pub fn exchange_of_numbers(alloc: Global, rows: &[Row], numbers: &[&[u8]]) -> Option<Exchange> {
+    let plan = plan_of(alloc, rows, numbers)?;
     if !plan.carried() {
         return None;
     }
     Exchange::new(alloc, &plan).ok()
+}
+
+/// The exchange at the opening of a day with bookings of the number 1234; none where their channels do not carry them.
+pub fn exchange_of(alloc: Global, rows: &[Row]) -> Option<Exchange> {
+    exchange_of_numbers(alloc, rows, &[])
 }
 
 /// The exchange at the opening of a day of one booking, from 0 to 60 on channel 1.
