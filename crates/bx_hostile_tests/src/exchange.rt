@@ -1,12 +1,13 @@
 //! The exchange on hostile octets, at the opening and with a call in each state that a message can find.
 
-use crate::exchange_days::{DAYS, Ready, at};
-use crate::hostile::{Subject, first_wrong};
-use crate::replies::{Reply, Sent, is_sent, sent_for};
-use crate::second_reading::{Heard, Naming, read_again};
+use crate::at_days::{Day, Expected, wrong_at};
+use crate::exchange_days::{DAYS, Ready};
+use crate::replies::Reply;
+use crate::second_reading::{Heard, Naming};
 use crate::tables::{Call, at_network, of_no_call};
 use bx_base::Channel;
 use bx_day::Exchange;
+use bx_worked_days::exchange_of;
 use std::alloc::Global;
 
 /// The row and the state of the call on a channel, 0 and 0 where there is none.
@@ -18,13 +19,6 @@ fn seen_on(exchange: &Exchange, number: u8) -> (u16, u8) {
         },
         None => (0, 0),
     }
-}
-
-/// What is expected: the reply, and the states of the calls on channels 1 and 2.
-#[derive(Clone, Copy, PartialEq, Eq)]
-struct Expected {
-    reply: Reply,
-    states: (u8, u8),
 }
 
 impl Ready {
@@ -63,22 +57,37 @@ impl Ready {
 
     fn of_setup(&self, heard: &Heard<'_>) -> Expected {
         match self.taken_by(heard) {
-            Ok(1) => Expected {
-                reply: Reply::CallProceeding(1),
-                states: (3, 0),
-            },
+            Ok(1) => Expected::of(Reply::CallProceeding(1), 3),
             Ok(channel) => Expected {
                 reply: Reply::CallProceeding(channel),
-                states: (self.state, 3),
+                state: self.state,
+                opened: channel,
             },
-            Err(cause) => Expected {
-                reply: Reply::ReleaseComplete(Some(cause)),
-                states: (self.state, 0),
-            },
+            Err(cause) => Expected::of(Reply::ReleaseComplete(Some(cause)), self.state),
         }
     }
+}
 
-    /// What is expected of a message with this reference.
+impl Day for Ready {
+    type Of = Exchange;
+
+    /// The booking on channel 1 runs from 0 to 3, and an inward one on channel 2 all the while.
+    fn opening(&self, alloc: Global) -> Option<Exchange> {
+        exchange_of(alloc, &[(0, 3, 1, self.inward), (0, 60, 2, true)])
+    }
+
+    fn steps(&self) -> &'static [&'static [u8]] {
+        self.steps
+    }
+
+    fn state(&self) -> u8 {
+        self.state
+    }
+
+    fn location(&self) -> u8 {
+        0x82
+    }
+
     fn of_message(&self, heard: &Heard<'_>, value: u16, flag: bool) -> Expected {
         if self.is_named(value, flag) {
             let call = Call {
@@ -86,88 +95,23 @@ impl Ready {
                 channel: 1,
                 from_network: !self.inward,
             };
-            let (reply, next) = at_network(call, heard);
-            let state = next.after(self.state);
-            return Expected {
-                reply,
-                states: (state, 0),
-            };
+            return Expected::by_table(at_network(call, heard), self.state);
         }
         if heard.kind == 0x05 && !flag {
             return self.of_setup(heard);
         }
-        Expected {
-            reply: of_no_call(heard),
-            states: (self.state, 0),
-        }
-    }
-}
-
-/// An exchange at a day, made anew after each message that changes it.
-#[derive(Drop)]
-struct AtDay {
-    alloc: Global,
-    day: &'static Ready,
-    exchange: Exchange,
-}
-
-impl AtDay {
-    /// The octets that are expected, and the states of the calls.
-    fn expected(&self, octets: &[u8]) -> (Option<Sent>, (u8, u8)) {
-        let same = (self.day.state, 0);
-        match read_again(octets) {
-            Ok(message) => match message.reference {
-                None | Some((0, _)) => (None, same),
-                Some((value, flag)) => {
-                    let expected = self.day.of_message(&message, value, flag);
-                    (
-                        sent_for(expected.reply, value, !flag, 0x82),
-                        expected.states,
-                    )
-                }
-            },
-            Err(_) => (None, same),
-        }
+        Expected::of(of_no_call(heard), self.state)
     }
 
-    /// Whether the calls are on channel 1 for row 1 and on channel 2 for row 2, in these states.
-    fn is_at(&self, states: (u8, u8)) -> bool {
-        seen_on(&self.exchange, 1) == (if states.0 == 0 { 0 } else { 1 }, states.0)
-            && seen_on(&self.exchange, 2) == (if states.1 == 0 { 0 } else { 2 }, states.1)
-    }
-}
-
-impl Subject for AtDay {
-    fn takes_rightly(&mut self, octets: &[u8]) -> bool {
-        let (sent, states) = self.expected(octets);
-        let right = is_sent(self.exchange.receive(octets), sent);
-        let is_there = self.is_at(states);
-        if states != (self.day.state, 0) {
-            match at(self.alloc, self.day) {
-                Some(exchange) => self.exchange = exchange,
-                None => return false,
-            }
-        }
-        right && is_there
-    }
-}
-
-/// The first worked message that is taken wrongly at this day; 100 where the day does not come about.
-fn wrong_at(alloc: Global, day: &'static Ready) -> Option<usize> {
-    match at(alloc, day) {
-        Some(exchange) => {
-            let mut subject = AtDay {
-                alloc,
-                day,
-                exchange,
-            };
-            if subject.is_at((day.state, 0)) {
-                first_wrong(&mut subject)
-            } else {
-                Some(100)
-            }
-        }
-        None => Some(100),
+    /// The calls are on channel 1 for row 1, and on channel 2 for row 2 in N3: rows are told in place of references.
+    fn is_at(&self, exchange: &Exchange, expected: Expected, _reference: u16) -> bool {
+        let first = if expected.state == 0 {
+            (0, 0)
+        } else {
+            (1, expected.state)
+        };
+        let second = if expected.opened == 2 { (2, 3) } else { (0, 0) };
+        seen_on(exchange, 1) == first && seen_on(exchange, 2) == second
     }
 }
 

@@ -1,12 +1,10 @@
 //! The exchange at the opening, and with a call in each state that a message can find.
 
-use bx_day::Exchange;
 use bx_worked::{
     ALERTING, CONNECT, DISCONNECT_REFERENCE_7, FAR_DISCONNECT, FAR_RELEASE_COMPLETE, PROCEEDING,
     SETUP_REFERENCE_7_UNNUMBERED,
 };
-use bx_worked_days::{TICK, exchange_of, goes_through};
-use std::alloc::Global;
+use bx_worked_days::TICK;
 
 /// How a day comes to a call on channel 1: whether its booking is inward, what happens, and the
 /// state of the call then (0: there is none).
@@ -16,7 +14,6 @@ pub(crate) struct Ready {
     pub(crate) state: u8,
 }
 
-/// The booking on channel 1 runs from 0 to 3, and an inward one on channel 2 all the while.
 pub(crate) static DAYS: [Ready; 14] = [
     Ready {
         inward: false,
@@ -100,10 +97,3 @@ pub(crate) static DAYS: [Ready; 14] = [
         state: 0,
     },
 ];
-
-/// The exchange, as the day comes to it.
-pub(crate) fn at(alloc: Global, day: &Ready) -> Option<Exchange> {
-    let mut exchange = exchange_of(alloc, &[(0, 3, 1, day.inward), (0, 60, 2, true)])?;
-    goes_through(&mut exchange, day.steps);
-    Some(exchange)
-}

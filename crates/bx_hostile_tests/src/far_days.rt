@@ -1,12 +1,10 @@
 //! The far end at the opening, and with a call in each state that a message can find.
 
-use bx_far::Far;
 use bx_worked::{
     CONNECT, CONNECT_ACKNOWLEDGE, DISCONNECT, FAR_DISCONNECT, PROCEEDING, RELEASE_COMPLETE,
     SETUP_NOT_COMPLETE,
 };
-use bx_worked_days::{TICK, far_of, goes_through};
-use std::alloc::Global;
+use bx_worked_days::TICK;
 
 /// How a day comes to a call of reference 1 on channel 1: the script, what happens, the state of
 /// the call then (0: there is none), and whether the network began it. In each script calls to 1 find the user busy.
@@ -137,10 +135,3 @@ pub(crate) static DAYS: [Ready; 15] = [
 
 /// In place of a state: no call, and channel 1 is in maintenance.
 pub(crate) const MAINTENANCE: u8 = 255;
-
-/// The far end, as the day comes to it.
-pub(crate) fn at(alloc: Global, day: &Ready) -> Option<Far> {
-    let mut far = far_of(alloc, day.script)?;
-    goes_through(&mut far, day.steps);
-    Some(far)
-}

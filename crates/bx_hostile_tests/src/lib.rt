@@ -4,6 +4,8 @@
 #![tactic(auto)]
 
 #[cfg(test)]
+mod at_days;
+#[cfg(test)]
 mod codec;
 #[cfg(test)]
 mod exchange;
