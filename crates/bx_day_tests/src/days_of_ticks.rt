@@ -4,7 +4,7 @@ use crate::booked_days::{Day, run_day};
 use bx_worked::{RELEASE_COMPLETE_102, SETUP, SETUP_CHANNEL_2, SETUP_REFERENCE_2};
 use std::test::Fail;
 
-static DAYS: [Day; 4] = [
+static DAYS: [Day<'static>; 4] = [
     Day {
         bookings: &[(0, 60, 1, false)],
         steps: &[(1, &[], &[SETUP])],

@@ -17,87 +17,91 @@ use std::test::Fail;
 /// RELEASE COMPLETE of a second call, whose channel is not free.
 const NO_CHANNEL_2: &[u8] = &[0x08, 0x02, 0x80, 0x02, 0x5A, 0x08, 0x02, 0x80, 0xAC];
 
-/// A script, and what happens; who holds channel 1 in the end, and whether it is in maintenance.
-struct Day {
-    script: &'static str,
-    steps: &'static [Step],
-    held: Option<(u16, CallState)>,
-    maintenance: bool,
-}
+/// Who holds channel 1, and whether it is in maintenance.
+pub(crate) type Ending = (Option<(u16, CallState)>, bool);
+
+pub(crate) const FREE: Ending = (None, false);
+
+/// A second call of the far end.
+const CALLED_AGAIN: Ending = (Some((2, CallState::CallInitiated)), false);
+
+/// A call of the far end's that is not answered, and the next, which has the next reference.
+const UNANSWERED: &[Step] = &[
+    (1, &[], &[SETUP]),
+    (5, &[], &[SETUP]),
+    (9, &[], &[USER_RELEASE_COMPLETE_102]),
+    (10, &[], &[SETUP_REFERENCE_2]),
+];
+
+/// A script, what happens, and how channel 1 is in the end.
+type Day = (&'static str, &'static [Step], Ending);
 
 static DAYS: [Day; 12] = [
     // answered at once, and acknowledged; a second call on its channel
-    Day {
-        script: "number,policy,seconds\n*,answer,0\n",
-        steps: &[
+    (
+        "number,policy,seconds\n*,answer,0\n",
+        &[
             (0, SETUP, &[]),
             (1, &[], &[CONNECT_CHANNEL_1]),
             (1, SETUP_REFERENCE_2, &[NO_CHANNEL_2]),
             (1, CONNECT_ACKNOWLEDGE, &[]),
             (9, &[], &[]),
         ],
-        held: Some((1, CallState::Active)),
-        maintenance: false,
-    },
+        (Some((1, CallState::Active)), false),
+    ),
     // answered at once, and not acknowledged
-    Day {
-        script: "number,policy,seconds\n",
-        steps: &[
+    (
+        "number,policy,seconds\n",
+        &[
             (0, SETUP, &[]),
             (1, &[], &[CONNECT_CHANNEL_1]),
             (5, &[], &[FAR_DISCONNECT_102]),
         ],
-        held: Some((1, CallState::DisconnectRequest)),
-        maintenance: false,
-    },
+        (Some((1, CallState::DisconnectRequest)), false),
+    ),
     // answered late
-    Day {
-        script: "number,policy,seconds\n1234,answer,2\n*,busy,0\n",
-        steps: &[
+    (
+        "number,policy,seconds\n1234,answer,2\n*,busy,0\n",
+        &[
             (4, &[], &[]),
             (4, SETUP, &[]),
             (5, &[], &[ALERTING_CHANNEL_1]),
             (7, &[], &[CONNECT]),
         ],
-        held: Some((1, CallState::ConnectRequest)),
-        maintenance: false,
-    },
-    Day {
-        script: "number,policy,seconds\n1234,busy,0\n",
-        steps: &[(0, SETUP, &[FAR_RELEASE_COMPLETE_17]), (9, &[], &[])],
-        held: None,
-        maintenance: false,
-    },
-    Day {
-        script: "number,policy,seconds\n12345,busy,0\n1234,silent,0\n",
-        steps: &[(0, SETUP, &[]), (9, &[], &[])],
-        held: None,
-        maintenance: false,
-    },
-    Day {
-        script: "number,policy,seconds\n*,alert,0\n",
-        steps: &[
+        (Some((1, CallState::ConnectRequest)), false),
+    ),
+    (
+        "number,policy,seconds\n1234,busy,0\n",
+        &[(0, SETUP, &[FAR_RELEASE_COMPLETE_17]), (9, &[], &[])],
+        FREE,
+    ),
+    (
+        "number,policy,seconds\n12345,busy,0\n1234,silent,0\n",
+        &[(0, SETUP, &[]), (9, &[], &[])],
+        FREE,
+    ),
+    (
+        "number,policy,seconds\n*,alert,0\n",
+        &[
             (0, SETUP, &[]),
             (1, &[], &[ALERTING_CHANNEL_1]),
             (999, &[], &[]),
         ],
-        held: Some((1, CallState::CallReceived)),
-        maintenance: false,
-    },
-    Day {
-        script: "number,policy,seconds\n*,proceed,0\n",
-        steps: &[
+        (Some((1, CallState::CallReceived)), false),
+    ),
+    (
+        "number,policy,seconds\n*,proceed,0\n",
+        &[
             (0, SETUP, &[]),
             (1, &[], &[PROCEEDING_CHANNEL_1]),
             (999, &[], &[]),
         ],
-        held: Some((1, CallState::IncomingCallProceeding)),
-        maintenance: false,
-    },
+        (Some((1, CallState::IncomingCallProceeding)), false),
+    ),
     // cleared, and never released
-    Day {
-        script: "number,policy,seconds\n*,clear,1\n",
-        steps: &[
+    (
+        "number,policy,seconds\n*,clear,1\n",
+        &[
             (0, SETUP, &[]),
             (1, &[], &[CONNECT_CHANNEL_1]),
             (1, CONNECT_ACKNOWLEDGE, &[]),
@@ -107,13 +111,12 @@ static DAYS: [Day; 12] = [
             (40, &[], &[]),
             (40, SETUP, &[FAR_RELEASE_COMPLETE_44]),
         ],
-        held: None,
-        maintenance: true,
-    },
+        (None, true),
+    ),
     // a call of the far end: connected and cleared by the network
-    Day {
-        script: "number,policy,seconds,channel\n1234,call,1,1\n",
-        steps: &[
+    (
+        "number,policy,seconds,channel\n1234,call,1,1\n",
+        &[
             (1, &[], &[SETUP]),
             (1, CONNECT, &[]),
             (9, &[], &[]),
@@ -124,62 +127,46 @@ static DAYS: [Day; 12] = [
             ),
             (9, FAR_RELEASE_COMPLETE, &[]),
         ],
-        held: None,
-        maintenance: false,
-    },
-    // not answered; the next call has the next reference
-    Day {
-        script: "number,policy,seconds,channel\n1234,call,1,1\n*,busy,0,\n1234,call,10,01\n",
-        steps: &[
-            (1, &[], &[SETUP]),
-            (5, &[], &[SETUP]),
-            (9, &[], &[USER_RELEASE_COMPLETE_102]),
-            (10, &[], &[SETUP_REFERENCE_2]),
-        ],
-        held: Some((2, CallState::CallInitiated)),
-        maintenance: false,
-    },
+        FREE,
+    ),
+    (
+        "number,policy,seconds,channel\n1234,call,1,1\n*,busy,0,\n1234,call,10,01\n",
+        UNANSWERED,
+        CALLED_AGAIN,
+    ),
     // two calls in one second, in the order of their channels, and none on a channel that is called on or held
-    Day {
-        script: "number,policy,seconds,channel\n1234,call,1,2\n1234,call,1,1\n99,call,1,1\n99,call,2,2\n1234,call,2,3\n",
-        steps: &[
+    (
+        "number,policy,seconds,channel\n1234,call,1,2\n1234,call,1,1\n99,call,1,1\n99,call,2,2\n1234,call,2,3\n",
+        &[
             (1, &[], &[SETUP_REFERENCE_2, SETUP_CHANNEL_2]),
             (2, &[], &[SETUP_REFERENCE_3_CHANNEL_3]),
         ],
-        held: Some((2, CallState::CallInitiated)),
-        maintenance: false,
-    },
+        CALLED_AGAIN,
+    ),
     // a call that ends in a second holds its channel in that second
-    Day {
-        script: "number,policy,seconds,channel\n1234,call,1,1\n99,call,9,1\n1234,call,10,1\n",
-        steps: &[
-            (1, &[], &[SETUP]),
-            (5, &[], &[SETUP]),
-            (9, &[], &[USER_RELEASE_COMPLETE_102]),
-            (10, &[], &[SETUP_REFERENCE_2]),
-        ],
-        held: Some((2, CallState::CallInitiated)),
-        maintenance: false,
-    },
+    (
+        "number,policy,seconds,channel\n1234,call,1,1\n99,call,9,1\n1234,call,10,1\n",
+        UNANSWERED,
+        CALLED_AGAIN,
+    ),
 ];
 
-/// Whether channel 1 is held so, and is or is not in maintenance.
-pub(crate) fn ends(far: &Far, held: Option<(u16, CallState)>, maintenance: bool) -> bool {
+/// Whether channel 1 ends so.
+pub(crate) fn ends(far: &Far, ending: Ending) -> bool {
     match Channel::new(1) {
-        Some(channel) => {
-            far.on_channel(channel) == held && far.in_maintenance(channel) == maintenance
-        }
+        Some(channel) => (far.on_channel(channel), far.in_maintenance(channel)) == ending,
         None => false,
     }
 }
 
 /// Runs a day, and refuses one that goes otherwise.
 fn run_day(alloc: Global, day: &Day) -> Result<(), Fail> {
-    let mut far = far_of(alloc, day.script).ok_or("script")?;
-    if let Some(moment) = first_wrong(&mut far, day.steps) {
+    let (script, steps, ending) = *day;
+    let mut far = far_of(alloc, script).ok_or("script")?;
+    if let Some(moment) = first_wrong(&mut far, steps) {
         return Err(Fail::new(moment));
     }
-    if ends(&far, day.held, day.maintenance) {
+    if ends(&far, ending) {
         Ok(())
     } else {
         Err(Fail::new("the end"))

@@ -1,7 +1,7 @@
 //! Octets that are no message, messages of calls that are not known, and SETUPs that ask for what is not there: what
 //! the far end answers.
 
-use crate::far_days::ends;
+use crate::far_days::{FREE, ends};
 use crate::steps::{Messages, answers, are_short_ignored};
 use bx_far::Far;
 use bx_worked::FAR_RELEASE_COMPLETE_44;
@@ -89,6 +89,6 @@ fn strangers_and_short_octets(rt: HostRuntime) -> Result<(), Fail> {
     assert_eq!(rt; strangers(&mut far), STRANGERS.len());
     assert!(rt; answers(&mut far, &[], &[]), "no octet");
     assert!(rt; are_short_ignored(&mut far), "short");
-    assert!(rt; ends(&far, None, false), "channel 1");
+    assert!(rt; ends(&far, FREE), "channel 1");
     Ok(())
 }
