@@ -60,6 +60,44 @@ pub(crate) fn send(carried: &mut Carried, line: &Line, dist: &Dist) -> Option<()
     Some(())
 }
 
+/// Distances that are looked at while a flow grows.
+pub(crate) trait Looked {
+    /// The distances in this part; none where they are not what they should be.
+    fn dist(
+        &self,
+        alloc: Global,
+        line: &Line,
+        carried: &Carried,
+        potentials: &Potentials,
+        part: Part,
+    ) -> Option<Dist>;
+}
+
+/// Sends a unit along a least walk, where both parts have the distances that they should have.
+fn grow<L: Looked>(
+    looked: &L,
+    alloc: Global,
+    line: &Line,
+    carried: &mut Carried,
+    potentials: Potentials,
+) -> Option<Potentials> {
+    let _free = looked.dist(alloc, line, carried, &potentials, Part::Free)?;
+    let dist = looked.dist(alloc, line, carried, &potentials, Part::Whole)?;
+    send(carried, line, &dist)?;
+    Some(Potentials::of(dist))
+}
+
+/// Some where the distances are what they should be while a flow grows by so many units.
+pub(crate) fn grows<L: Looked>(looked: &L, alloc: Global, rows: &[Row], units: u8) -> Option<()> {
+    let line = line_of(alloc, rows)?;
+    let mut carried = Carried::empty(alloc, &line).ok()?;
+    let mut potentials = Potentials::first(alloc, &line).ok()?;
+    for _ in 0..units {
+        potentials = grow(looked, alloc, &line, &mut carried, potentials)?;
+    }
+    Some(())
+}
+
 fn are_potentials(potentials: &Potentials, heights: &[i64]) -> bool {
     let mut same = true;
     for (place, height) in (0..8000u16).zip(heights) {

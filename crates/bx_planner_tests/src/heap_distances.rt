@@ -1,7 +1,7 @@
 //! Distances by a heap: a chain, many small days by rounds too, and a day on which forty calls at a time want thirty
 //! channels.
 
-use crate::distances::{are, distances_by, distances_of, line_of, send};
+use crate::distances::{Looked, are, distances_by, distances_of, grows, line_of};
 use crate::rows::{Drawn, Row, bookings_of, random_rows};
 use bx_base::{Bookings, ChannelSet, Plan};
 use bx_dist::{Carried, Dist, Distances, HeapDist, Part, Potentials, Rounds, Step};
@@ -78,46 +78,30 @@ fn are_same(a: &Potentials, b: &Potentials, places: u16) -> bool {
 }
 
 /// The distances by a heap, where they are those by rounds, and the walk is simple and as long as the last of them.
-fn as_by_rounds(
-    alloc: Global,
-    line: &Line,
-    carried: &Carried,
-    potentials: &Potentials,
-    part: Part,
-) -> Option<Dist> {
-    let rounds = Potentials::of(distances_of(alloc, line, carried, potentials, part)?);
-    let again = Potentials::of(distances_by(&HeapDist, alloc, line, carried, potentials, part)?);
-    let heap = distances_by(&HeapDist, alloc, line, carried, potentials, part)?;
-    let length = heap.length(line.places().saturating_sub(1));
-    let is_least = walk_cost(line, heap.walk()) == length && heap.belongs_to(line, carried);
-    if is_least && are_same(&again, &rounds, line.places()) {
-        Some(heap)
-    } else {
-        None
-    }
-}
+struct ByHeap;
 
-/// Sends a unit along the walk by a heap, where both parts have the distances by rounds.
-fn grow(
-    alloc: Global,
-    line: &Line,
-    carried: &mut Carried,
-    potentials: Potentials,
-) -> Option<Potentials> {
-    let _free = as_by_rounds(alloc, line, carried, &potentials, Part::Free)?;
-    let dist = as_by_rounds(alloc, line, carried, &potentials, Part::Whole)?;
-    send(carried, line, &dist)?;
-    Some(Potentials::of(dist))
-}
-
-fn are_all_as_by_rounds(alloc: Global, rows: &[Row]) -> Option<bool> {
-    let line = line_of(alloc, rows)?;
-    let mut carried = Carried::empty(alloc, &line).ok()?;
-    let mut potentials = Potentials::first(alloc, &line).ok()?;
-    for _ in 0..4 {
-        potentials = grow(alloc, &line, &mut carried, potentials)?;
+impl Looked for ByHeap {
+    fn dist(
+        &self,
+        alloc: Global,
+        line: &Line,
+        carried: &Carried,
+        potentials: &Potentials,
+        part: Part,
+    ) -> Option<Dist> {
+        let rounds = Potentials::of(distances_of(alloc, line, carried, potentials, part)?);
+        let again = Potentials::of(distances_by(
+            &HeapDist, alloc, line, carried, potentials, part,
+        )?);
+        let heap = distances_by(&HeapDist, alloc, line, carried, potentials, part)?;
+        let length = heap.length(line.places().saturating_sub(1));
+        let is_least = walk_cost(line, heap.walk()) == length && heap.belongs_to(line, carried);
+        if is_least && are_same(&again, &rounds, line.places()) {
+            Some(heap)
+        } else {
+            None
+        }
     }
-    Some(true)
 }
 
 #[test]
@@ -144,10 +128,7 @@ fn as_by_rounds_over_many_small_days(rt: HostRuntime) {
     let mut seed: u32 = 7;
     for day in 0..200 {
         let (rows, next) = random_rows::<8>(seed, &OFTEN_THE_SAME);
-        assert!(rt;
-            are_all_as_by_rounds(rt.alloc(), &rows) == Some(true),
-            "day {day}"
-        );
+        assert!(rt; grows(&ByHeap, rt.alloc(), &rows, 4).is_some(), "day {day}");
         seed = next;
     }
 }

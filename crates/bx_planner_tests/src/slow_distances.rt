@@ -1,8 +1,8 @@
 //! Distances against a slow and simple program, over many small days.
 
-use crate::distances::{are, distances_of, line_of, send};
-use crate::rows::{Drawn, Row, random_rows};
-use bx_dist::{Carried, Part, Potentials};
+use crate::distances::{Looked, are, distances_of, grows};
+use crate::rows::{Drawn, random_rows};
+use bx_dist::{Carried, Dist, Part, Potentials};
 use bx_line::Line;
 use std::alloc::{AllocError, Global};
 use std::test::Fail;
@@ -60,45 +60,25 @@ fn slow(alloc: Global, line: &Line, carried: &Carried, part: Part) -> Result<Vec
     Ok(best)
 }
 
-/// Whether the distances in this part are those of the slow program.
-fn is_as_slow(
-    alloc: Global,
-    line: &Line,
-    carried: &Carried,
-    potentials: &Potentials,
-    part: Part,
-) -> Option<bool> {
-    let dist = distances_of(alloc, line, carried, potentials, part)?;
-    Some(are(&dist, &slow(alloc, line, carried, part).ok()?))
-}
+/// The distances by rounds, where they are those of the slow program.
+struct AsSlow;
 
-/// Whether both parts have the distances of the slow program; then sends a unit along a least walk.
-fn grow(
-    alloc: Global,
-    line: &Line,
-    carried: &mut Carried,
-    potentials: Potentials,
-) -> Option<Potentials> {
-    if !is_as_slow(alloc, line, carried, &potentials, Part::Free)? {
-        return None;
+impl Looked for AsSlow {
+    fn dist(
+        &self,
+        alloc: Global,
+        line: &Line,
+        carried: &Carried,
+        potentials: &Potentials,
+        part: Part,
+    ) -> Option<Dist> {
+        let dist = distances_of(alloc, line, carried, potentials, part)?;
+        if are(&dist, &slow(alloc, line, carried, part).ok()?) {
+            Some(dist)
+        } else {
+            None
+        }
     }
-    if !is_as_slow(alloc, line, carried, &potentials, Part::Whole)? {
-        return None;
-    }
-    let dist = distances_of(alloc, line, carried, &potentials, Part::Whole)?;
-    send(carried, line, &dist)?;
-    Some(Potentials::of(dist))
-}
-
-/// Whether the distances are those of the slow program while a flow grows by three units.
-fn are_all_as_slow(alloc: Global, rows: &[Row]) -> Option<bool> {
-    let line = line_of(alloc, rows)?;
-    let mut carried = Carried::empty(alloc, &line).ok()?;
-    let mut potentials = Potentials::first(alloc, &line).ok()?;
-    for _ in 0..3 {
-        potentials = grow(alloc, &line, &mut carried, potentials)?;
-    }
-    Some(true)
 }
 
 #[test]
@@ -106,10 +86,7 @@ fn as_a_slow_program_over_many_small_days(rt: HostRuntime) {
     let mut seed: u32 = 1;
     for day in 0..200 {
         let (rows, next) = random_rows::<6>(seed, &SMALL_DAYS);
-        assert!(rt;
-            are_all_as_slow(rt.alloc(), &rows) == Some(true),
-            "day {day}"
-        );
+        assert!(rt; grows(&AsSlow, rt.alloc(), &rows, 3).is_some(), "day {day}");
         seed = next;
     }
 }
