@@ -14,6 +14,27 @@ pub(crate) struct Done {
 /// A status, standard output, and how standard error begins.
 pub(crate) type Expected<'a> = (u8, &'a str, &'a str);
 
+/// What is answered, of which there are three kinds.
+#[derive(Clone, Copy)]
+pub(crate) enum Answer {
+    /// Status 0, and this on standard output.
+    Prints(&'static str),
+    /// Status 1, and a standard error that begins so.
+    Fails(&'static str),
+    /// Status 2, and a standard error that tells what is wrong with the words.
+    Misused,
+}
+
+impl Answer {
+    pub(crate) fn expected(self) -> Expected<'static> {
+        match self {
+            Answer::Prints(output) => (0, output, ""),
+            Answer::Fails(errors) => (1, "", errors),
+            Answer::Misused => (2, "", "error: "),
+        }
+    }
+}
+
 pub(crate) fn run(rt: &HostRuntime, words: &[&str], text: &str) -> Done {
     let mut input = Watched::new(text.as_bytes());
     let mut output = Watched::new(Vec::new(rt.alloc()));

@@ -1,6 +1,7 @@
 //! Plan texts on standard input: the status, and all that is printed.
 
-use crate::program::{Done, run};
+use crate::program::Answer::{Fails, Prints};
+use crate::program::{Answer, Done, Expected, run};
 
 /// A plan that is proved.
 pub(crate) const ONE: &str =
@@ -9,73 +10,56 @@ pub(crate) const ONE: &str =
 const MUST: &str =
     "bx-plan 3\nchannels 1\nbookings 3\n0 10 4 1234 - free out\n5 15 6 1234 1 must out\n10 20 4 1234 - free in\nprices 2\n5 4\n10 4\ntotal 6\nend\n";
 
-/// Input, status, standard output and standard error.
-type Case = (&'static str, u8, &'static str, &'static str);
+/// Input, and what is answered, with all of standard error.
+type Case = (&'static str, Answer);
 
 static CASES: [Case; 15] = [
-    (ONE, 0, "proved 5\n", ""),
-    (MUST, 0, "proved 6\n", ""),
+    (ONE, Prints("proved 5\n")),
+    (MUST, Prints("proved 6\n")),
     (
         "bx-plan 1\nchannels 1 2 3\nbookings 0\nprices 0\ntotal 0\nend\n",
-        0,
-        "proved 0\n",
-        "",
+        Prints("proved 0\n"),
     ),
     (
         "bx-plan 2\nchannels 1\nbookings 3\n0 10 4 1234 - free\n5 15 6 1234 - must\n10 20 4 1234 - free\nprices 2\n5 4\n10 4\ntotal 6\nend\n",
-        1,
-        "",
-        "bx: C8 MustLeftOut 2\n",
+        Fails("bx: C8 MustLeftOut 2\n"),
     ),
-    ("", 1, "", "bx: P1 BadLine 1\n"),
-    ("bx-plan 1\r\n", 1, "", "bx: P1 BadLine 1\n"),
-    ("\u{0}\u{1}\u{7f}", 1, "", "bx: P1 BadLine 1\n"),
-    ("bx-plan 3\nchannels 16\n", 1, "", "bx: P3 OutOfLimits 2\n"),
+    ("", Fails("bx: P1 BadLine 1\n")),
+    ("bx-plan 1\r\n", Fails("bx: P1 BadLine 1\n")),
+    ("\u{0}\u{1}\u{7f}", Fails("bx: P1 BadLine 1\n")),
+    ("bx-plan 3\nchannels 16\n", Fails("bx: P3 OutOfLimits 2\n")),
     (
         "bx-plan 2\nchannels\nbookings 5000\n",
-        1,
-        "",
-        "bx: P2 BadCount\n",
+        Fails("bx: P2 BadCount\n"),
     ),
     (
         "bx-plan 1\nchannels\nbookings 0\nprices 0\ntotal 0\nend",
-        1,
-        "",
-        "bx: P1 BadLine 6\n",
+        Fails("bx: P1 BadLine 6\n"),
     ),
     (
         "bx-plan 1\nchannels\nbookings 0\nprices 0\ntotal 0\nend\n\n",
-        1,
-        "",
-        "bx: P4 Trailing\n",
+        Fails("bx: P4 Trailing\n"),
     ),
     (
         "bx-plan 1\nchannels\nbookings 0\nprices 0\ntotal 1\nend\n",
-        1,
-        "",
-        "bx: C5 WrongTotal\n",
+        Fails("bx: C5 WrongTotal\n"),
     ),
     (
         "bx-plan 1\nchannels 1\nbookings 1\n0 1 5 1 -\nprices 0\ntotal 0\nend\n",
-        1,
-        "",
-        "bx: C7 NotProved 5\n",
+        Fails("bx: C7 NotProved 5\n"),
     ),
     (
         "bx-plan 1\nchannels 1\nbookings 1\n0 1 5 1 2\nprices 0\ntotal 5\nend\n",
-        1,
-        "",
-        "bx: C3 NotInService 1\n",
+        Fails("bx: C3 NotInService 1\n"),
     ),
     (
         "bx-plan 2\nchannels 1\nbookings 1\n0 1 5 1 - must\nprices 0\ntotal 0\nend\n",
-        1,
-        "",
-        "bx: C8 MustLeftOut 1\n",
+        Fails("bx: C8 MustLeftOut 1\n"),
     ),
 ];
 
-fn is_just(done: &Done, status: u8, output: &str, errors: &str) -> bool {
+fn is_just(done: &Done, expected: Expected<'_>) -> bool {
+    let (status, output, errors) = expected;
     done.status == status
         && done.output.as_slice() == output.as_bytes()
         && done.errors.as_slice() == errors.as_bytes()
@@ -83,8 +67,8 @@ fn is_just(done: &Done, status: u8, output: &str, errors: &str) -> bool {
 
 #[test]
 fn texts_without_words(rt: HostRuntime) {
-    for (text, status, output, errors) in &CASES {
+    for (text, answer) in &CASES {
         let done = run(&rt, &[], text);
-        assert!(rt; is_just(&done, *status, output, errors), "{text}");
+        assert!(rt; is_just(&done, answer.expected()), "{text}");
     }
 }

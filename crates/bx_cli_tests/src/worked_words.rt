@@ -1,42 +1,37 @@
 //! Words: messages that are decoded, wrong words, and the version.
 
-use crate::program::{is_done, run};
+use crate::program::Answer::{Fails, Misused, Prints};
+use crate::program::{Answer, is_done, run};
 use crate::worked_texts::ONE;
 
-/// Words, status, standard output, and how standard error begins.
-type Case = (&'static [&'static str], u8, &'static str, &'static str);
+/// Words, and what is answered.
+type Case = (&'static [&'static str], Answer);
 
 static CASES: [Case; 8] = [
     (
         &["decode", "080280015A08028091"],
-        0,
-        "type 5A RELEASE COMPLETE\nreference 1 flag 1\nelement 0 08 8091\n",
-        "",
+        Prints("type 5A RELEASE COMPLETE\nreference 1 flag 1\nelement 0 08 8091\n"),
     ),
     (
         &["decode", "0800FF9e1803A9838204"],
-        1,
-        "",
-        "bx: M4 TornElement\n",
+        Fails("bx: M4 TornElement\n"),
     ),
     (
         &["decode", "0800ff9ea1"],
-        0,
-        "type FF UNKNOWN\nreference dummy\nelement 6 A1\n",
-        "",
+        Prints("type FF UNKNOWN\nreference dummy\nelement 6 A1\n"),
     ),
-    (&["decode", "0"], 1, "", "bx: H1 NotHex\n"),
-    (&["decode", ""], 1, "", "bx: M1 TooShort\n"),
-    (&["decode"], 2, "", "error: "),
-    (&["dance"], 2, "", "error: "),
-    (&["--version"], 0, "bx 0.1.0\n", ""),
+    (&["decode", "0"], Fails("bx: H1 NotHex\n")),
+    (&["decode", ""], Fails("bx: M1 TooShort\n")),
+    (&["decode"], Misused),
+    (&["dance"], Misused),
+    (&["--version"], Prints("bx 0.1.0\n")),
 ];
 
 #[test]
 fn words_and_what_is_printed(rt: HostRuntime) {
-    for (index, (words, status, output, errors)) in CASES.iter().enumerate() {
+    for (index, (words, answer)) in CASES.iter().enumerate() {
         let done = run(&rt, words, ONE);
-        assert!(rt; is_done(&done, (*status, output, errors)), "words {index}");
+        assert!(rt; is_done(&done, answer.expected()), "words {index}");
     }
 }
 
