@@ -31,3 +31,5 @@ mod script_policies;
 mod steps;
 #[cfg(test)]
 mod stray_octets;
+#[cfg(test)]
+mod worked_days;
