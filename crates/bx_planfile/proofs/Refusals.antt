@@ -1,12 +1,13 @@
 -- No line is refused for want of memory.
-use Rattle.std.proofs.Common.{◌≡◌, ℕ, Bool, true, false, List, Option, Some, None, Result, Ok, Err, refl}
+use Rattle.std.proofs.Common.{◌≡◌, ℕ, Bool, true, false, ◌+◌, List, Option, Some, None, Result, Ok, Err, refl, ap, ◌∙◌, ◌⊎◌}
 use Rattle.bx_planfile.specs.declared.version.Version.{Version}
 use Rattle.bx_planfile.specs.declared.fault.PlanFault.{PlanFault}
 use Rattle.bx_planfile.specs.declared.fault.PlanFault.TheVariants.{BadLine, BadCount, OutOfLimits, Trailing, Memory}
-use Rattle.std.specs.Prelude.{codes, length, nat_le, ◌==◌}
+use Rattle.std.specs.Prelude.{codes, length, nat_le, ◌==◌, IsErrAnd}
+use Rattle.std.proofs.lemmas.Result.{err_from_is_err_and}
 use Rattle.bx_planfile.specs.Lines.{first_line}
 use Rattle.bx_planfile.specs.Forms.{header_form, named_form, channels_form, channel_set, booking_form, is_within, price_form, is_charge, is_end}
-use Rattle.bx_planfile.specs.Reading.{◌>>=◌, or_fault, where_holds, read_line, read_header, read_channels, read_count, read_booking, read_price, read_total, read_end, read_head, head_of}
+use Rattle.bx_planfile.specs.Reading.{◌>>=◌, or_fault, where_holds, read_line, read_header, read_channels, read_count, read_booking, read_price, read_total, read_end, read_head, head_of, read_bookings, Entries, SomeBookings, GrowsInTail, Grows}
 
 no_option : {A : Type 0} (n : ℕ) (o : Option A) → or_fault (BadLine n) o ≡ Err Memory → ⊥
 no_option n None e = cc
@@ -70,18 +71,16 @@ unfolding read_end
 end_never n fields rest e = no_end n (is_end fields) rest e
 
 -- a fault that is passed on is no want of memory where the line's is none
-pub not_memory : {A B : Type 0} (read : Result A PlanFault) (e y : PlanFault) (r : Result B PlanFault) → (read ≡ Err Memory → ⊥) → read ≡ Err e → r ≡ Err y → y ≡ e → r ≡ Err Memory → ⊥
-not_memory read e y r never is result passed m =
-    let same : e ≡ Memory = cc in
-    never (cc)
+pub passed_on : {B : Type 0} {e : PlanFault} {r : Result B PlanFault} → r ≡ Err Memory → IsErrAnd r (λ y. y ≡ e) → e ≡ Memory
+passed_on {e} {r} m passed = let p = err_from_is_err_and r passed in cc
 
-pub passed_on : {B : Type 0} (e y : PlanFault) (r : Result B PlanFault) → r ≡ Err y → y ≡ e → r ≡ Err Memory → e ≡ Memory
-passed_on e y r result passed m = cc
+pub not_memory : {A B X : Type 0} {read : Result A PlanFault} {e : PlanFault} {r : Result B PlanFault} → (read ≡ Err Memory → ⊥) → read ≡ Err e → r ≡ Err Memory → IsErrAnd r (λ y. y ≡ e) → X
+not_memory never is m passed = absurd (never (is ∙ ap Err (passed_on m passed)))
 
--- ---- the lines before the bookings, as they are read
+-- ---- the lines before the bookings were read, and a list was to grow behind them
 
-module _ (version : Version) (count : ℕ) (bytes r1 r2 r3 : List ℕ) (f1 f2 f3 : List (List ℕ)) (channels : List Bool) where
-  pub head_read : read_line 1 bytes ≡ Ok (f1, r1) → read_header 1 f1 ≡ Ok version → read_line 2 r1 ≡ Ok (f2, r2) → read_channels 2 f2 ≡ Ok channels → read_line 3 r2 ≡ Ok (f3, r3)
-      → read_count (codes "bookings") 4000 3 f3 ≡ Ok count → read_head bytes ≡ Ok (head_of version channels count r3)
+module _ {version : Version} {count : ℕ} {bytes r1 r2 r3 : List ℕ} {f1 f2 f3 : List (List ℕ)} {channels : List Bool} where
+  pub grows_behind : read_line 1 bytes ≡ Ok (f1, r1) → read_header 1 f1 ≡ Ok version → read_line 2 r1 ≡ Ok (f2, r2) → read_channels 2 f2 ≡ Ok channels → read_line 3 r2 ≡ Ok (f3, r3)
+      → read_count (codes "bookings") 4000 3 f3 ≡ Ok count → SomeBookings version count 4 r3 ⊎ ((x : Entries) × (read_bookings version count 4 r3 ≡ Ok x) × GrowsInTail (4 + count) x.rest) → Grows bytes
   unfolding read_head
-  head_read line1 header line2 set line3 counted = rw (line1, header, line2, set, line3, counted) refl
+  grows_behind line1 header line2 set line3 counted grows = record { head = head_of version channels count r3; is_head = rw (line1, header, line2, set, line3, counted) refl; grows = grows }

@@ -23,9 +23,7 @@ returns-in_err-fields-clause-value c =
     (fails_from c.in_err-fields.field-0.0 (read_line (c.args.n + c.loop-i.i) c.loop-i.rest.now) line))
 
 pub returns-in_err-fields-clause-memory : goal.returns-in_err-fields-clause-memory
-returns-in_err-fields-clause-memory c =
-    let p = err_from_is_err_and c.from_residual.result c.from_residual.ensures.1 in
-    λ m. absurd (not_memory (read_line (c.args.n + c.from.result) c.loop-i.rest.now) c.in_err-fields.field-0.0 p.0 c.from_residual.result (line_never (c.args.n + c.from.result) c.loop-i.rest.now) c.in_err-fields.ensures p.1 p.2 m)
+returns-in_err-fields-clause-memory c = λ m. not_memory (line_never _ _) c.in_err-fields.ensures m c.from_residual.ensures.1
 
 pub returns-in_err-booking-clause-value : goal.returns-in_err-booking-clause-value
 returns-in_err-booking-clause-value c =
@@ -37,9 +35,7 @@ returns-in_err-booking-clause-value c =
     (fails_from c.in_err-booking.field-0.0 (read_booking c.args.version (c.args.n + c.loop-i.i) c.in_ok-fields.fields) booking))
 
 pub returns-in_err-booking-clause-memory : goal.returns-in_err-booking-clause-memory
-returns-in_err-booking-clause-memory c =
-    let p = err_from_is_err_and c.from_residual-in_err-booking.result c.from_residual-in_err-booking.ensures.1 in
-    λ m. absurd (not_memory (read_booking c.args.version (c.args.n + c.from.result) c.in_ok-fields.fields) c.in_err-booking.field-0.0 p.0 c.from_residual-in_err-booking.result (booking_never c.args.version (c.args.n + c.from.result) c.in_ok-fields.fields) c.in_err-booking.ensures p.1 p.2 m)
+returns-in_err-booking-clause-memory c = λ m. not_memory (booking_never _ _ _) c.in_err-booking.ensures m c.from_residual-in_err-booking.ensures.1
 
 pub returns-in_err-add-clause-memory : goal.returns-in_err-add-clause-memory
 returns-in_err-add-clause-memory c = λ m.

@@ -20,9 +20,7 @@ returns-in_err-fields-clause-value c =
     (fails_from c.in_err-fields.field-0.0 (read_line (c.args.n + c.loop-i.i) c.loop-i.rest.now) line))
 
 pub returns-in_err-fields-clause-memory : goal.returns-in_err-fields-clause-memory
-returns-in_err-fields-clause-memory c =
-    let p = err_from_is_err_and c.from_residual.result c.from_residual.ensures.1 in
-    λ m. absurd (not_memory (read_line (c.args.n + c.from.result) c.loop-i.rest.now) c.in_err-fields.field-0.0 p.0 c.from_residual.result (line_never (c.args.n + c.from.result) c.loop-i.rest.now) c.in_err-fields.ensures p.1 p.2 m)
+returns-in_err-fields-clause-memory c = λ m. not_memory (line_never _ _) c.in_err-fields.ensures m c.from_residual.ensures.1
 
 pub returns-in_err-price-clause-value : goal.returns-in_err-price-clause-value
 returns-in_err-price-clause-value c =
@@ -34,9 +32,7 @@ returns-in_err-price-clause-value c =
     (fails_from c.in_err-price.field-0.0 (read_price (c.args.n + c.loop-i.i) c.in_ok-fields.fields) price))
 
 pub returns-in_err-price-clause-memory : goal.returns-in_err-price-clause-memory
-returns-in_err-price-clause-memory c =
-    let p = err_from_is_err_and c.from_residual-in_err-price.result c.from_residual-in_err-price.ensures.1 in
-    λ m. absurd (not_memory (read_price (c.args.n + c.from.result) c.in_ok-fields.fields) c.in_err-price.field-0.0 p.0 c.from_residual-in_err-price.result (price_never (c.args.n + c.from.result) c.in_ok-fields.fields) c.in_err-price.ensures p.1 p.2 m)
+returns-in_err-price-clause-memory c = λ m. not_memory (price_never _ _) c.in_err-price.ensures m c.from_residual-in_err-price.ensures.1
 
 pub returns-then-is_err-clause-memory : goal.returns-then-is_err-clause-memory
 returns-then-is_err-clause-memory c = λ m.
