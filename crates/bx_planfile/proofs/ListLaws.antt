@@ -59,7 +59,7 @@ bookings_take version (suc count) n bytes x e =
     let a = bind_ok (read_line n bytes) (λ line. read_booking version n line.0 >>= λ entry. read_bookings version count (n + 1) line.1 >>= λ more. Ok (entries (entry.row ∷ more.rows) (entry.channel ∷ more.assigned) more.rest)) x e in
     let b = bind_ok (read_booking version n a.0.0) (λ entry. read_bookings version count (n + 1) a.0.1 >>= λ more. Ok (entries (entry.row ∷ more.rows) (entry.channel ∷ more.assigned) more.rest)) x a.2 in
     let c = bind_ok (read_bookings version count (n + 1) a.0.1) (λ more. Ok (entries (b.0.row ∷ more.rows) (b.0.channel ∷ more.assigned) more.rest)) x b.2 in
-    subst (λ (y : Entries). ReadsBookings version (suc count) bytes y) (ok_is (entries (b.0.row ∷ c.0.rows) (b.0.channel ∷ c.0.assigned) c.0.rest) x c.2)
+    subst (λ (y : Entries). ReadsBookings version (suc count) bytes y) {x = entries (b.0.row ∷ c.0.rows) (b.0.channel ∷ c.0.assigned) c.0.rest} (cc c.2)
     (booking_first version count n bytes a.0.1 a.0.0 b.0 c.0 a.1 b.1 (bookings_take version count (n + 1) a.0.1 c.0 c.1))
 
 pub assigned_here : (a : Option ℕ) → ((c : ℕ) → a ≡ Some c → IsChannel c) → is_assignable a ≡ true
@@ -119,7 +119,7 @@ prices_take (suc count) n bytes x e =
     let a = bind_ok (read_line n bytes) (λ line. read_price n line.0 >>= λ price. read_prices count (n + 1) line.1 >>= λ more. Ok (price ∷ more.0, more.1)) x e in
     let b = bind_ok (read_price n a.0.0) (λ price. read_prices count (n + 1) a.0.1 >>= λ more. Ok (price ∷ more.0, more.1)) x a.2 in
     let c = bind_ok (read_prices count (n + 1) a.0.1) (λ more. Ok (b.0 ∷ more.0, more.1)) x b.2 in
-    subst (λ (y : List Charge × List ℕ). ReadsPrices (suc count) bytes y) (ok_is (b.0 ∷ c.0.0, c.0.1) x c.2)
+    subst (λ (y : List Charge × List ℕ). ReadsPrices (suc count) bytes y) {x = (b.0 ∷ c.0.0, c.0.1)} (cc c.2)
     (price_first count n bytes a.0.1 a.0.0 b.0 c.0 a.1 b.1 (prices_take count (n + 1) a.0.1 c.0 c.1))
 
 pub prices_again : (ps : List Charge) (n : ℕ) (rest : List ℕ) → ((i : ℕ) → i < length ps → IsCharge (price_at ps i)) → read_prices (length ps) n (flat_map line_text (map price_fields ps) ++ rest) ≡ Ok (ps, rest)

@@ -64,7 +64,7 @@ tail_takes n bytes x e =
     let f = bind_ok (read_total (n + 1 + b.0) d.0.0) (λ total. read_line (n + 2 + b.0) d.0.1 >>= λ ending. read_end (n + 2 + b.0) ending.0 ending.1 >>= λ rest. Ok (c.0.0, total)) x d.2 in
     let g = bind_ok (read_line (n + 2 + b.0) d.0.1) (λ ending. read_end (n + 2 + b.0) ending.0 ending.1 >>= λ rest. Ok (c.0.0, f.0)) x f.2 in
     let h = bind_ok (read_end (n + 2 + b.0) g.0.0 g.0.1) (λ rest. Ok (c.0.0, f.0)) x g.2 in
-    subst (λ (y : List Charge × ℕ). ReadsTail bytes y) (ok_is (c.0.0, f.0) x h.2)
+    subst (λ (y : List Charge × ℕ). ReadsTail bytes y) {x = (c.0.0, f.0)} (cc h.2)
     (tail_from n b.0 f.0 bytes a.0.1 c.0.1 d.0.1 g.0.1 h.0 a.0.0 d.0.0 g.0.0 c.0.0 a.1 b.1 c.1 d.1 f.1 g.1 h.1)
 
 tail_again : (n : ℕ) (prices : List Charge) (total : ℕ) → length prices ≤ 8000 → ((i : ℕ) → i < length prices → IsCharge (price_at prices i)) → total ≤ 4000000000000
@@ -142,7 +142,7 @@ head_takes bytes x e =
     let d = bind_ok (read_channels 2 c.0.0) (λ channels. read_line 3 c.0.1 >>= λ third. read_count (codes "bookings") 4000 3 third.0 >>= λ count. Ok (head_of b.0 channels count third.1)) x c.2 in
     let f = bind_ok (read_line 3 c.0.1) (λ third. read_count (codes "bookings") 4000 3 third.0 >>= λ count. Ok (head_of b.0 d.0 count third.1)) x d.2 in
     let g = bind_ok (read_count (codes "bookings") 4000 3 f.0.0) (λ count. Ok (head_of b.0 d.0 count f.0.1)) x f.2 in
-    subst (λ (y : Head). ReadsHead bytes y) (ok_is (head_of b.0 d.0 g.0 f.0.1) x g.2)
+    subst (λ (y : Head). ReadsHead bytes y) {x = head_of b.0 d.0 g.0 f.0.1} (cc g.2)
     (head_from b.0 g.0 bytes a.0.1 c.0.1 f.0.1 a.0.0 c.0.0 f.0.0 d.0 a.1 b.1 c.1 d.1 f.1 g.1)
 
 module _ (bytes rest : List ℕ) (head : Head) (rows : List Row) (assigned : List (Option ℕ)) (prices : List Charge) (total : ℕ) where
@@ -177,7 +177,7 @@ all_takes bytes x e =
     let a = bind_ok (read_head bytes) (λ head. read_bookings head.version head.count 4 head.rest >>= λ entries. read_tail (4 + head.count) entries.rest >>= λ tail. Ok (record { rows = entries.rows; channels = head.channels; assigned = entries.assigned; prices = tail.0; total = tail.1 })) x e in
     let b = bind_ok (read_bookings a.0.version a.0.count 4 a.0.rest) (λ entries. read_tail (4 + a.0.count) entries.rest >>= λ tail. Ok (record { rows = entries.rows; channels = a.0.channels; assigned = entries.assigned; prices = tail.0; total = tail.1 })) x a.2 in
     let c = bind_ok (read_tail (4 + a.0.count) b.0.rest) (λ tail. Ok (record { rows = b.0.rows; channels = a.0.channels; assigned = b.0.assigned; prices = tail.0; total = tail.1 })) x b.2 in
-    subst (λ (y : Parts). ReadsAll bytes y) (ok_is (record { rows = b.0.rows; channels = a.0.channels; assigned = b.0.assigned; prices = c.0.0; total = c.0.1 }) x c.2)
+    subst (λ (y : Parts). ReadsAll bytes y) {x = record { rows = b.0.rows; channels = a.0.channels; assigned = b.0.assigned; prices = c.0.0; total = c.0.1 }} (cc c.2)
     (plan_from bytes b.0.rest a.0 b.0.rows b.0.assigned c.0.0 c.0.1 a.1 b.1 c.1)
 
 pub all_again : (version : Version) (parts : Parts) → IsPlan parts → HasText version parts → read_all (plan_text version parts) ≡ Ok parts
