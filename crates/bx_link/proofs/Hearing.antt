@@ -119,13 +119,11 @@ module _ {D R W : Type 0} (next : D → Event → D) (text : D → Event → Lis
       unfaulted = inl (not_faulted (frames.Message octets) (is_faulted r1 ≡ is_faulted r) reads.unfaulted);
     }
 
-  abbrev Nothing_more : Result Bool LinkFault → Type 0
-  Nothing_more result = Goes side next text FindsTurn remaining contents r r1 w w d d [] result
-
+module _ {D R W : Type 0} {next : D → Event → D} {text : D → Event → List ℕ} {side : Side} (moment room : ℕ) {remaining : R → Option (List ℕ)} {contents : W → Option (List ℕ)} {r r1 : Watched R} {w : Watched W} {d : D} where
   -- another frame was read, and the turn is over
   stopped_by : (frame : Frame) → Reads remaining r r1 (gave frame) (frame_in side room) → (result : Result Bool LinkFault) (behind : List ℕ → List ℕ)
-      → ((known : List ℕ) → gave frame ≡ (frame_in side room known).answer → FindsTurn known ≡ stop result (frame_in side room known).rest (behind known))
-      → (result ≡ Err ReadFailed → ⊥) → (result ≡ Err link.WriteFailed → ⊥) → Nothing_more result
+      → ((known : List ℕ) → gave frame ≡ (frame_in side room known).answer → turn_in side moment room known ≡ stop result (frame_in side room known).rest (behind known))
+      → (result ≡ Err ReadFailed → ⊥) → (result ≡ Err link.WriteFailed → ⊥) → Goes side next text (turn_in side moment room) remaining contents r r1 w w d d [] result
   stopped_by frame reads result behind so no_read no_write = record {
     day = refl;
     talk = λ known e.
@@ -138,18 +136,18 @@ module _ {D R W : Type 0} (next : D → Event → D) (text : D → Event → Lis
     unfaulted = inl (not_faulted frame (is_faulted r1 ≡ is_faulted r) reads.unfaulted);
   }
 
-  pub ended_right : (said : ℕ) → said ≡ moment → Reads remaining r r1 (end_of_turn_of said) (frame_in side room) → Nothing_more (gave true)
-  ended_right said h reads = stopped_by (frames.EndOfTurn said) reads (Ok true) (λ known. (frame_in side room known).rest) (λ known e. turn_right side moment known room said h e) (λ e. cc) (λ e. cc)
+  pub ended_right : {said : ℕ} → said ≡ moment → Reads remaining r r1 (end_of_turn_of said) (frame_in side room) → Goes side next text (turn_in side moment room) remaining contents r r1 w w d d [] (gave true)
+  ended_right {said} h reads = stopped_by (frames.EndOfTurn said) reads (Ok true) (λ known. (frame_in side room known).rest) (λ known e. turn_right side moment known room said h e) (λ e. cc) (λ e. cc)
 
-  pub ended_wrong : (said : ℕ) → said ≢ moment → Reads remaining r r1 (end_of_turn_of said) (frame_in side room) → Nothing_more (faulty WrongMoment)
-  ended_wrong said h reads = stopped_by (frames.EndOfTurn said) reads (Err WrongMoment) (λ known. known) (λ known e. turn_wrong side moment known room said h e) (λ e. cc) (λ e. cc)
+  pub ended_wrong : {said : ℕ} → said ≢ moment → Reads remaining r r1 (end_of_turn_of said) (frame_in side room) → Goes side next text (turn_in side moment room) remaining contents r r1 w w d d [] (faulty WrongMoment)
+  ended_wrong {said} h reads = stopped_by (frames.EndOfTurn said) reads (Err WrongMoment) (λ known. known) (λ known e. turn_wrong side moment known room said h e) (λ e. cc) (λ e. cc)
 
-  pub day_ended : Reads remaining r r1 end_of_day (frame_in side room) → Nothing_more (gave false)
+  pub day_ended : Reads remaining r r1 end_of_day (frame_in side room) → Goes side next text (turn_in side moment room) remaining contents r r1 w w d d [] (gave false)
   day_ended reads = stopped_by frames.EndOfDay reads (Ok false) (λ known. (frame_in side room known).rest) (λ known e. turn_day side moment known room e) (λ e. cc) (λ e. cc)
 
   -- a fault was found, or a read failed
-  pub frame_fault : (fault : LinkFault) → Reads remaining r r1 (faulty {A = Frame} fault) (frame_in side room) → Nothing_more (faulty fault)
-  frame_fault fault reads = record {
+  pub frame_fault : {fault : LinkFault} → Reads remaining r r1 (faulty {A = Frame} fault) (frame_in side room) → Goes side next text (turn_in side moment room) remaining contents r r1 w w d d [] (faulty fault)
+  frame_fault {fault} reads = record {
     day = refl;
     talk = λ known e. each known (reads.found known e);
     written = none_told next text contents w d (faulty fault) (λ e. reads.reads (same_fault fault link.WriteFailed e));
@@ -158,7 +156,7 @@ module _ {D R W : Type 0} (next : D → Event → D) (text : D → Event → Lis
     unfaulted = either reads.unfaulted;
   } where
     each : (known : List ℕ) → IsFound (frame_in side room known) (faulty fault) (remaining (device_of r1)) ⊎ ((faulty {A = Frame} fault ≡ Err ReadFailed) × IsCut (frame_in side room) known (remaining (device_of r1)))
-        → IsHeard side FindsTurn known [] (faulty fault) (remaining (device_of r1))
+        → IsHeard side (turn_in side moment room) known [] (faulty fault) (remaining (device_of r1))
     each known (inl f) =
         let same = turn_fault side moment known room fault f.answer in
         inl (record { all = sym (ap (λ (t : Talk). t.events) same); ending = sym (ap (λ (t : Talk). t.ending) same); rest = f.rest ∙ sym (ap (λ (t : Talk). Some t.rest) same) })
@@ -175,8 +173,8 @@ module _ {D R W : Type 0} (next : D → Event → D) (text : D → Event → Lis
 pub none_ticked : (xs ys : List Event) → ticks_of xs ≡ 0 → ticks_of ys ≡ 0 → ticks_of (xs ++ ys) ≡ 0
 none_ticked xs ys none still = omega (arith, ticks_more xs ys, none, still)
 
-module _ {D R W : Type 0} {side : Side} {next : D → Event → D} {text : D → Event → List ℕ} {finds onward : List ℕ → Talk} {remaining : R → Option (List ℕ)} {contents : W → Option (List ℕ)} {r r1 r2 : Watched R} {w w1 w2 : Watched W} {d d1 d2 : D} where
-  abbrev pub turn_went : (xs ys : List Event) → SoFar next text finds onward remaining contents r r1 w w1 d d1 xs → ticks_of xs ≡ 0 → ticks_of ys ≡ 0 → (result : Result Bool LinkFault)
-      → Goes side next text onward remaining contents r1 r2 w1 w2 d1 d2 ys result → Went side next text finds no_tick remaining contents r r2 w w2 d d2 result
-  turn_went xs ys so_far none still result p =
-      record { events = xs ++ ys; goes = then_goes next text finds onward remaining contents r r1 r2 w w1 w2 d d1 d2 xs ys so_far side result p; ticks = none_ticked xs ys none still }
+module _ {D R W : Type 0} {next : D → Event → D} {text : D → Event → List ℕ} (side : Side) (moment room : ℕ) {remaining : R → Option (List ℕ)} {contents : W → Option (List ℕ)} {r r1 r2 : Watched R} {w w1 w2 : Watched W} {d d1 d2 : D} where
+  abbrev pub turn_went : {xs ys : List Event} {result : Result Bool LinkFault} → SoFar next text (turn_in side moment 64) (turn_in side moment room) remaining contents r r1 w w1 d d1 xs → ticks_of xs ≡ 0
+      → Goes side next text (turn_in side moment room) remaining contents r1 r2 w1 w2 d1 d2 ys result → ticks_of ys ≡ 0 → Went side next text (turn_in side moment 64) no_tick remaining contents r r2 w w2 d d2 result
+  turn_went {xs} {ys} {result} so_far none p still =
+      record { events = xs ++ ys; goes = then_goes next text (turn_in side moment 64) (turn_in side moment room) remaining contents r r1 r2 w w1 w2 d d1 d2 xs ys so_far side result p; ticks = none_ticked xs ys none still }

@@ -1,8 +1,7 @@
-use Rattle.std.proofs.Common.{true, false, ◌++◌, ◌∷◌, [], ◌-◌, refl, arith}
+use Rattle.std.proofs.Common.{◌++◌, ◌∷◌, [], ◌-◌, refl, arith}
 use Rattle.bx_day.specs.Run.{Receive}
 use Rattle.bx_link.specs.Talking.{turn_in}
-use Rattle.bx_link.specs.declared.fault.LinkFault.TheVariants.{WriteFailed, WrongMoment}
-use Rattle.bx_link.proofs.Composing.{gave, faulty, nothing_yet, then_so_far}
+use Rattle.bx_link.proofs.Composing.{nothing_yet, then_so_far}
 use Rattle.bx_link.proofs.Hearing.{message_heard, reply_failed, ended_right, ended_wrong, day_ended, frame_fault, none_ticked, turn_went}
 use Rattle.bx_link.proofs.turn.hear_turn.Goals as goal
 
@@ -36,45 +35,32 @@ loop-octets-preserved g c =
 pub returns-in-Err-answer-clause-went : goal.returns-in-Err-answer-clause-went
 returns-in-Err-answer-clause-went g c =
     let l = c.loop-octets in
-    let frame = rw c.in-Ok-Message.field-0-is at c.in-Ok-Message.ensures in
-    let octets = c.in-Ok-Message.octets in (
-      turn_went l.invariant.events (Receive octets.items ∷ []) l.invariant.heard l.invariant.ticks refl (faulty WriteFailed)
-          (reply_failed g.L.Course.next g.L.Course.text c.args.side c.args.moment l.room g.R.Read.remaining g.W.Write.contents l.reader c.read_frame.new.r l.writer (g.E.End.day l.end) octets frame.comes frame.read
-          c.answer.new.writer (g.E.End.day c.answer.new.end) c.in-Err-answer.field-0 c.in-Err-answer.ensures.day c.in-Err-answer.ensures.written),
-      g.met.E.End.keeps_on c.args.end.now l.end c.answer.new.end l.invariant.events (Receive octets.items ∷ []) l.invariant.kept c.in-Err-answer.ensures.kept,
+    let frame = rw c.in-Ok-Message.field-0-is at c.in-Ok-Message.ensures in (
+      turn_went c.args.side c.args.moment l.room l.invariant.heard l.invariant.ticks
+          (reply_failed g.L.Course.next g.L.Course.text c.args.side c.args.moment l.room g.R.Read.remaining g.W.Write.contents l.reader c.read_frame.new.r l.writer (g.E.End.day l.end) c.in-Ok-Message.octets frame.comes frame.read
+          c.answer.new.writer (g.E.End.day c.answer.new.end) c.in-Err-answer.field-0 c.in-Err-answer.ensures.day c.in-Err-answer.ensures.written) refl,
+      g.met.E.End.keeps_on _ _ _ _ _ l.invariant.kept c.in-Err-answer.ensures.kept,
     )
 
 pub returns-then-said-moment-clause-went : goal.returns-then-said-moment-clause-went
 returns-then-said-moment-clause-went g c =
     let l = c.loop-octets in
-    let frame = rw c.in-Ok-EndOfTurn.field-0-is at c.in-Ok-EndOfTurn.ensures in (
-      turn_went l.invariant.events [] l.invariant.heard l.invariant.ticks refl (gave true)
-          (ended_right g.L.Course.next g.L.Course.text c.args.side c.args.moment l.room g.R.Read.remaining g.W.Write.contents l.reader c.read_frame.new.r l.writer (g.E.End.day l.end) c.in-Ok-EndOfTurn.said c.if-said-moment.true frame.read),
-      g.met.E.End.keeps_on c.args.end.now l.end l.end l.invariant.events [] l.invariant.kept (g.met.E.End.keeps_nothing l.end),
-    )
+    let frame = rw c.in-Ok-EndOfTurn.field-0-is at c.in-Ok-EndOfTurn.ensures in
+    (turn_went c.args.side c.args.moment l.room l.invariant.heard l.invariant.ticks (ended_right c.args.moment l.room c.if-said-moment.true frame.read) refl, g.met.E.End.keeps_on _ _ _ _ _ l.invariant.kept (g.met.E.End.keeps_nothing l.end))
 
 pub returns-else-said-moment-clause-went : goal.returns-else-said-moment-clause-went
 returns-else-said-moment-clause-went g c =
     let l = c.loop-octets in
-    let frame = rw c.in-Ok-EndOfTurn.field-0-is at c.in-Ok-EndOfTurn.ensures in (
-      turn_went l.invariant.events [] l.invariant.heard l.invariant.ticks refl (faulty WrongMoment)
-          (ended_wrong g.L.Course.next g.L.Course.text c.args.side c.args.moment l.room g.R.Read.remaining g.W.Write.contents l.reader c.read_frame.new.r l.writer (g.E.End.day l.end) c.in-Ok-EndOfTurn.said c.if-said-moment.false frame.read),
-      g.met.E.End.keeps_on c.args.end.now l.end l.end l.invariant.events [] l.invariant.kept (g.met.E.End.keeps_nothing l.end),
-    )
+    let frame = rw c.in-Ok-EndOfTurn.field-0-is at c.in-Ok-EndOfTurn.ensures in
+    (turn_went c.args.side c.args.moment l.room l.invariant.heard l.invariant.ticks (ended_wrong c.args.moment l.room c.if-said-moment.false frame.read) refl, g.met.E.End.keeps_on _ _ _ _ _ l.invariant.kept (g.met.E.End.keeps_nothing l.end))
 
 pub returns-in-Ok-EndOfDay-clause-went : goal.returns-in-Ok-EndOfDay-clause-went
 returns-in-Ok-EndOfDay-clause-went g c =
     let l = c.loop-octets in
-    let frame = rw c.in-Ok-EndOfDay.field-0-is at c.in-Ok-EndOfDay.ensures in (
-      turn_went l.invariant.events [] l.invariant.heard l.invariant.ticks refl (gave false)
-          (day_ended g.L.Course.next g.L.Course.text c.args.side c.args.moment l.room g.R.Read.remaining g.W.Write.contents l.reader c.read_frame.new.r l.writer (g.E.End.day l.end) frame.read),
-      g.met.E.End.keeps_on c.args.end.now l.end l.end l.invariant.events [] l.invariant.kept (g.met.E.End.keeps_nothing l.end),
-    )
+    let frame = rw c.in-Ok-EndOfDay.field-0-is at c.in-Ok-EndOfDay.ensures in
+    (turn_went c.args.side c.args.moment l.room l.invariant.heard l.invariant.ticks (day_ended c.args.moment l.room frame.read) refl, g.met.E.End.keeps_on _ _ _ _ _ l.invariant.kept (g.met.E.End.keeps_nothing l.end))
 
 pub returns-in-Err-clause-went : goal.returns-in-Err-clause-went
 returns-in-Err-clause-went g c =
-    let l = c.loop-octets in (
-      turn_went l.invariant.events [] l.invariant.heard l.invariant.ticks refl (faulty c.in-Err.fault)
-          (frame_fault g.L.Course.next g.L.Course.text c.args.side c.args.moment l.room g.R.Read.remaining g.W.Write.contents l.reader c.read_frame.new.r l.writer (g.E.End.day l.end) c.in-Err.fault c.in-Err.ensures.read),
-      g.met.E.End.keeps_on c.args.end.now l.end l.end l.invariant.events [] l.invariant.kept (g.met.E.End.keeps_nothing l.end),
-    )
+    let l = c.loop-octets in
+    (turn_went c.args.side c.args.moment l.room l.invariant.heard l.invariant.ticks (frame_fault c.args.moment l.room c.in-Err.ensures.read) refl, g.met.E.End.keeps_on _ _ _ _ _ l.invariant.kept (g.met.E.End.keeps_nothing l.end))
