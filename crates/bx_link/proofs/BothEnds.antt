@@ -7,7 +7,7 @@ use Rattle.bx_far.specs.FarDay.{FarDay}
 use Rattle.bx_link.specs.Ends.{ticks_of, ticks_last}
 use Rattle.bx_link.specs.Talking.{Talk, stop, with_events, follow, talk_in}
 use Rattle.bx_link.specs.Hearing.{TakesTurn, Opens, Hears}
-use Rattle.bx_link.specs.Days.{FarTalks}
+use Rattle.bx_link.specs.Days.{EndsDay, FarTalks, TalksToEnd}
 use Rattle.bx_link.specs.BothEnds.{NearWaits, AreOpened, passage}
 use Rattle.bx_link.specs.Sessions.{is_far_over}
 use Rattle.bx_link.specs.declared.far_session.FarSession.{FarSession}
@@ -16,7 +16,7 @@ use Rattle.bx_link.specs.declared.fault.LinkFault.TheVariants.{WriteFailed, Ende
 use Rattle.bx_link.specs.declared.frame.Side.TheVariants.{Exchange}
 use Rattle.bx_link.proofs.Composing.{gave, faulty}
 use Rattle.bx_link.proofs.Events.{ticks_more, last_more}
-use Rattle.bx_link.proofs.ExchangeTurns.{Onward, TalkedSoFar, over, broken, opened_so_far}
+use Rattle.bx_link.proofs.ExchangeTurns.{Onward, TalkedSoFar, over, broken, opened_so_far, talk_over}
 use Rattle.bx_link.proofs.FarTurns.{FarSoFar, far_stands, far_goes_on, far_failed, far_ended, far_closed}
 use Rattle.bx_link.proofs.Turns.{turn_nothing}
 
@@ -31,12 +31,12 @@ abbrev pub FarStands : {R W : Type 0} → (R → Option (List ℕ)) → (W → O
 FarStands remaining contents count session r r' w w' d d' =
     ((is_far_over session ≡ false) × FarSoFar remaining contents count r r' w w' d d') ⊎ ((is_far_over session ≡ true) × IsFarOver remaining contents count r r' w w' d d')
 
-module _ {R W : Type 0} (remaining : R → Option (List ℕ)) (contents : W → Option (List ℕ)) (count : ℕ) (session : FarSession) (r r1 : Watched R) (w w1 : Watched W) (d d1 : FarDay) where
+module _ {R W : Type 0} {remaining : R → Option (List ℕ)} {contents : W → Option (List ℕ)} {count : ℕ} (session : FarSession) {r r1 : Watched R} {w w1 : Watched W} {d d1 : FarDay} where
   pub stands_so : FarStands remaining contents count session r r1 w w1 d d1 → (b : Bool) × FarTalks remaining contents count r r1 w w1 d d1 (gave b)
   stands_so (inl (e, p)) = (true, far_stands remaining contents count r r1 w w1 d d1 p)
   stands_so (inr (e, p)) = (false, p.ended)
 
-  module _ (session' : FarSession) (r2 : Watched R) (w2 : Watched W) (d2 : FarDay) where
+  module _ {r2 : Watched R} {w2 : Watched W} {d2 : FarDay} where
     -- a turn that went well
     module _ (b : Bool) (taken : is_far_over session ≡ false → TakesTurn remaining contents r1 r2 w1 w2 d1 d2 (gave b)) (refused : is_far_over session ≡ true → gave b ≡ Err Closed) where
       pub call_over : FarStands remaining contents count session r r1 w w1 d d1 → FarTalks remaining contents (count + 1) r r2 w w2 d d2 (gave b)
@@ -46,8 +46,8 @@ module _ {R W : Type 0} (remaining : R → Option (List ℕ)) (contents : W → 
         by_answer false turn = far_ended remaining contents count r r1 w w1 d d1 p r2 w2 d2 turn
       call_over (inr (e, p)) = let f = refused e in cc
 
-      pub call_stands : is_far_over session' ≡ not b → FarStands remaining contents count session r r1 w w1 d d1 → FarStands remaining contents (count + 1) session' r r2 w w2 d d2
-      call_stands now (inl (e, p)) = by_answer b (taken e) now where
+      pub call_stands : (session' : FarSession) → is_far_over session' ≡ not b → FarStands remaining contents count session r r1 w w1 d d1 → FarStands remaining contents (count + 1) session' r r2 w w2 d d2
+      call_stands session' now (inl (e, p)) = by_answer b (taken e) now where
         by_answer : (c : Bool) → TakesTurn remaining contents r1 r2 w1 w2 d1 d2 (gave c) → is_far_over session' ≡ not c → FarStands remaining contents (count + 1) session' r r2 w w2 d d2
         by_answer true turn now = inl (now, far_goes_on remaining contents count r r1 w w1 d d1 p r2 w2 d2 turn)
         by_answer false turn now =
@@ -59,14 +59,14 @@ module _ {R W : Type 0} (remaining : R → Option (List ℕ)) (contents : W → 
                 closed = subst (λ (n : ℕ). FarTalks remaining contents n r r2 w w2 d d2 (faulty Closed)) same (far_closed remaining contents count r r1 w w1 d d1 p r2 w2 d2 turn);
               },
             )
-      call_stands now (inr (e, p)) = let f = refused e in cc
+      call_stands session' now (inr (e, p)) = let f = refused e in cc
 
     -- or had a fault
-    pub call_failed : (fault : LinkFault) → (is_far_over session ≡ false → TakesTurn remaining contents r1 r2 w1 w2 d1 d2 (faulty fault)) → (is_far_over session ≡ true → faulty {A = Bool} fault ≡ Err Closed)
+    pub call_failed : {fault : LinkFault} → (is_far_over session ≡ false → TakesTurn remaining contents r1 r2 w1 w2 d1 d2 (faulty fault)) → (is_far_over session ≡ true → faulty {A = Bool} fault ≡ Err Closed)
         → (is_far_over session ≡ true → r2 ≡ r1) → (is_far_over session ≡ true → w2 ≡ w1) → (is_far_over session ≡ true → d2 ≡ d1)
         → FarStands remaining contents count session r r1 w w1 d d1 → FarTalks remaining contents (count + 1) r r2 w w2 d d2 (faulty fault)
-    call_failed fault taken refused reader writer day (inl (e, p)) = far_failed remaining contents count r r1 w w1 d d1 p r2 w2 d2 fault (taken e)
-    call_failed fault taken refused reader writer day (inr (e, p)) =
+    call_failed {fault} taken refused reader writer day (inl (e, p)) = far_failed remaining contents count r r1 w w1 d d1 p r2 w2 d2 fault (taken e)
+    call_failed taken refused reader writer day (inr (e, p)) =
         subst (λ (x : Result Bool LinkFault). FarTalks remaining contents (count + 1) r r2 w w2 d d2 x) (sym (refused e))
         (subst (λ (x : Watched R). FarTalks remaining contents (count + 1) r x w w2 d d2 (faulty Closed)) (sym (reader e))
         (subst (λ (x : Watched W). FarTalks remaining contents (count + 1) r r1 w x d d2 (faulty Closed)) (sym (writer e))
@@ -74,26 +74,28 @@ module _ {R W : Type 0} (remaining : R → Option (List ℕ)) (contents : W → 
 
 -- ---- the exchange's side
 
-module _ {R W : Type 0} (remaining : R → Option (List ℕ)) (contents : W → Option (List ℕ)) (all turns opened : ℕ) (r r1 : Watched R) (w w1 w2 : Watched W) (d d1 d2 : Day)
-    (p : TalkedSoFar remaining contents all (suc turns) r r1 w w1 d d1) (opens : Opens contents w1 w2 d1 d2 over) where
-  abbrev Events_now : List Event
-  Events_now = p.events ++ Tick ∷ []
+module _ {R W : Type 0} {remaining : R → Option (List ℕ)} {contents : W → Option (List ℕ)} {all : ℕ} {r r1 : Watched R} {w w1 w2 : Watched W} {d d1 : Day} where
+  -- all turns are over, and the end of the day was written, or not
+  abbrev pub near_ended : {ending : Result Bool LinkFault} → TalkedSoFar remaining contents all 0 r r1 w w1 d d1 → EndsDay contents w1 w2 ending → TalksToEnd remaining contents all r r1 w w2 d d1 ending
+  near_ended p ends = record { last = w1; talks = talk_over p; ends = ends }
 
   -- a turn is open, and nothing was heard of it
-  abbrev pub waits_now : (opened + 1) + turns ≡ all → NearWaits all (opened + 1) (passage remaining contents (record { reader = r; writer = w }) (record { reader = r1; writer = w2 }) d d2)
-  waits_now count =
-      let so_far = opened_so_far remaining contents all turns r r1 w w1 d d1 p w2 d2 opens r1 w2 d2 in
+  abbrev pub waits_now : {turns : ℕ} {d2 : Day} (opened : ℕ) (p : TalkedSoFar remaining contents all (suc turns) r r1 w w1 d d1) → Opens contents w1 w2 d1 d2 over → (opened + 1) + turns ≡ all
+      → NearWaits all (opened + 1) (passage remaining contents (record { reader = r; writer = w }) (record { reader = r1; writer = w2 }) d d2)
+  waits_now {turns} {d2} opened p opens count =
+      let events = p.events ++ Tick ∷ [] in
+      let so_far = opened_so_far p opens in
       record {
-        events = Events_now;
+        events = events;
         day = so_far.day;
         talk = λ known e.
             let b = so_far.talk known e in
-            let same : talk_in all d b.read ≡ with_events Events_now (stop (Err EndedInFrame) [] []) =
-            ap (talk_in all d) (sym (append-nil b.read)) ∙ b.splits [] ∙ ap (λ (t : Talk). with_events Events_now (follow t (Onward turns d2) t)) (turn_nothing Exchange d2.moment 64) in
+            let same : talk_in all d b.read ≡ with_events events (stop (Err EndedInFrame) [] []) =
+            ap (talk_in all d) (sym (append-nil b.read)) ∙ b.splits [] ∙ ap (λ (t : Talk). with_events events (follow t (Onward turns d2) t)) (turn_nothing Exchange d2.moment 64) in
             record {
               read = b.read;
               is_read = b.is_read;
-              all = sym (append-nil Events_now) ∙ sym (ap (λ (t : Talk). t.events) same);
+              all = sym (append-nil events) ∙ sym (ap (λ (t : Talk). t.events) same);
               behind = ap (λ (t : Talk). t.behind) same;
               rest = ap (λ (t : Talk). t.rest) same;
               cut = inl (ap (λ (t : Talk). t.ending) same);
@@ -107,14 +109,14 @@ module _ {R W : Type 0} (remaining : R → Option (List ℕ)) (contents : W → 
 
 -- ---- which turns were opened whole
 
-pub not_opened : (xs : List Event) (n : ℕ) (fault : LinkFault) → fault ≡ WriteFailed → ticks_of xs ≡ n → AreOpened (faulty fault) (xs ++ Tick ∷ []) n
-not_opened xs n fault e count = inl ((ap (λ (f : LinkFault). faulty f) e, last_more false xs (Tick ∷ [])), omega (arith, ticks_more xs (Tick ∷ []), count))
+pub not_opened : (xs : List Event) {n : ℕ} {fault : LinkFault} → fault ≡ WriteFailed → ticks_of xs ≡ n → AreOpened (faulty fault) (xs ++ Tick ∷ []) n
+not_opened xs e count = inl ((ap (λ (f : LinkFault). faulty f) e, last_more false xs (Tick ∷ [])), omega (arith, ticks_more xs (Tick ∷ []), count))
 
 last_of_none : (said : Bool) (before : List Event) (last : Event) → ticks_of (before ++ last ∷ []) ≡ 0 → ticks_last said (before ++ last ∷ []) ≡ false
 last_of_none said before Tick e = absurd (omega (arith, e, ticks_more before (Tick ∷ [])))
 last_of_none said before (Receive octets) e = last_more said before (Receive octets ∷ [])
 
-module _ {R W : Type 0} (remaining : R → Option (List ℕ)) (contents : W → Option (List ℕ)) (r r1 : Watched R) (w w1 : Watched W) (d d1 : Day) (fault : LinkFault) (hears : Hears remaining contents r r1 w w1 d d1 (broken fault)) where
+module _ {R W : Type 0} {remaining : R → Option (List ℕ)} {contents : W → Option (List ℕ)} {r r1 : Watched R} {w w1 : Watched W} {d d1 : Day} {fault : LinkFault} (hears : Hears remaining contents r r1 w w1 d d1 (broken fault)) where
   -- the last event of a turn whose write failed is a message
   no_tick_last : (xs : List Event) → ¬ ((faulty {A = Bool} fault ≡ Err WriteFailed) × (ticks_last false (xs ++ hears.events) ≡ true))
   no_tick_last xs (e, last) =
@@ -123,5 +125,5 @@ module _ {R W : Type 0} (remaining : R → Option (List ℕ)) (contents : W → 
       let same : ticks_last false (xs ++ hears.events) ≡ false = last_more false xs hears.events ∙ ap (ticks_last (ticks_last false xs)) part.all ∙ none in
       cc
 
-  pub was_opened : (xs : List Event) (n : ℕ) → ticks_of xs ≡ n → AreOpened (faulty fault) (xs ++ hears.events) n
-  was_opened xs n count = inr (no_tick_last xs, omega (arith, ticks_more xs hears.events, count, hears.ticks))
+  pub was_opened : (xs : List Event) {n : ℕ} → ticks_of xs ≡ n → AreOpened (faulty fault) (xs ++ hears.events) n
+  was_opened xs count = inr (no_tick_last xs, omega (arith, ticks_more xs hears.events, count, hears.ticks))

@@ -125,54 +125,55 @@ module _ {R W : Type 0} (remaining : R → Option (List ℕ)) (contents : W → 
   abbrev pub nothing_happened : TalkedSoFar remaining contents all all r r w w d d
   nothing_happened = record { events = []; so_far = nothing_yet exchange_next exchange_text (talk_in all d) remaining contents r w d; ticks = omega arith }
 
-module _ {R W : Type 0} (remaining : R → Option (List ℕ)) (contents : W → Option (List ℕ)) (all turns : ℕ) (r r1 : Watched R) (w w1 : Watched W) (d d1 : Day) where
-  pub no_more_turns : (more : List ℕ) → talk_in 0 d1 more ≡ stop (Ok true) more more
-  unfolding talk_in
-  no_more_turns more = refl
+pub no_more_turns : (d : Day) (more : List ℕ) → talk_in 0 d more ≡ stop (Ok true) more more
+unfolding talk_in
+no_more_turns d more = refl
 
+module _ {R W : Type 0} {remaining : R → Option (List ℕ)} {contents : W → Option (List ℕ)} {all : ℕ} {r r1 : Watched R} {w w1 : Watched W} {d d1 : Day} where
   abbrev pub talk_over : TalkedSoFar remaining contents all 0 r r1 w w1 d d1 → Talks remaining contents all r r1 w w1 d d1 (gave true)
   talk_over p = record {
     events = p.events;
-    goes = all_goes exchange_next exchange_text (talk_in all d) (talk_in 0 d1) remaining contents r r1 w w1 d d1 p.events no_more_turns Exchange p.so_far;
+    goes = all_goes exchange_next exchange_text (talk_in all d) (talk_in 0 d1) remaining contents r r1 w w1 d d1 p.events (no_more_turns d1) Exchange p.so_far;
     ticks = omega (arith, p.ticks);
   }
 
-  module _ (p : TalkedSoFar remaining contents all (suc turns) r r1 w w1 d d1) (w2 : Watched W) (d2 : Day) where
+  module _ {turns : ℕ} (p : TalkedSoFar remaining contents all (suc turns) r r1 w w1 d d1) {w2 : Watched W} {d2 : Day} where
     -- the tick was not written whole
-    abbrev pub talk_not_opened : (fault : LinkFault) → Opens contents w1 w2 d1 d2 (broken fault) → Talks remaining contents all r r1 w w2 d d2 (faulty fault)
-    talk_not_opened fault opens = record {
+    abbrev pub talk_not_opened : {fault : LinkFault} → Opens contents w1 w2 d1 d2 (broken fault) → Talks remaining contents all r r1 w w2 d d2 (faulty fault)
+    talk_not_opened {fault} opens = record {
       events = p.events ++ Tick ∷ [];
       goes = then_goes exchange_next exchange_text (talk_in all d) (talk_in (suc turns) d1) remaining contents r r1 r1 w w1 w2 d d1 d2 p.events (Tick ∷ []) p.so_far Exchange (faulty fault)
           (open_failed remaining contents turns r1 w1 w2 d1 d2 fault opens);
       ticks = (omega (arith, p.ticks, ticks_more p.events (Tick ∷ [])), omega (arith, p.ticks, ticks_more p.events (Tick ∷ [])));
     }
 
-    module _ (opens : Opens contents w1 w2 d1 d2 over) (r3 : Watched R) (w3 : Watched W) (d3 : Day) where
+    module _ (opens : Opens contents w1 w2 d1 d2 over) where
       pub opened_so_far : SoFar exchange_next exchange_text (talk_in all d) (Open turns d2) remaining contents r r1 w w2 d d2 (p.events ++ Tick ∷ [])
       opened_so_far =
           then_so_far exchange_next exchange_text (talk_in all d) (talk_in (suc turns) d1) remaining contents r r1 r1 w w1 w2 d d1 d2 p.events (Tick ∷ []) p.so_far (Open turns d2)
           (turn_opened remaining contents turns r1 w1 w2 d1 d2 opens)
 
-      -- the turn was heard to its end
-      abbrev pub turn_over : Hears remaining contents r1 r3 w2 w3 d2 d3 over → TalkedSoFar remaining contents all turns r r3 w w3 d d3
-      turn_over hears = record {
-        events = (p.events ++ Tick ∷ []) ++ hears.events;
-        so_far = then_so_far exchange_next exchange_text (talk_in all d) (Open turns d2) remaining contents r r1 r3 w w2 w3 d d2 d3 (p.events ++ Tick ∷ []) hears.events opened_so_far
-            (talk_in turns d3) (turn_closed remaining contents turns r1 r3 w2 w3 d2 d3 hears);
-        ticks = omega (arith, p.ticks, ticks_more p.events (Tick ∷ []), ticks_more (p.events ++ Tick ∷ []) hears.events, hears.ticks);
-      }
+      module _ {r3 : Watched R} {w3 : Watched W} {d3 : Day} where
+        -- the turn was heard to its end
+        abbrev pub turn_over : Hears remaining contents r1 r3 w2 w3 d2 d3 over → TalkedSoFar remaining contents all turns r r3 w w3 d d3
+        turn_over hears = record {
+          events = (p.events ++ Tick ∷ []) ++ hears.events;
+          so_far = then_so_far exchange_next exchange_text (talk_in all d) (Open turns d2) remaining contents r r1 r3 w w2 w3 d d2 d3 (p.events ++ Tick ∷ []) hears.events opened_so_far
+              (talk_in turns d3) (turn_closed remaining contents turns r1 r3 w2 w3 d2 d3 hears);
+          ticks = omega (arith, p.ticks, ticks_more p.events (Tick ∷ []), ticks_more (p.events ++ Tick ∷ []) hears.events, hears.ticks);
+        }
 
-      -- or to a fault
-      abbrev pub turn_failed : (fault : LinkFault) → Hears remaining contents r1 r3 w2 w3 d2 d3 (broken fault) → Talks remaining contents all r r3 w w3 d d3 (faulty fault)
-      turn_failed fault hears = record {
-        events = (p.events ++ Tick ∷ []) ++ hears.events;
-        goes = then_goes exchange_next exchange_text (talk_in all d) (Open turns d2) remaining contents r r1 r3 w w2 w3 d d2 d3 (p.events ++ Tick ∷ []) hears.events opened_so_far Exchange (faulty fault)
-            (close_failed remaining contents turns r1 r3 w2 w3 d2 d3 fault hears);
-        ticks = (
-          omega (arith, p.ticks, ticks_more p.events (Tick ∷ []), ticks_more (p.events ++ Tick ∷ []) hears.events, hears.ticks),
-          omega (arith, p.ticks, ticks_more p.events (Tick ∷ []), ticks_more (p.events ++ Tick ∷ []) hears.events, hears.ticks),
-        );
-      }
+        -- or to a fault
+        abbrev pub turn_failed : {fault : LinkFault} → Hears remaining contents r1 r3 w2 w3 d2 d3 (broken fault) → Talks remaining contents all r r3 w w3 d d3 (faulty fault)
+        turn_failed {fault} hears = record {
+          events = (p.events ++ Tick ∷ []) ++ hears.events;
+          goes = then_goes exchange_next exchange_text (talk_in all d) (Open turns d2) remaining contents r r1 r3 w w2 w3 d d2 d3 (p.events ++ Tick ∷ []) hears.events opened_so_far Exchange (faulty fault)
+              (close_failed remaining contents turns r1 r3 w2 w3 d2 d3 fault hears);
+          ticks = (
+            omega (arith, p.ticks, ticks_more p.events (Tick ∷ []), ticks_more (p.events ++ Tick ∷ []) hears.events, hears.ticks),
+            omega (arith, p.ticks, ticks_more p.events (Tick ∷ []), ticks_more (p.events ++ Tick ∷ []) hears.events, hears.ticks),
+          );
+        }
 
 -- ---- the end of the day
 

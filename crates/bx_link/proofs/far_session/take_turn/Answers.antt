@@ -1,5 +1,5 @@
-use Rattle.std.proofs.Common.{◌≡◌, ℕ, true, false, List, [], ◌∷◌, subst}
-use Rattle.bx_day.specs.Run.{Event, Tick}
+use Rattle.std.proofs.Common.{ℕ, true, false, [], ◌∷◌, subst}
+use Rattle.bx_day.specs.Run.{Tick}
 use Rattle.bx_link.specs.Ends.{far_next, far_text}
 use Rattle.bx_link.specs.Hearing.{Went, no_tick}
 use Rattle.bx_link.specs.Talking.{turn_in}

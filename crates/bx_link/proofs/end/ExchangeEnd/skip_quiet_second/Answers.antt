@@ -1,4 +1,4 @@
-use Rattle.std.proofs.Common.{◌≡◌, ℕ, ◌+◌, ap, subst, sym, ◌∙◌, arith, [], ◌++◌, List, refl}
+use Rattle.std.proofs.Common.{◌≡◌, ℕ, ap, subst, sym, ◌∙◌, arith, [], ◌++◌, refl}
 use Rattle.bx_day.specs.Day.{Day}
 use Rattle.bx_calls.specs.Sending.{Sent, spelled}
 use Rattle.bx_day.specs.Ticks.{tick}
