@@ -25,6 +25,14 @@ pub by_test : (b : Bool) (t : ℕ) (e : Entry) (a : Activity) (x y : Step PlainN
 by_test true t e a x y f g = f refl
 by_test false t e a x y f g = g refl
 
+-- a step by whether the booking ends, and else by whether a timer is due
+by_times : (due t : ℕ) (e : Entry) (a : Activity) (ends fires stays : Step PlainNetCall) → StepFits (t + 1) e a ends → (t + 1 < e.booking.end → StepFits (t + 1) e a fires) → (t + 1 < e.booking.end → t + 1 < due → StepFits (t + 1) e a stays)
+    → StepFits (t + 1) e a (if nat_le e.booking.end (t + 1) then ends else (if nat_le due (t + 1) then fires else stays))
+by_times due t e a ends fires stays f g h =
+    by_test (nat_le e.booking.end (t + 1)) (t + 1) e a ends _ (λ ended. f)
+    (λ runs. let late : t + 1 < e.booking.end = leb-false e.booking.end (t + 1) runs in
+    by_test (nat_le due (t + 1)) (t + 1) e a fires stays (λ fired. g late) (λ waits. h late (leb-false due (t + 1) waits)))
+
 -- the entry of a call that goes on
 abbrev pub on_call : ℕ → Entry → Activity → PlainNetCall → Entry
 on_call t e a c = record e { standing = OnCall c (activity_after a (is_active c.state) t) }
@@ -45,41 +53,29 @@ second_fits t e r ch o OutgoingCallProceeding a h =
     (λ runs. let late : t + 1 < b.end = leb-false b.end (t + 1) runs in
     goes_on t (t + 1) e r ch o OutgoingCallProceeding a Active h (omega arith, late) tt (ringing_talks t (t + 1) b a (omega arith) h.activity))
 second_fits t e r ch o (CallPresent false due) a h =
-    let b = e.booking in
     let s = CallPresent false due in
-    by_test (nat_le b.end (t + 1)) (t + 1) e a _ _
-    (λ ended. disconnects t e r ch o s a 16 h h.phase.1 (ringing_clears t (t + 1) b a h.activity))
-    (λ runs. let late : t + 1 < b.end = leb-false b.end (t + 1) runs in
-    by_test (nat_le due (t + 1)) (t + 1) e a _ _
-    (λ fires. goes_on t (t + 1) e r ch o s a (CallPresent true (t + 1 + 4)) h (omega arith, late) (omega arith) (ringing_kept t (t + 1) b a h.activity))
-    (λ waits. goes_on t (t + 1) e r ch o s a s h (omega arith, late) (leb-false due (t + 1) waits) (ringing_kept t (t + 1) b a h.activity)))
+    let clears = ringing_clears t (t + 1) e.booking a h.activity in
+    by_times due t e a _ _ _ (disconnects t e r ch o s a 16 h h.phase.1 clears)
+    (λ late. goes_on t (t + 1) e r ch o s a (CallPresent true (t + 1 + 4)) h (omega arith, late) (omega arith) (ringing_kept t (t + 1) e.booking a h.activity))
+    (λ late waits. goes_on t (t + 1) e r ch o s a s h (omega arith, late) waits (ringing_kept t (t + 1) e.booking a h.activity))
 second_fits t e r ch o (CallPresent true due) a h =
-    let b = e.booking in
     let s = CallPresent true due in
-    by_test (nat_le b.end (t + 1)) (t + 1) e a _ _
-    (λ ended. disconnects t e r ch o s a 16 h h.phase.1 (ringing_clears t (t + 1) b a h.activity))
-    (λ runs. let late : t + 1 < b.end = leb-false b.end (t + 1) runs in
-    by_test (nat_le due (t + 1)) (t + 1) e a _ _
-    (λ fires. ringing_over t (t + 1) e a h.activity)
-    (λ waits. goes_on t (t + 1) e r ch o s a s h (omega arith, late) (leb-false due (t + 1) waits) (ringing_kept t (t + 1) b a h.activity)))
+    let clears = ringing_clears t (t + 1) e.booking a h.activity in
+    by_times due t e a _ _ _ (disconnects t e r ch o s a 16 h h.phase.1 clears)
+    (λ late. ringing_over t (t + 1) e a h.activity)
+    (λ late waits. goes_on t (t + 1) e r ch o s a s h (omega arith, late) waits (ringing_kept t (t + 1) e.booking a h.activity))
 second_fits t e r ch o (IncomingCallProceeding due) a h =
-    let b = e.booking in
     let s = IncomingCallProceeding due in
-    by_test (nat_le b.end (t + 1)) (t + 1) e a _ _
-    (λ ended. disconnects t e r ch o s a 16 h h.phase.1 (ringing_clears t (t + 1) b a h.activity))
-    (λ runs. let late : t + 1 < b.end = leb-false b.end (t + 1) runs in
-    by_test (nat_le due (t + 1)) (t + 1) e a _ _
-    (λ fires. disconnects t e r ch o s a 102 h h.phase.1 (ringing_clears t (t + 1) b a h.activity))
-    (λ waits. goes_on t (t + 1) e r ch o s a s h (omega arith, late) (leb-false due (t + 1) waits) (ringing_kept t (t + 1) b a h.activity)))
+    let clears = ringing_clears t (t + 1) e.booking a h.activity in
+    by_times due t e a _ _ _ (disconnects t e r ch o s a 16 h h.phase.1 clears)
+    (λ late. disconnects t e r ch o s a 102 h h.phase.1 clears)
+    (λ late waits. goes_on t (t + 1) e r ch o s a s h (omega arith, late) waits (ringing_kept t (t + 1) e.booking a h.activity))
 second_fits t e r ch o (CallReceived due) a h =
-    let b = e.booking in
     let s = CallReceived due in
-    by_test (nat_le b.end (t + 1)) (t + 1) e a _ _
-    (λ ended. disconnects t e r ch o s a 16 h h.phase.1 (ringing_clears t (t + 1) b a h.activity))
-    (λ runs. let late : t + 1 < b.end = leb-false b.end (t + 1) runs in
-    by_test (nat_le due (t + 1)) (t + 1) e a _ _
-    (λ fires. disconnects t e r ch o s a 102 h h.phase.1 (ringing_clears t (t + 1) b a h.activity))
-    (λ waits. goes_on t (t + 1) e r ch o s a s h (omega arith, late) (leb-false due (t + 1) waits) (ringing_kept t (t + 1) b a h.activity)))
+    let clears = ringing_clears t (t + 1) e.booking a h.activity in
+    by_times due t e a _ _ _ (disconnects t e r ch o s a 16 h h.phase.1 clears)
+    (λ late. disconnects t e r ch o s a 102 h h.phase.1 clears)
+    (λ late waits. goes_on t (t + 1) e r ch o s a s h (omega arith, late) waits (ringing_kept t (t + 1) e.booking a h.activity))
 second_fits t e r ch o Active a h =
     let b = e.booking in
     by_test (nat_le b.end (t + 1)) (t + 1) e a _ _
