@@ -10,9 +10,10 @@ use Rattle.bx_base.proofs.SumLemmas.{sum_below-le, sum_below-add, sum_below-same
 use Rattle.bx_line.specs.Network.{Network, IsNetwork, places_of, gaps_of, arc_at, spans}
 use Rattle.bx_line.specs.Flows.{Flow, IsFlow, CrossesEachGap, is_carried, idle_at, crossing_at}
 use Rattle.bx_line.proofs.Crossings.{crosses_from_flow}
-use Rattle.bx_dist.specs.Residual.{Fits, height_at}
+use Rattle.bx_dist.specs.Residual.{Fits, IsInPart, height_at, row_arc}
+use Rattle.bx_dist.specs.declared.part.Part.{Part}
 use Rattle.bx_dist.specs.declared.part.Part.TheVariants.{Whole}
-use Rattle.bx_dist.proofs.Fitting.{RowFits-from_fits, GapFits-from_fits}
+use Rattle.bx_dist.specs.declared.step.Step.TheVariants.{Idle, Back, Take, Give}
 use Rattle.bx_flow.specs.Costs.{paid_by, IsLeastCost}
 use Rattle.bx_flow.proofs.Falls.{spanned}
 
@@ -91,13 +92,16 @@ idle_none : (idle price : ℕ) → (0 < idle → price ≡ 0) → idle * price �
 idle_none zero price h = omega arith
 idle_none (suc idle) price h = let e = h (omega arith) in rw e (omega arith)
 
-no_fall : (here next : ℤ) → next ≤ℤ here → here ≤ℤ next → nat_abs (here -ℤ next) ≡ 0
+falls_by : (here next : ℤ) → next ≤ℤ (here +ℤ pos 0) → here ≡ (next +ℤ pos (nat_abs (here -ℤ next)))
+falls_by here next p = omega (arith, ints)
+
+no_fall : (here next : ℤ) → next ≤ℤ (here +ℤ pos 0) → here ≤ℤ (next +ℤ pos 0) → nat_abs (here -ℤ next) ≡ 0
 no_fall here next p q = omega (arith, ints)
 
 taken_row : (from to : ℤ) (pay fall : ℕ) → from ≡ (to +ℤ pos fall) → from ≤ℤ (to +ℤ pos pay) → fall ≤ pay
 taken_row from to pay fall e h = omega (arith, ints)
 
-left_row : (from to : ℤ) (pay fall : ℕ) → from ≡ (to +ℤ pos fall) → to ≤ℤ (from -ℤ pos pay) → pay ≤ fall
+left_row : (from to : ℤ) (pay fall : ℕ) → from ≡ (to +ℤ pos fall) → to ≤ℤ (from +ℤ neg_ℤ (pos pay)) → pay ≤ fall
 left_row from to pay fall e h = omega (arith, ints)
 
 costs_less : (other this : ℕ) → other ≤ this → neg_ℤ (pos this) ≤ℤ neg_ℤ (pos other)
@@ -107,11 +111,12 @@ costs_less other this h = omega (arith, ints)
 abbrev pub price_of : List ℤ → ℕ → ℕ
 price_of heights v = nat_abs (height_at heights v -ℤ height_at heights (v + 1))
 
-module _ (line : Network) (flow : Flow) (heights : List ℤ) (network : IsNetwork line) (fits : Fits Whole line flow heights) where
+-- what heights that fit fall by, gap by gap and row by row
+module _ (part : Part) (line : Network) (flow : Flow) (heights : List ℤ) (network : IsNetwork line) (fits : Fits part line flow heights) where
   gap_falls : (v : ℕ) → v + 1 < places_of line → height_at heights v ≡ (height_at heights (v + 1) +ℤ pos (price_of heights v))
-  gap_falls v h = let gap = GapFits-from_fits line flow heights fits v h in omega (arith, ints, gap.onward)
+  gap_falls v h = falls_by (height_at heights v) (height_at heights (v + 1)) (fits (Idle v) h)
 
-  before : (n : ℕ) → n < places_of line → height_at heights 0 ≡ (height_at heights n +ℤ pos (sum_below n (price_of heights)))
+  pub before : (n : ℕ) → n < places_of line → height_at heights 0 ≡ (height_at heights n +ℤ pos (sum_below n (price_of heights)))
   before zero h = omega (arith, ints)
   before (suc n) h =
       let e : n + 1 ≡ suc n = omega arith in
@@ -126,12 +131,20 @@ module _ (line : Network) (flow : Flow) (heights : List ℤ) (network : IsNetwor
       let whole = spanned (price_of heights) arc.from arc.to (omega (arith, limits.rising)) (gaps_of line) (omega (arith, limits.within)) in
       ends_differ (height_at heights 0) (height_at heights arc.from) (height_at heights arc.to) (sum_below arc.from (price_of heights)) (sum_below arc.to (price_of heights)) (fall_of line (price_of heights) i) (before arc.from (omega (arith, limits.rising, limits.within))) (before arc.to (omega (arith, limits.within))) whole
 
-  tight : IsTight line (price_of heights) flow
-  tight = record {
-    idle = λ v h. idle_none (idle_at flow v) (price_of heights v) (λ some. let gap = GapFits-from_fits line flow heights fits v (omega arith) in no_fall (height_at heights v) (height_at heights (v + 1)) gap.onward (gap.back some));
-    taken = λ i h c. let row = RowFits-from_fits line flow heights fits (i + 1) (omega arith) (omega arith) in taken_row _ _ (arc_at line i).pay (fall_of line (price_of heights) i) (arc_falls i h) (let e : i + 1 - 1 ≡ i = omega arith in (rw e at row.back) c);
-    left = λ i h c. let row = RowFits-from_fits line flow heights fits (i + 1) (omega arith) (omega arith) in left_row _ _ (arc_at line i).pay (fall_of line (price_of heights) i) (arc_falls i h) (let e : i + 1 - 1 ≡ i = omega arith in (rw e at row.onward) c);
-  }
+  pub idle_tight : (v : ℕ) → v < gaps_of line → idle_at flow v * price_of heights v ≡ 0
+  idle_tight v h = idle_none (idle_at flow v) (price_of heights v) (λ some. no_fall (height_at heights v) (height_at heights (v + 1)) (fits (Idle v) (omega arith)) (fits (Back v) (omega arith, some)))
+
+  given : (r : ℕ) → 1 ≤ r → r ≤ length line.arcs → IsInPart part (row_arc line r) → is_carried flow (r - 1) ≡ true → fall_of line (price_of heights) (r - 1) ≤ (row_arc line r).pay
+  given r named within in_part carried = taken_row _ _ (row_arc line r).pay (fall_of line (price_of heights) (r - 1)) (arc_falls (r - 1) (omega arith)) (fits (Give r) (record { there = record { named = named; within = within; in_part = in_part }; state = carried }))
+
+  taken : (r : ℕ) → 1 ≤ r → r ≤ length line.arcs → IsInPart part (row_arc line r) → is_carried flow (r - 1) ≡ false → (row_arc line r).pay ≤ fall_of line (price_of heights) (r - 1)
+  taken r named within in_part left = left_row _ _ (row_arc line r).pay (fall_of line (price_of heights) (r - 1)) (arc_falls (r - 1) (omega arith)) (fits (Take r) (record { there = record { named = named; within = within; in_part = in_part }; state = left }))
+
+  pub row_taken : (i : ℕ) → i < length line.arcs → IsInPart part (arc_at line i) → is_carried flow i ≡ true → fall_of line (price_of heights) i ≤ (arc_at line i).pay
+  row_taken i h = let e : i + 1 - 1 ≡ i = omega arith in rw e at (given (i + 1) (omega arith) (omega arith))
+
+  pub row_left : (i : ℕ) → i < length line.arcs → IsInPart part (arc_at line i) → is_carried flow i ≡ false → (arc_at line i).pay ≤ fall_of line (price_of heights) i
+  row_left i h = let e : i + 1 - 1 ≡ i = omega arith in rw e at (taken (i + 1) (omega arith) (omega arith))
 
 -- a flow whose residual network has fitting potentials is of least cost
 pub fitting-least : (line : Network) (flow : Flow) (heights : List ℤ) → IsNetwork line → IsFlow line flow → Fits Whole line flow heights → IsLeastCost line flow
@@ -139,6 +152,11 @@ fitting-least line flow heights network is_flow fits =
     record {
       is_flow = is_flow;
       least = λ other its same.
-          let most = tight_pays_most line (price_of heights) flow other (crosses_from_flow line flow network is_flow) (crosses_from_flow line other network its) same (tight line flow heights network fits) in
+          let tight : IsTight line (price_of heights) flow = record {
+            idle = idle_tight Whole line flow heights network fits;
+            taken = λ i h. row_taken Whole line flow heights network fits i h tt;
+            left = λ i h. row_left Whole line flow heights network fits i h tt;
+          } in
+          let most = tight_pays_most line (price_of heights) flow other (crosses_from_flow line flow network is_flow) (crosses_from_flow line other network its) same tight in
           costs_less (paid_by line other) (paid_by line flow) most;
     }

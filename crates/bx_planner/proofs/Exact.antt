@@ -13,10 +13,9 @@ use Rattle.bx_line.specs.Network.{Network, IsNetwork, AreArcsOf, places_of, gaps
 use Rattle.bx_line.specs.Flows.{Flow, CrossesEachGap, is_carried, idle_at}
 use Rattle.bx_dist.specs.Residual.{Fits}
 use Rattle.bx_dist.specs.declared.part.Part.TheVariants.{Free}
-use Rattle.bx_flow.proofs.Certificate.{fall_of, all_falls}
+use Rattle.bx_flow.proofs.Certificate.{fall_of, all_falls, idle_tight, row_taken, row_left}
 use Rattle.bx_planner.specs.Prices.{fall_at, charges}
 use Rattle.bx_planner.proofs.Placed.{runs_where_spans}
-use Rattle.bx_planner.proofs.Falling.{idle_free, free_taken, free_left}
 use Rattle.bx_planner.proofs.Priced.{sum_of_charges}
 
 none_of : (b : Bool) (a : ℕ) → a ≡ 0 → ◌≡◌ {A = ℕ} (cond b a 0) 0
@@ -53,7 +52,7 @@ module _ (rows : List Row) (line : Network) (flow : Flow) (heights : List ℤ) (
       let turned = sum_below-same gaps (λ v. flow.units * price v) (λ v. price v * flow.units) (λ v h. omega arith) in
       let out = sum_below-mul gaps price flow.units in
       let whole = all_falls line price flow crosses in
-      let idle = sum_below-zero gaps (λ v. idle_at flow v * price v) (idle_free line flow heights network fits) in
+      let idle = sum_below-zero gaps (λ v. idle_at flow v * price v) (idle_tight Free line flow heights network fits) in
       let row_costs = sum_below-same (length rows) (λ i. cond (is_carried flow i) (fall_of line price i) 0) (λ i. cond (is_carried flow i) (cost_of prices (row_at rows i)) 0) (λ i h. rw (cost_is_fall i h) refl) in
       let sized = ap (λ (n : ℕ). sum_below n (λ i. cond (is_carried flow i) (fall_of line price i) 0)) arcs.one_each in
       let scaled : flow.units * sum_of_prices prices ≡ sum_below gaps price * flow.units = rw sum_is_falls (omega arith) in
@@ -78,8 +77,8 @@ module _ (rows : List Row) (line : Network) (flow : Flow) (heights : List ℤ) (
       let within : i < length line.arcs = omega (arith, h, arcs.one_each) in
       let must = (arcs.each i h).must in
       one_exact (charges line.moments heights (gaps_of line)) (row_at rows i) (is_carried flow i) musts
-      (λ free carried. let fit = free_taken line flow heights network fits i within (must ∙ free) carried in omega (arith, fit, cost_is_fall i h, free_pay i h free))
-      (λ free left. let fit = free_left line flow heights network fits i within (must ∙ free) left in omega (arith, fit, cost_is_fall i h, free_pay i h free))
+      (λ free carried. let fit = row_taken Free line flow heights network fits i within (must ∙ free) carried in omega (arith, fit, cost_is_fall i h, free_pay i h free))
+      (λ free left. let fit = row_left Free line flow heights network fits i within (must ∙ free) left in omega (arith, fit, cost_is_fall i h, free_pay i h free))
       (row_at rows i).must refl
 
   pub bound_is_pay : (count : ℕ) → (0 < places_of line → flow.units ≡ count) → ((i : ℕ) → i < length rows → (row_at rows i).must ≡ true → is_carried flow i ≡ true) → bound_of rows count (charges line.moments heights (gaps_of line)) ≡ pos (pay_of rows (is_carried flow))

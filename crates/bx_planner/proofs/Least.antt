@@ -27,7 +27,7 @@ use Rattle.bx_planner.specs.Inside.{IsLeastBound}
 use Rattle.bx_planner.specs.Tight.{runs_at, IsTight}
 use Rattle.bx_planner.proofs.Tightness.{tight}
 use Rattle.bx_planner.proofs.Placed.{same_tests}
-use Rattle.bx_planner.proofs.Falling.{before}
+use Rattle.bx_flow.proofs.Certificate.{before}
 use Rattle.bx_planner.proofs.Priced.{sum_of_charges}
 use Rattle.bx_check.specs.Before.{sum_before}
 use Rattle.bx_check.proofs.Before.{cost_between}
@@ -119,7 +119,7 @@ module _ (rows : List Row) (line : Network) (flow : Flow) (network : IsNetwork l
           let r = lengths.reached v h in
           let up = walk_rises Free line flow (λ u. neg_ℤ (pos (sum_at u))) sums_fit 0 v r.0 r.1 in
           let some : 0 < places_of line = omega arith in
-          falls_less (height_at heights 0) (height_at heights v) (sum_below v (fall_at heights)) (sum_at v) (sum_at 0) (lengths.least 0 [] some refl) (before line flow heights network (distances_fit Free line flow heights network lengths) v h) (subst (λ (z : ℤ). neg_ℤ (pos (sum_at v)) ≤ℤ (neg_ℤ (pos (sum_at 0)) +ℤ z)) r.2 up)
+          falls_less (height_at heights 0) (height_at heights v) (sum_below v (fall_at heights)) (sum_at v) (sum_at 0) (lengths.least 0 [] some refl) (before Free line flow heights network (distances_fit Free line flow heights network lengths) v h) (subst (λ (z : ℤ). neg_ℤ (pos (sum_at v)) ≤ℤ (neg_ℤ (pos (sum_at 0)) +ℤ z)) r.2 up)
 
       least_before : HasJustMoments rows line.moments → (moment : ℕ) → IsMoment rows moment → sum_before (charges line.moments heights (gaps_of line)) moment ≤ sum_before other moment
       least_before just moment m =
