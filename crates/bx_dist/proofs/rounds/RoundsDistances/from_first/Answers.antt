@@ -1,4 +1,4 @@
-use Rattle.std.proofs.Common.{◌≡◌, true, false, ℕ, ◌<◌, List, ◌++◌, length, take, drop, ℤ, sym, ◌∙◌, ap, subst, arith}
+use Rattle.std.proofs.Common.{◌≡◌, ℕ, ◌<◌, List, ◌++◌, length, take, drop, ℤ, sym, ◌∙◌, ap, subst, arith}
 use Rattle.std.proofs.Math.Seq.{take-append_seam}
 use Rattle.std.proofs.lemmas.List.{get_or_default}
 use Rattle.bx_dist.specs.declared.step.Step.{Step}
@@ -6,11 +6,11 @@ use Rattle.bx_dist.specs.declared.step.Step.TheVariants.{Idle}
 use Rattle.std.proofs.lemmas.List.Elements.{Contains-get_or}
 use Rattle.bx_dist.specs.Walks.{AreDistances, lengths_of}
 use Rattle.bx_dist.specs.Search.{IsStep, IsNext}
-use Rattle.bx_dist.proofs.Passes.{less_after_pass}
+use Rattle.bx_dist.proofs.Passes.{less_after_pass, work_left}
 use Rattle.bx_dist.proofs.Rounding.{excess, zeros_are_bounds, are_steps, medium, settled_reaches, found_distances, found_small}
-use Rattle.bx_dist.proofs.RoundSteps.{step_at, round_first, round_changed, less_changed, round_same, all_settled}
+use Rattle.bx_dist.proofs.RoundSteps.{IsRound, step_at, round_first, round_changed, less_changed, round_same, all_settled}
 use Rattle.bx_dist.proofs.rounds.RoundsDistances.from_first.Goals as goal
-use Rattle.bx_dist.proofs.rounds.RoundsDistances.from_first.Goals.{then-shorten, else-shorten}
+use Rattle.bx_dist.proofs.rounds.RoundsDistances.from_first.Goals.{After-next_in-at, then-shorten, else-shorten}
 
 whole : (new old : List ℤ) (n : ℕ) → n ≡ length new → take n (new ++ drop (length new) old) ≡ new
 whole new old n e = rw e (take-append_seam new (drop (length new) old))
@@ -42,8 +42,11 @@ shorten-requires-clause-medium c =
 pub next_in-at-requires : goal.next_in-at-requires
 next_in-at-requires c = omega (arith, c.loop-settled.invariant.within (omega (arith, c.in_ok-steps.steps.ok)), c.in_ok-steps.steps.ok)
 
-pub loop-settled-smaller : goal.loop-settled-smaller
-loop-settled-smaller c =
+-- a turn leaves rounds, and less work
+turned : (c : After-next_in-at) → let steps = c.in_ok-steps.steps.items in let l = c.loop-settled in let new = take l.lengths.len (c.shorten.new.lengths ++ drop (length c.shorten.new.lengths) l.lengths.items) in
+    IsRound c.args.part c.args.line.now c.args.carried.now steps new c.next_in-at.result c.if-shorten.settled
+    × (work_left (excess c.args.line.now c.args.potentials.now new) (length steps) c.if-shorten.settled < work_left (excess c.args.line.now c.args.potentials.now l.lengths.items) (length steps) l.settled)
+turned c =
     let steps = c.in_ok-steps.steps.items in
     let lengths = c.loop-settled.lengths.items in
     let new = c.shorten.new.lengths in
@@ -53,36 +56,26 @@ loop-settled-smaller c =
     let size : c.len-in-loop-settled.result ≡ length steps = omega (arith, c.in_ok-steps.steps.ok) in
     let is_next = subst (λ (n : ℕ). IsNext c.loop-settled.at n c.next_in-at.result) size c.next_in-at.ensures in
     let is_new = whole new lengths c.loop-settled.lengths.len (omega (arith, c.deref_mut.ensures.len, c.loop-settled.lengths.ok)) in
-    let shorter = λ (t : c.shorten.result ≡ true). rw (c.deref_mut.ensures.value, step_is) at (c.shorten.ensures.shorter t) in
-    let same = λ (f : c.shorten.result ≡ false). c.shorten.ensures.unchanged f ∙ c.deref_mut.ensures.value in
-    let still = λ (f : c.shorten.result ≡ false). rw (c.deref_mut.ensures.value, step_is) at (c.shorten.ensures.settled f) in
     elim c.if-shorten.branch [
       | then-shorten w ↦ (
-          let less = less_changed c.args.part c.args.line.now c.args.carried.now c.places.ensures.limits steps c.in_ok-steps.ensures lengths c.loop-settled.at c.loop-settled.settled c.next_in-at.result c.loop-settled.invariant more is_next c.args.potentials.now new c.requires.fits (shorter w.if-shorten.true) in
-          rw (is_new, w.settled-is) less)
+          let shorter = rw (c.deref_mut.ensures.value, step_is) at (c.shorten.ensures.shorter w.if-shorten.true) in
+          rw (is_new, w.settled-is) (
+            round_changed c.args.part c.args.line.now c.args.carried.now c.places.ensures.limits steps c.in_ok-steps.ensures lengths c.loop-settled.at c.loop-settled.settled c.next_in-at.result c.loop-settled.invariant more is_next new shorter,
+            less_changed c.args.part c.args.line.now c.args.carried.now c.places.ensures.limits steps c.in_ok-steps.ensures lengths c.loop-settled.at c.loop-settled.settled c.next_in-at.result c.loop-settled.invariant more is_next c.args.potentials.now new c.requires.fits shorter,
+          ))
       | else-shorten w ↦ (
-          let less = less_after_pass (excess c.args.line.now c.args.potentials.now lengths) (length steps) c.loop-settled.settled more in
-          rw (is_new, same w.if-shorten.false, w.settled-is) less)
+          let still = rw (c.deref_mut.ensures.value, step_is) at (c.shorten.ensures.settled w.if-shorten.false) in
+          rw (is_new, c.shorten.ensures.unchanged w.if-shorten.false ∙ c.deref_mut.ensures.value, w.settled-is) (
+            round_same c.args.part c.args.line.now c.args.carried.now c.places.ensures.limits steps c.in_ok-steps.ensures lengths c.loop-settled.at c.loop-settled.settled c.next_in-at.result c.loop-settled.invariant more is_next still,
+            less_after_pass (excess c.args.line.now c.args.potentials.now lengths) (length steps) c.loop-settled.settled more,
+          ))
     ]
 
+pub loop-settled-smaller : goal.loop-settled-smaller
+loop-settled-smaller c = (turned c).1
+
 pub loop-settled-preserved : goal.loop-settled-preserved
-loop-settled-preserved c =
-    let steps = c.in_ok-steps.steps.items in
-    let lengths = c.loop-settled.lengths.items in
-    let new = c.shorten.new.lengths in
-    let more : c.loop-settled.settled < length steps = omega (arith, c.in_ok-steps.steps.ok) in
-    let here = c.loop-settled.invariant.within (omega arith) in
-    let step_is : c.index.result.now ≡ step_at steps c.loop-settled.at = c.index.ensures ∙ get_or_default steps c.loop-settled.at c.index.result.now (Idle 0) here in
-    let size : c.len-in-loop-settled.result ≡ length steps = omega (arith, c.in_ok-steps.steps.ok) in
-    let is_next = subst (λ (n : ℕ). IsNext c.loop-settled.at n c.next_in-at.result) size c.next_in-at.ensures in
-    let is_new = whole new lengths c.loop-settled.lengths.len (omega (arith, c.deref_mut.ensures.len, c.loop-settled.lengths.ok)) in
-    let shorter = λ (t : c.shorten.result ≡ true). rw (c.deref_mut.ensures.value, step_is) at (c.shorten.ensures.shorter t) in
-    let same = λ (f : c.shorten.result ≡ false). c.shorten.ensures.unchanged f ∙ c.deref_mut.ensures.value in
-    let still = λ (f : c.shorten.result ≡ false). rw (c.deref_mut.ensures.value, step_is) at (c.shorten.ensures.settled f) in
-    elim c.if-shorten.branch [
-      | then-shorten w ↦ rw (is_new, w.settled-is) (round_changed c.args.part c.args.line.now c.args.carried.now c.places.ensures.limits steps c.in_ok-steps.ensures lengths c.loop-settled.at c.loop-settled.settled c.next_in-at.result c.loop-settled.invariant more is_next new (shorter w.if-shorten.true))
-      | else-shorten w ↦ rw (is_new, same w.if-shorten.false, w.settled-is) (round_same c.args.part c.args.line.now c.args.carried.now c.places.ensures.limits steps c.in_ok-steps.ensures lengths c.loop-settled.at c.loop-settled.settled c.next_in-at.result c.loop-settled.invariant more is_next (still w.if-shorten.false))
-    ]
+loop-settled-preserved c = (turned c).0
 
 pub least_walk-requires-clause-steps : goal.least_walk-requires-clause-steps
 least_walk-requires-clause-steps c =
