@@ -1,21 +1,19 @@
 -- Places that are reached by the steps from settled ones.
-use Rattle.std.proofs.Common.{◌≡◌, ◌≢◌, ℕ, zero, suc, ◌+◌, ◌-◌, ◌*◌, ◌<◌, ◌≤◌, List, [], ◌∷◌, ◌++◌, length, get_or, set, ℤ, pos, ◌+ℤ◌, ◌-ℤ◌, ◌≤ℤ◌, refl, sym, ◌∙◌, ap, subst, arith, ◌⊎◌, inl, inr, get_or-set_same, get_or-set_other, length-set}
+use Rattle.std.proofs.Common.{◌≡◌, ◌≢◌, ℕ, zero, suc, ◌+◌, ◌-◌, ◌<◌, ◌≤◌, List, [], ◌∷◌, ◌++◌, length, get_or, set, ℤ, pos, ◌+ℤ◌, ◌-ℤ◌, ◌≤ℤ◌, refl, sym, ◌∙◌, ap, subst, arith, ◌⊎◌, inl, inr, get_or-set_same, get_or-set_other, length-set}
 use Rattle.std.proofs.lemmas.Int.{ints}
 use Rattle.std.proofs.lemmas.Bool.{cases_lt, cases_eq}
-use Rattle.std.proofs.lemmas.List.{get_or_past}
 use Rattle.bx_line.specs.Network.{Network, IsNetwork, places_of}
 use Rattle.bx_line.specs.Flows.{Flow}
 use Rattle.bx_dist.specs.declared.part.Part.{Part}
 use Rattle.bx_dist.specs.declared.step.Step.{Step}
-use Rattle.bx_dist.specs.declared.step.Step.TheVariants.{Idle, Back, Take, Give}
+use Rattle.bx_dist.specs.declared.step.Step.TheVariants.{Idle}
 use Rattle.bx_dist.specs.Residual.{IsOpen, Fits, AreSmall, height_at, step_from, step_to, step_cost}
 use Rattle.bx_dist.specs.Walks.{IsWalk, walk_length, AreLeast, AreDistances, lengths_of}
-use Rattle.bx_dist.specs.Inside.{Avoids, IsSimple}
-use Rattle.bx_dist.proofs.Simple.{pairs_from_simple}
-use Rattle.bx_dist.proofs.Fitting.{walk_long}
+use Rattle.bx_dist.proofs.Simple.{RanksRise, pairs_from_simple, simple_from_rising}
 use Rattle.bx_dist.specs.Search.{IsSettled, Shortens, last_step}
 use Rattle.bx_dist.specs.Front.{reduced, IsLast, IsFront}
-use Rattle.bx_dist.proofs.After.{walk_and_step, length_and_step, step_within, row_within}
+use Rattle.bx_dist.proofs.Small.{least_that_fit, small_distances}
+use Rattle.bx_dist.proofs.After.{first_distance, walk_and_step, length_and_step, step_within}
 
 module _ (part : Part) (line : Network) (flow : Flow) (network : IsNetwork line) (heights : List ℤ) (fits : Fits part line flow heights) (lengths : List ℤ) (last : List Step) (ranks : List ℕ) (level : ℤ) (Waits : ℕ → Type 0) (Left : Step → Type 0) (front : IsFront part line flow heights lengths last ranks level Waits Left) where
   module _ (step : Step) (o : IsOpen part line flow step) (from : 0 < get_or ranks (step_from line step) 0) (here : reduced heights lengths (step_from line step) ≡ level) where
@@ -191,32 +189,14 @@ module _ (part : Part) (line : Network) (flow : Flow) (network : IsNetwork line)
     front_fits t o = elim (front.taken t o (all (step_from line t) (step_within part line flow network t o).0)) [ inl l ↦ absurd (none t l) | inr q ↦ q ]
 
     pub front_least : 0 < places_of line → AreLeast part line flow lengths
-    front_least some =
-        record {
-          one_each = front.lengths_each;
-          reached = λ v h. front.reached v h (front.settled v (all v h)).0;
-          least = λ v walk h w. omega (arith, ints, walk_long part line flow lengths front_fits 0 v walk w, (front.settled 0 (all 0 some)).0);
-        }
-
-    -- ranks that rise along a walk from here
-    abbrev Rises : ℕ → List Step → Type 0
-    Rises from [] = Unit {0}
-    Rises from (t ∷ walk) = (get_or ranks from 0 < get_or ranks (step_to line t) 0) × Rises (step_to line t) walk
-
-    avoids_lower : (x from : ℕ) (walk : List Step) → get_or ranks x 0 < get_or ranks from 0 → Rises from walk → Avoids line x from walk
-    avoids_lower x from [] h r = λ e. omega (arith, h, ap (λ (w : ℕ). get_or ranks w 0) e)
-    avoids_lower x from (t ∷ walk) h r = (λ e. omega (arith, h, ap (λ (w : ℕ). get_or ranks w 0) e), avoids_lower x (step_to line t) walk (omega (arith, h, r.0)) r.1)
-
-    simple_rising : (from : ℕ) (walk : List Step) → Rises from walk → IsSimple line from walk
-    simple_rising from [] r = tt
-    simple_rising from (t ∷ walk) r = (avoids_lower from (step_to line t) walk r.0 r.1, simple_rising (step_to line t) walk r.1)
+    front_least some = least_that_fit part line flow lengths front_fits front.lengths_each (λ v h. front.reached v h (front.settled v (all v h)).0) (front.settled 0 (all 0 some)).0
 
     -- the walk from a place to the last one, as far as it is known
     pub record IsBackTo (place : ℕ) (walk : List Step) : Type 0 where
       pub within : place < places_of line
       pub leads : IsWalk part line flow place (places_of line - 1) walk
       pub as_long : height_at lengths (places_of line - 1) ≡ (height_at lengths place +ℤ walk_length line walk)
-      pub rises : Rises place walk
+      pub rises : RanksRise line ranks place walk
       pub few : length walk + get_or ranks place 0 ≤ get_or ranks (places_of line - 1) 0
 
     pub back_last : 0 < places_of line → IsBackTo (places_of line - 1) []
@@ -231,57 +211,20 @@ module _ (part : Part) (line : Network) (flow : Flow) (network : IsNetwork line)
           within = (step_within part line flow network (last_step last place) l.is_open).0;
           leads = (l.is_open, refl, subst (λ v. IsWalk part line flow v (places_of line - 1) walk) (sym l.to) b.leads);
           as_long = omega (arith, ints, b.as_long, l.tight, ap (height_at lengths) l.to);
-          rises = (omega (arith, at, earlier), subst (λ v. Rises v walk) (sym l.to) b.rises);
+          rises = (omega (arith, at, earlier), subst (λ v. RanksRise line ranks v walk) (sym l.to) b.rises);
           few = omega (arith, earlier, b.few);
         }
 
     pub back_lower : (place : ℕ) (walk : List Step) → place ≢ 0 → IsBackTo place walk → get_or ranks (step_from line (last_step last place)) 0 < get_or ranks place 0
     back_lower place walk some b = (front.by place some b.within (front.settled place (all place b.within)).0).earlier (all place b.within)
 
-    zero_at_first : 0 < places_of line → height_at lengths 0 ≡ pos 0
-    zero_at_first some =
-        let r = front.reached 0 some (front.settled 0 (all 0 some)).0 in
-        let long = walk_long part line flow lengths front_fits 0 0 r.0 r.1 in
-        omega (arith, ints, long, r.2, (front.settled 0 (all 0 some)).0)
-
     pub front_distances : 0 < places_of line → (walk : List Step) → IsBackTo 0 walk → AreDistances part line flow (lengths_of lengths walk)
     front_distances some walk b =
         record {
           lengths = front_least some;
-          path = record { some_place = some; leads = b.leads; once = pairs_from_simple line 0 walk (simple_rising 0 walk b.rises) };
-          shortest = omega (arith, ints, b.as_long, zero_at_first some);
+          path = record { some_place = some; leads = b.leads; once = pairs_from_simple line 0 walk (simple_from_rising line ranks 0 walk b.rises) };
+          shortest = omega (arith, ints, b.as_long, first_distance part line flow lengths network some (front_least some));
         }
 
-    low_step : (t : Step) → IsOpen part line flow t → pos 0 ≤ℤ (step_cost line t +ℤ pos 5001000000000)
-    low_step (Idle v) o = omega (arith, ints)
-    low_step (Back v) o = omega (arith, ints)
-    low_step (Take r) o = let a = row_within part line network r o.there in omega (arith, ints, a.pay_limit)
-    low_step (Give r) o = omega (arith, ints)
-
-    low_walk : (from to : ℕ) (walk : List Step) → IsWalk part line flow from to walk → pos 0 ≤ℤ (walk_length line walk +ℤ pos (5001000000000 * length walk))
-    low_walk from to [] w = omega (arith, ints)
-    low_walk from to (t ∷ walk) w = omega (arith, ints, low_step t w.0, low_walk (step_to line t) to walk w.2)
-
-    falls_on : (n v : ℕ) → v + n < places_of line → height_at lengths (v + n) ≤ℤ height_at lengths v
-    falls_on zero v h = omega (arith, ints, ap (height_at lengths) (add_zero v))
-      where
-        add_zero : (u : ℕ) → u + zero ≡ u
-        add_zero u = omega arith
-    falls_on (suc n) v h =
-        let before = falls_on n v (omega arith) in
-        let step = front_fits (Idle (v + n)) (omega arith) in
-        let same : v + suc n ≡ v + n + 1 = omega arith in
-        omega (arith, ints, before, step, ap (height_at lengths) same)
-
     pub front_small : (count : ℕ) → count ≤ places_of line → ((w : ℕ) → get_or ranks w 0 ≤ count) → (walk : List Step) → IsBackTo 0 walk → AreSmall lengths
-    front_small count most few walk b v =
-        elim (cases_lt v (places_of line)) [
-          | inl h ↦ (
-              let n = places_of line - 1 - v in
-              let e : v + n ≡ places_of line - 1 = omega arith in
-              let fall = falls_on n v (omega arith) in
-              let at = ap (height_at lengths) e in
-              let start = zero_at_first (omega (arith, b.within)) in
-              omega (arith, ints, fall, at, start, b.as_long, low_walk 0 (places_of line - 1) walk b.leads, b.few, few (places_of line - 1), network.few_places, (front.settled v (all v h)).0))
-          | inr h ↦ (let past = get_or_past lengths v (pos 0) (omega (arith, front.lengths_each)) in omega (arith, ints, past))
-        ]
+    front_small count most few walk b = small_distances part line flow network lengths walk (front_distances (omega (arith, b.within)) walk b) (omega (arith, most, b.few, few (places_of line - 1)))

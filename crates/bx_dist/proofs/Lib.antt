@@ -3,6 +3,7 @@ pub mod Listing
 pub mod Sending
 pub mod Simple
 pub mod After
+pub mod Small
 pub mod Passes
 pub mod Marking
 pub mod Rounding

@@ -12,8 +12,7 @@ use Rattle.bx_dist.specs.declared.step.Step.TheVariants.{Idle}
 use Rattle.bx_dist.specs.Residual.{step_from, step_to}
 use Rattle.bx_dist.specs.Search.{IsTight, IsTightWalk, AreMarks, IsLastStep, last_step, Extends, IsFound}
 use Rattle.bx_dist.proofs.Sending.{sum_below-change}
-use Rattle.bx_dist.specs.Inside.{Avoids, IsSimple}
-use Rattle.bx_dist.proofs.Simple.{pairs_from_simple}
+use Rattle.bx_dist.proofs.Simple.{RanksRise, pairs_from_simple, simple_from_rising}
 
 -- whether a place is marked, as a number
 abbrev pub marked : List ℕ → ℕ → ℕ
@@ -58,25 +57,12 @@ first_marks line steps lengths some =
     }
 
 module _ (line : Network) (steps : List Step) (lengths : List ℤ) (ranks : List ℕ) where
-  -- ranks that rise along a walk from here
-  abbrev pub RanksRise : ℕ → List Step → Type 0
-  RanksRise from [] = Unit {0}
-  RanksRise from (step ∷ walk) = (get_or ranks from 0 < get_or ranks (step_to line step) 0) × RanksRise (step_to line step) walk
-
-  avoids_lower : (x from : ℕ) (walk : List Step) → get_or ranks x 0 < get_or ranks from 0 → RanksRise from walk → Avoids line x from walk
-  avoids_lower x from [] h r = λ e. omega (arith, h, ap (λ (w : ℕ). get_or ranks w 0) e)
-  avoids_lower x from (step ∷ walk) h r = (λ e. omega (arith, h, ap (λ (w : ℕ). get_or ranks w 0) e), avoids_lower x (step_to line step) walk (omega (arith, h, r.0)) r.1)
-
-  simple_from_rising : (from : ℕ) (walk : List Step) → RanksRise from walk → IsSimple line from walk
-  simple_from_rising from [] r = tt
-  simple_from_rising from (step ∷ walk) r = (avoids_lower from (step_to line step) walk r.0 r.1, simple_from_rising (step_to line step) walk r.1)
-
   -- the walk from a place to the last one, as far as it is known
   pub record IsBack (place : ℕ) (walk : List Step) : Type 0 where
     pub within : place < places_of line
     pub reached : 0 < get_or ranks place 0
     pub leads : IsTightWalk line steps lengths place (places_of line - 1) walk
-    pub rises : RanksRise place walk
+    pub rises : RanksRise line ranks place walk
     pub few : length walk + get_or ranks place 0 ≤ get_or ranks (places_of line - 1) 0
 
 module _ (line : Network) (steps : List Step) (lengths : List ℤ) (ranks : List ℕ) (last : List Step) (count : ℕ) (marks : AreMarks line steps lengths ranks last count) where
@@ -142,7 +128,7 @@ module _ (line : Network) (steps : List Step) (lengths : List ℤ) (ranks : List
         within = inside;
         reached = omega (arith, at, l.reached);
         leads = (l.there, l.tight, sym from_is, subst (λ v. IsTightWalk line steps lengths v (places_of line - 1) walk) (sym l.to) b.leads);
-        rises = (omega (arith, at, here, l.earlier), subst (λ v. RanksRise line steps lengths ranks v walk) (sym l.to) b.rises);
+        rises = (omega (arith, at, here, l.earlier), subst (λ v. RanksRise line ranks v walk) (sym l.to) b.rises);
         few = omega (arith, at, l.earlier, b.few);
       }
 
@@ -156,4 +142,4 @@ module _ (line : Network) (steps : List Step) (lengths : List ℤ) (ranks : List
 
   pub found_back : (walk : List Step) → IsBack line steps lengths ranks 0 walk → IsFound line steps lengths walk
   found_back walk b =
-      record { leads = b.leads; once = pairs_from_simple line 0 walk (simple_from_rising line steps lengths ranks 0 walk b.rises); few = omega (arith, b.few, marks.low (places_of line - 1), count_few) }
+      record { leads = b.leads; once = pairs_from_simple line 0 walk (simple_from_rising line ranks 0 walk b.rises); few = omega (arith, b.few, marks.low (places_of line - 1), count_few) }

@@ -1,6 +1,6 @@
 -- Rounds over all steps. Each length is that of a walk, so potentials that fit bound it from below, and what the lengths have
 -- above that bound falls with each change. Once no step shortens anything the lengths fit, so no walk is shorter.
-use Rattle.std.proofs.Common.{◌≡◌, ◌≢◌, ℕ, zero, suc, ◌+◌, ◌-◌, ◌*◌, ◌<◌, ◌≤◌, List, [], ◌∷◌, ◌++◌, length, replicate, ℤ, pos, nat_abs, ◌+ℤ◌, ◌-ℤ◌, ◌≤ℤ◌, refl, sym, ◌∙◌, ap, subst, arith, inl, inr, get_or-set_same, get_or-set_other, length-set}
+use Rattle.std.proofs.Common.{◌≡◌, ◌≢◌, ℕ, zero, suc, ◌+◌, ◌-◌, ◌<◌, ◌≤◌, List, [], ◌∷◌, ◌++◌, length, replicate, ℤ, pos, nat_abs, ◌+ℤ◌, ◌-ℤ◌, ◌≤ℤ◌, refl, sym, ◌∙◌, ap, subst, arith, inl, inr, get_or-set_same, get_or-set_other, length-set}
 use Rattle.std.specs.Prelude.{◌<ℤ◌}
 use Rattle.std.specs.List.{Contains}
 use Rattle.std.proofs.lemmas.Int.{ints}
@@ -17,7 +17,8 @@ use Rattle.bx_dist.specs.Residual.{IsOpen, Fits, ArePotentials, AreSmall, height
 use Rattle.bx_dist.specs.Walks.{IsWalk, walk_length, AreReached, AreLeast, AreDistances, lengths_of}
 use Rattle.bx_dist.specs.Search.{AreOpenSteps, IsSettled, Shortens, AreMedium, IsStep, AreSteps, IsTightWalk, Reaches, IsFound}
 use Rattle.bx_dist.proofs.Fitting.{walk_long, open_in_whole}
-use Rattle.bx_dist.proofs.After.{walk_and_step, length_and_step, step_within, row_within, tight_from_least, AllTight}
+use Rattle.bx_dist.proofs.Small.{least_that_fit, small_distances}
+use Rattle.bx_dist.proofs.After.{first_distance, walk_and_step, length_and_step, step_within, tight_from_least, AllTight}
 
 -- lengths of walks, none above 0
 pub record AreBounds (part : Part) (line : Network) (flow : Flow) (lengths : List ℤ) : Type 0 where
@@ -157,27 +158,12 @@ module _ (part : Part) (line : Network) (flow : Flow) where
     walk_is_tight lengths from to [] w t = w
     walk_is_tight lengths from to (step ∷ walk) w t = (are_open.all step w.0, t.0, w.1, walk_is_tight lengths (step_to line step) to walk w.2 t.1)
 
-    low_step : (step : Step) → IsOpen part line flow step → pos 0 ≤ℤ (step_cost line step +ℤ pos 5001000000000)
-    low_step (Idle v) o = omega (arith, ints)
-    low_step (Back v) o = omega (arith, ints)
-    low_step (Take r) o = let a = row_within part line network r o.there in omega (arith, ints, a.pay_limit)
-    low_step (Give r) o = omega (arith, ints)
-
-    low_walk : (from to : ℕ) (walk : List Step) → IsWalk part line flow from to walk → pos 0 ≤ℤ (walk_length line walk +ℤ pos (5001000000000 * length walk))
-    low_walk from to [] w = omega (arith, ints)
-    low_walk from to (step ∷ walk) w = omega (arith, ints, low_step step w.0, low_walk (step_to line step) to walk w.2)
-
     module _ (some : 0 < places_of line) (lengths : List ℤ) (bounds : AreBounds part line flow lengths) (settled : (step : Step) → Contains steps step → IsSettled line lengths step) where
       settled_fits : Fits part line flow lengths
       settled_fits step o = settled step (are_open.all step o)
 
       pub settled_least : AreLeast part line flow lengths
-      settled_least =
-          record {
-            one_each = bounds.one_each;
-            reached = bounds.reached;
-            least = λ v walk h w. omega (arith, ints, walk_long part line flow lengths settled_fits 0 v walk w, bounds.low 0);
-          }
+      settled_least = least_that_fit part line flow lengths settled_fits bounds.one_each bounds.reached (bounds.low 0)
 
       last_within : places_of line - 1 < places_of line
       last_within = omega arith
@@ -187,42 +173,16 @@ module _ (part : Part) (line : Network) (flow : Flow) where
           let r = bounds.reached (places_of line - 1) last_within in
           (r.0, walk_is_tight lengths 0 (places_of line - 1) r.0 r.1 (tight_from_least part line flow lengths settled_fits 0 (places_of line - 1) r.0 r.1 (omega (arith, ints, r.2, bounds.low 0))))
 
-      zero_at_first : height_at lengths 0 ≡ pos 0
-      zero_at_first =
-          let r = bounds.reached 0 some in
-          let long = walk_long part line flow lengths settled_fits 0 0 r.0 r.1 in
-          omega (arith, ints, long, r.2, bounds.low 0)
-
-      falls_on : (n v : ℕ) → v + n < places_of line → height_at lengths (v + n) ≤ℤ height_at lengths v
-      falls_on zero v h = omega (arith, ints, ap (height_at lengths) (add_zero v))
-        where
-          add_zero : (u : ℕ) → u + zero ≡ u
-          add_zero u = omega arith
-      falls_on (suc n) v h =
-          let before = falls_on n v (omega arith) in
-          let step = settled_fits (Idle (v + n)) (omega arith) in
-          let same : v + suc n ≡ v + n + 1 = omega arith in
-          omega (arith, ints, before, step, ap (height_at lengths) same)
-
       module _ (walk : List Step) (found : IsFound line steps lengths walk) where
         is_walk : IsWalk part line flow 0 (places_of line - 1) walk
         is_walk = tight_is_walk lengths 0 (places_of line - 1) walk found.leads
 
         as_long : walk_length line walk ≡ height_at lengths (places_of line - 1)
-        as_long = omega (arith, ints, tight_length lengths 0 (places_of line - 1) walk found.leads, zero_at_first)
+        as_long = omega (arith, ints, tight_length lengths 0 (places_of line - 1) walk found.leads, first_distance part line flow lengths network some settled_least)
 
         pub found_distances : AreDistances part line flow (lengths_of lengths walk)
         found_distances =
             record { lengths = settled_least; path = record { some_place = some; leads = is_walk; once = found.once }; shortest = as_long }
 
         pub found_small : AreSmall lengths
-        found_small v =
-            elim (cases_lt v (places_of line)) [
-              | inl h ↦ (
-                  let n = places_of line - 1 - v in
-                  let e : v + n ≡ places_of line - 1 = omega arith in
-                  let fall = falls_on n v (omega arith) in
-                  let at = ap (height_at lengths) e in
-                  omega (arith, ints, fall, at, as_long, low_walk 0 (places_of line - 1) walk is_walk, found.few, network.few_places, bounds.low v))
-              | inr h ↦ (let past = get_or_past lengths v (pos 0) (omega (arith, bounds.one_each)) in omega (arith, ints, past))
-            ]
+        found_small = small_distances part line flow network lengths walk found_distances found.few

@@ -1,5 +1,5 @@
 -- Walks that meet no place twice, step by step.
-use Rattle.std.proofs.Common.{◌≢◌, ℕ, zero, suc, List, [], ◌∷◌, arith}
+use Rattle.std.proofs.Common.{◌≢◌, ℕ, zero, suc, ◌<◌, List, [], ◌∷◌, get_or, ap, arith}
 use Rattle.std.specs.List.{All, AllPairs}
 use Rattle.std.proofs.lemmas.List.Elements.{All-nil, All-cons, All-head, All-tail}
 use Rattle.std.proofs.lemmas.List.Kept.{AllPairs-cons}
@@ -36,3 +36,18 @@ one_pair x = λ i j d l b. absurd (omega arith)
 pub pairs_from_simple : (line : Network) (from : ℕ) (walk : List Step) → IsSimple line from walk → AllPairs (λ a b. a ≢ b) (places_met line from walk)
 pairs_from_simple line from [] h = one_pair from
 pairs_from_simple line from (step ∷ walk) h = AllPairs-cons (λ a b. a ≢ b) from (places_met line (step_to line step) walk) (all_from_avoids line from (step_to line step) walk h.0) (pairs_from_simple line (step_to line step) walk h.1)
+
+-- ---- a walk along which ranks rise
+
+module _ (line : Network) (ranks : List ℕ) where
+  abbrev pub RanksRise : ℕ → List Step → Type 0
+  RanksRise from [] = Unit {0}
+  RanksRise from (step ∷ walk) = (get_or ranks from 0 < get_or ranks (step_to line step) 0) × RanksRise (step_to line step) walk
+
+  avoids_lower : (x from : ℕ) (walk : List Step) → get_or ranks x 0 < get_or ranks from 0 → RanksRise from walk → Avoids line x from walk
+  avoids_lower x from [] h r = λ e. omega (arith, h, ap (λ (w : ℕ). get_or ranks w 0) e)
+  avoids_lower x from (step ∷ walk) h r = (λ e. omega (arith, h, ap (λ (w : ℕ). get_or ranks w 0) e), avoids_lower x (step_to line step) walk (omega (arith, h, r.0)) r.1)
+
+  pub simple_from_rising : (from : ℕ) (walk : List Step) → RanksRise from walk → IsSimple line from walk
+  simple_from_rising from [] r = tt
+  simple_from_rising from (step ∷ walk) r = (avoids_lower from (step_to line step) walk r.0 r.1, simple_from_rising (step_to line step) walk r.1)
