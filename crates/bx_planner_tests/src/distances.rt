@@ -14,15 +14,42 @@ pub(crate) fn line_of(alloc: Global, rows: &[Row]) -> Option<Line> {
     Line::of(alloc, &bookings_of(alloc, rows)?).ok()
 }
 
+/// Of what distances are asked for.
+#[derive(Clone, Copy)]
+pub(crate) struct Asked<'a> {
+    pub(crate) line: &'a Line,
+    pub(crate) carried: &'a Carried,
+    pub(crate) potentials: &'a Potentials,
+    pub(crate) part: Part,
+}
+
+/// The question for the distances in this part.
+pub(crate) fn asked_of<'a>(
+    line: &'a Line,
+    carried: &'a Carried,
+    potentials: &'a Potentials,
+    part: Part,
+) -> Asked<'a> {
+    Asked {
+        line,
+        carried,
+        potentials,
+        part,
+    }
+}
+
 /// The distances by this method, where what they need is there.
 pub(crate) fn distances_by<D: Distances>(
     method: &D,
     alloc: Global,
-    line: &Line,
-    carried: &Carried,
-    potentials: &Potentials,
-    part: Part,
+    asked: Asked<'_>,
 ) -> Option<Dist> {
+    let Asked {
+        line,
+        carried,
+        potentials,
+        part,
+    } = asked;
     if line.places() == 0 || !carried.belongs_to(line) || !potentials.fits(line, carried) {
         return None;
     }
@@ -32,14 +59,8 @@ pub(crate) fn distances_by<D: Distances>(
 }
 
 /// The distances by rounds, where what they need is there.
-pub(crate) fn distances_of(
-    alloc: Global,
-    line: &Line,
-    carried: &Carried,
-    potentials: &Potentials,
-    part: Part,
-) -> Option<Dist> {
-    distances_by(&Rounds, alloc, line, carried, potentials, part)
+pub(crate) fn distances_of(alloc: Global, asked: Asked<'_>) -> Option<Dist> {
+    distances_by(&Rounds, alloc, asked)
 }
 
 /// Whether the distances are these.
@@ -63,14 +84,7 @@ pub(crate) fn send(carried: &mut Carried, line: &Line, dist: &Dist) -> Option<()
 /// Distances that are looked at while a flow grows.
 pub(crate) trait Looked {
     /// The distances in this part; none where they are not what they should be.
-    fn dist(
-        &self,
-        alloc: Global,
-        line: &Line,
-        carried: &Carried,
-        potentials: &Potentials,
-        part: Part,
-    ) -> Option<Dist>;
+    fn dist(&self, alloc: Global, asked: Asked<'_>) -> Option<Dist>;
 }
 
 /// Sends a unit along a least walk, where both parts have the distances that they should have.
@@ -81,8 +95,8 @@ fn grow<L: Looked>(
     carried: &mut Carried,
     potentials: Potentials,
 ) -> Option<Potentials> {
-    let _free = looked.dist(alloc, line, carried, &potentials, Part::Free)?;
-    let dist = looked.dist(alloc, line, carried, &potentials, Part::Whole)?;
+    let _free = looked.dist(alloc, asked_of(line, carried, &potentials, Part::Free))?;
+    let dist = looked.dist(alloc, asked_of(line, carried, &potentials, Part::Whole))?;
     send(carried, line, &dist)?;
     Some(Potentials::of(dist))
 }
@@ -125,14 +139,15 @@ fn is_first_walk(dist: &Dist, line: &Line, carried: &Carried) -> bool {
 /// Whether all is as it should be before and after a unit is sent along the chain.
 fn chain_is_right(alloc: Global, line: &Line, carried: &mut Carried) -> Option<bool> {
     let first = Potentials::first(alloc, line).ok()?;
-    let dist = distances_of(alloc, line, carried, &first, Part::Whole)?;
+    let dist = distances_of(alloc, asked_of(line, carried, &first, Part::Whole))?;
     let before = are_potentials(&first, &[0, 0, -4, -6, -8, 0])
         && are(&dist, &[0, 0, -4, -6, -8, 0])
         && is_first_walk(&dist, line, carried);
     send(carried, line, &dist)?;
     let sent = carries(carried, [true, false, true]) && carried.units() == 1;
     let is_old = !dist.belongs_to(line, carried);
-    let after = distances_of(alloc, line, carried, &Potentials::of(dist), Part::Whole)?;
+    let potentials = Potentials::of(dist);
+    let after = distances_of(alloc, asked_of(line, carried, &potentials, Part::Whole))?;
     Some(before && sent && is_old && are(&after, &[0, 0, -2, -6, -6]))
 }
 
@@ -152,7 +167,8 @@ fn a_must_booking_and_no_booking(rt: HostRuntime) -> Result<(), Fail> {
     let line = line_of(rt.alloc(), &ONE_MUST).ok_or("line")?;
     let nothing = Carried::empty(rt.alloc(), &line)?;
     let steep = Potentials::first(rt.alloc(), &line)?;
-    let free = distances_of(rt.alloc(), &line, &nothing, &steep, Part::Free).ok_or("free")?;
+    let asked = asked_of(&line, &nothing, &steep, Part::Free);
+    let free = distances_of(rt.alloc(), asked).ok_or("free")?;
     assert!(rt; are(&free, &[0, 0, 0, -6]), "without the must row");
     let none = line_of(rt.alloc(), &[]).ok_or("empty line")?;
     assert_eq!(rt; Potentials::first(rt.alloc(), &none)?.at(0), 0);

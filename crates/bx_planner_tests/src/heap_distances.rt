@@ -1,7 +1,7 @@
 //! Distances by a heap: a chain, many small days by rounds too, and a day on which forty calls at a time want thirty
 //! channels.
 
-use crate::distances::{Looked, are, distances_by, distances_of, grows, line_of};
+use crate::distances::{Asked, Looked, are, asked_of, distances_by, distances_of, grows, line_of};
 use crate::rows::{Drawn, Row, bookings_of, random_rows};
 use bx_base::{Bookings, ChannelSet, Plan};
 use bx_dist::{Carried, Dist, Distances, HeapDist, Part, Potentials, Rounds, Step};
@@ -81,21 +81,14 @@ fn are_same(a: &Potentials, b: &Potentials, places: u16) -> bool {
 struct ByHeap;
 
 impl Looked for ByHeap {
-    fn dist(
-        &self,
-        alloc: Global,
-        line: &Line,
-        carried: &Carried,
-        potentials: &Potentials,
-        part: Part,
-    ) -> Option<Dist> {
-        let rounds = Potentials::of(distances_of(alloc, line, carried, potentials, part)?);
-        let again = Potentials::of(distances_by(
-            &HeapDist, alloc, line, carried, potentials, part,
-        )?);
-        let heap = distances_by(&HeapDist, alloc, line, carried, potentials, part)?;
+    fn dist(&self, alloc: Global, asked: Asked<'_>) -> Option<Dist> {
+        let line = asked.line;
+        let rounds = Potentials::of(distances_of(alloc, asked)?);
+        let again = Potentials::of(distances_by(&HeapDist, alloc, asked)?);
+        let heap = distances_by(&HeapDist, alloc, asked)?;
         let length = heap.length(line.places().saturating_sub(1));
-        let is_least = walk_cost(line, heap.walk()) == length && heap.belongs_to(line, carried);
+        let is_least = walk_cost(line, heap.walk()) == length
+            && heap.belongs_to(line, asked.carried);
         if is_least && are_same(&again, &rounds, line.places()) {
             Some(heap)
         } else {
@@ -120,7 +113,8 @@ fn chain_by_heap(alloc: Global) -> Option<Dist> {
     let line = line_of(alloc, &CHAIN)?;
     let nothing = Carried::empty(alloc, &line).ok()?;
     let first = Potentials::first(alloc, &line).ok()?;
-    distances_by(&HeapDist, alloc, &line, &nothing, &first, Part::Whole)
+    let asked = asked_of(&line, &nothing, &first, Part::Whole);
+    distances_by(&HeapDist, alloc, asked)
 }
 
 #[test]

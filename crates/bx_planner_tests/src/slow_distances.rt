@@ -1,8 +1,8 @@
 //! Distances against a slow and simple program, over many small days.
 
-use crate::distances::{Looked, are, distances_of, grows};
+use crate::distances::{Asked, Looked, are, distances_of, grows};
 use crate::rows::{Drawn, random_rows};
-use bx_dist::{Carried, Dist, Part, Potentials};
+use bx_dist::{Carried, Dist, Part};
 use bx_line::Line;
 use std::alloc::{AllocError, Global};
 use std::test::Fail;
@@ -50,7 +50,13 @@ fn relax_rows(best: &mut [i64], line: &Line, carried: &Carried, part: Part) {
 }
 
 /// Distances as slowly as can be: the least lengths of walks of ever more steps.
-fn slow(alloc: Global, line: &Line, carried: &Carried, part: Part) -> Result<Vec<i64>, AllocError> {
+fn slow(alloc: Global, asked: Asked<'_>) -> Result<Vec<i64>, AllocError> {
+    let Asked {
+        line,
+        carried,
+        part,
+        ..
+    } = asked;
     let mut best = vec![in alloc; 1_000_000_000_000; line.places() as usize]?;
     relax(&mut best, 0, 0, -1_000_000_000_000);
     for _ in 0..line.places() {
@@ -64,16 +70,9 @@ fn slow(alloc: Global, line: &Line, carried: &Carried, part: Part) -> Result<Vec
 struct AsSlow;
 
 impl Looked for AsSlow {
-    fn dist(
-        &self,
-        alloc: Global,
-        line: &Line,
-        carried: &Carried,
-        potentials: &Potentials,
-        part: Part,
-    ) -> Option<Dist> {
-        let dist = distances_of(alloc, line, carried, potentials, part)?;
-        if are(&dist, &slow(alloc, line, carried, part).ok()?) {
+    fn dist(&self, alloc: Global, asked: Asked<'_>) -> Option<Dist> {
+        let dist = distances_of(alloc, asked)?;
+        if are(&dist, &slow(alloc, asked).ok()?) {
             Some(dist)
         } else {
             None
