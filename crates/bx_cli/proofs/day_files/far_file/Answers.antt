@@ -8,4 +8,4 @@ returns-in-Ok-write_ended-clause-told g c = record { moment = c.in-Ok.ran.0; run
 pub returns-in-Err-write_ended-clause-refused : goal.returns-in-Err-write_ended-clause-refused
 returns-in-Err-write_ended-clause-refused g c =
     subst (IsFarRefusal c.args.script.now c.args.sight.capture g.W.Write.contents c.args.output.now c.write_ended.new.output) (sym c.from.ensures)
-        (search rules, record { moment = c.in-Ok.ran.0; run = c.in-Ok.ensures.ran; written = search rules })
+    (search rules, record { moment = c.in-Ok.ran.0; run = c.in-Ok.ensures.ran; written = search rules })

@@ -39,12 +39,11 @@ waiting c =
     let r = c.in-Some.index in
     let slot : slot_at x.waiting n ≡ Some r = slot_is x.waiting n _ (Some r) (omega (arith, c.self.invariant.slots.waiting_size, c.number-number.ensures.channel.1)) c.in-Some.is in
     let waits : IsWaitingOn d.entries n (slot_at x.waiting n) = subst (λ (y : Day). IsWaitingOn y.entries n (slot_at x.waiting n)) c.self.view_is (c.self.invariant.slots.waits n) in
-    let item = entry_is x.entries.items d r c.index.result.now (ap (λ (y : Day). y.entries) c.self.view_is) ((c.self.invariant.slots.waits n).there r slot).0 c.index.ensures in
-    (
+    let item = entry_is x.entries.items d r c.index.result.now (ap (λ (y : Day). y.entries) c.self.view_is) ((c.self.invariant.slots.waits n).there r slot).0 c.index.ensures in (
       slot,
       subst (λ k. IsWaitingOn d.entries k (slot_at x.waiting n)) c.number-number.ensures.value waits,
       opens_free d c.args.channel (entry_at d.entries r) (sym c.is_free.ensures ∙ c.if-not-is_free.false) ∙ ap (λ (e : Entry). awaits d.moment c.args.channel e) (sym item)
-      ∙ ap (λ k. awaits d.moment k c.index.result.now) (sym c.number-number.ensures.value) ∙ ap (λ (y : Day). awaits y.moment n c.index.result.now) (sym c.self.view_is) ∙ sym c.awaits_call.ensures,
+          ∙ ap (λ k. awaits d.moment k c.index.result.now) (sym c.number-number.ensures.value) ∙ ap (λ (y : Day). awaits y.moment n c.index.result.now) (sym c.self.view_is) ∙ sym c.awaits_call.ensures,
     )
 
 pub returns-then-not-awaits_call-clause-first : goal.returns-then-not-awaits_call-clause-first
