@@ -1,4 +1,3 @@
 mod LastTurns
 mod ToldDays
 mod Refusals
-mod Captures

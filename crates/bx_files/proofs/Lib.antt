@@ -1,2 +1,2 @@
 mod FileRefusals
-mod CallTimes
+pub mod CallTimes
