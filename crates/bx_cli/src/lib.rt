@@ -1,12 +1,7 @@
 //! What the program does for the words of its command line.
 #![tactic(auto)]
 
-mod capturing;
-mod day_files;
 mod fault;
-mod loopback;
-mod openings;
-mod progress;
 mod words;
 
 pub use bx_commands::check_self;

@@ -8,12 +8,13 @@ ghost use Rattle.bx_commands.specs.Proved.{IsProvedText, proved_line};
 ghost use Rattle.bx_commands.specs.Refusals.{IsRefusal};
 ghost use Rattle.bx_commands.specs.declared.fault.CommandFault.{CommandFault};
 
-use crate::day_files::{day_of_files, far_file, serve_file};
 use crate::fault::CliFault;
 use bx_base::{Watched, write_octets};
 use bx_commands::{CommandFault, check_self, decode};
 use bx_files::{amend_file, chart_file, check_file, explain_file, plan_file, quote_file};
-use bx_words::{Refusal, Request, Sight, read_words};
+use bx_request::{Request, Sight};
+use bx_sockets::{SocketFault, day_of_files, far_file, serve_file};
+use bx_words::{Refusal, read_words};
 use std::fs::Files;
 use std::io::{Read, Write};
 use std::net::{Net, TcpListener, TcpStream};
@@ -130,7 +131,7 @@ fn seen<'a>(sight: Sight<'a>, is_terminal: bool) -> Sight<'a> {
 /// What is told of a day that is done: nothing, or that its capture is not whole.
 fn captured<'a>(sight: Sight<'a>, is_whole: bool) -> Result<(), CliFault<'a>> {
     match sight.capture {
-        Some(capture) if !is_whole => Err(CliFault::CannotCapture(capture.file)),
+        Some(capture) if !is_whole => Err(CliFault::from(SocketFault::CannotCapture(capture.file))),
         _ => Ok(()),
     }
 }

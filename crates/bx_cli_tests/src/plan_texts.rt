@@ -2,7 +2,7 @@
 
 use bx_base::{ChannelSet, Failing, Watched};
 use bx_book::{BookFault, Day};
-use bx_commands::{RunFault, plan_run};
+use bx_planning::{RunFault, plan_run};
 use std::alloc::Global;
 use std::test::Fail;
 

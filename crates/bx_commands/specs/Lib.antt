@@ -3,6 +3,4 @@ pub mod Refusals
 pub mod MessageLines
 pub mod Decoding
 pub mod Inside
-pub mod Planning
-pub mod Amending
-pub mod Unplanned
+pub mod PlanFiles

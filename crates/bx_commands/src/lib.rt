@@ -1,15 +1,14 @@
-//! What the commands of the program do over readers and writers, without words, files and sockets.
+//! What the commands do over readers and writers, without words and sockets: the checks of a plan's text, also of one in a
+//! file, and the decoding of a message.
 #![tactic(auto)]
 
-mod amending;
 mod checking;
 mod decoding;
 mod fault;
 mod message_lines;
-mod planning;
+mod reading_files;
 
-pub use amending::{AmendFault, write_amended};
 pub use checking::{check_against, check_self, plan_from, proved_plan};
 pub use decoding::decode;
 pub use fault::CommandFault;
-pub use planning::{RunFault, plan_run};
+pub use reading_files::{open, plan_in, proved_in};

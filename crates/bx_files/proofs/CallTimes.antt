@@ -1,13 +1,13 @@
 -- Why a call has no times, where its day is named and where it is not.
 use Rattle.std.proofs.Common.{◌≡◌, ℕ, ◌≤◌, List, Option, Some, None, refl, sym, subst, inl, inr, ◌⊎◌}
 use Rattle.std.specs.Prelude.{MatchOption}
+use Rattle.bx_book.specs.NamedDays.{IsDayOf}
 use Rattle.bx_book.specs.Rows.{Span, IsTimeFault, span_of}
 use Rattle.bx_book.specs.declared.day.Day.{Day}
 use Rattle.bx_book.specs.declared.fault.BookFault.{BookFault}
 use Rattle.bx_book.specs.declared.fault.BookFault.TheVariants.{EndNotAfterStart}
-use Rattle.bx_files.specs.FilePlans.{IsDayOf}
 use Rattle.bx_files.specs.PlanRefusals.{AreTimes, AreNoTimes}
-use Rattle.bx_words.specs.declared.request.Call.{Call}
+use Rattle.bx_request.specs.declared.request.Call.{Call}
 
 pub at_some : {A : Type 0} (o : Option A) (x : A) (P : Type 0) (Q : A → Type 0) → o ≡ Some x → Q x → MatchOption o P Q
 at_some {A = A} o x P Q e q = subst (λ (p : Option A). MatchOption p P Q) (sym e) q

@@ -1,5 +1,5 @@
--- What a planning run that wrote no plan, a file without one, and a check that wrote no total, say of the words.
-use Rattle.std.proofs.Common.{◌≡◌, ℕ, List, Bool, Option, None, subst, inr}
+-- What a planning run that wrote no plan, and a check that wrote no total, say of the words.
+use Rattle.std.proofs.Common.{◌≡◌, ℕ, List, Bool, subst, inr}
 use Rattle.bx_base.specs.Bookings.{Row}
 use Rattle.bx_base.specs.Devices.{Reading, Writing}
 use Rattle.bx_book.specs.Rows.{Span, span_of}
@@ -9,16 +9,15 @@ use Rattle.bx_book.specs.declared.fault.BookFault.{BookFault}
 use Rattle.bx_book.specs.declared.fault.BookFault.TheVariants as book
 use Rattle.bx_book.specs.declared.stream.StreamFault.TheVariants as stream
 use Rattle.bx_files.specs.FilePlans.{AreTerms}
-use Rattle.bx_files.specs.FileRefusals.{HasNoPlan, HasNoProvedPlan, IsUnplanned, IsUnchecked}
-use Rattle.bx_files.specs.declared.fault.FileFault.TheVariants as files
-use Rattle.bx_planfile.specs.declared.fault.PlanFault.{PlanFault}
-use Rattle.bx_commands.specs.Planning.{IsRunRefusal}
-use Rattle.bx_commands.specs.Refusals.{IsNoPlanText, IsNoPlan, IsUnproved, IsRefusalAgainst}
+use Rattle.bx_files.specs.FileRefusals.{IsUnplanned, IsUnchecked}
+use Rattle.bx_planning.specs.Planning.{IsRunRefusal}
+use Rattle.bx_commands.specs.Refusals.{IsRefusalAgainst}
+use Rattle.bx_commands.proofs.Unread.{unread_text}
 use Rattle.bx_commands.specs.declared.fault.CommandFault.{CommandFault}
 use Rattle.bx_commands.specs.declared.fault.CommandFault.TheVariants.{CannotRead, CannotWrite, Plan, Check, NotHex, Message, Memory}
-use Rattle.bx_commands.specs.declared.planning.RunFault.{RunFault}
-use Rattle.bx_commands.specs.declared.planning.RunFault.TheVariants as run
-use Rattle.bx_words.specs.declared.request.Terms.{Terms}
+use Rattle.bx_planning.specs.declared.planning.RunFault.{RunFault}
+use Rattle.bx_planning.specs.declared.planning.RunFault.TheVariants as run
+use Rattle.bx_request.specs.declared.request.Terms.{Terms}
 
 -- want of memory is no fault of a text
 no_memory : (file : Reading) (span : Span) (fault : BookFault) → IsStreamFault file span (stream.Book fault) → ¬ (fault ≡ book.Memory)
@@ -32,29 +31,6 @@ unplanned terms file output channels day (run.Book fault) named (why, kept) = (n
 unplanned terms file output channels day (run.TooManyMust moment) named ((rows, read, many), kept) = (record { channels = channels; day = day; named = named; rows = rows; too_many = many }, kept)
 unplanned terms file output channels day run.WriteFailed named (faulted, cut) = (faulted, record { channels = channels; day = day; named = named; file = file; run = cut })
 unplanned terms file output channels day run.Memory named (why, kept) = kept
-
-pub unread_text : (before : Option (List ℕ)) (fault : PlanFault) → IsNoPlanText before fault → IsNoPlanText None fault
-unread_text before fault none = record { text = none.text; told = λ known is. cc; first = none.first }
-
-pub no_plan : (name : List ℕ) (input : Reading) (fault : CommandFault) → IsNoPlan name input fault → HasNoPlan name (files.Command fault)
-no_plan name input (CannotRead n) (same, why) = same
-no_plan name input (Plan fault) none = unread_text input.before fault none
-no_plan name input Memory why = tt
-no_plan name input CannotWrite why = absurd why
-no_plan name input (Check fault) why = absurd why
-no_plan name input NotHex why = absurd why
-no_plan name input (Message fault) why = absurd why
-
-pub no_proved_plan : (name : List ℕ) (input : Reading) (fault : CommandFault) → IsUnproved name input fault → HasNoProvedPlan name (files.Command fault)
-no_proved_plan name input (Check fault) found =
-    let read = found.read in
-    record { plan = found.plan; read = record { text = read.text; told = λ known is. cc; limits = read.limits; text_of = read.text_of }; outcome = found.outcome }
-no_proved_plan name input (CannotRead n) why = no_plan name input (CannotRead n) why
-no_proved_plan name input (Plan fault) why = no_plan name input (Plan fault) why
-no_proved_plan name input Memory why = tt
-no_proved_plan name input CannotWrite why = absurd why
-no_proved_plan name input NotHex why = absurd why
-no_proved_plan name input (Message fault) why = absurd why
 
 pub unchecked : (terms : Terms) (bookings plan : List ℕ) (file : Reading) (output : Writing) (rows : List Row) (channels : List Bool) (day : Day) (fault : CommandFault) → AreTerms terms channels day
     → IsRefusalAgainst rows channels plan file output fault → IsUnchecked terms bookings plan output fault

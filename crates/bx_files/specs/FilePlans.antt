@@ -1,25 +1,19 @@
 -- What the commands on a file of bookings write.
-use Rattle.std.specs.Prelude.{ℕ, Bool, List, pos}
+use Rattle.std.specs.Prelude.{ℕ, Bool, List}
 use Rattle.std.specs.Io.KnownBytes.{Appends}
 use Rattle.bx_base.specs.Bookings.{Row}
 use Rattle.bx_base.specs.Channels.{AreChannels, HasJust}
 use Rattle.bx_base.specs.Devices.{Reading, Writing}
 use Rattle.bx_base.specs.Octets.{AppendsPrefix}
 use Rattle.bx_base.specs.PlanParts.{Parts}
-use Rattle.bx_book.specs.Dates.{IsDateText, day_number}
-use Rattle.bx_book.specs.DayParts.{start_of, length_of}
-use Rattle.bx_book.specs.Days.{IsDay, InZone}
+use Rattle.bx_book.specs.NamedDays.{IsDayOf}
 use Rattle.bx_book.specs.Rows.{span_of}
 use Rattle.bx_book.specs.declared.day.Day.{Day}
-use Rattle.bx_commands.specs.Amending.{IsAmended}
-use Rattle.bx_commands.specs.Planning.{IsRun, IsCut}
+use Rattle.bx_planning.specs.Amending.{IsAmended}
+use Rattle.bx_planning.specs.Planning.{IsRun, IsCut}
 use Rattle.bx_commands.specs.Proved.{IsProvedFor, proved_line}
 use Rattle.bx_planner.specs.Amending.{amended}
-use Rattle.bx_words.specs.declared.request.Terms.{Terms}
-
--- this date and this zone name the day
-abbrev pub IsDayOf : List ℕ → List ℕ → Day → Type 0
-IsDayOf date zone day = IsDateText date × InZone zone (λ z. IsDay z (day_number date) (start_of day) (pos (length_of day)))
+use Rattle.bx_request.specs.declared.request.Terms.{Terms}
 
 -- the words name this day, and just these channels
 pub record AreTerms (terms : Terms) (channels : List Bool) (day : Day) : Type 0 where

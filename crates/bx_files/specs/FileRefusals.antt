@@ -5,37 +5,29 @@ use Rattle.bx_base.specs.ChannelFaults.{IsFirstFault}
 use Rattle.bx_base.specs.Devices.{Writing, KeepsOutput, writing_of}
 use Rattle.bx_base.specs.PlanParts.{Parts}
 use Rattle.bx_base.specs.declared.watched.Watched.{Watched}
-use Rattle.bx_book.specs.Dates.{IsDateText, day_number}
-use Rattle.bx_book.specs.Days.{InZone, IsNoZone, IsOut, IsOdd}
+use Rattle.bx_book.specs.NamedDays.{IsDayFault}
 use Rattle.bx_book.specs.declared.day.Day.{Day}
-use Rattle.bx_book.specs.declared.day.DayFault.{DayFault}
-use Rattle.bx_book.specs.declared.day.DayFault.TheVariants as day
 use Rattle.bx_book.specs.declared.fault.BookFault.TheVariants as book
 use Rattle.bx_check.specs.Check.{IsOutcome}
 use Rattle.bx_check.specs.declared.checker.CheckFault.{CheckFault}
 use Rattle.bx_files.specs.FilePlans.{AreTerms, IsPlanCut, IsCheckCut}
 use Rattle.bx_files.specs.declared.fault.FileFault.{FileFault}
 use Rattle.bx_files.specs.declared.fault.FileFault.TheVariants as files
-use Rattle.bx_commands.specs.Amending.{IsAmendRefusal}
-use Rattle.bx_commands.specs.Refusals.{IsNoPlanText, IsFaultyText}
-use Rattle.bx_commands.specs.declared.amending.AmendFault.{AmendFault}
+use Rattle.bx_planning.specs.Amending.{IsAmendRefusal}
+use Rattle.bx_commands.specs.PlanFiles.{IsUnopened, HasNoPlan}
+use Rattle.bx_commands.specs.Refusals.{IsNoPlanText}
+use Rattle.bx_planning.specs.declared.amending.AmendFault.{AmendFault}
 use Rattle.bx_commands.specs.declared.fault.CommandFault.{CommandFault}
 use Rattle.bx_commands.specs.declared.fault.CommandFault.TheVariants.{CannotRead, CannotWrite, Plan, Check, Memory}
-use Rattle.bx_commands.specs.declared.planning.RunFault.{RunFault}
-use Rattle.bx_commands.specs.declared.planning.RunFault.TheVariants as run
+use Rattle.bx_planning.specs.declared.planning.RunFault.{RunFault}
+use Rattle.bx_planning.specs.declared.planning.RunFault.TheVariants as run
 use Rattle.bx_planner.specs.Amending.{amended}
 use Rattle.bx_planner.specs.Musts.{IsTooManyMust}
-use Rattle.bx_words.specs.declared.request.Terms.{Terms}
+use Rattle.bx_request.specs.declared.request.Terms.{Terms}
 
 -- ---- before anything is written
 
--- this date and this zone name no day, and this is why
-abbrev pub IsDayFault : List ℕ → List ℕ → DayFault → Type 0
-IsDayFault date zone day.BadDate = ¬ IsDateText date
-IsDayFault date zone day.BadZone = IsDateText date × IsNoZone zone
-IsDayFault date zone day.OutOfRange = IsDateText date × InZone zone (λ z. IsOut z (day_number date))
-IsDayFault date zone day.OddDay = IsDateText date × InZone zone (λ z. IsOdd z (day_number date))
-
+-- this date and this zone name no day
 abbrev pub IsNoDay : List ℕ → List ℕ → FileFault → Type 0
 IsNoDay date zone (files.Day fault) = IsDayFault date zone fault
 IsNoDay date zone _ = ⊥
@@ -46,10 +38,10 @@ AreNoTerms terms (files.Channels fault) = IsFirstFault terms.channels.items faul
 AreNoTerms terms (files.Day fault) = IsDayFault terms.date.now terms.zone.now fault
 AreNoTerms terms _ = ⊥
 
--- a file of this name cannot be opened
-abbrev pub IsUnopened : List ℕ → FileFault → Type 0
-IsUnopened name (files.Command (CannotRead n)) = n.now ≡ name
-IsUnopened name _ = ⊥
+-- a file is not opened, or not read as it has to be, for such a reason
+abbrev pub IsFileFault : (CommandFault → Type 0) → FileFault → Type 0
+IsFileFault why (files.Command fault) = why fault
+IsFileFault why _ = ⊥
 
 -- a file of this name is not read, or holds no bookings of the day, or a growth is refused
 abbrev pub HasNoBookings : List ℕ → FileFault → Type 0
@@ -57,18 +49,6 @@ HasNoBookings name (files.Command (CannotRead n)) = n.now ≡ name
 HasNoBookings name (files.Command Memory) = Unit {0}
 HasNoBookings name (files.Book fault) = ¬ (fault ≡ book.Memory)
 HasNoBookings name _ = ⊥
-
--- a file of this name is not read, or holds a text that is no plan's, with just this first fault, or a growth is refused
-abbrev pub HasNoPlan : List ℕ → FileFault → Type 0
-HasNoPlan name (files.Command (CannotRead n)) = n.now ≡ name
-HasNoPlan name (files.Command (Plan fault)) = IsNoPlanText None fault
-HasNoPlan name (files.Command Memory) = Unit {0}
-HasNoPlan name _ = ⊥
-
--- or it holds a plan that is not proved for its own bookings and channels, by just this first fault
-abbrev pub HasNoProvedPlan : List ℕ → FileFault → Type 0
-HasNoProvedPlan name (files.Command (Check fault)) = IsFaultyText None fault
-HasNoProvedPlan name fault = HasNoPlan name fault
 
 -- ---- what was written
 
@@ -89,7 +69,7 @@ IsUnplanned terms output _ = KeepsOutput output
 
 abbrev pub IsPlanRefusal : {W : Type 0} → Terms → List ℕ → (W → Option (List ℕ)) → Watched W → Watched W → FileFault → Type 0
 IsPlanRefusal terms bookings contents old new (files.Run fault) = IsUnplanned terms (writing_of contents old new) fault
-IsPlanRefusal terms bookings contents old new fault = (AreNoTerms terms fault ⊎ IsUnopened bookings fault) × (new ≡ old)
+IsPlanRefusal terms bookings contents old new fault = (AreNoTerms terms fault ⊎ IsFileFault (IsUnopened bookings) fault) × (new ≡ old)
 
 -- this fault is the first that the check finds in some plan, for some bookings on just the channels that the words name
 pub record IsFoundFaulty (terms : Terms) (fault : CheckFault) : Type 0 where
@@ -121,4 +101,4 @@ IsUnamended output fault = (earlier : Parts) × (more : List Row) × IsAmendRefu
 
 abbrev pub IsNotAmended : {W : Type 0} → List ℕ → List ℕ → List ℕ → List ℕ → (W → Option (List ℕ)) → Watched W → Watched W → FileFault → Type 0
 IsNotAmended date zone plan bookings contents old new (files.Amend fault) = IsUnamended (writing_of contents old new) fault
-IsNotAmended date zone plan bookings contents old new fault = (IsNoDay date zone fault ⊎ HasNoPlan plan fault ⊎ HasNoBookings bookings fault) × (new ≡ old)
+IsNotAmended date zone plan bookings contents old new fault = (IsNoDay date zone fault ⊎ IsFileFault (HasNoPlan plan) fault ⊎ HasNoBookings bookings fault) × (new ≡ old)

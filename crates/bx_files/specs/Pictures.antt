@@ -8,9 +8,10 @@ use Rattle.bx_book.specs.Clocks.{IsClock}
 use Rattle.bx_book.specs.declared.clock.Clock.{Clock}
 use Rattle.bx_chart.specs.Charts.{IsDrawn, IsChartRefusal}
 use Rattle.bx_chart.specs.declared.writing.ChartFault.{ChartFault}
-use Rattle.bx_files.specs.FileRefusals.{IsNoDay, HasNoProvedPlan}
+use Rattle.bx_files.specs.FileRefusals.{IsNoDay, IsFileFault}
 use Rattle.bx_files.specs.declared.fault.FileFault.{FileFault}
 use Rattle.bx_files.specs.declared.fault.FileFault.TheVariants.{Chart}
+use Rattle.bx_commands.specs.PlanFiles.{HasNoProvedPlan}
 use Rattle.bx_commands.specs.Proved.{IsProvedFor}
 
 -- the clock of the date and the zone that are named, and none where none are
@@ -44,4 +45,4 @@ pub record IsUndrawn (day : Option (Bor (List ℕ) × Bor (List ℕ))) (output :
 
 abbrev pub IsNotPictured : {W : Type 0} → Option (Bor (List ℕ) × Bor (List ℕ)) → List ℕ → (W → Option (List ℕ)) → Watched W → Watched W → FileFault → Type 0
 IsNotPictured day plan contents old new (Chart fault) = IsUndrawn day (writing_of contents old new) fault
-IsNotPictured day plan contents old new fault = (IsNoClock day fault ⊎ HasNoProvedPlan plan fault) × (new ≡ old)
+IsNotPictured day plan contents old new fault = (IsNoClock day fault ⊎ IsFileFault (HasNoProvedPlan plan) fault) × (new ≡ old)

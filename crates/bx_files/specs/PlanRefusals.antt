@@ -4,18 +4,19 @@ use Rattle.bx_base.specs.Bookings.{Row}
 use Rattle.bx_base.specs.Devices.{Writing, writing_of}
 use Rattle.bx_base.specs.PlanParts.{Parts}
 use Rattle.bx_base.specs.declared.watched.Watched.{Watched}
+use Rattle.bx_book.specs.NamedDays.{IsDayOf, IsDayFault}
 use Rattle.bx_book.specs.Rows.{Span, IsMomentOf, IsTimeFault, span_of}
 use Rattle.bx_book.specs.declared.day.Day.{Day}
 use Rattle.bx_book.specs.declared.fault.BookFault.{BookFault}
 use Rattle.bx_book.specs.declared.fault.BookFault.TheVariants.{NotATime, OutsideDay, EndNotAfterStart}
-use Rattle.bx_files.specs.FilePlans.{IsDayOf}
-use Rattle.bx_files.specs.FileRefusals.{IsDayFault, HasNoProvedPlan}
+use Rattle.bx_files.specs.FileRefusals.{IsFileFault}
 use Rattle.bx_files.specs.declared.fault.FileFault.{FileFault}
 use Rattle.bx_files.specs.declared.fault.FileFault.TheVariants as files
+use Rattle.bx_commands.specs.PlanFiles.{HasNoProvedPlan}
 use Rattle.bx_commands.specs.Proved.{IsProvedFor}
 use Rattle.bx_quote.specs.Writing.{IsQuoteRefusal, IsExplainRefusal, IsListRefusal}
 use Rattle.bx_quote.specs.declared.writing.QuoteFault.{QuoteFault}
-use Rattle.bx_words.specs.declared.request.Call.{Call}
+use Rattle.bx_request.specs.declared.request.Call.{Call}
 
 -- ---- what a plan refuses
 
@@ -33,7 +34,7 @@ pub record IsUnexplained (row : Option ℕ) (output : Writing) (fault : QuoteFau
 
 abbrev pub IsNotExplained : {W : Type 0} → Option ℕ → List ℕ → (W → Option (List ℕ)) → Watched W → Watched W → FileFault → Type 0
 IsNotExplained row plan contents old new (files.Quote fault) = IsUnexplained row (writing_of contents old new) fault
-IsNotExplained row plan contents old new fault = HasNoProvedPlan plan fault × (new ≡ old)
+IsNotExplained row plan contents old new fault = IsFileFault (HasNoProvedPlan plan) fault × (new ≡ old)
 
 -- ---- a further call
 
@@ -77,4 +78,4 @@ pub record IsUnquoted (output : Writing) (fault : QuoteFault) : Type 0 where
 
 abbrev pub IsNotQuoted : {W : Type 0} → Call → List ℕ → (W → Option (List ℕ)) → Watched W → Watched W → FileFault → Type 0
 IsNotQuoted call plan contents old new (files.Quote fault) = IsUnquoted (writing_of contents old new) fault
-IsNotQuoted call plan contents old new fault = (IsNoCall call fault ⊎ HasNoProvedPlan plan fault) × (new ≡ old)
+IsNotQuoted call plan contents old new fault = (IsNoCall call fault ⊎ IsFileFault (HasNoProvedPlan plan) fault) × (new ≡ old)

@@ -5,10 +5,10 @@ ghost use Rattle.bx_base.specs.Devices.{writing_of};
 ghost use Rattle.bx_files.specs.Pictures.{IsClockOf, IsNoClock, IsPictured, IsNotPictured};
 
 use crate::fault::FileFault;
-use crate::inputs::proved_in;
 use bx_base::Watched;
 use bx_book::Clock;
 use bx_chart::write_chart;
+use bx_commands::proved_in;
 use std::fs::Files;
 use std::io::Write;
 
@@ -43,7 +43,7 @@ pub fn chart_file<'a, H: Files + AllocGlobal, W: Write>(
     };
     let plan = match proved_in(rt, plan) {
         Ok(plan) => plan,
-        Err(fault) => return Err(fault),
+        Err(fault) => return Err(FileFault::Command(fault)),
     };
     match write_chart(rt.alloc(), &plan, clock.as_ref(), output) {
         Ok(()) => Ok(()),

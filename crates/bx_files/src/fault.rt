@@ -3,7 +3,8 @@
 use bx_base::ChannelFault;
 use bx_book::{BookFault, DayFault};
 use bx_chart::ChartFault;
-use bx_commands::{AmendFault, CommandFault, RunFault};
+use bx_commands::CommandFault;
+use bx_planning::{AmendFault, RunFault};
 use bx_quote::QuoteFault;
 use thiserror::Error;
 

@@ -10,7 +10,5 @@ mod quote_files;
 
 pub use chart_files::chart_file;
 pub use fault::FileFault;
-pub use inputs::{open, proved_in};
-pub use naming::day_of;
 pub use plan_files::{amend_file, check_file, plan_file};
 pub use quote_files::{explain_file, quote_file};

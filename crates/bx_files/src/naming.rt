@@ -1,13 +1,14 @@
 //! What the words name: a day and channels.
 
 ghost use Rattle.std.specs.Prelude.{IfOk, IfErr};
-ghost use Rattle.bx_files.specs.FilePlans.{IsDayOf, AreTerms};
+ghost use Rattle.bx_book.specs.NamedDays.{IsDayOf};
+ghost use Rattle.bx_files.specs.FilePlans.{AreTerms};
 ghost use Rattle.bx_files.specs.FileRefusals.{IsNoDay, AreNoTerms};
 
 use crate::fault::FileFault;
 use bx_base::ChannelSet;
 use bx_book::Day;
-use bx_words::Terms;
+use bx_request::Terms;
 
 /// The day that these words name.
 pub fn day_of<'a>(date: &str, zone: &str) -> Result<Day, FileFault<'a>>

@@ -6,11 +6,12 @@ ghost use Rattle.bx_files.specs.FilePlans.{IsPlanned, IsChecked, IsHeld};
 ghost use Rattle.bx_files.specs.FileRefusals.{IsPlanRefusal, IsCheckRefusal, IsNotAmended};
 
 use crate::fault::FileFault;
-use crate::inputs::{bookings_in, open, plan_in};
+use crate::inputs::bookings_in;
 use crate::naming::{channels_and_day, day_of};
 use bx_base::Watched;
-use bx_commands::{check_against, plan_run, write_amended};
-use bx_words::Terms;
+use bx_commands::{check_against, open, plan_in};
+use bx_planning::{plan_run, write_amended};
+use bx_request::Terms;
 use std::fs::Files;
 use std::io::Write;
 
@@ -31,7 +32,7 @@ pub fn plan_file<'a, H: Files + AllocGlobal, W: Write>(
     };
     let mut input = match open(rt, bookings) {
         Ok(input) => input,
-        Err(fault) => return Err(fault),
+        Err(fault) => return Err(FileFault::Command(fault)),
     };
     match plan_run(rt.alloc(), &mut input, output, &day, channels) {
         Ok(_) => Ok(()),
@@ -61,7 +62,7 @@ pub fn check_file<'a, H: Files + AllocGlobal, W: Write>(
     };
     let mut input = match open(rt, plan) {
         Ok(input) => input,
-        Err(fault) => return Err(fault),
+        Err(fault) => return Err(FileFault::Command(fault)),
     };
     match check_against(rt.alloc(), plan, &rows, channels, &mut input, output) {
         Ok(_) => Ok(()),
@@ -87,7 +88,7 @@ pub fn amend_file<'a, H: Files + AllocGlobal, W: Write>(
     };
     let earlier = match plan_in(rt, plan) {
         Ok(earlier) => earlier,
-        Err(fault) => return Err(fault),
+        Err(fault) => return Err(FileFault::Command(fault)),
     };
     let more = match bookings_in(rt, bookings, &day) {
         Ok(more) => more,

@@ -8,12 +8,12 @@ ghost use Rattle.bx_files.specs.Inside.{AreTimesOf};
 ghost use Rattle.bx_files.specs.PlanRefusals.{IsNotExplained, AreTimes, AreNoSeconds, IsNoCall, IsNotQuoted};
 
 use crate::fault::FileFault;
-use crate::inputs::proved_in;
 use crate::naming::day_of;
 use bx_base::{Booking, Number, Watched};
 use bx_book::{BookFault, Day, moment};
+use bx_commands::proved_in;
 use bx_quote::{write_explained, write_quote, write_refused};
-use bx_words::Call;
+use bx_request::Call;
 use std::fs::Files;
 use std::io::Write;
 
@@ -30,7 +30,7 @@ pub fn explain_file<'a, H: Files + AllocGlobal, W: Write>(
 {
     let plan = match proved_in(rt, plan) {
         Ok(plan) => plan,
-        Err(fault) => return Err(fault),
+        Err(fault) => return Err(FileFault::Command(fault)),
     };
     let done = match row {
         Some(row) => write_explained(rt.alloc(), &plan, row, output),
@@ -59,7 +59,7 @@ pub fn quote_file<'a, H: Files + AllocGlobal, W: Write>(
     };
     let plan = match proved_in(rt, plan) {
         Ok(plan) => plan,
-        Err(fault) => return Err(fault),
+        Err(fault) => return Err(FileFault::Command(fault)),
     };
     match write_quote(rt.alloc(), &plan, &booking, output) {
         Ok(()) => Ok(()),

@@ -3,7 +3,8 @@
 use crate::world::{Answer, BOOKINGS, World};
 use bx_base::Watched;
 use bx_check::check;
-use bx_commands::{CommandFault, RunFault, check_against, check_self, decode, plan_run};
+use bx_commands::{CommandFault, check_against, check_self, decode};
+use bx_planning::{RunFault, plan_run};
 use bx_quote::{QuoteFail, QuoteFault, write_explained, write_refused};
 use std::alloc::Global;
 

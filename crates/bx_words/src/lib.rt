@@ -5,6 +5,6 @@ mod arguments;
 mod channel_list;
 mod command_line;
 mod faults;
-mod request;
+mod reading;
 
-pub use request::{Call, CaptureWords, Refusal, Request, Sight, Terms, read_words};
+pub use reading::{Refusal, read_words};

@@ -1,0 +1,6 @@
+//! What a command line can ask for.
+#![tactic(auto)]
+
+mod request;
+
+pub use request::{Call, CaptureWords, Request, Sight, Terms};

@@ -1,0 +1,96 @@
+//! Commands with their words.
+
+/// The day and the channels of a plan, as the words name them.
+#[derive(Drop)]
+pub struct Terms<'a> {
+    pub date: &'a str,
+    pub zone: &'a str,
+    pub channels: Vec<u8>,
+}
+
+/// A call that is asked for, as the words name it.
+#[derive(Clone, Copy)]
+pub struct Call<'a> {
+    pub start: &'a str,
+    pub end: &'a str,
+    pub inward: bool,
+    /// The date and the zone of the day, where the start and the end are times.
+    pub day: Option<(&'a str, &'a str)>,
+}
+
+/// A capture file that is to be written, as the words name it.
+#[derive(Clone, Copy)]
+pub struct CaptureWords<'a> {
+    pub file: &'a str,
+    /// The date and the zone of the day, where its time stamps are instants.
+    pub day: Option<(&'a str, &'a str)>,
+}
+
+/// What is to be seen of a day while it runs.
+#[derive(Clone, Copy)]
+pub struct Sight<'a> {
+    pub capture: Option<CaptureWords<'a>>,
+    pub is_quiet: bool,
+}
+
+/// One command, with its words.
+#[derive(Drop)]
+pub enum Request<'a> {
+    /// Print the best plan of the bookings in this file.
+    Plan {
+        terms: Terms<'a>,
+        bookings: &'a str,
+    },
+    /// Check the plan in one file against the bookings in another.
+    Check {
+        terms: Terms<'a>,
+        bookings: &'a str,
+        plan: &'a str,
+    },
+    /// Print the best plan that holds all that the plan in one file accepts, for its bookings and those in another.
+    Amend {
+        date: &'a str,
+        zone: &'a str,
+        plan: &'a str,
+        bookings: &'a str,
+    },
+    /// Print what each row that a plan refuses pays, and what its seconds cost; or what one row has to pay to be taken.
+    Explain {
+        plan: &'a str,
+        row: Option<u16>,
+    },
+    /// Print what a further call has to pay to be taken beside those of a plan.
+    Quote {
+        plan: &'a str,
+        call: Call<'a>,
+    },
+    /// Print a plan as a picture, of the day with this date and zone where one is named.
+    Chart {
+        plan: &'a str,
+        day: Option<(&'a str, &'a str)>,
+    },
+    /// Run both ends of a plan's day.
+    Day {
+        plan: &'a str,
+        script: &'a str,
+        turns: Option<u32>,
+        sight: Sight<'a>,
+    },
+    /// Run the exchange's end of a plan's day.
+    Serve {
+        plan: &'a str,
+        port: u16,
+        turns: Option<u32>,
+        sight: Sight<'a>,
+    },
+    /// Run the far end of a day.
+    Far {
+        script: &'a str,
+        port: u16,
+        sight: Sight<'a>,
+    },
+    /// Print what a message says.
+    Decode {
+        octets: &'a str,
+    },
+}

@@ -1,0 +1,57 @@
+-- A day that was run, or stopped.
+use Rattle.std.proofs.Common.{◌≡◌, ℕ, ◌-◌, min, List, true, ap, ◌∙◌, refl, Option, Result, Ok, Err, inl, inr, ◌+◌, ◌≤◌, arith}
+use Rattle.bx_base.specs.declared.watched.Watched.{Watched}
+use Rattle.bx_day.specs.Day.{Day}
+use Rattle.bx_far.specs.FarDay.{FarDay}
+use Rattle.bx_link.specs.BothEnds.{Passage, RunsBoth, passage}
+use Rattle.bx_link.specs.Days.{Talks, RunsDay, RunsFarDay}
+use Rattle.bx_link.specs.Ends.{ticks_of}
+use Rattle.bx_link.specs.declared.connection.Connection.{Connection}
+use Rattle.bx_link.specs.declared.fault.LinkFault.{LinkFault}
+use Rattle.bx_link.proofs.Composing.{gave}
+use Rattle.bx_link.proofs.Events.{day_of_events}
+use Rattle.bx_sockets.specs.Days.{IsOpening, IsDayRun, IsFarOpening, IsFarRun}
+
+no_fault : (fault : LinkFault) → gave true ≡ Err fault → ⊥
+no_fault fault e = cc
+
+module _ {R W : Type 0} {remaining : R → Option (List ℕ)} {contents : W → Option (List ℕ)} (d d1 : Day) (asked : Option ℕ) (turns : ℕ) (opens : IsOpening asked d turns) where
+  run_by : {r r1 : Watched R} {w w1 : Watched W} → Talks remaining contents (min turns (300000 - d.moment)) r r1 w w1 d d1 (gave true) → IsDayRun asked d1
+  run_by talks = record {
+    opened = d;
+    turns = turns;
+    opens = opens;
+    events = talks.events;
+    ticks = talks.ticks ∙ ap (λ (day : Day). min turns (300000 - day.moment)) opens.opens;
+    reached = talks.goes.day ∙ day_of_events talks.events d;
+  }
+
+  pub run_alone : {r r1 : Watched R} {w w1 : Watched W} → RunsDay remaining contents (min turns (300000 - d.moment)) r r1 w w1 d d1 (gave true) → IsDayRun asked d1
+  run_alone (inl ended) = run_by ended.talks
+  run_alone (inr (not_done, talks)) = absurd (not_done refl)
+
+  pub run_both : {S T : Type 0} {near near' : Connection R W} (far : Passage FarDay S T) → RunsBoth (min turns (300000 - d.moment)) (passage remaining contents near near' d d1) far (gave true) → IsDayRun asked d1
+  run_both far (inl done) = run_by done.near_side.talks
+  run_both far (inr (inl stopped)) = absurd (no_fault stopped.fault stopped.failed)
+  run_both far (inr (inr (inl stopped))) = let e = stopped.failed in cc
+  run_both far (inr (inr (inr (inl stopped)))) = absurd (no_fault stopped.fault stopped.failed)
+  run_both far (inr (inr (inr (inr stopped)))) = absurd (no_fault stopped.fault stopped.failed)
+
+-- ---- the far end
+
+abbrev pub over : Result (Unit {0}) LinkFault
+over = Ok tt
+
+pub run_far : {R W : Type 0} {remaining : R → Option (List ℕ)} {contents : W → Option (List ℕ)} {r r1 : Watched R} {w w1 : Watched W} (d d1 : FarDay) (result : Result (Unit {0}) LinkFault) (moment : ℕ)
+    → IsFarOpening d → RunsFarDay remaining contents r r1 w w1 d d1 result → moment ≡ d1.moment → IsFarRun moment
+run_far d d1 result moment opening runs same =
+    let events = runs.talks.events in
+    let first : d.moment ≡ 0 = ap (λ (x : FarDay). x.moment) opening.opens in
+    let within : d.moment ≤ 300000 = omega (arith, first) in
+    record {
+      opened = d;
+      opens = opening;
+      events = events;
+      reached = same ∙ ap (λ (x : FarDay). x.moment) runs.talks.goes.day;
+      ticks = same ∙ runs.moment within ∙ ap (λ (n : ℕ). min (n + ticks_of events) 300000) first ∙ ap (λ (n : ℕ). min n 300000) (omega arith);
+    }

@@ -1,0 +1,256 @@
+//! The commands that run a day.
+
+ghost use Rattle.std.specs.Prelude.{◌≡◌, true, IfOk, IfErr, OnOk, OnErr};
+ghost use Rattle.std.specs.Io.KnownBytes.{Appends};
+ghost use Rattle.bx_base.specs.Octets.{AppendsPrefix};
+ghost use Rattle.bx_base.specs.Watching.{device_of, is_faulted};
+ghost use Rattle.bx_sockets.specs.DayRefusals.{StopsDay, StopsServing, StopsFarEnd, IsDayRefusal, IsServeRefusal, IsFarRefusal};
+ghost use Rattle.bx_sockets.specs.Days.{IsDayRun, IsDayTold, IsFarRun, IsFarTold, ended_line};
+
+use crate::capturing::{file_of, first_of};
+use crate::fault::SocketFault;
+use crate::loopback::{accepted, both_ends, connected};
+use crate::openings::{far_end_of, opening_of};
+use crate::progress::Shown;
+use bx_base::{Watched, WriteFailed, write_octets};
+use bx_capture::Captured;
+use bx_commands::CommandFault;
+use bx_day::Exchange;
+use bx_link::{Connection, End, run_both_ends, run_day, run_far_day};
+use bx_request::Sight;
+use bx_text::named_line;
+use std::fs::Files;
+use std::io::Write;
+use std::net::{Net, TcpListener, TcpStream};
+use std::rt::Clock;
+
+/// The two directions of a stream.
+fn connection<'a>(stream: &'a TcpStream) -> Connection<&'a TcpStream, &'a TcpStream> {
+    Connection {
+        reader: Watched::new(stream),
+        writer: Watched::new(stream),
+    }
+}
+
+/// The exchange behind its day, and whether all that was to be captured of it was.
+fn exchange_of<H, W: Write + Drop>(end: Captured<Shown<'_, Exchange, H>, W>) -> (Exchange, bool)
+    ensures { result.0 ≡ end.entry.end.end }
+{
+    let is_whole = end.is_whole();
+    (end.into_end().into_end(), is_whole)
+}
+
+/// The exchange at the end of the day of a plan, of which both ends were run over one TCP connection, and whether all that was
+/// to be captured of its end was.
+fn run_of_both<
+    'a,
+    H: Files + AllocGlobal + Clock + Eprint + Net<Listener = TcpListener, Stream = TcpStream>,
+>(
+    rt: &H,
+    plan: &'a str,
+    script: &'a str,
+    turns: Option<u32>,
+    sight: Sight<'a>,
+) -> Result<(Exchange, bool), SocketFault<'a>>
+    ensures ran { IfOk result (λ ran. IsDayRun turns ran.0) }
+    ensures stopped { IfErr result (StopsDay plan.now script.now sight.entry.capture) }
+{
+    let first = match first_of(sight.capture) {
+        Ok(first) => first,
+        Err(fault) => return Err(fault),
+    };
+    let (exchange, turns) = match opening_of(rt, plan, turns) {
+        Ok(opened) => opened,
+        Err(fault) => return Err(fault),
+    };
+    let mut far = match far_end_of(rt, script) {
+        Ok(far) => far,
+        Err(fault) => return Err(fault),
+    };
+    let file = match file_of(rt, sight.capture) {
+        Ok(file) => file,
+        Err(fault) => return Err(fault),
+    };
+    let (near, distant) = match both_ends(rt) {
+        Ok(ends) => ends,
+        Err(fault) => return Err(fault),
+    };
+    let mut near = connection(&near);
+    let mut distant = connection(&distant);
+    let mut end = Captured::new(Shown::new(rt, exchange, !sight.is_quiet), file, first);
+    let done = run_both_ends(&mut end, &mut near, &mut far, &mut distant, turns);
+    end.end.clear();
+    match done {
+        Ok(()) => Ok(exchange_of(end)),
+        Err(fault) => Err(SocketFault::Link(fault)),
+    }
+}
+
+/// Runs both ends of the day of a plan over one TCP connection, and writes what became of each booking. Answers whether all that
+/// was to be captured was. At a refusal nothing was written, except that where the output failed a front of that was.
+pub fn day_of_files<
+    'a,
+    H: Files + AllocGlobal + Clock + Eprint + Net<Listener = TcpListener, Stream = TcpStream>,
+    W: Write,
+>(
+    rt: &H,
+    plan: &'a str,
+    script: &'a str,
+    turns: Option<u32>,
+    sight: Sight<'a>,
+    output: &mut Watched<W>,
+) -> Result<bool, SocketFault<'a>>
+    ensures told { OnOk result (IsDayTold turns (W.contents (device_of output.old)) (W.contents (device_of output.new))) }
+    ensures refused { IfErr result (IsDayRefusal plan.now script.now sight.entry.capture turns W.contents output.old output.new) }
+{
+    let (exchange, is_whole) = match run_of_both(rt, plan, script, turns, sight) {
+        Ok(ran) => ran,
+        Err(fault) => return Err(fault),
+    };
+    match exchange.write_outcomes(output) {
+        Ok(()) => Ok(is_whole),
+        Err(_) => Err(SocketFault::Command(CommandFault::CannotWrite)),
+    }
+}
+
+/// The exchange at the end of the day of a plan, which was run towards the first peer that connects to the port, and whether all
+/// that was to be captured was.
+fn run_towards_peer<
+    'a,
+    H: Files + AllocGlobal + Clock + Eprint + Net<Listener = TcpListener, Stream = TcpStream>,
+>(
+    rt: &H,
+    plan: &'a str,
+    port: u16,
+    turns: Option<u32>,
+    sight: Sight<'a>,
+) -> Result<(Exchange, bool), SocketFault<'a>>
+    ensures ran { IfOk result (λ ran. IsDayRun turns ran.0) }
+    ensures stopped { IfErr result (StopsServing plan.now sight.entry.capture) }
+{
+    let first = match first_of(sight.capture) {
+        Ok(first) => first,
+        Err(fault) => return Err(fault),
+    };
+    let (exchange, turns) = match opening_of(rt, plan, turns) {
+        Ok(opened) => opened,
+        Err(fault) => return Err(fault),
+    };
+    let file = match file_of(rt, sight.capture) {
+        Ok(file) => file,
+        Err(fault) => return Err(fault),
+    };
+    let peer = match accepted(rt, port, !sight.is_quiet) {
+        Ok(peer) => peer,
+        Err(fault) => return Err(fault),
+    };
+    let mut from_far = Watched::new(&peer);
+    let mut to_far = Watched::new(&peer);
+    let mut end = Captured::new(Shown::new(rt, exchange, !sight.is_quiet), file, first);
+    let done = run_day(&mut end, &mut from_far, &mut to_far, turns);
+    end.end.clear();
+    match done {
+        Ok(()) => Ok(exchange_of(end)),
+        Err(fault) => Err(SocketFault::Link(fault)),
+    }
+}
+
+/// Runs the exchange's end of the day of a plan, towards the first peer that connects to the port, and writes what
+/// became of each booking. Answers whether all that was to be captured was. At a refusal nothing was written, except that
+/// where the output failed a front of that was.
+pub fn serve_file<
+    'a,
+    H: Files + AllocGlobal + Clock + Eprint + Net<Listener = TcpListener, Stream = TcpStream>,
+    W: Write,
+>(
+    rt: &H,
+    plan: &'a str,
+    port: u16,
+    turns: Option<u32>,
+    sight: Sight<'a>,
+    output: &mut Watched<W>,
+) -> Result<bool, SocketFault<'a>>
+    ensures told { OnOk result (IsDayTold turns (W.contents (device_of output.old)) (W.contents (device_of output.new))) }
+    ensures refused { IfErr result (IsServeRefusal plan.now sight.entry.capture turns W.contents output.old output.new) }
+{
+    let (exchange, is_whole) = match run_towards_peer(rt, plan, port, turns, sight) {
+        Ok(ran) => ran,
+        Err(fault) => return Err(fault),
+    };
+    match exchange.write_outcomes(output) {
+        Ok(()) => Ok(is_whole),
+        Err(_) => Err(SocketFault::Command(CommandFault::CannotWrite)),
+    }
+}
+
+/// Writes `ended at `, the moment and LF.
+fn write_ended<W: Write>(output: &mut Watched<W>, moment: u32) -> Result<(), WriteFailed>
+    ensures told { OnOk result (Appends (W.contents (device_of output.old)) (W.contents (device_of output.new)) (ended_line moment)) }
+    ensures cut { OnErr result (AppendsPrefix (W.contents (device_of output.old)) (W.contents (device_of output.new)) (ended_line moment)) }
+    ensures refused { OnErr result (is_faulted output.new ≡ true) }
+{
+    write_octets(output, &named_line(b"ended at", u64::from(moment)))
+}
+
+/// The moment at which the day of a script ended, which was run towards the exchange that serves on the port, and whether all that
+/// was to be captured was.
+fn run_towards_exchange<
+    'a,
+    H: Files + AllocGlobal + Clock + Eprint + Net<Listener = TcpListener, Stream = TcpStream>,
+>(rt: &H, script: &'a str, port: u16, sight: Sight<'a>) -> Result<(u32, bool), SocketFault<'a>>
+    ensures ran { IfOk result (λ ran. IsFarRun ran.0) }
+    ensures stopped { IfErr result (StopsFarEnd script.now sight.entry.capture) }
+{
+    let first = match first_of(sight.capture) {
+        Ok(first) => first,
+        Err(fault) => return Err(fault),
+    };
+    let far = match far_end_of(rt, script) {
+        Ok(far) => far,
+        Err(fault) => return Err(fault),
+    };
+    let file = match file_of(rt, sight.capture) {
+        Ok(file) => file,
+        Err(fault) => return Err(fault),
+    };
+    let peer = match connected(rt, port) {
+        Ok(peer) => peer,
+        Err(fault) => return Err(fault),
+    };
+    let mut from_exchange = Watched::new(&peer);
+    let mut to_exchange = Watched::new(&peer);
+    let mut end = Captured::new(Shown::new(rt, far, !sight.is_quiet), file, first);
+    let done = run_far_day(&mut end, &mut from_exchange, &mut to_exchange);
+    end.end.clear();
+    match done {
+        Ok(()) => Ok((end.reached(), end.is_whole())),
+        Err(fault) => Err(SocketFault::Link(fault)),
+    }
+}
+
+/// Runs the far end of a day by a script, towards the exchange that serves on the port, and writes the moment at which
+/// the day ended. Answers whether all that was to be captured was. At a refusal nothing was written, except that where the
+/// output failed a front of that line was.
+pub fn far_file<
+    'a,
+    H: Files + AllocGlobal + Clock + Eprint + Net<Listener = TcpListener, Stream = TcpStream>,
+    W: Write,
+>(
+    rt: &H,
+    script: &'a str,
+    port: u16,
+    sight: Sight<'a>,
+    output: &mut Watched<W>,
+) -> Result<bool, SocketFault<'a>>
+    ensures told { OnOk result (IsFarTold (W.contents (device_of output.old)) (W.contents (device_of output.new))) }
+    ensures refused { IfErr result (IsFarRefusal script.now sight.entry.capture W.contents output.old output.new) }
+{
+    let (moment, is_whole) = match run_towards_exchange(rt, script, port, sight) {
+        Ok(ran) => ran,
+        Err(fault) => return Err(fault),
+    };
+    match write_ended(output, moment) {
+        Ok(()) => Ok(is_whole),
+        Err(_) => Err(SocketFault::Command(CommandFault::CannotWrite)),
+    }
+}

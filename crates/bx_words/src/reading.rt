@@ -1,0 +1,189 @@
+//! What a command line asks for.
+
+use crate::channel_list::channel_numbers;
+use crate::command_line::program_of_words;
+use crate::faults::FAULTS;
+use bx_request::{Call, CaptureWords, Request, Sight, Terms};
+use clap::error::ErrorKind;
+use clap::{ArgMatches, Error};
+use std::alloc::{AllocError, AllocFailed, Global};
+
+/// Why the words are no command.
+#[derive(Debug, Drop)]
+pub enum Refusal {
+    /// A growth was refused.
+    Memory,
+    /// Help, or the version, was asked for: this is the text.
+    Help(String),
+    /// The words are wrong: this is what to say.
+    Wrong(String),
+}
+
+impl From<AllocError> for Refusal {
+    fn from(_e: AllocError) -> Refusal {
+        Refusal::Memory
+    }
+}
+
+impl<T: Drop> From<AllocFailed<T>> for Refusal {
+    fn from(_e: AllocFailed<T>) -> Refusal {
+        Refusal::Memory
+    }
+}
+
+/// Help that was asked for, or what is wrong with the words.
+fn refusal_of(alloc: Global, error: Error) -> Refusal {
+    if error.kind() == ErrorKind::OutOfMemory {
+        return Refusal::Memory;
+    }
+    match error.to_string(alloc) {
+        Ok(text) if error.use_stderr() => Refusal::Wrong(text),
+        Ok(text) => Refusal::Help(text),
+        Err(_) => Refusal::Memory,
+    }
+}
+
+/// Wrong words, in the form of `clap`'s own refusals.
+fn wrong(alloc: Global, message: &str) -> Refusal {
+    let Ok(mut command) = program_of_words(alloc) else {
+        return Refusal::Memory;
+    };
+    match command.error(ErrorKind::ValueValidation, message) {
+        Ok(error) => refusal_of(alloc, error),
+        Err(_) => Refusal::Memory,
+    }
+}
+
+/// The word of an argument that the command requires or has a default for.
+fn word<'a>(matches: &ArgMatches<'a>, name: &str) -> &'a str {
+    matches.get_str(name).unwrap_or("")
+}
+
+/// The port, which the command requires.
+fn port_of(matches: &ArgMatches<'_>) -> u16 {
+    matches.get_one::<u16>("port").unwrap_or(0)
+}
+
+/// The day and the channels that these words name.
+fn terms_of<'a>(alloc: Global, matches: &ArgMatches<'a>) -> Result<Terms<'a>, Refusal> {
+    let list = word(matches, "channels");
+    match channel_numbers(alloc, list)? {
+        Some(channels) => Ok(Terms {
+            date: word(matches, "date"),
+            zone: word(matches, "zone"),
+            channels,
+        }),
+        None => {
+            let message = format!(in alloc;
+                "invalid value '{list}' for '--channels <LIST>': not `none`, and no list of numbers and ranges of one or two digits"
+            )?;
+            Err(wrong(alloc, &message))
+        }
+    }
+}
+
+/// The date and the zone that these words name, where they name a date.
+fn day_of<'a>(matches: &ArgMatches<'a>) -> Option<(&'a str, &'a str)> {
+    let zone = matches.get_str("zone").unwrap_or("UTC0");
+    matches.get_str("date").map(|date| (date, zone))
+}
+
+/// What these words want to see of a day.
+fn sight_of<'a>(matches: &ArgMatches<'a>) -> Sight<'a> {
+    let day = day_of(matches);
+    Sight {
+        capture: matches
+            .get_str("capture")
+            .map(|file| CaptureWords { file, day }),
+        is_quiet: matches.get_flag("quiet"),
+    }
+}
+
+/// The call that these words name.
+fn call_of<'a>(matches: &ArgMatches<'a>) -> Call<'a> {
+    Call {
+        start: word(matches, "start"),
+        end: word(matches, "end"),
+        inward: matches.get_flag("inward"),
+        day: day_of(matches),
+    }
+}
+
+fn request_of<'a>(
+    alloc: Global,
+    name: &str,
+    matches: &ArgMatches<'a>,
+) -> Result<Request<'a>, Refusal> {
+    match name {
+        "plan" => Ok(Request::Plan {
+            terms: terms_of(alloc, matches)?,
+            bookings: word(matches, "bookings"),
+        }),
+        "check" => Ok(Request::Check {
+            terms: terms_of(alloc, matches)?,
+            bookings: word(matches, "bookings"),
+            plan: word(matches, "plan"),
+        }),
+        "amend" => Ok(Request::Amend {
+            date: word(matches, "date"),
+            zone: word(matches, "zone"),
+            plan: word(matches, "plan"),
+            bookings: word(matches, "bookings"),
+        }),
+        "explain" => Ok(Request::Explain {
+            plan: word(matches, "plan"),
+            row: matches.get_one::<u16>("row"),
+        }),
+        "quote" => Ok(Request::Quote {
+            plan: word(matches, "plan"),
+            call: call_of(matches),
+        }),
+        "chart" => Ok(Request::Chart {
+            plan: word(matches, "plan"),
+            day: day_of(matches),
+        }),
+        "day" => Ok(Request::Day {
+            plan: word(matches, "plan"),
+            script: word(matches, "script"),
+            turns: matches.get_one::<u32>("turns"),
+            sight: sight_of(matches),
+        }),
+        "serve" => Ok(Request::Serve {
+            plan: word(matches, "plan"),
+            port: port_of(matches),
+            turns: matches.get_one::<u32>("turns"),
+            sight: sight_of(matches),
+        }),
+        "far" => Ok(Request::Far {
+            script: word(matches, "script"),
+            port: port_of(matches),
+            sight: sight_of(matches),
+        }),
+        _ => Ok(Request::Decode {
+            octets: word(matches, "octets"),
+        }),
+    }
+}
+
+/// The list of faults.
+fn faults(alloc: Global) -> Refusal {
+    match String::from_str(alloc, FAULTS) {
+        Ok(text) => Refusal::Help(text),
+        Err(_) => Refusal::Memory,
+    }
+}
+
+/// The command of these words, which stand behind the program's name. `help faults` is no command: it asks for the list
+/// of faults.
+pub fn read_words<'a>(alloc: Global, words: &'a [&'a str]) -> Result<Request<'a>, Refusal> {
+    if let ["help", "faults"] = words {
+        return Err(faults(alloc));
+    }
+    match program_of_words(alloc)?.try_get_matches_from(words) {
+        Ok(matches) => match matches.subcommand() {
+            Some((name, found)) => request_of(alloc, name, found),
+            None => Err(Refusal::Wrong(String::new(alloc))),
+        },
+        Err(error) => Err(refusal_of(alloc, error)),
+    }
+}
