@@ -15,8 +15,8 @@ use Rattle.bx_dist.specs.Search.{IsSettled, Shortens}
 use Rattle.bx_dist.specs.Sending.{empty_flow}
 use Rattle.bx_dist.specs.Walks.{AreLeast}
 use Rattle.bx_dist.proofs.After.{row_within}
+use Rattle.bx_dist.proofs.Bounds.{AreBounds, bounds_after, new_at, other_at, zeros_are_bounds, above}
 use Rattle.bx_dist.proofs.Fitting.{walk_long}
-use Rattle.bx_dist.proofs.Rounding.{AreBounds, bounds_after, new_at, other_at, zeros_are_bounds, above}
 use Rattle.bx_dist.proofs.Rows.{IsFrom, from_next}
 use Rattle.bx_dist.proofs.Sending.{nothing_idle, nothing_carried}
 use Rattle.bx_dist.proofs.Steep.{AreSteep, steep_none, steep_more, steep_potentials}

@@ -1,17 +1,6 @@
--- A list behind a `&mut`, as it comes back from a call, and what a list has by its head and tail.
-use Rattle.std.proofs.Common.{◌≡◌, ℕ, zero, suc, List, ◌∷◌, ◌++◌, length, take, drop, refl, arith, ◌⊎◌, inl, inr}
+-- A list behind a `&mut`, as it comes back from a call.
+use Rattle.std.proofs.Common.{◌≡◌, ℕ, List, ◌++◌, length, take, drop}
 use Rattle.std.proofs.Math.Seq.{take-append_seam}
-use Rattle.std.specs.List.{Contains}
 
 pub whole : {X : Type 0} (new old : List X) (n : ℕ) → n ≡ length new → take n (new ++ drop (length new) old) ≡ new
 whole new old n e = rw e (take-append_seam new (drop (length new) old))
-
-pub Contains-head : {X : Type 0} (x : X) (xs : List X) → Contains (x ∷ xs) x
-Contains-head x xs = (0, omega arith, refl)
-
-pub Contains-tail : {X : Type 0} (x : X) (xs : List X) (y : X) → Contains xs y → Contains (x ∷ xs) y
-Contains-tail x xs y c = (suc c.0, omega (arith, c.1), c.2)
-
-pub Contains-cons_cases : {X : Type 0} (x : X) (xs : List X) (y : X) → Contains (x ∷ xs) y → (x ≡ y) ⊎ Contains xs y
-Contains-cons_cases x xs y (zero, b, e) = inl e
-Contains-cons_cases x xs y (suc k, b, e) = inr (k, omega (arith, b), e)

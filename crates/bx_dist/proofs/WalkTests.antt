@@ -9,7 +9,7 @@ use Rattle.bx_dist.specs.Residual.{IsOpen, step_from, step_to}
 use Rattle.bx_dist.specs.Search.{IsStep, AreSteps}
 use Rattle.bx_dist.specs.Walks.{IsWalk}
 use Rattle.bx_dist.specs.Inside.{Avoids, IsSimple}
-use Rattle.bx_dist.proofs.Rounding.{open_is_step}
+use Rattle.bx_dist.proofs.Bounds.{open_is_step}
 use Rattle.bx_dist.proofs.Sending.{next_step}
 
 -- the rest of a walk from a place is one where the next step is open there and the rest after it is one

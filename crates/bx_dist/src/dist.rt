@@ -35,7 +35,8 @@ impl Model for Dist {
 }
 
 impl Dist {
-    pub(crate) fn new(lengths: Vec<i64>, walk: Vec<Step>) -> Dist
+    /// These lengths, one for each place in order, with this walk.
+    pub fn new(lengths: Vec<i64>, walk: Vec<Step>) -> Dist
         requires { AreSmall lengths.items }
         ensures lengths { result.lengths ≡ lengths.items }
         ensures walk { result.walk ≡ walk.items }

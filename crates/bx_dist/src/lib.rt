@@ -2,28 +2,20 @@
 #![tactic(auto)]
 
 mod carried;
-mod circle;
 mod dist;
 mod first;
-mod front;
-mod heap;
 pub mod laws;
-mod marks;
-mod next;
 mod part;
 mod path;
 mod potentials;
 mod relax;
-mod rounds;
-mod settle;
 mod step;
 mod steps;
-mod waiting;
 
 pub use carried::Carried;
 pub use dist::{Dist, Distances};
-pub use heap::HeapDist;
 pub use part::Part;
 pub use potentials::Potentials;
-pub use rounds::Rounds;
+pub use relax::shorten;
 pub use step::Step;
+pub use steps::{ends_of, is_open, is_there};

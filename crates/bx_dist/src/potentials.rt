@@ -49,7 +49,7 @@ impl Potentials {
     }
 
     /// The same of a place that there is.
-    pub(crate) fn height(&self, place: u16) -> i64
+    pub fn height(&self, place: u16) -> i64
         requires { place < length self.now }
         ensures value { result ≡ height_at self.now place }
         ensures small { AreSmall self.now }

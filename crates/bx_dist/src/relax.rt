@@ -1,8 +1,8 @@
 //! One step of the search for least lengths.
 
-ghost use Rattle.std.specs.Prelude.{◌≡◌, ◌↔◌, IsTrue, length, true, false};
+ghost use Rattle.std.specs.Prelude.{◌≡◌, length, true, false};
 ghost use Rattle.bx_line.specs.Network.{places_of};
-ghost use Rattle.bx_dist.specs.Search.{IsStep, IsSettled, IsTight, Shortens, AreMedium};
+ghost use Rattle.bx_dist.specs.Search.{IsStep, IsSettled, Shortens, AreMedium};
 
 use crate::step::Step;
 use crate::steps::ends_of;
@@ -25,15 +25,4 @@ pub fn shorten(lengths: &mut [i64], line: &Line, step: Step) -> bool
     } else {
         false
     }
-}
-
-/// Whether the step is just as long as the lengths at its ends differ.
-pub fn is_tight(lengths: &[i64], line: &Line, step: Step) -> bool
-    requires step { IsStep line.now step }
-    requires one_each { length lengths.now ≡ places_of line.now }
-    requires medium { AreMedium lengths.now }
-    ensures { IsTrue result ↔ IsTight line.now lengths.now step }
-{
-    let (from, to, cost) = ends_of(line, step);
-    lengths[from as usize] + cost == lengths[to as usize]
 }

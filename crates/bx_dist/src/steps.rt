@@ -1,16 +1,15 @@
 //! The steps of the residual network.
 
-ghost use Rattle.std.specs.Prelude.{◌≡◌, ◌≤◌, ◌<◌, ◌↔◌, IfOk, OnOk, IsTrue, length, nat_abs};
+ghost use Rattle.std.specs.Prelude.{◌≡◌, ◌≤◌, ◌<◌, ◌↔◌, IsTrue, length, nat_abs};
 ghost use Rattle.bx_line.specs.Flows.{IsSized};
 ghost use Rattle.bx_line.specs.Network.{places_of};
 ghost use Rattle.bx_dist.specs.Residual.{IsOpen, HasRow, step_from, step_to, step_cost};
-ghost use Rattle.bx_dist.specs.Search.{IsStep, AreOpenSteps, AreListed, AddsOpen};
+ghost use Rattle.bx_dist.specs.Search.{IsStep};
 
 use crate::carried::Carried;
 use crate::part::Part;
 use crate::step::Step;
 use bx_line::Line;
-use std::alloc::{AllocError, Global};
 
 /// The place from which a step leads, the place to which it leads, and its cost.
 pub fn ends_of(line: &Line, step: Step) -> (u16, u16, i64)
@@ -52,7 +51,7 @@ pub fn is_open(line: &Line, carried: &Carried, part: Part, step: Step) -> bool
     }
 }
 
-/// The same of a step that names places and rows of the line.
+/// The same of a step that names places and rows of the line, on a flow that says something of each.
 pub fn is_there(line: &Line, carried: &Carried, part: Part, step: Step) -> bool
     requires step { IsStep line.now step }
     requires sized { IsSized line.now carried.now }
@@ -85,79 +84,4 @@ fn has_row(line: &Line, part: Part, row: u16) -> bool
         Some(arc) => part == Part::Whole || !arc.must,
         None => false,
     }
-}
-
-/// The steps that are open, those onward from the first place on, and those back from the last place on: in this
-/// order most of them are settled after a round or two.
-pub fn open_steps(
-    alloc: Global,
-    line: &Line,
-    carried: &Carried,
-    part: Part,
-) -> Result<Vec<Step>, AllocError>
-    ensures { IfOk result (λ v. AreOpenSteps part line.now carried.now v.items) }
-{
-    let mut steps = listed(alloc, line, carried, part)?;
-    steps.sort_by_key(|step| turn_of(line, *step))?;
-    Ok(steps)
-}
-
-/// Those onward come first, in rising order of the place from which they lead, then those back, in falling order.
-fn turn_of(line: &Line, step: Step) -> (bool, u16) {
-    match step {
-        Step::Idle(place) => (false, place),
-        Step::Back(place) => (true, u16::MAX - place),
-        Step::Take(row) => (false, line.arc_of(row).map_or(0, |arc| arc.from)),
-        Step::Give(row) => (true, u16::MAX - line.arc_of(row).map_or(0, |arc| arc.to)),
-    }
-}
-
-/// The steps that are open, gap by gap and then row by row.
-fn listed(
-    alloc: Global,
-    line: &Line,
-    carried: &Carried,
-    part: Part,
-) -> Result<Vec<Step>, AllocError>
-    ensures { IfOk result (λ v. AreOpenSteps part line.now carried.now v.items) }
-{
-    let mut steps = gap_steps(alloc, line, carried, part)?;
-    for i in 0..line.rows() {
-        add_open(&mut steps, line, carried, part, Step::Take(i + 1))?;
-        add_open(&mut steps, line, carried, part, Step::Give(i + 1))?;
-    }
-    Ok(steps)
-}
-
-/// Those of them that lead from place to place along no row.
-fn gap_steps(
-    alloc: Global,
-    line: &Line,
-    carried: &Carried,
-    part: Part,
-) -> Result<Vec<Step>, AllocError>
-    ensures { IfOk result (λ v. AreListed part line.now carried.now (places_of line.now) 0 v.items) }
-{
-    let mut steps = Vec::new(alloc);
-    for v in 1..line.places() {
-        add_open(&mut steps, line, carried, part, Step::Idle(v - 1))?;
-        add_open(&mut steps, line, carried, part, Step::Back(v - 1))?;
-    }
-    Ok(steps)
-}
-
-/// Adds a step where it is open.
-fn add_open(
-    steps: &mut Vec<Step>,
-    line: &Line,
-    carried: &Carried,
-    part: Part,
-    step: Step,
-) -> Result<(), AllocError>
-    ensures { OnOk result (AddsOpen part line.now carried.now step steps.old.items steps.new.items) }
-{
-    if is_open(line, carried, part, step) {
-        steps.push(step)?;
-    }
-    Ok(())
 }

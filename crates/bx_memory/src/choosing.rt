@@ -3,10 +3,12 @@
 use crate::world::{Answer, World};
 use bx_base::Bookings;
 use bx_colour::{colour, fits};
-use bx_dist::{Carried, Dist, Distances, HeapDist, Part, Potentials, Rounds};
+use bx_dist::{Carried, Dist, Distances, Part, Potentials};
 use bx_flow::least_cost;
+use bx_heap::HeapDist;
 use bx_line::Line;
 use bx_planner::{AmendFail, PlanFail, amend, plan};
+use bx_rounds::Rounds;
 use std::alloc::{AllocError, Global};
 
 /// The answer of a call that refuses growths alone.

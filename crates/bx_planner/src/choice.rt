@@ -9,8 +9,9 @@ ghost use Rattle.bx_planner.specs.Inside.{IsBestChoice};
 
 use crate::prices::prices_of;
 use bx_base::{Bookings, Price};
-use bx_dist::{Carried, HeapDist};
+use bx_dist::Carried;
 use bx_flow::least_cost;
+use bx_heap::HeapDist;
 use bx_line::Line;
 use std::alloc::{AllocError, Global};
 

@@ -1,8 +1,9 @@
 //! Distances along the line of a small day, and a flow that grows by a unit.
 
 use crate::rows::{Row, bookings_of};
-use bx_dist::{Carried, Dist, Distances, Part, Potentials, Rounds, Step};
+use bx_dist::{Carried, Dist, Distances, Part, Potentials, Step};
 use bx_line::Line;
+use bx_rounds::Rounds;
 use std::alloc::Global;
 use std::test::Fail;
 

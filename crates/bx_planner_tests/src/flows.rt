@@ -1,9 +1,10 @@
 //! Flows of least cost along the line of a small day.
 
 use crate::rows::{Row, bookings_of};
-use bx_dist::{Carried, Potentials, Rounds};
+use bx_dist::{Carried, Potentials};
 use bx_flow::least_cost;
 use bx_line::Line;
+use bx_rounds::Rounds;
 use std::alloc::Global;
 use std::test::Fail;
 

@@ -4,10 +4,12 @@
 use crate::distances::{Asked, Looked, are, asked_of, distances_by, distances_of, grows, line_of};
 use crate::rows::{Drawn, Row, bookings_of, random_rows};
 use bx_base::{Bookings, ChannelSet, Plan};
-use bx_dist::{Carried, Dist, Distances, HeapDist, Part, Potentials, Rounds, Step};
+use bx_dist::{Carried, Dist, Distances, Part, Potentials, Step};
 use bx_flow::least_cost;
+use bx_heap::HeapDist;
 use bx_line::Line;
 use bx_planner::plan;
+use bx_rounds::Rounds;
 use std::alloc::Global;
 
 static CHAIN: [Row; 3] = [(0, 10, 4, false), (5, 15, 6, false), (10, 20, 4, false)];

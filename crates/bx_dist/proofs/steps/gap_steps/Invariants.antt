@@ -1,5 +1,0 @@
-use Rattle.bx_dist.specs.Search.{AreListed}
-use Rattle.bx_dist.proofs.steps.gap_steps.Given as goal
-
-abbrev pub invariant-loop-v : goal.invariant-loop-v
-invariant-loop-v l = AreListed l.part l.line l.carried l.v 0 l.steps.items

@@ -1,0 +1,9 @@
+pub mod Fronts
+pub mod Searches
+pub mod Lists
+pub mod Rows
+pub mod Settled
+pub mod Queueing
+pub mod Popping
+pub mod Sound
+pub mod Trails

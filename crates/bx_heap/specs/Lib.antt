@@ -1,0 +1,3 @@
+pub mod Nearness
+pub mod Front
+pub mod Searching

@@ -1,0 +1,82 @@
+//! The nearest place that is not settled yet.
+
+ghost use Rattle.bx_heap.specs.Searching.{state_of, setting_of, IsInHand, IsResting, IsSetting, IsSound};
+ghost use Rattle.bx_dist.specs.declared.part.Part.{Part};
+ghost use Rattle.bx_line.specs.Flows.{Flow};
+ghost use Rattle.bx_line.specs.Network.{Network, places_of};
+ghost use Rattle.std.specs.Prelude.{◌≡◌, ◌≤◌, ◌<◌, ◌⊎◌, ◌-ℤ◌, ℕ, [], pos, nat_abs, Contains, OnOk, IfOk, IfSome, IfNone, MatchOption, Some, length, slice_index};
+
+use crate::front::Front;
+use bx_dist::Potentials;
+use std::alloc::AllocError;
+
+/// 2 to the power of 60, which is more than any length.
+const FAR: i64 = 1_152_921_504_606_846_976;
+
+impl Front {
+    /// The nearest place that has no rank yet, or none where all have one.
+    pub fn next(&mut self, potentials: &Potentials) -> Result<Option<u16>, AllocError>
+        requires { IsSound potentials.now (state_of self.old) }
+        ensures next { (part : Part) (line : Network) (flow : Flow) → IsSetting (setting_of part line flow potentials.now) → IsResting (setting_of part line flow potentials.now) (state_of self.old) → IfOk result (λ o. MatchOption o (places_of line ≤ self.old.count) (IsInHand (setting_of part line flow potentials.now) (state_of self.new))) }
+        ensures count { IfOk result (λ _. self.new.count ≡ self.old.count) }
+    {
+        if let Some(place) = next_of(&mut self.tight, &self.ranks) {
+            return Ok(Some(place));
+        }
+        self.file(potentials)?;
+        Ok(self.next_waiting(potentials))
+    }
+
+    /// Puts the places that were reached of late into the heap.
+    fn file(&mut self, potentials: &Potentials) -> Result<(), AllocError>
+        requires { IsSound potentials.now (state_of self.old) }
+        ensures resting { OnOk result ((part : Part) (line : Network) (flow : Flow) → IsResting (setting_of part line flow potentials.now) (state_of self.old) → IsResting (setting_of part line flow potentials.now) (state_of self.new)) }
+        ensures tight { OnOk result (self.new.tight.items ≡ self.old.tight.items) }
+        ensures fresh { OnOk result (self.new.fresh.items ≡ []) }
+        ensures count { OnOk result (self.new.count ≡ self.old.count) }
+    {
+        while let Some(place) = next_of(&mut self.fresh, &self.ranks) {
+            let nearness = nearness(self.reduced(potentials, place));
+            self.waiting.push(nearness, place)?;
+        }
+        Ok(())
+    }
+
+    /// Takes the nearest place from the heap, where nothing waits elsewhere.
+    fn next_waiting(&mut self, potentials: &Potentials) -> Option<u16>
+        requires sound { IsSound potentials.now (state_of self.old) }
+        requires tight { self.old.tight.items ≡ [] }
+        requires fresh { self.old.fresh.items ≡ [] }
+        ensures next { (part : Part) (line : Network) (flow : Flow) → IsSetting (setting_of part line flow potentials.now) → IsResting (setting_of part line flow potentials.now) (state_of self.old) → MatchOption result (places_of line ≤ self.old.count) (IsInHand (setting_of part line flow potentials.now) (state_of self.new)) }
+        ensures count { self.new.count ≡ self.old.count }
+    {
+        let place = self.waiting.next_unsettled(&self.ranks)?;
+        self.level = self.reduced(potentials, place);
+        Some(place)
+    }
+}
+
+/// Takes places from a list until one has no rank yet.
+fn next_of(places: &mut Vec<u16>, ranks: &[u16]) -> Option<u16>
+    requires { (v : ℕ) → Contains places.old.items v → v < length ranks.now }
+    ensures kept { (v : ℕ) → Contains places.old.items v → slice_index ranks.now v ≡ 0 → Contains places.new.items v ⊎ (result ≡ Some v) }
+    ensures only { (v : ℕ) → Contains places.new.items v → Contains places.old.items v }
+    ensures some { IfSome result (λ p. Contains places.old.items p × (slice_index ranks.now p ≡ 0)) }
+    ensures none { IfNone result (places.new.items ≡ []) }
+    ensures fewer { IfSome result (λ p. length places.new.items < length places.old.items) }
+{
+    while let Some(place) = places.pop() {
+        if ranks[place as usize] == 0 {
+            return Some(place);
+        }
+    }
+    None
+}
+
+/// How near a place of this reduced length is: the nearer, the more.
+fn nearness(reduced: i64) -> u64
+    requires { nat_abs reduced ≤ 1100000000000000000 }
+    ensures { pos result ≡ (pos 1152921504606846976 -ℤ reduced) }
+{
+    (FAR - reduced) as u64
+}

@@ -1,0 +1,9 @@
+//! Distances in the residual network of a flow along the line, by rounds over all steps.
+#![tactic(auto)]
+
+mod circle;
+mod marks;
+mod rounds;
+mod steps;
+
+pub use rounds::Rounds;
