@@ -10,7 +10,7 @@ use Rattle.bx_dist.specs.declared.step.Step.{Step}
 use Rattle.bx_dist.specs.declared.step.Step.TheVariants.{Idle, Back, Take, Give}
 use Rattle.bx_dist.specs.Residual.{IsOpen, HasRow, IsRowAt, Fits, height_at, step_from, step_to, step_cost, row_arc}
 use Rattle.bx_dist.specs.Walks.{IsWalk, walk_length, Lengths, AreLeast, AreDistances}
-use Rattle.bx_dist.specs.Search.{IsTight}
+use Rattle.bx_dist.specs.Tight.{IsTight}
 use Rattle.bx_dist.specs.Sending.{after_step, after_walk, sent}
 use Rattle.bx_dist.proofs.Fitting.{walk_long}
 use Rattle.bx_dist.proofs.Sending.{elsewhere}

@@ -6,7 +6,8 @@ use Rattle.bx_dist.specs.declared.part.Part.{Part}
 use Rattle.bx_dist.specs.declared.step.Step.{Step}
 use Rattle.bx_dist.specs.declared.step.Step.TheVariants.{Idle}
 use Rattle.bx_dist.specs.Residual.{IsOpen, step_from, step_to}
-use Rattle.bx_dist.specs.Search.{IsStep, AreSteps}
+use Rattle.bx_dist.specs.Search.{IsStep}
+use Rattle.bx_dist.specs.Tight.{AreSteps}
 use Rattle.bx_dist.specs.Walks.{IsWalk}
 use Rattle.bx_dist.specs.Inside.{Avoids, IsSimple}
 use Rattle.bx_dist.proofs.Bounds.{open_is_step}

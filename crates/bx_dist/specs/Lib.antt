@@ -3,4 +3,5 @@ pub mod Inside
 pub mod Walks
 pub mod Sending
 pub mod Search
+pub mod Tight
 pub mod Passing

@@ -3,7 +3,7 @@
 ghost use Rattle.std.specs.Prelude.{◌-◌, ◌<◌, ◌↔◌, IsTrue};
 ghost use Rattle.bx_line.specs.Network.{places_of};
 ghost use Rattle.bx_dist.specs.declared.part.Part.TheVariants.{Whole};
-ghost use Rattle.bx_dist.specs.Search.{AreSteps};
+ghost use Rattle.bx_dist.specs.Tight.{AreSteps};
 ghost use Rattle.bx_dist.specs.Walks.{IsWalk};
 ghost use Rattle.bx_dist.specs.Inside.{Avoids, IsSimple};
 

@@ -10,7 +10,8 @@ use Rattle.bx_dist.specs.declared.step.Step.TheVariants.{Idle}
 use Rattle.bx_dist.specs.Residual.{IsOpen, Fits, AreSmall, height_at, step_from, step_to, step_cost}
 use Rattle.bx_dist.specs.Walks.{IsWalk, walk_length, AreLeast, AreDistances, lengths_of}
 use Rattle.bx_dist.proofs.Simple.{RanksRise, pairs_from_simple, simple_from_rising}
-use Rattle.bx_dist.specs.Search.{IsSettled, Shortens, last_step}
+use Rattle.bx_dist.specs.Search.{IsSettled, Shortens}
+use Rattle.bx_dist.specs.Tight.{last_step}
 use Rattle.bx_dist.proofs.Small.{least_that_fit, small_distances}
 use Rattle.bx_dist.proofs.After.{first_distance, walk_and_step, length_and_step, step_within}
 use Rattle.bx_heap.specs.Front.{reduced, IsLast, IsFront}

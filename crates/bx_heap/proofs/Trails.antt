@@ -3,7 +3,7 @@ use Rattle.std.proofs.Common.{◌≡◌, ◌≢◌, ℕ, ◌<◌, ◌≤◌, Lis
 use Rattle.bx_line.specs.Network.{Network, places_of}
 use Rattle.bx_dist.specs.declared.step.Step.{Step}
 use Rattle.bx_dist.specs.Residual.{AreSmall, step_from, step_to}
-use Rattle.bx_dist.specs.Search.{last_step}
+use Rattle.bx_dist.specs.Tight.{last_step}
 use Rattle.bx_dist.specs.Walks.{AreDistances, lengths_of}
 use Rattle.bx_dist.proofs.Bounds.{open_is_step}
 use Rattle.bx_heap.specs.Front.{IsLast}

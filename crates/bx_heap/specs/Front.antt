@@ -6,7 +6,8 @@ use Rattle.bx_dist.specs.declared.part.Part.{Part}
 use Rattle.bx_dist.specs.declared.step.Step.{Step}
 use Rattle.bx_dist.specs.Residual.{IsOpen, height_at, step_from, step_to}
 use Rattle.bx_dist.specs.Walks.{IsWalk, walk_length}
-use Rattle.bx_dist.specs.Search.{IsSettled, IsTight, last_step}
+use Rattle.bx_dist.specs.Search.{IsSettled}
+use Rattle.bx_dist.specs.Tight.{IsTight, last_step}
 
 -- the length of a place above its height
 abbrev pub reduced : List ℤ → List ℤ → ℕ → ℤ

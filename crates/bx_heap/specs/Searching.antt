@@ -10,7 +10,8 @@ use Rattle.bx_dist.specs.declared.part.Part.{Part}
 use Rattle.bx_dist.specs.declared.step.Step.{Step}
 use Rattle.bx_dist.specs.declared.step.Step.TheVariants.{Idle, Back, Take, Give}
 use Rattle.bx_dist.specs.Residual.{IsOpen, AreSmall, ArePotentials, height_at, step_from, step_to}
-use Rattle.bx_dist.specs.Search.{IsSettled, IsStep, Shortens, last_step}
+use Rattle.bx_dist.specs.Search.{IsSettled, IsStep, Shortens}
+use Rattle.bx_dist.specs.Tight.{last_step}
 use Rattle.bx_heap.specs.declared.front.Front.{Front}
 use Rattle.bx_heap.specs.Front.{reduced, IsFront}
 

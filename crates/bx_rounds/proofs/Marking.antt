@@ -8,7 +8,7 @@ use Rattle.bx_line.specs.Network.{Network, places_of}
 use Rattle.bx_dist.specs.declared.step.Step.{Step}
 use Rattle.bx_dist.specs.declared.step.Step.TheVariants.{Idle}
 use Rattle.bx_dist.specs.Residual.{step_from, step_to}
-use Rattle.bx_dist.specs.Search.{IsTight, last_step}
+use Rattle.bx_dist.specs.Tight.{IsTight, last_step}
 use Rattle.bx_dist.proofs.Ranks.{marked, marked_one, marked_none, marks_few, zero_in}
 use Rattle.bx_dist.proofs.Sending.{sum_below-change}
 use Rattle.bx_dist.proofs.Simple.{RanksRise, pairs_from_simple, simple_from_rising}

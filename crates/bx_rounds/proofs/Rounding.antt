@@ -14,7 +14,8 @@ use Rattle.bx_dist.specs.declared.part.Part.{Part}
 use Rattle.bx_dist.specs.declared.step.Step.{Step}
 use Rattle.bx_dist.specs.Residual.{IsOpen, Fits, ArePotentials, AreSmall, height_at, step_to}
 use Rattle.bx_dist.specs.Walks.{IsWalk, walk_length, AreLeast, AreDistances, lengths_of}
-use Rattle.bx_dist.specs.Search.{IsSettled, Shortens, AreMedium, AreSteps}
+use Rattle.bx_dist.specs.Search.{IsSettled, Shortens, AreMedium}
+use Rattle.bx_dist.specs.Tight.{AreSteps}
 use Rattle.bx_dist.proofs.After.{first_distance, step_within, tight_from_least, AllTight}
 use Rattle.bx_dist.proofs.Bounds.{AreBounds, bounds_after, new_at, other_at, above, open_is_step}
 use Rattle.bx_dist.proofs.Small.{least_that_fit, small_distances}

@@ -8,7 +8,7 @@ use Rattle.bx_dist.specs.declared.step.Step.{Step}
 use Rattle.bx_dist.specs.declared.step.Step.TheVariants.{Idle, Back, Take, Give}
 use Rattle.bx_dist.specs.Residual.{IsOpen, step_from, step_to}
 use Rattle.bx_dist.specs.Walks.{places_met}
-use Rattle.bx_dist.specs.Search.{IsTight, last_step}
+use Rattle.bx_dist.specs.Tight.{IsTight, last_step}
 
 -- the list has just the steps that are open
 pub record AreOpenSteps (part : Part) (line : Network) (flow : Flow) (steps : List Step) : Type 0 where

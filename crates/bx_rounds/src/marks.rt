@@ -5,7 +5,8 @@
 ghost use Rattle.std.specs.Prelude.{◌≡◌, ◌<◌, ◌+◌, ◌-◌, ◌↔◌, IfOk, IsTrue, length, true, false, Contains, slice_index};
 ghost use Rattle.bx_line.specs.Network.{places_of};
 ghost use Rattle.bx_dist.specs.declared.step.Step.{Step};
-ghost use Rattle.bx_dist.specs.Search.{IsStep, IsTight, AreMedium, AreSteps};
+ghost use Rattle.bx_dist.specs.Search.{IsStep, AreMedium};
+ghost use Rattle.bx_dist.specs.Tight.{IsTight, AreSteps};
 ghost use Rattle.bx_rounds.specs.Rounds.{AreMarks, Reaches, Extends, IsFound};
 
 use crate::circle::next_in;

@@ -3,7 +3,7 @@ use Rattle.std.proofs.lemmas.List.{get_or_default, reverse-append}
 use Rattle.std.specs.List.{Contains}
 use Rattle.bx_dist.specs.declared.step.Step.TheVariants.{Idle}
 use Rattle.bx_dist.specs.Residual.{step_from}
-use Rattle.bx_dist.specs.Search.{last_step}
+use Rattle.bx_dist.specs.Tight.{last_step}
 use Rattle.bx_rounds.proofs.Marking.{IsBack, back_last, back_more, back_lower, some_place, found_back}
 use Rattle.bx_rounds.proofs.marks.walk_back.Goals as goal
 

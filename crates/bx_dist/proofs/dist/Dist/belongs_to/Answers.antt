@@ -2,7 +2,7 @@ use Rattle.std.proofs.Common.{◌-◌, List, sym, ◌∙◌, ap, subst, arith}
 use Rattle.bx_line.specs.Network.{places_of}
 use Rattle.bx_dist.specs.declared.part.Part.TheVariants.{Whole}
 use Rattle.bx_dist.specs.declared.step.Step.{Step}
-use Rattle.bx_dist.specs.Search.{AreSteps}
+use Rattle.bx_dist.specs.Tight.{AreSteps}
 use Rattle.bx_dist.specs.Walks.{Lengths, IsWalk}
 use Rattle.bx_dist.specs.Inside.{IsSimple}
 use Rattle.bx_dist.proofs.Simple.{simple_from_pairs, pairs_from_simple}

@@ -2,7 +2,8 @@ use Rattle.std.proofs.Common.{◌≡◌, ℕ, [], ◌∷◌, reverse, refl, sym,
 use Rattle.std.proofs.lemmas.List.{get_or_default, reverse-append}
 use Rattle.bx_dist.specs.declared.step.Step.TheVariants.{Idle}
 use Rattle.bx_dist.specs.Residual.{step_from}
-use Rattle.bx_dist.specs.Search.{last_step, IsStep}
+use Rattle.bx_dist.specs.Search.{IsStep}
+use Rattle.bx_dist.specs.Tight.{last_step}
 use Rattle.bx_heap.specs.Searching.{state_of, IsTrail}
 use Rattle.bx_heap.proofs.Trails.{trail_more}
 use Rattle.bx_heap.proofs.front.Front.walk_back.Goals as goal
