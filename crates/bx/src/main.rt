@@ -1,8 +1,8 @@
 //! The program: hands its words and the standard streams to `main_words`.
 #![tactic(auto)]
 
-use bx_base::Watched;
 use bx_cli::main_words;
+use bx_devices::Watched;
 use std::alloc::{AllocError, Global};
 use std::io::{ErrorKind, IsTerminal};
 use std::process::ExitCode;

@@ -8,8 +8,4 @@ pub mod Bound
 pub mod Sides
 pub mod Plans
 pub mod PlanParts
-pub mod Watching
-pub mod Octets
-pub mod FailingDevice
-pub mod Devices
 pub mod Orders

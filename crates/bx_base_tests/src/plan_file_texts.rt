@@ -1,6 +1,6 @@
 //! Plan files that are read, and what is written for them.
 
-use bx_base::Watched;
+use bx_devices::Watched;
 use bx_planfile::{read_plan, write_plan};
 use std::alloc::Global;
 

@@ -1,6 +1,7 @@
 //! Plan files on writers that fail.
 
-use bx_base::{Failing, Plan, Watched};
+use bx_base::Plan;
+use bx_devices::{Failing, Watched};
 use bx_planfile::{PlanWriteFault, read_plan, write_plan};
 use std::alloc::Global;
 use std::test::Fail;

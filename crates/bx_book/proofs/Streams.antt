@@ -3,14 +3,14 @@ use Rattle.std.proofs.Common.{◌≡◌, ◌≢◌, ◌∙◌, ◌⊎◌, inl, i
 use Rattle.std.proofs.lemmas.List.{take-append-drop, length-take-le}
 use Rattle.std.proofs.lemmas.Bool.Decides.{nat_tests}
 use Rattle.csv.specs.Reading.{strip_bom}
-use Rattle.bx_base.specs.Octets.{ReadsAll, ReadsFront, ReadsWithin, RunsOutOfReads}
-use Rattle.bx_base.specs.Watching.{device_of, is_faulted, reads_of}
-use Rattle.bx_base.specs.declared.watched.Watched.{Watched}
+use Rattle.bx_devices.specs.Octets.{ReadsAll, ReadsFront, ReadsWithin, RunsOutOfReads}
+use Rattle.bx_devices.specs.Watching.{device_of, is_faulted, reads_of}
+use Rattle.bx_devices.specs.declared.watched.Watched.{Watched}
 use Rattle.bx_base.specs.Bookings.{Row}
 use Rattle.bx_book.specs.Passed.{HasPassed, HasNoneLeft, is_spent, reads_of_none}
 use Rattle.bx_book.specs.Rows.{Span}
 use Rattle.bx_book.specs.Texts.{IsBook, IsBookFault}
-use Rattle.bx_base.specs.Devices.{reading_of}
+use Rattle.bx_devices.specs.Devices.{reading_of}
 use Rattle.bx_book.specs.Streams.{IsWhole, IsBookRead, IsStreamFault}
 use Rattle.bx_book.specs.Told.{IsMeterFault, told_as}
 use Rattle.bx_book.specs.declared.fault.BookFault.{BookFault}

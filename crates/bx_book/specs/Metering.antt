@@ -1,7 +1,7 @@
 -- What a metered reader has seen.
 use Rattle.std.specs.Prelude.{ℕ, Bool}
 use Rattle.std.specs.declared.io.traits.Read as Reading
-use Rattle.bx_base.specs.declared.watched.Watched.{Watched}
+use Rattle.bx_devices.specs.declared.watched.Watched.{Watched}
 use Rattle.bx_book.specs.declared.metered.Origin as Source
 use Rattle.bx_book.specs.declared.metered.Metered.{Metered}
 

@@ -1,8 +1,8 @@
 -- What is said of a reader that bookings were read from.
 use Rattle.std.specs.Prelude.{◌≡◌, ◌⊎◌, ◌≤◌, ℕ, true, false, List, Some, length}
 use Rattle.csv.specs.Reading.{strip_bom}
-use Rattle.bx_base.specs.Devices.{Reading}
-use Rattle.bx_base.specs.Octets.{ReadsAll, ReadsFront, ReadsWithin, RunsOutOfReads}
+use Rattle.bx_devices.specs.Devices.{Reading}
+use Rattle.bx_devices.specs.Octets.{ReadsAll, ReadsFront, ReadsWithin, RunsOutOfReads}
 use Rattle.bx_base.specs.Bookings.{Row}
 use Rattle.bx_book.specs.Rows.{Span}
 use Rattle.bx_book.specs.Texts.{IsBook, IsBookFault}

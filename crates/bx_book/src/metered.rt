@@ -4,10 +4,10 @@ ghost use Rattle.std.specs.Prelude.{◌≡◌, ◌≤◌, ◌<◌, ◌+◌, ℕ,
 ghost use Rattle.std.specs.Borrow.{GName};
 ghost use Rattle.std.specs.Io.{ReadsAtMost};
 ghost use Rattle.std.specs.Io.KnownBytes.{ReadConsumes};
-ghost use Rattle.bx_base.specs.Watching.{device_of, is_faulted, reads_of};
+ghost use Rattle.bx_devices.specs.Watching.{device_of, is_faulted, reads_of};
 ghost use Rattle.bx_book.specs.Passed.{HasPassed, HasNoneLeft, is_spent, reads_of_none};
 
-use bx_base::{MAX_OCTETS, MAX_READS, Watched};
+use bx_devices::{MAX_OCTETS, MAX_READS, Watched};
 use std::io;
 use std::io::{Error, ErrorKind, Read};
 use std::marker::{Brand, PhantomData};

@@ -2,8 +2,8 @@
 
 ghost use Rattle.std.specs.Prelude.{◌≡◌, ◌≤◌, ◌+◌, ◌⊎◌, true, false, IfOk, IfErr, IfSome, MatchOption, Err};
 ghost use Rattle.csv.specs.Reading.{strip_bom};
-ghost use Rattle.bx_base.specs.Devices.{reading_of};
-ghost use Rattle.bx_base.specs.Watching.{device_of, is_faulted, reads_of};
+ghost use Rattle.bx_devices.specs.Devices.{reading_of};
+ghost use Rattle.bx_devices.specs.Watching.{device_of, is_faulted, reads_of};
 ghost use Rattle.bx_book.specs.Passed.{HasPassed, HasNoneLeft, is_spent, reads_of_none};
 ghost use Rattle.bx_book.specs.Rows.{span_of};
 ghost use Rattle.bx_book.specs.Texts.{IsBook, IsBookFault};
@@ -14,7 +14,8 @@ use crate::day::Day;
 use crate::fault::BookFault;
 use crate::metered::{Metered, Origin};
 use crate::text::read_book;
-use bx_base::{Bookings, MAX_OCTETS, MAX_READS, Watched};
+use bx_base::Bookings;
+use bx_devices::{MAX_OCTETS, MAX_READS, Watched};
 use bx_text::records_of;
 use std::alloc::Global;
 use std::io::Read;

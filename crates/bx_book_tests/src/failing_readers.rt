@@ -2,8 +2,9 @@
 
 use crate::booking_texts::last_of;
 use crate::printed_faults::is_read_as;
-use bx_base::{Booking, Bookings, Failing, Watched};
+use bx_base::{Booking, Bookings};
 use bx_book::{Day, StreamFault, read_bookings_from};
+use bx_devices::{Failing, Watched};
 use std::alloc::Global;
 use std::test::Fail;
 

@@ -1,8 +1,8 @@
 //! The longest text, and the last read.
 
 use crate::printed_faults::{is_printed, is_read_as};
-use bx_base::Watched;
 use bx_book::{Day, StreamFault, read_bookings_from};
+use bx_devices::Watched;
 use std::alloc::{AllocError, Global};
 use std::io;
 use std::io::Read;

@@ -5,9 +5,9 @@ use Rattle.std.proofs.lemmas.List.{append-nil, take_more, take_all}
 use Rattle.std.proofs.lemmas.Grind.{flat_map-append}
 use Rattle.arrayvec.specs.ArrayVec.{ArrayVec}
 use Rattle.std.specs.Io.KnownBytes.{Appends}
-use Rattle.bx_base.specs.declared.watched.Watched.{Watched}
-use Rattle.bx_base.specs.declared.octets.WriteFailed.{WriteFailed}
-use Rattle.bx_base.specs.Watching.{device_of, is_faulted}
+use Rattle.bx_devices.specs.declared.watched.Watched.{Watched}
+use Rattle.bx_devices.specs.declared.octets.WriteFailed.{WriteFailed}
+use Rattle.bx_devices.specs.Watching.{device_of, is_faulted}
 use Rattle.bx_day.specs.Run.{Event, Tick, Receive}
 use Rattle.bx_text.specs.Writing.{Writes}
 use Rattle.bx_link.specs.Ends.{told}

@@ -2,9 +2,9 @@
 use Rattle.std.proofs.Common.{◌≡◌, ℕ, Bool, true, false, List, [], ◌++◌, refl, sym, ap, ◌∙◌, subst, true≢false, Option, Some, None}
 use Rattle.std.proofs.Math.Nat.{le_refl}
 use Rattle.std.proofs.KnownBytes.{Appends-nil, Appends-trans}
-use Rattle.bx_base.proofs.OctetLemmas.{AppendsPrefix-more, AppendsPrefix-after}
-use Rattle.bx_base.specs.declared.watched.Watched.{Watched}
-use Rattle.bx_base.specs.Watching.{device_of, is_faulted}
+use Rattle.bx_devices.proofs.OctetLemmas.{AppendsPrefix-more, AppendsPrefix-after}
+use Rattle.bx_devices.specs.declared.watched.Watched.{Watched}
+use Rattle.bx_devices.specs.Watching.{device_of, is_faulted}
 use Rattle.bx_day.specs.Run.{Event}
 use Rattle.bx_link.specs.Ends.{after, told}
 use Rattle.bx_link.proofs.Events.{after_more, told_more}

@@ -12,7 +12,7 @@ ghost use Rattle.bx_capture.specs.declared.packet.Direction.TheVariants.{Sent, R
 
 use crate::packet::{Direction, write_packet};
 use arrayvec::ArrayVec;
-use bx_base::Watched;
+use bx_devices::Watched;
 use bx_link::{Course, End};
 use bx_q931::Octets;
 use std::io::Write;

@@ -6,7 +6,7 @@ ghost use Rattle.bx_text.specs.Writing.{Writes};
 ghost use Rattle.bx_capture.specs.Packets.{file_header, direction_number, tags, packet};
 
 use arrayvec::ArrayVec;
-use bx_base::{Watched, WriteFailed, write_octets};
+use bx_devices::{Watched, WriteFailed, write_octets};
 use bx_q931::Octets;
 use std::io::Write;
 

@@ -1,8 +1,8 @@
 //! The octets of a file's header and of packets.
 
 use arrayvec::ArrayVec;
-use bx_base::Watched;
 use bx_capture::{Direction, write_file_header, write_packet};
+use bx_devices::Watched;
 use bx_q931::Octets;
 use bx_worked::CONNECT_ACKNOWLEDGE;
 use std::alloc::Global;

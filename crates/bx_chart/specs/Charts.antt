@@ -1,8 +1,8 @@
 -- What is written of a plan.
 use Rattle.std.specs.Prelude.{◌≡◌, ◌++◌, true, List, Option, ℕ, codes}
 use Rattle.std.specs.Io.KnownBytes.{Appends}
-use Rattle.bx_base.specs.Devices.{Writing, KeepsOutput}
-use Rattle.bx_base.specs.Octets.{AppendsPrefix}
+use Rattle.bx_devices.specs.Devices.{Writing, KeepsOutput}
+use Rattle.bx_devices.specs.Octets.{AppendsPrefix}
 use Rattle.bx_base.specs.PlanParts.{Parts}
 use Rattle.bx_book.specs.declared.clock.Clock.{Clock}
 use Rattle.bx_chart.specs.Plain.{is_plain}

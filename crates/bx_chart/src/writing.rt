@@ -1,7 +1,7 @@
 //! A picture, written.
 
 ghost use Rattle.std.specs.Prelude.{IfOk, IfErr, OnOk, option_copied};
-ghost use Rattle.bx_base.specs.Devices.{writing_of};
+ghost use Rattle.bx_devices.specs.Devices.{writing_of};
 ghost use Rattle.bx_base.specs.PlanParts.{parts_of};
 ghost use Rattle.bx_chart.specs.Charts.{IsChart, IsDrawn, IsChartRefusal};
 
@@ -13,8 +13,9 @@ use crate::picture::Picture;
 use crate::prices::add_prices;
 use crate::sheet::Sheet;
 use crate::starts::starts;
-use bx_base::{Plan, Watched, write_octets};
+use bx_base::Plan;
 use bx_book::Clock;
+use bx_devices::{Watched, write_octets};
 use std::alloc::{AllocError, Global};
 use std::io::Write;
 use thiserror::Error;

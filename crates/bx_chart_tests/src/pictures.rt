@@ -1,9 +1,10 @@
 //! Pictures of a small plan, whole and cut off.
 
 use crate::small_picture::SMALL;
-use bx_base::{Booking, Bookings, Channel, ChannelSet, Failing, Number, Plan, Price, Watched};
+use bx_base::{Booking, Bookings, Channel, ChannelSet, Number, Plan, Price};
 use bx_book::Clock;
 use bx_chart::{ChartFault, write_chart};
+use bx_devices::{Failing, Watched};
 use std::alloc::Global;
 use std::test::Fail;
 

@@ -2,15 +2,15 @@
 
 ghost use Rattle.std.specs.Prelude.{◌≡◌, ◌≢◌, ◌≤◌, ◌↔◌, ℕ, List, [], Some, IsOk, IsErr};
 ghost use Rattle.std.specs.Io.KnownBytes.{Appends};
-ghost use Rattle.bx_base.specs.Devices.{reading_of, writing_of};
-ghost use Rattle.bx_base.specs.Watching.{device_of};
+ghost use Rattle.bx_devices.specs.Devices.{reading_of, writing_of};
+ghost use Rattle.bx_devices.specs.Watching.{device_of};
 ghost use Rattle.bx_commands.specs.Proved.{IsProvedText, proved_line};
 ghost use Rattle.bx_commands.specs.Refusals.{IsRefusal};
 ghost use Rattle.bx_commands.specs.declared.fault.CommandFault.{CommandFault};
 
 use crate::fault::CliFault;
-use bx_base::{Watched, write_octets};
 use bx_commands::{CommandFault, check_self, decode};
+use bx_devices::{Watched, write_octets};
 use bx_files::{amend_file, chart_file, check_file, explain_file, plan_file, quote_file};
 use bx_request::{Request, Sight};
 use bx_sockets::{SocketFault, day_of_files, far_file, serve_file};

@@ -1,8 +1,8 @@
 //! Words while standard input, standard output or standard error fails.
 
 use crate::worked_texts::ONE;
-use bx_base::{Failing, Watched};
 use bx_cli::main_words;
+use bx_devices::{Failing, Watched};
 
 /// Words and their status.
 static CASES: [(&[&str], u8); 4] = [

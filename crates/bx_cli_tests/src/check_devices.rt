@@ -1,8 +1,8 @@
 //! The check of a plan, and a message decoded, over readers and writers that fail at each place.
 
 use crate::worked_texts::ONE;
-use bx_base::{Failing, Watched};
 use bx_commands::{CommandFault, check_against, check_self, decode, proved_plan};
+use bx_devices::{Failing, Watched};
 use std::alloc::{AllocError, Global};
 use std::test::Fail;
 

@@ -1,7 +1,7 @@
 //! The program on words and an input, in memory.
 
-use bx_base::Watched;
 use bx_cli::main_words;
+use bx_devices::Watched;
 
 /// What the program does: its status, standard output and standard error.
 #[derive(Drop)]

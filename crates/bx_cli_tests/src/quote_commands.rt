@@ -3,8 +3,8 @@
 use crate::file_commands::{Case, first_wrong};
 use crate::files::{folder, placed};
 use crate::program::Answer::{Fails, Misused, Prints};
-use bx_base::{Failing, Watched};
 use bx_cli::main_words;
+use bx_devices::{Failing, Watched};
 use std::fs;
 use std::test::Fail;
 

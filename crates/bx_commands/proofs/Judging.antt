@@ -1,7 +1,7 @@
 -- Why a plan that was read is not proved, or its proof not written, as the commands say it.
 use Rattle.std.proofs.Common.{ℕ, List, Result, Ok, Err}
 use Rattle.std.specs.Prelude.{IfErr}
-use Rattle.bx_base.specs.Devices.{Reading, Writing}
+use Rattle.bx_devices.specs.Devices.{Reading, Writing}
 use Rattle.bx_base.specs.PlanParts.{Parts}
 use Rattle.bx_commands.specs.Inside.{IsFaulty, IsJudged}
 use Rattle.bx_commands.specs.Proved.{IsPlanRead}

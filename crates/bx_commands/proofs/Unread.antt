@@ -1,7 +1,7 @@
 -- What is told of a file without a plan, which does not tell its octets.
 use Rattle.std.proofs.Common.{ℕ, List, Option, None, Result, Ok, Err}
 use Rattle.std.specs.Prelude.{IfErr}
-use Rattle.bx_base.specs.Devices.{Reading}
+use Rattle.bx_devices.specs.Devices.{Reading}
 use Rattle.bx_planfile.specs.declared.fault.PlanFault.{PlanFault}
 use Rattle.bx_commands.specs.PlanFiles.{HasNoPlan, HasNoProvedPlan}
 use Rattle.bx_commands.specs.Refusals.{IsNoPlanText, IsNoPlan, IsUnproved}

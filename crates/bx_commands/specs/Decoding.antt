@@ -6,8 +6,8 @@ use Rattle.hex.specs.declared.error.FromHexError.{FromHexError}
 use Rattle.bx_q931.specs.Messages.{PlainMessage, message_at}
 use Rattle.bx_commands.specs.declared.fault.CommandFault.{CommandFault}
 use Rattle.bx_commands.specs.declared.fault.CommandFault.TheVariants.{CannotWrite, NotHex, Message, Memory}
-use Rattle.bx_base.specs.Devices.{Writing, KeepsOutput}
-use Rattle.bx_base.specs.Octets.{AppendsPrefix}
+use Rattle.bx_devices.specs.Devices.{Writing, KeepsOutput}
+use Rattle.bx_devices.specs.Octets.{AppendsPrefix}
 use Rattle.bx_commands.specs.MessageLines.{message_lines}
 
 -- the text is the octets of this message in hexadecimal

@@ -4,8 +4,8 @@ use Rattle.hex.specs.Hex.{decode_of}
 use Rattle.hex.specs.declared.error.FromHexError.{FromHexError}
 use Rattle.bx_commands.specs.declared.fault.CommandFault.{CommandFault}
 use Rattle.bx_commands.specs.declared.fault.CommandFault.TheVariants.{CannotWrite, NotHex, Memory, Check}
-use Rattle.bx_base.specs.Devices.{Writing, KeepsOutput}
-use Rattle.bx_base.specs.Octets.{AppendsPrefix}
+use Rattle.bx_devices.specs.Devices.{Writing, KeepsOutput}
+use Rattle.bx_devices.specs.Octets.{AppendsPrefix}
 use Rattle.bx_base.specs.Bookings.{Row}
 use Rattle.bx_base.specs.PlanParts.{Parts}
 use Rattle.bx_check.specs.Check.{IsOutcome}

@@ -1,8 +1,8 @@
 -- What each refusal of a check says of the octets that were read, and of what was written.
 use Rattle.std.specs.Prelude.{◌≡◌, ℕ, true, Bool, List, Option, Some, Err, codes, ◌⊎◌}
 use Rattle.bx_base.specs.Bookings.{Row}
-use Rattle.bx_base.specs.Devices.{Reading, Writing, KeepsOutput}
-use Rattle.bx_base.specs.Octets.{AppendsPrefix, ReadsFront, ReadsWithin, RunsOutOfReads}
+use Rattle.bx_devices.specs.Devices.{Reading, Writing, KeepsOutput}
+use Rattle.bx_devices.specs.Octets.{AppendsPrefix, ReadsFront, ReadsWithin, RunsOutOfReads}
 use Rattle.bx_base.specs.PlanParts.{Parts}
 use Rattle.bx_planfile.specs.Reading.{read_all}
 use Rattle.bx_planfile.specs.declared.fault.PlanFault.{PlanFault}

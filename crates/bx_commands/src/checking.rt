@@ -2,19 +2,18 @@
 
 ghost use Rattle.std.specs.Prelude.{◌≡◌, ℕ, Ok, IfOk, IfErr, OnOk, OnErr, IsTrue};
 ghost use Rattle.std.specs.Io.KnownBytes.{Appends, IsAtEnd};
-ghost use Rattle.bx_base.specs.Devices.{reading_of, writing_of};
-ghost use Rattle.bx_base.specs.Watching.{device_of, is_faulted};
-ghost use Rattle.bx_base.specs.Octets.{AppendsPrefix};
+ghost use Rattle.bx_devices.specs.Devices.{reading_of, writing_of};
+ghost use Rattle.bx_devices.specs.Watching.{device_of, is_faulted};
+ghost use Rattle.bx_devices.specs.Octets.{AppendsPrefix};
 ghost use Rattle.bx_base.specs.PlanParts.{parts_of};
 ghost use Rattle.bx_commands.specs.Proved.{IsPlanRead, IsProvedFor, IsProvedText, IsProvedAgainst, proved_line};
 ghost use Rattle.bx_commands.specs.Refusals.{IsNoPlan, IsUnproved, IsRefusal, IsRefusalAgainst};
 ghost use Rattle.bx_commands.specs.Inside.{IsFaulty, IsJudged};
 
 use crate::fault::CommandFault;
-use bx_base::{
-    Bookings, ChannelSet, Plan, ReadFault, Watched, WriteFailed, read_octets, write_octets,
-};
+use bx_base::{Bookings, ChannelSet, Plan};
 use bx_check::check;
+use bx_devices::{ReadFault, Watched, WriteFailed, read_octets, write_octets};
 use bx_planfile::{PlanFault, read_plan};
 use bx_text::named_line;
 use std::alloc::Global;

@@ -2,13 +2,13 @@
 
 ghost use Rattle.std.specs.Prelude.{◌≡◌, Ok, Err, IfOk, IfErr, OnOk};
 ghost use Rattle.hex.specs.Hex.{decode_of};
-ghost use Rattle.bx_base.specs.Devices.{writing_of};
+ghost use Rattle.bx_devices.specs.Devices.{writing_of};
 ghost use Rattle.bx_commands.specs.Decoding.{IsDecoded, IsDecodeRefusal};
 ghost use Rattle.bx_commands.specs.Inside.{IsHexFault};
 
 use crate::fault::CommandFault;
 use crate::message_lines::lines_of;
-use bx_base::{Watched, WriteFailed, write_octets};
+use bx_devices::{Watched, WriteFailed, write_octets};
 use bx_q931::read;
 use hex::FromHexError;
 use std::alloc::Global;

@@ -7,7 +7,8 @@ ghost use Rattle.bx_commands.specs.Proved.{IsProvedFor};
 
 use crate::checking::{plan_from, proved_plan};
 use crate::fault::CommandFault;
-use bx_base::{Plan, Watched};
+use bx_base::Plan;
+use bx_devices::Watched;
 use std::fs;
 use std::fs::Files;
 

@@ -4,8 +4,8 @@ ghost use Rattle.std.specs.Prelude.{◌≡◌, ◌+◌, ◌≤◌, ◌++◌, OnO
 ghost use Rattle.std.specs.List.{flat_map};
 ghost use Rattle.std.specs.Io.KnownBytes.{Appends};
 ghost use Rattle.arrayvec.specs.ArrayVec.{array_vec_len};
-ghost use Rattle.bx_base.specs.Octets.{AppendsPrefix};
-ghost use Rattle.bx_base.specs.Watching.{device_of, is_faulted, reads_of};
+ghost use Rattle.bx_devices.specs.Octets.{AppendsPrefix};
+ghost use Rattle.bx_devices.specs.Watching.{device_of, is_faulted, reads_of};
 ghost use Rattle.bx_text.specs.Gathering.{Gathers, held};
 ghost use Rattle.bx_text.specs.Lines.{line_text};
 ghost use Rattle.bx_day.specs.Telling.{outcome_fields, entry_fields, maintenance_fields, outcomes_text};
@@ -13,7 +13,8 @@ ghost use Rattle.bx_day.specs.Telling.{outcome_fields, entry_fields, maintenance
 use crate::entry::Entry;
 use crate::exchange::Exchange;
 use crate::outcome::{Outcome, told};
-use bx_base::{ChannelSet, Watched, WriteFailed};
+use bx_base::ChannelSet;
+use bx_devices::{Watched, WriteFailed};
 use bx_text::{Block, Line, add, add_decimal, add_members, append};
 use std::io::Write;
 

@@ -1,8 +1,8 @@
 //! Days of few bookings, and what is told at their ends.
 
 use crate::steps::{Step, first_wrong};
-use bx_base::Watched;
 use bx_day::Exchange;
+use bx_devices::Watched;
 use bx_worked_days::{Row, exchange_of};
 use std::alloc::Global;
 use std::test::Fail;

@@ -1,7 +1,7 @@
 //! Outcomes on writers that fail at each place.
 
-use bx_base::{Failing, Watched};
 use bx_day::Exchange;
+use bx_devices::{Failing, Watched};
 use bx_worked_days::{Row, exchange_of};
 use std::alloc::Global;
 use std::test::Fail;

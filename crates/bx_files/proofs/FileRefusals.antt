@@ -1,7 +1,7 @@
 -- What a planning run that wrote no plan, and a check that wrote no total, say of the words.
 use Rattle.std.proofs.Common.{◌≡◌, ℕ, List, Bool, subst, inr}
 use Rattle.bx_base.specs.Bookings.{Row}
-use Rattle.bx_base.specs.Devices.{Reading, Writing}
+use Rattle.bx_devices.specs.Devices.{Reading, Writing}
 use Rattle.bx_book.specs.Rows.{Span, span_of}
 use Rattle.bx_book.specs.Streams.{IsStreamFault}
 use Rattle.bx_book.specs.declared.day.Day.{Day}

@@ -2,7 +2,7 @@
 use Rattle.std.specs.Prelude.{ℕ, ◌-◌, Option, Some, None, length}
 use Rattle.std.specs.Io.KnownBytes.{Appends}
 use Rattle.bx_base.specs.Bookings.{Row, row_at}
-use Rattle.bx_base.specs.Devices.{Writing}
+use Rattle.bx_devices.specs.Devices.{Writing}
 use Rattle.bx_base.specs.PlanParts.{Parts}
 use Rattle.bx_commands.specs.Proved.{IsProvedFor}
 use Rattle.bx_quote.specs.Quotes.{asked}

@@ -3,8 +3,8 @@ use Rattle.std.specs.Prelude.{ℕ, Bool, List}
 use Rattle.std.specs.Io.KnownBytes.{Appends}
 use Rattle.bx_base.specs.Bookings.{Row}
 use Rattle.bx_base.specs.Channels.{AreChannels, HasJust}
-use Rattle.bx_base.specs.Devices.{Reading, Writing}
-use Rattle.bx_base.specs.Octets.{AppendsPrefix}
+use Rattle.bx_devices.specs.Devices.{Reading, Writing}
+use Rattle.bx_devices.specs.Octets.{AppendsPrefix}
 use Rattle.bx_base.specs.PlanParts.{Parts}
 use Rattle.bx_book.specs.NamedDays.{IsDayOf}
 use Rattle.bx_book.specs.Rows.{span_of}

@@ -2,9 +2,9 @@
 use Rattle.std.specs.Prelude.{◌≡◌, ℕ, true, Bool, List, Option, None, Err, ◌⊎◌}
 use Rattle.bx_base.specs.Bookings.{Row}
 use Rattle.bx_base.specs.ChannelFaults.{IsFirstFault}
-use Rattle.bx_base.specs.Devices.{Writing, KeepsOutput, writing_of}
+use Rattle.bx_devices.specs.Devices.{Writing, KeepsOutput, writing_of}
 use Rattle.bx_base.specs.PlanParts.{Parts}
-use Rattle.bx_base.specs.declared.watched.Watched.{Watched}
+use Rattle.bx_devices.specs.declared.watched.Watched.{Watched}
 use Rattle.bx_book.specs.NamedDays.{IsDayFault}
 use Rattle.bx_book.specs.declared.day.Day.{Day}
 use Rattle.bx_book.specs.declared.fault.BookFault.TheVariants as book

@@ -1,9 +1,9 @@
 -- What the command that draws a plan writes, and why it is refused.
 use Rattle.std.specs.Borrow.{Bor}
 use Rattle.std.specs.Prelude.{◌≡◌, ℕ, List, Option, Some, None, ◌⊎◌}
-use Rattle.bx_base.specs.Devices.{Writing, writing_of}
+use Rattle.bx_devices.specs.Devices.{Writing, writing_of}
 use Rattle.bx_base.specs.PlanParts.{Parts}
-use Rattle.bx_base.specs.declared.watched.Watched.{Watched}
+use Rattle.bx_devices.specs.declared.watched.Watched.{Watched}
 use Rattle.bx_book.specs.Clocks.{IsClock}
 use Rattle.bx_book.specs.declared.clock.Clock.{Clock}
 use Rattle.bx_chart.specs.Charts.{IsDrawn, IsChartRefusal}

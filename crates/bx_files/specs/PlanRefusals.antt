@@ -1,9 +1,9 @@
 -- Why a command that answers for a plan is refused, and what it did to its output then.
 use Rattle.std.specs.Prelude.{◌≡◌, ℕ, ◌≤◌, List, Option, Some, None, MatchOption, ◌⊎◌}
 use Rattle.bx_base.specs.Bookings.{Row}
-use Rattle.bx_base.specs.Devices.{Writing, writing_of}
+use Rattle.bx_devices.specs.Devices.{Writing, writing_of}
 use Rattle.bx_base.specs.PlanParts.{Parts}
-use Rattle.bx_base.specs.declared.watched.Watched.{Watched}
+use Rattle.bx_devices.specs.declared.watched.Watched.{Watched}
 use Rattle.bx_book.specs.NamedDays.{IsDayOf, IsDayFault}
 use Rattle.bx_book.specs.Rows.{Span, IsMomentOf, IsTimeFault, span_of}
 use Rattle.bx_book.specs.declared.day.Day.{Day}

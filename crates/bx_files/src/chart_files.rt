@@ -1,14 +1,14 @@
 //! The command that draws a plan.
 
 ghost use Rattle.std.specs.Prelude.{IfOk, IfErr, OnOk};
-ghost use Rattle.bx_base.specs.Devices.{writing_of};
+ghost use Rattle.bx_devices.specs.Devices.{writing_of};
 ghost use Rattle.bx_files.specs.Pictures.{IsClockOf, IsNoClock, IsPictured, IsNotPictured};
 
 use crate::fault::FileFault;
-use bx_base::Watched;
 use bx_book::Clock;
 use bx_chart::write_chart;
 use bx_commands::proved_in;
+use bx_devices::Watched;
 use std::fs::Files;
 use std::io::Write;
 

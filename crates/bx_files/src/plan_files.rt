@@ -1,15 +1,15 @@
 //! The commands that plan, check and amend.
 
 ghost use Rattle.std.specs.Prelude.{IfErr, OnOk};
-ghost use Rattle.bx_base.specs.Devices.{writing_of};
+ghost use Rattle.bx_devices.specs.Devices.{writing_of};
 ghost use Rattle.bx_files.specs.FilePlans.{IsPlanned, IsChecked, IsHeld};
 ghost use Rattle.bx_files.specs.FileRefusals.{IsPlanRefusal, IsCheckRefusal, IsNotAmended};
 
 use crate::fault::FileFault;
 use crate::inputs::bookings_in;
 use crate::naming::{channels_and_day, day_of};
-use bx_base::Watched;
 use bx_commands::{check_against, open, plan_in};
+use bx_devices::Watched;
 use bx_planning::{plan_run, write_amended};
 use bx_request::Terms;
 use std::fs::Files;

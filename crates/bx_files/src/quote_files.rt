@@ -1,7 +1,7 @@
 //! The commands that answer for what a plan refuses.
 
 ghost use Rattle.std.specs.Prelude.{◌≤◌, ◌⊎◌, IfOk, IfErr, OnOk};
-ghost use Rattle.bx_base.specs.Devices.{writing_of};
+ghost use Rattle.bx_devices.specs.Devices.{writing_of};
 ghost use Rattle.bx_book.specs.Rows.{IsTimeFault, span_of};
 ghost use Rattle.bx_files.specs.Answers.{IsExplained, IsQuoted};
 ghost use Rattle.bx_files.specs.Inside.{AreTimesOf};
@@ -9,9 +9,10 @@ ghost use Rattle.bx_files.specs.PlanRefusals.{IsNotExplained, AreTimes, AreNoSec
 
 use crate::fault::FileFault;
 use crate::naming::day_of;
-use bx_base::{Booking, Number, Watched};
+use bx_base::{Booking, Number};
 use bx_book::{BookFault, Day, moment};
 use bx_commands::proved_in;
+use bx_devices::Watched;
 use bx_quote::{write_explained, write_quote, write_refused};
 use bx_request::Call;
 use std::fs::Files;

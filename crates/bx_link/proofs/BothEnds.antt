@@ -1,6 +1,6 @@
 -- Both ends, one turn after another.
 use Rattle.std.proofs.Common.{◌≡◌, ℕ, ◌+◌, suc, not, List, [], ◌∷◌, ◌++◌, sym, ap, ◌∙◌, subst, arith, append-nil, Option, Result, Err, Bool, true, false, ◌⊎◌, inl, inr}
-use Rattle.bx_base.specs.declared.watched.Watched.{Watched}
+use Rattle.bx_devices.specs.declared.watched.Watched.{Watched}
 use Rattle.bx_day.specs.Day.{Day}
 use Rattle.bx_day.specs.Run.{Event, Tick, Receive}
 use Rattle.bx_far.specs.FarDay.{FarDay}

@@ -1,10 +1,10 @@
 -- Turns of the exchange, one after another.
 use Rattle.std.proofs.Common.{◌≡◌, ℕ, ◌+◌, suc, List, [], ◌∷◌, ◌++◌, refl, sym, ap, ◌∙◌, subst, arith, Option, Result, Ok, Err, Bool, true, false, ◌⊎◌, inl, inr}
 use Rattle.std.specs.Io.KnownBytes.{Appends}
-use Rattle.bx_base.specs.declared.watched.Watched.{Watched}
-use Rattle.bx_base.specs.Watching.{device_of, is_faulted}
+use Rattle.bx_devices.specs.declared.watched.Watched.{Watched}
+use Rattle.bx_devices.specs.Watching.{device_of, is_faulted}
 use Rattle.bx_day.specs.Day.{Day}
-use Rattle.bx_base.specs.declared.octets.WriteFailed.{WriteFailed as Failed}
+use Rattle.bx_devices.specs.declared.octets.WriteFailed.{WriteFailed as Failed}
 use Rattle.bx_day.specs.Run.{Event, Tick}
 use Rattle.bx_link.specs.Ends.{after, told, ticks_of, exchange_next, exchange_text}
 use Rattle.bx_link.specs.Frames.{is_far, day_frame}

@@ -19,7 +19,7 @@ use Rattle.bx_far.specs.FarDay.{FarDay, far_tick, far_ticked, far_refuses, far_t
 use Rattle.bx_calls.specs.Sending.{Sent, Answered, unchanged}
 use Rattle.bx_far.specs.FarRun.{far_receive_from, far_receive_read, far_receive_octets}
 use Rattle.bx_far.specs.Policies.{policy_of}
-use Rattle.bx_base.specs.declared.watched.Watched.{Watched}
+use Rattle.bx_devices.specs.declared.watched.Watched.{Watched}
 use Rattle.bx_link.specs.Days.{FarTalks, EndsFarDay, RunsFarDay}
 use Rattle.bx_link.specs.Ends.{after, ticks_of, far_next}
 use Rattle.bx_link.specs.declared.fault.LinkFault.{LinkFault}

@@ -1,7 +1,7 @@
 -- Turns of the far end, one after another.
 use Rattle.std.proofs.Common.{◌≡◌, ℕ, ◌+◌, ◌≤◌, min, zero, suc, List, [], ◌∷◌, ◌++◌, refl, sym, ap, ◌∙◌, subst, arith, Option, Result, Ok, Err, Bool, true, false, ◌⊎◌, inl, inr}
-use Rattle.bx_base.specs.declared.octets.WriteFailed.{WriteFailed as Failed}
-use Rattle.bx_base.specs.declared.watched.Watched.{Watched}
+use Rattle.bx_devices.specs.declared.octets.WriteFailed.{WriteFailed as Failed}
+use Rattle.bx_devices.specs.declared.watched.Watched.{Watched}
 use Rattle.bx_day.specs.Run.{Event, Tick}
 use Rattle.bx_far.specs.FarDay.{FarDay}
 use Rattle.bx_link.specs.Ends.{after, ticks_of, far_next, far_text}

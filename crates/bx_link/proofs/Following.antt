@@ -1,8 +1,8 @@
 -- What is heard behind a turn that has ended.
 use Rattle.std.proofs.Common.{◌≡◌, ℕ, List, [], ◌++◌, refl, sym, ap, ◌∙◌, append-nil, Option, Some, Result, Ok, Err, Bool, true, false, ◌⊎◌, inl, inr}
 use Rattle.std.specs.Io.KnownBytes.{Appends}
-use Rattle.bx_base.specs.declared.watched.Watched.{Watched}
-use Rattle.bx_base.specs.Watching.{device_of, is_faulted}
+use Rattle.bx_devices.specs.declared.watched.Watched.{Watched}
+use Rattle.bx_devices.specs.Watching.{device_of, is_faulted}
 use Rattle.bx_day.specs.Run.{Event}
 use Rattle.bx_link.specs.Ends.{told, ticks_last}
 use Rattle.bx_link.specs.Frames.{is_far}

@@ -3,9 +3,9 @@ use Rattle.std.proofs.Common.{◌≡◌, ◌≢◌, ℕ, ◌-◌, ◌<◌, List,
 use Rattle.std.specs.Io.KnownBytes.{Appends}
 use Rattle.std.proofs.KnownBytes.{Appends-nil}
 use Rattle.arrayvec.specs.ArrayVec.{ArrayVec}
-use Rattle.bx_base.specs.declared.watched.Watched.{Watched}
-use Rattle.bx_base.specs.Watching.{device_of, is_faulted}
-use Rattle.bx_base.specs.declared.octets.WriteFailed.{WriteFailed}
+use Rattle.bx_devices.specs.declared.watched.Watched.{Watched}
+use Rattle.bx_devices.specs.Watching.{device_of, is_faulted}
+use Rattle.bx_devices.specs.declared.octets.WriteFailed.{WriteFailed}
 use Rattle.bx_day.specs.Run.{Event, Receive}
 use Rattle.bx_link.specs.Ends.{told, ticks_of}
 use Rattle.bx_link.specs.Frames.{Found, frame_in}

@@ -2,8 +2,8 @@
 use Rattle.std.proofs.Common.{◌≡◌, ℕ, ◌<◌, nat_lt, true, false, not, ◌&&◌, ◌==◌, Bool, subst, List, length, refl, sym, ap, ◌∙◌, arith, Option, Some, None, Result, Err, ◌⊎◌, inl, inr}
 use Rattle.std.proofs.lemmas.Bool.Decides.{nat_tests}
 use Rattle.std.specs.Io.KnownBytes.{Consumes}
-use Rattle.bx_base.specs.declared.watched.Watched.{Watched}
-use Rattle.bx_base.specs.Watching.{device_of, is_faulted}
+use Rattle.bx_devices.specs.declared.watched.Watched.{Watched}
+use Rattle.bx_devices.specs.Watching.{device_of, is_faulted}
 use Rattle.bx_link.specs.Frames.{Found, found, and_then, continue_by, octets_in, fits, is_message, contents_in, sized_in}
 use Rattle.bx_link.specs.declared.frame.FrameKind.{FrameKind}
 use Rattle.bx_link.specs.declared.frame.Frame.{Frame}

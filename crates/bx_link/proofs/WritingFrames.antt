@@ -6,9 +6,9 @@ use Rattle.std.proofs.KnownBytes.{Appends-trans}
 use Rattle.std.proofs.lemmas.List.{append-nil, take-append-le, take_more, take_all, take-append-drop}
 use Rattle.std.proofs.lemmas.Grind.{flat_map-append}
 use Rattle.std.proofs.Math.Seq.{take-append-add}
-use Rattle.bx_base.specs.declared.watched.Watched.{Watched}
-use Rattle.bx_base.specs.declared.octets.WriteFailed.{WriteFailed}
-use Rattle.bx_base.specs.Watching.{device_of}
+use Rattle.bx_devices.specs.declared.watched.Watched.{Watched}
+use Rattle.bx_devices.specs.declared.octets.WriteFailed.{WriteFailed}
+use Rattle.bx_devices.specs.Watching.{device_of}
 use Rattle.bx_link.specs.Inside.{Sends}
 
 abbrev pub Written : Type 0

@@ -2,14 +2,14 @@
 use Rattle.std.specs.Prelude.{◌≡◌, ℕ, ◌+◌, ◌≤◌, ◌<◌, Bool, true, false, List, Option, Result, Ok, Err, ◌⊎◌, min}
 use Rattle.std.proofs.Common.{inl, inr}
 use Rattle.std.specs.Io.KnownBytes.{Appends}
-use Rattle.bx_base.specs.declared.watched.Watched.{Watched}
-use Rattle.bx_base.specs.Watching.{device_of, is_faulted}
+use Rattle.bx_devices.specs.declared.watched.Watched.{Watched}
+use Rattle.bx_devices.specs.Watching.{device_of, is_faulted}
 use Rattle.bx_day.specs.Day.{Day}
 use Rattle.bx_far.specs.FarDay.{FarDay}
 use Rattle.bx_day.specs.Run.{Event}
 use Rattle.bx_link.specs.Ends.{ticks_of, exchange_next, exchange_text, far_next, far_text}
 use Rattle.bx_link.specs.Frames.{day_frame}
-use Rattle.bx_base.specs.Octets.{AppendsPart}
+use Rattle.bx_devices.specs.Octets.{AppendsPart}
 use Rattle.bx_link.specs.Talking.{talk_in, far_talk_in}
 use Rattle.bx_link.specs.Hearing.{Went}
 use Rattle.bx_link.specs.declared.fault.LinkFault.{LinkFault}

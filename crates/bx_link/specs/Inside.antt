@@ -8,11 +8,11 @@ use Rattle.bx_link.specs.declared.frame.FrameKind.TheVariants as kinds
 use Rattle.bx_link.specs.declared.frame.Frame.{Frame}
 use Rattle.bx_link.specs.declared.frame.Frame.TheVariants as frames
 use Rattle.bx_link.specs.Frames.{is_far, Found, found}
-use Rattle.bx_base.specs.Watching.{device_of, is_faulted, reads_of}
-use Rattle.bx_base.specs.declared.watched.Watched.{Watched}
+use Rattle.bx_devices.specs.Watching.{device_of, is_faulted, reads_of}
+use Rattle.bx_devices.specs.declared.watched.Watched.{Watched}
 use Rattle.bx_link.specs.Reading.{IsRead, FailsToRead}
 use Rattle.std.specs.Io.KnownBytes.{Appends}
-use Rattle.bx_base.specs.Octets.{AppendsPart}
+use Rattle.bx_devices.specs.Octets.{AppendsPart}
 
 -- which frames come: a message only while there is room for one, and the end of the day only to the far end
 abbrev pub MayCome : Side → ℕ → Frame → Type 0

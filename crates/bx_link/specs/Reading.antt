@@ -1,7 +1,7 @@
 -- What is read from a watched reader, by what a definition finds in the octets that it has left.
 use Rattle.std.specs.Prelude.{◌≡◌, ℕ, ◌+◌, ◌≤◌, min, true, List, ◌++◌, Option, Some}
-use Rattle.bx_base.specs.Watching.{is_faulted, reads_of}
-use Rattle.bx_base.specs.declared.watched.Watched.{Watched}
+use Rattle.bx_devices.specs.Watching.{is_faulted, reads_of}
+use Rattle.bx_devices.specs.declared.watched.Watched.{Watched}
 
 -- of the text this was read, and these octets are left
 pub record IsRead (text read : List ℕ) (left : Option (List ℕ)) : Type 0 where

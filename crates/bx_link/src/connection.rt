@@ -1,6 +1,6 @@
 //! What an end reads from and writes to.
 
-use bx_base::Watched;
+use bx_devices::Watched;
 use std::io::{Read, Write};
 
 /// An end of a connection.

@@ -8,8 +8,8 @@ use crate::end::End;
 use crate::fault::LinkFault;
 use crate::frame_writing::write_end_of_day;
 use crate::session::Session;
-use bx_base::Watched;
 use bx_day::Exchange;
+use bx_devices::Watched;
 use std::io::{Read, Write};
 
 /// The moment at which a day stands still.

@@ -5,7 +5,7 @@ ghost use Rattle.bx_link.specs.Days.{RunsFarDay};
 use crate::end::End;
 use crate::far_session::FarSession;
 use crate::fault::LinkFault;
-use bx_base::Watched;
+use bx_devices::Watched;
 use bx_far::Far;
 use std::io::{Read, Write};
 

@@ -10,7 +10,7 @@ use crate::end::End;
 use crate::fault::LinkFault;
 use crate::frame::Side;
 use crate::turn::{hear_turn, write_tick};
-use bx_base::Watched;
+use bx_devices::Watched;
 use bx_far::Far;
 use std::io::{Read, Write};
 

@@ -8,7 +8,7 @@ use crate::fault::LinkFault;
 use crate::frame::{Frame, FrameKind, Side};
 use crate::octet_reading::read_exact_octets;
 use arrayvec::ArrayVec;
-use bx_base::Watched;
+use bx_devices::Watched;
 use bx_q931::Octets;
 use std::io::Read;
 

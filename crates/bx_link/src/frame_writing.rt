@@ -8,7 +8,7 @@ ghost use Rattle.bx_link.specs.Ends.{frame_with};
 ghost use Rattle.bx_link.specs.Inside.{Sends};
 
 use arrayvec::ArrayVec;
-use bx_base::{Watched, WriteFailed, write_octets};
+use bx_devices::{Watched, WriteFailed, write_octets};
 use bx_q931::Octets;
 use std::io::Write;
 

@@ -2,11 +2,11 @@
 
 ghost use Rattle.std.specs.Prelude.{◌≡◌, ◌≤◌, ◌<◌, ℕ, List, length, take, IfOk, OnOk, OnErr};
 ghost use Rattle.std.specs.Io.KnownBytes.{Consumes, IsAtEnd};
-ghost use Rattle.bx_base.specs.Watching.{device_of, is_faulted, reads_of};
+ghost use Rattle.bx_devices.specs.Watching.{device_of, is_faulted, reads_of};
 ghost use Rattle.bx_link.specs.Reading.{FailsToRead};
 
 use crate::fault::LinkFault;
-use bx_base::Watched;
+use bx_devices::Watched;
 use std::io::Read;
 
 /// A read failed.

@@ -10,8 +10,8 @@ use crate::end::End;
 use crate::fault::LinkFault;
 use crate::frame::Side;
 use crate::turn::{hear_turn, write_tick};
-use bx_base::Watched;
 use bx_day::Exchange;
+use bx_devices::Watched;
 use std::io::{Read, Write};
 
 /// Where a session stands.

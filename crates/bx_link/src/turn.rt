@@ -14,7 +14,7 @@ use crate::fault::LinkFault;
 use crate::frame::{Frame, Side};
 use crate::frame_reading::read_frame;
 use crate::frame_writing::{write_end_of_turn, write_message, write_messages};
-use bx_base::{Watched, WriteFailed};
+use bx_devices::{Watched, WriteFailed};
 use bx_q931::Octets;
 use std::io::{Read, Write};
 

@@ -4,8 +4,8 @@ use crate::frames::{
     CONNECT, CONNECT_ACKNOWLEDGE, DISCONNECT, END_OF_DAY, OPENED, RELEASE, RELEASE_COMPLETE,
     connection, joined,
 };
-use bx_base::Watched;
 use bx_day::Exchange;
+use bx_devices::Watched;
 use bx_far::Far;
 use bx_link::{FarSession, Session, run_both_ends};
 use bx_worked_days::{exchange, far_end};

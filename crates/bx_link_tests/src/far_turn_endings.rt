@@ -1,7 +1,7 @@
 //! How a turn of the far end ends, by what comes.
 
 use crate::frames::{END_OF_TURN, FAR_REFUSAL, FAR_STRAY, repeated};
-use bx_base::Watched;
+use bx_devices::Watched;
 use bx_link::{FarSession, LinkFault};
 use bx_worked_days::far_end;
 use std::alloc::Global;

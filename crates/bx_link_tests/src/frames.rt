@@ -1,6 +1,6 @@
 //! Worked frames, of a call with reference 1 on channel 1 to the number 1234, and connections that give them.
 
-use bx_base::Watched;
+use bx_devices::Watched;
 use bx_link::Connection;
 use std::alloc::Global;
 

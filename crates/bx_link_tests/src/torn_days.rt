@@ -1,7 +1,7 @@
 //! Days of both ends over connections that do not carry what the other end writes.
 
 use crate::frames::{CONNECT, END_OF_DAY, END_OF_TURN, OPENED, connection, joined};
-use bx_base::{Failing, Watched};
+use bx_devices::{Failing, Watched};
 use bx_link::{Connection, LinkFault, run_both_ends, run_far_day};
 use bx_worked_days::{exchange, far_end};
 use std::alloc::Global;

@@ -1,7 +1,7 @@
 //! How a turn of the exchange ends, by what comes.
 
 use crate::frames::{END_OF_TURN, OPENED, REFUSAL, STRAY, repeated};
-use bx_base::Watched;
+use bx_devices::Watched;
 use bx_link::{LinkFault, Session};
 use bx_worked_days::exchange;
 use std::alloc::Global;

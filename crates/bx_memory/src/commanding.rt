@@ -1,9 +1,9 @@
 //! The commands over readers and writers. A refused growth has to leave the output empty.
 
 use crate::world::{Answer, BOOKINGS, World};
-use bx_base::Watched;
 use bx_check::check;
 use bx_commands::{CommandFault, check_against, check_self, decode};
+use bx_devices::Watched;
 use bx_planning::{RunFault, plan_run};
 use bx_quote::{QuoteFail, QuoteFault, write_explained, write_refused};
 use std::alloc::Global;

@@ -10,7 +10,7 @@ mod running;
 mod world;
 
 use crate::world::{Answer, World, world_of};
-use bx_base::{Watched, write_octets};
+use bx_devices::{Watched, write_octets};
 use std::alloc::Global;
 use std::io::Write;
 use std::process::ExitCode;

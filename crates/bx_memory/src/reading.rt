@@ -1,8 +1,9 @@
 //! The calls that read, and the list of bookings.
 
 use crate::world::{Answer, BOOKINGS, World};
-use bx_base::{AddFault, Bookings, ReadFault, Watched, read_octets};
+use bx_base::{AddFault, Bookings};
 use bx_book::{BookFault, StreamFault, read_bookings, read_bookings_from};
+use bx_devices::{ReadFault, Watched, read_octets};
 use bx_far::{Script, ScriptFault};
 use bx_planfile::{PlanFault, read_plan};
 use std::alloc::Global;

@@ -6,9 +6,9 @@ ghost use Rattle.std.specs.Io.KnownBytes.{Appends};
 ghost use Rattle.bx_base.specs.Bookings.{AreBookings};
 ghost use Rattle.bx_base.specs.Bound.{IsCharge, price_at};
 ghost use Rattle.bx_base.specs.Channels.{IsChannelSet};
-ghost use Rattle.bx_base.specs.Octets.{AppendsPrefix};
+ghost use Rattle.bx_devices.specs.Octets.{AppendsPrefix};
 ghost use Rattle.bx_base.specs.PlanParts.{IsPlan, parts_of};
-ghost use Rattle.bx_base.specs.Watching.{device_of, is_faulted, reads_of};
+ghost use Rattle.bx_devices.specs.Watching.{device_of, is_faulted, reads_of};
 ghost use Rattle.bx_planfile.specs.declared.version.Version.TheVariants.{Three};
 ghost use Rattle.bx_text.specs.Lines.{line_text};
 ghost use Rattle.bx_planfile.specs.Text.{plan_text, booking_lines, price_fields};
@@ -17,7 +17,8 @@ ghost use Rattle.bx_text.specs.Gathering.{Gathers, held};
 
 use crate::fault::PlanWriteFault;
 use crate::written_lines::{booking_line, channels_line, price_line};
-use bx_base::{Plan, Price, Watched};
+use bx_base::{Plan, Price};
+use bx_devices::Watched;
 use bx_text::{Block, named_line};
 use std::io::Write;
 

@@ -2,8 +2,8 @@
 use Rattle.std.proofs.Common.{◌≡◌, ℕ, List, [], Option, Some, None, length, refl, sym, subst, arith}
 use Rattle.std.specs.Io.KnownBytes.{Consumes}
 use Rattle.bx_base.specs.Bookings.{Row}
-use Rattle.bx_base.specs.Devices.{Reading}
-use Rattle.bx_base.specs.Octets.{ReadsWithin}
+use Rattle.bx_devices.specs.Devices.{Reading}
+use Rattle.bx_devices.specs.Octets.{ReadsWithin}
 use Rattle.bx_book.specs.Rows.{Span}
 use Rattle.bx_book.specs.Streams.{IsBookRead, IsWhole}
 

@@ -2,8 +2,8 @@
 use Rattle.std.specs.Prelude.{◌≡◌, ℕ, Bool, true, List}
 use Rattle.std.specs.Io.KnownBytes.{Appends}
 use Rattle.bx_base.specs.Bookings.{Row}
-use Rattle.bx_base.specs.Devices.{Writing, KeepsOutput}
-use Rattle.bx_base.specs.Octets.{AppendsPrefix}
+use Rattle.bx_devices.specs.Devices.{Writing, KeepsOutput}
+use Rattle.bx_devices.specs.Octets.{AppendsPrefix}
 use Rattle.bx_base.specs.PlanParts.{Parts, IsPlan}
 use Rattle.bx_planfile.specs.declared.version.Version.TheVariants.{Three}
 use Rattle.bx_planfile.specs.Text.{plan_text}

@@ -2,8 +2,8 @@
 use Rattle.std.specs.Prelude.{◌≡◌, ℕ, true, false, Bool, List}
 use Rattle.std.specs.Io.KnownBytes.{Appends}
 use Rattle.bx_base.specs.Bookings.{Row}
-use Rattle.bx_base.specs.Devices.{Reading, Writing, KeepsOutput}
-use Rattle.bx_base.specs.Octets.{AppendsPrefix, ReadsWithin}
+use Rattle.bx_devices.specs.Devices.{Reading, Writing, KeepsOutput}
+use Rattle.bx_devices.specs.Octets.{AppendsPrefix, ReadsWithin}
 use Rattle.bx_base.specs.PlanParts.{Parts, IsPlan}
 use Rattle.bx_book.specs.Rows.{Span}
 use Rattle.bx_book.specs.Streams.{IsBookRead, IsStreamFault}

@@ -1,7 +1,7 @@
 -- Private: why there are no bookings, or no plan of them.
 use Rattle.std.specs.Prelude.{Bool, List}
 use Rattle.bx_base.specs.Bookings.{Row}
-use Rattle.bx_base.specs.Devices.{Reading}
+use Rattle.bx_devices.specs.Devices.{Reading}
 use Rattle.bx_book.specs.Rows.{Span}
 use Rattle.bx_book.specs.Streams.{IsStreamFault}
 use Rattle.bx_book.specs.declared.stream.StreamFault.TheVariants as stream

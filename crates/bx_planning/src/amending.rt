@@ -1,11 +1,12 @@
 //! The text of a plan that keeps the promises of another.
 
 ghost use Rattle.std.specs.Prelude.{IfOk, IfErr};
-ghost use Rattle.bx_base.specs.Devices.{writing_of};
+ghost use Rattle.bx_devices.specs.Devices.{writing_of};
 ghost use Rattle.bx_planning.specs.Amending.{IsAmended, IsAmendRefusal};
 ghost use Rattle.bx_planner.specs.Amending.{amended};
 
-use bx_base::{Bookings, Plan, Watched};
+use bx_base::{Bookings, Plan};
+use bx_devices::Watched;
 use bx_planfile::write_plan;
 use bx_planner::{AmendFail, amend};
 use std::alloc::Global;

@@ -2,15 +2,16 @@
 
 ghost use Rattle.std.specs.Prelude.{IfOk, IfErr};
 ghost use Rattle.bx_base.specs.PlanParts.{IsPlan, parts_of};
-ghost use Rattle.bx_base.specs.Devices.{reading_of, writing_of};
+ghost use Rattle.bx_devices.specs.Devices.{reading_of, writing_of};
 ghost use Rattle.bx_book.specs.Rows.{span_of};
 ghost use Rattle.bx_book.specs.Streams.{IsBookRead};
 ghost use Rattle.bx_planning.specs.Planning.{IsRun, IsRunRefusal};
 ghost use Rattle.bx_planning.specs.Unplanned.{AreUnread, IsPlanFail};
 ghost use Rattle.bx_planner.specs.Proved.{IsProved};
 
-use bx_base::{Bookings, ChannelSet, Plan, Watched};
+use bx_base::{Bookings, ChannelSet, Plan};
 use bx_book::{BookFault, Day, StreamFault, read_bookings_from};
+use bx_devices::Watched;
 use bx_planfile::write_plan;
 use bx_planner::{PlanFail, plan};
 use std::alloc::Global;

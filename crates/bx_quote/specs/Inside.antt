@@ -1,7 +1,7 @@
 -- Private: what its functions promise one another.
 use Rattle.std.specs.Prelude.{◌≡◌, ℕ, ◌==◌, ◌&&◌, not, Bool, true, List}
-use Rattle.bx_base.specs.Devices.{Writing}
-use Rattle.bx_base.specs.Octets.{AppendsPrefix}
+use Rattle.bx_devices.specs.Devices.{Writing}
+use Rattle.bx_devices.specs.Octets.{AppendsPrefix}
 use Rattle.bx_quote.specs.declared.writing.QuoteFault.{QuoteFault}
 use Rattle.bx_quote.specs.declared.writing.QuoteFault.TheVariants as fault
 

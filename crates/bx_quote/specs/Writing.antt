@@ -2,8 +2,8 @@
 use Rattle.std.specs.Prelude.{◌≡◌, ℕ, ◌-◌, true, List, length}
 use Rattle.std.specs.Io.KnownBytes.{Appends}
 use Rattle.bx_base.specs.Bookings.{Row, row_at}
-use Rattle.bx_base.specs.Devices.{Writing, KeepsOutput}
-use Rattle.bx_base.specs.Octets.{AppendsPrefix}
+use Rattle.bx_devices.specs.Devices.{Writing, KeepsOutput}
+use Rattle.bx_devices.specs.Octets.{AppendsPrefix}
 use Rattle.bx_base.specs.PlanParts.{Parts}
 use Rattle.bx_quote.specs.declared.answer.Quote.{Quote}
 use Rattle.bx_quote.specs.declared.answer.QuoteFail.TheVariants.{Memory}

@@ -1,7 +1,7 @@
 -- What a command of a day that stops before anything is written did to its output: nothing.
 use Rattle.std.proofs.Common.{◌≡◌, ℕ, List, Option, Some, refl, sym, subst, inl, inr}
 use Rattle.std.specs.Prelude.{MatchOption}
-use Rattle.bx_base.specs.declared.watched.Watched.{Watched}
+use Rattle.bx_devices.specs.declared.watched.Watched.{Watched}
 use Rattle.bx_commands.specs.declared.fault.CommandFault.TheVariants.{CannotWrite}
 use Rattle.bx_request.specs.declared.request.CaptureWords.{CaptureWords}
 use Rattle.bx_sockets.specs.DayRefusals.{StopsDay, IsDayRefusal}

@@ -1,6 +1,6 @@
 -- A day that was run, or stopped.
 use Rattle.std.proofs.Common.{◌≡◌, ℕ, ◌-◌, min, List, true, ap, ◌∙◌, refl, Option, Result, Ok, Err, inl, inr, ◌+◌, ◌≤◌, arith}
-use Rattle.bx_base.specs.declared.watched.Watched.{Watched}
+use Rattle.bx_devices.specs.declared.watched.Watched.{Watched}
 use Rattle.bx_day.specs.Day.{Day}
 use Rattle.bx_far.specs.FarDay.{FarDay}
 use Rattle.bx_link.specs.BothEnds.{Passage, RunsBoth, passage}

@@ -1,7 +1,7 @@
 -- Why a command of a day is refused, and what it did to its output then.
 use Rattle.std.specs.Prelude.{◌≡◌, ℕ, true, List, Option, Some, None, MatchOption, ◌⊎◌}
-use Rattle.bx_base.specs.declared.watched.Watched.{Watched}
-use Rattle.bx_base.specs.Watching.{device_of, is_faulted}
+use Rattle.bx_devices.specs.declared.watched.Watched.{Watched}
+use Rattle.bx_devices.specs.Watching.{device_of, is_faulted}
 use Rattle.bx_book.specs.DayParts.{start_of}
 use Rattle.bx_book.specs.NamedDays.{IsDayOf, IsDayFault}
 use Rattle.bx_book.specs.declared.day.Day.{Day}

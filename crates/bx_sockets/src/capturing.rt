@@ -4,9 +4,9 @@ ghost use Rattle.std.specs.Prelude.{◌≤◌, IfOk, IfErr};
 ghost use Rattle.bx_sockets.specs.DayRefusals.{IsNoCapture};
 
 use crate::fault::SocketFault;
-use bx_base::Watched;
 use bx_book::Day;
 use bx_capture::{first_second, write_file_header};
+use bx_devices::Watched;
 use bx_request::CaptureWords;
 use std::fs;
 use std::fs::Files;

@@ -2,8 +2,8 @@
 
 ghost use Rattle.std.specs.Prelude.{◌≡◌, true, IfOk, IfErr, OnOk, OnErr};
 ghost use Rattle.std.specs.Io.KnownBytes.{Appends};
-ghost use Rattle.bx_base.specs.Octets.{AppendsPrefix};
-ghost use Rattle.bx_base.specs.Watching.{device_of, is_faulted};
+ghost use Rattle.bx_devices.specs.Octets.{AppendsPrefix};
+ghost use Rattle.bx_devices.specs.Watching.{device_of, is_faulted};
 ghost use Rattle.bx_sockets.specs.DayRefusals.{StopsDay, StopsServing, StopsFarEnd, IsDayRefusal, IsServeRefusal, IsFarRefusal};
 ghost use Rattle.bx_sockets.specs.Days.{IsDayRun, IsDayTold, IsFarRun, IsFarTold, ended_line};
 
@@ -12,10 +12,10 @@ use crate::fault::SocketFault;
 use crate::loopback::{accepted, both_ends, connected};
 use crate::openings::{far_end_of, opening_of};
 use crate::progress::Shown;
-use bx_base::{Watched, WriteFailed, write_octets};
 use bx_capture::Captured;
 use bx_commands::CommandFault;
 use bx_day::Exchange;
+use bx_devices::{Watched, WriteFailed, write_octets};
 use bx_link::{Connection, End, run_both_ends, run_day, run_far_day};
 use bx_request::Sight;
 use bx_text::named_line;

@@ -7,10 +7,11 @@ ghost use Rattle.bx_sockets.specs.DayRefusals.{IsNoOpening, IsNoFarEnd};
 ghost use Rattle.bx_sockets.specs.Days.{IsLastOf, IsOpening, IsFarOpening};
 
 use crate::fault::SocketFault;
-use bx_base::{Plan, ReadFault, read_octets};
+use bx_base::Plan;
 use bx_calls::timers::{T305, T308};
 use bx_commands::{CommandFault, open, proved_in};
 use bx_day::Exchange;
+use bx_devices::{ReadFault, read_octets};
 use bx_far::{Far, Script, ScriptFault};
 use std::fs::Files;
 

@@ -5,12 +5,12 @@ use Rattle.std.specs.Io.KnownBytes.{Appends}
 use Rattle.std.proofs.KnownBytes.{Appends-nil, Appends-trans}
 use Rattle.std.proofs.lemmas.List.{append-nil, take_more, take_all, take-append-drop}
 use Rattle.std.proofs.lemmas.Grind.{flat_map-append}
-use Rattle.bx_base.specs.Octets.{AppendsPrefix}
-use Rattle.bx_base.specs.Watching.{device_of, is_faulted, reads_of}
-use Rattle.bx_base.specs.declared.watched.Watched.{Watched}
+use Rattle.bx_devices.specs.Octets.{AppendsPrefix}
+use Rattle.bx_devices.specs.Watching.{device_of, is_faulted, reads_of}
+use Rattle.bx_devices.specs.declared.watched.Watched.{Watched}
 use Rattle.bx_text.specs.declared.block.Block.{Block}
 use Rattle.std.specs.Prelude.{OnOk, OnErr, IsTrue}
-use Rattle.bx_base.proofs.OctetLemmas.{AppendsPrefix-more, AppendsPrefix-after}
+use Rattle.bx_devices.proofs.OctetLemmas.{AppendsPrefix-more, AppendsPrefix-after}
 use Rattle.bx_text.specs.Lines.{line_text}
 use Rattle.bx_text.specs.Writing.{Writes}
 use Rattle.bx_text.specs.Gathering.{Held, Gathers, held, octets_of}

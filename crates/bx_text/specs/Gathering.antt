@@ -1,9 +1,9 @@
 -- What putting a text does to a watched writer and the block before it.
 use Rattle.std.specs.Prelude.{◌≡◌, ℕ, List, ◌++◌, Option, Result, OnOk, OnErr, IsTrue}
 use Rattle.std.specs.Io.KnownBytes.{Appends}
-use Rattle.bx_base.specs.declared.watched.Watched.{Watched}
-use Rattle.bx_base.specs.Watching.{device_of, is_faulted, reads_of}
-use Rattle.bx_base.specs.Octets.{AppendsPrefix}
+use Rattle.bx_devices.specs.declared.watched.Watched.{Watched}
+use Rattle.bx_devices.specs.Watching.{device_of, is_faulted, reads_of}
+use Rattle.bx_devices.specs.Octets.{AppendsPrefix}
 use Rattle.bx_text.specs.declared.block.Block.{Block}
 
 -- the octets of a block

@@ -1,9 +1,9 @@
 -- What writing a text does to a watched writer.
 use Rattle.std.specs.Prelude.{◌≡◌, ℕ, List, Option, Result, OnOk, OnErr, IsTrue}
 use Rattle.std.specs.Io.KnownBytes.{Appends}
-use Rattle.bx_base.specs.declared.watched.Watched.{Watched}
-use Rattle.bx_base.specs.Watching.{device_of, is_faulted, reads_of}
-use Rattle.bx_base.specs.Octets.{AppendsPrefix}
+use Rattle.bx_devices.specs.declared.watched.Watched.{Watched}
+use Rattle.bx_devices.specs.Watching.{device_of, is_faulted, reads_of}
+use Rattle.bx_devices.specs.Octets.{AppendsPrefix}
 
 -- it is written, or a write fails and a front of it is
 pub record Writes {W T E : Type 0} (contents : W → Option (List ℕ)) (old new : Watched W) (result : Result T E) (text : List ℕ) : Type 0 where

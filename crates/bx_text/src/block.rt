@@ -4,7 +4,7 @@ ghost use Rattle.std.specs.Prelude.{◌≡◌, [], OnOk};
 ghost use Rattle.bx_text.specs.Gathering.{Gathers, held, octets_of};
 
 use arrayvec::ArrayVec;
-use bx_base::{Watched, WriteFailed, write_octets};
+use bx_devices::{Watched, WriteFailed, write_octets};
 use std::io::Write;
 
 /// Up to 8,192 octets that were put and are not written yet. They lie in the block itself: it takes no memory.

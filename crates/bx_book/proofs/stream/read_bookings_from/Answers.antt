@@ -1,6 +1,6 @@
 use Rattle.std.proofs.Common.{◌≡◌, rules, ◌⊎◌, true, IfSome}
 use Rattle.csv.specs.Reading.{strip_bom}
-use Rattle.bx_base.specs.Watching.{device_of, is_faulted, reads_of}
+use Rattle.bx_devices.specs.Watching.{device_of, is_faulted, reads_of}
 use Rattle.bx_book.specs.Rows.{span_of}
 use Rattle.bx_book.specs.Passed.{is_spent}
 use Rattle.bx_book.specs.Texts.{IsBook, IsBookFault}

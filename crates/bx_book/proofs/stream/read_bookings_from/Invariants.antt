@@ -1,4 +1,4 @@
-use Rattle.bx_base.specs.Watching.{device_of, reads_of}
+use Rattle.bx_devices.specs.Watching.{device_of, reads_of}
 use Rattle.bx_book.proofs.stream.read_bookings_from.Given as goal
 
 -- the reader that is read

@@ -1,5 +1,5 @@
 use Rattle.std.proofs.Common.{◌≡◌, false}
-use Rattle.bx_base.specs.Watching.{is_faulted}
+use Rattle.bx_devices.specs.Watching.{is_faulted}
 use Rattle.bx_capture.specs.Packets.{packet}
 use Rattle.bx_capture.proofs.Taking.{kept_by}
 use Rattle.bx_capture.proofs.captured.write_while_whole.Goals as goal

@@ -1,4 +1,4 @@
-use Rattle.bx_base.specs.Devices.{reading_of, writing_of}
+use Rattle.bx_devices.specs.Devices.{reading_of, writing_of}
 use Rattle.bx_base.specs.PlanParts.{parts_of}
 use Rattle.bx_commands.proofs.Judging.{unjudged}
 use Rattle.bx_commands.proofs.checking.check_self.Goals as goal

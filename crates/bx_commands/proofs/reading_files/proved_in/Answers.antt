@@ -1,4 +1,4 @@
-use Rattle.bx_base.specs.Devices.{reading_of}
+use Rattle.bx_devices.specs.Devices.{reading_of}
 use Rattle.bx_commands.proofs.Unread.{none_proved}
 use Rattle.bx_commands.proofs.reading_files.proved_in.Goals as goal
 

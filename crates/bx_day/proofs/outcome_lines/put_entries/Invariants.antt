@@ -1,6 +1,6 @@
 use Rattle.std.proofs.Common.{take, map}
 use Rattle.std.specs.List.{flat_map}
-use Rattle.bx_base.specs.declared.octets.WriteFailed.{WriteFailed}
+use Rattle.bx_devices.specs.declared.octets.WriteFailed.{WriteFailed}
 use Rattle.bx_text.specs.Lines.{line_text}
 use Rattle.bx_text.specs.Gathering.{Gathers, held}
 use Rattle.bx_text.proofs.GatheringSteps.{done}

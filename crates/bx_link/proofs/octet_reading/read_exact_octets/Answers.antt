@@ -1,7 +1,7 @@
 use Rattle.std.proofs.Common.{◌∙◌, arith}
 use Rattle.std.proofs.Math.Bool.{or-false}
-use Rattle.bx_base.specs.Watching.{is_faulted}
-use Rattle.bx_base.proofs.OctetLemmas.{length-from_place}
+use Rattle.bx_devices.specs.Watching.{is_faulted}
+use Rattle.bx_devices.proofs.OctetLemmas.{length-from_place}
 use Rattle.bx_link.proofs.OctetSteps.{read_within, Consumes-next, part_read}
 use Rattle.bx_link.proofs.octet_reading.read_exact_octets.Goals as goal
 

@@ -1,8 +1,8 @@
 use Rattle.std.proofs.Common.{[], ◌++◌, Err, subst}
 use Rattle.std.proofs.lemmas.List.{append-nil}
-use Rattle.bx_base.specs.Octets.{AppendsPrefix}
+use Rattle.bx_devices.specs.Octets.{AppendsPrefix}
 use Rattle.bx_base.specs.PlanParts.{parts_of}
-use Rattle.bx_base.specs.Watching.{device_of}
+use Rattle.bx_devices.specs.Watching.{device_of}
 use Rattle.bx_planfile.specs.declared.version.Version.TheVariants.{Three}
 use Rattle.bx_planfile.specs.Text.{plan_text}
 use Rattle.bx_text.specs.Gathering.{held}

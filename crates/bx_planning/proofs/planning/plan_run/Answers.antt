@@ -1,5 +1,5 @@
 use Rattle.std.proofs.Common.{rules}
-use Rattle.bx_base.specs.Devices.{reading_of}
+use Rattle.bx_devices.specs.Devices.{reading_of}
 use Rattle.bx_book.specs.Rows.{span_of}
 use Rattle.bx_planning.proofs.Readings.{read_within}
 use Rattle.bx_planning.proofs.planning.plan_run.Goals as goal

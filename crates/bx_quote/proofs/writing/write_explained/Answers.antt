@@ -1,6 +1,6 @@
 use Rattle.std.proofs.Common.{◌≡◌, ◌-◌, ◌∙◌, ℕ, ap}
 use Rattle.bx_base.specs.Bookings.{Row, row_at}
-use Rattle.bx_base.specs.Devices.{writing_of}
+use Rattle.bx_devices.specs.Devices.{writing_of}
 use Rattle.bx_base.specs.PlanParts.{parts_of}
 use Rattle.bx_quote.specs.Texts.{explained_text}
 use Rattle.bx_quote.specs.Writing.{IsExplainRefusal}

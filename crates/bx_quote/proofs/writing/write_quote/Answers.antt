@@ -1,5 +1,5 @@
 use Rattle.std.proofs.Common.{◌∙◌, length}
-use Rattle.bx_base.specs.Devices.{writing_of}
+use Rattle.bx_devices.specs.Devices.{writing_of}
 use Rattle.bx_base.specs.PlanParts.{parts_of}
 use Rattle.bx_quote.specs.Quotes.{asked}
 use Rattle.bx_quote.specs.Texts.{quote_text}

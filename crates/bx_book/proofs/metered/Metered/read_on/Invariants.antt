@@ -1,5 +1,5 @@
 use Rattle.std.proofs.Common.{◌≡◌, ◌-◌, length}
-use Rattle.bx_base.specs.Watching.{reads_of}
+use Rattle.bx_devices.specs.Watching.{reads_of}
 use Rattle.bx_book.specs.Metering.{watched_of}
 use Rattle.bx_book.proofs.metered.Metered.read_on.Given as goal
 

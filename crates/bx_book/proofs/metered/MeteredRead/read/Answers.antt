@@ -1,4 +1,4 @@
-use Rattle.bx_base.specs.Watching.{device_of}
+use Rattle.bx_devices.specs.Watching.{device_of}
 use Rattle.bx_book.proofs.Passing.{has_passed_more}
 use Rattle.bx_book.proofs.metered.MeteredRead.read.Goals as goal
 

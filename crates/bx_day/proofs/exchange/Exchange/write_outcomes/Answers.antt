@@ -1,8 +1,8 @@
 use Rattle.std.proofs.Common.{[], ◌++◌, subst}
 use Rattle.std.specs.Prelude.{OnErr}
 use Rattle.std.proofs.lemmas.List.{append-nil}
-use Rattle.bx_base.specs.Octets.{AppendsPrefix}
-use Rattle.bx_base.specs.Watching.{device_of}
+use Rattle.bx_devices.specs.Octets.{AppendsPrefix}
+use Rattle.bx_devices.specs.Watching.{device_of}
 use Rattle.bx_text.specs.Gathering.{held}
 use Rattle.bx_text.proofs.GatheringSteps.{puts_then, whole_written}
 use Rattle.bx_day.specs.Telling.{outcomes_text}

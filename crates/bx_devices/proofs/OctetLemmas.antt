@@ -6,7 +6,7 @@ use Rattle.std.proofs.lemmas.Bool.Decides.{nat_tests}
 use Rattle.std.proofs.Math.Bool.{or-false}
 use Rattle.std.specs.Io.KnownBytes.{Appends, Consumes}
 use Rattle.std.proofs.KnownBytes.{Appends-trans, Consumes-trans}
-use Rattle.bx_base.specs.Octets.{AppendsPrefix, ReadsAll, ReadsFront}
+use Rattle.bx_devices.specs.Octets.{AppendsPrefix, ReadsAll, ReadsFront}
 
 -- what is left from a place on, as the code cuts it
 pub from_place : (bytes : List ℕ) (at : ℕ) → take (length bytes - at) (drop at bytes) ≡ drop at bytes

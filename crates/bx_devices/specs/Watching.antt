@@ -1,6 +1,6 @@
 -- What a watched reader or writer has seen of its device.
 use Rattle.std.specs.Prelude.{ℕ, Bool}
-use Rattle.bx_base.specs.declared.watched.Watched.{Watched}
+use Rattle.bx_devices.specs.declared.watched.Watched.{Watched}
 
 -- the reader or writer that is watched
 abbrev pub device_of : {T : Type 0} → Watched T → T

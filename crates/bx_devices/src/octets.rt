@@ -2,8 +2,8 @@
 
 ghost use Rattle.std.specs.Prelude.{◌≡◌, ◌+◌, ◌≤◌, ◌<◌, ◌↔◌, ◌⊎◌, ℕ, List, true, false, length, min, take, Ok, IsTrue, IsErr, IsErrOf, OnOk, OnErr, IfOk, IfSome, vec_len};
 ghost use Rattle.std.specs.Io.KnownBytes.{Appends, Consumes, IsAtEnd};
-ghost use Rattle.bx_base.specs.Watching.{device_of, is_faulted, reads_of};
-ghost use Rattle.bx_base.specs.Octets.{AppendsPart, AppendsPrefix, ReadsAll, ReadsFront, ReadsWithin, RunsOutOfReads};
+ghost use Rattle.bx_devices.specs.Watching.{device_of, is_faulted, reads_of};
+ghost use Rattle.bx_devices.specs.Octets.{AppendsPart, AppendsPrefix, ReadsAll, ReadsFront, ReadsWithin, RunsOutOfReads};
 
 use crate::watched::{MAX_READS, Watched};
 use std::alloc::{AllocError, Global};

@@ -1,6 +1,6 @@
 -- A reader or a writer that gives little, and then fails.
 use Rattle.std.specs.Prelude.{ℕ, ◌==◌, List, Option, None, if◌then◌else◌}
-use Rattle.bx_base.specs.declared.failing.Failing.{Failing}
+use Rattle.bx_devices.specs.declared.failing.Failing.{Failing}
 
 abbrev pub failing_device : {T : Type 0} → Failing T → T
 failing_device f = f.inner

@@ -1,7 +1,7 @@
 use Rattle.std.proofs.Common.{◌≡◌, ◌-◌, ◌≤◌, length, take}
 use Rattle.std.specs.Io.KnownBytes.{Appends}
-use Rattle.bx_base.specs.Watching.{device_of, is_faulted, reads_of}
-use Rattle.bx_base.proofs.octets.write_octets.Given as goal
+use Rattle.bx_devices.specs.Watching.{device_of, is_faulted, reads_of}
+use Rattle.bx_devices.proofs.octets.write_octets.Given as goal
 
 abbrev pub invariant-loop-at : goal.invariant-loop-at
 invariant-loop-at g l =

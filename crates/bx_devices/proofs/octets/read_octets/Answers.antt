@@ -1,6 +1,6 @@
 use Rattle.std.proofs.Common.{◌≤◌, ◌+◌, arith, refl, length-take, length}
-use Rattle.bx_base.proofs.OctetLemmas.{ReadsFront-next}
-use Rattle.bx_base.proofs.octets.read_octets.Goals as goal
+use Rattle.bx_devices.proofs.OctetLemmas.{ReadsFront-next}
+use Rattle.bx_devices.proofs.octets.read_octets.Goals as goal
 
 pub returns-then-len-n-gt-MAX_OCTETS-clause-too_long :
     goal.returns-then-len-n-gt-MAX_OCTETS-clause-too_long

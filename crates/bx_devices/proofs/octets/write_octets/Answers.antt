@@ -1,6 +1,6 @@
 use Rattle.std.proofs.Common.{◌∙◌, arith}
-use Rattle.bx_base.proofs.OctetLemmas.{Appends-next, takes_some, length-from_place}
-use Rattle.bx_base.proofs.octets.write_octets.Goals as goal
+use Rattle.bx_devices.proofs.OctetLemmas.{Appends-next, takes_some, length-from_place}
+use Rattle.bx_devices.proofs.octets.write_octets.Goals as goal
 
 pub loop-at-preserved : goal.loop-at-preserved
 loop-at-preserved g c = record {

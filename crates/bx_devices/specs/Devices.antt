@@ -1,8 +1,8 @@
 -- A reader and a writer before and after a call, with the octets that they tell.
 use Rattle.std.specs.Prelude.{ℕ, Bool, List, Option}
 use Rattle.std.specs.Io.KnownBytes.{Keeps}
-use Rattle.bx_base.specs.Watching.{device_of, is_faulted, reads_of}
-use Rattle.bx_base.specs.declared.watched.Watched.{Watched}
+use Rattle.bx_devices.specs.Watching.{device_of, is_faulted, reads_of}
+use Rattle.bx_devices.specs.declared.watched.Watched.{Watched}
 
 -- a reader before and after: the octets that are left, whether it was and is faulted, and how many reads it had seen
 pub record Reading : Type 0 where

@@ -14,7 +14,7 @@ pub struct Failing<T> {
 }
 
 impl<T> Failing<T> {
-    ghost use Rattle.bx_base.specs.FailingDevice.{failing_device, calls_left, most_of};
+    ghost use Rattle.bx_devices.specs.FailingDevice.{failing_device, calls_left, most_of};
 
     /// Passes on so many reads or writes of at most `most` octets each, and then fails each. With `most` 0 a
     /// write takes none.
@@ -40,7 +40,7 @@ impl<T> Failing<T> {
 }
 
 impl<R: Read> Read for Failing<R> {
-    ghost use Rattle.bx_base.specs.FailingDevice.{failing_device, calls_left, most_of, failing_remaining};
+    ghost use Rattle.bx_devices.specs.FailingDevice.{failing_device, calls_left, most_of, failing_remaining};
     ghost use Rattle.std.specs.Io.{ReadsAtMost};
     ghost use Rattle.std.specs.Io.KnownBytes.{ReadConsumes};
 
@@ -65,7 +65,7 @@ impl<R: Read> Read for Failing<R> {
 }
 
 impl<W: Write> Write for Failing<W> {
-    ghost use Rattle.bx_base.specs.FailingDevice.{failing_device, calls_left, most_of};
+    ghost use Rattle.bx_devices.specs.FailingDevice.{failing_device, calls_left, most_of};
     ghost use Rattle.std.specs.Io.{WritesAtMost};
     ghost use Rattle.std.specs.Io.KnownBytes.{WriteAppends, Keeps};
 

@@ -3,7 +3,7 @@
 ghost use Rattle.std.specs.Prelude.{◌≡◌, ◌+◌, ◌≤◌, ◌<◌, ◌||◌, is_err, ℕ, List, true, false, length, min, take, Ok, IsTrue, IsErr, IsErrOf, OnOk, OnErr, IfOk, IfSome};
 ghost use Rattle.std.specs.Io.{ReadsAtMost, WritesAtMost};
 ghost use Rattle.std.specs.Io.KnownBytes.{ReadConsumes, WriteAppends, Appends, Consumes, IsAtEnd, Keeps};
-ghost use Rattle.bx_base.specs.Octets.{takes_nothing};
+ghost use Rattle.bx_devices.specs.Octets.{takes_nothing};
 
 use std::alloc::{AllocError, Global};
 use std::io;
@@ -23,7 +23,7 @@ pub struct Watched<T> {
 }
 
 impl<T> Watched<T> {
-    ghost use Rattle.bx_base.specs.Watching.{device_of, is_faulted, reads_of};
+    ghost use Rattle.bx_devices.specs.Watching.{device_of, is_faulted, reads_of};
 
     /// Watches the device from now on.
     pub fn new(inner: T) -> Self
@@ -66,7 +66,7 @@ impl<T> Watched<T> {
 }
 
 impl<R: Read> Read for Watched<R> {
-    ghost use Rattle.bx_base.specs.Watching.{device_of, is_faulted, reads_of};
+    ghost use Rattle.bx_devices.specs.Watching.{device_of, is_faulted, reads_of};
 
     ghost remaining = { λ w. R.remaining (device_of w) };
 
@@ -89,7 +89,7 @@ impl<R: Read> Read for Watched<R> {
 }
 
 impl<W: Write> Write for Watched<W> {
-    ghost use Rattle.bx_base.specs.Watching.{device_of, is_faulted, reads_of};
+    ghost use Rattle.bx_devices.specs.Watching.{device_of, is_faulted, reads_of};
 
     ghost contents = { λ w. W.contents (device_of w) };
 

@@ -1,0 +1,4 @@
+pub mod Watching
+pub mod Octets
+pub mod FailingDevice
+pub mod Devices
