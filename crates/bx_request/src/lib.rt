@@ -3,4 +3,4 @@
 
 mod request;
 
-pub use request::{Call, CaptureWords, Request, Sight, Terms};
+pub use request::{Call, CaptureWords, DayRequest, FileRequest, Request, Sight, Terms};

@@ -33,9 +33,9 @@ pub struct Sight<'a> {
     pub is_quiet: bool,
 }
 
-/// One command, with its words.
+/// A command on files of bookings and plans, with its words.
 #[derive(Drop)]
-pub enum Request<'a> {
+pub enum FileRequest<'a> {
     /// Print the best plan of the bookings in this file.
     Plan {
         terms: Terms<'a>,
@@ -69,6 +69,11 @@ pub enum Request<'a> {
         plan: &'a str,
         day: Option<(&'a str, &'a str)>,
     },
+}
+
+/// A command that runs a day, with its words.
+#[derive(Clone, Copy)]
+pub enum DayRequest<'a> {
     /// Run both ends of a plan's day.
     Day {
         plan: &'a str,
@@ -89,8 +94,13 @@ pub enum Request<'a> {
         port: u16,
         sight: Sight<'a>,
     },
+}
+
+/// One command, with its words.
+#[derive(Drop)]
+pub enum Request<'a> {
+    Files(FileRequest<'a>),
+    Day(DayRequest<'a>),
     /// Print what a message says.
-    Decode {
-        octets: &'a str,
-    },
+    Decode { octets: &'a str },
 }

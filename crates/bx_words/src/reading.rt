@@ -3,7 +3,7 @@
 use crate::channel_list::channel_numbers;
 use crate::command_line::program_of_words;
 use crate::faults::FAULTS;
-use bx_request::{Call, CaptureWords, Request, Sight, Terms};
+use bx_request::{Call, CaptureWords, DayRequest, FileRequest, Request, Sight, Terms};
 use clap::error::ErrorKind;
 use clap::{ArgMatches, Error};
 use std::alloc::{AllocError, AllocFailed, Global};
@@ -109,57 +109,80 @@ fn call_of<'a>(matches: &ArgMatches<'a>) -> Call<'a> {
     }
 }
 
+/// The command on files that has this name and these words, where it is one.
+fn file_request<'a>(
+    alloc: Global,
+    name: &str,
+    matches: &ArgMatches<'a>,
+) -> Result<Option<FileRequest<'a>>, Refusal> {
+    match name {
+        "plan" => Ok(Some(FileRequest::Plan {
+            terms: terms_of(alloc, matches)?,
+            bookings: word(matches, "bookings"),
+        })),
+        "check" => Ok(Some(FileRequest::Check {
+            terms: terms_of(alloc, matches)?,
+            bookings: word(matches, "bookings"),
+            plan: word(matches, "plan"),
+        })),
+        "amend" => Ok(Some(FileRequest::Amend {
+            date: word(matches, "date"),
+            zone: word(matches, "zone"),
+            plan: word(matches, "plan"),
+            bookings: word(matches, "bookings"),
+        })),
+        "explain" => Ok(Some(FileRequest::Explain {
+            plan: word(matches, "plan"),
+            row: matches.get_one::<u16>("row"),
+        })),
+        "quote" => Ok(Some(FileRequest::Quote {
+            plan: word(matches, "plan"),
+            call: call_of(matches),
+        })),
+        "chart" => Ok(Some(FileRequest::Chart {
+            plan: word(matches, "plan"),
+            day: day_of(matches),
+        })),
+        _ => Ok(None),
+    }
+}
+
+/// The command that runs a day, has this name and these words, where it is one.
+fn day_request<'a>(name: &str, matches: &ArgMatches<'a>) -> Option<DayRequest<'a>> {
+    match name {
+        "day" => Some(DayRequest::Day {
+            plan: word(matches, "plan"),
+            script: word(matches, "script"),
+            turns: matches.get_one::<u32>("turns"),
+            sight: sight_of(matches),
+        }),
+        "serve" => Some(DayRequest::Serve {
+            plan: word(matches, "plan"),
+            port: port_of(matches),
+            turns: matches.get_one::<u32>("turns"),
+            sight: sight_of(matches),
+        }),
+        "far" => Some(DayRequest::Far {
+            script: word(matches, "script"),
+            port: port_of(matches),
+            sight: sight_of(matches),
+        }),
+        _ => None,
+    }
+}
+
+/// The command that has this name and these words.
 fn request_of<'a>(
     alloc: Global,
     name: &str,
     matches: &ArgMatches<'a>,
 ) -> Result<Request<'a>, Refusal> {
-    match name {
-        "plan" => Ok(Request::Plan {
-            terms: terms_of(alloc, matches)?,
-            bookings: word(matches, "bookings"),
-        }),
-        "check" => Ok(Request::Check {
-            terms: terms_of(alloc, matches)?,
-            bookings: word(matches, "bookings"),
-            plan: word(matches, "plan"),
-        }),
-        "amend" => Ok(Request::Amend {
-            date: word(matches, "date"),
-            zone: word(matches, "zone"),
-            plan: word(matches, "plan"),
-            bookings: word(matches, "bookings"),
-        }),
-        "explain" => Ok(Request::Explain {
-            plan: word(matches, "plan"),
-            row: matches.get_one::<u16>("row"),
-        }),
-        "quote" => Ok(Request::Quote {
-            plan: word(matches, "plan"),
-            call: call_of(matches),
-        }),
-        "chart" => Ok(Request::Chart {
-            plan: word(matches, "plan"),
-            day: day_of(matches),
-        }),
-        "day" => Ok(Request::Day {
-            plan: word(matches, "plan"),
-            script: word(matches, "script"),
-            turns: matches.get_one::<u32>("turns"),
-            sight: sight_of(matches),
-        }),
-        "serve" => Ok(Request::Serve {
-            plan: word(matches, "plan"),
-            port: port_of(matches),
-            turns: matches.get_one::<u32>("turns"),
-            sight: sight_of(matches),
-        }),
-        "far" => Ok(Request::Far {
-            script: word(matches, "script"),
-            port: port_of(matches),
-            sight: sight_of(matches),
-        }),
-        _ => Ok(Request::Decode {
+    if let Some(request) = day_request(name, matches) {
+        return Ok(Request::Day(request));
+    }
+    match file_request(alloc, name, matches)? {
+        Some(request) => Ok(Request::Files(request)),
+        None => Ok(Request::Decode {
             octets: word(matches, "octets"),
         }),
     }
