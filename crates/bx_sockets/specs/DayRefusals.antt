@@ -68,15 +68,25 @@ abbrev pub IsSessionFault : SocketFault → Type 0
 IsSessionFault (Link fault) = Unit {0}
 IsSessionFault _ = ⊥
 
--- why a day of both ends does not come to its end, or the exchange's, or the far end's
+-- why a day does not come to its end once it is opened: of both ends, of the exchange, of the far end
+abbrev pub IsUnlinked : SocketFault → Type 0
+IsUnlinked fault = IsUnheard fault ⊎ IsUnconnected fault ⊎ IsSessionFault fault
+
+abbrev pub IsUnserved : SocketFault → Type 0
+IsUnserved fault = IsUnheard fault ⊎ IsSessionFault fault
+
+abbrev pub IsUnjoined : SocketFault → Type 0
+IsUnjoined fault = IsUnconnected fault ⊎ IsSessionFault fault
+
+-- the same from its opening on
 abbrev pub StopsDay : List ℕ → List ℕ → Option CaptureWords → SocketFault → Type 0
-StopsDay plan script capture fault = IsNoCapture capture fault ⊎ IsNoOpening plan fault ⊎ IsNoFarEnd script fault ⊎ IsUnheard fault ⊎ IsUnconnected fault ⊎ IsSessionFault fault
+StopsDay plan script capture fault = IsNoCapture capture fault ⊎ IsNoOpening plan fault ⊎ IsNoFarEnd script fault ⊎ IsUnlinked fault
 
 abbrev pub StopsServing : List ℕ → Option CaptureWords → SocketFault → Type 0
-StopsServing plan capture fault = IsNoCapture capture fault ⊎ IsNoOpening plan fault ⊎ IsUnheard fault ⊎ IsSessionFault fault
+StopsServing plan capture fault = IsNoCapture capture fault ⊎ IsNoOpening plan fault ⊎ IsUnserved fault
 
 abbrev pub StopsFarEnd : List ℕ → Option CaptureWords → SocketFault → Type 0
-StopsFarEnd script capture fault = IsNoCapture capture fault ⊎ IsNoFarEnd script fault ⊎ IsUnconnected fault ⊎ IsSessionFault fault
+StopsFarEnd script capture fault = IsNoCapture capture fault ⊎ IsNoFarEnd script fault ⊎ IsUnjoined fault
 
 -- ---- what was written
 

@@ -1,11 +1,11 @@
 //! The commands that run a day.
 
-ghost use Rattle.std.specs.Prelude.{◌≡◌, true, IfOk, IfErr, OnOk, OnErr};
+ghost use Rattle.std.specs.Prelude.{◌≡◌, ◌≤◌, ℕ, Option, true, IfOk, IfErr, OnOk, OnErr};
 ghost use Rattle.std.specs.Io.KnownBytes.{Appends};
 ghost use Rattle.bx_devices.specs.Octets.{AppendsPrefix};
 ghost use Rattle.bx_devices.specs.Watching.{device_of, is_faulted};
-ghost use Rattle.bx_sockets.specs.DayRefusals.{StopsDay, StopsServing, StopsFarEnd, IsDayRefusal, IsServeRefusal, IsFarRefusal};
-ghost use Rattle.bx_sockets.specs.Days.{IsDayRun, IsDayTold, IsFarRun, IsFarTold, ended_line};
+ghost use Rattle.bx_sockets.specs.DayRefusals.{IsUnlinked, IsUnserved, IsUnjoined, StopsDay, StopsServing, StopsFarEnd, IsDayRefusal, IsServeRefusal, IsFarRefusal};
+ghost use Rattle.bx_sockets.specs.Days.{IsOpening, IsDayRun, IsDayTold, IsFarOpening, IsFarRun, IsFarTold, ended_line};
 
 use crate::capturing::{file_of, first_of};
 use crate::fault::SocketFault;
@@ -16,6 +16,7 @@ use bx_capture::Captured;
 use bx_commands::CommandFault;
 use bx_day::Exchange;
 use bx_devices::{Watched, WriteFailed, write_octets};
+use bx_far::Far;
 use bx_link::{Connection, End, run_both_ends, run_day, run_far_day};
 use bx_request::Sight;
 use bx_text::named_line;
@@ -38,6 +39,41 @@ fn exchange_of<H, W: Write + Drop>(end: Captured<Shown<'_, Exchange, H>, W>) -> 
 {
     let is_whole = end.is_whole();
     (end.into_end().into_end(), is_whole)
+}
+
+/// The exchange at the end of its day, which was run with the far end over one TCP connection, and whether all that was to be
+/// captured of it was. The capture is its file and its first second.
+fn run_linked<
+    'a,
+    H: Clock + Eprint + Net<Listener = TcpListener, Stream = TcpStream>,
+    W: Write + Drop,
+>(
+    rt: &H,
+    opened: (Exchange, u32),
+    far: Far,
+    capture: (Option<Watched<W>>, u32),
+    is_shown: bool,
+) -> Result<(Exchange, bool), SocketFault<'a>>
+    requires { capture.1 ≤ 4294667295 }
+    ensures ran { IfOk result (λ ran. (asked : Option ℕ) → IsOpening asked opened.0 opened.1 → IsDayRun asked ran.0) }
+    ensures stopped { IfErr result IsUnlinked }
+{
+    let (near, distant) = match both_ends(rt) {
+        Ok(ends) => ends,
+        Err(fault) => return Err(fault),
+    };
+    let mut far = far;
+    let mut near = connection(&near);
+    let mut distant = connection(&distant);
+    let (exchange, turns) = opened;
+    let (file, first) = capture;
+    let mut end = Captured::new(Shown::new(rt, exchange, is_shown), file, first);
+    let done = run_both_ends(&mut end, &mut near, &mut far, &mut distant, turns);
+    end.end.clear();
+    match done {
+        Ok(()) => Ok(exchange_of(end)),
+        Err(fault) => Err(SocketFault::Link(fault)),
+    }
 }
 
 /// The exchange at the end of the day of a plan, of which both ends were run over one TCP connection, and whether all that was
@@ -63,7 +99,7 @@ fn run_of_both<
         Ok(opened) => opened,
         Err(fault) => return Err(fault),
     };
-    let mut far = match far_end_of(rt, script) {
+    let far = match far_end_of(rt, script) {
         Ok(far) => far,
         Err(fault) => return Err(fault),
     };
@@ -71,18 +107,9 @@ fn run_of_both<
         Ok(file) => file,
         Err(fault) => return Err(fault),
     };
-    let (near, distant) = match both_ends(rt) {
-        Ok(ends) => ends,
-        Err(fault) => return Err(fault),
-    };
-    let mut near = connection(&near);
-    let mut distant = connection(&distant);
-    let mut end = Captured::new(Shown::new(rt, exchange, !sight.is_quiet), file, first);
-    let done = run_both_ends(&mut end, &mut near, &mut far, &mut distant, turns);
-    end.end.clear();
-    match done {
-        Ok(()) => Ok(exchange_of(end)),
-        Err(fault) => Err(SocketFault::Link(fault)),
+    match run_linked(rt, (exchange, turns), far, (file, first), !sight.is_quiet) {
+        Ok(ran) => Ok(ran),
+        Err(fault) => Err(fault),
     }
 }
 
@@ -113,6 +140,40 @@ pub fn day_of_files<
     }
 }
 
+/// The exchange at the end of its day, which was run towards the first peer that connects to the port, and whether all that was
+/// to be captured was. The capture is its file and its first second.
+fn run_served<
+    'a,
+    H: Clock + Eprint + Net<Listener = TcpListener, Stream = TcpStream>,
+    W: Write + Drop,
+>(
+    rt: &H,
+    port: u16,
+    opened: (Exchange, u32),
+    capture: (Option<Watched<W>>, u32),
+    is_shown: bool,
+) -> Result<(Exchange, bool), SocketFault<'a>>
+    requires { capture.1 ≤ 4294667295 }
+    ensures ran { IfOk result (λ ran. (asked : Option ℕ) → IsOpening asked opened.0 opened.1 → IsDayRun asked ran.0) }
+    ensures stopped { IfErr result IsUnserved }
+{
+    let peer = match accepted(rt, port, is_shown) {
+        Ok(peer) => peer,
+        Err(fault) => return Err(fault),
+    };
+    let mut from_far = Watched::new(&peer);
+    let mut to_far = Watched::new(&peer);
+    let (exchange, turns) = opened;
+    let (file, first) = capture;
+    let mut end = Captured::new(Shown::new(rt, exchange, is_shown), file, first);
+    let done = run_day(&mut end, &mut from_far, &mut to_far, turns);
+    end.end.clear();
+    match done {
+        Ok(()) => Ok(exchange_of(end)),
+        Err(fault) => Err(SocketFault::Link(fault)),
+    }
+}
+
 /// The exchange at the end of the day of a plan, which was run towards the first peer that connects to the port, and whether all
 /// that was to be captured was.
 fn run_towards_peer<
@@ -140,18 +201,9 @@ fn run_towards_peer<
         Ok(file) => file,
         Err(fault) => return Err(fault),
     };
-    let peer = match accepted(rt, port, !sight.is_quiet) {
-        Ok(peer) => peer,
-        Err(fault) => return Err(fault),
-    };
-    let mut from_far = Watched::new(&peer);
-    let mut to_far = Watched::new(&peer);
-    let mut end = Captured::new(Shown::new(rt, exchange, !sight.is_quiet), file, first);
-    let done = run_day(&mut end, &mut from_far, &mut to_far, turns);
-    end.end.clear();
-    match done {
-        Ok(()) => Ok(exchange_of(end)),
-        Err(fault) => Err(SocketFault::Link(fault)),
+    match run_served(rt, port, (exchange, turns), (file, first), !sight.is_quiet) {
+        Ok(ran) => Ok(ran),
+        Err(fault) => Err(fault),
     }
 }
 
@@ -192,6 +244,39 @@ fn write_ended<W: Write>(output: &mut Watched<W>, moment: u32) -> Result<(), Wri
     write_octets(output, &named_line(b"ended at", u64::from(moment)))
 }
 
+/// The moment at which the day of a far end ended, which was run towards the exchange that serves on the port, and whether all
+/// that was to be captured was. The capture is its file and its first second.
+fn run_connected<
+    'a,
+    H: Clock + Eprint + Net<Listener = TcpListener, Stream = TcpStream>,
+    W: Write + Drop,
+>(
+    rt: &H,
+    port: u16,
+    far: Far,
+    capture: (Option<Watched<W>>, u32),
+    is_shown: bool,
+) -> Result<(u32, bool), SocketFault<'a>>
+    requires { capture.1 ≤ 4294667295 }
+    ensures ran { IfOk result (λ ran. IsFarOpening far → IsFarRun ran.0) }
+    ensures stopped { IfErr result IsUnjoined }
+{
+    let peer = match connected(rt, port) {
+        Ok(peer) => peer,
+        Err(fault) => return Err(fault),
+    };
+    let mut from_exchange = Watched::new(&peer);
+    let mut to_exchange = Watched::new(&peer);
+    let (file, first) = capture;
+    let mut end = Captured::new(Shown::new(rt, far, is_shown), file, first);
+    let done = run_far_day(&mut end, &mut from_exchange, &mut to_exchange);
+    end.end.clear();
+    match done {
+        Ok(()) => Ok((end.reached(), end.is_whole())),
+        Err(fault) => Err(SocketFault::Link(fault)),
+    }
+}
+
 /// The moment at which the day of a script ended, which was run towards the exchange that serves on the port, and whether all that
 /// was to be captured was.
 fn run_towards_exchange<
@@ -213,18 +298,9 @@ fn run_towards_exchange<
         Ok(file) => file,
         Err(fault) => return Err(fault),
     };
-    let peer = match connected(rt, port) {
-        Ok(peer) => peer,
-        Err(fault) => return Err(fault),
-    };
-    let mut from_exchange = Watched::new(&peer);
-    let mut to_exchange = Watched::new(&peer);
-    let mut end = Captured::new(Shown::new(rt, far, !sight.is_quiet), file, first);
-    let done = run_far_day(&mut end, &mut from_exchange, &mut to_exchange);
-    end.end.clear();
-    match done {
-        Ok(()) => Ok((end.reached(), end.is_whole())),
-        Err(fault) => Err(SocketFault::Link(fault)),
+    match run_connected(rt, port, far, (file, first), !sight.is_quiet) {
+        Ok(ran) => Ok(ran),
+        Err(fault) => Err(fault),
     }
 }
 

@@ -1,13 +1,4 @@
-use Rattle.std.proofs.Common.{◌≡◌, sym, subst}
-use Rattle.bx_day.specs.Day.{Day}
-use Rattle.bx_sockets.specs.Days.{IsOpening, IsDayRun}
-use Rattle.bx_sockets.proofs.ToldDays.{run_alone}
 use Rattle.bx_sockets.proofs.day_files.run_towards_peer.Goals as goal
 
-pub returns-in-Ok-done-clause-ran : goal.returns-in-Ok-done-clause-ran
-returns-in-Ok-done-clause-ran g c =
-    let opened = c.in-Ok-opening_of.opened in
-    let first = c.new-end.result.end.end in
-    let same : opened.0 ≡ first = search (c.new-end.ensures.end, c.new.ensures) in
-    let opens = subst (λ (d : Day). IsOpening c.args.turns d opened.1) same c.in-Ok-opening_of.ensures.opened in
-    subst (IsDayRun c.args.turns) (sym c.exchange_of.ensures) (run_alone first c.run_day-done.new.exchange.end.end c.args.turns opened.1 opens {r1 = c.run_day-done.new.reader} {w1 = c.run_day-done.new.writer} c.in-Ok-done.ensures.0)
+pub returns-in-Ok-run_served-clause-ran : goal.returns-in-Ok-run_served-clause-ran
+returns-in-Ok-run_served-clause-ran g c = c.in-Ok-run_served.ensures.ran c.args.turns c.in-Ok-opening_of.ensures.opened

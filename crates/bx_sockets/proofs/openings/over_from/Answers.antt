@@ -1,7 +1,6 @@
 use Rattle.std.proofs.Common.{◌≡◌, ◌+◌, ap, sym, ◌∙◌, None, is_some, if◌then◌else◌, arith, rules}
 use Rattle.std.proofs.lemmas.List.{get_or_default}
 use Rattle.bx_base.specs.Bookings.{row_at}
-use Rattle.bx_base.specs.Plans.{is_accepted}
 use Rattle.bx_sockets.proofs.openings.over_from.Goals as goal
 
 pub returns-in-Some : goal.returns-in-Some
