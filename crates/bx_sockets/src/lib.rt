@@ -7,6 +7,7 @@ mod fault;
 mod loopback;
 mod openings;
 mod progress;
+mod running;
 
 pub use day_files::{day_of_files, far_file, serve_file};
 pub use fault::SocketFault;

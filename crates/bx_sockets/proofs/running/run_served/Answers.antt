@@ -2,7 +2,7 @@ use Rattle.std.proofs.Common.{◌≡◌, sym, subst}
 use Rattle.bx_day.specs.Day.{Day}
 use Rattle.bx_sockets.specs.Days.{IsOpening, IsDayRun}
 use Rattle.bx_sockets.proofs.ToldDays.{run_alone}
-use Rattle.bx_sockets.proofs.day_files.run_served.Goals as goal
+use Rattle.bx_sockets.proofs.running.run_served.Goals as goal
 
 pub returns-in-Ok-done-clause-ran : goal.returns-in-Ok-done-clause-ran
 returns-in-Ok-done-clause-ran g c asked opens =

@@ -1,7 +1,7 @@
 use Rattle.std.proofs.Common.{◌≡◌, subst}
 use Rattle.bx_sockets.specs.Days.{IsFarOpening}
 use Rattle.bx_sockets.proofs.ToldDays.{run_far}
-use Rattle.bx_sockets.proofs.day_files.run_connected.Goals as goal
+use Rattle.bx_sockets.proofs.running.run_connected.Goals as goal
 
 pub returns-in-Ok-done-clause-ran : goal.returns-in-Ok-done-clause-ran
 returns-in-Ok-done-clause-ran g c opening =

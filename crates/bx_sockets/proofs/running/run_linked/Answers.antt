@@ -3,7 +3,7 @@ use Rattle.bx_link.specs.BothEnds.{passage}
 use Rattle.bx_day.specs.Day.{Day}
 use Rattle.bx_sockets.specs.Days.{IsOpening, IsDayRun}
 use Rattle.bx_sockets.proofs.ToldDays.{run_both}
-use Rattle.bx_sockets.proofs.day_files.run_linked.Goals as goal
+use Rattle.bx_sockets.proofs.running.run_linked.Goals as goal
 
 pub returns-in-Ok-done-clause-ran : goal.returns-in-Ok-done-clause-ran
 returns-in-Ok-done-clause-ran g c asked opens =
