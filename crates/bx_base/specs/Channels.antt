@@ -1,10 +1,7 @@
--- B channels of a primary rate interface at 2048 kbit/s (ITU-T Q.931, 4.5.13), and sets of them.
-use Rattle.std.specs.Prelude.{◌≡◌, ◌≢◌, ◌↔◌, ℕ, ◌<◌, ◌≤◌, Bool, true, false, List, length, slice_index, slice_index_or, if◌then◌else◌, All, Contains}
+-- Sets of B channels.
+use Rattle.std.specs.Prelude.{◌≡◌, ◌≢◌, ◌↔◌, ℕ, ◌<◌, Bool, true, false, List, length, slice_index, slice_index_or, if◌then◌else◌, All, Contains}
+use Rattle.bx_numbers.specs.ChannelNumbers.{IsChannel}
 use Rattle.bx_base.specs.Sums.{sum_below}
-
--- the numbers of B channels: time slot 16 carries the signalling
-abbrev pub IsChannel : ℕ → Type 0
-IsChannel n = (1 ≤ n) × (n ≤ 31) × (n ≢ 16)
 
 -- a set of channels is a list that says of each number whether it is in the set
 abbrev pub has_channel : List Bool → ℕ → Bool

@@ -1,8 +1,6 @@
 pub mod Sums
 pub mod Channels
 pub mod ChannelFaults
-pub mod Numbers
-pub mod NumberInside
 pub mod Bookings
 pub mod Bound
 pub mod Sides

@@ -5,9 +5,9 @@ ghost use Rattle.bx_base.specs.Bookings.{Carries};
 ghost use Rattle.bx_base.specs.Plans.{is_accepted, channel_at, IsOutOfService, Clash};
 
 use crate::bookings::Bookings;
-use crate::channel::Channel;
 use crate::channel_set::ChannelSet;
 use crate::price::Price;
+use bx_numbers::Channel;
 
 /// The most prices that a plan may have.
 pub const MAX_PRICES: usize = 8000;

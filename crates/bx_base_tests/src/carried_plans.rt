@@ -1,6 +1,7 @@
 //! Whether two channels carry a plan of two bookings.
 
-use bx_base::{Booking, Bookings, Channel, ChannelSet, Number, Plan};
+use bx_base::{Booking, Bookings, ChannelSet, Plan};
+use bx_numbers::{Channel, Number};
 use std::alloc::Global;
 
 /// The ends of two bookings, their channels (0: none), and whether channels 1 and 2 carry them.

@@ -1,6 +1,7 @@
 //! Sets of channels, and what is refused as one.
 
-use bx_base::{Channel, ChannelFault, ChannelSet};
+use bx_base::{ChannelFault, ChannelSet};
+use bx_numbers::Channel;
 use std::alloc::Global;
 use std::test::Fail;
 

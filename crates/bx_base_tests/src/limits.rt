@@ -1,6 +1,7 @@
 //! Which values there are of numbers, bookings and prices.
 
-use bx_base::{Booking, Channel, Number, Price};
+use bx_base::{Booking, Price};
+use bx_numbers::{Channel, Number};
 
 /// Digits, and whether they are a number.
 static NUMBERS: [(&[u8], bool); 5] = [

@@ -1,6 +1,7 @@
 //! Copies of lists of bookings, and the longest list.
 
-use bx_base::{AddFault, Booking, Bookings, Number};
+use bx_base::{AddFault, Booking, Bookings};
+use bx_numbers::Number;
 use std::alloc::Global;
 use std::test::Fail;
 

@@ -8,7 +8,8 @@ ghost use Rattle.bx_book.specs.Inside.{IsRowRead};
 use crate::day::Day;
 use crate::fault::BookFault;
 use crate::field::{inward, moment, must, pay};
-use bx_base::{Booking, Number};
+use bx_base::Booking;
+use bx_numbers::Number;
 use bx_text::field;
 use csv::ByteRecord;
 

@@ -8,9 +8,9 @@ use Rattle.std.specs.Io.KnownBytes.{Appends}
 use Rattle.bx_devices.specs.declared.watched.Watched.{Watched}
 use Rattle.bx_devices.specs.declared.octets.WriteFailed.{WriteFailed}
 use Rattle.bx_devices.specs.Watching.{device_of, is_faulted}
-use Rattle.bx_day.specs.Run.{Event, Tick, Receive}
+use Rattle.bx_q931.specs.Events.{Event, Tick, Receive}
 use Rattle.bx_text.specs.Writing.{Writes}
-use Rattle.bx_link.specs.Ends.{told}
+use Rattle.bx_turns.specs.Courses.{told}
 use Rattle.bx_capture.specs.Packets.{packet}
 use Rattle.bx_capture.specs.Captures.{packet_sent, packets_for, IsKept, Keeps}
 use Rattle.bx_capture.specs.Keeping.{keeps_nil, keeps_more}

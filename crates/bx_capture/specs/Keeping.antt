@@ -5,9 +5,9 @@ use Rattle.std.proofs.KnownBytes.{Appends-nil, Appends-trans}
 use Rattle.bx_devices.proofs.OctetLemmas.{AppendsPrefix-more, AppendsPrefix-after}
 use Rattle.bx_devices.specs.declared.watched.Watched.{Watched}
 use Rattle.bx_devices.specs.Watching.{device_of, is_faulted}
-use Rattle.bx_day.specs.Run.{Event}
-use Rattle.bx_link.specs.Ends.{after, told}
-use Rattle.bx_link.proofs.Events.{after_more, told_more}
+use Rattle.bx_q931.specs.Events.{Event}
+use Rattle.bx_turns.specs.Courses.{after, told}
+use Rattle.bx_turns.proofs.Events.{after_more, told_more}
 use Rattle.bx_capture.specs.Captures.{IsKept, Keeps, IsCaptured}
 
 module _ {W : Type 0} (contents : W → Option (List ℕ)) where

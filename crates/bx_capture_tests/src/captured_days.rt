@@ -1,11 +1,11 @@
 //! A day of one turn that is captured, at each of its ends, into files that fail at each place.
 
 use crate::octets::packet;
-use bx_base::Channel;
 use bx_calls::CallState;
 use bx_capture::{Captured, Direction};
 use bx_devices::{Failing, Watched};
 use bx_link::{run_day, run_far_day};
+use bx_numbers::Channel;
 use bx_worked::{CONNECT_ACKNOWLEDGE, CONNECT_CHANNEL_1, SETUP};
 use bx_worked_days::{exchange, far_end};
 use std::alloc::Global;

@@ -7,8 +7,9 @@ ghost use Rattle.bx_base.specs.PlanParts.{parts_of};
 ghost use Rattle.bx_chart.specs.Bars.{lane_of, two_digits, clock, class_of, top_of, pay_of, words_of, second_at, times_of, size_of, place_of, bar_of, bars};
 
 use crate::picture::Picture;
-use bx_base::{Booking, Channel, ChannelSet, Plan};
+use bx_base::{Booking, ChannelSet, Plan};
 use bx_book::Clock;
+use bx_numbers::Channel;
 use std::alloc::{AllocError, Global};
 
 /// The bars of all that the plan accepts.

@@ -1,10 +1,11 @@
 //! Pictures of a small plan, whole and cut off.
 
 use crate::small_picture::SMALL;
-use bx_base::{Booking, Bookings, Channel, ChannelSet, Number, Plan, Price};
+use bx_base::{Booking, Bookings, ChannelSet, Plan, Price};
 use bx_book::Clock;
 use bx_chart::{ChartFault, write_chart};
 use bx_devices::{Failing, Watched};
+use bx_numbers::{Channel, Number};
 use std::alloc::Global;
 use std::test::Fail;
 

@@ -10,7 +10,8 @@ ghost use Rattle.bx_base.specs.Sides.{gain_of, loss_of};
 ghost use Rattle.bx_check.specs.Before.{AreSums};
 
 use crate::sums::{Sums, cost, sums_of};
-use bx_base::{Booking, Bookings, Channel, ChannelSet, Price};
+use bx_base::{Booking, Bookings, ChannelSet, Price};
+use bx_numbers::Channel;
 
 /// What the accepted rows pay together.
 pub fn total_pay(bookings: &Bookings, assigned: &[Option<Channel>]) -> u64

@@ -11,11 +11,9 @@ ghost use Rattle.bx_commands.specs.declared.fault.CommandFault.{CommandFault};
 use crate::fault::CliFault;
 use bx_commands::{CommandFault, check_self, decode};
 use bx_devices::{Watched, write_octets};
-use bx_files::{
-    FileFault, amend_file, chart_file, check_file, explain_file, plan_file, quote_file,
-};
-use bx_request::{DayRequest, FileRequest, Request, Sight};
-use bx_sockets::{SocketFault, day_of_files, far_file, serve_file};
+use bx_files::run_on_files;
+use bx_request::Request;
+use bx_sockets::run_day_on_files;
 use bx_words::{Refusal, read_words};
 use std::fs::Files;
 use std::io::{Read, Write};
@@ -77,91 +75,9 @@ fn run<
     is_terminal: bool,
 ) -> Result<(), CliFault<'a>> {
     match request {
-        Request::Files(request) => Ok(run_on_files(rt, request, output)?),
-        Request::Day(request) => Ok(run_day(rt, request, output, is_terminal)?),
+        Request::Files(request) => Ok(run_on_files(rt, &request, output)?),
+        Request::Day(request) => Ok(run_day_on_files(rt, request, output, is_terminal)?),
         Request::Decode { octets } => Ok(decode(rt.alloc(), octets, output)?),
-    }
-}
-
-/// Does one command on files.
-fn run_on_files<'a, H: Files + AllocGlobal, W: Write>(
-    rt: &H,
-    request: FileRequest<'a>,
-    output: &mut Watched<W>,
-) -> Result<(), FileFault<'a>> {
-    match request {
-        FileRequest::Plan { terms, bookings } => plan_file(rt, &terms, bookings, output),
-        FileRequest::Check {
-            terms,
-            bookings,
-            plan,
-        } => check_file(rt, &terms, bookings, plan, output),
-        FileRequest::Amend {
-            date,
-            zone,
-            plan,
-            bookings,
-        } => amend_file(rt, (date, zone), plan, bookings, output),
-        FileRequest::Explain { plan, row } => explain_file(rt, plan, row, output),
-        FileRequest::Quote { plan, call } => quote_file(rt, plan, &call, output),
-        FileRequest::Chart { plan, day } => chart_file(rt, plan, day, output),
-    }
-}
-
-/// Runs a day.
-fn run_day<
-    'a,
-    H: Files + AllocGlobal + Clock + Eprint + Net<Listener = TcpListener, Stream = TcpStream>,
-    W: Write,
->(
-    rt: &H,
-    request: DayRequest<'a>,
-    output: &mut Watched<W>,
-    is_terminal: bool,
-) -> Result<(), SocketFault<'a>> {
-    match request {
-        DayRequest::Day {
-            plan,
-            script,
-            turns,
-            sight,
-        } => {
-            let sight = seen(sight, is_terminal);
-            captured(sight, day_of_files(rt, plan, script, turns, sight, output)?)
-        }
-        DayRequest::Serve {
-            plan,
-            port,
-            turns,
-            sight,
-        } => {
-            let sight = seen(sight, is_terminal);
-            captured(sight, serve_file(rt, plan, port, turns, sight, output)?)
-        }
-        DayRequest::Far {
-            script,
-            port,
-            sight,
-        } => {
-            let sight = seen(sight, is_terminal);
-            captured(sight, far_file(rt, script, port, sight, output)?)
-        }
-    }
-}
-
-/// What is to be seen, where progress is shown on a terminal alone.
-fn seen<'a>(sight: Sight<'a>, is_terminal: bool) -> Sight<'a> {
-    Sight {
-        capture: sight.capture,
-        is_quiet: sight.is_quiet || !is_terminal,
-    }
-}
-
-/// What is told of a day that is done: nothing, or that its capture is not whole.
-fn captured<'a>(sight: Sight<'a>, is_whole: bool) -> Result<(), SocketFault<'a>> {
-    match sight.capture {
-        Some(capture) if !is_whole => Err(SocketFault::CannotCapture(capture.file)),
-        _ => Ok(()),
     }
 }
 

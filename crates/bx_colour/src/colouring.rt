@@ -7,7 +7,8 @@ ghost use Rattle.bx_colour.specs.Colouring.{FitsChannels, IsFirstFit, is_in};
 
 use crate::order::in_order;
 use crate::sweep::lowest_free_at;
-use bx_base::{Bookings, Channel, ChannelSet};
+use bx_base::{Bookings, ChannelSet};
+use bx_numbers::Channel;
 use std::alloc::{AllocError, Global};
 
 /// In the order of (start, row) each accepted booking gets the lowest channel of the set that no earlier accepted

@@ -1,9 +1,11 @@
 //! The channels that are taken while the bookings are swept in the order of their starts.
 
 ghost use Rattle.std.specs.Prelude.{◌≡◌, ◌≤◌, ◌<◌, ℕ, true, slice_index, IfSome, IfNone};
-ghost use Rattle.bx_base.specs.Channels.{has_channel, IsChannel, IsChannelSet};
+ghost use Rattle.bx_base.specs.Channels.{has_channel, IsChannelSet};
+ghost use Rattle.bx_numbers.specs.ChannelNumbers.{IsChannel};
 
-use bx_base::{Channel, ChannelSet};
+use bx_base::ChannelSet;
+use bx_numbers::Channel;
 
 /// The lowest channel in service whose last booking has ended by this moment, where `until` has the end of the last
 /// booking on each channel.

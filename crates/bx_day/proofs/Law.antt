@@ -24,7 +24,8 @@ use Rattle.bx_day.specs.Day.{Day, entry_at, no_entry, opening, entry_of, entries
 use Rattle.bx_day.specs.Ticks.{after_second, second_at, waits, tick}
 use Rattle.bx_day.specs.Receipts.{hears, takes_call, takes_or, takes_preferred, called_on, called, stray, received_at, receive, opens, lowest_open, names, with_moved}
 use Rattle.bx_calls.specs.Sending.{Sent, Answered}
-use Rattle.bx_day.specs.Run.{Event, Tick, Receive, receive_from, receive_read, happens, day_after}
+use Rattle.bx_q931.specs.Events.{Event, Tick, Receive}
+use Rattle.bx_day.specs.Run.{receive_from, receive_read, happens, day_after}
 use Rattle.bx_q931.specs.Messages.{PlainMessage, message_at}
 use Rattle.bx_q931.specs.declared.reference.Reference.{Reference}
 use Rattle.bx_q931.specs.declared.reference.Reference.TheVariants.{Dummy, Value}

@@ -12,7 +12,6 @@ pub mod Once
 pub mod Passing
 pub mod Received
 pub mod ToldLines
-pub mod Replays
 pub mod Quiet
 pub mod Dues
 pub mod Skips

@@ -3,7 +3,7 @@ use Rattle.std.proofs.Common.{◌≡◌, ℕ, zero, suc, ◌+◌, ◌≤◌, ◌
 use Rattle.std.specs.List.{AllByRecursion}
 use Rattle.std.proofs.lemmas.Bool.{false≢true, leb-true}
 use Rattle.std.proofs.lemmas.List.{drop_all}
-use Rattle.bx_base.specs.Channels.{IsChannel}
+use Rattle.bx_numbers.specs.ChannelNumbers.{IsChannel}
 use Rattle.bx_q931.specs.Outgoing.{Outgoing}
 use Rattle.bx_calls.specs.Shared.{is_set, cons_some}
 use Rattle.bx_day.specs.Day.{Day, is_held, is_free, every_channel}

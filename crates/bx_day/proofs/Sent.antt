@@ -35,7 +35,8 @@ use Rattle.bx_day.specs.Ticks.{waits, second_at, second_of, tick}
 use Rattle.bx_day.specs.Receipts.{opens, lowest_open, names, hears, takes_or, takes_preferred, called_on, called, stray, received_at}
 use Rattle.bx_day.specs.Moves.{follow}
 use Rattle.bx_calls.specs.Sending.{Sent, Answered, reply_list}
-use Rattle.bx_day.specs.Run.{Event, Tick, Receive, receive_from, receive_read, happens}
+use Rattle.bx_q931.specs.Events.{Event, Tick, Receive}
+use Rattle.bx_day.specs.Run.{receive_from, receive_read, happens}
 use Rattle.bx_day.specs.declared.entry.Standing.{Standing}
 use Rattle.bx_day.specs.declared.entry.Standing.TheVariants.{Refused, Unoffered, OnCall, Carried, Unanswered, Missed}
 use Rattle.bx_day.specs.declared.entry.Moved.{Moved}

@@ -4,7 +4,8 @@ use Rattle.bx_day.specs.Day.{Day}
 use Rattle.bx_calls.specs.Sending.{Sent}
 use Rattle.bx_day.specs.QuietSeconds.{later_by, IsQuietTick, IsQuietFor}
 use Rattle.bx_day.specs.Reading.{IsExchange}
-use Rattle.bx_day.specs.Run.{Tick, day_after}
+use Rattle.bx_q931.specs.Events.{Tick}
+use Rattle.bx_day.specs.Run.{day_after}
 use Rattle.bx_day.proofs.Passing.{tick_is, ticked_stays}
 use Rattle.bx_day.proofs.Dues.{quiet_early}
 

@@ -10,8 +10,8 @@ pub mod Telling
 pub mod Quiet
 pub mod QuietSeconds
 pub mod Slots
-pub mod Replaying
 pub mod Calling
 pub mod Linking
 pub mod Passing
 pub mod SlotSteps
+pub mod Course

@@ -1,5 +1,6 @@
 -- A run: the events of a day, one after another.
 use Rattle.std.specs.Prelude.{ℕ, ◌==◌, List, [], ◌∷◌, ◌++◌, None, Result, Ok, Err, if◌then◌else◌}
+use Rattle.bx_q931.specs.Events.{Event, Tick, Receive}
 use Rattle.bx_q931.specs.Messages.{PlainMessage, message_at}
 use Rattle.bx_q931.specs.declared.fault.MessageFault.{MessageFault}
 use Rattle.bx_q931.specs.declared.reference.Reference.{Reference}
@@ -23,11 +24,6 @@ receive_read d (Ok m) = receive_from d m m.reference
 -- any octets
 abbrev pub receive_octets : Day → List ℕ → Answered Day
 receive_octets d octets = receive_read d (message_at octets)
-
--- an event: a tick, or octets that come
-pub data Event : Type 0 where
-  Tick : Event
-  Receive : (octets : List ℕ) → Event
 
 abbrev pub happens : Day → Event → Sent Day
 happens d Tick = tick d

@@ -11,8 +11,9 @@ use crate::entry::{Entry, Standing};
 use crate::linking::linked;
 use crate::opening::entries;
 use crate::outcome::{Outcome, told};
-use bx_base::{Channel, ChannelSet, Plan};
+use bx_base::{ChannelSet, Plan};
 use bx_calls::CallState;
+use bx_numbers::Channel;
 use std::alloc::{AllocError, Global};
 use std::marker::Model;
 

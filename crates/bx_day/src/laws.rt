@@ -4,7 +4,8 @@ ghost use Rattle.std.specs.Prelude.{ℕ, Bool, List, Option};
 ghost use Rattle.bx_base.specs.Bookings.{Row, AreBookings, Carries};
 ghost use Rattle.bx_base.specs.Plans.{is_accepted, channel_at};
 ghost use Rattle.bx_day.specs.Day.{opening};
-ghost use Rattle.bx_day.specs.Run.{Event, day_after, happens};
+ghost use Rattle.bx_q931.specs.Events.{Event};
+ghost use Rattle.bx_day.specs.Run.{day_after, happens};
 ghost use Rattle.bx_day.specs.Law.{IsOrderly, SentFits};
 
 /// Over every list of events of a carried plan: no channel is held twice, and calls are in their time.

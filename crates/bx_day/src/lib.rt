@@ -1,9 +1,10 @@
 //! The day of an exchange: what becomes of each booking of a plan, tick by tick and message by message. The
 //! definitions are over all bookings at once; `laws` holds over every list of events. `Exchange` is the day
-//! in memory, and `replay` one over a list of events.
+//! in memory.
 #![tactic(auto)]
 
 mod calling;
+mod end;
 mod entry;
 mod exchange;
 pub mod laws;
@@ -14,11 +15,9 @@ mod outcome;
 mod outcome_lines;
 mod quiet_seconds;
 mod receiving;
-mod replaying;
 mod scheduling;
 mod settling;
 mod ticking;
 
 pub use exchange::Exchange;
 pub use outcome::Outcome;
-pub use replaying::{Event, Replayed, replay};

@@ -8,8 +8,8 @@ ghost use Rattle.bx_day.specs.Moves.{activity_after, over_at, follows};
 ghost use Rattle.bx_calls.specs.Said.{said_of};
 
 use crate::entry::{Activity, Entry, Moved, Standing};
-use bx_base::Channel;
 use bx_calls::{CallState, NetCall, Next, Step};
+use bx_numbers::Channel;
 use bx_q931::Message;
 
 /// The activity of a call, by whether it is Active now.

@@ -4,7 +4,8 @@ ghost use Rattle.std.specs.Prelude.{◌≡◌, IfOk, OnOk, ◌++◌, ◌∷◌, 
 ghost use Rattle.bx_day.specs.Day.{entry_of, entries_from};
 
 use crate::entry::{Entry, Standing};
-use bx_base::{Booking, Channel, Plan};
+use bx_base::{Booking, Plan};
+use bx_numbers::Channel;
 use std::alloc::{AllocError, Global};
 
 /// Adds the booking of a row, by the channel that the plan gives it.

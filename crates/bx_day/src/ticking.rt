@@ -15,9 +15,10 @@ use crate::exchange::Exchange;
 use crate::moving::second;
 use crate::settling::{followers, settle};
 use arrayvec::ArrayVec;
-use bx_base::{Channel, ChannelSet};
+use bx_base::ChannelSet;
 use bx_calls::spell;
 use bx_calls::timers::LAST_MOMENT;
+use bx_numbers::Channel;
 use bx_q931::{Octets, Out};
 
 impl Exchange {

@@ -1,9 +1,9 @@
 //! Days of the far end by its script.
 
 use crate::steps::{Step, first_wrong};
-use bx_base::Channel;
 use bx_calls::CallState;
 use bx_far::Far;
+use bx_numbers::Channel;
 use bx_worked::{
     ALERTING_CHANNEL_1, CONNECT, CONNECT_ACKNOWLEDGE, CONNECT_CHANNEL_1, FAR_DISCONNECT_16,
     FAR_DISCONNECT_102, FAR_RELEASE_16, FAR_RELEASE_COMPLETE, FAR_RELEASE_COMPLETE_17,

@@ -1,8 +1,8 @@
 //! The day of one booking, event by event, with another that waits for its channel.
 
 use crate::steps::{Step, first_wrong};
-use bx_base::Channel;
 use bx_day::{Exchange, Outcome};
+use bx_numbers::Channel;
 use bx_worked::{CONNECT, CONNECT_ACKNOWLEDGE, DISCONNECT_16, RELEASE_16, SETUP};
 use bx_worked_days::{Row, exchange_of};
 use std::alloc::Global;

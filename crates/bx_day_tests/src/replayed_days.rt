@@ -1,6 +1,6 @@
 //! A day replayed from its events.
 
-use bx_day::{Event, Replayed, replay};
+use bx_replay::{Event, Replayed, replay};
 use bx_worked::{CONNECT, CONNECT_ACKNOWLEDGE, SETUP};
 use bx_worked_days::{Row, are_same, plan_of};
 use std::alloc::Global;

@@ -1,9 +1,9 @@
 //! What a script says of a called number.
 
 use crate::script_faults::long_script;
-use bx_base::Number;
 use bx_calls::Policy;
 use bx_far::Script;
+use bx_numbers::Number;
 use std::alloc::Global;
 use std::test::Fail;
 

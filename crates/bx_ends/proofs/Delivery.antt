@@ -2,8 +2,8 @@
 use Rattle.std.proofs.Common.{◌≡◌, ◌∙◌, ℕ, ◌==◌, ◌≤◌, Bool, true, false, Option, Some, None, refl, ap, arith, if◌then◌else◌}
 use Rattle.std.specs.Option.{IfSome}
 use Rattle.std.proofs.lemmas.Bool.{ne_eqb}
-use Rattle.bx_base.specs.Channels.{IsChannel}
-use Rattle.bx_base.specs.Numbers.{IsNumber}
+use Rattle.bx_numbers.specs.ChannelNumbers.{IsChannel}
+use Rattle.bx_numbers.specs.Numbers.{IsNumber}
 use Rattle.bx_q931.specs.Outgoing.{Outgoing, IsOutgoing, out_octets, message_of, bearer_contents}
 use Rattle.bx_q931.specs.Parts.{HasParts, channel_part}
 use Rattle.bx_q931.specs.Values.{state_of, first_of, called_of}

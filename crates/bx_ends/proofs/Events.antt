@@ -1,7 +1,7 @@
 -- Each event of two ends keeps what is true of calls that the exchange began.
 use Rattle.std.proofs.Common.{◌≡◌, ℕ, suc, Bool, true, false, List, [], ◌∷◌, ◌++◌, length, Option, Some, None, refl, sym, ap, subst, nat_le, if◌then◌else◌}
 use Rattle.std.specs.List.{AllByRecursion}
-use Rattle.bx_base.specs.Channels.{IsChannel}
+use Rattle.bx_numbers.specs.ChannelNumbers.{IsChannel}
 use Rattle.bx_base.specs.Bookings.{Row}
 use Rattle.bx_q931.specs.Outgoing.{Outgoing, out_octets}
 use Rattle.bx_calls.specs.PlainCalls.{PlainUserCall}
@@ -12,7 +12,7 @@ use Rattle.bx_day.specs.Day.{Day}
 use Rattle.bx_day.specs.Ticks.{tick, ticked}
 use Rattle.bx_day.specs.Receipts.{receive}
 use Rattle.bx_calls.specs.Sending.{Sent, Answered, reply_list}
-use Rattle.bx_day.specs.Run.{Tick, Receive}
+use Rattle.bx_q931.specs.Events.{Tick, Receive}
 use Rattle.bx_day.specs.Law.{standing_at}
 use Rattle.bx_day.proofs.Law.{RunFits, run_fits}
 use Rattle.bx_day.proofs.Tick.{by_cases}

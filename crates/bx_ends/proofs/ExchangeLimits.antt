@@ -1,7 +1,7 @@
 -- What the exchange sends is within the limits of a message, at each event.
 use Rattle.std.proofs.Common.{◌≡◌, ℕ, ◌+◌, not, Bool, true, false, List, Option, Some, None, refl, sym, subst, arith, nat_le}
 use Rattle.std.specs.List.{AllByRecursion}
-use Rattle.bx_base.specs.Channels.{IsChannel}
+use Rattle.bx_numbers.specs.ChannelNumbers.{IsChannel}
 use Rattle.bx_q931.specs.declared.kind.Kind.{Kind}
 use Rattle.bx_q931.specs.declared.kind.Kind.TheVariants.{Setup, CallProceeding}
 use Rattle.bx_q931.specs.declared.channel_field.ChannelField.{ChannelField}

@@ -3,7 +3,7 @@ use Rattle.std.proofs.Common.{◌≡◌, ◌⊎◌, inl, inr, ℕ, zero, suc, �
 use Rattle.std.specs.List.{AllByRecursion, list_any, flat_map}
 use Rattle.std.proofs.lemmas.Bool.{false≢true, true≢false, and_parts, and_from, eq-eqb, eqb-true, not-true, agree_below_at, or_left, or_right, not_from_false}
 use Rattle.std.proofs.lemmas.List.Folds.{list_any-append}
-use Rattle.bx_base.specs.Channels.{IsChannel}
+use Rattle.bx_numbers.specs.ChannelNumbers.{IsChannel}
 use Rattle.bx_base.specs.Bookings.{Row}
 use Rattle.bx_base.specs.Plans.{channel_at}
 use Rattle.bx_q931.specs.declared.kind.Kind.{Kind}

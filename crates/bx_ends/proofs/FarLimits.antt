@@ -3,7 +3,7 @@ use Rattle.std.proofs.Common.{◌≡◌, ℕ, ◌+◌, ◌≤◌, ◌==◌, ◌&
 use Rattle.std.specs.Option.{IfSome}
 use Rattle.std.specs.List.{AllByRecursion}
 use Rattle.std.proofs.lemmas.Bool.{and_parts}
-use Rattle.bx_base.specs.Channels.{IsChannel}
+use Rattle.bx_numbers.specs.ChannelNumbers.{IsChannel}
 use Rattle.bx_q931.specs.declared.kind.Kind.{Kind}
 use Rattle.bx_q931.specs.declared.kind.Kind.TheVariants.{Setup}
 use Rattle.bx_q931.specs.Outgoing.{Outgoing, IsCallReference}

@@ -1,7 +1,7 @@
 -- Each message of the call tables is within the limits of a message.
 use Rattle.std.proofs.Common.{ℕ, ◌+◌, ◌%◌, ◌==◌, ◌&&◌, ◌<◌, max, not, Bool, true, false, List, Option, Some, None, arith, nat_le, if◌then◌else◌}
-use Rattle.bx_base.specs.Channels.{IsChannel}
-use Rattle.bx_base.specs.Numbers.{IsNumber}
+use Rattle.bx_numbers.specs.ChannelNumbers.{IsChannel}
+use Rattle.bx_numbers.specs.Numbers.{IsNumber}
 use Rattle.bx_q931.specs.Kinds.{IsNamed}
 use Rattle.bx_q931.specs.declared.kind.Kind.{Kind}
 use Rattle.bx_q931.specs.declared.kind.Kind.TheVariants.{Alerting, CallProceeding, Progress, Setup, Connect, ConnectAcknowledge, Disconnect, Release, ReleaseComplete, Notify, StatusEnquiry, Information, Status, Other}

@@ -1,8 +1,9 @@
 -- At the opening nothing was sent and no call is live, so all that is kept is true.
 use Rattle.std.proofs.Common.{◌≡◌, ℕ, zero, suc, ◌+◌, ◌≤◌, ◌<◌, not, Bool, true, false, List, [], ◌∷◌, length, Option, Some, None, refl, sym, subst, ◌∙◌, arith, slice_index_or}
 use Rattle.std.proofs.lemmas.Bool.{false≢true, true≢false}
-use Rattle.bx_base.specs.Numbers.{IsNumber}
-use Rattle.bx_base.specs.Channels.{IsChannel, IsChannelSet}
+use Rattle.bx_numbers.specs.Numbers.{IsNumber}
+use Rattle.bx_numbers.specs.ChannelNumbers.{IsChannel}
+use Rattle.bx_base.specs.Channels.{IsChannelSet}
 use Rattle.bx_base.specs.Bookings.{Row, row_at, AreBookings, Carries}
 use Rattle.bx_base.specs.Plans.{is_accepted, channel_at}
 use Rattle.bx_day.specs.Day.{entries_from, entry_at}

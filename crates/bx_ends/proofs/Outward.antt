@@ -26,8 +26,8 @@
 -- that all that is sent is within the limits of a message, without which the codec does not give it back.
 use Rattle.std.proofs.Common.{◌≡◌, ℕ, suc, ◌-◌, ◌≤◌, not, Bool, true, false, List, Option, Some, length}
 use Rattle.std.specs.List.{AllByRecursion, list_any}
-use Rattle.bx_base.specs.Channels.{IsChannel}
-use Rattle.bx_base.specs.Numbers.{IsNumber}
+use Rattle.bx_numbers.specs.ChannelNumbers.{IsChannel}
+use Rattle.bx_numbers.specs.Numbers.{IsNumber}
 use Rattle.bx_base.specs.Bookings.{Row}
 use Rattle.bx_base.specs.Plans.{channel_at}
 use Rattle.bx_q931.specs.declared.kind.Kind.TheVariants.{Setup}

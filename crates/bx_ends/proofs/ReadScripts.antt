@@ -5,8 +5,8 @@ use Rattle.std.specs.Str.{bytes_eq}
 use Rattle.std.specs.Str.Parse.{digits_value}
 use Rattle.std.specs.Char.{is_ascii_digit}
 use Rattle.std.proofs.lemmas.Bool.{and_parts, leb-true, eqb-false, not-true}
-use Rattle.bx_base.specs.Channels.{IsChannel}
-use Rattle.bx_base.specs.Numbers.{IsNumber}
+use Rattle.bx_numbers.specs.ChannelNumbers.{IsChannel}
+use Rattle.bx_numbers.specs.Numbers.{IsNumber}
 use Rattle.bx_q931.specs.Values.{is_number, is_channel}
 use Rattle.bx_q931.proofs.ValueLemmas.{number_decides}
 use Rattle.bx_calls.specs.declared.user_state.Policy.{Policy}

@@ -1,8 +1,8 @@
 -- The premise of both laws on scripts: rows within their limits. Each script that is read keeps it.
 use Rattle.std.specs.Prelude.{ℕ, ◌≤◌, List, length}
 use Rattle.std.specs.List.{AllByRecursion}
-use Rattle.bx_base.specs.Channels.{IsChannel}
-use Rattle.bx_base.specs.Numbers.{IsNumber}
+use Rattle.bx_numbers.specs.ChannelNumbers.{IsChannel}
+use Rattle.bx_numbers.specs.Numbers.{IsNumber}
 use Rattle.bx_far.specs.ScriptTexts.{IsScript}
 use Rattle.bx_far.specs.declared.row.ScriptRow.{ScriptRow}
 use Rattle.bx_far.specs.declared.row.ScriptRow.TheVariants.{Follows, Calls}

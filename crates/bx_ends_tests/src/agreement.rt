@@ -1,9 +1,9 @@
 //! Whether two ends agree, as their readers and their answers to STATUS ENQUIRY tell it.
 
 use crate::ends::Ends;
-use bx_base::Channel;
 use bx_calls::CallState;
 use bx_day::Outcome;
+use bx_numbers::Channel;
 use bx_q931::Octets;
 use bx_worked_days::Row;
 

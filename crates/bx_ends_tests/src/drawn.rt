@@ -3,8 +3,8 @@
 
 use crate::agreement::agree;
 use crate::ends::{Ends, Event, opened};
-use bx_base::Channel;
 use bx_calls::CallState;
+use bx_numbers::Channel;
 use bx_worked_days::Row;
 use std::alloc::Global;
 use std::test::Fail;

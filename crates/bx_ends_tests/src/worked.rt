@@ -1,8 +1,8 @@
 //! Worked lists of events, with each message that is sent.
 
 use crate::ends::{Ends, Event, opened};
-use bx_base::Channel;
 use bx_calls::CallState;
+use bx_numbers::Channel;
 use bx_q931::Octets;
 use bx_worked::{
     CONNECT_ACKNOWLEDGE, CONNECT_CHANNEL_1, DISCONNECT_16, FAR_RELEASE, FAR_RELEASE_COMPLETE,

@@ -6,3 +6,4 @@ pub mod FarDay
 pub mod FarRun
 pub mod Seats
 pub mod BegunTicks
+pub mod Course

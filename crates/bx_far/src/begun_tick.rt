@@ -6,8 +6,9 @@ ghost use Rattle.bx_far.specs.FarDay.{begin_call, begin_row, begin_rows};
 ghost use Rattle.bx_far.specs.Inside.{calls_now};
 
 use crate::row::ScriptRow;
-use bx_base::{Channel, ChannelSet, Number};
+use bx_base::ChannelSet;
 use bx_calls::UserCall;
+use bx_numbers::{Channel, Number};
 use bx_q931::Out;
 use std::marker::Model;
 

@@ -6,8 +6,9 @@ ghost use Rattle.bx_calls.specs.Shared.{is_set};
 ghost use Rattle.bx_far.specs.FarDay.{is_taken, holder, far_opening};
 
 use crate::script::Script;
-use bx_base::{Channel, ChannelSet};
+use bx_base::ChannelSet;
 use bx_calls::{CallState, UserCall};
+use bx_numbers::Channel;
 use std::marker::Model;
 
 /// The far end during its day: the moment in seconds from the day's start, its live calls, and the channels

@@ -3,6 +3,7 @@
 #![tactic(auto)]
 
 mod begun_tick;
+mod end;
 mod far;
 mod fault;
 mod receiving;

@@ -7,8 +7,9 @@ ghost use Rattle.bx_far.specs.FarDay.{far_names, first_call, settle_maintenance}
 ghost use Rattle.bx_far.specs.Seats.{AreSeated, live_calls};
 ghost use Rattle.bx_far.specs.Inside.{live_of, slot_at};
 
-use bx_base::{Channel, ChannelSet};
+use bx_base::ChannelSet;
 use bx_calls::{Next, UserCall};
+use bx_numbers::Channel;
 
 /// Whether the call has this reference and sends with the other flag.
 fn is_named(call: &UserCall, reference: u16, flag: bool) -> bool

@@ -1,5 +1,5 @@
 -- Why a call has no times, where its day is named and where it is not.
-use Rattle.std.proofs.Common.{◌≡◌, ℕ, ◌≤◌, List, Option, Some, None, refl, sym, subst, inl, inr, ◌⊎◌}
+use Rattle.std.proofs.Common.{◌≡◌, ℕ, ◌≤◌, List, Option, Some, None, refl, inl, inr, ◌⊎◌}
 use Rattle.std.specs.Prelude.{MatchOption}
 use Rattle.bx_book.specs.NamedDays.{IsDayOf}
 use Rattle.bx_book.specs.Rows.{Span, IsTimeFault, span_of}
@@ -8,9 +8,6 @@ use Rattle.bx_book.specs.declared.fault.BookFault.{BookFault}
 use Rattle.bx_book.specs.declared.fault.BookFault.TheVariants.{EndNotAfterStart}
 use Rattle.bx_files.specs.PlanRefusals.{AreTimes, AreNoTimes}
 use Rattle.bx_request.specs.declared.request.Call.{Call}
-
-pub at_some : {A : Type 0} (o : Option A) (x : A) (P : Type 0) (Q : A → Type 0) → o ≡ Some x → Q x → MatchOption o P Q
-at_some {A = A} o x P Q e q = subst (λ (p : Option A). MatchOption p P Q) (sym e) q
 
 pub no_times : (span : Span) (call : Call) (fault : BookFault) → IsTimeFault span 1 call.start.now fault ⊎ IsTimeFault span 1 call.end.now fault → AreNoTimes span call fault
 no_times span call (EndNotAfterStart row) (inl p) = absurd p

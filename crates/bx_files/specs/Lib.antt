@@ -4,3 +4,4 @@ pub mod PlanRefusals
 pub mod Pictures
 pub mod Inside
 pub mod Answers
+pub mod FileRequests

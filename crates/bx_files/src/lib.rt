@@ -7,8 +7,10 @@ mod inputs;
 mod naming;
 mod plan_files;
 mod quote_files;
+mod requests;
 
 pub use chart_files::chart_file;
 pub use fault::FileFault;
 pub use plan_files::{amend_file, check_file, plan_file};
 pub use quote_files::{explain_file, quote_file};
+pub use requests::run_on_files;

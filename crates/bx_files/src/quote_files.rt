@@ -9,10 +9,11 @@ ghost use Rattle.bx_files.specs.PlanRefusals.{IsNotExplained, AreTimes, AreNoSec
 
 use crate::fault::FileFault;
 use crate::naming::day_of;
-use bx_base::{Booking, Number};
+use bx_base::Booking;
 use bx_book::{BookFault, Day, moment};
 use bx_commands::proved_in;
 use bx_devices::Watched;
+use bx_numbers::Number;
 use bx_quote::{write_explained, write_quote, write_refused};
 use bx_request::Call;
 use std::fs::Files;

@@ -5,8 +5,8 @@ use crate::exchange_days::{DAYS, Ready};
 use crate::replies::Reply;
 use crate::second_reading::{Heard, Naming};
 use crate::tables::{Call, at_network, of_no_call};
-use bx_base::Channel;
 use bx_day::Exchange;
+use bx_numbers::Channel;
 use bx_worked_days::exchange_of;
 use std::alloc::Global;
 

@@ -5,8 +5,8 @@ use crate::far_days::{DAYS, MAINTENANCE, Ready, SILENT};
 use crate::replies::Reply;
 use crate::second_reading::{Heard, Naming};
 use crate::tables::{Call, at_user, of_no_call};
-use bx_base::Channel;
 use bx_far::Far;
+use bx_numbers::Channel;
 use bx_worked_days::far_of;
 use std::alloc::Global;
 

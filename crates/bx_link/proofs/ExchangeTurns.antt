@@ -5,21 +5,26 @@ use Rattle.bx_devices.specs.declared.watched.Watched.{Watched}
 use Rattle.bx_devices.specs.Watching.{device_of, is_faulted}
 use Rattle.bx_day.specs.Day.{Day}
 use Rattle.bx_devices.specs.declared.octets.WriteFailed.{WriteFailed as Failed}
-use Rattle.bx_day.specs.Run.{Event, Tick}
-use Rattle.bx_link.specs.Ends.{after, told, ticks_of, exchange_next, exchange_text}
-use Rattle.bx_link.specs.Frames.{is_far, day_frame}
-use Rattle.bx_link.specs.Inside.{Sends}
-use Rattle.bx_link.specs.Talking.{Talk, stop, with_events, follow, exchange_turn, talk_in}
-use Rattle.bx_link.specs.Hearing.{Goes, Went, no_tick, Opens, Hears}
+use Rattle.bx_q931.specs.Events.{Event, Tick}
+use Rattle.bx_day.specs.Run.{day_after}
+use Rattle.bx_turns.specs.Courses.{after, told, ticks_of}
+use Rattle.bx_day.specs.Course.{exchange_next, exchange_text}
+use Rattle.bx_frames.specs.Frames.{is_far, day_frame}
+use Rattle.bx_frames.specs.Writing.{Sends}
+use Rattle.bx_turns.specs.Talks.{Talk, stop, with_events}
+use Rattle.bx_link.specs.Talking.{exchange_turn, talk_in, follow}
+use Rattle.bx_turns.specs.Heard.{Goes, Went, no_tick}
+use Rattle.bx_link.specs.Hearing.{Opens, Hears}
 use Rattle.bx_link.specs.Days.{Talks, EndsDay}
-use Rattle.bx_link.specs.declared.fault.LinkFault.{LinkFault}
-use Rattle.bx_link.specs.declared.fault.LinkFault.TheVariants.{ReadFailed, WriteFailed, EndedInFrame}
-use Rattle.bx_link.specs.declared.frame.Side.TheVariants.{Exchange}
-use Rattle.bx_link.proofs.Composing.{gave, faulty, SoFar, nothing_yet, then_goes, then_so_far, all_goes}
-use Rattle.bx_link.proofs.Events.{ticks_more, no_last}
+use Rattle.bx_frames.specs.declared.fault.LinkFault.{LinkFault}
+use Rattle.bx_frames.specs.declared.fault.LinkFault.TheVariants.{ReadFailed, WriteFailed, EndedInFrame}
+use Rattle.bx_frames.specs.declared.frame.Side.TheVariants.{Exchange}
+use Rattle.bx_frames.proofs.ReadAnswers.{gave, faulty}
+use Rattle.bx_turns.proofs.Composing.{SoFar, nothing_yet, then_goes, then_so_far, all_goes}
+use Rattle.bx_turns.proofs.Events.{ticks_more, no_last}
 use Rattle.bx_link.proofs.Following.{follow_on, follow_fault, written_whole, still_written}
-use Rattle.bx_link.proofs.Turns.{turn_nothing, turn_local}
-use Rattle.bx_link.proofs.WritingFrames.{done, stopped}
+use Rattle.bx_turns.proofs.Turns.{turn_nothing, turn_local}
+use Rattle.bx_frames.proofs.WritingFrames.{done, stopped}
 
 -- done, or not
 abbrev pub over : Result (Unit {0}) LinkFault
@@ -190,3 +195,9 @@ day_not_written contents w w1 e p = record { whole = inl refl; part = λ _. p.pa
 
 pub no_end : (fault : LinkFault) → ¬ (faulty fault ≡ gave true)
 no_end fault e = cc
+
+-- ---- the exchange's day
+
+pub day_of_events : (events : List Event) (d : Day) → after exchange_next events d ≡ day_after events d
+day_of_events [] d = refl
+day_of_events (x ∷ xs) d = day_of_events xs (exchange_next d x)

@@ -14,15 +14,16 @@ use Rattle.bx_calls.specs.PlainCalls.{PlainUserCall}
 use Rattle.bx_calls.specs.Said.{Said, said_of}
 use Rattle.bx_calls.specs.declared.user_state.Policy.{Policy}
 use Rattle.bx_calls.specs.declared.user_state.Policy.TheVariants as policies
-use Rattle.bx_day.specs.Run.{Event, Tick, Receive}
+use Rattle.bx_q931.specs.Events.{Event, Tick, Receive}
 use Rattle.bx_far.specs.FarDay.{FarDay, far_tick, far_ticked, far_refuses, far_takes, far_called_on, far_called, far_stray, far_received_by, far_receive, is_taken, first_call, far_names}
 use Rattle.bx_calls.specs.Sending.{Sent, Answered, unchanged}
 use Rattle.bx_far.specs.FarRun.{far_receive_from, far_receive_read, far_receive_octets}
 use Rattle.bx_far.specs.Policies.{policy_of}
 use Rattle.bx_devices.specs.declared.watched.Watched.{Watched}
 use Rattle.bx_link.specs.Days.{FarTalks, EndsFarDay, RunsFarDay}
-use Rattle.bx_link.specs.Ends.{after, ticks_of, far_next}
-use Rattle.bx_link.specs.declared.fault.LinkFault.{LinkFault}
+use Rattle.bx_turns.specs.Courses.{after, ticks_of}
+use Rattle.bx_far.specs.Course.{far_next}
+use Rattle.bx_frames.specs.declared.fault.LinkFault.{LinkFault}
 
 -- the moment stays
 abbrev Stays : FarDay → Answered FarDay → Type 0

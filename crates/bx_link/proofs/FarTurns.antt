@@ -2,22 +2,26 @@
 use Rattle.std.proofs.Common.{◌≡◌, ℕ, ◌+◌, ◌≤◌, min, zero, suc, List, [], ◌∷◌, ◌++◌, refl, sym, ap, ◌∙◌, subst, arith, Option, Result, Ok, Err, Bool, true, false, ◌⊎◌, inl, inr}
 use Rattle.bx_devices.specs.declared.octets.WriteFailed.{WriteFailed as Failed}
 use Rattle.bx_devices.specs.declared.watched.Watched.{Watched}
-use Rattle.bx_day.specs.Run.{Event, Tick}
+use Rattle.bx_q931.specs.Events.{Event, Tick}
 use Rattle.bx_far.specs.FarDay.{FarDay}
-use Rattle.bx_link.specs.Ends.{after, ticks_of, far_next, far_text}
-use Rattle.bx_link.specs.Inside.{Sends}
-use Rattle.bx_link.specs.Talking.{Talk, stop, follow, follow_by, far_hears, far_turn, ticked, closed_before, far_talk_in}
-use Rattle.bx_link.specs.Hearing.{Goes, Went, no_tick, TakesTurn}
+use Rattle.bx_turns.specs.Courses.{after, ticks_of}
+use Rattle.bx_far.specs.Course.{far_next, far_text}
+use Rattle.bx_frames.specs.Writing.{Sends}
+use Rattle.bx_turns.specs.Talks.{Talk, stop}
+use Rattle.bx_link.specs.Talking.{far_hears, far_turn, ticked, closed_before, far_talk_in, follow, follow_by}
+use Rattle.bx_turns.specs.Heard.{Goes, Went, no_tick}
+use Rattle.bx_link.specs.Hearing.{TakesTurn}
 use Rattle.bx_link.specs.Days.{FarTalks}
-use Rattle.bx_link.specs.declared.fault.LinkFault.{LinkFault}
-use Rattle.bx_link.specs.declared.fault.LinkFault.TheVariants.{WriteFailed, Closed}
-use Rattle.bx_link.specs.declared.frame.Side.TheVariants.{FarEnd}
-use Rattle.bx_link.proofs.Composing.{gave, faulty, SoFar, nothing_yet, then_goes, then_so_far, all_goes}
-use Rattle.bx_link.proofs.Events.{ticks_more, no_last}
+use Rattle.bx_frames.specs.declared.fault.LinkFault.{LinkFault}
+use Rattle.bx_frames.specs.declared.fault.LinkFault.TheVariants.{WriteFailed, Closed}
+use Rattle.bx_frames.specs.declared.frame.Side.TheVariants.{FarEnd}
+use Rattle.bx_frames.proofs.ReadAnswers.{gave, faulty}
+use Rattle.bx_turns.proofs.Composing.{SoFar, nothing_yet, then_goes, then_so_far, all_goes}
+use Rattle.bx_turns.proofs.Events.{ticks_more, no_last}
 use Rattle.bx_link.proofs.Following.{IsQuiet, follow_on, follow_fault, follow_day}
-use Rattle.bx_link.proofs.Hearing.{one_told, one_failed}
-use Rattle.bx_link.proofs.Turns.{IsEnded, IsLocalTalk, turn_nothing, turn_local}
-use Rattle.bx_link.proofs.WritingFrames.{done, stopped}
+use Rattle.bx_turns.proofs.Hearing.{one_told, one_failed}
+use Rattle.bx_turns.proofs.Turns.{IsEnded, IsLocalTalk, turn_nothing, turn_local}
+use Rattle.bx_frames.proofs.WritingFrames.{done, stopped}
 
 -- the ending is what it was said to be
 pub ended_so : (talk : Talk) (b : Bool) → talk.ending ≡ Ok b → talk ≡ record { events = talk.events; ending = Ok b; rest = talk.rest; behind = talk.behind }

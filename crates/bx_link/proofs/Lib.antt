@@ -1,12 +1,4 @@
-pub mod OctetSteps
-pub mod WritingFrames
-pub mod Events
-pub mod Composing
-pub mod Locality
-pub mod ReadingSteps
-pub mod Turns
 pub mod Following
-pub mod Hearing
 pub mod ExchangeTurns
 pub mod FarTurns
 pub mod BothEnds

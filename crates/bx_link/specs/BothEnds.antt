@@ -4,16 +4,17 @@ use Rattle.std.proofs.Common.{inl, inr}
 use Rattle.std.specs.Io.KnownBytes.{Appends}
 use Rattle.bx_devices.specs.Watching.{device_of, is_faulted}
 use Rattle.bx_day.specs.Day.{Day}
-use Rattle.bx_day.specs.Run.{Event}
+use Rattle.bx_q931.specs.Events.{Event}
 use Rattle.bx_far.specs.FarDay.{FarDay}
-use Rattle.bx_link.specs.Ends.{after, told, ticks_of, ticks_last, exchange_next, exchange_text}
+use Rattle.bx_turns.specs.Courses.{after, told, ticks_of, ticks_last}
+use Rattle.bx_day.specs.Course.{exchange_next, exchange_text}
 use Rattle.bx_link.specs.Talking.{talk_in}
-use Rattle.bx_link.specs.Hearing.{IsUnread}
+use Rattle.bx_turns.specs.Heard.{IsUnread}
 use Rattle.bx_link.specs.Days.{Talks, TalksToEnd, FarTalks}
 use Rattle.bx_link.specs.declared.connection.Connection.{Connection}
-use Rattle.bx_link.specs.declared.fault.LinkFault.{LinkFault}
-use Rattle.bx_link.specs.declared.fault.LinkFault.TheVariants.{WriteFailed, Closed}
-use Rattle.bx_link.specs.declared.frame.Side.TheVariants.{Exchange}
+use Rattle.bx_frames.specs.declared.fault.LinkFault.{LinkFault}
+use Rattle.bx_frames.specs.declared.fault.LinkFault.TheVariants.{WriteFailed, Closed}
+use Rattle.bx_frames.specs.declared.frame.Side.TheVariants.{Exchange}
 
 -- an end before and after: its connection, with what that tells, and its day
 pub record Passage (D R W : Type 0) : Type 0 where

@@ -6,15 +6,17 @@ use Rattle.bx_devices.specs.declared.watched.Watched.{Watched}
 use Rattle.bx_devices.specs.Watching.{device_of, is_faulted}
 use Rattle.bx_day.specs.Day.{Day}
 use Rattle.bx_far.specs.FarDay.{FarDay}
-use Rattle.bx_day.specs.Run.{Event}
-use Rattle.bx_link.specs.Ends.{ticks_of, exchange_next, exchange_text, far_next, far_text}
-use Rattle.bx_link.specs.Frames.{day_frame}
+use Rattle.bx_q931.specs.Events.{Event}
+use Rattle.bx_turns.specs.Courses.{ticks_of}
+use Rattle.bx_day.specs.Course.{exchange_next, exchange_text}
+use Rattle.bx_far.specs.Course.{far_next, far_text}
+use Rattle.bx_frames.specs.Frames.{day_frame}
 use Rattle.bx_devices.specs.Octets.{AppendsPart}
 use Rattle.bx_link.specs.Talking.{talk_in, far_talk_in}
-use Rattle.bx_link.specs.Hearing.{Went}
-use Rattle.bx_link.specs.declared.fault.LinkFault.{LinkFault}
-use Rattle.bx_link.specs.declared.fault.LinkFault.TheVariants.{WriteFailed, Closed}
-use Rattle.bx_link.specs.declared.frame.Side.TheVariants.{Exchange, FarEnd}
+use Rattle.bx_turns.specs.Heard.{Went}
+use Rattle.bx_frames.specs.declared.fault.LinkFault.{LinkFault}
+use Rattle.bx_frames.specs.declared.fault.LinkFault.TheVariants.{WriteFailed, Closed}
+use Rattle.bx_frames.specs.declared.frame.Side.TheVariants.{Exchange, FarEnd}
 
 -- ---- several turns of the exchange
 

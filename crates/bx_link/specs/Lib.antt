@@ -1,7 +1,3 @@
-pub mod Frames
-pub mod Inside
-pub mod Reading
-pub mod Ends
 pub mod Talking
 pub mod Hearing
 pub mod Days

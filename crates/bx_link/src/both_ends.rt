@@ -5,14 +5,13 @@ ghost use Rattle.bx_link.specs.BothEnds.{RunsBoth, events_of_near, passage};
 ghost use Rattle.bx_link.specs.Hearing.{turned};
 
 use crate::connection::Connection;
-use crate::day::LAST_MOMENT;
-use crate::end::End;
 use crate::far_session::FarSession;
-use crate::fault::LinkFault;
-use crate::frame_writing::write_end_of_day;
 use crate::session::Session;
+use bx_calls::timers::LAST_MOMENT;
 use bx_day::Exchange;
 use bx_far::Far;
+use bx_frames::{LinkFault, write_end_of_day};
+use bx_turns::End;
 use std::io::{Read, Write};
 
 /// Runs a day of both ends, each at its end of a connection. The exchange opens a turn, the far end takes it, and

@@ -4,16 +4,13 @@ ghost use Rattle.std.specs.Prelude.{◌≡◌, ◌-◌, min};
 ghost use Rattle.bx_link.specs.Days.{Talks, RunsDay, events_of_day};
 ghost use Rattle.bx_link.specs.Hearing.{turned};
 
-use crate::end::End;
-use crate::fault::LinkFault;
-use crate::frame_writing::write_end_of_day;
 use crate::session::Session;
+use bx_calls::timers::LAST_MOMENT;
 use bx_day::Exchange;
 use bx_devices::Watched;
+use bx_frames::{LinkFault, write_end_of_day};
+use bx_turns::End;
 use std::io::{Read, Write};
-
-/// The moment at which a day stands still.
-pub(crate) const LAST_MOMENT: u32 = 300_000;
 
 /// Opens and closes so many turns.
 fn run_turns<E: End<Exchange>, R: Read, W: Write>(

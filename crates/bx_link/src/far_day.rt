@@ -2,11 +2,11 @@
 
 ghost use Rattle.bx_link.specs.Days.{RunsFarDay};
 
-use crate::end::End;
 use crate::far_session::FarSession;
-use crate::fault::LinkFault;
 use bx_devices::Watched;
 use bx_far::Far;
+use bx_frames::LinkFault;
+use bx_turns::End;
 use std::io::{Read, Write};
 
 /// More turns than a connection lasts for.

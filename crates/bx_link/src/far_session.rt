@@ -4,14 +4,12 @@
 ghost use Rattle.std.specs.Prelude.{◌≡◌, not, true, false, Err};
 ghost use Rattle.bx_link.specs.Hearing.{TakesTurn, goes_on};
 ghost use Rattle.bx_link.specs.Sessions.{is_far_over};
-ghost use Rattle.bx_link.specs.declared.fault.LinkFault.TheVariants.{Closed};
+ghost use Rattle.bx_frames.specs.declared.fault.LinkFault.TheVariants.{Closed};
 
-use crate::end::End;
-use crate::fault::LinkFault;
-use crate::frame::Side;
-use crate::turn::{hear_turn, write_tick};
 use bx_devices::Watched;
 use bx_far::Far;
+use bx_frames::{LinkFault, Side};
+use bx_turns::{End, hear_turn, write_tick};
 use std::io::{Read, Write};
 
 /// A session of the far end. After a fault, and after the end of the day, it is closed, and neither reads nor

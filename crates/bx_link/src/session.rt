@@ -1,17 +1,15 @@
 //! Sessions: the turns of the exchange, opened and closed one after another, until a fault.
 
 ghost use Rattle.std.specs.Prelude.{◌≡◌, ◌∷◌, [], true, false, is_ok, is_err, Err};
-ghost use Rattle.bx_day.specs.Run.{Tick};
+ghost use Rattle.bx_q931.specs.Events.{Tick};
 ghost use Rattle.bx_link.specs.Hearing.{Hears, Opens};
 ghost use Rattle.bx_link.specs.Sessions.{is_turn_open, is_closed};
-ghost use Rattle.bx_link.specs.declared.fault.LinkFault.TheVariants.{Closed};
+ghost use Rattle.bx_frames.specs.declared.fault.LinkFault.TheVariants.{Closed};
 
-use crate::end::End;
-use crate::fault::LinkFault;
-use crate::frame::Side;
-use crate::turn::{hear_turn, write_tick};
 use bx_day::Exchange;
 use bx_devices::Watched;
+use bx_frames::{LinkFault, Side};
+use bx_turns::{End, hear_turn, write_tick};
 use std::io::{Read, Write};
 
 /// Where a session stands.

@@ -1,11 +1,12 @@
 //! Sessions that a fault closes, and that stay closed.
 
 use crate::frames::{CONNECT, TORN};
-use bx_base::Channel;
 use bx_calls::CallState;
 use bx_day::Exchange;
 use bx_devices::{Failing, Watched};
-use bx_link::{LinkFault, Session};
+use bx_frames::LinkFault;
+use bx_link::Session;
+use bx_numbers::Channel;
 use bx_worked_days::exchange;
 use std::alloc::Global;
 

@@ -1,11 +1,12 @@
 //! A day of one turn over readers that give one octet a read and writers that take one, which fail at each place.
 
 use crate::frames::{CONNECT, CONNECT_ACKNOWLEDGE, END_OF_DAY, END_OF_TURN, OPENED, joined};
-use bx_base::Channel;
 use bx_calls::CallState;
 use bx_day::Exchange;
 use bx_devices::{Failing, Watched};
-use bx_link::{LinkFault, run_day};
+use bx_frames::LinkFault;
+use bx_link::run_day;
+use bx_numbers::Channel;
 use bx_worked_days::exchange;
 use std::alloc::Global;
 

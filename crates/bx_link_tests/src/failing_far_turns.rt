@@ -2,7 +2,8 @@
 
 use crate::frames::{END_OF_TURN, FAR_REFUSAL, FAR_STRAY, repeated};
 use bx_devices::{Failing, Watched};
-use bx_link::{FarSession, LinkFault};
+use bx_frames::LinkFault;
+use bx_link::FarSession;
 use bx_worked_days::far_end;
 use std::alloc::Global;
 

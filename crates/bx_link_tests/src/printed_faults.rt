@@ -1,6 +1,6 @@
 //! The faults of the link, as they are printed.
 
-use bx_link::LinkFault;
+use bx_frames::LinkFault;
 use std::test::Fail;
 
 static FAULTS: [(LinkFault, &str); 8] = [

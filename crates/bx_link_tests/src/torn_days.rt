@@ -2,7 +2,8 @@
 
 use crate::frames::{CONNECT, END_OF_DAY, END_OF_TURN, OPENED, connection, joined};
 use bx_devices::{Failing, Watched};
-use bx_link::{Connection, LinkFault, run_both_ends, run_far_day};
+use bx_frames::LinkFault;
+use bx_link::{Connection, run_both_ends, run_far_day};
 use bx_worked_days::{exchange, far_end};
 use std::alloc::Global;
 

@@ -2,7 +2,8 @@
 
 use crate::frames::{END_OF_TURN, OPENED, REFUSAL, STRAY, repeated};
 use bx_devices::Watched;
-use bx_link::{LinkFault, Session};
+use bx_frames::LinkFault;
+use bx_link::Session;
 use bx_worked_days::exchange;
 use std::alloc::Global;
 

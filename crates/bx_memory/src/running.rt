@@ -3,8 +3,9 @@
 use crate::world::{Answer, World};
 use bx_base::Booking;
 use bx_check::check;
-use bx_day::{Event, Exchange, replay};
+use bx_day::Exchange;
 use bx_quote::{Quote, QuoteFail, explain, quote};
+use bx_replay::{Event, replay};
 use std::alloc::Global;
 
 fn threshold(given: Result<Quote, QuoteFail>) -> Answer {

@@ -15,7 +15,8 @@ use crate::decimals::{decimal, is_digits};
 use crate::fault::PlanFault;
 use crate::fields::Fields;
 use crate::version::Version;
-use bx_base::{Booking, Channel, Number};
+use bx_base::Booking;
+use bx_numbers::{Channel, Number};
 
 /// What a line of the right form says of a booking, within its limits or not.
 #[derive(Clone, Copy)]

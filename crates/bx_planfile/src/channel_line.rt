@@ -10,7 +10,8 @@ ghost use Rattle.bx_planfile.specs.Inside.{Answers};
 use crate::decimals::decimal;
 use crate::fault::PlanFault;
 use crate::fields::Fields;
-use bx_base::{Channel, ChannelSet};
+use bx_base::ChannelSet;
+use bx_numbers::Channel;
 
 /// Whether all fields that are left are decimals.
 fn all_decimals(mut fields: Fields<'_>) -> bool

@@ -8,7 +8,8 @@ use crate::fault::PlanFault;
 use crate::fields::line_of;
 use crate::lines::price_of;
 use crate::version::Version;
-use bx_base::{AddFault, Booking, Bookings, Channel, Price};
+use bx_base::{AddFault, Booking, Bookings, Price};
+use bx_numbers::Channel;
 use std::alloc::Global;
 
 fn add(bookings: &mut Bookings, booking: Booking) -> Result<(), PlanFault>

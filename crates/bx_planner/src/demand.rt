@@ -4,7 +4,8 @@ ghost use Rattle.std.specs.Prelude.{◌≡◌, ◌≤◌, ◌<◌, IfOk, [], len
 ghost use Rattle.bx_base.specs.Bookings.{IsBooking, row_at};
 ghost use Rattle.bx_planner.specs.Amending.{promised, amended};
 
-use bx_base::{Booking, Bookings, Channel};
+use bx_base::{Booking, Bookings};
+use bx_numbers::Channel;
 use std::alloc::{AllocError, Global};
 use std::marker::Model;
 

@@ -1,8 +1,9 @@
 //! Channels for the bookings of a small day, and choices that do not fit.
 
 use crate::rows::{Row, bookings_of};
-use bx_base::{Bookings, Channel, ChannelSet};
+use bx_base::{Bookings, ChannelSet};
 use bx_colour::{colour, fits};
+use bx_numbers::Channel;
 use std::alloc::Global;
 use std::test::Fail;
 

@@ -1,8 +1,9 @@
 //! Plans of days with their totals and prices, the two largest among them, and a day that has no plan.
 
 use crate::rows::{Row, bookings_of};
-use bx_base::{Bookings, Channel, ChannelSet, Plan, Price};
+use bx_base::{Bookings, ChannelSet, Plan, Price};
 use bx_check::check;
+use bx_numbers::Channel;
 use bx_planner::{PlanFail, plan};
 use std::alloc::Global;
 use std::test::Fail;

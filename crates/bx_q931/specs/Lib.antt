@@ -10,3 +10,4 @@ pub mod ElementViews
 pub mod Inside
 pub mod Outgoing
 pub mod Parts
+pub mod Events

@@ -1,6 +1,6 @@
 //! Messages that are encoded and read, against worked octets.
 
-use bx_base::{Channel, Number};
+use bx_numbers::{Channel, Number};
 use bx_q931::{Kind, Out, Reference, cause, encode, laws, read};
 use bx_worked::{FAR_RELEASE_COMPLETE_17, SETUP};
 use std::test::Fail;

@@ -1,8 +1,8 @@
 //! Calls as the network sees them, begun by it and by the user.
 
 use crate::steps::{After, Row, net_goes};
-use bx_base::{Channel, Number};
 use bx_calls::{CallState, NetCall};
+use bx_numbers::{Channel, Number};
 use bx_q931::{Out, encode};
 use bx_worked::{
     ALERTING_CHANNEL_1, CONNECT, CONNECT_ACKNOWLEDGE, CONNECT_CHANNEL_1, CONNECT_CHANNEL_2,

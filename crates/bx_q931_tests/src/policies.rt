@@ -1,8 +1,8 @@
 //! What the user does with a call that it is offered, by each policy.
 
 use crate::steps::{After, Row, user_goes};
-use bx_base::Channel;
 use bx_calls::{CallState, Policy, UserCall};
+use bx_numbers::Channel;
 use bx_worked::{
     ALERTING_CHANNEL_1, CONNECT, CONNECT_ACKNOWLEDGE, CONNECT_CHANNEL_1, FAR_DISCONNECT_16,
     FAR_DISCONNECT_102, FAR_RELEASE_16, PROCEEDING_CHANNEL_1,

@@ -1,8 +1,8 @@
 //! Calls that the user begins, as it sees them.
 
 use crate::steps::{After, Row, user_goes};
-use bx_base::{Channel, Number};
 use bx_calls::{CallState, UserCall};
+use bx_numbers::{Channel, Number};
 use bx_q931::{Out, encode};
 use bx_worked::{
     CONNECT, CONNECT_CHANNEL_2, PROCEEDING_CHANNEL_1, SETUP, USER_RELEASE_COMPLETE_102,

@@ -2,7 +2,8 @@
 
 use crate::rows::{Row, booking_of, plan_of};
 use crate::sets::{best_sets, first_full, is_in, is_lawful, most_beside, pay_beside, power_of};
-use bx_base::{Channel, Price};
+use bx_base::Price;
+use bx_numbers::Channel;
 use bx_quote::{Quote, QuoteFail, explain, quote};
 use std::alloc::Global;
 use std::test::Fail;

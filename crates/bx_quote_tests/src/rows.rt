@@ -4,8 +4,9 @@ ghost use Rattle.std.specs.Prelude.{◌≡◌, IfSome, Ok};
 ghost use Rattle.bx_base.specs.PlanParts.{parts_of};
 ghost use Rattle.bx_check.specs.Check.{IsOutcome};
 
-use bx_base::{Booking, Bookings, ChannelSet, Number, Plan};
+use bx_base::{Booking, Bookings, ChannelSet, Plan};
 use bx_check::check;
+use bx_numbers::Number;
 use bx_planner::plan;
 use std::alloc::Global;
 

@@ -1,3 +1,2 @@
-mod LastTurns
 mod ToldDays
 mod Refusals

@@ -5,12 +5,13 @@ use Rattle.bx_day.specs.Day.{Day}
 use Rattle.bx_far.specs.FarDay.{FarDay}
 use Rattle.bx_link.specs.BothEnds.{Passage, RunsBoth, passage}
 use Rattle.bx_link.specs.Days.{Talks, RunsDay, RunsFarDay}
-use Rattle.bx_link.specs.Ends.{ticks_of}
+use Rattle.bx_turns.specs.Courses.{ticks_of}
 use Rattle.bx_link.specs.declared.connection.Connection.{Connection}
-use Rattle.bx_link.specs.declared.fault.LinkFault.{LinkFault}
-use Rattle.bx_link.proofs.Composing.{gave}
-use Rattle.bx_link.proofs.Events.{day_of_events}
-use Rattle.bx_sockets.specs.Days.{IsOpening, IsDayRun, IsFarOpening, IsFarRun}
+use Rattle.bx_frames.specs.declared.fault.LinkFault.{LinkFault}
+use Rattle.bx_frames.proofs.ReadAnswers.{gave}
+use Rattle.bx_link.proofs.ExchangeTurns.{day_of_events}
+use Rattle.bx_openings.specs.Openings.{IsOpening, IsFarOpening}
+use Rattle.bx_sockets.specs.Days.{IsDayRun, IsFarRun}
 
 no_fault : (fault : LinkFault) → gave true ≡ Err fault → ⊥
 no_fault fault e = cc

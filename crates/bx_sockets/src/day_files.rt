@@ -7,13 +7,11 @@ ghost use Rattle.bx_devices.specs.Watching.{device_of, is_faulted};
 ghost use Rattle.bx_sockets.specs.DayRefusals.{StopsDay, StopsServing, StopsFarEnd, IsDayRefusal, IsServeRefusal, IsFarRefusal};
 ghost use Rattle.bx_sockets.specs.Days.{IsDayRun, IsDayTold, IsFarRun, IsFarTold, ended_line};
 
-use crate::capturing::{file_of, first_of};
-use crate::fault::SocketFault;
-use crate::openings::{far_end_of, opening_of};
 use crate::running::{run_connected, run_linked, run_served};
 use bx_commands::CommandFault;
 use bx_day::Exchange;
 use bx_devices::{Watched, WriteFailed, write_octets};
+use bx_openings::{SocketFault, far_end_of, file_of, first_of, opening_of};
 use bx_request::Sight;
 use bx_text::named_line;
 use std::fs::Files;

@@ -1,13 +1,10 @@
 //! The commands that run a day over sockets: day, serve, far.
 #![tactic(auto)]
 
-mod capturing;
 mod day_files;
-mod fault;
-mod loopback;
-mod openings;
-mod progress;
+mod requests;
 mod running;
 
+pub use bx_openings::SocketFault;
 pub use day_files::{day_of_files, far_file, serve_file};
-pub use fault::SocketFault;
+pub use requests::run_day_on_files;

@@ -2,16 +2,16 @@
 
 ghost use Rattle.std.specs.Prelude.{◌≡◌, ◌≤◌, ℕ, Option, IfOk, IfErr};
 ghost use Rattle.bx_sockets.specs.DayRefusals.{IsUnlinked, IsUnserved, IsUnjoined};
-ghost use Rattle.bx_sockets.specs.Days.{IsOpening, IsDayRun, IsFarOpening, IsFarRun};
+ghost use Rattle.bx_openings.specs.Openings.{IsOpening, IsFarOpening};
+ghost use Rattle.bx_sockets.specs.Days.{IsDayRun, IsFarRun};
 
-use crate::fault::SocketFault;
-use crate::loopback::{accepted, both_ends, connected};
-use crate::progress::Shown;
 use bx_capture::Captured;
 use bx_day::Exchange;
 use bx_devices::Watched;
 use bx_far::Far;
-use bx_link::{Connection, End, run_both_ends, run_day, run_far_day};
+use bx_link::{Connection, run_both_ends, run_day, run_far_day};
+use bx_openings::{Shown, SocketFault, accepted, both_ends, connected};
+use bx_turns::End;
 use std::io::Write;
 use std::net::{Net, TcpListener, TcpStream};
 use std::rt::Clock;

@@ -7,7 +7,8 @@ ghost use Rattle.bx_text.specs.Lines.{line_text, members_from, named, spaced};
 ghost use Rattle.bx_text.specs.Inside.{member_text};
 
 use arrayvec::ArrayVec;
-use bx_base::{Channel, ChannelSet};
+use bx_base::ChannelSet;
+use bx_numbers::Channel;
 use itoa::Buffer;
 
 /// A line, or its front: no line is as long.

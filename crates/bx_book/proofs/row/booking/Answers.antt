@@ -1,5 +1,5 @@
 use Rattle.std.proofs.Common.{rules, refl, sym, subst}
-use Rattle.bx_base.specs.Numbers.{IsNumber}
+use Rattle.bx_numbers.specs.Numbers.{IsNumber}
 use Rattle.bx_book.proofs.row.booking.Goals as goal
 
 pub returns-in_default : goal.returns-in_default

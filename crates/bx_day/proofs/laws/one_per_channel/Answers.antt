@@ -3,7 +3,8 @@ use Rattle.std.proofs.Common.{ℕ, Bool, List, Option}
 use Rattle.bx_base.specs.Bookings.{Row, AreBookings, Carries}
 use Rattle.bx_base.specs.Plans.{is_accepted, channel_at}
 use Rattle.bx_day.specs.Day.{opening}
-use Rattle.bx_day.specs.Run.{Event, day_after}
+use Rattle.bx_q931.specs.Events.{Event}
+use Rattle.bx_day.specs.Run.{day_after}
 use Rattle.bx_day.proofs.Law.{RunFits, orderly, run_fits, opening_fits, opening_framed, opening_placed}
 use Rattle.bx_day.proofs.Sent.{sent_fits}
 use Rattle.bx_day.proofs.laws.one_per_channel.Goals as goal

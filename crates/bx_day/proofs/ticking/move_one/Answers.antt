@@ -1,7 +1,7 @@
 use Rattle.std.proofs.Common.{◌≡◌, ◌≤◌, ◌<◌, ◌+◌, not, length, sym, ap, subst, refl, ◌∙◌, arith, slice_index_or, slice_set, if◌then◌else◌}
 use Rattle.std.proofs.lemmas.Bool.{false≢true}
 use Rattle.std.proofs.lemmas.List.{get_or_default}
-use Rattle.bx_base.specs.Channels.{IsChannel}
+use Rattle.bx_numbers.specs.ChannelNumbers.{IsChannel}
 use Rattle.bx_calls.specs.Shared.{is_set}
 use Rattle.bx_day.specs.Day.{entry_at, no_entry}
 use Rattle.bx_day.specs.Ticks.{second_at, after_second}

@@ -1,5 +1,6 @@
 use Rattle.bx_book.specs.Rows.{span_of}
-use Rattle.bx_files.proofs.CallTimes.{at_some, no_times}
+use Rattle.bx_commands.proofs.Options.{at_some}
+use Rattle.bx_files.proofs.CallTimes.{no_times}
 use Rattle.bx_files.proofs.quote_files.seconds_of.Goals as goal
 
 pub returns-in-Ok-times_of-clause-times : goal.returns-in-Ok-times_of-clause-times

@@ -1,6 +1,6 @@
 use Rattle.std.proofs.Common.{◌+◌, true, false, refl, arith, inl, inr}
-use Rattle.bx_link.proofs.Composing.{gave, faulty}
-use Rattle.bx_link.specs.declared.fault.LinkFault.TheVariants.{Closed}
+use Rattle.bx_frames.proofs.ReadAnswers.{gave, faulty}
+use Rattle.bx_frames.specs.declared.fault.LinkFault.TheVariants.{Closed}
 use Rattle.bx_link.proofs.ExchangeTurns.{over, broken}
 use Rattle.bx_link.proofs.FarMoments.{runs_so}
 use Rattle.bx_link.proofs.FarTurns.{no_turn_yet, far_stands, far_goes_on, far_failed, far_ended}

@@ -1,10 +1,10 @@
 use Rattle.std.proofs.Common.{ℕ, true, false, [], ◌∷◌, subst}
-use Rattle.bx_day.specs.Run.{Tick}
-use Rattle.bx_link.specs.Ends.{far_next, far_text}
-use Rattle.bx_link.specs.Hearing.{Went, no_tick}
-use Rattle.bx_link.specs.Talking.{turn_in}
-use Rattle.bx_link.specs.declared.frame.Side.TheVariants.{FarEnd}
-use Rattle.bx_link.proofs.Composing.{gave, faulty}
+use Rattle.bx_q931.specs.Events.{Tick}
+use Rattle.bx_far.specs.Course.{far_next, far_text}
+use Rattle.bx_turns.specs.Heard.{Went, no_tick}
+use Rattle.bx_turns.specs.Talks.{turn_in}
+use Rattle.bx_frames.specs.declared.frame.Side.TheVariants.{FarEnd}
+use Rattle.bx_frames.proofs.ReadAnswers.{gave, faulty}
 use Rattle.bx_link.proofs.FarTurns.{turn_stopped, day_over, turn_ticked, tick_failed}
 use Rattle.bx_link.proofs.far_session.take_turn.Goals as goal
 

@@ -1,5 +1,5 @@
 use Rattle.std.proofs.Common.{◌≡◌, subst}
-use Rattle.bx_sockets.specs.Days.{IsFarOpening}
+use Rattle.bx_openings.specs.Openings.{IsFarOpening}
 use Rattle.bx_sockets.proofs.ToldDays.{run_far}
 use Rattle.bx_sockets.proofs.running.run_connected.Goals as goal
 

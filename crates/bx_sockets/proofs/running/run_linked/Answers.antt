@@ -1,7 +1,8 @@
 use Rattle.std.proofs.Common.{◌≡◌, sym, subst}
 use Rattle.bx_link.specs.BothEnds.{passage}
 use Rattle.bx_day.specs.Day.{Day}
-use Rattle.bx_sockets.specs.Days.{IsOpening, IsDayRun}
+use Rattle.bx_openings.specs.Openings.{IsOpening}
+use Rattle.bx_sockets.specs.Days.{IsDayRun}
 use Rattle.bx_sockets.proofs.ToldDays.{run_both}
 use Rattle.bx_sockets.proofs.running.run_linked.Goals as goal
 

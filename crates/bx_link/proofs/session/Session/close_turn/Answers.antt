@@ -1,10 +1,10 @@
 use Rattle.std.proofs.Common.{ℕ, true, List, subst}
-use Rattle.bx_day.specs.Run.{Event}
-use Rattle.bx_link.specs.Ends.{exchange_next, exchange_text}
-use Rattle.bx_link.specs.Hearing.{Went, no_tick}
-use Rattle.bx_link.specs.Talking.{turn_in}
-use Rattle.bx_link.specs.declared.frame.Side.TheVariants.{Exchange}
-use Rattle.bx_link.proofs.Composing.{gave, faulty}
+use Rattle.bx_q931.specs.Events.{Event}
+use Rattle.bx_day.specs.Course.{exchange_next, exchange_text}
+use Rattle.bx_turns.specs.Heard.{Went, no_tick}
+use Rattle.bx_turns.specs.Talks.{turn_in}
+use Rattle.bx_frames.specs.declared.frame.Side.TheVariants.{Exchange}
+use Rattle.bx_frames.proofs.ReadAnswers.{gave, faulty}
 use Rattle.bx_link.proofs.ExchangeTurns.{as_turned}
 use Rattle.bx_link.proofs.session.Session.close_turn.Goals as goal
 

@@ -1,0 +1,115 @@
+//! Reading the next frame.
+
+ghost use Rattle.std.specs.Prelude.{◌≡◌, ◌≤◌, true, length, Some, IfOk};
+ghost use Rattle.bx_frames.specs.Frames.{octet_in, octets_in, length_in, fits, frame_of, kind_in, frame_in};
+ghost use Rattle.bx_frames.specs.Inside.{ComesAs};
+ghost use Rattle.bx_frames.specs.Reading.{MayCome, Reads};
+
+use crate::fault::LinkFault;
+use crate::frame::{Frame, FrameKind, Side};
+use crate::octet_reading::read_exact_octets;
+use arrayvec::ArrayVec;
+use bx_devices::Watched;
+use bx_q931::Octets;
+use std::io::Read;
+
+/// Reads one octet.
+fn read_octet<R: Read>(r: &mut Watched<R>) -> Result<u8, LinkFault>
+    ensures { Reads R.remaining r.old r.new result octet_in }
+{
+    let mut buf = [0u8; 1];
+    match read_exact_octets(r, &mut buf) {
+        Ok(0) => Err(LinkFault::EndedInFrame),
+        Ok(_) => Ok(buf[0]),
+        Err(_) => Err(LinkFault::ReadFailed),
+    }
+}
+
+/// Reads the length of a frame's contents.
+fn read_length<R: Read>(r: &mut Watched<R>) -> Result<u16, LinkFault>
+    ensures { Reads R.remaining r.old r.new result length_in }
+{
+    let high = match read_octet(r) {
+        Ok(high) => high,
+        Err(fault) => return Err(fault),
+    };
+    match read_octet(r) {
+        Ok(low) => Ok(u16::from_be_bytes([high, low])),
+        Err(fault) => Err(fault),
+    }
+}
+
+/// Reads contents of so many octets.
+fn read_octets<R: Read>(r: &mut Watched<R>, count: usize) -> Result<Octets, LinkFault>
+    requires { count ≤ 260 }
+    ensures read { Reads R.remaining r.old r.new result (octets_in count) }
+    ensures count { IfOk result (λ o. length o.items ≡ count) }
+{
+    let mut buf = [0u8; 260];
+    let part = &mut buf[..count];
+    match read_exact_octets(r, part) {
+        Ok(n) if n < count => Err(LinkFault::EndedInFrame),
+        Ok(_) => match ArrayVec::try_from(&buf[..count]) {
+            Ok(octets) => Ok(octets),
+            Err(_) => unreachable!(),
+        },
+        Err(_) => Err(LinkFault::ReadFailed),
+    }
+}
+
+/// What contents of this kind carry.
+fn carried(kind: FrameKind, octets: Octets) -> Frame
+    requires { fits kind (length octets.items) ≡ true }
+    ensures { result ≡ frame_of kind octets }
+{
+    match kind {
+        FrameKind::Message => Frame::Message(octets),
+        FrameKind::EndOfTurn => {
+            let moment = [octets[0], octets[1], octets[2], octets[3]];
+            Frame::EndOfTurn(u32::from_be_bytes(moment))
+        }
+        FrameKind::EndOfDay => Frame::EndOfDay,
+    }
+}
+
+/// Reads what stands behind the kind of a frame. So many messages may still come in this turn.
+fn read_behind_kind<R: Read>(
+    r: &mut Watched<R>,
+    kind: FrameKind,
+    room: u32,
+) -> Result<Frame, LinkFault>
+    ensures read { Reads R.remaining r.old r.new result (kind_in (Some kind) room) }
+    ensures comes { IfOk result (λ f. ComesAs kind room f) }
+{
+    let length = match read_length(r) {
+        Ok(length) => length as usize,
+        Err(fault) => return Err(fault),
+    };
+    if !kind.fits(length) {
+        return Err(LinkFault::BadLength);
+    }
+    if kind == FrameKind::Message && room == 0 {
+        return Err(LinkFault::MoreThan64Messages);
+    }
+    match read_octets(r, length) {
+        Ok(octets) => Ok(carried(kind, octets)),
+        Err(fault) => Err(fault),
+    }
+}
+
+/// Reads the next frame, and nothing behind it. The first fault is answered as soon as it is read: the kind's
+/// octet alone decides on the kind, and a length that is wrong or a message too many is answered before the
+/// contents are read.
+pub fn read_frame<R: Read>(r: &mut Watched<R>, side: Side, room: u32) -> Result<Frame, LinkFault>
+    ensures read { Reads R.remaining r.old r.new result (frame_in side room) }
+    ensures comes { IfOk result (λ f. MayCome side room f) }
+{
+    let octet = match read_octet(r) {
+        Ok(octet) => octet,
+        Err(fault) => return Err(fault),
+    };
+    match FrameKind::of(side, octet) {
+        Some(kind) => read_behind_kind(r, kind, room),
+        None => Err(LinkFault::UnknownKind),
+    }
+}

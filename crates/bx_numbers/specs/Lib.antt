@@ -1,0 +1,3 @@
+pub mod ChannelNumbers
+pub mod Numbers
+pub mod NumberInside

@@ -1,0 +1,8 @@
+use Rattle.std.proofs.Common.{rules, refl, sym, subst}
+use Rattle.bx_openings.specs.OpeningRefusals.{IsUnnameable}
+use Rattle.bx_commands.proofs.Options.{at_some}
+use Rattle.bx_openings.proofs.capturing.first_of.Goals as goal
+
+pub returns-in-Err-first_second-clause-refused : goal.returns-in-Err-first_second-clause-refused
+returns-in-Err-first_second-clause-refused c =
+    subst IsUnnameable (sym c.in-Some.is) (at_some c.in-Some.field-0.day (c.in-Some-day.date, c.in-Some-day.zone) _ _ (search rules) (c.in-Ok.day, c.in-Ok.ensures.day, c.in-Err-first_second.ensures.refused refl))

@@ -1,0 +1,14 @@
+//! What a command that runs a day opens: both ends of the day, their connection, the captured file and the moment that is shown.
+#![tactic(auto)]
+
+mod capturing;
+mod fault;
+mod loopback;
+mod openings;
+mod progress;
+
+pub use capturing::{file_of, first_of};
+pub use fault::SocketFault;
+pub use loopback::{accepted, both_ends, connected};
+pub use openings::{far_end_of, opening_of};
+pub use progress::Shown;

@@ -1,5 +1,0 @@
-use Rattle.std.proofs.Common.{rules}
-use Rattle.bx_sockets.proofs.openings.far_end_of.Goals as goal
-
-pub returns : goal.returns
-returns g c = record { opened = tt; refused = (search rules, (_, c.in-Err-read.ensures.err)) }

@@ -1,0 +1,4 @@
+pub mod Events
+pub mod Composing
+pub mod Turns
+pub mod Hearing
