@@ -8,13 +8,13 @@ ghost use Rattle.bx_commands.specs.Proved.{IsProvedText, proved_line};
 ghost use Rattle.bx_commands.specs.Refusals.{IsRefusal};
 ghost use Rattle.bx_commands.specs.declared.fault.CommandFault.{CommandFault};
 
-use crate::fault::CliFault;
 use bx_commands::{CommandFault, check_self, decode};
 use bx_devices::{Watched, write_octets};
 use bx_files::run_on_files;
 use bx_request::Request;
 use bx_sockets::run_day_on_files;
 use bx_words::{Refusal, read_words};
+use std::fmt::Display;
 use std::fs::Files;
 use std::io::{Read, Write};
 use std::net::{Net, TcpListener, TcpStream};
@@ -49,59 +49,65 @@ pub fn main_words<
     if words.is_empty() {
         return match check_self(rt.alloc(), input, output) {
             Ok(_) => 0,
-            Err(fault) => refused(CliFault::from(fault), errors),
+            Err(fault) => refused(&fault, errors),
         };
     }
     match read_words(rt.alloc(), words) {
-        Ok(request) => status_of(run(rt, request, output, is_terminal), errors),
+        Ok(request) => run(rt, request, output, errors, is_terminal),
         Err(Refusal::Help(text)) => status_of(show(&text, output), errors),
         Err(Refusal::Wrong(text)) => {
             let _ = write_octets(errors, text.as_bytes());
             2
         }
-        Err(Refusal::Memory) => refused(CliFault::from(CommandFault::Memory), errors),
+        Err(Refusal::Memory) => refused(&CommandFault::Memory, errors),
     }
 }
 
-/// Does one command.
+/// Does one command, and answers its status.
 fn run<
     'a,
     H: Files + AllocGlobal + Clock + Eprint + Net<Listener = TcpListener, Stream = TcpStream>,
     W: Write,
+    E: Write,
 >(
     rt: &H,
     request: Request<'a>,
     output: &mut Watched<W>,
+    errors: &mut Watched<E>,
     is_terminal: bool,
-) -> Result<(), CliFault<'a>> {
+) -> u8
+    ensures { result ≤ 1 }
+{
     match request {
-        Request::Files(request) => Ok(run_on_files(rt, &request, output)?),
-        Request::Day(request) => Ok(run_day_on_files(rt, request, output, is_terminal)?),
-        Request::Decode { octets } => Ok(decode(rt.alloc(), octets, output)?),
+        Request::Files(request) => status_of(run_on_files(rt, &request, output), errors),
+        Request::Day(request) => {
+            status_of(run_day_on_files(rt, request, output, is_terminal), errors)
+        }
+        Request::Decode { octets } => status_of(decode(rt.alloc(), octets, output), errors),
     }
 }
 
 /// Writes a text that was asked for.
-fn show<'a, W: Write>(text: &str, output: &mut Watched<W>) -> Result<(), CliFault<'a>> {
+fn show<'a, W: Write>(text: &str, output: &mut Watched<W>) -> Result<(), CommandFault<'a>> {
     match write_octets(output, text.as_bytes()) {
         Ok(()) => Ok(()),
-        Err(_) => Err(CliFault::from(CommandFault::CannotWrite)),
+        Err(_) => Err(CommandFault::CannotWrite),
     }
 }
 
 /// The status of what was done, or of its refusal.
-fn status_of<E: Write>(done: Result<(), CliFault<'_>>, errors: &mut Watched<E>) -> u8
-    ensures done { (result ≡ 0) ↔ IsOk done.entry }
-    ensures refused { IsErr done.entry → result ≡ 1 }
+fn status_of<F: Display + Copy, E: Write>(done: Result<(), F>, errors: &mut Watched<E>) -> u8
+    ensures done { (result ≡ 0) ↔ IsOk done }
+    ensures refused { IsErr done → result ≡ 1 }
 {
     match done {
         Ok(()) => 0,
-        Err(fault) => refused(fault, errors),
+        Err(fault) => refused(&fault, errors),
     }
 }
 
 /// The status of a refusal, which is printed as one line.
-fn refused<E: Write>(fault: CliFault<'_>, errors: &mut Watched<E>) -> u8
+fn refused<F: Display, E: Write>(fault: &F, errors: &mut Watched<E>) -> u8
     ensures { result ≡ 1 }
 {
     let _ = writeln!(errors, "bx: {fault}");
