@@ -9,3 +9,6 @@ returns-in-Err-clause-refused g c none some = (c.refused.ensures, c.in-Err.fault
 
 pub returns-in-Err-Wrong-clause-status : goal.returns-in-Err-Wrong-clause-status
 returns-in-Err-Wrong-clause-status g c = omega arith
+
+pub returns-in-Err-clause-done : goal.returns-in-Err-clause-done
+returns-in-Err-clause-done g c none done = absurd (omega (arith, done, c.refused.ensures))
