@@ -1,6 +1,7 @@
 //! The file of a capture.
 
 ghost use Rattle.std.specs.Prelude.{◌≤◌, IfOk, IfErr};
+ghost use Rattle.bx_openings.specs.CaptureOpenings.{IsFirstOf, IsFileFor};
 ghost use Rattle.bx_openings.specs.OpeningRefusals.{IsNoCapture};
 
 use crate::fault::SocketFault;
@@ -13,6 +14,7 @@ use std::fs::Files;
 
 /// The second that moment 0 has in a capture: that of the day's start where the words name a day, else 0.
 pub fn first_of<'a>(capture: Option<CaptureWords<'a>>) -> Result<u32, SocketFault<'a>>
+    ensures first { IfOk result (IsFirstOf capture.entry) }
     ensures limit { IfOk result (λ first. first ≤ 4294667295) }
     ensures refused { IfErr result (IsNoCapture capture.entry) }
 {
@@ -37,7 +39,8 @@ pub fn file_of<'a, H: Files>(
     rt: &H,
     capture: Option<CaptureWords<'a>>,
 ) -> Result<Option<Watched<H::File>>, SocketFault<'a>>
-    ensures { IfErr result (IsNoCapture capture.entry) }
+    ensures opened { IfOk result (IsFileFor H.File.contents capture.entry) }
+    ensures refused { IfErr result (IsNoCapture capture.entry) }
 {
     let Some(CaptureWords { file: name, day: _ }) = capture else {
         return Ok(None);

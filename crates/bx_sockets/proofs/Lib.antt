@@ -1,2 +1,3 @@
 mod ToldDays
 mod Refusals
+mod KeptDays

@@ -3,8 +3,9 @@ use Rattle.std.proofs.Common.{◌≡◌, ℕ, ◌-◌, min, List, true, ap, ◌�
 use Rattle.bx_devices.specs.declared.watched.Watched.{Watched}
 use Rattle.bx_day.specs.Day.{Day}
 use Rattle.bx_far.specs.FarDay.{FarDay}
-use Rattle.bx_link.specs.BothEnds.{Passage, RunsBoth, passage}
-use Rattle.bx_link.specs.Days.{Talks, RunsDay, RunsFarDay}
+use Rattle.bx_link.specs.BothEnds.{Passage, RunsBoth, passage, events_of_near}
+use Rattle.bx_link.specs.Days.{Talks, RunsDay, RunsFarDay, events_of_day}
+use Rattle.bx_q931.specs.Events.{Event}
 use Rattle.bx_turns.specs.Courses.{ticks_of}
 use Rattle.bx_link.specs.declared.connection.Connection.{Connection}
 use Rattle.bx_frames.specs.declared.fault.LinkFault.{LinkFault}
@@ -27,16 +28,21 @@ module _ {R W : Type 0} {remaining : R → Option (List ℕ)} {contents : W → 
     reached = talks.goes.day ∙ day_of_events talks.events d;
   }
 
-  pub run_alone : {r r1 : Watched R} {w w1 : Watched W} → RunsDay remaining contents (min turns (300000 - d.moment)) r r1 w w1 d d1 (gave true) → IsDayRun asked d1
-  run_alone (inl ended) = run_by ended.talks
-  run_alone (inr (not_done, talks)) = absurd (not_done refl)
+  -- what holds of the events by which it went on holds of those of the day that was run
+  pub run_alone : (P : List Event → Day → Type 0) {r r1 : Watched R} {w w1 : Watched W} (ran : RunsDay remaining contents (min turns (300000 - d.moment)) r r1 w w1 d d1 (gave true)) → P (events_of_day ran) d
+      → (run : IsDayRun asked d1) × P run.events run.opened
+  unfolding run_by
+  run_alone P (inl ended) p = (run_by ended.talks, p)
+  run_alone P (inr (not_done, talks)) p = absurd (not_done refl)
 
-  pub run_both : {S T : Type 0} {near near' : Connection R W} (far : Passage FarDay S T) → RunsBoth (min turns (300000 - d.moment)) (passage remaining contents near near' d d1) far (gave true) → IsDayRun asked d1
-  run_both far (inl done) = run_by done.near_side.talks
-  run_both far (inr (inl stopped)) = absurd (no_fault stopped.fault stopped.failed)
-  run_both far (inr (inr (inl stopped))) = let e = stopped.failed in cc
-  run_both far (inr (inr (inr (inl stopped)))) = absurd (no_fault stopped.fault stopped.failed)
-  run_both far (inr (inr (inr (inr stopped)))) = absurd (no_fault stopped.fault stopped.failed)
+  pub run_both : (P : List Event → Day → Type 0) {S T : Type 0} {near near' : Connection R W} (far : Passage FarDay S T) (ran : RunsBoth (min turns (300000 - d.moment)) (passage remaining contents near near' d d1) far (gave true)) → P (events_of_near ran) d
+      → (run : IsDayRun asked d1) × P run.events run.opened
+  unfolding run_by
+  run_both P far (inl done) p = (run_by done.near_side.talks, p)
+  run_both P far (inr (inl stopped)) p = absurd (no_fault stopped.fault stopped.failed)
+  run_both P far (inr (inr (inl stopped))) p = let e = stopped.failed in cc
+  run_both P far (inr (inr (inr (inl stopped)))) p = absurd (no_fault stopped.fault stopped.failed)
+  run_both P far (inr (inr (inr (inr stopped)))) p = absurd (no_fault stopped.fault stopped.failed)
 
 -- ---- the far end
 
@@ -44,15 +50,16 @@ abbrev pub over : Result (Unit {0}) LinkFault
 over = Ok tt
 
 pub run_far : {R W : Type 0} {remaining : R → Option (List ℕ)} {contents : W → Option (List ℕ)} {r r1 : Watched R} {w w1 : Watched W} (d d1 : FarDay) (result : Result (Unit {0}) LinkFault) (moment : ℕ)
-    → IsFarOpening d → RunsFarDay remaining contents r r1 w w1 d d1 result → moment ≡ d1.moment → IsFarRun moment
-run_far d d1 result moment opening runs same =
+    (P : List Event → FarDay → Type 0) → IsFarOpening d → (runs : RunsFarDay remaining contents r r1 w w1 d d1 result) → moment ≡ d1.moment → P runs.talks.events d → (run : IsFarRun moment) × P run.events run.opened
+run_far d d1 result moment P opening runs same p =
     let events = runs.talks.events in
     let first : d.moment ≡ 0 = ap (λ (x : FarDay). x.moment) opening.opens in
     let within : d.moment ≤ 300000 = omega (arith, first) in
-    record {
+    let run : IsFarRun moment = record {
       opened = d;
       opens = opening;
       events = events;
       reached = same ∙ ap (λ (x : FarDay). x.moment) runs.talks.goes.day;
       ticks = same ∙ runs.moment within ∙ ap (λ (n : ℕ). min (n + ticks_of events) 300000) first ∙ ap (λ (n : ℕ). min n 300000) (omega arith);
-    }
+    } in
+    (run, p)

@@ -1,5 +1,5 @@
 -- What each command that runs a day does, and why it is refused.
-use Rattle.std.specs.Prelude.{ℕ, List, Option, ◌⊎◌}
+use Rattle.std.specs.Prelude.{ℕ, Bool, false, List, Option, ◌⊎◌}
 use Rattle.bx_devices.specs.declared.watched.Watched.{Watched}
 use Rattle.bx_devices.specs.Watching.{device_of}
 use Rattle.bx_openings.specs.OpeningRefusals.{IsFileOf}
@@ -9,13 +9,13 @@ use Rattle.bx_request.specs.declared.request.CaptureWords.{CaptureWords}
 use Rattle.bx_request.specs.declared.request.DayRequest.{DayRequest}
 use Rattle.bx_request.specs.declared.request.DayRequest.TheVariants.{Day, Serve, Far}
 use Rattle.bx_sockets.specs.DayRefusals.{IsDayRefusal, IsServeRefusal, IsFarRefusal}
-use Rattle.bx_sockets.specs.Days.{IsDayTold, IsFarTold}
+use Rattle.bx_sockets.specs.CapturedDays.{IsDayDone, IsFarDone}
 
--- what it told
-abbrev pub IsDone : DayRequest → Option (List ℕ) → Option (List ℕ) → Type 0
-IsDone (Day plan script turns sight) before after = IsDayTold turns before after
-IsDone (Serve plan port turns sight) before after = IsDayTold turns before after
-IsDone (Far script port sight) before after = IsFarTold before after
+-- what it told and captured, and whether it captured all that it was to
+abbrev pub IsDone : {F : Type 0} → DayRequest → (F → Option (List ℕ)) → Option (List ℕ) → Option (List ℕ) → Bool → Type 0
+IsDone (Day plan script turns sight) files before after is_whole = IsDayDone files sight.capture turns before after is_whole
+IsDone (Serve plan port turns sight) files before after is_whole = IsDayDone files sight.capture turns before after is_whole
+IsDone (Far script port sight) files before after is_whole = IsFarDone files sight.capture before after is_whole
 
 abbrev pub capture_of : DayRequest → Option CaptureWords
 capture_of (Day plan script turns sight) = sight.capture
@@ -34,5 +34,5 @@ IsNotDone (Serve plan port turns sight) contents old new fault = IsServeRefusal 
 IsNotDone (Far script port sight) contents old new fault = IsFarRefusal script.now sight.capture contents old new fault
 
 -- the same; or it told all, and the file of its capture was not written whole
-abbrev pub IsRefused : {W : Type 0} → DayRequest → (W → Option (List ℕ)) → Watched W → Watched W → SocketFault → Type 0
-IsRefused request contents old new fault = IsNotDone request contents old new fault ⊎ (IsDone request (contents (device_of old)) (contents (device_of new)) × IsOfCapture (capture_of request) fault)
+abbrev pub IsRefused : {F W : Type 0} → DayRequest → (F → Option (List ℕ)) → (W → Option (List ℕ)) → Watched W → Watched W → SocketFault → Type 0
+IsRefused request files contents old new fault = IsNotDone request contents old new fault ⊎ (IsDone request files (contents (device_of old)) (contents (device_of new)) false × IsOfCapture (capture_of request) fault)

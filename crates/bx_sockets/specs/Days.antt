@@ -1,5 +1,5 @@
 -- The days that the commands run, and what is told of them.
-use Rattle.std.specs.Prelude.{◌≡◌, ℕ, ◌+◌, min, List, [], ◌∷◌, ◌++◌, Option, codes, decimal}
+use Rattle.std.specs.Prelude.{◌≡◌, ℕ, min, List, [], ◌∷◌, ◌++◌, Option, codes, decimal}
 use Rattle.std.specs.Io.KnownBytes.{Appends}
 use Rattle.bx_devices.specs.Octets.{AppendsPrefix}
 use Rattle.bx_day.specs.Day.{Day}
@@ -8,8 +8,10 @@ use Rattle.bx_day.specs.Run.{day_after}
 use Rattle.bx_day.specs.Telling.{outcomes_text}
 use Rattle.bx_far.specs.FarDay.{FarDay}
 use Rattle.bx_openings.specs.Openings.{IsOpening, IsFarOpening}
-use Rattle.bx_turns.specs.Courses.{after, ticks_of}
-use Rattle.bx_far.specs.Course.{far_next}
+use Rattle.bx_turns.specs.Courses.{after, told, ticks_of}
+use Rattle.bx_capture.specs.Captures.{packets_for}
+use Rattle.bx_day.specs.Course.{exchange_next, exchange_sent}
+use Rattle.bx_far.specs.Course.{far_next, far_sent, far_due}
 
 -- ---- the exchange
 
@@ -21,6 +23,13 @@ pub record IsDayRun (asked : Option ℕ) (day : Day) : Type 0 where
   pub events : List Event
   pub ticks : ticks_of events ≡ min turns 300000
   pub reached : day ≡ day_after events opened
+
+-- the packets of its messages, where moments count from this second
+abbrev pub exchange_packets : ℕ → List Event → Day → List ℕ
+exchange_packets first = told exchange_next (packets_for exchange_next exchange_sent (λ (d : Day). d.moment) (λ (d : Day). d.moment) first)
+
+abbrev pub packets_of : {asked : Option ℕ} {day : Day} → IsDayRun asked day → ℕ → List ℕ
+packets_of run first = exchange_packets first run.events run.opened
 
 -- what has become of each booking of such a day was written
 pub record IsDayTold (asked : Option ℕ) (before after : Option (List ℕ)) : Type 0 where
@@ -47,6 +56,13 @@ pub record IsFarRun (moment : ℕ) : Type 0 where
   pub events : List Event
   pub reached : moment ≡ (after far_next events opened).moment
   pub ticks : moment ≡ min (ticks_of events) 300000
+
+-- the packets of its messages, where moments count from this second
+abbrev pub far_packets : ℕ → List Event → FarDay → List ℕ
+far_packets first = told far_next (packets_for far_next far_sent (λ (d : FarDay). d.moment) far_due first)
+
+abbrev pub far_packets_of : {moment : ℕ} → IsFarRun moment → ℕ → List ℕ
+far_packets_of run first = far_packets first run.events run.opened
 
 -- this moment was written
 pub record IsFarTold (old new : Option (List ℕ)) : Type 0 where

@@ -1,3 +1,5 @@
 pub mod Days
+pub mod CapturedDays
+pub mod KeptDays
 pub mod DayRefusals
 pub mod DayRequests

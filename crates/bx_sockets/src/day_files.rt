@@ -5,7 +5,9 @@ ghost use Rattle.std.specs.Io.KnownBytes.{Appends};
 ghost use Rattle.bx_devices.specs.Octets.{AppendsPrefix};
 ghost use Rattle.bx_devices.specs.Watching.{device_of, is_faulted};
 ghost use Rattle.bx_sockets.specs.DayRefusals.{StopsDay, StopsServing, StopsFarEnd, IsDayRefusal, IsServeRefusal, IsFarRefusal};
-ghost use Rattle.bx_sockets.specs.Days.{IsDayRun, IsDayTold, IsFarRun, IsFarTold, ended_line};
+ghost use Rattle.bx_sockets.specs.CapturedDays.{IsDayDone, IsFarDone};
+ghost use Rattle.bx_sockets.specs.KeptDays.{IsDayCaptured, IsFarCaptured};
+ghost use Rattle.bx_sockets.specs.Days.{ended_line};
 
 use crate::running::{run_connected, run_linked, run_served};
 use bx_commands::CommandFault;
@@ -31,7 +33,7 @@ fn run_of_both<
     turns: Option<u32>,
     sight: Sight<'a>,
 ) -> Result<(Exchange, bool), SocketFault<'a>>
-    ensures ran { IfOk result (λ ran. IsDayRun turns ran.0) }
+    ensures ran { IfOk result (λ ran. IsDayCaptured H.File.contents sight.entry.capture turns ran.0 ran.1) }
     ensures stopped { IfErr result (StopsDay plan.now script.now sight.entry.capture) }
 {
     let first = match first_of(sight.capture) {
@@ -70,7 +72,7 @@ pub fn day_of_files<
     sight: Sight<'a>,
     output: &mut Watched<W>,
 ) -> Result<bool, SocketFault<'a>>
-    ensures told { OnOk result (IsDayTold turns (W.contents (device_of output.old)) (W.contents (device_of output.new))) }
+    ensures told { IfOk result (IsDayDone H.File.contents sight.entry.capture turns (W.contents (device_of output.old)) (W.contents (device_of output.new))) }
     ensures refused { IfErr result (IsDayRefusal plan.now script.now sight.entry.capture turns W.contents output.old output.new) }
 {
     let (exchange, is_whole) = match run_of_both(rt, plan, script, turns, sight) {
@@ -95,7 +97,7 @@ fn run_towards_peer<
     turns: Option<u32>,
     sight: Sight<'a>,
 ) -> Result<(Exchange, bool), SocketFault<'a>>
-    ensures ran { IfOk result (λ ran. IsDayRun turns ran.0) }
+    ensures ran { IfOk result (λ ran. IsDayCaptured H.File.contents sight.entry.capture turns ran.0 ran.1) }
     ensures stopped { IfErr result (StopsServing plan.now sight.entry.capture) }
 {
     let first = match first_of(sight.capture) {
@@ -131,7 +133,7 @@ pub fn serve_file<
     sight: Sight<'a>,
     output: &mut Watched<W>,
 ) -> Result<bool, SocketFault<'a>>
-    ensures told { OnOk result (IsDayTold turns (W.contents (device_of output.old)) (W.contents (device_of output.new))) }
+    ensures told { IfOk result (IsDayDone H.File.contents sight.entry.capture turns (W.contents (device_of output.old)) (W.contents (device_of output.new))) }
     ensures refused { IfErr result (IsServeRefusal plan.now sight.entry.capture turns W.contents output.old output.new) }
 {
     let (exchange, is_whole) = match run_towards_peer(rt, plan, port, turns, sight) {
@@ -159,7 +161,7 @@ fn run_towards_exchange<
     'a,
     H: Files + AllocGlobal + Clock + Eprint + Net<Listener = TcpListener, Stream = TcpStream>,
 >(rt: &H, script: &'a str, port: u16, sight: Sight<'a>) -> Result<(u32, bool), SocketFault<'a>>
-    ensures ran { IfOk result (λ ran. IsFarRun ran.0) }
+    ensures ran { IfOk result (λ ran. IsFarCaptured H.File.contents sight.entry.capture ran.0 ran.1) }
     ensures stopped { IfErr result (StopsFarEnd script.now sight.entry.capture) }
 {
     let first = match first_of(sight.capture) {
@@ -194,7 +196,7 @@ pub fn far_file<
     sight: Sight<'a>,
     output: &mut Watched<W>,
 ) -> Result<bool, SocketFault<'a>>
-    ensures told { OnOk result (IsFarTold (W.contents (device_of output.old)) (W.contents (device_of output.new))) }
+    ensures told { IfOk result (IsFarDone H.File.contents sight.entry.capture (W.contents (device_of output.old)) (W.contents (device_of output.new))) }
     ensures refused { IfErr result (IsFarRefusal script.now sight.entry.capture W.contents output.old output.new) }
 {
     let (moment, is_whole) = match run_towards_exchange(rt, script, port, sight) {

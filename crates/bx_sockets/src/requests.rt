@@ -1,6 +1,6 @@
 //! What is asked of a day, done.
 
-ghost use Rattle.std.specs.Prelude.{◌≡◌, IfErr, OnOk};
+ghost use Rattle.std.specs.Prelude.{◌≡◌, ◌⊎◌, true, false, None, IfOk, IfErr, OnOk};
 ghost use Rattle.bx_devices.specs.Watching.{device_of};
 ghost use Rattle.bx_sockets.specs.DayRequests.{IsDone, IsNotDone, IsOfCapture, IsRefused, capture_of};
 
@@ -36,7 +36,8 @@ fn capture<'a>(request: DayRequest<'a>) -> Option<CaptureWords<'a>>
 
 /// What is told of a day that is done: nothing, or that its capture is not whole.
 fn captured<'a>(capture: Option<CaptureWords<'a>>, is_whole: bool) -> Result<(), SocketFault<'a>>
-    ensures { IfErr result (IsOfCapture capture.entry) }
+    ensures whole { OnOk result ((is_whole ≡ true) ⊎ (capture.entry ≡ None)) }
+    ensures cut { IfErr result (λ fault. IsOfCapture capture.entry fault × (is_whole ≡ false)) }
 {
     match capture {
         Some(capture) if !is_whole => Err(SocketFault::CannotCapture(capture.file)),
@@ -55,7 +56,7 @@ fn run_day<
     output: &mut Watched<W>,
     is_terminal: bool,
 ) -> Result<bool, SocketFault<'a>>
-    ensures done { OnOk result (IsDone request.entry (W.contents (device_of output.old)) (W.contents (device_of output.new))) }
+    ensures done { IfOk result (IsDone request.entry H.File.contents (W.contents (device_of output.old)) (W.contents (device_of output.new))) }
     ensures refused { IfErr result (IsNotDone request.entry W.contents output.old output.new) }
 {
     match request {
@@ -95,8 +96,8 @@ pub fn run_day_on_files<
     output: &mut Watched<W>,
     is_terminal: bool,
 ) -> Result<(), SocketFault<'a>>
-    ensures done { OnOk result (IsDone request.entry (W.contents (device_of output.old)) (W.contents (device_of output.new))) }
-    ensures refused { IfErr result (IsRefused request.entry W.contents output.old output.new) }
+    ensures done { OnOk result (IsDone request.entry H.File.contents (W.contents (device_of output.old)) (W.contents (device_of output.new)) true) }
+    ensures refused { IfErr result (IsRefused request.entry H.File.contents W.contents output.old output.new) }
 {
     match run_day(rt, request, output, is_terminal) {
         Ok(is_whole) => captured(capture(request), is_whole),

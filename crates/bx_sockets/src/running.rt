@@ -3,7 +3,8 @@
 ghost use Rattle.std.specs.Prelude.{◌≡◌, ◌≤◌, ℕ, Option, IfOk, IfErr};
 ghost use Rattle.bx_sockets.specs.DayRefusals.{IsUnlinked, IsUnserved, IsUnjoined};
 ghost use Rattle.bx_openings.specs.Openings.{IsOpening, IsFarOpening};
-ghost use Rattle.bx_sockets.specs.Days.{IsDayRun, IsFarRun};
+ghost use Rattle.bx_capture.specs.Captures.{is_unfaulted};
+ghost use Rattle.bx_sockets.specs.KeptDays.{IsDayKept, IsFarKept};
 
 use bx_capture::Captured;
 use bx_day::Exchange;
@@ -26,7 +27,8 @@ fn connection<'a>(stream: &'a TcpStream) -> Connection<&'a TcpStream, &'a TcpStr
 
 /// The exchange behind its day, and whether all that was to be captured of it was.
 fn exchange_of<H, W: Write + Drop>(end: Captured<Shown<'_, Exchange, H>, W>) -> (Exchange, bool)
-    ensures { result.0 ≡ end.entry.end.end }
+    ensures exchange { result.0 ≡ end.entry.end.end }
+    ensures whole { result.1 ≡ is_unfaulted end.entry.file }
 {
     let is_whole = end.is_whole();
     (end.into_end().into_end(), is_whole)
@@ -46,7 +48,7 @@ pub fn run_linked<
     is_shown: bool,
 ) -> Result<(Exchange, bool), SocketFault<'a>>
     requires { capture.1 ≤ 4294667295 }
-    ensures ran { IfOk result (λ ran. (asked : Option ℕ) → IsOpening asked opened.0 opened.1 → IsDayRun asked ran.0) }
+    ensures ran { IfOk result (λ ran. (asked : Option ℕ) → IsOpening asked opened.0 opened.1 → IsDayKept W.contents capture.0 capture.1 asked ran.0 ran.1) }
     ensures stopped { IfErr result IsUnlinked }
 {
     let (near, distant) = match both_ends(rt) {
@@ -81,7 +83,7 @@ pub fn run_served<
     is_shown: bool,
 ) -> Result<(Exchange, bool), SocketFault<'a>>
     requires { capture.1 ≤ 4294667295 }
-    ensures ran { IfOk result (λ ran. (asked : Option ℕ) → IsOpening asked opened.0 opened.1 → IsDayRun asked ran.0) }
+    ensures ran { IfOk result (λ ran. (asked : Option ℕ) → IsOpening asked opened.0 opened.1 → IsDayKept W.contents capture.0 capture.1 asked ran.0 ran.1) }
     ensures stopped { IfErr result IsUnserved }
 {
     let peer = match accepted(rt, port, is_shown) {
@@ -115,7 +117,7 @@ pub fn run_connected<
     is_shown: bool,
 ) -> Result<(u32, bool), SocketFault<'a>>
     requires { capture.1 ≤ 4294667295 }
-    ensures ran { IfOk result (λ ran. IsFarOpening far → IsFarRun ran.0) }
+    ensures ran { IfOk result (λ ran. IsFarOpening far → IsFarKept W.contents capture.0 capture.1 ran.0 ran.1) }
     ensures stopped { IfErr result IsUnjoined }
 {
     let peer = match connected(rt, port) {
