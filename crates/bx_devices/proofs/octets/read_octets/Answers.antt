@@ -1,4 +1,5 @@
-use Rattle.std.proofs.Common.{◌≤◌, ◌+◌, arith, refl, length-take, length}
+use Rattle.std.proofs.lemmas.Grind.{common_steps}
+use Rattle.std.proofs.Common.{rules, ◌≤◌, ◌+◌, arith, refl, length-take, length}
 use Rattle.bx_devices.proofs.OctetLemmas.{ReadsFront-next}
 use Rattle.bx_devices.proofs.octets.read_octets.Goals as goal
 
@@ -15,3 +16,18 @@ returns-then-is_err-clause-memory g c = λ _.
       omega (arith, c.if-len-n-gt-MAX_OCTETS.false),
       ReadsFront-next _ _ _ c.loop-buf.octets.items c.read.new.buf c.in-Ok.n _ c.loop-buf.invariant.read c.in-Ok.ensures.bytes.0 c.in-Ok.ensures.bound.0 refl,
     )
+
+pub returns-then-is_err-clause-failed : goal.returns-then-is_err-clause-failed
+returns-then-is_err-clause-failed g c = grind (arith, common_steps) steps 60000
+
+pub returns-in-Ok-eq0-clause-too_long : goal.returns-in-Ok-eq0-clause-too_long
+returns-in-Ok-eq0-clause-too_long g c = grind (arith, common_steps) steps 60000
+
+pub loop-buf-preserved : goal.loop-buf-preserved
+loop-buf-preserved g c = record {
+  size = grind (arith, common_steps) steps 200000;
+  fits = grind (arith, common_steps) steps 200000;
+  read = grind (arith, common_steps);
+  unfaulted = search rules steps 200000;
+  each = grind (arith, common_steps) steps 200000;
+}

@@ -1,4 +1,4 @@
-use Rattle.std.proofs.Common.{◌∙◌, arith}
+use Rattle.std.proofs.Common.{rules, ◌∙◌, arith}
 use Rattle.bx_devices.proofs.OctetLemmas.{Appends-next, takes_some, length-from_place}
 use Rattle.bx_devices.proofs.octets.write_octets.Goals as goal
 
@@ -9,3 +9,9 @@ loop-at-preserved g c = record {
   unfaulted = c.in-Ok.ensures.faulted ∙ takes_some _ _ _ c.in-Ok.n-test.1 ∙ c.loop-at.invariant.unfaulted;
   reads = c.in-Ok.ensures.reads ∙ c.loop-at.invariant.reads;
 }
+
+pub returns-in-Ok-eq0-clause-ok : goal.returns-in-Ok-eq0-clause-ok
+returns-in-Ok-eq0-clause-ok g c = search rules steps 60000
+
+pub returns-in-Ok-eq0-clause-unfaulted : goal.returns-in-Ok-eq0-clause-unfaulted
+returns-in-Ok-eq0-clause-unfaulted g c = search rules steps 60000

@@ -1,6 +1,8 @@
-use Rattle.std.proofs.Common.{Err, inl, inr, ap}
+use Rattle.std.proofs.lemmas.Grind.{common_steps}
+use Rattle.std.proofs.Common.{arith, rules, Err, inl, inr, ap}
 use Rattle.bx_planfile.proofs.Refusals.{line_never, header_never, channels_never, count_never, not_memory, passed_on, grows_behind}
 use Rattle.bx_planfile.specs.Reading.{entries}
+use Rattle.bx_planfile.specs.Reading.{read_head, read_all}
 use Rattle.bx_planfile.proofs.reading.plan_of.Goals as goal
 
 pub returns-in_err-fields-clause-memory : goal.returns-in_err-fields-clause-memory
@@ -31,3 +33,27 @@ returns-in_err-prices-clause-memory c = λ m.
     let tail = rw c.from.ensures at (c.in_err-prices.ensures.memory (ap Err (passed_on m c.from_residual-in_err-prices.ensures.1))) in
     grows_behind c.in_ok-fields.ensures c.in_ok-version.ensures c.in_ok-fields-2.ensures c.in_ok-channels.ensures c.in_ok-fields-3.ensures c.in_ok-count.ensures.value
     (inr (entries c.in_ok-bookings.bookings c.in_ok-bookings.assigned.items c.in_ok-bookings.rest.now, c.in_ok-bookings.ensures.value, tail))
+
+pub bookings_of-requires-clause-few : goal.bookings_of-requires-clause-few
+unfolding read_head read_all
+bookings_of-requires-clause-few c = grind (arith, common_steps) steps 400000
+
+pub returns-in_err-count-clause-value : goal.returns-in_err-count-clause-value
+unfolding read_head read_all
+returns-in_err-count-clause-value c = search rules steps 1000000
+
+pub returns-in_err-bookings-clause-value : goal.returns-in_err-bookings-clause-value
+unfolding read_head read_all
+returns-in_err-bookings-clause-value c = search rules steps 1000000
+
+pub returns-in_err-prices-clause-value : goal.returns-in_err-prices-clause-value
+unfolding read_head read_all
+returns-in_err-prices-clause-value c = search rules steps 1000000
+
+pub returns-clause-value : goal.returns-clause-value
+unfolding read_head read_all
+returns-clause-value c = search rules steps 1000000
+
+pub invariant_of-result : goal.invariant_of-result
+unfolding read_head read_all
+invariant_of-result c = search rules steps 1000000
