@@ -1,3 +1,4 @@
+use Rattle.std.proofs.lemmas.Grind.{common_steps}
 use Rattle.std.proofs.Common.{◌≡◌, ◌<◌, ◌≤◌, ◌+◌, ◌-◌, ℕ, List, length, get_or, sym, ◌∙◌, ap, arith, refl}
 use Rattle.std.proofs.lemmas.List.{get_or_default}
 use Rattle.bx_base.specs.Bound.{Charge, price_at, no_charge}
@@ -23,3 +24,6 @@ returns-then-later-earlier c =
 
 pub returns : goal.returns
 returns c = (λ _. rising_from_each c.args.prices.now (λ k b. c.loop-i.invariant k (omega arith)), λ _. refl)
+
+pub loop-i-preserved : goal.loop-i-preserved
+loop-i-preserved c = grind (arith, common_steps) steps 2000000

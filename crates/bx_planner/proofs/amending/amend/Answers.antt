@@ -1,4 +1,5 @@
-use Rattle.std.proofs.Common.{◌≡◌, ℕ, ◌+◌, ◌∙◌, ap, arith, List, length, Option, Some, refl, subst, sym}
+use Rattle.std.proofs.lemmas.Grind.{common_steps}
+use Rattle.std.proofs.Common.{rules, ◌≡◌, ℕ, ◌+◌, ◌∙◌, ap, arith, List, length, Option, Some, refl, subst, sym}
 use Rattle.bx_base.specs.Bookings.{Row, IsLawful}
 use Rattle.bx_base.specs.Plans.{is_accepted}
 use Rattle.bx_planner.specs.Musts.{IsTooManyMust}
@@ -33,3 +34,12 @@ pub returns-in-Some-clause-fail : goal.returns-in-Some-clause-fail
 returns-in-Some-clause-fail c =
     let all = c.of-demand.ensures ∙ ap (λ (a : List (Option ℕ)). amended c.args.plan.now.bookings a c.args.more.now) c.deref.ensures.value in
     subst (λ (rows : List Row). IsTooManyMust rows c.args.plan.now.channels c.in-Some.moment) all ((c.in-Some.ensures c.in-Some.moment).0 refl)
+
+pub returns-in-Some-clause-full : goal.returns-in-Some-clause-full
+returns-in-Some-clause-full c = grind (arith, common_steps) steps 60000
+
+pub returns-in-Ok-clause-full : goal.returns-in-Ok-clause-full
+returns-in-Ok-clause-full c = search rules steps 400000
+
+pub returns-in-Err-clause-full : goal.returns-in-Err-clause-full
+returns-in-Err-clause-full c = grind (arith, common_steps) steps 60000

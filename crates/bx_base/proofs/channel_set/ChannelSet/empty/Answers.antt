@@ -1,4 +1,4 @@
-use Rattle.std.proofs.Common.{◌≡◌, ℕ, true, false, replicate, refl, inl, inr}
+use Rattle.std.proofs.Common.{rules, ◌≡◌, ℕ, true, false, replicate, refl, inl, inr}
 use Rattle.std.proofs.lemmas.List.{get_or-replicate, get_or_past}
 use Rattle.std.proofs.lemmas.Bool.{cases_lt}
 use Rattle.bx_numbers.specs.ChannelNumbers.{IsChannel}
@@ -10,3 +10,6 @@ none_at n h = elim (cases_lt n 32) [ inl a ↦ (let e = get_or-replicate 32 n fa
 
 pub invariant_of-result : goal.invariant_of-result
 invariant_of-result c = record { slots = refl; only = none_at }
+
+pub returns : goal.returns
+returns c = search rules steps 60000

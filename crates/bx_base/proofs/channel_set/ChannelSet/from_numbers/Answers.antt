@@ -1,4 +1,5 @@
-use Rattle.std.proofs.Common.{◌≡◌, Bool, true, false, List, [], take, get_or, replicate, refl, ◌∙◌, subst, arith, inl, inr}
+use Rattle.std.proofs.lemmas.Grind.{common_steps}
+use Rattle.std.proofs.Common.{rules, ◌≡◌, Bool, true, false, List, [], take, get_or, replicate, refl, ◌∙◌, subst, arith, inl, inr}
 use Rattle.std.specs.List.{Contains}
 use Rattle.std.proofs.lemmas.Bool.{cases_lt}
 use Rattle.std.proofs.lemmas.List.{take_more, get_or-replicate, get_or_past}
@@ -31,3 +32,9 @@ loop-number-preserved c =
       channels = AreChannels-push front n c.loop-number.invariant.channels (c.in-Some.ensures.exactly.0 refl) new;
       just = HasJust-push c.loop-number.set c.with-set.result front n c.loop-number.invariant.just (subst (λ m. has_channel c.with-set.result m ≡ true) c.in-Some.ensures.value c.with-set.ensures.added) (λ k other. c.with-set.ensures.others k (λ e. other (e ∙ c.in-Some.ensures.value)));
     })
+
+pub returns-in_default-clause-fault : goal.returns-in_default-clause-fault
+returns-in_default-clause-fault c = grind (arith, common_steps) steps 60000
+
+pub returns-then-has-clause-fault : goal.returns-then-has-clause-fault
+returns-then-has-clause-fault c = search rules steps 2000000

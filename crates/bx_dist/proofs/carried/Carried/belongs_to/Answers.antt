@@ -1,4 +1,4 @@
-use Rattle.std.proofs.Common.{◌-◌, ap, arith}
+use Rattle.std.proofs.Common.{rules, ◌-◌, ap, arith}
 use Rattle.std.proofs.lemmas.Bool.{lt-ltb}
 use Rattle.bx_line.specs.Flows.{Flow}
 use Rattle.bx_line.proofs.Crossings.{crosses_from_flow, flow_from_crosses}
@@ -21,3 +21,9 @@ returns-then-places-gt1 c = (
   }),
   λ f. lt-ltb 1 c.places.result c.if-places-gt1.true,
 )
+
+pub loop-gap-preserved : goal.loop-gap-preserved
+loop-gap-preserved c = search rules steps 2000000
+
+pub returns-else-places-gt1 : goal.returns-else-places-gt1
+returns-else-places-gt1 c = search rules steps 400000

@@ -1,3 +1,4 @@
+use Rattle.std.proofs.lemmas.Grind.{common_steps}
 use Rattle.std.proofs.Common.{◌-◌, ◌+◌, ℤ, length, ap, arith, below_more, refl}
 use Rattle.bx_dist.specs.Inside.{RowFits}
 use Rattle.bx_dist.proofs.Fitting.{fits_from_parts, RowFits-from_fits, GapFits-from_fits}
@@ -23,3 +24,6 @@ returns c = (
   },
   λ p. refl,
 )
+
+pub loop-i-init : goal.loop-i-init
+loop-i-init c = grind (arith, common_steps) steps 60000
