@@ -1,4 +1,4 @@
-use Rattle.std.proofs.Common.{true, inl, inr, refl}
+use Rattle.std.proofs.Common.{rules, true, inl, inr, refl}
 use Rattle.bx_q931.specs.Events.{Tick}
 use Rattle.bx_day.specs.Course.{exchange_next, exchange_text}
 use Rattle.bx_turns.proofs.Hearing.{one_told, one_failed}
@@ -17,3 +17,6 @@ returns-in-Err-clause-opened g c = λ _. record {
   written = one_failed exchange_next exchange_text g.W.Write.contents c.args.writer.now c.write_tick.new.writer (g.E.End.day c.args.exchange.now) Tick c.in-Err.field-0 c.in-Err.ensures.written;
   answer = inr refl;
 }
+
+pub returns-in-Ok-clause-turn : goal.returns-in-Ok-clause-turn
+returns-in-Ok-clause-turn g c = search rules steps 60000
