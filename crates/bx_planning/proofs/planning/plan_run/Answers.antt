@@ -8,3 +8,6 @@ pub returns-in-Err-plan_of-clause-refused : goal.returns-in-Err-plan_of-clause-r
 returns-in-Err-plan_of-clause-refused g c =
     let within = read_within (reading_of g.R.Read.remaining c.args.input.now c.bookings_of.new.input) (span_of c.args.day.now) c.in-Ok.bookings c.in-Ok.ensures.read in
     search rules
+
+pub returns-in-Ok-write_plan-clause-refused : goal.returns-in-Ok-write_plan-clause-refused
+returns-in-Ok-write_plan-clause-refused g c = search rules steps 60000

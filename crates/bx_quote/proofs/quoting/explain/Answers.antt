@@ -38,3 +38,6 @@ returns-in-Some-no_channel-clause-fail c =
       found,
       never_taken plan.rows i inside (is_free plan i c.requires.proved inside out) plan.channels moment found.running found.full,
     )
+
+pub returns-in_default-clause-no_row : goal.returns-in_default-clause-no_row
+returns-in_default-clause-no_row c = search rules steps 60000
