@@ -44,7 +44,7 @@ pub fn moment(field: &[u8], day: &Day, row: u16) -> Result<u32, BookFault>
 }
 
 /// The pay that a field names.
-pub fn pay(field: &[u8]) -> Option<u64>
+pub(crate) fn pay(field: &[u8]) -> Option<u64>
     ensures { MatchOption result (is_pay field.now ≡ false) (λ n. (is_pay field.now ≡ true) × (n ≡ pay_value field.now)) }
 {
     if field.len() > 10 || !all_digits(field) {
@@ -59,7 +59,7 @@ pub fn pay(field: &[u8]) -> Option<u64>
 }
 
 /// Whether a row is a must row.
-pub fn must(field: &[u8]) -> Option<bool>
+pub(crate) fn must(field: &[u8]) -> Option<bool>
     ensures { result ≡ word_value (codes "no") (codes "yes") field.now }
 {
     match field {
@@ -70,7 +70,7 @@ pub fn must(field: &[u8]) -> Option<bool>
 }
 
 /// Whether a row is called by the far end.
-pub fn inward(field: &[u8]) -> Option<bool>
+pub(crate) fn inward(field: &[u8]) -> Option<bool>
     ensures { result ≡ word_value (codes "out") (codes "in") field.now }
 {
     match field {

@@ -58,7 +58,7 @@ impl<'a, R: Read, O: Origin> Metered<'a, R, O> {
     }
 
     /// Reads on until nothing more is passed on.
-    pub fn read_on(&mut self)
+    pub(crate) fn read_on(&mut self)
         ensures { is_spent (has_ended self.new) (is_faulted (watched_of self.new)) (octets_of self.new) (reads_of (watched_of self.new)) ≡ true }
     {
         let mut buf = [0u8; 4096];

@@ -9,7 +9,7 @@ ghost use Rattle.bx_book.specs.Dates.{StartsWithDate, day_number};
 use jiff::civil::Date;
 
 /// The octet at a place, and 0 beyond the end.
-pub fn octet_at(octets: &[u8], place: usize) -> u8
+pub(crate) fn octet_at(octets: &[u8], place: usize) -> u8
     ensures { result ≡ octet_at octets.now place }
 {
     match octets.get(place) {
@@ -19,7 +19,7 @@ pub fn octet_at(octets: &[u8], place: usize) -> u8
 }
 
 /// What stands from a place on.
-pub fn after(octets: &[u8], place: usize) -> &[u8]
+pub(crate) fn after(octets: &[u8], place: usize) -> &[u8]
     requires { place ≤ length octets.now }
     ensures { result.now ≡ drop place octets.now }
 {
@@ -27,7 +27,7 @@ pub fn after(octets: &[u8], place: usize) -> &[u8]
 }
 
 /// The number that two ASCII digits from a place on write.
-pub fn two_digits(octets: &[u8], place: usize) -> Option<u8>
+pub(crate) fn two_digits(octets: &[u8], place: usize) -> Option<u8>
     requires { place ≤ 100 }
     ensures { MatchOption result (are_two_digits octets.now place ≡ false) (λ n. (are_two_digits octets.now place ≡ true) × (n ≡ two_at octets.now place) × (n ≤ 99)) }
 {
@@ -41,7 +41,7 @@ pub fn two_digits(octets: &[u8], place: usize) -> Option<u8>
 }
 
 /// The same, where that number is below the limit.
-pub fn two_digits_below(octets: &[u8], place: usize, limit: u8) -> Option<u8>
+pub(crate) fn two_digits_below(octets: &[u8], place: usize, limit: u8) -> Option<u8>
     requires { place ≤ 100 }
     ensures { MatchOption result (is_below octets.now place limit ≡ false) (λ n. (is_below octets.now place limit ≡ true) × (n ≡ two_at octets.now place) × (n < limit)) }
 {
@@ -61,7 +61,7 @@ fn date_of(year: u16, month: u8, day: u8) -> Option<Date>
 }
 
 /// The date that a text begins with, as `YYYY-MM-DD`.
-pub fn first_date(octets: &[u8]) -> Option<Date>
+pub(crate) fn first_date(octets: &[u8]) -> Option<Date>
     ensures { MatchOption result (¬ StartsWithDate octets.now) (λ d. StartsWithDate octets.now × (epoch_day d ≡ day_number octets.now)) }
 {
     let century = two_digits(octets, 0)?;

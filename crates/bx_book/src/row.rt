@@ -48,7 +48,7 @@ fn marked(mut booking: Booking, is_must: bool, is_inward: bool) -> Booking
 }
 
 /// The booking of the row of this name, which has this many columns.
-pub fn booking(
+pub(crate) fn booking(
     fields: &ByteRecord,
     columns: usize,
     day: &Day,

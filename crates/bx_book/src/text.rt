@@ -89,7 +89,7 @@ fn told_as(fault: RowsFault<BookFault>) -> BookFault
 }
 
 /// Reads the header and the rows.
-pub fn read_book<R: Read>(
+pub(crate) fn read_book<R: Read>(
     alloc: Global,
     records: &mut Reader<R>,
     day: &Day,

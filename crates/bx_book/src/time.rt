@@ -136,7 +136,7 @@ fn offset_behind(rest: &[u8]) -> Option<i64>
 
 /// The instant of a time: `YYYY-MM-DDThh:mm:ss`, then nothing or a dot and 1 to 9 digits, then `Z` or a sign and
 /// `hh:mm`.
-pub fn instant_at(octets: &[u8]) -> Option<Instant>
+pub(crate) fn instant_at(octets: &[u8]) -> Option<Instant>
     ensures { MatchOption result (¬ IsTime octets.now) (λ t. IsTime octets.now × (t.second ≡ instant_of octets.now) × (t.is_whole ≡ is_whole_time octets.now) × (neg_ℤ (pos 500_000_000_000) ≤ℤ t.second) × (t.second ≤ℤ pos 500_000_000_000)) }
 {
     if octets.len() < 19 {

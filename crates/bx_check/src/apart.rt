@@ -42,7 +42,7 @@ fn are_apart(plan: &Plan) -> bool
 
 /// The first two rows that overlap on one channel: the least first row, and for it the least second. Compares rows in pairs
 /// only where two overlap.
-pub fn first_overlap(plan: &Plan) -> Option<(u16, u16)>
+pub(crate) fn first_overlap(plan: &Plan) -> Option<(u16, u16)>
     ensures some { IfSome result (λ p. (1 ≤ p.0) × (p.0 < p.1) × (p.1 ≤ length plan.now.bookings) × Clash plan.now.bookings plan.now.assigned.items (p.0 - 1) (p.1 - 1)) }
     ensures least_first { IfSome result (λ p. (i k : ℕ) → i < p.0 - 1 → i < k → k < length plan.now.bookings → ¬ Clash plan.now.bookings plan.now.assigned.items i k) }
     ensures least_second { IfSome result (λ p. (k : ℕ) → p.0 - 1 < k → k < p.1 - 1 → ¬ Clash plan.now.bookings plan.now.assigned.items (p.0 - 1) k) }

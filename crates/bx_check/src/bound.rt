@@ -14,7 +14,7 @@ use bx_base::{Booking, Bookings, ChannelSet, Price};
 use bx_numbers::Channel;
 
 /// What the accepted rows pay together.
-pub fn total_pay(bookings: &Bookings, assigned: &[Option<Channel>]) -> u64
+pub(crate) fn total_pay(bookings: &Bookings, assigned: &[Option<Channel>]) -> u64
     requires { length assigned.now ≡ length bookings.now }
     ensures { result ≡ pay_of bookings.now (is_accepted assigned.now) }
 {
@@ -28,7 +28,7 @@ pub fn total_pay(bookings: &Bookings, assigned: &[Option<Channel>]) -> u64
 }
 
 /// Whether the moments of the prices rise strictly.
-pub fn is_rising(prices: &[Price]) -> bool
+pub(crate) fn is_rising(prices: &[Price]) -> bool
     ensures { IsTrue result ↔ IsStrictlyIncreasing (map (λ p. p.moment) prices.now) }
 {
     for i in 1..prices.len() {
@@ -42,7 +42,7 @@ pub fn is_rising(prices: &[Price]) -> bool
 }
 
 /// What a channel costs all day.
-pub fn price_sum(prices: &[Price]) -> u64
+pub(crate) fn price_sum(prices: &[Price]) -> u64
     requires { length prices.now ≤ 8000 }
     ensures value { result ≡ sum_of_prices prices.now }
     ensures limit { result ≤ length prices.now * 4000000000000 }
@@ -83,7 +83,7 @@ fn loss(booking: &Booking, prices: &[Price], sums: &Sums) -> u64
 
 /// The bound that the prices set for each lawful set. Where some set is lawful, all that is lost is at most what
 /// the channels cost, so no sum leaves its type.
-pub fn bound(
+pub(crate) fn bound(
     bookings: &Bookings,
     channels: ChannelSet,
     assigned: &[Option<Channel>],

@@ -7,7 +7,7 @@ use bx_base::Bookings;
 use std::alloc::{AllocError, Global};
 
 /// The start and the index of each accepted booking, in the order of (start, row).
-pub fn in_order(
+pub(crate) fn in_order(
     alloc: Global,
     bookings: &Bookings,
     accepted: &[bool],

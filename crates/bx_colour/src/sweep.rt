@@ -9,7 +9,11 @@ use bx_numbers::Channel;
 
 /// The lowest channel in service whose last booking has ended by this moment, where `until` has the end of the last
 /// booking on each channel.
-pub fn lowest_free_at(channels: &ChannelSet, until: &[u32; 32], moment: u32) -> Option<Channel>
+pub(crate) fn lowest_free_at(
+    channels: &ChannelSet,
+    until: &[u32; 32],
+    moment: u32,
+) -> Option<Channel>
     requires { IsChannelSet channels.now }
     ensures channel { IfSome result IsChannel }
     ensures free { IfSome result (λ c. (has_channel channels.now c ≡ true) × (slice_index until.now c ≤ moment)) }

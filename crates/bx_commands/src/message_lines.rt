@@ -68,7 +68,7 @@ fn put_element(alloc: Global, lines: &mut Vec<u8>, element: &Element<'_>) -> Res
 }
 
 /// The lines of a message: its type, its reference, and its elements in order.
-pub fn lines_of(alloc: Global, message: &Message<'_>) -> Result<Vec<u8>, AllocError>
+pub(crate) fn lines_of(alloc: Global, message: &Message<'_>) -> Result<Vec<u8>, AllocError>
     ensures { IfOk result (λ lines. lines.items ≡ message_lines message.now) }
 {
     let mut lines = Vec::new(alloc);

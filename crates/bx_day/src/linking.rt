@@ -19,7 +19,7 @@ pub struct Links {
 
 /// The links of accepted bookings of which no two run at once on a channel, by one sort: from the last start to the
 /// first, each comes before the one that was linked last on its channel.
-pub fn linked(alloc: Global, entries: &[Entry]) -> Result<Links, AllocError>
+pub(crate) fn linked(alloc: Global, entries: &[Entry]) -> Result<Links, AllocError>
     requires few { length entries.now ≤ 4000 }
     requires seated { AllByRecursion Seated entries.now }
     requires apart { Pairs Apart entries.now }

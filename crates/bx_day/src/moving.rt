@@ -69,7 +69,7 @@ fn follow(step: Step<NetCall>, activity: Activity, moment: u32) -> Moved
 }
 
 /// A live booking at a message of its call, whose reference and flag were compared before.
-pub fn heard(standing: Standing, message: &Message<'_>, moment: u32) -> Moved
+pub(crate) fn heard(standing: Standing, message: &Message<'_>, moment: u32) -> Moved
     requires { moment ≤ 300000 }
     ensures { (reference : ℕ) (flag : Bool) → result ≡ hears (said_of reference flag message.now) moment standing }
 {
@@ -86,7 +86,7 @@ pub fn heard(standing: Standing, message: &Message<'_>, moment: u32) -> Moved
 }
 
 /// A booking at a tick to this moment; free says whether its channel was neither held nor in maintenance.
-pub fn second(entry: &Entry, channel: Channel, moment: u32, free: bool) -> Moved
+pub(crate) fn second(entry: &Entry, channel: Channel, moment: u32, free: bool) -> Moved
     requires moment { moment ≤ 300000 }
     requires row { IsCallReference entry.now.row }
     requires channel { channel ≡ entry.now.channel }

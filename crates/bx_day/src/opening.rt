@@ -36,7 +36,7 @@ fn add(
 }
 
 /// An entry for each row of the plan, in order.
-pub fn entries(alloc: Global, plan: &Plan) -> Result<Vec<Entry>, AllocError>
+pub(crate) fn entries(alloc: Global, plan: &Plan) -> Result<Vec<Entry>, AllocError>
     ensures { IfOk result (λ v. v.items ≡ entries_from 1 plan.now.bookings plan.now.assigned.items) }
 {
     let mut entries = Vec::new(alloc);

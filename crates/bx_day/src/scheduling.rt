@@ -8,7 +8,7 @@ use crate::entry::{Entry, Standing};
 use bx_calls::{CallState, NetCall};
 
 /// The first tick that may do something to a booking. One that waits for its channel is looked at each time.
-pub fn booking_due(entry: &Entry) -> u32
+pub(crate) fn booking_due(entry: &Entry) -> u32
     ensures value { result ≡ booking_due entry.now entry.now.standing }
     ensures booking { IsBooking entry.now.booking }
 {

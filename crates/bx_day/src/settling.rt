@@ -11,7 +11,7 @@ use crate::entry::{Entry, Standing};
 
 /// Brings the slots up to date after a tick. What was live, what waited first on a channel and what comes behind
 /// that are all that can be live now; and what waited still does, but for these.
-pub fn settle(
+pub(crate) fn settle(
     entries: &[Entry],
     behind: &[Option<u16>],
     live: &mut [Option<u16>; 32],
@@ -32,7 +32,7 @@ pub fn settle(
 }
 
 /// For each channel the booking behind the first that waits.
-pub fn followers(behind: &[Option<u16>], waiting: &[Option<u16>; 32]) -> [Option<u16>; 32]
+pub(crate) fn followers(behind: &[Option<u16>], waiting: &[Option<u16>; 32]) -> [Option<u16>; 32]
     requires { (c i : ℕ) → slot_at waiting.now c ≡ Some i → i < length behind.now }
     ensures { (c : ℕ) → slot_at result c ≡ follower behind.now (slot_at waiting.now c) }
 {

@@ -14,7 +14,7 @@ use crate::steps::{ends_of, is_open};
 use bx_line::Line;
 
 /// Whether the steps lead from the first place to the last in the flow's residual network.
-pub fn leads(line: &Line, carried: &Carried, walk: &[Step]) -> bool
+pub(crate) fn leads(line: &Line, carried: &Carried, walk: &[Step]) -> bool
     requires { 0 < places_of line.now }
     ensures { IsTrue result ↔ IsWalk Whole line.now carried.now 0 (places_of line.now - 1) walk.now }
 {
@@ -33,7 +33,7 @@ pub fn leads(line: &Line, carried: &Carried, walk: &[Step]) -> bool
 }
 
 /// Whether steps that name places and rows of the line meet no place twice, from the first place on.
-pub fn is_simple(line: &Line, walk: &[Step]) -> bool
+pub(crate) fn is_simple(line: &Line, walk: &[Step]) -> bool
     requires { AreSteps line.now walk.now }
     ensures { IsTrue result ↔ IsSimple line.now 0 walk.now }
 {

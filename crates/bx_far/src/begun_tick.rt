@@ -36,7 +36,7 @@ impl Model for BegunTick {
 
 impl BegunTick {
     /// The rows of this moment call, each on a channel that is neither blocked nor called on by an earlier row.
-    pub fn begin_rows(&mut self, rows: &[ScriptRow], moment: u32)
+    pub(crate) fn begin_rows(&mut self, rows: &[ScriptRow], moment: u32)
         requires moment { moment ≤ 300000 }
         requires room { self.old.next + calls_now moment rows.now ≤ 4001 }
         ensures { self.new ≡ begin_rows moment rows.now self.old }

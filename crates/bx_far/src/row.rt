@@ -144,7 +144,11 @@ fn row_of(fields: &ByteRecord, columns: usize) -> Option<ScriptRow>
 }
 
 /// The row of this name, which has this many columns.
-pub fn script_row(fields: &ByteRecord, columns: usize, row: u16) -> Result<ScriptRow, ScriptFault>
+pub(crate) fn script_row(
+    fields: &ByteRecord,
+    columns: usize,
+    row: u16,
+) -> Result<ScriptRow, ScriptFault>
     ensures { IsRowRead columns row (fields_of fields.now) result }
 {
     if fields.len() != columns {

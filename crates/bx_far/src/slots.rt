@@ -19,7 +19,11 @@ fn is_named(call: &UserCall, reference: u16, flag: bool) -> bool
 }
 
 /// The first call that a message of this reference and flag names.
-pub fn first_named(calls: &[Option<UserCall>; 32], reference: u16, flag: bool) -> Option<UserCall>
+pub(crate) fn first_named(
+    calls: &[Option<UserCall>; 32],
+    reference: u16,
+    flag: bool,
+) -> Option<UserCall>
     requires size { length calls.now ≡ 32 }
     requires seated { AreSeated 0 calls.now }
     ensures first { (m : PlainMessage) → result ≡ first_call (far_names (said_of reference flag m)) (live_calls calls.now) }
@@ -37,7 +41,7 @@ pub fn first_named(calls: &[Option<UserCall>; 32], reference: u16, flag: bool) -
 }
 
 /// What became of the call on the channel.
-pub fn settle(
+pub(crate) fn settle(
     calls: &mut [Option<UserCall>; 32],
     maintenance: &mut ChannelSet,
     channel: Channel,

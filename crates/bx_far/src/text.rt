@@ -82,7 +82,10 @@ fn told_as(fault: RowsFault<ScriptFault>) -> ScriptFault
 }
 
 /// Reads the header and the rows.
-pub fn read_script<R: Read>(alloc: Global, records: &mut Reader<R>) -> Result<Script, ScriptFault>
+pub(crate) fn read_script<R: Read>(
+    alloc: Global,
+    records: &mut Reader<R>,
+) -> Result<Script, ScriptFault>
     requires { IsReading records.old × (reader_state records.old ≡ st.StartRecord) }
     ensures ok { IfOk result (λ script. IfSome (source_of R.remaining records.old) (λ text. IsScript text script)) }
     ensures err { IfErr result (λ e. IfSome (source_of R.remaining records.old) (λ text. IsScriptFault text e)) }

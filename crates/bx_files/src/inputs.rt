@@ -10,7 +10,7 @@ use bx_commands::{CommandFault, open};
 use std::fs::Files;
 
 /// The bookings of the day in a file of this name.
-pub fn bookings_in<'a, H: Files + AllocGlobal>(
+pub(crate) fn bookings_in<'a, H: Files + AllocGlobal>(
     rt: &H,
     name: &'a str,
     day: &Day,

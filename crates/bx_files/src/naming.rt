@@ -11,7 +11,7 @@ use bx_book::Day;
 use bx_request::Terms;
 
 /// The day that these words name.
-pub fn day_of<'a>(date: &str, zone: &str) -> Result<Day, FileFault<'a>>
+pub(crate) fn day_of<'a>(date: &str, zone: &str) -> Result<Day, FileFault<'a>>
     ensures named { IfOk result (IsDayOf date.now zone.now) }
     ensures none { IfErr result (IsNoDay date.now zone.now) }
 {
@@ -22,7 +22,7 @@ pub fn day_of<'a>(date: &str, zone: &str) -> Result<Day, FileFault<'a>>
 }
 
 /// The channels and the day that the words name.
-pub fn channels_and_day<'a>(terms: &Terms<'_>) -> Result<(ChannelSet, Day), FileFault<'a>>
+pub(crate) fn channels_and_day<'a>(terms: &Terms<'_>) -> Result<(ChannelSet, Day), FileFault<'a>>
     ensures named { IfOk result (λ named. AreTerms terms.now named.0 named.1) }
     ensures none { IfErr result (AreNoTerms terms.now) }
 {

@@ -31,7 +31,11 @@ pub struct Front {
 
 impl Front {
     /// The first place alone is reached.
-    pub fn new(alloc: Global, line: &Line, potentials: &Potentials) -> Result<Front, AllocError>
+    pub(crate) fn new(
+        alloc: Global,
+        line: &Line,
+        potentials: &Potentials,
+    ) -> Result<Front, AllocError>
         requires { 0 < places_of line.now }
         ensures { IfOk result (λ f. (part : Part) (flow : Flow) → IsResting (setting_of part line.now flow potentials.now) (state_of f)) }
     {
@@ -53,7 +57,7 @@ impl Front {
     }
 
     /// Takes a step where it shortens the way to its end.
-    pub fn reach(
+    pub(crate) fn reach(
         &mut self,
         line: &Line,
         potentials: &Potentials,
@@ -91,7 +95,7 @@ impl Front {
     }
 
     /// The length of a place less its potential.
-    pub fn reduced(&self, potentials: &Potentials, place: u16) -> i64
+    pub(crate) fn reduced(&self, potentials: &Potentials, place: u16) -> i64
         requires within { place < length self.now.lengths.items }
         requires medium { AreMedium self.now.lengths.items }
         requires one_each { length potentials.now ≡ length self.now.lengths.items }

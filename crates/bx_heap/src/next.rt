@@ -15,7 +15,7 @@ const FAR: i64 = 1_152_921_504_606_846_976;
 
 impl Front {
     /// The nearest place that has no rank yet, or none where all have one.
-    pub fn next(&mut self, potentials: &Potentials) -> Result<Option<u16>, AllocError>
+    pub(crate) fn next(&mut self, potentials: &Potentials) -> Result<Option<u16>, AllocError>
         requires { IsSound potentials.now (state_of self.old) }
         ensures next { (part : Part) (line : Network) (flow : Flow) → IsSetting (setting_of part line flow potentials.now) → IsResting (setting_of part line flow potentials.now) (state_of self.old) → IfOk result (λ o. MatchOption o (places_of line ≤ self.old.count) (IsInHand (setting_of part line flow potentials.now) (state_of self.new))) }
         ensures count { IfOk result (λ _. self.new.count ≡ self.old.count) }

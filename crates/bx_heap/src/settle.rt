@@ -14,7 +14,7 @@ use std::alloc::AllocError;
 impl Front {
     /// Settles a place, and takes the steps from it. The one to the next place comes last, so that the line is
     /// walked in its order where nothing else is nearer.
-    pub fn settle(
+    pub(crate) fn settle(
         &mut self,
         line: &Line,
         carried: &Carried,

@@ -16,7 +16,7 @@ pub struct Waiting {
 }
 
 impl Waiting {
-    pub fn new(alloc: Global) -> Waiting
+    pub(crate) fn new(alloc: Global) -> Waiting
         ensures { heap_items result.places ≡ [] }
     {
         Waiting {
@@ -24,7 +24,7 @@ impl Waiting {
         }
     }
 
-    pub fn push(&mut self, nearness: u64, place: u16) -> Result<(), AllocError>
+    pub(crate) fn push(&mut self, nearness: u64, place: u16) -> Result<(), AllocError>
         ensures { OnOk result (IsPermutation ((nearness, place) ∷ heap_items self.old.places) (heap_items self.new.places)) }
     {
         self.places.push((nearness, place))?;
@@ -41,7 +41,7 @@ impl Waiting {
     }
 
     /// Takes the nearest place that has no rank yet, and drops those before it.
-    pub fn next_unsettled(&mut self, ranks: &[u16]) -> Option<u16>
+    pub(crate) fn next_unsettled(&mut self, ranks: &[u16]) -> Option<u16>
         requires { (n v : ℕ) → Contains (heap_items self.old.places) (n, v) → v < length ranks.now }
         ensures kept { (n v : ℕ) → Contains (heap_items self.old.places) (n, v) → slice_index ranks.now v ≡ 0 → Contains (heap_items self.new.places) (n, v) ⊎ (result ≡ Some v) }
         ensures only { (n v : ℕ) → Contains (heap_items self.new.places) (n, v) → Contains (heap_items self.old.places) (n, v) }

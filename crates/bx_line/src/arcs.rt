@@ -40,7 +40,11 @@ fn arc_between(moments: &[u32], booking: &Booking) -> Arc
 }
 
 /// An arc for each booking.
-pub fn arcs_of(alloc: Global, moments: &[u32], bookings: &Bookings) -> Result<Vec<Arc>, AllocError>
+pub(crate) fn arcs_of(
+    alloc: Global,
+    moments: &[u32],
+    bookings: &Bookings,
+) -> Result<Vec<Arc>, AllocError>
     requires rising { IsStrictlyIncreasing moments.now }
     requires few { length moments.now ≤ 8000 }
     requires just { HasJustMoments bookings.now moments.now }

@@ -17,7 +17,12 @@ pub struct ByPlace {
 
 impl ByPlace {
     /// The rows of so many places, each chain in rising order: it is made from the last row on.
-    pub fn of(alloc: Global, places: usize, arcs: &[Arc], side: Side) -> Result<ByPlace, AllocError>
+    pub(crate) fn of(
+        alloc: Global,
+        places: usize,
+        arcs: &[Arc],
+        side: Side,
+    ) -> Result<ByPlace, AllocError>
         requires few { length arcs.now ≤ 4000 }
         requires within { (k : ℕ) → k < length arcs.now → place_on side (slice_index_or arcs.now k no_arc) < places }
         ensures { IfOk result (λ b. AreChains side arcs.now places b.first.items b.next.items) }

@@ -8,7 +8,7 @@ use bx_base::Bookings;
 use std::alloc::{AllocError, Global};
 
 /// The moments at which bookings start or end, each once.
-pub fn moments_of(alloc: Global, bookings: &Bookings) -> Result<Vec<u32>, AllocError>
+pub(crate) fn moments_of(alloc: Global, bookings: &Bookings) -> Result<Vec<u32>, AllocError>
     ensures rising { IfOk result (λ v. IsStrictlyIncreasing v.items) }
     ensures just { IfOk result (λ v. HasJustMoments bookings.now v.items) }
     ensures few { IfOk result (λ v. vec_len v ≤ 8000) }
@@ -34,7 +34,7 @@ fn ends_of(alloc: Global, bookings: &Bookings) -> Result<Vec<u32>, AllocError>
 }
 
 /// The place of a moment.
-pub fn place_of(moments: &[u32], moment: u32) -> u16
+pub(crate) fn place_of(moments: &[u32], moment: u32) -> u16
     requires rising { IsStrictlyIncreasing moments.now }
     requires few { length moments.now ≤ 8000 }
     requires there { Contains moments.now moment }

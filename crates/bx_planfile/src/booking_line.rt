@@ -164,7 +164,7 @@ impl BookingValues<'_> {
 
 /// The booking in the fields of line `n`, and the channel that it has.
 #[tactic(auto, unfolding(crate::specs::Reading::read_booking))]
-pub fn booking_of(
+pub(crate) fn booking_of(
     version: Version,
     fields: Fields<'_>,
     n: u32,

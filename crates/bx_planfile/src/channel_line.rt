@@ -45,7 +45,7 @@ fn rising_channels(mut fields: Fields<'_>) -> Option<ChannelSet>
 
 /// The channels in the fields of line `n`.
 #[tactic(auto, unfolding(crate::specs::Reading::read_channels, crate::specs::Forms::channels_form))]
-pub fn channels_of(mut fields: Fields<'_>, n: u32) -> Result<ChannelSet, PlanFault>
+pub(crate) fn channels_of(mut fields: Fields<'_>, n: u32) -> Result<ChannelSet, PlanFault>
     ensures { Answers (λ x. x) result (read_channels n fields.entry) }
 {
     if fields.take() != b"channels".as_slice() || !all_decimals(fields.again()) {

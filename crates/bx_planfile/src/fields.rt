@@ -37,7 +37,7 @@ fn place_of(bytes: &[u8], octet: u8) -> Option<usize>
 
 impl<'a> Fields<'a> {
     /// The fields of a line, without its LF.
-    pub fn of(line: &'a [u8]) -> Self
+    pub(crate) fn of(line: &'a [u8]) -> Self
         ensures { result ≡ fields_of line.now }
     {
         Fields {
@@ -47,7 +47,7 @@ impl<'a> Fields<'a> {
     }
 
     /// The next field, or an empty one where none is left: no field that is asked for is empty.
-    pub fn take(&mut self) -> &'a [u8]
+    pub(crate) fn take(&mut self) -> &'a [u8]
         ensures value { result.now ≡ first self.old }
         ensures rest { self.new ≡ others self.old }
     {
@@ -66,7 +66,7 @@ impl<'a> Fields<'a> {
     }
 
     /// The same fields once more.
-    pub fn again(&self) -> Fields<'a>
+    pub(crate) fn again(&self) -> Fields<'a>
         ensures { result ≡ self.now }
     {
         Fields {
@@ -76,7 +76,7 @@ impl<'a> Fields<'a> {
     }
 
     /// Whether all fields were taken.
-    pub fn is_done(&self) -> bool
+    pub(crate) fn is_done(&self) -> bool
         ensures { result ≡ is_nothing self.now }
     {
         self.is_done
@@ -85,7 +85,7 @@ impl<'a> Fields<'a> {
 
 /// The fields of the first line, which is line `n` of the text, and what stands behind its LF.
 #[tactic(auto, unfolding(crate::specs::Reading::read_line))]
-pub fn line_of(bytes: &[u8], n: u32) -> Result<(Fields<'_>, &[u8]), PlanFault>
+pub(crate) fn line_of(bytes: &[u8], n: u32) -> Result<(Fields<'_>, &[u8]), PlanFault>
     ensures { Answers (λ x. (x.0, x.1.now)) result (read_line n bytes.now) }
 {
     match place_of(bytes, b'\n') {

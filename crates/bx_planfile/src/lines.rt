@@ -38,7 +38,7 @@ fn version_of(mut fields: Fields<'_>) -> Option<Version>
 
 /// The version in the fields of line `n`.
 #[tactic(auto, unfolding(crate::specs::Reading::read_header))]
-pub fn header_of(fields: Fields<'_>, n: u32) -> Result<Version, PlanFault>
+pub(crate) fn header_of(fields: Fields<'_>, n: u32) -> Result<Version, PlanFault>
     ensures { Answers (λ x. x) result (read_header n fields.entry) }
 {
     version_of(fields).ok_or(PlanFault::BadLine(n))
@@ -58,7 +58,7 @@ fn number_behind(word: &[u8], mut fields: Fields<'_>) -> Option<u64>
 
 /// The count in the fields of line `n`, which is at most so many.
 #[tactic(auto, unfolding(crate::specs::Reading::read_count))]
-pub fn count_of(word: &[u8], most: u16, fields: Fields<'_>, n: u32) -> Result<u16, PlanFault>
+pub(crate) fn count_of(word: &[u8], most: u16, fields: Fields<'_>, n: u32) -> Result<u16, PlanFault>
     ensures value { Answers (λ x. x) result (read_count word.now most n fields.entry) }
     ensures few { IfOk result (λ x. x ≤ most) }
 {
@@ -71,7 +71,7 @@ pub fn count_of(word: &[u8], most: u16, fields: Fields<'_>, n: u32) -> Result<u1
 
 /// The total in the fields of line `n`.
 #[tactic(auto, unfolding(crate::specs::Reading::read_total))]
-pub fn total_of(fields: Fields<'_>, n: u32) -> Result<u64, PlanFault>
+pub(crate) fn total_of(fields: Fields<'_>, n: u32) -> Result<u64, PlanFault>
     ensures value { Answers (λ x. x) result (read_total n fields.entry) }
     ensures limit { IfOk result (λ x. x ≤ 4000000000000) }
 {
@@ -84,7 +84,11 @@ pub fn total_of(fields: Fields<'_>, n: u32) -> Result<u64, PlanFault>
 
 /// That line `n`, with these fields, is the last one, and that nothing stands behind it.
 #[tactic(auto, unfolding(crate::specs::Reading::read_end, crate::specs::Forms::is_end))]
-pub fn ends<'a>(mut fields: Fields<'_>, rest: &'a [u8], n: u32) -> Result<&'a [u8], PlanFault>
+pub(crate) fn ends<'a>(
+    mut fields: Fields<'_>,
+    rest: &'a [u8],
+    n: u32,
+) -> Result<&'a [u8], PlanFault>
     ensures { Answers (λ x. x.now) result (read_end n fields.entry rest.now) }
 {
     if fields.take() != b"end".as_slice() || !fields.is_done() {
@@ -127,7 +131,7 @@ impl PriceValues {
 
 /// The price in the fields of line `n`.
 #[tactic(auto, unfolding(crate::specs::Reading::read_price))]
-pub fn price_of(fields: Fields<'_>, n: u32) -> Result<Price, PlanFault>
+pub(crate) fn price_of(fields: Fields<'_>, n: u32) -> Result<Price, PlanFault>
     ensures { Answers (λ x. x) result (read_price n fields.entry) }
 {
     let values = price_values(fields).ok_or(PlanFault::BadLine(n))?;

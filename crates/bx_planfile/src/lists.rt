@@ -25,7 +25,7 @@ fn add(bookings: &mut Bookings, booking: Booking) -> Result<(), PlanFault>
 }
 
 /// So many bookings, the first of them in line `n`, the channel of each, and what stands behind them.
-pub fn bookings_of(
+pub(crate) fn bookings_of(
     alloc: Global,
     version: Version,
     count: u16,
@@ -56,7 +56,7 @@ pub fn bookings_of(
 }
 
 /// So many prices, the first of them in line `n`, and what stands behind them.
-pub fn prices_of(
+pub(crate) fn prices_of(
     alloc: Global,
     count: u16,
     bytes: &[u8],

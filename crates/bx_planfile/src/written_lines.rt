@@ -14,7 +14,7 @@ use bx_numbers::Channel;
 use bx_text::{Line, add, add_decimal, add_members, append};
 
 /// The line of a price.
-pub fn price_line(price: &Price) -> Line
+pub(crate) fn price_line(price: &Price) -> Line
     ensures text { result.items ≡ line_text (price_fields price.now) }
     ensures limits { IsCharge price.now }
 {
@@ -52,7 +52,7 @@ fn direction_word(is_inward: bool) -> &'static [u8]
 }
 
 /// The line of a booking, and of the channel that it has.
-pub fn booking_line(booking: Booking, channel: Option<Channel>) -> Line
+pub(crate) fn booking_line(booking: Booking, channel: Option<Channel>) -> Line
     ensures text { result.items ≡ line_text (booking_fields Three booking channel) }
     ensures limits { IfSome channel IsChannel }
 {
@@ -68,7 +68,7 @@ pub fn booking_line(booking: Booking, channel: Option<Channel>) -> Line
 }
 
 /// The line of the channels.
-pub fn channels_line(channels: ChannelSet) -> Line
+pub(crate) fn channels_line(channels: ChannelSet) -> Line
     ensures text { result.items ≡ line_text (codes "channels" ∷ map decimal (members_from 0 channels)) }
     ensures limits { IsChannelSet channels }
 {

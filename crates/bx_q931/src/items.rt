@@ -12,7 +12,7 @@ pub struct Item<'a> {
 }
 
 /// The item at the front, and the octets behind it; none where it is torn.
-pub fn first_item(octets: &[u8]) -> Option<(Item<'_>, &[u8])>
+pub(crate) fn first_item(octets: &[u8]) -> Option<(Item<'_>, &[u8])>
     ensures { option_map (λ p. (item_view p.0, p.1.now)) result ≡ item_at octets.now }
 {
     let (first, rest) = octets.split_first()?;
@@ -37,7 +37,7 @@ pub fn first_item(octets: &[u8]) -> Option<(Item<'_>, &[u8])>
 }
 
 /// Whether the octets are whole items.
-pub fn are_items(octets: &[u8]) -> bool
+pub(crate) fn are_items(octets: &[u8]) -> bool
     ensures { result ≡ is_some (all_items octets.now) }
 {
     let mut rest = octets;

@@ -83,7 +83,7 @@ fn is_tight(lengths: &[i64], line: &Line, step: Step) -> bool
 }
 
 /// A least walk from the first place to the last, over steps that are just as long as the lengths differ.
-pub fn least_walk(
+pub(crate) fn least_walk(
     alloc: Global,
     line: &Line,
     steps: &[Step],

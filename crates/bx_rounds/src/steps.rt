@@ -10,7 +10,7 @@ use std::alloc::{AllocError, Global};
 
 /// The steps that are open, those onward from the first place on, and those back from the last place on: in this
 /// order most of them are settled after a round or two.
-pub fn open_steps(
+pub(crate) fn open_steps(
     alloc: Global,
     line: &Line,
     carried: &Carried,

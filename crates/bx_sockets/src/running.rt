@@ -36,7 +36,7 @@ fn exchange_of<H, W: Write + Drop>(end: Captured<Shown<'_, Exchange, H>, W>) -> 
 
 /// The exchange at the end of its day, which was run with the far end over one TCP connection, and whether all that was to be
 /// captured of it was. The capture is its file and its first second.
-pub fn run_linked<
+pub(crate) fn run_linked<
     'a,
     H: Clock + Eprint + Net<Listener = TcpListener, Stream = TcpStream>,
     W: Write + Drop,
@@ -71,7 +71,7 @@ pub fn run_linked<
 
 /// The exchange at the end of its day, which was run towards the first peer that connects to the port, and whether all that was
 /// to be captured was. The capture is its file and its first second.
-pub fn run_served<
+pub(crate) fn run_served<
     'a,
     H: Clock + Eprint + Net<Listener = TcpListener, Stream = TcpStream>,
     W: Write + Drop,
@@ -105,7 +105,7 @@ pub fn run_served<
 
 /// The moment at which the day of a far end ended, which was run towards the exchange that serves on the port, and whether all
 /// that was to be captured was. The capture is its file and its first second.
-pub fn run_connected<
+pub(crate) fn run_connected<
     'a,
     H: Clock + Eprint + Net<Listener = TcpListener, Stream = TcpStream>,
     W: Write + Drop,

@@ -167,7 +167,7 @@ pub const DAY_ZONE: Argument = Argument {
 };
 
 /// The argument as `clap` knows it.
-pub fn arg_of<'a>(alloc: Global, argument: &Argument) -> Result<Arg<'a>, AllocError> {
+pub(crate) fn arg_of<'a>(alloc: Global, argument: &Argument) -> Result<Arg<'a>, AllocError> {
     let arg = Arg::new(alloc, argument.name).help(argument.help);
     if let Form::Flag = argument.form {
         return Ok(arg.long(argument.name).action(ArgAction::SetTrue));

@@ -27,7 +27,7 @@ fn ends_of(item: &str) -> Option<(u8, u8)> {
 
 /// The numbers that a list names, in its order: `none`, or items separated by commas, each `n` or a range `a-b` of
 /// all numbers from a to b. Numbers have one or two digits. None where the text has another form.
-pub fn channel_numbers(alloc: Global, list: &str) -> Result<Option<Vec<u8>>, AllocError> {
+pub(crate) fn channel_numbers(alloc: Global, list: &str) -> Result<Option<Vec<u8>>, AllocError> {
     let mut numbers = Vec::new(alloc);
     if list == "none" {
         return Ok(Some(numbers));

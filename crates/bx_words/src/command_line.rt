@@ -115,7 +115,7 @@ fn program<'a>(alloc: Global) -> Result<Command<'a>, AllocError> {
 }
 
 /// The program with its commands.
-pub fn program_of_words<'a>(alloc: Global) -> Result<Command<'a>, AllocError> {
+pub(crate) fn program_of_words<'a>(alloc: Global) -> Result<Command<'a>, AllocError> {
     let mut all = program(alloc)?;
     for words in &COMMANDS {
         all = all.subcommand(command_of(alloc, words)?)?;
