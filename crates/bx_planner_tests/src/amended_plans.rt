@@ -1,10 +1,11 @@
 //! Plans that keep the promises of others.
 
 use crate::rows::{Row, bookings_of};
+use crate::worked_plans::are_prices;
 use bx_base::{Bookings, ChannelSet, Plan};
+use bx_numbers::Channel;
 use bx_planner::{AmendFail, amend, plan};
 use std::alloc::Global;
-use std::test::Fail;
 
 /// The rows of a day on channel 1, more rows, and what the plan for both accepts, pays, and charges.
 struct Amended {
@@ -53,17 +54,20 @@ fn plan_on_one(alloc: Global, bookings: &Bookings) -> Option<Plan> {
     plan(alloc, bookings, ChannelSet::from_numbers(&[1]).ok()?).ok()
 }
 
+/// Whether just these bookings have a channel.
+fn are_accepted(assigned: &[Option<Channel>], accepted: &[bool]) -> bool {
+    let mut same = assigned.len() == accepted.len();
+    for (channel, is_accepted) in assigned.iter().zip(accepted) {
+        same &= channel.is_some() == *is_accepted;
+    }
+    same
+}
+
 fn is_as(found: &Plan, expected: &Amended) -> bool {
-    let mut same = found.total == expected.total
-        && found.assigned.len() == expected.accepted.len()
-        && found.prices.len() == expected.prices.len();
-    for (channel, accepted) in found.assigned.iter().zip(expected.accepted) {
-        same &= channel.is_some() == *accepted;
-    }
-    for (price, (moment, amount)) in found.prices.iter().zip(expected.prices) {
-        same &= price.moment == *moment && price.amount == *amount;
-    }
-    same && found.carried()
+    found.total == expected.total
+        && are_accepted(&found.assigned, expected.accepted)
+        && are_prices(&found.prices, expected.prices)
+        && found.carried()
 }
 
 /// Whether the plan of the rows, amended by more, is the expected one.
@@ -93,14 +97,16 @@ fn amended_twice(alloc: Global) -> Option<Plan> {
     .ok()
 }
 
+/// Whether a plan that is amended twice keeps its promises.
+fn keeps_both(alloc: Global) -> Option<bool> {
+    let last = amended_twice(alloc)?;
+    let accepted = [true, false, true, true, false];
+    Some(last.total == 9 && are_accepted(&last.assigned, &accepted))
+}
+
 #[test]
-fn promises_are_kept_twice_over(rt: HostRuntime) -> Result<(), Fail> {
-    let last = amended_twice(rt.alloc()).ok_or("plans")?;
-    assert_eq!(rt; (last.total, last.assigned.len()), (9, 5));
-    for (channel, accepted) in last.assigned.iter().zip([true, false, true, true, false]) {
-        assert!(rt; channel.is_some() == accepted, "a promise");
-    }
-    Ok(())
+fn promises_are_kept_twice_over(rt: HostRuntime) {
+    assert!(rt; keeps_both(rt.alloc()) == Some(true), "promises");
 }
 
 /// The refusal of a plan of so many bookings, one after another, by one more that must be held from 5 to 15.
@@ -114,11 +120,20 @@ fn refused(alloc: Global, count: u16) -> Option<AmendFail> {
     amend(alloc, &first, &bookings_of(alloc, &[(5, 15, 100, true)])?).err()
 }
 
+/// So many bookings, and how the refusal of one more is printed.
+static REFUSALS: [(u16, &str); 2] = [(2, "K1 TooManyMust 5"), (4000, "K2 TooMany")];
+
+fn is_refused(alloc: Global, count: u16, printed: &str) -> Option<bool> {
+    let refusal = refused(alloc, count)?;
+    Some(refusal.to_string(alloc).ok()?.as_str() == printed)
+}
+
 #[test]
-fn refusals_of_an_amendment(rt: HostRuntime) -> Result<(), Fail> {
-    let crowded = refused(rt.alloc(), 2).ok_or("crowded")?;
-    assert_eq!(rt; crowded.to_string(rt.alloc())?.as_str(), "K1 TooManyMust 5");
-    let full = refused(rt.alloc(), 4000).ok_or("full")?;
-    assert_eq!(rt; full.to_string(rt.alloc())?.as_str(), "K2 TooMany");
-    Ok(())
+fn refusals_of_an_amendment(rt: HostRuntime) {
+    for (count, printed) in &REFUSALS {
+        assert!(rt;
+            is_refused(rt.alloc(), *count, printed) == Some(true),
+            "{printed}"
+        );
+    }
 }

@@ -85,7 +85,8 @@ fn plan_on(alloc: Global, bookings: &Bookings, numbers: &[u8]) -> Option<Plan> {
     plan(alloc, bookings, channels).ok()
 }
 
-fn are(found: &[Price], expected: &[(u32, u64)]) -> bool {
+/// Whether the prices are of just these moments and amounts.
+pub(crate) fn are_prices(found: &[Price], expected: &[(u32, u64)]) -> bool {
     let mut same = found.len() == expected.len();
     for (price, (moment, amount)) in found.iter().zip(expected) {
         same &= price.moment == *moment && price.amount == *amount;
@@ -110,7 +111,7 @@ fn is_planned(alloc: Global, day: &Day) -> Option<bool> {
     Some(
         is_proved
             && best.total == day.3
-            && are(&best.prices, day.4)
+            && are_prices(&best.prices, day.4)
             && are_given(&best.assigned, day.2),
     )
 }
