@@ -201,11 +201,10 @@ pub(crate) fn first_wrong(
 #[test]
 fn files_and_options(rt: HostRuntime) -> Result<(), Fail> {
     let folder = folder(&rt)?;
-    assert_eq!(rt; first_wrong(&rt, &folder, &PLANS)?, None);
-    assert_eq!(rt; first_wrong(&rt, &folder, &CHECKS)?, None);
-    assert_eq!(rt; first_wrong(&rt, &folder, &AMENDMENTS)?, None);
-    assert_eq!(rt; first_wrong(&rt, &folder, &DAYS)?, None);
-    assert_eq!(rt; first_wrong(&rt, &folder, &OPTIONS)?, None);
+    let tables: [&[Case]; 5] = [&PLANS, &CHECKS, &AMENDMENTS, &DAYS, &OPTIONS];
+    for cases in tables {
+        assert_eq!(rt; first_wrong(&rt, &folder, cases)?, None);
+    }
     fs::remove_dir_all(&rt, folder.as_str())?;
     Ok(())
 }

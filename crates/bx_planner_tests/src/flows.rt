@@ -6,7 +6,6 @@ use bx_flow::least_cost;
 use bx_line::Line;
 use bx_rounds::Rounds;
 use std::alloc::Global;
-use std::test::Fail;
 
 static FREE: [Row; 3] = [(0, 10, 4, false), (5, 15, 6, false), (10, 20, 4, false)];
 
@@ -54,10 +53,14 @@ fn no_unit_and_more(rt: HostRuntime) {
     }
 }
 
+/// Whether the flow along the line of no booking is of no unit.
+fn sends_nothing(alloc: Global) -> Option<bool> {
+    let line = Line::of(alloc, &bookings_of(alloc, &[])?).ok()?;
+    let (carried, potentials) = least_cost(alloc, &line, 30, &Rounds).ok()?;
+    Some(carried.units() == 0 && potentials.at(0) == 0)
+}
+
 #[test]
-fn no_moments(rt: HostRuntime) -> Result<(), Fail> {
-    let line = Line::of(rt.alloc(), &bookings_of(rt.alloc(), &[]).ok_or("rows")?)?;
-    let (carried, potentials) = least_cost(rt.alloc(), &line, 30, &Rounds)?;
-    assert_eq!(rt; (carried.units(), potentials.at(0)), (0, 0));
-    Ok(())
+fn no_moments(rt: HostRuntime) {
+    assert!(rt; sends_nothing(rt.alloc()) == Some(true), "a unit");
 }

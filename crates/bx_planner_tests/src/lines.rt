@@ -2,7 +2,7 @@
 
 use crate::rows::{Row, bookings_of};
 use bx_line::{Arc, Line};
-use std::test::Fail;
+use std::alloc::Global;
 
 static CHAIN: [Row; 3] = [(0, 10, 4, false), (5, 15, 6, true), (10, 20, 4, false)];
 
@@ -43,13 +43,15 @@ fn has_moments(line: &Line, moments: &[u32]) -> bool {
     line.moments() == moments && line.places() as usize == moments.len()
 }
 
+/// Whether the line of these rows has just these moments and arcs.
+fn is_line(alloc: Global, rows: &[Row], moments: &[u32], arcs: &[Arc]) -> Option<bool> {
+    let line = Line::of(alloc, &bookings_of(alloc, rows)?).ok()?;
+    Some(has_moments(&line, moments) && has_arcs(&line, arcs))
+}
+
 #[test]
-fn three_bookings_in_a_chain_and_none(rt: HostRuntime) -> Result<(), Fail> {
-    let chain = Line::of(rt.alloc(), &bookings_of(rt.alloc(), &CHAIN).ok_or("rows")?)?;
-    assert!(rt; has_moments(&chain, &MOMENTS), "moments");
-    assert!(rt; has_arcs(&chain, &ARCS), "arcs");
-    let empty = Line::of(rt.alloc(), &bookings_of(rt.alloc(), &[]).ok_or("rows")?)?;
-    assert!(rt; has_moments(&empty, &[]), "no moments");
-    assert!(rt; has_arcs(&empty, &[]), "no arcs");
-    Ok(())
+fn three_bookings_in_a_chain_and_none(rt: HostRuntime) {
+    let chain = is_line(rt.alloc(), &CHAIN, &MOMENTS, &ARCS);
+    assert!(rt; chain == Some(true), "chain");
+    assert!(rt; is_line(rt.alloc(), &[], &[], &[]) == Some(true), "none");
 }

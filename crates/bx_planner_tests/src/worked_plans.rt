@@ -6,7 +6,6 @@ use bx_check::check;
 use bx_numbers::Channel;
 use bx_planner::{PlanFail, plan};
 use std::alloc::Global;
-use std::test::Fail;
 
 /// The channels and bookings of a day, the channels of its best plan (0: refused), what it pays, and the prices (moments and
 /// amounts) that prove it.
@@ -123,16 +122,18 @@ fn totals_and_prices(rt: HostRuntime) {
     }
 }
 
+/// Whether the day of too many is refused, and the refusal printed.
+fn is_crowded(alloc: Global) -> Option<bool> {
+    let bookings = bookings_of(alloc, &TOO_MANY)?;
+    let channels = ChannelSet::from_numbers(&[1]).ok()?;
+    let fail = plan(alloc, &bookings, channels).err()?;
+    let printed = fail.to_string(alloc).ok()?;
+    Some(fail == PlanFail::TooManyMust(5) && printed.as_str() == "K1 TooManyMust 5")
+}
+
 #[test]
-fn too_many_that_must_be_held(rt: HostRuntime) -> Result<(), Fail> {
-    let bookings = bookings_of(rt.alloc(), &TOO_MANY).ok_or("rows")?;
-    let channels = ChannelSet::from_numbers(&[1])?;
-    let Err(fail) = plan(rt.alloc(), &bookings, channels) else {
-        return Err(Fail::from("a plan"));
-    };
-    assert!(rt; fail == PlanFail::TooManyMust(5), "the fault");
-    assert_eq!(rt; fail.to_string(rt.alloc())?.as_str(), "K1 TooManyMust 5");
-    Ok(())
+fn too_many_that_must_be_held(rt: HostRuntime) {
+    assert!(rt; is_crowded(rt.alloc()) == Some(true), "the fault");
 }
 
 /// Four thousand bookings, one after another.
@@ -175,14 +176,20 @@ fn are_chained(found: &[Price]) -> bool {
     same
 }
 
+/// Whether all of the bookings one after another are accepted, without a price.
+fn earns_all(alloc: Global) -> Option<bool> {
+    let best = plan_on(alloc, &one_after_another(alloc)?, &[1])?;
+    Some(best.total == 4_000_000_000_000 && best.prices.is_empty())
+}
+
+/// Whether each of the chains is planned as the chain of three is.
+fn earns_of_each(alloc: Global) -> Option<bool> {
+    let best = plan_on(alloc, &many_chains(alloc)?, &[1])?;
+    Some(best.total == 10_664 && are_chained(&best.prices))
+}
+
 #[test]
-fn largest_days(rt: HostRuntime) -> Result<(), Fail> {
-    let row = one_after_another(rt.alloc()).ok_or("rows")?;
-    let best = plan_on(rt.alloc(), &row, &[1]).ok_or("plan")?;
-    assert_eq!(rt; (best.total, best.prices.len()), (4_000_000_000_000, 0));
-    let chains = many_chains(rt.alloc()).ok_or("chains")?;
-    let best = plan_on(rt.alloc(), &chains, &[1]).ok_or("plan of chains")?;
-    assert_eq!(rt; best.total, 10_664);
-    assert!(rt; are_chained(&best.prices), "prices");
-    Ok(())
+fn largest_days(rt: HostRuntime) {
+    assert!(rt; earns_all(rt.alloc()) == Some(true), "one after another");
+    assert!(rt; earns_of_each(rt.alloc()) == Some(true), "chains");
 }
