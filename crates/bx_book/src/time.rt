@@ -9,7 +9,7 @@ use jiff::civil::{Date, date};
 
 /// The instant that a text names: the second in which it lies, counted from 1970-01-01T00:00:00Z, and whether it
 /// is just that second.
-#[derive(Clone, Copy, Debug, PartialEq, Eq)]
+#[derive(Clone, Copy)]
 pub struct Instant {
     pub second: i64,
     pub is_whole: bool,

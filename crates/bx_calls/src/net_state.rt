@@ -3,7 +3,7 @@
 use bx_numbers::Number;
 
 /// Which side began a call of the network side: this one, with the number that it calls, or the user.
-#[derive(Clone, Copy, Debug, PartialEq, Eq)]
+#[derive(Clone, Copy)]
 pub enum NetOrigin {
     Outward { called: Number },
     Inward,
@@ -11,7 +11,7 @@ pub enum NetOrigin {
 
 /// The states of the network side (ITU-T Q.931, 2.1.2). A state with a timer has the moment at which it is
 /// due; `again` says that the message that is waited for was asked for twice.
-#[derive(Clone, Copy, Debug, PartialEq, Eq)]
+#[derive(Clone, Copy)]
 pub enum NetState {
     /// N3, of a call that the user began.
     OutgoingCallProceeding,

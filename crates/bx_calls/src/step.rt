@@ -6,7 +6,7 @@ ghost use Rattle.bx_calls.specs.Steps.{goes_on, ends, breaks};
 use bx_q931::Out;
 
 /// Where a call is after a step.
-#[derive(Drop, Debug)]
+#[derive(Drop)]
 pub enum Next<T> {
     /// It goes on so.
     Live(T),
@@ -17,7 +17,7 @@ pub enum Next<T> {
 }
 
 /// A step: the call after it, and what is sent.
-#[derive(Drop, Debug)]
+#[derive(Drop)]
 pub struct Step<T> {
     pub next: Next<T>,
     pub reply: Option<Out>,

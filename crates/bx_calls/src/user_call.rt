@@ -18,7 +18,7 @@ use bx_q931::{Kind, Out};
 use std::marker::Model;
 
 /// A call at the user side: its reference, its channel, which side began it, and its state.
-#[derive(Clone, Copy, Debug)]
+#[derive(Clone, Copy)]
 pub struct UserCall {
     pub(crate) reference: u16,
     pub(crate) channel: Channel,

@@ -21,7 +21,7 @@ pub enum Policy {
 
 /// Which side began a call of the user side: the network, with the user's policy and the moment of the
 /// SETUP, or this one, with the number that it calls.
-#[derive(Clone, Copy, Debug, PartialEq, Eq)]
+#[derive(Clone, Copy)]
 pub enum UserOrigin {
     Offered { policy: Policy, at: u32 },
     Calling { called: Number },
@@ -29,7 +29,7 @@ pub enum UserOrigin {
 
 /// The states of the user side (ITU-T Q.931, 2.1.1). A state with a timer has the moment at which it is
 /// due; `again` says that the message that is waited for was asked for twice.
-#[derive(Clone, Copy, Debug, PartialEq, Eq)]
+#[derive(Clone, Copy)]
 pub enum UserState {
     /// U1, T303: SETUP was sent, once or twice.
     CallInitiated {

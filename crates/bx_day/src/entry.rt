@@ -5,7 +5,7 @@ use bx_calls::NetCall;
 use bx_q931::Out;
 
 /// The moments at which a call became and left Active.
-#[derive(Clone, Copy, Debug)]
+#[derive(Clone, Copy)]
 pub enum Activity {
     Never,
     Since { from: u32 },
@@ -13,7 +13,7 @@ pub enum Activity {
 }
 
 /// What has become of a booking.
-#[derive(Clone, Copy, Debug)]
+#[derive(Clone, Copy)]
 pub enum Standing {
     /// The plan does not accept it.
     Refused,
@@ -30,7 +30,7 @@ pub enum Standing {
 }
 
 /// A booking with its row and its channel, and what has become of it.
-#[derive(Clone, Copy, Debug)]
+#[derive(Clone, Copy)]
 pub struct Entry {
     pub row: u16,
     pub booking: Booking,
@@ -39,7 +39,7 @@ pub struct Entry {
 }
 
 /// What an event does to one booking: what has become of it, what is sent, and whether its channel breaks.
-#[derive(Clone, Copy, Debug)]
+#[derive(Clone, Copy)]
 pub struct Moved {
     pub standing: Standing,
     pub said: Option<Out>,

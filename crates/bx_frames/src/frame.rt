@@ -13,7 +13,7 @@ pub enum Side {
 }
 
 /// The kinds of frames.
-#[derive(Clone, Copy, Debug, PartialEq, Eq)]
+#[derive(Clone, Copy, PartialEq, Eq)]
 pub enum FrameKind {
     /// Kind 1: one message.
     Message,
@@ -24,7 +24,7 @@ pub enum FrameKind {
 }
 
 /// What a frame carries.
-#[derive(Debug, Drop)]
+#[derive(Drop)]
 pub enum Frame {
     Message(Octets),
     EndOfTurn(u32),

@@ -10,7 +10,7 @@ use bx_devices::Watched;
 use std::io::Read;
 
 /// A read failed.
-#[derive(Clone, Copy, Debug, PartialEq, Eq)]
+#[derive(Clone, Copy)]
 pub struct ReadFailed;
 
 /// Reads until the buffer is full or the input ends, in as many reads as it takes. Answers how many octets

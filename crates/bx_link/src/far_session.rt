@@ -14,7 +14,7 @@ use std::io::{Read, Write};
 
 /// A session of the far end. After a fault, and after the end of the day, it is closed, and neither reads nor
 /// writes.
-#[derive(Debug, Drop, PartialEq, Eq)]
+#[derive(Drop)]
 pub struct FarSession {
     is_open: bool,
 }

@@ -13,7 +13,7 @@ use bx_turns::{End, hear_turn, write_tick};
 use std::io::{Read, Write};
 
 /// Where a session stands.
-#[derive(Clone, Copy, Debug, PartialEq, Eq)]
+#[derive(Clone, Copy)]
 enum Stage {
     BetweenTurns,
     InTurn,
@@ -22,7 +22,7 @@ enum Stage {
 
 /// A session of the exchange. Its turns are opened and closed one after another; after a fault it is closed,
 /// and neither reads nor writes.
-#[derive(Debug, Drop, PartialEq, Eq)]
+#[derive(Drop)]
 pub struct Session {
     stage: Stage,
 }

@@ -19,7 +19,7 @@ pub struct Element<'a> {
 }
 
 /// The elements that are left, in order; shifts are not among them.
-#[derive(Debug, Drop)]
+#[derive(Drop)]
 pub struct Elements<'a> {
     rest: &'a [u8],
     locked: u8,

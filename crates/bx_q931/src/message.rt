@@ -28,7 +28,7 @@ pub const CALLED_PARTY_NUMBER: u8 = 0x70;
 pub const SENDING_COMPLETE: u8 = 0xA1;
 
 /// A message, in the octets that it was read from.
-#[derive(Debug, Drop)]
+#[derive(Drop)]
 pub struct Message<'a> {
     reference: Reference,
     kind: Kind,

@@ -9,7 +9,7 @@ use bx_numbers::{Channel, Number};
 use std::marker::Model;
 
 /// A message to be sent: its reference and flag, its type, and the elements that were set.
-#[derive(Clone, Copy, Debug)]
+#[derive(Clone, Copy)]
 pub struct Out {
     pub(crate) reference: u16,
     pub(crate) flag: bool,

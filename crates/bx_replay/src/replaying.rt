@@ -15,7 +15,7 @@ use bx_q931::Octets;
 use std::alloc::{AllocError, Global};
 
 /// An event of a day: a second that goes by, or octets that come.
-#[derive(Clone, Copy, Debug)]
+#[derive(Clone, Copy)]
 pub enum Event<'a> {
     Tick,
     Receive(&'a [u8]),
