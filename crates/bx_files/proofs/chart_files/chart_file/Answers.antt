@@ -9,7 +9,7 @@ returns-in-Ok-write_chart-clause-drawn g c = record {
   proved = c.in-Ok-proved_in.ensures.proved.1;
   clock = c.in-Ok.clock;
   clock_of = c.in-Ok.ensures.clock;
-  drawn = search rules;
+  drawn = search rules steps 1000000;
 }
 
 pub returns-clause-refused : goal.returns-clause-refused
@@ -19,5 +19,5 @@ returns-clause-refused g c = record {
   proved = c.in-Ok-proved_in.ensures.proved.1;
   clock = c.in-Ok.clock;
   clock_of = c.in-Ok.ensures.clock;
-  refused = search rules;
+  refused = search rules steps 1000000;
 }

@@ -7,7 +7,7 @@ returns-in-Ok-done-clause-explained g c = record {
   plan = parts_of c.in-Ok.plan;
   total = c.in-Ok.ensures.proved.0;
   proved = c.in-Ok.ensures.proved.1;
-  told = search rules;
+  told = search rules steps 1000000;
 }
 
 pub returns-clause-refused : goal.returns-clause-refused
@@ -15,5 +15,5 @@ returns-clause-refused g c = record {
   plan = parts_of c.in-Ok.plan;
   total = c.in-Ok.ensures.proved.0;
   proved = c.in-Ok.ensures.proved.1;
-  untold = search rules;
+  untold = search rules steps 1000000;
 }

@@ -8,7 +8,7 @@ returns-in-Ok-write_quote-clause-quoted g c = record {
   total = c.in-Ok-proved_in.ensures.proved.0;
   proved = c.in-Ok-proved_in.ensures.proved.1;
   booking = c.in-Ok.booking;
-  told = search rules;
+  told = search rules steps 1000000;
 }
 
 pub returns-clause-refused : goal.returns-clause-refused
@@ -17,5 +17,5 @@ returns-clause-refused g c = record {
   total = c.in-Ok-proved_in.ensures.proved.0;
   proved = c.in-Ok-proved_in.ensures.proved.1;
   booking = c.in-Ok.booking;
-  refused = search rules;
+  refused = search rules steps 1000000;
 }

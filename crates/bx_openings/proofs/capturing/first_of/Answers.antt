@@ -8,8 +8,8 @@ use Rattle.bx_openings.proofs.capturing.first_of.Goals as goal
 pub returns-in-Ok-first_second-clause-first : goal.returns-in-Ok-first_second-clause-first
 returns-in-Ok-first_second-clause-first c =
     subst (λ (k : Option CaptureWords). IsFirstOf k c.in-Ok-first_second.first) (sym c.in-Some.is)
-    (at_some c.in-Some.field-0.day (c.in-Some-day.date, c.in-Some-day.zone) _ _ (search rules) (c.in-Ok.day, c.in-Ok.ensures.day, c.in-Ok-first_second.ensures.first.0))
+    (at_some c.in-Some.field-0.day (c.in-Some-day.date, c.in-Some-day.zone) _ _ (search rules steps 1000000) (c.in-Ok.day, c.in-Ok.ensures.day, c.in-Ok-first_second.ensures.first.0))
 
 pub returns-in-Err-first_second-clause-refused : goal.returns-in-Err-first_second-clause-refused
 returns-in-Err-first_second-clause-refused c =
-    subst IsUnnameable (sym c.in-Some.is) (at_some c.in-Some.field-0.day (c.in-Some-day.date, c.in-Some-day.zone) _ _ (search rules) (c.in-Ok.day, c.in-Ok.ensures.day, c.in-Err-first_second.ensures.refused refl))
+    subst IsUnnameable (sym c.in-Some.is) (at_some c.in-Some.field-0.day (c.in-Some-day.date, c.in-Some-day.zone) _ _ (search rules steps 1000000) (c.in-Ok.day, c.in-Ok.ensures.day, c.in-Err-first_second.ensures.refused refl))

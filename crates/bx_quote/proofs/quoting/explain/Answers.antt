@@ -19,7 +19,7 @@ returns-in-Some-no_channel-clause-no_channel c =
     let here = c.in-Some.ensures.value in
     λ t. (
       λ e. let same : c.in-Some-no_channel.moment ≡ t = cc in (
-        record { row_of = c.in-Some.ensures.exactly.0 (search rules); left_out = search rules },
+        record { row_of = c.in-Some.ensures.exactly.0 (search rules steps 1000000); left_out = search rules steps 1000000 },
         subst (λ (row : Row). IsNoChannel plan.bookings plan.channels row t) here ((c.in-Some-no_channel.ensures t).0 (ap (λ (x : ℕ). Some x) same)),
       ),
       λ h. let found = (c.in-Some-no_channel.ensures t).1 (subst (λ (row : Row). IsNoChannel plan.bookings plan.channels row t) (sym here) h.1) in let same : c.in-Some-no_channel.moment ≡ t = cc in rw same refl,
@@ -30,8 +30,8 @@ returns-in-Some-no_channel-clause-fail c =
     let plan = parts_of c.args.plan.now in
     let moment = c.in-Some-no_channel.moment in
     let i = c.args.row - 1 in
-    let row_of = c.in-Some.ensures.exactly.0 (search rules) in
-    let out : is_accepted plan.assigned i ≡ false = search rules in
+    let row_of = c.in-Some.ensures.exactly.0 (search rules steps 1000000) in
+    let out : is_accepted plan.assigned i ≡ false = search rules steps 1000000 in
     let inside : i < length plan.rows = omega (arith, row_of.0, row_of.1) in
     let found = subst (λ (row : Row). IsNoChannel plan.rows plan.channels row moment) c.in-Some.ensures.value ((c.in-Some-no_channel.ensures moment).0 refl) in (
       record { row_of = row_of; left_out = out },

@@ -24,7 +24,7 @@ returns-in-Some-clause-fail c =
     let plan = parts_of c.args.plan.now in
     let booking = c.args.booking.now in
     let found = (c.in-Some.ensures c.in-Some.moment).0 refl in
-    let settled = settle_asked plan booking c.requires.proved (search rules) in
+    let settled = settle_asked plan booking c.requires.proved (search rules steps 1000000) in
     let last = row_last plan.rows (record booking { must = false }) in
     let full = found.full in (
       found,

@@ -22,7 +22,7 @@ weighed-requires-clause-settled c =
     let booking = c.args.booking.now in
     let all = put_behind plan.rows c.in_ok-rows.rows c.push.new.self c.as_must.result booking c.in_ok-rows.ensures c.in-Ok.ensures.ok c.as_must.ensures in
     let same = same_asked plan.rows c.push.new.self booking c.len.result all c.len.ensures.count in
-    let settled = settle_asked plan booking c.requires.proved (search rules) in
+    let settled = settle_asked plan booking c.requires.proved (search rules steps 1000000) in
     subst (λ (k : ℕ). IsSettled plan (freed c.push.new.self c.len.result) k) (sym c.len.ensures.count) (subst (λ (rows : List Row). IsSettled plan rows (length plan.rows)) (sym same) settled)
 
 pub weighed-requires-clause-marked : goal.weighed-requires-clause-marked
@@ -38,7 +38,7 @@ weighed-requires-clause-room c =
     let plan = parts_of c.args.plan.now in
     let booking = c.args.booking.now in
     let all = put_behind plan.rows c.in_ok-rows.rows c.push.new.self c.as_must.result booking c.in_ok-rows.ensures c.in-Ok.ensures.ok c.as_must.ensures in
-    let settled = settle_asked plan booking c.requires.proved (search rules) in
+    let settled = settle_asked plan booking c.requires.proved (search rules steps 1000000) in
     let last = row_last plan.rows (record booking { must = false }) in
     λ t too. none_crowded (asked plan.rows booking) (length plan.rows) settled.inside settled.free plan.channels (is_accepted plan.assigned) settled.lawful (λ s r. (
     let few = has_room plan.rows plan.channels booking c.requires.room (s + 1) s (omega arith) (ap (λ (row : Row). is_running row s) (sym last) ∙ r) in

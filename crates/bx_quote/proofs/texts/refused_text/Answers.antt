@@ -13,14 +13,14 @@ loop-index-preserved c =
     let old = c.loop-index.invariant in
     elim c.if-is_none.branch [
       | then-is_none+in_ok-add_refused w ↦ (
-          let out : is_accepted plan.assigned n ≡ false = search rules in
+          let out : is_accepted plan.assigned n ≡ false = search rules steps 1000000 in
           record {
             lines = rw w.text-is (lines_more plan n c.loop-index.text.items w.add_refused.new.text.items out old.lines w.in_ok-add_refused.ensures);
             count = rw w.refused-is (count_more plan n c.loop-index.refused out old.count);
             few = rw w.refused-is (omega (arith, old.few));
           })
       | else-is_none w ↦ (
-          let inside : n < length plan.assigned = search rules in
+          let inside : n < length plan.assigned = search rules steps 1000000 in
           let there = c.index.ensures ∙ get_or_default plan.assigned n c.index.result.now None inside in
           let taken : is_accepted plan.assigned n ≡ true = ap (λ (o : Option ℕ). is_some o) (sym there) ∙ (c.is_none.ensures ∙ ap not w.if-is_none.false) in
           let same = rows_same plan n taken in

@@ -7,14 +7,14 @@ use Rattle.bx_text.proofs.rows.read_rows.Goals as goal
 pub returns-then-not-found-clause-ok : goal.returns-then-not-found-clause-ok
 returns-then-not-found-clause-ok g c = λ text start.
     let form = g.F.RowForm.form c.args.form.now in
-    let ended : c.in-Ok.found ≡ false = search rules in
+    let ended : c.in-Ok.found ≡ false = search rules steps 1000000 in
     let read = rw ended at c.in-Ok.ensures.ok.1 in
     front_end form g.R.Read.remaining c.loop-number.records c.read_next.new.records (fields_of c.read_next.new.fields) text c.loop-number.invariant.reading.config c.args.columns (g.F.RowForm.rows c.loop-number.list) (c.loop-number.invariant.front text start) read
 
 pub returns-in-Err-clause-err : goal.returns-in-Err-clause-err
 returns-in-Err-clause-err g c = λ text start.
     let form = g.F.RowForm.form c.args.form.now in
-    let found : c.in-Ok.found ≡ true = search rules in
+    let found : c.in-Ok.found ≡ true = search rules steps 1000000 in
     let read = rw found at c.in-Ok.ensures.ok.1 in
     let rows = g.F.RowForm.rows c.loop-number.list in
     let next = front_record form g.R.Read.remaining c.loop-number.records c.read_next.new.records (fields_of c.read_next.new.fields) text c.loop-number.invariant.reading.config c.args.columns rows (c.loop-number.invariant.front text start) read in
@@ -25,10 +25,10 @@ returns-in-Err-clause-err g c = λ text start.
 pub loop-number-preserved : goal.loop-number-preserved
 loop-number-preserved g c =
     let form = g.F.RowForm.form c.args.form.now in
-    let found : c.in-Ok.found ≡ true = search rules in
+    let found : c.in-Ok.found ≡ true = search rules steps 1000000 in
     let read = rw found at c.in-Ok.ensures.ok.1 in
     let rows = g.F.RowForm.rows c.loop-number.list in
-    let kept : g.F.RowForm.rows c.keep.new.list ≡ rows ++ c.in-Ok-read_row.row ∷ [] = search rules in
+    let kept : g.F.RowForm.rows c.keep.new.list ≡ rows ++ c.in-Ok-read_row.row ∷ [] = search rules steps 1000000 in
     record {
       reading = c.in-Ok.ensures.ok.0;
       front = λ text start. subst (Front form g.R.Read.remaining c.read_next.new.records text c.args.columns) (sym kept)
@@ -40,7 +40,7 @@ pub returns-in-Ok-true-clause-err : goal.returns-in-Ok-true-clause-err
 returns-in-Ok-true-clause-err g c = λ text start.
     let form = g.F.RowForm.form c.args.form.now in
     let rows = g.F.RowForm.rows c.loop-number.list in
-    let found : c.in-Ok-true.field-0 ≡ true = search rules in
+    let found : c.in-Ok-true.field-0 ≡ true = search rules steps 1000000 in
     let read = rw found at c.in-Ok-true.ensures.ok.1 in
     let count = c.loop-number.invariant.count in
     (c.args.columns, rows, fields_of c.read_next-2.new.fields, front_record form g.R.Read.remaining c.loop-number.records c.read_next-2.new.records (fields_of c.read_next-2.new.fields) text c.loop-number.invariant.reading.config c.args.columns rows (c.loop-number.invariant.front text start) read, omega (arith, count, c.loop-number-test.false))
@@ -48,6 +48,6 @@ returns-in-Ok-true-clause-err g c = λ text start.
 pub returns-in-Ok-false-clause-ok : goal.returns-in-Ok-false-clause-ok
 returns-in-Ok-false-clause-ok g c = λ text start.
     let form = g.F.RowForm.form c.args.form.now in
-    let ended : c.in-Ok-false.field-0 ≡ false = search rules in
+    let ended : c.in-Ok-false.field-0 ≡ false = search rules steps 1000000 in
     let read = rw ended at c.in-Ok-false.ensures.ok.1 in
     front_end form g.R.Read.remaining c.loop-number.records c.read_next-2.new.records (fields_of c.read_next-2.new.fields) text c.loop-number.invariant.reading.config c.args.columns (g.F.RowForm.rows c.loop-number.list) (c.loop-number.invariant.front text start) read
