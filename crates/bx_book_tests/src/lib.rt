@@ -1,4 +1,4 @@
-//! Tests of days of a time zone, and of bookings read from texts and readers.
+//! Tests of days of a time zone, of bookings read from texts and readers, and of pictures.
 #![tactic(auto)]
 
 #[cfg(test)]
@@ -8,7 +8,13 @@ mod days_of_zones;
 #[cfg(test)]
 mod failing_readers;
 #[cfg(test)]
+mod hour_names;
+#[cfg(test)]
+mod pictures;
+#[cfg(test)]
 mod printed_faults;
+#[cfg(test)]
+mod small_picture;
 #[cfg(test)]
 mod text_faults;
 #[cfg(test)]

@@ -1,6 +1,8 @@
-//! Tests of the day as the exchange and as the far end run it, over octets.
+//! Tests of both days, of replays, of both ends that hear of each other by messages alone, and of octets that no peer would send.
 #![tactic(auto)]
 
+#[cfg(test)]
+mod agreement;
 #[cfg(test)]
 mod booked_days;
 #[cfg(test)]
@@ -10,9 +12,25 @@ mod days_of_ticks;
 #[cfg(test)]
 mod drawn_days;
 #[cfg(test)]
+mod drawn_lists;
+#[cfg(test)]
 mod far_days;
 #[cfg(test)]
 mod far_octets;
+#[cfg(test)]
+mod hostile_days;
+#[cfg(test)]
+mod hostile_exchange;
+#[cfg(test)]
+mod hostile_exchange_days;
+#[cfg(test)]
+mod hostile_far_days;
+#[cfg(test)]
+mod hostile_far_end;
+#[cfg(test)]
+mod hostile_messages;
+#[cfg(test)]
+mod hostile_octets;
 #[cfg(test)]
 mod one_booking;
 #[cfg(test)]
@@ -28,8 +46,18 @@ mod script_faults;
 #[cfg(test)]
 mod script_policies;
 #[cfg(test)]
+mod second_reading;
+#[cfg(test)]
+mod second_replies;
+#[cfg(test)]
+mod second_tables;
+#[cfg(test)]
 mod steps;
 #[cfg(test)]
 mod stray_octets;
 #[cfg(test)]
+mod two_ends;
+#[cfg(test)]
 mod worked_days;
+#[cfg(test)]
+mod worked_lists;

@@ -1,8 +1,14 @@
-//! Tests of the link: turns over memory, each fault at each place, and both ends together.
+//! Tests of frames, turns and sessions of both ends, and of captures of what they carry.
 #![tactic(auto)]
 
 #[cfg(test)]
 mod both_ends;
+#[cfg(test)]
+mod capture_starts;
+#[cfg(test)]
+mod captured_days;
+#[cfg(test)]
+mod captured_octets;
 #[cfg(test)]
 mod closed_sessions;
 #[cfg(test)]

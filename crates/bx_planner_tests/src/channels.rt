@@ -26,7 +26,7 @@ static CHOICES: [Choice; 4] = [
 ];
 
 /// Whether the given channels are these numbers (0: none).
-fn are(given: &[Option<Channel>], numbers: &[u8]) -> bool {
+pub(crate) fn are_given(given: &[Option<Channel>], numbers: &[u8]) -> bool {
     let mut same = given.len() == numbers.len();
     for (channel, number) in given.iter().zip(numbers) {
         same &= *channel == Channel::new(*number);
@@ -39,7 +39,7 @@ fn is_coloured(alloc: Global, bookings: &Bookings, choice: &Choice) -> Option<bo
     let channels = ChannelSet::from_numbers(&[17, 15]).ok()?;
     if fits(bookings, choice.0, channels) {
         let given = colour(alloc, bookings, choice.0, channels).ok()?;
-        return Some(are(&given, &choice.1?));
+        return Some(are_given(&given, &choice.1?));
     }
     Some(choice.1.is_none())
 }

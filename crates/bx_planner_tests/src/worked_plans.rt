@@ -1,9 +1,9 @@
 //! Plans of days with their totals and prices, the two largest among them, and a day that has no plan.
 
+use crate::channels::are_given;
 use crate::rows::{Row, bookings_of};
 use bx_base::{Bookings, ChannelSet, Plan, Price};
 use bx_check::check;
-use bx_numbers::Channel;
 use bx_planner::{PlanFail, plan};
 use std::alloc::Global;
 
@@ -89,15 +89,6 @@ pub(crate) fn are_prices(found: &[Price], expected: &[(u32, u64)]) -> bool {
     let mut same = found.len() == expected.len();
     for (price, (moment, amount)) in found.iter().zip(expected) {
         same &= price.moment == *moment && price.amount == *amount;
-    }
-    same
-}
-
-/// Whether the bookings have just these channels (0: none).
-fn are_given(assigned: &[Option<Channel>], numbers: &[u8]) -> bool {
-    let mut same = assigned.len() == numbers.len();
-    for (channel, number) in assigned.iter().zip(numbers) {
-        same &= *channel == Channel::new(*number);
     }
     same
 }

@@ -1,6 +1,7 @@
 //! Quotes of worked days.
 
-use crate::rows::{Row, booking_of, plan_of};
+use crate::proved_plans::plan_of;
+use crate::rows::{Row, booking_of};
 use bx_quote::{Quote, QuoteFail, explain, quote};
 use std::alloc::Global;
 

@@ -1,6 +1,6 @@
 //! The codec on hostile octets.
 
-use crate::hostile::{Subject, first_wrong};
+use crate::hostile_octets::{Subject, first_wrong};
 use crate::second_reading::{Heard, Naming, read_again};
 use bx_numbers::Number;
 use bx_q931::{ChannelField, Message, Reference, read};

@@ -1,7 +1,8 @@
 //! Whether two channels carry a plan of two bookings.
 
-use bx_base::{Booking, Bookings, ChannelSet, Plan};
-use bx_numbers::{Channel, Number};
+use crate::rows::bookings_of;
+use bx_base::{ChannelSet, Plan};
+use bx_numbers::Channel;
 use std::alloc::Global;
 
 /// The ends of two bookings, their channels (0: none), and whether channels 1 and 2 carry them.
@@ -13,17 +14,6 @@ static PLANS: [((u32, u32), [u8; 2], bool); 5] = [
     ((10, 20), [1, 3], false),
 ];
 
-fn booking(start: u32, end: u32, pay: u64, number: &[u8]) -> Option<Booking> {
-    Booking::new(start, end, pay, Number::new(number)?)
-}
-
-fn pair_of(alloc: Global, ends: (u32, u32)) -> Option<Bookings> {
-    let mut bookings = Bookings::new(alloc);
-    bookings.push(booking(0, ends.0, 5, b"1")?).ok()?;
-    bookings.push(booking(10, ends.1, 5, b"1")?).ok()?;
-    Some(bookings)
-}
-
 /// Whether the plan of two bookings with these ends and channels is carried.
 fn is_carried(alloc: Global, ends: (u32, u32), numbers: [u8; 2]) -> Option<bool> {
     let mut assigned = Vec::new(alloc);
@@ -32,7 +22,7 @@ fn is_carried(alloc: Global, ends: (u32, u32), numbers: [u8; 2]) -> Option<bool>
     }
     let channels = ChannelSet::from_numbers(&[1, 2]).ok()?;
     let plan = Plan::new(
-        pair_of(alloc, ends)?,
+        bookings_of(alloc, &[(0, ends.0, 5, false), (10, ends.1, 5, false)])?,
         channels,
         assigned,
         Vec::new(alloc),

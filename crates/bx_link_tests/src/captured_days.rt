@@ -1,6 +1,6 @@
 //! A day of one turn that is captured, at each of its ends, into files that fail at each place.
 
-use crate::octets::packet;
+use crate::captured_octets::packet;
 use bx_calls::CallState;
 use bx_capture::{Captured, Direction};
 use bx_devices::{Failing, Watched};

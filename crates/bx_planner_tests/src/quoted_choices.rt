@@ -1,7 +1,10 @@
 //! Quotes and explanations against a search through all choices of six bookings.
 
-use crate::rows::{Row, booking_of, plan_of};
-use crate::sets::{best_sets, first_full, is_in, is_lawful, most_beside, pay_beside, power_of};
+use crate::proved_plans::plan_of;
+use crate::rows::{Row, booking_of};
+use crate::sets::{
+    best_sets, first_full, is_in, is_lawful, most_beside, pay_beside, power_of, six_rows,
+};
 use bx_base::Price;
 use bx_numbers::Channel;
 use bx_quote::{Quote, QuoteFail, explain, quote};
@@ -15,27 +18,6 @@ struct Asked<'a> {
     rows: &'a [Row],
     count: usize,
     index: usize,
-}
-
-/// The next number of a simple generator.
-fn next(seed: u32) -> u32 {
-    seed.wrapping_mul(1_103_515_245).wrapping_add(12_345) % 2_147_483_648
-}
-
-/// Six rows within twelve seconds, of few different pays, so that there are ties.
-fn random_rows(mut seed: u32) -> [Row; 6] {
-    let mut rows = [(0, 1, 1, false); 6];
-    for row in rows.iter_mut() {
-        let a = next(seed);
-        let b = next(a);
-        let c = next(b);
-        seed = c;
-        let start = (a / 65536) % 8;
-        let length = 1 + (b / 65536) % 4;
-        let pay = 1 + u64::from((c / 65536) % 5);
-        *row = (start, start + length, pay, (c / 1024) % 7 == 0);
-    }
-    rows
 }
 
 /// What the seconds of the row cost.
@@ -183,7 +165,7 @@ fn is_quoted(alloc: Global, rows: &[Row; 6], count: usize) -> bool {
 #[test]
 fn no_choice_contradicts_a_quote(rt: HostRuntime) -> Result<(), Fail> {
     for seed in 0..60u32 {
-        let rows = random_rows(seed.wrapping_mul(7919));
+        let rows = six_rows(seed.wrapping_mul(7919), 5);
         for count in 0..3usize {
             assert!(rt; is_quoted(rt.alloc(), &rows, count), "quote {seed} {count}");
             for index in 0..6u16 {

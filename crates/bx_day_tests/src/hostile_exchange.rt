@@ -1,10 +1,10 @@
 //! The exchange on hostile octets, at the opening and with a call in each state that a message can find.
 
-use crate::at_days::{Day, Expected, wrong_at};
-use crate::exchange_days::{DAYS, Ready};
-use crate::replies::Reply;
+use crate::hostile_days::{Day, Expected, wrong_at};
+use crate::hostile_exchange_days::{DAYS, Ready};
 use crate::second_reading::{Heard, Naming};
-use crate::tables::{Call, at_network, of_no_call};
+use crate::second_replies::Reply;
+use crate::second_tables::{Call, at_network, of_no_call};
 use bx_day::Exchange;
 use bx_numbers::Channel;
 use bx_worked_days::exchange_of;

@@ -1,13 +1,9 @@
 //! Copies of lists of bookings, and the longest list.
 
+use crate::rows::booking_of;
 use bx_base::{AddFault, Booking, Bookings};
-use bx_numbers::Number;
 use std::alloc::Global;
 use std::test::Fail;
-
-fn booking(start: u32, end: u32, pay: u64, number: &[u8]) -> Option<Booking> {
-    Booking::new(start, end, pay, Number::new(number)?)
-}
 
 fn repeated(alloc: Global, booking: Booking, count: u16) -> Option<Bookings> {
     let mut bookings = Bookings::new(alloc);
@@ -36,7 +32,7 @@ fn is_full(bookings: &mut Bookings, last: Booking) -> bool {
 
 #[test]
 fn bookings_up_to_the_limit(rt: HostRuntime) -> Result<(), Fail> {
-    let one = booking(0, 1, 1000000000, b"1234").ok_or("one")?;
+    let one = booking_of(&(0, 1, 1_000_000_000, false)).ok_or("one")?;
     let mut bookings = repeated(rt.alloc(), one, 3999).ok_or("bookings")?;
     assert!(rt;
         differs_once_changed(&mut bookings, one) == Some(true),

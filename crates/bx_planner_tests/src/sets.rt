@@ -1,8 +1,29 @@
-//! Sets of six rows, by the numbers from 0 to 63.
+//! Six drawn rows, and their sets by the numbers from 0 to 63.
 
 use crate::rows::Row;
 
 static POWERS: [u32; 6] = [1, 2, 4, 8, 16, 32];
+
+/// The next number of a simple generator.
+fn next(seed: u32) -> u32 {
+    seed.wrapping_mul(1_103_515_245).wrapping_add(12_345) % 2_147_483_648
+}
+
+/// Six rows within twelve seconds, of so many different pays.
+pub(crate) fn six_rows(mut seed: u32, pays: u32) -> [Row; 6] {
+    let mut rows = [(0, 1, 1, false); 6];
+    for row in rows.iter_mut() {
+        let a = next(seed);
+        let b = next(a);
+        let c = next(b);
+        seed = c;
+        let start = (a / 65536) % 8;
+        let length = 1 + (b / 65536) % 4;
+        let pay = 1 + u64::from((c / 65536) % pays.max(1));
+        *row = (start, start + length, pay, (c / 1024) % 7 == 0);
+    }
+    rows
+}
 
 /// The number of the set of the row at this index alone.
 pub(crate) fn power_of(index: usize) -> u32 {
@@ -41,7 +62,7 @@ pub(crate) fn is_lawful(rows: &[Row], set: u32, count: usize) -> bool {
     musts_of(rows) & !set == 0 && (0..12).all(|moment| running_at(rows, set, moment) <= count)
 }
 
-/// What the rows of the set pay, but for the one at this index.
+/// What the rows of the set pay, but for the one at this index, if there is one.
 pub(crate) fn pay_beside(rows: &[Row], set: u32, except: usize) -> u64 {
     let mut pay = 0u64;
     for (index, row) in rows.iter().enumerate() {

@@ -1,10 +1,10 @@
 //! The far end on hostile octets, at the opening and with a call in each state that a message can find.
 
-use crate::at_days::{Day, Expected, wrong_at};
-use crate::far_days::{DAYS, MAINTENANCE, Ready, SILENT};
-use crate::replies::Reply;
+use crate::hostile_days::{Day, Expected, wrong_at};
+use crate::hostile_far_days::{DAYS, MAINTENANCE, Ready, SILENT};
 use crate::second_reading::{Heard, Naming};
-use crate::tables::{Call, at_user, of_no_call};
+use crate::second_replies::Reply;
+use crate::second_tables::{Call, at_user, of_no_call};
 use bx_far::Far;
 use bx_numbers::Channel;
 use bx_worked_days::far_of;

@@ -1,7 +1,7 @@
 //! A second copy of the call tables for messages (ITU-T Q.931, 5.1 to 5.3 and 5.8): the first line that fits counts.
 
-use crate::replies::Reply;
 use crate::second_reading::{Heard, Naming};
+use crate::second_replies::Reply;
 
 /// Where a call goes.
 #[derive(Clone, Copy, Debug, PartialEq, Eq)]

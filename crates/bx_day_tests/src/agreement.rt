@@ -1,6 +1,6 @@
 //! Whether two ends agree, as their readers and their answers to STATUS ENQUIRY tell it.
 
-use crate::ends::Ends;
+use crate::two_ends::Ends;
 use bx_calls::CallState;
 use bx_day::Outcome;
 use bx_numbers::Channel;

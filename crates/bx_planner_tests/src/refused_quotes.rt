@@ -1,6 +1,7 @@
 //! Refusals of quotes.
 
-use crate::rows::{Row, booking_of, plan_of};
+use crate::proved_plans::plan_of;
+use crate::rows::{Row, booking_of};
 use bx_quote::{QuoteFail, explain, quote};
 use std::alloc::Global;
 use std::test::Fail;

@@ -1,6 +1,6 @@
 //! Worked lists of events, with each message that is sent.
 
-use crate::ends::{Ends, Event, opened};
+use crate::two_ends::{Ends, Event, opened};
 use bx_calls::CallState;
 use bx_numbers::Channel;
 use bx_q931::Octets;

@@ -1,6 +1,7 @@
-//! Which values there are of numbers, bookings and prices.
+//! Which values there are of channels, numbers, bookings and prices.
 
-use bx_base::{Booking, Price};
+use crate::rows::booking_of;
+use bx_base::Price;
 use bx_numbers::{Channel, Number};
 
 /// Digits, and whether they are a number.
@@ -30,25 +31,33 @@ static PRICES: [(u32, u64, bool); 4] = [
     (0, 4000000000001, false),
 ];
 
-fn booking(start: u32, end: u32, pay: u64, number: &[u8]) -> Option<Booking> {
-    Booking::new(start, end, pay, Number::new(number)?)
-}
-
 #[test]
-fn values_and_their_limits(rt: HostRuntime) {
+fn channels_and_their_limits(rt: HostRuntime) {
     for n in 0..=255u8 {
         let expected = n >= 1 && n <= 31 && n != 16;
         assert!(rt; Channel::new(n).is_some() == expected, "channel {n}");
     }
+}
+
+#[test]
+fn numbers_and_their_limits(rt: HostRuntime) {
     for (digits, expected) in NUMBERS {
         assert!(rt; Number::new(digits).is_some() == expected, "{digits:?}");
     }
+}
+
+#[test]
+fn bookings_and_their_limits(rt: HostRuntime) {
     for (start, end, pay, expected) in BOOKINGS {
         assert!(rt;
-            booking(start, end, pay, b"1").is_some() == expected,
+            booking_of(&(start, end, pay, false)).is_some() == expected,
             "{start} {end} {pay}"
         );
     }
+}
+
+#[test]
+fn prices_and_their_limits(rt: HostRuntime) {
     for (moment, amount, expected) in PRICES {
         assert!(rt;
             Price::new(moment, amount).is_some() == expected,

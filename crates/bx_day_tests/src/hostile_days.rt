@@ -1,9 +1,9 @@
 //! An end of the link at a day that comes to a call in some state, and what is expected of it there.
 
-use crate::hostile::{Subject, first_wrong};
-use crate::replies::{Reply, Sent, is_sent, sent_for};
+use crate::hostile_octets::{Subject, first_wrong};
 use crate::second_reading::{Heard, read_again};
-use crate::tables::Next;
+use crate::second_replies::{Reply, Sent, is_sent, sent_for};
+use crate::second_tables::Next;
 use bx_worked_days::{End, goes_through};
 use std::alloc::Global;
 

@@ -2,7 +2,7 @@
 //! leave channels in maintenance at either end.
 
 use crate::agreement::agree;
-use crate::ends::{Ends, Event, opened};
+use crate::two_ends::{Ends, Event, opened};
 use bx_calls::CallState;
 use bx_numbers::Channel;
 use bx_worked_days::Row;
