@@ -1,4 +1,4 @@
-use Rattle.std.proofs.Common.{◌≡◌, Bool, List, sym, ◌∙◌, arith}
+use Rattle.std.proofs.Common.{rules, ◌≡◌, Bool, List, sym, ◌∙◌, arith}
 use Rattle.std.specs.Prelude.{pos}
 use Rattle.bx_base.specs.Channels.{count_of}
 use Rattle.bx_base.specs.Bookings.{Row}
@@ -34,3 +34,15 @@ returns-clause-best c =
     let s = sound c.args.bookings.now c.args.channels (parts_of c.args.plan.now) (c.same.ensures.0 c.if-not-same.false) (c.same-2.ensures.0 c.if-not-same-2.false) c.in_default.ensures.none (c.in_default-first_overlap).ensures.none (c.in_default-first_must_left_out).ensures.none in
     let whole : pos c.bound-bound.result ≡ bound_of c.args.plan.now.bookings (count_of c.args.plan.now.channels) c.args.plan.now.prices.items = rw (c.deref-4.ensures.value, s.parts.channels_too) at c.bound-bound.ensures.value in
     sound-best c.args.bookings.now c.args.channels (parts_of c.args.plan.now) c.bound-bound.result s whole
+
+pub returns-in-Some-first_must_left_out-clause-outcome : goal.returns-in-Some-first_must_left_out-clause-outcome
+returns-in-Some-first_must_left_out-clause-outcome c = search rules steps 200000
+
+pub returns-then-total_pay-plan-clause-outcome : goal.returns-then-total_pay-plan-clause-outcome
+returns-then-total_pay-plan-clause-outcome c = search rules steps 200000
+
+pub returns-then-not-is_rising-clause-outcome : goal.returns-then-not-is_rising-clause-outcome
+returns-then-not-is_rising-clause-outcome c = search rules steps 200000
+
+pub returns-then-bound-plan-clause-outcome : goal.returns-then-bound-plan-clause-outcome
+returns-then-bound-plan-clause-outcome c = search rules steps 1000000
