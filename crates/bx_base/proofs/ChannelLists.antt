@@ -4,7 +4,7 @@ use Rattle.std.specs.List.{Contains}
 use Rattle.std.proofs.lemmas.Bool.{cases_lt, cases_eq}
 use Rattle.std.proofs.lemmas.List.{get_or_append_left, get_or_push, length_push}
 use Rattle.std.proofs.lemmas.List.Elements.{All-push, Contains-append_left, Contains-get_or, Contains-push, Contains-push_cases}
-use Rattle.bx_numbers.specs.ChannelNumbers.{IsChannel}
+use Rattle.bx_channels.specs.ChannelNumbers.{IsChannel}
 use Rattle.bx_base.specs.Channels.{AreChannels, HasJust, has_channel}
 
 pub AreChannels-push : (front : List ℕ) (n : ℕ) → AreChannels front → IsChannel n → (Contains front n → ⊥) → AreChannels (front ++ n ∷ [])

@@ -3,7 +3,7 @@
 use Rattle.std.specs.Prelude.{◌≡◌, ◌≢◌, ℕ, ◌<◌, ◌≤◌, ◌&&◌, Bool, true, false, List, [], length, nat_le, nat_lt, slice_index_or, if◌then◌else◌}
 use Rattle.bx_base.specs.Sums.{sum_below}
 use Rattle.bx_base.specs.Channels.{has_channel}
-use Rattle.bx_numbers.specs.Numbers.{IsNumber}
+use Rattle.bx_channels.specs.Numbers.{IsNumber}
 
 -- a booking, with no word on how it lies in memory
 pub record Row : Type 0 where

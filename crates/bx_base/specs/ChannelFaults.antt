@@ -2,7 +2,7 @@
 use Rattle.std.specs.Prelude.{◌≡◌, ℕ, ◌<◌, List, length, take, slice_index, Contains}
 use Rattle.bx_base.specs.declared.channel_set.ChannelFault.{ChannelFault}
 use Rattle.bx_base.specs.declared.channel_set.ChannelFault.TheVariants.{NotABChannel, Repeated}
-use Rattle.bx_numbers.specs.ChannelNumbers.{IsChannel}
+use Rattle.bx_channels.specs.ChannelNumbers.{IsChannel}
 use Rattle.bx_base.specs.Channels.{AreChannels}
 
 -- what is wrong with the number at k

@@ -1,6 +1,6 @@
 -- Sets of B channels.
 use Rattle.std.specs.Prelude.{◌≡◌, ◌≢◌, ◌↔◌, ℕ, ◌<◌, Bool, true, false, List, length, slice_index, slice_index_or, if◌then◌else◌, All, Contains}
-use Rattle.bx_numbers.specs.ChannelNumbers.{IsChannel}
+use Rattle.bx_channels.specs.ChannelNumbers.{IsChannel}
 use Rattle.bx_base.specs.Sums.{sum_below}
 
 -- a set of channels is a list that says of each number whether it is in the set

@@ -1,7 +1,7 @@
 -- A plan as a value: what it says, with no word on how it lies in memory.
 use Rattle.std.specs.Prelude.{◌≡◌, ℕ, ◌<◌, ◌≤◌, Bool, List, length, Option, Some, None, slice_index_or}
 use Rattle.bx_base.specs.declared.plan.Plan.{Plan}
-use Rattle.bx_numbers.specs.ChannelNumbers.{IsChannel}
+use Rattle.bx_channels.specs.ChannelNumbers.{IsChannel}
 use Rattle.bx_base.specs.Channels.{IsChannelSet}
 use Rattle.bx_base.specs.Bookings.{Row, AreBookings}
 use Rattle.bx_base.specs.Bound.{Charge, IsCharge, price_at}

@@ -3,7 +3,7 @@
 ghost use Rattle.std.specs.Prelude.{◌≡◌, ◌↔◌, IsTrue, IsSome, IfSome, false, true};
 ghost use Rattle.bx_base.specs.Bookings.{IsBooking, Overlap, is_running, row_of};
 
-use bx_numbers::Number;
+use bx_channels::Number;
 use std::marker::Model;
 
 /// The last moment at which a booking may end, in seconds of the day.

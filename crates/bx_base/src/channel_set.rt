@@ -4,7 +4,7 @@ ghost use Rattle.std.specs.Prelude.{◌≡◌, ◌≢◌, ◌↔◌, ◌≤◌, 
 ghost use Rattle.bx_base.specs.Channels.{IsChannelSet, AreChannels, HasJust, has_channel, count_of};
 ghost use Rattle.bx_base.specs.ChannelFaults.{IsFirstFault};
 
-use bx_numbers::Channel;
+use bx_channels::Channel;
 use std::marker::Model;
 use thiserror::Error;
 

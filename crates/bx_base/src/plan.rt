@@ -7,7 +7,7 @@ ghost use Rattle.bx_base.specs.Plans.{is_accepted, channel_at, IsOutOfService, C
 use crate::bookings::Bookings;
 use crate::channel_set::ChannelSet;
 use crate::price::Price;
-use bx_numbers::Channel;
+use bx_channels::Channel;
 
 /// The most prices that a plan may have.
 pub const MAX_PRICES: usize = 8000;

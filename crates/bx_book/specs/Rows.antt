@@ -4,7 +4,7 @@ use Rattle.std.specs.List.{list_all}
 use Rattle.std.specs.Char.{is_ascii_digit}
 use Rattle.std.specs.Str.{bytes_eq}
 use Rattle.bx_base.specs.Bookings.{Row}
-use Rattle.bx_numbers.specs.Numbers.{IsNumber}
+use Rattle.bx_channels.specs.Numbers.{IsNumber}
 use Rattle.bx_text.specs.Digits.{decimal_value}
 use Rattle.bx_text.specs.Records.{field_of}
 use Rattle.bx_book.specs.DayParts.{start_of, length_of}

@@ -9,7 +9,7 @@ use crate::day::Day;
 use crate::fault::BookFault;
 use crate::field::{inward, moment, must, pay};
 use bx_base::Booking;
-use bx_numbers::Number;
+use bx_channels::Number;
 use bx_text::field;
 use csv::ByteRecord;
 

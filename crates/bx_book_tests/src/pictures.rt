@@ -3,9 +3,9 @@
 use crate::small_picture::SMALL;
 use bx_base::{Booking, Bookings, ChannelSet, Plan, Price};
 use bx_book::Clock;
+use bx_channels::{Channel, Number};
 use bx_chart::{ChartFault, write_chart};
 use bx_devices::{Failing, Watched};
-use bx_numbers::{Channel, Number};
 use std::alloc::Global;
 use std::test::Fail;
 
@@ -44,7 +44,7 @@ pub(crate) fn written(
 ) -> Option<(Vec<u8>, Option<ChartFault>)> {
     let plan = small_plan(alloc)?;
     let mut output = Watched::new(Failing::new(Vec::new(alloc), octets, 1));
-    let fault = write_chart(alloc, &plan, clock, &mut output).err();
+    let fault = write_chart(alloc, &plan, 5, clock, &mut output).err();
     Some((output.into_inner().into_inner(), fault))
 }
 

@@ -29,7 +29,7 @@ text{font:12px sans-serif;fill:#222}
 </defs>
 <rect width='1200' height='376' fill='#fff'/>
 <text class='head' x='56' y='26'>Total 16</text>
-<text x='56' y='46'>2 of 3 calls accepted, 1 of them must; 1 refused; channels in service: 2</text>
+<text x='56' y='46'>2 of 3 calls accepted, 1 of them must; 1 refused; channels in service: 2; one more channel would add 5</text>
 <svg x='56' y='56' width='28' height='16' viewBox='0 0 28 10' preserveAspectRatio='none'><rect class='must out' x='1' y='1' width='26' height='9'/></svg><text x='90' y='69'>must, outward</text>
 <svg x='196' y='56' width='28' height='16' viewBox='0 0 28 10' preserveAspectRatio='none'><rect class='must in' x='1' y='1' width='26' height='9'/></svg><text x='230' y='69'>must, inward</text>
 <svg x='336' y='56' width='28' height='16' viewBox='0 0 28 10' preserveAspectRatio='none'><rect class='free out' x='1' y='3' width='26' height='5'/></svg><text x='370' y='69'>free, outward</text>

@@ -1,7 +1,7 @@
 -- The call table of the network side (ITU-T Q.931, 5.1 to 5.3 and 5.8): one line for a row, and the first
 -- row that fits counts. N3, N6, N9, N7, N10, N12 and N19 are OutgoingCallProceeding, CallPresent,
 -- IncomingCallProceeding, CallReceived, Active, DisconnectIndication and ReleaseRequest.
-use Rattle.std.specs.Prelude.{ℕ, ◌+◌, nat_le, Bool, true, false, not, ◌&&◌, List, Option, Some, None, if◌then◌else◌}
+use Rattle.std.specs.Prelude.{◌≡◌, ◌≤◌, ℕ, ◌+◌, nat_le, Bool, true, false, not, ◌&&◌, List, Option, Some, None, if◌then◌else◌}
 use Rattle.bx_q931.specs.Outgoing.{Outgoing, plain}
 use Rattle.bx_q931.specs.declared.kind.Kind.{Kind}
 use Rattle.bx_q931.specs.declared.kind.Kind.TheVariants.{Alerting, CallProceeding, Progress, Setup, Connect, ConnectAcknowledge, Disconnect, Release, ReleaseComplete, Notify, StatusEnquiry, Information, Status, Other}
@@ -147,3 +147,26 @@ net_due (CallReceived due) = Some due
 net_due Active = None
 net_due (DisconnectIndication cause due) = Some due
 net_due (ReleaseRequest again cause due) = Some due
+
+-- ---- n seconds without a link to the user, of which the last comes to moment t: no timer runs
+
+-- the state with its timer, if it has one, standing still
+abbrev pub net_later : ℕ → NetState → NetState
+net_later n OutgoingCallProceeding = OutgoingCallProceeding
+net_later n (CallPresent again due) = CallPresent again (due + n)
+net_later n (IncomingCallProceeding due) = IncomingCallProceeding (due + n)
+net_later n (CallReceived due) = CallReceived (due + n)
+net_later n Active = Active
+net_later n (DisconnectIndication cause due) = DisconnectIndication cause (due + n)
+net_later n (ReleaseRequest again cause due) = ReleaseRequest again cause (due + n)
+
+-- the end of the booking clears the call, as at a tick, but its DISCONNECT is lost: so RELEASE is due in the next second
+-- with a link
+abbrev pub net_unlinked : ℕ → PlainNetCall → ℕ → ℕ → Step PlainNetCall
+net_unlinked n c t end =
+    if not (net_is_clearing c.state) && nat_le end t then net_to c None (DisconnectIndication 16 (t + 1))
+    else net_to c None (net_later n c.state)
+
+-- a timer, if it runs, is due at this moment at the latest
+abbrev pub IsDueBy : ℕ → NetState → Type 0
+IsDueBy m state = (due : ℕ) → net_due state ≡ Some due → due ≤ m

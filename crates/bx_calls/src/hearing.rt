@@ -3,7 +3,7 @@
 ghost use Rattle.std.specs.Prelude.{◌≡◌};
 ghost use Rattle.bx_calls.specs.Hearing.{names_channel};
 
-use bx_numbers::Channel;
+use bx_channels::Channel;
 use bx_q931::ChannelField;
 
 /// Whether a message that may name a channel agrees to this one.

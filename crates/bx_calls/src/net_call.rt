@@ -12,7 +12,7 @@ use crate::net_state::{NetOrigin, NetState};
 use crate::outgoing::{plain, setup};
 use crate::step::Step;
 use crate::timers::{T303, T305, T308};
-use bx_numbers::{Channel, Number};
+use bx_channels::{Channel, Number};
 use bx_q931::cause::LOCATION_LOCAL_NETWORK;
 use bx_q931::{Kind, Out};
 use std::marker::Model;

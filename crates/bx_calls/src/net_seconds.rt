@@ -1,7 +1,7 @@
 //! What a second does to a call at the network side.
 
-ghost use Rattle.std.specs.Prelude.{◌≡◌, ◌≤◌};
-ghost use Rattle.bx_calls.specs.NetTable.{net_is_clearing, net_setup_again, net_timer, net_second};
+ghost use Rattle.std.specs.Prelude.{◌≡◌, ◌≤◌, ◌+◌, ℕ};
+ghost use Rattle.bx_calls.specs.NetTable.{net_is_clearing, net_setup_again, net_timer, net_second, net_later, net_unlinked, IsDueBy};
 
 use crate::net_call::NetCall;
 use crate::net_state::{NetOrigin, NetState};
@@ -21,6 +21,23 @@ impl NetCall {
             self.disconnects(NORMAL_CALL_CLEARING, moment)
         } else {
             self.on_timer(moment)
+        }
+    }
+
+    /// What the call does in so many seconds without a link to the user, of which the last comes to this moment: its
+    /// timer stands still. Where its booking ends by then its DISCONNECT is lost, and RELEASE is due in the next second
+    /// with a link. A timer that would be due behind the last moment of a `u32` is due at that.
+    pub fn on_seconds_unlinked(self, seconds: u32, moment: u32, end: u32) -> Step<NetCall>
+        requires moment { moment ≤ 300000 }
+        ensures { (latest : ℕ) → IsDueBy latest self.state → latest + seconds ≤ 4294967295 → result ≡ net_unlinked seconds self moment end }
+    {
+        if moment >= end && !self.is_clearing() {
+            let due = moment + 1;
+            let cause = NORMAL_CALL_CLEARING;
+            self.goes(None, NetState::DisconnectIndication { cause, due })
+        } else {
+            let state = standing_still(self.state, seconds);
+            self.goes(None, state)
         }
     }
 
@@ -78,4 +95,40 @@ impl NetCall {
             NetOrigin::Inward => None,
         }
     }
+}
+
+/// The state with its timer standing still for so many seconds.
+fn standing_still(state: NetState, seconds: u32) -> NetState
+    ensures { (latest : ℕ) → IsDueBy latest state → latest + seconds ≤ 4294967295 → result ≡ net_later seconds state }
+{
+    match state {
+        NetState::OutgoingCallProceeding => NetState::OutgoingCallProceeding,
+        NetState::CallPresent { again, due } => NetState::CallPresent {
+            again,
+            due: later(due, seconds),
+        },
+        NetState::IncomingCallProceeding { due } => NetState::IncomingCallProceeding {
+            due: later(due, seconds),
+        },
+        NetState::CallReceived { due } => NetState::CallReceived {
+            due: later(due, seconds),
+        },
+        NetState::Active => NetState::Active,
+        NetState::DisconnectIndication { cause, due } => NetState::DisconnectIndication {
+            cause,
+            due: later(due, seconds),
+        },
+        NetState::ReleaseRequest { again, cause, due } => NetState::ReleaseRequest {
+            again,
+            cause,
+            due: later(due, seconds),
+        },
+    }
+}
+
+/// When a timer is due that stands still for so many seconds.
+fn later(due: u32, seconds: u32) -> u32
+    ensures { due + seconds ≤ 4294967295 → result ≡ due + seconds }
+{
+    due.saturating_add(seconds)
 }

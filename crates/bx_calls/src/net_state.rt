@@ -1,6 +1,6 @@
 //! The states of a call at the network side.
 
-use bx_numbers::Number;
+use bx_channels::Number;
 
 /// Which side began a call of the network side: this one, with the number that it calls, or the user.
 #[derive(Clone, Copy)]

@@ -5,7 +5,7 @@ ghost use Rattle.bx_q931.specs.Kinds.{IsNamed};
 ghost use Rattle.bx_q931.specs.Outgoing.{IsCallReference, plain};
 ghost use Rattle.bx_calls.specs.Saying.{setup_of};
 
-use bx_numbers::{Channel, Number};
+use bx_channels::{Channel, Number};
 use bx_q931::{Kind, Out};
 
 /// A message with no element.

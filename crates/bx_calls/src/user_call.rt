@@ -12,7 +12,7 @@ use crate::outgoing::{plain, setup};
 use crate::step::Step;
 use crate::timers::{T303, T305, T308, T313};
 use crate::user_state::{Policy, UserOrigin, UserState};
-use bx_numbers::{Channel, Number};
+use bx_channels::{Channel, Number};
 use bx_q931::cause::LOCATION_USER;
 use bx_q931::{Kind, Out};
 use std::marker::Model;

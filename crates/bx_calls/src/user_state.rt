@@ -1,6 +1,6 @@
 //! The states of a call at the user side.
 
-use bx_numbers::Number;
+use bx_channels::Number;
 
 /// What the user does with a call that it is offered.
 #[derive(Clone, Copy, Debug, PartialEq, Eq)]

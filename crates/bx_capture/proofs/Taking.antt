@@ -8,7 +8,7 @@ use Rattle.std.specs.Io.KnownBytes.{Appends}
 use Rattle.bx_devices.specs.declared.watched.Watched.{Watched}
 use Rattle.bx_devices.specs.declared.octets.WriteFailed.{WriteFailed}
 use Rattle.bx_devices.specs.Watching.{device_of, is_faulted}
-use Rattle.bx_q931.specs.Events.{Event, Tick, Receive}
+use Rattle.bx_events.specs.Events.{Event, Tick, Receive}
 use Rattle.bx_text.specs.Writing.{Writes}
 use Rattle.bx_turns.specs.Courses.{told}
 use Rattle.bx_capture.specs.Packets.{packet}

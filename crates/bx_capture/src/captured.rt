@@ -2,7 +2,7 @@
 
 ghost use Rattle.std.specs.Prelude.{◌≡◌, ◌+◌, ◌≤◌, ◌++◌, ◌∷◌, [], ℕ, List, true, false};
 ghost use Rattle.std.specs.List.{flat_map};
-ghost use Rattle.bx_q931.specs.Events.{Event, Tick, Receive};
+ghost use Rattle.bx_events.specs.Events.{Event, Tick, Receive};
 ghost use Rattle.bx_turns.specs.Courses.{after, told, reply_frame, reply_messages};
 ghost use Rattle.bx_frames.specs.Frames.{frame_with, turn_frame};
 ghost use Rattle.bx_capture.specs.Packets.{packet};

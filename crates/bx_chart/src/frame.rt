@@ -1,5 +1,8 @@
 //! What stands round the bars: the head of the picture, its legend, and the lanes.
 
+ghost use Rattle.std.specs.Prelude.{◌≡◌, ◌++◌, OnOk};
+ghost use Rattle.bx_chart.specs.Charts.{gain_words};
+
 use crate::bars::is_in_service;
 use crate::picture::Picture;
 use crate::sheet::{LANE, LEFT, Sheet, TOP, WIDTH};
@@ -41,8 +44,8 @@ const LEGEND: &[u8] =
 <svg x='476' y='56' width='28' height='16' viewBox='0 0 28 10' preserveAspectRatio='none'><rect class='free in' x='1' y='3' width='26' height='5'/></svg><text x='510' y='69'>free, inward</text>
 ";
 
-/// What stands before the bars.
-pub(crate) fn front(alloc: Global, plan: &Plan, sheet: &Sheet) -> Result<Picture, AllocError> {
+/// What stands before the gain of one more channel: the total and the counts.
+pub(crate) fn head(alloc: Global, plan: &Plan, sheet: &Sheet) -> Result<Picture, AllocError> {
     let mut picture = Picture::new(alloc);
     picture.add(b"<svg xmlns='http://www.w3.org/2000/svg' version='1.1' width='1200'")?;
     picture.add_number(b" height='", sheet.height())?;
@@ -52,6 +55,20 @@ pub(crate) fn front(alloc: Global, plan: &Plan, sheet: &Sheet) -> Result<Picture
     picture.add_number(b"<rect width='1200' height='", sheet.height())?;
     picture.add(b"' fill='#fff'/>\n")?;
     add_counts(&mut picture, plan)?;
+    Ok(picture)
+}
+
+/// Adds what one more channel would add, in words.
+pub(crate) fn add_gain(picture: &mut Picture, gain: u64) -> Result<(), AllocError>
+    ensures { OnOk result (picture.new.text.items ≡ picture.old.text.items ++ gain_words gain) }
+{
+    picture.add_number(b"; one more channel would add ", gain)?;
+    picture.add(b"</text>\n")
+}
+
+/// What stands between that gain and the bars.
+pub(crate) fn front(alloc: Global, plan: &Plan, sheet: &Sheet) -> Result<Picture, AllocError> {
+    let mut picture = Picture::new(alloc);
     picture.add(LEGEND)?;
     add_lanes(&mut picture, plan)?;
     open_day(&mut picture, sheet)?;
@@ -85,8 +102,7 @@ fn add_counts(picture: &mut Picture, plan: &Plan) -> Result<(), AllocError> {
     picture.add_number(
         b" refused; channels in service: ",
         u64::from(plan.channels.count()),
-    )?;
-    picture.add(b"</text>\n")
+    )
 }
 
 /// Adds a lane for each channel in service, with its number.

@@ -6,7 +6,7 @@ ghost use Rattle.bx_base.specs.PlanParts.{parts_of};
 ghost use Rattle.bx_chart.specs.Charts.{IsChart, IsDrawn, IsChartRefusal};
 
 use crate::bars::bars;
-use crate::frame::front;
+use crate::frame::{add_gain, front, head};
 use crate::hours::add_hours;
 use crate::levels::add_refused;
 use crate::picture::Picture;
@@ -43,13 +43,21 @@ fn between(alloc: Global, plan: &Plan, sheet: &Sheet) -> Result<Picture, AllocEr
 }
 
 /// The whole picture.
-fn chart(alloc: Global, plan: &Plan, clock: Option<&Clock>) -> Result<Picture, AllocError>
-    ensures { IfOk result (λ picture. IsChart (parts_of plan.now) (option_copied clock.entry) picture.text.items) }
+fn chart(
+    alloc: Global,
+    plan: &Plan,
+    gain: u64,
+    clock: Option<&Clock>,
+) -> Result<Picture, AllocError>
+    ensures { IfOk result (λ picture. IsChart (parts_of plan.now) gain (option_copied clock.entry) picture.text.items) }
 {
     let sheet = Sheet::of(plan, clock);
-    let mut picture = front(alloc, plan, &sheet)?;
+    let mut picture = head(alloc, plan, &sheet)?;
+    add_gain(&mut picture, gain)?;
+    let front = front(alloc, plan, &sheet)?;
     let bars = bars(alloc, plan, clock)?;
     let between = between(alloc, plan, &sheet)?;
+    picture.add(front.text())?;
     picture.add(bars.text())?;
     picture.add(between.text())?;
     add_hours(&mut picture, &sheet, clock)?;
@@ -60,17 +68,18 @@ fn chart(alloc: Global, plan: &Plan, clock: Option<&Clock>) -> Result<Picture, A
 }
 
 /// Writes a picture of a plan, in SVG 1.1: of the day of a clock with the hours that it shows, or of 86,400 seconds with the
-/// hours from midnight on.
+/// hours from midnight on. It says of this gain that one more channel would add it.
 pub fn write_chart<W: Write>(
     alloc: Global,
     plan: &Plan,
+    gain: u64,
     clock: Option<&Clock>,
     output: &mut Watched<W>,
 ) -> Result<(), ChartFault>
-    ensures drawn { OnOk result (IsDrawn (parts_of plan.now) (option_copied clock.entry) (writing_of W.contents output.old output.new)) }
-    ensures refused { IfErr result (IsChartRefusal (parts_of plan.now) (option_copied clock.entry) (writing_of W.contents output.old output.new)) }
+    ensures drawn { OnOk result (IsDrawn (parts_of plan.now) gain (option_copied clock.entry) (writing_of W.contents output.old output.new)) }
+    ensures refused { IfErr result (IsChartRefusal (parts_of plan.now) gain (option_copied clock.entry) (writing_of W.contents output.old output.new)) }
 {
-    let Ok(picture) = chart(alloc, plan, clock) else {
+    let Ok(picture) = chart(alloc, plan, gain, clock) else {
         return Err(ChartFault::Memory);
     };
     match write_octets(output, picture.text()) {

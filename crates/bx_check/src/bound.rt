@@ -11,7 +11,7 @@ ghost use Rattle.bx_check.specs.Before.{AreSums};
 
 use crate::sums::{Sums, cost, sums_of};
 use bx_base::{Booking, Bookings, ChannelSet, Price};
-use bx_numbers::Channel;
+use bx_channels::Channel;
 
 /// What the accepted rows pay together.
 pub(crate) fn total_pay(bookings: &Bookings, assigned: &[Option<Channel>]) -> u64
@@ -41,8 +41,8 @@ pub(crate) fn is_rising(prices: &[Price]) -> bool
     true
 }
 
-/// What a channel costs all day.
-pub(crate) fn price_sum(prices: &[Price]) -> u64
+/// What the prices come to together: what a channel costs all day. There are at most 8,000 of them.
+pub fn price_sum(prices: &[Price]) -> u64
     requires { length prices.now ≤ 8000 }
     ensures value { result ≡ sum_of_prices prices.now }
     ensures limit { result ≤ length prices.now * 4000000000000 }

@@ -7,5 +7,6 @@ mod checker;
 pub mod laws;
 mod sums;
 
+pub use bound::price_sum;
 pub use checker::{CheckFault, check};
 pub use sums::{Sums, cost, sums_of};

@@ -3,5 +3,5 @@
 
 mod words;
 
-pub use bx_commands::check_self;
+pub use bx_check_commands::check_self;
 pub use words::main_words;

@@ -4,15 +4,15 @@ ghost use Rattle.std.specs.Prelude.{◌≡◌, ◌≢◌, ◌≤◌, ◌↔◌, 
 ghost use Rattle.std.specs.Io.KnownBytes.{Appends};
 ghost use Rattle.bx_devices.specs.Devices.{reading_of, writing_of};
 ghost use Rattle.bx_devices.specs.Watching.{device_of};
-ghost use Rattle.bx_commands.specs.Proved.{IsProvedText, proved_line};
-ghost use Rattle.bx_commands.specs.Refusals.{IsRefusal};
-ghost use Rattle.bx_commands.specs.declared.fault.CommandFault.{CommandFault};
+ghost use Rattle.bx_check_commands.specs.Proved.{IsProvedText, proved_line};
+ghost use Rattle.bx_check_commands.specs.Refusals.{IsRefusal};
+ghost use Rattle.bx_check_commands.specs.declared.fault.CommandFault.{CommandFault};
 
-use bx_commands::{CommandFault, check_self, decode};
+use bx_check_commands::{CommandFault, check_self, decode};
+use bx_day_commands::run_day_on_files;
 use bx_devices::{Watched, write_octets};
-use bx_files::run_on_files;
+use bx_plan_commands::run_on_files;
 use bx_request::Request;
-use bx_sockets::run_day_on_files;
 use bx_words::{Refusal, read_words};
 use std::fmt::Display;
 use std::fs::Files;

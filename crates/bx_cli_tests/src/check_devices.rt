@@ -1,7 +1,7 @@
 //! The check of a plan, and a message decoded, over readers and writers that fail at each place.
 
 use crate::worked_texts::ONE;
-use bx_commands::{CommandFault, check_against, check_self, decode, proved_plan};
+use bx_check_commands::{CommandFault, check_against, check_self, decode, proved_plan};
 use bx_devices::{Failing, Watched};
 use std::alloc::{AllocError, Global};
 use std::test::Fail;

@@ -4,6 +4,8 @@
 #[cfg(test)]
 mod broken_outputs;
 #[cfg(test)]
+mod capacity_commands;
+#[cfg(test)]
 mod captures;
 #[cfg(test)]
 mod channel_lists;

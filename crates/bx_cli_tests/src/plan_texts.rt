@@ -3,7 +3,7 @@
 use bx_base::ChannelSet;
 use bx_book::{BookFault, Day};
 use bx_devices::{Failing, Watched};
-use bx_planning::{RunFault, plan_run};
+use bx_plan_run::{RunFault, plan_run};
 use std::alloc::Global;
 use std::test::Fail;
 

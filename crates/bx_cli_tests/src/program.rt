@@ -1,7 +1,7 @@
 //! The program on words and an input, in memory.
 
 use bx_cli::main_words;
-use bx_devices::Watched;
+use bx_devices::{Failing, Watched};
 
 /// What the program does: its status, standard output and standard error.
 #[derive(Drop)]
@@ -54,4 +54,22 @@ pub(crate) fn is_done(done: &Done, expected: Expected<'_>) -> bool {
         && done.output.as_slice() == output.as_bytes()
         && done.errors.starts_with(errors.as_bytes())
         && done.errors.is_empty() == errors.is_empty()
+}
+
+/// Whether an output that takes so many octets, one at a time, has just that front of this text, and the failure is printed and
+/// answered where that is not all of it.
+pub(crate) fn is_front_written(rt: &HostRuntime, words: &[&str], text: &str, taken: u32) -> bool {
+    let mut input = Watched::new(b"".as_slice());
+    let mut output = Watched::new(Failing::new(Vec::new(rt.alloc()), taken, 1));
+    let mut errors = Watched::new(Vec::new(rt.alloc()));
+    let status = main_words(rt, words, &mut input, &mut output, &mut errors, false);
+    let written = output.into_inner().into_inner();
+    let length = text.len().min(taken as usize);
+    let (expected, said) = if length == text.len() {
+        (0, "")
+    } else {
+        (1, "bx: F2 CannotWrite\n")
+    };
+    let is_front = written.len() == length && text.as_bytes().starts_with(&written);
+    is_front && status == expected && errors.into_inner().as_slice() == said.as_bytes()
 }

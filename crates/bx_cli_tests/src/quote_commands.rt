@@ -3,8 +3,7 @@
 use crate::file_commands::{Case, first_wrong};
 use crate::files::{folder, placed};
 use crate::program::Answer::{Fails, Misused, Prints};
-use bx_cli::main_words;
-use bx_devices::{Failing, Watched};
+use crate::program::is_front_written;
 use std::fs;
 use std::test::Fail;
 
@@ -101,32 +100,15 @@ static QUOTED: [Case; 22] = [
 /// What is written of a row, whole.
 static TEXT: &str = "row 2 pays 4\nits seconds cost 4\ntaken above 5\ninstead of 1\nbesides 3\n";
 
-/// Whether a writer that fails after so many writes of an octet has that front of the lines, and the failure is
-/// printed and answered where that is not all.
-fn writes(rt: &HostRuntime, plan: &str, calls: u32) -> bool {
-    let mut input = Watched::new(b"".as_slice());
-    let mut output = Watched::new(Failing::new(Vec::new(rt.alloc()), calls, 1));
-    let mut errors = Watched::new(Vec::new(rt.alloc()));
-    let words = ["explain", plan, "2"];
-    let status = main_words(rt, &words, &mut input, &mut output, &mut errors, false);
-    let written = output.into_inner().into_inner();
-    let is_front = written.len() == calls as usize && TEXT.as_bytes().starts_with(&written);
-    let (expected, said) = if written.len() == TEXT.len() {
-        (0, "")
-    } else {
-        (1, "bx: F2 CannotWrite\n")
-    };
-    is_front && status == expected && errors.into_inner().as_slice() == said.as_bytes()
-}
-
 #[test]
 fn answers_for_what_is_refused(rt: HostRuntime) -> Result<(), Fail> {
     let folder = folder(&rt)?;
     assert_eq!(rt; first_wrong(&rt, &folder, &EXPLAINED)?, None);
     assert_eq!(rt; first_wrong(&rt, &folder, &QUOTED)?, None);
     let plan = placed(rt.alloc(), "@trade.txt", &folder)?;
-    for calls in 0..70u32 {
-        assert!(rt; writes(&rt, &plan, calls), "{calls}");
+    let words = ["explain", plan.as_str(), "2"];
+    for taken in 0..70u32 {
+        assert!(rt; is_front_written(&rt, &words, TEXT, taken), "{taken}");
     }
     fs::remove_dir_all(&rt, folder.as_str())?;
     Ok(())

@@ -24,7 +24,7 @@ static CASES: [Case; 8] = [
     (&["decode", ""], Fails("bx: M1 TooShort\n")),
     (&["decode"], Misused),
     (&["dance"], Misused),
-    (&["--version"], Prints("bx 0.1.0\n")),
+    (&["--version"], Prints("bx 0.2.0\n")),
 ];
 
 #[test]

@@ -8,7 +8,7 @@ ghost use Rattle.bx_colour.specs.Colouring.{FitsChannels, IsFirstFit, is_in};
 use crate::order::in_order;
 use crate::sweep::lowest_free_at;
 use bx_base::{Bookings, ChannelSet};
-use bx_numbers::Channel;
+use bx_channels::Channel;
 use std::alloc::{AllocError, Global};
 
 /// In the order of (start, row) each accepted booking gets the lowest channel of the set that no earlier accepted

@@ -2,10 +2,10 @@
 
 ghost use Rattle.std.specs.Prelude.{◌≡◌, ◌≤◌, ◌<◌, ℕ, true, slice_index, IfSome, IfNone};
 ghost use Rattle.bx_base.specs.Channels.{has_channel, IsChannelSet};
-ghost use Rattle.bx_numbers.specs.ChannelNumbers.{IsChannel};
+ghost use Rattle.bx_channels.specs.ChannelNumbers.{IsChannel};
 
 use bx_base::ChannelSet;
-use bx_numbers::Channel;
+use bx_channels::Channel;
 
 /// The lowest channel in service whose last booking has ended by this moment, where `until` has the end of the last
 /// booking on each channel.

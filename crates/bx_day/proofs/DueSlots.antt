@@ -2,7 +2,7 @@
 use Rattle.std.proofs.Common.{◌≡◌, ℕ, min, ◌+◌, ◌≤◌, ◌<◌, Bool, true, false, length, Option, Some, None, arith, refl, sym, subst, ap, ◌∙◌, inl, inr, if◌then◌else◌}
 use Rattle.std.proofs.Math.Nat.{le-min, min-le_left, min-le_right}
 use Rattle.std.proofs.lemmas.Bool.{true≢false, false≢true, cases_lt}
-use Rattle.bx_numbers.specs.ChannelNumbers.{IsChannel}
+use Rattle.bx_channels.specs.ChannelNumbers.{IsChannel}
 use Rattle.bx_day.specs.Day.{Day, is_live, is_unoffered, is_free, entry_at}
 use Rattle.bx_day.specs.Invariant.{is_refused}
 use Rattle.bx_day.specs.Quiet.{never}

@@ -9,7 +9,7 @@ use Rattle.bx_calls.specs.declared.net_state.NetState.{NetState}
 use Rattle.bx_calls.specs.declared.net_state.NetState.TheVariants.{OutgoingCallProceeding, CallPresent, IncomingCallProceeding, CallReceived, Active, DisconnectIndication, ReleaseRequest}
 use Rattle.bx_calls.specs.NetTable.{net_second}
 use Rattle.bx_day.specs.Day.{Day, is_free, entry_at}
-use Rattle.bx_day.specs.Ticks.{second_at, second_of, after_second, waits, tick, ticked}
+use Rattle.bx_day.specs.Ticks.{second_at, waits, tick, ticked, second_in, after_in}
 use Rattle.bx_day.specs.Moves.{stays, over_at, follows}
 use Rattle.bx_calls.specs.Sending.{Sent}
 use Rattle.bx_day.specs.Invariant.{EntryFits}
@@ -27,6 +27,7 @@ use Rattle.bx_day.proofs.Once.{decide, each_at}
 use Rattle.bx_day.proofs.Passing.{tick_is}
 use Rattle.bx_day.proofs.Law.{at_map}
 use Rattle.bx_day.proofs.Quiet.{quiet_tick, all_at, booking_quiet, waits_on, not_offered}
+use Rattle.bx_day.specs.declared.entry.Link.TheVariants.{Up}
 
 -- ---- before it is due, a booking stays as it is
 
@@ -42,7 +43,7 @@ due_quiet moment t free e Missed h order lt = refl
 pub quiet_until : (d : Day) (due k : ℕ) → IsExchange d → IsDue d (length d.entries) due → d.moment + k + 1 < due → IsQuietTick (later_by k d)
 quiet_until d due k h is lt =
     tick_is (later_by k d) (let limit : due ≤ 300001 = is.limit in omega (arith, lt, limit))
-    ∙ quiet_tick (later_by k d) (all_at (λ e. second_of (later_by k d) e ≡ stays e.standing) d.entries (λ i inside.
+    ∙ quiet_tick (later_by k d) (all_at (λ e. second_in Up (later_by k d) e ≡ stays e.standing) d.entries (λ i inside.
     let e = entry_at d.entries i in
     let before : due ≤ due_at d i = is.before i inside in
     due_quiet d.moment (d.moment + k + 1) (is_free d e.channel) e e.standing (each_at (EntryFits d.moment) d.entries i inside h.day.each) (is.ordered i inside) (omega (arith, lt, before))))
@@ -147,12 +148,12 @@ quiet_booking : (d : Day) (i : ℕ) → IsQuietTick d → d.moment + 2 ≤ due_a
 quiet_booking d i quiet =
     let early = quiet_early d quiet in
     let e = entry_at d.entries i in
-    let same : after_second d e ≡ e = sym (at_map d d.entries i) ∙ ap (λ (s : Sent Day). entry_at s.day.entries i) (sym (tick_is d early) ∙ quiet) in
+    let same : after_in Up d e ≡ e = sym (at_map d d.entries i) ∙ ap (λ (s : Sent Day). entry_at s.day.entries i) (sym (tick_is d early) ∙ quiet) in
     decide (nat_le (due_at d i) (d.moment + 1))
     (λ due.
     let le : due_at d i ≤ d.moment + 1 = leb-true (due_at d i) (d.moment + 1) due in
-    let rises : stage e.standing < stage (second_of d e).standing = due_rises (d.moment + 1) (is_free d e.channel) e e.standing (omega (arith, early)) le in
-    let kept : stage (second_of d e).standing ≡ stage e.standing = ap (λ (x : Entry). stage x.standing) same in
+    let rises : stage e.standing < stage (second_in Up d e).standing = due_rises (d.moment + 1) (is_free d e.channel) e e.standing (omega (arith, early)) le in
+    let kept : stage (second_in Up d e).standing ≡ stage e.standing = ap (λ (x : Entry). stage x.standing) same in
     absurd (omega (arith, rises, kept)))
     (λ later. let lt : d.moment + 1 < due_at d i = leb-false (due_at d i) (d.moment + 1) later in omega (arith, lt))
 

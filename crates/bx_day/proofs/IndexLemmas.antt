@@ -4,12 +4,12 @@ use Rattle.std.specs.Prelude.{is_some}
 use Rattle.std.proofs.lemmas.Bool.{true≢false, false≢true}
 use Rattle.bx_base.specs.Bookings.{Row, row_at, AreBookings}
 use Rattle.bx_q931.specs.Outgoing.{Outgoing}
-use Rattle.bx_day.specs.Passing.{day_of, AreBlocked, AreTouched, IsTicked}
-use Rattle.bx_day.proofs.Passing.{map_size, refilled, ticked_stays}
+use Rattle.bx_day.specs.Passing.{day_of, AreBlocked, AreTouched, IsSecond}
+use Rattle.bx_day.proofs.Passing.{map_size, refilled, passed_stays}
 use Rattle.bx_day.proofs.TouchSlots.{touched_of}
 use Rattle.bx_day.proofs.Dues.{quiet_until}
 use Rattle.bx_day.specs.Day.{Day, is_live, is_unoffered, entry_at, entries_from, entry_of}
-use Rattle.bx_day.specs.Ticks.{after_second, ticked}
+use Rattle.bx_day.specs.Ticks.{after_in, passed_in}
 use Rattle.bx_day.specs.Invariant.{is_refused}
 use Rattle.bx_day.specs.Linking.{AreLinks}
 use Rattle.bx_day.specs.QuietSeconds.{later_by, IsQuietTick, IsQuietFor, IsDue}
@@ -17,6 +17,7 @@ use Rattle.bx_day.specs.Reading.{IsExchange}
 use Rattle.bx_day.specs.Slots.{slot_at, AreSlots, IsIndexed}
 use Rattle.bx_day.specs.SlotSteps.{follower}
 use Rattle.bx_day.specs.declared.entry.Entry.{Entry}
+use Rattle.bx_day.specs.declared.entry.Link.{Link}
 use Rattle.bx_day.proofs.LinkLemmas.{none_in}
 use Rattle.bx_day.proofs.OpeningDay.{opening_at, opening_size}
 use Rattle.bx_day.proofs.Skips.{later_none, skip_stays}
@@ -104,34 +105,34 @@ opening_slots rows assigned d heads behind b is l =
 -- ---- after a pass over the bookings
 
 -- what it leaves
-pub pass_moved : (t : ℕ) (items es new : List Entry) (ms ms' : List Bool) (said : List (Option Outgoing)) (live waiting behind seen second : List (Option ℕ)) (due : ℕ) (blocked : List Bool) (now : Day) → IsIndexed (day_of t items ms) live waiting behind due → es ≡ items → seen ≡ behind → day_of t items ms ≡ now → AreBlocked now blocked → ((c : ℕ) → slot_at second c ≡ follower seen (slot_at waiting c))
-    → ((d : Day) → d ≡ day_of t es ms → IsExchange d → AreBlocked d blocked → AreTouched d live waiting second → IsTicked d new ms' said) → IsTicked (day_of t es ms) new ms' said
-pass_moved t items es new ms ms' said live waiting behind seen second due blocked now h same read view free follows moved =
+pub pass_moved : (link : Link) (t : ℕ) (items es new : List Entry) (ms ms' : List Bool) (said : List (Option Outgoing)) (live waiting behind seen second : List (Option ℕ)) (due : ℕ) (blocked : List Bool) (now : Day) → IsIndexed (day_of t items ms) live waiting behind due → es ≡ items → seen ≡ behind → day_of t items ms ≡ now → AreBlocked now blocked → ((c : ℕ) → slot_at second c ≡ follower seen (slot_at waiting c))
+    → ((d : Day) → d ≡ day_of t es ms → IsExchange d → AreBlocked d blocked → AreTouched link d live waiting second → IsSecond link d new ms' said) → IsSecond link (day_of t es ms) new ms' said
+pass_moved link t items es new ms ms' said live waiting behind seen second due blocked now h same read view free follows moved =
     let d = day_of t es ms in
     let day : day_of t items ms ≡ d = ap (λ (xs : List Entry). day_of t xs ms) (sym same) in
     let whole : IsExchange d = subst IsExchange day h.exchange in
     let slots : AreSlots d live waiting behind = subst (λ (x : Day). AreSlots x live waiting behind) day h.slots in
-    moved d refl whole (subst (λ (x : Day). AreBlocked x blocked) (sym view ∙ day) free) (touched_of d live waiting behind second whole slots (λ c. follows c ∙ ap (λ b. follower b (slot_at waiting c)) read))
+    moved d refl whole (subst (λ (x : Day). AreBlocked x blocked) (sym view ∙ day) free) (touched_of link d live waiting behind second whole slots (λ c. follows c ∙ ap (λ b. follower b (slot_at waiting c)) read))
 
-pub pass_indexed : (t n : ℕ) (items es new seen : List Entry) (ms ms' : List Bool) (said : List (Option Outgoing)) (live waiting behind live' waiting' : List (Option ℕ)) → t < 300000 → IsExchange (day_of t items ms) → AreSlots (day_of t items ms) live waiting behind → es ≡ items → n ≡ length items
-    → IsTicked (day_of t es ms) new ms' said → seen ≡ take n (new ++ drop (length new) items) → ((d : Day) → IsExchange d → d.moment < 300000 → seen ≡ map (after_second d) d.entries → AreSlots d live waiting behind → AreSlots (ticked d).day live' waiting' behind)
+pub pass_indexed : (link : Link) (t n : ℕ) (items es new seen : List Entry) (ms ms' : List Bool) (said : List (Option Outgoing)) (live waiting behind live' waiting' : List (Option ℕ)) → t < 300000 → IsExchange (day_of t items ms) → AreSlots (day_of t items ms) live waiting behind → es ≡ items → n ≡ length items
+    → IsSecond link (day_of t es ms) new ms' said → seen ≡ take n (new ++ drop (length new) items) → ((d : Day) → IsExchange d → d.moment < 300000 → seen ≡ map (after_in link d) d.entries → AreSlots d live waiting behind → AreSlots (passed_in link d).day live' waiting' behind)
     → IsIndexed (day_of (t + 1) (take n (new ++ drop (length new) items)) ms') live' waiting' behind 0
-pass_indexed t n items es new seen ms ms' said live waiting behind live' waiting' early h slots same all moved is settled =
+pass_indexed link t n items es new seen ms ms' said live waiting behind live' waiting' early h slots same all moved is settled =
     let d = day_of t es ms in
     let whole : IsExchange d = subst (λ (xs : List Entry). IsExchange (day_of t xs ms)) (sym same) h in
-    let count : length new ≡ length items = ap length moved.entries ∙ map_size d es ∙ ap length same in
-    let entries : take n (new ++ drop (length new) items) ≡ map (after_second d) es = refilled n new items count all ∙ moved.entries in
-    let day : day_of (t + 1) (take n (new ++ drop (length new) items)) ms' ≡ (ticked d).day = ap₂ (day_of (t + 1)) entries moved.maintenance in
-    subst (λ (x : Day). IsIndexed x live' waiting' behind 0) (sym day) (indexed_now (ticked d).day live' waiting' behind (ticked_stays d early whole) (settled d whole early (is ∙ entries) (subst (λ (xs : List Entry). AreSlots (day_of t xs ms) live waiting behind) (sym same) slots)))
+    let count : length new ≡ length items = ap length moved.entries ∙ map_size link d es ∙ ap length same in
+    let entries : take n (new ++ drop (length new) items) ≡ map (after_in link d) es = refilled n new items count all ∙ moved.entries in
+    let day : day_of (t + 1) (take n (new ++ drop (length new) items)) ms' ≡ (passed_in link d).day = ap₂ (day_of (t + 1)) entries moved.maintenance in
+    subst (λ (x : Day). IsIndexed x live' waiting' behind 0) (sym day) (indexed_now (passed_in link d).day live' waiting' behind (passed_stays link d early whole) (settled d whole early (is ∙ entries) (subst (λ (xs : List Entry). AreSlots (day_of t xs ms) live waiting behind) (sym same) slots)))
 
-pub pass_size : (t n : ℕ) (items es new seen : List Entry) (ms ms' : List Bool) (said : List (Option Outgoing)) → es ≡ items → n ≡ length items → IsTicked (day_of t es ms) new ms' said → seen ≡ take n (new ++ drop (length new) items) → length seen ≡ length items
-pass_size t n items es new seen ms ms' said same all moved is =
+pub pass_size : (link : Link) (t n : ℕ) (items es new seen : List Entry) (ms ms' : List Bool) (said : List (Option Outgoing)) → es ≡ items → n ≡ length items → IsSecond link (day_of t es ms) new ms' said → seen ≡ take n (new ++ drop (length new) items) → length seen ≡ length items
+pass_size link t n items es new seen ms ms' said same all moved is =
     let d = day_of t es ms in
-    let count : length new ≡ length items = ap length moved.entries ∙ map_size d es ∙ ap length same in
+    let count : length new ≡ length items = ap length moved.entries ∙ map_size link d es ∙ ap length same in
     ap length (is ∙ refilled n new items count all) ∙ count
 
-pub pass_day : (t n : ℕ) (items es new : List Entry) (ms ms' : List Bool) (said : List (Option Outgoing)) → es ≡ items → n ≡ length items → IsTicked (day_of t es ms) new ms' said → day_of (t + 1) (take n (new ++ drop (length new) items)) ms' ≡ (ticked (day_of t items ms)).day
-pass_day t n items es new ms ms' said same all moved =
+pub pass_day : (link : Link) (t n : ℕ) (items es new : List Entry) (ms ms' : List Bool) (said : List (Option Outgoing)) → es ≡ items → n ≡ length items → IsSecond link (day_of t es ms) new ms' said → day_of (t + 1) (take n (new ++ drop (length new) items)) ms' ≡ (passed_in link (day_of t items ms)).day
+pass_day link t n items es new ms ms' said same all moved =
     let d = day_of t es ms in
-    let count : length new ≡ length items = ap length moved.entries ∙ map_size d es ∙ ap length same in
-    ap₂ (day_of (t + 1)) (refilled n new items count all ∙ moved.entries) moved.maintenance ∙ ap (λ (xs : List Entry). (ticked (day_of t xs ms)).day) same
+    let count : length new ≡ length items = ap length moved.entries ∙ map_size link d es ∙ ap length same in
+    ap₂ (day_of (t + 1)) (refilled n new items count all ∙ moved.entries) moved.maintenance ∙ ap (λ (xs : List Entry). (passed_in link (day_of t xs ms)).day) same

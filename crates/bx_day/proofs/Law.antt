@@ -11,7 +11,7 @@ use Rattle.bx_q931.specs.declared.channel_field.ChannelField.TheVariants.{Absent
 use Rattle.bx_calls.specs.PlainCalls.{PlainNetCall}
 use Rattle.bx_calls.specs.declared.net_state.NetState.{NetState}
 use Rattle.bx_calls.specs.declared.net_state.NetState.TheVariants.{OutgoingCallProceeding, CallPresent, IncomingCallProceeding, CallReceived, Active, DisconnectIndication, ReleaseRequest}
-use Rattle.bx_calls.specs.NetTable.{net_message, net_second}
+use Rattle.bx_calls.specs.NetTable.{net_message, net_second, net_unlinked}
 use Rattle.bx_base.specs.Bookings.{Row, row_at, is_running, AreBookings, Carries}
 use Rattle.bx_base.specs.Plans.{is_accepted, channel_at}
 use Rattle.bx_calls.specs.Said.{Said, said_of}
@@ -20,20 +20,24 @@ use Rattle.bx_day.specs.declared.entry.Standing.{Standing}
 use Rattle.bx_day.specs.declared.entry.Standing.TheVariants.{Refused, Unoffered, OnCall, Carried, Unanswered, Missed}
 use Rattle.bx_day.specs.declared.entry.Entry.{Entry}
 use Rattle.bx_day.specs.declared.entry.Moved.{Moved}
+use Rattle.bx_day.specs.declared.entry.Link.{Link}
+use Rattle.bx_day.specs.declared.entry.Link.TheVariants.{Up, Down}
 use Rattle.bx_day.specs.Day.{Day, entry_at, no_entry, opening, entry_of, entries_from, is_free, is_live, index_of, every_channel}
-use Rattle.bx_day.specs.Ticks.{after_second, second_at, waits, tick}
+use Rattle.bx_day.specs.Ticks.{after_in, second_at, second_by, waits, tick, passed_in}
 use Rattle.bx_day.specs.Receipts.{hears, takes_call, takes_or, takes_preferred, called_on, called, stray, received_at, receive, opens, lowest_open, names, with_moved}
 use Rattle.bx_calls.specs.Sending.{Sent, Answered}
-use Rattle.bx_q931.specs.Events.{Event, Tick, Receive}
+use Rattle.bx_events.specs.Events.{Event, Tick, Receive, LiveEvent, OnLink, WithoutLink}
+use Rattle.bx_day.specs.Outages.{without_link, live_happens, live_day_after}
 use Rattle.bx_day.specs.Run.{receive_from, receive_read, happens, day_after}
 use Rattle.bx_q931.specs.Messages.{PlainMessage, message_at}
 use Rattle.bx_q931.specs.declared.reference.Reference.{Reference}
 use Rattle.bx_q931.specs.declared.reference.Reference.TheVariants.{Dummy, Value}
 use Rattle.bx_q931.specs.declared.fault.MessageFault.{MessageFault}
 use Rattle.bx_day.specs.Invariant.{EntryFits, StandingFits, CallFits, Apart, Pairs, DayFits, is_refused, phase_of, PhaseFits, DueFits}
+use Rattle.bx_day.specs.Clearing.{ClearsBy, StandingClears, EntryClears, DayClears}
 use Rattle.bx_day.specs.Law.{OnLive, OnCarried, standing_at, IsOrderly}
 use Rattle.bx_day.proofs.Sent.{Placed}
-use Rattle.bx_day.proofs.Tick.{by_cases, with_standing, offers, tick_fits, follow_refused}
+use Rattle.bx_day.proofs.Tick.{by_cases, unlinked, without_fits, with_standing, offers, tick_fits, follow_refused}
 use Rattle.bx_day.proofs.Receive.{receive_fits, all_at, apart_none, OpenAt, open_parts, open_index, open_lowest}
 
 -- the opening day
@@ -101,6 +105,10 @@ second_same e t free (Carried from until) = refl
 second_same e t free Unanswered = refl
 second_same e t free Missed = refl
 
+pub in_same : (link : Link) (e : Entry) (t : ℕ) (free : Bool) (s : Standing) → is_refused (second_by link e t free s).standing ≡ is_refused s
+in_same Up e t free s = second_same e t free s
+in_same Down e t free s = unlinked e t s (λ m. is_refused m.standing ≡ is_refused s) (λ c a p. follow_refused a t (net_unlinked 1 c t e.booking.end).reply (net_unlinked 1 c t e.booking.end).next ∙ sym (ap is_refused p)) (second_same e t false s)
+
 pub hears_same : (m : Said) (t : ℕ) (s : Standing) → is_refused (hears m t s).standing ≡ is_refused s
 hears_same m t Refused = refl
 hears_same m t Unoffered = refl
@@ -112,10 +120,14 @@ hears_same m t Missed = refl
 refit : (b : Row) (a : Option ℕ) (e : Entry) (s : Standing) → is_refused s ≡ is_refused e.standing → IsFrame b a e → IsFrame b a (with_standing e s)
 refit b a e s same h = record { booking = h.booking; channel = h.channel; accepted = same ∙ h.accepted }
 
-pub at_map : (d : Day) (es : List Entry) (i : ℕ) → entry_at (map (after_second d) es) i ≡ after_second d (entry_at es i)
-at_map d [] i = refl
-at_map d (e ∷ es) zero = refl
-at_map d (e ∷ es) (suc i) = at_map d es i
+pub at_map_in : (link : Link) (d : Day) (es : List Entry) (i : ℕ) → entry_at (map (after_in link d) es) i ≡ after_in link d (entry_at es i)
+at_map_in Up d [] i = refl
+at_map_in Down d [] i = refl
+at_map_in link d (e ∷ es) zero = refl
+at_map_in link d (e ∷ es) (suc i) = at_map_in link d es i
+
+pub at_map : (d : Day) (es : List Entry) (i : ℕ) → entry_at (map (after_in Up d) es) i ≡ after_in Up d (entry_at es i)
+at_map d es i = at_map_in Up d es i
 
 at_set : (P : Entry → Type 0) (es : List Entry) (i k : ℕ) (y : Entry) → (P (entry_at es i) → P y) → P (entry_at es k) → P (entry_at (slice_set es i y) k)
 at_set P [] i k y f p = p
@@ -160,23 +172,28 @@ opening_placed rows assigned = all_from (Placed rows assigned) (entries_from 1 r
 replace : (rows : List Row) (assigned : List (Option ℕ)) (e : Entry) (s : Standing) → is_refused s ≡ is_refused e.standing → Placed rows assigned e → Placed rows assigned (with_standing e s)
 replace rows assigned e s same p = record { index = p.index; row = p.row; booking = p.booking; channel = p.channel; accepted = same ∙ p.accepted }
 
-tick_placed : (rows : List Row) (assigned : List (Option ℕ)) (d : Day) (es : List Entry) → AllByRecursion (Placed rows assigned) es → AllByRecursion (Placed rows assigned) (map (after_second d) es)
-tick_placed rows assigned d [] h = tt
-tick_placed rows assigned d (e ∷ es) h = (replace rows assigned e _ (second_same e (d.moment + 1) (is_free d e.channel) e.standing) h.0, tick_placed rows assigned d es h.1)
+second_placed : (rows : List Row) (assigned : List (Option ℕ)) (link : Link) (d : Day) (es : List Entry) → AllByRecursion (Placed rows assigned) es → AllByRecursion (Placed rows assigned) (map (after_in link d) es)
+second_placed rows assigned link d [] h = tt
+second_placed rows assigned link d (e ∷ es) h = (replace rows assigned e _ (in_same link e (d.moment + 1) (is_free d e.channel) e.standing) h.0, second_placed rows assigned link d es h.1)
 
 pub all_update : (P : Entry → Type 0) (es : List Entry) (i : ℕ) (y : Entry) → (P (entry_at es i) → P y) → AllByRecursion P es → AllByRecursion P (slice_set es i y)
 all_update P [] i y f h = tt
 all_update P (e ∷ es) zero y f h = (f h.0, h.1)
 all_update P (e ∷ es) (suc i) y f h = (h.0, all_update P es i y f h.1)
 
+second_framed : (rows : List Row) (assigned : List (Option ℕ)) (link : Link) (d : Day) → Framed rows assigned d → Framed rows assigned (passed_in link d).day
+second_framed rows assigned link d h = (
+  (λ i lt. let e = entry_at d.entries i in
+      subst (IsFrame (row_at rows i) (slice_index_or assigned i None)) (sym (at_map_in link d d.entries i))
+      (refit (row_at rows i) (slice_index_or assigned i None) e _ (in_same link e (d.moment + 1) (is_free d e.channel) e.standing) (h.0 i lt))),
+  second_placed rows assigned link d d.entries h.1,
+)
+
 tick_framed : (rows : List Row) (assigned : List (Option ℕ)) (d : Day) → Framed rows assigned d → Framed rows assigned (tick d).day
-tick_framed rows assigned d h = by_cases (nat_le 300000 d.moment) _ _ (λ (s : Sent Day). Framed rows assigned s.day) (λ _. h)
-    (λ _. (
-      (λ i lt. let e = entry_at d.entries i in
-          subst (IsFrame (row_at rows i) (slice_index_or assigned i None)) (sym (at_map d d.entries i))
-          (refit (row_at rows i) (slice_index_or assigned i None) e _ (second_same e (d.moment + 1) (is_free d e.channel) e.standing) (h.0 i lt))),
-      tick_placed rows assigned d d.entries h.1,
-    ))
+tick_framed rows assigned d h = by_cases (nat_le 300000 d.moment) _ _ (λ (s : Sent Day). Framed rows assigned s.day) (λ _. h) (λ _. second_framed rows assigned Up d h)
+
+without_framed : (rows : List Row) (assigned : List (Option ℕ)) (d : Day) → Framed rows assigned d → Framed rows assigned (without_link d)
+without_framed rows assigned d h = by_cases (nat_le 300000 d.moment) _ _ (Framed rows assigned) (λ _. h) (λ _. second_framed rows assigned Down d h)
 
 moved_framed : (rows : List Row) (assigned : List (Option ℕ)) (d : Day) (i : ℕ) (m : Moved) → is_refused m.standing ≡ is_refused (entry_at d.entries i).standing → Framed rows assigned d → Framed rows assigned (with_moved d i m).day
 moved_framed rows assigned d i m same h = (
@@ -227,13 +244,28 @@ read_run : (rows : List Row) (assigned : List (Option ℕ)) (d : Day) (r : Resul
 read_run rows assigned d (Err fault) h = h
 read_run rows assigned d (Ok m) h = from_run rows assigned d m m.reference h
 
-happens_fits : (rows : List Row) (assigned : List (Option ℕ)) (d : Day) (e : Event) → RunFits rows assigned d → RunFits rows assigned (happens d e).day
+pub happens_fits : (rows : List Row) (assigned : List (Option ℕ)) (d : Day) (e : Event) → RunFits rows assigned d → RunFits rows assigned (happens d e).day
 happens_fits rows assigned d Tick h = record { day = tick_fits d h.day; framed = tick_framed rows assigned d h.framed }
 happens_fits rows assigned d (Receive octets) h = read_run rows assigned d (message_at octets) h
 
 pub run_fits : (rows : List Row) (assigned : List (Option ℕ)) (events : List Event) (d : Day) → RunFits rows assigned d → RunFits rows assigned (day_after events d)
 run_fits rows assigned [] d h = h
 run_fits rows assigned (e ∷ es) d h = run_fits rows assigned es (happens d e).day (happens_fits rows assigned d e h)
+
+pub without_run : (rows : List Row) (assigned : List (Option ℕ)) (d : Day) → RunFits rows assigned d → RunFits rows assigned (without_link d)
+without_run rows assigned d h = record { day = without_fits d h.day; framed = without_framed rows assigned d h.framed }
+
+pub live_fits : (rows : List Row) (assigned : List (Option ℕ)) (d : Day) (e : LiveEvent) → RunFits rows assigned d → RunFits rows assigned (live_happens d e).day
+live_fits rows assigned d (OnLink e) h = happens_fits rows assigned d e h
+live_fits rows assigned d WithoutLink h = without_run rows assigned d h
+
+pub live_run : (rows : List Row) (assigned : List (Option ℕ)) (events : List LiveEvent) (d : Day) → RunFits rows assigned d → RunFits rows assigned (live_day_after events d)
+live_run rows assigned [] d h = h
+live_run rows assigned (e ∷ es) d h = live_run rows assigned es (live_happens d e).day (live_fits rows assigned d e h)
+
+pub all_on_link : (events : List Event) (d : Day) → live_day_after (map (λ (e : Event). OnLink e) events) d ≡ day_after events d
+all_on_link [] d = refl
+all_on_link (e ∷ es) d = all_on_link es (happens d e).day
 
 -- what that says
 on_live : (s : Standing) (P : PlainNetCall → Activity → Type 0) → ((c : PlainNetCall) (a : Activity) → s ≡ OnCall c a → P c a) → OnLive s P
@@ -271,30 +303,35 @@ active_runs t b c at h =
 call_at : (d : Day) (i : ℕ) → DayFits d → (c : PlainNetCall) (a : Activity) → standing_at d i ≡ OnCall c a → CallFits d.moment (entry_at d.entries i) c a
 call_at d i h c a p = subst (StandingFits d.moment (entry_at d.entries i)) p (all_at (EntryFits d.moment) tt d.entries i h.each)
 
--- 38 seconds after the end no call is left
-late_none : (t : ℕ) (b : Row) (s : NetState) → PhaseFits t b (phase_of s) → DueFits t b.end s → b.end + 38 ≤ t → ⊥
-late_none t b OutgoingCallProceeding p q h = omega arith
-late_none t b (CallPresent again due) p q h = omega arith
-late_none t b (IncomingCallProceeding due) p q h = omega arith
-late_none t b (CallReceived due) p q h = omega arith
-late_none t b Active p q h = omega arith
-late_none t b (DisconnectIndication cause due) p q h = omega arith
-late_none t b (ReleaseRequest false cause due) p q h = omega arith
-late_none t b (ReleaseRequest true cause due) p q h = omega arith
+-- 38 seconds with a link after the end no call is left
+late_none : (t n : ℕ) (b : Row) (s : NetState) → PhaseFits t b (phase_of s) → DueFits t s → (b.end ≤ t → ClearsBy (b.end + n) s) → b.end + 38 + n ≤ t → ⊥
+late_none t n b OutgoingCallProceeding p q c h = omega (arith, p.1, h)
+late_none t n b (CallPresent again due) p q c h = omega (arith, p.1, h)
+late_none t n b (IncomingCallProceeding due) p q c h = omega (arith, p.1, h)
+late_none t n b (CallReceived due) p q c h = omega (arith, p.1, h)
+late_none t n b Active p q c h = omega (arith, p.1, h)
+late_none t n b (DisconnectIndication cause due) p q c h = omega (arith, q.0, c (omega (arith, h)), h)
+late_none t n b (ReleaseRequest false cause due) p q c h = omega (arith, q.0, c (omega (arith, h)), h)
+late_none t n b (ReleaseRequest true cause due) p q c h = omega (arith, q.0, c (omega (arith, h)), h)
 
-pub orderly : (rows : List Row) (assigned : List (Option ℕ)) (d : Day) → RunFits rows assigned d → IsOrderly rows assigned d
-orderly rows assigned d h = record {
+-- no channel is held twice
+pub held_apart : (rows : List Row) (assigned : List (Option ℕ)) (d : Day) → RunFits rows assigned d → (i j : ℕ) → i < j → OnLive (standing_at d i) (λ call a. OnLive (standing_at d j) (λ other b. call.channel ≢ other.channel))
+held_apart rows assigned d h i j lt = on_live (standing_at d i) _ (λ c a p. on_live (standing_at d j) _ (λ c' a' p' same.
+    (pairs_at d.entries i j lt h.day.pairs).live (ap is_live p) (ap is_live p') (sym (call_at d i h.day c a p).channel ∙ same ∙ (call_at d j h.day c' a' p').channel)))
+
+pub orderly : (rows : List Row) (assigned : List (Option ℕ)) (lost : ℕ → ℕ) (d : Day) → RunFits rows assigned d → DayClears lost d → IsOrderly rows assigned lost d
+orderly rows assigned lost d h clears = record {
   planned = λ i lt. on_live (standing_at d i) _ (λ c a p. (
     not_refused (slice_index_or assigned i None) (sym (ap is_refused p) ∙ (h.framed.0 i lt).accepted),
     (call_at d i h.day c a p).channel ∙ (h.framed.0 i lt).channel,
   ));
-  apart = λ i j lt le. on_live (standing_at d i) _ (λ c a p. on_live (standing_at d j) _ (λ c' a' p' same.
-      (pairs_at d.entries i j lt h.day.pairs).live (ap is_live p) (ap is_live p') (sym (call_at d i h.day c a p).channel ∙ same ∙ (call_at d j h.day c' a' p').channel)));
+  apart = λ i j lt le. held_apart rows assigned d h i j lt;
   active = λ i lt. on_live (standing_at d i) _ (λ c a p at. subst (λ b. is_running b d.moment ≡ true) (h.framed.0 i lt).booking (active_runs d.moment (entry_at d.entries i).booking c at (call_at d i h.day c a p).phase));
   carried = λ i lt. on_carried (standing_at d i) _ (λ from until p. subst (λ b. (b.start ≤ from) × (from ≤ until) × (until ≤ b.end)) (h.framed.0 i lt).booking (subst (StandingFits d.moment (entry_at d.entries i)) p (all_at (EntryFits d.moment) tt d.entries i h.day.each)));
   cleared = λ i lt late.
-      (let over : (entry_at d.entries i).booking.end + 38 ≤ d.moment = subst (λ b. b.end + 38 ≤ d.moment) (sym (h.framed.0 i lt).booking) late in (
+      (let b : Row = (entry_at d.entries i).booking in
+      let over : b.end + 38 + lost b.end ≤ d.moment = subst (λ b. b.end + 38 + lost b.end ≤ d.moment) (sym (h.framed.0 i lt).booking) late in (
         (λ p. let early : d.moment < (entry_at d.entries i).booking.end = subst (StandingFits d.moment (entry_at d.entries i)) p (all_at (EntryFits d.moment) tt d.entries i h.day.each) in omega arith),
-        on_live (standing_at d i) _ (λ c a p. late_none d.moment (entry_at d.entries i).booking c.state (call_at d i h.day c a p).phase (call_at d i h.day c a p).due over),
+        on_live (standing_at d i) _ (λ c a p. late_none d.moment (lost b.end) b c.state (call_at d i h.day c a p).phase (call_at d i h.day c a p).due (subst (StandingClears (lost b.end) d.moment b) p (all_at (EntryClears lost d.moment) tt d.entries i clears)) over),
       ));
 }

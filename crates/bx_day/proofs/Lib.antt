@@ -4,6 +4,7 @@ pub mod Tick
 pub mod Hear
 pub mod Receive
 pub mod Law
+pub mod Clearing
 pub mod Said
 pub mod Sent
 pub mod Indices
@@ -27,3 +28,5 @@ pub mod IndexLemmas
 pub mod SaidOnce
 pub mod TouchLemmas
 pub mod TouchSlots
+mod Outlasting
+mod WaitingAnew

@@ -25,7 +25,7 @@ apart_at es i j t ps li lj other ai aj same ri rj = elim (cases_lt i j) [
   | inr le ↦ (pairs_at Apart es j i (omega (arith, le, other)) li ps).planned aj ai (sym same) t rj ri
 ]
 
-ends_first : (es : List Entry) (i j : ℕ) → Pairs Apart es → i < length es → j < length es → i ≢ j → is_refused (entry_at es i).standing ≡ false → is_refused (entry_at es j).standing ≡ false → (entry_at es i).channel ≡ (entry_at es j).channel → (entry_at es i).booking.start ≤ (entry_at es j).booking.start → (entry_at es j).booking.start < (entry_at es j).booking.end → (entry_at es i).booking.end ≤ (entry_at es j).booking.start
+pub ends_first : (es : List Entry) (i j : ℕ) → Pairs Apart es → i < length es → j < length es → i ≢ j → is_refused (entry_at es i).standing ≡ false → is_refused (entry_at es j).standing ≡ false → (entry_at es i).channel ≡ (entry_at es j).channel → (entry_at es i).booking.start ≤ (entry_at es j).booking.start → (entry_at es j).booking.start < (entry_at es j).booking.end → (entry_at es i).booking.end ≤ (entry_at es j).booking.start
 ends_first es i j ps li lj other ai aj same le order =
     let e = (entry_at es i).booking in
     let f = (entry_at es j).booking in

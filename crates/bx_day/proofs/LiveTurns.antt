@@ -8,11 +8,12 @@ use Rattle.bx_day.specs.Slots.{IsLiveOn}
 use Rattle.bx_day.specs.SlotSteps.{is_live_at, live_of}
 use Rattle.bx_day.specs.declared.entry.Entry.{Entry}
 use Rattle.bx_day.specs.declared.entry.Moved.{Moved}
-use Rattle.bx_day.proofs.Law.{at_map}
+use Rattle.bx_day.proofs.Law.{at_map_in}
 use Rattle.bx_day.proofs.Once.{decide, each_at}
 use Rattle.bx_day.proofs.SlotLemmas.{some_is, holds_parts, holds_from, waits_parts}
-use Rattle.bx_day.proofs.Tick.{ticked_fits}
-use Rattle.bx_day.proofs.Turns.{After, tick_seats, IsNone, IsTurn, others_stay}
+use Rattle.bx_day.proofs.Tick.{pairs_apart, all_hold}
+use Rattle.bx_day.proofs.Turns.{After, second_seats, IsNone, IsTurn, others_stay}
+use Rattle.bx_day.specs.declared.entry.Link.{Link}
 
 -- ---- the live one after the tick
 
@@ -76,15 +77,15 @@ second_on d c a (Some r) s u t i is =
     let q = t.waiting.there r refl in
     (p.inside, p.channel ∙ (waits_parts c (entry_at d.entries r) q.1).1)
 
-pub on_after : (d : Day) (c : ℕ) (o : Option ℕ) → OnChannel d.entries c o → OnChannel (After d) c o
-on_after d c o h i is = let p = h i is in let s = tick_seats d in (subst (λ n. i < n) s.size p.0, sym (s.channel i) ∙ p.1)
+pub on_after : (link : Link) (d : Day) (c : ℕ) (o : Option ℕ) → OnChannel d.entries c o → OnChannel (After link d) c o
+on_after link d c o h i is = let p = h i is in let s = second_seats link d in (subst (λ n. i < n) s.size p.0, sym (s.channel i) ∙ p.1)
 
 -- after a tick each live booking of the channel is one of the three
-pub live_touched : (d : Day) (c i : ℕ) (a w s u : Option ℕ) → IsTurn d c a w s u → i < length (After d) → holds c (entry_at (After d) i) ≡ true → (a ≡ Some i) ⊎ ((w ≡ Some i) ⊎ ((s ≡ Some i) ⊎ ⊥))
-live_touched d c i a w s u t lt h =
-    let seats = tick_seats d in
+pub live_touched : (link : Link) (d : Day) (c i : ℕ) (a w s u : Option ℕ) → IsTurn d c a w s u → i < length (After link d) → holds c (entry_at (After link d) i) ≡ true → (a ≡ Some i) ⊎ ((w ≡ Some i) ⊎ ((s ≡ Some i) ⊎ ⊥))
+live_touched link d c i a w s u t lt h =
+    let seats = second_seats link d in
     let inside : i < length d.entries = subst (λ n. i < n) (sym seats.size) lt in
-    let p = holds_parts c (entry_at (After d) i) h in
+    let p = holds_parts c (entry_at (After link d) i) h in
     let on : (entry_at d.entries i).channel ≡ c = seats.channel i ∙ p.1 in
     elim (some_or_not a i) [
       | inl is ↦ inl is
@@ -93,17 +94,17 @@ live_touched d c i a w s u t lt h =
         | inr nw ↦ elim (some_or_not s i) [
           | inl is ↦ inr (inr (inl is))
           | inr ns ↦
-              let stay = others_stay d c i a w s u t inside on na nw ns in
-              let live : is_live (entry_at d.entries i).standing ≡ true = ap (λ (m : Moved). is_live m.standing) (sym stay) ∙ ap (λ (e : Entry). is_live e.standing) (sym (at_map d d.entries i)) ∙ p.0 in
+              let stay = others_stay link d c i a w s u t inside on na nw ns in
+              let live : is_live (entry_at d.entries i).standing ≡ true = ap (λ (m : Moved). is_live m.standing) (sym stay) ∙ ap (λ (e : Entry). is_live e.standing) (sym (at_map_in link d d.entries i)) ∙ p.0 in
               absurd (na (t.live.each i inside (holds_from c (entry_at d.entries i) live on)))
         ]
       ]
     ]
 
-pub live_settled : (d : Day) (c : ℕ) (a w s u : Option ℕ) → IsTurn d c a w s u → IsLiveOn (After d) c (live_of (After d) a w s)
-live_settled d c a w s u t =
-    let ps : Pairs Apart (After d) = (ticked_fits d t.exchange.day).pairs in
-    let last = one_among (After d) c (λ i. ⊥) s None ps (on_after d c s (second_on d c a w s u t)) (none_among (After d) c) in
-    let more = one_among (After d) c (λ i. (s ≡ Some i) ⊎ ⊥) w _ ps (on_after d c w (λ i is. (let p = t.waiting.there i is in (p.0, (waits_parts c (entry_at d.entries i) p.1).1)))) last in
-    let all = one_among (After d) c (λ i. (w ≡ Some i) ⊎ ((s ≡ Some i) ⊎ ⊥)) a _ ps (on_after d c a (λ i is. (let p = t.live.there i is in (p.0, (holds_parts c (entry_at d.entries i) p.1).1)))) more in
-    record { there = all.there; each = λ i lt h. all.each i lt h (live_touched d c i a w s u t lt h) }
+pub live_settled : (link : Link) (d : Day) (c : ℕ) (a w s u : Option ℕ) → IsTurn d c a w s u → IsLiveOn (After link d) c (live_of (After link d) a w s)
+live_settled link d c a w s u t =
+    let ps : Pairs Apart (After link d) = pairs_apart link d d.entries (all_hold d.entries) t.exchange.day.pairs in
+    let last = one_among (After link d) c (λ i. ⊥) s None ps (on_after link d c s (second_on d c a w s u t)) (none_among (After link d) c) in
+    let more = one_among (After link d) c (λ i. (s ≡ Some i) ⊎ ⊥) w _ ps (on_after link d c w (λ i is. (let p = t.waiting.there i is in (p.0, (waits_parts c (entry_at d.entries i) p.1).1)))) last in
+    let all = one_among (After link d) c (λ i. (w ≡ Some i) ⊎ ((s ≡ Some i) ⊎ ⊥)) a _ ps (on_after link d c a (λ i is. (let p = t.live.there i is in (p.0, (holds_parts c (entry_at d.entries i) p.1).1)))) more in
+    record { there = all.there; each = λ i lt h. all.each i lt h (live_touched link d c i a w s u t lt h) }

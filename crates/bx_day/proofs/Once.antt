@@ -1,19 +1,21 @@
--- At one tick at most one booking of a channel says something.
+-- In one second at most one booking of a channel says something.
 use Rattle.std.proofs.Common.{◌≡◌, ℕ, zero, suc, ◌+◌, ◌≤◌, ◌<◌, ◌==◌, Bool, true, false, List, [], ◌∷◌, length, Option, Some, None, arith, refl, sym, subst, ap, ◌∙◌, nat_le, is_some}
 use Rattle.std.specs.List.{AllByRecursion}
 use Rattle.std.proofs.lemmas.Bool.{false≢true, eqb-true}
-use Rattle.bx_numbers.specs.ChannelNumbers.{IsChannel}
+use Rattle.bx_channels.specs.ChannelNumbers.{IsChannel}
 use Rattle.bx_q931.specs.Outgoing.{Outgoing}
 use Rattle.bx_calls.specs.Shared.{cons_some}
 use Rattle.bx_day.specs.Day.{Day, is_live, is_held, is_free, entry_at}
-use Rattle.bx_day.specs.Ticks.{second_at, second_of, waits, said_on, SaysOnce}
+use Rattle.bx_day.specs.Ticks.{second_at, second_by, second_in, waits, said_in, SaysOnce}
 use Rattle.bx_day.specs.Invariant.{Apart, Pairs, is_refused}
 use Rattle.bx_day.specs.Reading.{Seated, IsExchange}
 use Rattle.bx_day.specs.declared.entry.Moved.{Moved}
+use Rattle.bx_day.specs.declared.entry.Link.{Link}
+use Rattle.bx_day.specs.declared.entry.Link.TheVariants.{Up, Down}
 use Rattle.bx_day.specs.declared.entry.Entry.{Entry}
 use Rattle.bx_day.specs.declared.entry.Standing.{Standing}
 use Rattle.bx_day.specs.declared.entry.Standing.TheVariants.{Refused, Unoffered, OnCall, Carried, Unanswered, Missed}
-use Rattle.bx_day.proofs.Tick.{by_cases, with_standing, offers, offers_parts, WasLive, Before, Offered, Holding, live_apart, all_hold}
+use Rattle.bx_day.proofs.Tick.{by_cases, unlinked, never_offered, with_standing, offers, offers_parts, WasLive, Before, Offered, Holding, live_apart, all_hold}
 
 none≢some : {X : Type 0} (x : X) → None ≡ Some x → ⊥
 none≢some x e = false≢true (ap is_some e)
@@ -29,7 +31,7 @@ each_at P [] n lt h = absurd (omega arith)
 each_at P (e ∷ es) zero lt h = h.0
 each_at P (e ∷ es) (suc n) lt h = each_at P es n (omega arith) h.1
 
--- ---- at one tick at most one booking of a channel says something
+-- ---- in one second at most one booking of a channel says something
 
 -- a booking that says something at a tick was live before, or is offered at it
 waits_says : (t : ℕ) (free : Bool) (e : Entry) (o : Outgoing) → (waits e t free).said ≡ Some o → WasLive t free (with_standing e Unoffered)
@@ -48,32 +50,36 @@ says t free e (Carried from until) o h = absurd (none≢some o h)
 says t free e Unanswered o h = absurd (none≢some o h)
 says t free e Missed o h = absurd (none≢some o h)
 
-pub was_live : (d : Day) (e : Entry) (o : Outgoing) → (second_of d e).said ≡ Some o → WasLive (d.moment + 1) (is_free d e.channel) e
-was_live d e o h = says (d.moment + 1) (is_free d e.channel) e e.standing o h
+pub in_says : (link : Link) (t : ℕ) (free : Bool) (e : Entry) (s : Standing) (o : Outgoing) → (second_by link e t free s).said ≡ Some o → WasLive t free (with_standing e s)
+in_says Up t free e s o h = says t free e s o h
+in_says Down t free e s o h = unlinked e t s (λ m. m.said ≡ Some o → WasLive t free (with_standing e s)) (λ c a p _. Before (ap is_live p)) (λ now. never_offered t free (with_standing e s) (says t false e s o now)) h
+
+pub was_live : (link : Link) (d : Day) (e : Entry) (o : Outgoing) → (second_in link d e).said ≡ Some o → WasLive (d.moment + 1) (is_free d e.channel) e
+was_live link d e o h = in_says link (d.moment + 1) (is_free d e.channel) e e.standing o h
 
 -- nothing is said where the first has nothing to say and the rest has not
 quiet : (o : Option Outgoing) (os : List Outgoing) → ((x : Outgoing) → o ≡ Some x → ⊥) → os ≡ [] → cons_some o os ≡ []
 quiet None os never h = h
 quiet (Some x) os never h = absurd (never x refl)
 
-quiet_after : (d : Day) (e : Entry) (c : ℕ) (fs : List Entry) → e.channel ≡ c → WasLive (d.moment + 1) (is_free d e.channel) e → Holding (is_held d.entries) e → AllByRecursion (Holding (is_held d.entries)) fs → AllByRecursion (Apart e) fs → said_on d c fs ≡ []
-quiet_after d e c [] on was he hs ps = refl
-quiet_after d e c (f ∷ fs) on was he hs ps =
-    let rest = quiet_after d e c fs on was he hs.1 ps.1 in
+quiet_after : (link : Link) (d : Day) (e : Entry) (c : ℕ) (fs : List Entry) → e.channel ≡ c → WasLive (d.moment + 1) (is_free d e.channel) e → Holding (is_held d.entries) e → AllByRecursion (Holding (is_held d.entries)) fs → AllByRecursion (Apart e) fs → said_in link d c fs ≡ []
+quiet_after link d e c [] on was he hs ps = refl
+quiet_after link d e c (f ∷ fs) on was he hs ps =
+    let rest = quiet_after link d e c fs on was he hs.1 ps.1 in
     by_cases (f.channel == c) _ _ (λ (os : List Outgoing). os ≡ [])
-    (λ same. quiet (second_of d f).said (said_on d c fs) (λ x h. live_apart d e f ps.0 he hs.0 was (was_live d f x h) (on ∙ sym (eqb-true f.channel c same))) rest)
+    (λ same. quiet (second_in link d f).said (said_in link d c fs) (λ x h. live_apart d e f ps.0 he hs.0 was (was_live link d f x h) (on ∙ sym (eqb-true f.channel c same))) rest)
     (λ _. rest)
 
 at_most_one : (o : Option Outgoing) (os : List Outgoing) → length os ≤ 1 → ((x : Outgoing) → o ≡ Some x → os ≡ []) → length (cons_some o os) ≤ 1
 at_most_one None os le h = le
 at_most_one (Some x) os le h = rw (h x refl) (omega arith)
 
-pub once : (d : Day) (c : ℕ) (es : List Entry) → AllByRecursion (Holding (is_held d.entries)) es → Pairs Apart es → length (said_on d c es) ≤ 1
-once d c [] hs ps = omega arith
-once d c (e ∷ es) hs ps =
+pub once : (link : Link) (d : Day) (c : ℕ) (es : List Entry) → AllByRecursion (Holding (is_held d.entries)) es → Pairs Apart es → length (said_in link d c es) ≤ 1
+once link d c [] hs ps = omega arith
+once link d c (e ∷ es) hs ps =
     by_cases (e.channel == c) _ _ (λ (os : List Outgoing). length os ≤ 1)
-    (λ on. at_most_one (second_of d e).said (said_on d c es) (once d c es hs.1 ps.1) (λ x h. quiet_after d e c es (eqb-true e.channel c on) (was_live d e x h) hs.0 hs.1 ps.0))
-    (λ _. once d c es hs.1 ps.1)
+    (λ on. at_most_one (second_in link d e).said (said_in link d c es) (once link d c es hs.1 ps.1) (λ x h. quiet_after link d e c es (eqb-true e.channel c on) (was_live link d e x h) hs.0 hs.1 ps.0))
+    (λ _. once link d c es hs.1 ps.1)
 
 -- nothing is said on what is no channel
 live_refused : (s : Standing) → is_live s ≡ true → is_refused s ≡ false
@@ -88,13 +94,16 @@ spoken_refused : (t : ℕ) (free : Bool) (e : Entry) → WasLive t free e → is
 spoken_refused t free e (Before live) = live_refused e.standing live
 spoken_refused t free e (Offered r runs f) = r
 
-pub off_channel : (d : Day) (c : ℕ) (es : List Entry) → AllByRecursion Seated es → (IsChannel c → ⊥) → said_on d c es ≡ []
-off_channel d c [] seats never = refl
-off_channel d c (e ∷ es) seats never =
-    let rest = off_channel d c es seats.1 never in
+pub off_channel : (link : Link) (d : Day) (c : ℕ) (es : List Entry) → AllByRecursion Seated es → (IsChannel c → ⊥) → said_in link d c es ≡ []
+off_channel link d c [] seats never = refl
+off_channel link d c (e ∷ es) seats never =
+    let rest = off_channel link d c es seats.1 never in
     by_cases (e.channel == c) _ _ (λ (os : List Outgoing). os ≡ [])
-    (λ on. quiet (second_of d e).said (said_on d c es) (λ x h. never (subst IsChannel (eqb-true e.channel c on) (seats.0.channel (spoken_refused (d.moment + 1) (is_free d e.channel) e (was_live d e x h))))) rest)
+    (λ on. quiet (second_in link d e).said (said_in link d c es) (λ x h. never (subst IsChannel (eqb-true e.channel c on) (seats.0.channel (spoken_refused (d.moment + 1) (is_free d e.channel) e (was_live link d e x h))))) rest)
     (λ _. rest)
 
+pub says_once_in : (link : Link) (d : Day) → IsExchange d → (c : ℕ) → length (said_in link d c d.entries) ≤ 1
+says_once_in link d h c = once link d c d.entries (all_hold d.entries) h.day.pairs
+
 pub says_once : (d : Day) → IsExchange d → SaysOnce d
-says_once d h c = once d c d.entries (all_hold d.entries) h.day.pairs
+says_once d h c = says_once_in Up d h c

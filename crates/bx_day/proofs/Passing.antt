@@ -1,25 +1,27 @@
 -- What a pass over the bookings says, and the day that it leaves.
 use Rattle.std.proofs.Common.{◌≡◌, ℕ, zero, suc, ◌+◌, ◌≤◌, ◌<◌, ◌&&◌, ◌||◌, not, Bool, true, false, List, [], ◌∷◌, ◌++◌, map, length, Option, None, arith, refl, sym, subst, ap, ap₂, ◌∙◌, slice_index_or, nat_le, if◌then◌else◌, flat_map, length-append, drop, take, take_all, append-nil}
 use Rattle.std.specs.List.{AllByRecursion}
-use Rattle.std.proofs.lemmas.Bool.{false≢true, leb-true}
+use Rattle.std.proofs.lemmas.Bool.{false≢true, true≢false, leb-true}
 use Rattle.std.proofs.lemmas.List.{drop_all}
-use Rattle.bx_numbers.specs.ChannelNumbers.{IsChannel}
+use Rattle.bx_channels.specs.ChannelNumbers.{IsChannel}
 use Rattle.bx_q931.specs.Outgoing.{Outgoing}
 use Rattle.bx_calls.specs.Shared.{is_set, cons_some}
 use Rattle.bx_day.specs.Day.{Day, is_held, is_free, every_channel}
-use Rattle.bx_day.specs.Ticks.{second_at, second_of, after_second, said_on, tick, ticked}
+use Rattle.bx_day.specs.Ticks.{second_at, second_by, second_in, after_in, said_on, tick, ticked, passed_in}
 use Rattle.bx_day.specs.Moves.{stays}
 use Rattle.bx_day.specs.Invariant.{is_refused}
 use Rattle.bx_day.specs.Reading.{Seated, IsExchange}
 use Rattle.bx_day.specs.Passing.{SaysOnEach, AreBlocked}
 use Rattle.bx_calls.specs.Sending.{in_order}
 use Rattle.bx_day.specs.declared.entry.Moved.{Moved}
+use Rattle.bx_day.specs.declared.entry.Link.{Link}
+use Rattle.bx_day.specs.declared.entry.Link.TheVariants.{Up, Down}
 use Rattle.bx_day.specs.declared.entry.Entry.{Entry}
 use Rattle.bx_day.specs.declared.entry.Standing.{Standing}
 use Rattle.bx_day.specs.declared.entry.Standing.TheVariants.{Refused, Unoffered, OnCall, Carried, Unanswered, Missed}
-use Rattle.bx_day.proofs.Tick.{second_refused, ticked_fits}
+use Rattle.bx_day.proofs.Tick.{unlinked, in_refused, passed_fits}
 use Rattle.bx_day.proofs.Once.{decide, off_channel, says_once}
-use Rattle.bx_day.proofs.Law.{at_map}
+use Rattle.bx_day.proofs.Law.{at_map_in}
 
 and_false : (b : Bool) → (b && false) ≡ false
 and_false true = refl
@@ -37,9 +39,9 @@ pub free_is : (d : Day) (blocked : List Bool) (c k : ℕ) → c ≡ k → AreBlo
 free_is d blocked c k on set = ap not (set c) ∙ not_or (is_held d.entries c) (is_set d.maintenance c) ∙ ap (is_free d) on
 
 -- what a booking does, where its channel is known to be blocked or not
-pub moved_is : (d : Day) (e e' : Entry) (m : Moved) (blocked : List Bool) (c : ℕ) → e ≡ e' → c ≡ e.channel → AreBlocked d blocked → m ≡ second_at e (d.moment + 1) (not (is_set blocked c)) e.standing → m ≡ second_of d e'
-moved_is d e e' m blocked c same on set is =
-    is ∙ ap (λ f. second_at e (d.moment + 1) f e.standing) (free_is d blocked c e.channel on set) ∙ ap (second_of d) same
+pub moved_is : (link : Link) (d : Day) (e e' : Entry) (m : Moved) (blocked : List Bool) (c : ℕ) → e ≡ e' → c ≡ e.channel → AreBlocked d blocked → m ≡ second_by link e (d.moment + 1) (not (is_set blocked c)) e.standing → m ≡ second_in link d e'
+moved_is link d e e' m blocked c same on set is =
+    is ∙ ap (λ f. second_by link e (d.moment + 1) f e.standing) (free_is d blocked c e.channel on set) ∙ ap (second_in link d) same
 
 -- a refused booking stays, says nothing and breaks nothing
 pub refused_stays : (t : ℕ) (free : Bool) (e : Entry) (s : Standing) → is_refused s ≡ true → second_at e t free s ≡ stays s
@@ -49,6 +51,10 @@ refused_stays t free e (OnCall c a) h = absurd (false≢true h)
 refused_stays t free e (Carried from until) h = absurd (false≢true h)
 refused_stays t free e Unanswered h = absurd (false≢true h)
 refused_stays t free e Missed h = absurd (false≢true h)
+
+pub refused_stays_in : (link : Link) (t : ℕ) (free : Bool) (e : Entry) (s : Standing) → is_refused s ≡ true → second_by link e t free s ≡ stays s
+refused_stays_in Up t free e s h = refused_stays t free e s h
+refused_stays_in Down t free e s h = unlinked e t s (λ m. m ≡ stays s) (λ c a p. absurd (true≢false (sym h ∙ ap is_refused p))) (refused_stays t false e s h)
 
 pub no_channel : (e : Entry) → Seated e → (IsChannel e.channel → ⊥) → is_refused e.standing ≡ true
 no_channel e seat never = decide (is_refused e.standing) (λ yes. yes) (λ accepted. absurd (never (seat.channel accepted)))
@@ -66,10 +72,10 @@ somes_on f n (o ∷ os) h = ap₂ (λ x xs. x ++ xs) (h 0 (omega arith) ∙ ap f
 without : (f : ℕ → List Outgoing) → f 0 ≡ [] → f 16 ≡ [] → flat_map f (numbers 32 0) ≡ flat_map f every_channel
 without f none signalling = rw none (rw signalling refl)
 
-pub all_somes : (d : Day) (said : List (Option Outgoing)) → length said ≡ 32 → AllByRecursion Seated d.entries → SaysOnEach d said → in_order said ≡ flat_map (λ c. said_on d c d.entries) every_channel
+pub all_somes : (d : Day) (said : List (Option Outgoing)) → length said ≡ 32 → AllByRecursion Seated d.entries → SaysOnEach Up d said → in_order said ≡ flat_map (λ c. said_on d c d.entries) every_channel
 all_somes d said size seats slots =
     let f : ℕ → List Outgoing = λ c. said_on d c d.entries in
-    somes_on f 0 said (λ c lt. slots c ∙ ap f (let q : c ≡ 0 + c = omega arith in q)) ∙ ap (λ n. flat_map f (numbers n 0)) size ∙ without f (off_channel d 0 d.entries seats (λ i. absurd (omega (arith, i.0)))) (off_channel d 16 d.entries seats (λ i. i.2 refl))
+    somes_on f 0 said (λ c lt. slots c ∙ ap f (let q : c ≡ 0 + c = omega arith in q)) ∙ ap (λ n. flat_map f (numbers n 0)) size ∙ without f (off_channel Up d 0 d.entries seats (λ i. absurd (omega (arith, i.0)))) (off_channel Up d 16 d.entries seats (λ i. i.2 refl))
 
 few_each : (f : ℕ → List Outgoing) → ((c : ℕ) → length (f c) ≤ 1) → (cs : List ℕ) → length (flat_map f cs) ≤ length cs
 few_each f one [] = omega arith
@@ -80,28 +86,28 @@ few_said d one = few_each (λ c. said_on d c d.entries) one every_channel
 
 -- ---- the whole tick
 
-pub sent_is : (d : Day) (said : List (Option Outgoing)) → IsExchange d → length said ≡ 32 → SaysOnEach d said → in_order said ≡ (ticked d).sent
+pub sent_is : (d : Day) (said : List (Option Outgoing)) → IsExchange d → length said ≡ 32 → SaysOnEach Up d said → in_order said ≡ (ticked d).sent
 sent_is d said h size each = all_somes d said size h.seated each
 
-pub few_somes : (d : Day) (said : List (Option Outgoing)) → IsExchange d → length said ≡ 32 → SaysOnEach d said → length (in_order said) ≤ 30
+pub few_somes : (d : Day) (said : List (Option Outgoing)) → IsExchange d → length said ≡ 32 → SaysOnEach Up d said → length (in_order said) ≤ 30
 few_somes d said h size each = subst (λ (os : List Outgoing). length os ≤ 30) (sym (sent_is d said h size each)) (few_said d (says_once d h))
 
-all_seated : (d : Day) (es : List Entry) → AllByRecursion Seated es → AllByRecursion Seated (map (after_second d) es)
-all_seated d [] h = tt
-all_seated d (e ∷ es) h = (record { row = h.0.row; channel = λ accepted. h.0.channel (second_refused (d.moment + 1) (is_free d e.channel) e e.standing accepted) }, all_seated d es h.1)
+all_seated : (link : Link) (d : Day) (es : List Entry) → AllByRecursion Seated es → AllByRecursion Seated (map (after_in link d) es)
+all_seated link d [] h = tt
+all_seated link d (e ∷ es) h = (record { row = h.0.row; channel = λ accepted. h.0.channel (in_refused link (d.moment + 1) (is_free d e.channel) e e.standing accepted) }, all_seated link d es h.1)
 
-pub map_size : (d : Day) (es : List Entry) → length (map (after_second d) es) ≡ length es
-map_size d [] = refl
-map_size d (e ∷ es) = ap suc (map_size d es)
+pub map_size : (link : Link) (d : Day) (es : List Entry) → length (map (after_in link d) es) ≡ length es
+map_size link d [] = refl
+map_size link d (e ∷ es) = ap suc (map_size link d es)
 
--- a tick leaves a day that an exchange may be in
-pub ticked_stays : (d : Day) → d.moment < 300000 → IsExchange d → IsExchange (ticked d).day
-ticked_stays d early h = record {
+-- a second leaves a day that an exchange may be in
+pub passed_stays : (link : Link) (d : Day) → d.moment < 300000 → IsExchange d → IsExchange (passed_in link d).day
+passed_stays link d early h = record {
   moment = omega (arith, early);
-  rows = omega (arith, h.rows, map_size d d.entries);
-  day = ticked_fits d h.day;
-  seated = all_seated d d.entries h.seated;
-  numbered = λ i lt. ap (λ (e : Entry). e.row) (at_map d d.entries i) ∙ h.numbered i (omega (arith, lt, map_size d d.entries));
+  rows = omega (arith, h.rows, map_size link d d.entries);
+  day = passed_fits link d h.day;
+  seated = all_seated link d d.entries h.seated;
+  numbered = λ i lt. ap (λ (e : Entry). e.row) (at_map_in link d d.entries i) ∙ h.numbered i (omega (arith, lt, map_size link d d.entries));
 }
 
 pub tick_is : (d : Day) → d.moment < 300000 → tick d ≡ ticked d

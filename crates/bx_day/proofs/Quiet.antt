@@ -10,7 +10,7 @@ use Rattle.bx_calls.specs.declared.net_state.NetState.TheVariants.{OutgoingCallP
 use Rattle.bx_calls.specs.NetTable.{net_second, net_same, net_offered}
 use Rattle.bx_calls.specs.Saying.{setup_of}
 use Rattle.bx_day.specs.Day.{Day, every_channel, entry_at}
-use Rattle.bx_day.specs.Ticks.{second_at, second_of, after_second, waits, said_on, maintained, breaks_on, ticked}
+use Rattle.bx_day.specs.Ticks.{second_at, waits, said_on, ticked, second_in, after_in, maintained_in, breaks_in}
 use Rattle.bx_day.specs.Moves.{is_active, activity_after, stays, becomes, follows}
 use Rattle.bx_day.specs.Invariant.{phase_of, ActivityFits, EntryFits, CallFits}
 use Rattle.bx_q931.specs.Outgoing.{Outgoing}
@@ -25,14 +25,15 @@ use Rattle.bx_day.specs.declared.entry.Standing.TheVariants.{Refused, Unoffered,
 use Rattle.bx_day.specs.declared.entry.Activity.TheVariants.{Never, Since, Was}
 use Rattle.bx_day.proofs.Tick.{by_cases, with_standing, offers}
 use Rattle.bx_day.proofs.Once.{decide}
+use Rattle.bx_day.specs.declared.entry.Link.TheVariants.{Up}
 
 -- ---- a day of which each booking is quiet
 
-quiet_entries : (d : Day) (es : List Entry) → AllByRecursion (λ e. second_of d e ≡ stays e.standing) es → map (after_second d) es ≡ es
+quiet_entries : (d : Day) (es : List Entry) → AllByRecursion (λ e. second_in Up d e ≡ stays e.standing) es → map (after_in Up d) es ≡ es
 quiet_entries d [] h = refl
 quiet_entries d (e ∷ es) h = ap₂ (λ (m : Moved) xs. record e { standing = m.standing } ∷ xs) h.0 (quiet_entries d es h.1)
 
-none_breaks : (d : Day) (c : ℕ) (es : List Entry) → AllByRecursion (λ e. second_of d e ≡ stays e.standing) es → list_any (breaks_on d c) es ≡ false
+none_breaks : (d : Day) (c : ℕ) (es : List Entry) → AllByRecursion (λ e. second_in Up d e ≡ stays e.standing) es → list_any (breaks_in Up d c) es ≡ false
 none_breaks d c [] h = refl
 none_breaks d c (e ∷ es) h = ap₂ (λ (m : Moved) b. (m.broken && (e.channel == c)) || b) h.0 (none_breaks d c es h.1)
 
@@ -40,22 +41,22 @@ or_false : (b : Bool) → (b || false) ≡ b
 or_false true = refl
 or_false false = refl
 
-quiet_marks : (d : Day) (c : ℕ) (bs : List Bool) → AllByRecursion (λ e. second_of d e ≡ stays e.standing) d.entries → maintained d c bs ≡ bs
+quiet_marks : (d : Day) (c : ℕ) (bs : List Bool) → AllByRecursion (λ e. second_in Up d e ≡ stays e.standing) d.entries → maintained_in Up d c bs ≡ bs
 quiet_marks d c [] h = refl
 quiet_marks d c (b ∷ bs) h = ap₂ (λ x xs. x ∷ xs) (ap (λ x. b || x) (none_breaks d c d.entries h) ∙ or_false b) (quiet_marks d (c + 1) bs h)
 
-quiet_on : (d : Day) (c : ℕ) (es : List Entry) → AllByRecursion (λ e. second_of d e ≡ stays e.standing) es → said_on d c es ≡ []
+quiet_on : (d : Day) (c : ℕ) (es : List Entry) → AllByRecursion (λ e. second_in Up d e ≡ stays e.standing) es → said_on d c es ≡ []
 quiet_on d c [] h = refl
 quiet_on d c (e ∷ es) h = by_cases (e.channel == c) _ _ (λ (os : List Outgoing). os ≡ []) (λ _. ap (λ (m : Moved). cons_some m.said (said_on d c es)) h.0 ∙ quiet_on d c es h.1) (λ _. quiet_on d c es h.1)
 
-quiet_all : (d : Day) → AllByRecursion (λ e. second_of d e ≡ stays e.standing) d.entries → (cs : List ℕ) → flat_map (λ c. said_on d c d.entries) cs ≡ []
+quiet_all : (d : Day) → AllByRecursion (λ e. second_in Up d e ≡ stays e.standing) d.entries → (cs : List ℕ) → flat_map (λ c. said_on d c d.entries) cs ≡ []
 quiet_all d h [] = refl
 quiet_all d h (c ∷ cs) = ap₂ (λ xs ys. xs ++ ys) (quiet_on d c d.entries h) (quiet_all d h cs)
 
-pub quiet_tick : (d : Day) → AllByRecursion (λ e. second_of d e ≡ stays e.standing) d.entries → ticked d ≡ record { day = later_by 1 d; sent = [] }
+pub quiet_tick : (d : Day) → AllByRecursion (λ e. second_in Up d e ≡ stays e.standing) d.entries → ticked d ≡ record { day = later_by 1 d; sent = [] }
 quiet_tick d h =
     let entries = quiet_entries d d.entries h in
-    let maintenance : maintained d 0 d.maintenance ≡ d.maintenance = quiet_marks d 0 d.maintenance h in
+    let maintenance : maintained_in Up d 0 d.maintenance ≡ d.maintenance = quiet_marks d 0 d.maintenance h in
     ap₂ (λ es ms. record { day = record { moment = d.moment + 1; entries = es; maintenance = ms }; sent = flat_map (λ c. said_on d c d.entries) every_channel }) entries maintenance ∙ ap (λ os. record { day = later_by 1 d; sent = os }) (quiet_all d h every_channel)
 
 pub all_at : (P : Entry → Type 0) (es : List Entry) → ((i : ℕ) → i < length es → P (entry_at es i)) → AllByRecursion P es
@@ -68,7 +69,7 @@ pub late : (m t : ℕ) → t < m → nat_le m t ≡ false
 late m t h = decide (nat_le m t) (λ yes. absurd (let le : m ≤ t = leb-true m t yes in omega (arith, le, h))) (λ less. less)
 
 -- a call in its state stays in its activity
-activity_stays : (t u : ℕ) (b : Row) (s : NetState) (a : Activity) → ActivityFits t b (phase_of s) a → activity_after a (is_active s) u ≡ a
+pub activity_stays : (t u : ℕ) (b : Row) (s : NetState) (a : Activity) → ActivityFits t b (phase_of s) a → activity_after a (is_active s) u ≡ a
 activity_stays t u b OutgoingCallProceeding Never h = refl
 activity_stays t u b OutgoingCallProceeding (Since from) h = absurd h
 activity_stays t u b OutgoingCallProceeding (Was from until) h = refl

@@ -14,7 +14,7 @@ use Rattle.bx_calls.specs.declared.net_state.NetState.TheVariants.{CallPresent, 
 use Rattle.bx_calls.specs.Hearing.{Heard, names_channel, reports_null}
 use Rattle.bx_calls.specs.NetTable.{net_row, net_flag, net_answered}
 use Rattle.bx_base.specs.Bookings.{is_running}
-use Rattle.bx_numbers.specs.ChannelNumbers.{IsChannel}
+use Rattle.bx_channels.specs.ChannelNumbers.{IsChannel}
 use Rattle.bx_calls.specs.Said.{Said}
 use Rattle.bx_calls.specs.Shared.{bool_eq, is_set}
 use Rattle.bx_day.specs.Day.{Day, holds, is_held, is_free, is_unoffered, index_of, one_more, every_channel, entry_at}

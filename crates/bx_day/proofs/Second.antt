@@ -1,12 +1,12 @@
 -- A tick keeps what is true of one booking.
-use Rattle.std.proofs.Common.{◌≡◌, ℕ, ◌+◌, ◌<◌, Bool, true, false, Some, arith, refl, nat_le, if◌then◌else◌}
+use Rattle.std.proofs.Common.{◌≡◌, ℕ, ◌+◌, ◌≤◌, ◌<◌, Bool, true, false, Some, arith, refl, nat_le, if◌then◌else◌}
 use Rattle.std.proofs.lemmas.Bool.{leb-false}
 use Rattle.bx_calls.specs.declared.step.Step.{Step}
 use Rattle.bx_calls.specs.PlainCalls.{PlainNetCall}
 use Rattle.bx_calls.specs.declared.net_state.NetOrigin.{NetOrigin}
 use Rattle.bx_calls.specs.declared.net_state.NetState.{NetState}
 use Rattle.bx_calls.specs.declared.net_state.NetState.TheVariants.{OutgoingCallProceeding, CallPresent, IncomingCallProceeding, CallReceived, Active, DisconnectIndication, ReleaseRequest}
-use Rattle.bx_calls.specs.NetTable.{net_second}
+use Rattle.bx_calls.specs.NetTable.{net_second, net_unlinked}
 use Rattle.bx_day.specs.Moves.{activity_after, is_active, follows}
 use Rattle.bx_day.specs.declared.entry.Entry.{Entry}
 use Rattle.bx_day.specs.declared.entry.Activity.{Activity}
@@ -38,7 +38,7 @@ abbrev pub on_call : ℕ → Entry → Activity → PlainNetCall → Entry
 on_call t e a c = record e { standing = OnCall c (activity_after a (is_active c.state) t) }
 
 -- the call goes on in another state, or in the same with another timer
-pub goes_on : (t u : ℕ) (e : Entry) (r ch : ℕ) (o : NetOrigin) (s : NetState) (a : Activity) (s' : NetState) → CallFits t e (call_of r ch o s) a → PhaseFits u e.booking (phase_of s') → DueFits u e.booking.end s' → ActivityFits u e.booking (phase_of s') (activity_after a (is_active s') u) → EntryFits u (on_call u e a (call_of r ch o s'))
+pub goes_on : (t u : ℕ) (e : Entry) (r ch : ℕ) (o : NetOrigin) (s : NetState) (a : Activity) (s' : NetState) → CallFits t e (call_of r ch o s) a → PhaseFits u e.booking (phase_of s') → DueFits u s' → ActivityFits u e.booking (phase_of s') (activity_after a (is_active s') u) → EntryFits u (on_call u e a (call_of r ch o s'))
 goes_on t u e r ch o s a s' h p d act = record { channel = h.channel; origin = h.origin; phase = p; due = d; activity = act }
 
 -- DISCONNECT of a call whose booking ends, or whose timer is due
@@ -56,26 +56,26 @@ second_fits t e r ch o (CallPresent false due) a h =
     let s = CallPresent false due in
     let clears = ringing_clears t (t + 1) e.booking a h.activity in
     by_times due t e a _ _ _ (disconnects t e r ch o s a 16 h h.phase.1 clears)
-    (λ late. goes_on t (t + 1) e r ch o s a (CallPresent true (t + 1 + 4)) h (omega arith, late) (omega arith) (ringing_kept t (t + 1) e.booking a h.activity))
-    (λ late waits. goes_on t (t + 1) e r ch o s a s h (omega arith, late) waits (ringing_kept t (t + 1) e.booking a h.activity))
+    (λ late. goes_on t (t + 1) e r ch o s a (CallPresent true (t + 1 + 4)) h (omega arith, late) (omega arith, omega arith) (ringing_kept t (t + 1) e.booking a h.activity))
+    (λ late waits. goes_on t (t + 1) e r ch o s a s h (omega arith, late) (waits, omega (arith, h.due.1)) (ringing_kept t (t + 1) e.booking a h.activity))
 second_fits t e r ch o (CallPresent true due) a h =
     let s = CallPresent true due in
     let clears = ringing_clears t (t + 1) e.booking a h.activity in
     by_times due t e a _ _ _ (disconnects t e r ch o s a 16 h h.phase.1 clears)
     (λ late. ringing_over t (t + 1) e a h.activity)
-    (λ late waits. goes_on t (t + 1) e r ch o s a s h (omega arith, late) waits (ringing_kept t (t + 1) e.booking a h.activity))
+    (λ late waits. goes_on t (t + 1) e r ch o s a s h (omega arith, late) (waits, omega (arith, h.due.1)) (ringing_kept t (t + 1) e.booking a h.activity))
 second_fits t e r ch o (IncomingCallProceeding due) a h =
     let s = IncomingCallProceeding due in
     let clears = ringing_clears t (t + 1) e.booking a h.activity in
     by_times due t e a _ _ _ (disconnects t e r ch o s a 16 h h.phase.1 clears)
     (λ late. disconnects t e r ch o s a 102 h h.phase.1 clears)
-    (λ late waits. goes_on t (t + 1) e r ch o s a s h (omega arith, late) waits (ringing_kept t (t + 1) e.booking a h.activity))
+    (λ late waits. goes_on t (t + 1) e r ch o s a s h (omega arith, late) (waits, omega (arith, h.due.1)) (ringing_kept t (t + 1) e.booking a h.activity))
 second_fits t e r ch o (CallReceived due) a h =
     let s = CallReceived due in
     let clears = ringing_clears t (t + 1) e.booking a h.activity in
     by_times due t e a _ _ _ (disconnects t e r ch o s a 16 h h.phase.1 clears)
     (λ late. disconnects t e r ch o s a 102 h h.phase.1 clears)
-    (λ late waits. goes_on t (t + 1) e r ch o s a s h (omega arith, late) waits (ringing_kept t (t + 1) e.booking a h.activity))
+    (λ late waits. goes_on t (t + 1) e r ch o s a s h (omega arith, late) (waits, omega (arith, h.due.1)) (ringing_kept t (t + 1) e.booking a h.activity))
 second_fits t e r ch o Active a h =
     let b = e.booking in
     by_test (nat_le b.end (t + 1)) (t + 1) e a _ _
@@ -87,16 +87,56 @@ second_fits t e r ch o (DisconnectIndication cause due) a h =
     let s = DisconnectIndication cause due in
     by_test (nat_le due (t + 1)) (t + 1) e a _ _
     (λ fires. goes_on t (t + 1) e r ch o s a (ReleaseRequest false (Some cause) (t + 1 + 4)) h tt (omega arith, omega arith) (clearing_kept t (t + 1) b a (omega arith) h.activity))
-    (λ waits. goes_on t (t + 1) e r ch o s a s h tt (leb-false due (t + 1) waits, h.due.1) (clearing_kept t (t + 1) b a (omega arith) h.activity))
+    (λ waits. goes_on t (t + 1) e r ch o s a s h tt (leb-false due (t + 1) waits, omega (arith, h.due.1)) (clearing_kept t (t + 1) b a (omega arith) h.activity))
 second_fits t e r ch o (ReleaseRequest false cause due) a h =
     let b = e.booking in
     let s = ReleaseRequest false cause due in
     by_test (nat_le due (t + 1)) (t + 1) e a _ _
     (λ fires. goes_on t (t + 1) e r ch o s a (ReleaseRequest true cause (t + 1 + 4)) h tt (omega arith, omega arith) (clearing_kept t (t + 1) b a (omega arith) h.activity))
-    (λ waits. goes_on t (t + 1) e r ch o s a s h tt (leb-false due (t + 1) waits, h.due.1) (clearing_kept t (t + 1) b a (omega arith) h.activity))
+    (λ waits. goes_on t (t + 1) e r ch o s a s h tt (leb-false due (t + 1) waits, omega (arith, h.due.1)) (clearing_kept t (t + 1) b a (omega arith) h.activity))
 second_fits t e r ch o (ReleaseRequest true cause due) a h =
     let b = e.booking in
     let s = ReleaseRequest true cause due in
     by_test (nat_le due (t + 1)) (t + 1) e a _ _
     (λ fires. clearing_over t (t + 1) e a h.activity)
-    (λ waits. goes_on t (t + 1) e r ch o s a s h tt (leb-false due (t + 1) waits, h.due.1) (clearing_kept t (t + 1) b a (omega arith) h.activity))
+    (λ waits. goes_on t (t + 1) e r ch o s a s h tt (leb-false due (t + 1) waits, omega (arith, h.due.1)) (clearing_kept t (t + 1) b a (omega arith) h.activity))
+
+-- ---- a second without a link
+
+-- a timer that stands still is due as much later as the moment is
+still_due : (t due n : ℕ) → (t < due) × (due ≤ t + n) → (t + 1 < due + 1) × (due + 1 ≤ t + 1 + n)
+still_due t due n h = (omega (arith, h.0), omega (arith, h.1))
+
+-- a call that is set up or talks is cleared where its booking ends
+ends_unlinked : (t : ℕ) (e : Entry) (r ch : ℕ) (o : NetOrigin) (s : NetState) (a : Activity) → CallFits t e (call_of r ch o s) a → ActivityFits (t + 1) e.booking Clearing (activity_after a false (t + 1)) → EntryFits (t + 1) (on_call (t + 1) e a (call_of r ch o (DisconnectIndication 16 (t + 1 + 1))))
+ends_unlinked t e r ch o s a h act = goes_on t (t + 1) e r ch o s a (DisconnectIndication 16 (t + 1 + 1)) h tt (omega arith, omega arith) act
+
+pub unlinked_fits : (t : ℕ) (e : Entry) (r ch : ℕ) (o : NetOrigin) (s : NetState) (a : Activity) → CallFits t e (call_of r ch o s) a → StepFits (t + 1) e a (net_unlinked 1 (call_of r ch o s) (t + 1) e.booking.end)
+unlinked_fits t e r ch o OutgoingCallProceeding a h =
+    let b = e.booking in
+    let s = OutgoingCallProceeding in
+    by_test (nat_le b.end (t + 1)) (t + 1) e a _ _ (λ ended. ends_unlinked t e r ch o s a h (ringing_clears t (t + 1) b a h.activity))
+    (λ runs. let late : t + 1 < b.end = leb-false b.end (t + 1) runs in goes_on t (t + 1) e r ch o s a s h (omega arith, late) tt (ringing_kept t (t + 1) b a h.activity))
+unlinked_fits t e r ch o (CallPresent again due) a h =
+    let b = e.booking in
+    let s = CallPresent again due in
+    by_test (nat_le b.end (t + 1)) (t + 1) e a _ _ (λ ended. ends_unlinked t e r ch o s a h (ringing_clears t (t + 1) b a h.activity))
+    (λ runs. let late : t + 1 < b.end = leb-false b.end (t + 1) runs in goes_on t (t + 1) e r ch o s a (CallPresent again (due + 1)) h (omega arith, late) (still_due t due 4 h.due) (ringing_kept t (t + 1) b a h.activity))
+unlinked_fits t e r ch o (IncomingCallProceeding due) a h =
+    let b = e.booking in
+    let s = IncomingCallProceeding due in
+    by_test (nat_le b.end (t + 1)) (t + 1) e a _ _ (λ ended. ends_unlinked t e r ch o s a h (ringing_clears t (t + 1) b a h.activity))
+    (λ runs. let late : t + 1 < b.end = leb-false b.end (t + 1) runs in goes_on t (t + 1) e r ch o s a (IncomingCallProceeding (due + 1)) h (omega arith, late) (still_due t due 10 h.due) (ringing_kept t (t + 1) b a h.activity))
+unlinked_fits t e r ch o (CallReceived due) a h =
+    let b = e.booking in
+    let s = CallReceived due in
+    by_test (nat_le b.end (t + 1)) (t + 1) e a _ _ (λ ended. ends_unlinked t e r ch o s a h (ringing_clears t (t + 1) b a h.activity))
+    (λ runs. let late : t + 1 < b.end = leb-false b.end (t + 1) runs in goes_on t (t + 1) e r ch o s a (CallReceived (due + 1)) h (omega arith, late) (still_due t due 180 h.due) (ringing_kept t (t + 1) b a h.activity))
+unlinked_fits t e r ch o Active a h =
+    let b = e.booking in
+    by_test (nat_le b.end (t + 1)) (t + 1) e a _ _ (λ ended. ends_unlinked t e r ch o Active a h (talking_clears t (t + 1) b a (omega arith) (omega arith) h.activity))
+    (λ runs. let late : t + 1 < b.end = leb-false b.end (t + 1) runs in goes_on t (t + 1) e r ch o Active a Active h (omega arith, late) tt (talking_kept t (t + 1) b a (omega arith) h.activity))
+unlinked_fits t e r ch o (DisconnectIndication cause due) a h =
+    goes_on t (t + 1) e r ch o (DisconnectIndication cause due) a (DisconnectIndication cause (due + 1)) h tt (still_due t due 30 h.due) (clearing_kept t (t + 1) e.booking a (omega arith) h.activity)
+unlinked_fits t e r ch o (ReleaseRequest again cause due) a h =
+    goes_on t (t + 1) e r ch o (ReleaseRequest again cause due) a (ReleaseRequest again cause (due + 1)) h tt (still_due t due 4 h.due) (clearing_kept t (t + 1) e.booking a (omega arith) h.activity)

@@ -31,11 +31,12 @@ use Rattle.bx_calls.specs.UnknownTable.{unknown_row, unknown_status}
 use Rattle.bx_calls.specs.declared.unknown_reference.End.TheVariants.{Network}
 use Rattle.bx_calls.specs.Said.{Said, said_of}
 use Rattle.bx_day.specs.Day.{Day, entry_at, is_free, index_of, every_channel}
-use Rattle.bx_day.specs.Ticks.{waits, second_at, second_of, tick}
+use Rattle.bx_day.specs.Ticks.{waits, second_at, tick, second_in}
 use Rattle.bx_day.specs.Receipts.{opens, lowest_open, names, hears, takes_or, takes_preferred, called_on, called, stray, received_at}
 use Rattle.bx_day.specs.Moves.{follow}
 use Rattle.bx_calls.specs.Sending.{Sent, Answered, reply_list}
-use Rattle.bx_q931.specs.Events.{Event, Tick, Receive}
+use Rattle.bx_events.specs.Events.{Event, Tick, Receive, LiveEvent, OnLink, WithoutLink}
+use Rattle.bx_day.specs.Outages.{live_happens}
 use Rattle.bx_day.specs.Run.{receive_from, receive_read, happens}
 use Rattle.bx_day.specs.declared.entry.Standing.{Standing}
 use Rattle.bx_day.specs.declared.entry.Standing.TheVariants.{Refused, Unoffered, OnCall, Carried, Unanswered, Missed}
@@ -47,6 +48,7 @@ use Rattle.bx_day.proofs.Second.{call_of}
 use Rattle.bx_day.proofs.Said.{OfSaid, all_over}
 use Rattle.bx_day.proofs.Tick.{by_cases, with_standing, offers, offers_parts, all_weaker}
 use Rattle.bx_day.proofs.Receive.{all_at, OpenAt, Open, open_parts, open_index, open_lowest}
+use Rattle.bx_day.specs.declared.entry.Link.TheVariants.{Up}
 
 -- neither SETUP nor CALL PROCEEDING
 abbrev pub is_plain : Kind → Bool
@@ -213,7 +215,7 @@ entry_said rows assigned t e free (Carried from until) p h = tt
 entry_said rows assigned t e free Unanswered p h = tt
 entry_said rows assigned t e free Missed p h = tt
 
-entries_said : (rows : List Row) (assigned : List (Option ℕ)) (d : Day) (es : List Entry) → AllByRecursion (Placed rows assigned) es → AllByRecursion (EntryFits d.moment) es → AllByRecursion (λ e. OfSaid (OutFits rows assigned (d.moment + 1)) (second_of d e).said) es
+entries_said : (rows : List Row) (assigned : List (Option ℕ)) (d : Day) (es : List Entry) → AllByRecursion (Placed rows assigned) es → AllByRecursion (EntryFits d.moment) es → AllByRecursion (λ e. OfSaid (OutFits rows assigned (d.moment + 1)) (second_in Up d e).said) es
 entries_said rows assigned d [] p h = tt
 entries_said rows assigned d (e ∷ es) p h = (entry_said rows assigned d.moment e (is_free d e.channel) e.standing p.0 h.0, entries_said rows assigned d es p.1 h.1)
 
@@ -308,3 +310,7 @@ sent_fits rows assigned d Tick p h = record { each = all_of _ (tick d).sent (tic
 sent_fits rows assigned d (Receive octets) p h =
     let x = receive_read d (message_at octets) in
     record { each = reply_of (OutFits rows assigned x.day.moment) x.reply (read_said rows assigned d (message_at octets) p) }
+
+pub live_sent : (rows : List Row) (assigned : List (Option ℕ)) (d : Day) (event : LiveEvent) → AllByRecursion (Placed rows assigned) d.entries → DayFits d → SentFits rows assigned (live_happens d event)
+live_sent rows assigned d (OnLink event) p h = sent_fits rows assigned d event p h
+live_sent rows assigned d WithoutLink p h = record { each = All-nil _ }

@@ -5,53 +5,54 @@ use Rattle.std.proofs.lemmas.Bool.{true≢false, false≢true, cases_eq, cases_l
 use Rattle.std.proofs.lemmas.List.{get_or-set_same, get_or-set_other}
 use Rattle.bx_base.specs.Bookings.{Row}
 use Rattle.bx_day.specs.Day.{Day, is_unoffered, entry_at}
-use Rattle.bx_day.specs.Ticks.{waits, ticked}
+use Rattle.bx_day.specs.Ticks.{waits, passed_in}
 use Rattle.bx_day.specs.Invariant.{is_refused}
 use Rattle.bx_day.specs.Reading.{IsExchange}
 use Rattle.bx_day.specs.Slots.{slot_at, waits_on, IsLiveOn, IsWaitingOn, IsLater, IsBehind, AreSlots}
 use Rattle.bx_day.specs.SlotSteps.{follower, is_waiting_at, live_of, waiting_of, IsInside}
 use Rattle.bx_day.specs.declared.entry.Entry.{Entry}
 use Rattle.bx_day.specs.declared.entry.Moved.{Moved}
-use Rattle.bx_day.proofs.Law.{at_map}
+use Rattle.bx_day.proofs.Law.{at_map_in}
 use Rattle.bx_day.proofs.SlotLemmas.{waits_parts, waits_from}
 use Rattle.bx_day.proofs.Tick.{by_cases}
 use Rattle.bx_day.proofs.Seats.{behind_kept, ordered_kept}
-use Rattle.bx_day.proofs.Turns.{After, tick_seats, waited, ahead_waits, IsNone, unoffered_accepted, behind_first, behind_second, far_ahead, IsTurn}
+use Rattle.bx_day.proofs.Turns.{After, second_seats, waited, ahead_waits, IsNone, unoffered_accepted, behind_first, behind_second, far_ahead, IsTurn}
 use Rattle.bx_day.proofs.LiveTurns.{second_on, live_settled}
+use Rattle.bx_day.specs.declared.entry.Link.{Link}
 
 -- ---- the first that waits after the tick
 
 waits_not : (es : List Entry) (c i : ℕ) (o : Option ℕ) → is_waiting_at es o ≡ false → waits_on c (entry_at es i) ≡ true → IsNone o i
 waits_not es c i o idle waits is = true≢false (sym (waits_parts c (entry_at es i) waits).0 ∙ subst (λ x. is_waiting_at es x ≡ false) is idle)
 
-first_again : (d : Day) (c : ℕ) (a w s u : Option ℕ) → IsTurn d c a w s u → is_waiting_at (After d) w ≡ true → IsWaitingOn (After d) c w
-first_again d c a w s u t again =
-    let seats = tick_seats d in
-    let back : (i : ℕ) → i < length (After d) → i < length d.entries = λ i lt. subst (λ n. i < n) (sym seats.size) lt in
+first_again : (link : Link) (d : Day) (c : ℕ) (a w s u : Option ℕ) → IsTurn d c a w s u → is_waiting_at (After link d) w ≡ true → IsWaitingOn (After link d) c w
+first_again link d c a w s u t again =
+    let seats = second_seats link d in
+    let back : (i : ℕ) → i < length (After link d) → i < length d.entries = λ i lt. subst (λ n. i < n) (sym seats.size) lt in
     record {
-      there = λ i is. (let p = t.waiting.there i is in (subst (λ n. i < n) seats.size p.0, waits_from c (entry_at (After d) i) (subst (λ x. is_waiting_at (After d) x ≡ true) is again) (sym (seats.channel i) ∙ (waits_parts c (entry_at d.entries i) p.1).1)));
-      each = λ i lt waits. t.waiting.each i (back i lt) (waited d c i waits);
-      first = λ i r lt waits is less. t.waiting.first i r (back i lt) (waited d c i waits) is (omega (arith, less, ap (λ (b : Row). b.start) (seats.booking i), ap (λ (b : Row). b.end) (seats.booking r)));
+      there = λ i is. (let p = t.waiting.there i is in (subst (λ n. i < n) seats.size p.0, waits_from c (entry_at (After link d) i) (subst (λ x. is_waiting_at (After link d) x ≡ true) is again) (sym (seats.channel i) ∙ (waits_parts c (entry_at d.entries i) p.1).1)));
+      each = λ i lt waits. t.waiting.each i (back i lt) (waited link d c i waits);
+      first = λ i r lt waits is less. t.waiting.first i r (back i lt) (waited link d c i waits) is (omega (arith, less, ap (λ (b : Row). b.start) (seats.booking i), ap (λ (b : Row). b.end) (seats.booking r)));
     }
 
 -- one that waits still, where the first does not
-later_first : (d : Day) (c i r : ℕ) (a s u : Option ℕ) → IsTurn d c a (Some r) s u → is_waiting_at (After d) (Some r) ≡ false → i < length (After d) → waits_on c (entry_at (After d) i) ≡ true → IsLater d.entries r i
-later_first d c i r a s u t over lt waits = behind_first d.entries c i r t.waiting (subst (λ n. i < n) (sym (tick_seats d).size) lt) (waited d c i waits) (λ same. waits_not (After d) c i (Some r) over waits (ap (λ k. Some k) (sym same)))
+later_first : (link : Link) (d : Day) (c i r : ℕ) (a s u : Option ℕ) → IsTurn d c a (Some r) s u → is_waiting_at (After link d) (Some r) ≡ false → i < length (After link d) → waits_on c (entry_at (After link d) i) ≡ true → IsLater d.entries r i
+later_first link d c i r a s u t over lt waits = behind_first d.entries c i r t.waiting (subst (λ n. i < n) (sym (second_seats link d).size) lt) (waited link d c i waits) (λ same. waits_not (After link d) c i (Some r) over waits (ap (λ k. Some k) (sym same)))
 
-second_turn : (d : Day) (c : ℕ) (a w s u : Option ℕ) → IsTurn d c a w s u → is_waiting_at (After d) w ≡ false → is_waiting_at (After d) s ≡ true → IsWaitingOn (After d) c s
-second_turn d c a None s u t over next = absurd (false≢true (ap (is_waiting_at (After d)) (sym (t.no_second refl)) ∙ next))
-second_turn d c a (Some r) s u t over next =
-    let seats = tick_seats d in
+second_turn : (link : Link) (d : Day) (c : ℕ) (a w s u : Option ℕ) → IsTurn d c a w s u → is_waiting_at (After link d) w ≡ false → is_waiting_at (After link d) s ≡ true → IsWaitingOn (After link d) c s
+second_turn link d c a None s u t over next = absurd (false≢true (ap (is_waiting_at (After link d)) (sym (t.no_second refl)) ∙ next))
+second_turn link d c a (Some r) s u t over next =
+    let seats = second_seats link d in
     let b = t.second r refl in
     record {
-      there = λ i is. (let p = second_on d c a (Some r) s u t i is in (subst (λ n. i < n) seats.size p.0, waits_from c (entry_at (After d) i) (subst (λ x. is_waiting_at (After d) x ≡ true) is next) (sym (seats.channel i) ∙ p.1)));
-      each = λ i lt waits. b.each i (later_first d c i r a s u t over lt waits);
-      first = λ i k lt waits is less. b.first i k (later_first d c i r a s u t over lt waits) is (omega (arith, less, ap (λ (x : Row). x.start) (seats.booking i), ap (λ (x : Row). x.end) (seats.booking k)));
+      there = λ i is. (let p = second_on d c a (Some r) s u t i is in (subst (λ n. i < n) seats.size p.0, waits_from c (entry_at (After link d) i) (subst (λ x. is_waiting_at (After link d) x ≡ true) is next) (sym (seats.channel i) ∙ p.1)));
+      each = λ i lt waits. b.each i (later_first link d c i r a s u t over lt waits);
+      first = λ i k lt waits is less. b.first i k (later_first link d c i r a s u t over lt waits) is (omega (arith, less, ap (λ (x : Row). x.start) (seats.booking i), ap (λ (x : Row). x.end) (seats.booking k)));
     }
 
 -- one that waits, where neither the first nor the second does
-later_second : (d : Day) (c i r k : ℕ) (a u : Option ℕ) → IsTurn d c a (Some r) (Some k) u → is_waiting_at (After d) (Some r) ≡ false → is_waiting_at (After d) (Some k) ≡ false → i < length (After d) → waits_on c (entry_at (After d) i) ≡ true → IsLater d.entries k i
-later_second d c i r k a u t over done lt waits = behind_second d.entries i r k (t.second r refl) (later_first d c i r a (Some k) u t over lt waits) (λ same. waits_not (After d) c i (Some k) done waits (ap (λ n. Some n) (sym same)))
+later_second : (link : Link) (d : Day) (c i r k : ℕ) (a u : Option ℕ) → IsTurn d c a (Some r) (Some k) u → is_waiting_at (After link d) (Some r) ≡ false → is_waiting_at (After link d) (Some k) ≡ false → i < length (After link d) → waits_on c (entry_at (After link d) i) ≡ true → IsLater d.entries k i
+later_second link d c i r k a u t over done lt waits = behind_second d.entries i r k (t.second r refl) (later_first link d c i r a (Some k) u t over lt waits) (λ same. waits_not (After link d) c i (Some k) done waits (ap (λ n. Some n) (sym same)))
 
 nobody_waits : (es : List Entry) (c : ℕ) (o : Option ℕ) → o ≡ None → ((i : ℕ) → i < length es → waits_on c (entry_at es i) ≡ true → ⊥) → IsWaitingOn es c o
 nobody_waits es c o none never = record {
@@ -60,11 +61,11 @@ nobody_waits es c o none never = record {
   first = λ i r lt waits is less. absurd (never i lt waits);
 }
 
-third_turn : (d : Day) (c : ℕ) (a w s u : Option ℕ) → IsTurn d c a w s u → is_waiting_at (After d) w ≡ false → is_waiting_at (After d) s ≡ false → IsWaitingOn (After d) c u
-third_turn d c a None s u t over done = nobody_waits (After d) c u (t.no_third (t.no_second refl)) (λ i lt waits. false≢true (t.waiting.each i (subst (λ n. i < n) (sym (tick_seats d).size) lt) (waited d c i waits)))
-third_turn d c a (Some r) None u t over done = nobody_waits (After d) c u (t.no_third refl) (λ i lt waits. false≢true ((t.second r refl).each i (later_first d c i r a None u t over lt waits)))
-third_turn d c a (Some r) (Some k) u t over done =
-    let seats = tick_seats d in
+third_turn : (link : Link) (d : Day) (c : ℕ) (a w s u : Option ℕ) → IsTurn d c a w s u → is_waiting_at (After link d) w ≡ false → is_waiting_at (After link d) s ≡ false → IsWaitingOn (After link d) c u
+third_turn link d c a None s u t over done = nobody_waits (After link d) c u (t.no_third (t.no_second refl)) (λ i lt waits. false≢true (t.waiting.each i (subst (λ n. i < n) (sym (second_seats link d).size) lt) (waited link d c i waits)))
+third_turn link d c a (Some r) None u t over done = nobody_waits (After link d) c u (t.no_third refl) (λ i lt waits. false≢true ((t.second r refl).each i (later_first link d c i r a None u t over lt waits)))
+third_turn link d c a (Some r) (Some k) u t over done =
+    let seats = second_seats link d in
     let b = t.third k refl in
     let p = t.waiting.there r refl in
     let q = waits_parts c (entry_at d.entries r) p.1 in
@@ -74,18 +75,18 @@ third_turn d c a (Some r) (Some k) u t over done =
           let two = b.there i is in
           let far = far_ahead d i r k t.exchange t.ordered p.0 q.0 one two in
           let waits : is_unoffered (entry_at d.entries i).standing ≡ true = t.ahead i two.inside two.accepted (omega (arith, far)) in
-          let stay = ahead_waits d i t.exchange two.inside (t.ordered i two.inside) waits far in
-          let still : is_unoffered (entry_at (After d) i).standing ≡ true = ap (λ (e : Entry). is_unoffered e.standing) (at_map d d.entries i) ∙ ap (λ (m : Moved). is_unoffered m.standing) stay ∙ waits in
-          (subst (λ n. i < n) seats.size two.inside, waits_from c (entry_at (After d) i) still (sym (seats.channel i) ∙ two.channel ∙ one.channel ∙ q.1));
-      each = λ i lt waits. b.each i (later_second d c i r k a u t over done lt waits);
-      first = λ i n lt waits is less. b.first i n (later_second d c i r k a u t over done lt waits) is (omega (arith, less, ap (λ (x : Row). x.start) (seats.booking i), ap (λ (x : Row). x.end) (seats.booking n)));
+          let stay = ahead_waits link d i t.exchange two.inside (t.ordered i two.inside) waits far in
+          let still : is_unoffered (entry_at (After link d) i).standing ≡ true = ap (λ (e : Entry). is_unoffered e.standing) (at_map_in link d d.entries i) ∙ ap (λ (m : Moved). is_unoffered m.standing) stay ∙ waits in
+          (subst (λ n. i < n) seats.size two.inside, waits_from c (entry_at (After link d) i) still (sym (seats.channel i) ∙ two.channel ∙ one.channel ∙ q.1));
+      each = λ i lt waits. b.each i (later_second link d c i r k a u t over done lt waits);
+      first = λ i n lt waits is less. b.first i n (later_second link d c i r k a u t over done lt waits) is (omega (arith, less, ap (λ (x : Row). x.start) (seats.booking i), ap (λ (x : Row). x.end) (seats.booking n)));
     }
 
-pub waiting_settled : (d : Day) (c : ℕ) (a w s u : Option ℕ) → IsTurn d c a w s u → IsWaitingOn (After d) c (if is_waiting_at (After d) w then w else if is_waiting_at (After d) s then s else u)
-waiting_settled d c a w s u t =
-    by_cases (is_waiting_at (After d) w) _ _ (IsWaitingOn (After d) c)
-    (λ again. first_again d c a w s u t again)
-    (λ over. by_cases (is_waiting_at (After d) s) _ _ (IsWaitingOn (After d) c) (λ next. second_turn d c a w s u t over next) (λ done. third_turn d c a w s u t over done))
+pub waiting_settled : (link : Link) (d : Day) (c : ℕ) (a w s u : Option ℕ) → IsTurn d c a w s u → IsWaitingOn (After link d) c (if is_waiting_at (After link d) w then w else if is_waiting_at (After link d) s then s else u)
+waiting_settled link d c a w s u t =
+    by_cases (is_waiting_at (After link d) w) _ _ (IsWaitingOn (After link d) c)
+    (λ again. first_again link d c a w s u t again)
+    (λ over. by_cases (is_waiting_at (After link d) s) _ _ (IsWaitingOn (After link d) c) (λ next. second_turn link d c a w s u t over next) (λ done. third_turn link d c a w s u t over done))
 
 -- ---- all channels
 
@@ -116,11 +117,11 @@ turn_of d c live waiting behind h s = record {
         (l.inside, l.accepted)
 
 -- the slots of the channels below c are those after the tick, and the others those before it
-pub record AreSettledBelow (d : Day) (c : ℕ) (live waiting behind live' waiting' : List (Option ℕ)) : Type 0 where
+pub record AreSettledBelow (link : Link) (d : Day) (c : ℕ) (live waiting behind live' waiting' : List (Option ℕ)) : Type 0 where
   pub live_size : length live' ≡ length live
   pub waiting_size : length waiting' ≡ length waiting
-  pub done : (k : ℕ) → k < c → slot_at live' k ≡ live_of (After d) (slot_at live k) (slot_at waiting k) (follower behind (slot_at waiting k))
-  pub found : (k : ℕ) → k < c → slot_at waiting' k ≡ waiting_of (After d) behind (slot_at waiting k) (follower behind (slot_at waiting k))
+  pub done : (k : ℕ) → k < c → slot_at live' k ≡ live_of (After link d) (slot_at live k) (slot_at waiting k) (follower behind (slot_at waiting k))
+  pub found : (k : ℕ) → k < c → slot_at waiting' k ≡ waiting_of (After link d) behind (slot_at waiting k) (follower behind (slot_at waiting k))
   pub live_left : (k : ℕ) → c ≤ k → slot_at live' k ≡ slot_at live k
   pub waiting_left : (k : ℕ) → c ≤ k → slot_at waiting' k ≡ slot_at waiting k
 
@@ -129,49 +130,49 @@ beyond [] n le = refl
 beyond (x ∷ xs) zero le = absurd (omega (arith, le))
 beyond (x ∷ xs) (suc n) le = beyond xs n (omega (arith, le))
 
-ahead_after : (d : Day) (live waiting behind : List (Option ℕ)) → IsExchange d → AreSlots d live waiting behind → (i : ℕ) → i < length (After d) → is_refused (entry_at (After d) i).standing ≡ false → d.moment + 1 < (entry_at (After d) i).booking.start → is_unoffered (entry_at (After d) i).standing ≡ true
-ahead_after d live waiting behind h s i lt accepted early =
-    let seats = tick_seats d in
+ahead_after : (link : Link) (d : Day) (live waiting behind : List (Option ℕ)) → IsExchange d → AreSlots d live waiting behind → (i : ℕ) → i < length (After link d) → is_refused (entry_at (After link d) i).standing ≡ false → d.moment + 1 < (entry_at (After link d) i).booking.start → is_unoffered (entry_at (After link d) i).standing ≡ true
+ahead_after link d live waiting behind h s i lt accepted early =
+    let seats = second_seats link d in
     let inside : i < length d.entries = subst (λ n. i < n) (sym seats.size) lt in
     let later : d.moment + 1 < (entry_at d.entries i).booking.start = omega (arith, early, ap (λ (b : Row). b.start) (seats.booking i)) in
     let waits = s.ahead i inside (seats.refused i ∙ accepted) (omega (arith, later)) in
-    ap (λ (e : Entry). is_unoffered e.standing) (at_map d d.entries i) ∙ ap (λ (m : Moved). is_unoffered m.standing) (ahead_waits d i h inside (s.ordered i inside) waits later) ∙ waits
+    ap (λ (e : Entry). is_unoffered e.standing) (at_map_in link d d.entries i) ∙ ap (λ (m : Moved). is_unoffered m.standing) (ahead_waits link d i h inside (s.ordered i inside) waits later) ∙ waits
 
-pub all_settled : (d : Day) (c : ℕ) (live waiting behind live' waiting' : List (Option ℕ)) → IsExchange d → 32 ≤ c → AreSlots d live waiting behind → AreSettledBelow d c live waiting behind live' waiting' → AreSlots (ticked d).day live' waiting' behind
-all_settled d c live waiting behind live' waiting' h all s done =
-    let seats = tick_seats d in
+pub all_settled : (link : Link) (d : Day) (c : ℕ) (live waiting behind live' waiting' : List (Option ℕ)) → IsExchange d → 32 ≤ c → AreSlots d live waiting behind → AreSettledBelow link d c live waiting behind live' waiting' → AreSlots (passed_in link d).day live' waiting' behind
+all_settled link d c live waiting behind live' waiting' h all s done =
+    let seats = second_seats link d in
     record {
       live_size = done.live_size ∙ s.live_size;
       waiting_size = done.waiting_size ∙ s.waiting_size;
       behind_size = s.behind_size ∙ seats.size;
-      lives = λ k. subst (IsLiveOn (After d) k) (sym (live_now k)) (live_settled d k _ _ _ _ (turn_of d k live waiting behind h s));
-      waits = λ k. subst (IsWaitingOn (After d) k) (sym (waiting_now k)) (waiting_settled d k _ _ _ _ (turn_of d k live waiting behind h s));
-      behinds = λ r lt accepted. behind_kept d.entries (After d) r (slot_at behind r) seats (s.behinds r (subst (λ n. r < n) (sym seats.size) lt) (seats.refused r ∙ accepted));
-      ahead = ahead_after d live waiting behind h s;
-      ordered = ordered_kept d.entries (After d) seats s.ordered;
+      lives = λ k. subst (IsLiveOn (After link d) k) (sym (live_now k)) (live_settled link d k _ _ _ _ (turn_of d k live waiting behind h s));
+      waits = λ k. subst (IsWaitingOn (After link d) k) (sym (waiting_now k)) (waiting_settled link d k _ _ _ _ (turn_of d k live waiting behind h s));
+      behinds = λ r lt accepted. behind_kept d.entries (After link d) r (slot_at behind r) seats (s.behinds r (subst (λ n. r < n) (sym seats.size) lt) (seats.refused r ∙ accepted));
+      ahead = ahead_after link d live waiting behind h s;
+      ordered = ordered_kept d.entries (After link d) seats s.ordered;
     }
   where
-    live_now : (k : ℕ) → slot_at live' k ≡ live_of (After d) (slot_at live k) (slot_at waiting k) (follower behind (slot_at waiting k))
+    live_now : (k : ℕ) → slot_at live' k ≡ live_of (After link d) (slot_at live k) (slot_at waiting k) (follower behind (slot_at waiting k))
     live_now k = elim (cases_lt k c) [
       | inl less ↦ done.done k less
       | inr le ↦ (
           let none : slot_at waiting k ≡ None = beyond waiting k (omega (arith, s.waiting_size, all, le)) in
           let nobody : slot_at live k ≡ None = beyond live k (omega (arith, s.live_size, all, le)) in
-          done.live_left k le ∙ nobody ∙ sym (ap (λ o. live_of (After d) o (slot_at waiting k) (follower behind (slot_at waiting k))) nobody ∙ ap (λ o. live_of (After d) None o (follower behind o)) none))
+          done.live_left k le ∙ nobody ∙ sym (ap (λ o. live_of (After link d) o (slot_at waiting k) (follower behind (slot_at waiting k))) nobody ∙ ap (λ o. live_of (After link d) None o (follower behind o)) none))
     ]
 
-    waiting_now : (k : ℕ) → slot_at waiting' k ≡ waiting_of (After d) behind (slot_at waiting k) (follower behind (slot_at waiting k))
+    waiting_now : (k : ℕ) → slot_at waiting' k ≡ waiting_of (After link d) behind (slot_at waiting k) (follower behind (slot_at waiting k))
     waiting_now k = elim (cases_lt k c) [
       | inl less ↦ done.found k less
       | inr le ↦ (
           let none : slot_at waiting k ≡ None = beyond waiting k (omega (arith, s.waiting_size, all, le)) in
-          done.waiting_left k le ∙ none ∙ sym (ap (λ o. waiting_of (After d) behind o (follower behind o)) none))
+          done.waiting_left k le ∙ none ∙ sym (ap (λ o. waiting_of (After link d) behind o (follower behind o)) none))
     ]
 
 -- ---- channel by channel
 
-pub none_settled : (d : Day) (live waiting behind : List (Option ℕ)) → AreSettledBelow d 0 live waiting behind live waiting
-none_settled d live waiting behind = record {
+pub none_settled : (link : Link) (d : Day) (live waiting behind : List (Option ℕ)) → AreSettledBelow link d 0 live waiting behind live waiting
+none_settled link d live waiting behind = record {
   live_size = refl;
   waiting_size = refl;
   done = λ k lt. absurd (omega (arith, lt));
@@ -180,18 +181,18 @@ none_settled d live waiting behind = record {
   waiting_left = λ k le. refl;
 }
 
-pub one_settled : (d : Day) (c : ℕ) (live waiting behind ls ws : List (Option ℕ)) (a w : Option ℕ) → c < length live → c < length waiting
-    → a ≡ live_of (After d) (slot_at live c) (slot_at waiting c) (follower behind (slot_at waiting c)) → w ≡ waiting_of (After d) behind (slot_at waiting c) (follower behind (slot_at waiting c))
-    → AreSettledBelow d c live waiting behind ls ws → AreSettledBelow d (c + 1) live waiting behind (slice_set ls c a) (slice_set ws c w)
-one_settled d c live waiting behind ls ws a w la lw is_a is_w h = record {
+pub one_settled : (link : Link) (d : Day) (c : ℕ) (live waiting behind ls ws : List (Option ℕ)) (a w : Option ℕ) → c < length live → c < length waiting
+    → a ≡ live_of (After link d) (slot_at live c) (slot_at waiting c) (follower behind (slot_at waiting c)) → w ≡ waiting_of (After link d) behind (slot_at waiting c) (follower behind (slot_at waiting c))
+    → AreSettledBelow link d c live waiting behind ls ws → AreSettledBelow link d (c + 1) live waiting behind (slice_set ls c a) (slice_set ws c w)
+one_settled link d c live waiting behind ls ws a w la lw is_a is_w h = record {
   live_size = length-set ls c a ∙ h.live_size;
   waiting_size = length-set ws c w ∙ h.waiting_size;
   done = λ k lt. elim (cases_eq k c) [
-    | inl here ↦ subst (λ n. slot_at (slice_set ls c a) n ≡ live_of (After d) (slot_at live n) (slot_at waiting n) (follower behind (slot_at waiting n))) (sym here) (get_or-set_same ls c a None (omega (arith, la, h.live_size)) ∙ is_a)
+    | inl here ↦ subst (λ n. slot_at (slice_set ls c a) n ≡ live_of (After link d) (slot_at live n) (slot_at waiting n) (follower behind (slot_at waiting n))) (sym here) (get_or-set_same ls c a None (omega (arith, la, h.live_size)) ∙ is_a)
     | inr other ↦ get_or-set_other ls c k a None other ∙ h.done k (omega (arith, lt, other))
   ];
   found = λ k lt. elim (cases_eq k c) [
-    | inl here ↦ subst (λ n. slot_at (slice_set ws c w) n ≡ waiting_of (After d) behind (slot_at waiting n) (follower behind (slot_at waiting n))) (sym here) (get_or-set_same ws c w None (omega (arith, lw, h.waiting_size)) ∙ is_w)
+    | inl here ↦ subst (λ n. slot_at (slice_set ws c w) n ≡ waiting_of (After link d) behind (slot_at waiting n) (follower behind (slot_at waiting n))) (sym here) (get_or-set_same ws c w None (omega (arith, lw, h.waiting_size)) ∙ is_w)
     | inr other ↦ get_or-set_other ws c k w None other ∙ h.found k (omega (arith, lt, other))
   ];
   live_left = λ k le. get_or-set_other ls c k a None (λ q. absurd (omega (arith, q, le))) ∙ h.live_left k (omega (arith, le));

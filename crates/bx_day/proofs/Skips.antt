@@ -1,12 +1,13 @@
 -- Quiet ticks one after another.
 use Rattle.std.proofs.Common.{◌≡◌, ℕ, zero, suc, replicate, ◌+◌, arith, sym, subst, ap, ◌∙◌}
+use Rattle.bx_day.specs.declared.entry.Link.TheVariants.{Up}
 use Rattle.bx_day.specs.Day.{Day}
 use Rattle.bx_calls.specs.Sending.{Sent}
 use Rattle.bx_day.specs.QuietSeconds.{later_by, IsQuietTick, IsQuietFor}
 use Rattle.bx_day.specs.Reading.{IsExchange}
-use Rattle.bx_q931.specs.Events.{Tick}
+use Rattle.bx_events.specs.Events.{Tick}
 use Rattle.bx_day.specs.Run.{day_after}
-use Rattle.bx_day.proofs.Passing.{tick_is, ticked_stays}
+use Rattle.bx_day.proofs.Passing.{tick_is, passed_stays}
 use Rattle.bx_day.proofs.Dues.{quiet_early}
 
 pub later_none : (d : Day) → later_by 0 d ≡ d
@@ -31,5 +32,5 @@ pub skip_stays : (n : ℕ) (d : Day) → IsExchange d → IsQuietFor n d → IsE
 skip_stays zero d h quiet = subst IsExchange (sym (later_none d)) h
 skip_stays (suc n) d h quiet =
     let early = quiet_early d (first_quiet n d quiet) in
-    let next : IsExchange (later_by 1 d) = subst (λ (s : Sent Day). IsExchange s.day) (sym (tick_is d early) ∙ first_quiet n d quiet) (ticked_stays d early h) in
+    let next : IsExchange (later_by 1 d) = subst (λ (s : Sent Day). IsExchange s.day) (sym (tick_is d early) ∙ first_quiet n d quiet) (passed_stays Up d early h) in
     subst IsExchange (later_more n d) (skip_stays n (later_by 1 d) next (rest_quiet n d quiet))

@@ -4,7 +4,7 @@ use Rattle.std.specs.Prelude.{is_some, IfSome}
 use Rattle.std.specs.Option.{unwrap_or}
 use Rattle.std.proofs.lemmas.Bool.{and_parts, and_from, true≢false, false≢true, eqb-true, eq-eqb, false_from_ne_true, cases_eq, cases_lt}
 use Rattle.std.proofs.lemmas.List.{get_or_default}
-use Rattle.bx_numbers.specs.ChannelNumbers.{IsChannel}
+use Rattle.bx_channels.specs.ChannelNumbers.{IsChannel}
 use Rattle.bx_calls.specs.Said.{Said}
 use Rattle.bx_calls.specs.Shared.{is_set}
 use Rattle.bx_day.specs.Day.{Day, is_live, is_held, is_free, is_unoffered, holds, index_of, entry_at, no_entry}

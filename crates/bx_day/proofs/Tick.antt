@@ -1,5 +1,5 @@
 -- A tick keeps what is true of a day.
-use Rattle.std.proofs.Common.{◌≡◌, ◌≢◌, ℕ, ◌+◌, ◌≤◌, ◌<◌, ◌==◌, ◌&&◌, ◌||◌, not, Bool, true, false, List, [], ◌∷◌, map, Option, arith, refl, sym, subst, nat_le, nat_lt, if◌then◌else◌}
+use Rattle.std.proofs.Common.{◌≡◌, ◌≢◌, ℕ, ◌+◌, ◌≤◌, ◌<◌, ◌==◌, ◌&&◌, ◌||◌, not, Bool, true, false, List, [], ◌∷◌, map, Option, arith, refl, sym, subst, ap, nat_le, nat_lt, if◌then◌else◌}
 use Rattle.std.specs.List.{AllByRecursion}
 use Rattle.std.proofs.lemmas.Bool.{leb-true, leb-false, ltb-true, and_parts, both_ways, eq-eqb, and_from, not-true, false≢true}
 use Rattle.bx_q931.specs.Outgoing.{Outgoing}
@@ -9,8 +9,10 @@ use Rattle.bx_calls.specs.declared.step.Next.TheVariants.{Live, Over, Broken}
 use Rattle.bx_base.specs.Bookings.{Row, is_running}
 use Rattle.bx_calls.specs.Shared.{is_set}
 use Rattle.bx_day.specs.Day.{Day, is_live, holds, is_held, is_free}
-use Rattle.bx_day.specs.Ticks.{second_at, after_second, waits, tick, ticked}
-use Rattle.bx_day.specs.Moves.{follow, over_at}
+use Rattle.bx_day.specs.Ticks.{unlinked_at, second_at, second_by, after_in, waits, tick, passed_in}
+use Rattle.bx_day.specs.Outages.{without_link}
+use Rattle.bx_day.specs.Moves.{follow, follows, over_at}
+use Rattle.bx_calls.specs.NetTable.{net_unlinked}
 use Rattle.bx_calls.specs.Sending.{Sent}
 use Rattle.bx_day.specs.declared.entry.Moved.{Moved}
 use Rattle.bx_day.specs.declared.entry.Entry.{Entry}
@@ -19,7 +21,9 @@ use Rattle.bx_day.specs.declared.entry.Activity.{Activity}
 use Rattle.bx_day.specs.declared.entry.Standing.TheVariants.{Refused, Unoffered, OnCall, Carried, Unanswered, Missed}
 use Rattle.bx_day.specs.declared.entry.Activity.TheVariants.{Never, Since, Was}
 use Rattle.bx_day.specs.Invariant.{EntryFits, Apart, Pairs, DayFits, is_refused}
-use Rattle.bx_day.proofs.Second.{second_fits}
+use Rattle.bx_day.specs.declared.entry.Link.{Link}
+use Rattle.bx_day.specs.declared.entry.Link.TheVariants.{Up, Down}
+use Rattle.bx_day.proofs.Second.{second_fits, unlinked_fits}
 
 abbrev pub with_standing : Entry → Standing → Entry
 with_standing e s = record e { standing = s }
@@ -51,7 +55,7 @@ waits_fits t e free =
     (λ offered.
     let p = offers_parts e (t + 1) free offered in
     let r = runs_at e.booking (t + 1) p.0 in
-    record { channel = refl; origin = (p.1, refl); phase = r; due = omega arith; activity = tt })
+    record { channel = refl; origin = (p.1, refl); phase = r; due = (omega arith, omega arith); activity = tt })
     (λ _. by_cases (nat_le e.booking.end (t + 1)) _ _ (λ (m : Moved). EntryFits (t + 1) (with_standing e (m.standing)))
     (λ ended. leb-true e.booking.end (t + 1) ended)
     (λ going. leb-false e.booking.end (t + 1) going))
@@ -64,10 +68,6 @@ entry_fits t e free (OnCall c a) h = second_fits t (with_standing e (OnCall c a)
 entry_fits t e free (Carried from until) h = h
 entry_fits t e free Unanswered h = tt
 entry_fits t e free Missed h = omega arith
-
-pub all_fit : (t : ℕ) (d : Day) → d.moment ≡ t → (es : List Entry) → AllByRecursion (EntryFits d.moment) es → AllByRecursion (EntryFits (d.moment + 1)) (map (after_second d) es)
-all_fit t d p [] h = tt
-all_fit t d p (e ∷ es) h = (entry_fits d.moment e (is_free d e.channel) e.standing h.0, all_fit t d p es h.1)
 
 -- a booking that is live after a tick was live before, or is offered at it
 pub data WasLive (t : ℕ) (free : Bool) (e : Entry) : Type 0 where
@@ -143,22 +143,65 @@ live_apart d e f p he hf (Before le) (Offered rf uf ff) same = free_held d f.cha
 live_apart d e f p he hf (Offered re ue fe) (Before lf) same = free_held d e.channel fe (subst (λ c. is_held d.entries c ≡ true) (sym same) (hf lf))
 live_apart d e f p he hf (Offered re ue fe) (Offered rf uf ff) same = p.planned re rf same (d.moment + 1) ue uf
 
-pub after_apart : (d : Day) (e f : Entry) → Apart e f → Holding (is_held d.entries) e → Holding (is_held d.entries) f → Apart (after_second d e) (after_second d f)
-after_apart d e f p he hf = record {
-  planned = λ re rf. p.planned (second_refused (d.moment + 1) (is_free d e.channel) e e.standing re) (second_refused (d.moment + 1) (is_free d f.channel) f f.standing rf);
-  live = λ le lf. live_apart d e f p he hf (second_live (d.moment + 1) (is_free d e.channel) e e.standing le) (second_live (d.moment + 1) (is_free d f.channel) f f.standing lf);
+-- ---- a second with a link or without one
+
+-- what holds of a call in a second without a link, and of any other booking at a tick while its channel is held
+pub unlinked : (e : Entry) (t : ℕ) (s : Standing) (P : Moved → Type 0) → ((c : PlainNetCall) (a : Activity) → s ≡ OnCall c a → P (follows a t (net_unlinked 1 c t e.booking.end))) → P (second_at e t false s) → P (unlinked_at e t s)
+unlinked e t (OnCall c a) P f g = f c a refl
+unlinked e t Refused P f g = g
+unlinked e t Unoffered P f g = g
+unlinked e t (Carried from until) P f g = g
+unlinked e t Unanswered P f g = g
+unlinked e t Missed P f g = g
+
+still_fits : (t : ℕ) (e : Entry) (s : Standing) → EntryFits t (with_standing e s) → EntryFits (t + 1) (with_standing e (unlinked_at e (t + 1) s).standing)
+still_fits t e (OnCall c a) h = unlinked_fits t (with_standing e (OnCall c a)) c.reference c.channel c.origin c.state a h
+still_fits t e Refused h = entry_fits t e false Refused h
+still_fits t e Unoffered h = entry_fits t e false Unoffered h
+still_fits t e (Carried from until) h = entry_fits t e false (Carried from until) h
+still_fits t e Unanswered h = entry_fits t e false Unanswered h
+still_fits t e Missed h = entry_fits t e false Missed h
+
+pub in_fits : (link : Link) (t : ℕ) (e : Entry) (free : Bool) (s : Standing) → EntryFits t (with_standing e s) → EntryFits (t + 1) (with_standing e (second_by link e (t + 1) free s).standing)
+in_fits Up t e free s h = entry_fits t e free s h
+in_fits Down t e free s h = still_fits t e s h
+
+pub all_fit : (link : Link) (t : ℕ) (d : Day) → d.moment ≡ t → (es : List Entry) → AllByRecursion (EntryFits d.moment) es → AllByRecursion (EntryFits (d.moment + 1)) (map (after_in link d) es)
+all_fit link t d p [] h = tt
+all_fit link t d p (e ∷ es) h = (in_fits link d.moment e (is_free d e.channel) e.standing h.0, all_fit link t d p es h.1)
+
+-- without a link nothing is offered
+pub never_offered : (t : ℕ) (free : Bool) (e : Entry) → WasLive t false e → WasLive t free e
+never_offered t free e (Before live) = Before live
+never_offered t free e (Offered accepted runs f) = absurd (false≢true f)
+
+pub in_live : (link : Link) (t : ℕ) (free : Bool) (e : Entry) (s : Standing) → is_live (second_by link e t free s).standing ≡ true → WasLive t free (with_standing e s)
+in_live Up t free e s live = second_live t free e s live
+in_live Down t free e s live = unlinked e t s (λ m. is_live m.standing ≡ true → WasLive t free (with_standing e s)) (λ c a p _. Before (ap is_live p)) (λ now. never_offered t free (with_standing e s) (second_live t false e s now)) live
+
+pub in_refused : (link : Link) (t : ℕ) (free : Bool) (e : Entry) (s : Standing) → is_refused (second_by link e t free s).standing ≡ false → is_refused s ≡ false
+in_refused Up t free e s h = second_refused t free e s h
+in_refused Down t free e s h = unlinked e t s (λ m. is_refused m.standing ≡ false → is_refused s ≡ false) (λ c a p _. ap is_refused p) (second_refused t false e s) h
+
+pub after_apart : (link : Link) (d : Day) (e f : Entry) → Apart e f → Holding (is_held d.entries) e → Holding (is_held d.entries) f → Apart (after_in link d e) (after_in link d f)
+after_apart link d e f p he hf = record {
+  planned = λ re rf. p.planned (in_refused link (d.moment + 1) (is_free d e.channel) e e.standing re) (in_refused link (d.moment + 1) (is_free d f.channel) f f.standing rf);
+  live = λ le lf. live_apart d e f p he hf (in_live link (d.moment + 1) (is_free d e.channel) e e.standing le) (in_live link (d.moment + 1) (is_free d f.channel) f f.standing lf);
 }
 
-pub all_apart : (d : Day) (e : Entry) (fs : List Entry) → Holding (is_held d.entries) e → AllByRecursion (Holding (is_held d.entries)) fs → AllByRecursion (Apart e) fs → AllByRecursion (Apart (after_second d e)) (map (after_second d) fs)
-all_apart d e [] he hs ps = tt
-all_apart d e (f ∷ fs) he hs ps = (after_apart d e f ps.0 he hs.0, all_apart d e fs he hs.1 ps.1)
+pub all_apart : (link : Link) (d : Day) (e : Entry) (fs : List Entry) → Holding (is_held d.entries) e → AllByRecursion (Holding (is_held d.entries)) fs → AllByRecursion (Apart e) fs → AllByRecursion (Apart (after_in link d e)) (map (after_in link d) fs)
+all_apart link d e [] he hs ps = tt
+all_apart link d e (f ∷ fs) he hs ps = (after_apart link d e f ps.0 he hs.0, all_apart link d e fs he hs.1 ps.1)
 
-pub pairs_apart : (d : Day) (es : List Entry) → AllByRecursion (Holding (is_held d.entries)) es → Pairs Apart es → Pairs Apart (map (after_second d) es)
-pairs_apart d [] hs ps = tt
-pairs_apart d (e ∷ es) hs ps = (all_apart d e es hs.0 hs.1 ps.0, pairs_apart d es hs.1 ps.1)
+pub pairs_apart : (link : Link) (d : Day) (es : List Entry) → AllByRecursion (Holding (is_held d.entries)) es → Pairs Apart es → Pairs Apart (map (after_in link d) es)
+pairs_apart link d [] hs ps = tt
+pairs_apart link d (e ∷ es) hs ps = (all_apart link d e es hs.0 hs.1 ps.0, pairs_apart link d es hs.1 ps.1)
 
-pub ticked_fits : (d : Day) → DayFits d → DayFits (ticked d).day
-ticked_fits d h = record { each = all_fit d.moment d refl d.entries h.each; pairs = pairs_apart d d.entries (all_hold d.entries) h.pairs }
+pub passed_fits : (link : Link) (d : Day) → DayFits d → DayFits (passed_in link d).day
+passed_fits link d h = record { each = all_fit link d.moment d refl d.entries h.each; pairs = pairs_apart link d d.entries (all_hold d.entries) h.pairs }
 
 pub tick_fits : (d : Day) → DayFits d → DayFits (tick d).day
-tick_fits d h = by_cases (nat_le 300000 d.moment) _ _ (λ (s : Sent Day). DayFits s.day) (λ _. h) (λ _. ticked_fits d h)
+tick_fits d h = by_cases (nat_le 300000 d.moment) _ _ (λ (s : Sent Day). DayFits s.day) (λ _. h) (λ _. passed_fits Up d h)
+
+pub without_fits : (d : Day) → DayFits d → DayFits (without_link d)
+without_fits d h = by_cases (nat_le 300000 d.moment) _ _ DayFits (λ _. h) (λ _. passed_fits Down d h)

@@ -6,15 +6,15 @@ use Rattle.std.proofs.lemmas.Bool.{true≢false, false≢true, cases_eq, cases_l
 use Rattle.bx_q931.specs.Outgoing.{Outgoing}
 use Rattle.bx_calls.specs.Shared.{is_set, cons_some}
 use Rattle.bx_day.specs.Day.{Day, is_unoffered, entry_at}
-use Rattle.bx_day.specs.Ticks.{second_of, after_second, said_on, breaks_on, maintained}
+use Rattle.bx_day.specs.Ticks.{second_in, after_in, said_in, breaks_in, maintained_in}
 use Rattle.bx_day.specs.Moves.{stays}
-use Rattle.bx_day.specs.Passing.{is_slot, with_slots, Passed, AreTouched, IsTicked}
+use Rattle.bx_day.specs.Passing.{is_slot, with_slots, Passed, AreTouched, IsSecond}
 use Rattle.bx_day.specs.Reading.{IsExchange}
 use Rattle.bx_day.specs.Slots.{slot_at, AreSlots}
 use Rattle.bx_day.specs.SlotSteps.{follower}
 use Rattle.bx_day.specs.declared.entry.Entry.{Entry}
 use Rattle.bx_day.specs.declared.entry.Moved.{Moved}
-use Rattle.bx_day.proofs.Law.{at_map}
+use Rattle.bx_day.proofs.Law.{at_map_in}
 use Rattle.bx_day.proofs.Once.{decide}
 use Rattle.bx_day.proofs.Passing.{map_size}
 use Rattle.bx_day.proofs.Turns.{IsTurn, others_stay}
@@ -24,6 +24,7 @@ use Rattle.bx_day.proofs.PutLemmas.{live_waits}
 use Rattle.bx_day.proofs.SlotLemmas.{some_is, holds_parts, waits_parts, ends_later}
 use Rattle.bx_day.proofs.SaidOnce.{none_said, maintained_size, maintained_at, same_set, any_there, none_there}
 use Rattle.bx_day.proofs.TouchLemmas.{with_one, other_or}
+use Rattle.bx_day.specs.declared.entry.Link.{Link}
 
 -- ---- slot by slot
 
@@ -108,34 +109,34 @@ same_entries [] (y ∷ ys) size h = absurd (omega (arith, size))
 same_entries (x ∷ xs) [] size h = absurd (omega (arith, size))
 same_entries (x ∷ xs) (y ∷ ys) size h = ap₂ (λ e es. e ∷ es) (h 0 (omega arith)) (same_entries xs ys (omega (arith, size)) (λ i lt. h (suc i) (omega (arith, lt))))
 
-pub all_passed : (d : Day) (done : ℕ → Bool) (es : List Entry) (ms : List Bool) (ss : List (Option Outgoing)) → IsExchange d → ((i : ℕ) → i < length d.entries → done i ≡ false → second_of d (entry_at d.entries i) ≡ stays (entry_at d.entries i).standing) → Passed d done es ms ss → IsTicked d es ms ss
-all_passed d done es ms ss h others p = record {
-  entries = same_entries es (map (after_second d) d.entries) (p.size ∙ sym (map_size d d.entries)) (λ i lt.
+pub all_passed : (link : Link) (d : Day) (done : ℕ → Bool) (es : List Entry) (ms : List Bool) (ss : List (Option Outgoing)) → IsExchange d → ((i : ℕ) → i < length d.entries → done i ≡ false → second_in link d (entry_at d.entries i) ≡ stays (entry_at d.entries i).standing) → Passed link d done es ms ss → IsSecond link d es ms ss
+all_passed link d done es ms ss h others p = record {
+  entries = same_entries es (map (after_in link d) d.entries) (p.size ∙ sym (map_size link d d.entries)) (λ i lt.
       let inside : i < length d.entries = omega (arith, lt, p.size) in
       let e = entry_at d.entries i in
-      p.rows i inside ∙ decide (done i) (λ yes. ap (λ b. if b then after_second d e else e) yes) (λ no. ap (λ b. if b then after_second d e else e) no ∙ ap (λ (m : Moved). record e { standing = m.standing }) (sym (others i inside no))) ∙ sym (at_map d d.entries i));
-  maintenance = same_set ms (maintained d 0 d.maintenance) (p.channels ∙ sym (maintained_size d 0 d.maintenance)) (λ c lt.
+      p.rows i inside ∙ decide (done i) (λ yes. ap (λ b. if b then after_in link d e else e) yes) (λ no. ap (λ b. if b then after_in link d e else e) no ∙ ap (λ (m : Moved). record e { standing = m.standing }) (sym (others i inside no))) ∙ sym (at_map_in link d d.entries i));
+  maintenance = same_set ms (maintained_in link d 0 d.maintenance) (p.channels ∙ sym (maintained_size link d 0 d.maintenance)) (λ c lt.
       let room : c < length d.maintenance = omega (arith, lt, p.channels) in
-      now c room ∙ sym (maintained_at d 0 c d.maintenance room));
+      now c room ∙ sym (maintained_at link d 0 c d.maintenance room));
   said = λ c. spoken c (slice_index_or ss c None) refl;
   sizes = p.sizes;
 }
   where
-    now : (c : ℕ) → c < length d.maintenance → is_set ms c ≡ (is_set d.maintenance c || list_any (breaks_on d (0 + c)) d.entries)
+    now : (c : ℕ) → c < length d.maintenance → is_set ms c ≡ (is_set d.maintenance c || list_any (breaks_in link d (0 + c)) d.entries)
     now c room = decide (is_set d.maintenance c)
-        (λ set. p.kept c set ∙ sym (ap (λ b. b || list_any (breaks_on d (0 + c)) d.entries) set))
-        (λ unset. decide (list_any (breaks_on d (0 + c)) d.entries)
+        (λ set. p.kept c set ∙ sym (ap (λ b. b || list_any (breaks_in link d (0 + c)) d.entries) set))
+        (λ unset. decide (list_any (breaks_in link d (0 + c)) d.entries)
         (λ some. (
-        let f = any_there (breaks_on d (0 + c)) d.entries some in
-        let q = and_parts (second_of d (entry_at d.entries f.0)).broken ((entry_at d.entries f.0).channel == (0 + c)) f.2 in
+        let f = any_there (breaks_in link d (0 + c)) d.entries some in
+        let q = and_parts (second_in link d (entry_at d.entries f.0)).broken ((entry_at d.entries f.0).channel == (0 + c)) f.2 in
         let on : (entry_at d.entries f.0).channel ≡ c = eqb-true (entry_at d.entries f.0).channel (0 + c) q.1 ∙ (let z : 0 + c ≡ c = omega arith in z) in
         let moved : done f.0 ≡ true = decide (done f.0) (λ yes. yes) (λ no. absurd (true≢false (sym q.0 ∙ ap (λ (m : Moved). m.broken) (others f.0 f.1 no)))) in
         ap (is_set ms) (sym on) ∙ p.broken f.0 f.1 moved (omega (arith, on, room)) q.0 ∙ sym (ap₂ (λ a b. a || b) unset some)))
-        (λ none. p.whole c unset (λ i lt. ap (λ n. breaks_on d n (entry_at d.entries i)) (let z : c ≡ 0 + c = omega arith in z) ∙ none_there (breaks_on d (0 + c)) d.entries i none lt) ∙ sym (ap₂ (λ a b. a || b) unset none)))
+        (λ none. p.whole c unset (λ i lt. ap (λ n. breaks_in link d n (entry_at d.entries i)) (let z : c ≡ 0 + c = omega arith in z) ∙ none_there (breaks_in link d (0 + c)) d.entries i none lt) ∙ sym (ap₂ (λ a b. a || b) unset none)))
 
-    spoken : (c : ℕ) (o : Option Outgoing) → slice_index_or ss c None ≡ o → cons_some (slice_index_or ss c None) [] ≡ said_on d c d.entries
+    spoken : (c : ℕ) (o : Option Outgoing) → slice_index_or ss c None ≡ o → cons_some (slice_index_or ss c None) [] ≡ said_in link d c d.entries
     spoken c (Some o) is = ap (λ x. cons_some x []) is ∙ sym (p.said c o is)
-    spoken c None is = ap (λ x. cons_some x []) is ∙ sym (none_said d c d.entries (λ i lt on. decide (done i)
+    spoken c None is = ap (λ x. cons_some x []) is ∙ sym (none_said link d c d.entries (λ i lt on. decide (done i)
         (λ yes. p.silent i lt yes (ap (λ n. slice_index_or ss n None) on ∙ is))
         (λ no. ap (λ (m : Moved). m.said) (others i lt no))))
 
@@ -149,8 +150,8 @@ second_waits_on d c i a (Some r) s u t is =
     let after : (entry_at d.entries r).booking.end ≤ (entry_at d.entries i).booking.start = l.later in
     t.ahead i l.inside l.accepted (omega (arith, going, after))
 
-pub touched_of : (d : Day) (live waiting behind second : List (Option ℕ)) → IsExchange d → AreSlots d live waiting behind → ((c : ℕ) → slot_at second c ≡ follower behind (slot_at waiting c)) → AreTouched d live waiting second
-touched_of d live waiting behind second h s is = record {
+pub touched_of : (link : Link) (d : Day) (live waiting behind second : List (Option ℕ)) → IsExchange d → AreSlots d live waiting behind → ((c : ℕ) → slot_at second c ≡ follower behind (slot_at waiting c)) → AreTouched link d live waiting second
+touched_of link d live waiting behind second h s is = record {
   firsts = λ c i there. (let p = (s.lives c).there i there in (p.0, (holds_parts c (entry_at d.entries i) p.1).1));
   seconds = λ c i there. (let p = (s.waits c).there i there in (p.0, (waits_parts c (entry_at d.entries i) p.1).1));
   thirds = λ c i there. second_on d c _ _ _ _ (turn_of d c live waiting behind h s) i (sym (is c) ∙ there);
@@ -162,12 +163,12 @@ touched_of d live waiting behind second h s is = record {
       let order : (entry_at d.entries i).booking.start < (entry_at d.entries i).booking.end = s.ordered i p.0 in
       let late : (entry_at d.entries i).booking.end ≤ (entry_at d.entries i).booking.start = l.later in
       absurd (omega (arith, order, late)));
-  others = λ i lt na nw ns. (let c = (entry_at d.entries i).channel in others_stay d c i _ _ _ _ (turn_of d c live waiting behind h s) lt refl na nw (λ there. ns (is c ∙ there)));
+  others = λ i lt na nw ns. (let c = (entry_at d.entries i).channel in others_stay link d c i _ _ _ _ (turn_of d c live waiting behind h s) lt refl na nw (λ there. ns (is c ∙ there)));
 }
 
 -- the three lists of slots together
-pub with_all : (d : Day) (first second third : List (Option ℕ)) (i : ℕ) → AreTouched d first second third → i < length d.entries → with_slots d third (with_slots d second (with_slots d first (λ k. false))) i ≡ false → second_of d (entry_at d.entries i) ≡ stays (entry_at d.entries i).standing
-with_all d first second third i t lt none =
+pub with_all : (link : Link) (d : Day) (first second third : List (Option ℕ)) (i : ℕ) → AreTouched link d first second third → i < length d.entries → with_slots d third (with_slots d second (with_slots d first (λ k. false))) i ≡ false → second_in link d (entry_at d.entries i) ≡ stays (entry_at d.entries i).standing
+with_all link d first second third i t lt none =
     let c = (entry_at d.entries i).channel in
     let a = both (is_slot (slot_at first c) i || is_slot (slot_at second c) i) (is_slot (slot_at third c) i) none in
     let b = both (is_slot (slot_at first c) i) (is_slot (slot_at second c) i) a.0 in
@@ -181,18 +182,18 @@ with_all d first second third i t lt none =
     never : (o : Option ℕ) → is_slot o i ≡ false → o ≡ Some i → ⊥
     never o unset is = true≢false (sym (ap (λ x. is_slot x i) is ∙ eq-eqb i i refl) ∙ unset)
 
-pub second_undone : (d : Day) (first second third : List (Option ℕ)) → AreTouched d first second third → (c i : ℕ) → slot_at second c ≡ Some i → with_slots d first (λ k. false) i ≡ false
-second_undone d first second third t c i is =
+pub second_undone : (link : Link) (d : Day) (first second third : List (Option ℕ)) → AreTouched link d first second third → (c i : ℕ) → slot_at second c ≡ Some i → with_slots d first (λ k. false) i ≡ false
+second_undone link d first second third t c i is =
     let on = (t.seconds c i is).1 in
     slot_false (slot_at first (entry_at d.entries i).channel) i (λ there. t.apart c i is (ap (slot_at first) (sym on) ∙ there))
 
-pub third_undone : (d : Day) (first second third : List (Option ℕ)) → AreTouched d first second third → (c i : ℕ) → slot_at third c ≡ Some i → with_slots d second (with_slots d first (λ k. false)) i ≡ false
-third_undone d first second third t c i is =
+pub third_undone : (link : Link) (d : Day) (first second third : List (Option ℕ)) → AreTouched link d first second third → (c i : ℕ) → slot_at third c ≡ Some i → with_slots d second (with_slots d first (λ k. false)) i ≡ false
+third_undone link d first second third t c i is =
     let on = (t.thirds c i is).1 in
     ap₂ (λ a b. a || b)
     (slot_false (slot_at first (entry_at d.entries i).channel) i (λ there. t.third_apart c i is (ap (slot_at first) (sym on) ∙ there)))
     (slot_false (slot_at second (entry_at d.entries i).channel) i (λ there. t.last_apart c i is (ap (slot_at second) (sym on) ∙ there)))
 
 -- the same lists
-pub kept_as : (d : Day) (done : ℕ → Bool) (es es' : List Entry) (ms ms' : List Bool) (ss ss' : List (Option Outgoing)) → es' ≡ es → ms' ≡ ms → ss' ≡ ss → Passed d done es ms ss → Passed d done es' ms' ss'
-kept_as d done es es' ms ms' ss ss' e-is m-is s-is p = rw (e-is, m-is, s-is) p
+pub kept_as : (link : Link) (d : Day) (done : ℕ → Bool) (es es' : List Entry) (ms ms' : List Bool) (ss ss' : List (Option Outgoing)) → es' ≡ es → ms' ≡ ms → ss' ≡ ss → Passed link d done es ms ss → Passed link d done es' ms' ss'
+kept_as link d done es es' ms ms' ss ss' e-is m-is s-is p = rw (e-is, m-is, s-is) p

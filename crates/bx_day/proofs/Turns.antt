@@ -1,4 +1,4 @@
--- On a channel a tick does something to three bookings at most: the live one, the first that waits, which may end, and
+-- On a channel a second does something to three bookings at most: the live one, the first that waits, which may end, and
 -- the one behind that, which may start then.
 use Rattle.std.proofs.Common.{◌≡◌, ◌≢◌, ℕ, ◌+◌, ◌≤◌, ◌<◌, Bool, true, false, List, map, length, Option, Some, None, arith, refl, sym, subst, ap, ◌∙◌, inl, inr, if◌then◌else◌}
 use Rattle.std.proofs.lemmas.Bool.{true≢false, false≢true, cases_lt}
@@ -6,9 +6,9 @@ use Rattle.bx_q931.specs.Outgoing.{Outgoing}
 use Rattle.bx_calls.specs.PlainCalls.{PlainNetCall}
 use Rattle.bx_calls.specs.declared.step.Next.{Next}
 use Rattle.bx_calls.specs.declared.step.Next.TheVariants.{Live, Over, Broken}
-use Rattle.bx_calls.specs.NetTable.{net_second}
+use Rattle.bx_calls.specs.NetTable.{net_second, net_unlinked}
 use Rattle.bx_day.specs.Day.{Day, is_live, is_unoffered, is_free, entry_at}
-use Rattle.bx_day.specs.Ticks.{second_at, second_of, after_second, waits}
+use Rattle.bx_day.specs.Ticks.{second_at, second_by, second_in, after_in, waits}
 use Rattle.bx_day.specs.Moves.{stays, follow, over_at}
 use Rattle.bx_day.specs.Invariant.{EntryFits, is_refused}
 use Rattle.bx_day.specs.Quiet.{booking_due}
@@ -19,24 +19,27 @@ use Rattle.bx_day.specs.declared.entry.Activity.TheVariants.{Never, Since, Was}
 use Rattle.bx_day.specs.declared.entry.Entry.{Entry}
 use Rattle.bx_day.specs.declared.entry.Standing.{Standing}
 use Rattle.bx_day.specs.declared.entry.Standing.TheVariants.{Refused, Unoffered, OnCall, Carried, Unanswered, Missed}
-use Rattle.bx_day.proofs.Law.{at_map, second_same}
+use Rattle.bx_day.proofs.Law.{at_map_in, in_same}
 use Rattle.bx_day.proofs.Once.{decide, each_at}
 use Rattle.bx_day.proofs.Passing.{map_size}
 use Rattle.bx_day.proofs.Quiet.{booking_quiet}
 use Rattle.bx_day.proofs.SlotLemmas.{holds_from, waits_parts, waits_from, ends_later}
 use Rattle.bx_day.proofs.Seats.{SameSeats}
+use Rattle.bx_day.specs.declared.entry.Link.{Link}
+use Rattle.bx_day.specs.declared.entry.Link.TheVariants.{Up, Down}
+use Rattle.bx_day.proofs.Tick.{with_standing, unlinked}
 
--- ---- a tick, booking by booking
+-- ---- a second, booking by booking
 
-abbrev pub After : Day → List Entry
-After d = map (after_second d) d.entries
+abbrev pub After : Link → Day → List Entry
+After link d = map (after_in link d) d.entries
 
-pub tick_seats : (d : Day) → SameSeats d.entries (After d)
-tick_seats d = record {
-  size = sym (map_size d d.entries);
-  booking = λ i. ap (λ (e : Entry). e.booking) (sym (at_map d d.entries i));
-  channel = λ i. ap (λ (e : Entry). e.channel) (sym (at_map d d.entries i));
-  refused = λ i. sym (ap (λ (e : Entry). is_refused e.standing) (at_map d d.entries i) ∙ (let e = entry_at d.entries i in second_same e (d.moment + 1) (is_free d e.channel) e.standing));
+pub second_seats : (link : Link) (d : Day) → SameSeats d.entries (After link d)
+second_seats link d = record {
+  size = sym (map_size link d d.entries);
+  booking = λ i. ap (λ (e : Entry). e.booking) (sym (at_map_in link d d.entries i));
+  channel = λ i. ap (λ (e : Entry). e.channel) (sym (at_map_in link d d.entries i));
+  refused = λ i. sym (ap (λ (e : Entry). is_refused e.standing) (at_map_in link d d.entries i) ∙ (let e = entry_at d.entries i in in_same link e (d.moment + 1) (is_free d e.channel) e.standing));
 }
 
 pub over_waits : (a : Activity) (t : ℕ) → is_unoffered (over_at a t) ≡ false
@@ -49,7 +52,7 @@ follow_waits a t said (Live c) = refl
 follow_waits a t said Over = over_waits a t
 follow_waits a t said Broken = over_waits a t
 
--- one that waits after a tick waited before it
+-- one that waits after a second waited before it
 pub second_waits : (t : ℕ) (free : Bool) (e : Entry) (s : Standing) → is_unoffered (second_at e t free s).standing ≡ true → is_unoffered s ≡ true
 second_waits t free e Refused h = h
 second_waits t free e Unoffered h = refl
@@ -58,11 +61,15 @@ second_waits t free e (Carried from until) h = h
 second_waits t free e Unanswered h = h
 second_waits t free e Missed h = h
 
-pub waited : (d : Day) (c i : ℕ) → waits_on c (entry_at (After d) i) ≡ true → waits_on c (entry_at d.entries i) ≡ true
-waited d c i h =
+pub in_waits : (link : Link) (t : ℕ) (free : Bool) (e : Entry) (s : Standing) → is_unoffered (second_by link e t free s).standing ≡ true → is_unoffered s ≡ true
+in_waits Up t free e s = second_waits t free e s
+in_waits Down t free e s = unlinked e t s (λ m. is_unoffered m.standing ≡ true → is_unoffered s ≡ true) (λ c a p h. absurd (true≢false (sym h ∙ follow_waits a t (net_unlinked 1 c t e.booking.end).reply (net_unlinked 1 c t e.booking.end).next))) (second_waits t false e s)
+
+pub waited : (link : Link) (d : Day) (c i : ℕ) → waits_on c (entry_at (After link d) i) ≡ true → waits_on c (entry_at d.entries i) ≡ true
+waited link d c i h =
     let e = entry_at d.entries i in
-    let p = waits_parts c (entry_at (After d) i) h in
-    waits_from c e (second_waits (d.moment + 1) (is_free d e.channel) e e.standing (ap (λ (x : Entry). is_unoffered x.standing) (sym (at_map d d.entries i)) ∙ p.0)) (ap (λ (x : Entry). x.channel) (sym (at_map d d.entries i)) ∙ p.1)
+    let p = waits_parts c (entry_at (After link d) i) h in
+    waits_from c e (in_waits link (d.moment + 1) (is_free d e.channel) e e.standing (ap (λ (x : Entry). is_unoffered x.standing) (sym (at_map_in link d d.entries i)) ∙ p.0)) (ap (λ (x : Entry). x.channel) (sym (at_map_in link d d.entries i)) ∙ p.1)
 
 pub soon : (t start end : ℕ) (b : Bool) → t < start → start < end → t < (if b then end else start)
 soon t start end true lt order = omega (arith, lt, order)
@@ -77,14 +84,18 @@ waits_is Unanswered h = absurd (false≢true h)
 waits_is Missed h = absurd (false≢true h)
 
 -- one that starts later goes on waiting
-pub ahead_waits : (d : Day) (i : ℕ) → IsExchange d → i < length d.entries → (entry_at d.entries i).booking.start < (entry_at d.entries i).booking.end → is_unoffered (entry_at d.entries i).standing ≡ true → d.moment + 1 < (entry_at d.entries i).booking.start → second_of d (entry_at d.entries i) ≡ stays (entry_at d.entries i).standing
-ahead_waits d i h lt order waits early =
+in_quiet : (link : Link) (moment t : ℕ) (free : Bool) (e : Entry) (s : Standing) → is_unoffered s ≡ true → EntryFits moment (with_standing e s) → e.booking.start ≤ e.booking.end → t < booking_due e s → second_by link e t free s ≡ stays s
+in_quiet Up moment t free e s waits h order lt = booking_quiet moment t free e s h order lt
+in_quiet Down moment t free e s waits h order lt = unlinked e t s (λ m. m ≡ stays s) (λ c a p. absurd (true≢false (sym waits ∙ ap is_unoffered p))) (booking_quiet moment t false e s h order lt)
+
+pub ahead_waits : (link : Link) (d : Day) (i : ℕ) → IsExchange d → i < length d.entries → (entry_at d.entries i).booking.start < (entry_at d.entries i).booking.end → is_unoffered (entry_at d.entries i).standing ≡ true → d.moment + 1 < (entry_at d.entries i).booking.start → second_in link d (entry_at d.entries i) ≡ stays (entry_at d.entries i).standing
+ahead_waits link d i h lt order waits early =
     let e = entry_at d.entries i in
     let t = d.moment + 1 in
     let due : t < booking_due e e.standing = subst (λ (s : Standing). t < booking_due e s) (sym (waits_is e.standing waits)) (soon t e.booking.start e.booking.end e.booking.inward early order) in
-    booking_quiet d.moment t (is_free d e.channel) e e.standing (each_at (EntryFits d.moment) d.entries i lt h.day.each) (omega (arith, order)) due
+    in_quiet link d.moment t (is_free d e.channel) e e.standing waits (each_at (EntryFits d.moment) d.entries i lt h.day.each) (omega (arith, order)) due
 
--- ---- which bookings of a channel a tick may touch
+-- ---- which bookings of a channel a second may touch
 
 abbrev pub IsNone : Option ℕ → ℕ → Type 0
 IsNone o i = o ≡ Some i → ⊥
@@ -96,6 +107,10 @@ idle_stays t free e (OnCall c a) live waits = absurd (true≢false live)
 idle_stays t free e (Carried from until) live waits = refl
 idle_stays t free e Unanswered live waits = refl
 idle_stays t free e Missed live waits = refl
+
+in_idle : (link : Link) (t : ℕ) (free : Bool) (e : Entry) (s : Standing) → is_live s ≡ false → is_unoffered s ≡ false → second_by link e t free s ≡ stays s
+in_idle Up t free e s live waits = idle_stays t free e s live waits
+in_idle Down t free e s live waits = unlinked e t s (λ m. m ≡ stays s) (λ c a p. absurd (true≢false (sym (ap is_live p) ∙ live))) (idle_stays t false e s live waits)
 
 pub unoffered_accepted : (s : Standing) → is_unoffered s ≡ true → is_refused s ≡ false
 unoffered_accepted s h = ap is_refused (waits_is s h)
@@ -144,25 +159,25 @@ pub record IsTurn (d : Day) (c : ℕ) (a w s u : Option ℕ) : Type 0 where
   pub no_second : w ≡ None → s ≡ None
   pub no_third : s ≡ None → u ≡ None
 
-pub waits_alone : (d : Day) (c i : ℕ) (a w s u : Option ℕ) → IsTurn d c a w s u → i < length d.entries → waits_on c (entry_at d.entries i) ≡ true → IsNone w i → IsNone s i → second_of d (entry_at d.entries i) ≡ stays (entry_at d.entries i).standing
-waits_alone d c i a None s u t lt waits nw ns = absurd (false≢true (t.waiting.each i lt waits))
-waits_alone d c i a (Some r) None u t lt waits nw ns =
+pub waits_alone : (link : Link) (d : Day) (c i : ℕ) (a w s u : Option ℕ) → IsTurn d c a w s u → i < length d.entries → waits_on c (entry_at d.entries i) ≡ true → IsNone w i → IsNone s i → second_in link d (entry_at d.entries i) ≡ stays (entry_at d.entries i).standing
+waits_alone link d c i a None s u t lt waits nw ns = absurd (false≢true (t.waiting.each i lt waits))
+waits_alone link d c i a (Some r) None u t lt waits nw ns =
     let later = behind_first d.entries c i r t.waiting lt waits (λ q. nw (ap (λ k. Some k) (sym q))) in
     absurd (false≢true ((t.second r refl).each i later))
-waits_alone d c i a (Some r) (Some s) u t lt waits nw ns =
+waits_alone link d c i a (Some r) (Some s) u t lt waits nw ns =
     let later = behind_first d.entries c i r t.waiting lt waits (λ q. nw (ap (λ k. Some k) (sym q))) in
     let b = t.second r refl in
     let last = behind_second d.entries i r s b later (λ q. ns (ap (λ k. Some k) (sym q))) in
     let p = t.waiting.there r refl in
-    ahead_waits d i t.exchange lt (t.ordered i lt) (waits_parts c (entry_at d.entries i) waits).0
+    ahead_waits link d i t.exchange lt (t.ordered i lt) (waits_parts c (entry_at d.entries i) waits).0
     (far_ahead d i r s t.exchange t.ordered p.0 (waits_parts c (entry_at d.entries r) p.1).0 (b.there s refl) last)
 
--- a tick does nothing to the others of the channel
-pub others_stay : (d : Day) (c i : ℕ) (a w s u : Option ℕ) → IsTurn d c a w s u → i < length d.entries → (entry_at d.entries i).channel ≡ c → IsNone a i → IsNone w i → IsNone s i → second_of d (entry_at d.entries i) ≡ stays (entry_at d.entries i).standing
-others_stay d c i a w s u t lt on na nw ns =
+-- a second does nothing to the others of the channel
+pub others_stay : (link : Link) (d : Day) (c i : ℕ) (a w s u : Option ℕ) → IsTurn d c a w s u → i < length d.entries → (entry_at d.entries i).channel ≡ c → IsNone a i → IsNone w i → IsNone s i → second_in link d (entry_at d.entries i) ≡ stays (entry_at d.entries i).standing
+others_stay link d c i a w s u t lt on na nw ns =
     let e = entry_at d.entries i in
     decide (is_live e.standing)
     (λ live. absurd (na (t.live.each i lt (holds_from c e live on))))
     (λ idle. decide (is_unoffered e.standing)
-    (λ waits. waits_alone d c i a w s u t lt (waits_from c e waits on) nw ns)
-    (λ done. idle_stays (d.moment + 1) (is_free d e.channel) e e.standing idle done))
+    (λ waits. waits_alone link d c i a w s u t lt (waits_from c e waits on) nw ns)
+    (λ done. in_idle link (d.moment + 1) (is_free d e.channel) e e.standing idle done))

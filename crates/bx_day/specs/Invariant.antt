@@ -35,16 +35,15 @@ PhaseFits t b Ringing = (b.start ≤ t) × (t < b.end)
 PhaseFits t b Talking = (b.start ≤ t) × (t < b.end)
 PhaseFits t b Clearing = Unit {0}
 
--- a timer is not due yet, and clearing takes 38 seconds at most
-abbrev pub DueFits : ℕ → ℕ → NetState → Type 0
-DueFits t end OutgoingCallProceeding = Unit {0}
-DueFits t end (CallPresent again due) = t < due
-DueFits t end (IncomingCallProceeding due) = t < due
-DueFits t end (CallReceived due) = t < due
-DueFits t end Active = Unit {0}
-DueFits t end (DisconnectIndication cause due) = (t < due) × (due ≤ end + 30)
-DueFits t end (ReleaseRequest false cause due) = (t < due) × (due ≤ end + 34)
-DueFits t end (ReleaseRequest true cause due) = (t < due) × (due ≤ end + 38)
+-- a timer is not due yet, and is due within its time
+abbrev pub DueFits : ℕ → NetState → Type 0
+DueFits t OutgoingCallProceeding = Unit {0}
+DueFits t (CallPresent again due) = (t < due) × (due ≤ t + 4)
+DueFits t (IncomingCallProceeding due) = (t < due) × (due ≤ t + 10)
+DueFits t (CallReceived due) = (t < due) × (due ≤ t + 180)
+DueFits t Active = Unit {0}
+DueFits t (DisconnectIndication cause due) = (t < due) × (due ≤ t + 30)
+DueFits t (ReleaseRequest again cause due) = (t < due) × (due ≤ t + 4)
 
 -- a call has been Active where it talks, and may have been where it is being cleared
 abbrev pub ActivityFits : ℕ → Row → Phase → Activity → Type 0
@@ -64,7 +63,7 @@ pub record CallFits (t : ℕ) (e : Entry) (c : PlainNetCall) (a : Activity) : Ty
   pub channel : c.channel ≡ e.channel
   pub origin : OriginFits e.row e.booking c.reference c.origin
   pub phase : PhaseFits t e.booking (phase_of c.state)
-  pub due : DueFits t e.booking.end c.state
+  pub due : DueFits t c.state
   pub activity : ActivityFits t e.booking (phase_of c.state) a
 
 abbrev pub StandingFits : ℕ → Entry → Standing → Type 0

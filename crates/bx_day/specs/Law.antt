@@ -24,8 +24,9 @@ OnCarried _ P = Unit {0}
 abbrev pub standing_at : Day → ℕ → Standing
 standing_at d i = (entry_at d.entries i).standing
 
--- a day of a plan, at any moment of it; rows are counted from 0
-pub record IsOrderly (rows : List Row) (assigned : List (Option ℕ)) (d : Day) : Type 0 where
+-- a day of a plan, at any moment of it; rows are counted from 0, and lost says how many seconds without a link there were
+-- from a moment on
+pub record IsOrderly (rows : List Row) (assigned : List (Option ℕ)) (lost : ℕ → ℕ) (d : Day) : Type 0 where
   -- an offered or live booking is accepted, and its call is on the channel of the plan
   pub planned : (i : ℕ) → i < length rows → OnLive (standing_at d i) (λ call a. (is_accepted assigned i ≡ true) × (call.channel ≡ channel_at assigned i))
   -- no channel is held twice
@@ -33,8 +34,8 @@ pub record IsOrderly (rows : List Row) (assigned : List (Option ℕ)) (d : Day) 
   -- a call is Active only while its booking runs
   pub active : (i : ℕ) → i < length rows → OnLive (standing_at d i) (λ call a. call.state ≡ Active → is_running (row_at rows i) d.moment ≡ true)
   pub carried : (i : ℕ) → i < length rows → OnCarried (standing_at d i) (λ from until. ((row_at rows i).start ≤ from) × (from ≤ until) × (until ≤ (row_at rows i).end))
-  -- 38 seconds after its end a booking is over or missed
-  pub cleared : (i : ℕ) → i < length rows → (row_at rows i).end + 38 ≤ d.moment → (standing_at d i ≢ Unoffered) × OnLive (standing_at d i) (λ call a. ⊥)
+  -- 38 seconds with a link after its end a booking is over or missed
+  pub cleared : (i : ℕ) → i < length rows → (row_at rows i).end + 38 + lost (row_at rows i).end ≤ d.moment → (standing_at d i ≢ Unoffered) × OnLive (standing_at d i) (λ call a. ⊥)
 
 -- a SETUP is sent for an accepted outward booking that runs, which its reference names, on its channel
 pub record SetupFits (rows : List Row) (assigned : List (Option ℕ)) (t : ℕ) (o : Outgoing) : Type 0 where

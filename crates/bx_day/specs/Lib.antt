@@ -3,7 +3,9 @@ pub mod Moves
 pub mod Ticks
 pub mod Receipts
 pub mod Run
+pub mod Outages
 pub mod Invariant
+pub mod Clearing
 pub mod Law
 pub mod Reading
 pub mod Telling
@@ -15,3 +17,4 @@ pub mod Linking
 pub mod Passing
 pub mod SlotSteps
 pub mod Course
+pub mod Outlasting

@@ -1,12 +1,13 @@
--- Private: a tick as a pass over some of the bookings.
+-- Private: a second as a pass over some of the bookings.
 use Rattle.std.specs.Prelude.{◌≡◌, ◌<◌, ◌==◌, ℕ, Bool, true, false, List, [], ◌∷◌, ◌||◌, length, map, Option, Some, None, slice_index_or, if◌then◌else◌}
 use Rattle.bx_q931.specs.Outgoing.{Outgoing}
 use Rattle.bx_calls.specs.Shared.{is_set, cons_some}
 use Rattle.bx_day.specs.Day.{Day, is_held, entry_at}
-use Rattle.bx_day.specs.Ticks.{second_of, after_second, breaks_on, said_on, maintained}
+use Rattle.bx_day.specs.Ticks.{second_in, after_in, breaks_in, said_in, maintained_in}
 use Rattle.bx_day.specs.Moves.{stays}
 use Rattle.bx_day.specs.Slots.{slot_at}
 use Rattle.bx_day.specs.declared.entry.Entry.{Entry}
+use Rattle.bx_day.specs.declared.entry.Link.{Link}
 
 -- a day from its parts
 abbrev pub day_of : ℕ → List Entry → List Bool → Day
@@ -16,9 +17,9 @@ day_of moment entries maintenance = record { moment = moment; entries = entries;
 abbrev pub AreBlocked : Day → List Bool → Type 0
 AreBlocked d blocked = (c : ℕ) → is_set blocked c ≡ (is_held d.entries c || is_set d.maintenance c)
 
--- what a tick says on each channel
-abbrev pub SaysOnEach : Day → List (Option Outgoing) → Type 0
-SaysOnEach d said = (c : ℕ) → cons_some (slice_index_or said c None) [] ≡ said_on d c d.entries
+-- what a second says on each channel
+abbrev pub SaysOnEach : Link → Day → List (Option Outgoing) → Type 0
+SaysOnEach link d said = (c : ℕ) → cons_some (slice_index_or said c None) [] ≡ said_in link d c d.entries
 
 -- whether an index stands in a slot
 abbrev pub is_slot : Option ℕ → ℕ → Bool
@@ -34,30 +35,30 @@ abbrev pub AreOwn : Day → List (Option ℕ) → Type 0
 AreOwn d slots = (c i : ℕ) → slot_at slots c ≡ Some i → (i < length d.entries) × ((entry_at d.entries i).channel ≡ c)
 
 -- what holds where these bookings were moved on, and no other
-pub record Passed (d : Day) (done : ℕ → Bool) (entries : List Entry) (maintenance : List Bool) (slots : List (Option Outgoing)) : Type 0 where
+pub record Passed (link : Link) (d : Day) (done : ℕ → Bool) (entries : List Entry) (maintenance : List Bool) (slots : List (Option Outgoing)) : Type 0 where
   pub size : length entries ≡ length d.entries
-  pub rows : (i : ℕ) → i < length d.entries → entry_at entries i ≡ (if done i then after_second d (entry_at d.entries i) else entry_at d.entries i)
+  pub rows : (i : ℕ) → i < length d.entries → entry_at entries i ≡ (if done i then after_in link d (entry_at d.entries i) else entry_at d.entries i)
   pub channels : length maintenance ≡ length d.maintenance
   pub kept : (c : ℕ) → is_set d.maintenance c ≡ true → is_set maintenance c ≡ true
-  pub broken : (i : ℕ) → i < length d.entries → done i ≡ true → (entry_at d.entries i).channel < length d.maintenance → (second_of d (entry_at d.entries i)).broken ≡ true → is_set maintenance (entry_at d.entries i).channel ≡ true
-  pub whole : (c : ℕ) → is_set d.maintenance c ≡ false → ((i : ℕ) → i < length d.entries → breaks_on d c (entry_at d.entries i) ≡ false) → is_set maintenance c ≡ false
+  pub broken : (i : ℕ) → i < length d.entries → done i ≡ true → (entry_at d.entries i).channel < length d.maintenance → (second_in link d (entry_at d.entries i)).broken ≡ true → is_set maintenance (entry_at d.entries i).channel ≡ true
+  pub whole : (c : ℕ) → is_set d.maintenance c ≡ false → ((i : ℕ) → i < length d.entries → breaks_in link d c (entry_at d.entries i) ≡ false) → is_set maintenance c ≡ false
   pub sizes : length slots ≡ 32
-  pub said : (c : ℕ) (o : Outgoing) → slice_index_or slots c None ≡ Some o → said_on d c d.entries ≡ o ∷ []
-  pub silent : (i : ℕ) → i < length d.entries → done i ≡ true → slice_index_or slots (entry_at d.entries i).channel None ≡ None → (second_of d (entry_at d.entries i)).said ≡ None
+  pub said : (c : ℕ) (o : Outgoing) → slice_index_or slots c None ≡ Some o → said_in link d c d.entries ≡ o ∷ []
+  pub silent : (i : ℕ) → i < length d.entries → done i ≡ true → slice_index_or slots (entry_at d.entries i).channel None ≡ None → (second_in link d (entry_at d.entries i)).said ≡ None
 
--- bookings of slots, no booking twice, and a tick does nothing to any other
-pub record AreTouched (d : Day) (first second third : List (Option ℕ)) : Type 0 where
+-- bookings of slots, no booking twice, and a second does nothing to any other
+pub record AreTouched (link : Link) (d : Day) (first second third : List (Option ℕ)) : Type 0 where
   pub firsts : AreOwn d first
   pub seconds : AreOwn d second
   pub thirds : AreOwn d third
   pub apart : (c i : ℕ) → slot_at second c ≡ Some i → slot_at first c ≡ Some i → ⊥
   pub third_apart : (c i : ℕ) → slot_at third c ≡ Some i → slot_at first c ≡ Some i → ⊥
   pub last_apart : (c i : ℕ) → slot_at third c ≡ Some i → slot_at second c ≡ Some i → ⊥
-  pub others : (i : ℕ) → i < length d.entries → (slot_at first (entry_at d.entries i).channel ≡ Some i → ⊥) → (slot_at second (entry_at d.entries i).channel ≡ Some i → ⊥) → (slot_at third (entry_at d.entries i).channel ≡ Some i → ⊥) → second_of d (entry_at d.entries i) ≡ stays (entry_at d.entries i).standing
+  pub others : (i : ℕ) → i < length d.entries → (slot_at first (entry_at d.entries i).channel ≡ Some i → ⊥) → (slot_at second (entry_at d.entries i).channel ≡ Some i → ⊥) → (slot_at third (entry_at d.entries i).channel ≡ Some i → ⊥) → second_in link d (entry_at d.entries i) ≡ stays (entry_at d.entries i).standing
 
--- what a tick leaves, and what it says
-pub record IsTicked (d : Day) (es : List Entry) (ms : List Bool) (slots : List (Option Outgoing)) : Type 0 where
-  pub entries : es ≡ map (after_second d) d.entries
-  pub maintenance : ms ≡ maintained d 0 d.maintenance
-  pub said : SaysOnEach d slots
+-- what a second leaves, and what it says
+pub record IsSecond (link : Link) (d : Day) (es : List Entry) (ms : List Bool) (slots : List (Option Outgoing)) : Type 0 where
+  pub entries : es ≡ map (after_in link d) d.entries
+  pub maintenance : ms ≡ maintained_in link d 0 d.maintenance
+  pub said : SaysOnEach link d slots
   pub sizes : length slots ≡ 32

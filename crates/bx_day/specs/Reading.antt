@@ -1,7 +1,7 @@
 -- What is read of a day, and what an exchange keeps in memory.
 use Rattle.std.specs.Prelude.{◌≡◌, ◌≤◌, ◌<◌, ℕ, ◌+◌, ◌-◌, false, List, length, Option, Some, None, if◌then◌else◌, ◌&&◌, nat_le}
 use Rattle.std.specs.List.{AllByRecursion}
-use Rattle.bx_numbers.specs.ChannelNumbers.{IsChannel}
+use Rattle.bx_channels.specs.ChannelNumbers.{IsChannel}
 use Rattle.bx_q931.specs.Outgoing.{IsCallReference}
 use Rattle.bx_calls.specs.States.{net_state}
 use Rattle.bx_calls.specs.declared.call_state.CallState.{CallState}

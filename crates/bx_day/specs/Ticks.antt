@@ -1,15 +1,18 @@
--- A tick: what a second does to each booking, to the channels in maintenance, and what is sent.
-use Rattle.std.specs.Prelude.{ℕ, ◌+◌, ◌==◌, nat_le, ◌&&◌, ◌||◌, not, Bool, List, [], ◌∷◌, map, Some, if◌then◌else◌, ◌≤◌, length}
+-- A second: what it does to each booking and to the channels in maintenance, and what is said in it. With a link to the far
+-- end it is a tick, and what is said is sent.
+use Rattle.std.specs.Prelude.{ℕ, ◌+◌, ◌==◌, nat_le, ◌&&◌, ◌||◌, not, Bool, false, List, [], ◌∷◌, map, Some, if◌then◌else◌, ◌≤◌, length}
 use Rattle.std.specs.List.{list_any, flat_map}
 use Rattle.bx_q931.specs.Outgoing.{Outgoing}
 use Rattle.bx_calls.specs.Shared.{cons_some}
-use Rattle.bx_calls.specs.NetTable.{net_second, net_offered}
+use Rattle.bx_calls.specs.NetTable.{net_second, net_unlinked, net_offered}
 use Rattle.bx_calls.specs.Saying.{setup_of}
 use Rattle.bx_day.specs.declared.entry.Activity.TheVariants.{Never}
 use Rattle.bx_day.specs.declared.entry.Standing.{Standing}
 use Rattle.bx_day.specs.declared.entry.Standing.TheVariants.{Unoffered, OnCall, Missed}
 use Rattle.bx_day.specs.declared.entry.Entry.{Entry}
 use Rattle.bx_day.specs.declared.entry.Moved.{Moved}
+use Rattle.bx_day.specs.declared.entry.Link.{Link}
+use Rattle.bx_day.specs.declared.entry.Link.TheVariants.{Up, Down}
 use Rattle.bx_base.specs.Bookings.{is_running}
 use Rattle.bx_calls.specs.Sending.{Sent}
 use Rattle.bx_day.specs.Moves.{becomes, stays, follows}
@@ -28,31 +31,49 @@ second_at e t free (OnCall call activity) = follows activity t (net_second call 
 second_at e t free Unoffered = waits e t free
 second_at e t free s = stays s
 
-abbrev pub second_of : Day → Entry → Moved
-second_of d e = second_at e (d.moment + 1) (is_free d e.channel) e.standing
+-- a booking in a second to moment t without a link: no timer runs, and nothing is offered
+abbrev pub unlinked_at : Entry → ℕ → Standing → Moved
+unlinked_at e t (OnCall call activity) = follows activity t (net_unlinked 1 call t e.booking.end)
+unlinked_at e t s = second_at e t false s
 
-abbrev pub after_second : Day → Entry → Entry
-after_second d e = record e { standing = (second_of d e).standing }
+-- by whether there is a link
+abbrev pub second_by : Link → Entry → ℕ → Bool → Standing → Moved
+second_by Up e t free s = second_at e t free s
+second_by Down e t free s = unlinked_at e t s
 
--- what is said on a channel at a tick
-abbrev pub said_on : Day → ℕ → List Entry → List Outgoing
-said_on d c [] = []
-said_on d c (e ∷ es) = if e.channel == c then cons_some (second_of d e).said (said_on d c es) else said_on d c es
+abbrev pub second_in : Link → Day → Entry → Moved
+second_in link d e = second_by link e (d.moment + 1) (is_free d e.channel) e.standing
 
-abbrev pub breaks_on : Day → ℕ → Entry → Bool
-breaks_on d c e = (second_of d e).broken && (e.channel == c)
+abbrev pub after_in : Link → Day → Entry → Entry
+after_in link d e = record e { standing = (second_in link d e).standing }
 
--- the channels in maintenance after a tick, from channel c on
-abbrev pub maintained : Day → ℕ → List Bool → List Bool
-maintained d c [] = []
-maintained d c (b ∷ bs) = (b || list_any (breaks_on d c) d.entries) ∷ maintained d (c + 1) bs
+-- what is said on a channel in a second
+abbrev pub said_in : Link → Day → ℕ → List Entry → List Outgoing
+said_in link d c [] = []
+said_in link d c (e ∷ es) = if e.channel == c then cons_some (second_in link d e).said (said_in link d c es) else said_in link d c es
 
--- a tick
-abbrev pub ticked : Day → Sent Day
-ticked d = record {
-  day = record { moment = d.moment + 1; entries = map (after_second d) d.entries; maintenance = maintained d 0 d.maintenance };
-  sent = flat_map (λ c. said_on d c d.entries) every_channel;
+abbrev pub breaks_in : Link → Day → ℕ → Entry → Bool
+breaks_in link d c e = (second_in link d e).broken && (e.channel == c)
+
+-- the channels in maintenance after a second, from channel c on
+abbrev pub maintained_in : Link → Day → ℕ → List Bool → List Bool
+maintained_in link d c [] = []
+maintained_in link d c (b ∷ bs) = (b || list_any (breaks_in link d c) d.entries) ∷ maintained_in link d (c + 1) bs
+
+-- a second, and what is said in it
+abbrev pub passed_in : Link → Day → Sent Day
+passed_in link d = record {
+  day = record { moment = d.moment + 1; entries = map (after_in link d) d.entries; maintenance = maintained_in link d 0 d.maintenance };
+  sent = flat_map (λ c. said_in link d c d.entries) every_channel;
 }
+
+-- ---- a tick
+
+abbrev pub said_on : Day → ℕ → List Entry → List Outgoing
+said_on d c es = said_in Up d c es
+
+abbrev pub ticked : Day → Sent Day
+ticked d = passed_in Up d
 
 abbrev pub tick : Day → Sent Day
 tick d = if nat_le 300000 d.moment then record { day = d; sent = [] } else ticked d

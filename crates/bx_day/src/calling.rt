@@ -2,7 +2,7 @@
 
 ghost use Rattle.std.specs.Prelude.{◌≡◌, ◌<◌, ℕ, Bool, true, false, length, IfSome, MatchOption};
 ghost use Rattle.std.specs.List.{list_any};
-ghost use Rattle.bx_numbers.specs.ChannelNumbers.{IsChannel};
+ghost use Rattle.bx_channels.specs.ChannelNumbers.{IsChannel};
 ghost use Rattle.bx_q931.specs.Messages.{PlainMessage};
 ghost use Rattle.bx_q931.specs.Outgoing.{IsCallReference};
 ghost use Rattle.bx_calls.specs.Said.{said_of};
@@ -15,7 +15,7 @@ use crate::entry::{Activity, Entry, Moved, Standing};
 use crate::exchange::Exchange;
 use bx_base::ChannelSet;
 use bx_calls::{End, NetCall, bearer_fault, refuse};
-use bx_numbers::Channel;
+use bx_channels::Channel;
 use bx_q931::cause::{NO_CHANNEL_AVAILABLE, REQUESTED_CHANNEL_NOT_AVAILABLE};
 use bx_q931::{ChannelField, Message, Out};
 

@@ -45,3 +45,10 @@ pub struct Moved {
     pub said: Option<Out>,
     pub broken: bool,
 }
+
+/// Whether there is a link to the far end in a second.
+#[derive(Clone, Copy)]
+pub enum Link {
+    Up,
+    Down,
+}

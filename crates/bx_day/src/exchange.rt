@@ -13,7 +13,7 @@ use crate::opening::entries;
 use crate::outcome::{Outcome, told};
 use bx_base::{ChannelSet, Plan};
 use bx_calls::CallState;
-use bx_numbers::Channel;
+use bx_channels::Channel;
 use std::alloc::{AllocError, Global};
 use std::marker::Model;
 

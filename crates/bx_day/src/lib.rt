@@ -11,6 +11,7 @@ pub mod laws;
 mod linking;
 mod moving;
 mod opening;
+mod outages;
 mod outcome;
 mod outcome_lines;
 mod quiet_seconds;

@@ -1,15 +1,16 @@
 //! What an event does to one booking.
 
-ghost use Rattle.std.specs.Prelude.{◌≡◌, ◌≤◌, ℕ, Bool};
+ghost use Rattle.std.specs.Prelude.{◌≡◌, ◌≤◌, ◌+◌, ℕ, Bool, false};
 ghost use Rattle.bx_q931.specs.Outgoing.{IsCallReference};
-ghost use Rattle.bx_day.specs.Ticks.{second_at};
+ghost use Rattle.bx_day.specs.Ticks.{second_at, second_by, unlinked_at};
+ghost use Rattle.bx_day.specs.Outlasting.{IsTimedBy};
 ghost use Rattle.bx_day.specs.Receipts.{hears};
 ghost use Rattle.bx_day.specs.Moves.{activity_after, over_at, follows};
 ghost use Rattle.bx_calls.specs.Said.{said_of};
 
-use crate::entry::{Activity, Entry, Moved, Standing};
+use crate::entry::{Activity, Entry, Link, Moved, Standing};
 use bx_calls::{CallState, NetCall, Next, Step};
-use bx_numbers::Channel;
+use bx_channels::Channel;
 use bx_q931::Message;
 
 /// The activity of a call, by whether it is Active now.
@@ -41,7 +42,7 @@ fn over(activity: Activity, moment: u32) -> Standing
 }
 
 /// A live booking whose call took this step.
-fn follow(step: Step<NetCall>, activity: Activity, moment: u32) -> Moved
+pub(crate) fn follow(step: Step<NetCall>, activity: Activity, moment: u32) -> Moved
     ensures { result ≡ follows activity moment step }
 {
     let said = step.reply;
@@ -85,8 +86,37 @@ pub(crate) fn heard(standing: Standing, message: &Message<'_>, moment: u32) -> M
     }
 }
 
+/// A booking in a second to this moment; free says whether its channel was neither held nor in maintenance.
+pub(crate) fn second(entry: &Entry, channel: Channel, moment: u32, free: bool, link: Link) -> Moved
+    requires moment { moment ≤ 300000 }
+    requires row { IsCallReference entry.now.row }
+    requires channel { channel ≡ entry.now.channel }
+    ensures { (latest : ℕ) → IsTimedBy latest entry.now.standing → latest + 1 ≤ 4294967295 → result ≡ second_by link entry.now moment free entry.now.standing }
+{
+    match link {
+        Link::Up => linked(entry, channel, moment, free),
+        Link::Down => unlinked(entry, channel, moment),
+    }
+}
+
+/// Without a link no timer runs, and nothing is offered.
+fn unlinked(entry: &Entry, channel: Channel, moment: u32) -> Moved
+    requires moment { moment ≤ 300000 }
+    requires row { IsCallReference entry.now.row }
+    requires channel { channel ≡ entry.now.channel }
+    ensures { (latest : ℕ) → IsTimedBy latest entry.now.standing → latest + 1 ≤ 4294967295 → result ≡ unlinked_at entry.now moment entry.now.standing }
+{
+    match entry.standing {
+        Standing::OnCall { call, activity } => {
+            let step = call.on_seconds_unlinked(1, moment, entry.booking.end());
+            follow(step, activity, moment)
+        }
+        _ => linked(entry, channel, moment, false),
+    }
+}
+
 /// A booking at a tick to this moment; free says whether its channel was neither held nor in maintenance.
-pub(crate) fn second(entry: &Entry, channel: Channel, moment: u32, free: bool) -> Moved
+fn linked(entry: &Entry, channel: Channel, moment: u32, free: bool) -> Moved
     requires moment { moment ≤ 300000 }
     requires row { IsCallReference entry.now.row }
     requires channel { channel ≡ entry.now.channel }

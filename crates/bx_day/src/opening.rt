@@ -5,7 +5,7 @@ ghost use Rattle.bx_day.specs.Day.{entry_of, entries_from};
 
 use crate::entry::{Entry, Standing};
 use bx_base::{Booking, Plan};
-use bx_numbers::Channel;
+use bx_channels::Channel;
 use std::alloc::{AllocError, Global};
 
 /// Adds the booking of a row, by the channel that the plan gives it.

@@ -3,14 +3,14 @@
 ghost use Rattle.std.specs.Prelude.{◌≡◌, ◌≤◌, ◌-◌, length, not, replicate};
 ghost use Rattle.bx_day.specs.QuietSeconds.{later_by, IsQuietTick, IsQuietFor, IsDue, tick_due};
 ghost use Rattle.bx_day.specs.SlotSteps.{IsDueOn, IsInside, slot_due};
-ghost use Rattle.bx_q931.specs.Events.{Tick};
+ghost use Rattle.bx_events.specs.Events.{Tick};
 ghost use Rattle.bx_day.specs.Run.{day_after};
 
 use crate::entry::{Entry, Standing};
 use crate::exchange::Exchange;
 use crate::scheduling::booking_due;
 use bx_calls::timers::LAST_MOMENT;
-use bx_numbers::Channel;
+use bx_channels::Channel;
 
 impl Exchange {
     /// For how many seconds nothing happens where no message comes: each of so many ticks sends nothing and

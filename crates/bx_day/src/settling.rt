@@ -1,15 +1,16 @@
-//! The slots of the channels after a tick.
+//! The slots of the channels after a second.
 
 ghost use Rattle.std.specs.Prelude.{◌≡◌, ◌<◌, ℕ, Some, length, map};
 ghost use Rattle.bx_day.specs.Day.{Day};
-ghost use Rattle.bx_day.specs.Ticks.{after_second, ticked};
+ghost use Rattle.bx_day.specs.Ticks.{after_in, passed_in};
 ghost use Rattle.bx_day.specs.Reading.{IsExchange};
+ghost use Rattle.bx_day.specs.declared.entry.Link.{Link};
 ghost use Rattle.bx_day.specs.Slots.{AreSlots, slot_at};
 ghost use Rattle.bx_day.specs.SlotSteps.{follower, live_of, waiting_of, is_live_at, is_waiting_at, IsInside};
 
 use crate::entry::{Entry, Standing};
 
-/// Brings the slots up to date after a tick. What was live, what waited first on a channel and what comes behind
+/// Brings the slots up to date after a second. What was live, what waited first on a channel and what comes behind
 /// that are all that can be live now; and what waited still does, but for these.
 pub(crate) fn settle(
     entries: &[Entry],
@@ -21,7 +22,7 @@ pub(crate) fn settle(
     requires live { (c : ℕ) → IsInside entries.now (slot_at live.old c) }
     requires waiting { (c : ℕ) → IsInside entries.now (slot_at waiting.old c) }
     requires second { (c : ℕ) → IsInside entries.now (follower behind.now (slot_at waiting.old c)) }
-    ensures { (d : Day) → IsExchange d → d.moment < 300000 → entries.now ≡ map (after_second d) d.entries → AreSlots d live.old waiting.old behind.now → AreSlots (ticked d).day live.new waiting.new behind.now }
+    ensures { (link : Link) (d : Day) → IsExchange d → d.moment < 300000 → entries.now ≡ map (after_in link d) d.entries → AreSlots d live.old waiting.old behind.now → AreSlots (passed_in link d).day live.new waiting.new behind.now }
 {
     for number in 0..32 {
         let first = waiting[number];

@@ -1,16 +1,17 @@
-//! The ticks of a day.
+//! The seconds of a day: ticks, and seconds without a link.
 
 ghost use Rattle.std.specs.Prelude.{◌≡◌, ◌≤◌, ◌<◌, ◌==◌, ◌||◌, ℕ, Bool, Some, true, false, length, is_some, slice_set, if◌then◌else◌};
 ghost use Rattle.std.specs.List.{AllByRecursion};
 ghost use Rattle.bx_day.specs.Day.{Day};
-ghost use Rattle.bx_day.specs.Ticks.{tick, ticked, SaysOnce};
-ghost use Rattle.bx_day.specs.Passing.{day_of, AreBlocked, AreOwn, AreTouched, IsTicked, Passed, SaysOnEach, with_slots};
+ghost use Rattle.bx_day.specs.Ticks.{tick, passed_in, SaysOnce};
+ghost use Rattle.bx_day.specs.Outages.{without_link};
+ghost use Rattle.bx_day.specs.Passing.{day_of, AreBlocked, AreOwn, AreTouched, IsSecond, Passed, SaysOnEach, with_slots};
 ghost use Rattle.bx_calls.specs.Sending.{in_order, spelled};
 ghost use Rattle.bx_day.specs.Reading.{IsExchange, Seated};
 ghost use Rattle.bx_day.specs.Slots.{slot_at};
 ghost use Rattle.bx_day.specs.SlotSteps.{IsInside};
 
-use crate::entry::{Entry, Moved};
+use crate::entry::{Entry, Link, Moved};
 use crate::exchange::Exchange;
 use crate::moving::second;
 use crate::settling::{followers, settle};
@@ -18,7 +19,7 @@ use arrayvec::ArrayVec;
 use bx_base::ChannelSet;
 use bx_calls::spell;
 use bx_calls::timers::LAST_MOMENT;
-use bx_numbers::Channel;
+use bx_channels::Channel;
 use bx_q931::{Octets, Out};
 
 impl Exchange {
@@ -37,16 +38,27 @@ impl Exchange {
             self.moment += 1;
             return ArrayVec::new();
         }
-        let said = self.pass();
+        let said = self.pass(Link::Up);
         self.due = self.next_due();
         spell(&said)
     }
 
-    /// A tick that may do something to some bookings. Answers what is said, by the number of its channel.
-    fn pass(&mut self) -> [Option<Out>; 32]
+    /// The next second, in which there is no link to the far end: the moment rises by one, no timer runs, nothing is
+    /// offered and nothing is sent. A live booking whose end has come clears its call at the first tick with a link, and
+    /// bookings whose end has come without a call are missed. At moment 300,000 nothing happens.
+    pub fn second_without_link(&mut self)
+        ensures { self.new ≡ without_link self.old }
+    {
+        if self.moment < LAST_MOMENT {
+            self.pass(Link::Down);
+        }
+    }
+
+    /// A second that may do something to some bookings. Answers what is said, by the number of its channel.
+    fn pass(&mut self, link: Link) -> [Option<Out>; 32]
         requires { self.old.moment < 300000 }
-        ensures day { self.new ≡ (ticked self.old).day }
-        ensures said { SaysOnEach self.old result }
+        ensures day { self.new ≡ (passed_in link self.old).day }
+        ensures said { SaysOnEach link self.old result }
         ensures slots { length result ≡ 32 }
     {
         let blocked = self.blocked();
@@ -59,6 +71,7 @@ impl Exchange {
             &second,
             blocked,
             self.moment,
+            link,
         );
         settle(
             &self.entries,
@@ -108,17 +121,18 @@ fn move_one(
     maintenance: &mut ChannelSet,
     blocked: ChannelSet,
     moment: u32,
+    link: Link,
 )
     requires inside { index < length entries.old }
     requires early { moment < 300000 }
     requires seated { AllByRecursion Seated entries.old }
     ensures seated { AllByRecursion Seated entries.new }
     ensures size { length entries.new ≡ length entries.old }
-    ensures moved { (d : Day) (done : ℕ → Bool) → d.moment ≡ moment → IsExchange d → AreBlocked d blocked → done index ≡ false → Passed d done entries.old maintenance.old said.old → Passed d (λ i. (i == index) || done i) entries.new maintenance.new said.new }
+    ensures moved { (d : Day) (done : ℕ → Bool) → d.moment ≡ moment → IsExchange d → AreBlocked d blocked → done index ≡ false → Passed link d done entries.old maintenance.old said.old → Passed link d (λ i. (i == index) || done i) entries.new maintenance.new said.new }
 {
     let entry = entries[index];
     if let Some(channel) = Channel::new(entry.channel) {
-        let moved = second(&entry, channel, moment + 1, !blocked.has(channel));
+        let moved = second(&entry, channel, moment + 1, !blocked.has(channel), link);
         entries[index].standing = moved.standing;
         note(said, maintenance, channel, &moved);
     }
@@ -132,23 +146,33 @@ fn move_all(
     maintenance: &mut ChannelSet,
     blocked: ChannelSet,
     moment: u32,
+    link: Link,
 )
     requires inside { (c : ℕ) → IsInside entries.old (slot_at slots.now c) }
     requires early { moment < 300000 }
     requires seated { AllByRecursion Seated entries.old }
     ensures seated { AllByRecursion Seated entries.new }
     ensures size { length entries.new ≡ length entries.old }
-    ensures moved { (d : Day) (done : ℕ → Bool) → d.moment ≡ moment → IsExchange d → AreBlocked d blocked → AreOwn d slots.now → ((c i : ℕ) → slot_at slots.now c ≡ Some i → done i ≡ false) → Passed d done entries.old maintenance.old said.old → Passed d (with_slots d slots.now done) entries.new maintenance.new said.new }
+    ensures moved { (d : Day) (done : ℕ → Bool) → d.moment ≡ moment → IsExchange d → AreBlocked d blocked → AreOwn d slots.now → ((c i : ℕ) → slot_at slots.now c ≡ Some i → done i ≡ false) → Passed link d done entries.old maintenance.old said.old → Passed link d (with_slots d slots.now done) entries.new maintenance.new said.new }
 {
     for number in 0..32 {
         if let Some(index) = slots[number] {
-            move_one(entries, index as usize, said, maintenance, blocked, moment);
+            move_one(
+                entries,
+                index as usize,
+                said,
+                maintenance,
+                blocked,
+                moment,
+                link,
+            );
         }
     }
 }
 
-/// Moves the bookings on to which a tick may do something: on each channel the live one, the first that waits, and
-/// the second behind that, which may start when the first ends. Puts channels that break into maintenance, and answers what is said, by the number of its channel.
+/// Moves the bookings on to which a second may do something: on each channel the live one, the first that waits, and
+/// the second behind that, which may start when the first ends. Puts channels that break into maintenance, and answers
+/// what is said, by the number of its channel.
 fn move_on(
     entries: &mut [Entry],
     maintenance: &mut ChannelSet,
@@ -157,17 +181,34 @@ fn move_on(
     second: &[Option<u16>; 32],
     blocked: ChannelSet,
     moment: u32,
+    link: Link,
 ) -> [Option<Out>; 32]
     requires early { moment < 300000 }
     requires seated { AllByRecursion Seated entries.old }
     requires live { (c : ℕ) → IsInside entries.old (slot_at live.now c) }
     requires waiting { (c : ℕ) → IsInside entries.old (slot_at waiting.now c) }
     requires second { (c : ℕ) → IsInside entries.old (slot_at second.now c) }
-    ensures { (d : Day) → d ≡ day_of moment entries.old maintenance.old → IsExchange d → AreBlocked d blocked → AreTouched d live.now waiting.now second.now → IsTicked d entries.new maintenance.new result }
+    ensures { (d : Day) → d ≡ day_of moment entries.old maintenance.old → IsExchange d → AreBlocked d blocked → AreTouched link d live.now waiting.now second.now → IsSecond link d entries.new maintenance.new result }
 {
     let mut said = [None; 32];
-    move_all(entries, live, &mut said, maintenance, blocked, moment);
-    move_all(entries, waiting, &mut said, maintenance, blocked, moment);
-    move_all(entries, second, &mut said, maintenance, blocked, moment);
+    move_all(entries, live, &mut said, maintenance, blocked, moment, link);
+    move_all(
+        entries,
+        waiting,
+        &mut said,
+        maintenance,
+        blocked,
+        moment,
+        link,
+    );
+    move_all(
+        entries,
+        second,
+        &mut said,
+        maintenance,
+        blocked,
+        moment,
+        link,
+    );
     said
 }

@@ -2,8 +2,8 @@
 
 use crate::two_ends::Ends;
 use bx_calls::CallState;
+use bx_channels::Channel;
 use bx_day::Outcome;
-use bx_numbers::Channel;
 use bx_q931::Octets;
 use bx_worked_days::Row;
 

@@ -1,7 +1,8 @@
 //! Days of ticks alone: what is sent, when, and what becomes of the bookings.
 
 use crate::booked_days::{Day, run_day};
-use bx_worked::{RELEASE_COMPLETE_102, SETUP, SETUP_CHANNEL_2, SETUP_REFERENCE_2};
+use bx_cases::SHARE;
+use bx_worked_messages::{RELEASE_COMPLETE_102, SETUP, SETUP_CHANNEL_2, SETUP_REFERENCE_2};
 use std::test::Fail;
 
 static DAYS: [Day<'static>; 4] = [
@@ -29,7 +30,7 @@ static DAYS: [Day<'static>; 4] = [
             (100, &[], &[SETUP]),
             (104, &[], &[SETUP]),
             (108, &[], &[RELEASE_COMPLETE_102]),
-            (300_002, &[], &[]),
+            (300_002 / SHARE, &[], &[]),
         ],
         told: "1 unanswered\nmaintenance none\n",
     },

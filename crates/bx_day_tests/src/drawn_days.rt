@@ -1,6 +1,7 @@
 //! Quiet seconds on drawn days: counted tick by tick, and skipped.
 
 use crate::quiet_seconds::{are_counted, look_same, skip_to};
+use bx_cases::SHARE;
 use bx_worked_days::{Row, exchange_of};
 use std::alloc::Global;
 
@@ -14,12 +15,16 @@ static REFERENCES: [u8; 8] = [1, 2, 3, 4, 5, 6, 1, 2];
 
 /// Numbers that are drawn one after another.
 #[derive(Drop)]
-struct Drawn {
+pub(crate) struct Drawn {
     state: u32,
 }
 
 impl Drawn {
-    fn below(&mut self, limit: u32) -> u32 {
+    pub(crate) fn of(seed: u32) -> Drawn {
+        Drawn { state: seed }
+    }
+
+    pub(crate) fn below(&mut self, limit: u32) -> u32 {
         self.state = self
             .state
             .wrapping_mul(1_664_525)
@@ -35,7 +40,7 @@ impl Drawn {
     }
 
     /// Six bookings, one after another on channels 1 and 2, and some that are refused.
-    fn rows(&mut self) -> [Row; 6] {
+    pub(crate) fn rows(&mut self) -> [Row; 6] {
         let mut rows = [(0, 1, 0, false); 6];
         let mut one: u32 = 0;
         let mut two: u32 = 0;
@@ -55,7 +60,7 @@ impl Drawn {
     }
 
     /// A message of a call with a low reference; a SETUP has a good bearer capability.
-    fn message(&mut self) -> [u8; 9] {
+    pub(crate) fn message(&mut self) -> [u8; 9] {
         let kind = KINDS[(self.below(8) & 7) as usize];
         let flag = if kind != SETUP && self.below(4) > 0 {
             0x80
@@ -69,7 +74,7 @@ impl Drawn {
 
 /// Whether each tick of a drawn day goes as its quiet seconds say, and a day that skips them looks the same.
 fn goes_quietly(alloc: Global, seed: u32) -> Option<bool> {
-    let mut drawn = Drawn { state: seed };
+    let mut drawn = Drawn::of(seed);
     let rows = drawn.rows();
     let mut ticking = exchange_of(alloc, &rows)?;
     let mut before = exchange_of(alloc, &rows)?;
@@ -101,5 +106,5 @@ fn first_odd(alloc: Global, days: u32) -> Option<u32> {
 
 #[test]
 fn drawn_quiet_seconds(rt: HostRuntime) {
-    assert!(rt; first_odd(rt.alloc(), 200).is_none(), "a drawn day");
+    assert!(rt; first_odd(rt.alloc(), 200 / SHARE).is_none(), "a drawn day");
 }

@@ -1,10 +1,11 @@
-//! Drawn lists of events: messages are lost, repeated, delayed and reordered, and calls given up without an answer
-//! leave channels in maintenance at either end.
+//! Drawn lists of events: messages are lost, repeated, delayed and reordered, links are lost, and calls given up without
+//! an answer leave channels in maintenance at either end.
 
 use crate::agreement::agree;
 use crate::two_ends::{Ends, Event, opened};
 use bx_calls::CallState;
-use bx_numbers::Channel;
+use bx_cases::SHARE;
+use bx_channels::Channel;
 use bx_worked_days::Row;
 use std::alloc::Global;
 use std::test::Fail;
@@ -87,6 +88,7 @@ impl Generator {
                 Event::ToExchange(self.index(ends.far_sent.len()))
             }
             (4..=7, Line::Whole | Line::ToFarOnly) => Event::ToFar(self.index(ends.sent.len())),
+            (drawn, Line::Cut) if drawn % 2 == 0 => Event::WithoutLink,
             (drawn, _) if drawn % 2 == 0 => Event::TickExchange,
             _ => Event::TickFar,
         }
@@ -160,7 +162,7 @@ fn drawn(alloc: Global, list: u32, seen: &mut Seen) -> Result<(), Fail> {
 #[test]
 fn drawn_lists_agree(rt: HostRuntime) -> Result<(), Fail> {
     let mut seen = NOTHING;
-    for list in 0..LISTS {
+    for list in 0..LISTS / SHARE {
         drawn(rt.alloc(), list, &mut seen)?;
     }
     assert_eq!(rt; seen, ALL, "what came about");

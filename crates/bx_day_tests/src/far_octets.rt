@@ -4,8 +4,8 @@
 use crate::far_days::{FREE, ends};
 use crate::steps::{Messages, answers, are_short_ignored};
 use bx_far::Far;
-use bx_worked::FAR_RELEASE_COMPLETE_44;
 use bx_worked_days::far_of;
+use bx_worked_messages::FAR_RELEASE_COMPLETE_44;
 use std::test::Fail;
 
 /// What comes, and what is sent for it.

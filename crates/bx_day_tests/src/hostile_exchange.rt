@@ -5,8 +5,8 @@ use crate::hostile_exchange_days::{DAYS, Ready};
 use crate::second_reading::{Heard, Naming};
 use crate::second_replies::Reply;
 use crate::second_tables::{Call, at_network, of_no_call};
+use bx_channels::Channel;
 use bx_day::Exchange;
-use bx_numbers::Channel;
 use bx_worked_days::exchange_of;
 use std::alloc::Global;
 

@@ -5,8 +5,8 @@ use crate::hostile_far_days::{DAYS, MAINTENANCE, Ready, SILENT};
 use crate::second_reading::{Heard, Naming};
 use crate::second_replies::Reply;
 use crate::second_tables::{Call, at_user, of_no_call};
+use bx_channels::Channel;
 use bx_far::Far;
-use bx_numbers::Channel;
 use bx_worked_days::far_of;
 use std::alloc::Global;
 

@@ -2,7 +2,7 @@
 
 use crate::hostile_octets::{Subject, first_wrong};
 use crate::second_reading::{Heard, Naming, read_again};
-use bx_numbers::Number;
+use bx_channels::Number;
 use bx_q931::{ChannelField, Message, Reference, read};
 
 /// The codec.

@@ -14,6 +14,8 @@ mod drawn_days;
 #[cfg(test)]
 mod drawn_lists;
 #[cfg(test)]
+mod drawn_outages;
+#[cfg(test)]
 mod far_days;
 #[cfg(test)]
 mod far_octets;
@@ -36,6 +38,8 @@ mod one_booking;
 #[cfg(test)]
 mod openings;
 #[cfg(test)]
+mod outages;
+#[cfg(test)]
 mod outcome_writers;
 #[cfg(test)]
 mod quiet_seconds;
@@ -45,6 +49,8 @@ mod replayed_days;
 mod script_faults;
 #[cfg(test)]
 mod script_policies;
+#[cfg(test)]
+mod second_exchange;
 #[cfg(test)]
 mod second_reading;
 #[cfg(test)]

@@ -1,7 +1,7 @@
 //! The opening of a day.
 
+use bx_channels::Channel;
 use bx_day::{Exchange, Outcome};
-use bx_numbers::Channel;
 use bx_worked_days::{Row, exchange_of};
 use std::test::Fail;
 

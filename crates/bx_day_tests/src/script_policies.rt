@@ -2,8 +2,8 @@
 
 use crate::script_faults::long_script;
 use bx_calls::Policy;
+use bx_channels::Number;
 use bx_far::Script;
-use bx_numbers::Number;
 use std::alloc::Global;
 use std::test::Fail;
 

@@ -6,10 +6,12 @@ use bx_q931::Octets;
 use bx_worked_days::{End, Row, exchange_of_numbers, far_of};
 use std::alloc::{AllocError, Global};
 
-/// A tick of one end, or a message of the other's list that comes to it, by its index.
+/// A tick of one end, a second of the exchange without a link, or a message of the other's list that comes to an end, by
+/// its index.
 #[derive(Clone, Copy)]
 pub(crate) enum Event {
     TickExchange,
+    WithoutLink,
     TickFar,
     ToExchange(usize),
     ToFar(usize),
@@ -50,6 +52,10 @@ impl Ends {
     pub(crate) fn happens(&mut self, event: Event) -> Result<(), AllocError> {
         match event {
             Event::TickExchange => tick(&mut self.exchange, &mut self.sent),
+            Event::WithoutLink => {
+                self.exchange.second_without_link();
+                Ok(())
+            }
             Event::TickFar => tick(&mut self.far, &mut self.far_sent),
             Event::ToExchange(index) => {
                 bring(&mut self.exchange, &self.far_sent, index, &mut self.sent)

@@ -2,13 +2,14 @@
 
 use crate::two_ends::{Ends, Event, opened};
 use bx_calls::CallState;
-use bx_numbers::Channel;
+use bx_channels::Channel;
 use bx_q931::Octets;
-use bx_worked::{
-    CONNECT_ACKNOWLEDGE, CONNECT_CHANNEL_1, DISCONNECT_16, FAR_RELEASE, FAR_RELEASE_COMPLETE,
-    PROCEEDING_CHANNEL_1, RELEASE, RELEASE_COMPLETE, SETUP, STATUS_101,
-};
 use bx_worked_days::{Row, are_same};
+use bx_worked_messages::{
+    CONNECT_ACKNOWLEDGE, CONNECT_CHANNEL_1, DISCONNECT_16, FAR_RELEASE, FAR_RELEASE_COMPLETE,
+    PROCEEDING_CHANNEL_1, RELEASE, RELEASE_16, RELEASE_COMPLETE, SETUP, SETUP_REFERENCE_2,
+    STATUS_101,
+};
 use std::alloc::Global;
 use std::test::Fail;
 
@@ -37,7 +38,7 @@ const USER_STATUS_101: &[u8] = &[
 
 const ANSWERS: &str = "number,policy,seconds\n*,answer,0\n";
 
-const RUNS: [Course<'static>; 3] = [
+const RUNS: [Course<'static>; 6] = [
     // a call is over at both ends, and its SETUP comes again: the exchange clears what the far end opens
     Course {
         rows: &[(0, 60, 1, false)],
@@ -96,6 +97,59 @@ const RUNS: [Course<'static>; 3] = [
         ],
         held: (Some((2, CallState::OutgoingCallProceeding)), None),
     },
+    // the link is lost before a call of the far end is connected: its CONNECT waits for the first tick with a link
+    Course {
+        rows: &[(0, 60, 1, true)],
+        script: "number,policy,seconds,channel\n1234,call,1,1\n",
+        steps: &[
+            (1, Event::TickFar, &[SETUP]),
+            (1, Event::TickExchange, &[]),
+            (1, Event::ToExchange(0), &[PROCEEDING_CHANNEL_1]),
+            (20, Event::WithoutLink, &[]),
+            (1, Event::TickExchange, &[CONNECT_CHANNEL_1]),
+            (1, Event::ToFar(1), &[]),
+        ],
+        held: (Some((1, CallState::Active)), Some((1, CallState::Active))),
+    },
+    // a booking starts while there is no link, and is offered when there is one again; its end comes while there is none,
+    // so its DISCONNECT is lost, RELEASE is sent at the first tick with a link, and the next booking is missed
+    Course {
+        rows: &[(10, 60, 1, false), (60, 80, 1, false)],
+        script: ANSWERS,
+        steps: &[
+            (30, Event::WithoutLink, &[]),
+            (1, Event::TickExchange, &[SETUP]),
+            (1, Event::ToFar(0), &[]),
+            (1, Event::TickFar, &[CONNECT_CHANNEL_1]),
+            (1, Event::ToExchange(0), &[CONNECT_ACKNOWLEDGE]),
+            (1, Event::ToFar(1), &[]),
+            (55, Event::WithoutLink, &[]),
+            (1, Event::TickExchange, &[RELEASE_16]),
+        ],
+        held: (
+            Some((1, CallState::ReleaseRequest)),
+            Some((1, CallState::Active)),
+        ),
+    },
+    // a link that is lost over an end for longer than clearing may take costs no channel: the call is cleared when there
+    // is a link again, and the next booking is offered
+    Course {
+        rows: &[(10, 60, 1, false), (120, 200, 1, false)],
+        script: ANSWERS,
+        steps: &[
+            (10, Event::TickExchange, &[SETUP]),
+            (1, Event::ToFar(0), &[]),
+            (1, Event::TickFar, &[CONNECT_CHANNEL_1]),
+            (1, Event::ToExchange(0), &[CONNECT_ACKNOWLEDGE]),
+            (1, Event::ToFar(1), &[]),
+            (100, Event::WithoutLink, &[]),
+            (1, Event::TickExchange, &[RELEASE_16]),
+            (1, Event::ToFar(2), &[FAR_RELEASE_COMPLETE]),
+            (1, Event::ToExchange(1), &[]),
+            (9, Event::TickExchange, &[SETUP_REFERENCE_2]),
+        ],
+        held: (Some((2, CallState::CallPresent)), None),
+    },
 ];
 
 /// Whether so many messages were sent before, and these since.
@@ -106,7 +160,7 @@ fn since(sent: &[Octets], before: usize, expected: &[&[u8]]) -> bool {
 /// Whether just this was sent, by the end that the event happens to.
 fn sent_so(ends: &Ends, before: (usize, usize), event: Event, expected: &[&[u8]]) -> bool {
     match event {
-        Event::TickExchange | Event::ToExchange(_) => {
+        Event::TickExchange | Event::WithoutLink | Event::ToExchange(_) => {
             since(&ends.sent, before.0, expected) && since(&ends.far_sent, before.1, &[])
         }
         Event::TickFar | Event::ToFar(_) => {

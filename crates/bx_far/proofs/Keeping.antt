@@ -13,7 +13,7 @@ use Rattle.bx_calls.specs.declared.user_state.UserState.{UserState}
 use Rattle.bx_calls.specs.declared.user_state.UserState.TheVariants.{CallInitiated, OutgoingCallProceeding, CallPresent, CallReceived, ConnectRequest, IncomingCallProceeding, Active, DisconnectRequest, ReleaseRequest}
 use Rattle.bx_calls.specs.Hearing.{Heard, names_channel, reports_null}
 use Rattle.bx_calls.specs.UserTable.{user_row, user_message, user_takes, user_answers, user_clears, user_second_row, user_second}
-use Rattle.bx_numbers.specs.ChannelNumbers.{IsChannel}
+use Rattle.bx_channels.specs.ChannelNumbers.{IsChannel}
 use Rattle.bx_far.specs.Seats.{IsSeat}
 use Rattle.bx_far.specs.Inside.{live_of}
 

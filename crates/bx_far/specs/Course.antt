@@ -1,7 +1,7 @@
 -- A far end as an end of the link: for a tick its messages and the end of the turn are written, for a message the reply to it.
 use Rattle.std.specs.Prelude.{ℕ, ◌+◌, min, List, ◌++◌}
 use Rattle.arrayvec.specs.ArrayVec.{ArrayVec}
-use Rattle.bx_q931.specs.Events.{Event, Tick, Receive}
+use Rattle.bx_events.specs.Events.{Event, Tick, Receive}
 use Rattle.bx_frames.specs.Frames.{frames_of, turn_frame}
 use Rattle.bx_calls.specs.Sending.{reply_list, spelled}
 use Rattle.bx_far.specs.FarDay.{FarDay, far_tick}

@@ -8,7 +8,7 @@ ghost use Rattle.bx_far.specs.Inside.{calls_now};
 use crate::row::ScriptRow;
 use bx_base::ChannelSet;
 use bx_calls::UserCall;
-use bx_numbers::{Channel, Number};
+use bx_channels::{Channel, Number};
 use bx_q931::Out;
 use std::marker::Model;
 

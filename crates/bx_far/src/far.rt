@@ -8,7 +8,7 @@ ghost use Rattle.bx_far.specs.FarDay.{is_taken, holder, far_opening};
 use crate::script::Script;
 use bx_base::ChannelSet;
 use bx_calls::{CallState, UserCall};
-use bx_numbers::Channel;
+use bx_channels::Channel;
 use std::marker::Model;
 
 /// The far end during its day: the moment in seconds from the day's start, its live calls, and the channels

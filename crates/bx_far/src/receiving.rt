@@ -11,7 +11,7 @@ ghost use Rattle.bx_far.specs.FarRun.{far_receive_from, far_receive_octets};
 use crate::far::Far;
 use crate::slots::{first_named, settle};
 use bx_calls::{End, Policy, UserCall, bearer_fault, refuse, unknown};
-use bx_numbers::{Channel, Number};
+use bx_channels::{Channel, Number};
 use bx_q931::cause::{MANDATORY_ELEMENT_MISSING, REQUESTED_CHANNEL_NOT_AVAILABLE, USER_BUSY};
 use bx_q931::{ChannelField, Kind, Message, Octets, Out, Reference, encode, read};
 

@@ -8,7 +8,7 @@ ghost use Rattle.bx_far.specs.Inside.{IsRowRead};
 
 use crate::fault::ScriptFault;
 use bx_calls::Policy;
-use bx_numbers::{Channel, Number};
+use bx_channels::{Channel, Number};
 use bx_text::{all_digits, digits_value, field};
 use csv::ByteRecord;
 

@@ -9,7 +9,7 @@ use crate::fault::ScriptFault;
 use crate::row::ScriptRow;
 use crate::text::read_script;
 use bx_calls::Policy;
-use bx_numbers::Number;
+use bx_channels::Number;
 use bx_text::records_of;
 use std::alloc::{AllocError, Global};
 use std::marker::Model;

@@ -9,7 +9,7 @@ ghost use Rattle.bx_far.specs.Inside.{live_of, slot_at};
 
 use bx_base::ChannelSet;
 use bx_calls::{Next, UserCall};
-use bx_numbers::Channel;
+use bx_channels::Channel;
 
 /// Whether the call has this reference and sends with the other flag.
 fn is_named(call: &UserCall, reference: u16, flag: bool) -> bool

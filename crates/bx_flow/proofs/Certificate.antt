@@ -17,12 +17,12 @@ use Rattle.bx_dist.specs.declared.step.Step.TheVariants.{Idle, Back, Take, Give}
 use Rattle.bx_flow.specs.Costs.{paid_by, IsLeastCost}
 use Rattle.bx_flow.proofs.Falls.{spanned}
 
-both : (b x : Bool) (a : ℕ) → cond (b && x) 1 0 * a ≡ cond b (cond x a 0) 0
+pub both : (b x : Bool) (a : ℕ) → cond (b && x) 1 0 * a ≡ cond b (cond x a 0) 0
 both true true a = omega arith
 both true false a = omega arith
 both false x a = omega arith
 
-sum_of_cond : (n : ℕ) (b : Bool) (f : ℕ → ℕ) → sum_below n (λ v. cond b (f v) 0) ≡ cond b (sum_below n f) 0
+pub sum_of_cond : (n : ℕ) (b : Bool) (f : ℕ → ℕ) → sum_below n (λ v. cond b (f v) 0) ≡ cond b (sum_below n f) 0
 sum_of_cond n true f = refl
 sum_of_cond n false f = sum_below-zero n (λ v. 0) (λ v h. refl)
 

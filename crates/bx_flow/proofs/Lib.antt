@@ -1,3 +1,4 @@
 pub mod Falls
 pub mod Certificate
 pub mod Depth
+pub mod First

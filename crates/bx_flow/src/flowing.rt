@@ -3,11 +3,13 @@
 ghost use Rattle.std.specs.Prelude.{◌≡◌, ◌≤◌, ◌<◌, ◌-◌, ◌≤ℤ◌, neg_ℤ, pos, IfOk};
 ghost use Rattle.bx_dist.specs.Residual.{ArePotentials, height_at};
 ghost use Rattle.bx_dist.specs.Walks.{AreLeast};
+ghost use Rattle.bx_dist.specs.declared.part.Part.TheVariants.{Free};
 ghost use Rattle.bx_flow.specs.Costs.{IsLeastCost, free_pays};
 ghost use Rattle.bx_line.specs.Flows.{IsFlow};
 ghost use Rattle.bx_line.specs.Network.{IsNetwork, places_of};
 
-use bx_dist::{Carried, Distances, Part, Potentials};
+use crate::growing::{free_distances, grown};
+use bx_dist::{Carried, Distances, Potentials};
 use bx_line::Line;
 use std::alloc::{AllocError, Global};
 
@@ -29,9 +31,7 @@ fn sent<D: Distances>(
     let mut carried = Carried::empty(alloc, line)?;
     let mut potentials = Potentials::first(alloc, line)?;
     for _ in 0..units {
-        let dist = distances.from_first(alloc, line, &carried, &potentials, Part::Whole)?;
-        carried.send(line, &dist);
-        potentials = Potentials::of(dist);
+        potentials = grown(alloc, line, &mut carried, &potentials, distances)?;
     }
     Ok((carried, potentials))
 }
@@ -50,7 +50,7 @@ pub fn least_cost<D: Distances>(
     requires { units ≤ 30 }
     ensures units { IfOk result (λ r. 0 < places_of line.now → r.0.units ≡ units) }
     ensures least { IfOk result (λ r. IsLeastCost line.now r.0) }
-    ensures distances { IfOk result (λ r. AreLeast Part.Free line.now r.0 r.1) }
+    ensures distances { IfOk result (λ r. AreLeast Free line.now r.0 r.1) }
     ensures depth { IfOk result (λ r. 0 < places_of line.now → neg_ℤ (pos (free_pays line.now)) ≤ℤ height_at r.1 (places_of line.now - 1)) }
 {
     if line.places() == 0 {
@@ -60,6 +60,6 @@ pub fn least_cost<D: Distances>(
         ));
     }
     let (carried, potentials) = sent(alloc, line, units, distances)?;
-    let dist = distances.from_first(alloc, line, &carried, &potentials, Part::Free)?;
-    Ok((carried, Potentials::of(dist)))
+    let lengths = free_distances(alloc, line, &carried, &potentials, distances)?;
+    Ok((carried, lengths))
 }

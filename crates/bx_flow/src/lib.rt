@@ -2,6 +2,8 @@
 #![tactic(auto)]
 
 mod flowing;
+mod growing;
 pub mod laws;
 
 pub use flowing::least_cost;
+pub use growing::{free_distances, grown};

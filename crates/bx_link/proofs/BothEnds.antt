@@ -2,7 +2,7 @@
 use Rattle.std.proofs.Common.{◌≡◌, ℕ, ◌+◌, suc, not, List, [], ◌∷◌, ◌++◌, sym, ap, ◌∙◌, subst, arith, append-nil, Option, Result, Err, Bool, true, false, ◌⊎◌, inl, inr}
 use Rattle.bx_devices.specs.declared.watched.Watched.{Watched}
 use Rattle.bx_day.specs.Day.{Day}
-use Rattle.bx_q931.specs.Events.{Event, Tick, Receive}
+use Rattle.bx_events.specs.Events.{Event, Tick, Receive}
 use Rattle.bx_far.specs.FarDay.{FarDay}
 use Rattle.bx_turns.specs.Courses.{ticks_of, ticks_last}
 use Rattle.bx_turns.specs.Talks.{Talk, stop, with_events}

@@ -5,7 +5,7 @@ use Rattle.bx_devices.specs.declared.watched.Watched.{Watched}
 use Rattle.bx_devices.specs.Watching.{device_of, is_faulted}
 use Rattle.bx_day.specs.Day.{Day}
 use Rattle.bx_devices.specs.declared.octets.WriteFailed.{WriteFailed as Failed}
-use Rattle.bx_q931.specs.Events.{Event, Tick}
+use Rattle.bx_events.specs.Events.{Event, Tick}
 use Rattle.bx_day.specs.Run.{day_after}
 use Rattle.bx_turns.specs.Courses.{after, told, ticks_of}
 use Rattle.bx_day.specs.Course.{exchange_next, exchange_text}

@@ -14,7 +14,7 @@ use Rattle.bx_calls.specs.PlainCalls.{PlainUserCall}
 use Rattle.bx_calls.specs.Said.{Said, said_of}
 use Rattle.bx_calls.specs.declared.user_state.Policy.{Policy}
 use Rattle.bx_calls.specs.declared.user_state.Policy.TheVariants as policies
-use Rattle.bx_q931.specs.Events.{Event, Tick, Receive}
+use Rattle.bx_events.specs.Events.{Event, Tick, Receive}
 use Rattle.bx_far.specs.FarDay.{FarDay, far_tick, far_ticked, far_refuses, far_takes, far_called_on, far_called, far_stray, far_received_by, far_receive, is_taken, first_call, far_names}
 use Rattle.bx_calls.specs.Sending.{Sent, Answered, unchanged}
 use Rattle.bx_far.specs.FarRun.{far_receive_from, far_receive_read, far_receive_octets}

@@ -2,7 +2,7 @@
 use Rattle.std.proofs.Common.{◌≡◌, ℕ, ◌+◌, ◌≤◌, min, zero, suc, List, [], ◌∷◌, ◌++◌, refl, sym, ap, ◌∙◌, subst, arith, Option, Result, Ok, Err, Bool, true, false, ◌⊎◌, inl, inr}
 use Rattle.bx_devices.specs.declared.octets.WriteFailed.{WriteFailed as Failed}
 use Rattle.bx_devices.specs.declared.watched.Watched.{Watched}
-use Rattle.bx_q931.specs.Events.{Event, Tick}
+use Rattle.bx_events.specs.Events.{Event, Tick}
 use Rattle.bx_far.specs.FarDay.{FarDay}
 use Rattle.bx_turns.specs.Courses.{after, ticks_of}
 use Rattle.bx_far.specs.Course.{far_next, far_text}

@@ -4,7 +4,7 @@ use Rattle.std.proofs.Common.{inl, inr}
 use Rattle.std.specs.Io.KnownBytes.{Appends}
 use Rattle.bx_devices.specs.Watching.{device_of, is_faulted}
 use Rattle.bx_day.specs.Day.{Day}
-use Rattle.bx_q931.specs.Events.{Event}
+use Rattle.bx_events.specs.Events.{Event}
 use Rattle.bx_far.specs.FarDay.{FarDay}
 use Rattle.bx_turns.specs.Courses.{after, told, ticks_of, ticks_last}
 use Rattle.bx_day.specs.Course.{exchange_next, exchange_text}

@@ -3,7 +3,7 @@ use Rattle.std.specs.Prelude.{◌≡◌, ℕ, Bool, true, false, List, [], ◌�
 use Rattle.bx_turns.specs.Heard.{Tells, Went, no_tick}
 use Rattle.bx_devices.specs.declared.watched.Watched.{Watched}
 use Rattle.bx_day.specs.Day.{Day}
-use Rattle.bx_q931.specs.Events.{Tick}
+use Rattle.bx_events.specs.Events.{Tick}
 use Rattle.bx_far.specs.FarDay.{FarDay}
 use Rattle.bx_day.specs.Course.{exchange_next, exchange_text}
 use Rattle.bx_far.specs.Course.{far_next, far_text}

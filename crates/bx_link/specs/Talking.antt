@@ -1,7 +1,7 @@
 -- Turns and days: what each end hears in the octets that come.
 use Rattle.std.specs.Prelude.{ℕ, zero, suc, Bool, true, false, List, [], ◌∷◌, Result, Ok, Err}
 use Rattle.bx_day.specs.Day.{Day}
-use Rattle.bx_q931.specs.Events.{Event, Tick}
+use Rattle.bx_events.specs.Events.{Event, Tick}
 use Rattle.bx_far.specs.FarDay.{FarDay}
 use Rattle.bx_turns.specs.Courses.{after}
 use Rattle.bx_turns.specs.Talks.{Talk, stop, with_events, turn_in}

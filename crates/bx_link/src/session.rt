@@ -1,7 +1,7 @@
 //! Sessions: the turns of the exchange, opened and closed one after another, until a fault.
 
 ghost use Rattle.std.specs.Prelude.{◌≡◌, ◌∷◌, [], true, false, is_ok, is_err, Err};
-ghost use Rattle.bx_q931.specs.Events.{Tick};
+ghost use Rattle.bx_events.specs.Events.{Tick};
 ghost use Rattle.bx_link.specs.Hearing.{Hears, Opens};
 ghost use Rattle.bx_link.specs.Sessions.{is_turn_open, is_closed};
 ghost use Rattle.bx_frames.specs.declared.fault.LinkFault.TheVariants.{Closed};

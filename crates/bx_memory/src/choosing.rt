@@ -7,7 +7,7 @@ use bx_dist::{Carried, Dist, Distances, Part, Potentials};
 use bx_flow::least_cost;
 use bx_heap::HeapDist;
 use bx_line::Line;
-use bx_planner::{AmendFail, PlanFail, amend, plan};
+use bx_planner::{AmendFail, Earning, PlanFail, amend, capacity, plan};
 use bx_rounds::Rounds;
 use std::alloc::{AllocError, Global};
 
@@ -116,5 +116,16 @@ pub fn amended(alloc: Global, world: &World) -> Answer {
         Ok(plan) => Answer::Right(plan.total),
         Err(AmendFail::Memory) => Answer::Refused,
         Err(_) => Answer::Wrong,
+    }
+}
+
+/// What all channels earn, the last of the counts.
+pub fn earned(alloc: Global, world: &World) -> Answer {
+    match capacity(alloc, &world.bookings) {
+        Ok(earnings) => match earnings.last() {
+            Some(Earning::Most { total, .. }) => Answer::Right(*total),
+            _ => Answer::Wrong,
+        },
+        Err(_) => Answer::Refused,
     }
 }

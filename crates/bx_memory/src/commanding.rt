@@ -1,10 +1,11 @@
 //! The commands over readers and writers. A refused growth has to leave the output empty.
 
 use crate::world::{Answer, BOOKINGS, World};
+use bx_book::StreamFault;
 use bx_check::check;
-use bx_commands::{CommandFault, check_against, check_self, decode};
+use bx_check_commands::{CommandFault, check_against, check_self, decode};
 use bx_devices::Watched;
-use bx_planning::{RunFault, plan_run};
+use bx_plan_run::{CapacityFault, RunFault, capacity_run, plan_run};
 use bx_quote::{QuoteFail, QuoteFault, write_explained, write_refused};
 use std::alloc::Global;
 
@@ -36,6 +37,20 @@ pub fn plan_run_done(alloc: Global, world: &World) -> Answer {
     match plan_run(alloc, &mut input, &mut output, &world.day, world.channels) {
         Ok(_) => told(output, true),
         Err(RunFault::Memory) => told(output, false),
+        Err(_) => Answer::Wrong,
+    }
+}
+
+pub fn capacity_told(alloc: Global, world: &World) -> Answer {
+    let Some(mut output) = output_of(alloc) else {
+        return Answer::Refused;
+    };
+    let mut input = Watched::new(BOOKINGS);
+    match capacity_run(alloc, &mut input, &mut output, &world.day) {
+        Ok(()) => told(output, true),
+        Err(CapacityFault::Memory | CapacityFault::Unread(StreamFault::Memory)) => {
+            told(output, false)
+        }
         Err(_) => Answer::Wrong,
     }
 }

@@ -15,7 +15,7 @@ use std::alloc::Global;
 use std::io::Write;
 use std::process::ExitCode;
 
-static NAMES: [&str; 26] = [
+static NAMES: [&str; 29] = [
     "Bookings::push",
     "Bookings::copy",
     "read_octets",
@@ -32,11 +32,14 @@ static NAMES: [&str; 26] = [
     "colour",
     "plan",
     "amend",
+    "capacity",
+    "next_gain",
     "quote",
     "explain",
     "Exchange::new",
     "replay",
     "plan_run",
+    "capacity_run",
     "check_self",
     "check_against",
     "write_refused",
@@ -63,15 +66,18 @@ fn made(place: usize, alloc: Global, world: &World) -> Answer {
         13 => choosing::coloured(alloc, world),
         14 => choosing::planned(alloc, world),
         15 => choosing::amended(alloc, world),
-        16 => running::quoted(alloc, world),
-        17 => running::explained(alloc, world),
-        18 => running::opened(alloc, world),
-        19 => running::replayed(alloc, world),
-        20 => commanding::plan_run_done(alloc, world),
-        21 => commanding::checked(alloc, world),
-        22 => commanding::checked_against(alloc, world),
-        23 => commanding::refused_told(alloc, world),
-        24 => commanding::row_explained(alloc, world),
+        16 => choosing::earned(alloc, world),
+        17 => running::gained(alloc, world),
+        18 => running::quoted(alloc, world),
+        19 => running::explained(alloc, world),
+        20 => running::opened(alloc, world),
+        21 => running::replayed(alloc, world),
+        22 => commanding::plan_run_done(alloc, world),
+        23 => commanding::capacity_told(alloc, world),
+        24 => commanding::checked(alloc, world),
+        25 => commanding::checked_against(alloc, world),
+        26 => commanding::refused_told(alloc, world),
+        27 => commanding::row_explained(alloc, world),
         _ => commanding::decoded(alloc),
     }
 }

@@ -4,6 +4,7 @@ use crate::world::{Answer, World};
 use bx_base::Booking;
 use bx_check::check;
 use bx_day::Exchange;
+use bx_planner::next_gain;
 use bx_quote::{Quote, QuoteFail, explain, quote};
 use bx_replay::{Event, replay};
 use std::alloc::Global;
@@ -30,6 +31,17 @@ pub fn quoted(alloc: Global, world: &World) -> Answer {
 pub fn explained(alloc: Global, world: &World) -> Answer {
     match check(&world.plan.bookings, world.plan.channels, &world.plan) {
         Ok(_) => threshold(explain(alloc, &world.plan, 2)),
+        Err(_) => Answer::Wrong,
+    }
+}
+
+/// What a third channel would add.
+pub fn gained(alloc: Global, world: &World) -> Answer {
+    match check(&world.plan.bookings, world.plan.channels, &world.plan) {
+        Ok(_) => match next_gain(alloc, &world.plan) {
+            Ok(gain) => Answer::Right(gain),
+            Err(_) => Answer::Refused,
+        },
         Err(_) => Answer::Wrong,
     }
 }

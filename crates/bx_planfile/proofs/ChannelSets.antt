@@ -3,7 +3,7 @@ use Rattle.std.proofs.Common.{◌≡◌, ◌≢◌, ℕ, zero, suc, ◌+◌, ◌
 use Rattle.std.proofs.lemmas.List.{append-nil, set_at, get_or_at}
 use Rattle.std.proofs.lemmas.Bool.{cases_eq, ltb-true, lt-ltb}
 use Rattle.std.proofs.lemmas.Bool.Decides.{nat_tests}
-use Rattle.bx_numbers.specs.ChannelNumbers.{IsChannel}
+use Rattle.bx_channels.specs.ChannelNumbers.{IsChannel}
 use Rattle.bx_base.specs.Channels.{IsChannelSet}
 use Rattle.bx_text.specs.Lines.{members_from}
 use Rattle.bx_planfile.specs.Forms.{is_channel, with_channels, channel_set}

@@ -4,7 +4,7 @@ use Rattle.std.specs.List.{list_all}
 use Rattle.std.specs.Char.{is_ascii_digit}
 use Rattle.std.proofs.lemmas.Bool.Decides.{nat_tests}
 use Rattle.std.proofs.lemmas.Bool.{ltb-true, lt-ltb, leb-true}
-use Rattle.bx_numbers.specs.Numbers.{IsNumber}
+use Rattle.bx_channels.specs.Numbers.{IsNumber}
 use Rattle.bx_base.specs.Bookings.{IsBooking}
 use Rattle.bx_planfile.specs.Forms.{Entry, is_digits, is_assignable, is_within}
 use Rattle.bx_text.proofs.DigitSteps.{and_both, all_from_test, test_from_all}

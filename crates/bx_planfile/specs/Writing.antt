@@ -1,6 +1,6 @@
 -- Private: what the lines of a plan are, in parts.
 use Rattle.std.specs.Prelude.{◌≡◌, ℕ, List, [], ◌∷◌, codes, decimal, length, map, slice_index_or, Option, Some, None}
-use Rattle.bx_numbers.specs.ChannelNumbers.{IsChannel}
+use Rattle.bx_channels.specs.ChannelNumbers.{IsChannel}
 use Rattle.bx_base.specs.declared.plan.Plan.{Plan}
 use Rattle.bx_planfile.specs.declared.version.Version.TheVariants.{Three}
 use Rattle.bx_text.specs.Lines.{members_from, named}

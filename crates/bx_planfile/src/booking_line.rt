@@ -16,7 +16,7 @@ use crate::fault::PlanFault;
 use crate::fields::Fields;
 use crate::version::Version;
 use bx_base::Booking;
-use bx_numbers::{Channel, Number};
+use bx_channels::{Channel, Number};
 
 /// What a line of the right form says of a booking, within its limits or not.
 #[derive(Clone, Copy)]

@@ -11,7 +11,7 @@ use crate::decimals::decimal;
 use crate::fault::PlanFault;
 use crate::fields::Fields;
 use bx_base::ChannelSet;
-use bx_numbers::Channel;
+use bx_channels::Channel;
 
 /// Whether all fields that are left are decimals.
 fn all_decimals(mut fields: Fields<'_>) -> bool

@@ -9,7 +9,7 @@ use crate::fields::line_of;
 use crate::lines::price_of;
 use crate::version::Version;
 use bx_base::{AddFault, Booking, Bookings, Price};
-use bx_numbers::Channel;
+use bx_channels::Channel;
 use std::alloc::Global;
 
 fn add(bookings: &mut Bookings, booking: Booking) -> Result<(), PlanFault>

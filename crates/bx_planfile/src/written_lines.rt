@@ -3,14 +3,14 @@
 ghost use Rattle.std.specs.Prelude.{◌≡◌, ◌+◌, ◌<◌, ◌≤◌, ◌++◌, ◌∷◌, [], length, codes, decimal, map, IfSome};
 ghost use Rattle.arrayvec.specs.ArrayVec.{array_vec_len};
 ghost use Rattle.bx_base.specs.Bound.{IsCharge};
-ghost use Rattle.bx_numbers.specs.ChannelNumbers.{IsChannel};
+ghost use Rattle.bx_channels.specs.ChannelNumbers.{IsChannel};
 ghost use Rattle.bx_base.specs.Channels.{IsChannelSet};
 ghost use Rattle.bx_planfile.specs.declared.version.Version.TheVariants.{Three};
 ghost use Rattle.bx_text.specs.Lines.{line_text, members_from, named};
 ghost use Rattle.bx_planfile.specs.Text.{booking_fields, price_fields, must_field, direction_field, channel_field};
 
 use bx_base::{Booking, ChannelSet, Price};
-use bx_numbers::Channel;
+use bx_channels::Channel;
 use bx_text::{Line, add, add_decimal, add_members, append};
 
 /// The line of a price.

@@ -19,7 +19,7 @@ use Rattle.bx_planner.specs.Musts.{musts_at}
 use Rattle.bx_planner.proofs.Placed.{running_crosses}
 
 -- where one term is less by so much, and no other is more, so is the sum
-short_sum : (n : ℕ) (f g : ℕ → ℕ) (k c : ℕ) → ((i : ℕ) → i < n → f i ≤ g i) → k < n → f k + c ≤ g k → sum_below n f + c ≤ sum_below n g
+pub short_sum : (n : ℕ) (f g : ℕ → ℕ) (k c : ℕ) → ((i : ℕ) → i < n → f i ≤ g i) → k < n → f k + c ≤ g k → sum_below n f + c ≤ sum_below n g
 short_sum zero f g k c h b s = absurd (omega arith)
 short_sum (suc n) f g k c h b s =
     elim (cases_lt k n) [

@@ -22,13 +22,13 @@ none_of : (b : Bool) (a : ℕ) → a ≡ 0 → ◌≡◌ {A = ℕ} (cond b a 0) 
 none_of true a e = e
 none_of false a e = refl
 
-one_exact : (prices : List Charge) (row : Row) (in_set : Bool) → (row.must ≡ true → in_set ≡ true) → (row.must ≡ false → in_set ≡ true → cost_of prices row ≤ row.pay) → (row.must ≡ false → in_set ≡ false → row.pay ≤ cost_of prices row) → (m : Bool) → row.must ≡ m → cond in_set row.pay 0 + loss_of prices row ≡ cond in_set (cost_of prices row) 0 + gain_of prices row
+pub one_exact : (prices : List Charge) (row : Row) (in_set : Bool) → (row.must ≡ true → in_set ≡ true) → (row.must ≡ false → in_set ≡ true → cost_of prices row ≤ row.pay) → (row.must ≡ false → in_set ≡ false → row.pay ≤ cost_of prices row) → (m : Bool) → row.must ≡ m → cond in_set row.pay 0 + loss_of prices row ≡ cond in_set (cost_of prices row) 0 + gain_of prices row
 one_exact prices row true h t l true e = rw e (omega arith)
 one_exact prices row true h t l false e = let k = t e refl in rw e (omega (arith, k))
 one_exact prices row false h t l true e = cc (h e)
 one_exact prices row false h t l false e = let k = l e refl in rw e (omega (arith, k))
 
-exact_whole : (pay loss whole : ℕ) (bound : ℤ) → bound +ℤ pos loss ≡ pos whole → pay + loss ≡ whole → bound ≡ pos pay
+pub exact_whole : (pay loss whole : ℕ) (bound : ℤ) → bound +ℤ pos loss ≡ pos whole → pay + loss ≡ whole → bound ≡ pos pay
 exact_whole pay loss whole bound e h = omega (arith, ints)
 
 module _ (rows : List Row) (line : Network) (flow : Flow) (heights : List ℤ) (network : IsNetwork line) (arcs : AreArcsOf line.moments rows line.arcs) (crosses : CrossesEachGap line flow) (fits : Fits Free line flow heights) where

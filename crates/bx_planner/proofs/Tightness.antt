@@ -38,10 +38,10 @@ left_of prices row false m s e = let f = (rw m at e) in omega (arith, f)
 
 module _ (rows : List Row) (count : ℕ) (set : ℕ → Bool) (enough : (t : ℕ) → runs_at rows set t ≤ count) where
   -- what the rows of the set pay at one price
-  abbrev at_price : Charge → ℕ
+  abbrev pub at_price : Charge → ℕ
   at_price p = sum_below (length rows) (λ i. cond (runs rows set p.moment i) p.amount 0)
 
-  price_counts : (p : Charge) → at_price p ≡ runs_at rows set p.moment * p.amount
+  pub price_counts : (p : Charge) → at_price p ≡ runs_at rows set p.moment * p.amount
   price_counts p =
       let same = sum_below-same (length rows) (λ i. cond (runs rows set p.moment i) p.amount 0) (λ i. cond (runs rows set p.moment i) 1 0 * p.amount) (λ i h. cond-mul (runs rows set p.moment i) p.amount) in
       let out = sum_below-mul (length rows) (λ i. cond (runs rows set p.moment i) 1 0) p.amount in
@@ -50,10 +50,10 @@ module _ (rows : List Row) (count : ℕ) (set : ℕ → Bool) (enough : (t : ℕ
   price_most : (p : Charge) → at_price p ≤ count * p.amount
   price_most p = omega (arith, price_counts p, mul-le-mul_right p.amount (enough p.moment))
 
-  abbrev costs : List Charge → ℕ → ℕ
+  abbrev pub costs : List Charge → ℕ → ℕ
   costs prices i = cond (set i) (cost_of prices (row_at rows i)) 0
 
-  costs_by_prices : (prices : List Charge) → sum_below (length rows) (costs prices) ≡ sum_by at_price prices
+  pub costs_by_prices : (prices : List Charge) → sum_below (length rows) (costs prices) ≡ sum_by at_price prices
   costs_by_prices prices =
       let same = sum_below-same (length rows) (costs prices) (λ i. sum_by (λ p. cond (runs rows set p.moment i) p.amount 0) prices) (λ i h. cost_by_prices rows set prices i (set i) refl) in
       let swapped = sum_below-sum_by (length rows) (λ i p. cond (runs rows set p.moment i) p.amount 0) prices in

@@ -6,3 +6,5 @@ pub mod Tight
 pub mod Choices
 pub mod Amending
 pub mod Proved
+pub mod Capacity
+pub mod Earnings

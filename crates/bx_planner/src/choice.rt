@@ -1,15 +1,21 @@
 //! The best choice of bookings.
 
-ghost use Rattle.std.specs.Prelude.{◌≡◌, ◌≤◌, ◌<◌, ℕ, IfOk, length};
+ghost use Rattle.std.specs.Prelude.{◌≡◌, ◌≤◌, ◌<◌, ◌-◌, ◌≤ℤ◌, neg_ℤ, pos, ℕ, IfOk, length};
 ghost use Rattle.bx_base.specs.Bookings.{AreBookings, pay_of};
 ghost use Rattle.bx_colour.specs.Colouring.{is_in};
+ghost use Rattle.bx_dist.specs.Residual.{height_at};
+ghost use Rattle.bx_dist.specs.Walks.{AreLeast};
+ghost use Rattle.bx_dist.specs.declared.part.Part.TheVariants.{Free};
+ghost use Rattle.bx_flow.specs.Costs.{IsLeastCost, free_pays};
 ghost use Rattle.bx_line.specs.Flows.{is_carried};
+ghost use Rattle.bx_line.specs.Moments.{HasJustMoments};
+ghost use Rattle.bx_line.specs.Network.{AreArcsOf, places_of};
 ghost use Rattle.bx_planner.specs.Musts.{musts_at};
 ghost use Rattle.bx_planner.specs.Inside.{IsBestChoice};
 
 use crate::prices::prices_of;
 use bx_base::{Bookings, Price};
-use bx_dist::Carried;
+use bx_dist::{Carried, Potentials};
 use bx_flow::least_cost;
 use bx_heap::HeapDist;
 use bx_line::Line;
@@ -30,9 +36,35 @@ pub(crate) fn best_choice(
     // Read for the prover alone, which learns a limit from it.
     let _rows = bookings.len();
     let line = Line::of(alloc, bookings)?;
-    let (carried, potentials) = least_cost(alloc, &line, count, &HeapDist)?;
-    let accepted = marks_of(alloc, &carried, bookings.len())?;
-    let prices = prices_of(alloc, &line, &potentials)?;
+    let (carried, lengths) = least_cost(alloc, &line, count, &HeapDist)?;
+    choice_of(alloc, bookings, &line, &carried, &lengths, count)
+}
+
+/// The rows that carry a unit in a flow of least cost along the line of the bookings, of so many units, and the prices
+/// from the distances that it leaves to the free bookings.
+pub(crate) fn choice_of(
+    alloc: Global,
+    bookings: &Bookings,
+    line: &Line,
+    carried: &Carried,
+    lengths: &Potentials,
+    count: u8,
+) -> Result<(Vec<bool>, Vec<Price>), AllocError>
+    requires room { (s : ℕ) → musts_at bookings.now s ≤ count }
+    requires moments { HasJustMoments bookings.now line.now.moments }
+    requires arcs { AreArcsOf line.now.moments bookings.now line.now.arcs }
+    requires units { 0 < places_of line.now → carried.now.units ≡ count }
+    requires least { IsLeastCost line.now carried.now }
+    requires distances { AreLeast Free line.now carried.now lengths.now }
+    requires depth { 0 < places_of line.now → neg_ℤ (pos (free_pays line.now)) ≤ℤ height_at lengths.now (places_of line.now - 1) }
+    ensures best { IfOk result (λ r. IsBestChoice bookings.now count r.0.items r.1.items) }
+    ensures bookings { AreBookings bookings.now }
+{
+    // Read for the prover alone, which learns limits from it.
+    let _rows = bookings.len();
+    let _places = line.places();
+    let accepted = marks_of(alloc, carried, bookings.len())?;
+    let prices = prices_of(alloc, line, lengths)?;
     Ok((accepted, prices))
 }
 

@@ -5,7 +5,7 @@ ghost use Rattle.bx_base.specs.Bookings.{IsBooking, row_at};
 ghost use Rattle.bx_planner.specs.Amending.{promised, amended};
 
 use bx_base::{Booking, Bookings};
-use bx_numbers::Channel;
+use bx_channels::Channel;
 use std::alloc::{AllocError, Global};
 use std::marker::Model;
 

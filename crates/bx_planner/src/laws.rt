@@ -7,6 +7,7 @@ ghost use Rattle.bx_base.specs.Channels.{count_of};
 ghost use Rattle.bx_base.specs.PlanParts.{Parts};
 ghost use Rattle.bx_base.specs.Plans.{is_accepted, channel_at};
 ghost use Rattle.bx_check.specs.Check.{IsOutcome};
+ghost use Rattle.bx_planner.specs.Capacity.{AreGainsNeverRising, IsPriceOfChannel};
 ghost use Rattle.bx_planner.specs.Choices.{ProvesBest, planned};
 ghost use Rattle.bx_planner.specs.LeastProofs.{ArePricesUnique};
 ghost use Rattle.bx_planner.specs.Tight.{AreProofsTight};
@@ -28,4 +29,17 @@ pub fn same_prices()
 /// at least its pay.
 pub fn proofs_are_tight()
     ensures { AreProofsTight }
+{}
+
+/// What one more channel would add is the whole sum of the least prices: for all bookings, whatever their channels and how
+/// many there are, the most that a lawful set pays on one channel more, over all sets, is what a set pays whose least proof
+/// these prices are, and their sum.
+pub fn price_of_a_channel()
+    ensures { IsPriceOfChannel }
+{}
+
+/// Gains never rise with the channels: for all bookings, what the second of two more channels adds to the most that a lawful set
+/// pays is no more than what the first of them adds.
+pub fn gains_never_rise()
+    ensures { AreGainsNeverRising }
 {}

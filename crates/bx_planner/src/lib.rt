@@ -4,10 +4,12 @@
 mod amending;
 mod choice;
 mod demand;
+mod earnings;
 pub mod laws;
 mod musts;
 mod planning;
 mod prices;
 
 pub use amending::{AmendFail, amend};
+pub use earnings::{Earning, capacity, next_gain};
 pub use planning::{PlanFail, plan};

@@ -1,7 +1,8 @@
 //! Moments at which more bookings have to be held than there are channels.
 
 ghost use Rattle.std.specs.Prelude.{◌≡◌, ◌↔◌, ℕ, Some};
-ghost use Rattle.bx_planner.specs.Musts.{IsTooManyMust};
+ghost use Rattle.bx_colour.specs.Loads.{load_at};
+ghost use Rattle.bx_planner.specs.Musts.{musts_at, IsTooManyMust};
 
 use crate::demand::Demand;
 use bx_base::ChannelSet;
@@ -12,6 +13,13 @@ use bx_colour::Load;
 pub(crate) fn too_many_must(demand: &Demand<'_>, channels: ChannelSet) -> Option<u32>
     ensures { (t : ℕ) → (result ≡ Some t) ↔ IsTooManyMust demand.now channels t }
 {
+    must_load(demand).first_above(channels.count())
+}
+
+/// How many bookings run at each moment that each plan has to hold.
+pub(crate) fn must_load(demand: &Demand<'_>) -> Load
+    ensures { (t : ℕ) → load_at result t ≡ musts_at demand.now t }
+{
     let mut load = Load::none();
     for i in 0..demand.len() {
         let booking = demand.nth(i);
@@ -19,5 +27,5 @@ pub(crate) fn too_many_must(demand: &Demand<'_>, channels: ChannelSet) -> Option
             load.add(&booking);
         }
     }
-    load.first_above(channels.count())
+    load
 }

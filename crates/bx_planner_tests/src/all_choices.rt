@@ -1,24 +1,14 @@
 //! Plans against a search through all choices of bookings.
 
 use crate::rows::{Row, bookings_of};
-use crate::sets::{is_lawful, pay_beside, six_rows};
+use crate::sets::{best_of_all, six_rows};
 use bx_base::ChannelSet;
+use bx_cases::SHARE;
 use bx_planner::{PlanFail, plan};
 use std::alloc::Global;
 use std::test::Fail;
 
 static CHANNELS: [u8; 3] = [31, 15, 2];
-
-/// What the best of all sets pays, where some set is lawful.
-fn best_of_all(rows: &[Row], count: usize) -> Option<u64> {
-    let mut best = None;
-    for set in 0..64 {
-        if is_lawful(rows, set, count) {
-            best = best.max(Some(pay_beside(rows, set, 6)));
-        }
-    }
-    best
-}
 
 /// Whether the plan on so many channels pays what the best of all sets pays, and is refused where no set is lawful.
 fn is_best(alloc: Global, rows: &[Row], count: usize) -> Option<bool> {
@@ -33,7 +23,7 @@ fn is_best(alloc: Global, rows: &[Row], count: usize) -> Option<bool> {
 
 #[test]
 fn no_choice_pays_more(rt: HostRuntime) -> Result<(), Fail> {
-    for seed in 0..150u32 {
+    for seed in 0..150 / SHARE {
         let rows = six_rows(seed.wrapping_mul(7919), 9);
         for count in 0..3usize {
             let best = is_best(rt.alloc(), &rows, count).ok_or("memory")?;

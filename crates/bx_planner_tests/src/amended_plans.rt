@@ -3,7 +3,7 @@
 use crate::rows::{Row, bookings_of};
 use crate::worked_plans::are_prices;
 use bx_base::{Bookings, ChannelSet, Plan};
-use bx_numbers::Channel;
+use bx_channels::Channel;
 use bx_planner::{AmendFail, amend, plan};
 use std::alloc::Global;
 

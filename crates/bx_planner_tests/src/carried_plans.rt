@@ -2,7 +2,7 @@
 
 use crate::rows::bookings_of;
 use bx_base::{ChannelSet, Plan};
-use bx_numbers::Channel;
+use bx_channels::Channel;
 use std::alloc::Global;
 
 /// The ends of two bookings, their channels (0: none), and whether channels 1 and 2 carry them.

@@ -1,7 +1,7 @@
 //! Sets of channels, and what is refused as one.
 
 use bx_base::{ChannelFault, ChannelSet};
-use bx_numbers::Channel;
+use bx_channels::Channel;
 use std::alloc::Global;
 
 /// Numbers of channels with their fault, and how it is printed.

@@ -2,8 +2,8 @@
 
 use crate::rows::{Row, bookings_of};
 use bx_base::{Bookings, ChannelSet};
+use bx_channels::Channel;
 use bx_colour::{colour, fits};
-use bx_numbers::Channel;
 use std::alloc::Global;
 use std::test::Fail;
 

@@ -1,8 +1,8 @@
 //! Worked plans, with what the check says of them.
 
 use bx_base::{Booking, Bookings, ChannelSet, Plan, Price};
+use bx_channels::{Channel, Number};
 use bx_check::{CheckFault, check};
-use bx_numbers::{Channel, Number};
 use std::alloc::Global;
 use std::test::Fail;
 

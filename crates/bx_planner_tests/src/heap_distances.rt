@@ -4,6 +4,7 @@
 use crate::distances::{Asked, Looked, are, asked_of, distances_by, distances_of, grows, line_of};
 use crate::rows::{Drawn, Row, bookings_of, random_rows};
 use bx_base::{Bookings, ChannelSet, Plan};
+use bx_cases::SHARE;
 use bx_dist::{Carried, Dist, Distances, Part, Potentials, Step};
 use bx_flow::least_cost;
 use bx_heap::HeapDist;
@@ -122,7 +123,7 @@ fn chain_by_heap(alloc: Global) -> Option<Dist> {
 #[test]
 fn as_by_rounds_over_many_small_days(rt: HostRuntime) {
     let mut seed: u32 = 7;
-    for day in 0..200 {
+    for day in 0..200 / SHARE {
         let (rows, next) = random_rows::<8>(seed, &OFTEN_THE_SAME);
         assert!(rt; grows(&ByHeap, rt.alloc(), &rows, 4).is_some(), "day {day}");
         seed = next;

@@ -6,6 +6,8 @@ mod all_choices;
 #[cfg(test)]
 mod amended_plans;
 #[cfg(test)]
+mod capacities;
+#[cfg(test)]
 mod carried_plans;
 #[cfg(test)]
 mod channel_sets;

@@ -2,7 +2,7 @@
 
 use crate::rows::booking_of;
 use bx_base::Price;
-use bx_numbers::{Channel, Number};
+use bx_channels::{Channel, Number};
 
 /// Digits, and whether they are a number.
 static NUMBERS: [(&[u8], bool); 5] = [

@@ -13,7 +13,7 @@ use std::alloc::Global;
 static CHANNELS: [u8; 3] = [31, 15, 2];
 
 /// The plan, where it is proved for its own bookings.
-fn proved(plan: Plan) -> Option<Plan>
+pub(crate) fn proved(plan: Plan) -> Option<Plan>
     ensures { IfSome result (λ p. IsOutcome p.bookings p.channels (parts_of p) (Ok p.total)) }
 {
     match check(&plan.bookings, plan.channels, &plan) {

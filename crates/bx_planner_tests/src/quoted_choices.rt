@@ -6,7 +6,8 @@ use crate::sets::{
     best_sets, first_full, is_in, is_lawful, most_beside, pay_beside, power_of, six_rows,
 };
 use bx_base::Price;
-use bx_numbers::Channel;
+use bx_cases::SHARE;
+use bx_channels::Channel;
 use bx_quote::{Quote, QuoteFail, explain, quote};
 use std::alloc::Global;
 use std::test::Fail;
@@ -164,7 +165,7 @@ fn is_quoted(alloc: Global, rows: &[Row; 6], count: usize) -> bool {
 
 #[test]
 fn no_choice_contradicts_a_quote(rt: HostRuntime) -> Result<(), Fail> {
-    for seed in 0..60u32 {
+    for seed in 0..60 / SHARE {
         let rows = six_rows(seed.wrapping_mul(7919), 5);
         for count in 0..3usize {
             assert!(rt; is_quoted(rt.alloc(), &rows, count), "quote {seed} {count}");

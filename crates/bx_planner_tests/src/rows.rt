@@ -1,7 +1,7 @@
 //! Bookings of small days, by rows.
 
 use bx_base::{Booking, Bookings};
-use bx_numbers::Number;
+use bx_channels::Number;
 use std::alloc::Global;
 
 /// A start, an end, a pay, and whether each plan has to hold it.

@@ -84,6 +84,17 @@ pub(crate) fn most_beside(rows: &[Row], count: usize, index: usize, held: bool) 
     most
 }
 
+/// What the best of all sets pays, where some set is lawful.
+pub(crate) fn best_of_all(rows: &[Row], count: usize) -> Option<u64> {
+    let mut best = None;
+    for set in 0..64 {
+        if is_lawful(rows, set, count) {
+            best = best.max(Some(pay_beside(rows, set, 6)));
+        }
+    }
+    best
+}
+
 /// Whether some best lawful set has the row at this index, and whether some has it not.
 pub(crate) fn best_sets(rows: &[Row], count: usize, index: usize) -> (bool, bool) {
     let mut best = 0;
@@ -110,4 +121,10 @@ pub(crate) fn first_full(rows: &[Row], count: usize, index: usize) -> Option<u32
     let row = rows.get(index)?;
     let musts = musts_of(rows);
     (row.0..row.1).find(|moment| running_at(rows, musts, *moment) >= count)
+}
+
+/// The first moment at which more rows than there are channels have to be held.
+pub(crate) fn first_above(rows: &[Row], count: usize) -> Option<u32> {
+    let musts = musts_of(rows);
+    (0..12).find(|moment| running_at(rows, musts, *moment) > count)
 }

@@ -2,6 +2,7 @@
 
 use crate::distances::{Asked, Looked, are, distances_of, grows};
 use crate::rows::{Drawn, random_rows};
+use bx_cases::SHARE;
 use bx_dist::{Carried, Dist, Part};
 use bx_line::Line;
 use std::alloc::{AllocError, Global};
@@ -83,7 +84,7 @@ impl Looked for AsSlow {
 #[test]
 fn as_a_slow_program_over_many_small_days(rt: HostRuntime) {
     let mut seed: u32 = 1;
-    for day in 0..200 {
+    for day in 0..200 / SHARE {
         let (rows, next) = random_rows::<6>(seed, &SMALL_DAYS);
         assert!(rt; grows(&AsSlow, rt.alloc(), &rows, 3).is_some(), "day {day}");
         seed = next;

@@ -5,8 +5,8 @@ use Rattle.std.specs.Option.{IfSome}
 use Rattle.std.proofs.lemmas.List.Concat.{flat_map-append}
 use Rattle.std.proofs.lemmas.List.Elements.{All-from_recursion}
 use Rattle.std.proofs.lemmas.Bool.{le-ltb, le-leb, lt-leb, ne_eqb, cases_Bool}
-use Rattle.bx_numbers.specs.ChannelNumbers.{IsChannel}
-use Rattle.bx_numbers.specs.Numbers.{IsNumber}
+use Rattle.bx_channels.specs.ChannelNumbers.{IsChannel}
+use Rattle.bx_channels.specs.Numbers.{IsNumber}
 use Rattle.bx_q931.specs.Items.{plain_item, IsItem, item_octets}
 use Rattle.bx_q931.specs.Elements.{is_shift, elements_of}
 use Rattle.bx_q931.specs.Passing.{passed}

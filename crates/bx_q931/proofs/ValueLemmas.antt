@@ -5,7 +5,7 @@ use Rattle.std.proofs.lemmas.Bool.Decides.{Decides-and, Decides-by_and, Decides-
 use Rattle.std.specs.Bool.{Decides}
 use Rattle.std.specs.Char.{is_ascii_digit, IsAsciiDigit}
 use Rattle.std.specs.Option.{IsSome, IfSome}
-use Rattle.bx_numbers.specs.Numbers.{IsNumber}
+use Rattle.bx_channels.specs.Numbers.{IsNumber}
 use Rattle.bx_q931.specs.Elements.{PlainElement}
 use Rattle.bx_q931.specs.Values.{first_in, are_digits, is_number}
 

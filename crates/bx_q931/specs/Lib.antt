@@ -10,4 +10,3 @@ pub mod ElementViews
 pub mod Inside
 pub mod Outgoing
 pub mod Parts
-pub mod Events

@@ -3,7 +3,7 @@
 ghost use Rattle.std.specs.Prelude.{◌≡◌};
 ghost use Rattle.bx_q931.specs.Values.{channel_in, numbered, after_interface, has_bit};
 
-use bx_numbers::Channel;
+use bx_channels::Channel;
 
 /// What a message says of a B channel (ITU-T Q.931, 4.5.13).
 #[derive(Clone, Copy, Debug, PartialEq, Eq)]

@@ -2,8 +2,8 @@
 
 ghost use Rattle.std.specs.Prelude.{◌≡◌, ◌+◌, ◌≤◌, ◌<◌, length, ◌++◌, [], if◌then◌else◌, option_map, IfSome};
 ghost use Rattle.arrayvec.specs.ArrayVec.{array_vec_len};
-ghost use Rattle.bx_numbers.specs.ChannelNumbers.{IsChannel};
-ghost use Rattle.bx_numbers.specs.Numbers.{IsNumber};
+ghost use Rattle.bx_channels.specs.ChannelNumbers.{IsChannel};
+ghost use Rattle.bx_channels.specs.Numbers.{IsNumber};
 ghost use Rattle.bx_q931.specs.Messages.{message_at};
 ghost use Rattle.bx_q931.specs.Outgoing.{header_octets, bearer_contents, cause_contents, state_contents, channel_contents, called_contents, out_octets, message_of};
 ghost use Rattle.bx_q931.specs.Inside.{optional_octets};
@@ -17,7 +17,7 @@ use crate::message::{
 use crate::out::Out;
 use crate::reading::{DISCRIMINATOR, MAX_MESSAGE};
 use arrayvec::ArrayVec;
-use bx_numbers::{Channel, Number};
+use bx_channels::{Channel, Number};
 
 /// The octets of a message, without memory of their own.
 pub type Octets = ArrayVec<u8, MAX_MESSAGE>;

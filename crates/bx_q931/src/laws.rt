@@ -1,8 +1,8 @@
 //! Laws of messages: each is the contract of a function that does nothing.
 
 ghost use Rattle.std.specs.Prelude.{◌≡◌, ◌↔◌, ℕ, List, IfSome};
-ghost use Rattle.bx_numbers.specs.ChannelNumbers.{IsChannel};
-ghost use Rattle.bx_numbers.specs.Numbers.{IsNumber};
+ghost use Rattle.bx_channels.specs.ChannelNumbers.{IsChannel};
+ghost use Rattle.bx_channels.specs.Numbers.{IsNumber};
 ghost use Rattle.bx_q931.specs.Items.{PlainItem, all_items};
 ghost use Rattle.bx_q931.specs.Grammar.{AreItems};
 ghost use Rattle.bx_q931.specs.Messages.{message_at};

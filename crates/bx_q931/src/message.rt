@@ -11,7 +11,7 @@ use crate::channel_field::ChannelField;
 use crate::elements::Elements;
 use crate::kind::Kind;
 use crate::reference::Reference;
-use bx_numbers::Number;
+use bx_channels::Number;
 use std::marker::Model;
 
 /// The identifier of a bearer capability (ITU-T Q.931, 4.5.5).

@@ -5,7 +5,7 @@ ghost use Rattle.bx_q931.specs.Kinds.{IsNamed};
 ghost use Rattle.bx_q931.specs.Outgoing.{plain, IsCallReference};
 
 use crate::kind::Kind;
-use bx_numbers::{Channel, Number};
+use bx_channels::{Channel, Number};
 use std::marker::Model;
 
 /// A message to be sent: its reference and flag, its type, and the elements that were set.

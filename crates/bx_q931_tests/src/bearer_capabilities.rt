@@ -2,7 +2,7 @@
 
 use bx_calls::bearer_fault;
 use bx_q931::{cause, read};
-use bx_worked::SETUP;
+use bx_worked_messages::SETUP;
 
 const MISSING: Option<u8> = Some(cause::MANDATORY_ELEMENT_MISSING);
 

@@ -1,6 +1,6 @@
 //! Channel identifications, behind shifts too.
 
-use bx_numbers::Channel;
+use bx_channels::Channel;
 use bx_q931::{ChannelField, Octets, read};
 
 /// What a channel identification says, with the channel by its number and whether no other will do.

@@ -2,9 +2,9 @@
 
 use crate::steps::{After, Row, net_goes};
 use bx_calls::{CallState, NetCall};
-use bx_numbers::{Channel, Number};
+use bx_channels::{Channel, Number};
 use bx_q931::{Out, encode};
-use bx_worked::{
+use bx_worked_messages::{
     ALERTING_CHANNEL_1, CONNECT, CONNECT_ACKNOWLEDGE, CONNECT_CHANNEL_1, CONNECT_CHANNEL_2,
     DISCONNECT_16, FAR_DISCONNECT_16, FAR_RELEASE, FAR_STATUS_BARE, FAR_STATUS_NULL,
     PROCEEDING_CHANNEL_1, RELEASE, RELEASE_6, RELEASE_16, RELEASE_COMPLETE, RELEASE_COMPLETE_102,

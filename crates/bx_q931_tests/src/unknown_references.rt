@@ -3,7 +3,7 @@
 use crate::steps::says;
 use bx_calls::{End, refuse, unknown};
 use bx_q931::{cause, encode, read};
-use bx_worked::FAR_STATUS_BARE;
+use bx_worked_messages::FAR_STATUS_BARE;
 
 /// The end that a message comes to, the message, and what it answers.
 type Receipt = (End, &'static [u8], &'static [u8]);

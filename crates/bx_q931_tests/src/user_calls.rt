@@ -2,9 +2,9 @@
 
 use crate::steps::{After, Row, user_goes};
 use bx_calls::{CallState, UserCall};
-use bx_numbers::{Channel, Number};
+use bx_channels::{Channel, Number};
 use bx_q931::{Out, encode};
-use bx_worked::{
+use bx_worked_messages::{
     CONNECT, CONNECT_CHANNEL_2, PROCEEDING_CHANNEL_1, SETUP, USER_RELEASE_COMPLETE_102,
 };
 use std::test::Fail;

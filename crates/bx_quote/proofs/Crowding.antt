@@ -8,6 +8,7 @@ use Rattle.bx_base.specs.Channels.{count_of}
 use Rattle.bx_base.proofs.Duality.{runs, running-le-count}
 use Rattle.bx_base.proofs.SumLemmas.{sum_below-le, sum_below-same, sum_below-next}
 use Rattle.bx_planner.specs.Musts.{musts_at, IsTooManyMust}
+use Rattle.bx_planner.proofs.FewMusts.{in_set, few_musts}
 use Rattle.bx_quote.specs.Rooms.{IsNoChannel}
 use Rattle.bx_quote.specs.Weighing.{held}
 use Rattle.bx_quote.proofs.Places.{sum_split}
@@ -56,17 +57,6 @@ has_room rows channels booking none (suc n) s h r =
         | inr b ↦ absurd (none s (record { running = r; full = b; least = λ q c e. has_room rows channels booking none n q (omega arith) e }))
       ]
     ]
-
-in_set : (must holds runs_now : Bool) → (must ≡ true → holds ≡ true) → cond {A = ℕ} (must && runs_now) 1 0 ≤ cond (holds && runs_now) 1 0
-in_set false h r e = omega arith
-in_set true true r e = omega arith
-in_set true false r e = let q = e refl in absurd (cc)
-
--- where a set is lawful, no moment has more must rows than channels
-pub few_musts : (rows : List Row) (channels : List Bool) (set : ℕ → Bool) → IsLawful rows channels set → (t : ℕ) → musts_at rows t ≤ count_of channels
-few_musts rows channels set lawful t =
-    let each = sum_below-le (length rows) (λ i. cond ((row_at rows i).must && is_running (row_at rows i) t) 1 0) (λ i. cond (runs rows set t i) 1 0) (λ i h. in_set (row_at rows i).must (set i) (is_running (row_at rows i) t) (lawful.has_musts i h)) in
-    omega (arith, each, running-le-count rows channels set lawful.carried.0 lawful.carried.1 t)
 
 below_where : (b : Bool) (m n : ℕ) → m ≤ n → cond b 0 m ≤ cond b 0 n
 below_where true m n h = omega arith

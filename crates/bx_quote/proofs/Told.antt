@@ -1,6 +1,6 @@
 -- What was written of an answer.
 use Rattle.std.proofs.Common.{◌≡◌, ℕ, ◌+◌, Bool, true, false, List, [], ◌∷◌, ◌++◌, length, Result, Ok, Err, sym, ◌∙◌, ap, subst, arith, add-one, refl, not}
-use Rattle.std.specs.Prelude.{OnOk, IfErr}
+use Rattle.std.specs.Prelude.{OnOk, IfErr, ◌↔◌}
 use Rattle.std.specs.List.{flat_map}
 use Rattle.std.specs.Io.KnownBytes.{Appends}
 use Rattle.std.proofs.lemmas.Grind.{flat_map-append}
@@ -11,6 +11,8 @@ use Rattle.bx_devices.specs.Octets.{AppendsPrefix}
 use Rattle.bx_base.specs.PlanParts.{Parts}
 use Rattle.bx_base.specs.Plans.{is_accepted}
 use Rattle.bx_quote.specs.declared.answer.Quote.{Quote}
+use Rattle.bx_quote.specs.declared.answer.QuoteFail.{QuoteFail}
+use Rattle.bx_quote.specs.declared.answer.QuoteFail.TheVariants.{Accepted, Memory}
 use Rattle.bx_quote.specs.declared.writing.QuoteFault.{QuoteFault}
 use Rattle.bx_quote.specs.declared.writing.QuoteFault.TheVariants as fault
 use Rattle.bx_quote.specs.Named.{picked}
@@ -56,3 +58,32 @@ count_more plan n refused h e =
 -- one more row, which is accepted
 pub rows_same : (plan : Parts) (n : ℕ) → is_accepted plan.assigned n ≡ true → refused_rows plan (n + 1) ≡ refused_rows plan n
 rows_same plan n h = picked_same (λ j. not (is_accepted plan.assigned j)) n (refused_test plan n true h)
+
+abbrev pub Found : Type 0
+Found = Result Quote QuoteFail
+
+-- a fail of the call below is told where it is answered, and only there
+pub as_told : {X : Type 0} (fail other : QuoteFail) → (◌≡◌ {A = Found} (Err fail) (Err other)) ↔ X → (◌≡◌ {A = Put} (Err (fault.Quote fail)) (Err (fault.Quote other))) ↔ X
+as_told fail other both = (
+  λ e. let same : fail ≡ other = cc in both.0 (rw same refl),
+  λ x. let found = both.1 x in let same : fail ≡ other = cc in rw same refl,
+)
+
+no_quote : (r : Put) (fail : QuoteFail) (output : Writing) (octets : List ℕ) → IfErr r (IsWriteFault output octets) → r ≡ Err (fault.Quote fail) → ⊥
+no_quote (Ok x) fail output octets failed e = cc
+no_quote (Err fault.WriteFailed) fail output octets failed e = cc
+no_quote (Err (fault.Quote other)) fail output octets failed e = absurd failed
+
+-- no such fail is told where a quote was found, and its text was put
+pub never_told : {X : Type 0} (r : Put) (quote : Quote) (fail : QuoteFail) (output : Writing) (octets : List ℕ) → IfErr r (IsWriteFault output octets) → (◌≡◌ {A = Found} (Ok quote) (Err fail)) ↔ X → (r ≡ Err (fault.Quote fail)) ↔ X
+never_told r quote fail output octets failed both = (
+  λ e. absurd (no_quote r fail output octets failed e),
+  λ x. let found = both.1 x in absurd (let none : ⊥ = cc in none),
+)
+
+-- nor where there was no memory for it
+pub no_memory : {X : Type 0} (quote : Quote) (named : ℕ) → (◌≡◌ {A = Found} (Ok quote) (Err (Accepted named))) ↔ X → (◌≡◌ {A = Put} (Err (fault.Quote Memory)) (Err (fault.Quote (Accepted named)))) ↔ X
+no_memory quote named both = (
+  λ e. absurd (let none : ⊥ = cc in none),
+  λ x. let found = both.1 x in absurd (let none : ⊥ = cc in none),
+)

@@ -5,7 +5,7 @@ ghost use Rattle.bx_base.specs.Plans.{is_accepted};
 ghost use Rattle.bx_quote.specs.Named.{picked};
 ghost use Rattle.bx_quote.specs.Inside.{is_apart};
 
-use bx_numbers::Channel;
+use bx_channels::Channel;
 use std::alloc::{AllocError, Global};
 
 /// The names of those of so many rows, but for the one at this place, that have a channel in the one assignment and not

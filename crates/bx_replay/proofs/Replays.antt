@@ -3,7 +3,7 @@ use Rattle.std.proofs.Common.{◌≡◌, ℕ, ◌+◌, ◌<◌, List, [], ◌∷
 use Rattle.std.proofs.lemmas.List.{append-nil, take_more}
 use Rattle.bx_q931.specs.Outgoing.{Outgoing, out_octets}
 use Rattle.bx_day.specs.Day.{Day}
-use Rattle.bx_q931.specs.Events.{Event, Tick}
+use Rattle.bx_events.specs.Events.{Event, Tick}
 use Rattle.bx_day.specs.Run.{happens, day_after, sent_over}
 use Rattle.bx_calls.specs.Sending.{spelled}
 

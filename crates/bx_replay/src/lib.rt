@@ -3,4 +3,5 @@
 
 mod replaying;
 
-pub use replaying::{Event, Replayed, replay};
+pub use bx_events::Event;
+pub use replaying::{Replayed, replay};

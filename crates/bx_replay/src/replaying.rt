@@ -6,20 +6,14 @@ ghost use Rattle.bx_base.specs.Plans.{is_accepted, channel_at};
 ghost use Rattle.bx_day.specs.Day.{opening};
 ghost use Rattle.bx_day.specs.Run.{happens, day_after, sent_over};
 ghost use Rattle.bx_calls.specs.Sending.{spelled};
-ghost use Rattle.bx_replay.specs.Replaying.{event_of};
+ghost use Rattle.bx_events.specs.Told.{event_of};
 
 use arrayvec::ArrayVec;
 use bx_base::Plan;
 use bx_day::Exchange;
+use bx_events::Event;
 use bx_q931::Octets;
 use std::alloc::{AllocError, Global};
-
-/// An event of a day: a second that goes by, or octets that come.
-#[derive(Clone, Copy)]
-pub enum Event<'a> {
-    Tick,
-    Receive(&'a [u8]),
-}
 
 /// An exchange after events, and the octets of each message that it sent, in order.
 #[derive(Drop)]

@@ -54,6 +54,12 @@ pub enum FileRequest<'a> {
         plan: &'a str,
         bookings: &'a str,
     },
+    /// Print what 0 to 30 channels would earn with the bookings in this file.
+    Capacity {
+        date: &'a str,
+        zone: &'a str,
+        bookings: &'a str,
+    },
     /// Print what each row that a plan refuses pays, and what its seconds cost; or what one row has to pay to be taken.
     Explain {
         plan: &'a str,

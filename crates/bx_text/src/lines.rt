@@ -8,7 +8,7 @@ ghost use Rattle.bx_text.specs.Inside.{member_text};
 
 use arrayvec::ArrayVec;
 use bx_base::ChannelSet;
-use bx_numbers::Channel;
+use bx_channels::Channel;
 use itoa::Buffer;
 
 /// A line, or its front: no line is as long.

@@ -5,7 +5,7 @@ use Rattle.std.specs.Io.KnownBytes.{Appends}
 use Rattle.std.proofs.KnownBytes.{Appends-nil, Appends-trans}
 use Rattle.bx_devices.specs.declared.watched.Watched.{Watched}
 use Rattle.bx_devices.specs.Watching.{device_of, is_faulted, reads_of}
-use Rattle.bx_q931.specs.Events.{Event}
+use Rattle.bx_events.specs.Events.{Event}
 use Rattle.bx_turns.specs.Courses.{after, told}
 use Rattle.bx_frames.specs.Reading.{IsRead}
 use Rattle.bx_turns.specs.Talks.{Talk, with_events, stop}

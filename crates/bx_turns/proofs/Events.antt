@@ -1,6 +1,6 @@
 -- Events one after another.
 use Rattle.std.proofs.Common.{◌≡◌, ℕ, ◌+◌, Bool, true, false, List, [], ◌∷◌, ◌++◌, refl, sym, ap, ◌∙◌, append_assoc, arith}
-use Rattle.bx_q931.specs.Events.{Event, Tick, Receive}
+use Rattle.bx_events.specs.Events.{Event, Tick, Receive}
 use Rattle.bx_turns.specs.Courses.{after, told, ticks_of, ticks_last}
 
 module _ {D : Type 0} (next : D → Event → D) where

@@ -6,7 +6,7 @@ use Rattle.arrayvec.specs.ArrayVec.{ArrayVec}
 use Rattle.bx_devices.specs.declared.watched.Watched.{Watched}
 use Rattle.bx_devices.specs.Watching.{device_of, is_faulted}
 use Rattle.bx_devices.specs.declared.octets.WriteFailed.{WriteFailed}
-use Rattle.bx_q931.specs.Events.{Event, Receive}
+use Rattle.bx_events.specs.Events.{Event, Receive}
 use Rattle.bx_turns.specs.Courses.{told, ticks_of}
 use Rattle.bx_frames.specs.Frames.{Found, frame_in}
 use Rattle.bx_turns.specs.Talks.{Talk, stop, with_events, turn_in}

@@ -2,7 +2,7 @@
 use Rattle.std.proofs.Common.{◌≡◌, ◌≢◌, ℕ, ◌-◌, ◌<◌, zero, suc, List, [], ◌∷◌, ◌++◌, refl, sym, ap, ◌∙◌, append_assoc, Result, Ok, Err, arith, Bool, true, false, if◌then◌else◌, ◌==◌}
 use Rattle.std.proofs.lemmas.Bool.Decides.{nat_tests}
 use Rattle.arrayvec.specs.ArrayVec.{ArrayVec}
-use Rattle.bx_q931.specs.Events.{Receive}
+use Rattle.bx_events.specs.Events.{Receive}
 use Rattle.bx_frames.specs.Frames.{frame_in}
 use Rattle.bx_turns.specs.Talks.{Talk, stop, with_events, turn_by, turn_from, turn_in}
 use Rattle.bx_frames.specs.declared.fault.LinkFault.{LinkFault}

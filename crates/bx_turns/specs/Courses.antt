@@ -1,7 +1,7 @@
 -- A day of either end over events, by what an event makes of it, and by what is written for it.
 use Rattle.std.specs.Prelude.{ℕ, suc, Bool, true, false, List, [], ◌∷◌, ◌++◌, Option, Some, None}
 use Rattle.arrayvec.specs.ArrayVec.{ArrayVec}
-use Rattle.bx_q931.specs.Events.{Event, Tick, Receive}
+use Rattle.bx_events.specs.Events.{Event, Tick, Receive}
 use Rattle.bx_frames.specs.Frames.{frame_with}
 
 -- ---- replies

@@ -3,7 +3,7 @@ use Rattle.std.specs.Prelude.{◌≡◌, ℕ, ◌≤◌, ◌<◌, Bool, true, fa
 use Rattle.std.specs.Io.KnownBytes.{Appends}
 use Rattle.bx_devices.specs.declared.watched.Watched.{Watched}
 use Rattle.bx_devices.specs.Watching.{device_of, is_faulted, reads_of}
-use Rattle.bx_q931.specs.Events.{Event}
+use Rattle.bx_events.specs.Events.{Event}
 use Rattle.bx_turns.specs.Courses.{after, told, ticks_of, ticks_last}
 use Rattle.bx_turns.specs.Talks.{Talk}
 use Rattle.bx_frames.specs.Frames.{is_far}

@@ -1,6 +1,6 @@
 -- What an end hears in the octets that come.
 use Rattle.std.specs.Prelude.{ℕ, zero, suc, ◌==◌, Bool, true, false, List, [], ◌∷◌, ◌++◌, if◌then◌else◌, Result, Ok, Err}
-use Rattle.bx_q931.specs.Events.{Event, Receive}
+use Rattle.bx_events.specs.Events.{Event, Receive}
 use Rattle.bx_frames.specs.Frames.{Found, frame_in}
 use Rattle.bx_frames.specs.declared.fault.LinkFault.{LinkFault}
 use Rattle.bx_frames.specs.declared.fault.LinkFault.TheVariants.{MoreThan64Messages, WrongMoment}

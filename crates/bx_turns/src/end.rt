@@ -3,7 +3,7 @@
 ghost use Rattle.std.specs.Prelude.{◌≡◌, ◌≤◌, ◌++◌, ◌∷◌, [], ℕ, List, true, false};
 ghost use Rattle.std.specs.List.{flat_map};
 ghost use Rattle.arrayvec.specs.ArrayVec.{ArrayVec};
-ghost use Rattle.bx_q931.specs.Events.{Event, Tick, Receive};
+ghost use Rattle.bx_events.specs.Events.{Event, Tick, Receive};
 ghost use Rattle.bx_frames.specs.Frames.{frame_with, turn_frame};
 ghost use Rattle.bx_turns.specs.Courses.{reply_frame, reply_messages};
 

@@ -2,7 +2,7 @@
 
 ghost use Rattle.std.specs.Prelude.{◌≡◌, ◌++◌, ◌∷◌, [], Ok, false, true};
 ghost use Rattle.std.specs.List.{flat_map};
-ghost use Rattle.bx_q931.specs.Events.{Tick, Receive};
+ghost use Rattle.bx_events.specs.Events.{Tick, Receive};
 ghost use Rattle.bx_frames.specs.Frames.{frame_with, turn_frame, is_far};
 ghost use Rattle.bx_turns.specs.Heard.{Went, no_tick};
 ghost use Rattle.bx_frames.specs.Writing.{Sends};

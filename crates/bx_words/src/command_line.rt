@@ -7,7 +7,7 @@ use crate::arguments::{
 use clap::Command;
 use std::alloc::{AllocError, Global};
 
-const VERSION: &str = "0.1.0";
+const VERSION: &str = "0.2.0";
 
 const ABOUT: &str =
     "Booked calls on one ISDN primary rate interface: plans that are proved best, and days that set up and clear their calls by Q.931 messages.
@@ -22,6 +22,7 @@ const AFTER: &str = "Examples:
   bx check --date 2026-03-29 --zone CET-1CEST,M3.5.0,M10.5.0/3 day.csv plan.txt
   bx < plan.txt
   bx amend --date 2026-03-29 --zone CET-1CEST,M3.5.0,M10.5.0/3 plan.txt more.csv > amended.txt
+  bx capacity --date 2026-03-29 --zone CET-1CEST,M3.5.0,M10.5.0/3 day.csv
   bx explain plan.txt 2
   bx quote plan.txt 28800 30600
   bx chart plan.txt > plan.svg
@@ -39,7 +40,7 @@ struct Words {
     arguments: &'static [Argument],
 }
 
-static COMMANDS: [Words; 10] = [
+static COMMANDS: [Words; 11] = [
     Words {
         name: "plan",
         about: "Print the best plan of a day's bookings",
@@ -54,6 +55,11 @@ static COMMANDS: [Words; 10] = [
         name: "amend",
         about: "Print the best plan that holds all that a plan accepts, for its bookings and more of the day",
         arguments: &[DATE, ZONE, PLAN, BOOKINGS],
+    },
+    Words {
+        name: "capacity",
+        about: "Print what 0 to 30 channels would earn with a day's bookings, and what one more would add to each",
+        arguments: &[DATE, ZONE, BOOKINGS],
     },
     Words {
         name: "explain",

@@ -33,7 +33,7 @@ A1 BadDate            the date is not of the form YYYY-MM-DD, or names no day
 A2 BadZone            the zone rule cannot be read
 A3 OutOfRange         the day is outside the calendar's range
 A4 OddDay             the day is not 1 to 200,000 seconds long
-A5 BeyondCapture      a capture cannot name the seconds of the day: they are before 1970, or behind 2106-02-07T06:28:15Z
+A5 BeyondCapture      a capture cannot name the seconds of the day: it begins before 1970, or after 2106-02-03T19:08:15Z
 B1 BadHeader          the first record of the bookings is none of the headers
 B2 WrongColumns r     row r has another number of fields than the header
 B3 NotATime r         a field of row r is not a time

@@ -131,6 +131,11 @@ fn file_request<'a>(
             plan: word(matches, "plan"),
             bookings: word(matches, "bookings"),
         })),
+        "capacity" => Ok(Some(FileRequest::Capacity {
+            date: word(matches, "date"),
+            zone: word(matches, "zone"),
+            bookings: word(matches, "bookings"),
+        })),
         "explain" => Ok(Some(FileRequest::Explain {
             plan: word(matches, "plan"),
             row: matches.get_one::<u16>("row"),

@@ -1,9 +1,9 @@
 //! Exchanges and far ends at the opening of their days.
 
 use bx_base::{Booking, Bookings, ChannelSet, Plan};
+use bx_channels::{Channel, Number};
 use bx_day::Exchange;
 use bx_far::{Far, Script};
-use bx_numbers::{Channel, Number};
 use std::alloc::Global;
 
 /// A booking by its start and its end in seconds, its channel (0: refused) and whether it is inward.

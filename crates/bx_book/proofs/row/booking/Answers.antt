@@ -1,5 +1,5 @@
 use Rattle.std.proofs.Common.{rules, refl, sym, subst, ◌≡◌, ℕ, List}
-use Rattle.bx_numbers.specs.Numbers.{IsNumber}
+use Rattle.bx_channels.specs.Numbers.{IsNumber}
 use Rattle.bx_book.specs.Rows.{Span, IsMomentOf}
 use Rattle.bx_book.proofs.row.booking.Goals as goal
 

@@ -1,12 +1,7 @@
-use Rattle.std.proofs.Common.{arith, rules}
-use Rattle.std.proofs.lemmas.Grind.{common_steps}
+use Rattle.std.proofs.Common.{sym, ap, ◌∙◌}
+use Rattle.bx_day.specs.Ticks.{second_by}
 use Rattle.bx_day.proofs.moving.second.Goals as goal
 
-pub returns-in-Unoffered : goal.returns-in-Unoffered
-returns-in-Unoffered c = grind (arith, common_steps) steps 60000
-
-pub returns-in-OnCall : goal.returns-in-OnCall
-returns-in-OnCall c = grind (arith, common_steps) steps 60000
-
-pub returns-in_default : goal.returns-in_default
-returns-in_default c = search rules steps 400000
+pub returns-in-Down : goal.returns-in-Down
+returns-in-Down c latest timed room =
+    c.unlinked.ensures latest timed room ∙ ap (λ link. second_by link c.args.entry.now c.args.moment c.args.free c.args.entry.now.standing) (sym c.in-Down.is)

@@ -1,5 +1,5 @@
 use Rattle.std.proofs.Common.{◌≡◌, List, map, sym, ap, ap₂, ◌∙◌, arith, refl}
-use Rattle.bx_day.specs.Ticks.{after_second}
+use Rattle.bx_day.specs.Ticks.{after_in}
 use Rattle.bx_day.specs.Slots.{slot_at}
 use Rattle.bx_day.specs.SlotSteps.{follower, live_of, waiting_of}
 use Rattle.bx_day.specs.declared.entry.Entry.{Entry}
@@ -9,7 +9,7 @@ use Rattle.bx_day.proofs.settling.settle.Goals as goal
 pub loop-number-init : goal.loop-number-init
 loop-number-init c = record {
   left = record { live_size = c.told-live; waiting_size = c.told-waiting; live = λ k le. refl; waiting = λ k le. refl };
-  settled = λ d is. none_settled d c.args.live.now c.args.waiting.now c.args.behind.now;
+  settled = λ link d is. none_settled link d c.args.live.now c.args.waiting.now c.args.behind.now;
 }
 
 pub follower-second-requires : goal.follower-second-requires
@@ -42,12 +42,12 @@ loop-number-preserved c =
     let second : c.follower-second.result ≡ follower behind w = c.follower-second.ensures ∙ ap (follower behind) waiting in
     record {
       left = one_less n c.args.live.now c.args.waiting.now c.loop-number.live c.loop-number.waiting c.live_of.result c.waiting_of.result left;
-      settled = λ d is.
-          one_settled d n c.args.live.now c.args.waiting.now behind c.loop-number.live c.loop-number.waiting c.live_of.result c.waiting_of.result (omega (arith, c.loop-number-test.true, c.told-live)) (omega (arith, c.loop-number-test.true, c.told-waiting))
-          (c.live_of.ensures ∙ ap (λ (es : List Entry). live_of es (slot_at c.loop-number.live n) (slot_at c.loop-number.waiting n) c.follower-second.result) is ∙ ap₂ (λ x y. live_of (map (after_second d) d.entries) x y c.follower-second.result) live waiting ∙ ap (live_of (map (after_second d) d.entries) a w) second)
-          (c.waiting_of.ensures ∙ ap (λ (es : List Entry). waiting_of es behind (slot_at c.loop-number.waiting n) c.follower-second.result) is ∙ ap₂ (waiting_of (map (after_second d) d.entries) behind) waiting second)
-          (c.loop-number.invariant.settled d is);
+      settled = λ link d is.
+          one_settled link d n c.args.live.now c.args.waiting.now behind c.loop-number.live c.loop-number.waiting c.live_of.result c.waiting_of.result (omega (arith, c.loop-number-test.true, c.told-live)) (omega (arith, c.loop-number-test.true, c.told-waiting))
+          (c.live_of.ensures ∙ ap (λ (es : List Entry). live_of es (slot_at c.loop-number.live n) (slot_at c.loop-number.waiting n) c.follower-second.result) is ∙ ap₂ (λ x y. live_of (map (after_in link d) d.entries) x y c.follower-second.result) live waiting ∙ ap (live_of (map (after_in link d) d.entries) a w) second)
+          (c.waiting_of.ensures ∙ ap (λ (es : List Entry). waiting_of es behind (slot_at c.loop-number.waiting n) c.follower-second.result) is ∙ ap₂ (waiting_of (map (after_in link d) d.entries) behind) waiting second)
+          (c.loop-number.invariant.settled link d is);
     }
 
 pub returns : goal.returns
-returns c d h early is s = all_settled d c.loop-number.number c.args.live.now c.args.waiting.now c.args.behind.now c.loop-number.live c.loop-number.waiting h (omega (arith, c.loop-number-test.false)) s (c.loop-number.invariant.settled d is)
+returns c link d h early is s = all_settled link d c.loop-number.number c.args.live.now c.args.waiting.now c.args.behind.now c.loop-number.live c.loop-number.waiting h (omega (arith, c.loop-number-test.false)) s (c.loop-number.invariant.settled link d is)

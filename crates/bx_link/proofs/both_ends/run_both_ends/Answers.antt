@@ -1,5 +1,5 @@
 use Rattle.std.proofs.Common.{◌≡◌, ◌+◌, ◌-◌, suc, true, false, [], ◌∷◌, ◌++◌, refl, arith, inl, inr}
-use Rattle.bx_q931.specs.Events.{Tick}
+use Rattle.bx_events.specs.Events.{Tick}
 use Rattle.bx_frames.specs.declared.fault.LinkFault.TheVariants.{Closed}
 use Rattle.bx_turns.proofs.Events.{ticks_more}
 use Rattle.bx_link.proofs.BothEnds.{stands_so, call_over, call_stands, call_failed, near_ended, waits_now, not_opened, was_opened}

@@ -1,5 +1,5 @@
 use Rattle.std.proofs.Common.{List, ◌≡◌, ◌-◌, ◌≤◌, false}
-use Rattle.bx_q931.specs.Events.{Event}
+use Rattle.bx_events.specs.Events.{Event}
 use Rattle.bx_link.specs.Sessions.{is_turn_open, is_closed}
 use Rattle.bx_link.proofs.BothEnds.{FarStands}
 use Rattle.bx_link.proofs.ExchangeTurns.{KeptSoFar}

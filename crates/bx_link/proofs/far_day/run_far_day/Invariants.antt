@@ -1,5 +1,5 @@
 use Rattle.std.proofs.Common.{◌≡◌, ◌≤◌, false, List}
-use Rattle.bx_q931.specs.Events.{Event}
+use Rattle.bx_events.specs.Events.{Event}
 use Rattle.bx_link.specs.Sessions.{is_far_over}
 use Rattle.bx_link.proofs.FarTurns.{KeptFarSoFar}
 use Rattle.bx_link.proofs.far_day.run_far_day.Given as goal

@@ -1,5 +1,5 @@
 use Rattle.std.proofs.Common.{ℕ, true, false, [], ◌∷◌, subst}
-use Rattle.bx_q931.specs.Events.{Tick}
+use Rattle.bx_events.specs.Events.{Tick}
 use Rattle.bx_far.specs.Course.{far_next, far_text}
 use Rattle.bx_turns.specs.Heard.{Went, no_tick}
 use Rattle.bx_turns.specs.Talks.{turn_in}

@@ -1,6 +1,6 @@
 use Rattle.std.proofs.Common.{◌≡◌, ℕ, ◌<◌, take, Some, None, get_or}
 use Rattle.std.specs.List.{flat_map}
-use Rattle.bx_numbers.specs.ChannelNumbers.{IsChannel}
+use Rattle.bx_channels.specs.ChannelNumbers.{IsChannel}
 use Rattle.bx_planfile.specs.declared.version.Version.TheVariants.{Three}
 use Rattle.bx_text.specs.Lines.{line_text}
 use Rattle.bx_planfile.specs.Text.{booking_lines}

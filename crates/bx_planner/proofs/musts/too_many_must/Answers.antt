@@ -1,35 +1,10 @@
-use Rattle.std.proofs.Common.{◌≡◌, ℕ, true, false, ◌∙◌, sym, arith, length, Bool}
-use Rattle.bx_base.specs.Bookings.{row_at}
-use Rattle.bx_colour.specs.Loads.{load_at}
-use Rattle.bx_colour.proofs.LoadLemmas.{add_marked}
-use Rattle.bx_planner.specs.Musts.{musts_at}
+use Rattle.std.proofs.Common.{arith}
 use Rattle.bx_planner.proofs.musts.too_many_must.Goals as goal
-use Rattle.bx_planner.proofs.musts.too_many_must.Goals.{then-is_must, else-is_must}
-
-pub loop-i-preserved : goal.loop-i-preserved
-loop-i-preserved c =
-    let rows = c.args.demand.now in
-    let marked : ℕ → Bool = (λ j. (row_at rows j).must) in
-    let i = c.loop-i.i in
-    let here = c.nth-booking.ensures in
-    elim c.if-is_must.branch [
-      | then-is_must w ↦ record {
-        each = λ t. rw w.load-is (add_marked rows marked i t true (load_at c.loop-i.load t) (load_at w.add.new.self t) (rw here at (sym c.is_must.ensures ∙ w.if-is_must.true)) (c.loop-i.invariant.each t) (rw here at (w.add.ensures.each t)));
-        few = rw w.load-is (omega (arith, w.add.ensures.size, c.loop-i.invariant.few));
-      }
-      | else-is_must w ↦ record {
-        each = λ t. rw w.load-is (add_marked rows marked i t false (load_at c.loop-i.load t) (load_at c.loop-i.load t) (rw here at (sym c.is_must.ensures ∙ w.if-is_must.false)) (c.loop-i.invariant.each t) (omega arith));
-        few = rw w.load-is (omega (arith, c.loop-i.invariant.few));
-      }
-    ]
 
 pub returns : goal.returns
 returns c =
-    let rows = c.args.demand.now in
-    let load = c.loop-i.load in
-    let whole : c.loop-i.i ≡ length rows = omega (arith, c.loop-i-test.false, c.loop-i.auto.i-end, c.len-i-end.ensures.count) in
-    let all : (m : ℕ) → load_at load m ≡ musts_at rows m = (λ m. rw whole at (c.loop-i.invariant.each m)) in
     let count = c.count.ensures.value in
+    let all = c.must_load.ensures in
     λ t. (
       λ e. let found = (c.first_above.ensures.first t).0 e in record { here = omega (arith, found.0, all t, count); least = λ s h. omega (arith, found.1 s h, all s, count) },
       λ h. (c.first_above.ensures.first t).1 (omega (arith, h.here, all t, count), λ s b. omega (arith, h.least s b, all s, count)),

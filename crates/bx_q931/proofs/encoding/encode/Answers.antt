@@ -1,6 +1,6 @@
 use Rattle.std.proofs.Common.{◌≡◌, ◌≤◌, ◌∙◌, sym, ap, subst, rules, IfSome, length}
-use Rattle.bx_numbers.specs.ChannelNumbers.{IsChannel}
-use Rattle.bx_numbers.specs.Numbers.{IsNumber}
+use Rattle.bx_channels.specs.ChannelNumbers.{IsChannel}
+use Rattle.bx_channels.specs.Numbers.{IsNumber}
 use Rattle.bx_q931.specs.Messages.{message_at}
 use Rattle.bx_q931.specs.Outgoing.{Outgoing, IsOutgoing, out_octets}
 use Rattle.bx_q931.proofs.PartsLemmas.{written_again, has_parts, few_octets}

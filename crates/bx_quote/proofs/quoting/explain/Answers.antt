@@ -4,7 +4,8 @@ use Rattle.bx_quote.specs.Rooms.{IsNoChannel}
 use Rattle.bx_base.specs.PlanParts.{parts_of}
 use Rattle.bx_base.specs.Plans.{is_accepted}
 use Rattle.bx_check.proofs.Sound.{sound-lawful_itself}
-use Rattle.bx_quote.proofs.Crowding.{few_musts, never_taken}
+use Rattle.bx_planner.proofs.FewMusts.{few_musts}
+use Rattle.bx_quote.proofs.Crowding.{never_taken}
 use Rattle.bx_quote.proofs.Settling.{is_free}
 use Rattle.bx_quote.proofs.quoting.explain.Goals as goal
 

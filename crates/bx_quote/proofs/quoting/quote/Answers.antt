@@ -2,7 +2,8 @@ use Rattle.std.proofs.Common.{◌≡◌, ◌∙◌, ℕ, Some, ap, arith, rules,
 use Rattle.bx_base.specs.PlanParts.{parts_of}
 use Rattle.bx_base.specs.Plans.{is_accepted}
 use Rattle.bx_check.proofs.Sound.{sound-lawful_itself}
-use Rattle.bx_quote.proofs.Crowding.{few_musts, never_taken}
+use Rattle.bx_planner.proofs.FewMusts.{few_musts}
+use Rattle.bx_quote.proofs.Crowding.{never_taken}
 use Rattle.bx_quote.proofs.Settling.{settle_asked, row_last, musts_asked}
 use Rattle.bx_quote.specs.Quotes.{asked}
 use Rattle.bx_base.specs.Bookings.{Row, is_running}

@@ -4,7 +4,8 @@ use Rattle.bx_devices.specs.Devices.{writing_of}
 use Rattle.bx_base.specs.PlanParts.{parts_of}
 use Rattle.bx_quote.specs.Texts.{explained_text}
 use Rattle.bx_quote.specs.Writing.{IsExplainRefusal}
-use Rattle.bx_quote.proofs.Told.{told, not_written}
+use Rattle.bx_quote.specs.declared.answer.QuoteFail.TheVariants.{Accepted}
+use Rattle.bx_quote.proofs.Told.{told, not_written, as_told, never_told, no_memory}
 use Rattle.bx_quote.proofs.writing.write_explained.Goals as goal
 
 pub returns-in-Ok-explained_text-clause-told : goal.returns-in-Ok-explained_text-clause-told
@@ -22,3 +23,12 @@ returns-in-Ok-explained_text-clause-refused g c =
     let output = writing_of g.W.Write.contents c.args.output.now c.put.new.output in
     let pay : c.pay.result ≡ (row_at plan.rows (row - 1)).pay = c.pay.ensures.value ∙ ap (λ (r : Row). r.pay) c.in-Some.ensures.value in
     not_written c.put.result (IsExplainRefusal plan row output) output c.deref.result.now (explained_text row (row_at plan.rows (row - 1)).pay c.in-Ok.quote) (c.deref.ensures.value ∙ (c.in-Ok-explained_text.ensures ∙ ap (λ (n : ℕ). explained_text row n c.in-Ok.quote) pay)) (λ f p. (f, record { quote = c.in-Ok.quote; is = c.in-Ok.ensures.explained; written = p })) c.put.ensures.fault
+
+pub returns-in-Err-clause-accepted : goal.returns-in-Err-clause-accepted
+returns-in-Err-clause-accepted g c = λ named. as_told c.in-Err.fail (Accepted named) (c.in-Err.ensures.accepted named)
+
+pub returns-in-Ok-explained_text-clause-accepted : goal.returns-in-Ok-explained_text-clause-accepted
+returns-in-Ok-explained_text-clause-accepted g c = λ named. never_told c.put.result c.in-Ok.quote (Accepted named) (writing_of g.W.Write.contents c.args.output.now c.put.new.output) c.deref.result.now c.put.ensures.fault (c.in-Ok.ensures.accepted named)
+
+pub returns-clause-accepted : goal.returns-clause-accepted
+returns-clause-accepted g c = λ named. no_memory c.in-Ok.quote named (c.in-Ok.ensures.accepted named)

@@ -1,9 +1,9 @@
 use Rattle.std.proofs.Common.{◌≡◌, ◌<◌, length, map, get_or, arith}
 use Rattle.std.proofs.lemmas.List.{get_or-map, length-map}
 use Rattle.bx_day.specs.Day.{opening}
-use Rattle.bx_q931.specs.Events.{Tick}
-use Rattle.bx_replay.specs.Replaying.{event_of}
-use Rattle.bx_replay.specs.declared.replaying.Event.TheVariants as rust
+use Rattle.bx_events.specs.Events.{Tick}
+use Rattle.bx_events.specs.Told.{event_of}
+use Rattle.bx_events.specs.declared.event.Event.TheVariants as rust
 use Rattle.bx_replay.proofs.Replays.{next_day, next_sent}
 use Rattle.bx_replay.proofs.replaying.replay.Goals as goal
 

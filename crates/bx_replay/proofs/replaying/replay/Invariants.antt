@@ -2,7 +2,7 @@ use Rattle.std.proofs.Common.{◌≡◌, map, take}
 use Rattle.bx_day.specs.Day.{opening}
 use Rattle.bx_day.specs.Run.{day_after, sent_over}
 use Rattle.bx_calls.specs.Sending.{spelled}
-use Rattle.bx_replay.specs.Replaying.{event_of}
+use Rattle.bx_events.specs.Told.{event_of}
 use Rattle.bx_replay.proofs.replaying.replay.Given as goal
 
 abbrev pub invariant-loop-event : goal.invariant-loop-event

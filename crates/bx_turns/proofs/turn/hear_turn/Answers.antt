@@ -1,5 +1,5 @@
 use Rattle.std.proofs.Common.{◌++◌, ◌∷◌, [], ◌-◌, refl, arith}
-use Rattle.bx_q931.specs.Events.{Receive}
+use Rattle.bx_events.specs.Events.{Receive}
 use Rattle.bx_turns.specs.Talks.{turn_in}
 use Rattle.bx_turns.proofs.Composing.{nothing_yet, then_so_far}
 use Rattle.bx_turns.proofs.Hearing.{message_heard, reply_failed, ended_right, ended_wrong, day_ended, frame_fault, none_ticked, turn_went}

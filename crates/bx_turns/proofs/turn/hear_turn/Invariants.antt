@@ -1,5 +1,5 @@
 use Rattle.std.proofs.Common.{◌≡◌, ◌≤◌, List}
-use Rattle.bx_q931.specs.Events.{Event}
+use Rattle.bx_events.specs.Events.{Event}
 use Rattle.bx_turns.specs.Courses.{ticks_of}
 use Rattle.bx_turns.specs.Talks.{turn_in}
 use Rattle.bx_turns.proofs.Composing.{SoFar}

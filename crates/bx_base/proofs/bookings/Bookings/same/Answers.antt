@@ -5,7 +5,7 @@ use Rattle.std.proofs.lemmas.Bool.Decides.{Decides-eqb}
 use Rattle.std.proofs.Math.Seq.{take-append_seam}
 use Rattle.std.proofs.Math.Bool.{beq}
 use Rattle.std.specs.Bool.{Decides}
-use Rattle.bx_numbers.specs.Numbers.{padded}
+use Rattle.bx_channels.specs.Numbers.{padded}
 use Rattle.bx_base.specs.Bookings.{Row, row_of}
 use Rattle.bx_base.specs.contracts.booking.BookingPartialEq.TheImpl.{eq-value}
 use Rattle.bx_base.proofs.bookings.Bookings.same.Goals as goal

@@ -1,7 +1,7 @@
 use Rattle.std.proofs.Common.{rules, ◌≡◌, ℕ, true, false, replicate, refl, inl, inr}
 use Rattle.std.proofs.lemmas.List.{get_or-replicate, get_or_past}
 use Rattle.std.proofs.lemmas.Bool.{cases_lt}
-use Rattle.bx_numbers.specs.ChannelNumbers.{IsChannel}
+use Rattle.bx_channels.specs.ChannelNumbers.{IsChannel}
 use Rattle.bx_base.specs.Channels.{has_channel}
 use Rattle.bx_base.proofs.channel_set.ChannelSet.empty.Goals as goal
 

@@ -1,5 +1,5 @@
 use Rattle.std.proofs.Common.{◌≡◌, ◌<◌, ℕ, None}
-use Rattle.bx_numbers.specs.ChannelNumbers.{IsChannel}
+use Rattle.bx_channels.specs.ChannelNumbers.{IsChannel}
 use Rattle.bx_day.specs.Day.{index_of}
 use Rattle.bx_day.specs.Receipts.{opens}
 use Rattle.bx_day.proofs.exchange.Exchange.lowest.Given as goal

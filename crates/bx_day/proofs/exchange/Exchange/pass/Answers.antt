@@ -1,6 +1,6 @@
 use Rattle.std.proofs.Common.{◌≡◌, ◌<◌, ℕ, Option, Some, map, List, length, sym, ap, subst, ◌∙◌, refl, arith}
 use Rattle.bx_day.specs.Day.{Day}
-use Rattle.bx_day.specs.Ticks.{after_second, ticked}
+use Rattle.bx_day.specs.Ticks.{after_in, passed_in}
 use Rattle.bx_day.specs.Passing.{day_of, SaysOnEach}
 use Rattle.bx_day.specs.Reading.{IsExchange}
 use Rattle.bx_day.specs.Slots.{AreSlots, slot_at}
@@ -28,48 +28,48 @@ move_on-said-requires-clause-second c k i is =
 pub settle-requires-clause-live : goal.settle-requires-clause-live
 settle-requires-clause-live c =
     let x = c.self.inside in
-    let moved = pass_moved x.moment x.entries.items c.deref_mut.result.now c.move_on-said.new.entries x.maintenance c.move_on-said.new.maintenance c.move_on-said.result x.live x.waiting x.behind.items c.deref.result.now c.followers-second.result x.due c.blocked-blocked.result c.args.self.now c.self.invariant c.deref_mut.ensures.value c.deref.ensures.value c.self.view_is c.blocked-blocked.ensures c.followers-second.ensures c.move_on-said.ensures in
-    let size = pass_size x.moment x.entries.len x.entries.items c.deref_mut.result.now c.move_on-said.new.entries c.deref-2.result.now x.maintenance c.move_on-said.new.maintenance c.move_on-said.result c.deref_mut.ensures.value x.entries.ok.0 moved c.deref-2.ensures.value in
+    let moved = pass_moved c.args.link x.moment x.entries.items c.deref_mut.result.now c.move_on-said.new.entries x.maintenance c.move_on-said.new.maintenance c.move_on-said.result x.live x.waiting x.behind.items c.deref.result.now c.followers-second.result x.due c.blocked-blocked.result c.args.self.now c.self.invariant c.deref_mut.ensures.value c.deref.ensures.value c.self.view_is c.blocked-blocked.ensures c.followers-second.ensures c.move_on-said.ensures in
+    let size = pass_size c.args.link x.moment x.entries.len x.entries.items c.deref_mut.result.now c.move_on-said.new.entries c.deref-2.result.now x.maintenance c.move_on-said.new.maintenance c.move_on-said.result c.deref_mut.ensures.value x.entries.ok.0 moved c.deref-2.ensures.value in
     live_inside (day_of x.moment x.entries.items x.maintenance) c.deref-2.result.now x.live x.waiting x.behind.items size c.self.invariant.slots
 
 pub settle-requires-clause-waiting : goal.settle-requires-clause-waiting
 settle-requires-clause-waiting c =
     let x = c.self.inside in
-    let moved = pass_moved x.moment x.entries.items c.deref_mut.result.now c.move_on-said.new.entries x.maintenance c.move_on-said.new.maintenance c.move_on-said.result x.live x.waiting x.behind.items c.deref.result.now c.followers-second.result x.due c.blocked-blocked.result c.args.self.now c.self.invariant c.deref_mut.ensures.value c.deref.ensures.value c.self.view_is c.blocked-blocked.ensures c.followers-second.ensures c.move_on-said.ensures in
-    let size = pass_size x.moment x.entries.len x.entries.items c.deref_mut.result.now c.move_on-said.new.entries c.deref-2.result.now x.maintenance c.move_on-said.new.maintenance c.move_on-said.result c.deref_mut.ensures.value x.entries.ok.0 moved c.deref-2.ensures.value in
+    let moved = pass_moved c.args.link x.moment x.entries.items c.deref_mut.result.now c.move_on-said.new.entries x.maintenance c.move_on-said.new.maintenance c.move_on-said.result x.live x.waiting x.behind.items c.deref.result.now c.followers-second.result x.due c.blocked-blocked.result c.args.self.now c.self.invariant c.deref_mut.ensures.value c.deref.ensures.value c.self.view_is c.blocked-blocked.ensures c.followers-second.ensures c.move_on-said.ensures in
+    let size = pass_size c.args.link x.moment x.entries.len x.entries.items c.deref_mut.result.now c.move_on-said.new.entries c.deref-2.result.now x.maintenance c.move_on-said.new.maintenance c.move_on-said.result c.deref_mut.ensures.value x.entries.ok.0 moved c.deref-2.ensures.value in
     waiting_inside (day_of x.moment x.entries.items x.maintenance) c.deref-2.result.now x.live x.waiting x.behind.items size c.self.invariant.slots
 
 pub settle-requires-clause-second : goal.settle-requires-clause-second
 settle-requires-clause-second c k =
     let x = c.self.inside in
-    let moved = pass_moved x.moment x.entries.items c.deref_mut.result.now c.move_on-said.new.entries x.maintenance c.move_on-said.new.maintenance c.move_on-said.result x.live x.waiting x.behind.items c.deref.result.now c.followers-second.result x.due c.blocked-blocked.result c.args.self.now c.self.invariant c.deref_mut.ensures.value c.deref.ensures.value c.self.view_is c.blocked-blocked.ensures c.followers-second.ensures c.move_on-said.ensures in
-    let size = pass_size x.moment x.entries.len x.entries.items c.deref_mut.result.now c.move_on-said.new.entries c.deref-2.result.now x.maintenance c.move_on-said.new.maintenance c.move_on-said.result c.deref_mut.ensures.value x.entries.ok.0 moved c.deref-2.ensures.value in
+    let moved = pass_moved c.args.link x.moment x.entries.items c.deref_mut.result.now c.move_on-said.new.entries x.maintenance c.move_on-said.new.maintenance c.move_on-said.result x.live x.waiting x.behind.items c.deref.result.now c.followers-second.result x.due c.blocked-blocked.result c.args.self.now c.self.invariant c.deref_mut.ensures.value c.deref.ensures.value c.self.view_is c.blocked-blocked.ensures c.followers-second.ensures c.move_on-said.ensures in
+    let size = pass_size c.args.link x.moment x.entries.len x.entries.items c.deref_mut.result.now c.move_on-said.new.entries c.deref-2.result.now x.maintenance c.move_on-said.new.maintenance c.move_on-said.result c.deref_mut.ensures.value x.entries.ok.0 moved c.deref-2.ensures.value in
     subst (λ (b : List (Option ℕ)). IsInside c.deref-2.result.now (follower b (slot_at x.waiting k))) (sym c.deref-3.ensures.value)
     (second_inside (day_of x.moment x.entries.items x.maintenance) c.deref-2.result.now x.live x.waiting x.behind.items size c.self.invariant.exchange c.self.invariant.slots k)
 
 pub invariant_of-self : goal.invariant_of-self
 invariant_of-self c =
     let x = c.self.inside in
-    let moved = pass_moved x.moment x.entries.items c.deref_mut.result.now c.move_on-said.new.entries x.maintenance c.move_on-said.new.maintenance c.move_on-said.result x.live x.waiting x.behind.items c.deref.result.now c.followers-second.result x.due c.blocked-blocked.result c.args.self.now c.self.invariant c.deref_mut.ensures.value c.deref.ensures.value c.self.view_is c.blocked-blocked.ensures c.followers-second.ensures c.move_on-said.ensures in
+    let moved = pass_moved c.args.link x.moment x.entries.items c.deref_mut.result.now c.move_on-said.new.entries x.maintenance c.move_on-said.new.maintenance c.move_on-said.result x.live x.waiting x.behind.items c.deref.result.now c.followers-second.result x.due c.blocked-blocked.result c.args.self.now c.self.invariant c.deref_mut.ensures.value c.deref.ensures.value c.self.view_is c.blocked-blocked.ensures c.followers-second.ensures c.move_on-said.ensures in
     let early : x.moment < 300000 = subst (λ (d : Day). d.moment < 300000) (sym c.self.view_is) c.requires in
-    pass_indexed x.moment x.entries.len x.entries.items c.deref_mut.result.now c.move_on-said.new.entries c.deref-2.result.now x.maintenance c.move_on-said.new.maintenance c.move_on-said.result x.live x.waiting x.behind.items c.settle.new.live c.settle.new.waiting
+    pass_indexed c.args.link x.moment x.entries.len x.entries.items c.deref_mut.result.now c.move_on-said.new.entries c.deref-2.result.now x.maintenance c.move_on-said.new.maintenance c.move_on-said.result x.live x.waiting x.behind.items c.settle.new.live c.settle.new.waiting
     early c.self.invariant.exchange c.self.invariant.slots c.deref_mut.ensures.value x.entries.ok.0 moved c.deref-2.ensures.value
-    (subst (λ (b : List (Option ℕ)). (d : Day) → IsExchange d → d.moment < 300000 → c.deref-2.result.now ≡ map (after_second d) d.entries → AreSlots d x.live x.waiting b → AreSlots (ticked d).day c.settle.new.live c.settle.new.waiting b) c.deref-3.ensures.value c.settle.ensures)
+    (subst (λ (b : List (Option ℕ)). (d : Day) → IsExchange d → d.moment < 300000 → c.deref-2.result.now ≡ map (after_in c.args.link d) d.entries → AreSlots d x.live x.waiting b → AreSlots (passed_in c.args.link d).day c.settle.new.live c.settle.new.waiting b) c.deref-3.ensures.value (c.settle.ensures c.args.link))
 
 pub returns-clause-day : goal.returns-clause-day
 returns-clause-day c =
     let x = c.self.inside in
-    let moved = pass_moved x.moment x.entries.items c.deref_mut.result.now c.move_on-said.new.entries x.maintenance c.move_on-said.new.maintenance c.move_on-said.result x.live x.waiting x.behind.items c.deref.result.now c.followers-second.result x.due c.blocked-blocked.result c.args.self.now c.self.invariant c.deref_mut.ensures.value c.deref.ensures.value c.self.view_is c.blocked-blocked.ensures c.followers-second.ensures c.move_on-said.ensures in
-    pass_day x.moment x.entries.len x.entries.items c.deref_mut.result.now c.move_on-said.new.entries x.maintenance c.move_on-said.new.maintenance c.move_on-said.result c.deref_mut.ensures.value x.entries.ok.0 moved ∙ ap (λ (d : Day). (ticked d).day) c.self.view_is
+    let moved = pass_moved c.args.link x.moment x.entries.items c.deref_mut.result.now c.move_on-said.new.entries x.maintenance c.move_on-said.new.maintenance c.move_on-said.result x.live x.waiting x.behind.items c.deref.result.now c.followers-second.result x.due c.blocked-blocked.result c.args.self.now c.self.invariant c.deref_mut.ensures.value c.deref.ensures.value c.self.view_is c.blocked-blocked.ensures c.followers-second.ensures c.move_on-said.ensures in
+    pass_day c.args.link x.moment x.entries.len x.entries.items c.deref_mut.result.now c.move_on-said.new.entries x.maintenance c.move_on-said.new.maintenance c.move_on-said.result c.deref_mut.ensures.value x.entries.ok.0 moved ∙ ap (λ (d : Day). (passed_in c.args.link d).day) c.self.view_is
 
 pub returns-clause-said : goal.returns-clause-said
 returns-clause-said c =
     let x = c.self.inside in
-    let moved = pass_moved x.moment x.entries.items c.deref_mut.result.now c.move_on-said.new.entries x.maintenance c.move_on-said.new.maintenance c.move_on-said.result x.live x.waiting x.behind.items c.deref.result.now c.followers-second.result x.due c.blocked-blocked.result c.args.self.now c.self.invariant c.deref_mut.ensures.value c.deref.ensures.value c.self.view_is c.blocked-blocked.ensures c.followers-second.ensures c.move_on-said.ensures in
-    subst (λ (d : Day). SaysOnEach d c.move_on-said.result) (ap (λ (es : List Entry). day_of x.moment es x.maintenance) c.deref_mut.ensures.value ∙ c.self.view_is) moved.said
+    let moved = pass_moved c.args.link x.moment x.entries.items c.deref_mut.result.now c.move_on-said.new.entries x.maintenance c.move_on-said.new.maintenance c.move_on-said.result x.live x.waiting x.behind.items c.deref.result.now c.followers-second.result x.due c.blocked-blocked.result c.args.self.now c.self.invariant c.deref_mut.ensures.value c.deref.ensures.value c.self.view_is c.blocked-blocked.ensures c.followers-second.ensures c.move_on-said.ensures in
+    subst (λ (d : Day). SaysOnEach c.args.link d c.move_on-said.result) (ap (λ (es : List Entry). day_of x.moment es x.maintenance) c.deref_mut.ensures.value ∙ c.self.view_is) moved.said
 
 pub returns-clause-slots : goal.returns-clause-slots
 returns-clause-slots c =
     let x = c.self.inside in
-    let moved = pass_moved x.moment x.entries.items c.deref_mut.result.now c.move_on-said.new.entries x.maintenance c.move_on-said.new.maintenance c.move_on-said.result x.live x.waiting x.behind.items c.deref.result.now c.followers-second.result x.due c.blocked-blocked.result c.args.self.now c.self.invariant c.deref_mut.ensures.value c.deref.ensures.value c.self.view_is c.blocked-blocked.ensures c.followers-second.ensures c.move_on-said.ensures in
+    let moved = pass_moved c.args.link x.moment x.entries.items c.deref_mut.result.now c.move_on-said.new.entries x.maintenance c.move_on-said.new.maintenance c.move_on-said.result x.live x.waiting x.behind.items c.deref.result.now c.followers-second.result x.due c.blocked-blocked.result c.args.self.now c.self.invariant c.deref_mut.ensures.value c.deref.ensures.value c.self.view_is c.blocked-blocked.ensures c.followers-second.ensures c.move_on-said.ensures in
     moved.sizes

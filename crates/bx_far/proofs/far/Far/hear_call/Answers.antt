@@ -1,5 +1,5 @@
 use Rattle.std.proofs.Common.{◌≡◌, Bool, List, Option, Some, arith, sym, subst, ap, ◌∙◌, slice_set}
-use Rattle.bx_numbers.specs.ChannelNumbers.{IsChannel}
+use Rattle.bx_channels.specs.ChannelNumbers.{IsChannel}
 use Rattle.bx_q931.specs.Values.{called_of}
 use Rattle.bx_calls.specs.Said.{said_of}
 use Rattle.bx_calls.specs.Hearing.{heard_of}

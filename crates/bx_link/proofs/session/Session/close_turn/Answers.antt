@@ -1,5 +1,5 @@
 use Rattle.std.proofs.Common.{ℕ, true, List, subst}
-use Rattle.bx_q931.specs.Events.{Event}
+use Rattle.bx_events.specs.Events.{Event}
 use Rattle.bx_day.specs.Course.{exchange_next, exchange_text}
 use Rattle.bx_turns.specs.Heard.{Went, no_tick}
 use Rattle.bx_turns.specs.Talks.{turn_in}

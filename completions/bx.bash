@@ -1,0 +1,31 @@
+# Completions of bx for bash. Written by scripts/manual.
+_bx() {
+    local word=${COMP_WORDS[COMP_CWORD]} before=${COMP_WORDS[COMP_CWORD-1]} options=
+    COMPREPLY=()
+    if [ "$COMP_CWORD" = 1 ]; then
+        COMPREPLY=($(compgen -W "plan check amend capacity explain quote chart day serve far decode help --help --version" -- "$word"))
+        return
+    fi
+    case ${COMP_WORDS[1]} in
+        plan) options="--date --zone --channels --help" ;;
+        check) options="--date --zone --channels --help" ;;
+        amend) options="--date --zone --help" ;;
+        capacity) options="--date --zone --help" ;;
+        explain) options="--help" ;;
+        quote) options="--inward --date --zone --help" ;;
+        chart) options="--date --zone --help" ;;
+        day) options="--turns --capture --date --zone --quiet --help" ;;
+        serve) options="--port --turns --capture --date --zone --quiet --help" ;;
+        far) options="--port --capture --date --zone --quiet --help" ;;
+        decode) options="--help" ;;
+        help) COMPREPLY=($(compgen -W "plan check amend capacity explain quote chart day serve far decode faults" -- "$word")); return ;;
+    esac
+    case $before in
+        --channels | --date | --port | --turns | --zone) return ;;
+    esac
+    case $word in
+        -*) COMPREPLY=($(compgen -W "$options" -- "$word")) ;;
+        *) COMPREPLY=($(compgen -f -- "$word")) ;;
+    esac
+}
+complete -o filenames -F _bx bx

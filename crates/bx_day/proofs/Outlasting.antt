@@ -1,0 +1,280 @@
+-- Many seconds without a link at once are as many one after another.
+use Rattle.std.proofs.Common.{◌≡◌, ℕ, zero, suc, min, ◌+◌, ◌-◌, ◌≤◌, ◌<◌, ◌==◌, ◌&&◌, ◌||◌, not, Bool, true, false, List, [], ◌∷◌, map, replicate, Option, Some, None, arith, refl, sym, subst, ap, ap₂, ◌∙◌, inl, inr, nat_le, if◌then◌else◌, unwrap_or, is_some}
+use Rattle.std.specs.List.{AllByRecursion, list_any}
+use Rattle.std.proofs.lemmas.Bool.{leb-true, leb-false, le-leb, and_right, false≢true, cases_lt}
+use Rattle.bx_base.specs.Bookings.{Row}
+use Rattle.bx_events.specs.Events.{WithoutLink}
+use Rattle.bx_calls.specs.declared.step.Step.{Step}
+use Rattle.bx_calls.specs.PlainCalls.{PlainNetCall}
+use Rattle.bx_calls.specs.declared.net_state.NetState.{NetState}
+use Rattle.bx_calls.specs.declared.net_state.NetState.TheVariants.{OutgoingCallProceeding, CallPresent, IncomingCallProceeding, CallReceived, Active, DisconnectIndication, ReleaseRequest}
+use Rattle.bx_calls.specs.NetTable.{net_to, net_is_clearing, net_later, net_unlinked, IsDueBy}
+use Rattle.bx_day.specs.declared.entry.Activity.{Activity}
+use Rattle.bx_day.specs.declared.entry.Activity.TheVariants.{Never, Since, Was}
+use Rattle.bx_day.specs.declared.entry.Entry.{Entry}
+use Rattle.bx_day.specs.declared.entry.Link.TheVariants.{Down}
+use Rattle.bx_day.specs.declared.entry.Moved.{Moved}
+use Rattle.bx_day.specs.declared.entry.Standing.{Standing}
+use Rattle.bx_day.specs.declared.entry.Standing.TheVariants.{Refused, Unoffered, OnCall, Carried, Unanswered, Missed}
+use Rattle.bx_day.specs.Day.{Day}
+use Rattle.bx_day.specs.Moves.{activity_after, is_active, follows}
+use Rattle.bx_day.specs.Ticks.{unlinked_at, after_in, breaks_in, maintained_in, passed_in, waits}
+use Rattle.bx_day.specs.Outages.{without_link, live_day_after}
+use Rattle.bx_day.specs.Invariant.{phase_of, PhaseFits, DueFits, ActivityFits, CallFits, EntryFits}
+use Rattle.bx_day.specs.Outlasting.{IsTimedBy, outlasted, outlasts}
+use Rattle.bx_day.specs.Reading.{IsExchange}
+use Rattle.bx_day.proofs.Once.{decide}
+use Rattle.bx_day.proofs.Passing.{passed_stays}
+use Rattle.bx_day.proofs.Quiet.{late, activity_stays}
+use Rattle.bx_day.proofs.Tick.{by_cases, with_standing, offers}
+
+-- ---- when a timer is due
+
+due_most : (x due m : ℕ) → Some x ≡ Some due → x ≤ m → due ≤ m
+due_most x due m is le = subst (λ (n : ℕ). n ≤ m) (ap (λ (o : Option ℕ). unwrap_or o 0) is) le
+
+no_due : (due : ℕ) → None ≡ Some due → ⊥
+no_due due is = false≢true (ap is_some is)
+
+state_timed : (t : ℕ) (s : NetState) → DueFits t s → IsDueBy (t + 180) s
+state_timed t OutgoingCallProceeding h due is = absurd (no_due due is)
+state_timed t (CallPresent again x) h due is = due_most x due (t + 180) is (omega (arith, h.1))
+state_timed t (IncomingCallProceeding x) h due is = due_most x due (t + 180) is (omega (arith, h.1))
+state_timed t (CallReceived x) h due is = due_most x due (t + 180) is (omega (arith, h.1))
+state_timed t Active h due is = absurd (no_due due is)
+state_timed t (DisconnectIndication cause x) h due is = due_most x due (t + 180) is (omega (arith, h.1))
+state_timed t (ReleaseRequest again cause x) h due is = due_most x due (t + 180) is (omega (arith, h.1))
+
+pub fits_timed : (t : ℕ) (e : Entry) (s : Standing) → EntryFits t (with_standing e s) → IsTimedBy (t + 180) s
+fits_timed t e (OnCall c a) h = state_timed t c.state h.due
+fits_timed t e Refused h = tt
+fits_timed t e Unoffered h = tt
+fits_timed t e (Carried from until) h = tt
+fits_timed t e Unanswered h = tt
+fits_timed t e Missed h = tt
+
+-- ---- a call
+
+ended_is : (n u end : ℕ) (c : PlainNetCall) → net_is_clearing c.state ≡ false → end ≤ u → net_unlinked n c u end ≡ net_to c None (DisconnectIndication 16 (u + 1))
+ended_is n u end c runs over =
+    ap (λ b. if not b && nat_le end u then net_to c None (DisconnectIndication 16 (u + 1)) else net_to c None (net_later n c.state)) runs
+    ∙ ap (λ b. if b then net_to c None (DisconnectIndication 16 (u + 1)) else net_to c None (net_later n c.state)) (le-leb end u over)
+
+going_is : (n u end : ℕ) (c : PlainNetCall) → u < end → net_unlinked n c u end ≡ net_to c None (net_later n c.state)
+going_is n u end c early = ap (λ b. if b then net_to c None (DisconnectIndication 16 (u + 1)) else net_to c None (net_later n c.state)) (and_right (not (net_is_clearing c.state)) (nat_le end u) (late end u early))
+
+clearing_is : (n u end : ℕ) (c : PlainNetCall) → net_is_clearing c.state ≡ true → net_unlinked n c u end ≡ net_to c None (net_later n c.state)
+clearing_is n u end c clears = ap (λ b. if not b && nat_le end u then net_to c None (DisconnectIndication 16 (u + 1)) else net_to c None (net_later n c.state)) clears
+
+later_more : (n : ℕ) (s : NetState) → net_later n (net_later 1 s) ≡ net_later (n + 1) s
+later_more n OutgoingCallProceeding = refl
+later_more n (CallPresent again due) = ap (λ x. CallPresent again x) (let q : due + 1 + n ≡ due + (n + 1) = omega arith in q)
+later_more n (IncomingCallProceeding due) = ap (λ x. IncomingCallProceeding x) (let q : due + 1 + n ≡ due + (n + 1) = omega arith in q)
+later_more n (CallReceived due) = ap (λ x. CallReceived x) (let q : due + 1 + n ≡ due + (n + 1) = omega arith in q)
+later_more n Active = refl
+later_more n (DisconnectIndication cause due) = ap (λ x. DisconnectIndication cause x) (let q : due + 1 + n ≡ due + (n + 1) = omega arith in q)
+later_more n (ReleaseRequest again cause due) = ap (λ x. ReleaseRequest again cause x) (let q : due + 1 + n ≡ due + (n + 1) = omega arith in q)
+
+later_none : (s : NetState) → net_later 0 s ≡ s
+later_none OutgoingCallProceeding = refl
+later_none (CallPresent again due) = ap (λ x. CallPresent again x) (let q : due + 0 ≡ due = omega arith in q)
+later_none (IncomingCallProceeding due) = ap (λ x. IncomingCallProceeding x) (let q : due + 0 ≡ due = omega arith in q)
+later_none (CallReceived due) = ap (λ x. CallReceived x) (let q : due + 0 ≡ due = omega arith in q)
+later_none Active = refl
+later_none (DisconnectIndication cause due) = ap (λ x. DisconnectIndication cause x) (let q : due + 0 ≡ due = omega arith in q)
+later_none (ReleaseRequest again cause due) = ap (λ x. ReleaseRequest again cause x) (let q : due + 0 ≡ due = omega arith in q)
+
+later_clearing : (n : ℕ) (s : NetState) → net_is_clearing (net_later n s) ≡ net_is_clearing s
+later_clearing n OutgoingCallProceeding = refl
+later_clearing n (CallPresent again due) = refl
+later_clearing n (IncomingCallProceeding due) = refl
+later_clearing n (CallReceived due) = refl
+later_clearing n Active = refl
+later_clearing n (DisconnectIndication cause due) = refl
+later_clearing n (ReleaseRequest again cause due) = refl
+
+later_active : (n : ℕ) (s : NetState) → is_active (net_later n s) ≡ is_active s
+later_active n OutgoingCallProceeding = refl
+later_active n (CallPresent again due) = refl
+later_active n (IncomingCallProceeding due) = refl
+later_active n (CallReceived due) = refl
+later_active n Active = refl
+later_active n (DisconnectIndication cause due) = refl
+later_active n (ReleaseRequest again cause due) = refl
+
+-- a call that is not being cleared runs
+runs : (t : ℕ) (b : Row) (s : NetState) → PhaseFits t b (phase_of s) → net_is_clearing s ≡ false → t < b.end
+runs t b OutgoingCallProceeding h q = h.1
+runs t b (CallPresent again due) h q = h.1
+runs t b (IncomingCallProceeding due) h q = h.1
+runs t b (CallReceived due) h q = h.1
+runs t b Active h q = h.1
+runs t b (DisconnectIndication cause due) h q = absurd (false≢true (sym q))
+runs t b (ReleaseRequest again cause due) h q = absurd (false≢true (sym q))
+
+twice : (a : Activity) (t u : ℕ) → activity_after (activity_after a false t) false u ≡ activity_after a false t
+twice Never t u = refl
+twice (Since from) t u = refl
+twice (Was from until) t u = refl
+
+abbrev in_state : PlainNetCall → NetState → Activity → Standing
+in_state c s a = OnCall (record c { state = s }) a
+
+-- a call that goes on, with its timer standing still
+stands : (n t u : ℕ) (b : Row) (c : PlainNetCall) (a : Activity) → ActivityFits t b (phase_of c.state) a → (follows a u (net_to c None (net_later n c.state))).standing ≡ in_state c (net_later n c.state) a
+stands n t u b c a h = ap (λ x. in_state c (net_later n c.state) (activity_after a x u)) (later_active n c.state) ∙ ap (in_state c (net_later n c.state)) (activity_stays t u b c.state a h)
+
+-- n seconds behind one
+abbrev Then : ℕ → ℕ → Row → Activity → ℕ → Step PlainNetCall → Standing
+Then n u b a t step = outlasted n u b (follows a t step).standing
+
+abbrev At : Row → Activity → Step PlainNetCall → Standing
+At b a step = (follows a b.end step).standing
+
+call_clears : (n t u : ℕ) (e : Entry) (c : PlainNetCall) (a : Activity) → ActivityFits t e.booking (phase_of c.state) a → net_is_clearing c.state ≡ true → Then n u e.booking a (t + 1) (net_unlinked 1 c (t + 1) e.booking.end) ≡ At e.booking a (net_unlinked (n + 1) c u e.booking.end)
+call_clears n t u e c a h clears =
+    let b = e.booking in
+    let c' : PlainNetCall = record c { state = net_later 1 c.state } in
+    ap (Then n u b a (t + 1)) (clearing_is 1 (t + 1) b.end c clears)
+    ∙ ap (outlasted n u b) (stands 1 t (t + 1) b c a h)
+    ∙ ap (At b a) (clearing_is n u b.end c' (later_clearing 1 c.state ∙ clears))
+    ∙ ap (λ s. At b a (net_to c None s)) (later_more n c.state)
+    ∙ ap (At b a) (sym (clearing_is (n + 1) u b.end c clears))
+
+call_ends : (n t u : ℕ) (e : Entry) (c : PlainNetCall) (a : Activity) → u ≡ t + 1 + n → t + 1 ≡ e.booking.end → net_is_clearing c.state ≡ false → Then n u e.booking a (t + 1) (net_unlinked 1 c (t + 1) e.booking.end) ≡ At e.booking a (net_unlinked (n + 1) c u e.booking.end)
+call_ends n t u e c a q now going =
+    let b = e.booking in
+    ap (Then n u b a (t + 1)) (ended_is 1 (t + 1) b.end c going (omega (arith, now)))
+    ∙ ap₂ (λ x y. in_state c (DisconnectIndication 16 x) y) (let p : t + 1 + 1 + n ≡ u + 1 = omega (arith, q) in p) (twice a (t + 1) b.end ∙ ap (activity_after a false) now)
+    ∙ ap (At b a) (sym (ended_is (n + 1) u b.end c going (omega (arith, q, now))))
+
+call_goes : (n t u : ℕ) (e : Entry) (c : PlainNetCall) (a : Activity) → ActivityFits t e.booking (phase_of c.state) a → t + 1 < e.booking.end → net_is_clearing c.state ≡ false → Then n u e.booking a (t + 1) (net_unlinked 1 c (t + 1) e.booking.end) ≡ At e.booking a (net_unlinked (n + 1) c u e.booking.end)
+call_goes n t u e c a h early going =
+    let b = e.booking in
+    let c' : PlainNetCall = record c { state = net_later 1 c.state } in
+    ap (Then n u b a (t + 1)) (going_is 1 (t + 1) b.end c early)
+    ∙ ap (outlasted n u b) (stands 1 t (t + 1) b c a h)
+    ∙ elim (cases_lt u b.end) [
+      | inl runs ↦ ap (At b a) (going_is n u b.end c' runs) ∙ ap (λ s. At b a (net_to c None s)) (later_more n c.state) ∙ ap (At b a) (sym (going_is (n + 1) u b.end c runs))
+      | inr over ↦ ap (At b a) (ended_is n u b.end c' (later_clearing 1 c.state ∙ going) over) ∙ ap (At b a) (sym (ended_is (n + 1) u b.end c going over))
+    ]
+
+call_more : (n t u : ℕ) (e : Entry) (c : PlainNetCall) (a : Activity) → u ≡ t + 1 + n → CallFits t e c a → Then n u e.booking a (t + 1) (net_unlinked 1 c (t + 1) e.booking.end) ≡ At e.booking a (net_unlinked (n + 1) c u e.booking.end)
+call_more n t u e c a q h =
+    decide (net_is_clearing c.state) (λ clears. call_clears n t u e c a h.activity clears)
+    (λ going. let lt : t < e.booking.end = runs t e.booking c.state h.phase going in
+    elim (cases_lt (t + 1) e.booking.end) [
+      | inl early ↦ call_goes n t u e c a h.activity early going
+      | inr over ↦ call_ends n t u e c a q (omega (arith, lt, over)) going
+    ])
+
+call_none : (t : ℕ) (e : Entry) (c : PlainNetCall) (a : Activity) → CallFits t e c a → At e.booking a (net_unlinked 0 c t e.booking.end) ≡ OnCall c a
+call_none t e c a h =
+    let b = e.booking in
+    ap (At b a) (decide (net_is_clearing c.state) (λ clears. clearing_is 0 t b.end c clears) (λ going. going_is 0 t b.end c (runs t b c.state h.phase going)))
+    ∙ stands 0 t b.end b c a h.activity ∙ ap (λ s. in_state c s a) (later_none c.state)
+
+-- ---- a booking
+
+wait_more : (n t u : ℕ) (e : Entry) → u ≡ t + 1 + n → outlasted n u e.booking (waits e (t + 1) false).standing ≡ outlasted (n + 1) u e.booking Unoffered
+wait_more n t u e q =
+    let b = e.booking in
+    let P : Moved → Type 0 = λ m. outlasted n u b m.standing ≡ outlasted (n + 1) u b Unoffered in
+    by_cases (offers e (t + 1) false) _ _ P
+    (λ offered. absurd (false≢true (sym (and_right _ false refl) ∙ offered)))
+    (λ _. by_cases (nat_le b.end (t + 1)) _ _ P
+    (λ over. let le : b.end ≤ t + 1 = leb-true b.end (t + 1) over in ap (λ x. if x then Missed else Unoffered) (sym (le-leb b.end u (omega (arith, le, q)))))
+    (λ _. refl))
+
+booking_more : (n t u : ℕ) (e : Entry) (s : Standing) → u ≡ t + 1 + n → EntryFits t (with_standing e s) → outlasted n u e.booking (unlinked_at e (t + 1) s).standing ≡ outlasted (n + 1) u e.booking s
+booking_more n t u e (OnCall c a) q h = call_more n t u (with_standing e (OnCall c a)) c a q h
+booking_more n t u e Unoffered q h = wait_more n t u e q
+booking_more n t u e Refused q h = refl
+booking_more n t u e (Carried from until) q h = refl
+booking_more n t u e Unanswered q h = refl
+booking_more n t u e Missed q h = refl
+
+booking_none : (t : ℕ) (e : Entry) (s : Standing) → EntryFits t (with_standing e s) → outlasted 0 t e.booking s ≡ s
+booking_none t e (OnCall c a) h = call_none t (with_standing e (OnCall c a)) c a h
+booking_none t e Unoffered h = ap (λ b. if b then Missed else Unoffered) (late e.booking.end t h)
+booking_none t e Refused h = refl
+booking_none t e (Carried from until) h = refl
+booking_none t e Unanswered h = refl
+booking_none t e Missed h = refl
+
+-- no channel breaks without a link
+waits_whole : (e : Entry) (t : ℕ) → (waits e t false).broken ≡ false
+waits_whole e t = by_cases (offers e t false) _ _ (λ (m : Moved). m.broken ≡ false) (λ _. refl) (λ _. by_cases (nat_le e.booking.end t) _ _ (λ (m : Moved). m.broken ≡ false) (λ _. refl) (λ _. refl))
+
+booking_whole : (e : Entry) (t : ℕ) (s : Standing) → (unlinked_at e t s).broken ≡ false
+booking_whole e t (OnCall c a) = by_cases (not (net_is_clearing c.state) && nat_le e.booking.end t) _ _ (λ (step : Step PlainNetCall). (follows a t step).broken ≡ false) (λ _. refl) (λ _. refl)
+booking_whole e t Unoffered = waits_whole e t
+booking_whole e t Refused = refl
+booking_whole e t (Carried from until) = refl
+booking_whole e t Unanswered = refl
+booking_whole e t Missed = refl
+
+-- ---- a day
+
+none_break : (d : Day) (c : ℕ) (es : List Entry) → list_any (breaks_in Down d c) es ≡ false
+none_break d c [] = refl
+none_break d c (e ∷ es) = ap₂ (λ x y. x && (e.channel == c) || y) (booking_whole e (d.moment + 1) e.standing) (none_break d c es)
+
+still_maintained : (d : Day) (c : ℕ) (bs : List Bool) → maintained_in Down d c bs ≡ bs
+still_maintained d c [] = refl
+still_maintained d c (b ∷ bs) = ap₂ (λ x xs. x ∷ xs) (ap (λ x. b || x) (none_break d c d.entries) ∙ or_false b) (still_maintained d (c + 1) bs)
+  where
+    or_false : (x : Bool) → (x || false) ≡ x
+    or_false true = refl
+    or_false false = refl
+
+abbrev pub outlasts_day : ℕ → Day → Day
+outlasts_day n d = record { moment = d.moment + n; entries = map (outlasts n (d.moment + n)) d.entries; maintenance = d.maintenance }
+
+entries_more : (n u : ℕ) (d : Day) (es : List Entry) → u ≡ d.moment + 1 + n → AllByRecursion (EntryFits d.moment) es → map (outlasts n u) (map (after_in Down d) es) ≡ map (outlasts (n + 1) u) es
+entries_more n u d [] q h = refl
+entries_more n u d (e ∷ es) q h = ap₂ (λ s xs. with_standing e s ∷ xs) (booking_more n d.moment u e e.standing q h.0) (entries_more n u d es q h.1)
+
+entries_none : (t : ℕ) (es : List Entry) → AllByRecursion (EntryFits t) es → map (outlasts 0 t) es ≡ es
+entries_none t [] h = refl
+entries_none t (e ∷ es) h = ap₂ (λ s xs. with_standing e s ∷ xs) (booking_none t e e.standing h.0) (entries_none t es h.1)
+
+day_none : (d : Day) → IsExchange d → outlasts_day 0 d ≡ d
+day_none d h =
+    ap (λ t. record { moment = t; entries = map (outlasts 0 t) d.entries; maintenance = d.maintenance }) (let q : d.moment + 0 ≡ d.moment = omega arith in q)
+    ∙ ap (λ es. record { moment = d.moment; entries = es; maintenance = d.maintenance }) (entries_none d.moment d.entries h.day.each)
+
+day_more : (n : ℕ) (d : Day) → IsExchange d → outlasts_day n (passed_in Down d).day ≡ outlasts_day (n + 1) d
+day_more n d h =
+    let u = d.moment + (n + 1) in
+    let q : d.moment + 1 + n ≡ u = omega arith in
+    ap (λ t. record { moment = t; entries = map (outlasts n t) (map (after_in Down d) d.entries); maintenance = maintained_in Down d 0 d.maintenance }) q
+    ∙ ap₂ (λ es ms. record { moment = u; entries = es; maintenance = ms }) (entries_more n u d d.entries (sym q) h.day.each) (still_maintained d 0 d.maintenance)
+
+without_is : (d : Day) (b : Bool) → nat_le 300000 d.moment ≡ b → without_link d ≡ (if b then d else (passed_in Down d).day)
+without_is d b is = ap (λ x. if x then d else (passed_in Down d).day) is
+
+abbrev pub seconds_left : ℕ → Day → ℕ
+seconds_left k d = min k (300000 - d.moment)
+
+pub skipped : (k : ℕ) (d : Day) → IsExchange d → outlasts_day (seconds_left k d) d ≡ live_day_after (replicate k WithoutLink) d
+skipped zero d h = ap (λ n. outlasts_day n d) (let q : min 0 (300000 - d.moment) ≡ 0 = omega arith in q) ∙ day_none d h
+skipped (suc k) d h =
+    decide (nat_le 300000 d.moment)
+    (λ over. let le : 300000 ≤ d.moment = leb-true 300000 d.moment over in
+    ap (λ n. outlasts_day n d) (let q : min (suc k) (300000 - d.moment) ≡ min k (300000 - d.moment) = omega (arith, le) in q)
+    ∙ skipped k d h ∙ ap (live_day_after (replicate k WithoutLink)) (sym (without_is d true over)))
+    (λ runs. let early : d.moment < 300000 = leb-false 300000 d.moment runs in
+    let next : Day = (passed_in Down d).day in
+    ap (λ n. outlasts_day n d) (let q : min (suc k) (300000 - d.moment) ≡ min k (300000 - (d.moment + 1)) + 1 = omega (arith, early) in q)
+    ∙ sym (day_more (seconds_left k next) d h) ∙ skipped k next (passed_stays Down d early h) ∙ ap (live_day_after (replicate k WithoutLink)) (sym (without_is d false runs)))
+
+-- ---- the code of one booking
+
+pub call_unlinked : (latest t end : ℕ) (e : Entry) (s : Standing) (c : PlainNetCall) (a : Activity) (step : Step PlainNetCall) (m : Moved) → s ≡ OnCall c a → end ≡ e.booking.end → ((most : ℕ) → IsDueBy most c.state → most + 1 ≤ 4294967295 → step ≡ net_unlinked 1 c t end) → m ≡ follows a t step → IsTimedBy latest s → latest + 1 ≤ 4294967295 → m ≡ unlinked_at e t s
+call_unlinked latest t end e s c a step m is at steps follow timed room =
+    subst (λ (x : Standing). IsTimedBy latest x → m ≡ unlinked_at e t x) (sym is) (λ due. follow ∙ ap (follows a t) (steps latest due room) ∙ ap (λ x. follows a t (net_unlinked 1 c t x)) at) timed
+
+pub call_outlasted : (latest n t end : ℕ) (b : Row) (s : Standing) (c : PlainNetCall) (a : Activity) (step : Step PlainNetCall) (m : Moved) → s ≡ OnCall c a → end ≡ b.end → ((most : ℕ) → IsDueBy most c.state → most + n ≤ 4294967295 → step ≡ net_unlinked n c t end) → m ≡ follows a end step → IsTimedBy latest s → latest + n ≤ 4294967295 → m.standing ≡ outlasted n t b s
+call_outlasted latest n t end b s c a step m is at steps follow timed room =
+    subst (λ (x : Standing). IsTimedBy latest x → m.standing ≡ outlasted n t b x) (sym is) (λ due. ap (λ (x : Moved). x.standing) (follow ∙ ap (follows a end) (steps latest due room) ∙ ap (λ x. follows a x (net_unlinked n c t x)) at)) timed

@@ -1,0 +1,102 @@
+//! Many seconds without a link at once.
+
+ghost use Rattle.std.specs.Prelude.{◌≡◌, ◌≤◌, ◌<◌, ◌+◌, ℕ, length, replicate, Some};
+ghost use Rattle.std.specs.List.{AllByRecursion};
+ghost use Rattle.bx_events.specs.Events.{WithoutLink};
+ghost use Rattle.bx_day.specs.Outages.{live_day_after};
+ghost use Rattle.bx_day.specs.Outlasting.{IsTimedBy, outlasted, AreOutlasting, starts_before, with_waiting, AreEarliest};
+ghost use Rattle.bx_day.specs.Reading.{Seated};
+ghost use Rattle.bx_day.specs.Slots.{slot_at};
+ghost use Rattle.bx_day.specs.SlotSteps.{IsInside};
+
+use crate::entry::{Entry, Standing};
+use crate::exchange::Exchange;
+use crate::moving::follow;
+use bx_calls::timers::LAST_MOMENT;
+use bx_channels::Channel;
+
+impl Exchange {
+    /// So many seconds later, in none of which there is a link to the far end: at once what that many seconds without a
+    /// link would leave, up to moment 300,000. It looks at each booking once, however many seconds there are, and takes
+    /// no memory.
+    pub fn skip_without_link(&mut self, seconds: u32)
+        ensures { self.new ≡ live_day_after (replicate seconds WithoutLink) self.old }
+    {
+        let before = self.moment();
+        let seconds = seconds.min(LAST_MOMENT - before);
+        outlast(&mut self.entries, seconds, before + seconds);
+        self.waiting = first_waiting(&self.entries);
+        self.moment = before + seconds;
+        self.due = 0;
+    }
+}
+
+/// Brings each booking to this moment, behind so many seconds without a link.
+fn outlast(entries: &mut [Entry], seconds: u32, moment: u32)
+    requires { moment ≤ 300000 }
+    ensures { AreOutlasting seconds moment (length entries.old) entries.old entries.new }
+{
+    for index in 0..entries.len() {
+        let standing = outlasted(&entries[index], seconds, moment);
+        entries[index].standing = standing;
+    }
+}
+
+/// What has become of a booking at this moment, behind so many seconds without a link.
+fn outlasted(entry: &Entry, seconds: u32, moment: u32) -> Standing
+    requires { moment ≤ 300000 }
+    ensures { (latest : ℕ) → IsTimedBy latest entry.now.standing → latest + seconds ≤ 4294967295 → result ≡ outlasted seconds moment entry.now.booking entry.now.standing }
+{
+    let end = entry.booking.end();
+    match entry.standing {
+        Standing::OnCall { call, activity } => {
+            let step = call.on_seconds_unlinked(seconds, moment, end);
+            follow(step, activity, end).standing
+        }
+        Standing::Unoffered if end <= moment => Standing::Missed,
+        standing => standing,
+    }
+}
+
+/// For each channel the first of its bookings that wait.
+fn first_waiting(entries: &[Entry]) -> [Option<u16>; 32]
+    requires few { length entries.now ≤ 4000 }
+    requires seated { AllByRecursion Seated entries.now }
+    ensures { AreEarliest entries.now (length entries.now) result }
+{
+    let mut first = [None; 32];
+    for index in 0..entries.len() as u16 {
+        put_waiting(&mut first, entries, index);
+    }
+    first
+}
+
+/// Puts the booking of an index into the slot of its channel, where it waits and starts before the one that is there.
+fn put_waiting(first: &mut [Option<u16>; 32], entries: &[Entry], index: u16)
+    requires inside { index < length entries.now }
+    requires seated { AllByRecursion Seated entries.now }
+    requires slots { (c : ℕ) → IsInside entries.now (slot_at first.old c) }
+    ensures { first.new ≡ with_waiting entries.now index first.old }
+{
+    let entry = entries[index as usize];
+    if let (Standing::Unoffered, Some(channel)) = (entry.standing, Channel::new(entry.channel)) {
+        let number = channel.number() as usize;
+        if starts_before(entries, index, first[number]) {
+            first[number] = Some(index);
+        }
+    }
+}
+
+/// Whether the booking of an index starts before that of a slot, if there is one.
+fn starts_before(entries: &[Entry], index: u16, slot: Option<u16>) -> bool
+    requires inside { index < length entries.now }
+    requires slot { IsInside entries.now slot }
+    ensures { result ≡ starts_before entries.now index slot }
+{
+    match slot {
+        Some(other) => {
+            entries[index as usize].booking.start() < entries[other as usize].booking.start()
+        }
+        None => true,
+    }
+}

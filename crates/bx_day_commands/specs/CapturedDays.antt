@@ -1,0 +1,29 @@
+-- The days that the commands run, and what was captured of them.
+use Rattle.std.specs.Prelude.{◌≡◌, ℕ, Bool, List, Option}
+use Rattle.bx_devices.specs.declared.watched.Watched.{Watched}
+use Rattle.bx_capture.specs.Captures.{Keeps, is_unfaulted}
+use Rattle.bx_day_openings.specs.CaptureOpenings.{IsFirstOf, IsFileFor}
+use Rattle.bx_request.specs.declared.request.CaptureWords.{CaptureWords}
+use Rattle.bx_day_commands.specs.Days.{IsDayTold, IsFarTold, packets_of, far_packets_of}
+
+-- where there is a file, it took these packets, and whether it took them all
+pub record AreKept {F : Type 0} (contents : F → Option (List ℕ)) (file : Option (Watched F)) (packets : List ℕ) (is_whole : Bool) : Type 0 where
+  pub closed : Option (Watched F)
+  pub keeps : Keeps contents file closed packets
+  pub whole : is_whole ≡ is_unfaulted closed
+
+-- where something is to be captured, a file was opened for it and took these packets, and whether it took them all
+pub record IsCaptureOf {F : Type 0} (contents : F → Option (List ℕ)) (capture : Option CaptureWords) (packets : ℕ → List ℕ) (is_whole : Bool) : Type 0 where
+  pub file : Option (Watched F)
+  pub first : ℕ
+  pub opens : IsFileFor contents capture file
+  pub begins : IsFirstOf capture first
+  pub kept : AreKept contents file (packets first) is_whole
+
+-- what has become of each booking was written, and just this day was captured
+abbrev pub IsDayDone : {F : Type 0} → (F → Option (List ℕ)) → Option CaptureWords → Option ℕ → Option (List ℕ) → Option (List ℕ) → Bool → Type 0
+IsDayDone contents capture asked before after is_whole = (told : IsDayTold asked before after) × IsCaptureOf contents capture (packets_of told.run) is_whole
+
+-- the moment was written that the day of a far end has reached, and just this day was captured
+abbrev pub IsFarDone : {F : Type 0} → (F → Option (List ℕ)) → Option CaptureWords → Option (List ℕ) → Option (List ℕ) → Bool → Type 0
+IsFarDone contents capture before after is_whole = (told : IsFarTold before after) × IsCaptureOf contents capture (far_packets_of told.run) is_whole

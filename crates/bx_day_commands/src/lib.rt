@@ -1,0 +1,10 @@
+//! The commands that run a day over sockets: day, serve, far.
+#![tactic(auto)]
+
+mod day_files;
+mod requests;
+mod running;
+
+pub use bx_day_openings::SocketFault;
+pub use day_files::{day_of_files, far_file, serve_file};
+pub use requests::run_day_on_files;

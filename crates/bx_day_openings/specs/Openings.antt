@@ -1,0 +1,36 @@
+-- Both ends at the opening of a day that a command runs.
+use Rattle.std.specs.Prelude.{◌≡◌, ℕ, ◌+◌, ◌≤◌, ◌<◌, true, false, List, length, Option, Some, None, ◌⊎◌}
+use Rattle.bx_base.specs.Bookings.{Row, row_at}
+use Rattle.bx_base.specs.PlanParts.{Parts}
+use Rattle.bx_base.specs.Plans.{is_accepted}
+use Rattle.bx_check_commands.specs.Proved.{IsProvedFor}
+use Rattle.bx_day.specs.Day.{Day, opening}
+use Rattle.bx_far.specs.FarDay.{FarDay, far_opening}
+use Rattle.bx_far.specs.ScriptTexts.{IsScript}
+use Rattle.bx_far.specs.declared.row.ScriptRow.{ScriptRow}
+
+-- the greatest moment at which the call of one of the first so many rows, where it is accepted, may end: 38 seconds
+-- behind the end of the row; 1 where none is accepted
+pub record IsLastOf (rows : List Row) (assigned : List (Option ℕ)) (count turns : ℕ) : Type 0 where
+  pub each : (i : ℕ) → i < count → is_accepted assigned i ≡ true → (row_at rows i).end + 38 ≤ turns
+  pub one : ((i : ℕ) × (i < count) × (is_accepted assigned i ≡ true) × (turns ≡ (row_at rows i).end + 38)) ⊎ (((i : ℕ) → i < count → is_accepted assigned i ≡ false) × (turns ≡ 1))
+
+-- how many turns a day has: as many as were asked for, or all that its accepted rows need
+abbrev pub AreTurns : Option ℕ → Parts → ℕ → Type 0
+AreTurns (Some asked) plan turns = turns ≡ asked
+AreTurns None plan turns = IsLastOf plan.rows plan.assigned (length plan.rows) turns
+
+-- the opening day of a plan that is proved for its own bookings and channels, and how many turns it is to have
+pub record IsOpening (asked : Option ℕ) (day : Day) (turns : ℕ) : Type 0 where
+  pub plan : Parts
+  pub total : ℕ
+  pub proved : IsProvedFor plan.rows plan.channels plan total
+  pub opens : day ≡ opening plan.rows plan.assigned
+  pub are_turns : AreTurns asked plan turns
+
+-- a far end at the opening of the day of a script
+pub record IsFarOpening (far : FarDay) : Type 0 where
+  pub script : List ScriptRow
+  pub text : List ℕ
+  pub read : IsScript text script
+  pub opens : far ≡ far_opening script

@@ -1,0 +1,37 @@
+//! Why a day was not run.
+
+use bx_book::DayFault;
+use bx_capture::BeyondCapture;
+use bx_check_commands::CommandFault;
+use bx_far::ScriptFault;
+use bx_frames::LinkFault;
+use thiserror::Error;
+
+/// The refusal of a command that runs a day.
+#[derive(Clone, Copy, Debug, PartialEq, Eq, Error)]
+pub enum SocketFault<'a> {
+    /// A file of this name was not opened or not read, it holds no plan or none that is proved, the output failed, or a growth was refused.
+    #[error("{0}")]
+    Command(CommandFault<'a>),
+    /// What was read is no script.
+    #[error("{0}")]
+    Script(ScriptFault),
+    /// The date and the zone of a capture name no day.
+    #[error("{0}")]
+    Day(DayFault),
+    /// A capture cannot name the seconds of the day.
+    #[error("{0}")]
+    Capture(BeyondCapture),
+    /// The port cannot be listened on, or no peer can be accepted.
+    #[error("F3 CannotListen")]
+    CannotListen,
+    /// No exchange listens on the port.
+    #[error("F4 CannotConnect")]
+    CannotConnect,
+    /// The capture file of this name cannot be created, or a write of it failed.
+    #[error("F5 CannotWrite {0}")]
+    CannotCapture(&'a str),
+    /// The session of the day ended before the day did.
+    #[error("{0}")]
+    Link(LinkFault),
+}

@@ -1,0 +1,92 @@
+//! TCP connections on 127.0.0.1.
+
+ghost use Rattle.std.specs.Prelude.{◌⊎◌, IfErr};
+ghost use Rattle.bx_day_openings.specs.OpeningRefusals.{IsUnheard, IsUnconnected};
+
+use crate::fault::SocketFault;
+use std::net::{Ipv4Addr, Net, TcpListener, TcpStream};
+
+/// A frame is sent as soon as it is written. A system that cannot is only slower.
+fn at_once(stream: TcpStream) -> TcpStream {
+    let _ = stream.set_nodelay(true);
+    stream
+}
+
+/// A listener on the port, or on a free one where it is 0.
+fn listener<'a, H: Net<Listener = TcpListener, Stream = TcpStream>>(
+    rt: &H,
+    port: u16,
+) -> Result<TcpListener, SocketFault<'a>>
+    ensures { IfErr result IsUnheard }
+{
+    match TcpListener::bind(rt, (Ipv4Addr::LOCALHOST, port)) {
+        Ok(listener) => Ok(listener),
+        Err(_) => Err(SocketFault::CannotListen),
+    }
+}
+
+/// The next peer that connects.
+fn next_peer<'a>(listener: &TcpListener) -> Result<TcpStream, SocketFault<'a>>
+    ensures { IfErr result IsUnheard }
+{
+    match listener.accept() {
+        Ok((stream, _)) => Ok(at_once(stream)),
+        Err(_) => Err(SocketFault::CannotListen),
+    }
+}
+
+/// The first peer that connects to the port. Waits for it, and says before that it does, where that is to be said.
+pub fn accepted<'a, H: Net<Listener = TcpListener, Stream = TcpStream> + Eprint>(
+    rt: &H,
+    port: u16,
+    is_said: bool,
+) -> Result<TcpStream, SocketFault<'a>>
+    ensures { IfErr result IsUnheard }
+{
+    match listener(rt, port) {
+        Ok(listener) => {
+            if is_said {
+                let _ = eprintln!(rt; "listening on 127.0.0.1:{port}");
+            }
+            next_peer(&listener)
+        }
+        Err(fault) => Err(fault),
+    }
+}
+
+/// A connection to the port.
+pub fn connected<'a, H: Net<Listener = TcpListener, Stream = TcpStream>>(
+    rt: &H,
+    port: u16,
+) -> Result<TcpStream, SocketFault<'a>>
+    ensures { IfErr result IsUnconnected }
+{
+    match TcpStream::connect(rt, (Ipv4Addr::LOCALHOST, port)) {
+        Ok(stream) => Ok(at_once(stream)),
+        Err(_) => Err(SocketFault::CannotConnect),
+    }
+}
+
+/// Both ends of one connection on a free port.
+pub fn both_ends<'a, H: Net<Listener = TcpListener, Stream = TcpStream>>(
+    rt: &H,
+) -> Result<(TcpStream, TcpStream), SocketFault<'a>>
+    ensures { IfErr result (λ fault. IsUnheard fault ⊎ IsUnconnected fault) }
+{
+    let listener = match listener(rt, 0) {
+        Ok(listener) => listener,
+        Err(fault) => return Err(fault),
+    };
+    let port = match listener.local_addr() {
+        Ok(address) => address.port(),
+        Err(_) => return Err(SocketFault::CannotListen),
+    };
+    let near = match connected(rt, port) {
+        Ok(near) => near,
+        Err(fault) => return Err(fault),
+    };
+    match next_peer(&listener) {
+        Ok(distant) => Ok((near, distant)),
+        Err(fault) => Err(fault),
+    }
+}

@@ -1,0 +1,131 @@
+//! Drawn days with seconds without a link: state by state against a second exchange, and skipped.
+
+use crate::drawn_days::Drawn;
+use crate::quiet_seconds::look_same;
+use crate::second_exchange::Second;
+use bx_cases::SHARE;
+use bx_day::Exchange;
+use bx_worked_days::exchange_of;
+use std::alloc::Global;
+use std::test::Fail;
+
+const DAYS: u32 = 200;
+
+/// What came about without a link on some day.
+#[derive(Clone, Copy, PartialEq, Debug)]
+struct Seen {
+    /// A call stayed Active, was cleared at its end, or waited with its CONNECT, with its SETUP or with its release.
+    active: bool,
+    ended: bool,
+    connect: bool,
+    setup: bool,
+    release: bool,
+}
+
+const NOTHING: Seen = Seen {
+    active: false,
+    ended: false,
+    connect: false,
+    setup: false,
+    release: false,
+};
+
+const ALL: Seen = Seen {
+    active: true,
+    ended: true,
+    connect: true,
+    setup: true,
+    release: true,
+};
+
+impl Seen {
+    /// Looks at the state of a call before and behind seconds without a link.
+    fn looks(&mut self, before: u8, behind: u8) {
+        match (before, behind) {
+            (10, 10) => self.active = true,
+            (10, 12) => self.ended = true,
+            (3, 3) => self.connect = true,
+            (6, 6) => self.setup = true,
+            (19, 19) => self.release = true,
+            _ => {}
+        }
+    }
+}
+
+/// Lets so many seconds go by, and answers whether the exchanges agree behind each.
+fn go_on(exchange: &mut Exchange, second: &mut Second, seconds: u32, linked: bool) -> bool {
+    let mut same = true;
+    for _second in 0..seconds {
+        if linked {
+            exchange.tick();
+        } else {
+            exchange.second_without_link();
+        }
+        second.second(linked);
+        same &= second.agrees(exchange);
+    }
+    same
+}
+
+/// The same seconds of another exchange, those without a link at once.
+fn skip(exchange: &mut Exchange, seconds: u32, linked: bool) {
+    if linked {
+        for _second in 0..seconds {
+            exchange.tick();
+        }
+    } else {
+        exchange.skip_without_link(seconds);
+    }
+}
+
+/// The states of the calls on both channels.
+fn states(second: &Second) -> (u8, u8) {
+    (second.on_channel(1).1, second.on_channel(2).1)
+}
+
+/// Whether both exchanges are the same day, up to what they say of it.
+fn are_alike(exchange: &Exchange, skipping: &Exchange) -> bool {
+    skipping.moment() == exchange.moment()
+        && skipping.quiet() == exchange.quiet()
+        && look_same(exchange, skipping)
+}
+
+/// Whether a drawn day goes as the second exchange says, and in the same way where it skips.
+fn day_goes(alloc: Global, seed: u32, seen: &mut Seen) -> Option<bool> {
+    let mut drawn = Drawn::of(seed);
+    let rows = drawn.rows();
+    let mut second = Second::opened(&rows);
+    let mut exchange = exchange_of(alloc, &rows)?;
+    let mut skipping = exchange_of(alloc, &rows)?;
+    let mut same = true;
+    for _stretch in 0..48 {
+        let linked = drawn.below(4) > 0;
+        let seconds = drawn.below(if linked { 6 } else { 20 });
+        let before = states(&second);
+        same &= go_on(&mut exchange, &mut second, seconds, linked);
+        skip(&mut skipping, seconds, linked);
+        same &= are_alike(&exchange, &skipping);
+        if !linked && seconds > 0 {
+            seen.looks(before.0, states(&second).0);
+            seen.looks(before.1, states(&second).1);
+        }
+        let octets = drawn.message();
+        exchange.receive(&octets);
+        skipping.receive(&octets);
+        second.hears(&octets);
+        same &= second.agrees(&exchange);
+    }
+    Some(same)
+}
+
+#[test]
+fn drawn_outages(rt: HostRuntime) -> Result<(), Fail> {
+    let mut seen = NOTHING;
+    for seed in 0..DAYS / SHARE {
+        if day_goes(rt.alloc(), seed, &mut seen) != Some(true) {
+            return Err(Fail::new(seed));
+        }
+    }
+    assert_eq!(rt; seen, ALL, "what came about");
+    Ok(())
+}

@@ -1,0 +1,386 @@
+//! Worked days with seconds in which there is no link.
+
+use crate::steps::{Messages, first_wrong};
+use bx_calls::CallState;
+use bx_channels::Channel;
+use bx_day::{Exchange, Outcome};
+use bx_worked_days::{Row, exchange_of};
+use bx_worked_messages::{
+    ALERTING, CONNECT, CONNECT_ACKNOWLEDGE, DISCONNECT_16, FAR_RELEASE, FAR_RELEASE_COMPLETE,
+    PROCEEDING, RELEASE_16, RELEASE_COMPLETE, RELEASE_COMPLETE_102, SETUP, SETUP_REFERENCE_2,
+    SETUP_REFERENCE_7,
+};
+use std::alloc::Global;
+
+/// What happens: ticks to a moment, of which only the last sends something, or octets that come at it, and what is sent; or
+/// seconds without a link to a moment.
+#[derive(Clone, Copy)]
+enum Step {
+    Linked(u32, &'static [u8], Messages),
+    Without(u32),
+}
+
+/// Bookings of channel 1 and what happens; the outcomes in the end, who holds the channel, and whether it is in
+/// maintenance.
+struct Worked {
+    name: &'static str,
+    bookings: &'static [Row],
+    steps: &'static [Step],
+    outcomes: &'static [Outcome],
+    held: Option<(u16, CallState)>,
+    is_broken: bool,
+}
+
+const PROCEEDING_REFERENCE_7: &[u8] = &[0x08, 0x02, 0x80, 0x07, 0x02, 0x18, 0x03, 0xA9, 0x83, 0x81];
+
+const CONNECT_REFERENCE_7: &[u8] = &[0x08, 0x02, 0x80, 0x07, 0x07, 0x18, 0x03, 0xA9, 0x83, 0x81];
+
+const DISCONNECT_16_REFERENCE_7: &[u8] = &[0x08, 0x02, 0x80, 0x07, 0x45, 0x08, 0x02, 0x82, 0x90];
+
+const RELEASE_16_REFERENCE_7: &[u8] = &[0x08, 0x02, 0x80, 0x07, 0x4D, 0x08, 0x02, 0x82, 0x90];
+
+const CONNECT_REFERENCE_2: &[u8] = &[0x08, 0x02, 0x80, 0x02, 0x07];
+
+const CONNECT_ACKNOWLEDGE_REFERENCE_2: &[u8] = &[0x08, 0x02, 0x00, 0x02, 0x0F];
+
+const DISCONNECT_102: &[u8] = &[0x08, 0x02, 0x00, 0x01, 0x45, 0x08, 0x02, 0x82, 0xE6];
+
+static WORKED: [Worked; 19] = [
+    Worked {
+        name: "a booking that starts without a link is offered in the first second with one",
+        bookings: &[(10, 60, 1, false)],
+        steps: &[
+            Step::Without(30),
+            Step::Linked(31, &[], &[SETUP]),
+            Step::Linked(31, CONNECT, &[CONNECT_ACKNOWLEDGE]),
+        ],
+        outcomes: &[Outcome::Live],
+        held: Some((1, CallState::Active)),
+        is_broken: false,
+    },
+    Worked {
+        name: "a booking that ends without a link is missed at its end",
+        bookings: &[(10, 60, 1, false)],
+        steps: &[Step::Without(60)],
+        outcomes: &[Outcome::Missed],
+        held: None,
+        is_broken: false,
+    },
+    Worked {
+        name: "a booking waits up to its last second",
+        bookings: &[(10, 60, 1, false)],
+        steps: &[Step::Without(59)],
+        outcomes: &[Outcome::Waiting],
+        held: None,
+        is_broken: false,
+    },
+    Worked {
+        name: "a booking is offered in its last second",
+        bookings: &[(10, 60, 1, false)],
+        steps: &[Step::Without(58), Step::Linked(59, &[], &[SETUP])],
+        outcomes: &[Outcome::Live],
+        held: Some((1, CallState::CallPresent)),
+        is_broken: false,
+    },
+    Worked {
+        name: "a call is Active without a link as with one",
+        bookings: &[(0, 60, 1, false)],
+        steps: &[
+            Step::Linked(1, &[], &[SETUP]),
+            Step::Linked(1, CONNECT, &[CONNECT_ACKNOWLEDGE]),
+            Step::Without(59),
+            Step::Linked(60, &[], &[DISCONNECT_16]),
+            Step::Linked(60, FAR_RELEASE, &[RELEASE_COMPLETE]),
+        ],
+        outcomes: &[Outcome::Carried { from: 1, until: 60 }],
+        held: None,
+        is_broken: false,
+    },
+    Worked {
+        name: "a call whose end comes without a link is released in the first second with one",
+        bookings: &[(0, 60, 1, false)],
+        steps: &[
+            Step::Linked(1, &[], &[SETUP]),
+            Step::Linked(1, CONNECT, &[CONNECT_ACKNOWLEDGE]),
+            Step::Without(90),
+            Step::Linked(91, &[], &[RELEASE_16]),
+            Step::Linked(91, FAR_RELEASE_COMPLETE, &[]),
+        ],
+        outcomes: &[Outcome::Carried { from: 1, until: 60 }],
+        held: None,
+        is_broken: false,
+    },
+    Worked {
+        name: "where no answer to its release comes, its channel goes into maintenance 8 seconds later",
+        bookings: &[(0, 60, 1, false)],
+        steps: &[
+            Step::Linked(1, &[], &[SETUP]),
+            Step::Linked(1, CONNECT, &[CONNECT_ACKNOWLEDGE]),
+            Step::Without(90),
+            Step::Linked(91, &[], &[RELEASE_16]),
+            Step::Linked(95, &[], &[RELEASE_16]),
+            Step::Linked(99, &[], &[]),
+        ],
+        outcomes: &[Outcome::Carried { from: 1, until: 60 }],
+        held: None,
+        is_broken: true,
+    },
+    Worked {
+        name: "the tries of a SETUP go on behind seconds without a link",
+        bookings: &[(10, 100, 1, false)],
+        steps: &[
+            Step::Linked(10, &[], &[SETUP]),
+            Step::Without(40),
+            Step::Linked(44, &[], &[SETUP]),
+            Step::Without(50),
+            Step::Linked(54, &[], &[RELEASE_COMPLETE_102]),
+        ],
+        outcomes: &[Outcome::Unanswered],
+        held: None,
+        is_broken: false,
+    },
+    Worked {
+        name: "a SETUP whose try is due waits for a link",
+        bookings: &[(10, 100, 1, false)],
+        steps: &[
+            Step::Linked(10, &[], &[SETUP]),
+            Step::Linked(13, &[], &[]),
+            Step::Without(99),
+        ],
+        outcomes: &[Outcome::Live],
+        held: Some((1, CallState::CallPresent)),
+        is_broken: false,
+    },
+    Worked {
+        name: "T310 stands still",
+        bookings: &[(10, 100, 1, false)],
+        steps: &[
+            Step::Linked(10, &[], &[SETUP]),
+            Step::Linked(10, PROCEEDING, &[]),
+            Step::Without(50),
+            Step::Linked(60, &[], &[DISCONNECT_102]),
+        ],
+        outcomes: &[Outcome::Live],
+        held: Some((1, CallState::DisconnectIndication)),
+        is_broken: false,
+    },
+    Worked {
+        name: "T301 stands still",
+        bookings: &[(10, 500, 1, false)],
+        steps: &[
+            Step::Linked(10, &[], &[SETUP]),
+            Step::Linked(10, ALERTING, &[]),
+            Step::Without(210),
+            Step::Linked(390, &[], &[DISCONNECT_102]),
+        ],
+        outcomes: &[Outcome::Live],
+        held: Some((1, CallState::DisconnectIndication)),
+        is_broken: false,
+    },
+    Worked {
+        name: "T305 stands still",
+        bookings: &[(0, 60, 1, false)],
+        steps: &[
+            Step::Linked(1, &[], &[SETUP]),
+            Step::Linked(1, CONNECT, &[CONNECT_ACKNOWLEDGE]),
+            Step::Linked(60, &[], &[DISCONNECT_16]),
+            Step::Without(100),
+            Step::Linked(130, &[], &[RELEASE_16]),
+        ],
+        outcomes: &[Outcome::Live],
+        held: Some((1, CallState::ReleaseRequest)),
+        is_broken: false,
+    },
+    Worked {
+        name: "behind 100 seconds without a link over an end the next booking is carried",
+        bookings: &[(10, 60, 1, false), (120, 200, 1, false)],
+        steps: &[
+            Step::Linked(10, &[], &[SETUP]),
+            Step::Linked(10, CONNECT, &[CONNECT_ACKNOWLEDGE]),
+            Step::Without(110),
+            Step::Linked(111, &[], &[RELEASE_16]),
+            Step::Linked(111, FAR_RELEASE_COMPLETE, &[]),
+            Step::Linked(120, &[], &[SETUP_REFERENCE_2]),
+            Step::Linked(120, CONNECT_REFERENCE_2, &[CONNECT_ACKNOWLEDGE_REFERENCE_2]),
+            Step::Without(201),
+        ],
+        outcomes: &[
+            Outcome::Carried {
+                from: 10,
+                until: 60,
+            },
+            Outcome::Live,
+        ],
+        held: Some((2, CallState::DisconnectIndication)),
+        is_broken: false,
+    },
+    Worked {
+        name: "an inward call in N3 waits with its CONNECT for a link",
+        bookings: &[(0, 60, 1, true)],
+        steps: &[
+            Step::Linked(1, &[], &[]),
+            Step::Linked(1, SETUP_REFERENCE_7, &[PROCEEDING_REFERENCE_7]),
+            Step::Without(58),
+            Step::Linked(59, &[], &[CONNECT_REFERENCE_7]),
+        ],
+        outcomes: &[Outcome::Live],
+        held: Some((1, CallState::Active)),
+        is_broken: false,
+    },
+    Worked {
+        name: "a second before its end it is in N3 still, and its end disconnects it",
+        bookings: &[(0, 60, 1, true)],
+        steps: &[
+            Step::Linked(1, &[], &[]),
+            Step::Linked(1, SETUP_REFERENCE_7, &[PROCEEDING_REFERENCE_7]),
+            Step::Without(59),
+            Step::Linked(60, &[], &[DISCONNECT_16_REFERENCE_7]),
+        ],
+        outcomes: &[Outcome::Live],
+        held: Some((1, CallState::DisconnectIndication)),
+        is_broken: false,
+    },
+    Worked {
+        name: "at its end without a link it is cleared, and never was Active",
+        bookings: &[(0, 60, 1, true)],
+        steps: &[
+            Step::Linked(1, &[], &[]),
+            Step::Linked(1, SETUP_REFERENCE_7, &[PROCEEDING_REFERENCE_7]),
+            Step::Without(60),
+        ],
+        outcomes: &[Outcome::Live],
+        held: Some((1, CallState::DisconnectIndication)),
+        is_broken: false,
+    },
+    Worked {
+        name: "behind its end it is released",
+        bookings: &[(0, 60, 1, true)],
+        steps: &[
+            Step::Linked(1, &[], &[]),
+            Step::Linked(1, SETUP_REFERENCE_7, &[PROCEEDING_REFERENCE_7]),
+            Step::Without(75),
+            Step::Linked(76, &[], &[RELEASE_16_REFERENCE_7]),
+        ],
+        outcomes: &[Outcome::Live],
+        held: Some((1, CallState::ReleaseRequest)),
+        is_broken: false,
+    },
+    Worked {
+        name: "a release that was sent twice is not given up without a link",
+        bookings: &[(0, 60, 1, false)],
+        steps: &[
+            Step::Linked(1, &[], &[SETUP]),
+            Step::Linked(1, CONNECT, &[CONNECT_ACKNOWLEDGE]),
+            Step::Linked(60, &[], &[DISCONNECT_16]),
+            Step::Linked(90, &[], &[RELEASE_16]),
+            Step::Linked(94, &[], &[RELEASE_16]),
+            Step::Without(150),
+            Step::Linked(153, &[], &[]),
+        ],
+        outcomes: &[Outcome::Live],
+        held: Some((1, CallState::ReleaseRequest)),
+        is_broken: false,
+    },
+    Worked {
+        name: "it is given up 4 seconds with a link behind its second try",
+        bookings: &[(0, 60, 1, false)],
+        steps: &[
+            Step::Linked(1, &[], &[SETUP]),
+            Step::Linked(1, CONNECT, &[CONNECT_ACKNOWLEDGE]),
+            Step::Linked(60, &[], &[DISCONNECT_16]),
+            Step::Linked(90, &[], &[RELEASE_16]),
+            Step::Linked(94, &[], &[RELEASE_16]),
+            Step::Without(150),
+            Step::Linked(154, &[], &[]),
+        ],
+        outcomes: &[Outcome::Carried { from: 1, until: 60 }],
+        held: None,
+        is_broken: true,
+    },
+];
+
+/// Lets seconds without a link go by to this moment, one by one or at once.
+fn goes_without(exchange: &mut Exchange, moment: u32, at_once: bool) {
+    let seconds = moment.saturating_sub(exchange.moment());
+    if at_once {
+        exchange.skip_without_link(seconds);
+    } else {
+        for _second in 0..seconds {
+            exchange.second_without_link();
+        }
+    }
+}
+
+fn goes(exchange: &mut Exchange, step: Step, at_once: bool) -> bool {
+    match step {
+        Step::Linked(moment, octets, sent) => {
+            first_wrong(exchange, &[(moment, octets, sent)]).is_none()
+        }
+        Step::Without(moment) => {
+            goes_without(exchange, moment, at_once);
+            exchange.moment() == moment
+        }
+    }
+}
+
+/// Whether the outcomes are these, and channel 1 is held and in maintenance as it should be.
+fn is_told(exchange: &Exchange, worked: &Worked) -> bool {
+    let mut told = true;
+    for (row, outcome) in (1..).zip(worked.outcomes) {
+        told &= exchange.outcome(row) == Some(*outcome);
+    }
+    match Channel::new(1) {
+        Some(channel) => {
+            told && exchange.on_channel(channel) == worked.held
+                && exchange.in_maintenance(channel) == worked.is_broken
+        }
+        None => false,
+    }
+}
+
+/// Whether a day goes as it should, with its seconds without a link one by one or at once.
+fn day_goes(alloc: Global, worked: &Worked, at_once: bool) -> Option<bool> {
+    let mut exchange = exchange_of(alloc, worked.bookings)?;
+    let mut same = true;
+    for step in worked.steps {
+        same &= goes(&mut exchange, *step, at_once);
+    }
+    Some(same && is_told(&exchange, worked))
+}
+
+#[test]
+fn worked_outages(rt: HostRuntime) {
+    for worked in &WORKED {
+        let name = worked.name;
+        assert!(rt; day_goes(rt.alloc(), worked, false) == Some(true), "{name}");
+        assert!(rt;
+            day_goes(rt.alloc(), worked, true) == Some(true),
+            "at once: {name}"
+        );
+    }
+}
+
+/// What is told of a booking of the last second behind an outage of 80,000 seconds, and of one longer than the day.
+fn told_behind_hours(alloc: Global) -> Option<[(u32, Outcome); 3]> {
+    let mut exchange = exchange_of(alloc, &[(80_000, 80_001, 1, false)])?;
+    exchange.skip_without_link(80_000);
+    let first = (exchange.moment(), exchange.outcome(1)?);
+    exchange.skip_without_link(1);
+    let second = (exchange.moment(), exchange.outcome(1)?);
+    exchange.skip_without_link(u32::MAX);
+    exchange.second_without_link();
+    Some([first, second, (exchange.moment(), exchange.outcome(1)?)])
+}
+
+#[test]
+fn outage_of_hours(rt: HostRuntime) {
+    assert!(rt;
+        told_behind_hours(rt.alloc())
+            == Some([
+                (80_000, Outcome::Waiting),
+                (80_001, Outcome::Missed),
+                (300_000, Outcome::Missed),
+            ]),
+        "hours"
+    );
+}

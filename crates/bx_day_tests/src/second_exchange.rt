@@ -1,0 +1,287 @@
+//! A second exchange of six bookings on channels 1 and 2, in which a timer is the count of the seconds with a link that are
+//! left of it.
+
+use crate::second_reading::{Heard, read_again};
+use crate::second_tables::{Call, Next, at_network};
+use bx_channels::Channel;
+use bx_day::{Exchange, Outcome};
+use bx_worked_days::Row;
+
+/// A live call: the number of its state, what is left of its timer, whether its message was sent again, and its reference.
+#[derive(Clone, Copy)]
+struct Live {
+    state: u8,
+    left: u32,
+    again: bool,
+    reference: u16,
+}
+
+#[derive(Clone, Copy)]
+enum Course {
+    Refused,
+    Waits,
+    Live(Live),
+    Over,
+    Missed,
+}
+
+/// A booking, and when its call became and left Active.
+#[derive(Clone, Copy)]
+struct Booked {
+    row: Row,
+    course: Course,
+    from: Option<u32>,
+    until: u32,
+}
+
+impl Booked {
+    fn opened(row: Row) -> Booked {
+        Booked {
+            row,
+            course: if row.2 == 0 {
+                Course::Refused
+            } else {
+                Course::Waits
+            },
+            from: None,
+            until: 0,
+        }
+    }
+
+    /// The number of the call's state; 0 where there is none.
+    fn state(&self) -> u8 {
+        match self.course {
+            Course::Live(live) => live.state,
+            _ => 0,
+        }
+    }
+
+    fn runs_at(&self, now: u32) -> bool {
+        self.row.0 <= now && now < self.row.1
+    }
+
+    fn becomes(&mut self, course: Course, now: u32) {
+        if self.state() == 10 {
+            self.until = now;
+        }
+        self.course = course;
+        if self.state() == 10 {
+            self.from = Some(now);
+        }
+    }
+
+    fn goes_to(&mut self, reference: u16, state: u8, left: u32, now: u32) {
+        let live = Live {
+            state,
+            left,
+            again: false,
+            reference,
+        };
+        self.becomes(Course::Live(live), now);
+    }
+
+    /// What a timer does that is due; whether the channel goes into maintenance.
+    fn fires(&mut self, live: Live, now: u32) -> bool {
+        match (live.state, live.again) {
+            (6 | 19, false) => {
+                self.course = Course::Live(Live {
+                    left: 4,
+                    again: true,
+                    ..live
+                });
+            }
+            (6, true) => self.becomes(Course::Over, now),
+            (19, true) => {
+                self.becomes(Course::Over, now);
+                return true;
+            }
+            (12, _) => self.goes_to(live.reference, 19, 4, now),
+            _ => self.goes_to(live.reference, 12, 30, now),
+        }
+        false
+    }
+
+    /// A second of a live call; whether the channel goes into maintenance.
+    fn goes_on(&mut self, live: Live, now: u32, linked: bool) -> bool {
+        let clears = live.state == 12 || live.state == 19;
+        if !clears && self.row.1 <= now {
+            self.goes_to(live.reference, 12, if linked { 30 } else { 1 }, now);
+        } else if linked && live.state == 3 {
+            self.goes_to(live.reference, 10, 0, now);
+        } else if linked && live.state != 10 {
+            let left = live.left.saturating_sub(1);
+            if left == 0 {
+                return self.fires(live, now);
+            }
+            self.course = Course::Live(Live { left, ..live });
+        }
+        false
+    }
+
+    /// A second of a booking of this row number; free says whether its channel may be taken.
+    fn second(&mut self, number: u16, now: u32, linked: bool, free: bool) -> bool {
+        match self.course {
+            Course::Live(live) => return self.goes_on(live, now, linked),
+            Course::Waits if linked && free && !self.row.3 && self.runs_at(now) => {
+                self.goes_to(number, 6, 4, now);
+            }
+            Course::Waits if self.row.1 <= now => self.course = Course::Missed,
+            _ => {}
+        }
+        false
+    }
+
+    /// Whether a message of this reference and flag is of its call.
+    fn is_named(&self, value: u16, flag: bool) -> bool {
+        match self.course {
+            Course::Live(live) => live.reference == value && flag != self.row.3,
+            _ => false,
+        }
+    }
+
+    fn hears(&mut self, heard: &Heard<'_>, reference: u16, now: u32) {
+        let call = Call {
+            state: self.state(),
+            channel: self.row.2,
+            from_network: !self.row.3,
+        };
+        match at_network(call, heard).1 {
+            Next::Same => {}
+            Next::Over => self.becomes(Course::Over, now),
+            Next::To(9) => self.goes_to(reference, 9, 10, now),
+            Next::To(7) => self.goes_to(reference, 7, 180, now),
+            Next::To(state) => self.goes_to(reference, state, 4, now),
+        }
+    }
+
+    fn outcome(&self) -> Outcome {
+        match (self.course, self.from) {
+            (Course::Refused, _) => Outcome::Refused,
+            (Course::Waits, _) => Outcome::Waiting,
+            (Course::Live(_), _) => Outcome::Live,
+            (Course::Over, Some(from)) => Outcome::Carried {
+                from,
+                until: self.until,
+            },
+            (Course::Over, None) => Outcome::Unanswered,
+            (Course::Missed, _) => Outcome::Missed,
+        }
+    }
+}
+
+#[derive(Drop)]
+pub(crate) struct Second {
+    now: u32,
+    booked: [Booked; 6],
+    broken: [bool; 3],
+}
+
+impl Second {
+    pub(crate) fn opened(rows: &[Row; 6]) -> Second {
+        Second {
+            now: 0,
+            booked: [
+                Booked::opened(rows[0]),
+                Booked::opened(rows[1]),
+                Booked::opened(rows[2]),
+                Booked::opened(rows[3]),
+                Booked::opened(rows[4]),
+                Booked::opened(rows[5]),
+            ],
+            broken: [false; 3],
+        }
+    }
+
+    fn is_broken(&self, channel: u8) -> bool {
+        self.broken.get(channel as usize) == Some(&true)
+    }
+
+    /// The row and the state of the call on a channel; 0 and 0 where there is none.
+    pub(crate) fn on_channel(&self, channel: u8) -> (u16, u8) {
+        for (number, booked) in (1..).zip(&self.booked) {
+            if booked.row.2 == channel && booked.state() != 0 {
+                return (number, booked.state());
+            }
+        }
+        (0, 0)
+    }
+
+    fn is_free(&self, channel: u8) -> bool {
+        self.on_channel(channel) == (0, 0) && !self.is_broken(channel)
+    }
+
+    /// A second, with a link or without one.
+    pub(crate) fn second(&mut self, linked: bool) {
+        self.now = self.now.saturating_add(1);
+        let free = [false, self.is_free(1), self.is_free(2)];
+        for (number, booked) in (1..).zip(self.booked.iter_mut()) {
+            let channel = booked.row.2 as usize;
+            let is_free = free.get(channel) == Some(&true);
+            if booked.second(number, self.now, linked, is_free)
+                && let Some(broken) = self.broken.get_mut(channel)
+            {
+                *broken = true;
+            }
+        }
+    }
+
+    /// Lets the far end begin a call on the lowest open channel.
+    fn is_called(&mut self, reference: u16) {
+        let free = [false, self.is_free(1), self.is_free(2)];
+        for channel in 1..3u8 {
+            for booked in self.booked.iter_mut() {
+                if free.get(channel as usize) == Some(&true)
+                    && booked.row.2 == channel
+                    && booked.row.3
+                    && booked.runs_at(self.now)
+                    && matches!(booked.course, Course::Waits)
+                {
+                    booked.goes_to(reference, 3, 0, self.now);
+                    return;
+                }
+            }
+        }
+    }
+
+    /// A message without a channel.
+    pub(crate) fn hears(&mut self, octets: &[u8]) {
+        let Ok(heard) = read_again(octets) else {
+            return;
+        };
+        let Some((value, flag)) = heard.reference else {
+            return;
+        };
+        for booked in self.booked.iter_mut() {
+            if booked.is_named(value, flag) {
+                booked.hears(&heard, value, self.now);
+                return;
+            }
+        }
+        if heard.kind == 0x05 && !flag && heard.bearer_fault().is_none() {
+            self.is_called(value);
+        }
+    }
+
+    fn agrees_on(&self, exchange: &Exchange, channel: Channel) -> bool {
+        let held = match exchange.on_channel(channel) {
+            Some((row, state)) => (row, state.value()),
+            None => (0, 0),
+        };
+        held == self.on_channel(channel.number())
+            && exchange.in_maintenance(channel) == self.is_broken(channel.number())
+    }
+
+    /// Whether the exchange tells the same of each booking and each channel.
+    pub(crate) fn agrees(&self, exchange: &Exchange) -> bool {
+        let mut same = exchange.moment() == self.now;
+        for (row, booked) in (1..).zip(&self.booked) {
+            same &= exchange.outcome(row) == Some(booked.outcome());
+        }
+        for number in 1..3 {
+            if let Some(channel) = Channel::new(number) {
+                same &= self.agrees_on(exchange, channel);
+            }
+        }
+        same
+    }
+}

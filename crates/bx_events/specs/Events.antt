@@ -1,0 +1,12 @@
+-- What the days of both ends go through.
+use Rattle.std.specs.Prelude.{ℕ, List}
+
+-- what an end goes through on its link: a tick, that is a second which goes by, or octets that come
+pub data Event : Type 0 where
+  Tick : Event
+  Receive : (octets : List ℕ) → Event
+
+-- what a live exchange goes through: an event on its link, or a second without one
+pub data LiveEvent : Type 0 where
+  OnLink : (event : Event) → LiveEvent
+  WithoutLink : LiveEvent

@@ -1,0 +1,15 @@
+//! Events of a day.
+
+/// An event of a day on its link: a second that goes by, or octets that come.
+#[derive(Clone, Copy)]
+pub enum Event<'a> {
+    Tick,
+    Receive(&'a [u8]),
+}
+
+/// An event of a live day: one on its link, or a second without a link.
+#[derive(Clone, Copy)]
+pub enum LiveEvent<'a> {
+    OnLink(Event<'a>),
+    WithoutLink,
+}

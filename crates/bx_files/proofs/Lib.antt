@@ -1,2 +1,0 @@
-mod FileRefusals
-pub mod CallTimes

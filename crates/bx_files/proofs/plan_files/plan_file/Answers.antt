@@ -1,5 +1,0 @@
-use Rattle.bx_files.proofs.FileRefusals.{unplanned}
-use Rattle.bx_files.proofs.plan_files.plan_file.Goals as goal
-
-pub returns-clause-refused : goal.returns-clause-refused
-returns-clause-refused g c = unplanned c.args.terms.now _ _ c.in-Ok.named.0 c.in-Ok.named.1 c.in-Err-plan_run.fault c.in-Ok.ensures.named c.in-Err-plan_run.ensures.refused

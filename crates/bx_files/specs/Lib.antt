@@ -1,7 +1,0 @@
-pub mod FilePlans
-pub mod FileRefusals
-pub mod PlanRefusals
-pub mod Pictures
-pub mod Inside
-pub mod Answers
-pub mod FileRequests

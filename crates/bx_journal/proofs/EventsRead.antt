@@ -1,0 +1,108 @@
+-- Lines of events that are read, one more each time.
+use Rattle.std.proofs.Common.{codes, ◌≡◌, ℕ, ◌+◌, ◌<◌, ◌≤◌, Bool, true, false, List, [], ◌∷◌, ◌++◌, length, map, Option, Some, None, refl, ap, sym, ◌∙◌, subst, arith, length-append}
+use Rattle.std.specs.Str.{bytes_eq}
+use Rattle.std.specs.List.{flat_map}
+use Rattle.std.specs.Option.{option_map}
+use Rattle.std.proofs.lemmas.List.{map_push, flat_map_more}
+use Rattle.std.proofs.lemmas.Slice.Eq.{bytes_eq-Decides}
+use Rattle.bx_events.specs.Events.{Tick, Receive, LiveEvent, OnLink, WithoutLink}
+use Rattle.bx_journal.specs.Hex.{hex_of}
+use Rattle.bx_journal.proofs.Digits.{hex_length}
+use Rattle.bx_journal.specs.declared.event.RecordedEvent.{RecordedEvent}
+use Rattle.std.proofs.lemmas.Bool.{ne_eqb}
+use Rattle.bx_journal.specs.declared.fault.JournalFault.TheVariants.{BadLine}
+use Rattle.bx_journal.specs.Held.{Held}
+use Rattle.bx_journal.specs.Events.{IsEvent, recorded_event}
+use Rattle.bx_journal.specs.Lines.{ended}
+use Rattle.bx_journal.specs.Text.{line_of}
+use Rattle.bx_journal.specs.Reading.{event_on, plan_fault}
+use Rattle.bx_journal.specs.Taking.{Takes, TakesLine, TakesEvents, EventsEnd, EventsStop, EventsBreak, Ends, Stops, lines_text}
+use Rattle.bx_journal.proofs.Takings.{takes_then}
+use Rattle.bx_journal.proofs.Spelled.{line_spelled}
+use Rattle.bx_journal.proofs.Recorded.{are_more}
+
+pub text_on : (events : List LiveEvent) (e : LiveEvent) → lines_text (events ++ e ∷ []) ≡ lines_text events ++ ended (line_of e)
+text_on events e = ap (flat_map ended) (map_push line_of events e) ∙ sym (flat_map_more ended [] (map line_of events) (line_of e))
+
+read_as : (o : Option RecordedEvent) (r : RecordedEvent) (line : List ℕ) → option_map recorded_event o ≡ event_on line → o ≡ Some r → event_on line ≡ Some (recorded_event r)
+read_as o r line is some = sym is ∙ ap (option_map recorded_event) some
+
+pub no_event_on : (o : Option RecordedEvent) (line : List ℕ) → option_map recorded_event o ≡ event_on line → o ≡ None → event_on line ≡ None
+no_event_on o line is none = sym is ∙ ap (option_map recorded_event) none
+
+module _ {F : Type 0} (followed : F → List LiveEvent → F → Type 0) (on : (s t u : F) (xs ys : List LiveEvent) → followed s xs t → followed t ys u → followed s (xs ++ ys) u)
+    (f g h : F) (before middle after : Option (List ℕ)) (old mid new : Held) (n : ℕ) where
+  pub event_more : (line : List ℕ) (o : Option RecordedEvent) (r : RecordedEvent) → TakesEvents followed f g n before middle old mid → TakesLine middle after mid new line → option_map recorded_event o ≡ event_on line → o ≡ Some r
+      → followed g (recorded_event r ∷ []) h → TakesEvents followed f h (n + 1) before after old new
+  event_more line o r so_far next is some one =
+      let e = recorded_event r in
+      let spelled = line_spelled line e (read_as o r line is some) in
+      let text : lines_text so_far.events ++ ended line ≡ lines_text (so_far.events ++ e ∷ []) = ap (λ (l : List ℕ). lines_text so_far.events ++ ended l) spelled.spelled ∙ sym (text_on so_far.events e) in
+      record {
+        events = so_far.events ++ e ∷ [];
+        are = are_more so_far.events e so_far.are spelled.octets;
+        takes = subst (Takes before after old new) text (takes_then before middle after old mid new (lines_text so_far.events) (ended line) so_far.takes next.takes);
+        followed_all = on f g h so_far.events (e ∷ []) so_far.followed_all one;
+        number = omega (arith, so_far.number, length-append so_far.events (e ∷ []));
+      }
+
+  pub ended_by : (whole : ℕ) → whole ≡ mid.taken → TakesEvents followed f g n before middle old mid → Ends middle after mid new → EventsEnd followed f g before after old new whole
+  ended_by whole is so_far next = record {
+    events = so_far.events;
+    are = so_far.are;
+    followed_all = so_far.followed_all;
+    torn = next.torn;
+    no_lf = next.part.no_lf;
+    takes = takes_then before middle after old mid new (lines_text so_far.events) next.torn so_far.takes next.part.takes;
+    over = next.over;
+    whole_is = is ∙ so_far.takes.count;
+  }
+
+  pub stopped_by : (faulted : Bool) → TakesEvents followed f g n before middle old mid → Stops faulted middle after mid new → EventsStop followed f g faulted before after old new
+  stopped_by faulted so_far next = record {
+    events = so_far.events;
+    are = so_far.are;
+    followed_all = so_far.followed_all;
+    torn = next.torn;
+    no_lf = next.part.no_lf;
+    takes = takes_then before middle after old mid new (lines_text so_far.events) next.torn so_far.takes next.part.takes;
+    stopped = next.stopped;
+  }
+
+  pub broken_by : (line : List ℕ) → TakesEvents followed f g n before middle old mid → TakesLine middle after mid new line → event_on line ≡ None → EventsBreak followed f g n before after old new
+  broken_by line so_far next bad = record {
+    events = so_far.events;
+    are = so_far.are;
+    followed_all = so_far.followed_all;
+    line = line;
+    no_lf = next.no_lf;
+    takes = takes_then before middle after old mid new (lines_text so_far.events) (ended line) so_far.takes next.takes;
+    no_event = bad;
+    number = so_far.number;
+  }
+
+-- a line of more octets than any that is right has no event
+short : (e : LiveEvent) → IsEvent e → length (line_of e) ≤ 526
+short (OnLink Tick) is = omega arith
+short (OnLink (Receive octets)) is = omega (arith, length-append (codes "heard ") (hex_of 65 octets), hex_length 65 octets, is.1)
+short WithoutLink is = omega arith
+
+none_of : (line : List ℕ) (o : Option LiveEvent) → event_on line ≡ o → 526 < length line → o ≡ None
+none_of line None is long = refl
+none_of line (Some e) is long =
+    let spelled = line_spelled line e is in
+    absurd (omega (arith, long, ap length spelled.spelled, short e spelled.octets))
+
+pub too_long : (line : List ℕ) → 526 < length line → event_on line ≡ None
+too_long line long = none_of line (event_on line) refl long
+
+-- a line that is another one than each of at most 526 octets
+other_line : (line right : List ℕ) (b : Bool) → bytes_eq line right ≡ b → 526 < length line → length right ≤ 526 → b ≡ false
+other_line line right false is long few = refl
+other_line line right true is long few = absurd (omega (arith, long, few, ap length ((bytes_eq-Decides line right).0 is)))
+
+pub long_fault : (line : List ℕ) → 526 < length line → plan_fault line ≡ BadLine 2
+long_fault line long = rw (ne_eqb (length line) 69 (λ e. omega (arith, e, long))) refl
+
+pub long_other : (line right : List ℕ) → 526 < length line → length right ≤ 526 → bytes_eq line right ≡ false
+long_other line right long few = other_line line right (bytes_eq line right) refl long few

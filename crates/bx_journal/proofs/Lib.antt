@@ -1,0 +1,15 @@
+pub mod HexSteps
+pub mod Digits
+pub mod WholeLines
+pub mod ReadAgain
+pub mod Moments
+pub mod Recorded
+pub mod PastContents
+pub mod Fronts
+pub mod Spelled
+pub mod OneText
+pub mod Takings
+pub mod HeadRead
+pub mod EventsRead
+pub mod JournalRead
+pub mod Runs

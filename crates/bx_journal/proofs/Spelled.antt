@@ -1,0 +1,234 @@
+-- What is read is spelled so.
+use Rattle.std.proofs.Common.{codes, ◌≡◌, ℕ, zero, suc, ◌+◌, ◌-◌, ◌*◌, ◌/◌, ◌%◌, ◌≤◌, ◌<◌, ◌==◌, ◌&&◌, Bool, true, false, cond, leb, List, [], ◌∷◌, ◌++◌, length, take, drop, get_or, map, Option, Some, None, Result, Ok, Err, refl, ap, sym, ◌∙◌, subst, arith, length-append, take-append-drop}
+use Rattle.std.specs.Str.{bytes_eq}
+use Rattle.std.specs.List.{flat_map}
+use Rattle.std.specs.Option.{option_map}
+use Rattle.std.proofs.lemmas.List.{take_at, drop_at}
+use Rattle.std.proofs.lemmas.Bool.{eqb-true, leb-true, lt-ltb, le-ltb}
+use Rattle.std.proofs.lemmas.Slice.Eq.{bytes_eq-Decides}
+use Rattle.bx_events.specs.Events.{Tick, LiveEvent, OnLink, WithoutLink}
+use Rattle.bx_journal.specs.declared.fault.JournalFault.{JournalFault}
+use Rattle.bx_journal.specs.Events.{AreOctets, IsEvent, AreEvents}
+use Rattle.bx_journal.specs.Hex.{hex_digit, hex_of, hex_value, octet_of, octets_in, behind_octet}
+use Rattle.bx_journal.specs.Lines.{whole_lines, whole_text, ended, onto}
+use Rattle.bx_journal.specs.Inside.{HasNoLf}
+use Rattle.bx_journal.specs.Text.{line_of, plan_line, lines_of, journal_text}
+use Rattle.bx_journal.specs.Reading.{event_on, heard_on, heard_event, events_on, with_event, tied_events, plan_fault, journal_events, recovered, Recovery, journal_in, with_whole}
+use Rattle.bx_journal.proofs.Digits.{hex_length}
+use Rattle.bx_journal.proofs.WholeLines.{HaveNoLf, lines_whole, torn_line, front_without_lf}
+
+-- a text is its whole lines, and octets without LF
+pub record Split (bytes lines : List ℕ) : Type 0 where
+  pub torn : List ℕ
+  pub is : bytes ≡ lines ++ torn
+  pub none : HasNoLf torn
+
+grow : (b : ℕ) (bytes : List ℕ) (lines : List (List ℕ)) → b == 10 ≡ false → Split bytes (flat_map ended lines) → Split (b ∷ bytes) (flat_map ended (onto b lines))
+grow b bytes [] e s = record { torn = b ∷ s.torn; is = ap (λ (l : List ℕ). b ∷ l) s.is; none = (e, s.none) }
+grow b bytes (line ∷ lines) e s = record { torn = s.torn; is = ap (λ (l : List ℕ). b ∷ l) s.is; none = s.none }
+
+split_step : (t : Bool) (b : ℕ) (bytes : List ℕ) → b == 10 ≡ t → Split bytes (whole_text bytes) → Split (b ∷ bytes) (flat_map ended (cond t ([] ∷ whole_lines bytes) (onto b (whole_lines bytes))))
+split_step true b bytes e s = record { torn = s.torn; is = ap (λ (x : ℕ). x ∷ bytes) (eqb-true b 10 e) ∙ ap (λ (l : List ℕ). 10 ∷ l) s.is; none = s.none }
+split_step false b bytes e s = grow b bytes (whole_lines bytes) e s
+
+pub split : (bytes : List ℕ) → Split bytes (whole_text bytes)
+split [] = record { torn = []; is = refl; none = tt }
+split (b ∷ bytes) = split_step (b == 10) b bytes refl (split bytes)
+
+-- digits
+pub record IsDigitOf (ten d v : ℕ) : Type 0 where
+  pub spelled : hex_digit ten v ≡ d
+  pub small : v < 16
+
+some_inj : {A : Type 0} (x y : A) → Some x ≡ Some y → x ≡ y
+some_inj x y e = cc
+
+letters : (c d : Bool) (ten digit v : ℕ) → leb ten digit ≡ c → leb digit (ten + 5) ≡ d → cond (c && d) (Some (digit - ten + 10)) None ≡ Some v → IsDigitOf ten digit v
+letters true true ten digit v c d e =
+    let a = leb-true ten digit c in
+    let b = leb-true digit (ten + 5) d in
+    let is : digit - ten + 10 ≡ v = some_inj _ _ e in
+    record { spelled = rw (le-ltb v 10 (omega arith)) (omega arith); small = omega arith }
+letters true false ten digit v c d e = absurd cc
+letters false d ten digit v c e f = absurd cc
+
+digits : (a b : Bool) (ten digit v : ℕ) → leb 48 digit ≡ a → leb digit 57 ≡ b → cond (a && b) (Some (digit - 48)) (cond (leb ten digit && leb digit (ten + 5)) (Some (digit - ten + 10)) None) ≡ Some v → IsDigitOf ten digit v
+digits true true ten digit v a b e =
+    let c = leb-true 48 digit a in
+    let d = leb-true digit 57 b in
+    let is : digit - 48 ≡ v = some_inj _ _ e in
+    record { spelled = rw (lt-ltb v 10 (omega arith)) (omega arith); small = omega arith }
+digits true false ten digit v a b e = letters (leb ten digit) (leb digit (ten + 5)) ten digit v refl refl e
+digits false b ten digit v a c e = letters (leb ten digit) (leb digit (ten + 5)) ten digit v refl refl e
+
+pub digit_spelled : (ten digit v : ℕ) → hex_value ten digit ≡ Some v → IsDigitOf ten digit v
+digit_spelled ten digit v e = digits (leb 48 digit) (leb digit 57) ten digit v refl refl e
+
+pub record AreDigitsOf (ten : ℕ) (ds os : List ℕ) : Type 0 where
+  pub spelled : ds ≡ hex_of ten os
+  pub octets : AreOctets os
+
+two : (ten h l : ℕ) (ds : List ℕ) (os : List ℕ) (a b : ℕ) → IsDigitOf ten h a → IsDigitOf ten l b → AreDigitsOf ten ds os → AreDigitsOf ten (h ∷ l ∷ ds) ((a * 16 + b) ∷ os)
+two ten h l ds os a b high low rest =
+    let s = high.small in
+    let t = low.small in
+    let x : (a * 16 + b) / 16 ≡ a = omega arith in
+    let y : (a * 16 + b) % 16 ≡ b = omega arith in
+    record {
+      spelled = rw (x, y, high.spelled, low.spelled, ← rest.spelled) refl;
+      octets = λ i. elim i as (λ k. get_or ((a * 16 + b) ∷ os) k 0 < 256) [ zero ↦ omega arith | suc k ↦ rest.octets k ];
+    }
+
+pair : (ten h l : ℕ) (ds os : List ℕ) (o p : Option ℕ) (r : Option (List ℕ)) → hex_value ten h ≡ o → hex_value ten l ≡ p → ((xs : List ℕ) → r ≡ Some xs → AreDigitsOf ten ds xs)
+    → behind_octet (octet_of o p) r ≡ Some os → AreDigitsOf ten (h ∷ l ∷ ds) os
+pair ten h l ds os None p r eh el more e = absurd cc
+pair ten h l ds os (Some a) None r eh el more e = absurd cc
+pair ten h l ds os (Some a) (Some b) None eh el more e = absurd cc
+pair ten h l ds os (Some a) (Some b) (Some xs) eh el more e =
+    subst (AreDigitsOf ten (h ∷ l ∷ ds)) (some_inj _ _ e) (two ten h l ds xs a b (digit_spelled ten h a eh) (digit_spelled ten l b el) (more xs refl))
+
+pub octets_spelled : (ten : ℕ) (ds os : List ℕ) → octets_in ten ds ≡ Some os → AreDigitsOf ten ds os
+octets_spelled ten [] os e = subst (AreDigitsOf ten []) (some_inj _ _ e) (record { spelled = refl; octets = λ i. omega arith })
+octets_spelled ten (d ∷ []) os e = absurd cc
+octets_spelled ten (h ∷ l ∷ ds) os e = pair ten h l ds os (hex_value ten h) (hex_value ten l) (octets_in ten ds) refl refl (λ xs is. octets_spelled ten ds xs is) e
+
+pub record IsLineOf (line : List ℕ) (e : LiveEvent) : Type 0 where
+  pub spelled : line ≡ line_of e
+  pub octets : IsEvent e
+
+heard : (line : List ℕ) (o : Option (List ℕ)) (e : LiveEvent) → length (drop 6 line) ≤ 520 → octets_in 65 (drop 6 line) ≡ o → take 6 line ≡ codes "heard " → option_map heard_event o ≡ Some e → IsLineOf line e
+heard line None e few is word some = absurd cc
+heard line (Some os) e few is word some =
+    let ds = octets_spelled 65 (drop 6 line) os is in
+    let short : length os ≤ 260 = omega (arith, few, ap length ds.spelled, hex_length 65 os) in
+    subst (IsLineOf line) (some_inj _ _ some) (record {
+      spelled = sym (take-append-drop 6 line) ∙ ap (λ (l : List ℕ). l ++ drop 6 line) word ∙ ap (λ (l : List ℕ). codes "heard " ++ l) ds.spelled;
+      octets = (ds.octets, short);
+    })
+
+limited : (few : Bool) (line : List ℕ) (e : LiveEvent) → leb (length (drop 6 line)) 520 ≡ few → take 6 line ≡ codes "heard " → cond few (option_map heard_event (octets_in 65 (drop 6 line))) None ≡ Some e → IsLineOf line e
+limited true line e few word some = heard line (octets_in 65 (drop 6 line)) e (leb-true _ _ few) refl word some
+limited false line e few word some = absurd cc
+
+forms : (t d h : Bool) (line : List ℕ) (e : LiveEvent) → bytes_eq line (codes "tick") ≡ t → bytes_eq line (codes "down") ≡ d → bytes_eq (take 6 line) (codes "heard ") ≡ h
+    → cond t (Some (OnLink Tick)) (cond d (Some WithoutLink) (cond h (heard_on (drop 6 line)) None)) ≡ Some e → IsLineOf line e
+forms true d h line e is down word some = subst (IsLineOf line) (some_inj _ _ some) (record { spelled = (bytes_eq-Decides line (codes "tick")).0 is; octets = (tt, tt) })
+forms false true h line e is down word some = subst (IsLineOf line) (some_inj _ _ some) (record { spelled = (bytes_eq-Decides line (codes "down")).0 down; octets = (tt, tt) })
+forms false false true line e is down word some = limited (leb (length (drop 6 line)) 520) line e refl ((bytes_eq-Decides (take 6 line) (codes "heard ")).0 word) some
+forms false false false line e is down word some = absurd cc
+
+pub line_spelled : (line : List ℕ) (e : LiveEvent) → event_on line ≡ Some e → IsLineOf line e
+line_spelled line e some = forms (bytes_eq line (codes "tick")) (bytes_eq line (codes "down")) (bytes_eq (take 6 line) (codes "heard ")) line e refl refl refl some
+
+abbrev the_ok : List LiveEvent → Result (List LiveEvent) JournalFault
+the_ok x = Ok x
+
+pub record AreLinesOf (lines : List (List ℕ)) (es : List LiveEvent) : Type 0 where
+  pub spelled : lines ≡ map line_of es
+  pub octets : AreEvents es
+
+ok_inj : (x y : List LiveEvent) → the_ok x ≡ the_ok y → x ≡ y
+ok_inj x y e = cc
+
+one : (n : ℕ) (line : List ℕ) (lines : List (List ℕ)) (es : List LiveEvent) (o : Option LiveEvent) (r : Result (List LiveEvent) JournalFault) → event_on line ≡ o → ((xs : List LiveEvent) → r ≡ Ok xs → AreLinesOf lines xs) → with_event n o r ≡ Ok es → AreLinesOf (line ∷ lines) es
+one n line lines es None r is more e = absurd cc
+one n line lines es (Some x) (Err f) is more e = absurd cc
+one n line lines es (Some x) (Ok xs) is more e =
+    let first = line_spelled line x is in
+    let rest = more xs refl in
+    subst (AreLinesOf (line ∷ lines)) (ok_inj _ _ e) (record { spelled = rw (first.spelled, rest.spelled) refl; octets = (first.octets, rest.octets) })
+
+pub lines_spelled : (n : ℕ) (lines : List (List ℕ)) (es : List LiveEvent) → events_on n lines ≡ Ok es → AreLinesOf lines es
+lines_spelled n [] es e = subst (AreLinesOf []) (ok_inj _ _ e) (record { spelled = refl; octets = tt })
+lines_spelled n (line ∷ lines) es e = one n line lines es (event_on line) (events_on (n + 1) lines) refl (λ xs is. lines_spelled (n + 1) lines xs is) e
+
+pub record IsJournalOf (plan : List ℕ) (lines : List (List ℕ)) (es : List LiveEvent) : Type 0 where
+  pub spelled : lines ≡ lines_of plan es
+  pub octets : AreEvents es
+
+tied : (t : Bool) (plan line : List ℕ) (lines : List (List ℕ)) (es : List LiveEvent) → bytes_eq line (plan_line plan) ≡ t → cond t (events_on 3 lines) (Err (plan_fault line)) ≡ Ok es → (line ≡ plan_line plan) × AreLinesOf lines es
+tied false plan line lines es is e = absurd cc
+tied true plan line lines es is e = ((bytes_eq-Decides line (plan_line plan)).0 is, lines_spelled 3 lines es e)
+
+begun : (plan : List ℕ) (lines : List (List ℕ)) (es : List LiveEvent) → tied_events plan lines ≡ Ok es → lines ≡ plan_line plan ∷ map line_of es × AreEvents es
+begun plan [] es e = absurd cc
+begun plan (line ∷ lines) es e =
+    let t = tied (bytes_eq line (plan_line plan)) plan line lines es refl e in
+    (rw (t.0, t.1.spelled) refl, t.1.octets)
+
+headed : (t : Bool) (plan line : List ℕ) (lines : List (List ℕ)) (es : List LiveEvent) (fault : JournalFault) → bytes_eq line (codes "bx-journal 1") ≡ t → cond t (tied_events plan lines) (Err fault) ≡ Ok es → IsJournalOf plan (line ∷ lines) es
+headed false plan line lines es fault is e = absurd cc
+headed true plan line lines es fault is e =
+    let b = begun plan lines es e in
+    record { spelled = rw ((bytes_eq-Decides line (codes "bx-journal 1")).0 is, b.0) refl; octets = b.1 }
+
+all_lines : (plan : List ℕ) (lines : List (List ℕ)) (es : List LiveEvent) → journal_events plan lines ≡ Ok es → IsJournalOf plan lines es
+all_lines plan [] es e = absurd cc
+all_lines plan (line ∷ lines) es e = headed (bytes_eq line (codes "bx-journal 1")) plan line lines es _ refl e
+
+-- the text of what is read, and octets without LF behind it
+pub recovered_text : (plan bytes : List ℕ) (es : List LiveEvent) → recovered plan bytes ≡ Ok es → (whole_text bytes ≡ journal_text plan es) × AreEvents es
+recovered_text plan bytes es e =
+    let j = all_lines plan (whole_lines bytes) es e in
+    (ap (flat_map ended) j.spelled, j.octets)
+
+-- ---- cutting off what is torn
+
+clean_onto : (b : ℕ) (lines : List (List ℕ)) → b == 10 ≡ false → HaveNoLf lines → HaveNoLf (onto b lines)
+clean_onto b [] e none = tt
+clean_onto b (line ∷ lines) e none = ((e, none.0), none.1)
+
+clean_step : (t : Bool) (b : ℕ) (bytes : List ℕ) → b == 10 ≡ t → HaveNoLf (whole_lines bytes) → HaveNoLf (cond t ([] ∷ whole_lines bytes) (onto b (whole_lines bytes)))
+clean_step true b bytes e none = (tt, none)
+clean_step false b bytes e none = clean_onto b (whole_lines bytes) e none
+
+clean : (bytes : List ℕ) → HaveNoLf (whole_lines bytes)
+clean [] = tt
+clean (b ∷ bytes) = clean_step (b == 10) b bytes refl (clean bytes)
+
+take_past : (xs ys : List ℕ) (m : ℕ) → take (length xs + m) (xs ++ ys) ≡ xs ++ take m ys
+take_past [] ys m = let e : 0 + m ≡ m = omega arith in ap (λ k. take k ys) e
+take_past (x ∷ xs) ys m = let e : suc (length xs) + m ≡ suc (length xs + m) = omega arith in rw e (ap (λ (l : List ℕ). x ∷ l) (take_past xs ys m))
+
+cut_lines : (bytes : List ℕ) (n : ℕ) → length (whole_text bytes) ≤ n → whole_lines (take n bytes) ≡ whole_lines bytes
+cut_lines bytes n le =
+    let s = split bytes in
+    let m = n - length (whole_text bytes) in
+    let e : length (whole_text bytes) + m ≡ n = omega arith in
+    let front : take n bytes ≡ whole_text bytes ++ take m s.torn = ap (λ k. take k bytes) (sym e) ∙ ap (take (length (whole_text bytes) + m)) s.is ∙ take_past (whole_text bytes) s.torn m in
+    ap whole_lines front ∙ lines_whole (whole_lines bytes) (take m s.torn) (clean bytes) (torn_line _ (front_without_lf m s.torn s.none))
+
+-- what is cut off is in no line
+pub recovered_cut : (plan bytes : List ℕ) (n : ℕ) → length (whole_text bytes) ≤ n → recovered plan (take n bytes) ≡ recovered plan bytes
+recovered_cut plan bytes n le = ap (journal_events plan) (cut_lines bytes n le)
+
+pub whole_front : (bytes : List ℕ) → take (length (whole_text bytes)) bytes ≡ whole_text bytes
+whole_front bytes = let s = split bytes in ap (take (length (whole_text bytes))) s.is ∙ take_at (whole_text bytes) s.torn (length (whole_text bytes)) refl
+
+pub torn_behind : (bytes : List ℕ) → whole_lines (drop (length (whole_text bytes)) bytes) ≡ []
+torn_behind bytes =
+    let s = split bytes in
+    ap whole_lines (ap (drop (length (whole_text bytes))) s.is ∙ drop_at (whole_text bytes) s.torn (length (whole_text bytes)) refl) ∙ torn_line s.torn s.none
+
+pub whole_within : (bytes : List ℕ) → length (whole_text bytes) ≤ length bytes
+whole_within bytes = let s = split bytes in omega (arith, ap length s.is, length-append (whole_text bytes) s.torn)
+
+-- the pieces of a recovery
+pub record IsRecovery (plan bytes : List ℕ) (r : Recovery) : Type 0 where
+  pub events : recovered plan bytes ≡ the_ok r.events
+  pub whole : r.whole ≡ length (whole_text bytes)
+
+recovery : (n : ℕ) (plan bytes : List ℕ) (read : Result (List LiveEvent) JournalFault) (r : Recovery) → recovered plan bytes ≡ read → n ≡ length (whole_text bytes) → with_whole n read ≡ Ok r → IsRecovery plan bytes r
+recovery n plan bytes (Err f) r is len e = absurd cc
+recovery n plan bytes (Ok es) r is len e =
+    let same : record { events = es; whole = n } ≡ r = cc in
+    subst (IsRecovery plan bytes) same (record { events = is; whole = len })
+
+pub recovery_parts : (plan bytes : List ℕ) (r : Recovery) → journal_in plan bytes ≡ Ok r → IsRecovery plan bytes r
+recovery_parts plan bytes r e = recovery (length (whole_text bytes)) plan bytes (recovered plan bytes) r refl refl e
+
+pub front_spelled : (plan bytes : List ℕ) (r : Recovery) → journal_in plan bytes ≡ Ok r → (take r.whole bytes ≡ journal_text plan r.events) × (whole_lines (drop r.whole bytes) ≡ []) × AreEvents r.events
+front_spelled plan bytes r e =
+    let p = recovery_parts plan bytes r e in
+    let t = recovered_text plan bytes r.events p.events in
+    (ap (λ k. take k bytes) p.whole ∙ whole_front bytes ∙ t.0, ap (λ k. whole_lines (drop k bytes)) p.whole ∙ torn_behind bytes, t.1)

@@ -1,0 +1,5 @@
+use Rattle.bx_journal.proofs.Spelled.{front_spelled}
+use Rattle.bx_journal.proofs.laws.spelled.Goals as goal
+
+pub returns : goal.returns
+returns c = λ plan octets r e. front_spelled plan octets r e

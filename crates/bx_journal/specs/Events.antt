@@ -1,0 +1,41 @@
+-- What may be put on record.
+use Rattle.std.specs.Prelude.{ℕ, ◌≤◌, ◌<◌, List, [], ◌∷◌, length, slice_index, slice_index_or}
+use Rattle.bx_events.specs.Events.{Tick, Receive, LiveEvent, OnLink, WithoutLink}
+use Rattle.bx_events.specs.Told.{live_event_of}
+use Rattle.bx_events.specs.declared.event.LiveEvent.TheVariants as rust
+use Rattle.bx_events.specs.declared.event.Event.TheVariants as plain
+use Rattle.bx_events.specs.declared.event.LiveEvent as rust_live
+use Rattle.bx_journal.specs.declared.event.RecordedEvent.{RecordedEvent}
+use Rattle.bx_journal.specs.declared.event.RecordedEvent.TheVariants as recorded
+
+-- what came is no longer than the longest message
+abbrev pub IsMessage : LiveEvent → Type 0
+IsMessage (OnLink Tick) = Unit {0}
+IsMessage (OnLink (Receive octets)) = length octets ≤ 260
+IsMessage WithoutLink = Unit {0}
+
+abbrev pub AreOctets : List ℕ → Type 0
+AreOctets octets = (i : ℕ) → slice_index octets i < 256
+
+abbrev pub HasOctets : LiveEvent → Type 0
+HasOctets (OnLink Tick) = Unit {0}
+HasOctets (OnLink (Receive octets)) = AreOctets octets
+HasOctets WithoutLink = Unit {0}
+
+-- an event that has a line: what came are octets, and no more than a message has
+abbrev pub IsEvent : LiveEvent → Type 0
+IsEvent event = HasOctets event × IsMessage event
+
+abbrev pub AreEvents : List LiveEvent → Type 0
+AreEvents [] = Unit {0}
+AreEvents (event ∷ events) = IsEvent event × AreEvents events
+
+-- none of them is longer than the longest message
+abbrev pub AreMessages : List rust_live.LiveEvent → Type 0
+AreMessages events = (i : ℕ) → IsMessage (live_event_of (slice_index_or events i (rust.OnLink plain.Tick)))
+
+-- an event that was read
+abbrev pub recorded_event : RecordedEvent → LiveEvent
+recorded_event recorded.Tick = OnLink Tick
+recorded_event (recorded.Heard octets) = OnLink (Receive octets.items)
+recorded_event recorded.Down = WithoutLink

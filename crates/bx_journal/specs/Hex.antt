@@ -1,0 +1,41 @@
+-- Octets as two hexadecimal digits each, the high one first. The letters are those from the digit of ten on: A to F, or a to f.
+use Rattle.std.specs.Prelude.{ℕ, ◌+◌, ◌-◌, ◌*◌, ◌/◌, ◌%◌, ◌&&◌, nat_lt, nat_le, Bool, List, [], ◌∷◌, ◌++◌, Option, Some, None, is_some, if◌then◌else◌}
+
+-- the digit of a value below 16
+abbrev pub hex_digit : ℕ → ℕ → ℕ
+hex_digit ten value = if nat_lt value 10 then value + 48 else value - 10 + ten
+
+abbrev pub hex_of : ℕ → List ℕ → List ℕ
+hex_of ten [] = []
+hex_of ten (octet ∷ octets) = hex_digit ten (octet / 16) ∷ hex_digit ten (octet % 16) ∷ hex_of ten octets
+
+-- the value of a digit
+abbrev pub hex_value : ℕ → ℕ → Option ℕ
+hex_value ten digit =
+    if nat_le 48 digit && nat_le digit 57 then Some (digit - 48)
+    else if nat_le ten digit && nat_le digit (ten + 5) then Some (digit - ten + 10)
+    else None
+
+abbrev pub is_hex : ℕ → ℕ → Bool
+is_hex ten digit = is_some (hex_value ten digit)
+
+-- the octet of two digits
+abbrev pub octet_of : Option ℕ → Option ℕ → Option ℕ
+octet_of (Some high) (Some low) = Some (high * 16 + low)
+octet_of (Some high) None = None
+octet_of None low = None
+
+-- these octets, and others behind them
+abbrev pub behind : List ℕ → Option (List ℕ) → Option (List ℕ)
+behind front (Some octets) = Some (front ++ octets)
+behind front None = None
+
+abbrev pub behind_octet : Option ℕ → Option (List ℕ) → Option (List ℕ)
+behind_octet (Some octet) octets = behind (octet ∷ []) octets
+behind_octet None octets = None
+
+-- the octets that digits spell, if they do
+abbrev pub octets_in : ℕ → List ℕ → Option (List ℕ)
+octets_in ten [] = Some []
+octets_in ten (high ∷ []) = None
+octets_in ten (high ∷ low ∷ digits) = behind_octet (octet_of (hex_value ten high) (hex_value ten low)) (octets_in ten digits)

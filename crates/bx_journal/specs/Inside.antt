@@ -1,0 +1,10 @@
+-- Private: what its functions promise one another.
+use Rattle.std.specs.Prelude.{◌≡◌, ◌≤◌, ◌==◌, ℕ, false, List, [], ◌∷◌, take}
+
+-- a cut to len octets that a crash cuts short: a front of the text, with at least these
+abbrev pub IsCutBack : ℕ → List ℕ → List ℕ → Type 0
+IsCutBack len text left = (n : ℕ) × (len ≤ n) × (left ≡ take n text)
+
+abbrev pub HasNoLf : List ℕ → Type 0
+HasNoLf [] = Unit {0}
+HasNoLf (octet ∷ octets) = (octet == 10 ≡ false) × HasNoLf octets

@@ -1,0 +1,15 @@
+pub mod Lines
+pub mod Hex
+pub mod Events
+pub mod Text
+pub mod Reading
+pub mod Inside
+pub mod Held
+pub mod Taking
+pub mod Follows
+pub mod Disk
+pub mod Recording
+pub mod Past
+pub mod Memory
+pub mod Resuming
+pub mod MemoryInside

@@ -1,0 +1,140 @@
+-- Private: what is taken from a device that is read in pieces.
+use Rattle.std.specs.Prelude.{◌≡◌, ◌⊎◌, ℕ, ◌+◌, ◌<◌, Bool, true, false, List, [], ◌∷◌, ◌++◌, length, map, Option, Some, None, Result, Ok, Err}
+use Rattle.std.specs.List.{flat_map}
+use Rattle.std.specs.Str.{bytes_eq}
+use Rattle.std.specs.Io.KnownBytes.{Consumes, IsAtEnd}
+use Rattle.bx_events.specs.Events.{LiveEvent}
+use Rattle.bx_journal.specs.declared.fault.JournalFault.{JournalFault}
+use Rattle.bx_journal.specs.declared.fault.JournalFault.TheVariants.{BadLine, OtherPlan, NotBegun, ReadFailed}
+use Rattle.bx_journal.specs.declared.pieces.CannotRead.{CannotRead}
+use Rattle.bx_journal.specs.declared.line_reading.LineEnd.{LineEnd}
+use Rattle.bx_journal.specs.declared.line_reading.LineEnd.TheVariants.{Whole, TooLong, Torn}
+use Rattle.bx_journal.specs.Held.{Held}
+use Rattle.bx_journal.specs.Events.{AreEvents}
+use Rattle.bx_journal.specs.Lines.{ended}
+use Rattle.bx_journal.specs.Inside.{HasNoLf}
+use Rattle.bx_journal.specs.Reading.{event_on}
+use Rattle.bx_journal.specs.Text.{line_of}
+
+-- These octets were taken: they stood first in what was held and in what was read behind it.
+pub record Takes (before after : Option (List ℕ)) (old new : Held) (front : List ℕ) : Type 0 where
+  pub read : List ℕ
+  pub consumed : Consumes before after read
+  pub split : old.octets ++ read ≡ front ++ new.octets
+  pub count : new.taken ≡ old.taken + length front
+
+-- the same of octets without LF
+pub record TakesPart (before after : Option (List ℕ)) (old new : Held) (part : List ℕ) : Type 0 where
+  pub takes : Takes before after old new part
+  pub no_lf : HasNoLf part
+
+-- the same of a line and its LF
+pub record TakesLine (before after : Option (List ℕ)) (old new : Held) (line : List ℕ) : Type 0 where
+  pub takes : Takes before after old new (ended line)
+  pub no_lf : HasNoLf line
+
+-- nothing is left
+pub record IsOver (after : Option (List ℕ)) (new : Held) : Type 0 where
+  pub at_end : IsAtEnd after
+  pub none : new.octets ≡ []
+
+-- a read failed, or as many octets were taken as are counted
+abbrev pub HasStopped : Bool → Held → Type 0
+HasStopped faulted new = ((faulted ≡ true) × (new.octets ≡ [])) ⊎ (new.taken ≡ 18446744073709551615)
+
+-- the end inside a line, and a stop there
+pub record Ends (before after : Option (List ℕ)) (old new : Held) : Type 0 where
+  pub torn : List ℕ
+  pub part : TakesPart before after old new torn
+  pub over : IsOver after new
+
+pub record Stops (faulted : Bool) (before after : Option (List ℕ)) (old new : Held) : Type 0 where
+  pub torn : List ℕ
+  pub part : TakesPart before after old new torn
+  pub stopped : HasStopped faulted new
+
+abbrev pub IsOctet : Bool → Option (List ℕ) → Option (List ℕ) → Held → Held → Result (Option ℕ) CannotRead → Type 0
+IsOctet faulted before after old new (Ok (Some octet)) = Takes before after old new (octet ∷ [])
+IsOctet faulted before after old new (Ok None) = Takes before after old new [] × IsOver after new
+IsOctet faulted before after old new (Err fault) = Takes before after old new [] × (faulted ≡ true) × (new.octets ≡ [])
+
+-- the rest of a line that is too long
+abbrev pub IsSkipped : Bool → Option (List ℕ) → Option (List ℕ) → Held → Held → Result LineEnd CannotRead → Type 0
+IsSkipped faulted before after old new (Ok Whole) = ⊥
+IsSkipped faulted before after old new (Ok TooLong) = (line : List ℕ) × TakesLine before after old new line
+IsSkipped faulted before after old new (Ok Torn) = Ends before after old new
+IsSkipped faulted before after old new (Err fault) = Stops faulted before after old new
+
+abbrev pub IsLine : Bool → Option (List ℕ) → Option (List ℕ) → Held → Held → List ℕ → Result LineEnd CannotRead → Type 0
+IsLine faulted before after old new line (Ok Whole) = TakesLine before after old new line
+IsLine faulted before after old new line (Ok TooLong) = (long : List ℕ) × TakesLine before after old new long × (526 < length long)
+IsLine faulted before after old new line (Ok Torn) = Ends before after old new
+IsLine faulted before after old new line (Err fault) = Stops faulted before after old new
+
+-- whatever else stands in the first line
+abbrev pub first_fault : List ℕ → JournalFault
+first_fault line = BadLine 1
+
+-- a line of the head that is another one, and its fault
+pub record IsOther (right : List ℕ) (fault_of : List ℕ → JournalFault) (fault : JournalFault) (before after : Option (List ℕ)) (old new : Held) : Type 0 where
+  pub line : List ℕ
+  pub takes : TakesLine before after old new line
+  pub other : bytes_eq line right ≡ false
+  pub fault_is : fault_of line ≡ fault
+
+-- a line of the head
+abbrev pub IsHeadLine : List ℕ → (List ℕ → JournalFault) → Bool → Option (List ℕ) → Option (List ℕ) → Held → Held → Result (Unit {0}) JournalFault → Type 0
+IsHeadLine right fault_of faulted before after old new (Ok done) = Takes before after old new (ended right)
+IsHeadLine right fault_of faulted before after old new (Err (BadLine n)) = IsOther right fault_of (BadLine n) before after old new
+IsHeadLine right fault_of faulted before after old new (Err OtherPlan) = IsOther right fault_of OtherPlan before after old new
+IsHeadLine right fault_of faulted before after old new (Err NotBegun) = Ends before after old new
+IsHeadLine right fault_of faulted before after old new (Err ReadFailed) = Stops faulted before after old new
+
+-- the lines of events
+abbrev pub lines_text : List LiveEvent → List ℕ
+lines_text events = flat_map ended (map line_of events)
+
+-- events were followed, and their lines taken, of which the next one is line n
+pub record TakesEvents {F : Type 0} (followed : F → List LiveEvent → F → Type 0) (f g : F) (n : ℕ) (before after : Option (List ℕ)) (old new : Held) : Type 0 where
+  pub events : List LiveEvent
+  pub are : AreEvents events
+  pub takes : Takes before after old new (lines_text events)
+  pub followed_all : followed f events g
+  pub number : n ≡ 3 + length events
+
+-- the same, and what stands behind these lines
+pub record EventsEnd {F : Type 0} (followed : F → List LiveEvent → F → Type 0) (f g : F) (before after : Option (List ℕ)) (old new : Held) (whole : ℕ) : Type 0 where
+  pub events : List LiveEvent
+  pub are : AreEvents events
+  pub followed_all : followed f events g
+  pub torn : List ℕ
+  pub no_lf : HasNoLf torn
+  pub takes : Takes before after old new (lines_text events ++ torn)
+  pub over : IsOver after new
+  pub whole_is : whole ≡ old.taken + length (lines_text events)
+
+pub record EventsStop {F : Type 0} (followed : F → List LiveEvent → F → Type 0) (f g : F) (faulted : Bool) (before after : Option (List ℕ)) (old new : Held) : Type 0 where
+  pub events : List LiveEvent
+  pub are : AreEvents events
+  pub followed_all : followed f events g
+  pub torn : List ℕ
+  pub no_lf : HasNoLf torn
+  pub takes : Takes before after old new (lines_text events ++ torn)
+  pub stopped : HasStopped faulted new
+
+pub record EventsBreak {F : Type 0} (followed : F → List LiveEvent → F → Type 0) (f g : F) (n : ℕ) (before after : Option (List ℕ)) (old new : Held) : Type 0 where
+  pub events : List LiveEvent
+  pub are : AreEvents events
+  pub followed_all : followed f events g
+  pub line : List ℕ
+  pub no_lf : HasNoLf line
+  pub takes : Takes before after old new (lines_text events ++ ended line)
+  pub no_event : event_on line ≡ None
+  pub number : n ≡ 3 + length events
+
+abbrev pub AreEventLines : {F : Type 0} → (F → List LiveEvent → F → Type 0) → F → F → Bool → Option (List ℕ) → Option (List ℕ) → Held → Held → Result ℕ JournalFault → Type 0
+AreEventLines followed f g faulted before after old new (Ok whole) = EventsEnd followed f g before after old new whole
+AreEventLines followed f g faulted before after old new (Err (BadLine n)) = EventsBreak followed f g n before after old new
+AreEventLines followed f g faulted before after old new (Err OtherPlan) = ⊥
+AreEventLines followed f g faulted before after old new (Err NotBegun) = ⊥
+AreEventLines followed f g faulted before after old new (Err ReadFailed) = EventsStop followed f g faulted before after old new

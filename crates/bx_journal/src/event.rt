@@ -1,0 +1,30 @@
+//! Events as they are read.
+
+ghost use Rattle.std.specs.Prelude.{◌≡◌};
+
+use bx_events::{Event, LiveEvent};
+use bx_q931::Octets;
+
+/// An event of a live day, with the octets that came.
+#[derive(Drop)]
+pub enum RecordedEvent {
+    Tick,
+    Heard(Octets),
+    Down,
+}
+
+impl RecordedEvent {
+    ghost use Rattle.bx_events.specs.Told.{live_event_of};
+    ghost use Rattle.bx_journal.specs.Events.{recorded_event};
+
+    /// The event, whose octets stay where they are.
+    pub fn as_event(&self) -> LiveEvent<'_>
+        ensures { live_event_of result ≡ recorded_event self.now }
+    {
+        match self {
+            RecordedEvent::Tick => LiveEvent::OnLink(Event::Tick),
+            RecordedEvent::Heard(octets) => LiveEvent::OnLink(Event::Receive(octets)),
+            RecordedEvent::Down => LiveEvent::WithoutLink,
+        }
+    }
+}

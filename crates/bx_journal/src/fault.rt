@@ -1,0 +1,20 @@
+//! Why a journal was not read.
+
+use thiserror::Error;
+
+/// The first fault of the text of a journal, in the order of its lines, or why it was not read to its end. Lines are counted from 1.
+#[derive(Clone, Copy, Debug, PartialEq, Eq, Error)]
+pub enum JournalFault {
+    /// A whole line has another form than the one that belongs in its place.
+    #[error("J1 BadLine {0}")]
+    BadLine(u64),
+    /// The second line names another plan.
+    #[error("J2 OtherPlan")]
+    OtherPlan,
+    /// The text ends inside its first two lines, so no event is on record.
+    #[error("NotBegun")]
+    NotBegun,
+    /// A read failed.
+    #[error("ReadFailed")]
+    ReadFailed,
+}

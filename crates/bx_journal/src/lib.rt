@@ -1,0 +1,32 @@
+//! The journal of a day: each event is on record before what is sent for it goes out.
+#![tactic(auto)]
+
+mod beginning;
+mod digest;
+mod disk;
+mod event;
+mod event_reading;
+mod fault;
+mod file;
+mod head_reading;
+mod hex;
+pub mod laws;
+mod line_reading;
+mod memory;
+mod pieces;
+mod reading;
+mod recording;
+mod resuming;
+mod written;
+
+pub use beginning::begin;
+pub use bx_events::{Event, LiveEvent};
+pub use digest::plan_digest;
+pub use disk::{Disk, DiskFailed};
+pub use event::RecordedEvent;
+pub use fault::JournalFault;
+pub use file::FileDisk;
+pub use memory::MemoryDisk;
+pub use reading::{Follower, read_journal};
+pub use recording::{commit, record_event, record_events, write_event};
+pub use resuming::resume;

@@ -1,0 +1,83 @@
+//! Reading a journal, whose events are followed one by one.
+
+ghost use Rattle.std.specs.Prelude.{◌≡◌, ◌≤◌, ◌++◌, ◌∷◌, [], List, Err, ◌⊎◌};
+ghost use Rattle.bx_devices.specs.Watching.{device_of, is_faulted};
+ghost use Rattle.bx_events.specs.Events.{LiveEvent};
+ghost use Rattle.bx_journal.specs.Events.{recorded_event};
+ghost use Rattle.bx_journal.specs.Follows.{IsFollowed};
+ghost use Rattle.bx_journal.specs.Taking.{AreEventLines};
+
+use crate::event::RecordedEvent;
+use crate::event_reading::event_on;
+use crate::fault::JournalFault;
+use crate::head_reading::{read_plan_line, read_version};
+use crate::line_reading::{LineEnd, WholeLine, next_line};
+use crate::pieces::Pieces;
+use bx_devices::Watched;
+use std::io::Read;
+
+/// What follows a journal as it is read: each event happens to it in turn. `followed` says what it is after events; it may
+/// keep something of them besides, as a capture does.
+pub trait Follower {
+    ghost followed: { Self → List LiveEvent → Self → Type 0 };
+
+    /// The next event happens.
+    fn follow(&mut self, event: &RecordedEvent)
+        ensures { followed self.old (recorded_event event.now ∷ []) self.new };
+
+    ghost follows_none: { (s : Self) → followed s [] s };
+
+    ghost follows_on: { (s t u : Self) (xs ys : List LiveEvent) → followed s xs t → followed t ys u → followed s (xs ++ ys) u };
+}
+
+/// Reads lines to the end, the first of which is line 3, and answers how many octets stand before what is torn.
+fn read_events<R: Read, F: Follower>(
+    pieces: &mut Pieces,
+    device: &mut Watched<R>,
+    follower: &mut F,
+) -> Result<u64, JournalFault>
+    requires { 3 ≤ pieces.old.taken }
+    ensures lines { AreEventLines F.followed follower.old follower.new (is_faulted device.new) (R.remaining (device_of device.old)) (R.remaining (device_of device.new)) pieces.old pieces.new result }
+    ensures unfaulted { (is_faulted device.new ≡ is_faulted device.old) ⊎ (result ≡ Err JournalFault.ReadFailed) }
+{
+    let mut line = WholeLine::new();
+    let mut n = 3u64;
+    while pieces.taken() < u64::MAX {
+        let whole = pieces.taken();
+        match next_line(pieces, device, &mut line) {
+            Ok(LineEnd::Whole) => match event_on(&line) {
+                Some(event) => follower.follow(&event),
+                None => return Err(JournalFault::BadLine(n)),
+            },
+            Ok(LineEnd::TooLong) => return Err(JournalFault::BadLine(n)),
+            Ok(LineEnd::Torn) => return Ok(whole),
+            Err(_) => return Err(JournalFault::ReadFailed),
+        }
+        n += 1;
+    }
+    Err(JournalFault::ReadFailed)
+}
+
+/// Reads the journal of a plan to its end, and lets its events be followed one by one. It keeps neither the text nor the
+/// events, so a journal may be of any length. Answers how many octets are whole lines: what stands behind them is what a
+/// crash cut, and is dropped. Lines are read in order, and the first fault is answered. What was read of a device that does
+/// not tell its octets is some text, of which the same is said.
+pub fn read_journal<R: Read, F: Follower>(
+    device: &mut Watched<R>,
+    plan: &[u8; 32],
+    follower: &mut F,
+) -> Result<u64, JournalFault>
+    ensures read { IsFollowed F.followed (is_faulted device.new) (R.remaining (device_of device.old)) (R.remaining (device_of device.new)) plan.now follower.old follower.new result }
+    ensures unfaulted { (is_faulted device.new ≡ is_faulted device.old) ⊎ (result ≡ Err JournalFault.ReadFailed) }
+{
+    let mut pieces = Pieces::new();
+    match read_version(&mut pieces, device) {
+        Ok(()) => {}
+        Err(fault) => return Err(fault),
+    }
+    match read_plan_line(&mut pieces, device, plan) {
+        Ok(()) => {}
+        Err(fault) => return Err(fault),
+    }
+    read_events(&mut pieces, device, follower)
+}

@@ -1,0 +1,68 @@
+//! Putting events on record.
+
+ghost use Rattle.std.specs.Prelude.{◌≡◌, ◌≤◌, ◌++◌, ◌∷◌, [], ℕ, List, map, IsTrue, OnOk, OnErr};
+ghost use Rattle.bx_events.specs.Events.{LiveEvent as PlainEvent};
+ghost use Rattle.bx_journal.specs.Disk.{LeavesOnly};
+ghost use Rattle.bx_events.specs.Told.{live_event_of};
+ghost use Rattle.bx_journal.specs.Events.{IsMessage, AreMessages};
+ghost use Rattle.bx_journal.specs.Recording.{IsSettled, IsPending, IsFront, Records};
+
+use crate::disk::{Disk, DiskFailed};
+use crate::written::line_of;
+use bx_events::LiveEvent;
+
+/// Writes the line of an event behind the others. It is on record when the journal is committed, and not before.
+pub fn write_event<D: Disk>(disk: &mut D, event: LiveEvent<'_>) -> Result<(), DiskFailed>
+    requires { IsMessage (live_event_of event) }
+    ensures written { OnOk result ((plan : List ℕ) (events more : List PlainEvent) → IsPending D.holds D.may_leave disk.old plan events more → IsPending D.holds D.may_leave disk.new plan events (more ++ live_event_of event.entry ∷ [])) }
+    // A crash at any moment of the call leaves the events that are on record, and a front of the others.
+    ensures any_moment { (plan : List ℕ) (events more : List PlainEvent) → IsPending D.holds D.may_leave disk.old plan events more → LeavesOnly D.moment D.left_since disk.old disk.new (IsFront plan events (more ++ live_event_of event.entry ∷ [])) }
+    // It does not give up by itself.
+    ensures failed { OnErr result (IsTrue (D.has_failed disk.new)) }
+    ensures unfailed { OnOk result (D.has_failed disk.new ≡ D.has_failed disk.old) }
+{
+    let line = line_of(event);
+    disk.append(&line)
+}
+
+/// Puts all events that were written on record. At `Ok` each crash from then on leaves a text that has them. At `Err` some of them
+/// may be on record: none must be acted on, and the journal has to be read again before anything else is written to it.
+pub fn commit<D: Disk>(disk: &mut D) -> Result<(), DiskFailed>
+    ensures committed { OnOk result ((plan : List ℕ) (events more : List PlainEvent) → IsPending D.holds D.may_leave disk.old plan events more → IsSettled D.holds D.may_leave disk.new plan (events ++ more)) }
+    ensures any_moment { (plan : List ℕ) (events more : List PlainEvent) → IsPending D.holds D.may_leave disk.old plan events more → LeavesOnly D.moment D.left_since disk.old disk.new (IsFront plan events more) }
+    ensures failed { OnErr result (IsTrue (D.has_failed disk.new)) }
+    ensures unfailed { OnOk result (D.has_failed disk.new ≡ D.has_failed disk.old) }
+{
+    disk.sync()
+}
+
+/// Puts an event on record: it is to be called before anything is done about the event. At `Ok` each crash from then on leaves a
+/// text that has it. At `Err` it may be on record or not.
+pub fn record_event<D: Disk>(disk: &mut D, event: LiveEvent<'_>) -> Result<(), DiskFailed>
+    requires { IsMessage (live_event_of event) }
+    ensures recorded { OnOk result ((plan : List ℕ) (events : List PlainEvent) → IsSettled D.holds D.may_leave disk.old plan events → IsSettled D.holds D.may_leave disk.new plan (events ++ live_event_of event.entry ∷ [])) }
+    // What a run of such calls leaves is a law (`laws::front_is_left`).
+    ensures step { OnOk result (Records D.holds D.may_leave D.moment D.left_since disk.old (live_event_of event.entry) disk.new) }
+    // A crash at any moment of the call leaves the events from before it, with the new one or without.
+    ensures any_moment { (plan : List ℕ) (events : List PlainEvent) → IsSettled D.holds D.may_leave disk.old plan events → LeavesOnly D.moment D.left_since disk.old disk.new (IsFront plan events (live_event_of event.entry ∷ [])) }
+    ensures failed { OnErr result (IsTrue (D.has_failed disk.new)) }
+    ensures unfailed { OnOk result (D.has_failed disk.new ≡ D.has_failed disk.old) }
+{
+    write_event(disk, event)?;
+    commit(disk)
+}
+
+/// Puts events on record by one sync, as those of a turn before what is sent in it goes out.
+pub fn record_events<D: Disk>(disk: &mut D, events: &[LiveEvent<'_>]) -> Result<(), DiskFailed>
+    requires { AreMessages events.now }
+    ensures recorded { OnOk result ((plan : List ℕ) (before : List PlainEvent) → IsSettled D.holds D.may_leave disk.old plan before → IsSettled D.holds D.may_leave disk.new plan (before ++ map live_event_of events.now)) }
+    // A crash at any moment of the call leaves the events from before it, and a front of these: none is skipped.
+    ensures any_moment { (plan : List ℕ) (before : List PlainEvent) → IsSettled D.holds D.may_leave disk.old plan before → LeavesOnly D.moment D.left_since disk.old disk.new (IsFront plan before (map live_event_of events.now)) }
+    ensures failed { OnErr result (IsTrue (D.has_failed disk.new)) }
+    ensures unfailed { OnOk result (D.has_failed disk.new ≡ D.has_failed disk.old) }
+{
+    for event in events {
+        write_event(disk, *event)?;
+    }
+    commit(disk)
+}

@@ -1,0 +1,95 @@
+//! What a crash leaves of events that are put on record.
+
+use crate::losing_disk::{LosingDisk, events_read};
+use crate::told::reading;
+use crate::worked::{DOWN, ENDS, ENQUIRY, PLAN, TEXT, TICK};
+use arrayvec::ArrayVec;
+use bx_journal::{
+    Event, JournalFault, LiveEvent, begin, commit, record_event, record_events, resume, write_event,
+};
+use std::test::Fail;
+
+/// Puts the events of the worked journal on record, and answers for how many that was done before a call failed.
+fn recorded(disk: &mut LosingDisk) -> u64 {
+    if begin(disk, &PLAN).is_err() || record_event(disk, TICK).is_err() {
+        return 0;
+    }
+    if record_event(disk, LiveEvent::OnLink(Event::Receive(&ENQUIRY))).is_err() {
+        return 1;
+    }
+    if record_events(disk, &[DOWN, TICK]).is_err() {
+        return 2;
+    }
+    let nothing = LiveEvent::OnLink(Event::Receive(&[]));
+    if write_event(disk, nothing).is_err() || commit(disk).is_err() {
+        return 4;
+    }
+    5
+}
+
+/// Whether what a crash left is a front of the worked journal, with so many events at least.
+fn is_front(left: &[u8], least: u64) -> bool {
+    if !TEXT.starts_with(left) {
+        return false;
+    }
+    let read = reading(left, &PLAN);
+    match read.answer {
+        Ok(_) => events_read(&read) >= least,
+        Err(fault) => fault == JournalFault::NotBegun && least == 0,
+    }
+}
+
+/// Whether each crash behind so many calls leaves a front.
+fn are_fronts(calls: u32) -> bool {
+    let mut disk = LosingDisk::new(ArrayVec::new(), calls);
+    let done = recorded(&mut disk);
+    let len = disk.octets.len();
+    let mut fronts = true;
+    for kept in disk.synced..len + 1 {
+        fronts = fronts && kept <= len && is_front(&disk.octets.as_slice()[..kept.min(len)], done);
+    }
+    fronts
+}
+
+#[test]
+fn what_a_crash_leaves_is_a_front(rt: HostRuntime) -> Result<(), Fail> {
+    let mut fronts = true;
+    for calls in 0..12u32 {
+        fronts = fronts && are_fronts(calls);
+    }
+    assert!(rt; fronts);
+    let mut disk = LosingDisk::new(ArrayVec::new(), 12);
+    assert_eq!(rt; recorded(&mut disk), 5);
+    assert_eq!(rt; disk.octets.as_slice(), TEXT);
+    assert_eq!(rt; disk.synced, 122);
+    Ok(())
+}
+
+/// Whether a journal of which so many octets are left goes on behind its last whole line.
+fn goes_on(len: usize) -> bool {
+    let left = &TEXT[..len.min(TEXT.len())];
+    let Ok(whole) = reading(left, &PLAN).answer else {
+        return false;
+    };
+    let Ok(octets) = ArrayVec::try_from(left) else {
+        return false;
+    };
+    let mut disk = LosingDisk::new(octets, 100);
+    if resume(&mut disk, whole).is_err() || record_event(&mut disk, DOWN).is_err() {
+        return false;
+    }
+    let rest = disk.octets.as_slice();
+    let front = (whole as usize).min(TEXT.len());
+    ENDS.contains(&whole) && rest.strip_prefix(&TEXT[..front]) == Some(b"down\n".as_slice())
+}
+
+#[test]
+fn a_torn_line_is_cut_off(rt: HostRuntime) -> Result<(), Fail> {
+    let mut all = true;
+    for len in 83..=TEXT.len() {
+        all = all && goes_on(len);
+    }
+    assert!(rt; all);
+    assert!(rt; !goes_on(82));
+    Ok(())
+}

@@ -1,0 +1,109 @@
+//! What is read of a journal, whatever has become of its text.
+
+use crate::plain_reading::plain_reading;
+use crate::told::reading;
+use crate::worked::{PLAN, TEXT};
+use arrayvec::ArrayVec;
+use bx_devices::Failing;
+use bx_journal::{JournalFault, plan_digest};
+use std::alloc::Global;
+use std::test::Fail;
+
+/// Whether both readers say the same of a text.
+fn is_same(text: &[u8]) -> bool {
+    let read = reading(text, &PLAN);
+    let plain = plain_reading(text);
+    read.answer == plain.answer && read.marks.as_slice() == plain.marks.as_slice()
+}
+
+/// Whether both say the same where one octet is another one.
+fn is_same_turned(at: usize, value: u8) -> bool {
+    let mut text = ArrayVec::<u8, 160>::new();
+    for (place, octet) in TEXT.iter().enumerate() {
+        let _ = text.try_push(if place == at { value } else { *octet });
+    }
+    is_same(&text)
+}
+
+#[test]
+fn the_worked_journal_is_read(rt: HostRuntime) -> Result<(), Fail> {
+    let read = reading(TEXT, &PLAN);
+    assert!(rt; read.answer == Ok(122));
+    assert_eq!(rt;
+        read.marks.as_slice(),
+        b"th\x08\x02\x01\x00\x75.dth.".as_slice()
+    );
+    Ok(())
+}
+
+#[test]
+fn each_front_is_read(rt: HostRuntime) -> Result<(), Fail> {
+    let mut same = true;
+    for len in 0..=TEXT.len() {
+        same = same && is_same(&TEXT[..len]);
+    }
+    assert!(rt; same);
+    Ok(())
+}
+
+#[test]
+fn each_octet_may_be_another(rt: HostRuntime) -> Result<(), Fail> {
+    let mut same = true;
+    for at in 0..TEXT.len() {
+        for value in 0..=255u8 {
+            same = same && is_same_turned(at, value);
+        }
+    }
+    assert!(rt; same);
+    Ok(())
+}
+
+/// Whether a failed read behind so many octets leaves the events of the whole lines before it.
+fn is_cut_off(reads: u32) -> bool {
+    let read = reading(Failing::new(TEXT, reads, 1), &PLAN);
+    let plain = plain_reading(&TEXT[..(reads as usize).min(TEXT.len())]);
+    read.answer == Err(JournalFault::ReadFailed) && read.marks.as_slice() == plain.marks.as_slice()
+}
+
+#[test]
+fn each_read_may_fail(rt: HostRuntime) -> Result<(), Fail> {
+    let mut same = true;
+    for reads in 0..=122u32 {
+        same = same && is_cut_off(reads);
+    }
+    assert!(rt; same);
+    let whole = reading(Failing::new(TEXT, 123, 1), &PLAN);
+    assert!(rt; whole.answer == Ok(122));
+    Ok(())
+}
+
+#[test]
+fn another_plan_is_named(rt: HostRuntime) -> Result<(), Fail> {
+    // The digest of FIPS 180-4's one-block message.
+    let other = plan_digest(b"abc");
+    let read = reading(TEXT, &other);
+    assert!(rt; read.answer == Err(JournalFault::OtherPlan));
+    assert_eq!(rt; read.marks.as_slice(), b"".as_slice());
+    Ok(())
+}
+
+/// What is read of the head and so many digits behind `heard `, with an end of the line or without.
+fn heard_digits(alloc: Global, digits: u32, end: &[u8]) -> Option<Result<u64, JournalFault>> {
+    let mut text = TEXT[..83].to_vec(alloc).ok()?;
+    text.extend_from_slice(b"heard ").ok()?;
+    for _ in 0..digits {
+        text.push(b'0').ok()?;
+    }
+    text.extend_from_slice(end).ok()?;
+    Some(reading(text.as_slice(), &PLAN).answer)
+}
+
+#[test]
+fn no_line_is_longer_than_that_of_the_longest_message(rt: HostRuntime) -> Result<(), Fail> {
+    let alloc = rt.alloc();
+    assert!(rt; heard_digits(alloc, 520, b"\n") == Some(Ok(610)));
+    assert!(rt; heard_digits(alloc, 522, b"\n") == Some(Err(JournalFault::BadLine(3))));
+    assert!(rt; heard_digits(alloc, 20_000, b"\n") == Some(Err(JournalFault::BadLine(3))));
+    assert!(rt; heard_digits(alloc, 20_000, b"") == Some(Ok(83)));
+    Ok(())
+}

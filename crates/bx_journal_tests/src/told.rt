@@ -1,0 +1,57 @@
+//! What follows a journal in the tests: it writes down what happens.
+
+use arrayvec::ArrayVec;
+use bx_devices::Watched;
+use bx_journal::{Follower, JournalFault, RecordedEvent, read_journal};
+use std::io::Read;
+
+/// A letter for each event, `t`, `d` or `h`, and behind `h` the octets that came and a full stop.
+#[derive(Drop)]
+pub struct Told {
+    pub marks: ArrayVec<u8, 256>,
+}
+
+/// Writes down what has room.
+pub fn mark(marks: &mut ArrayVec<u8, 256>, octets: &[u8]) {
+    for octet in octets {
+        let _ = marks.try_push(*octet);
+    }
+}
+
+impl Follower for Told {
+    ghost followed = { λ s events t. Unit {0} };
+
+    fn follow(&mut self, event: &RecordedEvent) {
+        match event {
+            RecordedEvent::Tick => mark(&mut self.marks, b"t"),
+            RecordedEvent::Heard(octets) => {
+                mark(&mut self.marks, b"h");
+                mark(&mut self.marks, octets);
+                mark(&mut self.marks, b".");
+            }
+            RecordedEvent::Down => mark(&mut self.marks, b"d"),
+        }
+    }
+
+    ghost follows_none = { λ s. tt };
+
+    ghost follows_on = { λ s t u xs ys p q. tt };
+}
+
+/// What is read of a device, and what happened.
+#[derive(Drop)]
+pub struct WasRead {
+    pub answer: Result<u64, JournalFault>,
+    pub marks: ArrayVec<u8, 256>,
+}
+
+/// Reads the journal of a plan.
+pub fn reading<R: Read + Drop>(device: R, plan: &[u8; 32]) -> WasRead {
+    let mut device = Watched::new(device);
+    let mut told = Told {
+        marks: ArrayVec::new(),
+    };
+    let answer = read_journal(&mut device, plan, &mut told);
+    let Told { marks } = told;
+    WasRead { answer, marks }
+}

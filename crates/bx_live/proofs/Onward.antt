@@ -1,0 +1,190 @@
+-- Whatever is written belongs to the last event on record.
+use Rattle.std.proofs.Common.{◌≡◌, ◌⊎◌, inl, inr, ℕ, ◌+◌, List, [], ◌∷◌, ◌++◌, refl, sym, ap, ◌∙◌, subst, true, false, Bool, Result, Ok, Err, ◌==◌, if◌then◌else◌}
+use Rattle.std.proofs.lemmas.List.{append-nil, append_assoc}
+use Rattle.arrayvec.specs.ArrayVec.{ArrayVec}
+use Rattle.bx_events.specs.Events.{Event, LiveEvent, OnLink, WithoutLink}
+use Rattle.bx_frames.specs.declared.fault.LinkFault.{LinkFault}
+use Rattle.bx_frames.specs.declared.frame.Frame.{Frame}
+use Rattle.bx_frames.specs.declared.frame.Frame.TheVariants as frames
+use Rattle.bx_day.specs.Day.{Day}
+use Rattle.bx_day.specs.Course.{exchange_next, exchange_sent, exchange_text}
+use Rattle.bx_day.specs.Outages.{live_day_after}
+use Rattle.bx_live.specs.declared.world.Begin.{Begin}
+use Rattle.bx_live.specs.declared.world.Begin.TheVariants as begins
+use Rattle.bx_live.specs.declared.world.Loss.{Loss}
+use Rattle.bx_live.specs.declared.world.Loss.TheVariants as losses
+use Rattle.bx_live.specs.Acts.{Act, Began, Dropped, Recorded, Synced, Wrote, Read, EndedDay, recorded}
+use Rattle.bx_live.specs.Runs.{Place, Between, Recording, Owing, Hearing, Losing, Over, Ending, Done, IsDue, IsRun, next, day_at, owing, begun, heard, lost}
+use Rattle.bx_live.specs.Written.{Filed, filed, filed_by, IsWrittenFor}
+use Rattle.bx_live.proofs.Due.{by_due}
+use Rattle.bx_live.proofs.Days.{step_day}
+
+-- ---- lists of acts, one behind the other
+
+days_on : (xs ys : List LiveEvent) (d : Day) → live_day_after (xs ++ ys) d ≡ live_day_after ys (live_day_after xs d)
+days_on [] ys d = refl
+days_on (OnLink e ∷ xs) ys d = days_on xs ys (exchange_next d e)
+days_on (WithoutLink ∷ xs) ys d = days_on xs ys _
+
+pub recorded_on : (xs ys : List Act) → recorded (xs ++ ys) ≡ recorded xs ++ recorded ys
+recorded_on [] ys = refl
+recorded_on (Began second begin ∷ xs) ys = recorded_on xs ys
+recorded_on (Dropped loss ∷ xs) ys = recorded_on xs ys
+recorded_on (Recorded event true ∷ xs) ys = ap (λ es. event ∷ es) (recorded_on xs ys)
+recorded_on (Recorded event false ∷ xs) ys = recorded_on xs ys
+recorded_on (Synced done ∷ xs) ys = recorded_on xs ys
+recorded_on (Wrote octets done ∷ xs) ys = recorded_on xs ys
+recorded_on (Read room answer ∷ xs) ys = recorded_on xs ys
+recorded_on (EndedDay ∷ xs) ys = recorded_on xs ys
+
+filed_on : (xs ys : List Act) (f : Filed) → filed_by (xs ++ ys) f ≡ filed_by ys (filed_by xs f)
+filed_on [] ys f = refl
+filed_on (Began second begin ∷ xs) ys f = filed_on xs ys f
+filed_on (Dropped loss ∷ xs) ys f = filed_on xs ys f
+filed_on (Recorded event true ∷ xs) ys f = filed_on xs ys (record { disk = f.disk; more = f.more ++ event ∷ [] })
+filed_on (Recorded event false ∷ xs) ys f = filed_on xs ys f
+filed_on (Synced true ∷ xs) ys f = filed_on xs ys (record { disk = f.disk ++ f.more; more = [] })
+filed_on (Synced false ∷ xs) ys f = filed_on xs ys f
+filed_on (Wrote octets done ∷ xs) ys f = filed_on xs ys f
+filed_on (Read room answer ∷ xs) ys f = filed_on xs ys f
+filed_on (EndedDay ∷ xs) ys f = filed_on xs ys f
+
+-- all that is on record is on the disk, or behind the last sync
+all_filed : (xs : List Act) (f : Filed) → (filed_by xs f).disk ++ (filed_by xs f).more ≡ (f.disk ++ f.more) ++ recorded xs
+all_filed [] f = sym (append-nil (f.disk ++ f.more))
+all_filed (Began second begin ∷ xs) f = all_filed xs f
+all_filed (Dropped loss ∷ xs) f = all_filed xs f
+all_filed (Recorded event true ∷ xs) f =
+    all_filed xs (record { disk = f.disk; more = f.more ++ event ∷ [] })
+    ∙ (ap (λ es. es ++ recorded xs) (sym (append_assoc f.disk f.more (event ∷ []))) ∙ append_assoc (f.disk ++ f.more) (event ∷ []) (recorded xs))
+all_filed (Recorded event false ∷ xs) f = all_filed xs f
+all_filed (Synced true ∷ xs) f = all_filed xs (record { disk = f.disk ++ f.more; more = [] }) ∙ ap (λ es. es ++ recorded xs) (append-nil (f.disk ++ f.more))
+all_filed (Synced false ∷ xs) f = all_filed xs f
+all_filed (Wrote octets done ∷ xs) f = all_filed xs f
+all_filed (Read room answer ∷ xs) f = all_filed xs f
+all_filed (EndedDay ∷ xs) f = all_filed xs f
+
+pub filed_law : (acts : List Act) → (filed acts).disk ++ (filed acts).more ≡ recorded acts
+filed_law acts = all_filed acts (record { disk = []; more = [] })
+
+-- ---- what is owed
+
+record IsOwed (d : Day) (acts : List Act) (unsynced : Bool) (text : List ℕ) : Type 0 where
+  earlier : List LiveEvent
+  event : Event
+  on_record : recorded acts ≡ earlier ++ OnLink event ∷ []
+  is_text : text ≡ exchange_text (live_day_after earlier d) event
+  synced : (unsynced ≡ true) ⊎ ((exchange_sent (live_day_after earlier d) event ≡ []) ⊎ ((filed acts).more ≡ []))
+
+abbrev Owes : Day → List Act → Place → Type 0
+Owes d acts (Owing day room unsynced text) = IsOwed d acts unsynced text
+Owes d acts (Between day) = Unit {0}
+Owes d acts (Recording day room event) = Unit {0}
+Owes d acts (Hearing day room) = Unit {0}
+Owes d acts (Losing day loss) = Unit {0}
+Owes d acts (Over day) = Unit {0}
+Owes d acts (Ending day) = Unit {0}
+Owes d acts (Done day) = Unit {0}
+
+record Stands (d : Day) (acts : List Act) (p : Place) : Type 0 where
+  day : day_at p ≡ live_day_after (recorded acts) d
+  owes : Owes d acts p
+
+module _ (d : Day) (acts : List Act) where
+  owing_owes : (d1 : Day) (room : ℕ) (earlier : List LiveEvent) (event : Event) (sent : List (ArrayVec ℕ)) (text : List ℕ) → recorded acts ≡ earlier ++ OnLink event ∷ []
+      → sent ≡ exchange_sent (live_day_after earlier d) event → text ≡ exchange_text (live_day_after earlier d) event → Owes d acts (owing d1 room sent text)
+  owing_owes d1 room earlier event [] [] on messages octets = tt
+  owing_owes d1 room earlier event [] (octet ∷ text) on messages octets = record { earlier = earlier; event = event; on_record = on; is_text = octets; synced = inr (inl (sym messages)) }
+  owing_owes d1 room earlier event (message ∷ sent) text on messages octets = record { earlier = earlier; event = event; on_record = on; is_text = octets; synced = inl refl }
+
+  begun_owes : (day : Day) (begin : Begin) → Owes d acts (begun day begin)
+  begun_owes day begins.Late = tt
+  begun_owes day begins.Alone = tt
+  begun_owes day begins.Joined = tt
+
+  either_owes : (b : Bool) (day : Day) (loss : Loss) → Owes d acts (if b then Between day else Losing day loss)
+  either_owes true day loss = tt
+  either_owes false day loss = tt
+
+  heard_owes : (day : Day) (room : ℕ) (answer : Result Frame LinkFault) → Owes d acts (heard day room answer)
+  heard_owes day room (Ok (frames.Message octets)) = tt
+  heard_owes day room (Ok (frames.EndOfTurn said)) = either_owes (said == day.moment) day _
+  heard_owes day room (Ok frames.EndOfDay) = tt
+  heard_owes day room (Err fault) = tt
+
+  lost_owes : (day : Day) (loss : Loss) → Owes d acts (lost day loss)
+  lost_owes day losses.Late = tt
+  lost_owes day (losses.Fault fault) = tt
+
+module _ (d : Day) (acts : List Act) where
+  abbrev behind_act : Act → List Act
+  behind_act act = acts ++ act ∷ []
+
+  -- of what is owed behind an act
+  abbrev KeepsOwed : Place → Act → Type 0
+  KeepsOwed p act = Stands d acts p → Owes d (behind_act act) (next p act)
+
+  owed_recorded : (day : Day) (room : ℕ) (event : LiveEvent) (done : Bool) → KeepsOwed (Recording day room event) (Recorded event done)
+  owed_recorded day room (OnLink e) true stands =
+      owing_owes d (behind_act (Recorded (OnLink e) true)) (exchange_next day e) room (recorded acts) e (exchange_sent day e) (exchange_text day e)
+      (recorded_on acts (Recorded (OnLink e) true ∷ [])) (ap (λ x. exchange_sent x e) stands.day) (ap (λ x. exchange_text x e) stands.day)
+  owed_recorded day room WithoutLink true stands = tt
+  owed_recorded day room event false stands = tt
+
+  owed_synced : (day : Day) (room : ℕ) (text : List ℕ) (done : Bool) → KeepsOwed (Owing day room true text) (Synced done)
+  owed_synced day room text true stands =
+      record {
+        earlier = stands.owes.earlier;
+        event = stands.owes.event;
+        on_record = recorded_on acts (Synced true ∷ []) ∙ (append-nil (recorded acts) ∙ stands.owes.on_record);
+        is_text = stands.owes.is_text;
+        synced = inr (inr (ap (λ (f : Filed). f.more) (filed_on acts (Synced true ∷ []) (record { disk = []; more = [] }))));
+      }
+  owed_synced day room text false stands = tt
+
+  owed_written : (day : Day) (room : ℕ) (text : List ℕ) (done : Bool) → KeepsOwed (Owing day room false text) (Wrote text done)
+  owed_written day room text true stands = tt
+  owed_written day room text false stands = tt
+
+  owed_closed : (day : Day) (done : Bool) → KeepsOwed (Between day) (Synced done)
+  owed_closed day true stands = tt
+  owed_closed day false stands = tt
+
+  keeps_owed : (p : Place) (act : Act) → IsDue p act → KeepsOwed p act
+  keeps_owed = by_due KeepsOwed
+      (λ day begin stands. begun_owes d (behind_act (Began (day.moment + 1) begin)) day begin) owed_recorded owed_synced owed_written
+      (λ day room answer stands. heard_owes d (behind_act (Read room answer)) day room answer) (λ day loss stands. lost_owes d (behind_act (Dropped loss)) day loss) owed_closed (λ day stands. tt)
+
+  stands_on : (p : Place) (act : Act) → IsDue p act → Stands d acts p → Stands d (behind_act act) (next p act)
+  stands_on p act due stands = record {
+    day = step_day p act due ∙ (ap (live_day_after (recorded (act ∷ []))) stands.day ∙ (sym (days_on (recorded acts) (recorded (act ∷ [])) d) ∙ ap (λ es. live_day_after es d) (sym (recorded_on acts (act ∷ [])))));
+    owes = keeps_owed p act due stands;
+  }
+
+  written_now : (p : Place) (octets : List ℕ) (done : Bool) → IsDue p (Wrote octets done) → Stands d acts p → IsWrittenFor d acts octets
+  written_now (Owing day room false text) octets done due stands = record {
+    earlier = stands.owes.earlier;
+    event = stands.owes.event;
+    on_record = stands.owes.on_record;
+    text = due ∙ stands.owes.is_text;
+    synced = not_unsynced stands.owes.synced;
+  } where
+    not_unsynced : {A : Type 0} → (false ≡ true) ⊎ A → A
+    not_unsynced (inl e) = cc
+    not_unsynced (inr a) = a
+  written_now (Owing day room true text) octets done due stands = absurd due
+  written_now (Between day) octets done due stands = absurd due
+  written_now (Recording day room event) octets done due stands = absurd due
+  written_now (Hearing day room) octets done due stands = absurd due
+  written_now (Losing day loss) octets done due stands = absurd due
+  written_now (Over day) octets done due stands = absurd due
+  written_now (Ending day) octets done due stands = absurd due
+  written_now (Done day) octets done due stands = absurd due
+
+written_behind : (d : Day) (acts : List Act) (p : Place) → Stands d acts p → (before behind : List Act) (octets : List ℕ) (done : Bool) (to : Place) → IsRun p (before ++ Wrote octets done ∷ behind) to → IsWrittenFor d (acts ++ before) octets
+written_behind d acts p stands [] behind octets done to (due, goes) = subst (λ xs. IsWrittenFor d xs octets) (sym (append-nil acts)) (written_now d acts p octets done due stands)
+written_behind d acts p stands (act ∷ before) behind octets done to (due, goes) =
+    subst (λ xs. IsWrittenFor d xs octets) (append_assoc acts (act ∷ []) before) (written_behind d (acts ++ act ∷ []) (next p act) (stands_on d acts p act due stands) before behind octets done to goes)
+
+pub written_law : (d : Day) (before behind : List Act) (octets : List ℕ) (done : Bool) (to : Place) → IsRun (Between d) (before ++ Wrote octets done ∷ behind) to → IsWrittenFor d before octets
+written_law d before behind octets done to run = written_behind d [] (Between d) (record { day = refl; owes = tt }) before behind octets done to run

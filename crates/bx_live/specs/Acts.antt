@@ -1,0 +1,29 @@
+-- What the world outside was asked, and what it answered.
+use Rattle.std.specs.Prelude.{ℕ, Bool, true, List, [], ◌∷◌, Result}
+use Rattle.bx_events.specs.Events.{LiveEvent}
+use Rattle.bx_frames.specs.declared.fault.LinkFault.{LinkFault}
+use Rattle.bx_frames.specs.declared.frame.Frame.{Frame}
+use Rattle.bx_live.specs.declared.world.Begin.{Begin}
+use Rattle.bx_live.specs.declared.world.Loss.{Loss}
+
+pub data Act : Type 0 where
+  -- the instant of a second was waited for, and the second begins so
+  Began : (second : ℕ) (begin : Begin) → Act
+  -- the peer was dropped, if there was one
+  Dropped : (loss : Loss) → Act
+  -- an event was put on record, or could not be
+  Recorded : (event : LiveEvent) (done : Bool) → Act
+  -- what was recorded is on the disk, or could not be brought there
+  Synced : (done : Bool) → Act
+  -- octets were written to the peer, or not all of them
+  Wrote : (octets : List ℕ) (done : Bool) → Act
+  -- a frame of the peer was read, where so many messages might still come in the turn; or the first fault
+  Read : (room : ℕ) (answer : Result Frame LinkFault) → Act
+  -- the peer, if there was one, was told that the day is over
+  EndedDay : Act
+
+-- the events that are on record
+abbrev pub recorded : List Act → List LiveEvent
+recorded [] = []
+recorded (Recorded event true ∷ acts) = event ∷ recorded acts
+recorded (act ∷ acts) = recorded acts

@@ -1,0 +1,5 @@
+pub mod Acts
+pub mod Runs
+pub mod Running
+pub mod Written
+pub mod Inside

@@ -1,0 +1,67 @@
+-- What may be written to a peer.
+use Rattle.std.specs.Prelude.{◌≡◌, ◌⊎◌, ℕ, ◌&&◌, Bool, true, List, [], ◌∷◌, ◌++◌}
+use Rattle.bx_events.specs.Events.{Event, LiveEvent, OnLink, WithoutLink}
+use Rattle.bx_day.specs.Day.{Day}
+use Rattle.bx_day.specs.Course.{exchange_sent, exchange_text}
+use Rattle.bx_day.specs.Outages.{live_happens, live_day_after}
+use Rattle.bx_live.specs.Acts.{Act, Recorded, Synced, Wrote, recorded}
+use Rattle.bx_live.specs.Runs.{Place, Between, Recording, Owing, Hearing, Losing, Over, Ending, Done}
+
+-- the events that are on the disk, and those that were put on record behind the last sync
+pub record Filed : Type 0 where
+  pub disk : List LiveEvent
+  pub more : List LiveEvent
+
+abbrev pub filed_by : List Act → Filed → Filed
+filed_by [] f = f
+filed_by (Recorded event true ∷ acts) f = filed_by acts (record { disk = f.disk; more = f.more ++ event ∷ [] })
+filed_by (Synced true ∷ acts) f = filed_by acts (record { disk = f.disk ++ f.more; more = [] })
+filed_by (act ∷ acts) f = filed_by acts f
+
+abbrev pub filed : List Act → Filed
+filed acts = filed_by acts (record { disk = []; more = [] })
+
+-- octets that are written behind these acts: they are those of the last event on record, by the day as it was before it, and
+-- where messages are among them all that is on record is on the disk
+pub record IsWrittenFor (d : Day) (acts : List Act) (octets : List ℕ) : Type 0 where
+  pub earlier : List LiveEvent
+  pub event : Event
+  pub on_record : recorded acts ≡ earlier ++ OnLink event ∷ []
+  pub text : octets ≡ exchange_text (live_day_after earlier d) event
+  pub synced : (exchange_sent (live_day_after earlier d) event ≡ []) ⊎ ((filed acts).more ≡ [])
+
+-- ---- all that is written
+
+-- what is written for an event: nothing, in a second without a link
+abbrev pub live_text : Day → LiveEvent → List ℕ
+live_text d (OnLink event) = exchange_text d event
+live_text d WithoutLink = []
+
+abbrev pub live_told : List LiveEvent → Day → List ℕ
+live_told [] d = []
+live_told (event ∷ events) d = live_text d event ++ live_told events (live_happens d event).day
+
+-- what was written whole
+abbrev pub written : List Act → List ℕ
+written [] = []
+written (Wrote octets true ∷ acts) = octets ++ written acts
+written (act ∷ acts) = written acts
+
+-- no record, sync or write failed
+abbrev pub goes_well : List Act → Bool
+goes_well [] = true
+goes_well (Recorded event done ∷ acts) = done && goes_well acts
+goes_well (Synced done ∷ acts) = done && goes_well acts
+goes_well (Wrote octets done ∷ acts) = done && goes_well acts
+goes_well (act ∷ acts) = goes_well acts
+
+-- what is still to be written
+abbrev pub owed_at : Place → List ℕ
+owed_at (Owing d room unsynced text) = text
+owed_at (Between d) = []
+owed_at (Recording d room event) = []
+owed_at (Hearing d room) = []
+owed_at (Losing d loss) = []
+owed_at (Over d) = []
+owed_at (Ending d) = []
+owed_at (Done d) = []

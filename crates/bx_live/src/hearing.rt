@@ -1,0 +1,42 @@
+//! The peer's half of a turn.
+
+ghost use Rattle.std.specs.Prelude.{◌≡◌, ℕ};
+ghost use Rattle.bx_live.specs.Runs.{Hearing, Between};
+ghost use Rattle.bx_live.specs.Running.{Runs};
+ghost use Rattle.bx_live.specs.Inside.{or_stopped};
+
+use crate::turn::{Stop, answer};
+use crate::world::World;
+use bx_day::Exchange;
+use bx_frames::{Frame, LinkFault};
+
+/// The most messages that come in one turn.
+pub(crate) const MAX_MESSAGES: u32 = 64;
+
+/// Hears the messages of a turn up to its end, and answers each before more is read.
+pub(crate) fn hear_turn<W: World>(exchange: &mut Exchange, world: &mut W) -> Result<(), Stop>
+    ensures ran { Runs W.did world.old world.new (Hearing exchange.old 64) (or_stopped (Between exchange.new) exchange.new result) }
+    ensures moment { exchange.new.moment ≡ exchange.old.moment }
+{
+    let mut room = MAX_MESSAGES;
+    loop {
+        match world.read(room) {
+            Ok(Frame::Message(octets)) => {
+                room -= 1;
+                match answer(exchange, world, &octets) {
+                    Ok(()) => {}
+                    Err(stop) => return Err(stop),
+                }
+            }
+            Ok(Frame::EndOfTurn(said)) => {
+                return if said == exchange.moment() {
+                    Ok(())
+                } else {
+                    Err(Stop::Link(LinkFault::WrongMoment))
+                };
+            }
+            Ok(Frame::EndOfDay) => return Err(Stop::Link(LinkFault::UnknownKind)),
+            Err(fault) => return Err(Stop::Link(fault)),
+        }
+    }
+}

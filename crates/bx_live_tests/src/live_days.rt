@@ -1,0 +1,146 @@
+//! Live days of one booking, from 0 to 60 on channel 1.
+
+use crate::journal::Mark;
+use crate::memory_world::{MemoryWorld, Scene};
+use bx_day::Exchange;
+use bx_frames::LinkFault;
+use bx_live::{Begin, CannotRecord, Loss, run_live};
+use bx_worked_days::exchange;
+use std::alloc::Global;
+
+/// A peer is lost in the first second behind an end of turn that is none; the second has none; in the third one comes, asks for
+/// a call that is unknown and ends its turn; the fourth begins late; in the fifth it sends half a frame; the sixth has none; in the last
+/// two one ends its turns. No timer runs in the second, the fourth and the sixth, so T303 is due in the eighth.
+static SECONDS: [Scene; 8] = [
+    Scene {
+        begin: Begin::Joined,
+        input: &[2, 0, 4, 0, 0, 0, 9],
+    },
+    Scene {
+        begin: Begin::Alone,
+        input: &[],
+    },
+    Scene {
+        begin: Begin::Joined,
+        input: &[1, 0, 5, 8, 2, 0x80, 9, 1, 2, 0, 4, 0, 0, 0, 3],
+    },
+    Scene {
+        begin: Begin::Late,
+        input: &[],
+    },
+    Scene {
+        begin: Begin::Joined,
+        input: &[1, 0, 5, 8],
+    },
+    Scene {
+        begin: Begin::Alone,
+        input: &[],
+    },
+    Scene {
+        begin: Begin::Joined,
+        input: &[2, 0, 4, 0, 0, 0, 7],
+    },
+    Scene {
+        begin: Begin::Joined,
+        input: &[2, 0, 4, 0, 0, 0, 8],
+    },
+];
+
+/// The SETUP of the booking, with the end of the turn of moment 1.
+static OPENED: [u8; 32] = [
+    1, 0, 0x16, 8, 2, 0, 1, 5, 0xA1, 4, 2, 0x88, 0x90, 0x18, 3, 0xA9, 0x83, 0x81, 0x70, 5, 0x81,
+    0x31, 0x32, 0x33, 0x34, 2, 0, 4, 0, 0, 0, 1,
+];
+
+/// The end of the turn of moment 3, the refusal of the unknown call, the ends of the turns of moments 5 and 7, and the SETUP once
+/// more, with the end of the turn of moment 8.
+static BEHIND: [u8; 65] = [
+    2, 0, 4, 0, 0, 0, 3, 1, 0, 9, 8, 2, 0, 9, 0x5A, 8, 2, 0x82, 0xD1, 2, 0, 4, 0, 0, 0, 5, 2, 0, 4,
+    0, 0, 0, 7, 1, 0, 0x16, 8, 2, 0, 1, 5, 0xA1, 4, 2, 0x88, 0x90, 0x18, 3, 0xA9, 0x83, 0x81, 0x70,
+    5, 0x81, 0x31, 0x32, 0x33, 0x34, 2, 0, 4, 0, 0, 0, 8,
+];
+
+fn letter(mark: &Mark) -> u8 {
+    match mark {
+        Mark::Tick => b't',
+        Mark::Heard(_) => b'h',
+        Mark::Down => b'd',
+    }
+}
+
+/// Whether these are the lines of the journal, by their letters.
+fn has_lines(world: &MemoryWorld, letters: &[u8]) -> bool {
+    if world.journal.marks.len() != letters.len() {
+        return false;
+    }
+    for (index, mark) in world.journal.marks.iter().enumerate() {
+        if letters[index] != letter(mark) {
+            return false;
+        }
+    }
+    true
+}
+
+/// Runs the seconds with room for so many lines and so many syncs: how it ended, the moment, and the world behind it.
+fn run(
+    alloc: Global,
+    lines: u32,
+    syncs: u32,
+) -> Option<(Result<(), CannotRecord>, u32, MemoryWorld)> {
+    let mut exchange = exchange(alloc)?;
+    let mut world = MemoryWorld::new(alloc, &SECONDS, lines);
+    world.syncs_left = syncs;
+    let done = run_live(&mut exchange, &mut world, 8);
+    Some((done, exchange.moment(), world))
+}
+
+fn goes_through(alloc: Global) -> Option<bool> {
+    let (done, moment, world) = run(alloc, 100, 100)?;
+    let is_done = done == Ok(()) && moment == 8 && world.is_over;
+    let is_lost = world.lost == Some(Loss::Fault(LinkFault::EndedInFrame));
+    let is_kept = has_lines(&world, b"tdthdtdtt") && world.synced == 9;
+    let written = world.into_written();
+    let octets = written.as_slice();
+    Some(
+        is_done
+            && is_lost
+            && is_kept
+            && octets.strip_prefix(OPENED.as_slice()) == Some(BEHIND.as_slice()),
+    )
+}
+
+#[test]
+fn peers_come_and_go(rt: HostRuntime) {
+    assert!(rt; goes_through(rt.alloc()) == Some(true));
+}
+
+/// Whether the day stops at this moment, with these lines and so many octets written.
+fn stops(
+    alloc: Global,
+    lines: u32,
+    syncs: u32,
+    at: u32,
+    letters: &[u8],
+    written: usize,
+) -> Option<bool> {
+    let (done, moment, world) = run(alloc, lines, syncs)?;
+    let is_stopped = done == Err(CannotRecord) && moment == at && !world.is_over;
+    let is_kept = has_lines(&world, letters);
+    Some(is_stopped && is_kept && world.into_written().len() == written)
+}
+
+#[test]
+fn a_record_fails(rt: HostRuntime) {
+    let alloc = rt.alloc();
+    assert!(rt; stops(alloc, 0, 100, 0, b"", 0) == Some(true));
+    assert!(rt; stops(alloc, 1, 100, 1, b"t", 32) == Some(true));
+    assert!(rt; stops(alloc, 3, 100, 3, b"tdt", 39) == Some(true));
+    assert!(rt; stops(alloc, 4, 100, 3, b"tdth", 51) == Some(true));
+}
+
+#[test]
+fn a_sync_fails(rt: HostRuntime) {
+    let alloc = rt.alloc();
+    assert!(rt; stops(alloc, 100, 0, 1, b"t", 0) == Some(true));
+    assert!(rt; stops(alloc, 100, 1, 3, b"tdth", 39) == Some(true));
+}

@@ -1,0 +1,3 @@
+pub mod FileRefusals
+pub mod CallTimes
+pub mod Tables

@@ -1,0 +1,56 @@
+-- What the command that draws a plan writes, and why it is refused.
+use Rattle.std.specs.Borrow.{Bor}
+use Rattle.std.specs.Prelude.{◌≡◌, ℕ, List, Option, Some, None, ◌⊎◌}
+use Rattle.bx_devices.specs.Devices.{Writing, writing_of}
+use Rattle.bx_base.specs.Channels.{count_of}
+use Rattle.bx_base.specs.PlanParts.{Parts}
+use Rattle.bx_devices.specs.declared.watched.Watched.{Watched}
+use Rattle.bx_book.specs.Clocks.{IsClock}
+use Rattle.bx_book.specs.declared.clock.Clock.{Clock}
+use Rattle.bx_chart.specs.Charts.{IsDrawn, IsChartRefusal}
+use Rattle.bx_chart.specs.declared.writing.ChartFault.{ChartFault}
+use Rattle.bx_plan_commands.specs.FileRefusals.{IsNoDay, IsFileFault}
+use Rattle.bx_plan_commands.specs.declared.fault.FileFault.{FileFault}
+use Rattle.bx_plan_commands.specs.declared.fault.FileFault.TheVariants.{Chart}
+use Rattle.bx_planner.specs.Earnings.{IsEarning}
+use Rattle.bx_planner.specs.declared.earnings.Earning.TheVariants.{Most}
+use Rattle.bx_check_commands.specs.PlanFiles.{HasNoProvedPlan}
+use Rattle.bx_check_commands.specs.Proved.{IsProvedFor}
+
+-- the clock of the date and the zone that are named, and none where none are
+abbrev pub IsClockOf : Option (Bor (List ℕ) × Bor (List ℕ)) → Option Clock → Type 0
+IsClockOf None None = Unit {0}
+IsClockOf (Some (date, zone)) (Some clock) = IsClock date.now zone.now clock
+IsClockOf _ _ = ⊥
+
+-- a date and a zone are named, and name no day
+abbrev pub IsNoClock : Option (Bor (List ℕ) × Bor (List ℕ)) → FileFault → Type 0
+IsNoClock None fault = ⊥
+IsNoClock (Some (date, zone)) fault = IsNoDay date.now zone.now fault
+
+-- a picture of a plan that is proved for its own bookings and channels was written, with what one more channel would add to its
+-- total, and the hours of that clock
+pub record IsPictured (day : Option (Bor (List ℕ) × Bor (List ℕ))) (output : Writing) : Type 0 where
+  pub plan : Parts
+  pub total : ℕ
+  pub proved : IsProvedFor plan.rows plan.channels plan total
+  pub gain : ℕ
+  pub gain_of : IsEarning plan.rows (count_of plan.channels) (Most plan.total gain)
+  pub clock : Option Clock
+  pub clock_of : IsClockOf day clock
+  pub drawn : IsDrawn plan gain clock output
+
+-- or it was not
+pub record IsUndrawn (day : Option (Bor (List ℕ) × Bor (List ℕ))) (output : Writing) (fault : ChartFault) : Type 0 where
+  pub plan : Parts
+  pub total : ℕ
+  pub proved : IsProvedFor plan.rows plan.channels plan total
+  pub gain : ℕ
+  pub gain_of : IsEarning plan.rows (count_of plan.channels) (Most plan.total gain)
+  pub clock : Option Clock
+  pub clock_of : IsClockOf day clock
+  pub refused : IsChartRefusal plan gain clock output fault
+
+abbrev pub IsNotPictured : {W : Type 0} → Option (Bor (List ℕ) × Bor (List ℕ)) → List ℕ → (W → Option (List ℕ)) → Watched W → Watched W → FileFault → Type 0
+IsNotPictured day plan contents old new (Chart fault) = IsUndrawn day (writing_of contents old new) fault
+IsNotPictured day plan contents old new fault = (IsNoClock day fault ⊎ IsFileFault (HasNoProvedPlan plan) fault) × (new ≡ old)

@@ -1,0 +1,162 @@
+//! The commands that answer for what a plan refuses.
+
+ghost use Rattle.std.specs.Prelude.{◌≤◌, ◌⊎◌, IfOk, IfErr, OnOk};
+ghost use Rattle.bx_devices.specs.Devices.{writing_of};
+ghost use Rattle.bx_book.specs.Rows.{IsTimeFault, span_of};
+ghost use Rattle.bx_plan_commands.specs.Answers.{IsExplained, IsQuoted};
+ghost use Rattle.bx_plan_commands.specs.Inside.{AreTimesOf};
+ghost use Rattle.bx_plan_commands.specs.PlanRefusals.{IsNotExplained, AreTimes, AreNoSeconds, IsNoCall, IsNotQuoted};
+
+use crate::fault::FileFault;
+use crate::naming::day_of;
+use bx_base::Booking;
+use bx_book::{BookFault, Day, moment};
+use bx_channels::Number;
+use bx_check_commands::proved_in;
+use bx_devices::Watched;
+use bx_quote::{write_explained, write_quote, write_refused};
+use bx_request::Call;
+use std::fs::Files;
+use std::io::Write;
+
+/// Writes what each row that the plan in a file refuses pays, and what its seconds cost; or what one of them has to pay
+/// to be taken. At a refusal nothing was written, except that where the output failed a front of that was.
+pub fn explain_file<'a, H: Files + AllocGlobal, W: Write>(
+    rt: &H,
+    plan: &'a str,
+    row: Option<u16>,
+    output: &mut Watched<W>,
+) -> Result<(), FileFault<'a>>
+    ensures explained { OnOk result (IsExplained row (writing_of W.contents output.old output.new)) }
+    ensures refused { IfErr result (IsNotExplained row plan.now W.contents output.old output.new) }
+{
+    let plan = match proved_in(rt, plan) {
+        Ok(plan) => plan,
+        Err(fault) => return Err(FileFault::Command(fault)),
+    };
+    let done = match row {
+        Some(row) => write_explained(rt.alloc(), &plan, row, output),
+        None => write_refused(rt.alloc(), &plan, output),
+    };
+    match done {
+        Ok(()) => Ok(()),
+        Err(fault) => Err(FileFault::Quote(fault)),
+    }
+}
+
+/// Writes what a call has to pay to be taken beside those of the plan in a file. At a refusal nothing was written, except that
+/// where the output failed a front of that was.
+pub fn quote_file<'a, H: Files + AllocGlobal, W: Write>(
+    rt: &H,
+    plan: &'a str,
+    call: &Call<'_>,
+    output: &mut Watched<W>,
+) -> Result<(), FileFault<'a>>
+    ensures quoted { OnOk result (IsQuoted (writing_of W.contents output.old output.new)) }
+    ensures refused { IfErr result (IsNotQuoted call.now plan.now W.contents output.old output.new) }
+{
+    let booking = match booking_of(call) {
+        Ok(booking) => booking,
+        Err(fault) => return Err(fault),
+    };
+    let plan = match proved_in(rt, plan) {
+        Ok(plan) => plan,
+        Err(fault) => return Err(FileFault::Command(fault)),
+    };
+    match write_quote(rt.alloc(), &plan, &booking, output) {
+        Ok(()) => Ok(()),
+        Err(fault) => Err(FileFault::Quote(fault)),
+    }
+}
+
+/// The booking of the call. Its pay and its number do not count.
+fn booking_of<'a>(call: &Call<'_>) -> Result<Booking, FileFault<'a>>
+    ensures { IfErr result (IsNoCall call.now) }
+{
+    let (start, end) = match seconds_of(call) {
+        Ok(seconds) => seconds,
+        Err(fault) => return Err(fault),
+    };
+    if end <= start {
+        return Err(FileFault::Book(BookFault::EndNotAfterStart(1)));
+    }
+    let Some(number) = Number::new(b"0") else {
+        return Err(FileFault::Book(BookFault::BadNumber(1)));
+    };
+    match Booking::new(start, end, 1, number) {
+        Some(booking) if call.inward => Ok(booking.as_inward()),
+        Some(booking) => Ok(booking),
+        None => Err(FileFault::Book(BookFault::OutsideDay(1))),
+    }
+}
+
+/// The seconds of the day at which the call starts and ends.
+fn seconds_of<'a>(call: &Call<'_>) -> Result<(u32, u32), FileFault<'a>>
+    ensures times { IfOk result (λ s. AreTimesOf call.now s.0 s.1) }
+    ensures limit { IfOk result (λ s. s.1 ≤ 200000) }
+    ensures none { IfErr result (IsNoCall call.now) }
+{
+    let Some((date, zone)) = call.day else {
+        return match counted(call) {
+            Ok(seconds) => Ok(seconds),
+            Err(fault) => Err(FileFault::Book(fault)),
+        };
+    };
+    let day = match day_of(date, zone) {
+        Ok(day) => day,
+        Err(fault) => return Err(fault),
+    };
+    match times_of(call, &day) {
+        Ok(seconds) => Ok(seconds),
+        Err(fault) => Err(FileFault::Book(fault)),
+    }
+}
+
+/// The seconds of the day at which the times of the call lie.
+fn times_of(call: &Call<'_>, day: &Day) -> Result<(u32, u32), BookFault>
+    ensures times { IfOk result (λ s. AreTimes (span_of day.now) call.now s.0 s.1) }
+    ensures limit { IfOk result (λ s. s.1 ≤ 200000) }
+    ensures none { IfErr result (λ fault. IsTimeFault (span_of day.now) 1 call.now.start.now fault ⊎ IsTimeFault (span_of day.now) 1 call.now.end.now fault) }
+{
+    // Read for the prover alone, which learns a limit from it.
+    let _seconds = day.length();
+    let start = match moment(call.start.as_bytes(), day, 1) {
+        Ok(start) => start,
+        Err(fault) => return Err(fault),
+    };
+    match moment(call.end.as_bytes(), day, 1) {
+        Ok(end) => Ok((start, end)),
+        Err(fault) => Err(fault),
+    }
+}
+
+/// The seconds of the call where they are counted.
+fn counted(call: &Call<'_>) -> Result<(u32, u32), BookFault>
+    ensures limit { IfOk result (λ s. s.1 ≤ 200000) }
+    ensures none { IfErr result AreNoSeconds }
+{
+    let start = match second(call.start) {
+        Ok(start) => start,
+        Err(fault) => return Err(fault),
+    };
+    match second(call.end) {
+        Ok(end) => Ok((start, end)),
+        Err(fault) => Err(fault),
+    }
+}
+
+/// The second of a day that a decimal names, as in a plan text.
+fn second(word: &str) -> Result<u32, BookFault>
+    ensures limit { IfOk result (λ second. second ≤ 200000) }
+    ensures none { IfErr result AreNoSeconds }
+{
+    let is_decimal = word.bytes().all(|digit| digit.is_ascii_digit())
+        && (word.len() == 1 || !word.starts_with('0'));
+    if !is_decimal || word.is_empty() {
+        return Err(BookFault::NotATime(1));
+    }
+    match word.parse::<u32>() {
+        Ok(second) if second <= 200_000 => Ok(second),
+        _ => Err(BookFault::OutsideDay(1)),
+    }
+}

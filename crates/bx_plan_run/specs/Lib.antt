@@ -1,0 +1,5 @@
+pub mod Planning
+pub mod Amending
+pub mod EarningLines
+pub mod Capacity
+pub mod Unplanned

@@ -1,0 +1,48 @@
+//! The text of a plan that keeps the promises of another.
+
+ghost use Rattle.std.specs.Prelude.{◌≡◌, ◌≤◌, ◌<◌, ◌+◌, ◌↔◌, ℕ, Err, IfOk, IfErr, length};
+ghost use Rattle.bx_devices.specs.Devices.{writing_of};
+ghost use Rattle.bx_plan_run.specs.Amending.{IsAmended, IsAmendRefusal};
+ghost use Rattle.bx_planner.specs.Amending.{amended};
+ghost use Rattle.bx_planner.specs.Musts.{IsTooManyMust};
+
+use bx_base::{Bookings, Plan};
+use bx_devices::Watched;
+use bx_planfile::write_plan;
+use bx_planner::{AmendFail, amend};
+use std::alloc::Global;
+use std::io::Write;
+use thiserror::Error;
+
+/// Why no amended plan was written.
+#[derive(Clone, Copy, Debug, PartialEq, Eq, Error)]
+pub enum AmendFault {
+    /// There is none.
+    #[error("{0}")]
+    Amend(AmendFail),
+    /// A write failed, or took none of what it was given: a front of the plan's text was written.
+    #[error("F2 CannotWrite")]
+    WriteFailed,
+}
+
+/// Amends the plan by more bookings, and writes the text of the new plan. Answers its total.
+pub fn write_amended<W: Write>(
+    alloc: Global,
+    plan: &Plan,
+    more: &Bookings,
+    output: &mut Watched<W>,
+) -> Result<u64, AmendFault>
+    ensures amended { IfOk result (IsAmended (amended plan.now.bookings plan.now.assigned.items more.now) plan.now.channels (writing_of W.contents output.old output.new)) }
+    ensures full { (result ≡ Err (AmendFault.Amend AmendFail.TooMany)) ↔ (4000 < length plan.now.bookings + length more.now) }
+    ensures musts { (t : ℕ) → (result ≡ Err (AmendFault.Amend (AmendFail.TooManyMust t))) ↔ ((length plan.now.bookings + length more.now ≤ 4000) × IsTooManyMust (amended plan.now.bookings plan.now.assigned.items more.now) plan.now.channels t) }
+    ensures refused { IfErr result (IsAmendRefusal (amended plan.now.bookings plan.now.assigned.items more.now) plan.now.channels (writing_of W.contents output.old output.new)) }
+{
+    let amended = match amend(alloc, plan, more) {
+        Ok(amended) => amended,
+        Err(fail) => return Err(AmendFault::Amend(fail)),
+    };
+    match write_plan(&amended, output) {
+        Ok(()) => Ok(amended.total),
+        Err(_) => Err(AmendFault::WriteFailed),
+    }
+}

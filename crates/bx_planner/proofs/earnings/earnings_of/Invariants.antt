@@ -1,0 +1,17 @@
+use Rattle.std.proofs.Common.{◌≡◌, ℕ, ◌<◌, length, get_or}
+use Rattle.bx_dist.specs.Residual.{ArePotentials}
+use Rattle.bx_line.specs.Flows.{IsFlow}
+use Rattle.bx_line.specs.Network.{places_of}
+use Rattle.bx_planner.specs.declared.earnings.Earning.{Earning}
+use Rattle.bx_planner.specs.Earnings.{IsEarning}
+use Rattle.bx_planner.proofs.earnings.earnings_of.Given as goal
+
+abbrev pub invariant-loop-count : goal.invariant-loop-count
+invariant-loop-count l =
+    record {
+      size : length l.earnings.items ≡ l.count;
+      each : (k : ℕ) (d : Earning) → k < l.count → IsEarning l.bookings k (get_or l.earnings.items k d);
+      flow : IsFlow l.line l.carried;
+      units : 0 < places_of l.line → l.carried.units ≡ l.count;
+      fits : ArePotentials l.line l.carried l.potentials;
+    }

@@ -1,0 +1,129 @@
+//! What each count of channels would earn.
+
+ghost use Rattle.std.specs.Prelude.{◌≡◌, ◌<◌, ◌+◌, ℕ, Ok, IfOk};
+ghost use Rattle.bx_base.specs.Channels.{count_of};
+ghost use Rattle.bx_base.specs.PlanParts.{parts_of};
+ghost use Rattle.bx_check.specs.Check.{IsOutcome};
+ghost use Rattle.bx_colour.specs.Loads.{load_at};
+ghost use Rattle.bx_dist.specs.Residual.{ArePotentials};
+ghost use Rattle.bx_line.specs.Flows.{IsFlow};
+ghost use Rattle.bx_line.specs.Moments.{HasJustMoments};
+ghost use Rattle.bx_line.specs.Network.{AreArcsOf, places_of};
+ghost use Rattle.bx_planner.specs.Earnings.{IsEarning, AreEarnings};
+ghost use Rattle.bx_planner.specs.Musts.{musts_at};
+
+use crate::choice::{best_choice, choice_of, total_of};
+use crate::demand::Demand;
+use crate::musts::must_load;
+use bx_base::{Bookings, Plan};
+use bx_check::price_sum;
+use bx_colour::Load;
+use bx_dist::{Carried, Potentials};
+use bx_flow::{free_distances, grown};
+use bx_heap::HeapDist;
+use bx_line::Line;
+use std::alloc::{AllocError, Global};
+
+/// What so many channels would earn.
+#[derive(Clone, Copy, Debug, PartialEq, Eq)]
+pub enum Earning {
+    /// The most that a lawful set pays on them, and what one more channel would add to it.
+    Most { total: u64, next: u64 },
+    /// At this moment, in seconds of the day, more must bookings run than there are channels; at no earlier one.
+    TooFew(u32),
+}
+
+/// What each count of channels would earn, from 0 to 30, in rising order.
+pub fn capacity(alloc: Global, bookings: &Bookings) -> Result<Vec<Earning>, AllocError>
+    ensures { IfOk result (λ v. AreEarnings bookings.now v.items) }
+{
+    let none = Bookings::new(alloc);
+    let musts = must_load(&Demand::fresh(&none, bookings));
+    let line = Line::of(alloc, bookings)?;
+    earnings_of(alloc, bookings, &line, &musts)
+}
+
+/// What one more channel would add to the total of a plan that is proved for its own bookings, whatever proves it: the sum of
+/// the least prices for its bookings and channels.
+pub fn next_gain(alloc: Global, plan: &Plan) -> Result<u64, AllocError>
+    requires proved { IsOutcome plan.now.bookings plan.now.channels (parts_of plan.now) (Ok plan.now.total) }
+    ensures { IfOk result (λ next. IsEarning plan.now.bookings (count_of plan.now.channels) (Earning.Most plan.now.total next)) }
+{
+    let (_accepted, prices) = best_choice(alloc, &plan.bookings, plan.channels.count())?;
+    Ok(price_sum(&prices))
+}
+
+/// The earnings by a flow of least cost along the line of the bookings that grows by a unit for each channel.
+fn earnings_of(
+    alloc: Global,
+    bookings: &Bookings,
+    line: &Line,
+    musts: &Load,
+) -> Result<Vec<Earning>, AllocError>
+    requires musts { (t : ℕ) → load_at musts.now t ≡ musts_at bookings.now t }
+    requires moments { HasJustMoments bookings.now line.now.moments }
+    requires arcs { AreArcsOf line.now.moments bookings.now line.now.arcs }
+    ensures { IfOk result (λ v. AreEarnings bookings.now v.items) }
+{
+    // Read for the prover alone, which learns a limit from it.
+    let _places = line.places();
+    let mut carried = Carried::empty(alloc, line)?;
+    let mut potentials = Potentials::first(alloc, line)?;
+    let mut earnings = Vec::new(alloc);
+    for count in 0..30u8 {
+        let earning = earning_of(alloc, bookings, line, &carried, &potentials, musts, count)?;
+        earnings.push(earning)?;
+        potentials = one_more(alloc, line, &mut carried, potentials)?;
+    }
+    let last = earning_of(alloc, bookings, line, &carried, &potentials, musts, 30)?;
+    earnings.push(last)?;
+    Ok(earnings)
+}
+
+/// Sends one more unit, where there are places.
+fn one_more(
+    alloc: Global,
+    line: &Line,
+    carried: &mut Carried,
+    potentials: Potentials,
+) -> Result<Potentials, AllocError>
+    requires flow { IsFlow line.now carried.old }
+    requires room { 0 < places_of line.now → carried.old.units < 30 }
+    requires fits { ArePotentials line.now carried.old potentials }
+    ensures flow { IfOk result (λ p. IsFlow line.now carried.new) }
+    ensures units { IfOk result (λ p. 0 < places_of line.now → carried.new.units ≡ carried.old.units + 1) }
+    ensures fits { IfOk result (λ p. ArePotentials line.now carried.new p) }
+{
+    if line.places() == 0 {
+        return Ok(potentials);
+    }
+    grown(alloc, line, carried, &potentials, &HeapDist)
+}
+
+/// What so many channels would earn, by the rows of a flow of least cost with as many units, and the sum of their prices.
+fn earning_of(
+    alloc: Global,
+    bookings: &Bookings,
+    line: &Line,
+    carried: &Carried,
+    potentials: &Potentials,
+    musts: &Load,
+    count: u8,
+) -> Result<Earning, AllocError>
+    requires musts { (t : ℕ) → load_at musts.now t ≡ musts_at bookings.now t }
+    requires moments { HasJustMoments bookings.now line.now.moments }
+    requires arcs { AreArcsOf line.now.moments bookings.now line.now.arcs }
+    requires units { 0 < places_of line.now → carried.now.units ≡ count }
+    requires flow { IsFlow line.now carried.now }
+    requires fits { ArePotentials line.now carried.now potentials.now }
+    ensures { IfOk result (IsEarning bookings.now count) }
+{
+    if let Some(moment) = musts.first_above(count) {
+        return Ok(Earning::TooFew(moment));
+    }
+    let lengths = free_distances(alloc, line, carried, potentials, &HeapDist)?;
+    let (accepted, prices) = choice_of(alloc, bookings, line, carried, &lengths, count)?;
+    let total = total_of(bookings, &accepted);
+    let next = price_sum(&prices);
+    Ok(Earning::Most { total, next })
+}

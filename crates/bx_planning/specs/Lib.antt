@@ -1,3 +1,0 @@
-pub mod Planning
-pub mod Amending
-pub mod Unplanned

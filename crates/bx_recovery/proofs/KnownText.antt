@@ -1,0 +1,82 @@
+-- What was read of a device that tells its octets is its text, or a front of it.
+use Rattle.std.proofs.Common.{◌≡◌, ℕ, Bool, List, [], ◌++◌, length, take, Option, Some, None, Result, Ok, Err, refl, ap, sym, ◌∙◌, subst, append_assoc}
+use Rattle.std.proofs.lemmas.List.{append-nil}
+use Rattle.std.specs.Io.KnownBytes.{Consumes, IsAtEnd}
+use Rattle.bx_events.specs.Events.{LiveEvent}
+use Rattle.bx_day.specs.Day.{Day}
+use Rattle.bx_day.specs.Outages.{live_day_after}
+use Rattle.bx_journal.specs.declared.fault.JournalFault.{JournalFault}
+use Rattle.bx_journal.specs.declared.fault.JournalFault.TheVariants.{BadLine, OtherPlan, NotBegun, ReadFailed}
+use Rattle.bx_journal.specs.Reading.{Recovery, recovered, journal_in, with_whole, events_before}
+use Rattle.bx_journal.specs.Lines.{whole_text}
+use Rattle.bx_journal.specs.Follows.{WasRefused, IsFollowed}
+use Rattle.bx_journal.specs.Recording.{IsFront}
+use Rattle.bx_recovery.specs.Recovered.{goes_on, IsDayBefore, IsRecovered, IsFrontDay}
+
+pub record Splits (text read : List ℕ) : Type 0 where
+  pub rest : List ℕ
+  pub is : text ≡ read ++ rest
+
+splits : (text read : List ℕ) (after : Option (List ℕ)) → Consumes (Some text) after read → Splits text read
+splits text read None c = absurd c
+splits text read (Some rest) c = record { rest = rest; is = c }
+
+whole : (text read : List ℕ) (after : Option (List ℕ)) → Consumes (Some text) after read → IsAtEnd after → text ≡ read
+whole text read None c e = absurd c
+whole text read (Some rest) c e = c ∙ ap (λ (l : List ℕ). read ++ l) e ∙ append-nil read
+
+module _ (plan text : List ℕ) (after : Option (List ℕ)) (old new : Day) where
+  before_fault : (fault : JournalFault) → WasRefused goes_on (Some text) after plan old new fault → IsDayBefore plan text old new fault
+  before_fault fault r =
+      let s = splits text r.read after r.consumed in
+      record {
+        is = ap (recovered plan) s.is ∙ r.is s.rest;
+        day = r.followed_all ∙ ap (λ (es : List LiveEvent). live_day_after es old) (sym (ap (events_before plan) s.is ∙ r.are s.rest));
+      }
+
+  known : (faulted : Bool) (result : Result ℕ JournalFault) → IsFollowed goes_on faulted (Some text) after plan old new result → IsRecovered plan text old new result
+  known faulted (Ok n) r = record { events = r.events; is = ap (journal_in plan) (whole text r.text after r.consumed r.at_end) ∙ r.is; day = r.followed_all }
+  known faulted (Err (BadLine n)) r = before_fault (BadLine n) r
+  known faulted (Err OtherPlan) r = before_fault OtherPlan r
+  known faulted (Err NotBegun) r = (ap (recovered plan) (whole text r.text after r.consumed r.at_end) ∙ r.is, r.followed_none)
+  known faulted (Err ReadFailed) r =
+      let s = splits text (r.read ++ r.held) after r.consumed in
+      record { front = r.read; rest = r.held ++ s.rest; splits = s.is ∙ append_assoc r.read r.held s.rest; events = r.events; is = r.is; day = r.followed_all }
+
+pub day_known : (plan text : List ℕ) (before after : Option (List ℕ)) (old new : Day) (faulted : Bool) (result : Result ℕ JournalFault) → before ≡ Some text → IsFollowed goes_on faulted before after plan old new result → IsRecovered plan text old new result
+day_known plan text before after old new faulted result is r = known plan text after old new faulted result (subst (λ (b : Option (List ℕ)). IsFollowed goes_on faulted b after plan old new result) is r)
+
+-- the events of a recovery
+the_events : (n m : ℕ) (read : Result (List LiveEvent) JournalFault) (events : List LiveEvent) → with_whole n read ≡ Ok (record { events = events; whole = m }) → read ≡ Ok events
+the_events n m (Ok es) events e =
+    let same : record { events = es; whole = n } ≡ record { events = events; whole = m } = cc in
+    ap (λ (r : Recovery). Ok r.events) same
+the_events n m (Err f) events e = absurd cc
+
+ok_events : (xs ys : List LiveEvent) (r : Result (List LiveEvent) JournalFault) → r ≡ Ok xs → r ≡ Ok ys → xs ≡ ys
+ok_events xs ys r a b = cc
+
+not_both : (xs : List LiveEvent) (f : JournalFault) (r : Result (List LiveEvent) JournalFault) → r ≡ Ok xs → r ≡ Err f → ⊥
+not_both xs f r a b = absurd cc
+
+pub front_day : (plan text : List ℕ) (old new : Day) (result : Result ℕ JournalFault) (before more : List LiveEvent) → IsRecovered plan text old new result → IsFront plan before more text → IsFrontDay before more old new result
+front_day plan text old new (Ok n) before more r f =
+    let events = the_events (length (whole_text text)) n (recovered plan text) r.events r.is in
+    (f.0, f.1, r.day ∙ ap (λ (es : List LiveEvent). live_day_after es old) (ok_events r.events (before ++ take f.0 more) (recovered plan text) events f.2))
+front_day plan text old new (Err (BadLine n)) before more r f = absurd (not_both _ (BadLine n) (recovered plan text) f.2 r.is)
+front_day plan text old new (Err OtherPlan) before more r f = absurd (not_both _ OtherPlan (recovered plan text) f.2 r.is)
+front_day plan text old new (Err NotBegun) before more r f = absurd (not_both _ NotBegun (recovered plan text) f.2 r.0)
+front_day plan text old new (Err ReadFailed) before more r f = refl
+
+-- what a follower has followed, said of its day
+module _ {F : Type 0} (followed : F → List LiveEvent → F → Type 0) (day : F → Day) (goes : (f g : F) (events : List LiveEvent) → followed f events g → goes_on (day f) events (day g))
+    (faulted : Bool) (before after : Option (List ℕ)) (plan : List ℕ) (f g : F) where
+  refused_day : (fault : JournalFault) → WasRefused followed before after plan f g fault → WasRefused goes_on before after plan (day f) (day g) fault
+  refused_day fault r = record { read = r.read; consumed = r.consumed; is = r.is; events = r.events; are = r.are; followed_all = goes f g r.events r.followed_all }
+
+  pub followed_day : (result : Result ℕ JournalFault) → IsFollowed followed faulted before after plan f g result → IsFollowed goes_on faulted before after plan (day f) (day g) result
+  followed_day (Ok n) r = record { text = r.text; consumed = r.consumed; at_end = r.at_end; events = r.events; is = r.is; followed_all = goes f g r.events r.followed_all }
+  followed_day (Err (BadLine n)) r = refused_day (BadLine n) r
+  followed_day (Err OtherPlan) r = refused_day OtherPlan r
+  followed_day (Err NotBegun) r = record { text = r.text; consumed = r.consumed; at_end = r.at_end; is = r.is; followed_none = goes f g [] r.followed_none }
+  followed_day (Err ReadFailed) r = record { read = r.read; held = r.held; consumed = r.consumed; events = r.events; is = r.is; followed_all = goes f g r.events r.followed_all; cause = r.cause }

@@ -1,0 +1,200 @@
+-- Row by row of the network side's call table: what a step of a call says, and where it leads.
+use Rattle.std.proofs.Common.{◌≡◌, ℕ, ◌==◌, ◌%◌, ◌&&◌, ◌||◌, not, Bool, true, false, Option, Some, None, refl, sym, ap, ◌∙◌, if◌then◌else◌, nat_le}
+use Rattle.bx_q931.specs.declared.kind.Kind.{Kind}
+use Rattle.bx_q931.specs.declared.kind.Kind.TheVariants.{Alerting, CallProceeding, Progress, Setup, Connect, ConnectAcknowledge, Disconnect, Release, ReleaseComplete, Notify, StatusEnquiry, Information, Status, Other}
+use Rattle.bx_q931.specs.Outgoing.{Outgoing}
+use Rattle.bx_calls.specs.declared.step.Step.{Step}
+use Rattle.bx_calls.specs.declared.step.Next.{Next}
+use Rattle.bx_calls.specs.declared.step.Next.TheVariants.{Live, Over, Broken}
+use Rattle.bx_calls.specs.PlainCalls.{PlainNetCall}
+use Rattle.bx_calls.specs.declared.net_state.NetOrigin.{NetOrigin}
+use Rattle.bx_calls.specs.declared.net_state.NetOrigin.TheVariants.{Outward, Inward}
+use Rattle.bx_calls.specs.declared.net_state.NetState.{NetState}
+use Rattle.bx_calls.specs.declared.net_state.NetState.TheVariants.{OutgoingCallProceeding, CallPresent, IncomingCallProceeding, CallReceived, Active, DisconnectIndication, ReleaseRequest}
+use Rattle.bx_calls.specs.Hearing.{Heard, names_channel, reports_null}
+use Rattle.bx_calls.specs.States.{state_value, net_state}
+use Rattle.bx_calls.specs.NetTable.{net_row, net_second, net_timer, net_flag, net_is_clearing, net_releases, net_unlinked, net_later}
+use Rattle.std.proofs.lemmas.Bool.{false≢true, or_left}
+use Rattle.bx_day.specs.Moves.{is_active}
+use Rattle.bx_day.proofs.Said.{OfSaid}
+use Rattle.bx_day.proofs.Second.{call_of}
+use Rattle.bx_day.proofs.Tick.{by_cases}
+use Rattle.bx_two_ends.specs.TwoEndsInward.{is_connect_kind}
+
+-- messages that end a call: DISCONNECT, RELEASE, RELEASE COMPLETE, and STATUS that reports Null
+abbrev pub clears_as : Kind → Option ℕ → Bool
+clears_as Disconnect state = true
+clears_as Release state = true
+clears_as ReleaseComplete state = true
+clears_as Status state = reports_null state
+clears_as _ state = false
+
+abbrev pub is_proceeding : NetState → Bool
+is_proceeding OutgoingCallProceeding = true
+is_proceeding _ = false
+
+abbrev pub Mild : Outgoing → Type 0
+Mild o = clears_as o.kind o.state ≡ false
+
+-- a call whose state was s, at a message of kind k (or a tick)
+pub record Goes (r ch : ℕ) (o : NetOrigin) (s : NetState) (k : Bool) (reply : Option Outgoing) (c : PlainNetCall) : Type 0 where
+  pub reference : c.reference ≡ r
+  pub channel : c.channel ≡ ch
+  pub origin : c.origin ≡ o
+  pub mild : net_is_clearing c.state ≡ false → (net_is_clearing s ≡ false) × OfSaid Mild reply
+  pub active : is_active c.state ≡ true → (is_active s || (k || is_proceeding s)) ≡ true
+  pub proceeding : is_proceeding c.state ≡ true → is_proceeding s ≡ true
+
+abbrev pub OnNext : (PlainNetCall → Type 0) → Next PlainNetCall → Type 0
+OnNext P (Live c) = P c
+OnNext P Over = Unit {0}
+OnNext P Broken = Unit {0}
+
+abbrev pub GoesOn : ℕ → ℕ → NetOrigin → NetState → Bool → Step PlainNetCall → Type 0
+GoesOn r ch o s k step = OnNext (Goes r ch o s k step.reply) step.next
+
+-- no live state is Null
+pub live_state : (s : NetState) → (state_value (net_state s) % 64 == 0) ≡ false
+live_state OutgoingCallProceeding = refl
+live_state (CallPresent again due) = refl
+live_state (IncomingCallProceeding due) = refl
+live_state (CallReceived due) = refl
+live_state Active = refl
+live_state (DisconnectIndication cause due) = refl
+live_state (ReleaseRequest again cause due) = refl
+
+-- the same, with a mild reply
+same : (r ch : ℕ) (o : NetOrigin) (s : NetState) (k : Bool) (reply : Option Outgoing) → OfSaid Mild reply → Goes r ch o s k reply (call_of r ch o s)
+same r ch o s k reply h = record { reference = refl; channel = refl; origin = refl; mild = λ c. (c, h); active = λ a. or_left (is_active s) (k || is_proceeding s) a; proceeding = λ a. a }
+
+-- to a state of clearing
+clearing : (r ch : ℕ) (o : NetOrigin) (s s' : NetState) (k : Bool) (reply : Option Outgoing) → net_is_clearing s' ≡ true → is_active s' ≡ false → is_proceeding s' ≡ false → Goes r ch o s k reply (call_of r ch o s')
+clearing r ch o s s' k reply h a b = record { reference = refl; channel = refl; origin = refl; mild = λ c. absurd (false≢true (sym c ∙ h)); active = λ c. absurd (false≢true (sym a ∙ c)); proceeding = λ c. absurd (false≢true (sym b ∙ c)) }
+
+-- to another state of setting up
+ringing : (r ch : ℕ) (o : NetOrigin) (s s' : NetState) (k : Bool) (reply : Option Outgoing) → net_is_clearing s ≡ false → is_active s' ≡ false → is_proceeding s' ≡ false → OfSaid Mild reply → Goes r ch o s k reply (call_of r ch o s')
+ringing r ch o s s' k reply h a b m = record { reference = refl; channel = refl; origin = refl; mild = λ c. (h, m); active = λ c. absurd (false≢true (sym a ∙ c)); proceeding = λ c. absurd (false≢true (sym b ∙ c)) }
+
+-- Active
+talking : (r ch : ℕ) (o : NetOrigin) (s : NetState) (k : Bool) (reply : Option Outgoing) → net_is_clearing s ≡ false → (is_active s || (k || is_proceeding s)) ≡ true → OfSaid Mild reply → Goes r ch o s k reply (call_of r ch o Active)
+talking r ch o s k reply h a m = record { reference = refl; channel = refl; origin = refl; mild = λ c. (h, m); active = λ c. a; proceeding = λ c. absurd (false≢true c) }
+
+pub row_goes : (r ch : ℕ) (o : NetOrigin) (t : ℕ) (m : Heard) (s : NetState) (k : Kind) → GoesOn r ch o s (is_connect_kind k) (net_row (call_of r ch o s) m t s k)
+row_goes r ch o t m s ReleaseComplete = tt
+row_goes r ch o t m s StatusEnquiry = same r ch o s false _ (live_state s)
+row_goes r ch o t m s Status = by_cases (reports_null m.state) _ _ (GoesOn r ch o s false) (λ _. tt) (λ _. same r ch o s false None tt)
+row_goes r ch o t m s Setup = same r ch o s false None tt
+row_goes r ch o t m (ReleaseRequest again cause due) Release = tt
+row_goes r ch o t m s Release = tt
+row_goes r ch o t m (ReleaseRequest again cause due) k = same r ch o (ReleaseRequest again cause due) (is_connect_kind k) None tt
+row_goes r ch o t m s Disconnect = clearing r ch o s _ false _ refl refl refl
+row_goes r ch o t m (DisconnectIndication cause due) k = same r ch o (DisconnectIndication cause due) (is_connect_kind k) None tt
+row_goes r ch o t m (CallPresent again due) CallProceeding = by_cases (names_channel m.channel ch) _ _ (GoesOn r ch o (CallPresent again due) false) (λ _. ringing r ch o (CallPresent again due) _ false None refl refl refl tt) (λ _. clearing r ch o (CallPresent again due) _ false _ refl refl refl)
+row_goes r ch o t m (CallPresent again due) Alerting = by_cases (names_channel m.channel ch) _ _ (GoesOn r ch o (CallPresent again due) false) (λ _. ringing r ch o (CallPresent again due) _ false None refl refl refl tt) (λ _. clearing r ch o (CallPresent again due) _ false _ refl refl refl)
+row_goes r ch o t m (CallPresent again due) Connect = by_cases (names_channel m.channel ch) _ _ (GoesOn r ch o (CallPresent again due) true) (λ _. talking r ch o (CallPresent again due) true _ refl refl refl) (λ _. clearing r ch o (CallPresent again due) _ true _ refl refl refl)
+row_goes r ch o t m (IncomingCallProceeding due) Alerting = ringing r ch o (IncomingCallProceeding due) _ false None refl refl refl tt
+row_goes r ch o t m (IncomingCallProceeding due) Connect = talking r ch o (IncomingCallProceeding due) true _ refl refl refl
+row_goes r ch o t m (CallReceived due) Connect = talking r ch o (CallReceived due) true _ refl refl refl
+row_goes r ch (Outward called) t m Active ConnectAcknowledge = same r ch (Outward called) Active false _ refl
+row_goes r ch Inward t m Active ConnectAcknowledge = same r ch Inward Active false None tt
+row_goes r ch o t m s Progress = same r ch o s false None tt
+row_goes r ch o t m s Notify = same r ch o s false None tt
+row_goes r ch o t m s Information = same r ch o s false None tt
+row_goes r ch o t m s (Other octet) = same r ch o s false _ (live_state s)
+row_goes r ch o t m s k = same r ch o s (is_connect_kind k) _ (live_state s)
+
+timer_goes : (r ch : ℕ) (o : NetOrigin) (t : ℕ) (s : NetState) → GoesOn r ch o s false (net_timer (call_of r ch o s) t s)
+timer_goes r ch o t OutgoingCallProceeding = talking r ch o OutgoingCallProceeding false _ refl refl refl
+timer_goes r ch (Outward called) t (CallPresent false due) = by_cases (nat_le due t) _ _ (GoesOn r ch (Outward called) (CallPresent false due) false) (λ _. ringing r ch (Outward called) (CallPresent false due) _ false _ refl refl refl refl) (λ _. same r ch (Outward called) (CallPresent false due) false None tt)
+timer_goes r ch Inward t (CallPresent false due) = by_cases (nat_le due t) _ _ (GoesOn r ch Inward (CallPresent false due) false) (λ _. ringing r ch Inward (CallPresent false due) _ false _ refl refl refl tt) (λ _. same r ch Inward (CallPresent false due) false None tt)
+timer_goes r ch o t (CallPresent true due) = by_cases (nat_le due t) _ _ (GoesOn r ch o (CallPresent true due) false) (λ _. tt) (λ _. same r ch o (CallPresent true due) false None tt)
+timer_goes r ch o t (IncomingCallProceeding due) = by_cases (nat_le due t) _ _ (GoesOn r ch o (IncomingCallProceeding due) false) (λ _. clearing r ch o (IncomingCallProceeding due) _ false _ refl refl refl) (λ _. same r ch o (IncomingCallProceeding due) false None tt)
+timer_goes r ch o t (CallReceived due) = by_cases (nat_le due t) _ _ (GoesOn r ch o (CallReceived due) false) (λ _. clearing r ch o (CallReceived due) _ false _ refl refl refl) (λ _. same r ch o (CallReceived due) false None tt)
+timer_goes r ch o t Active = same r ch o Active false None tt
+timer_goes r ch o t (DisconnectIndication cause due) = by_cases (nat_le due t) _ _ (GoesOn r ch o (DisconnectIndication cause due) false) (λ _. clearing r ch o (DisconnectIndication cause due) _ false _ refl refl refl) (λ _. same r ch o (DisconnectIndication cause due) false None tt)
+timer_goes r ch o t (ReleaseRequest false cause due) = by_cases (nat_le due t) _ _ (GoesOn r ch o (ReleaseRequest false cause due) false) (λ _. clearing r ch o (ReleaseRequest false cause due) _ false _ refl refl refl) (λ _. same r ch o (ReleaseRequest false cause due) false None tt)
+timer_goes r ch o t (ReleaseRequest true cause due) = by_cases (nat_le due t) _ _ (GoesOn r ch o (ReleaseRequest true cause due) false) (λ _. tt) (λ _. same r ch o (ReleaseRequest true cause due) false None tt)
+
+pub second_goes : (r ch : ℕ) (o : NetOrigin) (t end : ℕ) (s : NetState) → GoesOn r ch o s false (net_second (call_of r ch o s) t end)
+second_goes r ch o t end s = by_cases (not (net_is_clearing s) && nat_le end t) _ _ (GoesOn r ch o s false) (λ _. clearing r ch o s _ false _ refl refl refl) (λ _. timer_goes r ch o t s)
+
+-- in a second without a link
+still_goes : (r ch : ℕ) (o : NetOrigin) (s : NetState) → Goes r ch o s false None (call_of r ch o (net_later 1 s))
+still_goes r ch o OutgoingCallProceeding = same r ch o OutgoingCallProceeding false None tt
+still_goes r ch o (CallPresent again due) = ringing r ch o (CallPresent again due) _ false None refl refl refl tt
+still_goes r ch o (IncomingCallProceeding due) = ringing r ch o (IncomingCallProceeding due) _ false None refl refl refl tt
+still_goes r ch o (CallReceived due) = ringing r ch o (CallReceived due) _ false None refl refl refl tt
+still_goes r ch o Active = same r ch o Active false None tt
+still_goes r ch o (DisconnectIndication cause due) = clearing r ch o (DisconnectIndication cause due) _ false None refl refl refl
+still_goes r ch o (ReleaseRequest again cause due) = clearing r ch o (ReleaseRequest again cause due) _ false None refl refl refl
+
+pub unlinked_goes : (r ch : ℕ) (o : NetOrigin) (t end : ℕ) (s : NetState) → GoesOn r ch o s false (net_unlinked 1 (call_of r ch o s) t end)
+unlinked_goes r ch o t end s = by_cases (not (net_is_clearing s) && nat_le end t) _ _ (GoesOn r ch o s false) (λ _. clearing r ch o s _ false None refl refl refl) (λ _. still_goes r ch o s)
+
+-- what is said is of the call
+abbrev pub OfCall : ℕ → NetOrigin → Outgoing → Type 0
+OfCall r o out = (out.reference ≡ r) × (out.flag ≡ net_flag o)
+
+test_said : (P : Outgoing → Type 0) (b : Bool) (x y : Step PlainNetCall) → OfSaid P x.reply → OfSaid P y.reply → OfSaid P (if b then x else y).reply
+test_said P true x y f g = f
+test_said P false x y f g = g
+
+pub row_says : (r ch : ℕ) (o : NetOrigin) (t : ℕ) (m : Heard) (s : NetState) (k : Kind) → OfSaid (OfCall r o) (net_row (call_of r ch o s) m t s k).reply
+row_says r ch o t m s ReleaseComplete = tt
+row_says r ch o t m s StatusEnquiry = (refl, refl)
+row_says r ch o t m s Status = test_said (OfCall r o) (reports_null m.state) _ _ tt tt
+row_says r ch o t m s Setup = tt
+row_says r ch o t m (ReleaseRequest again cause due) Release = tt
+row_says r ch o t m s Release = (refl, refl)
+row_says r ch o t m (ReleaseRequest again cause due) k = tt
+row_says r ch o t m s Disconnect = (refl, refl)
+row_says r ch o t m (DisconnectIndication cause due) k = tt
+row_says r ch o t m (CallPresent again due) CallProceeding = test_said (OfCall r o) (names_channel m.channel ch) _ _ tt (refl, refl)
+row_says r ch o t m (CallPresent again due) Alerting = test_said (OfCall r o) (names_channel m.channel ch) _ _ tt (refl, refl)
+row_says r ch o t m (CallPresent again due) Connect = test_said (OfCall r o) (names_channel m.channel ch) _ _ (refl, refl) (refl, refl)
+row_says r ch o t m (IncomingCallProceeding due) Alerting = tt
+row_says r ch o t m (IncomingCallProceeding due) Connect = (refl, refl)
+row_says r ch o t m (CallReceived due) Connect = (refl, refl)
+row_says r ch (Outward called) t m Active ConnectAcknowledge = (refl, refl)
+row_says r ch Inward t m Active ConnectAcknowledge = tt
+row_says r ch o t m s Progress = tt
+row_says r ch o t m s Notify = tt
+row_says r ch o t m s Information = tt
+row_says r ch o t m s (Other octet) = (refl, refl)
+row_says r ch o t m s k = (refl, refl)
+
+-- at a tick; a SETUP that goes again names the channel
+pub record Speaks (r ch : ℕ) (o : NetOrigin) (out : Outgoing) : Type 0 where
+  pub reference : out.reference ≡ r
+  pub flag : out.flag ≡ net_flag o
+  pub setup : out.kind ≡ Setup → out.channel ≡ Some (ch, true)
+
+abbrev is_setup_kind : Kind → Bool
+is_setup_kind Setup = true
+is_setup_kind _ = false
+
+other : (r ch : ℕ) (o : NetOrigin) (out : Outgoing) → out.reference ≡ r → out.flag ≡ net_flag o → is_setup_kind out.kind ≡ false → Speaks r ch o out
+other r ch o out a b c = record { reference = a; flag = b; setup = λ q. absurd (false≢true (sym c ∙ ap is_setup_kind q)) }
+
+again_speaks : (r ch : ℕ) (o : NetOrigin) (t : ℕ) (s : NetState) (b : Bool) (cause : Option ℕ) → OfSaid (Speaks r ch o) (net_releases (call_of r ch o s) b cause t).reply
+again_speaks r ch o t s b None = other r ch o _ refl refl refl
+again_speaks r ch o t s b (Some cause) = other r ch o _ refl refl refl
+
+timer_speaks : (r ch : ℕ) (o : NetOrigin) (t : ℕ) (s : NetState) → OfSaid (Speaks r ch o) (net_timer (call_of r ch o s) t s).reply
+timer_speaks r ch o t OutgoingCallProceeding = other r ch o _ refl refl refl
+timer_speaks r ch (Outward called) t (CallPresent false due) = test_said (Speaks r ch (Outward called)) (nat_le due t) _ _ (record { reference = refl; flag = refl; setup = λ q. refl }) tt
+timer_speaks r ch Inward t (CallPresent false due) = test_said (Speaks r ch Inward) (nat_le due t) _ _ tt tt
+timer_speaks r ch o t (CallPresent true due) = test_said (Speaks r ch o) (nat_le due t) _ _ (other r ch o _ refl refl refl) tt
+timer_speaks r ch o t (IncomingCallProceeding due) = test_said (Speaks r ch o) (nat_le due t) _ _ (other r ch o _ refl refl refl) tt
+timer_speaks r ch o t (CallReceived due) = test_said (Speaks r ch o) (nat_le due t) _ _ (other r ch o _ refl refl refl) tt
+timer_speaks r ch o t Active = tt
+timer_speaks r ch o t (DisconnectIndication cause due) = test_said (Speaks r ch o) (nat_le due t) _ _ (other r ch o _ refl refl refl) tt
+timer_speaks r ch o t (ReleaseRequest false cause due) = test_said (Speaks r ch o) (nat_le due t) _ _ (again_speaks r ch o t (ReleaseRequest false cause due) true cause) tt
+timer_speaks r ch o t (ReleaseRequest true cause due) = test_said (Speaks r ch o) (nat_le due t) _ _ tt tt
+
+pub second_speaks : (r ch : ℕ) (o : NetOrigin) (t end : ℕ) (s : NetState) → OfSaid (Speaks r ch o) (net_second (call_of r ch o s) t end).reply
+second_speaks r ch o t end s = test_said (Speaks r ch o) (not (net_is_clearing s) && nat_le end t) _ _ (other r ch o _ refl refl refl) (timer_speaks r ch o t s)
+
+-- in a second without a link nothing is
+pub unlinked_says : (P : Outgoing → Type 0) (c : PlainNetCall) (t end : ℕ) → OfSaid P (net_unlinked 1 c t end).reply
+unlinked_says P c t end = test_said P (not (net_is_clearing c.state) && nat_le end t) _ _ tt tt

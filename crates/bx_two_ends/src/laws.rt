@@ -1,0 +1,27 @@
+//! What holds of two ends over every list of events.
+
+ghost use Rattle.bx_two_ends.specs.Scripts.{ScriptsFit};
+ghost use Rattle.bx_two_ends.specs.TwoEnds.{TwoEnds};
+ghost use Rattle.bx_two_ends.specs.TwoEndsInward.{TwoEndsInward};
+
+/// The two ends agree on each call that the exchange began (ITU-T Q.931, 5.2 and 5.3), whatever is lost, repeated,
+/// delayed or reordered between them. For every carried plan, every script and every list of events: while such a
+/// call is Active at the exchange, the far end holds the call of its reference on its channel or has that channel in
+/// maintenance; no end holds two calls on a channel; and for each such call that is Active at the far end the
+/// exchange has sent CONNECT ACKNOWLEDGE with its reference.
+pub fn two_ends()
+    ensures { TwoEnds }
+{}
+
+/// The two ends agree on each call that the far end began (ITU-T Q.931, 5.1 and 5.3), in the same way: while it is
+/// Active at the far end, the exchange holds a call of its reference on its channel or has that channel in
+/// maintenance, and has sent CONNECT with its reference.
+pub fn two_ends_inward()
+    ensures { TwoEndsInward }
+{}
+
+/// Every script that is read keeps the premise of both laws: its rows that call name a number of 1 to 15 digits and a
+/// B channel. That it has at most 4,000 rows is in the type of what `Script::read` answers.
+pub fn scripts_fit()
+    ensures { ScriptsFit }
+{}
