@@ -79,7 +79,7 @@ fn each_value<S: Subject>(subject: &mut S, octets: &mut [u8], at: usize) -> bool
         if let Some(octet) = octets.get_mut(at) {
             *octet = value;
         }
-        if (u32::from(value) + at as u32) % SHARE == 0 {
+        if usize::from(value).wrapping_add(at) % SHARE as usize == 0 {
             right &= subject.takes_rightly(octets);
         }
     }
