@@ -3,7 +3,7 @@ _bx() {
     local word=${COMP_WORDS[COMP_CWORD]} before=${COMP_WORDS[COMP_CWORD-1]} options=
     COMPREPLY=()
     if [ "$COMP_CWORD" = 1 ]; then
-        COMPREPLY=($(compgen -W "plan check amend capacity explain quote chart day serve far decode help --help --version" -- "$word"))
+        COMPREPLY=($(compgen -W "plan check amend capacity explain quote chart day serve far audit records decode help --help --version" -- "$word"))
         return
     fi
     case ${COMP_WORDS[1]} in
@@ -15,13 +15,15 @@ _bx() {
         quote) options="--inward --date --zone --help" ;;
         chart) options="--date --zone --help" ;;
         day) options="--turns --capture --date --zone --quiet --help" ;;
-        serve) options="--port --turns --capture --date --zone --quiet --help" ;;
+        serve) options="--port --socket --live --date --zone --journal --pace --turns --capture --quiet --help" ;;
         far) options="--port --capture --date --zone --quiet --help" ;;
+        audit) options="--capture --date --zone --help" ;;
+        records) options="--date --zone --quiet --help" ;;
         decode) options="--help" ;;
-        help) COMPREPLY=($(compgen -W "plan check amend capacity explain quote chart day serve far decode faults" -- "$word")); return ;;
+        help) COMPREPLY=($(compgen -W "plan check amend capacity explain quote chart day serve far audit records decode faults" -- "$word")); return ;;
     esac
     case $before in
-        --channels | --date | --port | --turns | --zone) return ;;
+        --channels | --date | --pace | --port | --turns | --zone) return ;;
     esac
     case $word in
         -*) COMPREPLY=($(compgen -W "$options" -- "$word")) ;;

@@ -1,11 +1,12 @@
 -- What the clock of a zone shows.
-use Rattle.std.specs.Prelude.{◌≡◌, ◌&&◌, ◌/◌, ◌%◌, ℕ, ℤ, Bool, List, Option, Some, None, pos, neg_ℤ, ◌+ℤ◌, ◌*ℤ◌, int_le, unsigned_abs, if◌then◌else◌}
+use Rattle.std.specs.Prelude.{◌≡◌, ◌&&◌, ◌/◌, ◌%◌, ℕ, ℤ, Bool, List, Option, Some, None, pos, neg_ℤ, ◌++◌, ◌+ℤ◌, ◌-ℤ◌, ◌*ℤ◌, int_rem, int_le, unsigned_abs, if◌then◌else◌}
 use Rattle.std.specs.Int.{int_rem_euclid}
 use Rattle.jiff.specs.Placed.{IsPosixZone}
-use Rattle.jiff.specs.Words.{plain_zone}
+use Rattle.jiff.specs.Words.{plain_zone, iso_datetime_text, offset_text}
 use Rattle.jiff_core.specs.DateTime.{civil_nanos}
 use Rattle.jiff_core.specs.Timestamp.{nanos_of_seconds}
 use Rattle.jiff_core.specs.declared.civil.datetime.DateTime.{DateTime}
+use Rattle.jiff_core.specs.declared.offset.Offset.{Offset}
 use Rattle.jiff_tz.specs.Zone.{offset_at}
 use Rattle.jiff_tz.specs.declared.timezone.TimeZone.{TimeZone}
 use Rattle.bx_book.specs.Dates.{IsDateText, day_number}
@@ -36,6 +37,18 @@ pub record Shows (zone : TimeZone) (second : ℤ) (hour minute : ℕ) : Type 0 w
   pub moved : civil_nanos at ≡ ((second *ℤ pos 1_000_000_000) +ℤ nanos_of_seconds (offset_at zone (second *ℤ pos 1_000_000_000)))
   pub hour_is : hour ≡ at.time.hour
   pub minute_is : minute ≡ at.time.minute
+
+-- an offset without its seconds, nearer to none
+abbrev pub whole_minutes : ℤ → ℤ
+whole_minutes seconds = seconds -ℤ int_rem seconds (pos 60)
+
+-- the time of a clock so many seconds behind the day's start, with the offset that its zone has then, in whole minutes
+pub record IsLocalTime (c : Clock) (moment : ℕ) (text : List ℕ) : Type 0 where
+  pub at : DateTime
+  pub offset : Offset
+  pub offset_of : offset.seconds ≡ whole_minutes (offset_at (clock_zone c) ((clock_start c +ℤ pos moment) *ℤ pos 1_000_000_000))
+  pub moved : civil_nanos at ≡ ((clock_start c +ℤ pos moment) *ℤ pos 1_000_000_000) +ℤ nanos_of_seconds offset.seconds
+  pub text_of : text ≡ iso_datetime_text at ++ offset_text offset
 
 -- the same as a function: how many seconds from midnight on the zone's clock shows at this second
 abbrev pub shown_second : TimeZone → ℤ → ℕ

@@ -2,10 +2,12 @@
 
 ghost use Rattle.std.specs.Prelude.{◌≡◌, ◌<◌, ◌+ℤ◌, ◌*ℤ◌, ◌↔◌, pos, IfOk, IfSome, IfNone, Err};
 ghost use Rattle.jiff.specs.Words.{IsTimestampNanos};
+ghost use Rattle.bx_book.specs.Clocks.{whole_minutes};
 
 use crate::day::{Day, DayFault};
+use arrayvec::ArrayString;
 use jiff::Timestamp;
-use jiff::tz::TimeZone;
+use jiff::tz::{Offset, TimeZone};
 
 /// A day, and the clock of the zone in which it lies.
 #[derive(Clone, Copy)]
@@ -15,7 +17,7 @@ pub struct Clock {
 }
 
 impl Clock {
-    ghost use Rattle.bx_book.specs.Clocks.{IsClock, Shows, clock_day, clock_start, clock_zone, second_shown_by, shown_by};
+    ghost use Rattle.bx_book.specs.Clocks.{IsClock, IsLocalTime, Shows, clock_day, clock_start, clock_zone, second_shown_by, shown_by};
     ghost use Rattle.bx_book.specs.Dates.{IsDateText, day_number};
     ghost use Rattle.bx_book.specs.Days.{IsOut, IsOdd, InZone, IsNoZone};
 
@@ -48,14 +50,8 @@ impl Clock {
         ensures none { IfNone result (¬ IsTimestampNanos ((clock_start self.now +ℤ pos moment) *ℤ pos 1_000_000_000)) }
         ensures value { result ≡ shown_by self.now moment }
     {
-        let second = self.day.start() + i64::from(moment);
-        match Timestamp::from_second(second) {
-            Ok(at) => {
-                let shown = self.zone.to_datetime(at);
-                Some((shown.hour().unsigned_abs(), shown.minute().unsigned_abs()))
-            }
-            Err(_) => None,
-        }
+        let shown = self.zone.to_datetime(self.instant(moment)?);
+        Some((shown.hour().unsigned_abs(), shown.minute().unsigned_abs()))
     }
 
     /// How many seconds from midnight on the clock shows so many seconds behind the day's start, below 86,400; none where that
@@ -64,15 +60,39 @@ impl Clock {
         ensures value { result ≡ second_shown_by self.now moment }
         ensures limit { IfSome result (λ second. second < 86400) }
     {
-        let instant = self.day.start() + i64::from(moment);
-        match Timestamp::from_second(instant) {
-            Ok(at) => {
-                let shown = self.zone.to_datetime(at);
-                let minutes = u32::from(shown.hour().unsigned_abs()) * 60
-                    + u32::from(shown.minute().unsigned_abs());
-                Some(minutes * 60 + u32::from(shown.second().unsigned_abs()))
-            }
-            Err(_) => None,
-        }
+        let shown = self.zone.to_datetime(self.instant(moment)?);
+        let minutes = u32::from(shown.hour().unsigned_abs()) * 60
+            + u32::from(shown.minute().unsigned_abs());
+        Some(minutes * 60 + u32::from(shown.second().unsigned_abs()))
+    }
+
+    /// What the clock shows so many seconds behind the day's start, as `2026-03-30T12:00:00+02:00`; none where that is outside
+    /// the range of `jiff`.
+    pub fn local_time(&self, moment: u32) -> Option<ArrayString<38>>
+        ensures some { IfSome result (λ text. IsLocalTime self.now moment text.bytes) }
+        ensures none { IfNone result (¬ IsTimestampNanos ((clock_start self.now +ℤ pos moment) *ℤ pos 1_000_000_000)) }
+    {
+        let at = self.instant(moment)?;
+        Some(at.display_with_offset(in_minutes(self.zone.to_offset(at))))
+    }
+
+    /// The instant so many seconds behind the day's start.
+    fn instant(&self, moment: u32) -> Option<Timestamp>
+        ensures some { IfSome result (λ at. at.nanosecond ≡ (clock_start self.now +ℤ pos moment) *ℤ pos 1_000_000_000) }
+        ensures none { IfNone result (¬ IsTimestampNanos ((clock_start self.now +ℤ pos moment) *ℤ pos 1_000_000_000)) }
+    {
+        let second = self.day.start() + i64::from(moment);
+        Timestamp::from_second(second).ok()
+    }
+}
+
+/// The offset without the seconds that a text of a time has no place for (RFC 3339).
+fn in_minutes(offset: Offset) -> Offset
+    ensures { result.seconds ≡ whole_minutes offset.seconds }
+{
+    let seconds = offset.seconds();
+    match Offset::from_seconds(seconds - seconds % 60) {
+        Ok(whole) => whole,
+        Err(_) => unreachable!(),
     }
 }

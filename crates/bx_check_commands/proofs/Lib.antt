@@ -1,3 +1,4 @@
 pub mod Judging
 pub mod Unread
 pub mod Options
+pub mod Named

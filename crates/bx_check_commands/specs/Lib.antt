@@ -4,3 +4,4 @@ pub mod MessageLines
 pub mod Decoding
 pub mod Inside
 pub mod PlanFiles
+pub mod Inputs

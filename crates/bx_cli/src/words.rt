@@ -1,16 +1,21 @@
 //! The command line.
 
-ghost use Rattle.std.specs.Prelude.{◌≡◌, ◌≢◌, ◌≤◌, ◌↔◌, ℕ, List, [], Some, IsOk, IsErr};
+ghost use Rattle.std.specs.Prelude.{◌≡◌, ◌≢◌, ◌≤◌, ◌↔◌, ◌⊎◌, ℕ, List, [], Some, true, IsOk, IsErr, OnOk, OnErr};
 ghost use Rattle.std.specs.Io.KnownBytes.{Appends};
 ghost use Rattle.bx_devices.specs.Devices.{reading_of, writing_of};
-ghost use Rattle.bx_devices.specs.Watching.{device_of};
+ghost use Rattle.bx_devices.specs.Octets.{AppendsPrefix};
+ghost use Rattle.bx_devices.specs.Watching.{device_of, is_faulted};
 ghost use Rattle.bx_check_commands.specs.Proved.{IsProvedText, proved_line};
 ghost use Rattle.bx_check_commands.specs.Refusals.{IsRefusal};
 ghost use Rattle.bx_check_commands.specs.declared.fault.CommandFault.{CommandFault};
+ghost use Rattle.bx_cli.specs.Statuses.{IsRequestDone, IsRequestRefused};
+ghost use Rattle.bx_request.specs.declared.request.Request.{Request};
 
-use bx_check_commands::{CommandFault, check_self, decode};
+use bx_audit::{audit_files, record_files};
+use bx_check_commands::{CommandFault, FilesAndInput, check_self, decode};
 use bx_day_commands::run_day_on_files;
 use bx_devices::{Watched, write_octets};
+use bx_live_commands::live_on_files;
 use bx_plan_commands::run_on_files;
 use bx_request::Request;
 use bx_words::{Refusal, read_words};
@@ -45,6 +50,10 @@ pub fn main_words<
     // Else it was refused.
     ensures refused { words.now ≡ [] → result ≢ 0 → (result ≡ 1) × (fault : CommandFault) × IsRefusal (reading_of R.remaining input.old input.new) (writing_of W.contents output.old output.new) fault }
     ensures status { result ≤ 2 }
+    // With words, 0 says that some command is done, or that a text that was asked for was written.
+    ensures words { words.now ≢ [] → result ≡ 0 → ((request : Request) × IsRequestDone (R.remaining (device_of input.old)) request H.File.contents W.contents output.old output.new) ⊎ ((text : List ℕ) × Appends (W.contents (device_of output.old)) (W.contents (device_of output.new)) text) }
+    // And 1 says that some command is refused, or such a text was not written whole, or nothing was done.
+    ensures not_done { words.now ≢ [] → result ≡ 1 → ((request : Request) × IsRequestRefused (R.remaining (device_of input.old)) request H.File.contents W.contents output.old output.new) ⊎ ((text : List ℕ) × (is_faulted output.new ≡ true) × AppendsPrefix (W.contents (device_of output.old)) (W.contents (device_of output.new)) text) ⊎ (output.new ≡ output.old) }
 {
     if words.is_empty() {
         return match check_self(rt.alloc(), input, output) {
@@ -53,7 +62,7 @@ pub fn main_words<
         };
     }
     match read_words(rt.alloc(), words) {
-        Ok(request) => run(rt, request, output, errors, is_terminal),
+        Ok(request) => run(rt, request, input, output, errors, is_terminal),
         Err(Refusal::Help(text)) => status_of(show(&text, output), errors),
         Err(Refusal::Wrong(text)) => {
             let _ = write_octets(errors, text.as_bytes());
@@ -67,28 +76,54 @@ pub fn main_words<
 fn run<
     'a,
     H: Files + AllocGlobal + Clock + Eprint + Net<Listener = TcpListener, Stream = TcpStream>,
+    R: Read,
     W: Write,
     E: Write,
 >(
     rt: &H,
     request: Request<'a>,
+    input: &mut Watched<R>,
     output: &mut Watched<W>,
     errors: &mut Watched<E>,
     is_terminal: bool,
 ) -> u8
-    ensures { result ≤ 1 }
+    ensures status { result ≤ 1 }
+    ensures done { result ≡ 0 → IsRequestDone (R.remaining (device_of input.old)) request.entry H.File.contents W.contents output.old output.new }
+    ensures refused { result ≢ 0 → IsRequestRefused (R.remaining (device_of input.old)) request.entry H.File.contents W.contents output.old output.new }
 {
+    let mut inputs = FilesAndInput::new(rt, input);
     match request {
-        Request::Files(request) => status_of(run_on_files(rt, &request, output), errors),
+        Request::Files(request) => status_of(
+            run_on_files(rt.alloc(), &mut inputs, &request, output),
+            errors,
+        ),
         Request::Day(request) => {
-            status_of(run_day_on_files(rt, request, output, is_terminal), errors)
+            status_of(
+                run_day_on_files(rt, &mut inputs, request, output, is_terminal),
+                errors,
+            )
         }
+        Request::Live(request) => {
+            status_of(
+                live_on_files(rt, &mut inputs, request, output, is_terminal),
+                errors,
+            )
+        }
+        Request::Audit(request) => status_of(audit_files(rt, &mut inputs, request, output), errors),
+        Request::Records(request) => status_of(
+            record_files(rt.alloc(), &mut inputs, request, output, errors),
+            errors,
+        ),
         Request::Decode { octets } => status_of(decode(rt.alloc(), octets, output), errors),
     }
 }
 
 /// Writes a text that was asked for.
-fn show<'a, W: Write>(text: &str, output: &mut Watched<W>) -> Result<(), CommandFault<'a>> {
+fn show<'a, W: Write>(text: &str, output: &mut Watched<W>) -> Result<(), CommandFault<'a>>
+    ensures shown { OnOk result (Appends (W.contents (device_of output.old)) (W.contents (device_of output.new)) text.now) }
+    ensures cut { OnErr result (AppendsPrefix (W.contents (device_of output.old)) (W.contents (device_of output.new)) text.now) }
+    ensures failed { OnErr result (is_faulted output.new ≡ true) }
+{
     match write_octets(output, text.as_bytes()) {
         Ok(()) => Ok(()),
         Err(_) => Err(CommandFault::CannotWrite),

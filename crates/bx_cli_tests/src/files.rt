@@ -119,7 +119,7 @@ pub(crate) fn placed(alloc: Global, text: &str, folder: &str) -> Result<String, 
 }
 
 /// The words that spaces part.
-fn parted<'a>(alloc: Global, words: &'a str) -> Result<Vec<&'a str>, AllocError> {
+pub(crate) fn parted<'a>(alloc: Global, words: &'a str) -> Result<Vec<&'a str>, AllocError> {
     let mut parts = Vec::new(alloc);
     for word in words.split(' ') {
         parts.push(word)?;

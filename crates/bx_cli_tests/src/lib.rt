@@ -2,6 +2,8 @@
 #![tactic(auto)]
 
 #[cfg(test)]
+mod audits;
+#[cfg(test)]
 mod broken_outputs;
 #[cfg(test)]
 mod capacity_commands;
@@ -18,6 +20,8 @@ mod file_commands;
 #[cfg(test)]
 mod files;
 #[cfg(test)]
+mod live_days;
+#[cfg(test)]
 mod plan_texts;
 #[cfg(test)]
 mod plan_writers;
@@ -27,6 +31,10 @@ mod ports;
 mod program;
 #[cfg(test)]
 mod quote_commands;
+#[cfg(test)]
+mod records;
+#[cfg(test)]
+mod standard_input;
 #[cfg(test)]
 mod worked_texts;
 #[cfg(test)]

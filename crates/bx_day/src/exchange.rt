@@ -106,6 +106,13 @@ impl Exchange {
         self.maintenance.has(channel)
     }
 
+    /// The bookings of the plan in the order of its rows, with what has become of each.
+    pub fn entries(&self) -> &[Entry]
+        ensures { result.now ≡ self.now.entries }
+    {
+        &self.entries
+    }
+
     /// What has become of the booking of a row, where rows are named 1, 2, ..
     pub fn outcome(&self, row: u16) -> Option<Outcome>
         ensures { result ≡ outcome_at self.now row }

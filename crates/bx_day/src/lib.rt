@@ -20,5 +20,6 @@ mod scheduling;
 mod settling;
 mod ticking;
 
+pub use entry::{Activity, Entry, Standing};
 pub use exchange::Exchange;
 pub use outcome::Outcome;

@@ -10,25 +10,23 @@ use Rattle.bx_day_openings.specs.CaptureOpenings.{IsFileFor}
 use Rattle.bx_request.specs.declared.request.CaptureWords.{CaptureWords}
 use Rattle.bx_request.specs.declared.request.DayRequest.{DayRequest}
 use Rattle.bx_request.specs.declared.request.DayRequest.TheVariants as requests
-use Rattle.bx_day_commands.specs.CapturedDays.{AreKept, IsCaptureOf}
+use Rattle.bx_day_commands.specs.CapturedDays.{IsCaptureOf}
 use Rattle.bx_day_commands.specs.DayRequests.{IsDone, capture_of}
 use Rattle.bx_day_commands.specs.Days.{exchange_packets, far_packets}
 
 -- what a capture has kept, from its file and its first second on
-pub kept_in : {D F : Type 0} {next : D → Event → D} {packets : ℕ → D → Event → List ℕ} {contents : F → Option (List ℕ)} {file opened closed : Option (Watched F)} {first n m : ℕ} {d d1 : D} (events : List Event) {is_whole : Bool}
-    → opened ≡ file → n ≡ first → is_whole ≡ is_unfaulted closed → IsCaptured next packets contents n m opened closed d d1 events → AreKept contents file (told next (packets first) events d) is_whole
-kept_in {F = F} {next = next} {packets = packets} {contents = contents} {opened = opened} {closed = closed} {first = first} {d = d} events same at whole captured = record {
-  closed = closed;
-  keeps = subst (λ (o : Option (Watched F)). Keeps contents o closed (told next (packets first) events d)) same (subst (λ (k : ℕ). Keeps contents opened closed (told next (packets k) events d)) at captured.kept);
-  whole = whole;
-}
+pub kept_in : {D F : Type 0} {next : D → Event → D} {packets : ℕ → D → Event → List ℕ} {contents : F → Option (List ℕ)} {file opened closed left : Option (Watched F)} {first n m : ℕ} {d d1 : D} (events : List Event)
+    → opened ≡ file → n ≡ first → left ≡ closed → IsCaptured next packets contents n m opened closed d d1 events → Keeps contents file left (told next (packets first) events d)
+kept_in {F = F} {next = next} {packets = packets} {contents = contents} {file = file} {opened = opened} {closed = closed} {first = first} {d = d} events same at is captured =
+    subst (λ (o : Option (Watched F)). Keeps contents file o (told next (packets first) events d)) (sym is)
+    (subst (λ (o : Option (Watched F)). Keeps contents o closed (told next (packets first) events d)) same (subst (λ (k : ℕ). Keeps contents opened closed (told next (packets k) events d)) at captured.kept))
 
 -- of the exchange, and of the far end
-abbrev pub are_kept : {F : Type 0} → (F → Option (List ℕ)) → Option (Watched F) → ℕ → Bool → List Event → Day → Type 0
-are_kept contents file first is_whole events opened = AreKept contents file (exchange_packets first events opened) is_whole
+abbrev pub are_kept : {F : Type 0} → (F → Option (List ℕ)) → Option (Watched F) → Option (Watched F) → ℕ → List Event → Day → Type 0
+are_kept contents file closed first events opened = Keeps contents file closed (exchange_packets first events opened)
 
-abbrev pub far_are_kept : {F : Type 0} → (F → Option (List ℕ)) → Option (Watched F) → ℕ → Bool → List Event → FarDay → Type 0
-far_are_kept contents file first is_whole events opened = AreKept contents file (far_packets first events opened) is_whole
+abbrev pub far_are_kept : {F : Type 0} → (F → Option (List ℕ)) → Option (Watched F) → Option (Watched F) → ℕ → List Event → FarDay → Type 0
+far_are_kept contents file closed first events opened = Keeps contents file closed (far_packets first events opened)
 
 -- ---- where nothing is to be captured, all of that was
 

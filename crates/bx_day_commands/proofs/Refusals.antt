@@ -1,18 +1,47 @@
 -- What a command of a day that stops before anything is written did to its output: nothing.
-use Rattle.std.proofs.Common.{ℕ, List, Option, refl, inl, inr}
+use Rattle.std.proofs.Common.{◌⊎◌, ℕ, List, Option, refl, inl, inr}
 use Rattle.bx_devices.specs.declared.watched.Watched.{Watched}
 use Rattle.bx_check_commands.specs.declared.fault.CommandFault.TheVariants.{CannotWrite}
 use Rattle.bx_request.specs.declared.request.CaptureWords.{CaptureWords}
-use Rattle.bx_day_commands.specs.DayRefusals.{StopsDay, IsDayRefusal}
-use Rattle.bx_day_openings.specs.declared.fault.SocketFault.{SocketFault}
-use Rattle.bx_day_openings.specs.declared.fault.SocketFault.TheVariants.{Command}
+use Rattle.bx_day_commands.specs.DayRefusals.{StopsDay, StopsServing, StopsFarEnd, IsRefusedRun, IsUnlinked, IsUnserved, IsUnjoined}
+use Rattle.bx_day_openings.specs.declared.fault.DayCommandFault.{DayCommandFault}
+use Rattle.bx_day_openings.specs.declared.fault.DayCommandFault.TheVariants.{Command}
 
-pub day_refused : {W : Type 0} (contents : W → Option (List ℕ)) (plan script : List ℕ) (capture : Option CaptureWords) (asked : Option ℕ) (w : Watched W) (fault : SocketFault) → StopsDay plan script capture fault
-    → IsDayRefusal plan script capture asked contents w w fault
-day_refused contents plan script capture asked w (Command CannotWrite) (inl p) = absurd p
-day_refused contents plan script capture asked w (Command CannotWrite) (inr (inl p)) = absurd p
-day_refused contents plan script capture asked w (Command CannotWrite) (inr (inr (inl p))) = absurd p
-day_refused contents plan script capture asked w (Command CannotWrite) (inr (inr (inr (inl p)))) = absurd p
-day_refused contents plan script capture asked w (Command CannotWrite) (inr (inr (inr (inr (inl p))))) = absurd p
-day_refused contents plan script capture asked w (Command CannotWrite) (inr (inr (inr (inr (inr p))))) = absurd p
-day_refused contents plan script capture asked w fault p = (p, refl)
+-- a reason that is no failed write
+pub kept_output : {W : Type 0} (reason : DayCommandFault → Type 0) (cut : Option (List ℕ) → Option (List ℕ) → Type 0) (contents : W → Option (List ℕ)) (w : Watched W) (fault : DayCommandFault)
+    → (reason (Command CannotWrite) → ⊥) → reason fault → IsRefusedRun reason cut contents w w fault
+kept_output reason cut contents w (Command CannotWrite) never p = absurd (never p)
+kept_output reason cut contents w fault never p = (p, refl)
+
+module _ {F : Type 0} (files : F → Option (List ℕ)) (plan script : List ℕ) (capture : Option CaptureWords) (asked : Option ℕ) where
+  linked : (kept : Type 0) → IsUnlinked kept (Command CannotWrite) → ⊥
+  linked kept (inl p) = p
+  linked kept (inr (inl p)) = p
+  linked kept (inr (inr p)) = p.0
+
+  served : (kept : Type 0) → IsUnserved kept (Command CannotWrite) → ⊥
+  served kept (inl p) = p
+  served kept (inr p) = p.0
+
+  joined : (kept : Type 0) → IsUnjoined kept (Command CannotWrite) → ⊥
+  joined kept (inl p) = p
+  joined kept (inr p) = p.0
+
+  pub day_writes : StopsDay files plan script capture asked (Command CannotWrite) → ⊥
+  day_writes (inl p) = p
+  day_writes (inr (inl p)) = p.1
+  day_writes (inr (inr (inl p))) = p.2
+  day_writes (inr (inr (inr (inl p)))) = p.3
+  day_writes (inr (inr (inr (inr p)))) = linked _ p.4
+
+  pub serving_writes : StopsServing files plan capture asked (Command CannotWrite) → ⊥
+  serving_writes (inl p) = p
+  serving_writes (inr (inl p)) = p.1
+  serving_writes (inr (inr (inl p))) = p.2
+  serving_writes (inr (inr (inr p))) = served _ p.3
+
+  pub far_writes : StopsFarEnd files script capture (Command CannotWrite) → ⊥
+  far_writes (inl p) = p
+  far_writes (inr (inl p)) = p.1
+  far_writes (inr (inr (inl p))) = p.2
+  far_writes (inr (inr (inr p))) = joined _ p.3

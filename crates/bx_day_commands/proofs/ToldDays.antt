@@ -12,7 +12,7 @@ use Rattle.bx_frames.specs.declared.fault.LinkFault.{LinkFault}
 use Rattle.bx_frames.proofs.ReadAnswers.{gave}
 use Rattle.bx_link.proofs.ExchangeTurns.{day_of_events}
 use Rattle.bx_day_openings.specs.Openings.{IsOpening, IsFarOpening}
-use Rattle.bx_day_commands.specs.Days.{IsDayRun, IsFarRun}
+use Rattle.bx_day_commands.specs.Days.{IsDayRun, IsFarRun, HasTaken}
 
 no_fault : (fault : LinkFault) → gave true ≡ Err fault → ⊥
 no_fault fault e = cc
@@ -35,10 +35,14 @@ module _ {R W : Type 0} {remaining : R → Option (List ℕ)} {contents : W → 
   run_alone P (inl ended) p = (run_by ended.talks, p)
   run_alone P (inr (not_done, talks)) p = absurd (not_done refl)
 
+  -- of both ends, of which the other took the same turns
   pub run_both : (P : List Event → Day → Type 0) {S T : Type 0} {near near' : Connection R W} (far : Passage FarDay S T) (ran : RunsBoth (min turns (300000 - d.moment)) (passage remaining contents near near' d d1) far (gave true)) → P (events_of_near ran) d
-      → (run : IsDayRun asked d1) × P run.events run.opened
+      → (run : IsDayRun asked d1) × P run.events run.opened × HasTaken (min run.turns 300000) far.opened far.reached
   unfolding run_by
-  run_both P far (inl done) p = (run_by done.near_side.talks, p)
+  run_both P far (inl done) p =
+      let side = done.far_side in
+      let all : ticks_of side.events ≡ min turns (300000 - d.moment) = omega (arith, side.ticks) in
+      (run_by done.near_side.talks, p, record { events = side.events; reached = side.goes.day; ticks = all ∙ ap (λ (day : Day). min turns (300000 - day.moment)) opens.opens })
   run_both P far (inr (inl stopped)) p = absurd (no_fault stopped.fault stopped.failed)
   run_both P far (inr (inr (inl stopped))) p = let e = stopped.failed in cc
   run_both P far (inr (inr (inr (inl stopped)))) p = absurd (no_fault stopped.fault stopped.failed)

@@ -4,51 +4,67 @@ use Rattle.bx_devices.specs.declared.watched.Watched.{Watched}
 use Rattle.bx_devices.specs.Watching.{device_of, is_faulted}
 use Rattle.bx_check_commands.specs.declared.fault.CommandFault.TheVariants.{CannotWrite}
 use Rattle.bx_request.specs.declared.request.CaptureWords.{CaptureWords}
-use Rattle.bx_day_openings.specs.OpeningRefusals.{IsNoOpening, IsNoFarEnd, IsNoCapture, IsUnheard, IsUnconnected}
+use Rattle.bx_day_openings.specs.AtHand.{HasFirst, HasExchange, HasFarEnd, HasFile}
+use Rattle.bx_day_openings.specs.OpeningRefusals.{IsNoFirst, IsNoOpening, IsNoFarEnd, IsNoFile, IsUnheard, IsUnconnected}
+use Rattle.bx_day_commands.specs.CapturedDays.{IsDayStopped, IsFarStopped}
 use Rattle.bx_day_commands.specs.Days.{IsDayCut, IsFarCut}
-use Rattle.bx_day_openings.specs.declared.fault.SocketFault.{SocketFault}
-use Rattle.bx_day_openings.specs.declared.fault.SocketFault.TheVariants.{Command, Link}
+use Rattle.bx_day_openings.specs.declared.fault.DayCommandFault.{DayCommandFault}
+use Rattle.bx_day_openings.specs.declared.fault.DayCommandFault.TheVariants.{Command, Link}
 
 -- ---- before anything is written
 
 -- the session had a fault
-abbrev pub IsSessionFault : SocketFault → Type 0
+abbrev pub IsSessionFault : DayCommandFault → Type 0
 IsSessionFault (Link fault) = Unit {0}
 IsSessionFault _ = ⊥
 
--- why a day does not come to its end once it is opened: of both ends, of the exchange, of the far end
-abbrev pub IsUnlinked : SocketFault → Type 0
-IsUnlinked fault = IsUnheard fault ⊎ IsUnconnected fault ⊎ IsSessionFault fault
+-- why a day does not come to its end once it is opened, of both ends, of the exchange, of the far end; where that is a fault of
+-- the session, this was kept of it
+abbrev pub IsUnlinked : Type 0 → DayCommandFault → Type 0
+IsUnlinked kept fault = IsUnheard fault ⊎ IsUnconnected fault ⊎ (IsSessionFault fault × kept)
 
-abbrev pub IsUnserved : SocketFault → Type 0
-IsUnserved fault = IsUnheard fault ⊎ IsSessionFault fault
+abbrev pub IsUnserved : Type 0 → DayCommandFault → Type 0
+IsUnserved kept fault = IsUnheard fault ⊎ (IsSessionFault fault × kept)
 
-abbrev pub IsUnjoined : SocketFault → Type 0
-IsUnjoined fault = IsUnconnected fault ⊎ IsSessionFault fault
+abbrev pub IsUnjoined : Type 0 → DayCommandFault → Type 0
+IsUnjoined kept fault = IsUnconnected fault ⊎ (IsSessionFault fault × kept)
 
--- the same from its opening on
-abbrev pub StopsDay : List ℕ → List ℕ → Option CaptureWords → SocketFault → Type 0
-StopsDay plan script capture fault = IsNoCapture capture fault ⊎ IsNoOpening plan fault ⊎ IsNoFarEnd script fault ⊎ IsUnlinked fault
+-- why a day of both ends stops: what it needs is opened in this order, and what is tested first is answered
+abbrev pub StopsDay : {F : Type 0} → (F → Option (List ℕ)) → List ℕ → List ℕ → Option CaptureWords → Option ℕ → DayCommandFault → Type 0
+StopsDay contents plan script capture asked fault =
+    IsNoFirst capture fault
+    ⊎ (HasFirst capture × IsNoOpening plan fault)
+    ⊎ (HasFirst capture × HasExchange asked × IsNoFarEnd script fault)
+    ⊎ (HasFirst capture × HasExchange asked × HasFarEnd × IsNoFile capture fault)
+    ⊎ (HasFirst capture × HasExchange asked × HasFarEnd × HasFile contents capture × IsUnlinked (IsDayStopped contents capture asked) fault)
 
-abbrev pub StopsServing : List ℕ → Option CaptureWords → SocketFault → Type 0
-StopsServing plan capture fault = IsNoCapture capture fault ⊎ IsNoOpening plan fault ⊎ IsUnserved fault
+abbrev pub StopsServing : {F : Type 0} → (F → Option (List ℕ)) → List ℕ → Option CaptureWords → Option ℕ → DayCommandFault → Type 0
+StopsServing contents plan capture asked fault =
+    IsNoFirst capture fault
+    ⊎ (HasFirst capture × IsNoOpening plan fault)
+    ⊎ (HasFirst capture × HasExchange asked × IsNoFile capture fault)
+    ⊎ (HasFirst capture × HasExchange asked × HasFile contents capture × IsUnserved (IsDayStopped contents capture asked) fault)
 
-abbrev pub StopsFarEnd : List ℕ → Option CaptureWords → SocketFault → Type 0
-StopsFarEnd script capture fault = IsNoCapture capture fault ⊎ IsNoFarEnd script fault ⊎ IsUnjoined fault
+abbrev pub StopsFarEnd : {F : Type 0} → (F → Option (List ℕ)) → List ℕ → Option CaptureWords → DayCommandFault → Type 0
+StopsFarEnd contents script capture fault =
+    IsNoFirst capture fault
+    ⊎ (HasFirst capture × IsNoFarEnd script fault)
+    ⊎ (HasFirst capture × HasFarEnd × IsNoFile capture fault)
+    ⊎ (HasFirst capture × HasFarEnd × HasFile contents capture × IsUnjoined (IsFarStopped contents capture) fault)
 
 -- ---- what was written
 
 -- the output has failed, and a front of what was to be written was written; at any other fault there is this reason
 -- for it, and the output is as it was
-abbrev pub IsRefusedRun : {W : Type 0} → (SocketFault → Type 0) → (Option (List ℕ) → Option (List ℕ) → Type 0) → (W → Option (List ℕ)) → Watched W → Watched W → SocketFault → Type 0
+abbrev pub IsRefusedRun : {W : Type 0} → (DayCommandFault → Type 0) → (Option (List ℕ) → Option (List ℕ) → Type 0) → (W → Option (List ℕ)) → Watched W → Watched W → DayCommandFault → Type 0
 IsRefusedRun reason cut contents old new (Command CannotWrite) = (is_faulted new ≡ true) × cut (contents (device_of old)) (contents (device_of new))
 IsRefusedRun reason cut contents old new fault = reason fault × (new ≡ old)
 
-abbrev pub IsDayRefusal : {W : Type 0} → List ℕ → List ℕ → Option CaptureWords → Option ℕ → (W → Option (List ℕ)) → Watched W → Watched W → SocketFault → Type 0
-IsDayRefusal plan script capture asked contents old new fault = IsRefusedRun (StopsDay plan script capture) (IsDayCut asked) contents old new fault
+abbrev pub IsDayRefusal : {F W : Type 0} → (F → Option (List ℕ)) → List ℕ → List ℕ → Option CaptureWords → Option ℕ → (W → Option (List ℕ)) → Watched W → Watched W → DayCommandFault → Type 0
+IsDayRefusal files plan script capture asked contents old new fault = IsRefusedRun (StopsDay files plan script capture asked) (IsDayCut asked) contents old new fault
 
-abbrev pub IsServeRefusal : {W : Type 0} → List ℕ → Option CaptureWords → Option ℕ → (W → Option (List ℕ)) → Watched W → Watched W → SocketFault → Type 0
-IsServeRefusal plan capture asked contents old new fault = IsRefusedRun (StopsServing plan capture) (IsDayCut asked) contents old new fault
+abbrev pub IsServeRefusal : {F W : Type 0} → (F → Option (List ℕ)) → List ℕ → Option CaptureWords → Option ℕ → (W → Option (List ℕ)) → Watched W → Watched W → DayCommandFault → Type 0
+IsServeRefusal files plan capture asked contents old new fault = IsRefusedRun (StopsServing files plan capture asked) (IsDayCut asked) contents old new fault
 
-abbrev pub IsFarRefusal : {W : Type 0} → List ℕ → Option CaptureWords → (W → Option (List ℕ)) → Watched W → Watched W → SocketFault → Type 0
-IsFarRefusal script capture contents old new fault = IsRefusedRun (StopsFarEnd script capture) IsFarCut contents old new fault
+abbrev pub IsFarRefusal : {F W : Type 0} → (F → Option (List ℕ)) → List ℕ → Option CaptureWords → (W → Option (List ℕ)) → Watched W → Watched W → DayCommandFault → Type 0
+IsFarRefusal files script capture contents old new fault = IsRefusedRun (StopsFarEnd files script capture) IsFarCut contents old new fault

@@ -43,6 +43,21 @@ pub record IsDayCut (asked : Option ℕ) (before after : Option (List ℕ)) : Ty
   pub run : IsDayRun asked day
   pub written : AppendsPrefix before after (outcomes_text day)
 
+-- ---- a far end that is run with it
+
+-- it took so many turns, each with its tick
+pub record HasTaken (turns : ℕ) (old new : FarDay) : Type 0 where
+  pub events : List Event
+  pub reached : new ≡ after far_next events old
+  pub ticks : ticks_of events ≡ turns
+
+-- the far end of a script took each turn of such a day
+pub record IsTakenByFar (turns : ℕ) : Type 0 where
+  pub opened : FarDay
+  pub opens : IsFarOpening opened
+  pub closed : FarDay
+  pub took : HasTaken (min turns 300000) opened closed
+
 -- ---- the far end
 
 -- the line of the moment at which a day ended

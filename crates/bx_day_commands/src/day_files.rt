@@ -5,14 +5,14 @@ ghost use Rattle.std.specs.Io.KnownBytes.{Appends};
 ghost use Rattle.bx_devices.specs.Octets.{AppendsPrefix};
 ghost use Rattle.bx_devices.specs.Watching.{device_of, is_faulted};
 ghost use Rattle.bx_day_commands.specs.DayRefusals.{StopsDay, StopsServing, StopsFarEnd, IsDayRefusal, IsServeRefusal, IsFarRefusal};
-ghost use Rattle.bx_day_commands.specs.CapturedDays.{IsDayDone, IsFarDone};
-ghost use Rattle.bx_day_commands.specs.KeptDays.{IsDayCaptured, IsFarCaptured};
+ghost use Rattle.bx_day_commands.specs.CapturedDays.{IsBothDone, IsDayDone, IsFarDone};
+ghost use Rattle.bx_day_commands.specs.KeptDays.{IsBothCaptured, IsDayCaptured, IsFarCaptured};
 ghost use Rattle.bx_day_commands.specs.Days.{ended_line};
 
 use crate::running::{run_connected, run_linked, run_served};
-use bx_check_commands::CommandFault;
+use bx_check_commands::{CommandFault, Inputs};
 use bx_day::Exchange;
-use bx_day_openings::{SocketFault, far_end_of, file_of, first_of, opening_of};
+use bx_day_openings::{DayCommandFault, far_end_of, file_of, first_of, is_whole, opening_of};
 use bx_devices::{Watched, WriteFailed, write_octets};
 use bx_request::Sight;
 use bx_text::named_line;
@@ -26,34 +26,37 @@ use std::rt::Clock;
 fn run_of_both<
     'a,
     H: Files + AllocGlobal + Clock + Eprint + Net<Listener = TcpListener, Stream = TcpStream>,
+    I: Inputs,
 >(
     rt: &H,
+    inputs: &mut I,
     plan: &'a str,
     script: &'a str,
     turns: Option<u32>,
     sight: Sight<'a>,
-) -> Result<(Exchange, bool), SocketFault<'a>>
-    ensures ran { IfOk result (λ ran. IsDayCaptured H.File.contents sight.entry.capture turns ran.0 ran.1) }
-    ensures stopped { IfErr result (StopsDay plan.now script.now sight.entry.capture) }
+) -> Result<(Exchange, bool), DayCommandFault<'a>>
+    ensures ran { IfOk result (λ ran. IsBothCaptured H.File.contents sight.entry.capture turns ran.0 ran.1) }
+    ensures stopped { IfErr result (StopsDay H.File.contents plan.now script.now sight.entry.capture turns) }
 {
     let first = match first_of(sight.capture) {
         Ok(first) => first,
         Err(fault) => return Err(fault),
     };
-    let (exchange, turns) = match opening_of(rt, plan, turns) {
+    let (exchange, turns) = match opening_of(rt.alloc(), inputs, plan, turns) {
         Ok(opened) => opened,
         Err(fault) => return Err(fault),
     };
-    let far = match far_end_of(rt, script) {
+    let mut far = match far_end_of(rt.alloc(), inputs, script) {
         Ok(far) => far,
         Err(fault) => return Err(fault),
     };
-    let file = match file_of(rt, sight.capture) {
+    let mut file = match file_of(rt, sight.capture) {
         Ok(file) => file,
         Err(fault) => return Err(fault),
     };
-    match run_linked(rt, (exchange, turns), far, (file, first), !sight.is_quiet) {
-        Ok(ran) => Ok(ran),
+    let opened = (exchange, turns);
+    match run_linked(rt, opened, &mut far, &mut file, first, !sight.is_quiet) {
+        Ok(exchange) => Ok((exchange, is_whole(&file))),
         Err(fault) => Err(fault),
     }
 }
@@ -63,25 +66,27 @@ fn run_of_both<
 pub fn day_of_files<
     'a,
     H: Files + AllocGlobal + Clock + Eprint + Net<Listener = TcpListener, Stream = TcpStream>,
+    I: Inputs,
     W: Write,
 >(
     rt: &H,
+    inputs: &mut I,
     plan: &'a str,
     script: &'a str,
     turns: Option<u32>,
     sight: Sight<'a>,
     output: &mut Watched<W>,
-) -> Result<bool, SocketFault<'a>>
-    ensures told { IfOk result (IsDayDone H.File.contents sight.entry.capture turns (W.contents (device_of output.old)) (W.contents (device_of output.new))) }
-    ensures refused { IfErr result (IsDayRefusal plan.now script.now sight.entry.capture turns W.contents output.old output.new) }
+) -> Result<bool, DayCommandFault<'a>>
+    ensures told { IfOk result (IsBothDone H.File.contents sight.entry.capture turns (W.contents (device_of output.old)) (W.contents (device_of output.new))) }
+    ensures refused { IfErr result (IsDayRefusal H.File.contents plan.now script.now sight.entry.capture turns W.contents output.old output.new) }
 {
-    let (exchange, is_whole) = match run_of_both(rt, plan, script, turns, sight) {
+    let (exchange, is_whole) = match run_of_both(rt, inputs, plan, script, turns, sight) {
         Ok(ran) => ran,
         Err(fault) => return Err(fault),
     };
     match exchange.write_outcomes(output) {
         Ok(()) => Ok(is_whole),
-        Err(_) => Err(SocketFault::Command(CommandFault::CannotWrite)),
+        Err(_) => Err(DayCommandFault::Command(CommandFault::CannotWrite)),
     }
 }
 
@@ -90,30 +95,33 @@ pub fn day_of_files<
 fn run_towards_peer<
     'a,
     H: Files + AllocGlobal + Clock + Eprint + Net<Listener = TcpListener, Stream = TcpStream>,
+    I: Inputs,
 >(
     rt: &H,
+    inputs: &mut I,
     plan: &'a str,
     port: u16,
     turns: Option<u32>,
     sight: Sight<'a>,
-) -> Result<(Exchange, bool), SocketFault<'a>>
+) -> Result<(Exchange, bool), DayCommandFault<'a>>
     ensures ran { IfOk result (λ ran. IsDayCaptured H.File.contents sight.entry.capture turns ran.0 ran.1) }
-    ensures stopped { IfErr result (StopsServing plan.now sight.entry.capture) }
+    ensures stopped { IfErr result (StopsServing H.File.contents plan.now sight.entry.capture turns) }
 {
     let first = match first_of(sight.capture) {
         Ok(first) => first,
         Err(fault) => return Err(fault),
     };
-    let (exchange, turns) = match opening_of(rt, plan, turns) {
+    let (exchange, turns) = match opening_of(rt.alloc(), inputs, plan, turns) {
         Ok(opened) => opened,
         Err(fault) => return Err(fault),
     };
-    let file = match file_of(rt, sight.capture) {
+    let mut file = match file_of(rt, sight.capture) {
         Ok(file) => file,
         Err(fault) => return Err(fault),
     };
-    match run_served(rt, port, (exchange, turns), (file, first), !sight.is_quiet) {
-        Ok(ran) => Ok(ran),
+    let opened = (exchange, turns);
+    match run_served(rt, port, opened, &mut file, first, !sight.is_quiet) {
+        Ok(exchange) => Ok((exchange, is_whole(&file))),
         Err(fault) => Err(fault),
     }
 }
@@ -124,25 +132,27 @@ fn run_towards_peer<
 pub fn serve_file<
     'a,
     H: Files + AllocGlobal + Clock + Eprint + Net<Listener = TcpListener, Stream = TcpStream>,
+    I: Inputs,
     W: Write,
 >(
     rt: &H,
+    inputs: &mut I,
     plan: &'a str,
     port: u16,
     turns: Option<u32>,
     sight: Sight<'a>,
     output: &mut Watched<W>,
-) -> Result<bool, SocketFault<'a>>
+) -> Result<bool, DayCommandFault<'a>>
     ensures told { IfOk result (IsDayDone H.File.contents sight.entry.capture turns (W.contents (device_of output.old)) (W.contents (device_of output.new))) }
-    ensures refused { IfErr result (IsServeRefusal plan.now sight.entry.capture turns W.contents output.old output.new) }
+    ensures refused { IfErr result (IsServeRefusal H.File.contents plan.now sight.entry.capture turns W.contents output.old output.new) }
 {
-    let (exchange, is_whole) = match run_towards_peer(rt, plan, port, turns, sight) {
+    let (exchange, is_whole) = match run_towards_peer(rt, inputs, plan, port, turns, sight) {
         Ok(ran) => ran,
         Err(fault) => return Err(fault),
     };
     match exchange.write_outcomes(output) {
         Ok(()) => Ok(is_whole),
-        Err(_) => Err(SocketFault::Command(CommandFault::CannotWrite)),
+        Err(_) => Err(DayCommandFault::Command(CommandFault::CannotWrite)),
     }
 }
 
@@ -160,24 +170,31 @@ fn write_ended<W: Write>(output: &mut Watched<W>, moment: u32) -> Result<(), Wri
 fn run_towards_exchange<
     'a,
     H: Files + AllocGlobal + Clock + Eprint + Net<Listener = TcpListener, Stream = TcpStream>,
->(rt: &H, script: &'a str, port: u16, sight: Sight<'a>) -> Result<(u32, bool), SocketFault<'a>>
+    I: Inputs,
+>(
+    rt: &H,
+    inputs: &mut I,
+    script: &'a str,
+    port: u16,
+    sight: Sight<'a>,
+) -> Result<(u32, bool), DayCommandFault<'a>>
     ensures ran { IfOk result (λ ran. IsFarCaptured H.File.contents sight.entry.capture ran.0 ran.1) }
-    ensures stopped { IfErr result (StopsFarEnd script.now sight.entry.capture) }
+    ensures stopped { IfErr result (StopsFarEnd H.File.contents script.now sight.entry.capture) }
 {
     let first = match first_of(sight.capture) {
         Ok(first) => first,
         Err(fault) => return Err(fault),
     };
-    let far = match far_end_of(rt, script) {
+    let far = match far_end_of(rt.alloc(), inputs, script) {
         Ok(far) => far,
         Err(fault) => return Err(fault),
     };
-    let file = match file_of(rt, sight.capture) {
+    let mut file = match file_of(rt, sight.capture) {
         Ok(file) => file,
         Err(fault) => return Err(fault),
     };
-    match run_connected(rt, port, far, (file, first), !sight.is_quiet) {
-        Ok(ran) => Ok(ran),
+    match run_connected(rt, port, far, &mut file, first, !sight.is_quiet) {
+        Ok(moment) => Ok((moment, is_whole(&file))),
         Err(fault) => Err(fault),
     }
 }
@@ -188,23 +205,25 @@ fn run_towards_exchange<
 pub fn far_file<
     'a,
     H: Files + AllocGlobal + Clock + Eprint + Net<Listener = TcpListener, Stream = TcpStream>,
+    I: Inputs,
     W: Write,
 >(
     rt: &H,
+    inputs: &mut I,
     script: &'a str,
     port: u16,
     sight: Sight<'a>,
     output: &mut Watched<W>,
-) -> Result<bool, SocketFault<'a>>
+) -> Result<bool, DayCommandFault<'a>>
     ensures told { IfOk result (IsFarDone H.File.contents sight.entry.capture (W.contents (device_of output.old)) (W.contents (device_of output.new))) }
-    ensures refused { IfErr result (IsFarRefusal script.now sight.entry.capture W.contents output.old output.new) }
+    ensures refused { IfErr result (IsFarRefusal H.File.contents script.now sight.entry.capture W.contents output.old output.new) }
 {
-    let (moment, is_whole) = match run_towards_exchange(rt, script, port, sight) {
+    let (moment, is_whole) = match run_towards_exchange(rt, inputs, script, port, sight) {
         Ok(ran) => ran,
         Err(fault) => return Err(fault),
     };
     match write_ended(output, moment) {
         Ok(()) => Ok(is_whole),
-        Err(_) => Err(SocketFault::Command(CommandFault::CannotWrite)),
+        Err(_) => Err(DayCommandFault::Command(CommandFault::CannotWrite)),
     }
 }

@@ -1,11 +1,12 @@
 //! What is asked of a day, done.
 
-ghost use Rattle.std.specs.Prelude.{◌≡◌, ◌⊎◌, true, false, None, IfOk, IfErr, OnOk};
+ghost use Rattle.std.specs.Prelude.{◌≡◌, ◌||◌, not, true, IfOk, IfErr, OnOk};
 ghost use Rattle.bx_devices.specs.Watching.{device_of};
-ghost use Rattle.bx_day_commands.specs.DayRequests.{IsDone, IsNotDone, IsOfCapture, IsRefused, capture_of};
+ghost use Rattle.bx_day_commands.specs.DayRequests.{IsDone, IsNotDone, IsRefused, capture_of};
 
 use crate::day_files::{day_of_files, far_file, serve_file};
-use bx_day_openings::SocketFault;
+use bx_check_commands::Inputs;
+use bx_day_openings::{DayCommandFault, captured};
 use bx_devices::Watched;
 use bx_request::{CaptureWords, DayRequest, Sight};
 use std::fs::Files;
@@ -15,7 +16,8 @@ use std::rt::Clock;
 
 /// What is to be seen, where progress is shown on a terminal alone.
 fn seen<'a>(sight: Sight<'a>, is_terminal: bool) -> Sight<'a>
-    ensures { result.capture ≡ sight.entry.capture }
+    ensures capture { result.capture ≡ sight.entry.capture }
+    ensures quiet { result.is_quiet ≡ (sight.entry.is_quiet || not is_terminal) }
 {
     Sight {
         capture: sight.capture,
@@ -34,30 +36,21 @@ fn capture<'a>(request: DayRequest<'a>) -> Option<CaptureWords<'a>>
     }
 }
 
-/// What is told of a day that is done: nothing, or that its capture is not whole.
-fn captured<'a>(capture: Option<CaptureWords<'a>>, is_whole: bool) -> Result<(), SocketFault<'a>>
-    ensures whole { OnOk result ((is_whole ≡ true) ⊎ (capture.entry ≡ None)) }
-    ensures cut { IfErr result (λ fault. IsOfCapture capture.entry fault × (is_whole ≡ false)) }
-{
-    match capture {
-        Some(capture) if !is_whole => Err(SocketFault::CannotCapture(capture.file)),
-        _ => Ok(()),
-    }
-}
-
 /// Runs a day, and answers whether all that was to be captured was.
 fn run_day<
     'a,
     H: Files + AllocGlobal + Clock + Eprint + Net<Listener = TcpListener, Stream = TcpStream>,
+    I: Inputs,
     W: Write,
 >(
     rt: &H,
+    inputs: &mut I,
     request: DayRequest<'a>,
     output: &mut Watched<W>,
     is_terminal: bool,
-) -> Result<bool, SocketFault<'a>>
+) -> Result<bool, DayCommandFault<'a>>
     ensures done { IfOk result (IsDone request.entry H.File.contents (W.contents (device_of output.old)) (W.contents (device_of output.new))) }
-    ensures refused { IfErr result (IsNotDone request.entry W.contents output.old output.new) }
+    ensures refused { IfErr result (IsNotDone request.entry H.File.contents W.contents output.old output.new) }
 {
     match request {
         DayRequest::Day {
@@ -67,19 +60,27 @@ fn run_day<
             sight,
         } => {
             let sight = seen(sight, is_terminal);
-            day_of_files(rt, plan, script, turns, sight, output)
+            day_of_files(rt, inputs, plan, script, turns, sight, output)
         }
         DayRequest::Serve {
             plan,
             port,
             turns,
             sight,
-        } => serve_file(rt, plan, port, turns, seen(sight, is_terminal), output),
+        } => serve_file(
+            rt,
+            inputs,
+            plan,
+            port,
+            turns,
+            seen(sight, is_terminal),
+            output,
+        ),
         DayRequest::Far {
             script,
             port,
             sight,
-        } => far_file(rt, script, port, seen(sight, is_terminal), output),
+        } => far_file(rt, inputs, script, port, seen(sight, is_terminal), output),
     }
 }
 
@@ -89,17 +90,19 @@ fn run_day<
 pub fn run_day_on_files<
     'a,
     H: Files + AllocGlobal + Clock + Eprint + Net<Listener = TcpListener, Stream = TcpStream>,
+    I: Inputs,
     W: Write,
 >(
     rt: &H,
+    inputs: &mut I,
     request: DayRequest<'a>,
     output: &mut Watched<W>,
     is_terminal: bool,
-) -> Result<(), SocketFault<'a>>
+) -> Result<(), DayCommandFault<'a>>
     ensures done { OnOk result (IsDone request.entry H.File.contents (W.contents (device_of output.old)) (W.contents (device_of output.new)) true) }
     ensures refused { IfErr result (IsRefused request.entry H.File.contents W.contents output.old output.new) }
 {
-    match run_day(rt, request, output, is_terminal) {
+    match run_day(rt, inputs, request, output, is_terminal) {
         Ok(is_whole) => captured(capture(request), is_whole),
         Err(fault) => Err(fault),
     }

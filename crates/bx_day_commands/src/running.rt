@@ -3,12 +3,11 @@
 ghost use Rattle.std.specs.Prelude.{◌≡◌, ◌≤◌, ℕ, Option, IfOk, IfErr};
 ghost use Rattle.bx_day_commands.specs.DayRefusals.{IsUnlinked, IsUnserved, IsUnjoined};
 ghost use Rattle.bx_day_openings.specs.Openings.{IsOpening, IsFarOpening};
-ghost use Rattle.bx_capture.specs.Captures.{is_unfaulted};
-ghost use Rattle.bx_day_commands.specs.KeptDays.{IsDayKept, IsFarKept};
+ghost use Rattle.bx_day_commands.specs.KeptDays.{IsBothKept, IsDayKept, IsKeptSoFar, IsFarKept, IsFarKeptSoFar};
 
 use bx_capture::Captured;
 use bx_day::Exchange;
-use bx_day_openings::{Shown, SocketFault, accepted, both_ends, connected};
+use bx_day_openings::{DayCommandFault, Shown, accepted, both_ends, connected};
 use bx_devices::Watched;
 use bx_far::Far;
 use bx_link::{Connection, run_both_ends, run_day, run_far_day};
@@ -25,17 +24,21 @@ fn connection<'a>(stream: &'a TcpStream) -> Connection<&'a TcpStream, &'a TcpStr
     }
 }
 
-/// The exchange behind its day, and whether all that was to be captured of it was.
-fn exchange_of<H, W: Write + Drop>(end: Captured<Shown<'_, Exchange, H>, W>) -> (Exchange, bool)
-    ensures exchange { result.0 ≡ end.entry.end.end }
-    ensures whole { result.1 ≡ is_unfaulted end.entry.file }
+/// The end behind its day, and the file of its capture.
+fn parted<E, H, W: Write>(end: Captured<Shown<'_, E, H>, W>) -> (E, Option<Watched<W>>)
+    ensures end { result.0 ≡ end.entry.end.end }
+    ensures file { result.1 ≡ end.entry.file }
 {
-    let is_whole = end.is_whole();
-    (end.into_end().into_end(), is_whole)
+    let Captured {
+        end,
+        file,
+        first: _,
+    } = end;
+    (end.into_end(), file)
 }
 
-/// The exchange at the end of its day, which was run with the far end over one TCP connection, and whether all that was to be
-/// captured of it was. The capture is its file and its first second.
+/// The exchange at the end of its day, which was run with the far end over one TCP connection. What is to be captured of it goes
+/// into the file; moment 0 is the first second.
 pub(crate) fn run_linked<
     'a,
     H: Clock + Eprint + Net<Listener = TcpListener, Stream = TcpStream>,
@@ -43,34 +46,36 @@ pub(crate) fn run_linked<
 >(
     rt: &H,
     opened: (Exchange, u32),
-    far: Far,
-    capture: (Option<Watched<W>>, u32),
+    far: &mut Far,
+    file: &mut Option<Watched<W>>,
+    first: u32,
     is_shown: bool,
-) -> Result<(Exchange, bool), SocketFault<'a>>
-    requires { capture.1 ≤ 4294667295 }
-    ensures ran { IfOk result (λ ran. (asked : Option ℕ) → IsOpening asked opened.0 opened.1 → IsDayKept W.contents capture.0 capture.1 asked ran.0 ran.1) }
-    ensures stopped { IfErr result IsUnlinked }
+) -> Result<Exchange, DayCommandFault<'a>>
+    requires { first ≤ 4294667295 }
+    // The far end has taken each of its turns.
+    ensures ran { IfOk result (λ day. (asked : Option ℕ) → IsOpening asked opened.0 opened.1 → IsBothKept W.contents file.old file.new first asked far.old far.new day) }
+    ensures stopped { IfErr result (IsUnlinked (IsKeptSoFar W.contents file.old file.new first opened.0)) }
 {
     let (near, distant) = match both_ends(rt) {
         Ok(ends) => ends,
         Err(fault) => return Err(fault),
     };
-    let mut far = far;
     let mut near = connection(&near);
     let mut distant = connection(&distant);
     let (exchange, turns) = opened;
-    let (file, first) = capture;
-    let mut end = Captured::new(Shown::new(rt, exchange, is_shown), file, first);
-    let done = run_both_ends(&mut end, &mut near, &mut far, &mut distant, turns);
+    let mut end = Captured::new(Shown::new(rt, exchange, is_shown), file.take(), first);
+    let done = run_both_ends(&mut end, &mut near, far, &mut distant, turns);
     end.end.clear();
+    let (exchange, kept) = parted(end);
+    *file = kept;
     match done {
-        Ok(()) => Ok(exchange_of(end)),
-        Err(fault) => Err(SocketFault::Link(fault)),
+        Ok(()) => Ok(exchange),
+        Err(fault) => Err(DayCommandFault::Link(fault)),
     }
 }
 
-/// The exchange at the end of its day, which was run towards the first peer that connects to the port, and whether all that was
-/// to be captured was. The capture is its file and its first second.
+/// The exchange at the end of its day, which was run towards the first peer that connects to the port. What is to be captured of
+/// it goes into the file; moment 0 is the first second.
 pub(crate) fn run_served<
     'a,
     H: Clock + Eprint + Net<Listener = TcpListener, Stream = TcpStream>,
@@ -79,12 +84,13 @@ pub(crate) fn run_served<
     rt: &H,
     port: u16,
     opened: (Exchange, u32),
-    capture: (Option<Watched<W>>, u32),
+    file: &mut Option<Watched<W>>,
+    first: u32,
     is_shown: bool,
-) -> Result<(Exchange, bool), SocketFault<'a>>
-    requires { capture.1 ≤ 4294667295 }
-    ensures ran { IfOk result (λ ran. (asked : Option ℕ) → IsOpening asked opened.0 opened.1 → IsDayKept W.contents capture.0 capture.1 asked ran.0 ran.1) }
-    ensures stopped { IfErr result IsUnserved }
+) -> Result<Exchange, DayCommandFault<'a>>
+    requires { first ≤ 4294667295 }
+    ensures ran { IfOk result (λ day. (asked : Option ℕ) → IsOpening asked opened.0 opened.1 → IsDayKept W.contents file.old file.new first asked day) }
+    ensures stopped { IfErr result (IsUnserved (IsKeptSoFar W.contents file.old file.new first opened.0)) }
 {
     let peer = match accepted(rt, port, is_shown) {
         Ok(peer) => peer,
@@ -93,18 +99,19 @@ pub(crate) fn run_served<
     let mut from_far = Watched::new(&peer);
     let mut to_far = Watched::new(&peer);
     let (exchange, turns) = opened;
-    let (file, first) = capture;
-    let mut end = Captured::new(Shown::new(rt, exchange, is_shown), file, first);
-    let done = run_day(&mut end, &mut from_far, &mut to_far, turns);
+    let mut end = Captured::new(Shown::new(rt, exchange, is_shown), file.take(), first);
+    let served = run_day(&mut end, &mut from_far, &mut to_far, turns);
     end.end.clear();
-    match done {
-        Ok(()) => Ok(exchange_of(end)),
-        Err(fault) => Err(SocketFault::Link(fault)),
+    let (exchange, kept) = parted(end);
+    *file = kept;
+    match served {
+        Ok(()) => Ok(exchange),
+        Err(fault) => Err(DayCommandFault::Link(fault)),
     }
 }
 
-/// The moment at which the day of a far end ended, which was run towards the exchange that serves on the port, and whether all
-/// that was to be captured was. The capture is its file and its first second.
+/// The moment at which the day of a far end ended, which was run towards the exchange that serves on the port. What is to be
+/// captured of it goes into the file; moment 0 is the first second.
 pub(crate) fn run_connected<
     'a,
     H: Clock + Eprint + Net<Listener = TcpListener, Stream = TcpStream>,
@@ -113,12 +120,13 @@ pub(crate) fn run_connected<
     rt: &H,
     port: u16,
     far: Far,
-    capture: (Option<Watched<W>>, u32),
+    file: &mut Option<Watched<W>>,
+    first: u32,
     is_shown: bool,
-) -> Result<(u32, bool), SocketFault<'a>>
-    requires { capture.1 ≤ 4294667295 }
-    ensures ran { IfOk result (λ ran. IsFarOpening far → IsFarKept W.contents capture.0 capture.1 ran.0 ran.1) }
-    ensures stopped { IfErr result IsUnjoined }
+) -> Result<u32, DayCommandFault<'a>>
+    requires { first ≤ 4294667295 }
+    ensures ran { IfOk result (λ moment. IsFarOpening far → IsFarKept W.contents file.old file.new first moment) }
+    ensures stopped { IfErr result (IsUnjoined (IsFarKeptSoFar W.contents file.old file.new first far)) }
 {
     let peer = match connected(rt, port) {
         Ok(peer) => peer,
@@ -126,12 +134,13 @@ pub(crate) fn run_connected<
     };
     let mut from_exchange = Watched::new(&peer);
     let mut to_exchange = Watched::new(&peer);
-    let (file, first) = capture;
-    let mut end = Captured::new(Shown::new(rt, far, is_shown), file, first);
+    let mut end = Captured::new(Shown::new(rt, far, is_shown), file.take(), first);
     let done = run_far_day(&mut end, &mut from_exchange, &mut to_exchange);
     end.end.clear();
+    let (far, kept) = parted(end);
+    *file = kept;
     match done {
-        Ok(()) => Ok((end.reached(), end.is_whole())),
-        Err(fault) => Err(SocketFault::Link(fault)),
+        Ok(()) => Ok(far.reached()),
+        Err(fault) => Err(DayCommandFault::Link(fault)),
     }
 }

@@ -1,1 +1,2 @@
 pub mod LastTurns
+mod Scripts

@@ -1,5 +1,6 @@
 -- Why what a day needs is not opened.
 use Rattle.std.specs.Prelude.{◌≡◌, ℕ, List, Option, Some, None, MatchOption}
+use Rattle.csv.specs.Reading.{strip_bom}
 use Rattle.bx_book.specs.DayParts.{start_of}
 use Rattle.bx_book.specs.NamedDays.{IsDayOf, IsDayFault}
 use Rattle.bx_book.specs.declared.day.Day.{Day}
@@ -8,22 +9,29 @@ use Rattle.bx_capture.specs.Starts.{IsNameable}
 use Rattle.bx_check_commands.specs.PlanFiles.{HasNoProvedPlan}
 use Rattle.bx_check_commands.specs.declared.fault.CommandFault.TheVariants.{CannotRead, Memory}
 use Rattle.bx_far.specs.ScriptTexts.{IsScriptFault}
+use Rattle.bx_far.specs.declared.fault.ScriptFault.{ScriptFault}
 use Rattle.bx_far.specs.declared.fault.ScriptFault.TheVariants as scripts
 use Rattle.bx_request.specs.declared.request.CaptureWords.{CaptureWords}
-use Rattle.bx_day_openings.specs.declared.fault.SocketFault.{SocketFault}
-use Rattle.bx_day_openings.specs.declared.fault.SocketFault.TheVariants.{Command, Script, Capture, CannotListen, CannotConnect, CannotCapture}
-use Rattle.bx_day_openings.specs.declared.fault.SocketFault.TheVariants as sockets
+use Rattle.bx_day_openings.specs.declared.fault.DayCommandFault.{DayCommandFault}
+use Rattle.bx_day_openings.specs.declared.fault.DayCommandFault.TheVariants.{Command, Script, Capture, CannotListen, CannotConnect, CannotCapture}
+use Rattle.bx_day_openings.specs.declared.fault.DayCommandFault.TheVariants as faults
 
 -- a file of this name is not read, or holds no plan that is proved, or a growth is refused
-abbrev pub IsNoOpening : List ℕ → SocketFault → Type 0
+abbrev pub IsNoOpening : List ℕ → DayCommandFault → Type 0
 IsNoOpening name (Command fault) = HasNoProvedPlan name fault
 IsNoOpening name _ = ⊥
 
+-- this text, which is what there was to read where the input tells it, is no script, with this first fault
+pub record IsNoScriptText (before : Option (List ℕ)) (fault : ScriptFault) : Type 0 where
+  pub text : List ℕ
+  pub told : (known : List ℕ) → before ≡ Some known → text ≡ known
+  pub first : IsScriptFault (strip_bom text) fault
+
 -- a file of this name is not read, or holds a text that is no script, with just this first fault, or a growth is refused
-abbrev pub IsNoFarEnd : List ℕ → SocketFault → Type 0
+abbrev pub IsNoFarEnd : List ℕ → DayCommandFault → Type 0
 IsNoFarEnd name (Command (CannotRead n)) = n.now ≡ name
 IsNoFarEnd name (Command Memory) = Unit {0}
-IsNoFarEnd name (Script fault) = (¬ (fault ≡ scripts.Memory)) × ((text : List ℕ) × IsScriptFault text fault)
+IsNoFarEnd name (Script fault) = (¬ (fault ≡ scripts.Memory)) × IsNoScriptText None fault
 IsNoFarEnd name _ = ⊥
 
 -- the file of this capture
@@ -41,19 +49,23 @@ abbrev pub IsUnnameable : Option CaptureWords → Type 0
 IsUnnameable None = ⊥
 IsUnnameable (Some capture) = MatchOption capture.day ⊥ (λ words. (day : Day) × IsDayOf words.0.now words.1.now day × (¬ IsNameable (start_of day)))
 
--- there is to be a capture, and its day is none, or beyond what it can name; or its file is not written
-abbrev pub IsNoCapture : Option CaptureWords → SocketFault → Type 0
-IsNoCapture capture (sockets.Day fault) = IsNoCaptureDay capture fault
-IsNoCapture capture (Capture fault) = IsUnnameable capture
-IsNoCapture capture (CannotCapture name) = IsFileOf capture name.now
-IsNoCapture capture _ = ⊥
+-- there is to be a capture, and its day is none, or beyond what it can name
+abbrev pub IsNoFirst : Option CaptureWords → DayCommandFault → Type 0
+IsNoFirst capture (faults.Day fault) = IsNoCaptureDay capture fault
+IsNoFirst capture (Capture fault) = IsUnnameable capture
+IsNoFirst capture _ = ⊥
+
+-- its file is not written
+abbrev pub IsNoFile : Option CaptureWords → DayCommandFault → Type 0
+IsNoFile capture (CannotCapture name) = IsFileOf capture name.now
+IsNoFile capture _ = ⊥
 
 -- there is no listener, or no peer
-abbrev pub IsUnheard : SocketFault → Type 0
+abbrev pub IsUnheard : DayCommandFault → Type 0
 IsUnheard CannotListen = Unit {0}
 IsUnheard _ = ⊥
 
 -- there is no exchange
-abbrev pub IsUnconnected : SocketFault → Type 0
+abbrev pub IsUnconnected : DayCommandFault → Type 0
 IsUnconnected CannotConnect = Unit {0}
 IsUnconnected _ = ⊥

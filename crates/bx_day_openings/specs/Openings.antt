@@ -1,5 +1,6 @@
 -- Both ends at the opening of a day that a command runs.
 use Rattle.std.specs.Prelude.{◌≡◌, ℕ, ◌+◌, ◌≤◌, ◌<◌, true, false, List, length, Option, Some, None, ◌⊎◌}
+use Rattle.csv.specs.Reading.{strip_bom}
 use Rattle.bx_base.specs.Bookings.{Row, row_at}
 use Rattle.bx_base.specs.PlanParts.{Parts}
 use Rattle.bx_base.specs.Plans.{is_accepted}
@@ -28,9 +29,14 @@ pub record IsOpening (asked : Option ℕ) (day : Day) (turns : ℕ) : Type 0 whe
   pub opens : day ≡ opening plan.rows plan.assigned
   pub are_turns : AreTurns asked plan turns
 
+-- this is the text of a script, but for a byte order mark at its front, and what there was to read, where the input tells it
+pub record IsScriptRead (before : Option (List ℕ)) (script : List ScriptRow) : Type 0 where
+  pub text : List ℕ
+  pub told : (known : List ℕ) → before ≡ Some known → text ≡ known
+  pub script_of : IsScript (strip_bom text) script
+
 -- a far end at the opening of the day of a script
 pub record IsFarOpening (far : FarDay) : Type 0 where
   pub script : List ScriptRow
-  pub text : List ℕ
-  pub read : IsScript text script
+  pub read : IsScriptRead None script
   pub opens : far ≡ far_opening script

@@ -1,22 +1,27 @@
 //! The file of a capture.
 
-ghost use Rattle.std.specs.Prelude.{◌≤◌, IfOk, IfErr};
+ghost use Rattle.std.specs.Prelude.{◌≡◌, ◌≤◌, ◌⊎◌, true, false, None, IfOk, IfErr, OnOk};
+ghost use Rattle.std.specs.Io.KnownBytes.{Appends};
+ghost use Rattle.bx_capture.specs.Captures.{is_unfaulted};
+ghost use Rattle.bx_capture.specs.Packets.{file_header};
+ghost use Rattle.bx_devices.specs.Watching.{device_of, is_faulted};
 ghost use Rattle.bx_day_openings.specs.CaptureOpenings.{IsFirstOf, IsFileFor};
-ghost use Rattle.bx_day_openings.specs.OpeningRefusals.{IsNoCapture};
+ghost use Rattle.bx_day_openings.specs.OpeningRefusals.{IsNoFirst, IsNoFile};
 
-use crate::fault::SocketFault;
+use crate::fault::DayCommandFault;
 use bx_book::Day;
 use bx_capture::{first_second, write_file_header};
-use bx_devices::Watched;
+use bx_devices::{Watched, WriteFailed};
 use bx_request::CaptureWords;
 use std::fs;
 use std::fs::Files;
+use std::io::Write;
 
 /// The second that moment 0 has in a capture: that of the day's start where the words name a day, else 0.
-pub fn first_of<'a>(capture: Option<CaptureWords<'a>>) -> Result<u32, SocketFault<'a>>
+pub fn first_of<'a>(capture: Option<CaptureWords<'a>>) -> Result<u32, DayCommandFault<'a>>
     ensures first { IfOk result (IsFirstOf capture.entry) }
     ensures limit { IfOk result (λ first. first ≤ 4294667295) }
-    ensures refused { IfErr result (IsNoCapture capture.entry) }
+    ensures refused { IfErr result (IsNoFirst capture.entry) }
 {
     let Some(CaptureWords { file: _, day }) = capture else {
         return Ok(0);
@@ -26,31 +31,64 @@ pub fn first_of<'a>(capture: Option<CaptureWords<'a>>) -> Result<u32, SocketFaul
     };
     let day = match Day::new(date, zone) {
         Ok(day) => day,
-        Err(fault) => return Err(SocketFault::Day(fault)),
+        Err(fault) => return Err(DayCommandFault::Day(fault)),
     };
     match first_second(&day) {
         Ok(first) => Ok(first),
-        Err(fault) => Err(SocketFault::Capture(fault)),
+        Err(fault) => Err(DayCommandFault::Capture(fault)),
     }
+}
+
+/// The file, with the header of a capture behind what stands in it, written once.
+fn headed<F: Write + Drop>(file: F) -> Result<Watched<F>, WriteFailed>
+    ensures header { IfOk result (λ watched. Appends (F.contents file) (F.contents (device_of watched)) file_header) }
+    ensures unfaulted { IfOk result (λ watched. is_faulted watched ≡ false) }
+{
+    let mut watched = Watched::new(file);
+    write_file_header(&mut watched)?;
+    Ok(watched)
 }
 
 /// The file of a capture, with its header, where one is to be kept.
 pub fn file_of<'a, H: Files>(
     rt: &H,
     capture: Option<CaptureWords<'a>>,
-) -> Result<Option<Watched<H::File>>, SocketFault<'a>>
+) -> Result<Option<Watched<H::File>>, DayCommandFault<'a>>
     ensures opened { IfOk result (IsFileFor H.File.contents capture.entry) }
-    ensures refused { IfErr result (IsNoCapture capture.entry) }
+    ensures refused { IfErr result (IsNoFile capture.entry) }
 {
     let Some(CaptureWords { file: name, day: _ }) = capture else {
         return Ok(None);
     };
     let Ok(file) = fs::create(rt, name) else {
-        return Err(SocketFault::CannotCapture(name));
+        return Err(DayCommandFault::CannotCapture(name));
     };
-    let mut file = Watched::new(file);
-    match write_file_header(&mut file) {
-        Ok(()) => Ok(Some(file)),
-        Err(_) => Err(SocketFault::CannotCapture(name)),
+    match headed(file) {
+        Ok(file) => Ok(Some(file)),
+        Err(_) => Err(DayCommandFault::CannotCapture(name)),
+    }
+}
+
+/// Whether no write of a capture has failed, where there is one.
+pub fn is_whole<F>(file: &Option<Watched<F>>) -> bool
+    ensures { result ≡ is_unfaulted file.now }
+{
+    match file {
+        Some(file) => !file.faulted(),
+        None => true,
+    }
+}
+
+/// What is told of a day that is done: nothing, or that its capture is not whole.
+pub fn captured<'a>(
+    capture: Option<CaptureWords<'a>>,
+    is_whole: bool,
+) -> Result<(), DayCommandFault<'a>>
+    ensures whole { OnOk result ((is_whole ≡ true) ⊎ (capture.entry ≡ None)) }
+    ensures cut { IfErr result (λ fault. IsNoFile capture.entry fault × (is_whole ≡ false)) }
+{
+    match capture {
+        Some(capture) if !is_whole => Err(DayCommandFault::CannotCapture(capture.file)),
+        _ => Ok(()),
     }
 }

@@ -1,15 +1,16 @@
-//! Why a day was not run.
+//! Why a day was not run, or not told.
 
 use bx_book::DayFault;
 use bx_capture::BeyondCapture;
 use bx_check_commands::CommandFault;
 use bx_far::ScriptFault;
 use bx_frames::LinkFault;
+use bx_journal::JournalFault;
 use thiserror::Error;
 
-/// The refusal of a command that runs a day.
+/// The refusal of a command that runs a day, or tells one from its journal.
 #[derive(Clone, Copy, Debug, PartialEq, Eq, Error)]
-pub enum SocketFault<'a> {
+pub enum DayCommandFault<'a> {
     /// A file of this name was not opened or not read, it holds no plan or none that is proved, the output failed, or a growth was refused.
     #[error("{0}")]
     Command(CommandFault<'a>),
@@ -22,6 +23,9 @@ pub enum SocketFault<'a> {
     /// A capture cannot name the seconds of the day.
     #[error("{0}")]
     Capture(BeyondCapture),
+    /// What was read is no journal of the plan.
+    #[error("{0}")]
+    Journal(JournalFault),
     /// The port cannot be listened on, or no peer can be accepted.
     #[error("F3 CannotListen")]
     CannotListen,

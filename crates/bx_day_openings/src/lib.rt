@@ -7,8 +7,8 @@ mod loopback;
 mod openings;
 mod progress;
 
-pub use capturing::{file_of, first_of};
-pub use fault::SocketFault;
+pub use capturing::{captured, file_of, first_of, is_whole};
+pub use fault::DayCommandFault;
 pub use loopback::{accepted, both_ends, connected};
-pub use openings::{far_end_of, opening_of};
+pub use openings::{far_end_of, opening_of, turns_of};
 pub use progress::Shown;

@@ -3,7 +3,7 @@
 ghost use Rattle.std.specs.Prelude.{◌⊎◌, IfErr};
 ghost use Rattle.bx_day_openings.specs.OpeningRefusals.{IsUnheard, IsUnconnected};
 
-use crate::fault::SocketFault;
+use crate::fault::DayCommandFault;
 use std::net::{Ipv4Addr, Net, TcpListener, TcpStream};
 
 /// A frame is sent as soon as it is written. A system that cannot is only slower.
@@ -16,22 +16,22 @@ fn at_once(stream: TcpStream) -> TcpStream {
 fn listener<'a, H: Net<Listener = TcpListener, Stream = TcpStream>>(
     rt: &H,
     port: u16,
-) -> Result<TcpListener, SocketFault<'a>>
+) -> Result<TcpListener, DayCommandFault<'a>>
     ensures { IfErr result IsUnheard }
 {
     match TcpListener::bind(rt, (Ipv4Addr::LOCALHOST, port)) {
         Ok(listener) => Ok(listener),
-        Err(_) => Err(SocketFault::CannotListen),
+        Err(_) => Err(DayCommandFault::CannotListen),
     }
 }
 
 /// The next peer that connects.
-fn next_peer<'a>(listener: &TcpListener) -> Result<TcpStream, SocketFault<'a>>
+fn next_peer<'a>(listener: &TcpListener) -> Result<TcpStream, DayCommandFault<'a>>
     ensures { IfErr result IsUnheard }
 {
     match listener.accept() {
         Ok((stream, _)) => Ok(at_once(stream)),
-        Err(_) => Err(SocketFault::CannotListen),
+        Err(_) => Err(DayCommandFault::CannotListen),
     }
 }
 
@@ -40,7 +40,7 @@ pub fn accepted<'a, H: Net<Listener = TcpListener, Stream = TcpStream> + Eprint>
     rt: &H,
     port: u16,
     is_said: bool,
-) -> Result<TcpStream, SocketFault<'a>>
+) -> Result<TcpStream, DayCommandFault<'a>>
     ensures { IfErr result IsUnheard }
 {
     match listener(rt, port) {
@@ -58,19 +58,19 @@ pub fn accepted<'a, H: Net<Listener = TcpListener, Stream = TcpStream> + Eprint>
 pub fn connected<'a, H: Net<Listener = TcpListener, Stream = TcpStream>>(
     rt: &H,
     port: u16,
-) -> Result<TcpStream, SocketFault<'a>>
+) -> Result<TcpStream, DayCommandFault<'a>>
     ensures { IfErr result IsUnconnected }
 {
     match TcpStream::connect(rt, (Ipv4Addr::LOCALHOST, port)) {
         Ok(stream) => Ok(at_once(stream)),
-        Err(_) => Err(SocketFault::CannotConnect),
+        Err(_) => Err(DayCommandFault::CannotConnect),
     }
 }
 
 /// Both ends of one connection on a free port.
 pub fn both_ends<'a, H: Net<Listener = TcpListener, Stream = TcpStream>>(
     rt: &H,
-) -> Result<(TcpStream, TcpStream), SocketFault<'a>>
+) -> Result<(TcpStream, TcpStream), DayCommandFault<'a>>
     ensures { IfErr result (λ fault. IsUnheard fault ⊎ IsUnconnected fault) }
 {
     let listener = match listener(rt, 0) {
@@ -79,7 +79,7 @@ pub fn both_ends<'a, H: Net<Listener = TcpListener, Stream = TcpStream>>(
     };
     let port = match listener.local_addr() {
         Ok(address) => address.port(),
-        Err(_) => return Err(SocketFault::CannotListen),
+        Err(_) => return Err(DayCommandFault::CannotListen),
     };
     let near = match connected(rt, port) {
         Ok(near) => near,

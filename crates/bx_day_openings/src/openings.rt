@@ -1,19 +1,23 @@
-//! How a day opens: its exchange from the plan in a file, and its far end from a script.
+//! How a day opens: its exchange from a plan, and its far end from a script.
 
 ghost use Rattle.std.specs.Prelude.{◌≡◌, ◌≤◌, ◌<◌, ◌+◌, length, if◌then◌else◌, IfOk, IfErr};
 ghost use Rattle.bx_base.specs.Bookings.{row_at};
 ghost use Rattle.bx_base.specs.Plans.{is_accepted};
+ghost use Rattle.bx_devices.specs.Devices.{reading_of};
+ghost use Rattle.bx_devices.specs.Watching.{device_of};
+ghost use Rattle.bx_day_openings.specs.Inside.{IsNoScript};
 ghost use Rattle.bx_day_openings.specs.OpeningRefusals.{IsNoOpening, IsNoFarEnd};
-ghost use Rattle.bx_day_openings.specs.Openings.{IsLastOf, IsOpening, IsFarOpening};
+ghost use Rattle.bx_day_openings.specs.Openings.{IsLastOf, IsOpening, IsScriptRead, IsFarOpening};
 
-use crate::fault::SocketFault;
+use crate::fault::DayCommandFault;
 use bx_base::Plan;
 use bx_calls::timers::{T305, T308};
-use bx_check_commands::{CommandFault, open, proved_in};
+use bx_check_commands::{CommandFault, Inputs, proved_named};
 use bx_day::Exchange;
-use bx_devices::{ReadFault, read_octets};
+use bx_devices::{ReadFault, Watched, read_octets};
 use bx_far::{Far, Script, ScriptFault};
-use std::fs::Files;
+use std::alloc::Global;
+use std::io::Read;
 
 /// How many seconds a call can outlive its booking: T305, and T308 twice.
 const AFTER_THE_LAST: u32 = T305 + 2 * T308;
@@ -31,7 +35,7 @@ fn over_from(plan: &Plan, index: u16) -> u32
 }
 
 /// How many turns it takes until the call of each accepted booking is over: 1 where none is accepted.
-fn turns_of(plan: &Plan) -> u32
+pub fn turns_of(plan: &Plan) -> u32
     ensures { IsLastOf plan.now.bookings plan.now.assigned.items (length plan.now.bookings) result }
 {
     let mut turns = 1;
@@ -41,46 +45,66 @@ fn turns_of(plan: &Plan) -> u32
     turns
 }
 
-/// The exchange at the opening of the day of the plan in a file, and how many turns it is to run.
-pub fn opening_of<'a, H: Files + AllocGlobal>(
-    rt: &H,
+/// The exchange at the opening of the day of the plan of an input, and how many turns it is to run.
+pub fn opening_of<'a, I: Inputs>(
+    alloc: Global,
+    inputs: &mut I,
     name: &'a str,
     turns: Option<u32>,
-) -> Result<(Exchange, u32), SocketFault<'a>>
+) -> Result<(Exchange, u32), DayCommandFault<'a>>
     ensures opened { IfOk result (λ opened. IsOpening turns opened.0 opened.1) }
     ensures refused { IfErr result (IsNoOpening name.now) }
 {
-    let plan = match proved_in(rt, name) {
+    let plan = match proved_named(alloc, inputs, name) {
         Ok(plan) => plan,
-        Err(fault) => return Err(SocketFault::Command(fault)),
+        Err(fault) => return Err(DayCommandFault::Command(fault)),
     };
     let turns = match turns {
         Some(turns) => turns,
         None => turns_of(&plan),
     };
-    match Exchange::new(rt.alloc(), &plan) {
+    match Exchange::new(alloc, &plan) {
         Ok(exchange) => Ok((exchange, turns)),
-        Err(_) => Err(SocketFault::Command(CommandFault::Memory)),
+        Err(_) => Err(DayCommandFault::Command(CommandFault::Memory)),
     }
 }
 
-/// The far end at the opening of its day by the script in a file.
-pub fn far_end_of<'a, H: Files + AllocGlobal>(rt: &H, name: &'a str) -> Result<Far, SocketFault<'a>>
+/// The script whose text is read to the end of an input of this name.
+fn script_from<'a, R: Read>(
+    alloc: Global,
+    name: &'a str,
+    input: &mut Watched<R>,
+) -> Result<Script, DayCommandFault<'a>>
+    ensures found { IfOk result (IsScriptRead (R.remaining (device_of input.old))) }
+    ensures none { IfErr result (IsNoScript name.now (reading_of R.remaining input.old input.new)) }
+{
+    let text = match read_octets(alloc, input) {
+        Ok(text) => text,
+        Err(ReadFault::Memory) => return Err(DayCommandFault::Command(CommandFault::Memory)),
+        Err(_) => return Err(DayCommandFault::Command(CommandFault::CannotRead(name))),
+    };
+    match Script::read(alloc, &text) {
+        Ok(script) => Ok(script),
+        Err(ScriptFault::Memory) => Err(DayCommandFault::Command(CommandFault::Memory)),
+        Err(fault) => Err(DayCommandFault::Script(fault)),
+    }
+}
+
+/// The far end at the opening of its day by the script of an input.
+pub fn far_end_of<'a, I: Inputs>(
+    alloc: Global,
+    inputs: &mut I,
+    name: &'a str,
+) -> Result<Far, DayCommandFault<'a>>
     ensures opened { IfOk result IsFarOpening }
     ensures refused { IfErr result (IsNoFarEnd name.now) }
 {
-    let mut input = match open(rt, name) {
+    let mut input = match inputs.open(name) {
         Ok(input) => input,
-        Err(fault) => return Err(SocketFault::Command(fault)),
+        Err(fault) => return Err(DayCommandFault::Command(fault)),
     };
-    let text = match read_octets(rt.alloc(), &mut input) {
-        Ok(text) => text,
-        Err(ReadFault::Memory) => return Err(SocketFault::Command(CommandFault::Memory)),
-        Err(_) => return Err(SocketFault::Command(CommandFault::CannotRead(name))),
-    };
-    match Script::read(rt.alloc(), &text) {
+    match script_from(alloc, name, &mut input) {
         Ok(script) => Ok(Far::new(script)),
-        Err(ScriptFault::Memory) => Err(SocketFault::Command(CommandFault::Memory)),
-        Err(fault) => Err(SocketFault::Script(fault)),
+        Err(fault) => Err(fault),
     }
 }

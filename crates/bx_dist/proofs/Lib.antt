@@ -10,3 +10,4 @@ pub mod WalkTests
 pub mod Lists
 pub mod Rows
 pub mod Along
+pub mod Resting

@@ -1,6 +1,7 @@
 //! Flows.
 
-ghost use Rattle.std.specs.Prelude.{◌≡◌, ◌≤◌, ◌<◌, ◌-◌, ◌↔◌, IfOk, IsTrue, false, length};
+ghost use Rattle.std.specs.Prelude.{◌≡◌, ◌≤◌, ◌<◌, ◌+◌, ◌-◌, ◌↔◌, ℕ, IfOk, IsTrue, true, false, length, slice_index, if◌then◌else◌};
+ghost use Rattle.bx_line.specs.Network.{places_of, spans};
 ghost use Rattle.bx_line.specs.Flows.{IsFlow, IsSized, is_carried, idle_at, crossing_at};
 ghost use Rattle.bx_dist.specs.Sending.{empty_flow, sent, after_step};
 ghost use Rattle.bx_dist.specs.Inside.{CanTake};
@@ -9,7 +10,7 @@ ghost use Rattle.bx_dist.specs.Walks.{IsPath};
 use crate::dist::Dist;
 use crate::part::Part;
 use crate::step::Step;
-use bx_line::Line;
+use bx_line::{Arc, Line};
 use std::alloc::{AllocError, Global};
 use std::marker::Model;
 
@@ -42,6 +43,29 @@ impl Carried {
             accepted: vec![in alloc; false; rows]?,
             idle: vec![in alloc; 0; places.saturating_sub(1)]?,
             units: 0,
+        })
+    }
+
+    /// The flow of as many units along another line in which the same rows carry a unit each. In each gap the other units
+    /// are idle. That line has as many rows, and over no gap of it more rows carry a unit than there are units.
+    pub fn along(&self, alloc: Global, line: &Line) -> Result<Carried, AllocError>
+        requires rows { length self.now.accepted ≡ length line.now.arcs }
+        requires room { (gap : ℕ) → gap + 1 < places_of line.now → crossing_at line.now self.now gap ≤ self.now.units }
+        requires no_gap { places_of line.now < 2 → self.now.units ≡ 0 }
+        ensures flow { IfOk result (IsFlow line.now) }
+        ensures accepted { IfOk result (λ c. c.accepted ≡ self.now.accepted) }
+        ensures units { IfOk result (λ c. c.units ≡ self.now.units) }
+    {
+        let mut idle = vec![in alloc; self.units; (line.places() as usize).saturating_sub(1)]?;
+        for row in 0..line.rows() {
+            if self.carries(row) {
+                take_over(&mut idle, line.arc(row));
+            }
+        }
+        Ok(Carried {
+            accepted: self.accepted.clone()?,
+            idle,
+            units: self.units,
         })
     }
 
@@ -154,5 +178,18 @@ impl Carried {
             Step::Take(row) => self.accepted[row as usize - 1] = true,
             Step::Give(row) => self.accepted[row as usize - 1] = false,
         }
+    }
+}
+
+/// Takes one idle unit from each gap that an arc leads over.
+fn take_over(idle: &mut [u8], arc: Arc)
+    requires rising { arc.from < arc.to }
+    requires within { arc.to ≤ length idle.old }
+    requires some { (gap : ℕ) → spans arc gap ≡ true → 1 ≤ slice_index idle.old gap }
+    ensures size { length idle.new ≡ length idle.old }
+    ensures each { (gap : ℕ) → gap < length idle.old → slice_index idle.new gap + (if spans arc gap then 1 else 0) ≡ slice_index idle.old gap }
+{
+    for gap in arc.from as usize..arc.to as usize {
+        idle[gap] -= 1;
     }
 }

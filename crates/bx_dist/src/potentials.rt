@@ -1,12 +1,13 @@
 //! Potentials.
 
-ghost use Rattle.std.specs.Prelude.{◌≡◌, ◌≤◌, ◌<◌, ◌↔◌, IsTrue, length};
+ghost use Rattle.std.specs.Prelude.{◌≡◌, ◌≤◌, ◌<◌, ◌↔◌, ℕ, IfOk, IsTrue, length, slice_index};
 ghost use Rattle.bx_dist.specs.Residual.{height_at, AreSmall, ArePotentials};
 ghost use Rattle.bx_dist.specs.Inside.{RowFits, GapFits};
 
 use crate::carried::Carried;
 use crate::dist::Dist;
 use bx_line::Line;
+use std::alloc::{AllocError, Global};
 use std::marker::Model;
 
 /// A number for each place.
@@ -34,6 +35,18 @@ impl Potentials {
         Potentials {
             heights: dist.into_lengths(),
         }
+    }
+
+    /// For each place of a line the number of the place that is listed for it.
+    pub fn lifted(&self, alloc: Global, places: &[u16]) -> Result<Potentials, AllocError>
+        ensures one_each { IfOk result (λ p. length p ≡ length places.now) }
+        ensures each { IfOk result (λ p. (v : ℕ) → v < length places.now → height_at p v ≡ height_at self.now (slice_index places.now v)) }
+    {
+        let mut heights = Vec::new(alloc);
+        for place in places {
+            heights.push(self.at(*place))?;
+        }
+        Ok(Potentials { heights })
     }
 
     /// The number of a place; 0 for no such place.

@@ -2,3 +2,4 @@ pub mod Falls
 pub mod Certificate
 pub mod Depth
 pub mod First
+pub mod WholeLine

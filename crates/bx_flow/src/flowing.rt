@@ -9,6 +9,7 @@ ghost use Rattle.bx_line.specs.Flows.{IsFlow};
 ghost use Rattle.bx_line.specs.Network.{IsNetwork, places_of};
 
 use crate::growing::{free_distances, grown};
+use crate::lifting::lifted;
 use bx_dist::{Carried, Distances, Potentials};
 use bx_line::Line;
 use std::alloc::{AllocError, Global};
@@ -36,11 +37,31 @@ fn sent<D: Distances>(
     Ok((carried, potentials))
 }
 
+/// The same by way of the shorter line that has a place for each maximal set of rows that run together.
+fn sent_over_cliques<D: Distances>(
+    alloc: Global,
+    line: &Line,
+    units: u8,
+    distances: &D,
+) -> Result<(Carried, Potentials), AllocError>
+    requires few { units ≤ 30 }
+    requires limits { IsNetwork line.now }
+    requires moment { 0 < places_of line.now }
+    ensures flow { IfOk result (λ r. IsFlow line.now r.0) }
+    ensures units { IfOk result (λ r. r.0.units ≡ units) }
+    ensures fits { IfOk result (λ r. ArePotentials line.now r.0 r.1) }
+{
+    let counts = line.cliques(alloc)?;
+    let shorter = line.shortened(alloc, &counts)?;
+    let (carried, potentials) = sent(alloc, &shorter, units, distances)?;
+    lifted(alloc, line, &counts, &carried, &potentials)
+}
+
 /// A flow of so many units, at most 30, from the first place to the last, of which none of as many units costs
 /// less, and the distances in its residual network without the arcs of must rows. By successive least walks with
-/// potentials, for every lawful way to find distances. The last distance is no deeper than the free bookings pay
-/// together. On a line without moments both are empty, and no distances
-/// are asked for.
+/// potentials on the shorter line of cliques, and one search on the whole line, for every lawful way to find distances. The
+/// last distance is no deeper than the free bookings pay together. On a line without moments both are empty, and no
+/// distances are asked for.
 pub fn least_cost<D: Distances>(
     alloc: Global,
     line: &Line,
@@ -59,7 +80,7 @@ pub fn least_cost<D: Distances>(
             Potentials::first(alloc, line)?,
         ));
     }
-    let (carried, potentials) = sent(alloc, line, units, distances)?;
+    let (carried, potentials) = sent_over_cliques(alloc, line, units, distances)?;
     let lengths = free_distances(alloc, line, &carried, &potentials, distances)?;
     Ok((carried, lengths))
 }

@@ -4,6 +4,8 @@
 mod flowing;
 mod growing;
 pub mod laws;
+mod lifting;
 
 pub use flowing::least_cost;
 pub use growing::{free_distances, grown};
+pub use lifting::lifted;

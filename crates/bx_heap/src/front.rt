@@ -56,7 +56,8 @@ impl Front {
         })
     }
 
-    /// Takes a step where it shortens the way to its end.
+    /// Takes a step where it shortens the way to its end. Inlined, so that its kind is known at each place.
+    #[inline(always)]
     pub(crate) fn reach(
         &mut self,
         line: &Line,

@@ -45,7 +45,8 @@ impl Front {
         self.ranks[place as usize] = self.count;
     }
 
-    /// Takes a step where it is open.
+    /// Takes a step where it is open. Inlined, so that its kind is known at each place.
+    #[inline(always)]
     fn take_step(
         &mut self,
         line: &Line,
@@ -108,7 +109,8 @@ impl Front {
         Ok(())
     }
 
-    /// Takes the steps from a place along the rows on one side.
+    /// Takes the steps from a place along the rows on one side. Inlined, so that the side is known at each place.
+    #[inline(always)]
     fn take_rows(
         &mut self,
         line: &Line,

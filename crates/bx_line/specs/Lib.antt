@@ -2,3 +2,4 @@ pub mod Network
 pub mod Moments
 pub mod Flows
 pub mod ByPlace
+pub mod Cliques

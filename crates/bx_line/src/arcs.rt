@@ -1,10 +1,11 @@
 //! The arcs of the line.
 
-ghost use Rattle.std.specs.Prelude.{◌≡◌, ◌≤◌, IfOk, length, Contains};
+ghost use Rattle.std.specs.Prelude.{◌≡◌, ◌≤◌, ◌<◌, ℕ, IfOk, length, Contains, slice_index_or};
 ghost use Rattle.std.specs.List.Sorted.{IsStrictlyIncreasing};
 ghost use Rattle.bx_base.specs.Bookings.{AreBookings};
+ghost use Rattle.bx_line.specs.Cliques.{AreCounted};
 ghost use Rattle.bx_line.specs.Moments.{HasJustMoments};
-ghost use Rattle.bx_line.specs.Network.{IsArcOf, AreArcsOf, arc_pay};
+ghost use Rattle.bx_line.specs.Network.{IsArc, IsArcOf, AreArcsOf, arc_pay, no_arc};
 
 use crate::arc::Arc;
 use crate::line::MUST_RAISE;
@@ -56,4 +57,25 @@ pub(crate) fn arcs_of(
         arcs.push(arc_between(moments, &bookings.nth(i)))?;
     }
     Ok(arcs)
+}
+
+/// An arc for each of these, between the counts of its places.
+pub(crate) fn counted_arcs(
+    alloc: Global,
+    arcs: &[Arc],
+    counts: &[u16],
+) -> Result<Vec<Arc>, AllocError>
+    requires within { (i : ℕ) → i < length arcs.now → IsArc (length counts.now) (slice_index_or arcs.now i no_arc) }
+    ensures { IfOk result (λ v. AreCounted counts.now arcs.now v.items) }
+{
+    let mut counted = Vec::new(alloc);
+    for arc in arcs {
+        counted.push(Arc {
+            from: counts[arc.from as usize],
+            to: counts[arc.to as usize],
+            pay: arc.pay,
+            must: arc.must,
+        })?;
+    }
+    Ok(counted)
 }

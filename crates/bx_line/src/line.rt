@@ -2,13 +2,14 @@
 
 ghost use Rattle.std.specs.Prelude.{◌≡◌, ◌≤◌, ◌<◌, ◌+◌, ◌-◌, ◌↔◌, IfOk, IfSome, IsSome, length};
 ghost use Rattle.bx_line.specs.ByPlace.{AreChains, IsFirstRow, row_place};
+ghost use Rattle.bx_line.specs.Cliques.{AreCliques, IsShortened};
 ghost use Rattle.bx_line.specs.Moments.{HasJustMoments};
-ghost use Rattle.bx_line.specs.Network.{IsNetwork, IsArc, AreArcsOf, arc_at, places_of};
+ghost use Rattle.bx_line.specs.Network.{IsNetwork, IsArc, AreArcsOf, arc_at, network_of, places_of};
 
 use crate::arc::Arc;
-use crate::arcs::arcs_of;
+use crate::arcs::{arcs_of, counted_arcs};
 use crate::by_place::ByPlace;
-use crate::moments::moments_of;
+use crate::moments::{count_moments, moments_of};
 use crate::side::Side;
 use bx_base::Bookings;
 use std::alloc::{AllocError, Global};
@@ -51,6 +52,14 @@ impl Line {
     {
         let moments = moments_of(alloc, bookings)?;
         let arcs = arcs_of(alloc, &moments, bookings)?;
+        Line::joined(alloc, moments, arcs)
+    }
+
+    /// The line of these places and rows, with the chains of its rows.
+    fn joined(alloc: Global, moments: Vec<u32>, arcs: Vec<Arc>) -> Result<Line, AllocError>
+        requires { IsNetwork (network_of moments.items arcs.items) }
+        ensures { IfOk result (λ line. line ≡ network_of moments.items arcs.items) }
+    {
         let leaving = ByPlace::of(alloc, moments.len(), &arcs, Side::Leaving)?;
         let arriving = ByPlace::of(alloc, moments.len(), &arcs, Side::Arriving)?;
         Ok(Line {
@@ -120,6 +129,41 @@ impl Line {
         ensures { IsFirstRow side self.now.arcs (row_place side self.now.arcs row) (row + 1) result }
     {
         self.chains(side).next[row as usize]
+    }
+
+    /// How many maximal sets of rows that run together have ended by each place: one more at a place where a row ends,
+    /// if a row started behind the last such place. So the counts rise by 0 or 1 from place to place, and from the start
+    /// of each row to its end.
+    pub fn cliques(&self, alloc: Global) -> Result<Vec<u16>, AllocError>
+        ensures counts { IfOk result (λ v. AreCliques self.now v.items) }
+    {
+        let mut counts = Vec::new(alloc);
+        let mut ended = 0;
+        let mut has_started = false;
+        for place in 0..self.places() {
+            let starts = self.first_row(place, Side::Leaving).is_some();
+            let ends = self.first_row(place, Side::Arriving).is_some();
+            if has_started && ends {
+                ended += 1;
+            }
+            has_started = starts || (has_started && !ends);
+            counts.push(ended)?;
+        }
+        Ok(counts)
+    }
+
+    /// The line that has a place for each of these counts, and two at least where it has any, with the same rows in the
+    /// same order, each from the count of its start to that of its end. Its moments are the counts.
+    pub fn shortened(&self, alloc: Global, counts: &[u16]) -> Result<Line, AllocError>
+        requires counts { AreCliques self.now counts.now }
+        ensures shorter { IfOk result (IsShortened self.now counts.now) }
+        ensures limits { IfOk result IsNetwork }
+    {
+        // Read for the prover alone, which learns a limit from it.
+        let _places = self.places();
+        let moments = count_moments(alloc, counts)?;
+        let arcs = counted_arcs(alloc, &self.arcs, counts)?;
+        Line::joined(alloc, moments, arcs)
     }
 
     /// The chains on a side.

@@ -1,7 +1,8 @@
 //! The places of the line.
 
-ghost use Rattle.std.specs.Prelude.{◌≡◌, ◌≤◌, ◌<◌, IfOk, vec_len, length, Contains, slice_index};
+ghost use Rattle.std.specs.Prelude.{◌≡◌, ◌≤◌, ◌<◌, ℕ, IfOk, vec_len, length, Contains, slice_index};
 ghost use Rattle.std.specs.List.Sorted.{IsStrictlyIncreasing};
+ghost use Rattle.bx_line.specs.Cliques.{shorter_places};
 ghost use Rattle.bx_line.specs.Moments.{HasJustMoments};
 
 use bx_base::Bookings;
@@ -45,4 +46,32 @@ pub(crate) fn place_of(moments: &[u32], moment: u32) -> u16
         Ok(place) => place as u16,
         Err(_) => unreachable!(),
     }
+}
+
+/// The moments 0, 1, .. up to the last of these counts, and up to 1 at least; none where there are no counts.
+pub(crate) fn count_moments(alloc: Global, counts: &[u16]) -> Result<Vec<u32>, AllocError>
+    requires { (i : ℕ) → slice_index counts.now i < 8000 }
+    ensures rising { IfOk result (λ v. IsStrictlyIncreasing v.items) }
+    ensures count { IfOk result (λ v. length v.items ≡ shorter_places counts.now) }
+    ensures each { IfOk result (λ v. (k : ℕ) → k < length v.items → slice_index v.items k ≡ k) }
+{
+    if counts.is_empty() {
+        return first_moments(alloc, 0);
+    }
+    let last = counts[counts.len() - 1];
+    let most = if last > 0 { last } else { 1 };
+    first_moments(alloc, most + 1)
+}
+
+/// The moments 0, 1, .., so many.
+fn first_moments(alloc: Global, count: u16) -> Result<Vec<u32>, AllocError>
+    ensures rising { IfOk result (λ v. IsStrictlyIncreasing v.items) }
+    ensures count { IfOk result (λ v. length v.items ≡ count) }
+    ensures each { IfOk result (λ v. (k : ℕ) → k < length v.items → slice_index v.items k ≡ k) }
+{
+    let mut moments = Vec::new(alloc);
+    for moment in 0..count {
+        moments.push(u32::from(moment))?;
+    }
+    Ok(moments)
 }

@@ -1,5 +1,5 @@
 -- The day of a run is the one after the events that are on record.
-use Rattle.std.proofs.Common.{◌≡◌, ℕ, ◌==◌, List, [], ◌∷◌, refl, sym, ap, ◌∙◌, true, false, Bool, Result, Ok, Err, if◌then◌else◌}
+use Rattle.std.proofs.Common.{◌≡◌, ℕ, ◌==◌, List, [], ◌∷◌, ◌++◌, OnOk, refl, sym, ap, ◌∙◌, true, false, Bool, Result, Ok, Err, if◌then◌else◌}
 use Rattle.arrayvec.specs.ArrayVec.{ArrayVec}
 use Rattle.bx_frames.specs.declared.fault.LinkFault.{LinkFault}
 use Rattle.bx_frames.specs.declared.frame.Frame.{Frame}
@@ -10,11 +10,15 @@ use Rattle.bx_events.specs.Events.{LiveEvent, OnLink, WithoutLink}
 use Rattle.bx_day.specs.Outages.{live_day_after}
 use Rattle.bx_live.specs.declared.world.Begin.{Begin}
 use Rattle.bx_live.specs.declared.world.Begin.TheVariants as begins
+use Rattle.bx_live.specs.declared.world.CannotRecord.{CannotRecord}
 use Rattle.bx_live.specs.declared.world.Loss.{Loss}
 use Rattle.bx_live.specs.declared.world.Loss.TheVariants as losses
-use Rattle.bx_live.specs.Acts.{Act, Began, Dropped, Recorded, Synced, Wrote, Read, EndedDay, recorded}
-use Rattle.bx_live.specs.Runs.{Place, Between, Recording, Owing, Losing, IsDue, IsRun, next, day_at, owing, begun, heard, lost}
-use Rattle.bx_live.specs.Running.{Runs}
+use Rattle.bx_live.specs.declared.running.Second.{Second}
+use Rattle.bx_live.specs.declared.running.Second.TheVariants as seconds
+use Rattle.bx_live.specs.Inside.{IsSaid}
+use Rattle.bx_live.specs.Acts.{Act, Began, Dropped, Recorded, Synced, Wrote, Read, EndedDay, recorded, ended}
+use Rattle.bx_live.specs.Runs.{Place, Between, Recording, Owing, Losing, Over, Closing, Done, IsDue, IsRun, next, day_at, owing, begun, heard, lost}
+use Rattle.bx_live.specs.Running.{or_over}
 use Rattle.bx_live.proofs.Due.{by_due}
 
 pub owing_day : (d : Day) (room : ℕ) (sent : List (ArrayVec ℕ)) (text : List ℕ) → day_at (owing d room sent text) ≡ d
@@ -26,6 +30,7 @@ begun_day : (d : Day) (begin : Begin) → day_at (begun d begin) ≡ d
 begun_day d begins.Late = refl
 begun_day d begins.Alone = refl
 begun_day d begins.Joined = refl
+begun_day d begins.Ended = refl
 
 either_day : (b : Bool) (d : Day) (loss : Loss) → day_at (if b then Between d else Losing d loss) ≡ d
 either_day true d loss = refl
@@ -62,8 +67,12 @@ closed_day : (d : Day) (done : Bool) → Steps (Between d) (Synced done)
 closed_day d true = refl
 closed_day d false = refl
 
+ended_day : (d : Day) (done : Bool) → Steps (Closing d) (Synced done)
+ended_day d true = refl
+ended_day d false = refl
+
 pub step_day : (p : Place) (act : Act) → IsDue p act → Steps p act
-step_day = by_due Steps begun_day recorded_day synced_day wrote_day heard_day lost_day closed_day (λ d. refl)
+step_day = by_due Steps begun_day recorded_day synced_day wrote_day heard_day lost_day closed_day ended_day (λ d. refl)
 
 -- the recorded events of one act, and of more
 more_recorded : (act : Act) (acts : List Act) (d : Day) → live_day_after (recorded (act ∷ acts)) d ≡ live_day_after (recorded acts) (live_day_after (recorded (act ∷ [])) d)
@@ -80,5 +89,47 @@ pub run_day : (p q : Place) (acts : List Act) → IsRun p acts q → day_at q �
 run_day p q [] e = ap day_at (sym e)
 run_day p q (act ∷ acts) (due, goes) = run_day (next p act) q acts goes ∙ (ap (live_day_after (recorded acts)) (step_day p act due) ∙ sym (more_recorded act acts (day_at p)))
 
-abbrev pub with_day : {W : Type 0} {did : W → List Act → W → Type 0} {u v : W} (p q : Place) → Runs did u v p q → (ran : Runs did u v p q) × (day_at q ≡ live_day_after (recorded ran.acts) (day_at p))
-with_day p q ran = (ran, run_day p q ran.acts ran.goes)
+-- what was said among these acts was said
+pub ended_inside : (xs ys zs : List Act) → ended ys ≡ true → ended (xs ++ (ys ++ zs)) ≡ true
+ended_inside xs ys zs e = behind xs (ys ++ zs) (before ys zs e) where
+  before : (ys zs : List Act) → ended ys ≡ true → ended (ys ++ zs) ≡ true
+  before [] zs e = cc
+  before (Began second begins.Ended ∷ ys) zs e = refl
+  before (Began second begins.Late ∷ ys) zs e = before ys zs e
+  before (Began second begins.Alone ∷ ys) zs e = before ys zs e
+  before (Began second begins.Joined ∷ ys) zs e = before ys zs e
+  before (Dropped loss ∷ ys) zs e = before ys zs e
+  before (Recorded event done ∷ ys) zs e = before ys zs e
+  before (Synced done ∷ ys) zs e = before ys zs e
+  before (Wrote octets done ∷ ys) zs e = before ys zs e
+  before (Read room answer ∷ ys) zs e = before ys zs e
+  before (EndedDay ∷ ys) zs e = before ys zs e
+
+  behind : (xs ys : List Act) → ended ys ≡ true → ended (xs ++ ys) ≡ true
+  behind [] ys e = e
+  behind (Began second begins.Ended ∷ xs) ys e = refl
+  behind (Began second begins.Late ∷ xs) ys e = behind xs ys e
+  behind (Began second begins.Alone ∷ xs) ys e = behind xs ys e
+  behind (Began second begins.Joined ∷ xs) ys e = behind xs ys e
+  behind (Dropped loss ∷ xs) ys e = behind xs ys e
+  behind (Recorded event done ∷ xs) ys e = behind xs ys e
+  behind (Synced done ∷ xs) ys e = behind xs ys e
+  behind (Wrote octets done ∷ xs) ys e = behind xs ys e
+  behind (Read room answer ∷ xs) ys e = behind xs ys e
+  behind (EndedDay ∷ xs) ys e = behind xs ys e
+
+-- of any answer, what holds anyway
+pub at_any : {A E : Type 0} {P : Type 0} (r : Result A E) → P → OnOk r P
+at_any (Ok a) p = p
+at_any (Err e) p = tt
+
+-- the day of a run that is closed, or could not be
+pub closed_day_is : (p : Place) (d : Day) (r : Result (Unit {0}) CannotRecord) (acts : List Act) → IsRun p acts (or_over (Done d) d r) → d ≡ live_day_after (recorded acts) (day_at p)
+closed_day_is p d (Ok done) acts goes = run_day p (Done d) acts goes
+closed_day_is p d (Err fault) acts goes = run_day p (Over d) acts goes
+
+-- a second that has passed was not the end
+pub none_said : {W : Type 0} (did : W → List Act → W → Type 0) (old new : W) (d d1 : Day) (r : Result Second CannotRecord) → ¬ (r ≡ Ok seconds.Ended) → IsSaid did old new d d1 r
+none_said did old new d d1 (Ok seconds.Passed) no_end = tt
+none_said did old new d d1 (Ok seconds.Ended) no_end = absurd (no_end refl)
+none_said did old new d d1 (Err fault) no_end = tt

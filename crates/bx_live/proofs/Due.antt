@@ -7,7 +7,7 @@ use Rattle.bx_events.specs.Events.{LiveEvent}
 use Rattle.bx_live.specs.declared.world.Begin.{Begin}
 use Rattle.bx_live.specs.declared.world.Loss.{Loss}
 use Rattle.bx_live.specs.Acts.{Act, Began, Dropped, Recorded, Synced, Wrote, Read, EndedDay}
-use Rattle.bx_live.specs.Runs.{Place, Between, Recording, Owing, Hearing, Losing, Over, Ending, Done, IsDue}
+use Rattle.bx_live.specs.Runs.{Place, Between, Recording, Owing, Hearing, Losing, Over, Closing, Ending, Done, IsDue}
 
 module _ (P : Place → Act → Type 0)
     (began : (d : Day) (begin : Begin) → P (Between d) (Began (d.moment + 1) begin))
@@ -17,6 +17,7 @@ module _ (P : Place → Act → Type 0)
     (reading : (d : Day) (room : ℕ) (answer : Result Frame LinkFault) → P (Hearing d room) (Read room answer))
     (losing : (d : Day) (loss : Loss) → P (Losing d loss) (Dropped loss))
     (closing : (d : Day) (done : Bool) → P (Between d) (Synced done))
+    (closed : (d : Day) (done : Bool) → P (Closing d) (Synced done))
     (ended : (d : Day) → P (Ending d) EndedDay) where
   pub by_due : (p : Place) (act : Act) → IsDue p act → P p act
   by_due (Between d) (Began second begin) due = subst (λ x. P (Between d) (Began x begin)) (sym due) (began d begin)
@@ -68,6 +69,13 @@ module _ (P : Place → Act → Type 0)
   by_due (Over d) (Wrote octets done) due = absurd due
   by_due (Over d) (Read most answer) due = absurd due
   by_due (Over d) (EndedDay) due = absurd due
+  by_due (Closing d) (Began second begin) due = absurd due
+  by_due (Closing d) (Dropped why) due = absurd due
+  by_due (Closing d) (Recorded e done) due = absurd due
+  by_due (Closing d) (Synced done) due = closed d done
+  by_due (Closing d) (Wrote octets done) due = absurd due
+  by_due (Closing d) (Read most answer) due = absurd due
+  by_due (Closing d) (EndedDay) due = absurd due
   by_due (Ending d) (Began second begin) due = absurd due
   by_due (Ending d) (Dropped why) due = absurd due
   by_due (Ending d) (Recorded e done) due = absurd due

@@ -14,7 +14,7 @@ use Rattle.bx_live.specs.declared.world.Begin.TheVariants as begins
 use Rattle.bx_live.specs.declared.world.Loss.{Loss}
 use Rattle.bx_live.specs.declared.world.Loss.TheVariants as losses
 use Rattle.bx_live.specs.Acts.{Act, Began, Dropped, Recorded, Synced, Wrote, Read, EndedDay, recorded}
-use Rattle.bx_live.specs.Runs.{Place, Between, Recording, Owing, Hearing, Losing, Over, Ending, Done, IsDue, IsRun, next, day_at, owing, begun, heard, lost}
+use Rattle.bx_live.specs.Runs.{Place, Between, Recording, Owing, Hearing, Losing, Over, Closing, Ending, Done, IsDue, IsRun, next, day_at, owing, begun, heard, lost}
 use Rattle.bx_live.specs.Written.{Filed, filed, filed_by, IsWrittenFor}
 use Rattle.bx_live.proofs.Due.{by_due}
 use Rattle.bx_live.proofs.Days.{step_day}
@@ -83,6 +83,7 @@ Owes d acts (Recording day room event) = Unit {0}
 Owes d acts (Hearing day room) = Unit {0}
 Owes d acts (Losing day loss) = Unit {0}
 Owes d acts (Over day) = Unit {0}
+Owes d acts (Closing day) = Unit {0}
 Owes d acts (Ending day) = Unit {0}
 Owes d acts (Done day) = Unit {0}
 
@@ -101,6 +102,7 @@ module _ (d : Day) (acts : List Act) where
   begun_owes day begins.Late = tt
   begun_owes day begins.Alone = tt
   begun_owes day begins.Joined = tt
+  begun_owes day begins.Ended = tt
 
   either_owes : (b : Bool) (day : Day) (loss : Loss) → Owes d acts (if b then Between day else Losing day loss)
   either_owes true day loss = tt
@@ -150,10 +152,14 @@ module _ (d : Day) (acts : List Act) where
   owed_closed day true stands = tt
   owed_closed day false stands = tt
 
+  owed_ended : (day : Day) (done : Bool) → KeepsOwed (Closing day) (Synced done)
+  owed_ended day true stands = tt
+  owed_ended day false stands = tt
+
   keeps_owed : (p : Place) (act : Act) → IsDue p act → KeepsOwed p act
   keeps_owed = by_due KeepsOwed
       (λ day begin stands. begun_owes d (behind_act (Began (day.moment + 1) begin)) day begin) owed_recorded owed_synced owed_written
-      (λ day room answer stands. heard_owes d (behind_act (Read room answer)) day room answer) (λ day loss stands. lost_owes d (behind_act (Dropped loss)) day loss) owed_closed (λ day stands. tt)
+      (λ day room answer stands. heard_owes d (behind_act (Read room answer)) day room answer) (λ day loss stands. lost_owes d (behind_act (Dropped loss)) day loss) owed_closed owed_ended (λ day stands. tt)
 
   stands_on : (p : Place) (act : Act) → IsDue p act → Stands d acts p → Stands d (behind_act act) (next p act)
   stands_on p act due stands = record {
@@ -178,6 +184,7 @@ module _ (d : Day) (acts : List Act) where
   written_now (Hearing day room) octets done due stands = absurd due
   written_now (Losing day loss) octets done due stands = absurd due
   written_now (Over day) octets done due stands = absurd due
+  written_now (Closing day) octets done due stands = absurd due
   written_now (Ending day) octets done due stands = absurd due
   written_now (Done day) octets done due stands = absurd due
 

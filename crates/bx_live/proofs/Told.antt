@@ -14,7 +14,7 @@ use Rattle.bx_live.specs.declared.world.Begin.TheVariants as begins
 use Rattle.bx_live.specs.declared.world.Loss.{Loss}
 use Rattle.bx_live.specs.declared.world.Loss.TheVariants as losses
 use Rattle.bx_live.specs.Acts.{Act, Began, Dropped, Recorded, Synced, Wrote, Read, EndedDay, recorded}
-use Rattle.bx_live.specs.Runs.{Place, Between, Recording, Owing, Hearing, Losing, IsDue, IsRun, next, day_at, owing}
+use Rattle.bx_live.specs.Runs.{Place, Between, Recording, Owing, Hearing, Losing, Closing, IsDue, IsRun, next, day_at, owing}
 use Rattle.bx_live.specs.Written.{live_text, live_told, written, goes_well, owed_at}
 use Rattle.bx_live.proofs.Due.{by_due}
 use Rattle.bx_live.proofs.Days.{step_day}
@@ -79,6 +79,7 @@ tells_begun : (d : Day) (begin : Begin) → Tells (Between d) (Began (d.moment +
 tells_begun d begins.Late well = refl
 tells_begun d begins.Alone well = refl
 tells_begun d begins.Joined well = refl
+tells_begun d begins.Ended well = refl
 
 tells_recorded : (d : Day) (room : ℕ) (event : LiveEvent) (done : Bool) → Tells (Recording d room event) (Recorded event done)
 tells_recorded d room (OnLink e) true well = owes_text (exchange_next d e) room (exchange_sent d e) (exchange_text d e)
@@ -111,8 +112,12 @@ tells_closed : (d : Day) (done : Bool) → Tells (Between d) (Synced done)
 tells_closed d true well = refl
 tells_closed d false well = refl
 
+tells_ended : (d : Day) (done : Bool) → Tells (Closing d) (Synced done)
+tells_ended d true well = refl
+tells_ended d false well = refl
+
 tells : (p : Place) (act : Act) → IsDue p act → Tells p act
-tells = by_due Tells tells_begun tells_recorded tells_synced tells_wrote tells_heard tells_lost tells_closed (λ d well. refl)
+tells = by_due Tells tells_begun tells_recorded tells_synced tells_wrote tells_heard tells_lost tells_closed tells_ended (λ d well. refl)
 
 pub told_law : (from to : Place) (acts : List Act) → IsRun from acts to → goes_well acts ≡ true → written acts ++ owed_at to ≡ owed_at from ++ live_told (recorded acts) (day_at from)
 told_law from to [] e well = ap owed_at (sym e) ∙ sym (append-nil (owed_at from))

@@ -1,9 +1,10 @@
 -- What the world outside was asked, and what it answered.
-use Rattle.std.specs.Prelude.{ℕ, Bool, true, List, [], ◌∷◌, Result}
+use Rattle.std.specs.Prelude.{ℕ, Bool, true, false, List, [], ◌∷◌, Result}
 use Rattle.bx_events.specs.Events.{LiveEvent}
 use Rattle.bx_frames.specs.declared.fault.LinkFault.{LinkFault}
 use Rattle.bx_frames.specs.declared.frame.Frame.{Frame}
 use Rattle.bx_live.specs.declared.world.Begin.{Begin}
+use Rattle.bx_live.specs.declared.world.Begin.TheVariants as begins
 use Rattle.bx_live.specs.declared.world.Loss.{Loss}
 
 pub data Act : Type 0 where
@@ -27,3 +28,9 @@ abbrev pub recorded : List Act → List LiveEvent
 recorded [] = []
 recorded (Recorded event true ∷ acts) = event ∷ recorded acts
 recorded (act ∷ acts) = recorded acts
+
+-- whether the world said that no second begins any more
+abbrev pub ended : List Act → Bool
+ended [] = false
+ended (Began second begins.Ended ∷ acts) = true
+ended (act ∷ acts) = ended acts

@@ -29,6 +29,8 @@ pub data Place : Type 0 where
   Losing : (d : Day) (loss : Loss) → Place
   -- nothing more is done: what happens cannot be put on record
   Over : (d : Day) → Place
+  -- no second begins any more
+  Closing : (d : Day) → Place
   -- the day is over, and all of it is on the disk
   Ending : (d : Day) → Place
   -- nothing more is done: the day is over
@@ -42,6 +44,7 @@ day_at (Owing d room unsynced text) = d
 day_at (Hearing d room) = d
 day_at (Losing d loss) = d
 day_at (Over d) = d
+day_at (Closing d) = d
 day_at (Ending d) = d
 day_at (Done d) = d
 
@@ -49,6 +52,7 @@ day_at (Done d) = d
 abbrev pub IsDue : Place → Act → Type 0
 IsDue (Between d) (Began second begin) = second ≡ d.moment + 1
 IsDue (Between d) (Synced done) = Unit {0}
+IsDue (Closing d) (Synced done) = Unit {0}
 IsDue (Ending d) EndedDay = Unit {0}
 IsDue (Recording d room event) (Recorded e done) = e ≡ event
 IsDue (Owing d room true text) (Synced done) = Unit {0}
@@ -68,11 +72,13 @@ abbrev pub happened : Day → ℕ → LiveEvent → Place
 happened d room WithoutLink = Between (without_link d)
 happened d room (OnLink event) = owing (exchange_next d event) room (exchange_sent d event) (exchange_text d event)
 
--- a second with a peer is a turn of at most 64 messages; any other is one without a link, in which there is no peer
+-- a second with a peer is a turn of at most 64 messages; any other is one without a link, in which there is no peer. Where no second
+-- begins any more, the day is closed
 abbrev pub begun : Day → Begin → Place
 begun d begins.Late = Losing d losses.Late
 begun d begins.Alone = Recording d 0 WithoutLink
 begun d begins.Joined = Recording d 64 (OnLink Tick)
+begun d begins.Ended = Closing d
 
 -- the peer's turn ends with its end of turn, which has the moment
 abbrev pub heard : Day → ℕ → Result Frame LinkFault → Place
@@ -90,6 +96,7 @@ lost d (losses.Fault fault) = Between d
 abbrev pub next : Place → Act → Place
 next (Between d) (Began second begin) = begun d begin
 next (Between d) (Synced done) = if done then Ending d else Over d
+next (Closing d) (Synced done) = if done then Ending d else Over d
 next (Ending d) EndedDay = Done d
 next (Recording d room event) (Recorded e done) = if done then happened d room event else Over d
 next (Owing d room true text) (Synced done) = if done then Owing d room false text else Over d

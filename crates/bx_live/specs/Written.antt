@@ -5,7 +5,7 @@ use Rattle.bx_day.specs.Day.{Day}
 use Rattle.bx_day.specs.Course.{exchange_sent, exchange_text}
 use Rattle.bx_day.specs.Outages.{live_happens, live_day_after}
 use Rattle.bx_live.specs.Acts.{Act, Recorded, Synced, Wrote, recorded}
-use Rattle.bx_live.specs.Runs.{Place, Between, Recording, Owing, Hearing, Losing, Over, Ending, Done}
+use Rattle.bx_live.specs.Runs.{Place, Between, Recording, Owing, Hearing, Losing, Over, Closing, Ending, Done}
 
 -- the events that are on the disk, and those that were put on record behind the last sync
 pub record Filed : Type 0 where
@@ -63,5 +63,6 @@ owed_at (Recording d room event) = []
 owed_at (Hearing d room) = []
 owed_at (Losing d loss) = []
 owed_at (Over d) = []
+owed_at (Closing d) = []
 owed_at (Ending d) = []
 owed_at (Done d) = []

@@ -1,12 +1,14 @@
 //! A live day, second by second.
 
-ghost use Rattle.std.specs.Prelude.{◌≡◌, ℕ, ◌≤◌, min, max, OnOk};
+ghost use Rattle.std.specs.Prelude.{◌≡◌, ℕ, ◌≤◌, min, max, Ok, OnOk, false};
 ghost use Rattle.bx_events.specs.Events.{Tick, OnLink, WithoutLink};
 ghost use Rattle.bx_day.specs.Outages.{live_day_after};
-ghost use Rattle.bx_live.specs.Acts.{recorded};
-ghost use Rattle.bx_live.specs.Runs.{Recording, Hearing, Between, Done, Losing};
+ghost use Rattle.bx_day.specs.Day.{Day};
+ghost use Rattle.bx_live.specs.Acts.{recorded, ended};
+ghost use Rattle.bx_live.specs.Runs.{Recording, Hearing, Between, Closing, Done, Losing};
 ghost use Rattle.bx_live.specs.Running.{Runs, or_over};
-ghost use Rattle.bx_live.specs.Inside.{or_stopped, Rises, RisesByTurn};
+ghost use Rattle.bx_live.specs.declared.running.Second.TheVariants.{Ended};
+ghost use Rattle.bx_live.specs.Inside.{or_stopped, behind_second, RisesByTurn, RisesBySecond, IsSaid};
 
 use crate::hearing::hear_turn;
 use crate::turn::{Stop, open_turn};
@@ -15,14 +17,27 @@ use bx_calls::timers::LAST_MOMENT;
 use bx_day::Exchange;
 use bx_events::LiveEvent;
 
+/// How a second that was waited for is over.
+#[derive(Clone, Copy)]
+enum Second {
+    /// It has passed.
+    Passed,
+    /// It does not begin: the day is over before it.
+    Ended,
+}
+
 /// The next second, as one without a link.
-fn pass_without_link<W: World>(exchange: &mut Exchange, world: &mut W) -> Result<(), CannotRecord>
-    ensures ran { Runs W.did world.old world.new (Recording exchange.old 0 WithoutLink) (or_over (Between exchange.new) exchange.new result) }
-    ensures moment { Rises exchange.old exchange.new result }
+fn pass_without_link<W: World>(
+    exchange: &mut Exchange,
+    world: &mut W,
+) -> Result<Second, CannotRecord>
+    ensures ran { Runs W.did world.old world.new (Recording exchange.old 0 WithoutLink) (behind_second exchange.new result) }
+    ensures moment { RisesBySecond exchange.old exchange.new result }
+    ensures passes { ¬ (result ≡ Ok Ended) }
 {
     world.record(LiveEvent::WithoutLink)?;
     exchange.second_without_link();
-    Ok(())
+    Ok(Second::Passed)
 }
 
 /// Both halves of a turn.
@@ -35,24 +50,26 @@ fn run_turn<W: World>(exchange: &mut Exchange, world: &mut W) -> Result<(), Stop
 }
 
 /// The next second with a peer. A fault of the link drops it.
-fn pass_with_peer<W: World>(exchange: &mut Exchange, world: &mut W) -> Result<(), CannotRecord>
-    ensures ran { Runs W.did world.old world.new (Recording exchange.old 64 (OnLink Tick)) (or_over (Between exchange.new) exchange.new result) }
-    ensures moment { Rises exchange.old exchange.new result }
+fn pass_with_peer<W: World>(exchange: &mut Exchange, world: &mut W) -> Result<Second, CannotRecord>
+    ensures ran { Runs W.did world.old world.new (Recording exchange.old 64 (OnLink Tick)) (behind_second exchange.new result) }
+    ensures moment { RisesBySecond exchange.old exchange.new result }
+    ensures passes { ¬ (result ≡ Ok Ended) }
 {
     match run_turn(exchange, world) {
-        Ok(()) => Ok(()),
+        Ok(()) => Ok(Second::Passed),
         Err(Stop::Link(fault)) => {
             world.drop_peer(Loss::Fault(fault));
-            Ok(())
+            Ok(Second::Passed)
         }
         Err(Stop::Record) => Err(CannotRecord),
     }
 }
 
-/// The next second.
-fn run_second<W: World>(exchange: &mut Exchange, world: &mut W) -> Result<(), CannotRecord>
-    ensures ran { Runs W.did world.old world.new (Between exchange.old) (or_over (Between exchange.new) exchange.new result) }
-    ensures moment { Rises exchange.old exchange.new result }
+/// The next second, where one begins.
+fn run_second<W: World>(exchange: &mut Exchange, world: &mut W) -> Result<Second, CannotRecord>
+    ensures ran { Runs W.did world.old world.new (Between exchange.old) (behind_second exchange.new result) }
+    ensures moment { RisesBySecond exchange.old exchange.new result }
+    ensures said { IsSaid W.did world.old world.new exchange.old exchange.new result }
 {
     match world.begin(exchange.moment() + 1) {
         Begin::Joined => pass_with_peer(exchange, world),
@@ -61,10 +78,24 @@ fn run_second<W: World>(exchange: &mut Exchange, world: &mut W) -> Result<(), Ca
             world.drop_peer(Loss::Late);
             pass_without_link(exchange, world)
         }
+        Begin::Ended => Ok(Second::Ended),
     }
 }
 
-/// Runs the day up to a second of it, or to moment 300,000 where that is earlier. Each second is waited for. In one with a peer
+/// The end of a day: all of it is on the disk, then the peer is told.
+fn close_day<W: World>(world: &mut W) -> Result<(), CannotRecord>
+    ensures at_last { (d : Day) → Runs W.did world.old world.new (Between d) (or_over (Done d) d result) }
+    ensures at_ended { (d : Day) → Runs W.did world.old world.new (Closing d) (or_over (Done d) d result) }
+{
+    match world.sync() {
+        Ok(()) => {}
+        Err(fault) => return Err(fault),
+    }
+    world.end_day();
+    Ok(())
+}
+
+/// Runs the day up to a second of it, or to moment 300,000 where that is earlier, or until the world says that it is over. Each second is waited for. In one with a peer
 /// each event is on record before it happens, and on the disk before messages are written for it. At a fault of the link the
 /// peer is dropped, and the day goes on. At its end all of it is on the disk. Where something cannot be put on record, nothing more is done.
 pub fn run_live<W: World>(
@@ -72,20 +103,16 @@ pub fn run_live<W: World>(
     world: &mut W,
     last: u32,
 ) -> Result<(), CannotRecord>
-    ensures ran { (ran : Runs W.did world.old world.new (Between exchange.old) (or_over (Done exchange.new) exchange.new result)) × (exchange.new ≡ live_day_after (recorded ran.acts) exchange.old) }
-    ensures whole { OnOk result (exchange.new.moment ≡ max exchange.old.moment (min last 300000)) }
+    ensures ran { (ran : Runs W.did world.old world.new (Between exchange.old) (or_over (Done exchange.new) exchange.new result)) × (exchange.new ≡ live_day_after (recorded ran.acts) exchange.old) × OnOk result (ended ran.acts ≡ false → exchange.new.moment ≡ max exchange.old.moment (min last 300000)) }
+    ensures whole { OnOk result (exchange.new.moment ≤ max exchange.old.moment (min last 300000)) }
 {
     let end = last.min(LAST_MOMENT);
     for _second in exchange.moment()..end {
         match run_second(exchange, world) {
-            Ok(()) => {}
+            Ok(Second::Passed) => {}
+            Ok(Second::Ended) => return close_day(world),
             Err(fault) => return Err(fault),
         }
     }
-    match world.sync() {
-        Ok(()) => {}
-        Err(fault) => return Err(fault),
-    }
-    world.end_day();
-    Ok(())
+    close_day(world)
 }

@@ -21,6 +21,8 @@ pub enum Begin {
     Alone,
     /// In time, and a peer is there.
     Joined,
+    /// No second begins any more.
+    Ended,
 }
 
 /// Why a peer is dropped.
@@ -41,7 +43,7 @@ pub struct CannotRecord;
 pub trait World {
     ghost did: { Self → List Act → Self → Type 0 };
 
-    /// Waits for the instant of a second of the day. Meanwhile a peer may have come.
+    /// Waits for the instant of a second of the day. Meanwhile a peer may have come; or the day may have come to its end.
     fn begin(&mut self, second: u32) -> Begin
         ensures { did self.old (Began second result ∷ []) self.new };
 

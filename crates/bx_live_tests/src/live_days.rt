@@ -129,6 +129,31 @@ fn stops(
     Some(is_stopped && is_kept && world.into_written().len() == written)
 }
 
+/// A peer ends its first turn, and no second begins behind it.
+static SHORT: [Scene; 2] = [
+    Scene {
+        begin: Begin::Joined,
+        input: &[2, 0, 4, 0, 0, 0, 1],
+    },
+    Scene {
+        begin: Begin::Ended,
+        input: &[],
+    },
+];
+
+fn ends_early(alloc: Global) -> Option<bool> {
+    let mut exchange = exchange(alloc)?;
+    let mut world = MemoryWorld::new(alloc, &SHORT, 100);
+    let done = run_live(&mut exchange, &mut world, 8);
+    let is_over = done == Ok(()) && exchange.moment() == 1 && world.is_over;
+    Some(is_over && has_lines(&world, b"t") && world.synced == 1)
+}
+
+#[test]
+fn no_second_begins_any_more(rt: HostRuntime) {
+    assert!(rt; ends_early(rt.alloc()) == Some(true));
+}
+
 #[test]
 fn a_record_fails(rt: HostRuntime) {
     let alloc = rt.alloc();

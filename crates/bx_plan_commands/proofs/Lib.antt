@@ -1,3 +1,3 @@
-pub mod FileRefusals
 pub mod CallTimes
-pub mod Tables
+pub mod Fewer
+pub mod Refusals

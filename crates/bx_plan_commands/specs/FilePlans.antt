@@ -1,17 +1,18 @@
--- What the commands on a file of bookings write.
-use Rattle.std.specs.Prelude.{ℕ, Bool, List}
+-- What the commands on bookings write.
+use Rattle.std.specs.Prelude.{◌≤◌, ℕ, Bool, List, Option}
 use Rattle.std.specs.Io.KnownBytes.{Appends}
 use Rattle.bx_base.specs.Bookings.{Row}
 use Rattle.bx_base.specs.Channels.{AreChannels, HasJust}
 use Rattle.bx_devices.specs.Devices.{Reading, Writing}
-use Rattle.bx_devices.specs.Octets.{AppendsPrefix}
 use Rattle.bx_base.specs.PlanParts.{Parts}
 use Rattle.bx_book.specs.NamedDays.{IsDayOf}
 use Rattle.bx_book.specs.Rows.{span_of}
+use Rattle.bx_book.specs.Streams.{IsBookRead}
 use Rattle.bx_book.specs.declared.day.Day.{Day}
 use Rattle.bx_plan_run.specs.Amending.{IsAmended}
-use Rattle.bx_plan_run.specs.Planning.{IsRun, IsCut}
-use Rattle.bx_check_commands.specs.Proved.{IsProvedFor, proved_line}
+use Rattle.bx_plan_run.specs.Planning.{IsRun}
+use Rattle.bx_check_commands.specs.Inputs.{IsReadOf, IsPlanOf}
+use Rattle.bx_check_commands.specs.Proved.{IsProvedAgainst, proved_line}
 use Rattle.bx_planner.specs.Amending.{amended}
 use Rattle.bx_request.specs.declared.request.Terms.{Terms}
 
@@ -21,50 +22,44 @@ pub record AreTerms (terms : Terms) (channels : List Bool) (day : Day) : Type 0 
   pub numbers : AreChannels terms.channels.items
   pub just : HasJust channels terms.channels.items
 
--- the text of a best plan of some bookings on just these channels was written
-pub record IsPlanned (terms : Terms) (output : Writing) : Type 0 where
+-- what an input of this name gave to its end are these bookings of the day
+pub record AreBookingsOf (gives : List ℕ → Option (List ℕ) → Type 0) (name : List ℕ) (day : Day) (rows : List Row) : Type 0 where
+  pub input : Reading
+  pub of_name : IsReadOf gives name input
+  pub read : IsBookRead input (span_of day) rows
+
+-- the bookings were read, and the text of a best plan of them on just the channels that the words name was written
+pub record IsPlanned (gives : List ℕ → Option (List ℕ) → Type 0) (terms : Terms) (bookings : List ℕ) (output : Writing) : Type 0 where
   pub channels : List Bool
   pub day : Day
   pub named : AreTerms terms channels day
-  pub file : Reading
+  pub input : Reading
+  pub of_name : IsReadOf gives bookings input
   pub total : ℕ
-  pub run : IsRun file output (span_of day) channels total
+  pub run : IsRun input output (span_of day) channels total
 
--- or a front of it
-pub record IsPlanCut (terms : Terms) (output : Writing) : Type 0 where
-  pub channels : List Bool
-  pub day : Day
-  pub named : AreTerms terms channels day
-  pub file : Reading
-  pub run : IsCut file output (span_of day) channels
-
--- a plan is proved with this total for some bookings on just the channels that the words name
-pub record IsProvedWith (terms : Terms) (total : ℕ) : Type 0 where
+-- the bookings and a plan were read, the plan is proved for just these bookings and the channels that the words name, and the
+-- line of its total was written
+pub record IsChecked (gives : List ℕ → Option (List ℕ) → Type 0) (terms : Terms) (bookings plan : List ℕ) (output : Writing) : Type 0 where
   pub channels : List Bool
   pub day : Day
   pub named : AreTerms terms channels day
   pub rows : List Row
-  pub plan : Parts
-  pub proved : IsProvedFor rows channels plan total
-
--- the line of such a total was written
-pub record IsChecked (terms : Terms) (output : Writing) : Type 0 where
+  pub rows_of : AreBookingsOf gives bookings day rows
+  pub input : Reading
+  pub of_name : IsReadOf gives plan input
   pub total : ℕ
-  pub proved : IsProvedWith terms total
+  pub proved : IsProvedAgainst rows channels input.before total
   pub written : Appends output.before output.after (proved_line total)
 
--- or a front of it
-pub record IsCheckCut (terms : Terms) (output : Writing) : Type 0 where
-  pub total : ℕ
-  pub proved : IsProvedWith terms total
-  pub written : AppendsPrefix output.before output.after (proved_line total)
-
--- the words name a day, and the text of a best plan was written that holds all that some earlier plan accepts, for its
--- bookings and for more
-pub record IsHeld (date zone : List ℕ) (output : Writing) : Type 0 where
+-- a plan and more bookings were read, and the text of a best plan was written that holds all that it accepts, for its bookings
+-- and for these
+pub record IsHeld (gives : List ℕ → Option (List ℕ) → Type 0) (date zone plan bookings : List ℕ) (output : Writing) : Type 0 where
   pub day : Day
   pub day_of : IsDayOf date zone day
   pub earlier : Parts
+  pub earlier_of : IsPlanOf gives plan earlier
   pub more : List Row
+  pub more_of : AreBookingsOf gives bookings day more
   pub total : ℕ
   pub planned : IsAmended (amended earlier.rows earlier.assigned more) earlier.channels output total

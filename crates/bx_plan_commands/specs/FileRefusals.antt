@@ -1,28 +1,32 @@
 -- Why a command on files is refused, and what it did to its output then.
-use Rattle.std.specs.Prelude.{◌≡◌, ℕ, true, Bool, List, Option, None, Err, ◌⊎◌}
+use Rattle.std.specs.Prelude.{◌≡◌, ◌↔◌, ◌<◌, ◌≤◌, ◌+◌, ℕ, Bool, List, Option, length, ◌⊎◌}
 use Rattle.bx_base.specs.Bookings.{Row}
+use Rattle.bx_base.specs.Channels.{AreChannels}
 use Rattle.bx_base.specs.ChannelFaults.{IsFirstFault}
-use Rattle.bx_devices.specs.Devices.{Writing, KeepsOutput, writing_of}
+use Rattle.bx_devices.specs.Devices.{Reading, Writing, writing_of}
 use Rattle.bx_base.specs.PlanParts.{Parts}
 use Rattle.bx_devices.specs.declared.watched.Watched.{Watched}
-use Rattle.bx_book.specs.NamedDays.{IsDayFault}
+use Rattle.bx_book.specs.NamedDays.{IsDayOf, IsDayFault}
+use Rattle.bx_book.specs.Rows.{Span, span_of}
+use Rattle.bx_book.specs.Streams.{IsStreamFault}
 use Rattle.bx_book.specs.declared.day.Day.{Day}
-use Rattle.bx_book.specs.declared.fault.BookFault.TheVariants as book
-use Rattle.bx_check.specs.Check.{IsOutcome}
-use Rattle.bx_check.specs.declared.checker.CheckFault.{CheckFault}
-use Rattle.bx_plan_commands.specs.FilePlans.{AreTerms, IsPlanCut, IsCheckCut}
+use Rattle.bx_book.specs.declared.stream.StreamFault.TheVariants as stream
+use Rattle.bx_plan_commands.specs.FilePlans.{AreTerms, AreBookingsOf}
 use Rattle.bx_plan_commands.specs.declared.fault.FileFault.{FileFault}
 use Rattle.bx_plan_commands.specs.declared.fault.FileFault.TheVariants as files
 use Rattle.bx_plan_run.specs.Amending.{IsAmendRefusal}
-use Rattle.bx_check_commands.specs.PlanFiles.{IsUnopened, HasNoPlan}
-use Rattle.bx_check_commands.specs.Refusals.{IsNoPlanText}
+use Rattle.bx_plan_run.specs.Planning.{IsRunRefusal}
+use Rattle.bx_check_commands.specs.Inputs.{IsReadOf, IsPlanOf, IsNoPlanOf}
+use Rattle.bx_check_commands.specs.PlanFiles.{IsUnopened}
+use Rattle.bx_check_commands.specs.Refusals.{IsRefusalAgainst}
 use Rattle.bx_plan_run.specs.declared.amending.AmendFault.{AmendFault}
+use Rattle.bx_plan_run.specs.declared.amending.AmendFault.TheVariants as amend
 use Rattle.bx_check_commands.specs.declared.fault.CommandFault.{CommandFault}
-use Rattle.bx_check_commands.specs.declared.fault.CommandFault.TheVariants.{CannotRead, CannotWrite, Plan, Check, Memory}
+use Rattle.bx_check_commands.specs.declared.fault.CommandFault.TheVariants.{CannotRead, Memory}
 use Rattle.bx_plan_run.specs.declared.planning.RunFault.{RunFault}
-use Rattle.bx_plan_run.specs.declared.planning.RunFault.TheVariants as run
 use Rattle.bx_planner.specs.Amending.{amended}
 use Rattle.bx_planner.specs.Musts.{IsTooManyMust}
+use Rattle.bx_planner.specs.declared.amending.AmendFail.TheVariants.{TooMany, TooManyMust}
 use Rattle.bx_request.specs.declared.request.Terms.{Terms}
 
 -- ---- before anything is written
@@ -32,73 +36,112 @@ abbrev pub IsNoDay : List ℕ → List ℕ → FileFault → Type 0
 IsNoDay date zone (files.Day fault) = IsDayFault date zone fault
 IsNoDay date zone _ = ⊥
 
--- the words name no channels, or no day, with the first fault of their own
+-- the words name no channels, or they do and name no day, with the first fault of their own
 abbrev pub AreNoTerms : Terms → FileFault → Type 0
 AreNoTerms terms (files.Channels fault) = IsFirstFault terms.channels.items fault
-AreNoTerms terms (files.Day fault) = IsDayFault terms.date.now terms.zone.now fault
+AreNoTerms terms (files.Day fault) = AreChannels terms.channels.items × IsDayFault terms.date.now terms.zone.now fault
 AreNoTerms terms _ = ⊥
 
--- a file is not opened, or not read as it has to be, for such a reason
+-- an input is not opened, or not read as it has to be, for such a reason
 abbrev pub IsFileFault : (CommandFault → Type 0) → FileFault → Type 0
 IsFileFault why (files.Command fault) = why fault
 IsFileFault why _ = ⊥
 
--- a file of this name is not read, or holds no bookings of the day, or a growth is refused
-abbrev pub HasNoBookings : List ℕ → FileFault → Type 0
-HasNoBookings name (files.Command (CannotRead n)) = n.now ≡ name
-HasNoBookings name (files.Command Memory) = Unit {0}
-HasNoBookings name (files.Book fault) = ¬ (fault ≡ book.Memory)
-HasNoBookings name _ = ⊥
+-- what was read are no bookings of the day, with the first fault of the text; or it was not read to its end; or a growth was refused
+abbrev pub AreNoBookings : List ℕ → Reading → Span → FileFault → Type 0
+AreNoBookings name input span (files.Command (CannotRead n)) = (n.now ≡ name) × (IsStreamFault input span stream.ReadFailed ⊎ IsStreamFault input span stream.TooLong)
+AreNoBookings name input span (files.Command Memory) = IsStreamFault input span stream.Memory
+AreNoBookings name input span (files.Book fault) = IsStreamFault input span (stream.Book fault)
+AreNoBookings name input span _ = ⊥
 
--- ---- what was written
+-- an input of this name is not opened, or there are no bookings of it
+abbrev pub HasNoBookings : (List ℕ → Option (List ℕ) → Type 0) → List ℕ → Day → FileFault → Type 0
+HasNoBookings gives name day fault = IsFileFault (IsUnopened name) fault ⊎ ((input : Reading) × IsReadOf gives name input × AreNoBookings name input (span_of day) fault)
 
--- some bookings have at this moment, the first such, more must rows than the words name channels
-pub record AreTooMany (terms : Terms) (moment : ℕ) : Type 0 where
+-- ---- plans
+
+-- an input of bookings was opened, and a run over it refused
+pub record IsUnplanned (gives : List ℕ → Option (List ℕ) → Type 0) (terms : Terms) (bookings : List ℕ) (output : Writing) (fault : RunFault) : Type 0 where
+  pub channels : List Bool
+  pub day : Day
+  pub named : AreTerms terms channels day
+  pub input : Reading
+  pub of_name : IsReadOf gives bookings input
+  pub refused : IsRunRefusal input output (span_of day) channels fault
+
+-- the words name channels and a day
+abbrev pub AreSomeTerms : Terms → Type 0
+AreSomeTerms terms = (channels : List Bool) × (day : Day) × AreTerms terms channels day
+
+abbrev pub IsPlanRefusal : {W : Type 0} → (List ℕ → Option (List ℕ) → Type 0) → Terms → List ℕ → (W → Option (List ℕ)) → Watched W → Watched W → FileFault → Type 0
+IsPlanRefusal gives terms bookings contents old new (files.Run fault) = IsUnplanned gives terms bookings (writing_of contents old new) fault
+IsPlanRefusal gives terms bookings contents old new fault = (AreNoTerms terms fault ⊎ (AreSomeTerms terms × IsFileFault (IsUnopened bookings) fault)) × (new ≡ old)
+
+-- ---- checks
+
+-- there are no bookings
+pub record IsWithoutBookings (gives : List ℕ → Option (List ℕ) → Type 0) (terms : Terms) (bookings : List ℕ) (fault : FileFault) : Type 0 where
+  pub channels : List Bool
+  pub day : Day
+  pub named : AreTerms terms channels day
+  pub none : HasNoBookings gives bookings day fault
+
+-- there are, and no input of the plan
+pub record IsWithoutPlan (gives : List ℕ → Option (List ℕ) → Type 0) (terms : Terms) (bookings plan : List ℕ) (fault : FileFault) : Type 0 where
   pub channels : List Bool
   pub day : Day
   pub named : AreTerms terms channels day
   pub rows : List Row
-  pub too_many : IsTooManyMust rows channels moment
+  pub rows_of : AreBookingsOf gives bookings day rows
+  pub unopened : IsFileFault (IsUnopened plan) fault
 
--- no plan was written: the output has failed behind a front of one; or nothing was
-abbrev pub IsUnplanned : Terms → Writing → RunFault → Type 0
-IsUnplanned terms output (run.Book fault) = (¬ (fault ≡ book.Memory)) × KeepsOutput output
-IsUnplanned terms output (run.TooManyMust moment) = AreTooMany terms moment × KeepsOutput output
-IsUnplanned terms output run.WriteFailed = (output.is_faulted ≡ true) × IsPlanCut terms output
-IsUnplanned terms output _ = KeepsOutput output
-
-abbrev pub IsPlanRefusal : {W : Type 0} → Terms → List ℕ → (W → Option (List ℕ)) → Watched W → Watched W → FileFault → Type 0
-IsPlanRefusal terms bookings contents old new (files.Run fault) = IsUnplanned terms (writing_of contents old new) fault
-IsPlanRefusal terms bookings contents old new fault = (AreNoTerms terms fault ⊎ IsFileFault (IsUnopened bookings) fault) × (new ≡ old)
-
--- this fault is the first that the check finds in some plan, for some bookings on just the channels that the words name
-pub record IsFoundFaulty (terms : Terms) (fault : CheckFault) : Type 0 where
+-- it was opened, and the check of what it gives refused
+pub record IsUnchecked (gives : List ℕ → Option (List ℕ) → Type 0) (terms : Terms) (bookings plan : List ℕ) (output : Writing) (fault : FileFault) : Type 0 where
   pub channels : List Bool
   pub day : Day
   pub named : AreTerms terms channels day
   pub rows : List Row
-  pub plan : Parts
-  pub outcome : IsOutcome rows channels plan (Err fault)
+  pub rows_of : AreBookingsOf gives bookings day rows
+  pub input : Reading
+  pub of_name : IsReadOf gives plan input
+  pub refused : IsFileFault (IsRefusalAgainst rows channels plan input output) fault
 
--- no total was written: the output has failed behind a front of its line; or nothing was, and one of the two files is not read,
--- the second holds no plan text, or none that is proved, or a growth was refused
-abbrev pub IsUnchecked : Terms → List ℕ → List ℕ → Writing → CommandFault → Type 0
-IsUnchecked terms bookings plan output (CannotRead n) = ((n.now ≡ bookings) ⊎ (n.now ≡ plan)) × KeepsOutput output
-IsUnchecked terms bookings plan output CannotWrite = (output.is_faulted ≡ true) × IsCheckCut terms output
-IsUnchecked terms bookings plan output (Plan fault) = IsNoPlanText None fault × KeepsOutput output
-IsUnchecked terms bookings plan output (Check fault) = IsFoundFaulty terms fault × KeepsOutput output
-IsUnchecked terms bookings plan output Memory = KeepsOutput output
-IsUnchecked terms bookings plan output _ = ⊥
+abbrev pub IsCheckRefusal : {W : Type 0} → (List ℕ → Option (List ℕ) → Type 0) → Terms → List ℕ → List ℕ → (W → Option (List ℕ)) → Watched W → Watched W → FileFault → Type 0
+IsCheckRefusal gives terms bookings plan contents old new fault =
+    ((AreNoTerms terms fault ⊎ IsWithoutBookings gives terms bookings fault ⊎ IsWithoutPlan gives terms bookings plan fault) × (new ≡ old))
+    ⊎ IsUnchecked gives terms bookings plan (writing_of contents old new) fault
 
-abbrev pub IsCheckRefusal : {W : Type 0} → Terms → List ℕ → List ℕ → (W → Option (List ℕ)) → Watched W → Watched W → FileFault → Type 0
-IsCheckRefusal terms bookings plan contents old new (files.Command fault) = IsUnchecked terms bookings plan (writing_of contents old new) fault
-IsCheckRefusal terms bookings plan contents old new (files.Book fault) = (¬ (fault ≡ book.Memory)) × (new ≡ old)
-IsCheckRefusal terms bookings plan contents old new fault = AreNoTerms terms fault × (new ≡ old)
+-- ---- amendments
 
--- nothing was amended: by write_amended's own words, of some earlier plan and more bookings
-abbrev pub IsUnamended : Writing → AmendFault → Type 0
-IsUnamended output fault = (earlier : Parts) × (more : List Row) × IsAmendRefusal (amended earlier.rows earlier.assigned more) earlier.channels output fault
+-- each fault of an amendment that can be seen is told, and no other in its place
+pub record IsToldOf (earlier : Parts) (more : List Row) (fault : AmendFault) : Type 0 where
+  pub full : (fault ≡ amend.Amend TooMany) ↔ (4000 < length earlier.rows + length more)
+  pub musts : (t : ℕ) → (fault ≡ amend.Amend (TooManyMust t)) ↔ ((length earlier.rows + length more ≤ 4000) × IsTooManyMust (amended earlier.rows earlier.assigned more) earlier.channels t)
 
-abbrev pub IsNotAmended : {W : Type 0} → List ℕ → List ℕ → List ℕ → List ℕ → (W → Option (List ℕ)) → Watched W → Watched W → FileFault → Type 0
-IsNotAmended date zone plan bookings contents old new (files.Amend fault) = IsUnamended (writing_of contents old new) fault
-IsNotAmended date zone plan bookings contents old new fault = (IsNoDay date zone fault ⊎ IsFileFault (HasNoPlan plan) fault ⊎ HasNoBookings bookings fault) × (new ≡ old)
+-- nothing was amended
+pub record IsUnamended (gives : List ℕ → Option (List ℕ) → Type 0) (date zone plan bookings : List ℕ) (output : Writing) (fault : AmendFault) : Type 0 where
+  pub day : Day
+  pub day_of : IsDayOf date zone day
+  pub earlier : Parts
+  pub earlier_of : IsPlanOf gives plan earlier
+  pub more : List Row
+  pub more_of : AreBookingsOf gives bookings day more
+  pub refused : IsAmendRefusal (amended earlier.rows earlier.assigned more) earlier.channels output fault
+  pub told : IsToldOf earlier more fault
+
+-- the words name a day
+abbrev pub IsSomeDay : List ℕ → List ℕ → Type 0
+IsSomeDay date zone = (day : Day) × IsDayOf date zone day
+
+-- the earlier plan was read, and no more bookings
+pub record IsWithoutMore (gives : List ℕ → Option (List ℕ) → Type 0) (date zone plan bookings : List ℕ) (fault : FileFault) : Type 0 where
+  pub day : Day
+  pub day_of : IsDayOf date zone day
+  pub earlier : Parts
+  pub earlier_of : IsPlanOf gives plan earlier
+  pub none : HasNoBookings gives bookings day fault
+
+abbrev pub IsNotAmended : {W : Type 0} → (List ℕ → Option (List ℕ) → Type 0) → List ℕ → List ℕ → List ℕ → List ℕ → (W → Option (List ℕ)) → Watched W → Watched W → FileFault → Type 0
+IsNotAmended gives date zone plan bookings contents old new (files.Amend fault) = IsUnamended gives date zone plan bookings (writing_of contents old new) fault
+IsNotAmended gives date zone plan bookings contents old new fault =
+    (IsNoDay date zone fault ⊎ (IsSomeDay date zone × IsFileFault (IsNoPlanOf gives plan) fault) ⊎ IsWithoutMore gives date zone plan bookings fault) × (new ≡ old)

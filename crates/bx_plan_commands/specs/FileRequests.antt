@@ -12,22 +12,22 @@ use Rattle.bx_plan_commands.specs.declared.fault.FileFault.{FileFault}
 use Rattle.bx_request.specs.declared.request.FileRequest.{FileRequest}
 use Rattle.bx_request.specs.declared.request.FileRequest.TheVariants.{Plan, Check, Amend, Capacity, Explain, Quote, Chart}
 
--- what it wrote
-abbrev pub IsDone : FileRequest → Writing → Type 0
-IsDone (Plan terms bookings) output = IsPlanned terms output
-IsDone (Check terms bookings plan) output = IsChecked terms output
-IsDone (Amend date zone plan bookings) output = IsHeld date.now zone.now output
-IsDone (Capacity date zone bookings) output = IsTableWritten date.now zone.now output
-IsDone (Explain plan row) output = IsExplained row output
-IsDone (Quote plan call) output = IsQuoted output
-IsDone (Chart plan day) output = IsPictured day output
+-- what it wrote, of what the inputs that its words name have given
+abbrev pub IsDone : (List ℕ → Option (List ℕ) → Type 0) → FileRequest → Writing → Type 0
+IsDone gives (Plan terms bookings) output = IsPlanned gives terms bookings.now output
+IsDone gives (Check terms bookings plan) output = IsChecked gives terms bookings.now plan.now output
+IsDone gives (Amend date zone plan bookings) output = IsHeld gives date.now zone.now plan.now bookings.now output
+IsDone gives (Capacity date zone bookings) output = IsTableWritten gives date.now zone.now bookings.now output
+IsDone gives (Explain plan row) output = IsExplained gives row plan.now output
+IsDone gives (Quote plan call) output = IsQuoted gives call plan.now output
+IsDone gives (Chart plan day) output = IsPictured gives day plan.now output
 
 -- why it did not, and what it did to its output then
-abbrev pub IsRefused : {W : Type 0} → FileRequest → (W → Option (List ℕ)) → Watched W → Watched W → FileFault → Type 0
-IsRefused (Plan terms bookings) contents old new fault = IsPlanRefusal terms bookings.now contents old new fault
-IsRefused (Check terms bookings plan) contents old new fault = IsCheckRefusal terms bookings.now plan.now contents old new fault
-IsRefused (Amend date zone plan bookings) contents old new fault = IsNotAmended date.now zone.now plan.now bookings.now contents old new fault
-IsRefused (Capacity date zone bookings) contents old new fault = IsTableRefusal date.now zone.now bookings.now contents old new fault
-IsRefused (Explain plan row) contents old new fault = IsNotExplained row plan.now contents old new fault
-IsRefused (Quote plan call) contents old new fault = IsNotQuoted call plan.now contents old new fault
-IsRefused (Chart plan day) contents old new fault = IsNotPictured day plan.now contents old new fault
+abbrev pub IsRefused : {W : Type 0} → (List ℕ → Option (List ℕ) → Type 0) → FileRequest → (W → Option (List ℕ)) → Watched W → Watched W → FileFault → Type 0
+IsRefused gives (Plan terms bookings) contents old new fault = IsPlanRefusal gives terms bookings.now contents old new fault
+IsRefused gives (Check terms bookings plan) contents old new fault = IsCheckRefusal gives terms bookings.now plan.now contents old new fault
+IsRefused gives (Amend date zone plan bookings) contents old new fault = IsNotAmended gives date.now zone.now plan.now bookings.now contents old new fault
+IsRefused gives (Capacity date zone bookings) contents old new fault = IsTableRefusal gives date.now zone.now bookings.now contents old new fault
+IsRefused gives (Explain plan row) contents old new fault = IsNotExplained gives row plan.now contents old new fault
+IsRefused gives (Quote plan call) contents old new fault = IsNotQuoted gives call plan.now contents old new fault
+IsRefused gives (Chart plan day) contents old new fault = IsNotPictured gives day plan.now contents old new fault

@@ -1,5 +1,6 @@
 pub mod FilePlans
 pub mod FileRefusals
+pub mod Calls
 pub mod PlanRefusals
 pub mod Pictures
 pub mod Inside

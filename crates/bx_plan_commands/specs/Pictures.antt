@@ -14,8 +14,10 @@ use Rattle.bx_plan_commands.specs.declared.fault.FileFault.{FileFault}
 use Rattle.bx_plan_commands.specs.declared.fault.FileFault.TheVariants.{Chart}
 use Rattle.bx_planner.specs.Earnings.{IsEarning}
 use Rattle.bx_planner.specs.declared.earnings.Earning.TheVariants.{Most}
-use Rattle.bx_check_commands.specs.PlanFiles.{HasNoProvedPlan}
+use Rattle.bx_check_commands.specs.Inputs.{IsPlanOf, IsNoProvedOf}
 use Rattle.bx_check_commands.specs.Proved.{IsProvedFor}
+use Rattle.bx_check_commands.specs.declared.fault.CommandFault.{CommandFault}
+use Rattle.bx_check_commands.specs.declared.fault.CommandFault.TheVariants.{Memory}
 
 -- the clock of the date and the zone that are named, and none where none are
 abbrev pub IsClockOf : Option (Bor (List ℕ) × Bor (List ℕ)) → Option Clock → Type 0
@@ -28,10 +30,11 @@ abbrev pub IsNoClock : Option (Bor (List ℕ) × Bor (List ℕ)) → FileFault �
 IsNoClock None fault = ⊥
 IsNoClock (Some (date, zone)) fault = IsNoDay date.now zone.now fault
 
--- a picture of a plan that is proved for its own bookings and channels was written, with what one more channel would add to its
--- total, and the hours of that clock
-pub record IsPictured (day : Option (Bor (List ℕ) × Bor (List ℕ))) (output : Writing) : Type 0 where
+-- a picture of the plan that an input of this name gave, which is proved for its own bookings and channels, was written, with what
+-- one more channel would add to its total, and the hours of that clock
+pub record IsPictured (gives : List ℕ → Option (List ℕ) → Type 0) (day : Option (Bor (List ℕ) × Bor (List ℕ))) (name : List ℕ) (output : Writing) : Type 0 where
   pub plan : Parts
+  pub plan_of : IsPlanOf gives name plan
   pub total : ℕ
   pub proved : IsProvedFor plan.rows plan.channels plan total
   pub gain : ℕ
@@ -41,8 +44,9 @@ pub record IsPictured (day : Option (Bor (List ℕ) × Bor (List ℕ))) (output 
   pub drawn : IsDrawn plan gain clock output
 
 -- or it was not
-pub record IsUndrawn (day : Option (Bor (List ℕ) × Bor (List ℕ))) (output : Writing) (fault : ChartFault) : Type 0 where
+pub record IsUndrawn (gives : List ℕ → Option (List ℕ) → Type 0) (day : Option (Bor (List ℕ) × Bor (List ℕ))) (name : List ℕ) (output : Writing) (fault : ChartFault) : Type 0 where
   pub plan : Parts
+  pub plan_of : IsPlanOf gives name plan
   pub total : ℕ
   pub proved : IsProvedFor plan.rows plan.channels plan total
   pub gain : ℕ
@@ -51,6 +55,15 @@ pub record IsUndrawn (day : Option (Bor (List ℕ) × Bor (List ℕ))) (output :
   pub clock_of : IsClockOf day clock
   pub refused : IsChartRefusal plan gain clock output fault
 
-abbrev pub IsNotPictured : {W : Type 0} → Option (Bor (List ℕ) × Bor (List ℕ)) → List ℕ → (W → Option (List ℕ)) → Watched W → Watched W → FileFault → Type 0
-IsNotPictured day plan contents old new (Chart fault) = IsUndrawn day (writing_of contents old new) fault
-IsNotPictured day plan contents old new fault = (IsNoClock day fault ⊎ IsFileFault (HasNoProvedPlan plan) fault) × (new ≡ old)
+-- the words name a clock, or none
+abbrev pub IsSomeClock : Option (Bor (List ℕ) × Bor (List ℕ)) → Type 0
+IsSomeClock day = (clock : Option Clock) × IsClockOf day clock
+
+-- there is no such plan of the input, or a growth was refused before anything was drawn of it
+abbrev pub IsUnpictured : (List ℕ → Option (List ℕ) → Type 0) → List ℕ → CommandFault → Type 0
+IsUnpictured gives name Memory = IsNoProvedOf gives name Memory ⊎ ((plan : Parts) × IsPlanOf gives name plan)
+IsUnpictured gives name fault = IsNoProvedOf gives name fault
+
+abbrev pub IsNotPictured : {W : Type 0} → (List ℕ → Option (List ℕ) → Type 0) → Option (Bor (List ℕ) × Bor (List ℕ)) → List ℕ → (W → Option (List ℕ)) → Watched W → Watched W → FileFault → Type 0
+IsNotPictured gives day name contents old new (Chart fault) = IsUndrawn gives day name (writing_of contents old new) fault
+IsNotPictured gives day name contents old new fault = (IsNoClock day fault ⊎ (IsSomeClock day × IsFileFault (IsUnpictured gives name) fault)) × (new ≡ old)

@@ -1,40 +1,46 @@
 -- What the command that says what each count of channels would earn writes, and why it is refused.
-use Rattle.std.specs.Prelude.{◌≡◌, ℕ, true, List, Option}
-use Rattle.bx_devices.specs.Devices.{Reading, Writing, KeepsOutput, writing_of}
+use Rattle.std.specs.Prelude.{◌≡◌, ◌⊎◌, ℕ, List, Option}
+use Rattle.bx_devices.specs.Devices.{Reading, Writing, writing_of}
 use Rattle.bx_devices.specs.declared.watched.Watched.{Watched}
-use Rattle.bx_book.specs.NamedDays.{IsDayOf, IsDayFault}
-use Rattle.bx_book.specs.Rows.{span_of}
+use Rattle.bx_book.specs.NamedDays.{IsDayOf}
+use Rattle.bx_book.specs.Rows.{Span, span_of}
 use Rattle.bx_book.specs.declared.day.Day.{Day}
-use Rattle.bx_book.specs.declared.fault.BookFault.TheVariants as book
+use Rattle.bx_book.specs.declared.stream.StreamFault.TheVariants as stream
+use Rattle.bx_check_commands.specs.Inputs.{IsReadOf}
+use Rattle.bx_check_commands.specs.PlanFiles.{IsUnopened}
+use Rattle.bx_check_commands.specs.declared.fault.CommandFault.TheVariants.{CannotRead, CannotWrite, Memory}
+use Rattle.bx_plan_commands.specs.FileRefusals.{IsNoDay, IsSomeDay, IsFileFault}
 use Rattle.bx_plan_commands.specs.declared.fault.FileFault.{FileFault}
 use Rattle.bx_plan_commands.specs.declared.fault.FileFault.TheVariants as files
-use Rattle.bx_check_commands.specs.declared.fault.CommandFault.TheVariants.{CannotRead, CannotWrite, Memory}
-use Rattle.bx_plan_run.specs.Capacity.{IsTabled, IsCutTable}
+use Rattle.bx_plan_run.specs.Capacity.{IsTabled, IsCapacityRefusal}
+use Rattle.bx_plan_run.specs.declared.earning.CapacityFault.TheVariants as capacity
 
--- the words name a day, a file was read, and just the lines of its bookings were written
-pub record IsTableWritten (date zone : List ℕ) (output : Writing) : Type 0 where
+-- the words name a day, an input of this name was read, and just the lines of its bookings were written
+pub record IsTableWritten (gives : List ℕ → Option (List ℕ) → Type 0) (date zone bookings : List ℕ) (output : Writing) : Type 0 where
   pub day : Day
   pub day_of : IsDayOf date zone day
-  pub file : Reading
-  pub tabled : IsTabled file output (span_of day)
+  pub input : Reading
+  pub of_name : IsReadOf gives bookings input
+  pub tabled : IsTabled input output (span_of day)
 
--- or a front of them was
-pub record IsTableCut (date zone : List ℕ) (output : Writing) : Type 0 where
+-- the faults of the run, as this command tells them of an input of this name
+abbrev pub IsTableFault : List ℕ → Reading → Writing → Span → FileFault → Type 0
+IsTableFault name input output span (files.Command (CannotRead n)) = (n.now ≡ name)
+    × (IsCapacityRefusal input output span (capacity.Unread stream.ReadFailed) ⊎ IsCapacityRefusal input output span (capacity.Unread stream.TooLong))
+IsTableFault name input output span (files.Book fault) = IsCapacityRefusal input output span (capacity.Unread (stream.Book fault))
+IsTableFault name input output span (files.Command CannotWrite) = IsCapacityRefusal input output span capacity.WriteFailed
+IsTableFault name input output span (files.Command Memory) = IsCapacityRefusal input output span (capacity.Unread stream.Memory) ⊎ IsCapacityRefusal input output span capacity.Memory
+IsTableFault name input output span _ = ⊥
+
+-- an input was opened, and the run over it refused
+pub record IsUntabled (gives : List ℕ → Option (List ℕ) → Type 0) (date zone bookings : List ℕ) (output : Writing) (fault : FileFault) : Type 0 where
   pub day : Day
   pub day_of : IsDayOf date zone day
-  pub file : Reading
-  pub tabled : IsCutTable file output (span_of day)
+  pub input : Reading
+  pub of_name : IsReadOf gives bookings input
+  pub refused : IsTableFault bookings input output (span_of day) fault
 
--- nothing was written, and the file of this name cannot be read, or holds no bookings of the day, or a growth was refused; or the
--- output has failed behind a front of the lines
-abbrev pub IsUntabled : List ℕ → List ℕ → List ℕ → Writing → FileFault → Type 0
-IsUntabled date zone bookings output (files.Command (CannotRead n)) = (n.now ≡ bookings) × KeepsOutput output
-IsUntabled date zone bookings output (files.Command CannotWrite) = (output.is_faulted ≡ true) × IsTableCut date zone output
-IsUntabled date zone bookings output (files.Command Memory) = KeepsOutput output
-IsUntabled date zone bookings output (files.Book fault) = (¬ (fault ≡ book.Memory)) × KeepsOutput output
-IsUntabled date zone bookings output _ = ⊥
-
--- or the words name no day
-abbrev pub IsTableRefusal : {W : Type 0} → List ℕ → List ℕ → List ℕ → (W → Option (List ℕ)) → Watched W → Watched W → FileFault → Type 0
-IsTableRefusal date zone bookings contents old new (files.Day fault) = IsDayFault date zone fault × (new ≡ old)
-IsTableRefusal date zone bookings contents old new fault = IsUntabled date zone bookings (writing_of contents old new) fault
+abbrev pub IsTableRefusal : {W : Type 0} → (List ℕ → Option (List ℕ) → Type 0) → List ℕ → List ℕ → List ℕ → (W → Option (List ℕ)) → Watched W → Watched W → FileFault → Type 0
+IsTableRefusal gives date zone bookings contents old new fault =
+    ((IsNoDay date zone fault ⊎ (IsSomeDay date zone × IsFileFault (IsUnopened bookings) fault)) × (new ≡ old))
+    ⊎ IsUntabled gives date zone bookings (writing_of contents old new) fault

@@ -7,10 +7,10 @@ ghost use Rattle.bx_plan_commands.specs.Pictures.{IsClockOf, IsNoClock, IsPictur
 use crate::fault::FileFault;
 use bx_book::Clock;
 use bx_chart::write_chart;
-use bx_check_commands::{CommandFault, proved_in};
+use bx_check_commands::{CommandFault, Inputs, proved_named};
 use bx_devices::Watched;
 use bx_planner::next_gain;
-use std::fs::Files;
+use std::alloc::Global;
 use std::io::Write;
 
 /// The clock of the day that these words name, where one is named.
@@ -27,30 +27,30 @@ fn clock_of<'a>(day: Option<(&str, &str)>) -> Result<Option<Clock>, FileFault<'a
     }
 }
 
-/// Writes a picture of the plan in a file, with what one more channel would add to its total, of the day with this date and zone
-/// where one is named. At a refusal nothing was
-/// written, except that where the output failed a front of the picture was.
-pub fn chart_file<'a, H: Files + AllocGlobal, W: Write>(
-    rt: &H,
+/// Writes a picture of the plan of an input, with what one more channel would add to its total, of the day with this date and zone
+/// where one is named. At a refusal nothing was written, except that where the output failed a front of the picture was.
+pub fn chart_file<'a, I: Inputs, W: Write>(
+    alloc: Global,
+    inputs: &mut I,
     plan: &'a str,
     day: Option<(&str, &str)>,
     output: &mut Watched<W>,
 ) -> Result<(), FileFault<'a>>
-    ensures drawn { OnOk result (IsPictured day.entry (writing_of W.contents output.old output.new)) }
-    ensures refused { IfErr result (IsNotPictured day.entry plan.now W.contents output.old output.new) }
+    ensures drawn { OnOk result (IsPictured (I.gives inputs.old) day.entry plan.now (writing_of W.contents output.old output.new)) }
+    ensures refused { IfErr result (IsNotPictured (I.gives inputs.old) day.entry plan.now W.contents output.old output.new) }
 {
     let clock = match clock_of(day) {
         Ok(clock) => clock,
         Err(fault) => return Err(fault),
     };
-    let plan = match proved_in(rt, plan) {
+    let plan = match proved_named(alloc, inputs, plan) {
         Ok(plan) => plan,
         Err(fault) => return Err(FileFault::Command(fault)),
     };
-    let Ok(gain) = next_gain(rt.alloc(), &plan) else {
+    let Ok(gain) = next_gain(alloc, &plan) else {
         return Err(FileFault::Command(CommandFault::Memory));
     };
-    match write_chart(rt.alloc(), &plan, gain, clock.as_ref(), output) {
+    match write_chart(alloc, &plan, gain, clock.as_ref(), output) {
         Ok(()) => Ok(()),
         Err(fault) => Err(FileFault::Chart(fault)),
     }

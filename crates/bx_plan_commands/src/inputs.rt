@@ -1,27 +1,31 @@
-//! Bookings read from files.
+//! Bookings read from inputs.
 
-ghost use Rattle.std.specs.Prelude.{IfErr};
+ghost use Rattle.std.specs.Prelude.{ℕ, List, Option, IfOk, IfErr};
+ghost use Rattle.bx_plan_commands.specs.FilePlans.{AreBookingsOf};
 ghost use Rattle.bx_plan_commands.specs.FileRefusals.{HasNoBookings};
 
 use crate::fault::FileFault;
 use bx_base::Bookings;
 use bx_book::{Day, StreamFault, read_bookings_from};
-use bx_check_commands::{CommandFault, open};
-use std::fs::Files;
+use bx_check_commands::{CommandFault, Inputs};
+use std::alloc::Global;
 
-/// The bookings of the day in a file of this name.
-pub(crate) fn bookings_in<'a, H: Files + AllocGlobal>(
-    rt: &H,
+/// The bookings of the day in the input of this name.
+pub(crate) fn bookings_named<'a, I: Inputs>(
+    alloc: Global,
+    inputs: &mut I,
     name: &'a str,
     day: &Day,
 ) -> Result<Bookings, FileFault<'a>>
-    ensures { IfErr result (HasNoBookings name.now) }
+    ensures found { IfOk result (AreBookingsOf (I.gives inputs.old) name.now day.now) }
+    ensures none { IfErr result (HasNoBookings (I.gives inputs.old) name.now day.now) }
+    ensures no_more { (other : List ℕ) (text : Option (List ℕ)) → I.gives inputs.new other text → I.gives inputs.old other text }
 {
-    let mut input = match open(rt, name) {
+    let mut input = match inputs.open(name) {
         Ok(input) => input,
         Err(fault) => return Err(FileFault::Command(fault)),
     };
-    match read_bookings_from(rt.alloc(), &mut input, day) {
+    match read_bookings_from(alloc, &mut input, day) {
         Ok(bookings) => Ok(bookings),
         Err(StreamFault::Book(fault)) => Err(FileFault::Book(fault)),
         Err(StreamFault::Memory) => Err(FileFault::Command(CommandFault::Memory)),

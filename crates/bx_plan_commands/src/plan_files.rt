@@ -6,95 +6,98 @@ ghost use Rattle.bx_plan_commands.specs.FilePlans.{IsPlanned, IsChecked, IsHeld}
 ghost use Rattle.bx_plan_commands.specs.FileRefusals.{IsPlanRefusal, IsCheckRefusal, IsNotAmended};
 
 use crate::fault::FileFault;
-use crate::inputs::bookings_in;
+use crate::inputs::bookings_named;
 use crate::naming::{channels_and_day, day_of};
-use bx_check_commands::{check_against, open, plan_in};
+use bx_check_commands::{Inputs, check_against, plan_named};
 use bx_devices::Watched;
 use bx_plan_run::{plan_run, write_amended};
 use bx_request::Terms;
-use std::fs::Files;
+use std::alloc::Global;
 use std::io::Write;
 
-/// Writes the plan of the bookings in a file. At a refusal nothing was written, except that where the output failed a front of
+/// Writes the plan of the bookings of an input. At a refusal nothing was written, except that where the output failed a front of
 /// a plan was.
-pub fn plan_file<'a, H: Files + AllocGlobal, W: Write>(
-    rt: &H,
+pub fn plan_file<'a, I: Inputs, W: Write>(
+    alloc: Global,
+    inputs: &mut I,
     terms: &Terms<'_>,
     bookings: &'a str,
     output: &mut Watched<W>,
 ) -> Result<(), FileFault<'a>>
-    ensures planned { OnOk result (IsPlanned terms.now (writing_of W.contents output.old output.new)) }
-    ensures refused { IfErr result (IsPlanRefusal terms.now bookings.now W.contents output.old output.new) }
+    ensures planned { OnOk result (IsPlanned (I.gives inputs.old) terms.now bookings.now (writing_of W.contents output.old output.new)) }
+    ensures refused { IfErr result (IsPlanRefusal (I.gives inputs.old) terms.now bookings.now W.contents output.old output.new) }
 {
     let (channels, day) = match channels_and_day(terms) {
         Ok(named) => named,
         Err(fault) => return Err(fault),
     };
-    let mut input = match open(rt, bookings) {
+    let mut input = match inputs.open(bookings) {
         Ok(input) => input,
         Err(fault) => return Err(FileFault::Command(fault)),
     };
-    match plan_run(rt.alloc(), &mut input, output, &day, channels) {
+    match plan_run(alloc, &mut input, output, &day, channels) {
         Ok(_) => Ok(()),
         Err(fault) => Err(FileFault::Run(fault)),
     }
 }
 
-/// Checks the plan in one file against the bookings in another, and writes `proved `, the total and LF. At a refusal nothing was
+/// Checks the plan of one input against the bookings of another, and writes `proved `, the total and LF. At a refusal nothing was
 /// written, except that where the output failed a front of that line was.
-pub fn check_file<'a, H: Files + AllocGlobal, W: Write>(
-    rt: &H,
+pub fn check_file<'a, I: Inputs, W: Write>(
+    alloc: Global,
+    inputs: &mut I,
     terms: &Terms<'_>,
     bookings: &'a str,
     plan: &'a str,
     output: &mut Watched<W>,
 ) -> Result<(), FileFault<'a>>
-    ensures checked { OnOk result (IsChecked terms.now (writing_of W.contents output.old output.new)) }
-    ensures refused { IfErr result (IsCheckRefusal terms.now bookings.now plan.now W.contents output.old output.new) }
+    ensures checked { OnOk result (IsChecked (I.gives inputs.old) terms.now bookings.now plan.now (writing_of W.contents output.old output.new)) }
+    ensures refused { IfErr result (IsCheckRefusal (I.gives inputs.old) terms.now bookings.now plan.now W.contents output.old output.new) }
 {
     let (channels, day) = match channels_and_day(terms) {
         Ok(named) => named,
         Err(fault) => return Err(fault),
     };
-    let rows = match bookings_in(rt, bookings, &day) {
+    let rows = match bookings_named(alloc, inputs, bookings, &day) {
         Ok(rows) => rows,
         Err(fault) => return Err(fault),
     };
-    let mut input = match open(rt, plan) {
+    let mut input = match inputs.open(plan) {
         Ok(input) => input,
         Err(fault) => return Err(FileFault::Command(fault)),
     };
-    match check_against(rt.alloc(), plan, &rows, channels, &mut input, output) {
+    match check_against(alloc, plan, &rows, channels, &mut input, output) {
         Ok(_) => Ok(()),
         Err(fault) => Err(FileFault::Command(fault)),
     }
 }
 
-/// Writes the plan that holds all that the plan in one file accepts, for its bookings and those in another. At a refusal nothing
+/// Writes the plan that holds all that the plan of one input accepts, for its bookings and those of another. At a refusal nothing
 /// was written, except that where the output failed a front of such a plan was.
-pub fn amend_file<'a, H: Files + AllocGlobal, W: Write>(
-    rt: &H,
+pub fn amend_file<'a, I: Inputs, W: Write>(
+    alloc: Global,
+    inputs: &mut I,
     day: (&str, &str),
     plan: &'a str,
     bookings: &'a str,
     output: &mut Watched<W>,
 ) -> Result<(), FileFault<'a>>
-    ensures held { OnOk result (IsHeld day.entry.0.now day.entry.1.now (writing_of W.contents output.old output.new)) }
-    ensures refused { IfErr result (IsNotAmended day.entry.0.now day.entry.1.now plan.now bookings.now W.contents output.old output.new) }
+    ensures held { OnOk result (IsHeld (I.gives inputs.old) day.entry.0.now day.entry.1.now plan.now bookings.now (writing_of W.contents output.old output.new)) }
+    ensures refused { IfErr result (IsNotAmended (I.gives inputs.old) day.entry.0.now day.entry.1.now plan.now bookings.now W.contents output.old output.new) }
 {
     let day = match day_of(day.0, day.1) {
         Ok(day) => day,
         Err(fault) => return Err(fault),
     };
-    let earlier = match plan_in(rt, plan) {
+    let earlier = match plan_named(alloc, inputs, plan) {
         Ok(earlier) => earlier,
         Err(fault) => return Err(FileFault::Command(fault)),
     };
-    let more = match bookings_in(rt, bookings, &day) {
+    let more = match bookings_named(alloc, inputs, bookings, &day) {
         Ok(more) => more,
         Err(fault) => return Err(fault),
     };
-    match write_amended(rt.alloc(), &earlier, &more, output) {
+    match write_amended(alloc, &earlier, &more, output) {
         Ok(_) => Ok(()),
         Err(fault) => Err(FileFault::Amend(fault)),
     }

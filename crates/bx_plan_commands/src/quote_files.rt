@@ -1,42 +1,44 @@
 //! The commands that answer for what a plan refuses.
 
-ghost use Rattle.std.specs.Prelude.{◌≤◌, ◌⊎◌, IfOk, IfErr, OnOk};
+ghost use Rattle.std.specs.Prelude.{◌≤◌, IfOk, IfErr, OnOk};
 ghost use Rattle.bx_devices.specs.Devices.{writing_of};
-ghost use Rattle.bx_book.specs.Rows.{IsTimeFault, span_of};
+ghost use Rattle.bx_book.specs.Rows.{IsMomentOf, IsTimeFault, span_of};
 ghost use Rattle.bx_plan_commands.specs.Answers.{IsExplained, IsQuoted};
-ghost use Rattle.bx_plan_commands.specs.Inside.{AreTimesOf};
-ghost use Rattle.bx_plan_commands.specs.PlanRefusals.{IsNotExplained, AreTimes, AreNoSeconds, IsNoCall, IsNotQuoted};
+ghost use Rattle.bx_plan_commands.specs.Calls.{IsSecondOf, IsSecondFault, AreBoth, IsFirstOfBoth, AreTimesOf, IsCallOf, IsNoCall};
+ghost use Rattle.bx_plan_commands.specs.PlanRefusals.{IsNotExplained, IsNotQuoted};
 
 use crate::fault::FileFault;
 use crate::naming::day_of;
 use bx_base::Booking;
 use bx_book::{BookFault, Day, moment};
 use bx_channels::Number;
-use bx_check_commands::proved_in;
+use bx_check_commands::{Inputs, proved_named};
 use bx_devices::Watched;
+use bx_planfile::decimal;
 use bx_quote::{write_explained, write_quote, write_refused};
 use bx_request::Call;
-use std::fs::Files;
+use std::alloc::Global;
 use std::io::Write;
 
-/// Writes what each row that the plan in a file refuses pays, and what its seconds cost; or what one of them has to pay
+/// Writes what each row that the plan of an input refuses pays, and what its seconds cost; or what one of them has to pay
 /// to be taken. At a refusal nothing was written, except that where the output failed a front of that was.
-pub fn explain_file<'a, H: Files + AllocGlobal, W: Write>(
-    rt: &H,
+pub fn explain_file<'a, I: Inputs, W: Write>(
+    alloc: Global,
+    inputs: &mut I,
     plan: &'a str,
     row: Option<u16>,
     output: &mut Watched<W>,
 ) -> Result<(), FileFault<'a>>
-    ensures explained { OnOk result (IsExplained row (writing_of W.contents output.old output.new)) }
-    ensures refused { IfErr result (IsNotExplained row plan.now W.contents output.old output.new) }
+    ensures explained { OnOk result (IsExplained (I.gives inputs.old) row plan.now (writing_of W.contents output.old output.new)) }
+    ensures refused { IfErr result (IsNotExplained (I.gives inputs.old) row plan.now W.contents output.old output.new) }
 {
-    let plan = match proved_in(rt, plan) {
+    let plan = match proved_named(alloc, inputs, plan) {
         Ok(plan) => plan,
         Err(fault) => return Err(FileFault::Command(fault)),
     };
     let done = match row {
-        Some(row) => write_explained(rt.alloc(), &plan, row, output),
-        None => write_refused(rt.alloc(), &plan, output),
+        Some(row) => write_explained(alloc, &plan, row, output),
+        None => write_refused(alloc, &plan, output),
     };
     match done {
         Ok(()) => Ok(()),
@@ -44,26 +46,27 @@ pub fn explain_file<'a, H: Files + AllocGlobal, W: Write>(
     }
 }
 
-/// Writes what a call has to pay to be taken beside those of the plan in a file. At a refusal nothing was written, except that
+/// Writes what a call has to pay to be taken beside those of the plan of an input. At a refusal nothing was written, except that
 /// where the output failed a front of that was.
-pub fn quote_file<'a, H: Files + AllocGlobal, W: Write>(
-    rt: &H,
+pub fn quote_file<'a, I: Inputs, W: Write>(
+    alloc: Global,
+    inputs: &mut I,
     plan: &'a str,
     call: &Call<'_>,
     output: &mut Watched<W>,
 ) -> Result<(), FileFault<'a>>
-    ensures quoted { OnOk result (IsQuoted (writing_of W.contents output.old output.new)) }
-    ensures refused { IfErr result (IsNotQuoted call.now plan.now W.contents output.old output.new) }
+    ensures quoted { OnOk result (IsQuoted (I.gives inputs.old) call.now plan.now (writing_of W.contents output.old output.new)) }
+    ensures refused { IfErr result (IsNotQuoted (I.gives inputs.old) call.now plan.now W.contents output.old output.new) }
 {
     let booking = match booking_of(call) {
         Ok(booking) => booking,
         Err(fault) => return Err(fault),
     };
-    let plan = match proved_in(rt, plan) {
+    let plan = match proved_named(alloc, inputs, plan) {
         Ok(plan) => plan,
         Err(fault) => return Err(FileFault::Command(fault)),
     };
-    match write_quote(rt.alloc(), &plan, &booking, output) {
+    match write_quote(alloc, &plan, &booking, output) {
         Ok(()) => Ok(()),
         Err(fault) => Err(FileFault::Quote(fault)),
     }
@@ -71,7 +74,8 @@ pub fn quote_file<'a, H: Files + AllocGlobal, W: Write>(
 
 /// The booking of the call. Its pay and its number do not count.
 fn booking_of<'a>(call: &Call<'_>) -> Result<Booking, FileFault<'a>>
-    ensures { IfErr result (IsNoCall call.now) }
+    ensures booking { IfOk result (IsCallOf call.now) }
+    ensures none { IfErr result (IsNoCall call.now) }
 {
     let (start, end) = match seconds_of(call) {
         Ok(seconds) => seconds,
@@ -114,9 +118,9 @@ fn seconds_of<'a>(call: &Call<'_>) -> Result<(u32, u32), FileFault<'a>>
 
 /// The seconds of the day at which the times of the call lie.
 fn times_of(call: &Call<'_>, day: &Day) -> Result<(u32, u32), BookFault>
-    ensures times { IfOk result (λ s. AreTimes (span_of day.now) call.now s.0 s.1) }
+    ensures times { IfOk result (λ s. AreBoth (IsMomentOf (span_of day.now)) call.now s.0 s.1) }
     ensures limit { IfOk result (λ s. s.1 ≤ 200000) }
-    ensures none { IfErr result (λ fault. IsTimeFault (span_of day.now) 1 call.now.start.now fault ⊎ IsTimeFault (span_of day.now) 1 call.now.end.now fault) }
+    ensures none { IfErr result (IsFirstOfBoth (IsMomentOf (span_of day.now)) (IsTimeFault (span_of day.now) 1) call.now) }
 {
     // Read for the prover alone, which learns a limit from it.
     let _seconds = day.length();
@@ -132,8 +136,8 @@ fn times_of(call: &Call<'_>, day: &Day) -> Result<(u32, u32), BookFault>
 
 /// The seconds of the call where they are counted.
 fn counted(call: &Call<'_>) -> Result<(u32, u32), BookFault>
-    ensures limit { IfOk result (λ s. s.1 ≤ 200000) }
-    ensures none { IfErr result AreNoSeconds }
+    ensures times { IfOk result (λ s. AreBoth IsSecondOf call.now s.0 s.1) }
+    ensures none { IfErr result (IsFirstOfBoth IsSecondOf IsSecondFault call.now) }
 {
     let start = match second(call.start) {
         Ok(start) => start,
@@ -147,16 +151,12 @@ fn counted(call: &Call<'_>) -> Result<(u32, u32), BookFault>
 
 /// The second of a day that a decimal names, as in a plan text.
 fn second(word: &str) -> Result<u32, BookFault>
-    ensures limit { IfOk result (λ second. second ≤ 200000) }
-    ensures none { IfErr result AreNoSeconds }
+    ensures named { IfOk result (IsSecondOf word.now) }
+    ensures none { IfErr result (IsSecondFault word.now) }
 {
-    let is_decimal = word.bytes().all(|digit| digit.is_ascii_digit())
-        && (word.len() == 1 || !word.starts_with('0'));
-    if !is_decimal || word.is_empty() {
-        return Err(BookFault::NotATime(1));
-    }
-    match word.parse::<u32>() {
-        Ok(second) if second <= 200_000 => Ok(second),
-        _ => Err(BookFault::OutsideDay(1)),
+    match decimal(word.as_bytes()) {
+        None => Err(BookFault::NotATime(1)),
+        Some(value) if value > 200_000 => Err(BookFault::OutsideDay(1)),
+        Some(value) => Ok(value as u32),
     }
 }

@@ -1,4 +1,4 @@
-//! What is asked of files of bookings and plans, done.
+//! What is asked of bookings and plans, done.
 
 ghost use Rattle.std.specs.Prelude.{IfErr, OnOk};
 ghost use Rattle.bx_devices.specs.Devices.{writing_of};
@@ -9,41 +9,43 @@ use crate::chart_files::chart_file;
 use crate::fault::FileFault;
 use crate::plan_files::{amend_file, check_file, plan_file};
 use crate::quote_files::{explain_file, quote_file};
+use bx_check_commands::Inputs;
 use bx_devices::Watched;
 use bx_request::FileRequest;
-use std::fs::Files;
+use std::alloc::Global;
 use std::io::Write;
 
 /// Does one command on files. At a refusal nothing was written, except that where the output failed a front of what was to be
 /// written was.
-pub fn run_on_files<'a, H: Files + AllocGlobal, W: Write>(
-    rt: &H,
+pub fn run_on_files<'a, I: Inputs, W: Write>(
+    alloc: Global,
+    inputs: &mut I,
     request: &FileRequest<'a>,
     output: &mut Watched<W>,
 ) -> Result<(), FileFault<'a>>
-    ensures done { OnOk result (IsDone request.now (writing_of W.contents output.old output.new)) }
-    ensures refused { IfErr result (IsRefused request.now W.contents output.old output.new) }
+    ensures done { OnOk result (IsDone (I.gives inputs.old) request.now (writing_of W.contents output.old output.new)) }
+    ensures refused { IfErr result (IsRefused (I.gives inputs.old) request.now W.contents output.old output.new) }
 {
     match request {
-        FileRequest::Plan { terms, bookings } => plan_file(rt, terms, bookings, output),
+        FileRequest::Plan { terms, bookings } => plan_file(alloc, inputs, terms, bookings, output),
         FileRequest::Check {
             terms,
             bookings,
             plan,
-        } => check_file(rt, terms, bookings, plan, output),
+        } => check_file(alloc, inputs, terms, bookings, plan, output),
         FileRequest::Amend {
             date,
             zone,
             plan,
             bookings,
-        } => amend_file(rt, (date, zone), plan, bookings, output),
+        } => amend_file(alloc, inputs, (date, zone), plan, bookings, output),
         FileRequest::Capacity {
             date,
             zone,
             bookings,
-        } => capacity_file(rt, (date, zone), bookings, output),
-        FileRequest::Explain { plan, row } => explain_file(rt, plan, *row, output),
-        FileRequest::Quote { plan, call } => quote_file(rt, plan, call, output),
-        FileRequest::Chart { plan, day } => chart_file(rt, plan, *day, output),
+        } => capacity_file(alloc, inputs, (date, zone), bookings, output),
+        FileRequest::Explain { plan, row } => explain_file(alloc, inputs, plan, *row, output),
+        FileRequest::Quote { plan, call } => quote_file(alloc, inputs, plan, call, output),
+        FileRequest::Chart { plan, day } => chart_file(alloc, inputs, plan, *day, output),
     }
 }

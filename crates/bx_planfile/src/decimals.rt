@@ -15,7 +15,7 @@ pub(crate) fn is_digits(field: &[u8]) -> bool
 
 /// The value of a field that is a decimal: `0`, or digits with no zero in front. One of any length has the
 /// right form, and from `u64::MAX` on, which is beyond each limit, they all count as that.
-pub(crate) fn decimal(field: &[u8]) -> Option<u64>
+pub fn decimal(field: &[u8]) -> Option<u64>
     ensures { MatchOption result (is_decimal field.now ≡ false) (λ n. (is_decimal field.now ≡ true) × (n ≡ capped (decimal_value field.now))) }
 {
     if is_digits(field) && (field[0] != b'0' || field.len() == 1) {

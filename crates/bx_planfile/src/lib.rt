@@ -14,6 +14,7 @@ mod version;
 mod writing;
 mod written_lines;
 
+pub use decimals::decimal;
 pub use fault::{PlanFault, PlanWriteFault};
 pub use reading::read_plan;
 pub use writing::write_plan;

@@ -1,5 +1,5 @@
 -- What so many channels would earn, from a best choice for them.
-use Rattle.std.proofs.Common.{◌≡◌, ℕ, ◌+◌, ◌<◌, ◌≤◌, Bool, List, [], ◌∷◌, ◌++◌, Ok, length, get_or, refl, sym, subst, arith, inl, inr}
+use Rattle.std.proofs.Common.{◌∙◌, ◌≡◌, ℕ, ◌+◌, ◌<◌, ◌≤◌, Bool, List, [], ◌∷◌, ◌++◌, Ok, length, get_or, refl, sym, subst, arith, inl, inr}
 use Rattle.std.proofs.lemmas.Bool.{cases_lt}
 use Rattle.std.proofs.lemmas.List.{length_push, get_or_append_left, get_or_push}
 use Rattle.bx_planner.specs.declared.earnings.Earning.{Earning}
@@ -63,13 +63,15 @@ pub too_few : (rows : List Row) (count moment : ℕ) (load : ℕ → ℕ) → ((
 too_few rows count moment load all here least =
     λ channels e. record { here = omega (arith, here, all moment, e); least = λ s h. omega (arith, least s h, all s, e) }
 
+-- one earning more
+pub more_earned : (rows : List Row) (earnings : List Earning) (earning : Earning) (count : ℕ) → length earnings ≡ count → ((k : ℕ) (d : Earning) → k < count → IsEarning rows k (get_or earnings k d)) → IsEarning rows count earning → (k : ℕ) (d : Earning) → k < count + 1 → IsEarning rows k (get_or (earnings ++ earning ∷ []) k d)
+more_earned rows earnings earning count size before now k d h =
+    elim (cases_lt k count) [
+      | inl a ↦ rw (get_or_append_left earnings (earning ∷ []) d k (omega (arith, a, size))) (before k d a)
+      | inr a ↦ (let e : count ≡ k = omega arith in rw (get_or_push earnings earning d k (size ∙ e), ← e) now)
+    ]
+
 -- the list with the last count
 pub all_earned : (rows : List Row) (earnings : List Earning) (last : Earning) (items : List Earning) → length earnings ≡ 30 → ((k : ℕ) (d : Earning) → k < 30 → IsEarning rows k (get_or earnings k d)) → IsEarning rows 30 last → items ≡ earnings ++ last ∷ [] → AreEarnings rows items
 all_earned rows earnings last items size each whole e =
-    rw e (record {
-      counts = omega (arith, length_push earnings last, size);
-      each = λ k d h. elim (cases_lt k 30) [
-        | inl a ↦ subst (IsEarning rows k) (sym (get_or_append_left earnings (last ∷ []) d k (omega (arith, a, size)))) (each k d a)
-        | inr a ↦ (let s : 30 ≡ k = omega (arith, h, a) in subst (λ (n : ℕ). IsEarning rows n (get_or (earnings ++ last ∷ []) n d)) s (subst (IsEarning rows 30) (sym (get_or_push earnings last d 30 size)) whole))
-      ];
-    })
+    rw e (record { counts = omega (arith, length_push earnings last, size); each = more_earned rows earnings last 30 size each whole })

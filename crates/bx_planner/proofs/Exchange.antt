@@ -4,7 +4,6 @@
 -- seen, but no more than them could leave.
 use Rattle.std.proofs.Common.{zero, suc, ◌≡◌, ℕ, ◌+◌, ◌-◌, ◌*◌, ◌<◌, ◌≤◌, Bool, true, false, cond, ◌&&◌, leb, ltb, List, length, refl, ap, arith, inl, inr}
 use Rattle.std.proofs.lemmas.Bool.{cases_lt, cond-true, cond-false, lt-ltb, and_right, le-ltb}
-use Rattle.std.proofs.lemmas.Bool.Decides.{nat_tests}
 use Rattle.bx_base.specs.Sums.{sum_below}
 use Rattle.bx_base.specs.Bookings.{Row, row_at, is_running, AreBookings, IsLawful, pay_of}
 use Rattle.bx_base.specs.Channels.{count_of}

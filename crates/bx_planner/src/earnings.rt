@@ -6,6 +6,7 @@ ghost use Rattle.bx_base.specs.PlanParts.{parts_of};
 ghost use Rattle.bx_check.specs.Check.{IsOutcome};
 ghost use Rattle.bx_colour.specs.Loads.{load_at};
 ghost use Rattle.bx_dist.specs.Residual.{ArePotentials};
+ghost use Rattle.bx_line.specs.Cliques.{AreCliques, IsShortened};
 ghost use Rattle.bx_line.specs.Flows.{IsFlow};
 ghost use Rattle.bx_line.specs.Moments.{HasJustMoments};
 ghost use Rattle.bx_line.specs.Network.{AreArcsOf, places_of};
@@ -19,7 +20,7 @@ use bx_base::{Bookings, Plan};
 use bx_check::price_sum;
 use bx_colour::Load;
 use bx_dist::{Carried, Potentials};
-use bx_flow::{free_distances, grown};
+use bx_flow::{free_distances, grown, lifted};
 use bx_heap::HeapDist;
 use bx_line::Line;
 use std::alloc::{AllocError, Global};
@@ -40,7 +41,9 @@ pub fn capacity(alloc: Global, bookings: &Bookings) -> Result<Vec<Earning>, Allo
     let none = Bookings::new(alloc);
     let musts = must_load(&Demand::fresh(&none, bookings));
     let line = Line::of(alloc, bookings)?;
-    earnings_of(alloc, bookings, &line, &musts)
+    let counts = line.cliques(alloc)?;
+    let shorter = line.shortened(alloc, &counts)?;
+    earnings_of(alloc, bookings, &line, &counts, &shorter, &musts)
 }
 
 /// What one more channel would add to the total of a plan that is proved for its own bookings, whatever proves it: the sum of
@@ -53,29 +56,36 @@ pub fn next_gain(alloc: Global, plan: &Plan) -> Result<u64, AllocError>
     Ok(price_sum(&prices))
 }
 
-/// The earnings by a flow of least cost along the line of the bookings that grows by a unit for each channel.
+/// The earnings by a flow of least cost along the shorter line of cliques that grows by a unit for each channel, and is lifted
+/// to the line of the bookings.
 fn earnings_of(
     alloc: Global,
     bookings: &Bookings,
     line: &Line,
+    counts: &[u16],
+    shorter: &Line,
     musts: &Load,
 ) -> Result<Vec<Earning>, AllocError>
     requires musts { (t : ℕ) → load_at musts.now t ≡ musts_at bookings.now t }
     requires moments { HasJustMoments bookings.now line.now.moments }
     requires arcs { AreArcsOf line.now.moments bookings.now line.now.arcs }
+    requires cliques { AreCliques line.now counts.now }
+    requires shortened { IsShortened line.now counts.now shorter.now }
     ensures { IfOk result (λ v. AreEarnings bookings.now v.items) }
 {
     // Read for the prover alone, which learns a limit from it.
-    let _places = line.places();
-    let mut carried = Carried::empty(alloc, line)?;
-    let mut potentials = Potentials::first(alloc, line)?;
+    let _places = shorter.places();
+    let mut carried = Carried::empty(alloc, shorter)?;
+    let mut potentials = Potentials::first(alloc, shorter)?;
     let mut earnings = Vec::new(alloc);
     for count in 0..30u8 {
-        let earning = earning_of(alloc, bookings, line, &carried, &potentials, musts, count)?;
+        let (whole, heights) = lifted(alloc, line, counts, &carried, &potentials)?;
+        let earning = earning_of(alloc, bookings, line, &whole, &heights, musts, count)?;
         earnings.push(earning)?;
-        potentials = one_more(alloc, line, &mut carried, potentials)?;
+        potentials = one_more(alloc, shorter, &mut carried, potentials)?;
     }
-    let last = earning_of(alloc, bookings, line, &carried, &potentials, musts, 30)?;
+    let (whole, heights) = lifted(alloc, line, counts, &carried, &potentials)?;
+    let last = earning_of(alloc, bookings, line, &whole, &heights, musts, 30)?;
     earnings.push(last)?;
     Ok(earnings)
 }

@@ -1,6 +1,7 @@
 //! Moments at which more bookings have to be held than there are channels.
 
-ghost use Rattle.std.specs.Prelude.{◌≡◌, ◌↔◌, ℕ, Some};
+ghost use Rattle.std.specs.Prelude.{◌≡◌, ◌↔◌, ◌<◌, ℕ, Some, false, length};
+ghost use Rattle.bx_base.specs.Bookings.{row_at};
 ghost use Rattle.bx_colour.specs.Loads.{load_at};
 ghost use Rattle.bx_planner.specs.Musts.{musts_at, IsTooManyMust};
 
@@ -9,11 +10,27 @@ use bx_base::ChannelSet;
 use bx_colour::Load;
 
 /// The first moment at which more bookings run that each plan has to hold than there are channels. It is the start
-/// of one of them. Takes no memory but that of a `Load`, and time linear in the bookings and in the seconds of the day.
+/// of one of them. Takes no memory but that of a `Load`, and time linear in the bookings, and in the seconds of the day where
+/// one of them has to be held.
 pub(crate) fn too_many_must(demand: &Demand<'_>, channels: ChannelSet) -> Option<u32>
     ensures { (t : ℕ) → (result ≡ Some t) ↔ IsTooManyMust demand.now channels t }
 {
+    if !has_must(demand) {
+        return None;
+    }
     must_load(demand).first_above(channels.count())
+}
+
+/// Whether any of them has to be held.
+fn has_must(demand: &Demand<'_>) -> bool
+    ensures { result ≡ false → (i : ℕ) → i < length demand.now → (row_at demand.now i).must ≡ false }
+{
+    for i in 0..demand.len() {
+        if demand.nth(i).is_must() {
+            return true;
+        }
+    }
+    false
 }
 
 /// How many bookings run at each moment that each plan has to hold.

@@ -72,7 +72,7 @@ fn walk_cost(line: &Line, walk: &[Step]) -> i64 {
     cost
 }
 
-fn are_same(a: &Potentials, b: &Potentials, places: u16) -> bool {
+pub(crate) fn are_same(a: &Potentials, b: &Potentials, places: u16) -> bool {
     let mut same = true;
     for place in 0..places {
         same &= a.at(place) == b.at(place);

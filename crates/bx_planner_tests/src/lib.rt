@@ -46,6 +46,8 @@ mod rows;
 #[cfg(test)]
 mod sets;
 #[cfg(test)]
+mod short_lines;
+#[cfg(test)]
 mod slow_distances;
 #[cfg(test)]
 mod worked_plans;

@@ -47,7 +47,7 @@ pub day_known : (plan text : List ℕ) (before after : Option (List ℕ)) (old n
 day_known plan text before after old new faulted result is r = known plan text after old new faulted result (subst (λ (b : Option (List ℕ)). IsFollowed goes_on faulted b after plan old new result) is r)
 
 -- the events of a recovery
-the_events : (n m : ℕ) (read : Result (List LiveEvent) JournalFault) (events : List LiveEvent) → with_whole n read ≡ Ok (record { events = events; whole = m }) → read ≡ Ok events
+pub the_events : (n m : ℕ) (read : Result (List LiveEvent) JournalFault) (events : List LiveEvent) → with_whole n read ≡ Ok (record { events = events; whole = m }) → read ≡ Ok events
 the_events n m (Ok es) events e =
     let same : record { events = es; whole = n } ≡ record { events = events; whole = m } = cc in
     ap (λ (r : Recovery). Ok r.events) same

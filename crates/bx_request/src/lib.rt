@@ -3,4 +3,7 @@
 
 mod request;
 
-pub use request::{Call, CaptureWords, DayRequest, FileRequest, Request, Sight, Terms};
+pub use request::{
+    AuditRequest, Call, CaptureWords, DayRequest, FileRequest, LiveRequest, Place, RecordsRequest,
+    Request, Sight, Terms,
+};

@@ -102,11 +102,58 @@ pub enum DayRequest<'a> {
     },
 }
 
+/// Where an exchange listens, or a far end connects.
+#[derive(Clone, Copy)]
+pub enum Place<'a> {
+    /// A TCP port of 127.0.0.1.
+    Port(u16),
+    /// The Unix socket of this path.
+    Socket(&'a str),
+}
+
+/// A plan's day that is to be run by the clock.
+#[derive(Clone, Copy)]
+pub struct LiveRequest<'a> {
+    pub plan: &'a str,
+    pub place: Place<'a>,
+    /// The date and the zone of the day, whose midnight is its moment 0.
+    pub date: &'a str,
+    pub zone: &'a str,
+    /// How many seconds of the day go by in one of the clock.
+    pub pace: u32,
+    /// The file of its journal, where one is kept.
+    pub journal: Option<&'a str>,
+    pub turns: Option<u32>,
+    pub sight: Sight<'a>,
+}
+
+/// A day that is to be told by its journal.
+#[derive(Clone, Copy)]
+pub struct AuditRequest<'a> {
+    pub plan: &'a str,
+    pub journal: &'a str,
+    pub capture: Option<CaptureWords<'a>>,
+}
+
+/// The records that are to be written of a day by its journal.
+#[derive(Clone, Copy)]
+pub struct RecordsRequest<'a> {
+    pub plan: &'a str,
+    pub journal: &'a str,
+    /// The date and the zone of the day, where moments are to be written as local times.
+    pub day: Option<(&'a str, &'a str)>,
+    /// Without the totals.
+    pub is_quiet: bool,
+}
+
 /// One command, with its words.
 #[derive(Drop)]
 pub enum Request<'a> {
     Files(FileRequest<'a>),
     Day(DayRequest<'a>),
+    Live(LiveRequest<'a>),
+    Audit(AuditRequest<'a>),
+    Records(RecordsRequest<'a>),
     /// Print what a message says.
     Decode { octets: &'a str },
 }

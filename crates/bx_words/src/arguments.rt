@@ -21,8 +21,14 @@ pub enum Form {
     Flag,
     /// An option for a number of seconds of a day, from 1 on.
     Seconds,
-    /// An option for a port, which has to be there.
+    /// An option for a port, which has to be there, or a socket in its place.
     Port,
+    /// An option for a socket in place of a port, that stands only beside another.
+    Socket(&'static str),
+    /// An option without a value that stands only beside another.
+    FlagBeside(&'static str),
+    /// An option for how many seconds of a day go by in one of the clock, 1 to 1,000, that stands only beside another.
+    Pace(&'static str),
 }
 
 /// An argument: its name, what stands for its value in the help, its form, and its help.
@@ -58,21 +64,35 @@ pub const BOOKINGS: Argument = Argument {
     name: "bookings",
     value: "BOOKINGS",
     form: Form::Place,
-    help: "The file of bookings: CSV under the header start,end,number,pay[,must[,direction]]",
+    help: "The file of bookings, or - for standard input: CSV under the header start,end,number,pay[,must[,direction]]",
 };
 
 pub const PLAN: Argument = Argument {
     name: "plan",
     value: "PLAN",
     form: Form::Place,
-    help: "The file of the plan's text",
+    help: "The file of the plan's text, or - for standard input",
+};
+
+pub const JOURNAL: Argument = Argument {
+    name: "journal",
+    value: "JOURNAL",
+    form: Form::Place,
+    help: "The file of the journal of the plan's day",
+};
+
+pub const RECORDED_JOURNAL: Argument = Argument {
+    name: "journal",
+    value: "JOURNAL",
+    form: Form::Place,
+    help: "The file of the journal of the plan's day, or - for standard input",
 };
 
 pub const SCRIPT: Argument = Argument {
     name: "script",
     value: "SCRIPT",
     form: Form::Place,
-    help: "The file of the far end's script: CSV under the header number,policy,seconds[,channel]",
+    help: "The file of the far end's script, or - for standard input: CSV under the header number,policy,seconds[,channel]",
 };
 
 pub const TURNS: Argument = Argument {
@@ -87,6 +107,41 @@ pub const PORT: Argument = Argument {
     value: "P",
     form: Form::Port,
     help: "The TCP port on 127.0.0.1, 1 to 65535",
+};
+
+pub const SOCKET: Argument = Argument {
+    name: "socket",
+    value: "PATH",
+    form: Form::Socket("live"),
+    help: "The Unix socket of a live day, in place of a port",
+};
+
+pub const LIVE: Argument = Argument {
+    name: "live",
+    value: "",
+    form: Form::FlagBeside("date"),
+    help: "Run the day by the clock, towards peers that come and go: its first second is the midnight of --date",
+};
+
+pub const SERVED_DAY: Argument = Argument {
+    name: "date",
+    value: "DATE",
+    form: Form::Optional,
+    help: "The day, as YYYY-MM-DD: that of a live day, and of the time stamps of a capture, which else are seconds of the day",
+};
+
+pub const PACE: Argument = Argument {
+    name: "pace",
+    value: "N",
+    form: Form::Pace("live"),
+    help: "Seconds of a live day in one of the clock, 1 to 1000 [default: 1]",
+};
+
+pub const KEPT_JOURNAL: Argument = Argument {
+    name: "journal",
+    value: "FILE",
+    form: Form::Beside("live"),
+    help: "Put each event on record in this file before anything is sent for it; a live day goes on from what stands there",
 };
 
 pub const OCTETS: Argument = Argument {
@@ -159,6 +214,20 @@ pub const QUIET: Argument = Argument {
     help: "Show no progress, which else stands on standard error where that is a terminal",
 };
 
+pub const RECORDED_DAY: Argument = Argument {
+    name: "date",
+    value: "DATE",
+    form: Form::Optional,
+    help: "The day, as YYYY-MM-DD: moments are its local times, and not seconds of the day",
+};
+
+pub const NO_TOTALS: Argument = Argument {
+    name: "quiet",
+    value: "",
+    form: Form::Flag,
+    help: "Print no totals, which else stand on standard error",
+};
+
 pub const DAY_ZONE: Argument = Argument {
     name: "zone",
     value: "RULE",
@@ -172,20 +241,34 @@ pub(crate) fn arg_of<'a>(alloc: Global, argument: &Argument) -> Result<Arg<'a>, 
     if let Form::Flag = argument.form {
         return Ok(arg.long(argument.name).action(ArgAction::SetTrue));
     }
+    if let Form::FlagBeside(other) = argument.form {
+        return arg
+            .long(argument.name)
+            .action(ArgAction::SetTrue)
+            .requires_arg(other);
+    }
     let arg = arg.value_name(argument.value);
     Ok(match argument.form {
         Form::Place => arg.required(true),
         Form::Number => arg.value_parser(value_parser!(u16)),
         Form::Needed => arg.long(argument.name).required(true),
         Form::Default(value) => arg.long(argument.name).default_value(value),
-        Form::Optional | Form::Flag => arg.long(argument.name),
+        Form::Optional | Form::Flag | Form::FlagBeside(_) => arg.long(argument.name),
         Form::Beside(other) => arg.long(argument.name).requires_arg(other)?,
         Form::Seconds => arg
             .long(argument.name)
             .value_parser(value_parser!(u32).range(1..=300_000)),
         Form::Port => arg
             .long(argument.name)
-            .required(true)
+            .required_unless_present("socket")?
             .value_parser(value_parser!(u16).range(1..)),
+        Form::Socket(other) => arg
+            .long(argument.name)
+            .conflicts_with("port")?
+            .requires_arg(other)?,
+        Form::Pace(other) => arg
+            .long(argument.name)
+            .requires_arg(other)?
+            .value_parser(value_parser!(u32).range(1..=1_000)),
     })
 }

@@ -1,8 +1,9 @@
 //! The command line as `clap` knows it.
 
 use crate::arguments::{
-    Argument, BOOKINGS, CAPTURE, CAPTURED_DAY, CHANNELS, DATE, DAY, DAY_ZONE, END, INWARD, OCTETS,
-    PICTURED_DAY, PLAN, PORT, QUIET, ROW, SCRIPT, START, TURNS, ZONE, arg_of,
+    Argument, BOOKINGS, CAPTURE, CAPTURED_DAY, CHANNELS, DATE, DAY, DAY_ZONE, END, INWARD, JOURNAL,
+    KEPT_JOURNAL, LIVE, NO_TOTALS, OCTETS, PACE, PICTURED_DAY, PLAN, PORT, QUIET, RECORDED_DAY,
+    RECORDED_JOURNAL, ROW, SCRIPT, SERVED_DAY, SOCKET, START, TURNS, ZONE, arg_of,
 };
 use clap::Command;
 use std::alloc::{AllocError, Global};
@@ -28,7 +29,10 @@ const AFTER: &str = "Examples:
   bx chart plan.txt > plan.svg
   bx day plan.txt script.csv --capture day.pcap
   bx serve plan.txt --port 9931
+  bx serve plan.txt --port 9931 --live --date 2026-03-29 --zone CET-1CEST,M3.5.0,M10.5.0/3 --journal day.journal
   bx far script.csv --port 9931
+  bx audit plan.txt day.journal
+  bx records plan.txt day.journal --date 2026-03-29 --zone CET-1CEST,M3.5.0,M10.5.0/3 > records.csv
   bx decode 080280015A08028091
 
 Status: 0 done, 1 refused (one line on standard error says why; `bx help faults` says what each means), 2 wrong words.";
@@ -40,7 +44,7 @@ struct Words {
     arguments: &'static [Argument],
 }
 
-static COMMANDS: [Words; 11] = [
+static COMMANDS: [Words; 13] = [
     Words {
         name: "plan",
         about: "Print the best plan of a day's bookings",
@@ -83,13 +87,35 @@ static COMMANDS: [Words; 11] = [
     },
     Words {
         name: "serve",
-        about: "Run the exchange's end of a proved plan's day towards the first peer on 127.0.0.1, and print what became of each booking; may wait and run long",
-        arguments: &[PLAN, PORT, TURNS, CAPTURE, CAPTURED_DAY, DAY_ZONE, QUIET],
+        about: "Run the exchange's end of a proved plan's day towards the first peer, or by the clock towards peers that come and go, and print what became of each booking; may wait and run long",
+        arguments: &[
+            PLAN,
+            PORT,
+            SOCKET,
+            LIVE,
+            SERVED_DAY,
+            DAY_ZONE,
+            KEPT_JOURNAL,
+            PACE,
+            TURNS,
+            CAPTURE,
+            QUIET,
+        ],
     },
     Words {
         name: "far",
         about: "Run the far end of a day by a script, towards an exchange that serves on 127.0.0.1; may wait and run long",
         arguments: &[SCRIPT, PORT, CAPTURE, CAPTURED_DAY, DAY_ZONE, QUIET],
+    },
+    Words {
+        name: "audit",
+        about: "Print what became of each booking of a proved plan by the journal of its day, and capture that day afterwards",
+        arguments: &[PLAN, JOURNAL, CAPTURE, CAPTURED_DAY, DAY_ZONE],
+    },
+    Words {
+        name: "records",
+        about: "Print the records of a proved plan's day by its journal, as CSV for bills and spreadsheets, and their totals",
+        arguments: &[PLAN, RECORDED_JOURNAL, RECORDED_DAY, DAY_ZONE, NO_TOTALS],
     },
     Words {
         name: "decode",

@@ -17,8 +17,8 @@ C7 NotProved bound    the prices set this bound, above the total: they do not pr
 C8 MustLeftOut b      row b must be held, and is not accepted
 F1 CannotRead NAME    the file cannot be opened or read, or has more than 4,194,304 octets
 F2 CannotWrite        standard output failed
-F3 CannotListen       the port cannot be listened on
-F4 CannotConnect      nobody listens on the port
+F3 CannotListen       the port or the socket cannot be listened on
+F4 CannotConnect      nobody listens on the port or the socket
 F5 CannotWrite NAME   the capture file cannot be created, or a write of it failed
 G1 ReadFailed         a read of the bookings failed
 G2 TooLong            the bookings have more than 4,194,304 octets
@@ -33,7 +33,7 @@ A1 BadDate            the date is not of the form YYYY-MM-DD, or names no day
 A2 BadZone            the zone rule cannot be read
 A3 OutOfRange         the day is outside the calendar's range
 A4 OddDay             the day is not 1 to 200,000 seconds long
-A5 BeyondCapture      a capture cannot name the seconds of the day: it begins before 1970, or after 2106-02-03T19:08:15Z
+A5 BeyondCapture      a capture or a live day cannot name the seconds of the day: it begins before 1970, or after 2106-02-03T19:08:15Z
 B1 BadHeader          the first record of the bookings is none of the headers
 B2 WrongColumns r     row r has another number of fields than the header
 B3 NotATime r         a field of row r is not a time
@@ -49,6 +49,9 @@ S1 BadHeader          the first record of the script is neither header
 S2 WrongColumns r     row r of the script has another number of fields than the header
 S3 BadEntry r         a field of row r of the script is none that may stand there
 S4 TooMany            the script has more than 4,000 rows
+J1 BadLine n          line n of the journal has another form than the line that stands in its place
+J2 OtherPlan          the journal is that of another plan
+J4 CannotRecord NAME  the journal cannot be written
 L1 ReadFailed         the link: a read failed
 L2 WriteFailed        the link: a write failed
 L3 EndedInFrame       the link: it ended inside a frame, or before the end of a turn

@@ -3,7 +3,10 @@
 use crate::channel_list::channel_numbers;
 use crate::command_line::program_of_words;
 use crate::faults::FAULTS;
-use bx_request::{Call, CaptureWords, DayRequest, FileRequest, Request, Sight, Terms};
+use bx_request::{
+    AuditRequest, Call, CaptureWords, DayRequest, FileRequest, LiveRequest, Place, RecordsRequest,
+    Request, Sight, Terms,
+};
 use clap::error::ErrorKind;
 use clap::{ArgMatches, Error};
 use std::alloc::{AllocError, AllocFailed, Global};
@@ -88,13 +91,18 @@ fn day_of<'a>(matches: &ArgMatches<'a>) -> Option<(&'a str, &'a str)> {
     matches.get_str("date").map(|date| (date, zone))
 }
 
+/// The capture that these words want.
+fn capture_of<'a>(matches: &ArgMatches<'a>) -> Option<CaptureWords<'a>> {
+    let day = day_of(matches);
+    matches
+        .get_str("capture")
+        .map(|file| CaptureWords { file, day })
+}
+
 /// What these words want to see of a day.
 fn sight_of<'a>(matches: &ArgMatches<'a>) -> Sight<'a> {
-    let day = day_of(matches);
     Sight {
-        capture: matches
-            .get_str("capture")
-            .map(|file| CaptureWords { file, day }),
+        capture: capture_of(matches),
         is_quiet: matches.get_flag("quiet"),
     }
 }
@@ -161,18 +169,77 @@ fn day_request<'a>(name: &str, matches: &ArgMatches<'a>) -> Option<DayRequest<'a
             turns: matches.get_one::<u32>("turns"),
             sight: sight_of(matches),
         }),
-        "serve" => Some(DayRequest::Serve {
-            plan: word(matches, "plan"),
-            port: port_of(matches),
-            turns: matches.get_one::<u32>("turns"),
-            sight: sight_of(matches),
-        }),
         "far" => Some(DayRequest::Far {
             script: word(matches, "script"),
             port: port_of(matches),
             sight: sight_of(matches),
         }),
         _ => None,
+    }
+}
+
+/// The port or the socket, of which the command requires one.
+fn place_of<'a>(matches: &ArgMatches<'a>) -> Place<'a> {
+    match matches.get_str("socket") {
+        Some(path) => Place::Socket(path),
+        None => Place::Port(port_of(matches)),
+    }
+}
+
+/// The day that these words want to be run by the clock.
+fn live_request<'a>(matches: &ArgMatches<'a>) -> LiveRequest<'a> {
+    LiveRequest {
+        plan: word(matches, "plan"),
+        place: place_of(matches),
+        date: word(matches, "date"),
+        zone: matches.get_str("zone").unwrap_or("UTC0"),
+        pace: matches.get_one::<u32>("pace").unwrap_or(1),
+        journal: matches.get_str("journal"),
+        turns: matches.get_one::<u32>("turns"),
+        sight: sight_of(matches),
+    }
+}
+
+/// Whether a day is named, and nothing that needs it.
+fn is_date_alone(matches: &ArgMatches<'_>) -> bool {
+    matches.get_str("date").is_some() && matches.get_str("capture").is_none()
+}
+
+/// What these words want of an exchange that serves.
+fn serve_request<'a>(alloc: Global, matches: &ArgMatches<'a>) -> Result<Request<'a>, Refusal> {
+    if matches.get_flag("live") {
+        return Ok(Request::Live(live_request(matches)));
+    }
+    if is_date_alone(matches) {
+        return Err(wrong(
+            alloc,
+            "'--date <DATE>' stands only beside '--live' or '--capture <FILE>'",
+        ));
+    }
+    Ok(Request::Day(DayRequest::Serve {
+        plan: word(matches, "plan"),
+        port: port_of(matches),
+        turns: matches.get_one::<u32>("turns"),
+        sight: sight_of(matches),
+    }))
+}
+
+/// The day that these words want to be told by its journal.
+fn audit_request<'a>(matches: &ArgMatches<'a>) -> AuditRequest<'a> {
+    AuditRequest {
+        plan: word(matches, "plan"),
+        journal: word(matches, "journal"),
+        capture: capture_of(matches),
+    }
+}
+
+/// The records that these words want of a day by its journal.
+fn records_request<'a>(matches: &ArgMatches<'a>) -> RecordsRequest<'a> {
+    RecordsRequest {
+        plan: word(matches, "plan"),
+        journal: word(matches, "journal"),
+        day: day_of(matches),
+        is_quiet: matches.get_flag("quiet"),
     }
 }
 
@@ -184,6 +251,15 @@ fn request_of<'a>(
 ) -> Result<Request<'a>, Refusal> {
     if let Some(request) = day_request(name, matches) {
         return Ok(Request::Day(request));
+    }
+    if name == "serve" {
+        return serve_request(alloc, matches);
+    }
+    if name == "audit" {
+        return Ok(Request::Audit(audit_request(matches)));
+    }
+    if name == "records" {
+        return Ok(Request::Records(records_request(matches)));
     }
     match file_request(alloc, name, matches)? {
         Some(request) => Ok(Request::Files(request)),
@@ -201,11 +277,22 @@ fn faults(alloc: Global) -> Refusal {
     }
 }
 
+/// Whether standard input is named more than once: it can be read once.
+fn name_it_twice(words: &[&str]) -> bool {
+    words.iter().filter(|word| **word == "-").count() > 1
+}
+
 /// The command of these words, which stand behind the program's name. `help faults` is no command: it asks for the list
 /// of faults.
 pub fn read_words<'a>(alloc: Global, words: &'a [&'a str]) -> Result<Request<'a>, Refusal> {
     if let ["help", "faults"] = words {
         return Err(faults(alloc));
+    }
+    if name_it_twice(words) {
+        return Err(wrong(
+            alloc,
+            "'-' stands for standard input, and can be given once",
+        ));
     }
     match program_of_words(alloc)?.try_get_matches_from(words) {
         Ok(matches) => match matches.subcommand() {

@@ -1,5 +1,13 @@
 use Rattle.std.proofs.Common.{rules}
+use Rattle.bx_day_commands.specs.DayRefusals.{StopsServing}
+use Rattle.bx_day_commands.specs.Days.{IsDayCut}
+use Rattle.bx_day_commands.proofs.Refusals.{kept_output, serving_writes}
 use Rattle.bx_day_commands.proofs.day_files.serve_file.Goals as goal
+
+pub returns-in-Err-clause-refused : goal.returns-in-Err-clause-refused
+returns-in-Err-clause-refused g c =
+    kept_output (StopsServing g.H.File.Write.contents c.args.plan.now c.args.sight.capture c.args.turns) (IsDayCut c.args.turns) g.W.Write.contents c.args.output.now c.in-Err.fault
+    (serving_writes g.H.File.Write.contents c.args.plan.now c.args.plan.now c.args.sight.capture c.args.turns) c.in-Err.ensures.stopped
 
 pub returns-in-Ok-write_outcomes-clause-told : goal.returns-in-Ok-write_outcomes-clause-told
 returns-in-Ok-write_outcomes-clause-told g c = (record { day = c.in-Ok.ran.0; run = c.in-Ok.ensures.ran.0; written = search rules steps 1000000 }, c.in-Ok.ensures.ran.1)

@@ -1,24 +1,46 @@
-use Rattle.std.proofs.Common.{sym, arith, true, false}
-use Rattle.bx_live.specs.Acts.{Synced, EndedDay}
-use Rattle.bx_live.specs.Runs.{Between, Over, Ending, Done}
-use Rattle.bx_live.proofs.Steps.{none_done, one_done, then_done}
-use Rattle.bx_live.proofs.Days.{with_day}
+use Rattle.std.proofs.Common.{sym, ◌∙◌, arith, true≢false}
+use Rattle.bx_live.specs.Runs.{Between, Over}
+use Rattle.bx_live.proofs.Steps.{none_done, then_done}
+use Rattle.bx_live.proofs.Days.{run_day, closed_day_is, ended_inside, at_any}
 use Rattle.bx_live.proofs.running.run_live.Goals as goal
 
 pub returns-in-Err-clause-ran : goal.returns-in-Err-clause-ran
-returns-in-Err-clause-ran g c = with_day (Between c.args.exchange.now) (Over c.run_second.new.exchange) (then_done g.met.W.World.did_more c.loop-second.invariant.so_far c.in-Err.ensures.ran)
+returns-in-Err-clause-ran g c =
+    let ran = then_done g.met.W.World.did_more c.loop-second.invariant.so_far c.in-Err.ensures.ran in
+    (ran, run_day (Between c.args.exchange.now) (Over c.run_second.new.exchange) ran.acts ran.goes, tt)
 
-pub returns-in-Err-sync-clause-ran : goal.returns-in-Err-sync-clause-ran
-returns-in-Err-sync-clause-ran g c =
-    let d = c.loop-second.exchange in
-    with_day (Between c.args.exchange.now) (Over d) (then_done g.met.W.World.did_more c.loop-second.invariant.so_far (one_done (Between d) (Synced false) c.in-Err-sync.ensures tt))
+pub returns-in-Ok-Ended-clause-ran : goal.returns-in-Ok-Ended-clause-ran
+returns-in-Ok-Ended-clause-ran g c =
+    let d = c.args.exchange.now in
+    let d1 = c.run_second.new.exchange in
+    let r = c.close_day.result in
+    let said = (rw c.in-Ok-Ended.field-0-is at c.in-Ok-Ended.ensures).said in
+    let so_far = c.loop-second.invariant.so_far in
+    let close = c.close_day.ensures.at_ended d1 in
+    let ran = then_done g.met.W.World.did_more so_far (then_done g.met.W.World.did_more said.0 close) in
+    let inside = ended_inside so_far.acts said.0.acts close.acts said.1 in
+    (ran, closed_day_is (Between d) d1 r ran.acts ran.goes, at_any r (λ none. absurd (true≢false (sym inside ∙ none))))
 
 pub returns-clause-ran : goal.returns-clause-ran
 returns-clause-ran g c =
-    let d = c.loop-second.exchange in
-    with_day (Between c.args.exchange.now) (Done d)
-    (then_done g.met.W.World.did_more c.loop-second.invariant.so_far
-    (then_done g.met.W.World.did_more (one_done (Between d) (Synced true) c.in-Ok-sync.ensures tt) (one_done (Ending d) EndedDay c.end_day.ensures tt)))
+    let l = c.loop-second in
+    let d = c.args.exchange.now in
+    let r = c.close_day-2.result in
+    let ran = then_done g.met.W.World.did_more l.invariant.so_far (c.close_day-2.ensures.at_last l.exchange) in (
+      ran,
+      closed_day_is (Between d) l.exchange r ran.acts ran.goes,
+      at_any r (λ none. omega (arith, l.invariant.moment, l.invariant.reached, c.min-end.ensures, c.loop-second-test.false, l.auto._second, c.moment-second.ensures.value)),
+    )
+
+pub returns-in-Ok-Ended-clause-whole : goal.returns-in-Ok-Ended-clause-whole
+returns-in-Ok-Ended-clause-whole g c =
+    let l = c.loop-second in
+    at_any c.close_day.result (omega (arith, l.invariant.moment, l.invariant.reached, c.min-end.ensures, (rw c.in-Ok-Ended.field-0-is at c.in-Ok-Ended.ensures).moment))
+
+pub returns-clause-whole : goal.returns-clause-whole
+returns-clause-whole g c =
+    let l = c.loop-second in
+    at_any c.close_day-2.result (omega (arith, l.invariant.moment, l.invariant.reached, c.min-end.ensures))
 
 pub loop-second-init : goal.loop-second-init
 loop-second-init g c = record {
@@ -31,14 +53,10 @@ loop-second-init g c = record {
 pub loop-second-preserved : goal.loop-second-preserved
 loop-second-preserved g c =
     let l = c.loop-second in
+    let passed = rw c.in-Ok-Passed.field-0-is at c.in-Ok-Passed.ensures in
     record {
-      moment = omega (arith, l.invariant.moment, c.in-Ok.ensures.moment (omega (arith, l.invariant.moment, l.invariant.within, c.loop-second-test.true)));
+      moment = omega (arith, l.invariant.moment, passed.moment (omega (arith, l.invariant.moment, l.invariant.within, c.loop-second-test.true)));
       within = l.invariant.within;
       reached = omega (arith, c.loop-second-test.true);
-      so_far = then_done g.met.W.World.did_more l.invariant.so_far c.in-Ok.ensures.ran;
+      so_far = then_done g.met.W.World.did_more l.invariant.so_far passed.ran;
     }
-
-pub returns-clause-whole : goal.returns-clause-whole
-returns-clause-whole g c =
-    let l = c.loop-second in
-    omega (arith, l.invariant.moment, l.invariant.reached, c.min-end.ensures, c.loop-second-test.false, l.auto._second, c.moment-second.ensures.value)

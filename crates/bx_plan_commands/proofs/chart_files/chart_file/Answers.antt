@@ -4,9 +4,10 @@ use Rattle.bx_plan_commands.proofs.chart_files.chart_file.Goals as goal
 
 pub returns-in-Ok-write_chart-clause-drawn : goal.returns-in-Ok-write_chart-clause-drawn
 returns-in-Ok-write_chart-clause-drawn g c = record {
-  plan = parts_of c.in-Ok-proved_in.plan;
-  total = c.in-Ok-proved_in.ensures.proved.0;
-  proved = c.in-Ok-proved_in.ensures.proved.1;
+  plan = parts_of c.in-Ok-proved_named.plan;
+  plan_of = c.in-Ok-proved_named.ensures.found;
+  total = c.in-Ok-proved_named.ensures.proved.0;
+  proved = c.in-Ok-proved_named.ensures.proved.1;
   gain = c.in-Ok-next_gain.gain;
   gain_of = c.in-Ok-next_gain.ensures;
   clock = c.in-Ok.clock;
@@ -16,9 +17,10 @@ returns-in-Ok-write_chart-clause-drawn g c = record {
 
 pub returns-clause-refused : goal.returns-clause-refused
 returns-clause-refused g c = record {
-  plan = parts_of c.in-Ok-proved_in.plan;
-  total = c.in-Ok-proved_in.ensures.proved.0;
-  proved = c.in-Ok-proved_in.ensures.proved.1;
+  plan = parts_of c.in-Ok-proved_named.plan;
+  plan_of = c.in-Ok-proved_named.ensures.found;
+  total = c.in-Ok-proved_named.ensures.proved.0;
+  proved = c.in-Ok-proved_named.ensures.proved.1;
   gain = c.in-Ok-next_gain.gain;
   gain_of = c.in-Ok-next_gain.ensures;
   clock = c.in-Ok.clock;

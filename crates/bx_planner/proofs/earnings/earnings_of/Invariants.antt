@@ -11,7 +11,7 @@ invariant-loop-count l =
     record {
       size : length l.earnings.items ≡ l.count;
       each : (k : ℕ) (d : Earning) → k < l.count → IsEarning l.bookings k (get_or l.earnings.items k d);
-      flow : IsFlow l.line l.carried;
-      units : 0 < places_of l.line → l.carried.units ≡ l.count;
-      fits : ArePotentials l.line l.carried l.potentials;
+      flow : IsFlow l.shorter l.carried;
+      units : 0 < places_of l.shorter → l.carried.units ≡ l.count;
+      fits : ArePotentials l.shorter l.carried l.potentials;
     }

@@ -1,0 +1,3 @@
+pub mod ToldJournals
+mod Audited
+mod OnItsDay

@@ -1,0 +1,70 @@
+-- What is told of a day by its journal.
+use Rattle.std.specs.Prelude.{◌≡◌, ◌⊎◌, ℕ, Bool, List, [], Option, Some, None, Ok, Err}
+use Rattle.std.specs.Io.KnownBytes.{Appends}
+use Rattle.bx_base.specs.PlanParts.{Parts}
+use Rattle.bx_devices.specs.declared.watched.Watched.{Watched}
+use Rattle.bx_devices.specs.Octets.{AppendsPrefix}
+use Rattle.bx_capture.specs.Captures.{Keeps, is_unfaulted}
+use Rattle.bx_day.specs.Day.{Day, opening}
+use Rattle.bx_day.specs.Outages.{live_day_after}
+use Rattle.bx_day.specs.Telling.{outcomes_text}
+use Rattle.bx_day_openings.specs.CaptureOpenings.{IsFirstOf, IsFileFor}
+use Rattle.bx_events.specs.Events.{LiveEvent}
+use Rattle.bx_journal.specs.declared.fault.JournalFault.TheVariants.{NotBegun}
+use Rattle.bx_journal.specs.Reading.{recovered}
+use Rattle.bx_journal_openings.specs.Tied.{IsTied}
+use Rattle.bx_request.specs.declared.request.CaptureWords.{CaptureWords}
+use Rattle.bx_audit.specs.LiveCaptures.{live_packets}
+
+-- these events are on record in a text, of which a journal that was not begun has none
+abbrev pub AreOnRecord : List ℕ → List ℕ → List LiveEvent → Type 0
+AreOnRecord plan text events = (recovered plan text ≡ Ok events) ⊎ ((recovered plan text ≡ Err NotBegun) × (events ≡ []))
+
+-- just these events are on record in the text that was read, which is what there was to read where the journal tells it
+pub record IsJournal (plan : List ℕ) (before : Option (List ℕ)) (events : List LiveEvent) : Type 0 where
+  pub text : List ℕ
+  pub told : (known : List ℕ) → before ≡ Some known → text ≡ known
+  pub are : AreOnRecord plan text events
+
+-- the day after just the events of a journal, and the file took the packets of its messages
+pub record IsAudited {F : Type 0} (plan : List ℕ) (before : Option (List ℕ)) (contents : F → Option (List ℕ)) (file closed : Option (Watched F)) (first : ℕ) (opened day : Day) : Type 0 where
+  pub events : List LiveEvent
+  pub journal : IsJournal plan before events
+  pub after : day ≡ live_day_after events opened
+  pub kept : Keeps contents file closed (live_packets first events opened)
+
+-- the opening day of a plan that is proved, and the digest of the text of this plan
+pub record IsTiedOpening (opened : Day) (digest : List ℕ) : Type 0 where
+  pub plan : Parts
+  pub tied : IsTied None plan digest
+  pub opens : opened ≡ opening plan.rows plan.assigned
+
+-- a journal of the day of a plan was followed, and captured as the words say, and this is whether all of it was captured
+pub record IsDayAudited {F : Type 0} (contents : F → Option (List ℕ)) (capture : Option CaptureWords) (day : Day) (is_whole : Bool) : Type 0 where
+  pub opened : Day
+  pub digest : List ℕ
+  pub opens : IsTiedOpening opened digest
+  pub first : ℕ
+  pub begins : IsFirstOf capture first
+  pub file : Option (Watched F)
+  pub file_opens : IsFileFor contents capture file
+  pub closed : Option (Watched F)
+  pub audited : IsAudited digest None contents file closed first opened day
+  pub whole : is_whole ≡ is_unfaulted closed
+
+-- what became of each booking by a journal was written
+pub record IsAuditTold {F : Type 0} (contents : F → Option (List ℕ)) (capture : Option CaptureWords) (before after : Option (List ℕ)) (is_whole : Bool) : Type 0 where
+  pub day : Day
+  pub audit : IsDayAudited contents capture day is_whole
+  pub written : Appends before after (outcomes_text day)
+
+-- or a front of it
+pub record IsAuditCut {F : Type 0} (contents : F → Option (List ℕ)) (capture : Option CaptureWords) (before after : Option (List ℕ)) : Type 0 where
+  pub day : Day
+  pub is_whole : Bool
+  pub audit : IsDayAudited contents capture day is_whole
+  pub written : AppendsPrefix before after (outcomes_text day)
+
+-- the file took the packets of some events, from the first on
+abbrev pub IsKeptSoFar : {F : Type 0} → (F → Option (List ℕ)) → Option (Watched F) → Option (Watched F) → ℕ → Day → Type 0
+IsKeptSoFar contents file closed first opened = (events : List LiveEvent) × Keeps contents file closed (live_packets first events opened)

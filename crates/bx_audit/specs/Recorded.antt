@@ -1,0 +1,61 @@
+-- The records of a day that are written by its journal.
+use Rattle.std.specs.Borrow.{Bor}
+use Rattle.std.specs.Prelude.{◌≡◌, ◌⊎◌, ℕ, Bool, true, false, List, Option, Some, None}
+use Rattle.std.specs.Io.KnownBytes.{Appends}
+use Rattle.bx_base.specs.PlanParts.{Parts}
+use Rattle.bx_book.specs.Clocks.{IsClock}
+use Rattle.bx_book.specs.declared.clock.Clock.{Clock}
+use Rattle.bx_day.specs.Day.{Day, opening}
+use Rattle.bx_day.specs.Outages.{live_day_after}
+use Rattle.bx_day.specs.declared.entry.Entry.{Entry}
+use Rattle.bx_devices.specs.Devices.{Writing, KeepsOutput}
+use Rattle.bx_devices.specs.Octets.{AppendsPrefix}
+use Rattle.bx_events.specs.Events.{LiveEvent}
+use Rattle.bx_journal_openings.specs.Tied.{IsTiedOf}
+use Rattle.bx_records.specs.Totals.{totals_text}
+use Rattle.bx_records.specs.Writing.{IsRecorded}
+use Rattle.bx_request.specs.declared.request.RecordsRequest.{RecordsRequest}
+use Rattle.bx_audit.specs.Audits.{IsJournal}
+
+-- the opening day of the plan that the input of this name gave, and the digest of the text of this plan
+pub record IsOpeningOf (gives : List ℕ → Option (List ℕ) → Type 0) (name : List ℕ) (opened : Day) (digest : List ℕ) : Type 0 where
+  pub plan : Parts
+  pub tied : IsTiedOf gives name plan digest
+  pub opens : opened ≡ opening plan.rows plan.assigned
+
+-- the day of that plan, after just the events of the journal that another input gave
+pub record IsDayTold (gives : List ℕ → Option (List ℕ) → Type 0) (plan journal : List ℕ) (day : Day) : Type 0 where
+  pub opened : Day
+  pub digest : List ℕ
+  pub opens : IsOpeningOf gives plan opened digest
+  pub before : Option (List ℕ)
+  pub given : gives journal before
+  pub events : List LiveEvent
+  pub on_record : IsJournal digest before events
+  pub after : day ≡ live_day_after events opened
+
+-- the clock of the date and the zone that are named, and none where none are
+abbrev pub IsClockOf : Option (Bor (List ℕ) × Bor (List ℕ)) → Option Clock → Type 0
+IsClockOf None None = Unit {0}
+IsClockOf (Some (date, zone)) (Some clock) = IsClock date.now zone.now clock
+IsClockOf _ _ = ⊥
+
+-- the records of this day were written, with the clock that the words name
+pub record IsDayRecorded (gives : List ℕ → Option (List ℕ) → Type 0) (request : RecordsRequest) (day : Day) (output : Writing) : Type 0 where
+  pub told : IsDayTold gives request.plan.now request.journal.now day
+  pub clock : Option Clock
+  pub clock_of : IsClockOf request.day clock
+  pub written : IsRecorded clock day.entries output
+
+-- the line of their totals was written, or a front of it where that failed; where it is to be quiet, nothing was
+abbrev pub IsTotalsTold : Bool → List Entry → Writing → Type 0
+IsTotalsTold true entries errors = KeepsOutput errors
+IsTotalsTold false entries errors = Appends errors.before errors.after (totals_text entries) ⊎ ((errors.is_faulted ≡ true) × AppendsPrefix errors.before errors.after (totals_text entries))
+
+-- the records of such a day were written
+abbrev pub AreRecordsWritten : (List ℕ → Option (List ℕ) → Type 0) → RecordsRequest → Writing → Type 0
+AreRecordsWritten gives request output = (day : Day) × IsDayRecorded gives request day output
+
+-- and the totals of the same day
+abbrev pub AreRecordsTold : (List ℕ → Option (List ℕ) → Type 0) → RecordsRequest → Writing → Writing → Type 0
+AreRecordsTold gives request output errors = (day : Day) × IsDayRecorded gives request day output × IsTotalsTold request.is_quiet day.entries errors

@@ -1,0 +1,123 @@
+//! The command that tells a day by its journal.
+
+ghost use Rattle.std.specs.Prelude.{◌≡◌, true, List, ℕ, Option, None, IfOk, IfErr, OnOk};
+ghost use Rattle.bx_devices.specs.Watching.{device_of};
+ghost use Rattle.bx_events.specs.Events.{LiveEvent};
+ghost use Rattle.bx_day_openings.specs.OpeningRefusals.{IsNoOpening};
+ghost use Rattle.bx_audit.specs.AuditRefusals.{HasNoJournal, StopsAudit, IsAuditRefusal};
+ghost use Rattle.bx_audit.specs.Audits.{IsTiedOpening, IsJournal, IsDayAudited, IsAuditTold};
+ghost use Rattle.bx_audit.specs.Recorded.{IsOpeningOf};
+
+use crate::following::{Reader, follow_to_end};
+use crate::telling::audited_day;
+use bx_check_commands::{CommandFault, Inputs, open};
+use bx_day::Exchange;
+use bx_day_openings::{DayCommandFault, captured, file_of, first_of, is_whole};
+use bx_devices::Watched;
+use bx_journal_openings::tied_named;
+use bx_request::AuditRequest;
+use std::alloc::Global;
+use std::fs::Files;
+use std::io::Write;
+
+/// The exchange at the opening of the day of the plan of an input, and the digest of that plan.
+pub(crate) fn opened_by<'a, I: Inputs>(
+    alloc: Global,
+    inputs: &mut I,
+    name: &'a str,
+) -> Result<(Exchange, [u8; 32]), DayCommandFault<'a>>
+    ensures opened { IfOk result (λ opened. IsTiedOpening opened.0 opened.1) }
+    ensures given { IfOk result (λ opened. IsOpeningOf (I.gives inputs.old) name.now opened.0 opened.1) }
+    ensures refused { IfErr result (IsNoOpening name.now) }
+    ensures no_more { (other : List ℕ) (text : Option (List ℕ)) → I.gives inputs.new other text → I.gives inputs.old other text }
+{
+    let tied = match tied_named(alloc, inputs, name) {
+        Ok(tied) => tied,
+        Err(fault) => return Err(DayCommandFault::Command(fault)),
+    };
+    match Exchange::new(alloc, &tied.plan) {
+        Ok(exchange) => Ok((exchange, tied.digest)),
+        Err(_) => Err(DayCommandFault::Command(CommandFault::Memory)),
+    }
+}
+
+/// Reads the journal in a file through, so that a fault of it is told before the file of a capture is made anew.
+fn read_through<'a, H: Files>(
+    rt: &H,
+    name: &'a str,
+    plan: &[u8; 32],
+) -> Result<(), DayCommandFault<'a>>
+    ensures read { OnOk result ((events : List LiveEvent) × IsJournal plan.now None events) }
+    ensures refused { IfErr result (HasNoJournal name.now plan.now) }
+{
+    let mut journal = match open(rt, name) {
+        Ok(journal) => journal,
+        Err(fault) => return Err(DayCommandFault::Command(fault)),
+    };
+    follow_to_end(name, &mut journal, plan, &mut Reader)
+}
+
+/// The exchange after the events of the journal in a file, and whether all that was to be captured of its day was.
+fn audited_in<'a, H: Files + AllocGlobal, I: Inputs>(
+    rt: &H,
+    inputs: &mut I,
+    request: AuditRequest<'a>,
+) -> Result<(Exchange, bool), DayCommandFault<'a>>
+    ensures audited { IfOk result (λ audited. IsDayAudited H.File.contents request.entry.capture audited.0 audited.1) }
+    ensures stopped { IfErr result (StopsAudit H.File.contents request.entry) }
+{
+    let first = match first_of(request.capture) {
+        Ok(first) => first,
+        Err(fault) => return Err(fault),
+    };
+    let (exchange, digest) = match opened_by(rt.alloc(), inputs, request.plan) {
+        Ok(opened) => opened,
+        Err(fault) => return Err(fault),
+    };
+    match read_through(rt, request.journal, &digest) {
+        Ok(()) => {}
+        Err(fault) => return Err(fault),
+    }
+    let mut file = match file_of(rt, request.capture) {
+        Ok(file) => file,
+        Err(fault) => return Err(fault),
+    };
+    let mut journal = match open(rt, request.journal) {
+        Ok(journal) => journal,
+        Err(fault) => return Err(DayCommandFault::Command(fault)),
+    };
+    match audited_day(
+        request.journal,
+        &mut journal,
+        &digest,
+        exchange,
+        &mut file,
+        first,
+    ) {
+        Ok(exchange) => Ok((exchange, is_whole(&file))),
+        Err(fault) => Err(fault),
+    }
+}
+
+/// Writes what became of each booking of the plan of an input by the journal in a file, a line for each, as the day itself tells
+/// them: of a day that has ended, or that is still running. A capture of that day is made afterwards, where one is asked for. One
+/// that was not written whole is a refusal, behind all that was told; at any other refusal nothing was written, except that where
+/// the output failed a front of what was to be told was.
+pub fn audit_files<'a, H: Files + AllocGlobal, I: Inputs, W: Write>(
+    rt: &H,
+    inputs: &mut I,
+    request: AuditRequest<'a>,
+    output: &mut Watched<W>,
+) -> Result<(), DayCommandFault<'a>>
+    ensures done { OnOk result (IsAuditTold H.File.contents request.entry.capture (W.contents (device_of output.old)) (W.contents (device_of output.new)) true) }
+    ensures refused { IfErr result (IsAuditRefusal request.entry H.File.contents W.contents output.old output.new) }
+{
+    let (exchange, is_whole) = match audited_in(rt, inputs, request) {
+        Ok(audited) => audited,
+        Err(fault) => return Err(fault),
+    };
+    match exchange.write_outcomes(output) {
+        Ok(()) => captured(request.capture, is_whole),
+        Err(_) => Err(DayCommandFault::Command(CommandFault::CannotWrite)),
+    }
+}

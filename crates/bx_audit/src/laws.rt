@@ -1,0 +1,18 @@
+//! Laws of the definitions, each of which is on a function's contract.
+
+ghost use Rattle.std.specs.Prelude.{◌≡◌, ℕ, List, map};
+ghost use Rattle.bx_capture.specs.Captures.{packets_for};
+ghost use Rattle.bx_day.specs.Course.{exchange_next, exchange_sent};
+ghost use Rattle.bx_day.specs.Day.{Day};
+ghost use Rattle.bx_day.specs.Outages.{live_day_after};
+ghost use Rattle.bx_day.specs.Run.{day_after};
+ghost use Rattle.bx_events.specs.Events.{Event, LiveEvent, OnLink};
+ghost use Rattle.bx_turns.specs.Courses.{told};
+ghost use Rattle.bx_audit.specs.LiveCaptures.{live_packets};
+
+/// Of a day that was always on its link a capture that is made afterwards has just the packets that one has which is kept while
+/// the day runs, and the day is the same.
+pub fn as_on_its_day()
+    ensures packets { (first : ℕ) (events : List Event) (d : Day) → live_packets first (map (λ (e : Event). OnLink e) events) d ≡ told exchange_next (packets_for exchange_next exchange_sent (λ (x : Day). x.moment) (λ (x : Day). x.moment) first) events d }
+    ensures day { (events : List Event) (d : Day) → live_day_after (map (λ (e : Event). OnLink e) events) d ≡ day_after events d }
+{}

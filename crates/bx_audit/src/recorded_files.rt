@@ -1,0 +1,104 @@
+//! The command that writes the records of a day by its journal.
+
+ghost use Rattle.std.specs.Prelude.{◌≡◌, IfOk, IfErr, OnOk};
+ghost use Rattle.bx_devices.specs.Devices.{writing_of};
+ghost use Rattle.bx_audit.specs.Recorded.{IsDayTold, IsClockOf, IsTotalsTold, AreRecordsTold};
+ghost use Rattle.bx_audit.specs.Unrecorded.{IsUntold, IsNoClock, IsRecordsCommandRefusal, answer_for};
+
+use crate::audited_files::opened_by;
+use crate::telling::audited_day;
+use bx_book::{Clock, DayFault};
+use bx_check_commands::{CommandFault, Inputs};
+use bx_day::Exchange;
+use bx_day_openings::DayCommandFault;
+use bx_devices::Watched;
+use bx_records::{RecordsFault, write_records, write_totals};
+use bx_request::RecordsRequest;
+use std::alloc::Global;
+use std::io::Write;
+
+/// The clock of the day that these words name, where one is named.
+fn clock_of<'a>(day: Option<(&'a str, &'a str)>) -> Result<Option<Clock>, DayCommandFault<'a>>
+    ensures clock { IfOk result (IsClockOf day.entry) }
+    ensures none { IfErr result (IsNoClock day.entry) }
+{
+    let Some((date, zone)) = day else {
+        return Ok(None);
+    };
+    match Clock::new(date, zone) {
+        Ok(clock) => Ok(Some(clock)),
+        Err(fault) => Err(DayCommandFault::Day(fault)),
+    }
+}
+
+/// The exchange after just the events of the journal of one input, from the opening of the day of the plan of another on.
+fn told_by<'a, I: Inputs>(
+    alloc: Global,
+    inputs: &mut I,
+    plan: &'a str,
+    journal: &'a str,
+) -> Result<Exchange, DayCommandFault<'a>>
+    ensures told { IfOk result (IsDayTold (I.gives inputs.old) plan.now journal.now) }
+    ensures untold { IfErr result (IsUntold (I.gives inputs.old) plan.now journal.now) }
+{
+    let (exchange, digest) = match opened_by(alloc, inputs, plan) {
+        Ok(opened) => opened,
+        Err(fault) => return Err(fault),
+    };
+    let mut input = match inputs.open(journal) {
+        Ok(input) => input,
+        Err(fault) => return Err(DayCommandFault::Command(fault)),
+    };
+    let mut no_file: Option<Watched<Vec<u8>>> = None;
+    audited_day(journal, &mut input, &digest, exchange, &mut no_file, 0)
+}
+
+/// How a command tells that records were not written.
+fn told<'a>(fault: RecordsFault) -> DayCommandFault<'a>
+    ensures { result ≡ answer_for fault }
+{
+    match fault {
+        RecordsFault::OutOfRange => DayCommandFault::Day(DayFault::OutOfRange),
+        RecordsFault::WriteFailed => DayCommandFault::Command(CommandFault::CannotWrite),
+        RecordsFault::Memory => DayCommandFault::Command(CommandFault::Memory),
+    }
+}
+
+/// Tells the totals, where they are to be told. What becomes of them changes nothing.
+fn tell_totals<E: Write>(exchange: &Exchange, is_quiet: bool, errors: &mut Watched<E>)
+    ensures { IsTotalsTold is_quiet exchange.now.entries (writing_of E.contents errors.old errors.new) }
+{
+    if !is_quiet {
+        let _told = write_totals(exchange, errors);
+    }
+}
+
+/// Writes the records of the day of the plan of one input, by the journal of another: of a day that has ended, or that is still
+/// running. Their totals are told on standard error in one line, except where it is to be quiet. At a refusal nothing was written,
+/// except that where the output failed a front of the records was.
+pub fn record_files<'a, I: Inputs, W: Write, E: Write>(
+    alloc: Global,
+    inputs: &mut I,
+    request: RecordsRequest<'a>,
+    output: &mut Watched<W>,
+    errors: &mut Watched<E>,
+) -> Result<(), DayCommandFault<'a>>
+    ensures done { OnOk result (AreRecordsTold (I.gives inputs.old) request.entry (writing_of W.contents output.old output.new) (writing_of E.contents errors.old errors.new)) }
+    ensures refused { IfErr result (IsRecordsCommandRefusal (I.gives inputs.old) request.entry W.contents output.old output.new) }
+{
+    let clock = match clock_of(request.day) {
+        Ok(clock) => clock,
+        Err(fault) => return Err(fault),
+    };
+    let exchange = match told_by(alloc, inputs, request.plan, request.journal) {
+        Ok(exchange) => exchange,
+        Err(fault) => return Err(fault),
+    };
+    match write_records(alloc, &exchange, clock, output) {
+        Ok(()) => {
+            tell_totals(&exchange, request.is_quiet, errors);
+            Ok(())
+        }
+        Err(fault) => Err(told(fault)),
+    }
+}

@@ -1,0 +1,14 @@
+-- The plan that an input of a name gave.
+use Rattle.std.proofs.Common.{ℕ, List, Option, Result, Ok, Err}
+use Rattle.std.specs.Prelude.{IfOk, OnOk}
+use Rattle.std.specs.Io.KnownBytes.{IsAtEnd}
+use Rattle.bx_base.specs.PlanParts.{Parts}
+use Rattle.bx_devices.specs.Devices.{Reading}
+use Rattle.bx_check_commands.specs.Inputs.{IsReadOf, IsPlanOf}
+use Rattle.bx_check_commands.specs.Proved.{IsPlanRead}
+use Rattle.bx_check_commands.specs.declared.fault.CommandFault.{CommandFault}
+
+pub named : {T : Type 0} (gives : List ℕ → Option (List ℕ) → Type 0) (name : List ℕ) (input : Reading) (parts : T → Parts) (r : Result T CommandFault) → IsReadOf gives name input
+    → IfOk r (λ plan. IsPlanRead input.before (parts plan)) → OnOk r (IsAtEnd input.after) → IfOk r (λ plan. IsPlanOf gives name (parts plan))
+named gives name input parts (Ok plan) of_name read ended = record { input = input; of_name = of_name; read = read; ended = ended }
+named gives name input parts (Err fault) of_name read ended = tt

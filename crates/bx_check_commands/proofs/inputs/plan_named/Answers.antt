@@ -1,0 +1,8 @@
+use Rattle.bx_devices.specs.Devices.{reading_of}
+use Rattle.bx_base.specs.PlanParts.{parts_of}
+use Rattle.bx_check_commands.proofs.Named.{named}
+use Rattle.bx_check_commands.proofs.inputs.plan_named.Goals as goal
+
+pub returns-clause-found : goal.returns-clause-found
+returns-clause-found g c = named (g.I.Inputs.gives c.args.inputs.now) c.args.name.now (reading_of g.I.Reader.Read.remaining c.in_ok-input.input c.plan_from.new.input) parts_of c.plan_from.result
+    (record { given = c.in_ok-input.ensures.opened; unfaulted = c.in_ok-input.ensures.unfaulted; unread = c.in_ok-input.ensures.unread }) c.plan_from.ensures.found c.plan_from.ensures.ended

@@ -1,0 +1,34 @@
+-- What is done by inputs whose names are files, and standard input.
+use Rattle.std.proofs.Common.{◌≡◌, ◌≢◌, ◌↔◌, ℕ, List, Option, Some, Result, Ok, Err, codes, refl, subst}
+use Rattle.std.proofs.lemmas.Bool.{false≢true}
+use Rattle.std.specs.Prelude.{IsOk, OnOk, IfErr}
+use Rattle.bx_audit.specs.Recorded.{AreRecordsWritten, AreRecordsTold, IsDayRecorded}
+use Rattle.bx_audit.specs.Unrecorded.{IsRecordsCommandRefusal}
+use Rattle.bx_check_commands.specs.Inputs.{GivesOnce, GivesStandard}
+use Rattle.bx_day_openings.specs.declared.fault.DayCommandFault.{DayCommandFault}
+use Rattle.bx_devices.specs.Devices.{Writing}
+use Rattle.bx_devices.specs.declared.watched.Watched.{Watched}
+use Rattle.bx_plan_commands.specs.FileRequests as plans
+use Rattle.bx_plan_commands.specs.declared.fault.FileFault.{FileFault}
+use Rattle.bx_request.specs.declared.request.FileRequest.{FileRequest}
+use Rattle.bx_request.specs.declared.request.RecordsRequest.{RecordsRequest}
+
+pub is_done : {X T : Type 0} (remaining : X → Option (List ℕ)) (o : Option X) (x : X) (request : FileRequest) (output : Writing) (r : Result T FileFault) (status : ℕ) → o ≡ Some x → (status ≡ 0) ↔ IsOk r
+    → OnOk r (plans.IsDone (λ name text. name ≡ codes "-" → GivesOnce remaining o text) request output) → status ≡ 0 → plans.IsDone (GivesStandard (remaining x)) request output
+is_done {X = X} remaining o x request output (Ok value) status is both what zero = subst (λ (p : Option X). plans.IsDone (λ name text. name ≡ codes "-" → GivesOnce remaining p text) request output) is what
+is_done remaining o x request output (Err fault) status is (there, back) what zero = absurd (false≢true (there zero))
+
+pub is_refused : {X T W : Type 0} (remaining : X → Option (List ℕ)) (o : Option X) (x : X) (request : FileRequest) (contents : W → Option (List ℕ)) (old new : Watched W) (r : Result T FileFault) (status : ℕ) → o ≡ Some x → (status ≡ 0) ↔ IsOk r
+    → IfErr r (plans.IsRefused (λ name text. name ≡ codes "-" → GivesOnce remaining o text) request contents old new) → status ≢ 0 → (fault : FileFault) × plans.IsRefused (GivesStandard (remaining x)) request contents old new fault
+is_refused remaining o x request contents old new (Ok value) status is (there, back) why some = absurd (some (back refl))
+is_refused {X = X} remaining o x request contents old new (Err fault) status is both why some = (fault, subst (λ (p : Option X). plans.IsRefused (λ name text. name ≡ codes "-" → GivesOnce remaining p text) request contents old new fault) is why)
+
+pub are_recorded : {X T : Type 0} (remaining : X → Option (List ℕ)) (o : Option X) (x : X) (request : RecordsRequest) (output errors : Writing) (r : Result T DayCommandFault) (status : ℕ) → o ≡ Some x → (status ≡ 0) ↔ IsOk r
+    → OnOk r (AreRecordsTold (λ name text. name ≡ codes "-" → GivesOnce remaining o text) request output errors) → status ≡ 0 → AreRecordsWritten (GivesStandard (remaining x)) request output
+are_recorded {X = X} remaining o x request output errors (Ok value) status is both (day, written, told) zero = (day, subst (λ (p : Option X). IsDayRecorded (λ name text. name ≡ codes "-" → GivesOnce remaining p text) request day output) is written)
+are_recorded remaining o x request output errors (Err fault) status is (there, back) what zero = absurd (false≢true (there zero))
+
+pub are_unrecorded : {X T W : Type 0} (remaining : X → Option (List ℕ)) (o : Option X) (x : X) (request : RecordsRequest) (contents : W → Option (List ℕ)) (old new : Watched W) (r : Result T DayCommandFault) (status : ℕ) → o ≡ Some x → (status ≡ 0) ↔ IsOk r
+    → IfErr r (IsRecordsCommandRefusal (λ name text. name ≡ codes "-" → GivesOnce remaining o text) request contents old new) → status ≢ 0 → (fault : DayCommandFault) × IsRecordsCommandRefusal (GivesStandard (remaining x)) request contents old new fault
+are_unrecorded remaining o x request contents old new (Ok value) status is (there, back) why some = absurd (some (back refl))
+are_unrecorded {X = X} remaining o x request contents old new (Err fault) status is both why some = (fault, subst (λ (p : Option X). IsRecordsCommandRefusal (λ name text. name ≡ codes "-" → GivesOnce remaining p text) request contents old new fault) is why)

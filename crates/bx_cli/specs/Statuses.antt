@@ -1,0 +1,39 @@
+-- What a status says of the command that was asked for.
+use Rattle.std.specs.Prelude.{ℕ, true, List, Option}
+use Rattle.bx_devices.specs.Devices.{writing_of}
+use Rattle.bx_devices.specs.Watching.{device_of}
+use Rattle.bx_devices.specs.declared.watched.Watched.{Watched}
+use Rattle.bx_audit.specs.Audits.{IsAuditTold}
+use Rattle.bx_audit.specs.AuditRefusals.{IsAuditRefusal}
+use Rattle.bx_audit.specs.Recorded.{AreRecordsWritten}
+use Rattle.bx_audit.specs.Unrecorded.{IsRecordsCommandRefusal}
+use Rattle.bx_check_commands.specs.Inputs.{GivesStandard}
+use Rattle.bx_check_commands.specs.Decoding.{IsDecoded, IsDecodeRefusal}
+use Rattle.bx_check_commands.specs.declared.fault.CommandFault.{CommandFault}
+use Rattle.bx_day_commands.specs.DayRequests as days
+use Rattle.bx_day_openings.specs.declared.fault.DayCommandFault.{DayCommandFault}
+use Rattle.bx_live_commands.specs.LiveDays.{IsLiveTold}
+use Rattle.bx_live_commands.specs.LiveRefusals.{IsLiveRefusal}
+use Rattle.bx_live_commands.specs.declared.fault.LiveFault.{LiveFault}
+use Rattle.bx_plan_commands.specs.FileRequests as plans
+use Rattle.bx_plan_commands.specs.declared.fault.FileFault.{FileFault}
+use Rattle.bx_request.specs.declared.request.Request.{Request}
+use Rattle.bx_request.specs.declared.request.Request.TheVariants.{Files, Day, Live, Audit, Records, Decode}
+
+-- at 0: it is done, where this was left on standard input
+abbrev pub IsRequestDone : {F W : Type 0} → Option (List ℕ) → Request → (F → Option (List ℕ)) → (W → Option (List ℕ)) → Watched W → Watched W → Type 0
+IsRequestDone left (Files request) files contents old new = plans.IsDone (GivesStandard left) request (writing_of contents old new)
+IsRequestDone left (Day request) files contents old new = days.IsDone request files (contents (device_of old)) (contents (device_of new)) true
+IsRequestDone left (Live request) files contents old new = IsLiveTold request (contents (device_of old)) (contents (device_of new))
+IsRequestDone left (Audit request) files contents old new = IsAuditTold files request.capture (contents (device_of old)) (contents (device_of new)) true
+IsRequestDone left (Records request) files contents old new = AreRecordsWritten (GivesStandard left) request (writing_of contents old new)
+IsRequestDone left (Decode octets) files contents old new = IsDecoded octets.now (writing_of contents old new)
+
+-- else: it was refused, by a fault that says why
+abbrev pub IsRequestRefused : {F W : Type 0} → Option (List ℕ) → Request → (F → Option (List ℕ)) → (W → Option (List ℕ)) → Watched W → Watched W → Type 0
+IsRequestRefused left (Files request) files contents old new = (fault : FileFault) × plans.IsRefused (GivesStandard left) request contents old new fault
+IsRequestRefused left (Day request) files contents old new = (fault : DayCommandFault) × days.IsRefused request files contents old new fault
+IsRequestRefused left (Live request) files contents old new = (fault : LiveFault) × IsLiveRefusal request contents old new fault
+IsRequestRefused left (Audit request) files contents old new = (fault : DayCommandFault) × IsAuditRefusal request files contents old new fault
+IsRequestRefused left (Records request) files contents old new = (fault : DayCommandFault) × IsRecordsCommandRefusal (GivesStandard left) request contents old new fault
+IsRequestRefused left (Decode octets) files contents old new = (fault : CommandFault) × IsDecodeRefusal octets.now (writing_of contents old new) fault

@@ -1,0 +1,103 @@
+//! A day that is opened, run over a world.
+
+ghost use Rattle.std.specs.Prelude.{◌≡◌, ◌≤◌, IfOk, OnOk};
+ghost use Rattle.bx_live_commands.specs.Inside.{RunsIn};
+ghost use Rattle.bx_live_commands.specs.LiveRuns.{RunsByClock};
+
+use crate::hours::Hours;
+use crate::resuming::Resumed;
+use bx_book::Clock as DayClock;
+use bx_day::Exchange;
+use bx_devices::Watched;
+use bx_journal::Disk;
+use bx_live::{CannotRecord, World, run_live};
+use bx_world::{CapturedWorld, Door, Limits, Live, Telling};
+use std::io::{Read, Write};
+use std::rt::Clock;
+
+/// What is seen of a day while it runs: its messages in the file of a capture, where there is one, from the first second on; its moment,
+/// where it is shown; and each fault with the time of day, where a date and a zone are named.
+#[derive(Drop)]
+pub struct View<'a, F> {
+    pub file: Option<Watched<F>>,
+    pub first: u32,
+    pub day: Option<(&'a str, &'a str)>,
+    pub is_shown: bool,
+}
+
+/// A world behind a run of a day, with whether all of that is on record, and all that was to be captured was.
+#[derive(Drop)]
+pub struct Ran<W> {
+    pub world: W,
+    pub done: Result<(), CannotRecord>,
+    pub is_whole: bool,
+}
+
+/// The clock of the day that is named, if it is one.
+fn clock_of(day: Option<(&str, &str)>) -> Option<DayClock> {
+    let (date, zone) = day?;
+    DayClock::new(date, zone).ok()
+}
+
+/// Runs a day over a world up to a turn of it, so that it is seen.
+pub(crate) fn run_in<'a, 'h, H: Clock + Eprint, W: World, F: Write + Drop>(
+    rt: &'h H,
+    exchange: &mut Exchange,
+    world: W,
+    turns: u32,
+    view: View<'a, F>,
+) -> Ran<W>
+    requires { view.first ≤ 4294667295 }
+    ensures { RunsIn W.did world result.world turns exchange.old exchange.new result.done }
+{
+    let View {
+        file,
+        first,
+        day,
+        is_shown,
+    } = view;
+    let telling = Telling::new(rt, world, clock_of(day), is_shown);
+    let mut world = CapturedWorld::new(telling, file, first);
+    let done = run_live(exchange, &mut world, turns);
+    let is_whole = world.is_whole();
+    let mut telling = world.into_world();
+    telling.clear();
+    Ran {
+        world: telling.into_world(),
+        done,
+        is_whole,
+    }
+}
+
+/// Runs the rest of a day up to a turn of it, by the clock and towards the peers that come in by a door. Answers the exchange at the
+/// end of the day, and whether all that was to be captured was.
+pub fn run_by_clock<
+    'a,
+    'h,
+    H: Clock + Eprint,
+    S: Read + Write + Limits + Drop,
+    G: Door<S> + Drop,
+    D: Disk + Drop,
+    F: Write + Drop,
+>(
+    rt: &'h H,
+    resumed: Resumed<D>,
+    door: G,
+    hours: Hours,
+    turns: u32,
+    view: View<'a, F>,
+) -> Result<(Exchange, bool), CannotRecord>
+    requires { view.first ≤ 4294667295 }
+    ensures { IfOk result (λ ran. RunsByClock H G S.remaining S.contents D.holds D.may_leave D.moment D.left_since hours.schedule resumed.record turns resumed.exchange ran.0) }
+{
+    let Resumed {
+        mut exchange,
+        record,
+    } = resumed;
+    let live = Live::new(rt, hours.schedule, door, record);
+    let ran = run_in(rt, &mut exchange, live, turns, view);
+    match ran.done {
+        Ok(()) => Ok((exchange, ran.is_whole)),
+        Err(fault) => Err(fault),
+    }
+}

@@ -1,0 +1,12 @@
+//! Records of a day's calls, as switches write them for bills: CSV with a line for each booking.
+#![tactic(auto)]
+
+mod fault;
+mod lines;
+mod records;
+mod totals;
+mod writing;
+
+pub use fault::RecordsFault;
+pub use totals::write_totals;
+pub use writing::write_records;

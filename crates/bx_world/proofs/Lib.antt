@@ -1,0 +1,5 @@
+pub mod Kept
+pub mod Waiting
+pub mod Taking
+pub mod Projections
+pub mod Putting

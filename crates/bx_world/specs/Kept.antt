@@ -1,0 +1,31 @@
+-- What a crash leaves of a run, and what a restart knows.
+use Rattle.std.specs.Prelude.{◌≡◌, ◌⊎◌, ℕ, ◌&&◌, Bool, true, List, [], ◌∷◌, ◌++◌, Ok}
+use Rattle.bx_events.specs.Events.{LiveEvent}
+use Rattle.bx_day.specs.Day.{Day}
+use Rattle.bx_day.specs.Course.{exchange_sent}
+use Rattle.bx_day.specs.Outages.{live_day_after}
+use Rattle.bx_journal.specs.Reading.{recovered}
+use Rattle.bx_live.specs.Acts.{Act, Recorded, Synced}
+use Rattle.bx_live.specs.Written.{IsWrittenFor}
+
+-- no event could not be recorded, and no sync failed
+abbrev pub keeps_record : List Act → Bool
+keeps_record [] = true
+keeps_record (Recorded event done ∷ acts) = done && keeps_record acts
+keeps_record (Synced done ∷ acts) = done && keeps_record acts
+keeps_record (act ∷ acts) = keeps_record acts
+
+-- the events that were to be recorded
+abbrev pub asked : List Act → List LiveEvent
+asked [] = []
+asked (Recorded event done ∷ acts) = event ∷ asked acts
+asked (act ∷ acts) = asked acts
+
+-- what a crash left has these events at its front
+abbrev pub Knows : List ℕ → List LiveEvent → List ℕ → Type 0
+Knows plan events left = (more : List LiveEvent) × (recovered plan left ≡ Ok (events ++ more))
+
+-- what was written belongs to the last event on record; and where messages are among it, this holds as well
+pub record IsSafe (d : Day) (before : List Act) (octets : List ℕ) (known : Type 0) : Type 0 where
+  pub belongs : IsWrittenFor d before octets
+  pub safe : (exchange_sent (live_day_after belongs.earlier d) belongs.event ≡ []) ⊎ known
