@@ -126,7 +126,10 @@ fn holds(
     let Some(rest) = rest.strip_prefix(text.as_bytes()) else {
         return Ok(false);
     };
-    Ok(rest.len() == 5 * down && rest.chunks(5).all(|line| line == b"down\n".as_slice()))
+    Ok(
+        rest.len() == down.saturating_mul(5)
+            && rest.chunks(5).all(|line| line == b"down\n".as_slice()),
+    )
 }
 
 #[test]
