@@ -14,9 +14,9 @@ _bx() {
         explain) options="--help" ;;
         quote) options="--inward --date --zone --help" ;;
         chart) options="--date --zone --help" ;;
-        day) options="--turns --capture --date --zone --quiet --help" ;;
-        serve) options="--port --socket --live --date --zone --journal --pace --turns --capture --quiet --help" ;;
-        far) options="--port --capture --date --zone --quiet --help" ;;
+        day) options="--turns --journal --records --capture --date --zone --quiet --help" ;;
+        serve) options="--port --socket --live --date --zone --journal --pace --turns --records --capture --quiet --help" ;;
+        far) options="--port --socket --rejoin --capture --date --zone --quiet --help" ;;
         audit) options="--capture --date --zone --help" ;;
         records) options="--date --zone --quiet --help" ;;
         decode) options="--help" ;;

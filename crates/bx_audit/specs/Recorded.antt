@@ -1,13 +1,12 @@
 -- The records of a day that are written by its journal.
-use Rattle.std.specs.Borrow.{Bor}
-use Rattle.std.specs.Prelude.{◌≡◌, ◌⊎◌, ℕ, Bool, true, false, List, Option, Some, None}
+use Rattle.std.specs.Prelude.{◌≡◌, ◌⊎◌, ℕ, Bool, true, false, List, Option}
 use Rattle.std.specs.Io.KnownBytes.{Appends}
 use Rattle.bx_base.specs.PlanParts.{Parts}
-use Rattle.bx_book.specs.Clocks.{IsClock}
 use Rattle.bx_book.specs.declared.clock.Clock.{Clock}
 use Rattle.bx_day.specs.Day.{Day, opening}
 use Rattle.bx_day.specs.Outages.{live_day_after}
 use Rattle.bx_day.specs.declared.entry.Entry.{Entry}
+use Rattle.bx_day_openings.specs.Recording.{IsClockOf}
 use Rattle.bx_devices.specs.Devices.{Writing, KeepsOutput}
 use Rattle.bx_devices.specs.Octets.{AppendsPrefix}
 use Rattle.bx_events.specs.Events.{LiveEvent}
@@ -33,12 +32,6 @@ pub record IsDayTold (gives : List ℕ → Option (List ℕ) → Type 0) (plan j
   pub events : List LiveEvent
   pub on_record : IsJournal digest before events
   pub after : day ≡ live_day_after events opened
-
--- the clock of the date and the zone that are named, and none where none are
-abbrev pub IsClockOf : Option (Bor (List ℕ) × Bor (List ℕ)) → Option Clock → Type 0
-IsClockOf None None = Unit {0}
-IsClockOf (Some (date, zone)) (Some clock) = IsClock date.now zone.now clock
-IsClockOf _ _ = ⊥
 
 -- the records of this day were written, with the clock that the words name
 pub record IsDayRecorded (gives : List ℕ → Option (List ℕ) → Type 0) (request : RecordsRequest) (day : Day) (output : Writing) : Type 0 where

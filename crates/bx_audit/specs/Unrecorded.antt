@@ -1,25 +1,20 @@
 -- Why the records of a day are not written by its journal, and what was written then.
-use Rattle.std.specs.Borrow.{Bor}
-use Rattle.std.specs.Prelude.{◌≡◌, ◌⊎◌, ℕ, List, Option, Some, None}
-use Rattle.bx_book.specs.NamedDays.{IsDayFault}
+use Rattle.std.specs.Prelude.{◌≡◌, ◌⊎◌, ℕ, List, Option}
 use Rattle.bx_book.specs.declared.clock.Clock.{Clock}
-use Rattle.bx_book.specs.declared.day.DayFault.TheVariants as days
 use Rattle.bx_check_commands.specs.declared.fault.CommandFault.TheVariants.{CannotRead, CannotWrite}
-use Rattle.bx_check_commands.specs.declared.fault.CommandFault.TheVariants as commands
 use Rattle.bx_day.specs.Day.{Day}
 use Rattle.bx_day_openings.specs.OpeningRefusals.{IsNoOpening}
+use Rattle.bx_day_openings.specs.Recording.{IsClockOf, IsNoClock, answer_for}
 use Rattle.bx_day_openings.specs.declared.fault.DayCommandFault.{DayCommandFault}
 use Rattle.bx_day_openings.specs.declared.fault.DayCommandFault.TheVariants.{Command, Journal}
-use Rattle.bx_day_openings.specs.declared.fault.DayCommandFault.TheVariants as faults
 use Rattle.bx_devices.specs.Devices.{Writing, writing_of}
 use Rattle.bx_devices.specs.declared.watched.Watched.{Watched}
 use Rattle.bx_journal.specs.declared.fault.JournalFault.TheVariants.{BadLine, OtherPlan}
 use Rattle.bx_records.specs.Writing.{IsRecordsRefusal}
 use Rattle.bx_records.specs.declared.fault.RecordsFault.{RecordsFault}
-use Rattle.bx_records.specs.declared.fault.RecordsFault.TheVariants.{OutOfRange, WriteFailed, Memory}
 use Rattle.bx_request.specs.declared.request.RecordsRequest.{RecordsRequest}
 use Rattle.bx_audit.specs.AuditRefusals.{IsNoJournalText}
-use Rattle.bx_audit.specs.Recorded.{IsOpeningOf, IsDayTold, IsClockOf}
+use Rattle.bx_audit.specs.Recorded.{IsOpeningOf, IsDayTold}
 
 -- the input of this name is not read, or just this is the first fault of the text that it gave
 abbrev pub IsNoJournalOf : (List ℕ → Option (List ℕ) → Type 0) → List ℕ → List ℕ → DayCommandFault → Type 0
@@ -32,20 +27,9 @@ IsNoJournalOf gives name plan _ = ⊥
 abbrev pub IsUntold : (List ℕ → Option (List ℕ) → Type 0) → List ℕ → List ℕ → DayCommandFault → Type 0
 IsUntold gives plan journal fault = IsNoOpening plan fault ⊎ ((opened : Day) × (digest : List ℕ) × IsOpeningOf gives plan opened digest × IsNoJournalOf gives journal digest fault)
 
--- a date and a zone are named, and name no day
-abbrev pub IsNoClock : Option (Bor (List ℕ) × Bor (List ℕ)) → DayCommandFault → Type 0
-IsNoClock (Some (date, zone)) (faults.Day fault) = IsDayFault date.now zone.now fault
-IsNoClock day fault = ⊥
-
 -- what is tested first is answered: the date and the zone, the plan, the journal
 abbrev pub StopsRecords : (List ℕ → Option (List ℕ) → Type 0) → RecordsRequest → DayCommandFault → Type 0
 StopsRecords gives request fault = IsNoClock request.day fault ⊎ (((clock : Option Clock) × IsClockOf request.day clock) × IsUntold gives request.plan.now request.journal.now fault)
-
--- what a command answers for records that were not written
-abbrev pub answer_for : RecordsFault → DayCommandFault
-answer_for OutOfRange = faults.Day days.OutOfRange
-answer_for WriteFailed = Command CannotWrite
-answer_for Memory = Command commands.Memory
 
 -- a day was told, and why its records were not written, or not whole
 pub record IsUnrecorded (gives : List ℕ → Option (List ℕ) → Type 0) (request : RecordsRequest) (output : Writing) (fault : DayCommandFault) : Type 0 where
@@ -54,7 +38,7 @@ pub record IsUnrecorded (gives : List ℕ → Option (List ℕ) → Type 0) (req
   pub clock : Option Clock
   pub clock_of : IsClockOf request.day clock
   pub cause : RecordsFault
-  pub answered : fault ≡ answer_for cause
+  pub answered : fault ≡ answer_for (Command CannotWrite) cause
   pub refused : IsRecordsRefusal clock day.entries output cause
 
 -- the output is as it was before, or records were refused behind a front of them

@@ -1,35 +1,20 @@
 //! The command that writes the records of a day by its journal.
 
-ghost use Rattle.std.specs.Prelude.{◌≡◌, IfOk, IfErr, OnOk};
+ghost use Rattle.std.specs.Prelude.{IfOk, IfErr, OnOk};
 ghost use Rattle.bx_devices.specs.Devices.{writing_of};
-ghost use Rattle.bx_audit.specs.Recorded.{IsDayTold, IsClockOf, IsTotalsTold, AreRecordsTold};
-ghost use Rattle.bx_audit.specs.Unrecorded.{IsUntold, IsNoClock, IsRecordsCommandRefusal, answer_for};
+ghost use Rattle.bx_audit.specs.Recorded.{IsDayTold, IsTotalsTold, AreRecordsTold};
+ghost use Rattle.bx_audit.specs.Unrecorded.{IsUntold, IsRecordsCommandRefusal};
 
 use crate::audited_files::opened_by;
 use crate::telling::audited_day;
-use bx_book::{Clock, DayFault};
 use bx_check_commands::{CommandFault, Inputs};
 use bx_day::Exchange;
-use bx_day_openings::DayCommandFault;
+use bx_day_openings::{DayCommandFault, clock_of, unrecorded};
 use bx_devices::Watched;
-use bx_records::{RecordsFault, write_records, write_totals};
+use bx_records::{write_records, write_totals};
 use bx_request::RecordsRequest;
 use std::alloc::Global;
 use std::io::Write;
-
-/// The clock of the day that these words name, where one is named.
-fn clock_of<'a>(day: Option<(&'a str, &'a str)>) -> Result<Option<Clock>, DayCommandFault<'a>>
-    ensures clock { IfOk result (IsClockOf day.entry) }
-    ensures none { IfErr result (IsNoClock day.entry) }
-{
-    let Some((date, zone)) = day else {
-        return Ok(None);
-    };
-    match Clock::new(date, zone) {
-        Ok(clock) => Ok(Some(clock)),
-        Err(fault) => Err(DayCommandFault::Day(fault)),
-    }
-}
 
 /// The exchange after just the events of the journal of one input, from the opening of the day of the plan of another on.
 fn told_by<'a, I: Inputs>(
@@ -51,17 +36,6 @@ fn told_by<'a, I: Inputs>(
     };
     let mut no_file: Option<Watched<Vec<u8>>> = None;
     audited_day(journal, &mut input, &digest, exchange, &mut no_file, 0)
-}
-
-/// How a command tells that records were not written.
-fn told<'a>(fault: RecordsFault) -> DayCommandFault<'a>
-    ensures { result ≡ answer_for fault }
-{
-    match fault {
-        RecordsFault::OutOfRange => DayCommandFault::Day(DayFault::OutOfRange),
-        RecordsFault::WriteFailed => DayCommandFault::Command(CommandFault::CannotWrite),
-        RecordsFault::Memory => DayCommandFault::Command(CommandFault::Memory),
-    }
 }
 
 /// Tells the totals, where they are to be told. What becomes of them changes nothing.
@@ -99,6 +73,6 @@ pub fn record_files<'a, I: Inputs, W: Write, E: Write>(
             tell_totals(&exchange, request.is_quiet, errors);
             Ok(())
         }
-        Err(fault) => Err(told(fault)),
+        Err(fault) => Err(unrecorded(fault, DayCommandFault::Command(CommandFault::CannotWrite))),
     }
 }

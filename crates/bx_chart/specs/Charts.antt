@@ -1,5 +1,5 @@
 -- What is written of a plan.
-use Rattle.std.specs.Prelude.{◌≡◌, ◌++◌, true, List, Option, ℕ, codes, decimal}
+use Rattle.std.specs.Prelude.{◌≡◌, ◌++◌, true, List, Option, ℕ, codes}
 use Rattle.std.specs.Io.KnownBytes.{Appends}
 use Rattle.bx_devices.specs.Devices.{Writing, KeepsOutput}
 use Rattle.bx_devices.specs.Octets.{AppendsPrefix}
@@ -7,22 +7,19 @@ use Rattle.bx_base.specs.PlanParts.{Parts}
 use Rattle.bx_book.specs.declared.clock.Clock.{Clock}
 use Rattle.bx_chart.specs.Plain.{is_plain}
 use Rattle.bx_chart.specs.Bars.{bars}
-use Rattle.bx_chart.specs.Hours.{hours}
+use Rattle.bx_chart.specs.Barless.{IsBarless}
+use Rattle.bx_chart.specs.Frames.{head, gain_words, front}
+use Rattle.bx_chart.specs.Hours.{hours, room_of}
 use Rattle.bx_chart.specs.declared.writing.ChartFault.{ChartFault}
 use Rattle.bx_chart.specs.declared.writing.ChartFault.TheVariants as fault
 
--- what one more channel would add, in words
-abbrev pub gain_words : ℕ → List ℕ
-gain_words gain = (codes "; one more channel would add " ++ decimal gain) ++ codes "</text>\n"
-
--- a picture: LF and printable ASCII, with what one more channel would add, the bars of all that the plan accepts in the order of
--- the rows, and the hours at its end
+-- a picture: LF and printable ASCII, with the total and the counts, what one more channel would add, a lane for each channel in
+-- service, the bars of all that the plan accepts in the order of the rows, and no bar behind them; and the hours at its end
 pub record IsChart (plan : Parts) (gain : ℕ) (clock : Option Clock) (text : List ℕ) : Type 0 where
   pub plain : is_plain text ≡ true
-  pub head : List ℕ
-  pub front : List ℕ
   pub between : List ℕ
-  pub parts : text ≡ (((((head ++ gain_words gain) ++ front) ++ bars plan clock) ++ between) ++ hours plan clock) ++ codes "</svg>\n"
+  pub barless : IsBarless between
+  pub parts : text ≡ ((((((head plan (room_of plan clock) ++ gain_words gain) ++ front plan (room_of plan clock)) ++ bars plan clock) ++ codes "</svg>\n") ++ between) ++ hours plan clock) ++ codes "</svg>\n"
 
 -- one was written
 pub record IsDrawn (plan : Parts) (gain : ℕ) (clock : Option Clock) (output : Writing) : Type 0 where

@@ -1,11 +1,14 @@
 //! What stands round the bars: the head of the picture, its legend, and the lanes.
 
-ghost use Rattle.std.specs.Prelude.{◌≡◌, ◌++◌, OnOk};
-ghost use Rattle.bx_chart.specs.Charts.{gain_words};
+ghost use Rattle.std.specs.Prelude.{◌≡◌, ◌++◌, ◌+◌, ◌*◌, ◌≤◌, length, IfOk, OnOk};
+ghost use Rattle.bx_base.specs.Channels.{count_of};
+ghost use Rattle.bx_base.specs.PlanParts.{parts_of};
+ghost use Rattle.bx_chart.specs.Frames.{accepted_below, accepted_words, counts, day_box, day_units, front, gain_words, head, lane, lane_box, lane_name, lanes_below, legend, must_below, must_words, opened, opened_day, paper, row_words, service_words, sized, style, total_words};
+ghost use Rattle.bx_chart.specs.Sheets.{room};
 
 use crate::bars::is_in_service;
 use crate::picture::Picture;
-use crate::sheet::{LANE, LEFT, Sheet, TOP, WIDTH};
+use crate::sheet::{LANE, Sheet, TOP};
 use bx_base::Plan;
 use std::alloc::{AllocError, Global};
 
@@ -45,17 +48,50 @@ const LEGEND: &[u8] =
 ";
 
 /// What stands before the gain of one more channel: the total and the counts.
-pub(crate) fn head(alloc: Global, plan: &Plan, sheet: &Sheet) -> Result<Picture, AllocError> {
+pub(crate) fn head(alloc: Global, plan: &Plan, sheet: &Sheet) -> Result<Picture, AllocError>
+    ensures { IfOk result (λ picture. picture.text.items ≡ head (parts_of plan.now) (room sheet.now)) }
+{
     let mut picture = Picture::new(alloc);
-    picture.add(b"<svg xmlns='http://www.w3.org/2000/svg' version='1.1' width='1200'")?;
-    picture.add_number(b" height='", sheet.height())?;
-    picture.add_number(b"' viewBox='0 0 1200 ", sheet.height())?;
-    picture.add(b"'>\n<title>The plan of a day</title>\n")?;
-    picture.add(STYLE)?;
-    picture.add_number(b"<rect width='1200' height='", sheet.height())?;
-    picture.add(b"' fill='#fff'/>\n")?;
+    open(&mut picture, sheet.height())?;
+    add_style(&mut picture)?;
+    add_paper(&mut picture, sheet.height())?;
     add_counts(&mut picture, plan)?;
     Ok(picture)
+}
+
+/// Opens the whole picture, so high, and names it.
+fn open(picture: &mut Picture, height: u64) -> Result<(), AllocError>
+    ensures { OnOk result (picture.new.text.items ≡ picture.old.text.items ++ opened height) }
+{
+    open_sized(picture, height)?;
+    picture.add(b"'>\n<title>The plan of a day</title>\n")
+}
+
+/// Opens its element.
+fn open_sized(picture: &mut Picture, height: u64) -> Result<(), AllocError>
+    ensures { OnOk result (picture.new.text.items ≡ picture.old.text.items ++ sized height) }
+{
+    picture.add_number(
+        b"<svg xmlns='http://www.w3.org/2000/svg' version='1.1' width='1200' height='",
+        height,
+    )?;
+    picture.add_number(b"' viewBox='0 0 1200 ", height)
+}
+
+/// Adds how each kind of thing looks.
+#[tactic(auto, unfolding(crate::specs::Frames::style))]
+fn add_style(picture: &mut Picture) -> Result<(), AllocError>
+    ensures { OnOk result (picture.new.text.items ≡ picture.old.text.items ++ style) }
+{
+    picture.add(STYLE)
+}
+
+/// Adds the paper, so high.
+fn add_paper(picture: &mut Picture, height: u64) -> Result<(), AllocError>
+    ensures { OnOk result (picture.new.text.items ≡ picture.old.text.items ++ paper height) }
+{
+    picture.add_number(b"<rect width='1200' height='", height)?;
+    picture.add(b"' fill='#fff'/>\n")
 }
 
 /// Adds what one more channel would add, in words.
@@ -67,94 +103,166 @@ pub(crate) fn add_gain(picture: &mut Picture, gain: u64) -> Result<(), AllocErro
 }
 
 /// What stands between that gain and the bars.
-pub(crate) fn front(alloc: Global, plan: &Plan, sheet: &Sheet) -> Result<Picture, AllocError> {
+pub(crate) fn front(alloc: Global, plan: &Plan, sheet: &Sheet) -> Result<Picture, AllocError>
+    ensures { IfOk result (λ picture. picture.text.items ≡ front (parts_of plan.now) (room sheet.now)) }
+{
     let mut picture = Picture::new(alloc);
-    picture.add(LEGEND)?;
+    add_legend(&mut picture)?;
     add_lanes(&mut picture, plan)?;
     open_day(&mut picture, sheet)?;
     Ok(picture)
 }
 
-/// How many rows are accepted, and how many of these are must.
-fn accepted_of(plan: &Plan) -> (u64, u64) {
-    let mut accepted = 0u64;
-    let mut must = 0u64;
+/// Adds the samples of the legend.
+#[tactic(auto, unfolding(crate::specs::Frames::legend))]
+fn add_legend(picture: &mut Picture) -> Result<(), AllocError>
+    ensures { OnOk result (picture.new.text.items ≡ picture.old.text.items ++ legend) }
+{
+    picture.add(LEGEND)
+}
+
+/// How many rows are accepted.
+fn accepted_of(plan: &Plan) -> u16
+    ensures value { result ≡ accepted_below (parts_of plan.now) (length plan.now.bookings) }
+    ensures limit { result ≤ length plan.now.bookings }
+{
+    let mut accepted = 0;
     for index in 0..plan.bookings.len() {
         if plan.assigned[index as usize].is_some() {
-            accepted = accepted.saturating_add(1);
-            if plan.bookings.nth(index).is_must() {
-                must = must.saturating_add(1);
-            }
+            accepted += 1;
         }
     }
-    (accepted, must)
+    accepted
+}
+
+/// How many of these are must.
+fn must_of(plan: &Plan) -> u16
+    ensures { result ≡ must_below (parts_of plan.now) (length plan.now.bookings) }
+{
+    let mut must = 0;
+    for index in 0..plan.bookings.len() {
+        if plan.assigned[index as usize].is_some() && plan.bookings.nth(index).is_must() {
+            must += 1;
+        }
+    }
+    must
 }
 
 /// Adds the total and the counts.
-fn add_counts(picture: &mut Picture, plan: &Plan) -> Result<(), AllocError> {
-    let (accepted, must) = accepted_of(plan);
-    let rows = u64::from(plan.bookings.len());
-    picture.add_number(b"<text class='head' x='56' y='26'>Total ", plan.total)?;
-    picture.add_number(b"</text>\n<text x='56' y='46'>", accepted)?;
-    picture.add_number(b" of ", rows)?;
+fn add_counts(picture: &mut Picture, plan: &Plan) -> Result<(), AllocError>
+    ensures { OnOk result (picture.new.text.items ≡ picture.old.text.items ++ counts (parts_of plan.now)) }
+{
+    add_total(picture, plan.total)?;
+    add_rows(
+        picture,
+        accepted_of(plan),
+        plan.bookings.len(),
+        must_of(plan),
+    )?;
+    add_service(picture, u64::from(plan.channels.count()))
+}
+
+/// Adds how many channels are in service.
+fn add_service(picture: &mut Picture, count: u64) -> Result<(), AllocError>
+    ensures { OnOk result (picture.new.text.items ≡ picture.old.text.items ++ service_words count) }
+{
+    picture.add_number(b" refused; channels in service: ", count)
+}
+
+/// Adds the total, in words.
+fn add_total(picture: &mut Picture, total: u64) -> Result<(), AllocError>
+    ensures { OnOk result (picture.new.text.items ≡ picture.old.text.items ++ total_words total) }
+{
+    picture.add_number(b"<text class='head' x='56' y='26'>Total ", total)?;
+    picture.add(b"</text>\n")
+}
+
+/// Adds how many rows are accepted, of how many, how many of those are must, and how many are refused.
+fn add_rows(picture: &mut Picture, accepted: u16, rows: u16, must: u16) -> Result<(), AllocError>
+    requires { accepted ≤ rows }
+    ensures { OnOk result (picture.new.text.items ≡ picture.old.text.items ++ row_words accepted rows must) }
+{
+    add_accepted(picture, u64::from(accepted), u64::from(rows))?;
+    add_must(picture, u64::from(must), u64::from(rows - accepted))
+}
+
+/// Adds how many rows are accepted, and of how many.
+fn add_accepted(picture: &mut Picture, accepted: u64, rows: u64) -> Result<(), AllocError>
+    ensures { OnOk result (picture.new.text.items ≡ picture.old.text.items ++ accepted_words accepted rows) }
+{
+    picture.add_number(b"<text x='56' y='46'>", accepted)?;
+    picture.add_number(b" of ", rows)
+}
+
+/// Adds how many are must, and how many are refused.
+fn add_must(picture: &mut Picture, must: u64, refused: u64) -> Result<(), AllocError>
+    ensures { OnOk result (picture.new.text.items ≡ picture.old.text.items ++ must_words must refused) }
+{
     picture.add_number(b" calls accepted, ", must)?;
-    picture.add_number(b" of them must; ", rows.saturating_sub(accepted))?;
-    picture.add_number(
-        b" refused; channels in service: ",
-        u64::from(plan.channels.count()),
-    )
+    picture.add_number(b" of them must; ", refused)
 }
 
 /// Adds a lane for each channel in service, with its number.
-fn add_lanes(picture: &mut Picture, plan: &Plan) -> Result<(), AllocError> {
+fn add_lanes(picture: &mut Picture, plan: &Plan) -> Result<(), AllocError>
+    ensures { OnOk result (picture.new.text.items ≡ picture.old.text.items ++ lanes_below (parts_of plan.now).channels 32) }
+{
     let mut top = TOP;
-    for number in 1..32u8 {
+    for number in 0..32u8 {
         if is_in_service(&plan.channels, number) {
             add_lane(picture, number, top)?;
-            top = top.saturating_add(LANE);
+            top += LANE;
         }
     }
     Ok(())
 }
 
-/// Adds the lane of a channel.
-fn add_lane(picture: &mut Picture, number: u8, top: u64) -> Result<(), AllocError> {
-    picture.add_number(b"<rect class='lane' x='", LEFT)?;
-    picture.add_number(b"' y='", top.saturating_add(1))?;
-    picture.add_number(b"' width='", WIDTH)?;
-    picture.add_number(b"' height='", LANE - 2)?;
-    picture.add_number(
-        b"'/><text class='small right' x='50' y='",
-        top.saturating_add(12),
-    )?;
-    picture.add_number(b"'>", u64::from(number))?;
+/// Adds the lane of a channel, so many down, and its number.
+fn add_lane(picture: &mut Picture, number: u8, top: u64) -> Result<(), AllocError>
+    requires { top ≤ 1000 }
+    ensures { OnOk result (picture.new.text.items ≡ picture.old.text.items ++ lane number top) }
+{
+    add_lane_box(picture, top + 1)?;
+    add_lane_name(picture, top + 12, u64::from(number))
+}
+
+/// Adds the box of a lane, so many down.
+fn add_lane_box(picture: &mut Picture, down: u64) -> Result<(), AllocError>
+    ensures { OnOk result (picture.new.text.items ≡ picture.old.text.items ++ lane_box down) }
+{
+    picture.add_number(b"<rect class='lane' x='56' y='", down)?;
+    picture.add(b"' width='1120' height='14'/>")
+}
+
+/// Adds the number of a lane, so many down.
+fn add_lane_name(picture: &mut Picture, down: u64, number: u64) -> Result<(), AllocError>
+    ensures { OnOk result (picture.new.text.items ≡ picture.old.text.items ++ lane_name down number) }
+{
+    picture.add_number(b"<text class='small right' x='50' y='", down)?;
+    picture.add_number(b"'>", number)?;
     picture.add(b"</text>\n")
 }
 
 /// Opens the part whose units are the seconds of the day and tenths of lanes.
-fn open_day(picture: &mut Picture, sheet: &Sheet) -> Result<(), AllocError> {
+fn open_day(picture: &mut Picture, sheet: &Sheet) -> Result<(), AllocError>
+    ensures { OnOk result (picture.new.text.items ≡ picture.old.text.items ++ opened_day (room sheet.now)) }
+{
     let lanes = u64::from(sheet.lanes);
-    picture.add_number(b"<svg x='", LEFT)?;
-    picture.add_number(b"' y='", TOP)?;
-    picture.add_number(b"' width='", WIDTH)?;
-    picture.add_number(b"' height='", LANE * lanes)?;
-    picture.add_number(b"' viewBox='0 0 ", u64::from(sheet.seconds))?;
-    picture.add_number(b" ", 10 * lanes)?;
-    picture.add(b"' preserveAspectRatio='none'>\n")
+    open_day_box(picture, LANE * lanes)?;
+    add_day_units(picture, u64::from(sheet.seconds), 10 * lanes)
 }
 
-/// Adds the head of a band whose units are the seconds of the day and so many steps.
-pub(crate) fn open_band(
-    picture: &mut Picture,
-    sheet: &Sheet,
-    top: u64,
-    steps: u64,
-) -> Result<(), AllocError> {
-    picture.add_number(b"<svg x='", LEFT)?;
-    picture.add_number(b"' y='", top)?;
-    picture.add_number(b"' width='", WIDTH)?;
-    picture.add_number(b"' height='", crate::sheet::BAND)?;
-    picture.add_number(b"' viewBox='0 0 ", u64::from(sheet.seconds))?;
-    picture.add_number(b" ", steps)?;
+/// Opens that element, so high.
+fn open_day_box(picture: &mut Picture, height: u64) -> Result<(), AllocError>
+    ensures { OnOk result (picture.new.text.items ≡ picture.old.text.items ++ day_box height) }
+{
+    picture.add_number(b"<svg x='56' y='92' width='1120' height='", height)
+}
+
+/// Adds how many units wide and high it is.
+fn add_day_units(picture: &mut Picture, wide: u64, high: u64) -> Result<(), AllocError>
+    ensures { OnOk result (picture.new.text.items ≡ picture.old.text.items ++ day_units wide high) }
+{
+    picture.add_number(b"' viewBox='0 0 ", wide)?;
+    picture.add_number(b" ", high)?;
     picture.add(b"' preserveAspectRatio='none'>\n")
 }

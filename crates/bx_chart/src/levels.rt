@@ -2,9 +2,8 @@
 
 ghost use Rattle.std.specs.Prelude.{◌≤◌};
 
-use crate::frame::open_band;
-use crate::picture::Picture;
-use crate::sheet::{BAND, Sheet};
+use crate::barless::Barless;
+use crate::sheet::{BAND, LEFT, Sheet, WIDTH};
 use bx_base::Plan;
 use std::alloc::{AllocError, Global};
 
@@ -48,37 +47,53 @@ fn most_of(changes: &[(u32, bool)]) -> u64 {
 /// Adds the band of how many calls are refused at each moment.
 pub(crate) fn add_refused(
     alloc: Global,
-    picture: &mut Picture,
+    piece: &mut Barless,
     plan: &Plan,
     sheet: &Sheet,
 ) -> Result<(), AllocError> {
     let changes = changes_of(alloc, plan)?;
     let most = most_of(&changes);
     let top = sheet.refused_top();
-    picture.add_number(b"<text x='56' y='", top - 6)?;
-    picture.add_number(b"'>Refused calls at each moment, ", most)?;
-    picture.add(b" at most</text>\n")?;
-    add_scale(picture, top, most)?;
-    open_band(picture, sheet, top, if most == 0 { 1 } else { most })?;
-    picture.add_number(b"<path class='refused' d='M0 ", most)?;
+    piece.add_number(b"<text x='56' y='", top - 6)?;
+    piece.add_number(b"'>Refused calls at each moment, ", most)?;
+    piece.add(b" at most</text>\n")?;
+    add_scale(piece, top, most)?;
+    open_band(piece, sheet, top, if most == 0 { 1 } else { most })?;
+    piece.add_number(b"<path class='refused' d='M0 ", most)?;
     let mut level = 0;
     for (moment, rises) in &changes {
         level = level_behind(level, *rises);
-        picture.add_number(b"H", u64::from(*moment))?;
-        picture.add_number(b"V", most.saturating_sub(level))?;
+        piece.add_number(b"H", u64::from(*moment))?;
+        piece.add_number(b"V", most.saturating_sub(level))?;
     }
-    picture.add(b"Z'/>\n</svg>\n")
+    piece.add(b"Z'/>\n</svg>\n")
 }
 
 /// Adds the edge of a band and the numbers beside it.
-pub(crate) fn add_scale(picture: &mut Picture, top: u64, most: u64) -> Result<(), AllocError>
+pub(crate) fn add_scale(piece: &mut Barless, top: u64, most: u64) -> Result<(), AllocError>
     requires { top ≤ 900 }
 {
-    picture.add_number(b"<path class='edge' d='M56 ", top)?;
-    picture.add_number(b"V", top + BAND)?;
-    picture.add(b"H1176'/>\n")?;
-    picture.add_number(b"<text class='small right' x='50' y='", top + 8)?;
-    picture.add_number(b"'>", most)?;
-    picture.add_number(b"</text><text class='small right' x='50' y='", top + BAND)?;
-    picture.add(b"'>0</text>\n")
+    piece.add_number(b"<path class='edge' d='M56 ", top)?;
+    piece.add_number(b"V", top + BAND)?;
+    piece.add(b"H1176'/>\n")?;
+    piece.add_number(b"<text class='small right' x='50' y='", top + 8)?;
+    piece.add_number(b"'>", most)?;
+    piece.add_number(b"</text><text class='small right' x='50' y='", top + BAND)?;
+    piece.add(b"'>0</text>\n")
+}
+
+/// Adds the head of a band whose units are the seconds of the day and so many steps.
+pub(crate) fn open_band(
+    piece: &mut Barless,
+    sheet: &Sheet,
+    top: u64,
+    steps: u64,
+) -> Result<(), AllocError> {
+    piece.add_number(b"<svg x='", LEFT)?;
+    piece.add_number(b"' y='", top)?;
+    piece.add_number(b"' width='", WIDTH)?;
+    piece.add_number(b"' height='", BAND)?;
+    piece.add_number(b"' viewBox='0 0 ", u64::from(sheet.seconds))?;
+    piece.add_number(b" ", steps)?;
+    piece.add(b"' preserveAspectRatio='none'>\n")
 }

@@ -1,6 +1,7 @@
 //! A plan as a picture.
 #![tactic(auto)]
 
+mod barless;
 mod bars;
 mod frame;
 mod hours;

@@ -1,6 +1,6 @@
 //! The text of a picture.
 
-ghost use Rattle.std.specs.Prelude.{◌≡◌, ◌++◌, [], true, OnOk, decimal};
+ghost use Rattle.std.specs.Prelude.{◌≡◌, ◌++◌, [], true, OnOk, OnErr, decimal};
 ghost use Rattle.bx_chart.specs.Plain.{is_plain};
 
 use itoa::Buffer;
@@ -34,14 +34,16 @@ impl Picture {
     /// Adds octets.
     pub(crate) fn add(&mut self, octets: &[u8]) -> Result<(), AllocError>
         requires { is_plain octets.now ≡ true }
-        ensures { OnOk result (self.new.text.items ≡ self.old.text.items ++ octets.now) }
+        ensures added { OnOk result (self.new.text.items ≡ self.old.text.items ++ octets.now) }
+        ensures stays { OnErr result (self.new.text.items ≡ self.old.text.items) }
     {
         self.text.extend_from_slice(octets)
     }
 
     /// Adds a decimal.
     pub(crate) fn add_decimal(&mut self, number: u64) -> Result<(), AllocError>
-        ensures { OnOk result (self.new.text.items ≡ self.old.text.items ++ decimal number) }
+        ensures added { OnOk result (self.new.text.items ≡ self.old.text.items ++ decimal number) }
+        ensures stays { OnErr result (self.new.text.items ≡ self.old.text.items) }
     {
         self.add(Buffer::new().format(number).as_bytes())
     }

@@ -1,8 +1,7 @@
 //! The prices of the day.
 
-use crate::frame::open_band;
-use crate::levels::add_scale;
-use crate::picture::Picture;
+use crate::barless::Barless;
+use crate::levels::{add_scale, open_band};
 use crate::sheet::Sheet;
 use bx_base::{Plan, Price};
 use std::alloc::AllocError;
@@ -19,25 +18,25 @@ fn sum_of(prices: &[Price]) -> u64 {
 /// Adds the prices as steps, each as high as what stands before and at its moment: what a call's seconds cost is how far the
 /// steps rise from its start to its end.
 pub(crate) fn add_prices(
-    picture: &mut Picture,
+    piece: &mut Barless,
     plan: &Plan,
     sheet: &Sheet,
 ) -> Result<(), AllocError> {
     let all = sum_of(&plan.prices);
     let top = sheet.prices_top();
-    picture.add_number(b"<text x='56' y='", top - 6)?;
-    picture.add_number(b"'>Prices, summed from midnight on, ", all)?;
-    picture.add(b" in all: the seconds of a call cost what the steps rise under it</text>\n")?;
-    add_scale(picture, top, all)?;
-    open_band(picture, sheet, top, if all == 0 { 1 } else { all })?;
-    picture.add_number(b"<path class='prices' d='M0 ", all)?;
+    piece.add_number(b"<text x='56' y='", top - 6)?;
+    piece.add_number(b"'>Prices, summed from midnight on, ", all)?;
+    piece.add(b" in all: the seconds of a call cost what the steps rise under it</text>\n")?;
+    add_scale(piece, top, all)?;
+    open_band(piece, sheet, top, if all == 0 { 1 } else { all })?;
+    piece.add_number(b"<path class='prices' d='M0 ", all)?;
     let mut sum = 0u64;
     for price in &plan.prices {
         sum = sum.saturating_add(price.amount);
-        picture.add_number(b"H", u64::from(price.moment))?;
-        picture.add_number(b"V", all.saturating_sub(sum))?;
+        piece.add_number(b"H", u64::from(price.moment))?;
+        piece.add_number(b"V", all.saturating_sub(sum))?;
     }
-    picture.add_number(b"H", u64::from(sheet.seconds))?;
-    picture.add_number(b"V", all)?;
-    picture.add(b"Z'/>\n</svg>\n")
+    piece.add_number(b"H", u64::from(sheet.seconds))?;
+    piece.add_number(b"V", all)?;
+    piece.add(b"Z'/>\n</svg>\n")
 }

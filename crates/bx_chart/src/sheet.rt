@@ -66,6 +66,7 @@ fn lanes_of(plan: &Plan) -> u8
 }
 
 impl Sheet {
+    ghost use Rattle.bx_chart.specs.Frames.{height};
     ghost use Rattle.bx_chart.specs.Sheets.{room};
 
     /// The sheet of a plan: of the whole day, or of 86,400 seconds where none is given, and up to its latest end.
@@ -103,7 +104,8 @@ impl Sheet {
 
     /// The end of the picture.
     pub(crate) fn height(&self) -> u64
-        ensures { result ≤ 1100 }
+        ensures value { result ≡ height (room self.now) }
+        ensures limit { result ≤ 1100 }
     {
         self.prices_top() + BAND + 24
     }

@@ -5,6 +5,7 @@ ghost use Rattle.bx_devices.specs.Devices.{writing_of};
 ghost use Rattle.bx_base.specs.PlanParts.{parts_of};
 ghost use Rattle.bx_chart.specs.Charts.{IsChart, IsDrawn, IsChartRefusal};
 
+use crate::barless::Barless;
 use crate::bars::bars;
 use crate::frame::{add_gain, front, head};
 use crate::hours::add_hours;
@@ -12,7 +13,7 @@ use crate::levels::add_refused;
 use crate::picture::Picture;
 use crate::prices::add_prices;
 use crate::sheet::Sheet;
-use crate::starts::starts;
+use crate::starts::add_starts;
 use bx_base::Plan;
 use bx_book::Clock;
 use bx_devices::{Watched, write_octets};
@@ -32,14 +33,12 @@ pub enum ChartFault {
 }
 
 /// What stands between the bars and the hours.
-fn between(alloc: Global, plan: &Plan, sheet: &Sheet) -> Result<Picture, AllocError> {
-    let mut picture = Picture::new(alloc);
-    picture.add(b"</svg>\n")?;
-    let starts = starts(alloc, plan, sheet)?;
-    picture.add(starts.text())?;
-    add_refused(alloc, &mut picture, plan, sheet)?;
-    add_prices(&mut picture, plan, sheet)?;
-    Ok(picture)
+fn between(alloc: Global, plan: &Plan, sheet: &Sheet) -> Result<Barless, AllocError> {
+    let mut piece = Barless::new(alloc);
+    add_starts(&mut piece, plan, sheet)?;
+    add_refused(alloc, &mut piece, plan, sheet)?;
+    add_prices(&mut piece, plan, sheet)?;
+    Ok(piece)
 }
 
 /// The whole picture.
@@ -59,6 +58,7 @@ fn chart(
     let between = between(alloc, plan, &sheet)?;
     picture.add(front.text())?;
     picture.add(bars.text())?;
+    picture.add(b"</svg>\n")?;
     picture.add(between.text())?;
     add_hours(&mut picture, &sheet, clock)?;
     picture.add(b"</svg>\n")?;

@@ -15,8 +15,9 @@ use bx_audit::{audit_files, record_files};
 use bx_check_commands::{CommandFault, FilesAndInput, check_self, decode};
 use bx_day_commands::run_day_on_files;
 use bx_devices::{Watched, write_octets};
-use bx_live_commands::live_on_files;
+use bx_live_commands::{live_on_files, rehearse_on_files};
 use bx_plan_commands::run_on_files;
+use bx_rejoin_commands::rejoin_on_files;
 use bx_request::Request;
 use bx_words::{Refusal, read_words};
 use std::fmt::Display;
@@ -51,9 +52,9 @@ pub fn main_words<
     ensures refused { words.now ≡ [] → result ≢ 0 → (result ≡ 1) × (fault : CommandFault) × IsRefusal (reading_of R.remaining input.old input.new) (writing_of W.contents output.old output.new) fault }
     ensures status { result ≤ 2 }
     // With words, 0 says that some command is done, or that a text that was asked for was written.
-    ensures words { words.now ≢ [] → result ≡ 0 → ((request : Request) × IsRequestDone (R.remaining (device_of input.old)) request H.File.contents W.contents output.old output.new) ⊎ ((text : List ℕ) × Appends (W.contents (device_of output.old)) (W.contents (device_of output.new)) text) }
+    ensures words { words.now ≢ [] → result ≡ 0 → ((request : Request) × IsRequestDone H (R.remaining (device_of input.old)) request H.File.contents W.contents output.old output.new) ⊎ ((text : List ℕ) × Appends (W.contents (device_of output.old)) (W.contents (device_of output.new)) text) }
     // And 1 says that some command is refused, or such a text was not written whole, or nothing was done.
-    ensures not_done { words.now ≢ [] → result ≡ 1 → ((request : Request) × IsRequestRefused (R.remaining (device_of input.old)) request H.File.contents W.contents output.old output.new) ⊎ ((text : List ℕ) × (is_faulted output.new ≡ true) × AppendsPrefix (W.contents (device_of output.old)) (W.contents (device_of output.new)) text) ⊎ (output.new ≡ output.old) }
+    ensures not_done { words.now ≢ [] → result ≡ 1 → ((request : Request) × IsRequestRefused H (R.remaining (device_of input.old)) request H.File.contents W.contents output.old output.new) ⊎ ((text : List ℕ) × (is_faulted output.new ≡ true) × AppendsPrefix (W.contents (device_of output.old)) (W.contents (device_of output.new)) text) ⊎ (output.new ≡ output.old) }
 {
     if words.is_empty() {
         return match check_self(rt.alloc(), input, output) {
@@ -88,8 +89,8 @@ fn run<
     is_terminal: bool,
 ) -> u8
     ensures status { result ≤ 1 }
-    ensures done { result ≡ 0 → IsRequestDone (R.remaining (device_of input.old)) request.entry H.File.contents W.contents output.old output.new }
-    ensures refused { result ≢ 0 → IsRequestRefused (R.remaining (device_of input.old)) request.entry H.File.contents W.contents output.old output.new }
+    ensures done { result ≡ 0 → IsRequestDone H (R.remaining (device_of input.old)) request.entry H.File.contents W.contents output.old output.new }
+    ensures refused { result ≢ 0 → IsRequestRefused H (R.remaining (device_of input.old)) request.entry H.File.contents W.contents output.old output.new }
 {
     let mut inputs = FilesAndInput::new(rt, input);
     match request {
@@ -100,6 +101,18 @@ fn run<
         Request::Day(request) => {
             status_of(
                 run_day_on_files(rt, &mut inputs, request, output, is_terminal),
+                errors,
+            )
+        }
+        Request::Rehearsal(request) => {
+            status_of(
+                rehearse_on_files(rt, &mut inputs, request, output, is_terminal),
+                errors,
+            )
+        }
+        Request::Rejoin(request) => {
+            status_of(
+                rejoin_on_files(rt, &mut inputs, request, output, is_terminal),
                 errors,
             )
         }

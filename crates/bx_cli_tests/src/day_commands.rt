@@ -3,7 +3,7 @@
 use crate::file_commands::Case;
 use crate::program::Answer::{Fails, Misused, Prints};
 
-pub(crate) static DAYS: [Case; 23] = [
+pub(crate) static DAYS: [Case; 34] = [
     (
         "day @one.txt @answer.csv --turns 98",
         Prints("1 carried 1 60\nmaintenance none\n"),
@@ -48,6 +48,44 @@ pub(crate) static DAYS: [Case; 23] = [
         "far @answer.csv --port 1 --capture @gone/day.pcap",
         Fails("bx: F5 CannotWrite @gone/day.pcap\n"),
     ),
+    (
+        "day @one.txt @answer.csv --records @gone/day.csv",
+        Fails("bx: F5 CannotWrite @gone/day.csv\n"),
+    ),
+    (
+        "day @one.txt @answer.csv --records @ --quiet",
+        Fails("bx: F5 CannotWrite @\n"),
+    ),
+    (
+        "day @one.txt @answer.csv --records @gone/day.csv --capture @gone/day.pcap",
+        Fails("bx: F5 CannotWrite @gone/day.pcap\n"),
+    ),
+    (
+        "day @one.txt @dance.csv --records @gone/day.csv",
+        Fails("bx: S3 BadEntry 1\n"),
+    ),
+    (
+        "day @gone @gone --records @gone/day.csv --date 2026-02-29",
+        Fails("bx: A1 BadDate\n"),
+    ),
+    (
+        "day @gone @gone --records @gone/day.csv --date 9999-12-31",
+        Fails("bx: A3 OutOfRange\n"),
+    ),
+    (
+        "serve @gone --port 1 --records @gone/day.csv --date 2026-01-05 --zone x",
+        Fails("bx: A2 BadZone\n"),
+    ),
+    (
+        "serve @one.txt --port 1 --records @gone/day.csv",
+        Fails("bx: F5 CannotWrite @gone/day.csv\n"),
+    ),
+    (
+        "serve @one.txt --socket @gone/link --records @ --date 2026-01-05",
+        Fails("bx: F5 CannotWrite @\n"),
+    ),
+    ("far @answer.csv --socket @gone --records @day.csv", Misused),
+    ("serve @one.txt --port 1 --socket @gone", Misused),
     ("day @one.txt @answer.csv --date 2026-01-05", Misused),
     ("day @four.txt @dance.csv", Fails("bx: S3 BadEntry 1\n")),
     ("day @short.txt @gone", Fails("bx: P1 BadLine 3\n")),

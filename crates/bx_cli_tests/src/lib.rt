@@ -16,6 +16,8 @@ mod check_devices;
 #[cfg(test)]
 mod day_commands;
 #[cfg(test)]
+mod day_records;
+#[cfg(test)]
 mod file_commands;
 #[cfg(test)]
 mod files;
@@ -33,6 +35,10 @@ mod program;
 mod quote_commands;
 #[cfg(test)]
 mod records;
+#[cfg(test)]
+mod rehearsals;
+#[cfg(test)]
+mod rejoining;
 #[cfg(test)]
 mod standard_input;
 #[cfg(test)]

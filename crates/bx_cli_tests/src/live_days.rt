@@ -10,8 +10,12 @@ use std::test::Fail;
 /// A day whose peer never comes.
 const MISSED: &str = "1 missed\nmaintenance none\n";
 
+/// Its records, in the clock of the day.
+const RECORDS: &str =
+    "row,direction,number,channel,start,end,pay,outcome,from,until,seconds\n1,out,1234,1,2020-01-01T00:00:00+00:00,2020-01-01T00:01:00+00:00,5,missed,,,\n";
+
 /// Days that go by, and go on from their journals; and why others do not.
-static DAYS: [Case; 18] = [
+static DAYS: [Case; 20] = [
     (
         "serve @one.txt --socket @live --live --date 2020-01-01",
         Prints(MISSED),
@@ -54,6 +58,14 @@ static DAYS: [Case; 18] = [
         Fails("bx: F5 CannotWrite @gone/day.pcap\n"),
     ),
     (
+        "serve @one.txt --socket @live --live --date 2020-01-01 --records @day.csv",
+        Prints(MISSED),
+    ),
+    (
+        "serve @one.txt --socket @live --live --date 2020-01-01 --capture @gone/day.pcap --records @gone/day.csv",
+        Fails("bx: F5 CannotWrite @gone/day.pcap\n"),
+    ),
+    (
         "serve @one.txt --socket @gone/live --live --date 2020-01-01 --journal @one.csv",
         Fails("bx: F3 CannotListen\n"),
     ),
@@ -81,7 +93,7 @@ static DAYS: [Case; 18] = [
 ];
 
 /// Words of days that are wrong.
-static WRONG: [Case; 10] = [
+static WRONG: [Case; 8] = [
     ("serve @one.txt --live --date 2020-01-01", Misused),
     (
         "serve @one.txt --port 1 --socket @live --live --date 2020-01-01",
@@ -89,8 +101,6 @@ static WRONG: [Case; 10] = [
     ),
     ("serve @one.txt --port 1 --date 2020-01-01", Misused),
     ("serve @one.txt --port 1 --pace 5", Misused),
-    ("serve @one.txt --port 1 --journal @day.journal", Misused),
-    ("serve @one.txt --socket @live", Misused),
     (
         "serve @one.txt --port 1 --live --date 2020-01-01 --pace 0",
         Misused,
@@ -144,6 +154,11 @@ fn days_that_have_gone_by(rt: HostRuntime) -> Result<(), Fail> {
     assert!(rt;
         holds(&rt, &folder, "@short.journal", "", 98)?,
         "the day went on"
+    );
+    let path = placed(rt.alloc(), "@day.csv", &folder)?;
+    assert_eq!(rt;
+        fs::read(&rt, path.as_str())?.as_slice(),
+        RECORDS.as_bytes()
     );
     fs::remove_dir_all(&rt, folder.as_str())?;
     Ok(())

@@ -1,8 +1,9 @@
-//! Ports that are taken, and that nobody serves.
+//! Ports and sockets that are taken, and that nobody serves.
 
 use crate::files::{does, folder};
 use std::fs;
 use std::net::TcpListener;
+use std::os::unix::net::UnixListener;
 use std::test::Fail;
 
 #[test]
@@ -17,6 +18,51 @@ fn ports_in_use_and_not(rt: HostRuntime) -> Result<(), Fail> {
     let words = format!(in rt.alloc(); "far @answer.csv --port {port}")?;
     let refused = (1, "", "bx: F4 CannotConnect\n");
     assert!(rt; does(&rt, &folder, &words, refused)?, "nobody");
+    fs::remove_dir_all(&rt, folder.as_str())?;
+    Ok(())
+}
+
+/// Words of which nothing is listened on, or connected to, with the fault. At `@left` lies the file of a socket that nobody listens on.
+static SOCKETS: [(&str, &str); 5] = [
+    ("serve @one.txt --socket @one.csv", "bx: F3 CannotListen\n"),
+    (
+        "serve @one.txt --socket @gone/link",
+        "bx: F3 CannotListen\n",
+    ),
+    ("far @answer.csv --socket @left", "bx: F4 CannotConnect\n"),
+    ("far @answer.csv --socket @gone", "bx: F4 CannotConnect\n"),
+    (
+        "far @answer.csv --socket @one.csv",
+        "bx: F4 CannotConnect\n",
+    ),
+];
+
+/// The first words that are answered otherwise.
+fn first_wrong(rt: &HostRuntime, folder: &str) -> Result<Option<&'static str>, Fail> {
+    for (words, fault) in &SOCKETS {
+        if !does(rt, folder, words, (1, "", fault))? {
+            return Ok(Some(words));
+        }
+    }
+    Ok(None)
+}
+
+#[test]
+fn sockets_in_use_and_not(rt: HostRuntime) -> Result<(), Fail> {
+    let folder = folder(&rt)?;
+    let path = format!(in rt.alloc(); "{folder}/left")?;
+    let listener = UnixListener::bind(&rt, path.as_str())?;
+    let refused = (1, "", "bx: F3 CannotListen\n");
+    assert!(rt;
+        does(&rt, &folder, "serve @one.txt --socket @left", refused)?,
+        "taken"
+    );
+    drop(listener);
+    let file = format!(in rt.alloc(); "{folder}/one.csv")?;
+    let before = fs::read(&rt, file.as_str())?;
+    assert_eq!(rt; first_wrong(&rt, &folder)?, None);
+    let after = fs::read(&rt, file.as_str())?;
+    assert!(rt; before.as_slice() == after.as_slice(), "an ordinary file");
     fs::remove_dir_all(&rt, folder.as_str())?;
     Ok(())
 }

@@ -11,7 +11,7 @@ pub(crate) struct Done {
     pub(crate) errors: Vec<u8>,
 }
 
-/// A status, standard output, and how standard error begins.
+/// A status, standard output, and standard error; at status 2 how that begins.
 pub(crate) type Expected<'a> = (u8, &'a str, &'a str);
 
 /// What is answered, of which there are three kinds.
@@ -19,7 +19,7 @@ pub(crate) type Expected<'a> = (u8, &'a str, &'a str);
 pub(crate) enum Answer {
     /// Status 0, and this on standard output.
     Prints(&'static str),
-    /// Status 1, and a standard error that begins so.
+    /// Status 1, and this on standard error.
     Fails(&'static str),
     /// Status 2, and a standard error that tells what is wrong with the words.
     Misused,
@@ -47,13 +47,15 @@ pub(crate) fn run(rt: &HostRuntime, words: &[&str], text: &str) -> Done {
     }
 }
 
-/// Whether this is done. Where nothing is expected on standard error, nothing stands there.
+/// Whether just this is done. What is wrong with words is told in lines of `clap`'s, of which the first is looked at.
 pub(crate) fn is_done(done: &Done, expected: Expected<'_>) -> bool {
     let (status, output, errors) = expected;
-    done.status == status
-        && done.output.as_slice() == output.as_bytes()
-        && done.errors.starts_with(errors.as_bytes())
-        && done.errors.is_empty() == errors.is_empty()
+    let is_told = if status == 2 {
+        done.errors.starts_with(errors.as_bytes())
+    } else {
+        done.errors.as_slice() == errors.as_bytes()
+    };
+    is_told && done.status == status && done.output.as_slice() == output.as_bytes()
 }
 
 /// Whether an output that takes so many octets, one at a time, has just that front of this text, and the failure is printed and

@@ -51,7 +51,7 @@ static FILES: [(&str, &str); 10] = [
 ];
 
 /// The folder of the cases, with these files.
-fn folder_of_records(rt: &HostRuntime) -> Result<String, Fail> {
+pub(crate) fn folder_of_records(rt: &HostRuntime) -> Result<String, Fail> {
     let folder = folder(rt)?;
     for (name, text) in &FILES {
         let path = format!(in rt.alloc(); "{folder}/{name}")?;

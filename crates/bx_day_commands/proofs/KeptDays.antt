@@ -1,5 +1,6 @@
 -- What was kept of a day that was run.
-use Rattle.std.proofs.Common.{◌≡◌, ◌∙◌, ℕ, ◌⊎◌, inl, inr, Bool, true, List, Option, Some, None, Result, Ok, Err, OnOk, refl, sym, subst}
+use Rattle.std.proofs.Common.{◌≡◌, ◌∙◌, ℕ, ◌⊎◌, inl, inr, Bool, true, List, Option, Some, None, Result, Ok, Err, IsOk, OnOk, refl, sym, subst}
+use Rattle.std.specs.Prelude.{IfOk, IfErr}
 use Rattle.bx_devices.specs.declared.watched.Watched.{Watched}
 use Rattle.bx_events.specs.Events.{Event}
 use Rattle.bx_turns.specs.Courses.{told}
@@ -7,11 +8,14 @@ use Rattle.bx_capture.specs.Captures.{IsCaptured, Keeps, is_unfaulted}
 use Rattle.bx_day.specs.Day.{Day}
 use Rattle.bx_far.specs.FarDay.{FarDay}
 use Rattle.bx_day_openings.specs.CaptureOpenings.{IsFileFor}
+use Rattle.bx_day_openings.specs.OpeningRefusals.{IsNoFile}
+use Rattle.bx_day_openings.specs.Recording.{IsAllKept, IsUnkept}
+use Rattle.bx_day_openings.specs.declared.fault.DayCommandFault.{DayCommandFault}
 use Rattle.bx_request.specs.declared.request.CaptureWords.{CaptureWords}
 use Rattle.bx_request.specs.declared.request.DayRequest.{DayRequest}
 use Rattle.bx_request.specs.declared.request.DayRequest.TheVariants as requests
 use Rattle.bx_day_commands.specs.CapturedDays.{IsCaptureOf}
-use Rattle.bx_day_commands.specs.DayRequests.{IsDone, capture_of}
+use Rattle.bx_day_commands.specs.DayRequests.{IsTold, IsDone, IsNotKept, capture_of}
 use Rattle.bx_day_commands.specs.Days.{exchange_packets, far_packets}
 
 -- what a capture has kept, from its file and its first second on
@@ -39,16 +43,37 @@ whole_capture : {F : Type 0} {contents : F → Option (List ℕ)} (capture : Opt
 whole_capture {contents = contents} capture packets is_whole none kept =
     kept.kept.whole ∙ no_file contents kept.file kept.kept.closed (packets kept.first) (subst (λ (c : Option CaptureWords). IsFileFor contents c kept.file) none kept.opens) kept.kept.keeps
 
-whole_day : {F : Type 0} (contents : F → Option (List ℕ)) (request : DayRequest) (before after : Option (List ℕ)) (is_whole : Bool) → capture_of request ≡ None → IsDone request contents before after is_whole → is_whole ≡ true
-whole_day contents (requests.Day plan script turns sight) before after is_whole none done = whole_capture sight.capture _ is_whole none done.1
-whole_day contents (requests.Serve plan port turns sight) before after is_whole none done = whole_capture sight.capture _ is_whole none done.1
-whole_day contents (requests.Far script port sight) before after is_whole none done = whole_capture sight.capture _ is_whole none done.1
+whole_day : {F : Type 0} (contents : F → Option (List ℕ)) (request : DayRequest) (before after : Option (List ℕ)) (is_captured : Bool) (recorded : Result (Unit {0}) DayCommandFault) → capture_of request ≡ None → IsTold request contents before after is_captured recorded
+    → is_captured ≡ true
+whole_day contents (requests.Day plan script turns records sight) before after is_captured recorded none told = whole_capture sight.capture _ is_captured none told.1
+whole_day contents (requests.Serve plan place turns records sight) before after is_captured recorded none told = whole_capture sight.capture _ is_captured none told.1
+whole_day contents (requests.Far script place sight) before after is_captured recorded none told = whole_capture sight.capture _ is_captured none told.0.1
 
-pub done_whole : {F : Type 0} (contents : F → Option (List ℕ)) (request : DayRequest) (before after : Option (List ℕ)) (is_whole : Bool) (capture : Option CaptureWords) → capture ≡ capture_of request → (is_whole ≡ true) ⊎ (capture ≡ None)
-    → IsDone request contents before after is_whole → IsDone request contents before after true
-done_whole contents request before after is_whole capture same (inl whole) done = subst (IsDone request contents before after) whole done
-done_whole contents request before after is_whole capture same (inr none) done = subst (IsDone request contents before after) (whole_day contents request before after is_whole (sym same ∙ none) done) done
+module _ {F : Type 0} (contents : F → Option (List ℕ)) (request : DayRequest) (before after : Option (List ℕ)) (is_captured : Bool) (recorded : Result (Unit {0}) DayCommandFault) (capture : Option CaptureWords) (same : capture ≡ capture_of request)
+    (told : IsTold request contents before after is_captured recorded) where
+  told_whole : (is_captured ≡ true) ⊎ (capture ≡ None) → IsTold request contents before after true recorded
+  told_whole (inl whole) = subst (λ (b : Bool). IsTold request contents before after b recorded) whole told
+  told_whole (inr none) = subst (λ (b : Bool). IsTold request contents before after b recorded) (whole_day contents request before after is_captured recorded (sym same ∙ none) told) told
+
+  all_told : (r : Result (Unit {0}) DayCommandFault) → IsOk r → IsTold request contents before after true r → IsDone request contents before after true
+  all_told (Ok tt) all p = p
+  all_told (Err fault) all p = absurd cc
+
+  pub done_whole : IsAllKept capture is_captured recorded → IsDone request contents before after true
+  done_whole (whole, all) = all_told recorded all (told_whole whole)
+
+  pub not_kept : (fault : DayCommandFault) → IsUnkept capture is_captured recorded fault → IsNotKept request contents before after fault
+  not_kept fault (inl (cut, file)) = inl ((recorded, subst (λ (b : Bool). IsTold request contents before after b recorded) cut told), subst (λ (k : Option CaptureWords). IsNoFile k fault) same file)
+  not_kept fault (inr (whole, is)) = inr (subst (IsTold request contents before after true) is (told_whole whole))
 
 pub on_ok : {T E A B : Type 0} (r : Result T E) → (A → B) → OnOk r A → OnOk r B
 on_ok (Ok v) f p = f p
 on_ok (Err e) f p = p
+
+pub if_ok : {T E : Type 0} {A B : T → Type 0} (r : Result T E) → ((v : T) → A v → B v) → IfOk r A → IfOk r B
+if_ok (Ok v) f p = f v p
+if_ok (Err e) f p = p
+
+pub if_err : {T E : Type 0} {A B : E → Type 0} (r : Result T E) → ((e : E) → A e → B e) → IfErr r A → IfErr r B
+if_err (Ok v) f p = p
+if_err (Err e) f p = f e p

@@ -1,3 +1,5 @@
 mod ToldDays
 mod Refusals
 mod KeptDays
+mod Outcomes
+mod Asked

@@ -1,14 +1,17 @@
--- The days that the commands run, and what was captured of them.
-use Rattle.std.specs.Prelude.{◌≡◌, ℕ, Bool, List, Option}
+-- The days that the commands run, and what was captured and recorded of them.
+use Rattle.std.specs.Prelude.{◌≡◌, ℕ, Bool, List, Option, Result}
 use Rattle.bx_devices.specs.declared.watched.Watched.{Watched}
 use Rattle.bx_capture.specs.Captures.{Keeps, is_unfaulted}
 use Rattle.bx_day_openings.specs.CaptureOpenings.{IsFirstOf, IsFileFor}
 use Rattle.bx_request.specs.declared.request.CaptureWords.{CaptureWords}
+use Rattle.bx_request.specs.declared.request.RecordsWords.{RecordsWords}
 use Rattle.bx_day.specs.Day.{Day}
 use Rattle.bx_events.specs.Events.{Event}
 use Rattle.bx_far.specs.FarDay.{FarDay}
 use Rattle.bx_day_openings.specs.Openings.{IsOpening, IsFarOpening}
-use Rattle.bx_day_commands.specs.Days.{IsDayTold, IsFarTold, IsTakenByFar, exchange_packets, far_packets, packets_of, far_packets_of}
+use Rattle.bx_day_openings.specs.Recording.{AreRecorded}
+use Rattle.bx_day_openings.specs.declared.fault.DayCommandFault.{DayCommandFault}
+use Rattle.bx_day_commands.specs.Days.{IsDayTold, IsDayCut, IsFarTold, IsTakenByFar, exchange_packets, far_packets, packets_of, far_packets_of}
 
 -- where there is a file, it took these packets, and whether it took them all
 pub record AreKept {F : Type 0} (contents : F → Option (List ℕ)) (file : Option (Watched F)) (packets : List ℕ) (is_whole : Bool) : Type 0 where
@@ -24,17 +27,22 @@ pub record IsCaptureOf {F : Type 0} (contents : F → Option (List ℕ)) (captur
   pub begins : IsFirstOf capture first
   pub kept : AreKept contents file (packets first) is_whole
 
--- what has become of each booking was written, and just this day was captured
-abbrev pub IsDayDone : {F : Type 0} → (F → Option (List ℕ)) → Option CaptureWords → Option ℕ → Option (List ℕ) → Option (List ℕ) → Bool → Type 0
-IsDayDone contents capture asked before after is_whole = (told : IsDayTold asked before after) × IsCaptureOf contents capture (packets_of told.run) is_whole
+-- what has become of each booking was written, just this day was captured, and its records were written, or this is why not
+abbrev pub IsDayDone : {F : Type 0} → (F → Option (List ℕ)) → Option CaptureWords → Option RecordsWords → Option ℕ → Option (List ℕ) → Option (List ℕ) → Bool → Result (Unit {0}) DayCommandFault → Type 0
+IsDayDone contents capture records asked before after is_captured recorded = (told : IsDayTold asked before after) × IsCaptureOf contents capture (packets_of told.run) is_captured × AreRecorded contents records told.day.entries recorded
 
 -- the same, and a far end took the turns of this day
-abbrev pub IsBothDone : {F : Type 0} → (F → Option (List ℕ)) → Option CaptureWords → Option ℕ → Option (List ℕ) → Option (List ℕ) → Bool → Type 0
-IsBothDone contents capture asked before after is_whole = (told : IsDayTold asked before after) × IsCaptureOf contents capture (packets_of told.run) is_whole × IsTakenByFar told.run.turns
+abbrev pub IsBothDone : {F : Type 0} → (F → Option (List ℕ)) → Option CaptureWords → Option RecordsWords → Option ℕ → Option (List ℕ) → Option (List ℕ) → Bool → Result (Unit {0}) DayCommandFault → Type 0
+IsBothDone contents capture records asked before after is_captured recorded = (told : IsDayTold asked before after) × IsCaptureOf contents capture (packets_of told.run) is_captured × AreRecorded contents records told.day.entries recorded × IsTakenByFar told.run.turns
+
+-- a front of what has become of each booking was written, and all the same just this day was captured, and its records were
+-- written, or there is a reason why not
+abbrev pub IsDayCutOff : {F : Type 0} → (F → Option (List ℕ)) → Option CaptureWords → Option RecordsWords → Option ℕ → Option (List ℕ) → Option (List ℕ) → Type 0
+IsDayCutOff contents capture records asked before after = (cut : IsDayCut asked before after) × ((is_captured : Bool) × IsCaptureOf contents capture (packets_of cut.run) is_captured) × ((recorded : Result (Unit {0}) DayCommandFault) × AreRecorded contents records cut.day.entries recorded)
 
 -- the moment was written that the day of a far end has reached, and just this day was captured
 abbrev pub IsFarDone : {F : Type 0} → (F → Option (List ℕ)) → Option CaptureWords → Option (List ℕ) → Option (List ℕ) → Bool → Type 0
-IsFarDone contents capture before after is_whole = (told : IsFarTold before after) × IsCaptureOf contents capture (far_packets_of told.run) is_whole
+IsFarDone contents capture before after is_captured = (told : IsFarTold before after) × IsCaptureOf contents capture (far_packets_of told.run) is_captured
 
 -- ---- days that stopped
 

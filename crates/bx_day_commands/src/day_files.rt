@@ -3,26 +3,55 @@
 ghost use Rattle.std.specs.Prelude.{◌≡◌, true, IfOk, IfErr, OnOk, OnErr};
 ghost use Rattle.std.specs.Io.KnownBytes.{Appends};
 ghost use Rattle.bx_devices.specs.Octets.{AppendsPrefix};
+ghost use Rattle.bx_devices.specs.Devices.{writing_of};
 ghost use Rattle.bx_devices.specs.Watching.{device_of, is_faulted};
 ghost use Rattle.bx_day_commands.specs.DayRefusals.{StopsDay, StopsServing, StopsFarEnd, IsDayRefusal, IsServeRefusal, IsFarRefusal};
 ghost use Rattle.bx_day_commands.specs.CapturedDays.{IsBothDone, IsDayDone, IsFarDone};
-ghost use Rattle.bx_day_commands.specs.KeptDays.{IsBothCaptured, IsDayCaptured, IsFarCaptured};
+ghost use Rattle.bx_day_commands.specs.KeptDays.{IsBothCaptured, IsDayCaptured, IsFarCaptured, IsOutcomeTold, IsOutcomeCut};
 ghost use Rattle.bx_day_commands.specs.Days.{ended_line};
+ghost use Rattle.bx_day_openings.specs.Recording.{IsMade};
 
 use crate::running::{run_connected, run_linked, run_served};
 use bx_check_commands::{CommandFault, Inputs};
 use bx_day::Exchange;
-use bx_day_openings::{DayCommandFault, far_end_of, file_of, first_of, is_whole, opening_of};
+use bx_day_openings::{
+    DayCommandFault, RecordsFile, far_end_of, file_of, first_of, is_whole, opening_of, record,
+    records_clock_of, records_file_of,
+};
 use bx_devices::{Watched, WriteFailed, write_octets};
-use bx_request::Sight;
+use bx_request::{Place, RecordsWords, Sight};
 use bx_text::named_line;
+use std::alloc::Global;
 use std::fs::Files;
 use std::io::Write;
 use std::net::{Net, TcpListener, TcpStream};
 use std::rt::Clock;
 
-/// The exchange at the end of the day of a plan, of which both ends were run over one TCP connection, and whether all that was
-/// to be captured of its end was.
+/// What the words say of a day that is run: how many turns it has, where a count is named, the file of its records, where they are to
+/// be written, and what is to be seen of it.
+#[derive(Clone, Copy)]
+pub struct DayWords<'a> {
+    pub turns: Option<u32>,
+    pub records: Option<RecordsWords<'a>>,
+    pub sight: Sight<'a>,
+}
+
+/// What was kept of a day that was told: whether all was captured that was to be, and whether its records were written, or why not.
+#[derive(Clone, Copy)]
+pub struct Kept<'a> {
+    pub is_captured: bool,
+    pub recorded: Result<(), DayCommandFault<'a>>,
+}
+
+/// The exchange at the end of its day, whether all that was to be captured was, and the file for its records, where there is one.
+#[derive(Drop)]
+struct Ran<'a, F> {
+    exchange: Exchange,
+    is_captured: bool,
+    records: Option<RecordsFile<'a, F>>,
+}
+
+/// The exchange at the end of the day of a plan, of which both ends were run over one TCP connection.
 fn run_of_both<
     'a,
     H: Files + AllocGlobal + Clock + Eprint + Net<Listener = TcpListener, Stream = TcpStream>,
@@ -32,17 +61,21 @@ fn run_of_both<
     inputs: &mut I,
     plan: &'a str,
     script: &'a str,
-    turns: Option<u32>,
-    sight: Sight<'a>,
-) -> Result<(Exchange, bool), DayCommandFault<'a>>
-    ensures ran { IfOk result (λ ran. IsBothCaptured H.File.contents sight.entry.capture turns ran.0 ran.1) }
-    ensures stopped { IfErr result (StopsDay H.File.contents plan.now script.now sight.entry.capture turns) }
+    words: DayWords<'a>,
+) -> Result<Ran<'a, H::File>, DayCommandFault<'a>>
+    ensures ran { IfOk result (λ ran. IsBothCaptured H.File.contents words.entry.sight.capture words.entry.turns ran.exchange ran.is_captured) }
+    ensures made { IfOk result (λ ran. IsMade words.entry.records ran.records) }
+    ensures stopped { IfErr result (StopsDay H.File.contents plan.now script.now words.entry.sight.capture words.entry.records words.entry.turns) }
 {
-    let first = match first_of(sight.capture) {
+    let first = match first_of(words.sight.capture) {
         Ok(first) => first,
         Err(fault) => return Err(fault),
     };
-    let (exchange, turns) = match opening_of(rt.alloc(), inputs, plan, turns) {
+    let clock = match records_clock_of(words.records) {
+        Ok(clock) => clock,
+        Err(fault) => return Err(fault),
+    };
+    let opened = match opening_of(rt.alloc(), inputs, plan, words.turns) {
         Ok(opened) => opened,
         Err(fault) => return Err(fault),
     };
@@ -50,19 +83,55 @@ fn run_of_both<
         Ok(far) => far,
         Err(fault) => return Err(fault),
     };
-    let mut file = match file_of(rt, sight.capture) {
+    let mut file = match file_of(rt, words.sight.capture) {
         Ok(file) => file,
         Err(fault) => return Err(fault),
     };
-    let opened = (exchange, turns);
-    match run_linked(rt, opened, &mut far, &mut file, first, !sight.is_quiet) {
-        Ok(exchange) => Ok((exchange, is_whole(&file))),
+    let records = match records_file_of(rt, words.records, clock) {
+        Ok(records) => records,
+        Err(fault) => return Err(fault),
+    };
+    let is_shown = !words.sight.is_quiet;
+    match run_linked(rt, opened, &mut far, &mut file, first, is_shown) {
+        Ok(exchange) => Ok(Ran {
+            exchange,
+            is_captured: is_whole(&file),
+            records,
+        }),
         Err(fault) => Err(fault),
     }
 }
 
-/// Runs both ends of the day of a plan over one TCP connection, and writes what became of each booking. Answers whether all that
-/// was to be captured was. At a refusal nothing was written, except that where the output failed a front of that was.
+/// Writes what became of each booking of a day, and its records into the file that was made for them. They are written there also
+/// where the output failed: what was carried is to be paid for.
+fn tell<'a, F: Write + Drop, W: Write>(
+    alloc: Global,
+    ran: Ran<'a, F>,
+    output: &mut Watched<W>,
+) -> Result<Kept<'a>, DayCommandFault<'a>>
+    ensures told { IfOk result (λ kept. IsOutcomeTold F.contents ran.entry.exchange ran.entry.records (writing_of W.contents output.old output.new) kept.recorded) }
+    ensures captured { IfOk result (λ kept. kept.is_captured ≡ ran.entry.is_captured) }
+    ensures cut { IfErr result (IsOutcomeCut F.contents ran.entry.exchange ran.entry.records (writing_of W.contents output.old output.new)) }
+{
+    let Ran {
+        exchange,
+        is_captured,
+        records,
+    } = ran;
+    let told = exchange.write_outcomes(output);
+    let recorded = record(alloc, &exchange, records);
+    match told {
+        Ok(()) => Ok(Kept {
+            is_captured,
+            recorded,
+        }),
+        Err(_) => Err(DayCommandFault::Command(CommandFault::CannotWrite)),
+    }
+}
+
+/// Runs both ends of the day of a plan over one TCP connection, writes what became of each booking, and its records, where they
+/// are to be written. Answers what was kept of the day. At a refusal nothing was written, except that where the output failed a front
+/// of what became of the bookings was, and the records as if it had not failed.
 pub fn day_of_files<
     'a,
     H: Files + AllocGlobal + Clock + Eprint + Net<Listener = TcpListener, Stream = TcpStream>,
@@ -73,25 +142,19 @@ pub fn day_of_files<
     inputs: &mut I,
     plan: &'a str,
     script: &'a str,
-    turns: Option<u32>,
-    sight: Sight<'a>,
+    words: DayWords<'a>,
     output: &mut Watched<W>,
-) -> Result<bool, DayCommandFault<'a>>
-    ensures told { IfOk result (IsBothDone H.File.contents sight.entry.capture turns (W.contents (device_of output.old)) (W.contents (device_of output.new))) }
-    ensures refused { IfErr result (IsDayRefusal H.File.contents plan.now script.now sight.entry.capture turns W.contents output.old output.new) }
+) -> Result<Kept<'a>, DayCommandFault<'a>>
+    ensures told { IfOk result (λ kept. IsBothDone H.File.contents words.entry.sight.capture words.entry.records words.entry.turns (W.contents (device_of output.old)) (W.contents (device_of output.new)) kept.is_captured kept.recorded) }
+    ensures refused { IfErr result (IsDayRefusal H.File.contents plan.now script.now words.entry.sight.capture words.entry.records words.entry.turns W.contents output.old output.new) }
 {
-    let (exchange, is_whole) = match run_of_both(rt, inputs, plan, script, turns, sight) {
-        Ok(ran) => ran,
-        Err(fault) => return Err(fault),
-    };
-    match exchange.write_outcomes(output) {
-        Ok(()) => Ok(is_whole),
-        Err(_) => Err(DayCommandFault::Command(CommandFault::CannotWrite)),
+    match run_of_both(rt, inputs, plan, script, words) {
+        Ok(ran) => tell(rt.alloc(), ran, output),
+        Err(fault) => Err(fault),
     }
 }
 
-/// The exchange at the end of the day of a plan, which was run towards the first peer that connects to the port, and whether all
-/// that was to be captured was.
+/// The exchange at the end of the day of a plan, which was run towards the first peer that connects to the place.
 fn run_towards_peer<
     'a,
     H: Files + AllocGlobal + Clock + Eprint + Net<Listener = TcpListener, Stream = TcpStream>,
@@ -100,35 +163,46 @@ fn run_towards_peer<
     rt: &H,
     inputs: &mut I,
     plan: &'a str,
-    port: u16,
-    turns: Option<u32>,
-    sight: Sight<'a>,
-) -> Result<(Exchange, bool), DayCommandFault<'a>>
-    ensures ran { IfOk result (λ ran. IsDayCaptured H.File.contents sight.entry.capture turns ran.0 ran.1) }
-    ensures stopped { IfErr result (StopsServing H.File.contents plan.now sight.entry.capture turns) }
+    place: Place<'a>,
+    words: DayWords<'a>,
+) -> Result<Ran<'a, H::File>, DayCommandFault<'a>>
+    ensures ran { IfOk result (λ ran. IsDayCaptured H.File.contents words.entry.sight.capture words.entry.turns ran.exchange ran.is_captured) }
+    ensures made { IfOk result (λ ran. IsMade words.entry.records ran.records) }
+    ensures stopped { IfErr result (StopsServing H.File.contents plan.now words.entry.sight.capture words.entry.records words.entry.turns) }
 {
-    let first = match first_of(sight.capture) {
+    let first = match first_of(words.sight.capture) {
         Ok(first) => first,
         Err(fault) => return Err(fault),
     };
-    let (exchange, turns) = match opening_of(rt.alloc(), inputs, plan, turns) {
+    let clock = match records_clock_of(words.records) {
+        Ok(clock) => clock,
+        Err(fault) => return Err(fault),
+    };
+    let opened = match opening_of(rt.alloc(), inputs, plan, words.turns) {
         Ok(opened) => opened,
         Err(fault) => return Err(fault),
     };
-    let mut file = match file_of(rt, sight.capture) {
+    let mut file = match file_of(rt, words.sight.capture) {
         Ok(file) => file,
         Err(fault) => return Err(fault),
     };
-    let opened = (exchange, turns);
-    match run_served(rt, port, opened, &mut file, first, !sight.is_quiet) {
-        Ok(exchange) => Ok((exchange, is_whole(&file))),
+    let records = match records_file_of(rt, words.records, clock) {
+        Ok(records) => records,
+        Err(fault) => return Err(fault),
+    };
+    match run_served(rt, place, opened, &mut file, first, !words.sight.is_quiet) {
+        Ok(exchange) => Ok(Ran {
+            exchange,
+            is_captured: is_whole(&file),
+            records,
+        }),
         Err(fault) => Err(fault),
     }
 }
 
-/// Runs the exchange's end of the day of a plan, towards the first peer that connects to the port, and writes what
-/// became of each booking. Answers whether all that was to be captured was. At a refusal nothing was written, except that
-/// where the output failed a front of that was.
+/// Runs the exchange's end of the day of a plan, towards the first peer that connects to the place, writes what became of each
+/// booking, and its records, where they are to be written. Answers what was kept of the day. At a refusal nothing was written, except
+/// that where the output failed a front of what became of the bookings was, and the records as if it had not failed.
 pub fn serve_file<
     'a,
     H: Files + AllocGlobal + Clock + Eprint + Net<Listener = TcpListener, Stream = TcpStream>,
@@ -138,21 +212,16 @@ pub fn serve_file<
     rt: &H,
     inputs: &mut I,
     plan: &'a str,
-    port: u16,
-    turns: Option<u32>,
-    sight: Sight<'a>,
+    place: Place<'a>,
+    words: DayWords<'a>,
     output: &mut Watched<W>,
-) -> Result<bool, DayCommandFault<'a>>
-    ensures told { IfOk result (IsDayDone H.File.contents sight.entry.capture turns (W.contents (device_of output.old)) (W.contents (device_of output.new))) }
-    ensures refused { IfErr result (IsServeRefusal H.File.contents plan.now sight.entry.capture turns W.contents output.old output.new) }
+) -> Result<Kept<'a>, DayCommandFault<'a>>
+    ensures told { IfOk result (λ kept. IsDayDone H.File.contents words.entry.sight.capture words.entry.records words.entry.turns (W.contents (device_of output.old)) (W.contents (device_of output.new)) kept.is_captured kept.recorded) }
+    ensures refused { IfErr result (IsServeRefusal H.File.contents plan.now words.entry.sight.capture words.entry.records words.entry.turns W.contents output.old output.new) }
 {
-    let (exchange, is_whole) = match run_towards_peer(rt, inputs, plan, port, turns, sight) {
-        Ok(ran) => ran,
-        Err(fault) => return Err(fault),
-    };
-    match exchange.write_outcomes(output) {
-        Ok(()) => Ok(is_whole),
-        Err(_) => Err(DayCommandFault::Command(CommandFault::CannotWrite)),
+    match run_towards_peer(rt, inputs, plan, place, words) {
+        Ok(ran) => tell(rt.alloc(), ran, output),
+        Err(fault) => Err(fault),
     }
 }
 
@@ -165,7 +234,7 @@ fn write_ended<W: Write>(output: &mut Watched<W>, moment: u32) -> Result<(), Wri
     write_octets(output, &named_line(b"ended at", u64::from(moment)))
 }
 
-/// The moment at which the day of a script ended, which was run towards the exchange that serves on the port, and whether all that
+/// The moment at which the day of a script ended, which was run towards the exchange that serves at the place, and whether all that
 /// was to be captured was.
 fn run_towards_exchange<
     'a,
@@ -175,7 +244,7 @@ fn run_towards_exchange<
     rt: &H,
     inputs: &mut I,
     script: &'a str,
-    port: u16,
+    place: Place<'a>,
     sight: Sight<'a>,
 ) -> Result<(u32, bool), DayCommandFault<'a>>
     ensures ran { IfOk result (λ ran. IsFarCaptured H.File.contents sight.entry.capture ran.0 ran.1) }
@@ -193,13 +262,13 @@ fn run_towards_exchange<
         Ok(file) => file,
         Err(fault) => return Err(fault),
     };
-    match run_connected(rt, port, far, &mut file, first, !sight.is_quiet) {
+    match run_connected(rt, place, far, &mut file, first, !sight.is_quiet) {
         Ok(moment) => Ok((moment, is_whole(&file))),
         Err(fault) => Err(fault),
     }
 }
 
-/// Runs the far end of a day by a script, towards the exchange that serves on the port, and writes the moment at which
+/// Runs the far end of a day by a script, towards the exchange that serves at the place, and writes the moment at which
 /// the day ended. Answers whether all that was to be captured was. At a refusal nothing was written, except that where the
 /// output failed a front of that line was.
 pub fn far_file<
@@ -211,19 +280,19 @@ pub fn far_file<
     rt: &H,
     inputs: &mut I,
     script: &'a str,
-    port: u16,
+    place: Place<'a>,
     sight: Sight<'a>,
     output: &mut Watched<W>,
 ) -> Result<bool, DayCommandFault<'a>>
     ensures told { IfOk result (IsFarDone H.File.contents sight.entry.capture (W.contents (device_of output.old)) (W.contents (device_of output.new))) }
     ensures refused { IfErr result (IsFarRefusal H.File.contents script.now sight.entry.capture W.contents output.old output.new) }
 {
-    let (moment, is_whole) = match run_towards_exchange(rt, inputs, script, port, sight) {
+    let (moment, is_captured) = match run_towards_exchange(rt, inputs, script, place, sight) {
         Ok(ran) => ran,
         Err(fault) => return Err(fault),
     };
     match write_ended(output, moment) {
-        Ok(()) => Ok(is_whole),
+        Ok(()) => Ok(is_captured),
         Err(_) => Err(DayCommandFault::Command(CommandFault::CannotWrite)),
     }
 }

@@ -2,13 +2,13 @@
 
 ghost use Rattle.std.specs.Prelude.{◌≡◌, ◌||◌, not, true, IfOk, IfErr, OnOk};
 ghost use Rattle.bx_devices.specs.Watching.{device_of};
-ghost use Rattle.bx_day_commands.specs.DayRequests.{IsDone, IsNotDone, IsRefused, capture_of};
+ghost use Rattle.bx_day_commands.specs.DayRequests.{IsTold, IsDone, IsNotDone, IsRefused, capture_of};
 
-use crate::day_files::{day_of_files, far_file, serve_file};
+use crate::day_files::{DayWords, Kept, day_of_files, far_file, serve_file};
 use bx_check_commands::Inputs;
-use bx_day_openings::{DayCommandFault, captured};
+use bx_day_openings::{DayCommandFault, kept};
 use bx_devices::Watched;
-use bx_request::{CaptureWords, DayRequest, Sight};
+use bx_request::{CaptureWords, DayRequest, RecordsWords, Sight};
 use std::fs::Files;
 use std::io::Write;
 use std::net::{Net, TcpListener, TcpStream};
@@ -25,6 +25,24 @@ fn seen<'a>(sight: Sight<'a>, is_terminal: bool) -> Sight<'a>
     }
 }
 
+/// What the words say of a day of an exchange, where progress is shown on a terminal alone.
+fn words_of<'a>(
+    turns: Option<u32>,
+    records: Option<RecordsWords<'a>>,
+    sight: Sight<'a>,
+    is_terminal: bool,
+) -> DayWords<'a>
+    ensures turns { result.turns ≡ turns }
+    ensures records { result.records ≡ records.entry }
+    ensures capture { result.sight.capture ≡ sight.entry.capture }
+{
+    DayWords {
+        turns,
+        records,
+        sight: seen(sight, is_terminal),
+    }
+}
+
 /// The capture that a command is to write, where it is to write one.
 fn capture<'a>(request: DayRequest<'a>) -> Option<CaptureWords<'a>>
     ensures { result ≡ capture_of request.entry }
@@ -36,7 +54,7 @@ fn capture<'a>(request: DayRequest<'a>) -> Option<CaptureWords<'a>>
     }
 }
 
-/// Runs a day, and answers whether all that was to be captured was.
+/// Runs a day, and answers what was kept of it.
 fn run_day<
     'a,
     H: Files + AllocGlobal + Clock + Eprint + Net<Listener = TcpListener, Stream = TcpStream>,
@@ -48,8 +66,8 @@ fn run_day<
     request: DayRequest<'a>,
     output: &mut Watched<W>,
     is_terminal: bool,
-) -> Result<bool, DayCommandFault<'a>>
-    ensures done { IfOk result (IsDone request.entry H.File.contents (W.contents (device_of output.old)) (W.contents (device_of output.new))) }
+) -> Result<Kept<'a>, DayCommandFault<'a>>
+    ensures done { IfOk result (λ kept. IsTold request.entry H.File.contents (W.contents (device_of output.old)) (W.contents (device_of output.new)) kept.is_captured kept.recorded) }
     ensures refused { IfErr result (IsNotDone request.entry H.File.contents W.contents output.old output.new) }
 {
     match request {
@@ -57,36 +75,39 @@ fn run_day<
             plan,
             script,
             turns,
+            records,
             sight,
         } => {
-            let sight = seen(sight, is_terminal);
-            day_of_files(rt, inputs, plan, script, turns, sight, output)
+            let words = words_of(turns, records, sight, is_terminal);
+            day_of_files(rt, inputs, plan, script, words, output)
         }
         DayRequest::Serve {
             plan,
-            port,
+            place,
             turns,
+            records,
             sight,
-        } => serve_file(
-            rt,
-            inputs,
-            plan,
-            port,
-            turns,
-            seen(sight, is_terminal),
-            output,
-        ),
+        } => {
+            let words = words_of(turns, records, sight, is_terminal);
+            serve_file(rt, inputs, plan, place, words, output)
+        }
         DayRequest::Far {
             script,
-            port,
+            place,
             sight,
-        } => far_file(rt, inputs, script, port, seen(sight, is_terminal), output),
+        } => match far_file(rt, inputs, script, place, seen(sight, is_terminal), output) {
+            Ok(is_captured) => Ok(Kept {
+                is_captured,
+                recorded: Ok(()),
+            }),
+            Err(fault) => Err(fault),
+        },
     }
 }
 
 /// Runs a day by the files that are asked for, shows its moment on a terminal alone, and tells what became of it. A capture
-/// that was not written whole is a refusal, behind all that was told; at any other refusal nothing was written, except that
-/// where the output failed a front of what was to be told was.
+/// that was not written whole is a refusal, behind all that was told, and so are records that were not; the capture's is told first.
+/// At any other refusal nothing was written, except that where the output failed a front of what was to be told was, and the records.
 pub fn run_day_on_files<
     'a,
     H: Files + AllocGlobal + Clock + Eprint + Net<Listener = TcpListener, Stream = TcpStream>,
@@ -103,7 +124,7 @@ pub fn run_day_on_files<
     ensures refused { IfErr result (IsRefused request.entry H.File.contents W.contents output.old output.new) }
 {
     match run_day(rt, inputs, request, output, is_terminal) {
-        Ok(is_whole) => captured(capture(request), is_whole),
+        Ok(done) => kept(capture(request), done.is_captured, done.recorded),
         Err(fault) => Err(fault),
     }
 }

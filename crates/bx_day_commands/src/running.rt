@@ -1,18 +1,22 @@
 //! A day that is opened, run over a connection.
 
 ghost use Rattle.std.specs.Prelude.{◌≡◌, ◌≤◌, ℕ, Option, IfOk, IfErr};
-ghost use Rattle.bx_day_commands.specs.DayRefusals.{IsUnlinked, IsUnserved, IsUnjoined};
+ghost use Rattle.bx_day_commands.specs.DayRefusals.{IsUnlinked, IsUnserved, IsUnjoined, IsSessionFault};
 ghost use Rattle.bx_day_openings.specs.Openings.{IsOpening, IsFarOpening};
 ghost use Rattle.bx_day_commands.specs.KeptDays.{IsBothKept, IsDayKept, IsKeptSoFar, IsFarKept, IsFarKeptSoFar};
 
 use bx_capture::Captured;
 use bx_day::Exchange;
-use bx_day_openings::{DayCommandFault, Shown, accepted, both_ends, connected};
+use bx_day_openings::{
+    DayCommandFault, Shown, accepted, accepted_at, both_ends, connected, connected_at,
+};
 use bx_devices::Watched;
 use bx_far::Far;
 use bx_link::{Connection, run_both_ends, run_day, run_far_day};
+use bx_request::Place;
 use bx_turns::End;
-use std::io::Write;
+use std::fs::Files;
+use std::io::{Read, Write};
 use std::net::{Net, TcpListener, TcpStream};
 use std::rt::Clock;
 
@@ -74,15 +78,12 @@ pub(crate) fn run_linked<
     }
 }
 
-/// The exchange at the end of its day, which was run towards the first peer that connects to the port. What is to be captured of
-/// it goes into the file; moment 0 is the first second.
-pub(crate) fn run_served<
-    'a,
-    H: Clock + Eprint + Net<Listener = TcpListener, Stream = TcpStream>,
-    W: Write + Drop,
->(
+/// The exchange at the end of its day, which was run over a connection to a peer. What is to be captured of it goes into the file;
+/// moment 0 is the first second.
+fn run_with_peer<'a, H: Clock + Eprint, R: Read + Drop, S: Write + Drop, W: Write + Drop>(
     rt: &H,
-    port: u16,
+    from_far: R,
+    to_far: S,
     opened: (Exchange, u32),
     file: &mut Option<Watched<W>>,
     first: u32,
@@ -90,14 +91,10 @@ pub(crate) fn run_served<
 ) -> Result<Exchange, DayCommandFault<'a>>
     requires { first ≤ 4294667295 }
     ensures ran { IfOk result (λ day. (asked : Option ℕ) → IsOpening asked opened.0 opened.1 → IsDayKept W.contents file.old file.new first asked day) }
-    ensures stopped { IfErr result (IsUnserved (IsKeptSoFar W.contents file.old file.new first opened.0)) }
+    ensures stopped { IfErr result (λ fault. IsSessionFault fault × IsKeptSoFar W.contents file.old file.new first opened.0) }
 {
-    let peer = match accepted(rt, port, is_shown) {
-        Ok(peer) => peer,
-        Err(fault) => return Err(fault),
-    };
-    let mut from_far = Watched::new(&peer);
-    let mut to_far = Watched::new(&peer);
+    let mut from_far = Watched::new(from_far);
+    let mut to_far = Watched::new(to_far);
     let (exchange, turns) = opened;
     let mut end = Captured::new(Shown::new(rt, exchange, is_shown), file.take(), first);
     let served = run_day(&mut end, &mut from_far, &mut to_far, turns);
@@ -110,7 +107,65 @@ pub(crate) fn run_served<
     }
 }
 
-/// The moment at which the day of a far end ended, which was run towards the exchange that serves on the port. What is to be
+/// The exchange at the end of its day, which was run towards the first peer that connects to the place. What is to be captured of
+/// it goes into the file; moment 0 is the first second.
+pub(crate) fn run_served<
+    'a,
+    H: Files + Clock + Eprint + Net<Listener = TcpListener, Stream = TcpStream>,
+    W: Write + Drop,
+>(
+    rt: &H,
+    place: Place<'a>,
+    opened: (Exchange, u32),
+    file: &mut Option<Watched<W>>,
+    first: u32,
+    is_shown: bool,
+) -> Result<Exchange, DayCommandFault<'a>>
+    requires { first ≤ 4294667295 }
+    ensures ran { IfOk result (λ day. (asked : Option ℕ) → IsOpening asked opened.0 opened.1 → IsDayKept W.contents file.old file.new first asked day) }
+    ensures stopped { IfErr result (IsUnserved (IsKeptSoFar W.contents file.old file.new first opened.0)) }
+{
+    match place {
+        Place::Port(port) => match accepted(rt, port, is_shown) {
+            Ok(peer) => run_with_peer(rt, &peer, &peer, opened, file, first, is_shown),
+            Err(fault) => Err(fault),
+        },
+        Place::Socket(path) => match accepted_at(rt, path, is_shown) {
+            Ok(peer) => run_with_peer(rt, &peer, &peer, opened, file, first, is_shown),
+            Err(fault) => Err(fault),
+        },
+    }
+}
+
+/// The moment at which the day of a far end ended, which was run over a connection to an exchange. What is to be captured of it goes
+/// into the file; moment 0 is the first second.
+fn run_with_exchange<'a, H: Clock + Eprint, R: Read + Drop, S: Write + Drop, W: Write + Drop>(
+    rt: &H,
+    from_exchange: R,
+    to_exchange: S,
+    far: Far,
+    file: &mut Option<Watched<W>>,
+    first: u32,
+    is_shown: bool,
+) -> Result<u32, DayCommandFault<'a>>
+    requires { first ≤ 4294667295 }
+    ensures ran { IfOk result (λ moment. IsFarOpening far → IsFarKept W.contents file.old file.new first moment) }
+    ensures stopped { IfErr result (λ fault. IsSessionFault fault × IsFarKeptSoFar W.contents file.old file.new first far) }
+{
+    let mut from_exchange = Watched::new(from_exchange);
+    let mut to_exchange = Watched::new(to_exchange);
+    let mut end = Captured::new(Shown::new(rt, far, is_shown), file.take(), first);
+    let done = run_far_day(&mut end, &mut from_exchange, &mut to_exchange);
+    end.end.clear();
+    let (far, kept) = parted(end);
+    *file = kept;
+    match done {
+        Ok(()) => Ok(far.reached()),
+        Err(fault) => Err(DayCommandFault::Link(fault)),
+    }
+}
+
+/// The moment at which the day of a far end ended, which was run towards the exchange that serves at the place. What is to be
 /// captured of it goes into the file; moment 0 is the first second.
 pub(crate) fn run_connected<
     'a,
@@ -118,7 +173,7 @@ pub(crate) fn run_connected<
     W: Write + Drop,
 >(
     rt: &H,
-    port: u16,
+    place: Place<'a>,
     far: Far,
     file: &mut Option<Watched<W>>,
     first: u32,
@@ -128,19 +183,14 @@ pub(crate) fn run_connected<
     ensures ran { IfOk result (λ moment. IsFarOpening far → IsFarKept W.contents file.old file.new first moment) }
     ensures stopped { IfErr result (IsUnjoined (IsFarKeptSoFar W.contents file.old file.new first far)) }
 {
-    let peer = match connected(rt, port) {
-        Ok(peer) => peer,
-        Err(fault) => return Err(fault),
-    };
-    let mut from_exchange = Watched::new(&peer);
-    let mut to_exchange = Watched::new(&peer);
-    let mut end = Captured::new(Shown::new(rt, far, is_shown), file.take(), first);
-    let done = run_far_day(&mut end, &mut from_exchange, &mut to_exchange);
-    end.end.clear();
-    let (far, kept) = parted(end);
-    *file = kept;
-    match done {
-        Ok(()) => Ok(far.reached()),
-        Err(fault) => Err(DayCommandFault::Link(fault)),
+    match place {
+        Place::Port(port) => match connected(rt, port) {
+            Ok(peer) => run_with_exchange(rt, &peer, &peer, far, file, first, is_shown),
+            Err(fault) => Err(fault),
+        },
+        Place::Socket(path) => match connected_at(rt, path) {
+            Ok(peer) => run_with_exchange(rt, &peer, &peer, far, file, first, is_shown),
+            Err(fault) => Err(fault),
+        },
     }
 }

@@ -1,12 +1,11 @@
 -- What is told of a file of a script, which does not tell its octets.
-use Rattle.std.proofs.Common.{ℕ, List, Option, None, Result, Ok, Err}
-use Rattle.std.specs.Prelude.{IfErr}
+use Rattle.std.proofs.Common.{ℕ, List, Option, None}
 use Rattle.bx_devices.specs.Devices.{Reading}
 use Rattle.bx_far.specs.declared.row.ScriptRow.{ScriptRow}
 use Rattle.bx_check_commands.specs.declared.fault.CommandFault.TheVariants.{CannotRead, CannotWrite, Plan, Check, NotHex, Message, Memory}
 use Rattle.bx_day_openings.specs.Openings.{IsScriptRead}
 use Rattle.bx_day_openings.specs.Inside.{IsNoScript}
-use Rattle.bx_day_openings.specs.OpeningRefusals.{IsNoScriptText, IsNoFarEnd}
+use Rattle.bx_day_openings.specs.OpeningRefusals.{IsNoFarEnd}
 use Rattle.bx_day_openings.specs.declared.fault.DayCommandFault.{DayCommandFault}
 use Rattle.bx_day_openings.specs.declared.fault.DayCommandFault.TheVariants as faults
 
@@ -27,5 +26,5 @@ no_far_end name input (faults.Capture fault) why = absurd why
 no_far_end name input (faults.Journal fault) why = absurd why
 no_far_end name input faults.CannotListen why = absurd why
 no_far_end name input faults.CannotConnect why = absurd why
-no_far_end name input (faults.CannotCapture n) why = absurd why
+no_far_end name input (faults.CannotWriteFile n) why = absurd why
 no_far_end name input (faults.Link fault) why = absurd why

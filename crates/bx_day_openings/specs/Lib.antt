@@ -3,3 +3,4 @@ pub mod OpeningRefusals
 pub mod CaptureOpenings
 pub mod AtHand
 pub mod Inside
+pub mod Recording

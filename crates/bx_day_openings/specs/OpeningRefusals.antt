@@ -13,7 +13,7 @@ use Rattle.bx_far.specs.declared.fault.ScriptFault.{ScriptFault}
 use Rattle.bx_far.specs.declared.fault.ScriptFault.TheVariants as scripts
 use Rattle.bx_request.specs.declared.request.CaptureWords.{CaptureWords}
 use Rattle.bx_day_openings.specs.declared.fault.DayCommandFault.{DayCommandFault}
-use Rattle.bx_day_openings.specs.declared.fault.DayCommandFault.TheVariants.{Command, Script, Capture, CannotListen, CannotConnect, CannotCapture}
+use Rattle.bx_day_openings.specs.declared.fault.DayCommandFault.TheVariants.{Command, Script, Capture, CannotListen, CannotConnect, CannotWriteFile}
 use Rattle.bx_day_openings.specs.declared.fault.DayCommandFault.TheVariants as faults
 
 -- a file of this name is not read, or holds no plan that is proved, or a growth is refused
@@ -57,7 +57,7 @@ IsNoFirst capture _ = ⊥
 
 -- its file is not written
 abbrev pub IsNoFile : Option CaptureWords → DayCommandFault → Type 0
-IsNoFile capture (CannotCapture name) = IsFileOf capture name.now
+IsNoFile capture (CannotWriteFile name) = IsFileOf capture name.now
 IsNoFile capture _ = ⊥
 
 -- there is no listener, or no peer

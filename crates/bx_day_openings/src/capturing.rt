@@ -61,11 +61,11 @@ pub fn file_of<'a, H: Files>(
         return Ok(None);
     };
     let Ok(file) = fs::create(rt, name) else {
-        return Err(DayCommandFault::CannotCapture(name));
+        return Err(DayCommandFault::CannotWriteFile(name));
     };
     match headed(file) {
         Ok(file) => Ok(Some(file)),
-        Err(_) => Err(DayCommandFault::CannotCapture(name)),
+        Err(_) => Err(DayCommandFault::CannotWriteFile(name)),
     }
 }
 
@@ -88,7 +88,7 @@ pub fn captured<'a>(
     ensures cut { IfErr result (λ fault. IsNoFile capture.entry fault × (is_whole ≡ false)) }
 {
     match capture {
-        Some(capture) if !is_whole => Err(DayCommandFault::CannotCapture(capture.file)),
+        Some(capture) if !is_whole => Err(DayCommandFault::CannotWriteFile(capture.file)),
         _ => Ok(()),
     }
 }

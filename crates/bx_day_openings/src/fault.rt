@@ -17,7 +17,7 @@ pub enum DayCommandFault<'a> {
     /// What was read is no script.
     #[error("{0}")]
     Script(ScriptFault),
-    /// The date and the zone of a capture name no day.
+    /// The date and the zone of a capture or of records name no day.
     #[error("{0}")]
     Day(DayFault),
     /// A capture cannot name the seconds of the day.
@@ -26,15 +26,15 @@ pub enum DayCommandFault<'a> {
     /// What was read is no journal of the plan.
     #[error("{0}")]
     Journal(JournalFault),
-    /// The port cannot be listened on, or no peer can be accepted.
+    /// The port or the socket cannot be listened on, or no peer can be accepted.
     #[error("F3 CannotListen")]
     CannotListen,
-    /// No exchange listens on the port.
+    /// No exchange listens on the port or the socket.
     #[error("F4 CannotConnect")]
     CannotConnect,
-    /// The capture file of this name cannot be created, or a write of it failed.
+    /// The file of this name, which a capture or records are to be written to, cannot be created, or a write of it failed.
     #[error("F5 CannotWrite {0}")]
-    CannotCapture(&'a str),
+    CannotWriteFile(&'a str),
     /// The session of the day ended before the day did.
     #[error("{0}")]
     Link(LinkFault),

@@ -22,6 +22,8 @@ mod frames;
 #[cfg(test)]
 mod printed_faults;
 #[cfg(test)]
+mod rejoining;
+#[cfg(test)]
 mod torn_days;
 #[cfg(test)]
 mod turn_endings;

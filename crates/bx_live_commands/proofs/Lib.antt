@@ -1,2 +1,8 @@
 mod Runs
+mod RunCaptured
+mod Recorded
+mod RehearsalRuns
 mod Refused
+mod ToldLive
+mod ToldRehearsals
+mod RehearsedWith

@@ -1,16 +1,16 @@
 -- A day that was run by the clock.
-use Rattle.std.specs.Prelude.{◌≡◌, ℕ, max, min, Bool, false, List, Option, Result, OnOk}
+use Rattle.std.specs.Prelude.{◌≡◌, ℕ, max, min, Bool, false, List, Option}
 use Rattle.bx_day.specs.Day.{Day}
 use Rattle.bx_day.specs.Outages.{live_day_after}
+use Rattle.bx_devices.specs.declared.watched.Watched.{Watched}
 use Rattle.bx_live.specs.Acts.{Act, recorded, ended}
 use Rattle.bx_live.specs.Runs.{Between, Done, IsRun}
-use Rattle.bx_live.specs.Running.{Runs, or_over}
-use Rattle.bx_live.specs.declared.world.CannotRecord.{CannotRecord}
 use Rattle.bx_world.specs.Chains.{Chain}
 use Rattle.bx_world.specs.Lives.{GoesLive}
 use Rattle.bx_world.specs.declared.live.Live.{Live}
 use Rattle.bx_world.specs.declared.record.Record.{Record}
 use Rattle.bx_world.specs.declared.schedule.Schedule.{Schedule}
+use Rattle.bx_live_commands.specs.RunCaptures.{IsRunKept}
 
 -- these acts are a live run of a day from here to its end, up to so many turns
 pub record IsWholeRun (turns : ℕ) (from to : Day) (acts : List Act) : Type 0 where
@@ -18,8 +18,9 @@ pub record IsWholeRun (turns : ℕ) (from to : Day) (acts : List Act) : Type 0 w
   pub after : to ≡ live_day_after (recorded acts) from
   pub reached : ended acts ≡ false → to.moment ≡ max from.moment (min turns 300000)
 
--- a world with this schedule and this record has gone through the acts of such a run
-pub record RunsByClock (H G : Type 0) {S D : Type 0} (remaining contents : S → Option (List ℕ)) (holds may_leave : D → List ℕ → Type 0) (moment : D → ℕ) (left_since : D → ℕ → List ℕ → Type 0) (schedule : Schedule) (kept : Record D) (turns : ℕ) (from to : Day) : Type 0 where
+-- a world with this schedule and this record has gone through the acts of such a run, and the file of a capture has taken the
+-- packets of their messages
+pub record RunsByClock (H G : Type 0) {S D F : Type 0} (remaining contents : S → Option (List ℕ)) (holds may_leave : D → List ℕ → Type 0) (moment : D → ℕ) (left_since : D → ℕ → List ℕ → Type 0) (files : F → Option (List ℕ)) (schedule : Schedule) (kept : Record D) (file : Option (Watched F)) (first turns : ℕ) (from to : Day) (is_whole : Bool) : Type 0 where
   pub acts : List Act
   pub old : Live H S G D
   pub new : Live H S G D
@@ -27,3 +28,4 @@ pub record RunsByClock (H G : Type 0) {S D : Type 0} (remaining contents : S →
   pub kept_by : old.record ≡ kept
   pub went : Chain (GoesLive remaining contents holds may_leave moment left_since) old acts new
   pub whole : IsWholeRun turns from to acts
+  pub captured : IsRunKept files file first acts is_whole

@@ -1,16 +1,13 @@
 -- How a day goes on by its journal.
-use Rattle.std.specs.Prelude.{◌≡◌, ℕ, List, [], Option, Some, None, Result, Ok, Err}
+use Rattle.std.specs.Prelude.{◌≡◌, ℕ, List, Option, Some, None}
 use Rattle.std.specs.Borrow.{Bor}
 use Rattle.bx_audit.specs.Audits.{IsJournal}
 use Rattle.bx_audit.specs.AuditRefusals.{HasNoJournal}
 use Rattle.bx_day.specs.Day.{Day}
 use Rattle.bx_day.specs.Outages.{live_day_after}
 use Rattle.bx_events.specs.Events.{LiveEvent}
-use Rattle.bx_journal.specs.Reading.{recovered, journal_in}
-use Rattle.bx_journal.specs.Recording.{IsSettled}
-use Rattle.bx_journal.specs.declared.fault.JournalFault.{JournalFault}
 use Rattle.bx_live_commands.specs.declared.fault.LiveFault.{LiveFault}
-use Rattle.bx_live_commands.specs.declared.fault.LiveFault.TheVariants.{Day as OfDay, CannotRecord}
+use Rattle.bx_live_commands.specs.declared.fault.LiveFault.TheVariants.{Day as OfDay, CannotRecord, NotEmpty}
 
 -- the day after just the events of a journal that was read
 pub record GoesOn (plan : List ℕ) (before : Option (List ℕ)) (opened day : Day) : Type 0 where
@@ -27,6 +24,7 @@ GoesOnBy plan (Some name) opened day = GoesOn plan None opened day
 abbrev pub IsNotResumed : List ℕ → List ℕ → LiveFault → Type 0
 IsNotResumed name plan (OfDay fault) = HasNoJournal name plan fault
 IsNotResumed name plan (CannotRecord n) = n.now ≡ name
+IsNotResumed name plan (NotEmpty n) = ⊥
 
 abbrev pub IsNoRecord : Option (Bor (List ℕ)) → List ℕ → LiveFault → Type 0
 IsNoRecord None plan fault = ⊥

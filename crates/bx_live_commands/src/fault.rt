@@ -9,6 +9,9 @@ pub enum LiveFault<'a> {
     /// What is needed was not opened, or the day was not told.
     #[error("{0}")]
     Day(DayCommandFault<'a>),
+    /// The journal of this name, which is to be a new one, is there and not empty.
+    #[error("J3 NotEmpty {0}")]
+    NotEmpty(&'a str),
     /// The journal of this name cannot be opened to write it, or a write, a cut or a sync of it failed.
     #[error("J4 CannotRecord {0}")]
     CannotRecord(&'a str),

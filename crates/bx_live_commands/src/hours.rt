@@ -1,8 +1,8 @@
 //! When a live day is.
 
 ghost use Rattle.std.specs.Prelude.{◌≡◌, ◌≤◌, pos, IfOk, IfErr};
-ghost use Rattle.bx_live_commands.specs.HoursInside.{IsFirstSecond, AreHours};
-ghost use Rattle.bx_live_commands.specs.LiveHours.{IsNoHours};
+ghost use Rattle.bx_live_commands.specs.HoursInside.{AreHours};
+ghost use Rattle.bx_live_commands.specs.LiveHours.{IsFirstSecond, IsNoHours};
 
 use bx_book::Day;
 use bx_capture::first_second;

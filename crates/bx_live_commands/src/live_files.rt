@@ -1,40 +1,64 @@
 //! The command that runs a day by the clock.
 
-ghost use Rattle.std.specs.Prelude.{◌≡◌, ◌≤◌, true, IfOk, IfErr, OnOk};
-ghost use Rattle.bx_devices.specs.Watching.{device_of};
-ghost use Rattle.bx_live_commands.specs.LiveOpenings.{IsTiedDay};
-ghost use Rattle.bx_live_commands.specs.LiveDays.{IsLiveDay, IsLiveTold};
+ghost use Rattle.std.specs.Prelude.{◌≡◌, ◌≤◌, true, Ok, IfOk, IfErr, OnOk};
 ghost use Rattle.bx_day_openings.specs.OpeningRefusals.{IsUnheard};
-ghost use Rattle.bx_live_commands.specs.LiveRefusals.{StopsAtDoor, StopsAtPlace, StopsLive, IsLiveRefusal};
+ghost use Rattle.bx_day_openings.specs.Recording.{IsRecordsClock, IsRecordsFileFor, IsMade};
+ghost use Rattle.bx_devices.specs.Watching.{device_of};
+ghost use Rattle.bx_live_commands.specs.HoursInside.{AreHours};
+ghost use Rattle.bx_live_commands.specs.LiveDays.{IsLiveDayAt, IsLiveDay, IsLiveTold, records_of};
+ghost use Rattle.bx_live_commands.specs.LiveOpenings.{IsTiedDay};
+ghost use Rattle.bx_live_commands.specs.LiveRefusals.{IsNoTime, StopsAtDoor, StopsAtPlace, StopsLive, IsLiveRefusal};
 
 use crate::fault::LiveFault;
 use crate::hours::{Hours, hours_of};
 use crate::opening::{Opening, tied_opening};
 use crate::resuming::resume_named;
 use crate::running::{View, run_by_clock};
-use bx_check_commands::{CommandFault, Inputs};
-use bx_day::Exchange;
-use bx_day_openings::{DayCommandFault, captured, file_of};
+use crate::telling::{Ended, tell};
+use bx_book::Clock as DayClock;
+use bx_check_commands::Inputs;
+use bx_day_openings::{DayCommandFault, file_of, records_clock_of, records_file_of};
 use bx_devices::Watched;
-use bx_request::{LiveRequest, Place};
+use bx_request::{LiveRequest, Place, RecordsWords};
 use bx_world::{Door, Limits, TcpDoor, UnixDoor};
 use std::fs::Files;
 use std::io::{Read, Write};
 use std::net::{Net, TcpListener, TcpStream};
 use std::rt::Clock;
 
+/// The records that are to be written of a live day, by the clock of its date and zone.
+fn records_of<'a>(request: LiveRequest<'a>) -> Option<RecordsWords<'a>>
+    ensures { result ≡ records_of request.entry }
+{
+    match request.records {
+        Some(file) => Some(RecordsWords {
+            file,
+            day: Some((request.date, request.zone)),
+        }),
+        None => None,
+    }
+}
+
+/// When a live day is, by its schedule and by the clock of its records.
+#[derive(Clone, Copy)]
+struct Times {
+    hours: Hours,
+    clock: Option<DayClock>,
+}
+
 /// Runs an opened day towards the peers that come in by a door.
 fn run_at_door<'a, H: Files + Clock + Eprint, S: Read + Write + Limits + Drop, G: Door<S> + Drop>(
     rt: &H,
     request: LiveRequest<'a>,
-    hours: Hours,
+    times: Times,
     opening: Opening,
     door: G,
     is_shown: bool,
-) -> Result<(Exchange, bool), LiveFault<'a>>
-    requires { hours.first ≤ 4294667295 }
-    ensures ran { IfOk result (λ ran. IsTiedDay request.entry.turns opening.exchange opening.digest opening.turns → IsLiveDay request.entry ran.0) }
-    ensures stopped { IfErr result (StopsAtDoor request.entry opening.digest) }
+) -> Result<Ended<'a, H::File>, LiveFault<'a>>
+    requires { times.hours.first ≤ 4294667295 }
+    ensures ran { IfOk result (λ ran. AreHours request.entry.date.now request.entry.zone.now request.entry.pace times.hours → IsTiedDay request.entry.turns opening.exchange opening.digest opening.turns → IsLiveDayAt H G S.remaining S.contents H.File.contents request.entry ran.exchange ran.is_whole) }
+    ensures records { IfOk result (λ ran. IsRecordsFileFor (records_of request.entry) times.clock ran.records) }
+    ensures stopped { IfErr result (StopsAtDoor H.File.contents request.entry opening.digest) }
 {
     let Opening {
         exchange,
@@ -49,16 +73,25 @@ fn run_at_door<'a, H: Files + Clock + Eprint, S: Read + Write + Limits + Drop, G
         Ok(file) => file,
         Err(fault) => return Err(LiveFault::Day(fault)),
     };
+    let records = match records_file_of(rt, records_of(request), times.clock) {
+        Ok(records) => records,
+        Err(fault) => return Err(LiveFault::Day(fault)),
+    };
     let view = View {
         file,
-        first: hours.first,
+        first: times.hours.first,
         day: Some((request.date, request.zone)),
         is_shown,
     };
-    match run_by_clock(rt, resumed, door, hours, turns, view) {
-        Ok(ran) => Ok(ran),
-        Err(_) => Err(LiveFault::CannotRecord(request.journal.unwrap_or(""))),
-    }
+    let (exchange, is_whole) = match run_by_clock(rt, resumed, door, times.hours, turns, view) {
+        Ok(ran) => ran,
+        Err(_) => return Err(LiveFault::CannotRecord(request.journal.unwrap_or(""))),
+    };
+    Ok(Ended {
+        exchange,
+        is_whole,
+        records,
+    })
 }
 
 /// The door of a TCP port.
@@ -103,27 +136,44 @@ fn socket_door<'a, H: Files + Eprint + Net>(
 fn run_at_place<'a, H: Files + Clock + Eprint + Net<Listener = TcpListener, Stream = TcpStream>>(
     rt: &H,
     request: LiveRequest<'a>,
-    hours: Hours,
+    times: Times,
     opening: Opening,
     is_shown: bool,
-) -> Result<(Exchange, bool), LiveFault<'a>>
-    requires { hours.first ≤ 4294667295 }
-    ensures ran { IfOk result (λ ran. IsTiedDay request.entry.turns opening.exchange opening.digest opening.turns → IsLiveDay request.entry ran.0) }
-    ensures stopped { IfErr result (StopsAtPlace request.entry opening.digest) }
+) -> Result<Ended<'a, H::File>, LiveFault<'a>>
+    requires { times.hours.first ≤ 4294667295 }
+    ensures ran { IfOk result (λ ran. AreHours request.entry.date.now request.entry.zone.now request.entry.pace times.hours → IsTiedDay request.entry.turns opening.exchange opening.digest opening.turns → IsLiveDay H H.File.contents request.entry ran.exchange ran.is_whole) }
+    ensures records { IfOk result (λ ran. IsRecordsFileFor (records_of request.entry) times.clock ran.records) }
+    ensures stopped { IfErr result (StopsAtPlace H.File.contents request.entry opening.digest) }
 {
     match request.place {
         Place::Port(port) => match port_door(rt, port, is_shown) {
-            Ok(door) => run_at_door(rt, request, hours, opening, door, is_shown),
+            Ok(door) => run_at_door(rt, request, times, opening, door, is_shown),
             Err(fault) => Err(LiveFault::Day(fault)),
         },
         Place::Socket(path) => match socket_door(rt, path, is_shown) {
-            Ok(door) => run_at_door(rt, request, hours, opening, door, is_shown),
+            Ok(door) => run_at_door(rt, request, times, opening, door, is_shown),
             Err(fault) => Err(LiveFault::Day(fault)),
         },
     }
 }
 
-/// The exchange at the end of a live day, and whether all that was to be captured was.
+/// When the day of a request is.
+fn times_of<'a>(request: LiveRequest<'a>) -> Result<Times, DayCommandFault<'a>>
+    ensures hours { IfOk result (λ times. AreHours request.entry.date.now request.entry.zone.now request.entry.pace times.hours) }
+    ensures clock { IfOk result (λ times. IsRecordsClock (records_of request.entry) times.clock) }
+    ensures refused { IfErr result (IsNoTime request.entry) }
+{
+    let hours = match hours_of(request.date, request.zone, request.pace) {
+        Ok(hours) => hours,
+        Err(fault) => return Err(fault),
+    };
+    match records_clock_of(records_of(request)) {
+        Ok(clock) => Ok(Times { hours, clock }),
+        Err(fault) => Err(fault),
+    }
+}
+
+/// The exchange at the end of a live day, with the file that was made for its records.
 fn run_live_day<
     'a,
     H: Files + AllocGlobal + Clock + Eprint + Net<Listener = TcpListener, Stream = TcpStream>,
@@ -133,12 +183,13 @@ fn run_live_day<
     inputs: &mut I,
     request: LiveRequest<'a>,
     is_terminal: bool,
-) -> Result<(Exchange, bool), LiveFault<'a>>
-    ensures ran { IfOk result (λ ran. IsLiveDay request.entry ran.0) }
-    ensures stopped { IfErr result (StopsLive request.entry) }
+) -> Result<Ended<'a, H::File>, LiveFault<'a>>
+    ensures ran { IfOk result (λ ran. IsLiveDay H H.File.contents request.entry ran.exchange ran.is_whole) }
+    ensures records { IfOk result (λ ran. IsMade (records_of request.entry) ran.records) }
+    ensures stopped { IfErr result (StopsLive H.File.contents request.entry) }
 {
-    let hours = match hours_of(request.date, request.zone, request.pace) {
-        Ok(hours) => hours,
+    let times = match times_of(request) {
+        Ok(times) => times,
         Err(fault) => return Err(LiveFault::Day(fault)),
     };
     let opening = match tied_opening(rt.alloc(), inputs, request.plan, request.turns) {
@@ -146,12 +197,13 @@ fn run_live_day<
         Err(fault) => return Err(LiveFault::Day(fault)),
     };
     let is_shown = is_terminal && !request.sight.is_quiet;
-    run_at_place(rt, request, hours, opening, is_shown)
+    run_at_place(rt, request, times, opening, is_shown)
 }
 
 /// Runs the exchange's end of the day of a plan by the clock, towards peers that come and go, from where its journal has left it;
-/// shows its moment on a terminal alone, and writes what became of each booking. A capture that was not written whole is a refusal, behind all that was told; at any
-/// other refusal nothing was written, except that where the output failed a front of what was to be told was.
+/// shows its moment on a terminal alone, writes what became of each booking, and its records into their file, where they are to be
+/// written. A capture or records that were not written whole are a refusal, behind all that was told; at any other refusal nothing was
+/// written, except that where the output failed a front of what was to be told was, and the records as if it had not.
 pub fn live_on_files<
     'a,
     H: Files + AllocGlobal + Clock + Eprint + Net<Listener = TcpListener, Stream = TcpStream>,
@@ -164,21 +216,11 @@ pub fn live_on_files<
     output: &mut Watched<W>,
     is_terminal: bool,
 ) -> Result<(), LiveFault<'a>>
-    ensures done { OnOk result (IsLiveTold request.entry (W.contents (device_of output.old)) (W.contents (device_of output.new))) }
-    ensures refused { IfErr result (IsLiveRefusal request.entry W.contents output.old output.new) }
+    ensures done { OnOk result (IsLiveTold H H.File.contents request.entry (W.contents (device_of output.old)) (W.contents (device_of output.new)) true (Ok tt)) }
+    ensures refused { IfErr result (IsLiveRefusal H H.File.contents request.entry W.contents output.old output.new) }
 {
-    let (exchange, is_whole) = match run_live_day(rt, inputs, request, is_terminal) {
-        Ok(ran) => ran,
-        Err(fault) => return Err(fault),
-    };
-    match exchange.write_outcomes(output) {
-        Ok(()) => {}
-        Err(_) => {
-            return Err(LiveFault::Day(DayCommandFault::Command(CommandFault::CannotWrite)));
-        }
-    }
-    match captured(request.sight.capture, is_whole) {
-        Ok(()) => Ok(()),
-        Err(fault) => Err(LiveFault::Day(fault)),
+    match run_live_day(rt, inputs, request, is_terminal) {
+        Ok(ended) => tell(rt.alloc(), ended, request.sight.capture, output),
+        Err(fault) => Err(fault),
     }
 }

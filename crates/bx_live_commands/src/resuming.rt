@@ -1,12 +1,13 @@
 //! A day that goes on by its journal.
 
-ghost use Rattle.std.specs.Prelude.{IfOk, IfErr, OnOk};
+ghost use Rattle.std.specs.Prelude.{◌≡◌, true, is_some, IfOk, IfErr, OnOk};
 ghost use Rattle.bx_devices.specs.Watching.{device_of, is_faulted};
 ghost use Rattle.bx_audit.specs.AuditRefusals.{IsNoJournal};
 ghost use Rattle.bx_live_commands.specs.Inside.{IsReady};
 ghost use Rattle.bx_live_commands.specs.Resuming.{GoesOn, GoesOnBy, IsNotResumed, IsNoRecord};
 
 use crate::fault::LiveFault;
+use crate::folder::sync_entry;
 use crate::journal_file::JournalFile;
 use bx_audit::told;
 use bx_day::Exchange;
@@ -78,6 +79,7 @@ pub fn resume_on<'a, F: Read + Write + OpenFile + Drop>(
     exchange: Exchange,
 ) -> Result<Resumed<JournalFile<F>>, LiveFault<'a>>
     ensures resumed { IfOk result (λ resumed. GoesOn plan.now (F.remaining file) exchange resumed.exchange) }
+    ensures kept { IfOk result (λ resumed. is_some resumed.record.disk ≡ true) }
     ensures refused { IfErr result (IsNotResumed name.now plan.now) }
 {
     let mut journal = Watched::new(file);
@@ -103,6 +105,7 @@ pub(crate) fn resume_named<'a, H: Files>(
     exchange: Exchange,
 ) -> Result<Resumed<JournalFile<H::File>>, LiveFault<'a>>
     ensures resumed { IfOk result (λ resumed. GoesOnBy plan.now name.entry exchange resumed.exchange) }
+    ensures kept { IfOk result (λ resumed. is_some resumed.record.disk ≡ is_some name.entry) }
     ensures refused { IfErr result (IsNoRecord name.entry plan.now) }
 {
     let Some(name) = name else {
@@ -117,7 +120,10 @@ pub(crate) fn resume_named<'a, H: Files>(
         .create(true)
         .open(rt, name)
     {
-        Ok(file) => resume_on(name, file, plan, exchange),
+        Ok(file) => {
+            sync_entry(rt, name);
+            resume_on(name, file, plan, exchange)
+        }
         Err(_) => Err(LiveFault::CannotRecord(name)),
     }
 }

@@ -48,7 +48,7 @@ pub(crate) fn run_in<'a, 'h, H: Clock + Eprint, W: World, F: Write + Drop>(
     view: View<'a, F>,
 ) -> Ran<W>
     requires { view.first ≤ 4294667295 }
-    ensures { RunsIn W.did world result.world turns exchange.old exchange.new result.done }
+    ensures { RunsIn W.did world result.world turns exchange.old exchange.new result.done F.contents view.entry.file view.entry.first result.is_whole }
 {
     let View {
         file,
@@ -88,7 +88,7 @@ pub fn run_by_clock<
     view: View<'a, F>,
 ) -> Result<(Exchange, bool), CannotRecord>
     requires { view.first ≤ 4294667295 }
-    ensures { IfOk result (λ ran. RunsByClock H G S.remaining S.contents D.holds D.may_leave D.moment D.left_since hours.schedule resumed.record turns resumed.exchange ran.0) }
+    ensures { IfOk result (λ ran. RunsByClock H G S.remaining S.contents D.holds D.may_leave D.moment D.left_since F.contents hours.schedule resumed.record view.entry.file view.entry.first turns resumed.exchange ran.0 ran.1) }
 {
     let Resumed {
         mut exchange,

@@ -86,14 +86,8 @@ pub fn plan_run<R: Read, W: Write>(
     ensures planned { IfOk result (IsRun (reading_of R.remaining input.old input.new) (writing_of W.contents output.old output.new) (span_of day.now) channels) }
     ensures refused { IfErr result (IsRunRefusal (reading_of R.remaining input.old input.new) (writing_of W.contents output.old output.new) (span_of day.now) channels) }
 {
-    let bookings = match bookings_of(alloc, input, day) {
-        Ok(bookings) => bookings,
-        Err(fault) => return Err(fault),
-    };
-    let plan = match plan_of(alloc, &bookings, channels) {
-        Ok(plan) => plan,
-        Err(fault) => return Err(fault),
-    };
+    let bookings = bookings_of(alloc, input, day)?;
+    let plan = plan_of(alloc, &bookings, channels)?;
     match write_plan(&plan, output) {
         Ok(()) => Ok(plan.total),
         Err(_) => Err(RunFault::WriteFailed),

@@ -3,7 +3,8 @@
 use crate::proved_plans::plan_of;
 use crate::rows::{Row, booking_of};
 use crate::sets::{
-    best_sets, first_full, is_in, is_lawful, most_beside, pay_beside, power_of, six_rows,
+    best_sets, first_above, first_full, is_in, is_lawful, most_beside, pay_beside, power_of,
+    six_rows,
 };
 use bx_base::Price;
 use bx_cases::SHARE;
@@ -125,10 +126,10 @@ fn is_answer(
     }
 }
 
-/// Whether the row at this index is explained rightly, where there is a plan.
+/// Whether the row at this index is explained rightly; or there is no plan, and too many rows have to be held.
 fn is_explained(alloc: Global, rows: &[Row], count: usize, index: u16) -> bool {
     let Some(plan) = plan_of(alloc, rows, count) else {
-        return true;
+        return first_above(rows, count).is_some();
     };
     let accepted = set_of(&plan.assigned);
     let row = index.saturating_add(1);
@@ -144,10 +145,10 @@ fn is_explained(alloc: Global, rows: &[Row], count: usize, index: u16) -> bool {
     is_answer(&asked, accepted, &plan.prices, &answer)
 }
 
-/// Whether the last row is quoted rightly beside a plan of the five before it, where there is one.
+/// Whether the last row is quoted rightly beside a plan of the five before it; or there is none, and too many have to be held.
 fn is_quoted(alloc: Global, rows: &[Row; 6], count: usize) -> bool {
     let Some(plan) = plan_of(alloc, &rows[..5], count) else {
-        return true;
+        return first_above(&rows[..5], count).is_some();
     };
     let Some(booking) = booking_of(&rows[5]) else {
         return false;
@@ -165,9 +166,13 @@ fn is_quoted(alloc: Global, rows: &[Row; 6], count: usize) -> bool {
 
 #[test]
 fn no_choice_contradicts_a_quote(rt: HostRuntime) -> Result<(), Fail> {
+    let mut planned = 0u32;
     for seed in 0..60 / SHARE {
         let rows = six_rows(seed.wrapping_mul(7919), 5);
         for count in 0..3usize {
+            if first_above(&rows, count).is_none() {
+                planned = planned.saturating_add(1);
+            }
             assert!(rt; is_quoted(rt.alloc(), &rows, count), "quote {seed} {count}");
             for index in 0..6u16 {
                 let explained = is_explained(rt.alloc(), &rows, count, index);
@@ -175,5 +180,6 @@ fn no_choice_contradicts_a_quote(rt: HostRuntime) -> Result<(), Fail> {
             }
         }
     }
+    assert!(rt; planned > 0, "no plan was asked");
     Ok(())
 }

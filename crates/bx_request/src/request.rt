@@ -26,6 +26,14 @@ pub struct CaptureWords<'a> {
     pub day: Option<(&'a str, &'a str)>,
 }
 
+/// A file that the records of a day are to be written to, as the words name it.
+#[derive(Clone, Copy)]
+pub struct RecordsWords<'a> {
+    pub file: &'a str,
+    /// The date and the zone of the day, where moments are to be written as local times.
+    pub day: Option<(&'a str, &'a str)>,
+}
+
 /// What is to be seen of a day while it runs.
 #[derive(Clone, Copy)]
 pub struct Sight<'a> {
@@ -77,6 +85,15 @@ pub enum FileRequest<'a> {
     },
 }
 
+/// Where an exchange listens, or a far end connects.
+#[derive(Clone, Copy)]
+pub enum Place<'a> {
+    /// A TCP port of 127.0.0.1.
+    Port(u16),
+    /// The Unix socket of this path.
+    Socket(&'a str),
+}
+
 /// A command that runs a day, with its words.
 #[derive(Clone, Copy)]
 pub enum DayRequest<'a> {
@@ -85,30 +102,52 @@ pub enum DayRequest<'a> {
         plan: &'a str,
         script: &'a str,
         turns: Option<u32>,
+        records: Option<RecordsWords<'a>>,
         sight: Sight<'a>,
     },
     /// Run the exchange's end of a plan's day.
     Serve {
         plan: &'a str,
-        port: u16,
+        place: Place<'a>,
         turns: Option<u32>,
+        records: Option<RecordsWords<'a>>,
         sight: Sight<'a>,
     },
     /// Run the far end of a day.
     Far {
         script: &'a str,
-        port: u16,
+        place: Place<'a>,
         sight: Sight<'a>,
     },
 }
 
-/// Where an exchange listens, or a far end connects.
+/// Who is at the other end of a day that is rehearsed.
 #[derive(Clone, Copy)]
-pub enum Place<'a> {
-    /// A TCP port of 127.0.0.1.
-    Port(u16),
-    /// The Unix socket of this path.
-    Socket(&'a str),
+pub enum Peer<'a> {
+    /// A far end of the same process, by the script of this name.
+    Script(&'a str),
+    /// The first that connects here.
+    At(Place<'a>),
+}
+
+/// A plan's day that is to be run as fast as its peer goes, with what happens on record.
+#[derive(Clone, Copy)]
+pub struct RehearsalRequest<'a> {
+    pub plan: &'a str,
+    pub peer: Peer<'a>,
+    /// The file of its journal, which may not hold one.
+    pub journal: &'a str,
+    pub turns: Option<u32>,
+    pub records: Option<RecordsWords<'a>>,
+    pub sight: Sight<'a>,
+}
+
+/// The far end of a day that is to be run, and to connect again whenever its connection is lost.
+#[derive(Clone, Copy)]
+pub struct RejoinRequest<'a> {
+    pub script: &'a str,
+    pub place: Place<'a>,
+    pub sight: Sight<'a>,
 }
 
 /// A plan's day that is to be run by the clock.
@@ -124,6 +163,8 @@ pub struct LiveRequest<'a> {
     /// The file of its journal, where one is kept.
     pub journal: Option<&'a str>,
     pub turns: Option<u32>,
+    /// The file of its records, where they are to be written.
+    pub records: Option<&'a str>,
     pub sight: Sight<'a>,
 }
 
@@ -151,6 +192,8 @@ pub struct RecordsRequest<'a> {
 pub enum Request<'a> {
     Files(FileRequest<'a>),
     Day(DayRequest<'a>),
+    Rehearsal(RehearsalRequest<'a>),
+    Rejoin(RejoinRequest<'a>),
     Live(LiveRequest<'a>),
     Audit(AuditRequest<'a>),
     Records(RecordsRequest<'a>),

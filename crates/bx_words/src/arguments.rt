@@ -23,8 +23,8 @@ pub enum Form {
     Seconds,
     /// An option for a port, which has to be there, or a socket in its place.
     Port,
-    /// An option for a socket in place of a port, that stands only beside another.
-    Socket(&'static str),
+    /// An option for a socket in place of a port.
+    Socket,
     /// An option without a value that stands only beside another.
     FlagBeside(&'static str),
     /// An option for how many seconds of a day go by in one of the clock, 1 to 1,000, that stands only beside another.
@@ -112,8 +112,8 @@ pub const PORT: Argument = Argument {
 pub const SOCKET: Argument = Argument {
     name: "socket",
     value: "PATH",
-    form: Form::Socket("live"),
-    help: "The Unix socket of a live day, in place of a port",
+    form: Form::Socket,
+    help: "The path of a Unix socket, in place of a port",
 };
 
 pub const LIVE: Argument = Argument {
@@ -127,7 +127,7 @@ pub const SERVED_DAY: Argument = Argument {
     name: "date",
     value: "DATE",
     form: Form::Optional,
-    help: "The day, as YYYY-MM-DD: that of a live day, and of the time stamps of a capture, which else are seconds of the day",
+    help: "The day, as YYYY-MM-DD: that of a live day, and of the times of a capture and of records, which else are seconds of the day",
 };
 
 pub const PACE: Argument = Argument {
@@ -137,11 +137,32 @@ pub const PACE: Argument = Argument {
     help: "Seconds of a live day in one of the clock, 1 to 1000 [default: 1]",
 };
 
+pub const NEW_JOURNAL: Argument = Argument {
+    name: "journal",
+    value: "FILE",
+    form: Form::Optional,
+    help: "Put each event on record in this file, which has to be new or empty, before anything is sent for it",
+};
+
 pub const KEPT_JOURNAL: Argument = Argument {
     name: "journal",
     value: "FILE",
-    form: Form::Beside("live"),
-    help: "Put each event on record in this file before anything is sent for it; a live day goes on from what stands there",
+    form: Form::Optional,
+    help: "Put each event on record in this file before anything is sent for it: a new or empty one; a live day goes on from what stands there",
+};
+
+pub const RECORDS: Argument = Argument {
+    name: "records",
+    value: "FILE",
+    form: Form::Optional,
+    help: "When the day has ended write its records into this file, as CSV for bills and spreadsheets",
+};
+
+pub const REJOIN: Argument = Argument {
+    name: "rejoin",
+    value: "",
+    form: Form::Flag,
+    help: "Wait for the exchange, and connect again whenever the connection is lost, until the day ends",
 };
 
 pub const OCTETS: Argument = Argument {
@@ -198,6 +219,13 @@ pub const CAPTURE: Argument = Argument {
     value: "FILE",
     form: Form::Optional,
     help: "Write each message that goes over the link into this capture file, which Wireshark reads",
+};
+
+pub const SEEN_DAY: Argument = Argument {
+    name: "date",
+    value: "DATE",
+    form: Form::Optional,
+    help: "The day, as YYYY-MM-DD: the times of the capture and of the records are its own, and not seconds of the day",
 };
 
 pub const CAPTURED_DAY: Argument = Argument {
@@ -262,10 +290,7 @@ pub(crate) fn arg_of<'a>(alloc: Global, argument: &Argument) -> Result<Arg<'a>, 
             .long(argument.name)
             .required_unless_present("socket")?
             .value_parser(value_parser!(u16).range(1..)),
-        Form::Socket(other) => arg
-            .long(argument.name)
-            .conflicts_with("port")?
-            .requires_arg(other)?,
+        Form::Socket => arg.long(argument.name).conflicts_with("port")?,
         Form::Pace(other) => arg
             .long(argument.name)
             .requires_arg(other)?

@@ -2,8 +2,9 @@
 
 use crate::arguments::{
     Argument, BOOKINGS, CAPTURE, CAPTURED_DAY, CHANNELS, DATE, DAY, DAY_ZONE, END, INWARD, JOURNAL,
-    KEPT_JOURNAL, LIVE, NO_TOTALS, OCTETS, PACE, PICTURED_DAY, PLAN, PORT, QUIET, RECORDED_DAY,
-    RECORDED_JOURNAL, ROW, SCRIPT, SERVED_DAY, SOCKET, START, TURNS, ZONE, arg_of,
+    KEPT_JOURNAL, LIVE, NEW_JOURNAL, NO_TOTALS, OCTETS, PACE, PICTURED_DAY, PLAN, PORT, QUIET,
+    RECORDED_DAY, RECORDED_JOURNAL, RECORDS, REJOIN, ROW, SCRIPT, SEEN_DAY, SERVED_DAY, SOCKET,
+    START, TURNS, ZONE, arg_of,
 };
 use clap::Command;
 use std::alloc::{AllocError, Global};
@@ -44,7 +45,8 @@ struct Words {
     arguments: &'static [Argument],
 }
 
-static COMMANDS: [Words; 13] = [
+/// Those on bookings and plans.
+static PLAN_COMMANDS: [Words; 7] = [
     Words {
         name: "plan",
         about: "Print the best plan of a day's bookings",
@@ -80,10 +82,24 @@ static COMMANDS: [Words; 13] = [
         about: "Print a proved plan as a picture in SVG: what each channel carries, what is refused, and the prices",
         arguments: &[PLAN, PICTURED_DAY, DAY_ZONE],
     },
+];
+
+/// Those on days and their messages.
+static DAY_COMMANDS: [Words; 6] = [
     Words {
         name: "day",
         about: "Run both ends of a proved plan's day over one TCP connection to 127.0.0.1, and print what became of each booking; may run long",
-        arguments: &[PLAN, SCRIPT, TURNS, CAPTURE, CAPTURED_DAY, DAY_ZONE, QUIET],
+        arguments: &[
+            PLAN,
+            SCRIPT,
+            TURNS,
+            NEW_JOURNAL,
+            RECORDS,
+            CAPTURE,
+            SEEN_DAY,
+            DAY_ZONE,
+            QUIET,
+        ],
     },
     Words {
         name: "serve",
@@ -98,14 +114,24 @@ static COMMANDS: [Words; 13] = [
             KEPT_JOURNAL,
             PACE,
             TURNS,
+            RECORDS,
             CAPTURE,
             QUIET,
         ],
     },
     Words {
         name: "far",
-        about: "Run the far end of a day by a script, towards an exchange that serves on 127.0.0.1; may wait and run long",
-        arguments: &[SCRIPT, PORT, CAPTURE, CAPTURED_DAY, DAY_ZONE, QUIET],
+        about: "Run the far end of a day by a script, towards an exchange that serves; may wait and run long",
+        arguments: &[
+            SCRIPT,
+            PORT,
+            SOCKET,
+            REJOIN,
+            CAPTURE,
+            CAPTURED_DAY,
+            DAY_ZONE,
+            QUIET,
+        ],
     },
     Words {
         name: "audit",
@@ -146,11 +172,31 @@ fn program<'a>(alloc: Global) -> Result<Command<'a>, AllocError> {
     )
 }
 
-/// The program with its commands.
-pub(crate) fn program_of_words<'a>(alloc: Global) -> Result<Command<'a>, AllocError> {
-    let mut all = program(alloc)?;
-    for words in &COMMANDS {
+/// The program with these commands.
+fn with_commands<'a>(
+    alloc: Global,
+    program: Command<'a>,
+    commands: &[Words],
+) -> Result<Command<'a>, AllocError> {
+    let mut all = program;
+    for words in commands {
         all = all.subcommand(command_of(alloc, words)?)?;
     }
     Ok(all)
+}
+
+/// The program with the commands on bookings and plans.
+fn with_plans<'a>(alloc: Global, program: Command<'a>) -> Result<Command<'a>, AllocError> {
+    with_commands(alloc, program, &PLAN_COMMANDS)
+}
+
+/// The program with the commands on days and their messages.
+fn with_days<'a>(alloc: Global, program: Command<'a>) -> Result<Command<'a>, AllocError> {
+    with_commands(alloc, program, &DAY_COMMANDS)
+}
+
+/// The program with its commands.
+pub(crate) fn program_of_words<'a>(alloc: Global) -> Result<Command<'a>, AllocError> {
+    let program = program(alloc)?;
+    with_days(alloc, with_plans(alloc, program)?)
 }

@@ -19,7 +19,7 @@ F1 CannotRead NAME    the file cannot be opened or read, or has more than 4,194,
 F2 CannotWrite        standard output failed
 F3 CannotListen       the port or the socket cannot be listened on
 F4 CannotConnect      nobody listens on the port or the socket
-F5 CannotWrite NAME   the capture file cannot be created, or a write of it failed
+F5 CannotWrite NAME   the file of the capture or of the records cannot be created, or a write of it failed
 G1 ReadFailed         a read of the bookings failed
 G2 TooLong            the bookings have more than 4,194,304 octets
 G4 WriteFailed        standard output failed while the plan was written
@@ -51,6 +51,7 @@ S3 BadEntry r         a field of row r of the script is none that may stand ther
 S4 TooMany            the script has more than 4,000 rows
 J1 BadLine n          line n of the journal has another form than the line that stands in its place
 J2 OtherPlan          the journal is that of another plan
+J3 NotEmpty NAME      the file that is to take the journal of a new day holds something
 J4 CannotRecord NAME  the journal cannot be written
 L1 ReadFailed         the link: a read failed
 L2 WriteFailed        the link: a write failed

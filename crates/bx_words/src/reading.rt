@@ -4,8 +4,8 @@ use crate::channel_list::channel_numbers;
 use crate::command_line::program_of_words;
 use crate::faults::FAULTS;
 use bx_request::{
-    AuditRequest, Call, CaptureWords, DayRequest, FileRequest, LiveRequest, Place, RecordsRequest,
-    Request, Sight, Terms,
+    AuditRequest, Call, CaptureWords, DayRequest, FileRequest, LiveRequest, Peer, Place,
+    RecordsRequest, RecordsWords, RehearsalRequest, RejoinRequest, Request, Sight, Terms,
 };
 use clap::error::ErrorKind;
 use clap::{ArgMatches, Error};
@@ -99,6 +99,14 @@ fn capture_of<'a>(matches: &ArgMatches<'a>) -> Option<CaptureWords<'a>> {
         .map(|file| CaptureWords { file, day })
 }
 
+/// The records that these words want at the end of a day.
+fn records_of<'a>(matches: &ArgMatches<'a>) -> Option<RecordsWords<'a>> {
+    let day = day_of(matches);
+    matches
+        .get_str("records")
+        .map(|file| RecordsWords { file, day })
+}
+
 /// What these words want to see of a day.
 fn sight_of<'a>(matches: &ArgMatches<'a>) -> Sight<'a> {
     Sight {
@@ -160,30 +168,25 @@ fn file_request<'a>(
     }
 }
 
-/// The command that runs a day, has this name and these words, where it is one.
-fn day_request<'a>(name: &str, matches: &ArgMatches<'a>) -> Option<DayRequest<'a>> {
-    match name {
-        "day" => Some(DayRequest::Day {
-            plan: word(matches, "plan"),
-            script: word(matches, "script"),
-            turns: matches.get_one::<u32>("turns"),
-            sight: sight_of(matches),
-        }),
-        "far" => Some(DayRequest::Far {
-            script: word(matches, "script"),
-            port: port_of(matches),
-            sight: sight_of(matches),
-        }),
-        _ => None,
-    }
-}
-
 /// The port or the socket, of which the command requires one.
 fn place_of<'a>(matches: &ArgMatches<'a>) -> Place<'a> {
     match matches.get_str("socket") {
         Some(path) => Place::Socket(path),
         None => Place::Port(port_of(matches)),
     }
+}
+
+/// The rehearsal towards this peer that these words want, where its events are to go on record.
+fn rehearsal_of<'a>(matches: &ArgMatches<'a>, peer: Peer<'a>) -> Option<RehearsalRequest<'a>> {
+    let journal = matches.get_str("journal")?;
+    Some(RehearsalRequest {
+        plan: word(matches, "plan"),
+        peer,
+        journal,
+        turns: matches.get_one::<u32>("turns"),
+        records: records_of(matches),
+        sight: sight_of(matches),
+    })
 }
 
 /// The day that these words want to be run by the clock.
@@ -196,13 +199,37 @@ fn live_request<'a>(matches: &ArgMatches<'a>) -> LiveRequest<'a> {
         pace: matches.get_one::<u32>("pace").unwrap_or(1),
         journal: matches.get_str("journal"),
         turns: matches.get_one::<u32>("turns"),
+        records: matches.get_str("records"),
         sight: sight_of(matches),
     }
 }
 
 /// Whether a day is named, and nothing that needs it.
 fn is_date_alone(matches: &ArgMatches<'_>) -> bool {
-    matches.get_str("date").is_some() && matches.get_str("capture").is_none()
+    matches.get_str("date").is_some()
+        && matches.get_str("capture").is_none()
+        && matches.get_str("records").is_none()
+}
+
+/// What these words want of a day of both ends.
+fn day_request<'a>(alloc: Global, matches: &ArgMatches<'a>) -> Result<Request<'a>, Refusal> {
+    if is_date_alone(matches) {
+        return Err(wrong(
+            alloc,
+            "'--date <DATE>' stands only beside '--capture <FILE>' or '--records <FILE>'",
+        ));
+    }
+    let script = word(matches, "script");
+    Ok(match rehearsal_of(matches, Peer::Script(script)) {
+        Some(rehearsal) => Request::Rehearsal(rehearsal),
+        None => Request::Day(DayRequest::Day {
+            plan: word(matches, "plan"),
+            script,
+            turns: matches.get_one::<u32>("turns"),
+            records: records_of(matches),
+            sight: sight_of(matches),
+        }),
+    })
 }
 
 /// What these words want of an exchange that serves.
@@ -213,15 +240,40 @@ fn serve_request<'a>(alloc: Global, matches: &ArgMatches<'a>) -> Result<Request<
     if is_date_alone(matches) {
         return Err(wrong(
             alloc,
-            "'--date <DATE>' stands only beside '--live' or '--capture <FILE>'",
+            "'--date <DATE>' stands only beside '--live', '--capture <FILE>' or '--records <FILE>'",
         ));
     }
-    Ok(Request::Day(DayRequest::Serve {
-        plan: word(matches, "plan"),
-        port: port_of(matches),
-        turns: matches.get_one::<u32>("turns"),
-        sight: sight_of(matches),
-    }))
+    let place = place_of(matches);
+    Ok(match rehearsal_of(matches, Peer::At(place)) {
+        Some(rehearsal) => Request::Rehearsal(rehearsal),
+        None => Request::Day(DayRequest::Serve {
+            plan: word(matches, "plan"),
+            place,
+            turns: matches.get_one::<u32>("turns"),
+            records: records_of(matches),
+            sight: sight_of(matches),
+        }),
+    })
+}
+
+/// What these words want of a far end.
+fn far_request<'a>(matches: &ArgMatches<'a>) -> Request<'a> {
+    let script = word(matches, "script");
+    let place = place_of(matches);
+    let sight = sight_of(matches);
+    if matches.get_flag("rejoin") {
+        Request::Rejoin(RejoinRequest {
+            script,
+            place,
+            sight,
+        })
+    } else {
+        Request::Day(DayRequest::Far {
+            script,
+            place,
+            sight,
+        })
+    }
 }
 
 /// The day that these words want to be told by its journal.
@@ -243,23 +295,30 @@ fn records_request<'a>(matches: &ArgMatches<'a>) -> RecordsRequest<'a> {
     }
 }
 
+/// The command on a plan's day that has this name and these words, where it is one.
+fn request_for_day<'a>(
+    alloc: Global,
+    name: &str,
+    matches: &ArgMatches<'a>,
+) -> Result<Option<Request<'a>>, Refusal> {
+    match name {
+        "day" => Ok(Some(day_request(alloc, matches)?)),
+        "serve" => Ok(Some(serve_request(alloc, matches)?)),
+        "far" => Ok(Some(far_request(matches))),
+        "audit" => Ok(Some(Request::Audit(audit_request(matches)))),
+        "records" => Ok(Some(Request::Records(records_request(matches)))),
+        _ => Ok(None),
+    }
+}
+
 /// The command that has this name and these words.
 fn request_of<'a>(
     alloc: Global,
     name: &str,
     matches: &ArgMatches<'a>,
 ) -> Result<Request<'a>, Refusal> {
-    if let Some(request) = day_request(name, matches) {
-        return Ok(Request::Day(request));
-    }
-    if name == "serve" {
-        return serve_request(alloc, matches);
-    }
-    if name == "audit" {
-        return Ok(Request::Audit(audit_request(matches)));
-    }
-    if name == "records" {
-        return Ok(Request::Records(records_request(matches)));
+    if let Some(request) = request_for_day(alloc, name, matches)? {
+        return Ok(request);
     }
     match file_request(alloc, name, matches)? {
         Some(request) => Ok(Request::Files(request)),

@@ -8,20 +8,20 @@ use Rattle.bx_cli.proofs.words.run.Goals as goal
 
 pub returns-in-Files-clause-done : goal.returns-in-Files-clause-done
 returns-in-Files-clause-done g c zero =
-    subst (λ (r : Request). IsRequestDone (g.R.Read.remaining (device_of c.args.input.now)) r g.H.File.Write.contents g.W.Write.contents c.args.output.now c.run_on_files.new.output) (sym c.in-Files.is)
+    subst (λ (r : Request). IsRequestDone g.row.H.Denot (g.R.Read.remaining (device_of c.args.input.now)) r g.H.File.Write.contents g.W.Write.contents c.args.output.now c.run_on_files.new.output) (sym c.in-Files.is)
     (is_done _ _ _ c.in-Files.request (writing_of g.W.Write.contents c.args.output.now c.run_on_files.new.output) c.run_on_files.result c.status_of.result c.new-inputs.ensures c.status_of.ensures.done c.run_on_files.ensures.done zero)
 
 pub returns-in-Files-clause-refused : goal.returns-in-Files-clause-refused
 returns-in-Files-clause-refused g c some =
-    subst (λ (r : Request). IsRequestRefused (g.R.Read.remaining (device_of c.args.input.now)) r g.H.File.Write.contents g.W.Write.contents c.args.output.now c.run_on_files.new.output) (sym c.in-Files.is)
+    subst (λ (r : Request). IsRequestRefused g.row.H.Denot (g.R.Read.remaining (device_of c.args.input.now)) r g.H.File.Write.contents g.W.Write.contents c.args.output.now c.run_on_files.new.output) (sym c.in-Files.is)
     (is_refused _ _ _ c.in-Files.request g.W.Write.contents c.args.output.now c.run_on_files.new.output c.run_on_files.result c.status_of.result c.new-inputs.ensures c.status_of.ensures.done c.run_on_files.ensures.refused some)
 
 pub returns-in-Records-clause-done : goal.returns-in-Records-clause-done
 returns-in-Records-clause-done g c zero =
-    subst (λ (r : Request). IsRequestDone (g.R.Read.remaining (device_of c.args.input.now)) r g.H.File.Write.contents g.W.Write.contents c.args.output.now c.record_files.new.output) (sym c.in-Records.is)
+    subst (λ (r : Request). IsRequestDone g.row.H.Denot (g.R.Read.remaining (device_of c.args.input.now)) r g.H.File.Write.contents g.W.Write.contents c.args.output.now c.record_files.new.output) (sym c.in-Records.is)
     (are_recorded _ _ _ c.in-Records.request (writing_of g.W.Write.contents c.args.output.now c.record_files.new.output) _ c.record_files.result c.status_of-in-Records.result c.new-inputs.ensures c.status_of-in-Records.ensures.done c.record_files.ensures.done zero)
 
 pub returns-in-Records-clause-refused : goal.returns-in-Records-clause-refused
 returns-in-Records-clause-refused g c some =
-    subst (λ (r : Request). IsRequestRefused (g.R.Read.remaining (device_of c.args.input.now)) r g.H.File.Write.contents g.W.Write.contents c.args.output.now c.record_files.new.output) (sym c.in-Records.is)
+    subst (λ (r : Request). IsRequestRefused g.row.H.Denot (g.R.Read.remaining (device_of c.args.input.now)) r g.H.File.Write.contents g.W.Write.contents c.args.output.now c.record_files.new.output) (sym c.in-Records.is)
     (are_unrecorded _ _ _ c.in-Records.request g.W.Write.contents c.args.output.now c.record_files.new.output c.record_files.result c.status_of-in-Records.result c.new-inputs.ensures c.status_of-in-Records.ensures.done c.record_files.ensures.refused some)

@@ -1,6 +1,6 @@
 use Rattle.std.proofs.Common.{◌≡◌, max, sym, subst}
 use Rattle.bx_world.specs.Schedules.{first_of, pace_of}
-use Rattle.bx_live_commands.specs.HoursInside.{IsFirstSecond}
+use Rattle.bx_live_commands.specs.LiveHours.{IsFirstSecond}
 use Rattle.bx_live_commands.proofs.hours.hours_of.Goals as goal
 
 pub returns-clause-hours : goal.returns-clause-hours

@@ -1,10 +1,14 @@
-use Rattle.std.proofs.Common.{rules}
-use Rattle.bx_live_commands.proofs.Refused.{live_uncaptured}
+use Rattle.bx_live_commands.proofs.Runs.{on_ok, if_err}
+use Rattle.bx_live_commands.proofs.ToldLive.{live_told, live_refused, live_stopped}
 use Rattle.bx_live_commands.proofs.live_files.live_on_files.Goals as goal
 
-pub returns-in-Ok-captured-clause-done : goal.returns-in-Ok-captured-clause-done
-returns-in-Ok-captured-clause-done g c = record { day = c.in-Ok.ran.0; live = c.in-Ok.ensures.ran; written = search rules steps 1000000 }
+pub returns-in-Ok-clause-done : goal.returns-in-Ok-clause-done
+returns-in-Ok-clause-done g c =
+    on_ok c.tell.result (live_told g.row.H.Denot g.H.File.Write.contents c.args.request g.W.Write.contents c.args.output.now c.tell.new.output c.in-Ok.ended c.in-Ok.ensures.ran c.in-Ok.ensures.records) c.tell.ensures.told
 
-pub returns-clause-refused : goal.returns-clause-refused
-returns-clause-refused g c =
-    live_uncaptured c.args.request g.W.Write.contents c.args.output.now c.write_outcomes.new.writer c.in-Err-captured.fault c.in-Err-captured.ensures.cut.0 (record { day = c.in-Ok.ran.0; live = c.in-Ok.ensures.ran; written = search rules steps 1000000 })
+pub returns-in-Ok-clause-refused : goal.returns-in-Ok-clause-refused
+returns-in-Ok-clause-refused g c =
+    if_err c.tell.result _ _ (live_refused g.row.H.Denot g.H.File.Write.contents c.args.request g.W.Write.contents c.args.output.now c.tell.new.output c.in-Ok.ended c.in-Ok.ensures.ran c.in-Ok.ensures.records) c.tell.ensures.cut
+
+pub returns-in-Err-clause-refused : goal.returns-in-Err-clause-refused
+returns-in-Err-clause-refused g c = live_stopped g.H.File.Write.contents c.args.request g.row.H.Denot g.W.Write.contents c.args.output.now c.in-Err.fault c.in-Err.ensures.stopped

@@ -1,5 +1,6 @@
 use Rattle.std.proofs.Common.{◌≡◌}
 use Rattle.bx_live_commands.proofs.Runs.{carried}
+use Rattle.bx_live_commands.proofs.RunCaptured.{run_kept}
 use Rattle.bx_live_commands.proofs.running.run_in.Goals as goal
 
 pub returns : goal.returns
@@ -12,4 +13,5 @@ returns g c =
       ran = record { acts = ran.acts; done = carried g.W.World.did ran.acts c.new-world.result.world.world c.run_live-done.new.world.world.world c.args.world c.into_world.result first last ran.done.0; goes = ran.goes };
       after = whole.1;
       reached = whole.2;
+      kept = run_kept g.F.Write.contents ran.acts c.new-world.result c.run_live-done.new.world c.args.view.file c.args.view.first c.is_whole-is_whole.result c.new-world.ensures.file c.new-world.ensures.first c.is_whole-is_whole.ensures ran.done.1;
     }

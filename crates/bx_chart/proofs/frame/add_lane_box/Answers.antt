@@ -1,0 +1,6 @@
+use Rattle.std.proofs.Common.{◌≡◌, ◌++◌, ℕ, List}
+use Rattle.bx_chart.proofs.Joined.{on_ok, two, worded}
+use Rattle.bx_chart.proofs.frame.add_lane_box.Goals as goal
+
+pub returns : goal.returns
+returns c = on_ok c.add.result (two c.args.picture.now.text.items _ _ _ _ (worded c.args.picture.now.text.items _ _ _ c.in_ok-add_number.ensures)) c.add.ensures.added

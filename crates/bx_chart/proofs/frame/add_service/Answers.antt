@@ -1,0 +1,6 @@
+use Rattle.std.proofs.Common.{◌≡◌, ◌++◌, ℕ, List}
+use Rattle.bx_chart.proofs.Joined.{on_ok, two, worded}
+use Rattle.bx_chart.proofs.frame.add_service.Goals as goal
+
+pub returns : goal.returns
+returns c = on_ok c.add_number.result (worded c.args.picture.now.text.items _ _ _) c.add_number.ensures

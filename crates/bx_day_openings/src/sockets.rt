@@ -1,0 +1,62 @@
+//! Connections over Unix sockets.
+
+ghost use Rattle.std.specs.Prelude.{IfErr};
+ghost use Rattle.bx_day_openings.specs.OpeningRefusals.{IsUnheard, IsUnconnected};
+
+use crate::fault::DayCommandFault;
+use std::fs::Files;
+use std::io::{Error, ErrorKind};
+use std::net::Net;
+use std::os::unix::fs::FileTypeExt;
+use std::os::unix::net::{UnixListener, UnixStream};
+use std::{fs, io};
+
+/// Takes away the file of a socket on which nobody listens, and no other file.
+fn clear_away<H: Files + Net>(rt: &H, path: &str) -> io::Result<()> {
+    let is_socket = fs::symlink_metadata(rt, path)?.file_type().is_socket();
+    if !is_socket || UnixStream::connect(rt, path).is_ok() {
+        return Err(Error::from(ErrorKind::AddrInUse));
+    }
+    fs::remove_file(rt, path)
+}
+
+/// A listener on the socket of this path. A file of a socket on which nobody listens is replaced.
+fn listener<H: Files + Net>(rt: &H, path: &str) -> io::Result<UnixListener> {
+    match UnixListener::bind(rt, path) {
+        Ok(listener) => Ok(listener),
+        Err(_) => {
+            clear_away(rt, path)?;
+            UnixListener::bind(rt, path)
+        }
+    }
+}
+
+/// The first peer that connects to the socket of this path. Waits for it, and says before that it does, where that is to be said.
+pub fn accepted_at<'a, H: Files + Net + Eprint>(
+    rt: &H,
+    path: &str,
+    is_said: bool,
+) -> Result<UnixStream, DayCommandFault<'a>>
+    ensures { IfErr result IsUnheard }
+{
+    let Ok(listener) = listener(rt, path) else {
+        return Err(DayCommandFault::CannotListen);
+    };
+    if is_said {
+        let _ = eprintln!(rt; "listening on {path}");
+    }
+    match listener.accept() {
+        Ok((stream, _)) => Ok(stream),
+        Err(_) => Err(DayCommandFault::CannotListen),
+    }
+}
+
+/// A connection to the socket of this path.
+pub fn connected_at<'a, H: Net>(rt: &H, path: &str) -> Result<UnixStream, DayCommandFault<'a>>
+    ensures { IfErr result IsUnconnected }
+{
+    match UnixStream::connect(rt, path) {
+        Ok(stream) => Ok(stream),
+        Err(_) => Err(DayCommandFault::CannotConnect),
+    }
+}

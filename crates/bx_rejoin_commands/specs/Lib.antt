@@ -1,0 +1,4 @@
+pub mod Rejoined
+pub mod Refusals
+pub mod Onward
+pub mod Kept
