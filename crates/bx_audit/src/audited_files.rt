@@ -10,9 +10,10 @@ ghost use Rattle.bx_audit.specs.Recorded.{IsOpeningOf};
 
 use crate::following::{Reader, follow_to_end};
 use crate::telling::audited_day;
+use bx_capture::is_whole;
 use bx_check_commands::{CommandFault, Inputs, open};
 use bx_day::Exchange;
-use bx_day_openings::{DayCommandFault, captured, file_of, first_of, is_whole};
+use bx_day_openings::{DayCommandFault, captured, file_of, first_of};
 use bx_devices::Watched;
 use bx_journal_openings::tied_named;
 use bx_request::AuditRequest;
@@ -66,43 +67,34 @@ fn audited_in<'a, H: Files + AllocGlobal, I: Inputs>(
     ensures audited { IfOk result (λ audited. IsDayAudited H.File.contents request.entry.capture audited.0 audited.1) }
     ensures stopped { IfErr result (StopsAudit H.File.contents request.entry) }
 {
-    let first = match first_of(request.capture) {
-        Ok(first) => first,
-        Err(fault) => return Err(fault),
-    };
-    let (exchange, digest) = match opened_by(rt.alloc(), inputs, request.plan) {
-        Ok(opened) => opened,
-        Err(fault) => return Err(fault),
-    };
-    match read_through(rt, request.journal, &digest) {
-        Ok(()) => {}
-        Err(fault) => return Err(fault),
-    }
-    let mut file = match file_of(rt, request.capture) {
-        Ok(file) => file,
-        Err(fault) => return Err(fault),
-    };
+    let first = first_of(request.capture)?;
+    let (exchange, digest) = opened_by(rt.alloc(), inputs, request.plan)?;
+    read_through(rt, request.journal, &digest)?;
+    let mut file = file_of(rt, request.capture)?;
     let mut journal = match open(rt, request.journal) {
         Ok(journal) => journal,
         Err(fault) => return Err(DayCommandFault::Command(fault)),
     };
-    match audited_day(
+    let exchange = audited_day(
         request.journal,
         &mut journal,
         &digest,
         exchange,
         &mut file,
         first,
-    ) {
-        Ok(exchange) => Ok((exchange, is_whole(&file))),
-        Err(fault) => Err(fault),
-    }
+    )?;
+    Ok((exchange, is_whole(&file)))
 }
 
 /// Writes what became of each booking of the plan of an input by the journal in a file, a line for each, as the day itself tells
 /// them: of a day that has ended, or that is still running. A capture of that day is made afterwards, where one is asked for. One
 /// that was not written whole is a refusal, behind all that was told; at any other refusal nothing was written, except that where
 /// the output failed a front of what was to be told was.
+///
+/// What is needed is opened in this order, and the first fault of it is answered: `Day` or `Capture` for the date and the zone of
+/// the capture; `Command` for the plan; `Command`, as `CannotRead`, or `Journal`, as `BadLine` or `OtherPlan`, for the journal;
+/// `CannotWriteFile` for the file of the capture. `Command`, as `CannotWrite`, is the fault of the output, and `CannotWriteFile`
+/// that of a capture that was not written whole.
 pub fn audit_files<'a, H: Files + AllocGlobal, I: Inputs, W: Write>(
     rt: &H,
     inputs: &mut I,
@@ -112,10 +104,7 @@ pub fn audit_files<'a, H: Files + AllocGlobal, I: Inputs, W: Write>(
     ensures done { OnOk result (IsAuditTold H.File.contents request.entry.capture (W.contents (device_of output.old)) (W.contents (device_of output.new)) true) }
     ensures refused { IfErr result (IsAuditRefusal request.entry H.File.contents W.contents output.old output.new) }
 {
-    let (exchange, is_whole) = match audited_in(rt, inputs, request) {
-        Ok(audited) => audited,
-        Err(fault) => return Err(fault),
-    };
+    let (exchange, is_whole) = audited_in(rt, inputs, request)?;
     match exchange.write_outcomes(output) {
         Ok(()) => captured(request.capture, is_whole),
         Err(_) => Err(DayCommandFault::Command(CommandFault::CannotWrite)),

@@ -62,8 +62,12 @@ impl Follower for Reader {
     ghost follows_on = { λ a b c xs ys p q. tt };
 }
 
-/// How a command tells of a journal of this name that was read. One that was not begun is empty.
-pub fn told<'a>(name: &'a str, whole: Result<u64, JournalFault>) -> Result<(), DayCommandFault<'a>>
+/// How a command tells of a journal of this name that was read. One that was not begun is empty. `ReadFailed` is told as `Command`,
+/// as `CannotRead` of that name; the other faults as `Journal`.
+pub fn journal_read<'a>(
+    name: &'a str,
+    whole: Result<u64, JournalFault>,
+) -> Result<(), DayCommandFault<'a>>
     ensures { result ≡ told_of name.entry whole }
 {
     match whole {
@@ -89,5 +93,5 @@ pub(crate) fn follow_to_end<'a, R: Read, F: Follower>(
     ensures front { IfErr result (λ fault. IsFollowedSoFar F.followed follower.old follower.new) }
 {
     let whole = read_journal(journal, plan, follower);
-    told(name, whole)
+    journal_read(name, whole)
 }

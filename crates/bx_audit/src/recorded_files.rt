@@ -26,10 +26,7 @@ fn told_by<'a, I: Inputs>(
     ensures told { IfOk result (IsDayTold (I.gives inputs.old) plan.now journal.now) }
     ensures untold { IfErr result (IsUntold (I.gives inputs.old) plan.now journal.now) }
 {
-    let (exchange, digest) = match opened_by(alloc, inputs, plan) {
-        Ok(opened) => opened,
-        Err(fault) => return Err(fault),
-    };
+    let (exchange, digest) = opened_by(alloc, inputs, plan)?;
     let mut input = match inputs.open(journal) {
         Ok(input) => input,
         Err(fault) => return Err(DayCommandFault::Command(fault)),
@@ -50,6 +47,11 @@ fn tell_totals<E: Write>(exchange: &Exchange, is_quiet: bool, errors: &mut Watch
 /// Writes the records of the day of the plan of one input, by the journal of another: of a day that has ended, or that is still
 /// running. Their totals are told on standard error in one line, except where it is to be quiet. At a refusal nothing was written,
 /// except that where the output failed a front of the records was.
+///
+/// What is needed is opened in this order, and the first fault of it is answered: `Day` for the date and the zone; `Command` for
+/// the plan; `Command`, as `CannotRead`, or `Journal`, as `BadLine` or `OtherPlan`, for the journal. Then `Day`, as `OutOfRange`,
+/// where a moment lies behind the last that can be named; `Command`, as `Memory`, where a growth was refused, and as
+/// `CannotWrite`, where the output failed.
 pub fn record_files<'a, I: Inputs, W: Write, E: Write>(
     alloc: Global,
     inputs: &mut I,
@@ -60,14 +62,8 @@ pub fn record_files<'a, I: Inputs, W: Write, E: Write>(
     ensures done { OnOk result (AreRecordsTold (I.gives inputs.old) request.entry (writing_of W.contents output.old output.new) (writing_of E.contents errors.old errors.new)) }
     ensures refused { IfErr result (IsRecordsCommandRefusal (I.gives inputs.old) request.entry W.contents output.old output.new) }
 {
-    let clock = match clock_of(request.day) {
-        Ok(clock) => clock,
-        Err(fault) => return Err(fault),
-    };
-    let exchange = match told_by(alloc, inputs, request.plan, request.journal) {
-        Ok(exchange) => exchange,
-        Err(fault) => return Err(fault),
-    };
+    let clock = clock_of(request.day)?;
+    let exchange = told_by(alloc, inputs, request.plan, request.journal)?;
     match write_records(alloc, &exchange, clock, output) {
         Ok(()) => {
             tell_totals(&exchange, request.is_quiet, errors);

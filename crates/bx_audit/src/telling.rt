@@ -13,8 +13,12 @@ use bx_devices::Watched;
 use std::io::{Read, Write};
 
 /// The exchange after just the events of a journal of this name, where it stands at the opening of the plan whose digest this is.
-/// A journal that was not begun has no event. Where there is a file, it takes the packets of what was sent and heard, as it took them
-/// on the day of the journal; moment 0 is the first second. The journal is read in pieces, so it may be of any length.
+/// A journal that was not begun has no event. Where there is a file, it takes the packets of what was sent and heard, as it took
+/// them on the day of the journal; moment 0 is the first second, which is at most 4,294,667,295. The journal is read in pieces,
+/// so it may be of any length.
+///
+/// `Journal`, as `BadLine` or `OtherPlan`, where what was read is no journal of the plan; `Command`, as `CannotRead` of that name,
+/// where a read failed.
 pub fn audited_day<'a, R: Read, W: Write + Drop>(
     name: &'a str,
     journal: &mut Watched<R>,
@@ -37,8 +41,6 @@ pub fn audited_day<'a, R: Read, W: Write + Drop>(
         first: _,
     } = recaptured.captured;
     *file = kept;
-    match done {
-        Ok(()) => Ok(end),
-        Err(fault) => Err(fault),
-    }
+    done?;
+    Ok(end)
 }

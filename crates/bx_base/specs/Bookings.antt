@@ -4,6 +4,8 @@ use Rattle.std.specs.Prelude.{◌≡◌, ◌≢◌, ℕ, ◌<◌, ◌≤◌, ◌
 use Rattle.bx_base.specs.Sums.{sum_below}
 use Rattle.bx_base.specs.Channels.{has_channel}
 use Rattle.bx_channels.specs.Numbers.{IsNumber}
+use Rattle.bx_base.specs.declared.booking.TheConstants.{MAX_MOMENT, MAX_PAY}
+use Rattle.bx_base.specs.declared.bookings.TheConstants.{MAX_BOOKINGS}
 
 -- a booking, with no word on how it lies in memory
 pub record Row : Type 0 where
@@ -17,9 +19,9 @@ pub record Row : Type 0 where
 -- the limits of a booking
 pub record IsBooking (row : Row) : Type 0 where
   pub in_order : row.start < row.end
-  pub in_day : row.end ≤ 200000
+  pub in_day : row.end ≤ MAX_MOMENT
   pub paid : 1 ≤ row.pay
-  pub pay_limit : row.pay ≤ 1000000000
+  pub pay_limit : row.pay ≤ MAX_PAY
   pub number : IsNumber row.number
 
 -- what stands in place of a row beyond the last one
@@ -43,11 +45,11 @@ pub record Carries (rows : List Row) (channels : List Bool) (set : ℕ → Bool)
   pub in_service : (i : ℕ) → i < length rows → set i ≡ true → has_channel channels (assignment i) ≡ true
   pub apart : (i j : ℕ) → i < j → j < length rows → set i ≡ true → set j ≡ true → Overlap (row_at rows i) (row_at rows j) → assignment i ≢ assignment j
 
--- a set of rows that these channels can carry
+-- a set of rows that these channels can carry: intervals that are k-colourable, where k is the number of the channels
 abbrev pub IsCarried : List Row → List Bool → (ℕ → Bool) → Type 0
 IsCarried rows channels set = (assignment : ℕ → ℕ) × Carries rows channels set assignment
 
--- a carried set that has every must row
+-- a carried set that has every must row, of which each is mandatory: a feasible choice
 pub record IsLawful (rows : List Row) (channels : List Bool) (set : ℕ → Bool) : Type 0 where
   pub carried : IsCarried rows channels set
   pub has_musts : (i : ℕ) → i < length rows → (row_at rows i).must ≡ true → set i ≡ true
@@ -62,5 +64,5 @@ row_of start end pay number must inward = record { start = start; end = end; pay
 
 -- the bookings of a day: each within its limits, and no more than a day may have
 pub record AreBookings (rows : List Row) : Type 0 where
-  pub few : length rows ≤ 4000
+  pub few : length rows ≤ MAX_BOOKINGS
   pub each : (i : ℕ) → i < length rows → IsBooking (row_at rows i)

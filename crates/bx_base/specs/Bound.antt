@@ -1,9 +1,11 @@
--- Prices on moments, and the bound that they set.
+-- Prices on moments, which are dual prices, and the bound that they set.
 use Rattle.std.specs.Prelude.{◌≡◌, ℕ, ◌-◌, ◌*◌, ◌<◌, ◌≤◌, ℤ, pos, ◌+ℤ◌, ◌-ℤ◌, Bool, List, length, All, map, sum_by, slice_index_or, if◌then◌else◌}
 use Rattle.std.specs.List.Sorted.{IsStrictlyIncreasing}
 use Rattle.bx_base.specs.Sums.{sum_ints_below}
 use Rattle.bx_base.specs.Channels.{count_of}
 use Rattle.bx_base.specs.Bookings.{Row, row_at, is_running, IsLawful, pay_of}
+use Rattle.bx_base.specs.declared.booking.TheConstants.{MAX_MOMENT}
+use Rattle.bx_base.specs.declared.plan.TheConstants.{MAX_TOTAL}
 
 -- a price from a list: what a channel costs at one moment
 pub record Charge : Type 0 where
@@ -16,9 +18,9 @@ charge_of moment amount = record { moment = moment; amount = amount }
 
 -- the limits of a price
 pub record IsCharge (price : Charge) : Type 0 where
-  pub in_day : price.moment < 200000
+  pub in_day : price.moment < MAX_MOMENT
   pub positive : 1 ≤ price.amount
-  pub limit : price.amount ≤ 4000000000000
+  pub limit : price.amount ≤ MAX_TOTAL
 
 -- what stands in place of a price beyond the last one
 abbrev pub no_charge : Charge
@@ -46,7 +48,7 @@ cost_of prices row = sum_by (λ p. if is_running row p.moment then p.amount else
 abbrev pub term_of : List Charge → Row → ℤ
 term_of prices row = if row.must then pos row.pay -ℤ pos (cost_of prices row) else pos (row.pay - cost_of prices row)
 
--- the bound on the pay of each lawful set
+-- the bound on the pay of each lawful set: the dual objective at these prices
 abbrev pub bound_of : List Row → ℕ → List Charge → ℤ
 bound_of rows count prices = pos (count * sum_of_prices prices) +ℤ sum_ints_below (length rows) (λ i. term_of prices (row_at rows i))
 

@@ -1,11 +1,12 @@
 -- Sets of B channels.
-use Rattle.std.specs.Prelude.{◌≡◌, ◌≢◌, ◌↔◌, ℕ, ◌<◌, Bool, true, false, List, length, slice_index, slice_index_or, if◌then◌else◌, All, Contains}
+use Rattle.std.specs.Prelude.{◌≡◌, ◌≢◌, ◌↔◌, ℕ, ◌<◌, Bool, true, List, length, slice_index, if◌then◌else◌, All, Contains}
 use Rattle.bx_channels.specs.ChannelNumbers.{IsChannel}
+use Rattle.bx_base.specs.Marks.{is_marked}
 use Rattle.bx_base.specs.Sums.{sum_below}
 
 -- a set of channels is a list that says of each number whether it is in the set
 abbrev pub has_channel : List Bool → ℕ → Bool
-has_channel channels n = slice_index_or channels n false
+has_channel channels n = is_marked channels n
 
 -- how many channels a set has
 abbrev pub count_of : List Bool → ℕ

@@ -1,4 +1,5 @@
 pub mod Sums
+pub mod Marks
 pub mod Channels
 pub mod ChannelFaults
 pub mod Bookings

@@ -5,6 +5,7 @@ use Rattle.bx_channels.specs.ChannelNumbers.{IsChannel}
 use Rattle.bx_base.specs.Channels.{IsChannelSet}
 use Rattle.bx_base.specs.Bookings.{Row, AreBookings}
 use Rattle.bx_base.specs.Bound.{Charge, IsCharge, price_at}
+use Rattle.bx_base.specs.declared.plan.TheConstants.{MAX_PRICES, MAX_TOTAL}
 
 -- the parts of a plan
 pub record Parts : Type 0 where
@@ -24,6 +25,6 @@ pub record IsPlan (parts : Parts) : Type 0 where
   pub channels : IsChannelSet parts.channels
   pub one_each : length parts.assigned ≡ length parts.rows
   pub assigned : (i c : ℕ) → slice_index_or parts.assigned i None ≡ Some c → IsChannel c
-  pub few_prices : length parts.prices ≤ 8000
+  pub few_prices : length parts.prices ≤ MAX_PRICES
   pub prices : (i : ℕ) → i < length parts.prices → IsCharge (price_at parts.prices i)
-  pub total : parts.total ≤ 4000000000000
+  pub total : parts.total ≤ MAX_TOTAL

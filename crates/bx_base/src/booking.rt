@@ -90,7 +90,7 @@ impl Booking {
         self.number
     }
 
-    /// Whether each plan has to hold it.
+    /// Whether each plan has to hold it: whether it is mandatory.
     pub fn is_must(&self) -> bool
         ensures { result ≡ self.now.must }
     {

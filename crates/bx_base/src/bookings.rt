@@ -2,6 +2,7 @@
 
 ghost use Rattle.std.specs.Prelude.{◌≡◌, ◌≤◌, ◌<◌, ℕ, ◌-◌, ◌↔◌, ◌++◌, ◌∷◌, [], length, OnOk, OnErr, IfOk, IfSome, IsSome, IsTrue};
 ghost use Rattle.bx_base.specs.Bookings.{IsBooking, AreBookings, row_at};
+ghost use Rattle.bx_base.specs.declared.bookings.TheConstants.{MAX_BOOKINGS};
 
 use crate::booking::Booking;
 use std::alloc::{AllocError, Global};
@@ -20,8 +21,10 @@ pub struct Bookings {
 /// Why a booking could not be added.
 #[derive(Clone, Copy, Debug, PartialEq, Eq, Error)]
 pub enum AddFault {
+    /// There are 4,000 already.
     #[error("Full")]
     Full,
+    /// A growth was refused.
     #[error("Memory")]
     Memory,
 }
@@ -47,11 +50,12 @@ impl Bookings {
         }
     }
 
-    /// Adds a booking as the last row. A fault changes nothing, and `Full` is tested first.
+    /// Adds a booking as the last row. A fault changes nothing: `Full`, which is tested first, where there are 4,000 already, and
+    /// `Memory` where a growth is refused.
     pub fn push(&mut self, booking: Booking) -> Result<(), AddFault>
         ensures ok { OnOk result (self.new ≡ self.old ++ booking ∷ []) }
         ensures err { OnErr result (self.new ≡ self.old) }
-        ensures full { (result ≡ Err AddFault.Full) ↔ (4000 ≤ length self.old) }
+        ensures full { (result ≡ Err AddFault.Full) ↔ (MAX_BOOKINGS ≤ length self.old) }
     {
         if self.rows.len() >= MAX_BOOKINGS {
             return Err(AddFault::Full);
@@ -84,7 +88,7 @@ impl Bookings {
         Some(self.nth(row - 1))
     }
 
-    /// The booking at a place of the list, counted from 0.
+    /// The booking at a place of the list, counted from 0. There has to be one.
     pub fn nth(&self, index: u16) -> Booking
         requires { index < length self.now }
         ensures value { result ≡ row_at self.now index }
@@ -103,7 +107,7 @@ impl Bookings {
         self.rows == other.rows
     }
 
-    /// The same bookings again.
+    /// The same bookings again. `AllocError` where a growth is refused.
     pub fn copy(&self) -> Result<Bookings, AllocError>
         ensures { IfOk result (λ b. b ≡ self.now) }
     {

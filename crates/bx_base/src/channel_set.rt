@@ -30,8 +30,10 @@ impl Model for ChannelSet {
 /// Why numbers do not name a set of channels: the first that is none, or that stood before.
 #[derive(Clone, Copy, Debug, PartialEq, Eq, Error)]
 pub enum ChannelFault {
+    /// This number names no B channel.
     #[error("N1 NotABChannel {0}")]
     NotABChannel(u8),
+    /// This number stands in front of it too.
     #[error("N2 Repeated {0}")]
     Repeated(u8),
 }
@@ -46,7 +48,8 @@ impl ChannelSet {
         }
     }
 
-    /// The set of the channels with these numbers. The fault is the first in their order.
+    /// The set of the channels with these numbers. The fault is the first in their order: `NotABChannel` for a number that is
+    /// none, `Repeated` for one that stood before.
     pub fn from_numbers(numbers: &[u8]) -> Result<ChannelSet, ChannelFault>
         ensures channels { IfOk result (λ set. AreChannels numbers.now × HasJust set numbers.now) }
         ensures fault { IfErr result (IsFirstFault numbers.now) }

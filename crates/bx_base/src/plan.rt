@@ -3,6 +3,7 @@
 ghost use Rattle.std.specs.Prelude.{◌≡◌, ◌≤◌, ◌<◌, ◌-◌, ◌+◌, ℕ, ◌↔◌, IfNone, length, vec_len, IsTrue, IsSome, IfSome};
 ghost use Rattle.bx_base.specs.Bookings.{Carries};
 ghost use Rattle.bx_base.specs.Plans.{is_accepted, channel_at, IsOutOfService, Clash};
+ghost use Rattle.bx_base.specs.declared.plan.TheConstants.{MAX_PRICES, MAX_TOTAL};
 
 use crate::bookings::Bookings;
 use crate::channel_set::ChannelSet;
@@ -25,8 +26,8 @@ pub struct Plan {
     pub prices: Vec<Price>,
     pub total: u64,
     ghost one_each: { vec_len assigned ≡ length bookings },
-    ghost few_prices: { vec_len prices ≤ 8000 },
-    ghost total_limit: { total ≤ 4000000000000 },
+    ghost few_prices: { vec_len prices ≤ MAX_PRICES },
+    ghost total_limit: { total ≤ MAX_TOTAL },
 }
 
 impl Plan {
@@ -39,7 +40,7 @@ impl Plan {
         prices: Vec<Price>,
         total: u64,
     ) -> Option<Plan>
-        ensures exactly { IsSome result ↔ ((vec_len assigned ≡ length bookings) × (vec_len prices ≤ 8000) × (total ≤ 4000000000000)) }
+        ensures exactly { IsSome result ↔ ((vec_len assigned ≡ length bookings) × (vec_len prices ≤ MAX_PRICES) × (total ≤ MAX_TOTAL)) }
         ensures parts { IfSome result (λ p. (p.bookings ≡ bookings) × (p.channels ≡ channels) × (p.assigned ≡ assigned) × (p.prices ≡ prices) × (p.total ≡ total)) }
     {
         if assigned.len() != bookings.len() as usize
@@ -112,7 +113,7 @@ impl Plan {
     }
 
     /// Whether the assignment carries the accepted bookings: each has a channel in service, and no two that
-    /// overlap have the same.
+    /// overlap have the same. It is then a colouring of their intervals with the channels as colours.
     pub fn carried(&self) -> bool
         ensures { IsTrue result ↔ Carries self.now.bookings self.now.channels (is_accepted self.now.assigned.items) (channel_at self.now.assigned.items) }
     {

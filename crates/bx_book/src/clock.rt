@@ -21,7 +21,8 @@ impl Clock {
     ghost use Rattle.bx_book.specs.Dates.{IsDateText, day_number};
     ghost use Rattle.bx_book.specs.Days.{IsOut, IsOdd, InZone, IsNoZone};
 
-    /// The clock of a date under a POSIX zone rule, with the faults of `Day::new`.
+    /// The clock of a date under a POSIX zone rule (IEEE Std 1003.1, `TZ`), with the faults of `Day::new`: `BadDate`, `BadZone`,
+    /// `OutOfRange` and `OddDay`.
     pub fn new(date: &str, zone: &str) -> Result<Clock, DayFault>
         ensures clock { IfOk result (IsClock date.now zone.now) }
         ensures bad_date { (result ≡ Err DayFault.BadDate) ↔ ¬ IsDateText date.now }

@@ -4,6 +4,7 @@ ghost use Rattle.std.specs.Prelude.{◌≡◌, ◌≢◌, ◌*◌, ◌<◌, ◌�
 ghost use Rattle.jiff.specs.Words.{epoch_day, IsTimestampNanos, plain_zone};
 ghost use Rattle.bx_book.specs.Dates.{IsDateText, day_number};
 ghost use Rattle.bx_book.specs.Days.{IsMidnight, NoMidnight, IsDay, IsOut, IsOdd, InZone, IsNoZone, seconds_of};
+ghost use Rattle.bx_base.specs.declared.booking.TheConstants.{MAX_MOMENT};
 
 use crate::place::first_date;
 use jiff::civil::Date;
@@ -35,7 +36,7 @@ pub enum DayFault {
 pub struct Day {
     start: i64,
     length: u32,
-    ghost limits: { (1 ≤ length) × (length ≤ 200000) × (neg_ℤ (pos 400_000_000_000) ≤ℤ start) × (start ≤ℤ pos 400_000_000_000) },
+    ghost limits: { (1 ≤ length) × (length ≤ MAX_MOMENT) × (neg_ℤ (pos 400_000_000_000) ≤ℤ start) × (start ≤ℤ pos 400_000_000_000) },
 }
 
 /// The second at which the date begins on the zone's clock.
@@ -92,7 +93,7 @@ impl Day {
     }
 
     /// The day of a date `YYYY-MM-DD` under a POSIX zone rule (IEEE Std 1003.1, `TZ`), as `jiff` converts its
-    /// midnight and the next. The faults are tested in the order in which they are named.
+    /// midnight and the next. The faults of `DayFault` are tested in the order in which they are named there.
     pub fn new(date: &str, zone: &str) -> Result<Day, DayFault>
         ensures day { IfOk result (λ d. IsDateText date.now × InZone zone.now (λ z. IsDay z (day_number date.now) (start_of d) (pos (length_of d)))) }
         ensures bad_date { (result ≡ Err DayFault.BadDate) ↔ ¬ IsDateText date.now }
@@ -115,7 +116,7 @@ impl Day {
     /// How many seconds it lasts: 1 to 200,000.
     pub fn length(&self) -> u32
         ensures value { result ≡ length_of self.now }
-        ensures limits { (1 ≤ result) × (result ≤ 200000) }
+        ensures limits { (1 ≤ result) × (result ≤ MAX_MOMENT) }
     {
         self.length
     }

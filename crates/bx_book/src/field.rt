@@ -2,6 +2,7 @@
 
 ghost use Rattle.std.specs.Prelude.{◌≡◌, ◌≤◌, ◌<◌, ◌⊎◌, ◌-ℤ◌, ◌<ℤ◌, ◌≤ℤ◌, IfSome, IfNone, MatchOption, false, true, codes, length, pos, neg_ℤ};
 ghost use Rattle.bx_book.specs.Rows.{span_of, IsMomentRead, is_pay, pay_value, word_value};
+ghost use Rattle.bx_base.specs.declared.booking.TheConstants.{MAX_MOMENT};
 
 use crate::day::Day;
 use crate::fault::BookFault;
@@ -13,7 +14,7 @@ use bx_text::{all_digits, digits_value};
 fn place_in_day(second: i64, start: i64, length: u32) -> Option<u32>
     requires second { (neg_ℤ (pos 500_000_000_000) ≤ℤ second) × (second ≤ℤ pos 500_000_000_000) }
     requires start { (neg_ℤ (pos 400_000_000_000) ≤ℤ start) × (start ≤ℤ pos 400_000_000_000) }
-    requires length { length ≤ 200000 }
+    requires length { length ≤ MAX_MOMENT }
     ensures some { IfSome result (λ n. ((second -ℤ start) ≡ pos n) × (n ≤ length)) }
     ensures none { IfNone result (((second -ℤ start) <ℤ pos 0) ⊎ (pos length <ℤ (second -ℤ start))) }
 {
@@ -27,7 +28,8 @@ fn place_in_day(second: i64, start: i64, length: u32) -> Option<u32>
     Some(place as u32)
 }
 
-/// The moment that a field of this row names.
+/// The moment that a field of this row names, in seconds of the day. The first of these faults, with the row's name: `NotATime`,
+/// `NotWholeSeconds`, `OutsideDay`.
 pub fn moment(field: &[u8], day: &Day, row: u16) -> Result<u32, BookFault>
     ensures { IsMomentRead (span_of day.now) row field.now result }
 {

@@ -122,7 +122,8 @@ fn read_metered<'a, R: Read, O: Origin>(
 }
 
 /// Reads a reader to its end, record by record, as `read_bookings` reads the octets: at most 4,194,304 octets in at
-/// most 8,388,608 reads. After a fault of the text it reads on to the end, and at a refused growth it stops.
+/// most 8,388,608 reads. After a fault of the text it reads on to the end, and at a refused growth it stops. The faults are those
+/// of `StreamFault`.
 pub fn read_bookings_from<R: Read>(
     alloc: Global,
     reader: &mut Watched<R>,

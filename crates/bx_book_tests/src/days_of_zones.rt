@@ -35,7 +35,7 @@ fn day_is(date: &str, zone: &str, start: i64, length: u32) -> bool {
 #[test]
 fn days_and_their_lengths(rt: HostRuntime) {
     for (date, zone, start, length) in &DAYS {
-        assert!(rt; day_is(date, zone, *start, *length), "{date}");
+        assert!(rt; day_is(date, zone, *start, *length), "{date} {zone}");
     }
 }
 
@@ -50,7 +50,7 @@ fn day_fault(date: &str, zone: &str, fault: DayFault) -> bool {
 fn refused_days(rt: HostRuntime) {
     for (date, zone, fault, printed) in &REFUSED_DAYS {
         let refused = day_fault(date, zone, *fault) && is_printed(rt.alloc(), fault, printed);
-        assert!(rt; refused, "{date}");
+        assert!(rt; refused, "{date} {zone}");
     }
     assert!(rt;
         is_printed(rt.alloc(), &DayFault::OddDay, "A4 OddDay"),

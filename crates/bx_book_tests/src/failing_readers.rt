@@ -16,14 +16,22 @@ const WRONG: &[u8] =
 /// A text, how many reads succeed, and how much each gives at most.
 type Stream = (&'static [u8], u32, usize);
 
-/// Readers with their fault, as it is printed.
-static REFUSED_STREAMS: [(Stream, &str); 6] = [
-    ((WRONG, 76, 1), "G1 ReadFailed"),
-    ((WRONG, 77, 1), "B7 BadNumber 1"),
-    ((WRONG, 3, 50), "G1 ReadFailed"),
-    ((WRONG, 4, 50), "B7 BadNumber 1"),
-    ((b"", 1, 9), "B1 BadHeader"),
-    ((WRONG, 1, 0), "B1 BadHeader"),
+/// Readers by their names, with their fault, as it is printed.
+static REFUSED_STREAMS: [(&str, Stream, &str); 6] = [
+    (
+        "one octet a read, and a read too few",
+        (WRONG, 76, 1),
+        "G1 ReadFailed",
+    ),
+    ("one octet a read", (WRONG, 77, 1), "B7 BadNumber 1"),
+    (
+        "fifty octets a read, and a read too few",
+        (WRONG, 3, 50),
+        "G1 ReadFailed",
+    ),
+    ("fifty octets a read", (WRONG, 4, 50), "B7 BadNumber 1"),
+    ("no text", (b"", 1, 9), "B1 BadHeader"),
+    ("no octet a read", (WRONG, 1, 0), "B1 BadHeader"),
 ];
 
 /// Reads from a reader that gives at most so many octets a read, and fails after so many reads. A fault of the
@@ -59,10 +67,10 @@ fn streams_that_give_little(rt: HostRuntime) -> Result<(), Fail> {
         let failed = is_stream_read_as(rt.alloc(), (ONE, calls, 1), &day, "G1 ReadFailed");
         assert!(rt; failed, "{calls}");
     }
-    for (stream, printed) in &REFUSED_STREAMS {
+    for (name, stream, printed) in &REFUSED_STREAMS {
         assert!(rt;
             is_stream_read_as(rt.alloc(), *stream, &day, printed),
-            "{printed}"
+            "{name}"
         );
     }
     Ok(())

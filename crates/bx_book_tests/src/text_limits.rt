@@ -8,14 +8,26 @@ use std::io;
 use std::io::Read;
 use std::test::Fail;
 
-/// A number of blank lines and what stands before them, the answer, and how many octets are left.
-type Limit = (usize, &'static [u8], &'static str, usize);
+/// A text by its name, how many blank lines it has and what stands before them, the answer, and how many octets are left.
+type Limit = (&'static str, usize, &'static [u8], &'static str, usize);
 
 static LIMITS: [Limit; 4] = [
-    (4_194_284, b"start,end,number,pay", "none", 0),
-    (4_194_299, b"start", "B1 BadHeader", 0),
-    (4_194_304, b"start", "G2 TooLong", 4),
-    (4_194_285, b"start,end,number,pay", "G2 TooLong", 0),
+    ("the longest", 4_194_284, b"start,end,number,pay", "none", 0),
+    (
+        "the longest with a wrong header",
+        4_194_299,
+        b"start",
+        "B1 BadHeader",
+        0,
+    ),
+    ("five octets too long", 4_194_304, b"start", "G2 TooLong", 4),
+    (
+        "an octet too long",
+        4_194_285,
+        b"start,end,number,pay",
+        "G2 TooLong",
+        0,
+    ),
 ];
 
 fn with_blank_lines(alloc: Global, front: &[u8], lines: usize) -> Result<Vec<u8>, AllocError> {
@@ -28,7 +40,7 @@ fn with_blank_lines(alloc: Global, front: &[u8], lines: usize) -> Result<Vec<u8>
 
 /// Whether a text at the limit is answered so, and so many octets are left.
 fn is_answered(alloc: Global, limit: &Limit, day: &Day) -> Result<bool, AllocError> {
-    let (lines, front, printed, left) = *limit;
+    let (_, lines, front, printed, left) = *limit;
     let text = with_blank_lines(alloc, front, lines)?;
     let mut reader = Watched::new(text.as_slice());
     let read = read_bookings_from(alloc, &mut reader, day);

@@ -1,5 +1,4 @@
 pub mod Timers
-pub mod Expected
 pub mod PlainCalls
 pub mod States
 pub mod Hearing
@@ -7,6 +6,7 @@ pub mod Saying
 pub mod Steps
 pub mod NetTable
 pub mod UserTable
+pub mod Expected
 pub mod UnknownTable
 pub mod Setups
 pub mod Said

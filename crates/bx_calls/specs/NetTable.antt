@@ -5,7 +5,7 @@ use Rattle.std.specs.Prelude.{◌≡◌, ◌≤◌, ℕ, ◌+◌, nat_le, Bool, 
 use Rattle.bx_q931.specs.Outgoing.{Outgoing, plain}
 use Rattle.bx_q931.specs.declared.kind.Kind.{Kind}
 use Rattle.bx_q931.specs.declared.kind.Kind.TheVariants.{Alerting, CallProceeding, Progress, Setup, Connect, ConnectAcknowledge, Disconnect, Release, ReleaseComplete, Notify, StatusEnquiry, Information, Status, Other}
-use Rattle.bx_calls.specs.declared.step.Step.{Step}
+use Rattle.bx_calls.specs.declared.transition.Transition.{Transition}
 use Rattle.bx_calls.specs.declared.net_state.NetOrigin.{NetOrigin}
 use Rattle.bx_calls.specs.declared.net_state.NetOrigin.TheVariants.{Outward, Inward}
 use Rattle.bx_calls.specs.declared.net_state.NetState.{NetState}
@@ -47,19 +47,19 @@ proceeding_of reference channel = with_channel channel (plain reference true Cal
 
 -- ---- what a row says
 
-abbrev pub net_same : PlainNetCall → Option Outgoing → Step PlainNetCall
+abbrev pub net_same : PlainNetCall → Option Outgoing → Transition PlainNetCall
 net_same c reply = goes_on c reply
 
-abbrev pub net_to : PlainNetCall → Option Outgoing → NetState → Step PlainNetCall
+abbrev pub net_to : PlainNetCall → Option Outgoing → NetState → Transition PlainNetCall
 net_to c reply state = goes_on (record c { state = state }) reply
 
 -- RELEASE with this cause or none, N19, T308
-abbrev pub net_releases : PlainNetCall → Bool → Option ℕ → ℕ → Step PlainNetCall
+abbrev pub net_releases : PlainNetCall → Bool → Option ℕ → ℕ → Transition PlainNetCall
 net_releases c again cause t =
     net_to c (Some (with_kept_cause network cause (net_says c Release))) (ReleaseRequest again cause (t + t308))
 
 -- DISCONNECT with this cause, N12, T305
-abbrev pub net_disconnects : PlainNetCall → ℕ → ℕ → Step PlainNetCall
+abbrev pub net_disconnects : PlainNetCall → ℕ → ℕ → Transition PlainNetCall
 net_disconnects c cause t =
     net_to c (Some (net_says_cause c Disconnect cause)) (DisconnectIndication cause (t + t305))
 
@@ -70,17 +70,17 @@ net_setup_again c Inward = None
 
 -- a row that stands where the channel identification is absent or names the channel of the call; else
 -- RELEASE with cause 6, channel unacceptable (profile)
-abbrev pub net_on_channel : PlainNetCall → Heard → ℕ → Step PlainNetCall → Step PlainNetCall
+abbrev pub net_on_channel : PlainNetCall → Heard → ℕ → Transition PlainNetCall → Transition PlainNetCall
 net_on_channel c m t row = if names_channel m.channel c.channel then row else net_releases c false (Some 6) t
 
 -- CONNECT ACKNOWLEDGE in N10
-abbrev pub net_acknowledged : PlainNetCall → NetOrigin → Step PlainNetCall
+abbrev pub net_acknowledged : PlainNetCall → NetOrigin → Transition PlainNetCall
 net_acknowledged c Inward = net_same c None
 net_acknowledged c (Outward called) = net_same c (Some (net_status c 101))
 
 -- ---- messages: a call c in this state, a message m of this type, moment t
 
-abbrev pub net_row : PlainNetCall → Heard → ℕ → NetState → Kind → Step PlainNetCall
+abbrev pub net_row : PlainNetCall → Heard → ℕ → NetState → Kind → Transition PlainNetCall
 -- every state (5.3.3, 5.8.10, 5.8.11)
 net_row c m t _ ReleaseComplete = ends None
 net_row c m t _ StatusEnquiry = net_same c (Some (net_status c 30))
@@ -109,7 +109,7 @@ net_row c m t _ Information = net_same c None
 net_row c m t _ (Other octet) = net_same c (Some (net_status c 97))
 net_row c m t _ _ = net_same c (Some (net_status c 101))
 
-abbrev pub net_message : PlainNetCall → Heard → ℕ → Step PlainNetCall
+abbrev pub net_message : PlainNetCall → Heard → ℕ → Transition PlainNetCall
 net_message c m t = net_row c m t c.state m.kind
 
 -- ---- seconds: a tick to moment t
@@ -121,7 +121,7 @@ net_is_clearing (ReleaseRequest again cause due) = true
 net_is_clearing _ = false
 
 -- by its timer, which is due at a moment
-abbrev pub net_timer : PlainNetCall → ℕ → NetState → Step PlainNetCall
+abbrev pub net_timer : PlainNetCall → ℕ → NetState → Transition PlainNetCall
 net_timer c t OutgoingCallProceeding = net_to c (Some (with_channel c.channel (net_says c Connect))) Active
 net_timer c t (CallPresent false due) = if nat_le due t then net_to c (net_setup_again c c.origin) (CallPresent true (t + t303)) else net_same c None
 net_timer c t (CallPresent true due) = if nat_le due t then ends (Some (net_says_cause c ReleaseComplete 102)) else net_same c None
@@ -133,7 +133,7 @@ net_timer c t (ReleaseRequest false cause due) = if nat_le due t then net_releas
 net_timer c t (ReleaseRequest true cause due) = if nat_le due t then breaks else net_same c None
 
 -- the end of the booking comes before the timer
-abbrev pub net_second : PlainNetCall → ℕ → ℕ → Step PlainNetCall
+abbrev pub net_second : PlainNetCall → ℕ → ℕ → Transition PlainNetCall
 net_second c t end =
     if not (net_is_clearing c.state) && nat_le end t then net_disconnects c 16 t
     else net_timer c t c.state
@@ -162,7 +162,7 @@ net_later n (ReleaseRequest again cause due) = ReleaseRequest again cause (due +
 
 -- the end of the booking clears the call, as at a tick, but its DISCONNECT is lost: so RELEASE is due in the next second
 -- with a link
-abbrev pub net_unlinked : ℕ → PlainNetCall → ℕ → ℕ → Step PlainNetCall
+abbrev pub net_unlinked : ℕ → PlainNetCall → ℕ → ℕ → Transition PlainNetCall
 net_unlinked n c t end =
     if not (net_is_clearing c.state) && nat_le end t then net_to c None (DisconnectIndication 16 (t + 1))
     else net_to c None (net_later n c.state)

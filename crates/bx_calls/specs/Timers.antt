@@ -1,6 +1,6 @@
 -- Timers in seconds (ITU-T Q.931, 9.1 for the network side, 9.2 for the user side). A timer that is started
 -- at moment m for n seconds is due at a tick to moment m + n or later (profile).
-use Rattle.std.specs.Prelude.{ℕ}
+use Rattle.std.specs.Prelude.{ℕ, ◌+◌}
 
 -- Q.931: at least 3 minutes
 abbrev pub t301 : ℕ
@@ -24,3 +24,7 @@ t310_user = 30
 
 abbrev pub t313 : ℕ
 t313 = 4
+
+-- how long clearing takes at most
+abbrev pub clearing_time : ℕ
+clearing_time = t305 + t308 + t308

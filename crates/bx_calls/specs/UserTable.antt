@@ -6,7 +6,7 @@ use Rattle.std.specs.Prelude.{ℕ, ◌+◌, ◌==◌, max, nat_le, Bool, true, f
 use Rattle.bx_q931.specs.Outgoing.{Outgoing, plain}
 use Rattle.bx_q931.specs.declared.kind.Kind.{Kind}
 use Rattle.bx_q931.specs.declared.kind.Kind.TheVariants.{Alerting, CallProceeding, Progress, Setup, Connect, ConnectAcknowledge, Disconnect, Release, ReleaseComplete, Notify, StatusEnquiry, Information, Status, Other}
-use Rattle.bx_calls.specs.declared.step.Step.{Step}
+use Rattle.bx_calls.specs.declared.transition.Transition.{Transition}
 use Rattle.bx_calls.specs.declared.user_state.Policy.{Policy}
 use Rattle.bx_calls.specs.declared.user_state.Policy.TheVariants.{Answer, Alert, Proceed, Clear}
 use Rattle.bx_calls.specs.declared.user_state.UserOrigin.{UserOrigin}
@@ -50,24 +50,24 @@ user_calling reference channel number moment =
 
 -- ---- what a row says
 
-abbrev pub user_same : PlainUserCall → Option Outgoing → Step PlainUserCall
+abbrev pub user_same : PlainUserCall → Option Outgoing → Transition PlainUserCall
 user_same c reply = goes_on c reply
 
-abbrev pub user_to : PlainUserCall → Option Outgoing → UserState → Step PlainUserCall
+abbrev pub user_to : PlainUserCall → Option Outgoing → UserState → Transition PlainUserCall
 user_to c reply state = goes_on (record c { state = state }) reply
 
 -- RELEASE with this cause or none, U19, T308
-abbrev pub user_releases : PlainUserCall → Bool → Option ℕ → ℕ → Step PlainUserCall
+abbrev pub user_releases : PlainUserCall → Bool → Option ℕ → ℕ → Transition PlainUserCall
 user_releases c again cause t =
     user_to c (Some (with_kept_cause user cause (user_says c Release))) (ReleaseRequest again cause (t + t308))
 
 -- DISCONNECT with this cause, U11, T305
-abbrev pub user_disconnects : PlainUserCall → ℕ → ℕ → Step PlainUserCall
+abbrev pub user_disconnects : PlainUserCall → ℕ → ℕ → Transition PlainUserCall
 user_disconnects c cause t =
     user_to c (Some (user_says_cause c Disconnect cause)) (DisconnectRequest cause (t + t305))
 
 -- this CONNECT, U8, T313
-abbrev pub user_connects : PlainUserCall → Outgoing → ℕ → Step PlainUserCall
+abbrev pub user_connects : PlainUserCall → Outgoing → ℕ → Transition PlainUserCall
 user_connects c connect t = user_to c (Some connect) (ConnectRequest (t + t313))
 
 -- SETUP again, of a call that this side began
@@ -77,12 +77,12 @@ user_setup_again c (Offered policy at) = None
 
 -- a row that stands where the channel identification is absent or names the channel of the call; else
 -- RELEASE with cause 6, channel unacceptable (profile)
-abbrev pub user_on_channel : PlainUserCall → Heard → ℕ → Step PlainUserCall → Step PlainUserCall
+abbrev pub user_on_channel : PlainUserCall → Heard → ℕ → Transition PlainUserCall → Transition PlainUserCall
 user_on_channel c m t row = if names_channel m.channel c.channel then row else user_releases c false (Some 6) t
 
 -- ---- messages: a call c in this state, a message m of this type, moment t
 
-abbrev pub user_row : PlainUserCall → Heard → ℕ → UserState → Kind → Step PlainUserCall
+abbrev pub user_row : PlainUserCall → Heard → ℕ → UserState → Kind → Transition PlainUserCall
 -- every state (5.3.3, 5.8.10, 5.8.11)
 user_row c m t _ ReleaseComplete = ends None
 user_row c m t _ StatusEnquiry = user_same c (Some (user_status c 30))
@@ -107,13 +107,13 @@ user_row c m t _ Information = user_same c None
 user_row c m t _ (Other octet) = user_same c (Some (user_status c 97))
 user_row c m t _ _ = user_same c (Some (user_status c 101))
 
-abbrev pub user_message : PlainUserCall → Heard → ℕ → Step PlainUserCall
+abbrev pub user_message : PlainUserCall → Heard → ℕ → Transition PlainUserCall
 user_message c m t = user_row c m t c.state m.kind
 
 -- ---- seconds: a tick to moment t
 
 -- U6, by the policy
-abbrev pub user_takes : PlainUserCall → ℕ → UserOrigin → Step PlainUserCall
+abbrev pub user_takes : PlainUserCall → ℕ → UserOrigin → Transition PlainUserCall
 user_takes c t (Offered (Answer n) at) = if n == 0 then user_connects c (user_says_channel c Connect) t else user_to c (Some (user_says_channel c Alerting)) CallReceived
 user_takes c t (Offered (Clear n) at) = user_connects c (user_says_channel c Connect) t
 user_takes c t (Offered Alert at) = user_to c (Some (user_says_channel c Alerting)) CallReceived
@@ -121,16 +121,16 @@ user_takes c t (Offered Proceed at) = user_to c (Some (user_says_channel c CallP
 user_takes c t _ = user_same c None
 
 -- U7, n seconds behind the first tick to a call that was offered at this moment
-abbrev pub user_answers : PlainUserCall → ℕ → UserOrigin → Step PlainUserCall
+abbrev pub user_answers : PlainUserCall → ℕ → UserOrigin → Transition PlainUserCall
 user_answers c t (Offered (Answer n) at) = if nat_le (at + 1 + n) t then user_connects c (user_says c Connect) t else user_same c None
 user_answers c t _ = user_same c None
 
 -- U10, n seconds behind the moment at which it became Active, and not in that same second
-abbrev pub user_clears : PlainUserCall → ℕ → ℕ → UserOrigin → Step PlainUserCall
+abbrev pub user_clears : PlainUserCall → ℕ → ℕ → UserOrigin → Transition PlainUserCall
 user_clears c t since (Offered (Clear n) at) = if nat_le (since + max n 1) t then user_disconnects c 16 t else user_same c None
 user_clears c t since _ = user_same c None
 
-abbrev pub user_second_row : PlainUserCall → ℕ → UserState → Step PlainUserCall
+abbrev pub user_second_row : PlainUserCall → ℕ → UserState → Transition PlainUserCall
 user_second_row c t CallPresent = user_takes c t c.origin
 user_second_row c t CallReceived = user_answers c t c.origin
 user_second_row c t (ConnectRequest due) = if nat_le due t then user_disconnects c 102 t else user_same c None
@@ -143,5 +143,5 @@ user_second_row c t (DisconnectRequest cause due) = if nat_le due t then user_re
 user_second_row c t (ReleaseRequest false cause due) = if nat_le due t then user_releases c true cause t else user_same c None
 user_second_row c t (ReleaseRequest true cause due) = if nat_le due t then breaks else user_same c None
 
-abbrev pub user_second : PlainUserCall → ℕ → Step PlainUserCall
+abbrev pub user_second : PlainUserCall → ℕ → Transition PlainUserCall
 user_second c t = user_second_row c t c.state

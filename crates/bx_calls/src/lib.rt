@@ -4,6 +4,7 @@
 
 mod bearer;
 mod call_state;
+mod every_state;
 mod hearing;
 mod net_call;
 mod net_messages;
@@ -11,8 +12,8 @@ mod net_seconds;
 mod net_state;
 mod outgoing;
 mod sending;
-mod step;
 pub mod timers;
+mod transition;
 mod unknown_reference;
 mod user_call;
 mod user_messages;
@@ -24,7 +25,7 @@ pub use call_state::CallState;
 pub use net_call::NetCall;
 pub use net_state::{NetOrigin, NetState};
 pub use sending::spell;
-pub use step::{Next, Step};
-pub use unknown_reference::{End, refuse, unknown};
+pub use transition::{Next, Transition};
+pub use unknown_reference::{Side, refuse, unknown};
 pub use user_call::UserCall;
 pub use user_state::{Policy, UserOrigin, UserState};

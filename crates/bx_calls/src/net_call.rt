@@ -10,9 +10,10 @@ ghost use Rattle.bx_calls.specs.NetTable.{net_flag, net_says, net_says_cause, ne
 use crate::call_state::CallState;
 use crate::net_state::{NetOrigin, NetState};
 use crate::outgoing::{plain, setup};
-use crate::step::Step;
 use crate::timers::{T303, T305, T308};
+use crate::transition::Transition;
 use bx_channels::{Channel, Number};
+use bx_events::LAST_MOMENT;
 use bx_q931::cause::LOCATION_LOCAL_NETWORK;
 use bx_q931::{Kind, Out};
 use std::marker::Model;
@@ -40,10 +41,11 @@ impl Model for NetCall {
 }
 
 impl NetCall {
-    /// A call that the network begins at this moment, and its SETUP (ITU-T Q.931, 5.2.1). It is in N6.
+    /// A call that the network begins at this moment, and its SETUP (ITU-T Q.931, 5.2.1). It is in N6. The reference is 1 to
+    /// 32,767, and the moment at most `LAST_MOMENT`.
     pub fn offered(reference: u16, channel: Channel, number: Number, moment: u32) -> (NetCall, Out)
         requires reference { IsCallReference reference }
-        requires moment { moment ≤ 300000 }
+        requires moment { moment ≤ LAST_MOMENT }
         ensures call { result.0 ≡ net_offered reference channel number moment }
         ensures out { result.1 ≡ setup_of reference channel number }
     {
@@ -60,10 +62,10 @@ impl NetCall {
     }
 
     /// A call that the user began at this moment, and the CALL PROCEEDING that gives it its channel (5.1.2,
-    /// 5.1.5.1). It is in N3.
+    /// 5.1.5.1). It is in N3. The reference is 1 to 32,767, and the moment at most `LAST_MOMENT`.
     pub fn answered(reference: u16, channel: Channel, _moment: u32) -> (NetCall, Out)
         requires reference { IsCallReference reference }
-        requires moment { _moment ≤ 300000 }
+        requires moment { _moment ≤ LAST_MOMENT }
         ensures call { result.0 ≡ net_answered reference channel }
         ensures out { result.1 ≡ proceeding_of reference channel }
     {
@@ -152,20 +154,20 @@ impl NetCall {
             .with_state(self.state().value())
     }
 
-    pub(crate) fn stays(self, reply: Option<Out>) -> Step<NetCall>
+    pub(crate) fn stays(self, reply: Option<Out>) -> Transition<NetCall>
         ensures { result ≡ net_same self reply }
     {
-        Step::on(self, reply)
+        Transition::on(self, reply)
     }
 
-    pub(crate) fn goes(self, reply: Option<Out>, state: NetState) -> Step<NetCall>
+    pub(crate) fn goes(self, reply: Option<Out>, state: NetState) -> Transition<NetCall>
         ensures { result ≡ net_to self reply state }
     {
         NetCall { state, ..self }.stays(reply)
     }
 
-    pub(crate) fn disconnects(self, cause: u8, moment: u32) -> Step<NetCall>
-        requires moment { moment ≤ 300000 }
+    pub(crate) fn disconnects(self, cause: u8, moment: u32) -> Transition<NetCall>
+        requires moment { moment ≤ LAST_MOMENT }
         ensures { result ≡ net_disconnects self cause moment }
     {
         let due = moment + T305;
@@ -173,8 +175,8 @@ impl NetCall {
         self.goes(Some(reply), NetState::DisconnectIndication { cause, due })
     }
 
-    pub(crate) fn releases(self, again: bool, cause: Option<u8>, moment: u32) -> Step<NetCall>
-        requires moment { moment ≤ 300000 }
+    pub(crate) fn releases(self, again: bool, cause: Option<u8>, moment: u32) -> Transition<NetCall>
+        requires moment { moment ≤ LAST_MOMENT }
         ensures { result ≡ net_releases self again cause moment }
     {
         let due = moment + T308;

@@ -6,15 +6,16 @@ ghost use Rattle.bx_calls.specs.NetTable.{net_is_clearing, net_setup_again, net_
 use crate::net_call::NetCall;
 use crate::net_state::{NetOrigin, NetState};
 use crate::outgoing::setup;
-use crate::step::Step;
 use crate::timers::T303;
+use crate::transition::Transition;
+use bx_events::LAST_MOMENT;
 use bx_q931::cause::{NORMAL_CALL_CLEARING, RECOVERY_ON_TIMER_EXPIRY};
 use bx_q931::{Kind, Out};
 
 impl NetCall {
-    /// What the call does at a tick to this moment, where its booking ends at that one.
-    pub fn on_second(self, moment: u32, end: u32) -> Step<NetCall>
-        requires moment { moment ≤ 300000 }
+    /// What the call does at a tick to this moment, where its booking ends at that one. The moment is at most `LAST_MOMENT`.
+    pub fn on_second(self, moment: u32, end: u32) -> Transition<NetCall>
+        requires moment { moment ≤ LAST_MOMENT }
         ensures { result ≡ net_second self moment end }
     {
         if end <= moment && !self.is_clearing() {
@@ -26,9 +27,10 @@ impl NetCall {
 
     /// What the call does in so many seconds without a link to the user, of which the last comes to this moment: its
     /// timer stands still. Where its booking ends by then its DISCONNECT is lost, and RELEASE is due in the next second
-    /// with a link. A timer that would be due behind the last moment of a `u32` is due at that.
-    pub fn on_seconds_unlinked(self, seconds: u32, moment: u32, end: u32) -> Step<NetCall>
-        requires moment { moment ≤ 300000 }
+    /// with a link. A timer that would be due behind the last moment of a `u32` is due at that. The moment is at most
+    /// `LAST_MOMENT`.
+    pub fn on_seconds_unlinked(self, seconds: u32, moment: u32, end: u32) -> Transition<NetCall>
+        requires moment { moment ≤ LAST_MOMENT }
         ensures { (latest : ℕ) → IsDueBy latest self.state → latest + seconds ≤ 4294967295 → result ≡ net_unlinked seconds self moment end }
     {
         if moment >= end && !self.is_clearing() {
@@ -42,8 +44,8 @@ impl NetCall {
     }
 
     /// The rows of the timers.
-    fn on_timer(self, moment: u32) -> Step<NetCall>
-        requires moment { moment ≤ 300000 }
+    fn on_timer(self, moment: u32) -> Transition<NetCall>
+        requires moment { moment ≤ LAST_MOMENT }
         ensures { result ≡ net_timer self moment self.state }
     {
         match self.state {
@@ -57,7 +59,10 @@ impl NetCall {
                 self.goes(reply, NetState::CallPresent { again: true, due })
             }
             NetState::CallPresent { again: true, due } if due <= moment => {
-                Step::over(Some(self.says_cause(Kind::ReleaseComplete, RECOVERY_ON_TIMER_EXPIRY)))
+                Transition::over(Some(self.says_cause(
+                    Kind::ReleaseComplete,
+                    RECOVERY_ON_TIMER_EXPIRY,
+                )))
             }
             NetState::IncomingCallProceeding { due } | NetState::CallReceived { due }
                 if due <= moment => self.disconnects(RECOVERY_ON_TIMER_EXPIRY, moment),
@@ -73,7 +78,7 @@ impl NetCall {
                 again: true,
                 due,
                 ..
-            } if due <= moment => Step::broken(),
+            } if due <= moment => Transition::broken(),
             _ => self.stays(None),
         }
     }

@@ -7,7 +7,7 @@ use arrayvec::ArrayVec;
 use bx_q931::{Octets, Out, encode};
 
 /// The octets of each message that is said in a second, in rising order of channel: of a list that has for each channel
-/// what is said on it, if anything, at most 30 in all.
+/// what is said on it, if anything. At most 30 messages are said in all.
 pub fn spell(said: &[Option<Out>]) -> ArrayVec<Octets, 30>
     requires { length (in_order said.now) ≤ 30 }
     ensures { result.items ≡ spelled (in_order said.now) }

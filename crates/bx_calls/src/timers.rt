@@ -1,4 +1,4 @@
-//! Timers and the last moment, in seconds (ITU-T Q.931, 9.1 and 9.2). A timer started at moment m for n seconds is due at a tick
+//! Timers, in seconds (ITU-T Q.931, 9.1 and 9.2). A timer started at moment m for n seconds is due at a tick
 //! to moment m + n or later.
 
 /// The network waits for CONNECT behind ALERTING; Q.931 has at least 3 minutes.
@@ -15,5 +15,3 @@ pub const T310: u32 = 10;
 pub const T310_USER: u32 = 30;
 /// The user waits for CONNECT ACKNOWLEDGE behind CONNECT.
 pub const T313: u32 = 4;
-/// The moment at which the days of both ends stand still: nothing happens behind it.
-pub const LAST_MOMENT: u32 = 300_000;

@@ -15,25 +15,25 @@ use bx_q931::{Kind, Message, Out, Reference};
 
 /// An end of the interface, which a cause names as its location (ITU-T Q.931, 4.5.12).
 #[derive(Clone, Copy, Debug, PartialEq, Eq)]
-pub enum End {
+pub enum Side {
     Network,
     User,
 }
 
-impl End {
+impl Side {
     /// The location in its causes: 2, the public network serving the local user, or 0, the user.
     pub fn location(self) -> u8
         ensures { result ≡ location_of self }
     {
         match self {
-            End::Network => LOCATION_LOCAL_NETWORK,
-            End::User => LOCATION_USER,
+            Side::Network => LOCATION_LOCAL_NETWORK,
+            Side::User => LOCATION_USER,
         }
     }
 }
 
-/// RELEASE COMPLETE with a cause, of which the low 7 bits are kept: a SETUP that is not taken.
-pub fn refuse(end: End, reference: u16, cause: u8) -> Out
+/// RELEASE COMPLETE with a cause, of which the low 7 bits are kept: a SETUP that is not taken. The reference is 1 to 32,767.
+pub fn refuse(end: Side, reference: u16, cause: u8) -> Out
     requires reference { IsCallReference reference }
     ensures { result ≡ refusal_of end reference true cause }
 {
@@ -43,7 +43,7 @@ pub fn refuse(end: End, reference: u16, cause: u8) -> Out
 /// What an end answers to a message that names none of its live calls (5.8.3.2). None where it is ignored,
 /// as the dummy and the global reference are. None for a SETUP too: one that begins a call is for the end
 /// to take or to refuse, and any other is ignored.
-pub fn unknown(end: End, message: &Message<'_>) -> Option<Out>
+pub fn unknown(end: Side, message: &Message<'_>) -> Option<Out>
     ensures { result ≡ unknown_answer end message.now }
 {
     match message.reference() {
@@ -52,7 +52,7 @@ pub fn unknown(end: End, message: &Message<'_>) -> Option<Out>
     }
 }
 
-fn unknown_call(end: End, reference: u16, flag: bool, message: &Message<'_>) -> Option<Out>
+fn unknown_call(end: Side, reference: u16, flag: bool, message: &Message<'_>) -> Option<Out>
     requires reference { IsCallReference reference }
     ensures { result ≡ unknown_row end reference flag (heard_of message.now) message.now.kind }
 {

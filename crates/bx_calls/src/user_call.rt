@@ -9,10 +9,11 @@ ghost use Rattle.bx_calls.specs.UserTable.{user_flag, user_says, user_says_chann
 
 use crate::call_state::CallState;
 use crate::outgoing::{plain, setup};
-use crate::step::Step;
 use crate::timers::{T303, T305, T308, T313};
+use crate::transition::Transition;
 use crate::user_state::{Policy, UserOrigin, UserState};
 use bx_channels::{Channel, Number};
+use bx_events::LAST_MOMENT;
 use bx_q931::cause::LOCATION_USER;
 use bx_q931::{Kind, Out};
 use std::marker::Model;
@@ -41,10 +42,10 @@ impl Model for UserCall {
 
 impl UserCall {
     /// A call that the network began at this moment (ITU-T Q.931, 5.2.1). It is in U6, and nothing is sent
-    /// before the next tick.
+    /// before the next tick. The reference is 1 to 32,767, and the moment at most `LAST_MOMENT`.
     pub fn offered(reference: u16, channel: Channel, policy: Policy, moment: u32) -> UserCall
         requires reference { IsCallReference reference }
-        requires moment { moment ≤ 300000 }
+        requires moment { moment ≤ LAST_MOMENT }
         ensures { result ≡ user_offered reference channel policy moment }
     {
         UserCall {
@@ -55,10 +56,11 @@ impl UserCall {
         }
     }
 
-    /// A call that the user begins at this moment, and its SETUP (5.1.1). It is in U1.
+    /// A call that the user begins at this moment, and its SETUP (5.1.1). It is in U1. The reference is 1 to 32,767, and the
+    /// moment at most `LAST_MOMENT`.
     pub fn calling(reference: u16, channel: Channel, number: Number, moment: u32) -> (UserCall, Out)
         requires reference { IsCallReference reference }
-        requires moment { moment ≤ 300000 }
+        requires moment { moment ≤ LAST_MOMENT }
         ensures call { result.0 ≡ user_calling reference channel number moment }
         ensures out { result.1 ≡ setup_of reference channel number }
     {
@@ -144,28 +146,28 @@ impl UserCall {
             .with_state(self.state().value())
     }
 
-    pub(crate) fn stays(self, reply: Option<Out>) -> Step<UserCall>
+    pub(crate) fn stays(self, reply: Option<Out>) -> Transition<UserCall>
         ensures { result ≡ user_same self reply }
     {
-        Step::on(self, reply)
+        Transition::on(self, reply)
     }
 
-    pub(crate) fn goes(self, reply: Option<Out>, state: UserState) -> Step<UserCall>
+    pub(crate) fn goes(self, reply: Option<Out>, state: UserState) -> Transition<UserCall>
         ensures { result ≡ user_to self reply state }
     {
         UserCall { state, ..self }.stays(reply)
     }
 
-    pub(crate) fn connects(self, connect: Out, moment: u32) -> Step<UserCall>
-        requires moment { moment ≤ 300000 }
+    pub(crate) fn connects(self, connect: Out, moment: u32) -> Transition<UserCall>
+        requires moment { moment ≤ LAST_MOMENT }
         ensures { result ≡ user_connects self connect moment }
     {
         let due = moment + T313;
         self.goes(Some(connect), UserState::ConnectRequest { due })
     }
 
-    pub(crate) fn disconnects(self, cause: u8, moment: u32) -> Step<UserCall>
-        requires moment { moment ≤ 300000 }
+    pub(crate) fn disconnects(self, cause: u8, moment: u32) -> Transition<UserCall>
+        requires moment { moment ≤ LAST_MOMENT }
         ensures { result ≡ user_disconnects self cause moment }
     {
         let due = moment + T305;
@@ -173,8 +175,13 @@ impl UserCall {
         self.goes(Some(reply), UserState::DisconnectRequest { cause, due })
     }
 
-    pub(crate) fn releases(self, again: bool, cause: Option<u8>, moment: u32) -> Step<UserCall>
-        requires moment { moment ≤ 300000 }
+    pub(crate) fn releases(
+        self,
+        again: bool,
+        cause: Option<u8>,
+        moment: u32,
+    ) -> Transition<UserCall>
+        requires moment { moment ≤ LAST_MOMENT }
         ensures { result ≡ user_releases self again cause moment }
     {
         let due = moment + T308;

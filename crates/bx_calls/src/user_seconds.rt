@@ -4,17 +4,18 @@ ghost use Rattle.std.specs.Prelude.{◌≡◌, ◌≤◌};
 ghost use Rattle.bx_calls.specs.UserTable.{user_setup_again, user_takes, user_answers, user_clears, user_second_row, user_second};
 
 use crate::outgoing::setup;
-use crate::step::Step;
 use crate::timers::T303;
+use crate::transition::Transition;
 use crate::user_call::UserCall;
 use crate::user_state::{Policy, UserOrigin, UserState};
+use bx_events::LAST_MOMENT;
 use bx_q931::cause::{NORMAL_CALL_CLEARING, RECOVERY_ON_TIMER_EXPIRY};
 use bx_q931::{Kind, Out};
 
 impl UserCall {
-    /// What the call does at a tick to this moment.
-    pub fn on_second(self, moment: u32) -> Step<UserCall>
-        requires moment { moment ≤ 300000 }
+    /// What the call does at a tick to this moment, which is at most `LAST_MOMENT`.
+    pub fn on_second(self, moment: u32) -> Transition<UserCall>
+        requires moment { moment ≤ LAST_MOMENT }
         ensures { result ≡ user_second self moment }
     {
         match self.state {
@@ -27,7 +28,10 @@ impl UserCall {
                 self.goes(reply, UserState::CallInitiated { again: true, due })
             }
             UserState::CallInitiated { again: true, due } if due <= moment => {
-                Step::over(Some(self.says_cause(Kind::ReleaseComplete, RECOVERY_ON_TIMER_EXPIRY)))
+                Transition::over(Some(self.says_cause(
+                    Kind::ReleaseComplete,
+                    RECOVERY_ON_TIMER_EXPIRY,
+                )))
             }
             UserState::ConnectRequest { due } | UserState::OutgoingCallProceeding { due }
                 if due <= moment => self.disconnects(RECOVERY_ON_TIMER_EXPIRY, moment),
@@ -43,14 +47,14 @@ impl UserCall {
                 again: true,
                 due,
                 ..
-            } if due <= moment => Step::broken(),
+            } if due <= moment => Transition::broken(),
             _ => self.stays(None),
         }
     }
 
     /// U6: the first tick to a call that was offered.
-    fn takes(self, moment: u32) -> Step<UserCall>
-        requires moment { moment ≤ 300000 }
+    fn takes(self, moment: u32) -> Transition<UserCall>
+        requires moment { moment ≤ LAST_MOMENT }
         ensures { result ≡ user_takes self moment self.origin }
     {
         let UserOrigin::Offered { policy, .. } = self.origin else {
@@ -75,8 +79,8 @@ impl UserCall {
     }
 
     /// U7: n seconds behind the first tick, which is one second behind the SETUP.
-    fn answers(self, moment: u32) -> Step<UserCall>
-        requires moment { moment ≤ 300000 }
+    fn answers(self, moment: u32) -> Transition<UserCall>
+        requires moment { moment ≤ LAST_MOMENT }
         ensures { result ≡ user_answers self moment self.origin }
     {
         match self.origin {
@@ -91,8 +95,8 @@ impl UserCall {
     }
 
     /// U10: n seconds after the call became Active, and not in that same second.
-    fn clears(self, since: u32, moment: u32) -> Step<UserCall>
-        requires moment { moment ≤ 300000 }
+    fn clears(self, since: u32, moment: u32) -> Transition<UserCall>
+        requires moment { moment ≤ LAST_MOMENT }
         ensures { result ≡ user_clears self moment since self.origin }
     {
         match self.origin {

@@ -42,8 +42,8 @@ fn write_while_whole<W: Write>(
     let _ = write_packet(file, second, direction, message);
 }
 
-/// Writes the packet of a message, where there is a file.
-fn keep<W: Write>(
+/// Writes the packet of a message, where there is a file of which no write has failed.
+pub fn keep<W: Write>(
     file: &mut Option<Watched<W>>,
     second: u32,
     direction: Direction,
@@ -56,12 +56,22 @@ fn keep<W: Write>(
     }
 }
 
-/// Writes the packets of messages that are sent.
-fn keep_sent<W: Write>(file: &mut Option<Watched<W>>, second: u32, sent: &[Octets])
+/// Writes the packets of messages that are sent, where there is a file of which no write has failed.
+pub fn keep_sent<W: Write>(file: &mut Option<Watched<W>>, second: u32, sent: &[Octets])
     ensures { Keeps W.contents file.old file.new (flat_map (packet_sent second) sent.now) }
 {
     for message in sent {
         keep(file, second, Direction::Sent, message);
+    }
+}
+
+/// Whether no write of a capture has failed, where there is one.
+pub fn is_whole<W>(file: &Option<Watched<W>>) -> bool
+    ensures { result ≡ is_unfaulted file.now }
+{
+    match file {
+        Some(file) => !file.faulted(),
+        None => true,
     }
 }
 
@@ -75,7 +85,8 @@ fn keep_reply<W: Write>(file: &mut Option<Watched<W>>, second: u32, reply: &Opti
 }
 
 impl<E, W: Write> Captured<E, W> {
-    /// Captures an end from now on, into the file where there is one. Moment 0 is the first second.
+    /// Captures an end from now on, into the file where there is one. Moment 0 is the first second. That is at most
+    /// 4,294,667,295, so that 32 bits number each of the 300,000 seconds behind it.
     pub fn new(end: E, file: Option<Watched<W>>, first: u32) -> Self
         requires { first ≤ 4294667295 }
         ensures end { result.end ≡ end }
@@ -103,10 +114,7 @@ impl<E, W: Write> Captured<E, W> {
     pub fn is_whole(&self) -> bool
         ensures { result ≡ is_unfaulted self.now.file }
     {
-        match &self.file {
-            Some(file) => !file.faulted(),
-            None => true,
-        }
+        is_whole(&self.file)
     }
 }
 

@@ -6,7 +6,7 @@ mod fault;
 mod packet;
 mod start;
 
-pub use captured::Captured;
+pub use captured::{Captured, is_whole, keep, keep_sent};
 pub use fault::BeyondCapture;
 pub use packet::{Direction, write_file_header, write_packet};
 pub use start::first_second;

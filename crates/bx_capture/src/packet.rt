@@ -22,7 +22,8 @@ pub enum Direction {
 /// How many octets the tags of a packet have.
 const TAGS: u32 = 20;
 
-/// Writes what stands at the front of a capture file. At a fault the writer is faulted, and a front of it was written.
+/// Writes what stands at the front of a capture file. `WriteFailed` where a write failed, or took nothing: then the writer is
+/// faulted, and a front of it was written.
 pub fn write_file_header<W: Write>(file: &mut Watched<W>) -> Result<(), WriteFailed>
     ensures { Writes W.contents file.old file.new result file_header }
 {
@@ -82,8 +83,8 @@ fn packet_octets(second: u32, direction: Direction, message: &Octets) -> ArrayVe
     packet
 }
 
-/// Writes the packet of a message at this second, in one write where the writer takes it whole. At a fault the writer is
-/// faulted, and a front of the packet was written.
+/// Writes the packet of a message at this second, in one write where the writer takes it whole. `WriteFailed` where a write
+/// failed, or took nothing: then the writer is faulted, and a front of the packet was written.
 pub fn write_packet<W: Write>(
     file: &mut Watched<W>,
     second: u32,

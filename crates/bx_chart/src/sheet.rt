@@ -4,6 +4,7 @@ ghost use Rattle.std.specs.Prelude.{◌≡◌, ◌≤◌, ◌+◌, max, option_c
 ghost use Rattle.bx_base.specs.PlanParts.{parts_of};
 ghost use Rattle.bx_base.specs.Channels.{count_of};
 ghost use Rattle.bx_chart.specs.Hours.{across, day_length, latest_below, lanes_end, prices_top, refused_top, room_of};
+ghost use Rattle.bx_base.specs.declared.booking.TheConstants.{MAX_MOMENT};
 
 use bx_base::Plan;
 use bx_book::Clock;
@@ -26,13 +27,13 @@ pub(crate) const GAP: u64 = 44;
 pub(crate) struct Sheet {
     pub seconds: u32,
     pub lanes: u8,
-    ghost limits: { (1 ≤ seconds) × (seconds ≤ 200000) × (1 ≤ lanes) × (lanes ≤ 30) },
+    ghost limits: { (1 ≤ seconds) × (seconds ≤ MAX_MOMENT) × (1 ≤ lanes) × (lanes ≤ 30) },
 }
 
 /// How long the day is, or 86,400 seconds where none is given.
 fn length_of(clock: Option<&Clock>) -> u32
     ensures value { result ≡ day_length (option_copied clock.entry) }
-    ensures limits { (1 ≤ result) × (result ≤ 200000) }
+    ensures limits { (1 ≤ result) × (result ≤ MAX_MOMENT) }
 {
     match clock {
         Some(clock) => clock.day().length(),
@@ -42,9 +43,9 @@ fn length_of(clock: Option<&Clock>) -> u32
 
 /// So many seconds, or as many as the latest end asks for.
 fn seconds_of(plan: &Plan, least: u32) -> u32
-    requires { (1 ≤ least) × (least ≤ 200000) }
+    requires { (1 ≤ least) × (least ≤ MAX_MOMENT) }
     ensures value { result ≡ latest_below (parts_of plan.now).rows least (length (parts_of plan.now).rows) }
-    ensures limits { (1 ≤ result) × (result ≤ 200000) }
+    ensures limits { (1 ≤ result) × (result ≤ MAX_MOMENT) }
 {
     let mut seconds = least;
     for index in 0..plan.bookings.len() {

@@ -68,7 +68,8 @@ fn chart(
 }
 
 /// Writes a picture of a plan, in SVG 1.1: of the day of a clock with the hours that it shows, or of 86,400 seconds with the
-/// hours from midnight on. It says of this gain that one more channel would add it.
+/// hours from midnight on. It says of this gain that one more channel would add it. `Memory` where a growth is refused, before
+/// anything is written; `WriteFailed` where a write fails, or takes none of what it was given.
 pub fn write_chart<W: Write>(
     alloc: Global,
     plan: &Plan,

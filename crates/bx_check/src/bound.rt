@@ -8,6 +8,8 @@ ghost use Rattle.bx_base.specs.Plans.{is_accepted};
 ghost use Rattle.bx_base.specs.Bound.{sum_of_prices, bound_of};
 ghost use Rattle.bx_base.specs.Sides.{gain_of, loss_of};
 ghost use Rattle.bx_check.specs.Before.{AreSums};
+ghost use Rattle.bx_base.specs.declared.booking.TheConstants.{MAX_PAY};
+ghost use Rattle.bx_base.specs.declared.plan.TheConstants.{MAX_PRICES, MAX_TOTAL};
 
 use crate::sums::{Sums, cost, sums_of};
 use bx_base::{Booking, Bookings, ChannelSet, Price};
@@ -41,11 +43,11 @@ pub(crate) fn is_rising(prices: &[Price]) -> bool
     true
 }
 
-/// What the prices come to together: what a channel costs all day. There are at most 8,000 of them.
+/// What the prices come to together: what a channel costs all day. There have to be at most 8,000 of them.
 pub fn price_sum(prices: &[Price]) -> u64
-    requires { length prices.now ≤ 8000 }
+    requires { length prices.now ≤ MAX_PRICES }
     ensures value { result ≡ sum_of_prices prices.now }
-    ensures limit { result ≤ length prices.now * 4000000000000 }
+    ensures limit { result ≤ length prices.now * MAX_TOTAL }
 {
     let mut sum = 0;
     for price in prices {
@@ -59,7 +61,7 @@ fn gain(booking: &Booking, prices: &[Price], sums: &Sums) -> u64
     requires rising { IsStrictlyIncreasing (map (λ p. p.moment) prices.now) }
     requires sums { AreSums prices.now sums.now.items }
     ensures value { result ≡ gain_of prices.now booking.now }
-    ensures limit { result ≤ 1000000000 }
+    ensures limit { result ≤ MAX_PAY }
 {
     if booking.is_must() {
         booking.pay()
@@ -81,15 +83,15 @@ fn loss(booking: &Booking, prices: &[Price], sums: &Sums) -> u64
     }
 }
 
-/// The bound that the prices set for each lawful set. Where some set is lawful, all that is lost is at most what
-/// the channels cost, so no sum leaves its type.
+/// The bound that the prices set for each lawful set, the dual objective. Where some set is lawful, all that is lost is at most
+/// what the channels cost, so no sum leaves its type.
 pub(crate) fn bound(
     bookings: &Bookings,
     channels: ChannelSet,
     assigned: &[Option<Channel>],
     prices: &[Price],
 ) -> u64
-    requires few { length prices.now ≤ 8000 }
+    requires few { length prices.now ≤ MAX_PRICES }
     requires rising { IsStrictlyIncreasing (map (λ p. p.moment) prices.now) }
     requires lawful { IsLawful bookings.now channels (is_accepted assigned.now) }
     ensures value { pos result ≡ bound_of bookings.now (count_of channels) prices.now }

@@ -55,10 +55,11 @@ fn first_must_left_out(plan: &Plan) -> Option<u16>
     None
 }
 
-/// The total of the plan, where it is a plan of these bookings and channels in service whose prices prove that
-/// no lawful set pays more; else the first fault. Takes no memory: the sums of the prices stand on the stack, so the
-/// cost of a row takes two searches by halving, and so do the accepted rows, sorted by channel and start: only where two
-/// overlap rows are compared in pairs (Carlisle and Lloyd 1995 for the problem; the prices are the dual of their flow).
+/// The total of the plan, where it is a plan of these bookings and channels in service whose prices prove that no lawful set
+/// pays more; else the first fault, in the order of `CheckFault`. Takes no memory: the sums of the prices stand on the stack, so
+/// the cost of a row takes two searches by halving, and so do the accepted rows, sorted by channel and start: only where two
+/// overlap rows are compared in pairs (M. C. Carlisle and E. L. Lloyd, On the k-coloring of intervals, 1995; the prices are the
+/// dual of their flow, and what is compared with the total is the dual objective: weak duality).
 pub fn check(bookings: &Bookings, channels: ChannelSet, plan: &Plan) -> Result<u64, CheckFault>
     ensures outcome { IsOutcome bookings.now channels (parts_of plan.now) result }
     // The plan's own channels carry its accepted rows, and these hold each must row.

@@ -4,6 +4,7 @@ ghost use Rattle.std.specs.Prelude.{◌≡◌, ◌≤◌, ◌<◌, ℕ, length, 
 ghost use Rattle.std.specs.List.Sorted.{IsStrictlyIncreasing};
 ghost use Rattle.bx_base.specs.Bound.{cost_of, price_at};
 ghost use Rattle.bx_check.specs.Before.{AreSums};
+ghost use Rattle.bx_base.specs.declared.plan.TheConstants.{MAX_PRICES};
 
 use arrayvec::ArrayVec;
 use bx_base::{Booking, Price};
@@ -11,9 +12,9 @@ use bx_base::{Booking, Price};
 /// What the first 0, 1, .. prices of a list come to. It stands on the stack, since a check takes no memory.
 pub type Sums = ArrayVec<u64, 8001>;
 
-/// The sums of the fronts of the list.
+/// The sums of the fronts of the list. There have to be at most 8,000 prices.
 pub fn sums_of(prices: &[Price]) -> Sums
-    requires { length prices.now ≤ 8000 }
+    requires { length prices.now ≤ MAX_PRICES }
     ensures { AreSums prices.now result.items }
 {
     let mut sums = ArrayVec::new();
@@ -47,7 +48,8 @@ fn count_before(prices: &[Price], moment: u32) -> usize
     low
 }
 
-/// What the booking costs at these prices.
+/// What the booking costs at these prices, whose moments rise strictly, and of whose list these are the sums of the fronts. Two
+/// searches by halving.
 pub fn cost(booking: &Booking, prices: &[Price], sums: &Sums) -> u64
     requires rising { IsStrictlyIncreasing (map (λ p. p.moment) prices.now) }
     requires sums { AreSums prices.now sums.now.items }

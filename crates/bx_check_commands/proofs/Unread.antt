@@ -2,14 +2,14 @@
 use Rattle.std.proofs.Common.{ℕ, List, Option, None, Result, Ok, Err, inl, inr, ◌⊎◌}
 use Rattle.std.specs.Prelude.{IfErr}
 use Rattle.bx_devices.specs.Devices.{Reading}
-use Rattle.bx_planfile.specs.declared.fault.PlanFault.{PlanFault}
+use Rattle.bx_planfile.specs.declared.fault.PlanTextFault.{PlanTextFault}
 use Rattle.bx_check_commands.specs.Inputs.{IsNoProvedOf}
 use Rattle.bx_check_commands.specs.PlanFiles.{HasNoPlan, HasNoProvedPlan}
 use Rattle.bx_check_commands.specs.Refusals.{IsNoPlanText, IsNoPlan, IsUnproved}
 use Rattle.bx_check_commands.specs.declared.fault.CommandFault.{CommandFault}
 use Rattle.bx_check_commands.specs.declared.fault.CommandFault.TheVariants.{CannotRead, CannotWrite, Plan, Check, NotHex, Message, Memory}
 
-pub unread_text : (before : Option (List ℕ)) (fault : PlanFault) → IsNoPlanText before fault → IsNoPlanText None fault
+pub unread_text : (before : Option (List ℕ)) (fault : PlanTextFault) → IsNoPlanText before fault → IsNoPlanText None fault
 unread_text before fault none = record { text = none.text; told = λ known is. cc; first = none.first }
 
 no_plan : (name : List ℕ) (input : Reading) (fault : CommandFault) → IsNoPlan name input fault → HasNoPlan name fault

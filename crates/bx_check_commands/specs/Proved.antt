@@ -15,7 +15,7 @@ pub record IsPlanRead (before : Option (List ℕ)) (plan : Parts) : Type 0 where
 
 -- The plan's own channels carry its accepted rows, which hold each must row and pay the total, and no lawful set of
 -- its rows pays more.
-pub record IsBest (plan : Parts) (total : ℕ) : Type 0 where
+pub record IsProvedBest (plan : Parts) (total : ℕ) : Type 0 where
   pub carried : Carries plan.rows plan.channels (is_accepted plan.assigned) (channel_at plan.assigned)
   pub lawful : IsLawful plan.rows plan.channels (is_accepted plan.assigned)
   pub paid : total ≡ pay_of plan.rows (is_accepted plan.assigned)
@@ -24,7 +24,7 @@ pub record IsBest (plan : Parts) (total : ℕ) : Type 0 where
 -- the plan is proved by its own prices, for these bookings and channels
 pub record IsProvedFor (rows : List Row) (channels : List Bool) (plan : Parts) (total : ℕ) : Type 0 where
   pub outcome : IsOutcome rows channels plan (Ok total)
-  pub best : IsBest plan total
+  pub best : IsProvedBest plan total
 
 -- a plan that was read is proved for these bookings and channels
 pub record IsProvedAgainst (rows : List Row) (channels : List Bool) (before : Option (List ℕ)) (total : ℕ) : Type 0 where

@@ -5,7 +5,7 @@ use Rattle.bx_devices.specs.Devices.{Reading, Writing, KeepsOutput}
 use Rattle.bx_devices.specs.Octets.{AppendsPrefix, ReadsFront, ReadsWithin, RunsOutOfReads}
 use Rattle.bx_base.specs.PlanParts.{Parts}
 use Rattle.bx_planfile.specs.Reading.{read_all}
-use Rattle.bx_planfile.specs.declared.fault.PlanFault.{PlanFault}
+use Rattle.bx_planfile.specs.declared.fault.PlanTextFault.{PlanTextFault}
 use Rattle.bx_check.specs.Check.{IsOutcome}
 use Rattle.bx_check_commands.specs.Proved.{IsPlanRead, IsProvedText, IsProvedAgainst, proved_line}
 use Rattle.bx_check.specs.declared.checker.CheckFault.{CheckFault}
@@ -22,7 +22,7 @@ abbrev pub IsRefusedGrowth : Reading → Type 0
 IsRefusedGrowth input = (input.is_faulted ≡ input.was_faulted) × ReadsWithin input.before input.after 4194304
 
 -- this text, which is what there was to read where the input tells it, is no plan text, with this first fault
-pub record IsNoPlanText (before : Option (List ℕ)) (fault : PlanFault) : Type 0 where
+pub record IsNoPlanText (before : Option (List ℕ)) (fault : PlanTextFault) : Type 0 where
   pub text : List ℕ
   pub told : (known : List ℕ) → before ≡ Some known → text ≡ known
   pub first : read_all text ≡ Err fault

@@ -14,12 +14,13 @@ use crate::fault::CommandFault;
 use bx_base::{Bookings, ChannelSet, Plan};
 use bx_check::check;
 use bx_devices::{ReadFault, Watched, WriteFailed, read_octets, write_octets};
-use bx_planfile::{PlanFault, read_plan};
+use bx_planfile::{PlanTextFault, read_plan};
 use bx_text::named_line;
 use std::alloc::Global;
 use std::io::{Read, Write};
 
-/// The plan whose text is read to the end of an input of this name. It need not be proved.
+/// The plan whose text is read to the end of an input of this name. It need not be proved. `CannotRead` with the name where the
+/// input fails, does not end, or is too long; `Plan` where what was read is no plan text; `Memory` where a growth is refused.
 pub fn plan_from<'a, R: Read>(
     alloc: Global,
     name: &'a str,
@@ -36,7 +37,7 @@ pub fn plan_from<'a, R: Read>(
     };
     match read_plan(alloc, &text) {
         Ok(plan) => Ok(plan),
-        Err(PlanFault::Memory) => Err(CommandFault::Memory),
+        Err(PlanTextFault::Memory) => Err(CommandFault::Memory),
         Err(fault) => Err(CommandFault::Plan(fault)),
     }
 }
@@ -57,7 +58,7 @@ fn checked<'a>(
 }
 
 /// The plan whose text is read to the end of an input of this name, where it is proved for the bookings and channels
-/// that it states itself.
+/// that it states itself. The faults of `plan_from`, and then `Check` where it is not proved.
 pub fn proved_plan<'a, R: Read>(
     alloc: Global,
     name: &'a str,
@@ -68,14 +69,9 @@ pub fn proved_plan<'a, R: Read>(
     ensures read { OnOk result (IsAtEnd (R.remaining (device_of input.new))) }
     ensures refused { IfErr result (IsUnproved name.now (reading_of R.remaining input.old input.new)) }
 {
-    let plan = match plan_from(alloc, name, input) {
-        Ok(plan) => plan,
-        Err(fault) => return Err(fault),
-    };
-    match checked(&plan, &plan.bookings, plan.channels) {
-        Ok(_) => Ok(plan),
-        Err(fault) => Err(fault),
-    }
+    let plan = plan_from(alloc, name, input)?;
+    let _total = checked(&plan, &plan.bookings, plan.channels)?;
+    Ok(plan)
 }
 
 /// Writes `proved `, the total and LF.
@@ -99,10 +95,7 @@ fn judge<'a, W: Write>(
     ensures written { IfOk result (λ total. Appends (W.contents (device_of output.old)) (W.contents (device_of output.new)) (proved_line total)) }
     ensures refused { IfErr result (IsJudged bookings.now channels (parts_of plan.now) (writing_of W.contents output.old output.new)) }
 {
-    let total = match checked(plan, bookings, channels) {
-        Ok(total) => total,
-        Err(fault) => return Err(fault),
-    };
+    let total = checked(plan, bookings, channels)?;
     match write_proved(output, total) {
         Ok(()) => Ok(total),
         Err(WriteFailed) => Err(CommandFault::CannotWrite),
@@ -111,7 +104,7 @@ fn judge<'a, W: Write>(
 
 /// Reads a plan text to the end of the input, checks the plan against the bookings and channels that it states
 /// itself, and writes `proved `, the total and LF. Answers the total. At a refusal nothing was written, except that
-/// where the output failed a front of that line was.
+/// where the output failed a front of that line was. The faults of `proved_plan`, with the name `-`, and then `CannotWrite`.
 pub fn check_self<'a, R: Read, W: Write>(
     alloc: Global,
     input: &mut Watched<R>,
@@ -123,14 +116,11 @@ pub fn check_self<'a, R: Read, W: Write>(
     ensures written { IfOk result (λ total. Appends (W.contents (device_of output.old)) (W.contents (device_of output.new)) (proved_line total)) }
     ensures refused { IfErr result (IsRefusal (reading_of R.remaining input.old input.new) (writing_of W.contents output.old output.new)) }
 {
-    let plan = match plan_from(alloc, "-", input) {
-        Ok(plan) => plan,
-        Err(fault) => return Err(fault),
-    };
+    let plan = plan_from(alloc, "-", input)?;
     judge(&plan, &plan.bookings, plan.channels, output)
 }
 
-/// The same against these bookings and channels. The name is that of the input in `CannotRead`.
+/// The same against these bookings and channels. The faults are the same, with this name of the input in `CannotRead`.
 pub fn check_against<'a, R: Read, W: Write>(
     alloc: Global,
     name: &'a str,
@@ -144,9 +134,6 @@ pub fn check_against<'a, R: Read, W: Write>(
     ensures written { IfOk result (λ total. Appends (W.contents (device_of output.old)) (W.contents (device_of output.new)) (proved_line total)) }
     ensures refused { IfErr result (IsRefusalAgainst bookings.now channels name.now (reading_of R.remaining input.old input.new) (writing_of W.contents output.old output.new)) }
 {
-    let plan = match plan_from(alloc, name, input) {
-        Ok(plan) => plan,
-        Err(fault) => return Err(fault),
-    };
+    let plan = plan_from(alloc, name, input)?;
     judge(&plan, bookings, channels, output)
 }

@@ -1,7 +1,7 @@
 //! Why a command was refused.
 
 use bx_check::CheckFault;
-use bx_planfile::PlanFault;
+use bx_planfile::PlanTextFault;
 use bx_q931::MessageFault;
 use thiserror::Error;
 
@@ -17,7 +17,7 @@ pub enum CommandFault<'a> {
     CannotWrite,
     /// What was read is no plan text.
     #[error("{0}")]
-    Plan(PlanFault),
+    Plan(PlanTextFault),
     /// The plan is not proved.
     #[error("{0}")]
     Check(CheckFault),

@@ -24,7 +24,7 @@ pub trait Inputs {
     /// What the input of this name has to give, where it tells it.
     ghost gives: { Self → List ℕ → Option (List ℕ) → Type 0 };
 
-    /// The input of this name, to be read from its beginning.
+    /// The input of this name, to be read from its beginning. `CannotRead` with the name where there is none.
     fn open<'a>(&mut self, name: &'a str) -> Result<Watched<Self::Reader>, CommandFault<'a>>
         ensures opened { IfOk result (λ input. gives self.old name.now (Self.Reader.remaining (device_of input))) }
         ensures unfaulted { IfOk result (λ input. is_faulted input ≡ false) }
@@ -75,7 +75,8 @@ impl<'f, H: Files, R: Read + Drop> Inputs for FilesAndInput<'f, H, R> {
     }
 }
 
-/// The plan whose text the input of this name gives. It need not be proved.
+/// The plan whose text the input of this name gives. It need not be proved. `CannotRead` where it cannot be opened, and then the
+/// faults of `plan_from`.
 pub fn plan_named<'a, I: Inputs>(
     alloc: Global,
     inputs: &mut I,
@@ -89,7 +90,7 @@ pub fn plan_named<'a, I: Inputs>(
     plan_from(alloc, name, &mut input)
 }
 
-/// The same, where it is proved for the bookings and channels that it states itself.
+/// The same, where it is proved for the bookings and channels that it states itself. Its last fault is `Check`.
 pub fn proved_named<'a, I: Inputs>(
     alloc: Global,
     inputs: &mut I,

@@ -8,7 +8,7 @@ use bx_devices::Watched;
 use std::fs;
 use std::fs::Files;
 
-/// The file of this name, to be read.
+/// The file of this name, to be read. `CannotRead` with the name where it cannot be opened.
 pub fn open<'a, H: Files>(rt: &H, name: &'a str) -> Result<Watched<H::File>, CommandFault<'a>>
     ensures { IfErr result (IsUnopened name.now) }
 {

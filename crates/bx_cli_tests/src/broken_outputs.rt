@@ -4,12 +4,12 @@ use crate::worked_texts::ONE;
 use bx_cli::main_words;
 use bx_devices::{Failing, Watched};
 
-/// Words and their status.
-static CASES: [(&[&str], u8); 4] = [
-    (&[], 1),
-    (&["--help"], 1),
-    (&["decode", "080280015A"], 1),
-    (&["dance"], 2),
+/// Words with their name, and their status.
+static CASES: [(&str, &[&str], u8); 4] = [
+    ("no words", &[], 1),
+    ("help", &["--help"], 1),
+    ("a message", &["decode", "080280015A"], 1),
+    ("a word that is none", &["dance"], 2),
 ];
 
 fn status_of(rt: &HostRuntime, words: &[&str]) -> u8 {
@@ -21,8 +21,8 @@ fn status_of(rt: &HostRuntime, words: &[&str]) -> u8 {
 
 #[test]
 fn words_without_outputs(rt: HostRuntime) {
-    for (index, (words, status)) in CASES.iter().enumerate() {
-        assert!(rt; status_of(&rt, words) == *status, "words {index}");
+    for (name, words, status) in &CASES {
+        assert!(rt; status_of(&rt, words) == *status, "{name}");
     }
 }
 

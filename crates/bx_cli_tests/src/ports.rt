@@ -2,10 +2,12 @@
 
 use crate::files::{does, folder};
 use std::fs;
-use std::net::TcpListener;
+use std::net::{Ipv4Addr, TcpListener, TcpStream};
 use std::os::unix::net::UnixListener;
 use std::test::Fail;
 
+/// A port on which somebody listens, and then nobody. The connection that was accepted keeps the port, so that no other program is
+/// given it in between.
 #[test]
 fn ports_in_use_and_not(rt: HostRuntime) -> Result<(), Fail> {
     let folder = folder(&rt)?;
@@ -14,10 +16,14 @@ fn ports_in_use_and_not(rt: HostRuntime) -> Result<(), Fail> {
     let words = format!(in rt.alloc(); "serve @one.txt --port {port}")?;
     let refused = (1, "", "bx: F3 CannotListen\n");
     assert!(rt; does(&rt, &folder, &words, refused)?, "taken");
+    let near = TcpStream::connect(&rt, (Ipv4Addr::LOCALHOST, port))?;
+    let (distant, _) = listener.accept()?;
     drop(listener);
     let words = format!(in rt.alloc(); "far @answer.csv --port {port}")?;
     let refused = (1, "", "bx: F4 CannotConnect\n");
     assert!(rt; does(&rt, &folder, &words, refused)?, "nobody");
+    drop(distant);
+    drop(near);
     fs::remove_dir_all(&rt, folder.as_str())?;
     Ok(())
 }

@@ -1,12 +1,13 @@
 -- First-fit colouring of accepted bookings by channels, and when it comes to an end (Carlisle and Lloyd 1995).
 use Rattle.std.specs.Prelude.{◌≡◌, ℕ, ◌<◌, ◌≤◌, ◌&&◌, ◌⊎◌, Bool, true, false, List, length, Option, Some, None, slice_index_or, if◌then◌else◌}
+use Rattle.bx_base.specs.Marks.{is_marked}
 use Rattle.bx_base.specs.Sums.{sum_below}
 use Rattle.bx_base.specs.Channels.{has_channel, count_of}
 use Rattle.bx_base.specs.Bookings.{Row, row_at, is_running, Overlap}
 
 -- whether the row of this index, counted from 0, is accepted
 abbrev pub is_in : List Bool → ℕ → Bool
-is_in accepted i = slice_index_or accepted i false
+is_in accepted i = is_marked accepted i
 
 -- how many accepted rows run at a moment
 abbrev pub running_at : List Row → List Bool → ℕ → ℕ

@@ -11,8 +11,10 @@ use bx_base::{Bookings, ChannelSet};
 use bx_channels::Channel;
 use std::alloc::{AllocError, Global};
 
-/// In the order of (start, row) each accepted booking gets the lowest channel of the set that no earlier accepted
-/// booking has which overlaps it. Time n log n in the bookings, memory linear.
+/// In the order of (start, row) each accepted booking gets the lowest channel of the set that no earlier accepted booking has
+/// which overlaps it (M. C. Carlisle and E. L. Lloyd, On the k-coloring of intervals, 1995). There has to be one mark for each
+/// booking, and at no moment may more accepted bookings run than there are channels: `fits` says so. Time n log n in the
+/// bookings, memory linear. `AllocError` where a growth is refused.
 pub fn colour(
     alloc: Global,
     bookings: &Bookings,

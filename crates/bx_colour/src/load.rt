@@ -3,6 +3,7 @@
 ghost use Rattle.std.specs.Prelude.{◌≡◌, ◌≤◌, ◌<◌, ◌+◌, ◌↔◌, ℕ, Some, IfNone, if◌then◌else◌};
 ghost use Rattle.bx_base.specs.Bookings.{is_running};
 ghost use Rattle.bx_colour.specs.Counted.{counted_to};
+ghost use Rattle.bx_base.specs.declared.booking.TheConstants.{MAX_MOMENT};
 
 use bx_base::Booking;
 
@@ -15,7 +16,7 @@ pub struct Load {
     size: u16,
     ghost ordered: { (t : ℕ) → counted_to ends t ≤ counted_to starts t },
     ghost few: { (t : ℕ) → counted_to starts t ≤ size },
-    ghost over: { (t : ℕ) → 200000 ≤ t → counted_to ends t ≡ counted_to starts t },
+    ghost over: { (t : ℕ) → MAX_MOMENT ≤ t → counted_to ends t ≡ counted_to starts t },
 }
 
 impl Load {
@@ -33,7 +34,7 @@ impl Load {
         }
     }
 
-    /// One booking more.
+    /// One booking more, where fewer than 65,535 were added.
     pub fn add(&mut self, booking: &Booking)
         requires { size_of self.old < 65535 }
         ensures each { (t : ℕ) → load_at self.new t ≡ load_at self.old t + (if is_running booking.now t then 1 else 0) }

@@ -13,9 +13,9 @@ use Rattle.bx_q931.specs.declared.channel_field.ChannelField.TheVariants.{Absent
 use Rattle.bx_q931.specs.declared.reference.Reference.{Reference}
 use Rattle.bx_q931.specs.declared.reference.Reference.TheVariants.{Dummy, Value}
 use Rattle.bx_base.specs.Bookings.{Row}
-use Rattle.bx_calls.specs.declared.step.Next.{Next}
-use Rattle.bx_calls.specs.declared.step.Next.TheVariants.{Live, Over, Broken}
-use Rattle.bx_calls.specs.declared.step.Step.{Step}
+use Rattle.bx_calls.specs.declared.transition.Next.{Next}
+use Rattle.bx_calls.specs.declared.transition.Next.TheVariants.{Live, Over, Broken}
+use Rattle.bx_calls.specs.declared.transition.Transition.{Transition}
 use Rattle.bx_calls.specs.PlainCalls.{PlainNetCall}
 use Rattle.bx_calls.specs.declared.net_state.NetOrigin.{NetOrigin}
 use Rattle.bx_calls.specs.declared.net_state.NetState.{NetState}
@@ -69,7 +69,7 @@ more_lost lost lost' d le h = all_weaker (EntryClears lost d.moment) (EntryClear
 
 -- ---- a step of a call
 
-abbrev StepClears : ℕ → ℕ → Entry → Activity → Step PlainNetCall → Type 0
+abbrev StepClears : ℕ → ℕ → Entry → Activity → Transition PlainNetCall → Type 0
 StepClears n t e a step = StandingClears n t e.booking (follows a t step).standing
 
 over_clears : (n t u : ℕ) (b : Row) (a : Activity) → StandingClears n t b (over_at a u)
@@ -83,14 +83,14 @@ next_early n t e a said Over early = over_clears n t t e.booking a
 next_early n t e a said Broken early = over_clears n t t e.booking a
 
 -- while the booking runs
-early_clears : (n t : ℕ) (e : Entry) (a : Activity) (step : Step PlainNetCall) → t < e.booking.end → StepClears n t e a step
+early_clears : (n t : ℕ) (e : Entry) (a : Activity) (step : Transition PlainNetCall) → t < e.booking.end → StepClears n t e a step
 early_clears n t e a step early = next_early n t e a step.reply step.next early
 
-clears_test : (b : Bool) (n t : ℕ) (e : Entry) (a : Activity) (x y : Step PlainNetCall) → (b ≡ true → StepClears n t e a x) → (b ≡ false → StepClears n t e a y) → StepClears n t e a (if b then x else y)
+clears_test : (b : Bool) (n t : ℕ) (e : Entry) (a : Activity) (x y : Transition PlainNetCall) → (b ≡ true → StepClears n t e a x) → (b ≡ false → StepClears n t e a y) → StepClears n t e a (if b then x else y)
 clears_test true n t e a x y f g = f refl
 clears_test false n t e a x y f g = g refl
 
-at_end : (n t : ℕ) (e : Entry) (a : Activity) (x y : Step PlainNetCall) → StepClears n (t + 1) e a x → StepClears n (t + 1) e a (if nat_le e.booking.end (t + 1) then x else y)
+at_end : (n t : ℕ) (e : Entry) (a : Activity) (x y : Transition PlainNetCall) → StepClears n (t + 1) e a x → StepClears n (t + 1) e a (if nat_le e.booking.end (t + 1) then x else y)
 at_end n t e a x y f = clears_test (nat_le e.booking.end (t + 1)) n (t + 1) e a x y (λ _. f) (λ runs. early_clears n (t + 1) e a y (leb-false e.booking.end (t + 1) runs))
 
 -- a timer of clearing, by whether the booking was over already

@@ -4,7 +4,7 @@ use Rattle.std.proofs.Math.Nat.{le-min}
 use Rattle.std.proofs.lemmas.Bool.{true≢false, leb-true, leb-false, le-leb, lt-ltb, and_from, or_right}
 use Rattle.bx_base.specs.Bookings.{is_running}
 use Rattle.bx_calls.specs.PlainCalls.{PlainNetCall}
-use Rattle.bx_calls.specs.declared.step.Step.{Step}
+use Rattle.bx_calls.specs.declared.transition.Transition.{Transition}
 use Rattle.bx_calls.specs.declared.net_state.NetState.{NetState}
 use Rattle.bx_calls.specs.declared.net_state.NetState.TheVariants.{OutgoingCallProceeding, CallPresent, IncomingCallProceeding, CallReceived, Active, DisconnectIndication, ReleaseRequest}
 use Rattle.bx_calls.specs.NetTable.{net_second}
@@ -75,7 +75,7 @@ over_stage (Since from) t = refl
 over_stage (Was from until) t = refl
 
 -- a step of a call at moment t to a later stage than n
-abbrev pub Rises : ℕ → Activity → ℕ → Step PlainNetCall → Type 0
+abbrev pub Rises : ℕ → Activity → ℕ → Transition PlainNetCall → Type 0
 Rises t a n step = n < stage (follows a t step).standing
 
 neither : (due end t : ℕ) → min due end ≤ t → nat_le end t ≡ false → nat_le due t ≡ false → ⊥

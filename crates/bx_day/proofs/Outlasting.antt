@@ -4,7 +4,7 @@ use Rattle.std.specs.List.{AllByRecursion, list_any}
 use Rattle.std.proofs.lemmas.Bool.{leb-true, leb-false, le-leb, and_right, false≢true, cases_lt}
 use Rattle.bx_base.specs.Bookings.{Row}
 use Rattle.bx_events.specs.Events.{WithoutLink}
-use Rattle.bx_calls.specs.declared.step.Step.{Step}
+use Rattle.bx_calls.specs.declared.transition.Transition.{Transition}
 use Rattle.bx_calls.specs.PlainCalls.{PlainNetCall}
 use Rattle.bx_calls.specs.declared.net_state.NetState.{NetState}
 use Rattle.bx_calls.specs.declared.net_state.NetState.TheVariants.{OutgoingCallProceeding, CallPresent, IncomingCallProceeding, CallReceived, Active, DisconnectIndication, ReleaseRequest}
@@ -125,10 +125,10 @@ stands : (n t u : ℕ) (b : Row) (c : PlainNetCall) (a : Activity) → ActivityF
 stands n t u b c a h = ap (λ x. in_state c (net_later n c.state) (activity_after a x u)) (later_active n c.state) ∙ ap (in_state c (net_later n c.state)) (activity_stays t u b c.state a h)
 
 -- n seconds behind one
-abbrev Then : ℕ → ℕ → Row → Activity → ℕ → Step PlainNetCall → Standing
+abbrev Then : ℕ → ℕ → Row → Activity → ℕ → Transition PlainNetCall → Standing
 Then n u b a t step = outlasted n u b (follows a t step).standing
 
-abbrev At : Row → Activity → Step PlainNetCall → Standing
+abbrev At : Row → Activity → Transition PlainNetCall → Standing
 At b a step = (follows a b.end step).standing
 
 call_clears : (n t u : ℕ) (e : Entry) (c : PlainNetCall) (a : Activity) → ActivityFits t e.booking (phase_of c.state) a → net_is_clearing c.state ≡ true → Then n u e.booking a (t + 1) (net_unlinked 1 c (t + 1) e.booking.end) ≡ At e.booking a (net_unlinked (n + 1) c u e.booking.end)
@@ -207,7 +207,7 @@ waits_whole : (e : Entry) (t : ℕ) → (waits e t false).broken ≡ false
 waits_whole e t = by_cases (offers e t false) _ _ (λ (m : Moved). m.broken ≡ false) (λ _. refl) (λ _. by_cases (nat_le e.booking.end t) _ _ (λ (m : Moved). m.broken ≡ false) (λ _. refl) (λ _. refl))
 
 booking_whole : (e : Entry) (t : ℕ) (s : Standing) → (unlinked_at e t s).broken ≡ false
-booking_whole e t (OnCall c a) = by_cases (not (net_is_clearing c.state) && nat_le e.booking.end t) _ _ (λ (step : Step PlainNetCall). (follows a t step).broken ≡ false) (λ _. refl) (λ _. refl)
+booking_whole e t (OnCall c a) = by_cases (not (net_is_clearing c.state) && nat_le e.booking.end t) _ _ (λ (step : Transition PlainNetCall). (follows a t step).broken ≡ false) (λ _. refl) (λ _. refl)
 booking_whole e t Unoffered = waits_whole e t
 booking_whole e t Refused = refl
 booking_whole e t (Carried from until) = refl
@@ -271,10 +271,10 @@ skipped (suc k) d h =
 
 -- ---- the code of one booking
 
-pub call_unlinked : (latest t end : ℕ) (e : Entry) (s : Standing) (c : PlainNetCall) (a : Activity) (step : Step PlainNetCall) (m : Moved) → s ≡ OnCall c a → end ≡ e.booking.end → ((most : ℕ) → IsDueBy most c.state → most + 1 ≤ 4294967295 → step ≡ net_unlinked 1 c t end) → m ≡ follows a t step → IsTimedBy latest s → latest + 1 ≤ 4294967295 → m ≡ unlinked_at e t s
+pub call_unlinked : (latest t end : ℕ) (e : Entry) (s : Standing) (c : PlainNetCall) (a : Activity) (step : Transition PlainNetCall) (m : Moved) → s ≡ OnCall c a → end ≡ e.booking.end → ((most : ℕ) → IsDueBy most c.state → most + 1 ≤ 4294967295 → step ≡ net_unlinked 1 c t end) → m ≡ follows a t step → IsTimedBy latest s → latest + 1 ≤ 4294967295 → m ≡ unlinked_at e t s
 call_unlinked latest t end e s c a step m is at steps follow timed room =
     subst (λ (x : Standing). IsTimedBy latest x → m ≡ unlinked_at e t x) (sym is) (λ due. follow ∙ ap (follows a t) (steps latest due room) ∙ ap (λ x. follows a t (net_unlinked 1 c t x)) at) timed
 
-pub call_outlasted : (latest n t end : ℕ) (b : Row) (s : Standing) (c : PlainNetCall) (a : Activity) (step : Step PlainNetCall) (m : Moved) → s ≡ OnCall c a → end ≡ b.end → ((most : ℕ) → IsDueBy most c.state → most + n ≤ 4294967295 → step ≡ net_unlinked n c t end) → m ≡ follows a end step → IsTimedBy latest s → latest + n ≤ 4294967295 → m.standing ≡ outlasted n t b s
+pub call_outlasted : (latest n t end : ℕ) (b : Row) (s : Standing) (c : PlainNetCall) (a : Activity) (step : Transition PlainNetCall) (m : Moved) → s ≡ OnCall c a → end ≡ b.end → ((most : ℕ) → IsDueBy most c.state → most + n ≤ 4294967295 → step ≡ net_unlinked n c t end) → m ≡ follows a end step → IsTimedBy latest s → latest + n ≤ 4294967295 → m.standing ≡ outlasted n t b s
 call_outlasted latest n t end b s c a step m is at steps follow timed room =
     subst (λ (x : Standing). IsTimedBy latest x → m.standing ≡ outlasted n t b x) (sym is) (λ due. ap (λ (x : Moved). x.standing) (follow ∙ ap (follows a end) (steps latest due room) ∙ ap (λ x. follows a x (net_unlinked n c t x)) at)) timed

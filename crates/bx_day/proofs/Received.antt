@@ -6,7 +6,7 @@ use Rattle.bx_q931.specs.declared.kind.Kind.{Kind}
 use Rattle.bx_q931.specs.declared.kind.Kind.TheVariants.{Alerting, CallProceeding, Setup, Connect, ConnectAcknowledge, Disconnect, Release, ReleaseComplete, StatusEnquiry, Status}
 use Rattle.bx_q931.specs.declared.channel_field.ChannelField.TheVariants.{Absent}
 use Rattle.bx_calls.specs.PlainCalls.{PlainNetCall}
-use Rattle.bx_calls.specs.declared.step.Step.{Step}
+use Rattle.bx_calls.specs.declared.transition.Transition.{Transition}
 use Rattle.bx_calls.specs.declared.net_state.NetOrigin.{NetOrigin}
 use Rattle.bx_calls.specs.declared.net_state.NetOrigin.TheVariants.{Outward, Inward}
 use Rattle.bx_calls.specs.declared.net_state.NetState.{NetState}
@@ -36,10 +36,10 @@ use Rattle.bx_day.proofs.Law.{all_update}
 
 -- ---- a message breaks no channel
 
-abbrev Whole : Activity → ℕ → Step PlainNetCall → Type 0
+abbrev Whole : Activity → ℕ → Transition PlainNetCall → Type 0
 Whole a t step = (follows a t step).broken ≡ false
 
-whole_either : (b : Bool) (a : Activity) (t : ℕ) (x y : Step PlainNetCall) → Whole a t x → Whole a t y → Whole a t (if b then x else y)
+whole_either : (b : Bool) (a : Activity) (t : ℕ) (x y : Transition PlainNetCall) → Whole a t x → Whole a t y → Whole a t (if b then x else y)
 whole_either true a t x y f g = f
 whole_either false a t x y f g = g
 

@@ -1,7 +1,7 @@
 -- A tick keeps what is true of one booking.
 use Rattle.std.proofs.Common.{◌≡◌, ℕ, ◌+◌, ◌≤◌, ◌<◌, Bool, true, false, Some, arith, refl, nat_le, if◌then◌else◌}
 use Rattle.std.proofs.lemmas.Bool.{leb-false}
-use Rattle.bx_calls.specs.declared.step.Step.{Step}
+use Rattle.bx_calls.specs.declared.transition.Transition.{Transition}
 use Rattle.bx_calls.specs.PlainCalls.{PlainNetCall}
 use Rattle.bx_calls.specs.declared.net_state.NetOrigin.{NetOrigin}
 use Rattle.bx_calls.specs.declared.net_state.NetState.{NetState}
@@ -18,15 +18,15 @@ abbrev pub call_of : ℕ → ℕ → NetOrigin → NetState → PlainNetCall
 call_of r ch o s = record { reference = r; channel = ch; origin = o; state = s }
 
 -- what is true of the booking after a step at moment t
-abbrev pub StepFits : ℕ → Entry → Activity → Step PlainNetCall → Type 0
+abbrev pub StepFits : ℕ → Entry → Activity → Transition PlainNetCall → Type 0
 StepFits t e a step = EntryFits t (record e { standing = (follows a t step).standing })
 
-pub by_test : (b : Bool) (t : ℕ) (e : Entry) (a : Activity) (x y : Step PlainNetCall) → (b ≡ true → StepFits t e a x) → (b ≡ false → StepFits t e a y) → StepFits t e a (if b then x else y)
+pub by_test : (b : Bool) (t : ℕ) (e : Entry) (a : Activity) (x y : Transition PlainNetCall) → (b ≡ true → StepFits t e a x) → (b ≡ false → StepFits t e a y) → StepFits t e a (if b then x else y)
 by_test true t e a x y f g = f refl
 by_test false t e a x y f g = g refl
 
 -- a step by whether the booking ends, and else by whether a timer is due
-by_times : (due t : ℕ) (e : Entry) (a : Activity) (ends fires stays : Step PlainNetCall) → StepFits (t + 1) e a ends → (t + 1 < e.booking.end → StepFits (t + 1) e a fires) → (t + 1 < e.booking.end → t + 1 < due → StepFits (t + 1) e a stays)
+by_times : (due t : ℕ) (e : Entry) (a : Activity) (ends fires stays : Transition PlainNetCall) → StepFits (t + 1) e a ends → (t + 1 < e.booking.end → StepFits (t + 1) e a fires) → (t + 1 < e.booking.end → t + 1 < due → StepFits (t + 1) e a stays)
     → StepFits (t + 1) e a (if nat_le e.booking.end (t + 1) then ends else (if nat_le due (t + 1) then fires else stays))
 by_times due t e a ends fires stays f g h =
     by_test (nat_le e.booking.end (t + 1)) (t + 1) e a ends _ (λ ended. f)

@@ -9,9 +9,9 @@ use Rattle.bx_base.specs.Plans.{is_accepted, channel_at}
 use Rattle.bx_q931.specs.declared.kind.Kind.{Kind}
 use Rattle.bx_q931.specs.declared.kind.Kind.TheVariants.{Alerting, CallProceeding, Progress, Setup, Connect, ConnectAcknowledge, Disconnect, Release, ReleaseComplete, Notify, StatusEnquiry, Information, Status, Other}
 use Rattle.bx_q931.specs.Outgoing.{Outgoing}
-use Rattle.bx_calls.specs.declared.step.Step.{Step}
-use Rattle.bx_calls.specs.declared.step.Next.{Next}
-use Rattle.bx_calls.specs.declared.step.Next.TheVariants.{Live, Over, Broken}
+use Rattle.bx_calls.specs.declared.transition.Transition.{Transition}
+use Rattle.bx_calls.specs.declared.transition.Next.{Next}
+use Rattle.bx_calls.specs.declared.transition.Next.TheVariants.{Live, Over, Broken}
 use Rattle.bx_calls.specs.PlainCalls.{PlainNetCall}
 use Rattle.bx_calls.specs.declared.net_state.NetOrigin.{NetOrigin}
 use Rattle.bx_calls.specs.declared.net_state.NetOrigin.TheVariants.{Outward, Inward}
@@ -28,7 +28,7 @@ use Rattle.bx_q931.specs.declared.fault.MessageFault.{MessageFault}
 use Rattle.bx_q931.specs.declared.channel_field.ChannelField.{ChannelField}
 use Rattle.bx_q931.specs.declared.channel_field.ChannelField.TheVariants.{Absent, Named, AnyChannel, Unread}
 use Rattle.bx_calls.specs.UnknownTable.{unknown_row, unknown_status}
-use Rattle.bx_calls.specs.declared.unknown_reference.End.TheVariants.{Network}
+use Rattle.bx_calls.specs.declared.unknown_reference.Side.TheVariants.{Network}
 use Rattle.bx_calls.specs.Said.{Said, said_of}
 use Rattle.bx_day.specs.Day.{Day, entry_at, is_free, index_of, every_channel}
 use Rattle.bx_day.specs.Ticks.{waits, second_at, tick, second_in}
@@ -113,7 +113,7 @@ setup_fits rows assigned t e r ch called p accepted outward runs same on =
     (on ∙ p.channel)
 
 -- what a message makes the exchange say is neither
-pub test_said : (P : Outgoing → Type 0) (b : Bool) (x y : Step PlainNetCall) → (b ≡ true → OfSaid P x.reply) → (b ≡ false → OfSaid P y.reply) → OfSaid P (if b then x else y).reply
+pub test_said : (P : Outgoing → Type 0) (b : Bool) (x y : Transition PlainNetCall) → (b ≡ true → OfSaid P x.reply) → (b ≡ false → OfSaid P y.reply) → OfSaid P (if b then x else y).reply
 test_said P true x y f g = f refl
 test_said P false x y f g = g refl
 

@@ -4,8 +4,8 @@ use Rattle.std.specs.List.{AllByRecursion}
 use Rattle.std.proofs.lemmas.Bool.{leb-true, leb-false, ltb-true, and_parts, both_ways, eq-eqb, and_from, not-true, false≢true}
 use Rattle.bx_q931.specs.Outgoing.{Outgoing}
 use Rattle.bx_calls.specs.PlainCalls.{PlainNetCall}
-use Rattle.bx_calls.specs.declared.step.Next.{Next}
-use Rattle.bx_calls.specs.declared.step.Next.TheVariants.{Live, Over, Broken}
+use Rattle.bx_calls.specs.declared.transition.Next.{Next}
+use Rattle.bx_calls.specs.declared.transition.Next.TheVariants.{Live, Over, Broken}
 use Rattle.bx_base.specs.Bookings.{Row, is_running}
 use Rattle.bx_calls.specs.Shared.{is_set}
 use Rattle.bx_day.specs.Day.{Day, is_live, holds, is_held, is_free}

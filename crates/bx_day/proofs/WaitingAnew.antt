@@ -5,7 +5,7 @@ use Rattle.std.proofs.lemmas.Bool.{leb-false, ltb-true, ltb-false, false≢true,
 use Rattle.std.proofs.lemmas.List.{get_or-set_same, get_or-set_other}
 use Rattle.bx_base.specs.Bookings.{Row}
 use Rattle.bx_events.specs.Events.{WithoutLink}
-use Rattle.bx_calls.specs.declared.step.Step.{Step}
+use Rattle.bx_calls.specs.declared.transition.Transition.{Transition}
 use Rattle.bx_calls.specs.PlainCalls.{PlainNetCall}
 use Rattle.bx_calls.specs.NetTable.{net_is_clearing}
 use Rattle.bx_day.specs.Day.{Day, is_live, is_unoffered, holds, entry_at, no_entry}
@@ -146,7 +146,7 @@ earliest_waits es c o apart ordered h = record {
 -- ---- what becomes of the bookings
 
 call_live : (n u : ℕ) (b : Row) (s : Standing) → is_live (outlasted n u b s) ≡ is_live s
-call_live n u b (OnCall c a) = by_cases (not (net_is_clearing c.state) && nat_le b.end u) _ _ (λ (step : Step PlainNetCall). is_live (follows a b.end step).standing ≡ true) (λ _. refl) (λ _. refl)
+call_live n u b (OnCall c a) = by_cases (not (net_is_clearing c.state) && nat_le b.end u) _ _ (λ (step : Transition PlainNetCall). is_live (follows a b.end step).standing ≡ true) (λ _. refl) (λ _. refl)
 call_live n u b Unoffered = by_cases (nat_le b.end u) _ _ (λ (s : Standing). is_live s ≡ false) (λ _. refl) (λ _. refl)
 call_live n u b Refused = refl
 call_live n u b (Carried from until) = refl
@@ -154,7 +154,7 @@ call_live n u b Unanswered = refl
 call_live n u b Missed = refl
 
 same_refused : (n u : ℕ) (b : Row) (s : Standing) → is_refused (outlasted n u b s) ≡ is_refused s
-same_refused n u b (OnCall c a) = by_cases (not (net_is_clearing c.state) && nat_le b.end u) _ _ (λ (step : Step PlainNetCall). is_refused (follows a b.end step).standing ≡ false) (λ _. refl) (λ _. refl)
+same_refused n u b (OnCall c a) = by_cases (not (net_is_clearing c.state) && nat_le b.end u) _ _ (λ (step : Transition PlainNetCall). is_refused (follows a b.end step).standing ≡ false) (λ _. refl) (λ _. refl)
 same_refused n u b Unoffered = by_cases (nat_le b.end u) _ _ (λ (s : Standing). is_refused s ≡ false) (λ _. refl) (λ _. refl)
 same_refused n u b Refused = refl
 same_refused n u b (Carried from until) = refl

@@ -3,17 +3,18 @@ use Rattle.std.specs.Prelude.{ℕ, ◌+◌, ◌≤◌, true, false}
 use Rattle.std.specs.List.{AllByRecursion}
 use Rattle.bx_calls.specs.declared.net_state.NetState.{NetState}
 use Rattle.bx_calls.specs.declared.net_state.NetState.TheVariants.{DisconnectIndication, ReleaseRequest}
+use Rattle.bx_calls.specs.Timers.{t305, t308, clearing_time}
 use Rattle.bx_base.specs.Bookings.{Row}
 use Rattle.bx_day.specs.Day.{Day}
 use Rattle.bx_day.specs.declared.entry.Entry.{Entry}
 use Rattle.bx_day.specs.declared.entry.Standing.{Standing}
 use Rattle.bx_day.specs.declared.entry.Standing.TheVariants.{OnCall}
 
--- clearing takes 38 seconds at most from moment m on
+-- clearing takes T305 and twice T308 at most from moment m on
 abbrev pub ClearsBy : ℕ → NetState → Type 0
-ClearsBy m (DisconnectIndication cause due) = due ≤ m + 30
-ClearsBy m (ReleaseRequest false cause due) = due ≤ m + 34
-ClearsBy m (ReleaseRequest true cause due) = due ≤ m + 38
+ClearsBy m (DisconnectIndication cause due) = due ≤ m + t305
+ClearsBy m (ReleaseRequest false cause due) = due ≤ m + (t305 + t308)
+ClearsBy m (ReleaseRequest true cause due) = due ≤ m + clearing_time
 ClearsBy m _ = Unit {0}
 
 -- a call whose booking is over, with n seconds without a link since its end

@@ -3,6 +3,7 @@ use Rattle.std.specs.Prelude.{◌≡◌, ◌≢◌, ℕ, ◌+◌, ◌-◌, ◌�
 use Rattle.bx_q931.specs.declared.kind.Kind.TheVariants.{Setup, CallProceeding}
 use Rattle.bx_q931.specs.Outgoing.{Outgoing}
 use Rattle.bx_calls.specs.PlainCalls.{PlainNetCall}
+use Rattle.bx_calls.specs.Timers.{clearing_time}
 use Rattle.bx_calls.specs.declared.net_state.NetState.TheVariants.{Active}
 use Rattle.bx_base.specs.Bookings.{Row, row_at, is_running}
 use Rattle.bx_base.specs.Plans.{is_accepted, channel_at}
@@ -34,8 +35,8 @@ pub record IsOrderly (rows : List Row) (assigned : List (Option ℕ)) (lost : �
   -- a call is Active only while its booking runs
   pub active : (i : ℕ) → i < length rows → OnLive (standing_at d i) (λ call a. call.state ≡ Active → is_running (row_at rows i) d.moment ≡ true)
   pub carried : (i : ℕ) → i < length rows → OnCarried (standing_at d i) (λ from until. ((row_at rows i).start ≤ from) × (from ≤ until) × (until ≤ (row_at rows i).end))
-  -- 38 seconds with a link after its end a booking is over or missed
-  pub cleared : (i : ℕ) → i < length rows → (row_at rows i).end + 38 + lost (row_at rows i).end ≤ d.moment → (standing_at d i ≢ Unoffered) × OnLive (standing_at d i) (λ call a. ⊥)
+  -- T305 and twice T308 with a link after its end a booking is over or missed
+  pub cleared : (i : ℕ) → i < length rows → (row_at rows i).end + clearing_time + lost (row_at rows i).end ≤ d.moment → (standing_at d i ≢ Unoffered) × OnLive (standing_at d i) (λ call a. ⊥)
 
 -- a SETUP is sent for an accepted outward booking that runs, which its reference names, on its channel
 pub record SetupFits (rows : List Row) (assigned : List (Option ℕ)) (t : ℕ) (o : Outgoing) : Type 0 where

@@ -1,9 +1,9 @@
 -- What becomes of a booking by a step of its call.
 use Rattle.std.specs.Prelude.{ℕ, Bool, true, false, Option, None}
 use Rattle.bx_q931.specs.Outgoing.{Outgoing}
-use Rattle.bx_calls.specs.declared.step.Step.{Step}
-use Rattle.bx_calls.specs.declared.step.Next.{Next}
-use Rattle.bx_calls.specs.declared.step.Next.TheVariants.{Live, Over, Broken}
+use Rattle.bx_calls.specs.declared.transition.Transition.{Transition}
+use Rattle.bx_calls.specs.declared.transition.Next.{Next}
+use Rattle.bx_calls.specs.declared.transition.Next.TheVariants.{Live, Over, Broken}
 use Rattle.bx_calls.specs.PlainCalls.{PlainNetCall}
 use Rattle.bx_calls.specs.declared.net_state.NetState.{NetState}
 use Rattle.bx_calls.specs.declared.net_state.NetState.TheVariants.{Active}
@@ -43,5 +43,5 @@ follow a t said (Live call) = becomes (OnCall call (activity_after a (is_active 
 follow a t said Over = becomes (over_at a t) said
 follow a t said Broken = record { standing = over_at a t; said = said; broken = true }
 
-abbrev pub follows : Activity → ℕ → Step PlainNetCall → Moved
+abbrev pub follows : Activity → ℕ → Transition PlainNetCall → Moved
 follows a t step = follow a t step.reply step.next

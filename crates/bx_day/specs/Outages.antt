@@ -8,9 +8,10 @@ use Rattle.bx_day.specs.declared.entry.Link.TheVariants.{Down}
 use Rattle.bx_day.specs.Day.{Day}
 use Rattle.bx_day.specs.Ticks.{passed_in}
 use Rattle.bx_day.specs.Run.{happens}
+use Rattle.bx_events.specs.declared.moment.TheConstants.{LAST_MOMENT}
 
 abbrev pub without_link : Day → Day
-without_link d = if nat_le 300000 d.moment then d else (passed_in Down d).day
+without_link d = if nat_le LAST_MOMENT d.moment then d else (passed_in Down d).day
 
 abbrev pub live_happens : Day → LiveEvent → Sent Day
 live_happens d (OnLink event) = happens d event
@@ -23,7 +24,7 @@ live_day_after (e ∷ es) d = live_day_after es (live_happens d e).day
 -- whether an event is a second without a link from moment m on
 abbrev pub is_lost : ℕ → Day → LiveEvent → Bool
 is_lost m d (OnLink event) = false
-is_lost m d WithoutLink = nat_le m d.moment && nat_lt d.moment 300000
+is_lost m d WithoutLink = nat_le m d.moment && nat_lt d.moment LAST_MOMENT
 
 -- how many of these there are
 abbrev pub lost_since : ℕ → List LiveEvent → Day → ℕ

@@ -12,6 +12,7 @@ use Rattle.bx_day.specs.declared.entry.Standing.{Standing}
 use Rattle.bx_day.specs.declared.entry.Standing.TheVariants as standing
 use Rattle.bx_day.specs.declared.outcome.Outcome.{Outcome}
 use Rattle.bx_day.specs.declared.outcome.Outcome.TheVariants as outcome
+use Rattle.bx_events.specs.declared.moment.TheConstants.{LAST_MOMENT}
 
 -- what a standing is called when the day is told
 abbrev pub outcome_of : Standing → Outcome
@@ -50,7 +51,7 @@ IsNumbered entries = (i : ℕ) → i < length entries → (entry_at entries i).r
 
 -- a day that an exchange may be in
 pub record IsExchange (d : Day) : Type 0 where
-  pub moment : d.moment ≤ 300000
+  pub moment : d.moment ≤ LAST_MOMENT
   pub rows : length d.entries ≤ 4000
   pub day : DayFits d
   pub seated : AllByRecursion Seated d.entries

@@ -7,7 +7,7 @@ use Rattle.bx_q931.specs.declared.channel_field.ChannelField.TheVariants.{Absent
 use Rattle.bx_calls.specs.Shared.{bool_eq}
 use Rattle.bx_calls.specs.NetTable.{net_message, net_flag, net_answered, proceeding_of}
 use Rattle.bx_calls.specs.UnknownTable.{refusal_of, unknown_row}
-use Rattle.bx_calls.specs.declared.unknown_reference.End.TheVariants.{Network}
+use Rattle.bx_calls.specs.declared.unknown_reference.Side.TheVariants.{Network}
 use Rattle.bx_day.specs.declared.entry.Activity.TheVariants.{Never}
 use Rattle.bx_day.specs.declared.entry.Standing.{Standing}
 use Rattle.bx_day.specs.declared.entry.Standing.TheVariants.{OnCall}

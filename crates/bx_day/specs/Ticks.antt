@@ -17,6 +17,7 @@ use Rattle.bx_base.specs.Bookings.{is_running}
 use Rattle.bx_calls.specs.Sending.{Sent}
 use Rattle.bx_day.specs.Moves.{becomes, stays, follows}
 use Rattle.bx_day.specs.Day.{Day, every_channel, is_free}
+use Rattle.bx_events.specs.declared.moment.TheConstants.{LAST_MOMENT}
 
 -- an unoffered booking at a tick to moment t; free says whether its channel was neither held nor in maintenance
 abbrev pub waits : Entry → ℕ → Bool → Moved
@@ -76,7 +77,7 @@ abbrev pub ticked : Day → Sent Day
 ticked d = passed_in Up d
 
 abbrev pub tick : Day → Sent Day
-tick d = if nat_le 300000 d.moment then record { day = d; sent = [] } else ticked d
+tick d = if nat_le LAST_MOMENT d.moment then record { day = d; sent = [] } else ticked d
 
 -- at most one message on each channel
 abbrev pub SaysOnce : Day → Type 0

@@ -14,7 +14,7 @@ ghost use Rattle.bx_day.specs.Calling.{awaits};
 use crate::entry::{Activity, Entry, Moved, Standing};
 use crate::exchange::Exchange;
 use bx_base::ChannelSet;
-use bx_calls::{End, NetCall, bearer_fault, refuse};
+use bx_calls::{NetCall, Side, bearer_fault, refuse};
 use bx_channels::Channel;
 use bx_q931::cause::{NO_CHANNEL_AVAILABLE, REQUESTED_CHANNEL_NOT_AVAILABLE};
 use bx_q931::{ChannelField, Message, Out};
@@ -27,7 +27,7 @@ impl Exchange {
         ensures reply { (flag : Bool) → let m = said_of reference flag message.now in result ≡ (called self.old m m.refused).reply }
     {
         if let Some(cause) = bearer_fault(message) {
-            return Some(refuse(End::Network, reference, cause));
+            return Some(refuse(Side::Network, reference, cause));
         }
         self.called_on(reference, message.channel())
     }
@@ -39,7 +39,7 @@ impl Exchange {
     {
         match field {
             ChannelField::Unread => {
-                Some(refuse(End::Network, reference, REQUESTED_CHANNEL_NOT_AVAILABLE))
+                Some(refuse(Side::Network, reference, REQUESTED_CHANNEL_NOT_AVAILABLE))
             }
             ChannelField::Named { channel, exclusive } => {
                 self.called_at(reference, channel, exclusive)
@@ -58,7 +58,7 @@ impl Exchange {
         ensures reply { (flag : Bool) (m : PlainMessage) → result ≡ (called_on self.old (said_of reference flag m) (ChannelField.Named channel exclusive)).reply }
     {
         if exclusive {
-            let index = self.opening(channel);
+            let index = self.open_on(channel);
             self.take(reference, index, REQUESTED_CHANNEL_NOT_AVAILABLE)
         } else {
             let index = self.preferred(channel);
@@ -75,7 +75,7 @@ impl Exchange {
         ensures reply { (flag : Bool) (m : PlainMessage) → result ≡ (takes_or self.old (said_of reference flag m) cause index).reply }
     {
         let Some(index) = index else {
-            return Some(refuse(End::Network, reference, cause));
+            return Some(refuse(Side::Network, reference, cause));
         };
         let moment = self.moment();
         let channel = Channel::new(self.entries[index].channel).unwrap();
@@ -92,7 +92,7 @@ impl Exchange {
     }
 
     /// The index of the booking that may be called on the channel now.
-    fn opening(&self, channel: Channel) -> Option<usize>
+    fn open_on(&self, channel: Channel) -> Option<usize>
         ensures first { result ≡ index_of (opens self.now channel) self.now.entries }
         ensures inside { IfSome result (λ i. i < length self.now.entries) }
     {
@@ -114,7 +114,7 @@ impl Exchange {
         ensures first { result ≡ or_else (index_of (opens self.now channel) self.now.entries) (lowest_open self.now every_channel) }
         ensures inside { IfSome result (λ i. i < length self.now.entries) }
     {
-        match self.opening(channel) {
+        match self.open_on(channel) {
             Some(index) => Some(index),
             None => self.lowest(),
         }
@@ -127,7 +127,7 @@ impl Exchange {
     {
         for number in 1..32 {
             if let Some(channel) = Channel::new(number) {
-                if let Some(index) = self.opening(channel) {
+                if let Some(index) = self.open_on(channel) {
                     return Some(index);
                 }
             }

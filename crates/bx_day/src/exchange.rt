@@ -10,7 +10,7 @@ ghost use Rattle.bx_day.specs.Reading.{IsExchange, on_channel, outcome_at};
 use crate::entry::{Entry, Standing};
 use crate::linking::linked;
 use crate::opening::entries;
-use crate::outcome::{Outcome, told};
+use crate::outcome::{Outcome, outcome_from};
 use bx_base::{ChannelSet, Plan};
 use bx_calls::CallState;
 use bx_channels::Channel;
@@ -46,8 +46,9 @@ impl Model for Exchange {
 }
 
 impl Exchange {
-    /// The exchange at the opening of its day: moment 0, nothing offered, nothing in maintenance. Only here
-    /// an exchange takes memory.
+    /// The exchange at the opening of its day: moment 0, nothing offered, nothing in maintenance. The plan's channels carry its
+    /// accepted bookings, as those of a checked plan do. Only here an exchange takes memory: `AllocError` where a growth was
+    /// refused.
     pub fn new(alloc: Global, plan: &Plan) -> Result<Exchange, AllocError>
         requires { Carries plan.now.bookings plan.now.channels (is_accepted plan.now.assigned.items) (channel_at plan.now.assigned.items) }
         ensures { IfOk result (λ x. x ≡ opening plan.now.bookings plan.now.assigned.items) }
@@ -120,6 +121,6 @@ impl Exchange {
         if row == 0 || row as usize > self.entries.len() {
             return None;
         }
-        Some(told(self.entries[row as usize - 1].standing))
+        Some(outcome_from(self.entries[row as usize - 1].standing))
     }
 }

@@ -9,8 +9,9 @@ ghost use Rattle.bx_day.specs.Moves.{activity_after, over_at, follows};
 ghost use Rattle.bx_calls.specs.Said.{said_of};
 
 use crate::entry::{Activity, Entry, Link, Moved, Standing};
-use bx_calls::{CallState, NetCall, Next, Step};
+use bx_calls::{CallState, NetCall, Next, Transition};
 use bx_channels::Channel;
+use bx_events::LAST_MOMENT;
 use bx_q931::Message;
 
 /// The activity of a call, by whether it is Active now.
@@ -42,7 +43,7 @@ fn over(activity: Activity, moment: u32) -> Standing
 }
 
 /// A live booking whose call took this step.
-pub(crate) fn follow(step: Step<NetCall>, activity: Activity, moment: u32) -> Moved
+pub(crate) fn follow(step: Transition<NetCall>, activity: Activity, moment: u32) -> Moved
     ensures { result ≡ follows activity moment step }
 {
     let said = step.reply;
@@ -71,7 +72,7 @@ pub(crate) fn follow(step: Step<NetCall>, activity: Activity, moment: u32) -> Mo
 
 /// A live booking at a message of its call, whose reference and flag were compared before.
 pub(crate) fn heard(standing: Standing, message: &Message<'_>, moment: u32) -> Moved
-    requires { moment ≤ 300000 }
+    requires { moment ≤ LAST_MOMENT }
     ensures { (reference : ℕ) (flag : Bool) → result ≡ hears (said_of reference flag message.now) moment standing }
 {
     match standing {
@@ -88,7 +89,7 @@ pub(crate) fn heard(standing: Standing, message: &Message<'_>, moment: u32) -> M
 
 /// A booking in a second to this moment; free says whether its channel was neither held nor in maintenance.
 pub(crate) fn second(entry: &Entry, channel: Channel, moment: u32, free: bool, link: Link) -> Moved
-    requires moment { moment ≤ 300000 }
+    requires moment { moment ≤ LAST_MOMENT }
     requires row { IsCallReference entry.now.row }
     requires channel { channel ≡ entry.now.channel }
     ensures { (latest : ℕ) → IsTimedBy latest entry.now.standing → latest + 1 ≤ 4294967295 → result ≡ second_by link entry.now moment free entry.now.standing }
@@ -101,7 +102,7 @@ pub(crate) fn second(entry: &Entry, channel: Channel, moment: u32, free: bool, l
 
 /// Without a link no timer runs, and nothing is offered.
 fn unlinked(entry: &Entry, channel: Channel, moment: u32) -> Moved
-    requires moment { moment ≤ 300000 }
+    requires moment { moment ≤ LAST_MOMENT }
     requires row { IsCallReference entry.now.row }
     requires channel { channel ≡ entry.now.channel }
     ensures { (latest : ℕ) → IsTimedBy latest entry.now.standing → latest + 1 ≤ 4294967295 → result ≡ unlinked_at entry.now moment entry.now.standing }
@@ -117,7 +118,7 @@ fn unlinked(entry: &Entry, channel: Channel, moment: u32) -> Moved
 
 /// A booking at a tick to this moment; free says whether its channel was neither held nor in maintenance.
 fn linked(entry: &Entry, channel: Channel, moment: u32, free: bool) -> Moved
-    requires moment { moment ≤ 300000 }
+    requires moment { moment ≤ LAST_MOMENT }
     requires row { IsCallReference entry.now.row }
     requires channel { channel ≡ entry.now.channel }
     ensures { result ≡ second_at entry.now moment free entry.now.standing }

@@ -12,8 +12,8 @@ ghost use Rattle.bx_day.specs.SlotSteps.{IsInside};
 use crate::entry::{Entry, Standing};
 use crate::exchange::Exchange;
 use crate::moving::follow;
-use bx_calls::timers::LAST_MOMENT;
 use bx_channels::Channel;
+use bx_events::LAST_MOMENT;
 
 impl Exchange {
     /// So many seconds later, in none of which there is a link to the far end: at once what that many seconds without a
@@ -33,7 +33,7 @@ impl Exchange {
 
 /// Brings each booking to this moment, behind so many seconds without a link.
 fn outlast(entries: &mut [Entry], seconds: u32, moment: u32)
-    requires { moment ≤ 300000 }
+    requires { moment ≤ LAST_MOMENT }
     ensures { AreOutlasting seconds moment (length entries.old) entries.old entries.new }
 {
     for index in 0..entries.len() {
@@ -44,7 +44,7 @@ fn outlast(entries: &mut [Entry], seconds: u32, moment: u32)
 
 /// What has become of a booking at this moment, behind so many seconds without a link.
 fn outlasted(entry: &Entry, seconds: u32, moment: u32) -> Standing
-    requires { moment ≤ 300000 }
+    requires { moment ≤ LAST_MOMENT }
     ensures { (latest : ℕ) → IsTimedBy latest entry.now.standing → latest + seconds ≤ 4294967295 → result ≡ outlasted seconds moment entry.now.booking entry.now.standing }
 {
     let end = entry.booking.end();

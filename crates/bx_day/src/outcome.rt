@@ -23,7 +23,7 @@ pub enum Outcome {
 }
 
 /// The outcome of a booking of which this has become.
-pub(crate) fn told(standing: Standing) -> Outcome
+pub(crate) fn outcome_from(standing: Standing) -> Outcome
     ensures { result ≡ outcome_of standing }
 {
     match standing {

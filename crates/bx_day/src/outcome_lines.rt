@@ -12,7 +12,7 @@ ghost use Rattle.bx_day.specs.Telling.{outcome_fields, entry_fields, maintenance
 
 use crate::entry::Entry;
 use crate::exchange::Exchange;
-use crate::outcome::{Outcome, told};
+use crate::outcome::{Outcome, outcome_from};
 use bx_base::ChannelSet;
 use bx_devices::{Watched, WriteFailed};
 use bx_text::{Block, Line, add, add_decimal, add_members, append};
@@ -22,7 +22,7 @@ impl Exchange {
     /// Writes what has become of each booking, a line for each row in order: its number, and `refused`,
     /// `waiting`, `live`, `carried` with the moments from and until which its call was Active, `unanswered`
     /// or `missed`. Then `maintenance` with the channels in maintenance in rising order, or `none`. Each line
-    /// ends with LF. Takes no memory. At a fault the writer is faulted, and a front of the text was written.
+    /// ends with LF. Takes no memory. At `WriteFailed` the writer is faulted, and a front of the text was written.
     pub fn write_outcomes<W: Write>(&self, writer: &mut Watched<W>) -> Result<(), WriteFailed>
         ensures ok { OnOk result (Appends (W.contents (device_of writer.old)) (W.contents (device_of writer.new)) (outcomes_text self.now)) }
         ensures prefix { OnErr result (AppendsPrefix (W.contents (device_of writer.old)) (W.contents (device_of writer.new)) (outcomes_text self.now)) }
@@ -87,7 +87,7 @@ fn entry_line(entry: &Entry) -> Line
 {
     let mut line = Line::new();
     add_decimal(&mut line, u64::from(entry.row), b' ');
-    add_outcome(&mut line, told(entry.standing));
+    add_outcome(&mut line, outcome_from(entry.standing));
     line
 }
 

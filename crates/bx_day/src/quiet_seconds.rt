@@ -9,8 +9,8 @@ ghost use Rattle.bx_day.specs.Run.{day_after};
 use crate::entry::{Entry, Standing};
 use crate::exchange::Exchange;
 use crate::scheduling::booking_due;
-use bx_calls::timers::LAST_MOMENT;
 use bx_channels::Channel;
+use bx_events::LAST_MOMENT;
 
 impl Exchange {
     /// For how many seconds nothing happens where no message comes: each of so many ticks sends nothing and
@@ -19,14 +19,14 @@ impl Exchange {
     pub fn quiet(&self) -> u32
         ensures each { IsQuietFor result self.now }
         ensures exact { ¬ IsQuietTick (later_by result self.now) }
-        ensures limit { result ≤ 300000 - self.now.moment }
+        ensures limit { result ≤ LAST_MOMENT - self.now.moment }
     {
         let moment = self.moment();
         self.known_due().saturating_sub(moment + 1)
     }
 
-    /// So many seconds later, where all of them are quiet: at once what that many ticks would leave. It takes no
-    /// memory.
+    /// So many seconds later, all of which are quiet, as up to `quiet` are: at once what that many ticks would leave. It takes
+    /// no memory.
     pub fn skip(&mut self, seconds: u32)
         requires { IsQuietFor seconds self.old }
         ensures ticks { self.new ≡ day_after (replicate seconds Tick) self.old }

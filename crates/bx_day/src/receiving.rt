@@ -14,7 +14,7 @@ ghost use Rattle.bx_day.specs.Reading.{IsExchange};
 use crate::entry::{Entry, Moved, Standing};
 use crate::exchange::Exchange;
 use crate::moving::heard;
-use bx_calls::{End, unknown};
+use bx_calls::{Side, unknown};
 use bx_q931::{Kind, Message, Octets, Out, Reference, encode, read};
 
 impl Exchange {
@@ -31,22 +31,22 @@ impl Exchange {
         let Ok(message) = read(octets) else {
             return None;
         };
-        let reply = self.hear(&message)?;
+        let reply = self.receive_message(&message)?;
         Some(encode(&reply))
     }
 
     /// Hears a message that was read.
-    fn hear(&mut self, message: &Message<'_>) -> Option<Out>
+    fn receive_message(&mut self, message: &Message<'_>) -> Option<Out>
         ensures day { self.new ≡ (receive_from self.old message.now message.now.reference).day }
         ensures reply { result ≡ (receive_from self.old message.now message.now.reference).reply }
     {
         match message.reference() {
             Reference::Dummy | Reference::Value { value: 0, .. } => None,
-            Reference::Value { value, flag } => self.hear_call(value, flag, message),
+            Reference::Value { value, flag } => self.receive_call(value, flag, message),
         }
     }
 
-    fn hear_call(&mut self, reference: u16, flag: bool, message: &Message<'_>) -> Option<Out>
+    fn receive_call(&mut self, reference: u16, flag: bool, message: &Message<'_>) -> Option<Out>
         requires limit { IsCallReference reference }
         requires same { message.now.reference ≡ Reference.Value reference flag }
         ensures day { self.new ≡ (receive self.old (said_of reference flag message.now)).day }
@@ -151,7 +151,7 @@ impl Exchange {
         match message.kind() {
             Kind::Setup if flag => None,
             Kind::Setup => self.called(reference, message),
-            _ => unknown(End::Network, message),
+            _ => unknown(Side::Network, message),
         }
     }
 }

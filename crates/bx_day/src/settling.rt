@@ -9,6 +9,7 @@ ghost use Rattle.bx_day.specs.Slots.{AreSlots, slot_at};
 ghost use Rattle.bx_day.specs.SlotSteps.{follower, live_of, waiting_of, is_live_at, is_waiting_at, IsInside};
 
 use crate::entry::{Entry, Standing};
+use bx_events::LAST_MOMENT;
 
 /// Brings the slots up to date after a second. What was live, what waited first on a channel and what comes behind
 /// that are all that can be live now; and what waited still does, but for these.
@@ -22,7 +23,7 @@ pub(crate) fn settle(
     requires live { (c : ℕ) → IsInside entries.now (slot_at live.old c) }
     requires waiting { (c : ℕ) → IsInside entries.now (slot_at waiting.old c) }
     requires second { (c : ℕ) → IsInside entries.now (follower behind.now (slot_at waiting.old c)) }
-    ensures { (link : Link) (d : Day) → IsExchange d → d.moment < 300000 → entries.now ≡ map (after_in link d) d.entries → AreSlots d live.old waiting.old behind.now → AreSlots (passed_in link d).day live.new waiting.new behind.now }
+    ensures { (link : Link) (d : Day) → IsExchange d → d.moment < LAST_MOMENT → entries.now ≡ map (after_in link d) d.entries → AreSlots d live.old waiting.old behind.now → AreSlots (passed_in link d).day live.new waiting.new behind.now }
 {
     for number in 0..32 {
         let first = waiting[number];

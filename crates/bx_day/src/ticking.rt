@@ -18,8 +18,8 @@ use crate::settling::{followers, settle};
 use arrayvec::ArrayVec;
 use bx_base::ChannelSet;
 use bx_calls::spell;
-use bx_calls::timers::LAST_MOMENT;
 use bx_channels::Channel;
+use bx_events::LAST_MOMENT;
 use bx_q931::{Octets, Out};
 
 impl Exchange {
@@ -56,7 +56,7 @@ impl Exchange {
 
     /// A second that may do something to some bookings. Answers what is said, by the number of its channel.
     fn pass(&mut self, link: Link) -> [Option<Out>; 32]
-        requires { self.old.moment < 300000 }
+        requires { self.old.moment < LAST_MOMENT }
         ensures day { self.new ≡ (passed_in link self.old).day }
         ensures said { SaysOnEach link self.old result }
         ensures slots { length result ≡ 32 }
@@ -124,7 +124,7 @@ fn move_one(
     link: Link,
 )
     requires inside { index < length entries.old }
-    requires early { moment < 300000 }
+    requires early { moment < LAST_MOMENT }
     requires seated { AllByRecursion Seated entries.old }
     ensures seated { AllByRecursion Seated entries.new }
     ensures size { length entries.new ≡ length entries.old }
@@ -149,7 +149,7 @@ fn move_all(
     link: Link,
 )
     requires inside { (c : ℕ) → IsInside entries.old (slot_at slots.now c) }
-    requires early { moment < 300000 }
+    requires early { moment < LAST_MOMENT }
     requires seated { AllByRecursion Seated entries.old }
     ensures seated { AllByRecursion Seated entries.new }
     ensures size { length entries.new ≡ length entries.old }
@@ -183,7 +183,7 @@ fn move_on(
     moment: u32,
     link: Link,
 ) -> [Option<Out>; 32]
-    requires early { moment < 300000 }
+    requires early { moment < LAST_MOMENT }
     requires seated { AllByRecursion Seated entries.old }
     requires live { (c : ℕ) → IsInside entries.old (slot_at live.now c) }
     requires waiting { (c : ℕ) → IsInside entries.old (slot_at waiting.now c) }

@@ -12,6 +12,7 @@ use Rattle.bx_turns.specs.Courses.{after, told, ticks_of}
 use Rattle.bx_capture.specs.Captures.{packets_for}
 use Rattle.bx_day.specs.Course.{exchange_next, exchange_sent}
 use Rattle.bx_far.specs.Course.{far_next, far_sent, far_due}
+use Rattle.bx_events.specs.declared.moment.TheConstants.{LAST_MOMENT}
 
 -- ---- the exchange
 
@@ -21,7 +22,7 @@ pub record IsDayRun (asked : Option ℕ) (day : Day) : Type 0 where
   pub turns : ℕ
   pub opens : IsOpening asked opened turns
   pub events : List Event
-  pub ticks : ticks_of events ≡ min turns 300000
+  pub ticks : ticks_of events ≡ min turns LAST_MOMENT
   pub reached : day ≡ day_after events opened
 
 -- the packets of its messages, where moments count from this second
@@ -56,7 +57,7 @@ pub record IsTakenByFar (turns : ℕ) : Type 0 where
   pub opened : FarDay
   pub opens : IsFarOpening opened
   pub closed : FarDay
-  pub took : HasTaken (min turns 300000) opened closed
+  pub took : HasTaken (min turns LAST_MOMENT) opened closed
 
 -- ---- the far end
 
@@ -70,7 +71,7 @@ pub record IsFarRun (moment : ℕ) : Type 0 where
   pub opens : IsFarOpening opened
   pub events : List Event
   pub reached : moment ≡ (after far_next events opened).moment
-  pub ticks : moment ≡ min (ticks_of events) 300000
+  pub ticks : moment ≡ min (ticks_of events) LAST_MOMENT
 
 -- the packets of its messages, where moments count from this second
 abbrev pub far_packets : ℕ → List Event → FarDay → List ℕ

@@ -17,6 +17,7 @@ use Rattle.bx_day_openings.specs.declared.recording.RecordsFile.{RecordsFile}
 use Rattle.bx_request.specs.declared.request.CaptureWords.{CaptureWords}
 use Rattle.bx_day_commands.specs.CapturedDays.{IsCaptureOf}
 use Rattle.bx_day_commands.specs.Days.{IsDayRun, IsFarRun, HasTaken, IsTakenByFar, exchange_packets, far_packets, packets_of, far_packets_of}
+use Rattle.bx_events.specs.declared.moment.TheConstants.{LAST_MOMENT}
 
 -- ---- the exchange
 
@@ -26,7 +27,7 @@ IsDayKept contents file closed first asked day = (run : IsDayRun asked day) × K
 
 -- the same, and a far end took its turns
 abbrev pub IsBothKept : {F : Type 0} → (F → Option (List ℕ)) → Option (Watched F) → Option (Watched F) → ℕ → Option ℕ → FarDay → FarDay → Day → Type 0
-IsBothKept contents file closed first asked opened taken day = (run : IsDayRun asked day) × Keeps contents file closed (packets_of run first) × HasTaken (min run.turns 300000) opened taken
+IsBothKept contents file closed first asked opened taken day = (run : IsDayRun asked day) × Keeps contents file closed (packets_of run first) × HasTaken (min run.turns LAST_MOMENT) opened taken
 
 -- it stopped behind some events, and the file took the packets of these
 abbrev pub IsKeptSoFar : {F : Type 0} → (F → Option (List ℕ)) → Option (Watched F) → Option (Watched F) → ℕ → Day → Type 0

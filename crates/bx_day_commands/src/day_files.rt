@@ -12,10 +12,11 @@ ghost use Rattle.bx_day_commands.specs.Days.{ended_line};
 ghost use Rattle.bx_day_openings.specs.Recording.{IsMade};
 
 use crate::running::{run_connected, run_linked, run_served};
+use bx_capture::is_whole;
 use bx_check_commands::{CommandFault, Inputs};
 use bx_day::Exchange;
 use bx_day_openings::{
-    DayCommandFault, RecordsFile, far_end_of, file_of, first_of, is_whole, opening_of, record,
+    DayCommandFault, RecordsFile, far_end_of, file_of, first_of, opening_of, record,
     records_clock_of, records_file_of,
 };
 use bx_devices::{Watched, WriteFailed, write_octets};
@@ -67,39 +68,19 @@ fn run_of_both<
     ensures made { IfOk result (λ ran. IsMade words.entry.records ran.records) }
     ensures stopped { IfErr result (StopsDay H.File.contents plan.now script.now words.entry.sight.capture words.entry.records words.entry.turns) }
 {
-    let first = match first_of(words.sight.capture) {
-        Ok(first) => first,
-        Err(fault) => return Err(fault),
-    };
-    let clock = match records_clock_of(words.records) {
-        Ok(clock) => clock,
-        Err(fault) => return Err(fault),
-    };
-    let opened = match opening_of(rt.alloc(), inputs, plan, words.turns) {
-        Ok(opened) => opened,
-        Err(fault) => return Err(fault),
-    };
-    let mut far = match far_end_of(rt.alloc(), inputs, script) {
-        Ok(far) => far,
-        Err(fault) => return Err(fault),
-    };
-    let mut file = match file_of(rt, words.sight.capture) {
-        Ok(file) => file,
-        Err(fault) => return Err(fault),
-    };
-    let records = match records_file_of(rt, words.records, clock) {
-        Ok(records) => records,
-        Err(fault) => return Err(fault),
-    };
+    let first = first_of(words.sight.capture)?;
+    let clock = records_clock_of(words.records)?;
+    let opened = opening_of(rt.alloc(), inputs, plan, words.turns)?;
+    let mut far = far_end_of(rt.alloc(), inputs, script)?;
+    let mut file = file_of(rt, words.sight.capture)?;
+    let records = records_file_of(rt, words.records, clock)?;
     let is_shown = !words.sight.is_quiet;
-    match run_linked(rt, opened, &mut far, &mut file, first, is_shown) {
-        Ok(exchange) => Ok(Ran {
-            exchange,
-            is_captured: is_whole(&file),
-            records,
-        }),
-        Err(fault) => Err(fault),
-    }
+    let exchange = run_linked(rt, opened, &mut far, &mut file, first, is_shown)?;
+    Ok(Ran {
+        exchange,
+        is_captured: is_whole(&file),
+        records,
+    })
 }
 
 /// Writes what became of each booking of a day, and its records into the file that was made for them. They are written there also
@@ -132,6 +113,11 @@ fn tell<'a, F: Write + Drop, W: Write>(
 /// Runs both ends of the day of a plan over one TCP connection, writes what became of each booking, and its records, where they
 /// are to be written. Answers what was kept of the day. At a refusal nothing was written, except that where the output failed a front
 /// of what became of the bookings was, and the records as if it had not failed.
+///
+/// What the day needs is opened in this order, and the first fault of it is answered: `Day` or `Capture` for the date and the
+/// zone of the capture; `Day` for those of the records; `Command` for the plan; `Command` or `Script` for the script;
+/// `CannotWriteFile` for the file of the capture, and then for that of the records; `CannotListen` or `CannotConnect` for the
+/// connection. `Link` is the fault of a session that ended before its day, and `Command`, as `CannotWrite`, that of the output.
 pub fn day_of_files<
     'a,
     H: Files + AllocGlobal + Clock + Eprint + Net<Listener = TcpListener, Stream = TcpStream>,
@@ -148,10 +134,8 @@ pub fn day_of_files<
     ensures told { IfOk result (λ kept. IsBothDone H.File.contents words.entry.sight.capture words.entry.records words.entry.turns (W.contents (device_of output.old)) (W.contents (device_of output.new)) kept.is_captured kept.recorded) }
     ensures refused { IfErr result (IsDayRefusal H.File.contents plan.now script.now words.entry.sight.capture words.entry.records words.entry.turns W.contents output.old output.new) }
 {
-    match run_of_both(rt, inputs, plan, script, words) {
-        Ok(ran) => tell(rt.alloc(), ran, output),
-        Err(fault) => Err(fault),
-    }
+    let ran = run_of_both(rt, inputs, plan, script, words)?;
+    tell(rt.alloc(), ran, output)
 }
 
 /// The exchange at the end of the day of a plan, which was run towards the first peer that connects to the place.
@@ -170,39 +154,24 @@ fn run_towards_peer<
     ensures made { IfOk result (λ ran. IsMade words.entry.records ran.records) }
     ensures stopped { IfErr result (StopsServing H.File.contents plan.now words.entry.sight.capture words.entry.records words.entry.turns) }
 {
-    let first = match first_of(words.sight.capture) {
-        Ok(first) => first,
-        Err(fault) => return Err(fault),
-    };
-    let clock = match records_clock_of(words.records) {
-        Ok(clock) => clock,
-        Err(fault) => return Err(fault),
-    };
-    let opened = match opening_of(rt.alloc(), inputs, plan, words.turns) {
-        Ok(opened) => opened,
-        Err(fault) => return Err(fault),
-    };
-    let mut file = match file_of(rt, words.sight.capture) {
-        Ok(file) => file,
-        Err(fault) => return Err(fault),
-    };
-    let records = match records_file_of(rt, words.records, clock) {
-        Ok(records) => records,
-        Err(fault) => return Err(fault),
-    };
-    match run_served(rt, place, opened, &mut file, first, !words.sight.is_quiet) {
-        Ok(exchange) => Ok(Ran {
-            exchange,
-            is_captured: is_whole(&file),
-            records,
-        }),
-        Err(fault) => Err(fault),
-    }
+    let first = first_of(words.sight.capture)?;
+    let clock = records_clock_of(words.records)?;
+    let opened = opening_of(rt.alloc(), inputs, plan, words.turns)?;
+    let mut file = file_of(rt, words.sight.capture)?;
+    let records = records_file_of(rt, words.records, clock)?;
+    let exchange = run_served(rt, place, opened, &mut file, first, !words.sight.is_quiet)?;
+    Ok(Ran {
+        exchange,
+        is_captured: is_whole(&file),
+        records,
+    })
 }
 
 /// Runs the exchange's end of the day of a plan, towards the first peer that connects to the place, writes what became of each
 /// booking, and its records, where they are to be written. Answers what was kept of the day. At a refusal nothing was written, except
 /// that where the output failed a front of what became of the bookings was, and the records as if it had not failed.
+///
+/// The faults are those of `day_of_files` without the ones of a script, and in their order; for the connection, `CannotListen`.
 pub fn serve_file<
     'a,
     H: Files + AllocGlobal + Clock + Eprint + Net<Listener = TcpListener, Stream = TcpStream>,
@@ -219,14 +188,13 @@ pub fn serve_file<
     ensures told { IfOk result (λ kept. IsDayDone H.File.contents words.entry.sight.capture words.entry.records words.entry.turns (W.contents (device_of output.old)) (W.contents (device_of output.new)) kept.is_captured kept.recorded) }
     ensures refused { IfErr result (IsServeRefusal H.File.contents plan.now words.entry.sight.capture words.entry.records words.entry.turns W.contents output.old output.new) }
 {
-    match run_towards_peer(rt, inputs, plan, place, words) {
-        Ok(ran) => tell(rt.alloc(), ran, output),
-        Err(fault) => Err(fault),
-    }
+    let ran = run_towards_peer(rt, inputs, plan, place, words)?;
+    tell(rt.alloc(), ran, output)
 }
 
-/// Writes `ended at `, the moment and LF.
-fn write_ended<W: Write>(output: &mut Watched<W>, moment: u32) -> Result<(), WriteFailed>
+/// Writes `ended at `, the moment and LF. `WriteFailed` where a write failed, or took nothing: then the output is faulted, and a
+/// front of the line was written.
+pub fn write_ended<W: Write>(output: &mut Watched<W>, moment: u32) -> Result<(), WriteFailed>
     ensures told { OnOk result (Appends (W.contents (device_of output.old)) (W.contents (device_of output.new)) (ended_line moment)) }
     ensures cut { OnErr result (AppendsPrefix (W.contents (device_of output.old)) (W.contents (device_of output.new)) (ended_line moment)) }
     ensures refused { OnErr result (is_faulted output.new ≡ true) }
@@ -250,27 +218,19 @@ fn run_towards_exchange<
     ensures ran { IfOk result (λ ran. IsFarCaptured H.File.contents sight.entry.capture ran.0 ran.1) }
     ensures stopped { IfErr result (StopsFarEnd H.File.contents script.now sight.entry.capture) }
 {
-    let first = match first_of(sight.capture) {
-        Ok(first) => first,
-        Err(fault) => return Err(fault),
-    };
-    let far = match far_end_of(rt.alloc(), inputs, script) {
-        Ok(far) => far,
-        Err(fault) => return Err(fault),
-    };
-    let mut file = match file_of(rt, sight.capture) {
-        Ok(file) => file,
-        Err(fault) => return Err(fault),
-    };
-    match run_connected(rt, place, far, &mut file, first, !sight.is_quiet) {
-        Ok(moment) => Ok((moment, is_whole(&file))),
-        Err(fault) => Err(fault),
-    }
+    let first = first_of(sight.capture)?;
+    let far = far_end_of(rt.alloc(), inputs, script)?;
+    let mut file = file_of(rt, sight.capture)?;
+    let moment = run_connected(rt, place, far, &mut file, first, !sight.is_quiet)?;
+    Ok((moment, is_whole(&file)))
 }
 
 /// Runs the far end of a day by a script, towards the exchange that serves at the place, and writes the moment at which
 /// the day ended. Answers whether all that was to be captured was. At a refusal nothing was written, except that where the
 /// output failed a front of that line was.
+///
+/// The faults are those of `day_of_files` without the ones of a plan and of records, and in their order; for the connection,
+/// `CannotConnect`.
 pub fn far_file<
     'a,
     H: Files + AllocGlobal + Clock + Eprint + Net<Listener = TcpListener, Stream = TcpStream>,
@@ -287,10 +247,7 @@ pub fn far_file<
     ensures told { IfOk result (IsFarDone H.File.contents sight.entry.capture (W.contents (device_of output.old)) (W.contents (device_of output.new))) }
     ensures refused { IfErr result (IsFarRefusal H.File.contents script.now sight.entry.capture W.contents output.old output.new) }
 {
-    let (moment, is_captured) = match run_towards_exchange(rt, inputs, script, place, sight) {
-        Ok(ran) => ran,
-        Err(fault) => return Err(fault),
-    };
+    let (moment, is_captured) = run_towards_exchange(rt, inputs, script, place, sight)?;
     match write_ended(output, moment) {
         Ok(()) => Ok(is_captured),
         Err(_) => Err(DayCommandFault::Command(CommandFault::CannotWrite)),

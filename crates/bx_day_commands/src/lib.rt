@@ -6,5 +6,5 @@ mod requests;
 mod running;
 
 pub use bx_day_openings::DayCommandFault;
-pub use day_files::{DayWords, Kept, day_of_files, far_file, serve_file};
+pub use day_files::{DayWords, Kept, day_of_files, far_file, serve_file, write_ended};
 pub use requests::run_day_on_files;

@@ -55,7 +55,7 @@ fn capture<'a>(request: DayRequest<'a>) -> Option<CaptureWords<'a>>
 }
 
 /// Runs a day, and answers what was kept of it.
-fn run_day<
+fn run_request<
     'a,
     H: Files + AllocGlobal + Clock + Eprint + Net<Listener = TcpListener, Stream = TcpStream>,
     I: Inputs,
@@ -95,19 +95,22 @@ fn run_day<
             script,
             place,
             sight,
-        } => match far_file(rt, inputs, script, place, seen(sight, is_terminal), output) {
-            Ok(is_captured) => Ok(Kept {
+        } => {
+            let sight = seen(sight, is_terminal);
+            let is_captured = far_file(rt, inputs, script, place, sight, output)?;
+            Ok(Kept {
                 is_captured,
                 recorded: Ok(()),
-            }),
-            Err(fault) => Err(fault),
-        },
+            })
+        }
     }
 }
 
-/// Runs a day by the files that are asked for, shows its moment on a terminal alone, and tells what became of it. A capture
-/// that was not written whole is a refusal, behind all that was told, and so are records that were not; the capture's is told first.
-/// At any other refusal nothing was written, except that where the output failed a front of what was to be told was, and the records.
+/// Runs a day by the files that are asked for, shows its moment on a terminal alone, and tells what became of it. A capture that
+/// was not written whole is a refusal, behind all that was told, and so are records that were not; the capture's is told first.
+/// At any other refusal nothing was written, except that where the output failed a front of what was to be told was, and the
+/// records. Such a refusal is one of `day_of_files`, `serve_file` or `far_file`. Of a file that was not written whole it is
+/// `CannotWriteFile`, or for records also `Day`, as `OutOfRange`, and `Command`, as `Memory`.
 pub fn run_day_on_files<
     'a,
     H: Files + AllocGlobal + Clock + Eprint + Net<Listener = TcpListener, Stream = TcpStream>,
@@ -123,8 +126,6 @@ pub fn run_day_on_files<
     ensures done { OnOk result (IsDone request.entry H.File.contents (W.contents (device_of output.old)) (W.contents (device_of output.new)) true) }
     ensures refused { IfErr result (IsRefused request.entry H.File.contents W.contents output.old output.new) }
 {
-    match run_day(rt, inputs, request, output, is_terminal) {
-        Ok(done) => kept(capture(request), done.is_captured, done.recorded),
-        Err(fault) => Err(fault),
-    }
+    let done = run_request(rt, inputs, request, output, is_terminal)?;
+    kept(capture(request), done.is_captured, done.recorded)
 }

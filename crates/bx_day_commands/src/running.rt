@@ -8,7 +8,7 @@ ghost use Rattle.bx_day_commands.specs.KeptDays.{IsBothKept, IsDayKept, IsKeptSo
 use bx_capture::Captured;
 use bx_day::Exchange;
 use bx_day_openings::{
-    DayCommandFault, Shown, accepted, accepted_at, both_ends, connected, connected_at,
+    DayCommandFault, Shown, accepted, accepted_at, connected, connected_at, connected_ends,
 };
 use bx_devices::Watched;
 use bx_far::Far;
@@ -60,10 +60,7 @@ pub(crate) fn run_linked<
     ensures ran { IfOk result (λ day. (asked : Option ℕ) → IsOpening asked opened.0 opened.1 → IsBothKept W.contents file.old file.new first asked far.old far.new day) }
     ensures stopped { IfErr result (IsUnlinked (IsKeptSoFar W.contents file.old file.new first opened.0)) }
 {
-    let (near, distant) = match both_ends(rt) {
-        Ok(ends) => ends,
-        Err(fault) => return Err(fault),
-    };
+    let (near, distant) = connected_ends(rt)?;
     let mut near = connection(&near);
     let mut distant = connection(&distant);
     let (exchange, turns) = opened;
@@ -126,14 +123,14 @@ pub(crate) fn run_served<
     ensures stopped { IfErr result (IsUnserved (IsKeptSoFar W.contents file.old file.new first opened.0)) }
 {
     match place {
-        Place::Port(port) => match accepted(rt, port, is_shown) {
-            Ok(peer) => run_with_peer(rt, &peer, &peer, opened, file, first, is_shown),
-            Err(fault) => Err(fault),
-        },
-        Place::Socket(path) => match accepted_at(rt, path, is_shown) {
-            Ok(peer) => run_with_peer(rt, &peer, &peer, opened, file, first, is_shown),
-            Err(fault) => Err(fault),
-        },
+        Place::Port(port) => {
+            let peer = accepted(rt, port, is_shown)?;
+            run_with_peer(rt, &peer, &peer, opened, file, first, is_shown)
+        }
+        Place::Socket(path) => {
+            let peer = accepted_at(rt, path, is_shown)?;
+            run_with_peer(rt, &peer, &peer, opened, file, first, is_shown)
+        }
     }
 }
 
@@ -184,13 +181,13 @@ pub(crate) fn run_connected<
     ensures stopped { IfErr result (IsUnjoined (IsFarKeptSoFar W.contents file.old file.new first far)) }
 {
     match place {
-        Place::Port(port) => match connected(rt, port) {
-            Ok(peer) => run_with_exchange(rt, &peer, &peer, far, file, first, is_shown),
-            Err(fault) => Err(fault),
-        },
-        Place::Socket(path) => match connected_at(rt, path) {
-            Ok(peer) => run_with_exchange(rt, &peer, &peer, far, file, first, is_shown),
-            Err(fault) => Err(fault),
-        },
+        Place::Port(port) => {
+            let peer = connected(rt, port)?;
+            run_with_exchange(rt, &peer, &peer, far, file, first, is_shown)
+        }
+        Place::Socket(path) => {
+            let peer = connected_at(rt, path)?;
+            run_with_exchange(rt, &peer, &peer, far, file, first, is_shown)
+        }
     }
 }

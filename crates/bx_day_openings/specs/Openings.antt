@@ -4,17 +4,18 @@ use Rattle.csv.specs.Reading.{strip_bom}
 use Rattle.bx_base.specs.Bookings.{Row, row_at}
 use Rattle.bx_base.specs.PlanParts.{Parts}
 use Rattle.bx_base.specs.Plans.{is_accepted}
+use Rattle.bx_calls.specs.Timers.{clearing_time}
 use Rattle.bx_check_commands.specs.Proved.{IsProvedFor}
 use Rattle.bx_day.specs.Day.{Day, opening}
 use Rattle.bx_far.specs.FarDay.{FarDay, far_opening}
 use Rattle.bx_far.specs.ScriptTexts.{IsScript}
 use Rattle.bx_far.specs.declared.row.ScriptRow.{ScriptRow}
 
--- the greatest moment at which the call of one of the first so many rows, where it is accepted, may end: 38 seconds
--- behind the end of the row; 1 where none is accepted
+-- the greatest moment at which the call of one of the first so many rows, where it is accepted, may end: T305
+-- and twice T308 behind the end of the row; 1 where none is accepted
 pub record IsLastOf (rows : List Row) (assigned : List (Option ℕ)) (count turns : ℕ) : Type 0 where
-  pub each : (i : ℕ) → i < count → is_accepted assigned i ≡ true → (row_at rows i).end + 38 ≤ turns
-  pub one : ((i : ℕ) × (i < count) × (is_accepted assigned i ≡ true) × (turns ≡ (row_at rows i).end + 38)) ⊎ (((i : ℕ) → i < count → is_accepted assigned i ≡ false) × (turns ≡ 1))
+  pub each : (i : ℕ) → i < count → is_accepted assigned i ≡ true → (row_at rows i).end + clearing_time ≤ turns
+  pub one : ((i : ℕ) × (i < count) × (is_accepted assigned i ≡ true) × (turns ≡ (row_at rows i).end + clearing_time)) ⊎ (((i : ℕ) → i < count → is_accepted assigned i ≡ false) × (turns ≡ 1))
 
 -- how many turns a day has: as many as were asked for, or all that its accepted rows need
 abbrev pub AreTurns : Option ℕ → Parts → ℕ → Type 0

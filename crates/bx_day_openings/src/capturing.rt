@@ -2,7 +2,6 @@
 
 ghost use Rattle.std.specs.Prelude.{◌≡◌, ◌≤◌, ◌⊎◌, true, false, None, IfOk, IfErr, OnOk};
 ghost use Rattle.std.specs.Io.KnownBytes.{Appends};
-ghost use Rattle.bx_capture.specs.Captures.{is_unfaulted};
 ghost use Rattle.bx_capture.specs.Packets.{file_header};
 ghost use Rattle.bx_devices.specs.Watching.{device_of, is_faulted};
 ghost use Rattle.bx_day_openings.specs.CaptureOpenings.{IsFirstOf, IsFileFor};
@@ -17,7 +16,8 @@ use std::fs;
 use std::fs::Files;
 use std::io::Write;
 
-/// The second that moment 0 has in a capture: that of the day's start where the words name a day, else 0.
+/// The second that moment 0 has in a capture: that of the day's start where the words name a day, else 0. `Day` where the date and
+/// the zone that they name are no day, `Capture` where a capture cannot name the seconds of that day.
 pub fn first_of<'a>(capture: Option<CaptureWords<'a>>) -> Result<u32, DayCommandFault<'a>>
     ensures first { IfOk result (IsFirstOf capture.entry) }
     ensures limit { IfOk result (λ first. first ≤ 4294667295) }
@@ -49,7 +49,8 @@ fn headed<F: Write + Drop>(file: F) -> Result<Watched<F>, WriteFailed>
     Ok(watched)
 }
 
-/// The file of a capture, with its header, where one is to be kept.
+/// The file of a capture, with its header, where one is to be kept. `CannotWriteFile` where it cannot be created, or a write of
+/// the header failed.
 pub fn file_of<'a, H: Files>(
     rt: &H,
     capture: Option<CaptureWords<'a>>,
@@ -69,17 +70,7 @@ pub fn file_of<'a, H: Files>(
     }
 }
 
-/// Whether no write of a capture has failed, where there is one.
-pub fn is_whole<F>(file: &Option<Watched<F>>) -> bool
-    ensures { result ≡ is_unfaulted file.now }
-{
-    match file {
-        Some(file) => !file.faulted(),
-        None => true,
-    }
-}
-
-/// What is told of a day that is done: nothing, or that its capture is not whole.
+/// What is told of a day that is done: nothing, or that its capture is not whole, as `CannotWriteFile`.
 pub fn captured<'a>(
     capture: Option<CaptureWords<'a>>,
     is_whole: bool,

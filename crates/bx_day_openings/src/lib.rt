@@ -9,9 +9,9 @@ mod progress;
 mod recording;
 mod sockets;
 
-pub use capturing::{captured, file_of, first_of, is_whole};
+pub use capturing::{captured, file_of, first_of};
 pub use fault::DayCommandFault;
-pub use loopback::{accepted, both_ends, connected};
+pub use loopback::{accepted, connected, connected_ends};
 pub use openings::{far_end_of, opening_of, turns_of};
 pub use progress::Shown;
 pub use recording::{

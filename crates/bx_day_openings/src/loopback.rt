@@ -35,7 +35,8 @@ fn next_peer<'a>(listener: &TcpListener) -> Result<TcpStream, DayCommandFault<'a
     }
 }
 
-/// The first peer that connects to the port. Waits for it, and says before that it does, where that is to be said.
+/// The first peer that connects to the port. Waits for it, and says before that it does, where that is to be said. `CannotListen`
+/// where the port cannot be listened on, or no peer can be accepted.
 pub fn accepted<'a, H: Net<Listener = TcpListener, Stream = TcpStream> + Eprint>(
     rt: &H,
     port: u16,
@@ -43,18 +44,14 @@ pub fn accepted<'a, H: Net<Listener = TcpListener, Stream = TcpStream> + Eprint>
 ) -> Result<TcpStream, DayCommandFault<'a>>
     ensures { IfErr result IsUnheard }
 {
-    match listener(rt, port) {
-        Ok(listener) => {
-            if is_said {
-                let _ = eprintln!(rt; "listening on 127.0.0.1:{port}");
-            }
-            next_peer(&listener)
-        }
-        Err(fault) => Err(fault),
+    let listener = listener(rt, port)?;
+    if is_said {
+        let _ = eprintln!(rt; "listening on 127.0.0.1:{port}");
     }
+    next_peer(&listener)
 }
 
-/// A connection to the port.
+/// A connection to the port; `CannotConnect` where there is none.
 pub fn connected<'a, H: Net<Listener = TcpListener, Stream = TcpStream>>(
     rt: &H,
     port: u16,
@@ -67,26 +64,19 @@ pub fn connected<'a, H: Net<Listener = TcpListener, Stream = TcpStream>>(
     }
 }
 
-/// Both ends of one connection on a free port.
-pub fn both_ends<'a, H: Net<Listener = TcpListener, Stream = TcpStream>>(
+/// Both ends of one connection on a free port. `CannotListen` where none can be listened on, or the second end not be accepted;
+/// `CannotConnect` where the first end cannot connect.
+pub fn connected_ends<'a, H: Net<Listener = TcpListener, Stream = TcpStream>>(
     rt: &H,
 ) -> Result<(TcpStream, TcpStream), DayCommandFault<'a>>
     ensures { IfErr result (λ fault. IsUnheard fault ⊎ IsUnconnected fault) }
 {
-    let listener = match listener(rt, 0) {
-        Ok(listener) => listener,
-        Err(fault) => return Err(fault),
-    };
+    let listener = listener(rt, 0)?;
     let port = match listener.local_addr() {
         Ok(address) => address.port(),
         Err(_) => return Err(DayCommandFault::CannotListen),
     };
-    let near = match connected(rt, port) {
-        Ok(near) => near,
-        Err(fault) => return Err(fault),
-    };
-    match next_peer(&listener) {
-        Ok(distant) => Ok((near, distant)),
-        Err(fault) => Err(fault),
-    }
+    let near = connected(rt, port)?;
+    let distant = next_peer(&listener)?;
+    Ok((near, distant))
 }

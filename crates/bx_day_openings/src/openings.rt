@@ -8,6 +8,8 @@ ghost use Rattle.bx_devices.specs.Watching.{device_of};
 ghost use Rattle.bx_day_openings.specs.Inside.{IsNoScript};
 ghost use Rattle.bx_day_openings.specs.OpeningRefusals.{IsNoOpening, IsNoFarEnd};
 ghost use Rattle.bx_day_openings.specs.Openings.{IsLastOf, IsOpening, IsScriptRead, IsFarOpening};
+ghost use Rattle.bx_base.specs.declared.booking.TheConstants.{MAX_MOMENT};
+ghost use Rattle.bx_calls.specs.Timers.{clearing_time};
 
 use crate::fault::DayCommandFault;
 use bx_base::Plan;
@@ -25,8 +27,8 @@ const AFTER_THE_LAST: u32 = T305 + 2 * T308;
 /// The moment from which on the call of the booking at this place is over: 1 where it is not accepted.
 fn over_from(plan: &Plan, index: u16) -> u32
     requires { index < length plan.now.bookings }
-    ensures limit { (1 ≤ result) × (result ≤ 200038) }
-    ensures over { result ≡ (if is_accepted plan.now.assigned.items index then (row_at plan.now.bookings index).end + 38 else 1) }
+    ensures limit { (1 ≤ result) × (result ≤ MAX_MOMENT + clearing_time) }
+    ensures over { result ≡ (if is_accepted plan.now.assigned.items index then (row_at plan.now.bookings index).end + clearing_time else 1) }
 {
     match plan.assigned[index as usize] {
         Some(_) => plan.bookings.nth(index).end() + AFTER_THE_LAST,
@@ -45,7 +47,8 @@ pub fn turns_of(plan: &Plan) -> u32
     turns
 }
 
-/// The exchange at the opening of the day of the plan of an input, and how many turns it is to run.
+/// The exchange at the opening of the day of the plan of an input, and how many turns it is to run. `Command` where the input
+/// cannot be read, holds no plan, or one that is not proved, or a growth was refused.
 pub fn opening_of<'a, I: Inputs>(
     alloc: Global,
     inputs: &mut I,
@@ -90,7 +93,8 @@ fn script_from<'a, R: Read>(
     }
 }
 
-/// The far end at the opening of its day by the script of an input.
+/// The far end at the opening of its day by the script of an input. `Command` where the input cannot be read, or a growth was
+/// refused; `Script` where it holds no script.
 pub fn far_end_of<'a, I: Inputs>(
     alloc: Global,
     inputs: &mut I,
@@ -103,8 +107,6 @@ pub fn far_end_of<'a, I: Inputs>(
         Ok(input) => input,
         Err(fault) => return Err(DayCommandFault::Command(fault)),
     };
-    match script_from(alloc, name, &mut input) {
-        Ok(script) => Ok(Far::new(script)),
-        Err(fault) => Err(fault),
-    }
+    let script = script_from(alloc, name, &mut input)?;
+    Ok(Far::new(script))
 }

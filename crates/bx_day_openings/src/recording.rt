@@ -24,7 +24,7 @@ pub struct RecordsFile<'a, F> {
     file: Watched<F>,
 }
 
-/// The clock of the day that these words name, where they name one.
+/// The clock of the day that these words name, where they name one; `Day` where the date and the zone are no day.
 pub fn clock_of<'a>(day: Option<(&'a str, &'a str)>) -> Result<Option<Clock>, DayCommandFault<'a>>
     ensures clock { IfOk result (IsClockOf day.entry) }
     ensures none { IfErr result (IsNoClock day.entry) }
@@ -38,7 +38,8 @@ pub fn clock_of<'a>(day: Option<(&'a str, &'a str)>) -> Result<Option<Clock>, Da
     }
 }
 
-/// The clock by which records are to be written: none where their moments are seconds, or nothing is to be written.
+/// The clock by which records are to be written: none where their moments are seconds, or nothing is to be written. `Day` where the
+/// date and the zone are no day.
 pub fn records_clock_of<'a>(
     records: Option<RecordsWords<'a>>,
 ) -> Result<Option<Clock>, DayCommandFault<'a>>
@@ -51,7 +52,7 @@ pub fn records_clock_of<'a>(
     }
 }
 
-/// The file of the records of a day, made empty, where they are to be written.
+/// The file of the records of a day, made empty, where they are to be written; `CannotWriteFile` where it cannot be made.
 pub fn records_file_of<'a, H: Files>(
     rt: &H,
     records: Option<RecordsWords<'a>>,
@@ -84,8 +85,9 @@ pub fn unrecorded<'a>(fault: RecordsFault, unwritten: DayCommandFault<'a>) -> Da
     }
 }
 
-/// Writes the records of a day into the file that was made for them, where there is one. At a refusal nothing was written,
-/// except that where a write failed a front of the records was.
+/// Writes the records of a day into the file that was made for them, where there is one. `CannotWriteFile` where a write failed:
+/// then a front of the records was written. At the others nothing was: `Day`, as `OutOfRange`, where a moment lies behind the last
+/// that can be named, and `Command`, as `Memory`, where a growth was refused.
 pub fn record<'a, F: Write + Drop>(
     alloc: Global,
     exchange: &Exchange,
@@ -109,7 +111,8 @@ pub fn record<'a, F: Write + Drop>(
     }
 }
 
-/// What is told of a day that is done: nothing, or that its capture is not whole, or else why its records are not.
+/// What is told of a day that is done: nothing, or that its capture is not whole, as `CannotWriteFile`, or else why its records are
+/// not, as it was answered for them.
 pub fn kept<'a>(
     capture: Option<CaptureWords<'a>>,
     is_captured: bool,
@@ -118,8 +121,6 @@ pub fn kept<'a>(
     ensures whole { OnOk result (IsAllKept capture.entry is_captured recorded.entry) }
     ensures cut { IfErr result (IsUnkept capture.entry is_captured recorded.entry) }
 {
-    match captured(capture, is_captured) {
-        Ok(()) => recorded,
-        Err(fault) => Err(fault),
-    }
+    captured(capture, is_captured)?;
+    recorded
 }

@@ -32,6 +32,7 @@ fn listener<H: Files + Net>(rt: &H, path: &str) -> io::Result<UnixListener> {
 }
 
 /// The first peer that connects to the socket of this path. Waits for it, and says before that it does, where that is to be said.
+/// `CannotListen` where the socket cannot be listened on, or no peer can be accepted.
 pub fn accepted_at<'a, H: Files + Net + Eprint>(
     rt: &H,
     path: &str,
@@ -51,7 +52,7 @@ pub fn accepted_at<'a, H: Files + Net + Eprint>(
     }
 }
 
-/// A connection to the socket of this path.
+/// A connection to the socket of this path; `CannotConnect` where there is none.
 pub fn connected_at<'a, H: Net>(rt: &H, path: &str) -> Result<UnixStream, DayCommandFault<'a>>
     ensures { IfErr result IsUnconnected }
 {

@@ -142,10 +142,10 @@ static CARRIED: [Step; 3] = [
     (200, &[], &[DISCONNECT_16]),
 ];
 
-/// What happens then, and what is told in the end.
-static CLEARINGS: [(&[Step], &str); 3] = [
-    // no answer to the release: its channel is lost to the next
+/// How a call is cleared, what happens then, and what is told in the end.
+static CLEARINGS: [(&str, &[Step], &str); 3] = [
     (
+        "no answer to the release, so its channel is lost to the next",
         &[
             (230, &[], &[RELEASE_16]),
             (234, &[], &[RELEASE_16]),
@@ -154,16 +154,16 @@ static CLEARINGS: [(&[Step], &str); 3] = [
         ],
         "1 carried 100 200\n2 missed\nmaintenance 1\n",
     ),
-    // released at the end: the next has its channel a second later
     (
+        "released at the end, so the next has its channel a second later",
         &[
             (200, FAR_RELEASE, &[RELEASE_COMPLETE]),
             (201, &[], &[SETUP_REFERENCE_2]),
         ],
         "1 carried 100 200\n2 live\nmaintenance none\n",
     ),
-    // both clear
     (
+        "both clear",
         &[
             (200, FAR_DISCONNECT_16, &[RELEASE]),
             (200, FAR_RELEASE, &[]),
@@ -182,10 +182,7 @@ fn clears(alloc: Global, steps: &[Step], told: &str) -> Option<bool> {
 
 #[test]
 fn calls_that_are_cleared_at_their_end(rt: HostRuntime) {
-    for (index, (steps, told)) in CLEARINGS.iter().enumerate() {
-        assert!(rt;
-            clears(rt.alloc(), steps, told) == Some(true),
-            "clearing {index}"
-        );
+    for (name, steps, told) in &CLEARINGS {
+        assert!(rt; clears(rt.alloc(), steps, told) == Some(true), "{name}");
     }
 }

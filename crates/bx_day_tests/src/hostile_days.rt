@@ -4,7 +4,7 @@ use crate::hostile_octets::{Subject, first_wrong};
 use crate::second_reading::{Heard, read_again};
 use crate::second_replies::{Reply, Sent, is_sent, sent_for};
 use crate::second_tables::Next;
-use bx_worked_days::{End, goes_through};
+use bx_worked_days::{DayEnd, goes_through};
 use std::alloc::Global;
 
 /// What is expected: the reply, the state on channel 1, and the channel on which a call is opened, 0 for none.
@@ -34,7 +34,7 @@ impl Expected {
 
 /// How the day of an end comes to a call on channel 1.
 pub(crate) trait Day {
-    type Of: End + Drop;
+    type Of: DayEnd + Drop;
 
     /// The end at the opening.
     fn opening(&self, alloc: Global) -> Option<Self::Of>;

@@ -117,7 +117,7 @@ impl Day for Ready {
 
 #[test]
 fn hostile_octets_are_answered_by_the_tables(rt: HostRuntime) {
-    for (index, day) in DAYS.iter().enumerate() {
-        assert_eq!(rt; wrong_at(rt.alloc(), day), None, "day {index}");
+    for day in &DAYS {
+        assert_eq!(rt; wrong_at(rt.alloc(), day), None, "{}", day.name);
     }
 }

@@ -12,22 +12,24 @@ use std::alloc::Global;
 
 /// Bookings, and steps with the quiet seconds behind each.
 struct Worked {
+    name: &'static str,
     bookings: &'static [Row],
     steps: &'static [(Step, u32)],
 }
 
 static WORKED: [Worked; 6] = [
-    // nothing to do in a whole day
     Worked {
+        name: "nothing to do in a whole day",
         bookings: &[],
         steps: &[((0, &[], &[]), 300_000), ((300, &[], &[]), 299_700)],
     },
     Worked {
+        name: "a call that is offered",
         bookings: &[(0, 60, 1, false)],
         steps: &[((0, &[], &[]), 0), ((1, &[], &[SETUP]), 3)],
     },
-    // no answer to the call
     Worked {
+        name: "no answer to the call",
         bookings: &[(100, 200, 1, false)],
         steps: &[
             ((0, &[], &[]), 99),
@@ -37,8 +39,8 @@ static WORKED: [Worked; 6] = [
             ((108, &[], &[RELEASE_COMPLETE_102]), 299_892),
         ],
     },
-    // no answer to the release: the next booking waits for its end, since its channel is in maintenance
     Worked {
+        name: "no answer to the release, so the next booking waits for its end",
         bookings: &[(100, 200, 1, false), (200, 300, 1, false)],
         steps: &[
             ((0, &[], &[]), 99),
@@ -51,8 +53,8 @@ static WORKED: [Worked; 6] = [
             ((300, &[], &[]), 299_700),
         ],
     },
-    // the next booking waits until its channel is free
     Worked {
+        name: "the next booking waits until its channel is free",
         bookings: &[(100, 200, 1, false), (200, 300, 1, false)],
         steps: &[
             ((100, &[], &[SETUP]), 3),
@@ -62,8 +64,8 @@ static WORKED: [Worked; 6] = [
             ((201, &[], &[SETUP_REFERENCE_2]), 3),
         ],
     },
-    // no tick offers an inward booking, and one answers its call
     Worked {
+        name: "an inward booking, whose call a tick answers",
         bookings: &[(5, 60, 1, true)],
         steps: &[
             ((0, &[], &[]), 59),
@@ -101,10 +103,11 @@ fn first_unquiet(alloc: Global, worked: &Worked) -> Option<u32> {
 
 #[test]
 fn worked_quiet_seconds(rt: HostRuntime) {
-    for (index, worked) in WORKED.iter().enumerate() {
+    for worked in &WORKED {
         assert!(rt;
             first_unquiet(rt.alloc(), worked) == Some(u32::MAX),
-            "day {index}"
+            "{}",
+            worked.name
         );
     }
 }

@@ -3,7 +3,7 @@
 use bx_day::Exchange;
 use bx_far::Far;
 use bx_q931::Octets;
-use bx_worked_days::{End, Row, exchange_of_numbers, far_of};
+use bx_worked_days::{DayEnd, Row, exchange_of_numbers, far_of};
 use std::alloc::{AllocError, Global};
 
 /// A tick of one end, a second of the exchange without a link, or a message of the other's list that comes to an end, by
@@ -26,7 +26,7 @@ pub(crate) struct Ends {
 }
 
 /// A tick of an end, and what it sends then.
-fn tick<E: End>(end: &mut E, sent: &mut Vec<Octets>) -> Result<(), AllocError> {
+fn tick<E: DayEnd>(end: &mut E, sent: &mut Vec<Octets>) -> Result<(), AllocError> {
     for octets in end.next_second() {
         sent.push(octets).map_err(|_| AllocError)?;
     }
@@ -34,7 +34,7 @@ fn tick<E: End>(end: &mut E, sent: &mut Vec<Octets>) -> Result<(), AllocError> {
 }
 
 /// Brings an end the message of this index, where there is one, and keeps what it answers.
-fn bring<E: End>(
+fn bring<E: DayEnd>(
     end: &mut E,
     messages: &[Octets],
     index: usize,

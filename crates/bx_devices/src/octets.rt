@@ -13,8 +13,8 @@ use std::io::{Read, Write};
 #[derive(Clone, Copy, Debug, PartialEq, Eq)]
 pub struct WriteFailed;
 
-/// Writes all the octets, in as many writes as it takes. At a fault the writer is faulted, and a front of the
-/// octets was written, but not all of them.
+/// Writes all the octets, in as many writes as it takes. `WriteFailed` where a write fails, or takes none of what it was given:
+/// the writer is then faulted, and a front of the octets was written, but not all of them.
 pub fn write_octets<W: Write>(w: &mut Watched<W>, bytes: &[u8]) -> Result<(), WriteFailed>
     ensures ok { OnOk result (Appends (W.contents (device_of w.old)) (W.contents (device_of w.new)) bytes.now) }
     ensures prefix { OnErr result (AppendsPrefix (W.contents (device_of w.old)) (W.contents (device_of w.new)) bytes.now) }
@@ -48,8 +48,8 @@ pub enum ReadFault {
     Memory,
 }
 
-/// Reads to the end: at most 4,194,304 octets in at most 8,388,608 reads. After the octet that is too many
-/// nothing is read.
+/// Reads to the end: at most 4,194,304 octets in at most 8,388,608 reads. `TooLong` where one octet more comes, after which
+/// nothing is read; `Failed` where a read fails, or so many reads do not reach the end; `Memory` where a growth is refused.
 pub fn read_octets<R: Read>(alloc: Global, r: &mut Watched<R>) -> Result<Vec<u8>, ReadFault>
     ensures all { IfOk result (λ v. ReadsAll (R.remaining (device_of r.old)) (R.remaining (device_of r.new)) v.items) }
     ensures fits { IfOk result (λ v. vec_len v ≤ MAX_OCTETS) }

@@ -5,7 +5,7 @@ use Rattle.std.proofs.lemmas.Bool.{cases_lt, cases_eq}
 use Rattle.std.proofs.lemmas.List.{get_or_past}
 use Rattle.bx_line.specs.Network.{Network, IsNetwork, places_of, gaps_of}
 use Rattle.bx_line.specs.ByPlace.{IsFirstRow, row_place}
-use Rattle.bx_line.specs.declared.side.Side.TheVariants.{Leaving}
+use Rattle.bx_line.specs.declared.incidence.Incidence.TheVariants.{Leaving}
 use Rattle.bx_dist.specs.declared.part.Part.TheVariants.{Whole}
 use Rattle.bx_dist.specs.declared.step.Step.{Step}
 use Rattle.bx_dist.specs.declared.step.Step.TheVariants.{Idle, Back, Take, Give}

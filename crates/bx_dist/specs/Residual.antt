@@ -28,8 +28,8 @@ pub record IsRowAt (part : Part) (line : Network) (flow : Flow) (row : ℕ) (car
   pub there : HasRow part line row
   pub state : is_carried flow (row - 1) ≡ carried
 
--- a step that the residual network has: idle to the next place, back where a unit is idle, along the arc of a row that is not
--- carried, and back along that of one that is
+-- a step that the residual network has, which is a residual arc: forward, idle to the next place or along the arc of a row that
+-- is not carried; and backward, where a unit is idle or along the arc of a row that is carried
 abbrev pub IsOpen : Part → Network → Flow → Step → Type 0
 IsOpen part line flow (Idle v) = v + 1 < places_of line
 IsOpen part line flow (Back v) = (v + 1 < places_of line) × (0 < idle_at flow v)
@@ -63,7 +63,7 @@ height_at heights v = slice_index_or heights v (pos 0)
 abbrev pub AreSmall : List ℤ → Type 0
 AreSmall heights = (v : ℕ) → nat_abs (height_at heights v) ≤ 100000000000000000
 
--- no step of the residual network has a negative cost once reduced by the heights at its ends
+-- no step of the residual network has a negative cost once reduced by the heights at its ends: they are feasible potentials
 abbrev pub Fits : Part → Network → Flow → List ℤ → Type 0
 Fits part line flow heights = (step : Step) → IsOpen part line flow step → height_at heights (step_to line step) ≤ℤ (height_at heights (step_from line step) +ℤ step_cost line step)
 

@@ -21,7 +21,7 @@ abbrev pub places_met : Network → ℕ → List Step → List ℕ
 places_met line from [] = from ∷ []
 places_met line from (step ∷ walk) = from ∷ places_met line (step_to line step) walk
 
--- a walk from the first place to the last that meets no place twice
+-- a walk from the first place to the last that meets no place twice: an augmenting path, along which one more unit can be sent
 pub record IsPath (part : Part) (line : Network) (flow : Flow) (walk : List Step) : Type 0 where
   pub some_place : 0 < places_of line
   pub leads : IsWalk part line flow 0 (places_of line - 1) walk

@@ -6,6 +6,7 @@ ghost use Rattle.bx_line.specs.Flows.{IsFlow, IsSized, is_carried, idle_at, cros
 ghost use Rattle.bx_dist.specs.Sending.{empty_flow, sent, after_step};
 ghost use Rattle.bx_dist.specs.Inside.{CanTake};
 ghost use Rattle.bx_dist.specs.Walks.{IsPath};
+ghost use Rattle.bx_base.specs.declared.bookings.TheConstants.{MAX_BOOKINGS};
 
 use crate::dist::Dist;
 use crate::part::Part;
@@ -14,7 +15,7 @@ use bx_line::{Arc, Line};
 use std::alloc::{AllocError, Global};
 use std::marker::Model;
 
-/// Units on their way from the first place to the last: the bookings that carry one each, and how many are idle
+/// Units on their way from the first place to the last, a flow: the bookings that carry one each, and how many are idle
 /// between neighbouring places.
 #[derive(Drop)]
 pub struct Carried {
@@ -32,7 +33,7 @@ impl Model for Carried {
 }
 
 impl Carried {
-    /// Nothing under way.
+    /// Nothing under way. `AllocError` where a growth is refused.
     pub fn empty(alloc: Global, line: &Line) -> Result<Carried, AllocError>
         ensures value { IfOk result (λ c. c ≡ empty_flow line.now) }
         ensures flow { IfOk result (IsFlow line.now) }
@@ -47,7 +48,8 @@ impl Carried {
     }
 
     /// The flow of as many units along another line in which the same rows carry a unit each. In each gap the other units
-    /// are idle. That line has as many rows, and over no gap of it more rows carry a unit than there are units.
+    /// are idle. That line has to have as many rows, over no gap of it may more rows carry a unit than there are units, and where
+    /// it has no gap there may be no unit. `AllocError` where a growth is refused.
     pub fn along(&self, alloc: Global, line: &Line) -> Result<Carried, AllocError>
         requires rows { length self.now.accepted ≡ length line.now.arcs }
         requires room { (gap : ℕ) → gap + 1 < places_of line.now → crossing_at line.now self.now gap ≤ self.now.units }
@@ -139,7 +141,7 @@ impl Carried {
     /// How many rows carry a unit over the gap behind a place.
     fn crossing(&self, line: &Line, gap: u16) -> u16
         ensures count { result ≡ crossing_at line.now self.now gap }
-        ensures limit { result ≤ 4000 }
+        ensures limit { result ≤ MAX_BOOKINGS }
     {
         let mut count = 0;
         for i in 0..line.rows() {
@@ -151,7 +153,9 @@ impl Carried {
         count
     }
 
-    /// Sends one more unit along the walk of these distances. Takes no memory.
+    /// Sends one more unit along the walk of these distances, an augmenting path. This has to be a flow along the line of fewer
+    /// than 30 units, and the walk one of its residual network that leads from the first place to the last and meets no place
+    /// twice. Takes no memory.
     pub fn send(&mut self, line: &Line, dist: &Dist)
         requires flow { IsFlow line.now self.old }
         requires path { IsPath Part.Whole line.now self.old dist.now.walk }

@@ -35,7 +35,7 @@ impl Model for Dist {
 }
 
 impl Dist {
-    /// These lengths, one for each place in order, with this walk.
+    /// These lengths, one for each place in order, with this walk. No length may be beyond 10 to the power of 17, of either sign.
     pub fn new(lengths: Vec<i64>, walk: Vec<Step>) -> Dist
         requires { AreSmall lengths.items }
         ensures lengths { result.lengths ≡ lengths.items }
@@ -85,10 +85,11 @@ impl Dist {
     }
 }
 
-/// A way to find distances.
+/// A way to find distances: shortest paths from the first place.
 pub trait Distances {
-    /// The distances from the first place in a part of the flow's residual network, and a least walk to the last
-    /// place that meets no place twice. Potentials that fit say that no cycle of it has a negative length.
+    /// The distances from the first place in a part of the flow's residual network, and a least walk to the last place that
+    /// meets no place twice. There has to be a place, the flow has to be one along the line, and the potentials have to fit it:
+    /// they say that no cycle has a negative length. `AllocError` where a growth is refused.
     fn from_first(
         &self,
         alloc: Global,

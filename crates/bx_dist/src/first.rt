@@ -11,12 +11,12 @@ use crate::dist::Dist;
 use crate::potentials::Potentials;
 use crate::relax::shorten;
 use crate::step::Step;
-use bx_line::{Line, Side};
+use bx_line::{Incidence, Line};
 use std::alloc::{AllocError, Global};
 
 impl Potentials {
     /// The distances from the first place where nothing is carried. No step leads back there, so one pass along the
-    /// line finds them.
+    /// line finds them. `AllocError` where a growth is refused.
     pub fn first(alloc: Global, line: &Line) -> Result<Potentials, AllocError>
         ensures { IfOk result (AreLeast Whole line.now (empty_flow line.now)) }
     {
@@ -36,9 +36,9 @@ fn pass(lengths: &mut [i64], line: &Line, place: u16)
     ensures { IsPassed line.now (place + 1) lengths.new }
 {
     shorten(lengths, line, Step::Idle(place));
-    let mut next = line.first_row(place, Side::Leaving);
+    let mut next = line.first_row(place, Incidence::Leaving);
     while let Some(row) = next {
         shorten(lengths, line, Step::Take(row + 1));
-        next = line.next_row(row, Side::Leaving);
+        next = line.next_row(row, Incidence::Leaving);
     }
 }

@@ -3,6 +3,6 @@
 pub enum Part {
     /// All of it.
     Whole,
-    /// What is left without the arcs of bookings that each plan has to hold, and their reverses.
+    /// What is left without the arcs of bookings that each plan has to hold, the mandatory ones, and their reverses.
     Free,
 }

@@ -10,7 +10,8 @@ use bx_line::Line;
 use std::alloc::{AllocError, Global};
 use std::marker::Model;
 
-/// A number for each place.
+/// A number for each place. Those that fit a flow, as `fits` tests, are feasible potentials of its residual network (J. Edmonds
+/// and R. M. Karp, 1972).
 #[derive(Drop)]
 pub struct Potentials {
     heights: Vec<i64>,
@@ -37,7 +38,7 @@ impl Potentials {
         }
     }
 
-    /// For each place of a line the number of the place that is listed for it.
+    /// For each place of a line the number of the place that is listed for it. `AllocError` where a growth is refused.
     pub fn lifted(&self, alloc: Global, places: &[u16]) -> Result<Potentials, AllocError>
         ensures one_each { IfOk result (λ p. length p ≡ length places.now) }
         ensures each { IfOk result (λ p. (v : ℕ) → v < length places.now → height_at p v ≡ height_at self.now (slice_index places.now v)) }
@@ -61,7 +62,7 @@ impl Potentials {
         }
     }
 
-    /// The same of a place that there is.
+    /// The same of a place that there has to be.
     pub fn height(&self, place: u16) -> i64
         requires { place < length self.now }
         ensures value { result ≡ height_at self.now place }

@@ -1,4 +1,4 @@
-//! One step of the search for least lengths.
+//! One step of the search for least lengths: a relaxation.
 
 ghost use Rattle.std.specs.Prelude.{◌≡◌, length, true, false};
 ghost use Rattle.bx_line.specs.Network.{places_of};
@@ -8,7 +8,8 @@ use crate::step::Step;
 use crate::steps::ends_of;
 use bx_line::Line;
 
-/// Takes the step where it shortens the way to its end, and says whether it does.
+/// Takes the step where it shortens the way to its end, and says whether it does. The step has to name places and rows of the
+/// line, and there has to be a length for each place, none beyond 10 to the power of 18, of either sign.
 pub fn shorten(lengths: &mut [i64], line: &Line, step: Step) -> bool
     requires step { IsStep line.now step }
     requires one_each { length lengths.old ≡ places_of line.now }

@@ -1,4 +1,5 @@
-/// A step in the residual network. Places are counted from 0, and rows are named 1, 2, ..
+/// A step in the residual network: a residual arc. `Idle` and `Take` are forward arcs, `Back` and `Give` backward ones. Places
+/// are counted from 0, and rows are named 1, 2, ..
 #[derive(Clone, Copy, Debug, PartialEq, Eq)]
 pub enum Step {
     /// From this place to the next.

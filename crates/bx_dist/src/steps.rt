@@ -11,7 +11,8 @@ use crate::part::Part;
 use crate::step::Step;
 use bx_line::Line;
 
-/// The place from which a step leads, the place to which it leads, and its cost.
+/// The place from which a step leads, the place to which it leads, and its cost. The step has to name places and rows of the
+/// line.
 pub fn ends_of(line: &Line, step: Step) -> (u16, u16, i64)
     requires { IsStep line.now step }
     ensures from { result.0 ≡ step_from line.now step }
@@ -51,7 +52,8 @@ pub fn is_open(line: &Line, carried: &Carried, part: Part, step: Step) -> bool
     }
 }
 
-/// The same of a step that names places and rows of the line, on a flow that says something of each.
+/// The same of a step that has to name places and rows of the line, on a flow that has to say something of each row and of each
+/// gap.
 pub fn is_there(line: &Line, carried: &Carried, part: Part, step: Step) -> bool
     requires step { IsStep line.now step }
     requires sized { IsSized line.now carried.now }

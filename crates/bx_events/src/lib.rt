@@ -2,5 +2,7 @@
 #![tactic(auto)]
 
 mod event;
+mod moment;
 
 pub use event::{Event, LiveEvent};
+pub use moment::LAST_MOMENT;

@@ -3,9 +3,9 @@ use Rattle.std.proofs.Common.{◌≡◌, ℕ, Bool, true, false, refl, ◌==◌,
 use Rattle.bx_q931.specs.declared.kind.Kind.{Kind}
 use Rattle.bx_q931.specs.declared.kind.Kind.TheVariants.{CallProceeding, Setup, Connect, Release, ReleaseComplete, StatusEnquiry, Status}
 use Rattle.bx_calls.specs.PlainCalls.{PlainUserCall}
-use Rattle.bx_calls.specs.declared.step.Step.{Step}
-use Rattle.bx_calls.specs.declared.step.Next.{Next}
-use Rattle.bx_calls.specs.declared.step.Next.TheVariants.{Live, Over, Broken}
+use Rattle.bx_calls.specs.declared.transition.Transition.{Transition}
+use Rattle.bx_calls.specs.declared.transition.Next.{Next}
+use Rattle.bx_calls.specs.declared.transition.Next.TheVariants.{Live, Over, Broken}
 use Rattle.bx_calls.specs.declared.user_state.Policy.TheVariants.{Answer, Clear}
 use Rattle.bx_calls.specs.declared.user_state.UserOrigin.{UserOrigin}
 use Rattle.bx_calls.specs.declared.user_state.UserOrigin.TheVariants.{Offered}
@@ -27,7 +27,7 @@ seat_of n (Live call) keeps channel = (keeps, channel)
 seat_of n Over keeps channel = tt
 seat_of n Broken keeps channel = tt
 
-either : (n : ℕ) (b : Bool) (x y : Step PlainUserCall) → Keeps n x.next → Keeps n y.next → Keeps n (if b then x else y).next
+either : (n : ℕ) (b : Bool) (x y : Transition PlainUserCall) → Keeps n x.next → Keeps n y.next → Keeps n (if b then x else y).next
 either n true x y h k = h
 either n false x y h k = k
 

@@ -8,7 +8,7 @@ use Rattle.bx_q931.specs.Outgoing.{Outgoing}
 use Rattle.bx_calls.specs.PlainCalls.{PlainUserCall}
 use Rattle.bx_calls.specs.UserTable.{user_second, user_calling}
 use Rattle.bx_calls.specs.Saying.{setup_of}
-use Rattle.bx_calls.specs.declared.step.Step.{Step}
+use Rattle.bx_calls.specs.declared.transition.Transition.{Transition}
 use Rattle.bx_calls.specs.declared.user_state.Policy.TheVariants.{Answer}
 use Rattle.bx_far.specs.declared.row.ScriptRow.{ScriptRow}
 use Rattle.bx_far.specs.declared.row.ScriptRow.TheVariants.{Follows, Calls}
@@ -133,7 +133,7 @@ passed_none t slots ms i now left said lt none p =
       size = p.size;
     }
 
-pub passed_call : (t : ℕ) (slots : List (Option PlainUserCall)) (ms : List Bool) (i : ℕ) (now now' : List (Option PlainUserCall)) (left left' : List Bool) (said said' : List (Option Outgoing)) (call : PlainUserCall) (step : Step PlainUserCall) (n : ℕ)
+pub passed_call : (t : ℕ) (slots : List (Option PlainUserCall)) (ms : List Bool) (i : ℕ) (now now' : List (Option PlainUserCall)) (left left' : List Bool) (said said' : List (Option Outgoing)) (call : PlainUserCall) (step : Transition PlainUserCall) (n : ℕ)
     → i < length slots → AreSeated 0 slots → slot_at slots i ≡ Some call → step ≡ user_second call t → n ≡ call.channel
     → now' ≡ slice_set now n (live_of step.next) → left' ≡ settle_maintenance n step.next left → said' ≡ slice_set said i step.reply
     → Passed t slots ms i now left said → Passed t slots ms (i + 1) now' left' said'
@@ -144,11 +144,11 @@ passed_call t slots ms i now now' left left' said said' call step n lt seated at
     let one : suc i ≡ i + 1 = omega arith in
     record {
       moved = now-is ∙ ap₂ (λ k xs. slice_set xs k (live_of step.next)) here p.moved
-          ∙ moved_next t i (live_of step.next) slots lt (ap (after_slot t) at ∙ sym (ap (λ (s : Step PlainUserCall). live_of s.next) is))
+          ∙ moved_next t i (live_of step.next) slots lt (ap (after_slot t) at ∙ sym (ap (λ (s : Transition PlainUserCall). live_of s.next) is))
           ∙ ap (λ k. moved_first t k slots) one;
-      maintenance = ap (second_maintenance t (live_calls (drop (i + 1) slots))) (left-is ∙ ap₂ (λ k (s : Step PlainUserCall). settle_maintenance k s.next left) on is)
+      maintenance = ap (second_maintenance t (live_calls (drop (i + 1) slots))) (left-is ∙ ap₂ (λ k (s : Transition PlainUserCall). settle_maintenance k s.next left) on is)
           ∙ ap (λ cs. second_maintenance t cs left) (sym rest) ∙ p.maintenance;
-      said_is = ap (second_said t (live_calls (drop (i + 1) slots))) (said-is ∙ ap₂ (λ k (s : Step PlainUserCall). slice_set said k s.reply) (sym seat.0) is)
+      said_is = ap (second_said t (live_calls (drop (i + 1) slots))) (said-is ∙ ap₂ (λ k (s : Transition PlainUserCall). slice_set said k s.reply) (sym seat.0) is)
           ∙ ap (λ cs. second_said t cs said) (sym rest) ∙ p.said_is;
       spoken = subst (AreSpoken 0) (sym said-is) (spoken_set 0 i i step.reply said (omega arith) seat.1 p.spoken);
       size = ap length said-is ∙ length-set said i step.reply ∙ p.size;

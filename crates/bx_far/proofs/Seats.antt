@@ -4,8 +4,8 @@ use Rattle.std.proofs.lemmas.Bool.{false≢true, eq-eqb}
 use Rattle.std.proofs.lemmas.Bool.Decides.{nat_tests}
 use Rattle.bx_channels.specs.ChannelNumbers.{IsChannel}
 use Rattle.bx_calls.specs.PlainCalls.{PlainUserCall}
-use Rattle.bx_calls.specs.declared.step.Next.{Next}
-use Rattle.bx_calls.specs.declared.step.Next.TheVariants.{Live, Over, Broken}
+use Rattle.bx_calls.specs.declared.transition.Next.{Next}
+use Rattle.bx_calls.specs.declared.transition.Next.TheVariants.{Live, Over, Broken}
 use Rattle.bx_far.specs.FarDay.{first_call, is_on, insert_call, settle_calls, next_then}
 use Rattle.bx_far.specs.Seats.{live_calls, IsSeat, AreSeated}
 use Rattle.bx_far.specs.Inside.{slot_at, live_of}

@@ -6,6 +6,7 @@ use Rattle.bx_frames.specs.Frames.{frames_of, turn_frame}
 use Rattle.bx_calls.specs.Sending.{reply_list, spelled}
 use Rattle.bx_far.specs.FarDay.{FarDay, far_tick}
 use Rattle.bx_far.specs.FarRun.{far_receive_octets}
+use Rattle.bx_events.specs.declared.moment.TheConstants.{LAST_MOMENT}
 
 abbrev pub far_next : FarDay → Event → FarDay
 far_next d Tick = (far_tick d).day
@@ -22,4 +23,4 @@ far_text d (Receive octets) = frames_of (spelled (reply_list (far_receive_octets
 
 -- the moment with which its turn ends
 abbrev pub far_due : FarDay → ℕ
-far_due d = min (d.moment + 1) 300000
+far_due d = min (d.moment + 1) LAST_MOMENT

@@ -7,12 +7,12 @@ use Rattle.bx_q931.specs.declared.channel_field.ChannelField.{ChannelField}
 use Rattle.bx_q931.specs.declared.channel_field.ChannelField.TheVariants.{Absent, Named, AnyChannel, Unread}
 use Rattle.bx_q931.specs.Outgoing.{Outgoing}
 use Rattle.bx_calls.specs.Shared.{is_set, no_channel, bool_eq}
-use Rattle.bx_calls.specs.declared.step.Step.{Step}
-use Rattle.bx_calls.specs.declared.step.Next.{Next}
-use Rattle.bx_calls.specs.declared.step.Next.TheVariants.{Live, Over, Broken}
+use Rattle.bx_calls.specs.declared.transition.Transition.{Transition}
+use Rattle.bx_calls.specs.declared.transition.Next.{Next}
+use Rattle.bx_calls.specs.declared.transition.Next.TheVariants.{Live, Over, Broken}
 use Rattle.bx_calls.specs.declared.user_state.Policy.{Policy}
 use Rattle.bx_calls.specs.declared.user_state.Policy.TheVariants.{Busy, Silent}
-use Rattle.bx_calls.specs.declared.unknown_reference.End.TheVariants.{User}
+use Rattle.bx_calls.specs.declared.unknown_reference.Side.TheVariants.{User}
 use Rattle.bx_calls.specs.PlainCalls.{PlainUserCall}
 use Rattle.bx_calls.specs.Said.{Said}
 use Rattle.bx_calls.specs.Saying.{setup_of}
@@ -22,6 +22,7 @@ use Rattle.bx_far.specs.Policies.{policy_of}
 use Rattle.bx_far.specs.declared.row.ScriptRow.{ScriptRow}
 use Rattle.bx_far.specs.declared.row.ScriptRow.TheVariants.{Follows, Calls}
 use Rattle.bx_calls.specs.Sending.{Sent, Answered, unchanged, in_order}
+use Rattle.bx_events.specs.declared.moment.TheConstants.{LAST_MOMENT}
 
 pub record FarDay : Type 0 where
   pub script : List ScriptRow
@@ -136,7 +137,7 @@ abbrev pub far_ticked : FarDay → Sent FarDay
 far_ticked d = far_after d (d.moment + 1) (far_begun d (d.moment + 1))
 
 abbrev pub far_tick : FarDay → Sent FarDay
-far_tick d = if nat_le 300000 d.moment then record { day = d; sent = [] } else far_ticked d
+far_tick d = if nat_le LAST_MOMENT d.moment then record { day = d; sent = [] } else far_ticked d
 
 -- ---- a receipt
 
@@ -145,7 +146,7 @@ abbrev pub far_names : Said → PlainUserCall → Bool
 far_names m call = (call.reference == m.reference) && bool_eq (user_flag call.origin) (not m.flag)
 
 -- a call took this step
-abbrev pub far_follow : FarDay → ℕ → Step PlainUserCall → Answered FarDay
+abbrev pub far_follow : FarDay → ℕ → Transition PlainUserCall → Answered FarDay
 far_follow d c step = record {
   day = record d { calls = settle_calls c step.next d.calls; maintenance = settle_maintenance c step.next d.maintenance };
   reply = step.reply;

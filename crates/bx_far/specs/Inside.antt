@@ -8,8 +8,8 @@ use Rattle.bx_far.specs.ScriptRows.{IsRowOf, IsRowFault}
 use Rattle.bx_text.specs.declared.rows_fault.RowsFault.{RowsFault}
 use Rattle.bx_text.specs.declared.rows_fault.RowsFault.TheVariants as rows
 use Rattle.bx_calls.specs.PlainCalls.{PlainUserCall}
-use Rattle.bx_calls.specs.declared.step.Next.{Next}
-use Rattle.bx_calls.specs.declared.step.Next.TheVariants.{Live, Over, Broken}
+use Rattle.bx_calls.specs.declared.transition.Next.{Next}
+use Rattle.bx_calls.specs.declared.transition.Next.TheVariants.{Live, Over, Broken}
 
 abbrev pub IsRowRead : ℕ → ℕ → List (List ℕ) → Result ScriptRow ScriptFault → Type 0
 IsRowRead columns row fields (Ok entry) = IsRowOf columns fields entry

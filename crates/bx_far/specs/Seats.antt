@@ -4,6 +4,7 @@ use Rattle.bx_channels.specs.ChannelNumbers.{IsChannel}
 use Rattle.bx_calls.specs.PlainCalls.{PlainUserCall}
 use Rattle.bx_far.specs.declared.row.ScriptRow.{ScriptRow}
 use Rattle.bx_far.specs.declared.row.ScriptRow.TheVariants.{Follows, Calls}
+use Rattle.bx_events.specs.declared.moment.TheConstants.{LAST_MOMENT}
 
 -- the calls, in the order of their slots
 abbrev pub live_calls : List (Option PlainUserCall) → List PlainUserCall
@@ -27,7 +28,7 @@ calls_later t (Calls number moment channel ∷ rows) = if nat_lt t moment then s
 
 -- what a far end keeps. Each row begins one call at the most, so references are enough for the day.
 pub record IsFar (script : List ScriptRow) (moment next : ℕ) (slots : List (Option PlainUserCall)) : Type 0 where
-  pub moment_limit : moment ≤ 300000
+  pub moment_limit : moment ≤ LAST_MOMENT
   pub size : length slots ≡ 32
   pub seated : AreSeated 0 slots
   pub first : 1 ≤ next

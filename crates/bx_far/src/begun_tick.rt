@@ -9,6 +9,7 @@ use crate::row::ScriptRow;
 use bx_base::ChannelSet;
 use bx_calls::UserCall;
 use bx_channels::{Channel, Number};
+use bx_events::LAST_MOMENT;
 use bx_q931::Out;
 use std::marker::Model;
 
@@ -37,7 +38,7 @@ impl Model for BegunTick {
 impl BegunTick {
     /// The rows of this moment call, each on a channel that is neither blocked nor called on by an earlier row.
     pub(crate) fn begin_rows(&mut self, rows: &[ScriptRow], moment: u32)
-        requires moment { moment ≤ 300000 }
+        requires moment { moment ≤ LAST_MOMENT }
         requires room { self.old.next + calls_now moment rows.now ≤ 4001 }
         ensures { self.new ≡ begin_rows moment rows.now self.old }
     {
@@ -47,7 +48,7 @@ impl BegunTick {
     }
 
     fn begin_row(&mut self, row: &ScriptRow, moment: u32)
-        requires moment { moment ≤ 300000 }
+        requires moment { moment ≤ LAST_MOMENT }
         requires room { self.old.next + calls_now moment (row.now ∷ []) ≤ 4001 }
         ensures { self.new ≡ begin_row moment row.now self.old }
     {
@@ -64,7 +65,7 @@ impl BegunTick {
     }
 
     fn begin(&mut self, number: Number, channel: Channel, moment: u32)
-        requires moment { moment ≤ 300000 }
+        requires moment { moment ≤ LAST_MOMENT }
         requires free { is_set self.old.blocked channel ≡ false }
         requires room { self.old.next ≤ 4000 }
         ensures { self.new ≡ begin_call moment number channel self.old }

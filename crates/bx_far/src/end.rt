@@ -2,7 +2,7 @@
 
 use crate::far::Far;
 use arrayvec::ArrayVec;
-use bx_calls::timers::LAST_MOMENT;
+use bx_events::LAST_MOMENT;
 use bx_q931::Octets;
 use bx_turns::{Course, End};
 

@@ -9,6 +9,7 @@ use crate::script::Script;
 use bx_base::ChannelSet;
 use bx_calls::{CallState, UserCall};
 use bx_channels::Channel;
+use bx_events::LAST_MOMENT;
 use std::marker::Model;
 
 /// The far end during its day: the moment in seconds from the day's start, its live calls, and the channels
@@ -55,7 +56,7 @@ impl Far {
     /// The moment: how many ticks there were, 0 to 300,000.
     pub fn moment(&self) -> u32
         ensures value { result ≡ self.now.moment }
-        ensures limit { result ≤ 300000 }
+        ensures limit { result ≤ LAST_MOMENT }
     {
         self.moment
     }

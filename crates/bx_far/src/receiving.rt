@@ -10,7 +10,7 @@ ghost use Rattle.bx_far.specs.FarRun.{far_receive_from, far_receive_octets};
 
 use crate::far::Far;
 use crate::slots::{first_named, settle};
-use bx_calls::{End, Policy, UserCall, bearer_fault, refuse, unknown};
+use bx_calls::{Policy, Side, UserCall, bearer_fault, refuse, unknown};
 use bx_channels::{Channel, Number};
 use bx_q931::cause::{MANDATORY_ELEMENT_MISSING, REQUESTED_CHANNEL_NOT_AVAILABLE, USER_BUSY};
 use bx_q931::{ChannelField, Kind, Message, Octets, Out, Reference, encode, read};
@@ -28,22 +28,22 @@ impl Far {
         let Ok(message) = read(octets) else {
             return None;
         };
-        let reply = self.hear(&message)?;
+        let reply = self.receive_message(&message)?;
         Some(encode(&reply))
     }
 
     /// Hears a message that was read.
-    fn hear(&mut self, message: &Message<'_>) -> Option<Out>
+    fn receive_message(&mut self, message: &Message<'_>) -> Option<Out>
         ensures day { self.new ≡ (far_receive_from self.old message.now message.now.reference).day }
         ensures reply { result ≡ (far_receive_from self.old message.now message.now.reference).reply }
     {
         match message.reference() {
             Reference::Dummy | Reference::Value { value: 0, .. } => None,
-            Reference::Value { value, flag } => self.hear_call(value, flag, message),
+            Reference::Value { value, flag } => self.receive_call(value, flag, message),
         }
     }
 
-    fn hear_call(&mut self, reference: u16, flag: bool, message: &Message<'_>) -> Option<Out>
+    fn receive_call(&mut self, reference: u16, flag: bool, message: &Message<'_>) -> Option<Out>
         requires limit { IsCallReference reference }
         requires same { message.now.reference ≡ Reference.Value reference flag }
         ensures day { self.new ≡ (far_receive self.old (said_of reference flag message.now) (called_of message.now)).day }
@@ -73,7 +73,7 @@ impl Far {
         match message.kind() {
             Kind::Setup if flag => None,
             Kind::Setup => self.called(reference, message),
-            _ => unknown(End::User, message),
+            _ => unknown(Side::User, message),
         }
     }
 
@@ -84,7 +84,7 @@ impl Far {
         ensures reply { (flag : Bool) → let m = said_of reference flag message.now in result ≡ (far_called self.old m (called_of message.now) m.refused).reply }
     {
         if let Some(cause) = bearer_fault(message) {
-            return Some(refuse(End::User, reference, cause));
+            return Some(refuse(Side::User, reference, cause));
         }
         self.called_on(reference, message.channel(), message.called())
     }
@@ -110,7 +110,7 @@ impl Far {
                 REQUESTED_CHANNEL_NOT_AVAILABLE
             }
         };
-        Some(refuse(End::User, reference, cause))
+        Some(refuse(Side::User, reference, cause))
     }
 
     /// A SETUP on a free channel, by the policy of its number.
@@ -122,7 +122,7 @@ impl Far {
     {
         match policy {
             Policy::Silent => None,
-            Policy::Busy => Some(refuse(End::User, reference, USER_BUSY)),
+            Policy::Busy => Some(refuse(Side::User, reference, USER_BUSY)),
             _ => {
                 let call = UserCall::offered(reference, channel, policy, self.moment);
                 self.calls[channel.number() as usize] = Some(call);

@@ -11,8 +11,8 @@ use crate::far::Far;
 use crate::slots::settle;
 use arrayvec::ArrayVec;
 use bx_base::ChannelSet;
-use bx_calls::timers::LAST_MOMENT;
 use bx_calls::{UserCall, spell};
+use bx_events::LAST_MOMENT;
 use bx_q931::{Octets, Out};
 use std::mem;
 
@@ -77,7 +77,7 @@ fn second(
 ) -> [Option<Out>; 32]
     requires size { length calls.old ≡ 32 }
     requires seated { AreSeated 0 calls.old }
-    requires moment { moment ≤ 300000 }
+    requires moment { moment ≤ LAST_MOMENT }
     ensures calls { calls.new ≡ map (after_slot moment) calls.old }
     ensures maintenance { maintenance.new ≡ second_maintenance moment (live_calls calls.old) maintenance.old }
     ensures said { result ≡ second_said moment (live_calls calls.old) no_messages }

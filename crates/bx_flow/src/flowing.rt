@@ -1,4 +1,5 @@
-//! Least-cost flow by shortest walks, one unit after another.
+//! Least-cost flow by shortest walks, one unit after another: successive shortest paths (R. K. Ahuja, T. L. Magnanti, J. B.
+//! Orlin, Network flows, 1993).
 
 ghost use Rattle.std.specs.Prelude.{◌≡◌, ◌≤◌, ◌<◌, ◌-◌, ◌≤ℤ◌, neg_ℤ, pos, IfOk};
 ghost use Rattle.bx_dist.specs.Residual.{ArePotentials, height_at};
@@ -58,10 +59,10 @@ fn sent_over_cliques<D: Distances>(
 }
 
 /// A flow of so many units, at most 30, from the first place to the last, of which none of as many units costs
-/// less, and the distances in its residual network without the arcs of must rows. By successive least walks with
+/// less, and the distances in its residual network without the arcs of must rows. By successive shortest paths with
 /// potentials on the shorter line of cliques, and one search on the whole line, for every lawful way to find distances. The
 /// last distance is no deeper than the free bookings pay together. On a line without moments both are empty, and no
-/// distances are asked for.
+/// distances are asked for. `AllocError` where a growth is refused.
 pub fn least_cost<D: Distances>(
     alloc: Global,
     line: &Line,

@@ -11,8 +11,10 @@ use bx_dist::{Carried, Distances, Part, Potentials};
 use bx_line::Line;
 use std::alloc::{AllocError, Global};
 
-/// Sends one more unit from the first place to the last along a least walk, and answers the distances, which are potentials
-/// of the flow that has come about. A flow with potentials that fit is of least cost.
+/// Sends one more unit from the first place to the last along a least walk, the shortest augmenting path, and answers the
+/// distances, which are feasible potentials of the flow that has come about. A flow with such potentials is of least cost. The
+/// line has to have a place, the flow has to be one along it of fewer than 30 units, and the potentials have to fit it.
+/// `AllocError` where a growth is refused: the flow stays as it is then.
 pub fn grown<D: Distances>(
     alloc: Global,
     line: &Line,
@@ -35,7 +37,8 @@ pub fn grown<D: Distances>(
 }
 
 /// The distances in the residual network without the arcs of must rows. The last is no deeper than the free bookings pay
-/// together. On a line without moments there are none, and none are asked for.
+/// together. On a line without moments there are none, and none are asked for. The flow has to be one along the line, and the
+/// potentials have to fit it. `AllocError` where a growth is refused.
 pub fn free_distances<D: Distances>(
     alloc: Global,
     line: &Line,

@@ -9,7 +9,7 @@ use Rattle.bx_frames.specs.Frames.{Found, found, and_then, continue_by, octet_in
 use Rattle.bx_frames.specs.Reading.{IsCut}
 use Rattle.bx_frames.specs.declared.fault.LinkFault.{LinkFault}
 use Rattle.bx_frames.specs.declared.fault.LinkFault.TheVariants.{EndedInFrame, BadLength, MoreThan64Messages}
-use Rattle.bx_frames.specs.declared.frame.Side.{Side}
+use Rattle.bx_frames.specs.declared.frame.Receiver.{Receiver}
 use Rattle.bx_frames.specs.declared.frame.FrameKind.{FrameKind}
 use Rattle.bx_frames.specs.declared.frame.Frame.{Frame}
 use Rattle.bx_frames.proofs.ReadAnswers.{gave}
@@ -113,5 +113,5 @@ pub kind_local : (kind : Option FrameKind) (room : ℕ) → IsLocal (kind_in kin
 kind_local None room text x e = cc
 kind_local (Some kind) room text x e = then_local length_in (sized_in kind room) length_local (sized_local kind room) text x e
 
-pub frame_local : (side : Side) (room : ℕ) → IsLocal (frame_in side room)
-frame_local side room = then_local octet_in (λ octet rest. kind_in (kind_of side octet) room rest) octet_local (λ octet. kind_local (kind_of side octet) room)
+pub frame_local : (receiver : Receiver) (room : ℕ) → IsLocal (frame_in receiver room)
+frame_local receiver room = then_local octet_in (λ octet rest. kind_in (kind_of receiver octet) room rest) octet_local (λ octet. kind_local (kind_of receiver octet) room)

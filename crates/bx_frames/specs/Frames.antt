@@ -6,8 +6,8 @@ use Rattle.std.specs.Int.{w16, w32, to_be_bytes, from_be_bytes}
 use Rattle.arrayvec.specs.ArrayVec.{ArrayVec}
 use Rattle.bx_frames.specs.declared.fault.LinkFault.{LinkFault}
 use Rattle.bx_frames.specs.declared.fault.LinkFault.TheVariants.{EndedInFrame, BadLength, UnknownKind, MoreThan64Messages}
-use Rattle.bx_frames.specs.declared.frame.Side.{Side}
-use Rattle.bx_frames.specs.declared.frame.Side.TheVariants.{Exchange, FarEnd}
+use Rattle.bx_frames.specs.declared.frame.Receiver.{Receiver}
+use Rattle.bx_frames.specs.declared.frame.Receiver.TheVariants.{Exchange, FarEnd}
 use Rattle.bx_frames.specs.declared.frame.FrameKind.{FrameKind}
 use Rattle.bx_frames.specs.declared.frame.FrameKind.TheVariants as kinds
 use Rattle.bx_frames.specs.declared.frame.Frame.{Frame}
@@ -56,13 +56,13 @@ octet_in (octet ∷ rest) = found (Ok octet) rest
 abbrev pub octets_in : ℕ → List ℕ → Found (ArrayVec ℕ)
 octets_in n text = if nat_lt (length text) n then found (Err EndedInFrame) [] else found (Ok (record { items = take n text })) (drop n text)
 
--- the kinds that each side is sent
-abbrev pub is_far : Side → Bool
+-- the kinds that each receiver is sent
+abbrev pub is_far : Receiver → Bool
 is_far Exchange = false
 is_far FarEnd = true
 
-abbrev pub kind_of : Side → ℕ → Option FrameKind
-kind_of side octet = if octet == 1 then Some kinds.Message else if octet == 2 then Some kinds.EndOfTurn else if (octet == 3) && is_far side then Some kinds.EndOfDay else None
+abbrev pub kind_of : Receiver → ℕ → Option FrameKind
+kind_of receiver octet = if octet == 1 then Some kinds.Message else if octet == 2 then Some kinds.EndOfTurn else if (octet == 3) && is_far receiver then Some kinds.EndOfDay else None
 
 -- how many octets the contents have
 abbrev pub fits : FrameKind → ℕ → Bool
@@ -97,6 +97,6 @@ abbrev pub kind_in : Option FrameKind → ℕ → List ℕ → Found Frame
 kind_in None room text = found (Err UnknownKind) text
 kind_in (Some kind) room text = and_then (length_in text) (sized_in kind room)
 
--- the next frame, of which this side is the reader
-abbrev pub frame_in : Side → ℕ → List ℕ → Found Frame
-frame_in side room text = and_then (octet_in text) (λ octet rest. kind_in (kind_of side octet) room rest)
+-- the next frame, of which this receiver is the reader
+abbrev pub frame_in : Receiver → ℕ → List ℕ → Found Frame
+frame_in receiver room text = and_then (octet_in text) (λ octet rest. kind_in (kind_of receiver octet) room rest)

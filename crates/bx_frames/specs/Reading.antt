@@ -5,7 +5,7 @@ use Rattle.bx_devices.specs.declared.watched.Watched.{Watched}
 use Rattle.bx_frames.specs.Frames.{is_far, Found, found}
 use Rattle.bx_frames.specs.declared.fault.LinkFault.{LinkFault}
 use Rattle.bx_frames.specs.declared.fault.LinkFault.TheVariants.{EndedInFrame, ReadFailed, WriteFailed}
-use Rattle.bx_frames.specs.declared.frame.Side.{Side}
+use Rattle.bx_frames.specs.declared.frame.Receiver.{Receiver}
 use Rattle.bx_frames.specs.declared.frame.Frame.{Frame}
 use Rattle.bx_frames.specs.declared.frame.Frame.TheVariants as frames
 
@@ -41,7 +41,7 @@ pub record Reads {R A : Type 0} (remaining : R → Option (List ℕ)) (old new :
   pub reads : ¬ (result ≡ Err WriteFailed)
 
 -- which frames come: a message only while there is room for one, and the end of the day only to the far end
-abbrev pub MayCome : Side → ℕ → Frame → Type 0
-MayCome side room (frames.Message octets) = 0 < room
-MayCome side room (frames.EndOfTurn moment) = Unit {0}
-MayCome side room frames.EndOfDay = is_far side ≡ true
+abbrev pub MayCome : Receiver → ℕ → Frame → Type 0
+MayCome receiver room (frames.Message octets) = 0 < room
+MayCome receiver room (frames.EndOfTurn moment) = Unit {0}
+MayCome receiver room frames.EndOfDay = is_far receiver ≡ true

@@ -7,7 +7,7 @@ use bx_q931::Octets;
 
 /// Which end reads.
 #[derive(Clone, Copy, Debug, PartialEq, Eq)]
-pub enum Side {
+pub enum Receiver {
     Exchange,
     FarEnd,
 }
@@ -32,14 +32,14 @@ pub enum Frame {
 }
 
 impl FrameKind {
-    /// The kind of a frame that this side reads, by its first octet.
-    pub(crate) fn of(side: Side, octet: u8) -> Option<FrameKind>
-        ensures { result ≡ kind_of side octet }
+    /// The kind of a frame that this receiver reads, by its first octet.
+    pub(crate) fn of(receiver: Receiver, octet: u8) -> Option<FrameKind>
+        ensures { result ≡ kind_of receiver octet }
     {
-        match (octet, side) {
+        match (octet, receiver) {
             (1, _) => Some(FrameKind::Message),
             (2, _) => Some(FrameKind::EndOfTurn),
-            (3, Side::FarEnd) => Some(FrameKind::EndOfDay),
+            (3, Receiver::FarEnd) => Some(FrameKind::EndOfDay),
             _ => None,
         }
     }

@@ -6,7 +6,7 @@ ghost use Rattle.bx_frames.specs.Inside.{ComesAs};
 ghost use Rattle.bx_frames.specs.Reading.{MayCome, Reads};
 
 use crate::fault::LinkFault;
-use crate::frame::{Frame, FrameKind, Side};
+use crate::frame::{Frame, FrameKind, Receiver};
 use crate::octet_reading::read_exact_octets;
 use arrayvec::ArrayVec;
 use bx_devices::Watched;
@@ -29,14 +29,9 @@ fn read_octet<R: Read>(r: &mut Watched<R>) -> Result<u8, LinkFault>
 fn read_length<R: Read>(r: &mut Watched<R>) -> Result<u16, LinkFault>
     ensures { Reads R.remaining r.old r.new result length_in }
 {
-    let high = match read_octet(r) {
-        Ok(high) => high,
-        Err(fault) => return Err(fault),
-    };
-    match read_octet(r) {
-        Ok(low) => Ok(u16::from_be_bytes([high, low])),
-        Err(fault) => Err(fault),
-    }
+    let high = read_octet(r)?;
+    let low = read_octet(r)?;
+    Ok(u16::from_be_bytes([high, low]))
 }
 
 /// Reads contents of so many octets.
@@ -81,34 +76,30 @@ fn read_behind_kind<R: Read>(
     ensures read { Reads R.remaining r.old r.new result (kind_in (Some kind) room) }
     ensures comes { IfOk result (λ f. ComesAs kind room f) }
 {
-    let length = match read_length(r) {
-        Ok(length) => length as usize,
-        Err(fault) => return Err(fault),
-    };
+    let length = read_length(r)? as usize;
     if !kind.fits(length) {
         return Err(LinkFault::BadLength);
     }
     if kind == FrameKind::Message && room == 0 {
         return Err(LinkFault::MoreThan64Messages);
     }
-    match read_octets(r, length) {
-        Ok(octets) => Ok(carried(kind, octets)),
-        Err(fault) => Err(fault),
-    }
+    let octets = read_octets(r, length)?;
+    Ok(carried(kind, octets))
 }
 
-/// Reads the next frame, and nothing behind it. The first fault is answered as soon as it is read: the kind's
-/// octet alone decides on the kind, and a length that is wrong or a message too many is answered before the
-/// contents are read.
-pub fn read_frame<R: Read>(r: &mut Watched<R>, side: Side, room: u32) -> Result<Frame, LinkFault>
-    ensures read { Reads R.remaining r.old r.new result (frame_in side room) }
-    ensures comes { IfOk result (λ f. MayCome side room f) }
+/// Reads the next frame, and nothing behind it. So many messages may still come in this turn. The first fault is answered as soon
+/// as it is read: `UnknownKind`, which the kind's octet alone decides; `EndedInFrame` where the input ends before the frame does;
+/// and `BadLength` and `MoreThan64Messages` before the contents are read. Where a read fails it is `ReadFailed`.
+pub fn read_frame<R: Read>(
+    r: &mut Watched<R>,
+    receiver: Receiver,
+    room: u32,
+) -> Result<Frame, LinkFault>
+    ensures read { Reads R.remaining r.old r.new result (frame_in receiver room) }
+    ensures comes { IfOk result (λ f. MayCome receiver room f) }
 {
-    let octet = match read_octet(r) {
-        Ok(octet) => octet,
-        Err(fault) => return Err(fault),
-    };
-    match FrameKind::of(side, octet) {
+    let octet = read_octet(r)?;
+    match FrameKind::of(receiver, octet) {
         Some(kind) => read_behind_kind(r, kind, room),
         None => Err(LinkFault::UnknownKind),
     }

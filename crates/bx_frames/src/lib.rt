@@ -8,6 +8,6 @@ mod frame_writing;
 mod octet_reading;
 
 pub use fault::LinkFault;
-pub use frame::{Frame, Side};
+pub use frame::{Frame, Receiver};
 pub use frame_reading::read_frame;
 pub use frame_writing::{write_end_of_day, write_end_of_turn, write_message, write_messages};

@@ -14,7 +14,7 @@ use Rattle.bx_dist.specs.Search.{IsSettled, Shortens}
 use Rattle.bx_dist.specs.Tight.{last_step}
 use Rattle.bx_dist.proofs.Small.{least_that_fit, small_distances}
 use Rattle.bx_dist.proofs.After.{first_distance, walk_and_step, length_and_step, step_within}
-use Rattle.bx_heap.specs.Front.{reduced, IsLast, IsFront}
+use Rattle.bx_heap.specs.Frontier.{reduced, IsLast, IsFront}
 
 module _ (part : Part) (line : Network) (flow : Flow) (network : IsNetwork line) (heights : List ℤ) (fits : Fits part line flow heights) (lengths : List ℤ) (last : List Step) (ranks : List ℕ) (level : ℤ) (Waits : ℕ → Type 0) (Left : Step → Type 0) (front : IsFront part line flow heights lengths last ranks level Waits Left) where
   module _ (step : Step) (o : IsOpen part line flow step) (from : 0 < get_or ranks (step_from line step) 0) (here : reduced heights lengths (step_from line step) ≡ level) where

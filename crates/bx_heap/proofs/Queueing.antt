@@ -9,7 +9,7 @@ use Rattle.bx_line.specs.Network.{IsNetwork, places_of}
 use Rattle.bx_dist.specs.declared.step.Step.{Step}
 use Rattle.bx_dist.specs.Residual.{Fits, height_at}
 use Rattle.bx_dist.proofs.Ranks.{marked, marked_one, ones}
-use Rattle.bx_heap.specs.Front.{reduced, IsFront}
+use Rattle.bx_heap.specs.Frontier.{reduced, IsFront}
 use Rattle.bx_heap.specs.Nearness.{IsNearest}
 use Rattle.bx_heap.specs.Searching.{State, Setting, nearness_at, IsQueued, IsResting, IsInHand}
 use Rattle.bx_heap.proofs.Fronts.{front_raised, all_settled}

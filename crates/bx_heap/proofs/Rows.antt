@@ -1,8 +1,8 @@
 -- The steps along the rows on one side of the place that was settled last.
 use Rattle.std.proofs.Common.{◌≡◌, ℕ, ◌+◌, ◌-◌, ◌<◌, ◌≤◌, Option, Some, None, sym, ◌∙◌, ap, subst, arith, ◌⊎◌, inl, inr}
 use Rattle.std.proofs.lemmas.Bool.{cases_lt}
-use Rattle.bx_line.specs.declared.side.Side.{Side}
-use Rattle.bx_line.specs.declared.side.Side.TheVariants.{Leaving, Arriving}
+use Rattle.bx_line.specs.declared.incidence.Incidence.{Incidence}
+use Rattle.bx_line.specs.declared.incidence.Incidence.TheVariants.{Leaving, Arriving}
 use Rattle.bx_line.specs.ByPlace.{row_place, IsFirstRow}
 use Rattle.bx_line.specs.Network.{IsNetwork, arc_at}
 use Rattle.bx_dist.specs.declared.step.Step.{Step}
@@ -14,7 +14,7 @@ use Rattle.bx_heap.specs.Searching.{State, Setting, IsSettling, IsLeft, turn_on,
 use Rattle.bx_heap.proofs.Searches.{settling_taken, settling_fewer}
 
 -- a step along a row on the side is not before this one, where there is one
-abbrev pub IsStillLeft : Side → Option ℕ → Step → Type 0
+abbrev pub IsStillLeft : Incidence → Option ℕ → Step → Type 0
 IsStillLeft side next (Idle v) = Unit {0}
 IsStillLeft side next (Back v) = Unit {0}
 IsStillLeft Leaving next (Take row) = IsFrom next row
@@ -22,7 +22,7 @@ IsStillLeft Arriving next (Take row) = Unit {0}
 IsStillLeft Leaving next (Give row) = Unit {0}
 IsStillLeft Arriving next (Give row) = IsFrom next row
 
-module _ (s : Setting) (network : IsNetwork s.line) (fits : Fits s.part s.line s.flow s.heights) (place : ℕ) (side : Side) where
+module _ (s : Setting) (network : IsNetwork s.line) (fits : Fits s.part s.line s.flow s.heights) (place : ℕ) (side : Incidence) where
   -- the steps from the place whose turn has not come yet, but for those along the rows before this one
   abbrev pub IsLeftFrom : Option ℕ → Step → Type 0
   IsLeftFrom next t = IsLeft s.line place (turn_on side) t × IsStillLeft side next t
@@ -30,7 +30,7 @@ module _ (s : Setting) (network : IsNetwork s.line) (fits : Fits s.part s.line s
   pub rows_begin : (st : State) → IsSettling s st place (IsLeft s.line place (turn_on side)) → IsSettling s st place (IsLeftFrom (Some 0))
   rows_begin st settling = settling_fewer s network fits st place (IsLeft s.line place (turn_on side)) (IsLeftFrom (Some 0)) settling (fewer side)
     where
-      still : (d : Side) (t : Step) → IsOpen s.part s.line s.flow t → IsStillLeft d (Some 0) t
+      still : (d : Incidence) (t : Step) → IsOpen s.part s.line s.flow t → IsStillLeft d (Some 0) t
       still d (Idle v) o = tt
       still d (Back v) o = tt
       still Leaving (Take row) o = omega (arith, o.there.named)
@@ -38,13 +38,13 @@ module _ (s : Setting) (network : IsNetwork s.line) (fits : Fits s.part s.line s
       still Leaving (Give row) o = tt
       still Arriving (Give row) o = omega (arith, o.there.named)
 
-      fewer : (d : Side) (t : Step) → IsOpen s.part s.line s.flow t → IsLeft s.line place (turn_on d) t → (IsLeft s.line place (turn_on d) t × IsStillLeft d (Some 0) t) ⊎ IsSettled s.line st.lengths t
+      fewer : (d : Incidence) (t : Step) → IsOpen s.part s.line s.flow t → IsLeft s.line place (turn_on d) t → (IsLeft s.line place (turn_on d) t × IsStillLeft d (Some 0) t) ⊎ IsSettled s.line st.lengths t
       fewer d t o l = inl (l, still d t o)
 
   pub rows_next : (st : State) (least : ℕ) (next : Option ℕ) → IsFirstRow side s.line.arcs place least next → IsSettling s st place (IsLeftFrom (Some least)) → IsSettling s st place (IsLeftFrom next)
   rows_next st least next first settling = settling_fewer s network fits st place (IsLeftFrom (Some least)) (IsLeftFrom next) settling (λ t o l. inl (l.0, still side first t o l.0 l.1))
     where
-      still : (d : Side) → IsFirstRow d s.line.arcs place least next → (t : Step) → IsOpen s.part s.line s.flow t → IsLeft s.line place (turn_on d) t → IsStillLeft d (Some least) t → IsStillLeft d next t
+      still : (d : Incidence) → IsFirstRow d s.line.arcs place least next → (t : Step) → IsOpen s.part s.line s.flow t → IsLeft s.line place (turn_on d) t → IsStillLeft d (Some least) t → IsStillLeft d next t
       still d f (Idle v) o l h = tt
       still d f (Back v) o l h = tt
       still Leaving f (Take row) o l h = from_next Leaving s.line place least row next f o.there.named o.there.within l.0 h
@@ -55,7 +55,7 @@ module _ (s : Setting) (network : IsNetwork s.line) (fits : Fits s.part s.line s
   pub rows_end : (st : State) → IsSettling s st place (IsLeftFrom None) → IsSettling s st place (IsLeft s.line place (turn_on side + 1))
   rows_end st settling = settling_fewer s network fits st place (IsLeftFrom None) (IsLeft s.line place (turn_on side + 1)) settling (λ t o l. inl (l.0.0, later side t l.0.1 l.1))
     where
-      later : (d : Side) (t : Step) → turn_on d ≤ turn_of t → IsStillLeft d None t → turn_on d + 1 ≤ turn_of t
+      later : (d : Incidence) (t : Step) → turn_on d ≤ turn_of t → IsStillLeft d None t → turn_on d + 1 ≤ turn_of t
       later Leaving (Idle v) h l = omega arith
       later Arriving (Idle v) h l = omega arith
       later Leaving (Back v) h l = absurd (omega (arith, h))
@@ -65,7 +65,7 @@ module _ (s : Setting) (network : IsNetwork s.line) (fits : Fits s.part s.line s
       later Leaving (Give row) h l = absurd (omega (arith, h))
       later Arriving (Give row) h l = absurd l
 
-  row_from : (d : Side) (row : ℕ) → row_place d s.line.arcs row ≡ place → step_from s.line (row_step d row) ≡ place
+  row_from : (d : Incidence) (row : ℕ) → row_place d s.line.arcs row ≡ place → step_from s.line (row_step d row) ≡ place
   row_from Leaving row at = let e : row + 1 - 1 ≡ row = omega arith in ap (λ (k : ℕ). (arc_at s.line k).from) e ∙ at
   row_from Arriving row at = let e : row + 1 - 1 ≡ row = omega arith in ap (λ (k : ℕ). (arc_at s.line k).to) e ∙ at
 
@@ -77,7 +77,7 @@ module _ (s : Setting) (network : IsNetwork s.line) (fits : Fits s.part s.line s
       this : (r : ℕ) → row < r → (row + 1 < r) ⊎ (r ≡ row + 1)
       this r h = elim (cases_lt (row + 1) r) [ inl a ↦ inl a | inr a ↦ inr (omega arith) ]
 
-      fewer : (d : Side) → (IsOpen s.part s.line s.flow (row_step d row) → IsSettled s.line t.lengths (row_step d row)) → (u : Step) → IsOpen s.part s.line s.flow u → IsLeft s.line place (turn_on d) u → IsStillLeft d (Some row) u → (IsLeft s.line place (turn_on d) u × IsStillLeft d (Some (row + 1)) u) ⊎ IsSettled s.line t.lengths u
+      fewer : (d : Incidence) → (IsOpen s.part s.line s.flow (row_step d row) → IsSettled s.line t.lengths (row_step d row)) → (u : Step) → IsOpen s.part s.line s.flow u → IsLeft s.line place (turn_on d) u → IsStillLeft d (Some row) u → (IsLeft s.line place (turn_on d) u × IsStillLeft d (Some (row + 1)) u) ⊎ IsSettled s.line t.lengths u
       fewer d done (Idle v) o l h = inl (l, tt)
       fewer d done (Back v) o l h = inl (l, tt)
       fewer Arriving done (Take r) o l h = inl (l, tt)

@@ -13,7 +13,7 @@ use Rattle.std.specs.Prelude.{◌<ℤ◌}
 use Rattle.std.proofs.lemmas.List.{get_or_past}
 use Rattle.bx_dist.proofs.Fitting.{walk_long, open_in_whole}
 use Rattle.bx_dist.proofs.After.{step_within}
-use Rattle.bx_heap.specs.Front.{reduced}
+use Rattle.bx_heap.specs.Frontier.{reduced}
 use Rattle.bx_heap.specs.Searching.{State, Setting, nearness_at, IsQueued, AreQueues, HasRoom, IsSetting, IsSearch, IsResting, IsSettling, IsLeft, turn_of, Reaches, Takes}
 use Rattle.bx_heap.proofs.Fronts.{apart, new_at, other_at, now_settled, front_after, front_fewer}
 

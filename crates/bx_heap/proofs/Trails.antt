@@ -6,7 +6,7 @@ use Rattle.bx_dist.specs.Residual.{AreSmall, step_from, step_to}
 use Rattle.bx_dist.specs.Tight.{last_step}
 use Rattle.bx_dist.specs.Walks.{AreDistances, lengths_of}
 use Rattle.bx_dist.proofs.Bounds.{open_is_step}
-use Rattle.bx_heap.specs.Front.{IsLast}
+use Rattle.bx_heap.specs.Frontier.{IsLast}
 use Rattle.bx_heap.specs.Searching.{State, Setting, IsSetting, IsQueued, IsResting, ArePointers, IsTrail}
 use Rattle.bx_heap.proofs.Fronts.{IsBackTo, back_last, back_more, front_distances, front_small}
 use Rattle.bx_heap.proofs.Searches.{fits_part}

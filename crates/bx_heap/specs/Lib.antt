@@ -1,3 +1,3 @@
 pub mod Nearness
-pub mod Front
+pub mod Frontier
 pub mod Searching

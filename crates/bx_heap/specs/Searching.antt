@@ -4,16 +4,16 @@ use Rattle.std.specs.BinaryHeap.{heap_items}
 use Rattle.bx_base.specs.Sums.{sum_below}
 use Rattle.bx_line.specs.Network.{Network, IsNetwork, places_of}
 use Rattle.bx_line.specs.Flows.{Flow}
-use Rattle.bx_line.specs.declared.side.Side.{Side}
-use Rattle.bx_line.specs.declared.side.Side.TheVariants.{Leaving, Arriving}
+use Rattle.bx_line.specs.declared.incidence.Incidence.{Incidence}
+use Rattle.bx_line.specs.declared.incidence.Incidence.TheVariants.{Leaving, Arriving}
 use Rattle.bx_dist.specs.declared.part.Part.{Part}
 use Rattle.bx_dist.specs.declared.step.Step.{Step}
 use Rattle.bx_dist.specs.declared.step.Step.TheVariants.{Idle, Back, Take, Give}
 use Rattle.bx_dist.specs.Residual.{IsOpen, AreSmall, ArePotentials, height_at, step_from, step_to}
 use Rattle.bx_dist.specs.Search.{IsSettled, IsStep, Shortens}
 use Rattle.bx_dist.specs.Tight.{last_step}
-use Rattle.bx_heap.specs.declared.front.Front.{Front}
-use Rattle.bx_heap.specs.Front.{reduced, IsFront}
+use Rattle.bx_heap.specs.declared.frontier.Frontier.{Frontier}
+use Rattle.bx_heap.specs.Frontier.{reduced, IsFront}
 
 -- what a search keeps
 pub record State : Type 0 where
@@ -26,7 +26,7 @@ pub record State : Type 0 where
   pub fresh : List ℕ
   pub waiting : List (ℕ × ℕ)
 
-abbrev pub state_of : Front → State
+abbrev pub state_of : Frontier → State
 state_of f =
     record { lengths = f.lengths.items; last = f.last.items; ranks = f.ranks.items; count = f.count; level = f.level; tight = f.tight.items; fresh = f.fresh.items; waiting = heap_items f.waiting.places }
 
@@ -108,11 +108,11 @@ abbrev pub IsLeft : Network → ℕ → ℕ → Step → Type 0
 IsLeft line place turn step = (step_from line step ≡ place) × (turn ≤ turn_of step)
 
 -- the turn of the steps along the rows on a side of their place, and one of them
-abbrev pub turn_on : Side → ℕ
+abbrev pub turn_on : Incidence → ℕ
 turn_on Arriving = 1
 turn_on Leaving = 2
 
-abbrev pub row_step : Side → ℕ → Step
+abbrev pub row_step : Incidence → ℕ → Step
 row_step Arriving row = Give (row + 1)
 row_step Leaving row = Take (row + 1)
 

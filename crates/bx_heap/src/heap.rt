@@ -3,13 +3,13 @@
 ghost use Rattle.bx_heap.specs.Searching.{state_of, ArePointers, IsTrail};
 ghost use Rattle.std.specs.Prelude.{◌≡◌, IfOk};
 
-use crate::front::Front;
+use crate::frontier::Frontier;
 use bx_dist::{Carried, Dist, Distances, Part, Potentials, Step, ends_of};
 use bx_line::Line;
 use std::alloc::{AllocError, Global};
 
 /// Settles the places one after another, the nearest by reduced lengths first (E. W. Dijkstra, A note on two problems
-/// in connexion with graphs, 1959, with potentials as J. Edmonds and R. M. Karp, 1972), each once. Places that are as
+/// in connexion with graphs, 1959, with feasible potentials as J. Edmonds and R. M. Karp, 1972), each once. Places that are as
 /// near as the last one wait in a stack, and only the others in a heap.
 #[derive(Clone, Copy, Debug)]
 pub struct HeapDist;
@@ -25,7 +25,7 @@ impl Distances for HeapDist {
     ) -> Result<Dist, AllocError> {
         // Read for the prover alone, which learns a limit from it.
         let _small = potentials.at(0);
-        let mut front = Front::new(alloc, line, potentials)?;
+        let mut front = Frontier::new(alloc, line, potentials)?;
         while front.count < line.places() {
             let Some(place) = front.next(potentials)? else {
                 unreachable!();
@@ -37,7 +37,7 @@ impl Distances for HeapDist {
     }
 }
 
-impl Front {
+impl Frontier {
     /// The last steps from the last place back to the first, in the order in which they lead there.
     fn walk_back(&self, alloc: Global, line: &Line) -> Result<Vec<Step>, AllocError>
         requires { ArePointers line.now (state_of self.now) }
@@ -58,7 +58,7 @@ impl Front {
     fn into_lengths(self) -> Vec<i64>
         ensures { result ≡ self.lengths }
     {
-        let Front {
+        let Frontier {
             lengths,
             last: _,
             ranks: _,

@@ -1,7 +1,7 @@
 //! Distances in the residual network of a flow along the line, by a heap of places.
 #![tactic(auto)]
 
-mod front;
+mod frontier;
 mod heap;
 mod next;
 mod settle;

@@ -6,14 +6,14 @@ ghost use Rattle.bx_line.specs.Flows.{Flow};
 ghost use Rattle.bx_line.specs.Network.{Network, places_of};
 ghost use Rattle.std.specs.Prelude.{◌≡◌, ◌≤◌, ◌<◌, ◌⊎◌, ◌-ℤ◌, ℕ, [], pos, nat_abs, Contains, OnOk, IfOk, IfSome, IfNone, MatchOption, Some, length, slice_index};
 
-use crate::front::Front;
+use crate::frontier::Frontier;
 use bx_dist::Potentials;
 use std::alloc::AllocError;
 
 /// 2 to the power of 60, which is more than any length.
 const FAR: i64 = 1_152_921_504_606_846_976;
 
-impl Front {
+impl Frontier {
     /// The nearest place that has no rank yet, or none where all have one.
     pub(crate) fn next(&mut self, potentials: &Potentials) -> Result<Option<u16>, AllocError>
         requires { IsSound potentials.now (state_of self.old) }

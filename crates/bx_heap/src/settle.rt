@@ -6,12 +6,12 @@ ghost use Rattle.bx_line.specs.Flows.{IsSized};
 ghost use Rattle.bx_line.specs.Network.{places_of};
 ghost use Rattle.std.specs.Prelude.{◌≡◌, ◌≤◌, ◌<◌, ◌+◌, OnOk, length};
 
-use crate::front::Front;
+use crate::frontier::Frontier;
 use bx_dist::{Carried, Part, Potentials, Step, is_there};
-use bx_line::{Line, Side};
+use bx_line::{Incidence, Line};
 use std::alloc::AllocError;
 
-impl Front {
+impl Frontier {
     /// Settles a place, and takes the steps from it. The one to the next place comes last, so that the line is
     /// walked in its order where nothing else is nearer.
     pub(crate) fn settle(
@@ -29,8 +29,8 @@ impl Front {
     {
         self.mark(place);
         self.step_back(line, carried, potentials, part, place)?;
-        self.take_rows(line, carried, potentials, part, place, Side::Arriving)?;
-        self.take_rows(line, carried, potentials, part, place, Side::Leaving)?;
+        self.take_rows(line, carried, potentials, part, place, Incidence::Arriving)?;
+        self.take_rows(line, carried, potentials, part, place, Incidence::Leaving)?;
         self.step_on(line, carried, potentials, part, place)?;
         Ok(())
     }
@@ -118,7 +118,7 @@ impl Front {
         potentials: &Potentials,
         part: Part,
         place: u16,
-        side: Side,
+        side: Incidence,
     ) -> Result<(), AllocError>
         requires setting { IsSetting (setting_of part line.now carried.now potentials.now) }
         requires settling { IsSettling (setting_of part line.now carried.now potentials.now) (state_of self.old) place (IsLeft line.now place (turn_on side)) }
@@ -135,12 +135,12 @@ impl Front {
 }
 
 /// The step along the arc of a row from the place on one side of it.
-fn step_along(row: u16, side: Side) -> Step
+fn step_along(row: u16, side: Incidence) -> Step
     requires { row < 65535 }
     ensures { result ≡ row_step side row }
 {
     match side {
-        Side::Leaving => Step::Take(row + 1),
-        Side::Arriving => Step::Give(row + 1),
+        Incidence::Leaving => Step::Take(row + 1),
+        Incidence::Arriving => Step::Give(row + 1),
     }
 }

@@ -7,7 +7,7 @@ ghost use Rattle.bx_journal.specs.Recording.{IsSettled, IsUnbegun};
 use crate::disk::{Disk, DiskFailed};
 use crate::written::head_text;
 
-/// Begins a journal on an empty disk.
+/// Begins a journal on an empty disk: writes its two lines at the head, and syncs. `DiskFailed` where one of these failed.
 pub fn begin<D: Disk>(disk: &mut D, plan: &[u8; 32]) -> Result<(), DiskFailed>
     ensures begun { OnOk result (D.holds disk.old [] → IsSettled D.holds D.may_leave disk.new plan.now []) }
     // A crash at any moment of the call leaves a journal that was never begun, or one without an event.

@@ -16,6 +16,7 @@ pub struct FileDisk {
 }
 
 impl FileDisk {
+    /// A disk on this file, on which no call has failed.
     pub fn new(file: File) -> Self {
         FileDisk {
             file,

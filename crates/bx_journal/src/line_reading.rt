@@ -29,14 +29,13 @@ fn skip_line<R: Read>(pieces: &mut Pieces, device: &mut Watched<R>) -> Result<Li
     ensures unfaulted { OnOk result (is_faulted device.new ≡ is_faulted device.old) }
 {
     while pieces.taken() < u64::MAX {
-        match pieces.next_octet(device) {
-            Ok(Some(octet)) => {
+        match pieces.next_octet(device)? {
+            Some(octet) => {
                 if octet == b'\n' {
                     return Ok(LineEnd::TooLong);
                 }
             }
-            Ok(None) => return Ok(LineEnd::Torn),
-            Err(fault) => return Err(fault),
+            None => return Ok(LineEnd::Torn),
         }
     }
     Err(CannotRead)
@@ -53,8 +52,8 @@ pub(crate) fn next_line<R: Read>(
 {
     line.clear();
     while pieces.taken() < u64::MAX {
-        match pieces.next_octet(device) {
-            Ok(Some(octet)) => {
+        match pieces.next_octet(device)? {
+            Some(octet) => {
                 if octet == b'\n' {
                     return Ok(LineEnd::Whole);
                 }
@@ -62,8 +61,7 @@ pub(crate) fn next_line<R: Read>(
                     return skip_line(pieces, device);
                 }
             }
-            Ok(None) => return Ok(LineEnd::Torn),
-            Err(fault) => return Err(fault),
+            None => return Ok(LineEnd::Torn),
         }
     }
     Err(CannotRead)

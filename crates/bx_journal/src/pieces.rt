@@ -102,9 +102,7 @@ impl Pieces {
         if let Some(octet) = self.take() {
             return Ok(Some(octet));
         }
-        match self.refill(device) {
-            Ok(()) => Ok(self.take()),
-            Err(fault) => Err(fault),
-        }
+        self.refill(device)?;
+        Ok(self.take())
     }
 }

@@ -60,8 +60,9 @@ fn read_events<R: Read, F: Follower>(
 
 /// Reads the journal of a plan to its end, and lets its events be followed one by one. It keeps neither the text nor the
 /// events, so a journal may be of any length. Answers how many octets are whole lines: what stands behind them is what a
-/// crash cut, and is dropped. Lines are read in order, and the first fault is answered. What was read of a device that does
-/// not tell its octets is some text, of which the same is said.
+/// crash cut, and is dropped. Lines are read in order, and the first fault is answered: `NotBegun` where the text ends inside its
+/// first two lines, `OtherPlan`, `BadLine` with the number of the line, or `ReadFailed`. The events before it were followed. What
+/// was read of a device that does not tell its octets is some text, of which the same is said.
 pub fn read_journal<R: Read, F: Follower>(
     device: &mut Watched<R>,
     plan: &[u8; 32],
@@ -71,13 +72,7 @@ pub fn read_journal<R: Read, F: Follower>(
     ensures unfaulted { (is_faulted device.new ≡ is_faulted device.old) ⊎ (result ≡ Err JournalFault.ReadFailed) }
 {
     let mut pieces = Pieces::new();
-    match read_version(&mut pieces, device) {
-        Ok(()) => {}
-        Err(fault) => return Err(fault),
-    }
-    match read_plan_line(&mut pieces, device, plan) {
-        Ok(()) => {}
-        Err(fault) => return Err(fault),
-    }
+    read_version(&mut pieces, device)?;
+    read_plan_line(&mut pieces, device, plan)?;
     read_events(&mut pieces, device, follower)
 }

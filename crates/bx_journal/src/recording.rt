@@ -11,7 +11,8 @@ use crate::disk::{Disk, DiskFailed};
 use crate::written::line_of;
 use bx_events::LiveEvent;
 
-/// Writes the line of an event behind the others. It is on record when the journal is committed, and not before.
+/// Writes the line of an event behind the others. It is on record when the journal is committed, and not before. Octets that came
+/// are at most 260. `DiskFailed` where the write failed.
 pub fn write_event<D: Disk>(disk: &mut D, event: LiveEvent<'_>) -> Result<(), DiskFailed>
     requires { IsMessage (live_event_of event) }
     ensures written { OnOk result ((plan : List ℕ) (events more : List PlainEvent) → IsPending D.holds D.may_leave disk.old plan events more → IsPending D.holds D.may_leave disk.new plan events (more ++ live_event_of event.entry ∷ [])) }
@@ -25,8 +26,9 @@ pub fn write_event<D: Disk>(disk: &mut D, event: LiveEvent<'_>) -> Result<(), Di
     disk.append(&line)
 }
 
-/// Puts all events that were written on record. At `Ok` each crash from then on leaves a text that has them. At `Err` some of them
-/// may be on record: none must be acted on, and the journal has to be read again before anything else is written to it.
+/// Puts all events that were written on record. At `Ok` each crash from then on leaves a text that has them. At `DiskFailed`, where
+/// the sync failed, some of them may be on record: none must be acted on, and the journal has to be read again before anything else
+/// is written to it.
 pub fn commit<D: Disk>(disk: &mut D) -> Result<(), DiskFailed>
     ensures committed { OnOk result ((plan : List ℕ) (events more : List PlainEvent) → IsPending D.holds D.may_leave disk.old plan events more → IsSettled D.holds D.may_leave disk.new plan (events ++ more)) }
     ensures any_moment { (plan : List ℕ) (events more : List PlainEvent) → IsPending D.holds D.may_leave disk.old plan events more → LeavesOnly D.moment D.left_since disk.old disk.new (IsFront plan events more) }
@@ -36,8 +38,9 @@ pub fn commit<D: Disk>(disk: &mut D) -> Result<(), DiskFailed>
     disk.sync()
 }
 
-/// Puts an event on record: it is to be called before anything is done about the event. At `Ok` each crash from then on leaves a
-/// text that has it. At `Err` it may be on record or not.
+/// Puts an event on record: it is to be called before anything is done about the event. Octets that came are at most 260. At `Ok`
+/// each crash from then on leaves a text that has it. At `DiskFailed`, where the write or the sync failed, it may be on record or
+/// not.
 pub fn record_event<D: Disk>(disk: &mut D, event: LiveEvent<'_>) -> Result<(), DiskFailed>
     requires { IsMessage (live_event_of event) }
     ensures recorded { OnOk result ((plan : List ℕ) (events : List PlainEvent) → IsSettled D.holds D.may_leave disk.old plan events → IsSettled D.holds D.may_leave disk.new plan (events ++ live_event_of event.entry ∷ [])) }
@@ -52,7 +55,8 @@ pub fn record_event<D: Disk>(disk: &mut D, event: LiveEvent<'_>) -> Result<(), D
     commit(disk)
 }
 
-/// Puts events on record by one sync, as those of a turn before what is sent in it goes out.
+/// Puts events on record by one sync, as those of a turn before what is sent in it goes out. Octets that came are at most 260 for
+/// each event. At `DiskFailed`, where a write or the sync failed, a front of them may be on record.
 pub fn record_events<D: Disk>(disk: &mut D, events: &[LiveEvent<'_>]) -> Result<(), DiskFailed>
     requires { AreMessages events.now }
     ensures recorded { OnOk result ((plan : List ℕ) (before : List PlainEvent) → IsSettled D.holds D.may_leave disk.old plan before → IsSettled D.holds D.may_leave disk.new plan (before ++ map live_event_of events.now)) }

@@ -23,7 +23,8 @@ fn cut_back<D: Disk>(disk: &mut D, len: u64) -> Result<(), DiskFailed>
 }
 
 /// Cuts off what a crash tore from a journal that was read, by how many of its octets were whole lines, so that more events can
-/// be put on record behind it. It may crash too, at any moment, and the same events stay on record.
+/// be put on record behind it. It may crash too, at any moment, and the same events stay on record. `DiskFailed` where the cut or
+/// the sync failed.
 pub fn resume<D: Disk>(disk: &mut D, whole: u64) -> Result<(), DiskFailed>
     ensures resumed { OnOk result ((plan text : List ℕ) (events : List LiveEvent) → journal_in plan text ≡ Ok (record { events = events; whole = whole }) → D.holds disk.old text → IsSettled D.holds D.may_leave disk.new plan events) }
     ensures any_moment { (plan text : List ℕ) (events : List LiveEvent) → journal_in plan text ≡ Ok (record { events = events; whole = whole }) → Only text (D.may_leave disk.old) → LeavesOnly D.moment D.left_since disk.old disk.new (IsReadAs plan text) }

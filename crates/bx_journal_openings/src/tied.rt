@@ -22,7 +22,8 @@ pub struct TiedPlan {
 }
 
 /// The plan whose text is read to the end of an input of this name, where it is proved, with the digest of just this text. A text is
-/// at most 4,194,304 octets, read in at most 8,388,608 reads; `CannotRead` is answered beyond that, and where a read failed.
+/// at most 4,194,304 octets, read in at most 8,388,608 reads; `CannotRead` is answered beyond that, and where a read failed. `Plan`
+/// where the text is no plan, `Check` where the plan is not proved, `Memory` where a growth was refused.
 pub fn tied_plan<'a, R: Read>(
     alloc: Global,
     name: &'a str,
@@ -38,13 +39,11 @@ pub fn tied_plan<'a, R: Read>(
     };
     let digest = plan_digest(&text);
     let mut octets = Watched::new(text.as_slice());
-    match proved_plan(alloc, name, &mut octets) {
-        Ok(plan) => Ok(TiedPlan { plan, digest }),
-        Err(fault) => Err(fault),
-    }
+    let plan = proved_plan(alloc, name, &mut octets)?;
+    Ok(TiedPlan { plan, digest })
 }
 
-/// The same of the text that the input of this name gives.
+/// The same of the text that the input of this name gives, with the same faults; `CannotRead` also where it cannot be opened.
 pub fn tied_named<'a, I: Inputs>(
     alloc: Global,
     inputs: &mut I,
@@ -55,9 +54,6 @@ pub fn tied_named<'a, I: Inputs>(
     ensures none { IfErr result (HasNoProvedPlan name.now) }
     ensures no_more { (other : List ℕ) (text : Option (List ℕ)) → I.gives inputs.new other text → I.gives inputs.old other text }
 {
-    let mut input = match inputs.open(name) {
-        Ok(input) => input,
-        Err(fault) => return Err(fault),
-    };
+    let mut input = inputs.open(name)?;
     tied_plan(alloc, name, &mut input)
 }

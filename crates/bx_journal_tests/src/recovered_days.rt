@@ -21,7 +21,7 @@ static DAMAGED: &[u8] =
     b"bx-journal 1\nplan abababababababababababababababababababababababababababababababab\ntick\ndown\ntick\nheard 0802800107\ntock\n";
 
 /// The moment, what is on channel 1, and what has become of the booking.
-fn told(exchange: &Exchange) -> Option<(u32, Option<(u16, CallState)>, Option<Outcome>)> {
+fn outcome_at(exchange: &Exchange) -> Option<(u32, Option<(u16, CallState)>, Option<Outcome>)> {
     let channel = Channel::new(1)?;
     Some((
         exchange.moment(),
@@ -53,7 +53,7 @@ fn is_day(
     let mut device = Watched::new(text);
     let recovered = recover_day(&mut device, &PLAN, exchange(alloc)?);
     let expected = by_hand(alloc, has_last)?;
-    Some(told(&recovered.exchange)? == told(&expected)? && recovered.whole == whole)
+    Some(outcome_at(&recovered.exchange)? == outcome_at(&expected)? && recovered.whole == whole)
 }
 
 #[test]

@@ -3,11 +3,11 @@ use Rattle.std.proofs.Common.{◌≡◌, ◌≢◌, ℕ, ◌+◌, ◌<◌, ◌�
 use Rattle.std.proofs.lemmas.Bool.{cases_lt, cases_eq}
 use Rattle.std.proofs.lemmas.List.{get_or_past, get_or-replicate, length-replicate}
 use Rattle.bx_line.specs.declared.arc.Arc.{Arc}
-use Rattle.bx_line.specs.declared.side.Side.{Side}
+use Rattle.bx_line.specs.declared.incidence.Incidence.{Incidence}
 use Rattle.bx_line.specs.ByPlace.{row_place, IsFirstRow, row_in, AreChains}
 
 -- the same of the rows from n on
-pub record AreChained (side : Side) (arcs : List Arc) (places n : ℕ) (first next : List (Option ℕ)) : Type 0 where
+pub record AreChained (side : Incidence) (arcs : List Arc) (places n : ℕ) (first next : List (Option ℕ)) : Type 0 where
   pub few : n ≤ length arcs
   pub first_each : length first ≡ places
   pub next_each : length next ≡ length arcs
@@ -17,7 +17,7 @@ pub record AreChained (side : Side) (arcs : List Arc) (places n : ℕ) (first ne
 none_in : (n v : ℕ) → row_in (replicate n None) v ≡ None
 none_in n v = elim (cases_lt v n) [ inl h ↦ get_or-replicate n v None None h | inr h ↦ get_or_past (replicate n None) v None (omega (arith, length-replicate {A = Option ℕ} n None)) ]
 
-pub chained_none : (side : Side) (arcs : List Arc) (places : ℕ) → AreChained side arcs places (length arcs) (replicate places None) (replicate (length arcs) None)
+pub chained_none : (side : Incidence) (arcs : List Arc) (places : ℕ) → AreChained side arcs places (length arcs) (replicate places None) (replicate (length arcs) None)
 chained_none side arcs places =
     record {
       few = omega arith;
@@ -31,7 +31,7 @@ chained_none side arcs places =
       goes_on = λ r a b. absurd (omega (arith, a, b));
     }
 
-module _ (side : Side) (arcs : List Arc) (places n : ℕ) (first next : List (Option ℕ)) (chained : AreChained side arcs places (n + 1) first next) (place : ℕ) (place_is : place ≡ row_place side arcs n) (within : place < places) where
+module _ (side : Incidence) (arcs : List Arc) (places n : ℕ) (first next : List (Option ℕ)) (chained : AreChained side arcs places (n + 1) first next) (place : ℕ) (place_is : place ≡ row_place side arcs n) (within : place < places) where
   -- the row is now the first of its place
   new_first : IsFirstRow side arcs place n (Some n)
   new_first =
@@ -68,7 +68,7 @@ module _ (side : Side) (arcs : List Arc) (places n : ℕ) (first next : List (Op
         ];
       }
 
-pub chains_from_chained : (side : Side) (arcs : List Arc) (places n : ℕ) (first next : List (Option ℕ)) → n ≡ 0 → AreChained side arcs places n first next → AreChains side arcs places first next
+pub chains_from_chained : (side : Incidence) (arcs : List Arc) (places n : ℕ) (first next : List (Option ℕ)) → n ≡ 0 → AreChained side arcs places n first next → AreChains side arcs places first next
 chains_from_chained side arcs places n first next e c =
     let all = subst (λ (m : ℕ). AreChained side arcs places m first next) e c in
     record { first_each = all.first_each; next_each = all.next_each; begins = all.begins; goes_on = λ r h. all.goes_on r (omega arith) h }

@@ -4,8 +4,8 @@ use Rattle.std.proofs.lemmas.Bool.{cases_lt}
 use Rattle.std.proofs.lemmas.Bool.Decides.{nat_tests}
 use Rattle.std.proofs.lemmas.List.{length_push, get_or_push, get_or_append_left}
 use Rattle.bx_base.proofs.SumLemmas.{sum_below-zero, sum_below-term}
-use Rattle.bx_line.specs.declared.side.Side.{Side}
-use Rattle.bx_line.specs.declared.side.Side.TheVariants.{Leaving, Arriving}
+use Rattle.bx_line.specs.declared.incidence.Incidence.{Incidence}
+use Rattle.bx_line.specs.declared.incidence.Incidence.TheVariants.{Leaving, Arriving}
 use Rattle.bx_line.specs.ByPlace.{row_place, IsFirstRow}
 use Rattle.bx_line.specs.Network.{Network}
 use Rattle.bx_line.specs.Cliques.{has_row, is_growing, cliques_below}
@@ -23,7 +23,7 @@ none_counted : (n : ℕ) → n ≡ 0 → ltb 0 n ≡ false
 none_counted n h = grind (arith, nat_tests)
 
 -- the first row of a place says whether there is one
-pub has_row-first : (side : Side) (line : Network) (place : ℕ) (row : Option ℕ) → IsFirstRow side line.arcs place 0 row → is_some row ≡ has_row side line place
+pub has_row-first : (side : Incidence) (line : Network) (place : ℕ) (row : Option ℕ) → IsFirstRow side line.arcs place 0 row → is_some row ≡ has_row side line place
 has_row-first side line place None f =
     sym (none_counted _ (sum_below-zero (length line.arcs) (λ k. cond (eqb (row_place side line.arcs k) place) 1 0) (λ k h. other_row (row_place side line.arcs k) place (f.none refl k (omega arith) h))))
 has_row-first side line place (Some r) f =

@@ -2,8 +2,8 @@
 use Rattle.std.proofs.Common.{zero, suc, ◌≡◌, ℕ, ◌+◌, ◌<◌, ◌≤◌, Bool, true, false, cond, ◌&&◌, ◌||◌, not, eqb, List, length, get_or, refl, ◌∙◌, subst, arith, inl, inr, ◌⊎◌}
 use Rattle.std.proofs.lemmas.Bool.{cases_lt}
 use Rattle.bx_base.proofs.SumLemmas.{sum_below-term}
-use Rattle.bx_line.specs.declared.side.Side.{Side}
-use Rattle.bx_line.specs.declared.side.Side.TheVariants.{Leaving, Arriving}
+use Rattle.bx_line.specs.declared.incidence.Incidence.{Incidence}
+use Rattle.bx_line.specs.declared.incidence.Incidence.TheVariants.{Leaving, Arriving}
 use Rattle.bx_line.specs.ByPlace.{row_place}
 use Rattle.bx_line.specs.Network.{Network, IsNetwork, arc_at, places_of}
 use Rattle.bx_line.specs.Cliques.{has_row, is_growing, cliques_below, AreCliques}
@@ -21,7 +21,7 @@ never_fall line a (suc b) h =
     ]
 
 -- a row is at its places
-pub has_row-from : (side : Side) (line : Network) (i : ℕ) → i < length line.arcs → has_row side line (row_place side line.arcs i) ≡ true
+pub has_row-from : (side : Incidence) (line : Network) (i : ℕ) → i < length line.arcs → has_row side line (row_place side line.arcs i) ≡ true
 has_row-from side line i h =
     let place = row_place side line.arcs i in
     let term = sum_below-term (length line.arcs) (λ k. cond (eqb (row_place side line.arcs k) place) 1 0) i h in

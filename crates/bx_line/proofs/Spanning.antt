@@ -9,7 +9,7 @@ use Rattle.std.proofs.lemmas.Bool.Decides.{nat_tests}
 use Rattle.bx_base.specs.Sums.{sum_below}
 use Rattle.bx_base.proofs.SumLemmas.{sum_below-le, sum_below-same, sum_below-zero}
 use Rattle.bx_line.specs.declared.arc.Arc.{Arc}
-use Rattle.bx_line.specs.declared.side.Side.TheVariants.{Leaving, Arriving}
+use Rattle.bx_line.specs.declared.incidence.Incidence.TheVariants.{Leaving, Arriving}
 use Rattle.bx_line.specs.Network.{Network, IsNetwork, places_of, arc_at, spans}
 use Rattle.bx_line.specs.Flows.{Flow, IsFlow, is_carried, idle_at, crossing_at}
 use Rattle.bx_line.specs.Cliques.{AreCliques, IsShortened, counted_arc, is_growing}

@@ -4,13 +4,13 @@ use Rattle.std.proofs.Common.{zero, suc}
 use Rattle.std.specs.Prelude.{◌≡◌, ℕ, ◌+◌, ◌-◌, ◌<◌, ◌==◌, ◌&&◌, ◌||◌, not, Bool, false, List, nat_lt, length, slice_index, slice_index_or, if◌then◌else◌}
 use Rattle.bx_base.specs.Sums.{sum_below}
 use Rattle.bx_line.specs.declared.arc.Arc.{Arc}
-use Rattle.bx_line.specs.declared.side.Side.{Side}
-use Rattle.bx_line.specs.declared.side.Side.TheVariants.{Leaving, Arriving}
+use Rattle.bx_line.specs.declared.incidence.Incidence.{Incidence}
+use Rattle.bx_line.specs.declared.incidence.Incidence.TheVariants.{Leaving, Arriving}
 use Rattle.bx_line.specs.ByPlace.{row_place}
 use Rattle.bx_line.specs.Network.{Network, places_of, no_arc}
 
 -- whether some row has its place on this side there
-abbrev pub has_row : Side → Network → ℕ → Bool
+abbrev pub has_row : Incidence → Network → ℕ → Bool
 has_row side line place = nat_lt 0 (sum_below (length line.arcs) (λ k. if row_place side line.arcs k == place then 1 else 0))
 
 -- whether a row has started at one of the places below n, and no row has ended behind it

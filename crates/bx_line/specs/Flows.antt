@@ -1,6 +1,7 @@
 -- Flows along the line: a number of units, each led from the first place to the last over idle arcs and over the arcs of
 -- rows, which take one unit each.
-use Rattle.std.specs.Prelude.{◌≡◌, ℕ, ◌+◌, ◌-◌, ◌<◌, ◌&&◌, ◌==◌, Bool, false, nat_lt, List, length, slice_index, slice_index_or, if◌then◌else◌}
+use Rattle.std.specs.Prelude.{◌≡◌, ℕ, ◌+◌, ◌-◌, ◌<◌, ◌&&◌, ◌==◌, Bool, nat_lt, List, length, slice_index, if◌then◌else◌}
+use Rattle.bx_base.specs.Marks.{is_marked}
 use Rattle.bx_base.specs.Sums.{sum_below}
 use Rattle.bx_line.specs.Network.{Network, places_of, gaps_of, arc_at, spans}
 
@@ -16,7 +17,7 @@ flow_of accepted idle units = record { accepted = accepted; idle = idle; units =
 
 -- whether the row of this index carries a unit
 abbrev pub is_carried : Flow → ℕ → Bool
-is_carried flow i = slice_index_or flow.accepted i false
+is_carried flow i = is_marked flow.accepted i
 
 -- how many idle units cross a gap
 abbrev pub idle_at : Flow → ℕ → ℕ

@@ -4,6 +4,8 @@ use Rattle.std.specs.Prelude.{◌≡◌, ℕ, ◌+◌, ◌-◌, ◌<◌, ◌≤�
 use Rattle.std.specs.List.Sorted.{IsStrictlyIncreasing}
 use Rattle.bx_base.specs.Bookings.{Row, row_at}
 use Rattle.bx_line.specs.declared.arc.Arc.{Arc}
+use Rattle.bx_base.specs.declared.booking.TheConstants.{MAX_MOMENT}
+use Rattle.bx_base.specs.declared.bookings.TheConstants.{MAX_BOOKINGS}
 
 -- the moments of the places, and the arcs of the rows
 pub record Network : Type 0 where
@@ -14,7 +16,7 @@ pub record Network : Type 0 where
 abbrev pub network_of : List ℕ → List Arc → Network
 network_of moments arcs = record { moments = moments; arcs = arcs }
 
--- how many places there are: they are counted from 0
+-- how many places there are, which are the nodes of the network: they are counted from 0
 abbrev pub places_of : Network → ℕ
 places_of line = length line.moments
 
@@ -67,7 +69,7 @@ pub record IsArc (places : ℕ) (arc : Arc) : Type 0 where
 pub record IsNetwork (line : Network) : Type 0 where
   pub few_places : places_of line ≤ 8000
   pub two_ends : 0 < places_of line → 2 ≤ places_of line
-  pub few_rows : length line.arcs ≤ 4000
+  pub few_rows : length line.arcs ≤ MAX_BOOKINGS
   pub rising : IsStrictlyIncreasing line.moments
-  pub in_day : (v : ℕ) → v < places_of line → slice_index line.moments v ≤ 200000
+  pub in_day : (v : ℕ) → v < places_of line → slice_index line.moments v ≤ MAX_MOMENT
   pub arcs : (i : ℕ) → i < length line.arcs → IsArc (places_of line) (arc_at line i)

@@ -1,4 +1,4 @@
-/// The way of one booking along the line.
+/// The way of one booking along the line: an arc that one unit can take.
 #[derive(Clone, Copy, Debug, PartialEq, Eq)]
 pub struct Arc {
     /// The place of its start, counted from 0.

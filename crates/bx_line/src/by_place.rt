@@ -3,9 +3,10 @@
 ghost use Rattle.std.specs.Prelude.{◌≡◌, ◌≤◌, ◌<◌, ℕ, IfOk, None, length, replicate, slice_index_or};
 ghost use Rattle.bx_line.specs.ByPlace.{place_on, AreChains};
 ghost use Rattle.bx_line.specs.Network.{no_arc};
+ghost use Rattle.bx_base.specs.declared.bookings.TheConstants.{MAX_BOOKINGS};
 
 use crate::arc::Arc;
-use crate::side::Side;
+use crate::incidence::Incidence;
 use std::alloc::{AllocError, Global};
 
 /// The first row of each place on one side, and for each row the next one of the same place.
@@ -21,9 +22,9 @@ impl ByPlace {
         alloc: Global,
         places: usize,
         arcs: &[Arc],
-        side: Side,
+        side: Incidence,
     ) -> Result<ByPlace, AllocError>
-        requires few { length arcs.now ≤ 4000 }
+        requires few { length arcs.now ≤ MAX_BOOKINGS }
         requires within { (k : ℕ) → k < length arcs.now → place_on side (slice_index_or arcs.now k no_arc) < places }
         ensures { IfOk result (λ b. AreChains side arcs.now places b.first.items b.next.items) }
     {
@@ -41,12 +42,12 @@ impl ByPlace {
 }
 
 /// The place of an arc on a side.
-fn side_of(arc: Arc, side: Side) -> u16
+fn side_of(arc: Arc, side: Incidence) -> u16
     ensures { result ≡ place_on side arc }
 {
     match side {
-        Side::Leaving => arc.from,
-        Side::Arriving => arc.to,
+        Incidence::Leaving => arc.from,
+        Incidence::Arriving => arc.to,
     }
 }
 

@@ -4,11 +4,11 @@
 mod arc;
 mod arcs;
 mod by_place;
+mod incidence;
 pub mod laws;
 mod line;
 mod moments;
-mod side;
 
 pub use arc::Arc;
+pub use incidence::Incidence;
 pub use line::{Line, MUST_RAISE};
-pub use side::Side;

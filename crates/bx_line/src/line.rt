@@ -9,8 +9,8 @@ ghost use Rattle.bx_line.specs.Network.{IsNetwork, IsArc, AreArcsOf, arc_at, net
 use crate::arc::Arc;
 use crate::arcs::{arcs_of, counted_arcs};
 use crate::by_place::ByPlace;
+use crate::incidence::Incidence;
 use crate::moments::{count_moments, moments_of};
-use crate::side::Side;
 use bx_base::Bookings;
 use std::alloc::{AllocError, Global};
 use std::marker::Model;
@@ -21,7 +21,7 @@ pub const MUST_RAISE: u64 = 5_000_000_000_000;
 
 /// The line network of a day (M. C. Carlisle and E. L. Lloyd, On the k-coloring of intervals, 1995): a place for
 /// each moment at which a booking starts or ends, an idle arc of cost 0 from each place to the next, and for each
-/// booking an arc that takes one unit. Places are counted from 0, and rows are named 1, 2, ..
+/// booking an arc that takes one unit. Places are the nodes of the network: they are counted from 0, and rows are named 1, 2, ..
 #[derive(Drop)]
 pub struct Line {
     moments: Vec<u32>,
@@ -32,7 +32,7 @@ pub struct Line {
 
 impl Model for Line {
     ghost use Rattle.bx_line.specs.ByPlace.{AreChains};
-    ghost use Rattle.bx_line.specs.declared.side.Side.TheVariants.{Leaving, Arriving};
+    ghost use Rattle.bx_line.specs.declared.incidence.Incidence.TheVariants.{Leaving, Arriving};
     ghost use Rattle.bx_line.specs.Network.{Network, IsNetwork, network_of};
     ghost use Rattle.std.specs.Prelude.{length};
 
@@ -44,7 +44,8 @@ impl Model for Line {
 }
 
 impl Line {
-    /// The line of these bookings, by one sort: its time is n log n in the bookings, its memory linear.
+    /// The line of these bookings, by one sort: its time is n log n in the bookings, its memory linear. `AllocError` where a
+    /// growth is refused.
     pub fn of(alloc: Global, bookings: &Bookings) -> Result<Line, AllocError>
         ensures moments { IfOk result (λ line. HasJustMoments bookings.now line.moments) }
         ensures arcs { IfOk result (λ line. AreArcsOf line.moments bookings.now line.arcs) }
@@ -60,8 +61,8 @@ impl Line {
         requires { IsNetwork (network_of moments.items arcs.items) }
         ensures { IfOk result (λ line. line ≡ network_of moments.items arcs.items) }
     {
-        let leaving = ByPlace::of(alloc, moments.len(), &arcs, Side::Leaving)?;
-        let arriving = ByPlace::of(alloc, moments.len(), &arcs, Side::Arriving)?;
+        let leaving = ByPlace::of(alloc, moments.len(), &arcs, Incidence::Leaving)?;
+        let arriving = ByPlace::of(alloc, moments.len(), &arcs, Incidence::Arriving)?;
         Ok(Line {
             moments,
             arcs,
@@ -106,7 +107,7 @@ impl Line {
         Some(self.arc(row - 1))
     }
 
-    /// The arc at a place of their list, counted from 0.
+    /// The arc at a place of their list, counted from 0. There has to be one.
     pub fn arc(&self, index: u16) -> Arc
         requires { index < length self.now.arcs }
         ensures value { result ≡ arc_at self.now index }
@@ -115,25 +116,27 @@ impl Line {
         self.arcs[index as usize]
     }
 
-    /// The first row whose arc leaves a place, or arrives there. Rows are counted from 0 here.
-    pub fn first_row(&self, place: u16, side: Side) -> Option<u16>
+    /// The first row whose arc leaves a place that there is, or arrives there. Rows are counted from 0 here.
+    pub fn first_row(&self, place: u16, side: Incidence) -> Option<u16>
         requires { place < places_of self.now }
         ensures { IsFirstRow side self.now.arcs place 0 result }
     {
         self.chains(side).first[place as usize]
     }
 
-    /// The next row whose arc leaves the same place as that of this one, or arrives at the same place.
-    pub fn next_row(&self, row: u16, side: Side) -> Option<u16>
+    /// The next row whose arc leaves the same place as that of this one, or arrives at the same place. There has to be this row;
+    /// rows are counted from 0 here.
+    pub fn next_row(&self, row: u16, side: Incidence) -> Option<u16>
         requires { row < length self.now.arcs }
         ensures { IsFirstRow side self.now.arcs (row_place side self.now.arcs row) (row + 1) result }
     {
         self.chains(side).next[row as usize]
     }
 
-    /// How many maximal sets of rows that run together have ended by each place: one more at a place where a row ends,
-    /// if a row started behind the last such place. So the counts rise by 0 or 1 from place to place, and from the start
-    /// of each row to its end.
+    /// How many maximal sets of rows that run together have ended by each place: one more at a place where a row ends, if a row
+    /// started behind the last such place. So the counts rise by 0 or 1 from place to place, and from the start of each row to
+    /// its end. These sets are the maximal cliques of the intervals (Carlisle and Lloyd, 1995). `AllocError` where a growth is
+    /// refused.
     pub fn cliques(&self, alloc: Global) -> Result<Vec<u16>, AllocError>
         ensures counts { IfOk result (λ v. AreCliques self.now v.items) }
     {
@@ -141,8 +144,8 @@ impl Line {
         let mut ended = 0;
         let mut has_started = false;
         for place in 0..self.places() {
-            let starts = self.first_row(place, Side::Leaving).is_some();
-            let ends = self.first_row(place, Side::Arriving).is_some();
+            let starts = self.first_row(place, Incidence::Leaving).is_some();
+            let ends = self.first_row(place, Incidence::Arriving).is_some();
             if has_started && ends {
                 ended += 1;
             }
@@ -153,7 +156,8 @@ impl Line {
     }
 
     /// The line that has a place for each of these counts, and two at least where it has any, with the same rows in the
-    /// same order, each from the count of its start to that of its end. Its moments are the counts.
+    /// same order, each from the count of its start to that of its end. Its moments are the counts. They have to be those that
+    /// `cliques` answers for this line. `AllocError` where a growth is refused.
     pub fn shortened(&self, alloc: Global, counts: &[u16]) -> Result<Line, AllocError>
         requires counts { AreCliques self.now counts.now }
         ensures shorter { IfOk result (IsShortened self.now counts.now) }
@@ -167,12 +171,12 @@ impl Line {
     }
 
     /// The chains on a side.
-    fn chains(&self, side: Side) -> &ByPlace
+    fn chains(&self, side: Incidence) -> &ByPlace
         ensures { AreChains side self.now.arcs (places_of self.now) result.now.first.items result.now.next.items }
     {
         match side {
-            Side::Leaving => &self.leaving,
-            Side::Arriving => &self.arriving,
+            Incidence::Leaving => &self.leaving,
+            Incidence::Arriving => &self.arriving,
         }
     }
 }

@@ -14,7 +14,7 @@ use Rattle.bx_link.specs.Sessions.{is_far_over}
 use Rattle.bx_link.specs.declared.far_session.FarSession.{FarSession}
 use Rattle.bx_frames.specs.declared.fault.LinkFault.{LinkFault}
 use Rattle.bx_frames.specs.declared.fault.LinkFault.TheVariants.{WriteFailed, EndedInFrame, Closed}
-use Rattle.bx_frames.specs.declared.frame.Side.TheVariants.{Exchange}
+use Rattle.bx_frames.specs.declared.frame.Receiver.TheVariants.{Exchange}
 use Rattle.bx_frames.proofs.ReadAnswers.{gave, faulty}
 use Rattle.bx_turns.proofs.Events.{ticks_more, last_more}
 use Rattle.bx_link.proofs.ExchangeTurns.{Onward, TalkedSoFar, over, broken, opened_so_far, talk_over}

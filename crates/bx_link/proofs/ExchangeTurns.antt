@@ -18,7 +18,7 @@ use Rattle.bx_link.specs.Hearing.{Opens, Hears}
 use Rattle.bx_link.specs.Days.{Talks, EndsDay}
 use Rattle.bx_frames.specs.declared.fault.LinkFault.{LinkFault}
 use Rattle.bx_frames.specs.declared.fault.LinkFault.TheVariants.{ReadFailed, WriteFailed, EndedInFrame}
-use Rattle.bx_frames.specs.declared.frame.Side.TheVariants.{Exchange}
+use Rattle.bx_frames.specs.declared.frame.Receiver.TheVariants.{Exchange}
 use Rattle.bx_frames.proofs.ReadAnswers.{gave, faulty}
 use Rattle.bx_turns.proofs.Composing.{SoFar, nothing_yet, then_goes, then_so_far, all_goes}
 use Rattle.bx_turns.proofs.Events.{ticks_more, no_last}

@@ -14,7 +14,7 @@ use Rattle.bx_link.specs.Hearing.{TakesTurn}
 use Rattle.bx_link.specs.Days.{FarTalks}
 use Rattle.bx_frames.specs.declared.fault.LinkFault.{LinkFault}
 use Rattle.bx_frames.specs.declared.fault.LinkFault.TheVariants.{WriteFailed, Closed}
-use Rattle.bx_frames.specs.declared.frame.Side.TheVariants.{FarEnd}
+use Rattle.bx_frames.specs.declared.frame.Receiver.TheVariants.{FarEnd}
 use Rattle.bx_frames.proofs.ReadAnswers.{gave, faulty}
 use Rattle.bx_turns.proofs.Composing.{SoFar, nothing_yet, then_goes, then_so_far, all_goes}
 use Rattle.bx_turns.proofs.Events.{ticks_more, no_last}

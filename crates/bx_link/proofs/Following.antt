@@ -12,17 +12,17 @@ use Rattle.bx_link.specs.Talking.{follow, follow_by}
 use Rattle.bx_turns.specs.Heard.{IsWhole, BreaksOff, IsUnread, IsHeard, Goes}
 use Rattle.bx_frames.specs.declared.fault.LinkFault.{LinkFault}
 use Rattle.bx_frames.specs.declared.fault.LinkFault.TheVariants.{ReadFailed, WriteFailed, EndedInFrame}
-use Rattle.bx_frames.specs.declared.frame.Side.{Side}
+use Rattle.bx_frames.specs.declared.frame.Receiver.{Receiver}
 use Rattle.bx_frames.proofs.ReadAnswers.{gave, faulty}
 use Rattle.bx_turns.proofs.Composing.{IsBeyond, SoFar}
 use Rattle.bx_frames.proofs.ReadingSteps.{not_faulted}
 use Rattle.bx_turns.proofs.Turns.{IsLocalTalk}
 
 -- what went well was heard whole
-pub heard_whole : (side : Side) (finds : List ℕ → Talk) (text : List ℕ) (events : List Event) (b : Bool) (left : Option (List ℕ)) → IsHeard side finds text events (gave b) left → IsWhole (finds text) events (gave b) left
-heard_whole side finds text events b left (inl whole) = whole
-heard_whole side finds text events b left (inr (inl (e, torn))) = cc
-heard_whole side finds text events b left (inr (inr (e, unread))) = cc
+pub heard_whole : (receiver : Receiver) (finds : List ℕ → Talk) (text : List ℕ) (events : List Event) (b : Bool) (left : Option (List ℕ)) → IsHeard receiver finds text events (gave b) left → IsWhole (finds text) events (gave b) left
+heard_whole receiver finds text events b left (inl whole) = whole
+heard_whole receiver finds text events b left (inr (inl (e, torn))) = cc
+heard_whole receiver finds text events b left (inr (inr (e, unread))) = cc
 
 pub written_whole : (x : Bool) (P : Type 0) → (gave x ≡ Err WriteFailed) ⊎ P → P
 written_whole x P (inl e) = cc
@@ -36,7 +36,7 @@ still_written x P (inr e) = cc
 abbrev pub IsQuiet : Talk → Type 0
 IsQuiet talk = (talk ≡ stop (Ok true) [] []) ⊎ (talk ≡ stop (Err EndedInFrame) [] [])
 
-module _ (side : Side) (finds : List ℕ → Talk) (next : List Event → List ℕ → Talk) (over : List ℕ → Talk) where
+module _ (receiver : Receiver) (finds : List ℕ → Talk) (next : List Event → List ℕ → Talk) (over : List ℕ → Talk) where
   abbrev Follows : List ℕ → Talk
   Follows text = follow (finds text) next (over text)
 
@@ -61,7 +61,7 @@ module _ (side : Side) (finds : List ℕ → Talk) (next : List Event → List �
 
   module _ (text : List ℕ) (events : List Event) (fault : LinkFault) (left : Option (List ℕ)) (quiet : ticks_last false events ≡ true → IsQuiet (next events [])) where
     unread_so : (read : List ℕ) → IsRead text read left → (talk : Talk) → Follows read ≡ talk → events ≡ talk.events → talk.behind ≡ [] → talk.rest ≡ []
-        → BreaksOff side talk.ending events → IsUnread side Follows text events left
+        → BreaksOff receiver talk.ending events → IsUnread receiver Follows text events left
     unread_so read is_read talk e all behind rest cut = record {
       read = read;
       is_read = is_read;
@@ -70,20 +70,20 @@ module _ (side : Side) (finds : List ℕ → Talk) (next : List Event → List �
       rest = ap (λ (t : Talk). t.rest) e ∙ rest;
       cut = cut_so cut;
     } where
-      cut_so : BreaksOff side talk.ending events → BreaksOff side (Follows read).ending events
+      cut_so : BreaksOff receiver talk.ending events → BreaksOff receiver (Follows read).ending events
       cut_so (inl f) = inl (ap (λ (t : Talk). t.ending) e ∙ f)
       cut_so (inr (f, last, far)) = inr (ap (λ (t : Talk). t.ending) e ∙ f, last, far)
 
-    behind_tick : (u : IsUnread side finds text events left) → (finds u.read).ending ≡ Ok true → ticks_last false events ≡ true → is_far side ≡ true → IsQuiet (next events []) → IsUnread side Follows text events left
+    behind_tick : (u : IsUnread receiver finds text events left) → (finds u.read).ending ≡ Ok true → ticks_last false events ≡ true → is_far receiver ≡ true → IsQuiet (next events []) → IsUnread receiver Follows text events left
     behind_tick u ended last far q =
         let e : Follows u.read ≡ with_events events (next events []) =
         by_end u.read ended ∙ ap (λ (l : List ℕ). with_events (finds u.read).events (next (finds u.read).events l)) u.rest ∙ ap (λ (l : List Event). with_events l (next l [])) (sym u.all) in
         by_quiet e q where
-          by_quiet : Follows u.read ≡ with_events events (next events []) → IsQuiet (next events []) → IsUnread side Follows text events left
+          by_quiet : Follows u.read ≡ with_events events (next events []) → IsQuiet (next events []) → IsUnread receiver Follows text events left
           by_quiet e (inl q) = unread_so u.read u.is_read (with_events events (stop (Ok true) [] [])) (e ∙ ap (with_events events) q) (sym (append-nil events)) refl refl (inr (refl, last, far))
           by_quiet e (inr q) = unread_so u.read u.is_read (with_events events (stop (Err EndedInFrame) [] [])) (e ∙ ap (with_events events) q) (sym (append-nil events)) refl refl (inl refl)
 
-    stopped : IsHeard side finds text events (faulty fault) left → IsHeard side Follows text events (faulty fault) left
+    stopped : IsHeard receiver finds text events (faulty fault) left → IsHeard receiver Follows text events (faulty fault) left
     stopped (inl whole) =
         let e = by_fault text fault (sym whole.ending) in
         inl (record { all = whole.all ∙ sym (ap (λ (t : Talk). t.events) e); ending = whole.ending ∙ sym (ap (λ (t : Talk). t.ending) e); rest = whole.rest ∙ sym (ap (λ (t : Talk). Some t.rest) e) })
@@ -91,18 +91,18 @@ module _ (side : Side) (finds : List ℕ → Talk) (next : List Event → List �
         let e = by_fault torn.read EndedInFrame torn.cut in
         inr (inl (failed, record { read = torn.read; is_read = torn.is_read; all = torn.all ∙ sym (ap (λ (t : Talk). t.events) e); cut = ap (λ (t : Talk). t.ending) e ∙ torn.cut }))
     stopped (inr (inr (failed, u))) = inr (inr (failed, by_cut u.cut)) where
-      by_cut : BreaksOff side (finds u.read).ending events → IsUnread side Follows text events left
+      by_cut : BreaksOff receiver (finds u.read).ending events → IsUnread receiver Follows text events left
       by_cut (inl cut) = unread_so u.read u.is_read (finds u.read) (by_fault u.read EndedInFrame cut) u.all u.behind u.rest (inl cut)
       by_cut (inr (ended, last, far)) = behind_tick u ended last far (quiet last)
 
   module _ {D R W : Type 0} (step : D → Event → D) (text : D → Event → List ℕ) (remaining : R → Option (List ℕ)) (contents : W → Option (List ℕ)) (r r1 : Watched R) (w w1 : Watched W) (d d1 : D) (events : List Event) where
     abbrev GoesBy : (List ℕ → Talk) → Result Bool LinkFault → Type 0
-    GoesBy talk result = Goes side step text talk remaining contents r r1 w w1 d d1 events result
+    GoesBy talk result = Goes receiver step text talk remaining contents r r1 w w1 d d1 events result
 
     pub follow_on : IsLocalTalk finds → GoesBy finds (gave true) → SoFar step text Follows (next events) remaining contents r r1 w w1 d d1 events
     follow_on is_local p = record {
       day = p.day;
-      talk = λ known e. beyond known events (remaining (device_of r1)) is_local (heard_whole side finds known events true (remaining (device_of r1)) (p.talk known e));
+      talk = λ known e. beyond known events (remaining (device_of r1)) is_local (heard_whole receiver finds known events true (remaining (device_of r1)) (p.talk known e));
       written = written_whole true (Appends (contents (device_of w)) (contents (device_of w1)) (told step text events d)) p.written.whole;
       counted = p.counted;
       reader = not_faulted true (is_faulted r1 ≡ is_faulted r) p.unfaulted;
@@ -126,7 +126,7 @@ module _ (side : Side) (finds : List ℕ → Talk) (next : List Event → List �
     follow_day result no_read no_write same p = record {
       day = p.day;
       talk = λ known e.
-          let whole = heard_whole side finds known events false (remaining (device_of r1)) (p.talk known e) in
+          let whole = heard_whole receiver finds known events false (remaining (device_of r1)) (p.talk known e) in
           let f = by_day known (sym whole.ending) ∙ same known (sym whole.ending) in
           inl (record { all = whole.all ∙ sym (ap (λ (t : Talk). t.events) f); ending = sym (ap (λ (t : Talk). t.ending) f); rest = whole.rest ∙ sym (ap (λ (t : Talk). Some t.rest) f) });
       written = record {

@@ -14,7 +14,7 @@ use Rattle.bx_link.specs.Days.{Talks, TalksToEnd, FarTalks}
 use Rattle.bx_link.specs.declared.connection.Connection.{Connection}
 use Rattle.bx_frames.specs.declared.fault.LinkFault.{LinkFault}
 use Rattle.bx_frames.specs.declared.fault.LinkFault.TheVariants.{WriteFailed, Closed}
-use Rattle.bx_frames.specs.declared.frame.Side.TheVariants.{Exchange}
+use Rattle.bx_frames.specs.declared.frame.Receiver.TheVariants.{Exchange}
 
 -- an end before and after: its connection, with what that tells, and its day
 pub record Passage (D R W : Type 0) : Type 0 where

@@ -16,7 +16,8 @@ use Rattle.bx_link.specs.Talking.{talk_in, far_talk_in}
 use Rattle.bx_turns.specs.Heard.{Went}
 use Rattle.bx_frames.specs.declared.fault.LinkFault.{LinkFault}
 use Rattle.bx_frames.specs.declared.fault.LinkFault.TheVariants.{WriteFailed, Closed}
-use Rattle.bx_frames.specs.declared.frame.Side.TheVariants.{Exchange, FarEnd}
+use Rattle.bx_frames.specs.declared.frame.Receiver.TheVariants.{Exchange, FarEnd}
+use Rattle.bx_events.specs.declared.moment.TheConstants.{LAST_MOMENT}
 
 -- ---- several turns of the exchange
 
@@ -79,5 +80,5 @@ pub record RunsFarDay {R W : Type 0} (remaining : R → Option (List ℕ)) (cont
   pub turns : ℕ
   pub ending : Result Bool LinkFault
   pub talks : FarTalks remaining contents turns r r' w w' d d' ending
-  pub moment : d.moment ≤ 300000 → d'.moment ≡ min (d.moment + ticks_of talks.events) 300000
+  pub moment : d.moment ≤ LAST_MOMENT → d'.moment ≡ min (d.moment + ticks_of talks.events) LAST_MOMENT
   pub ends : EndsFarDay result turns ending

@@ -10,7 +10,7 @@ use Rattle.bx_far.specs.Course.{far_next, far_text}
 use Rattle.bx_link.specs.Talking.{exchange_turn, far_turn}
 use Rattle.bx_frames.specs.declared.fault.LinkFault.{LinkFault}
 use Rattle.bx_frames.specs.declared.fault.LinkFault.TheVariants.{WriteFailed}
-use Rattle.bx_frames.specs.declared.frame.Side.TheVariants.{Exchange, FarEnd}
+use Rattle.bx_frames.specs.declared.frame.Receiver.TheVariants.{Exchange, FarEnd}
 
 -- ---- one turn
 

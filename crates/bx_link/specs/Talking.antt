@@ -9,7 +9,7 @@ use Rattle.bx_day.specs.Course.{exchange_next}
 use Rattle.bx_far.specs.Course.{far_next, far_due}
 use Rattle.bx_frames.specs.declared.fault.LinkFault.{LinkFault}
 use Rattle.bx_frames.specs.declared.fault.LinkFault.TheVariants.{Closed}
-use Rattle.bx_frames.specs.declared.frame.Side.TheVariants.{Exchange, FarEnd}
+use Rattle.bx_frames.specs.declared.frame.Receiver.TheVariants.{Exchange, FarEnd}
 
 -- ---- one after another
 

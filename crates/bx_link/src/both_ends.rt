@@ -7,15 +7,15 @@ ghost use Rattle.bx_link.specs.Hearing.{turned};
 use crate::connection::Connection;
 use crate::far_session::FarSession;
 use crate::session::Session;
-use bx_calls::timers::LAST_MOMENT;
 use bx_day::Exchange;
+use bx_events::LAST_MOMENT;
 use bx_far::Far;
 use bx_frames::{LinkFault, write_end_of_day};
 use bx_turns::End;
 use std::io::{Read, Write};
 
 /// Runs a day of both ends, each at its end of a connection. The exchange opens a turn, the far end takes it, and
-/// the exchange closes it, so many times, or as many as there are to moment 300,000 where that is fewer; then the
+/// the exchange closes it, so many times, or as many as there are to `LAST_MOMENT` where that is fewer; then the
 /// exchange writes the end of the day, and the far end hears it. Takes no memory. The first fault of either end's
 /// session is answered, and nothing is done behind it; and `Closed` where an end of turn comes to the far end in
 /// place of the end of the day, since the exchange's session is closed then.
@@ -26,33 +26,23 @@ pub fn run_both_ends<E: End<Exchange>, R: Read, W: Write, S: Read, T: Write>(
     distant: &mut Connection<S, T>,
     turns: u32,
 ) -> Result<(), LinkFault>
-    ensures { (ran : RunsBoth (min turns (300000 - (E.day exchange.old).moment)) (passage R.remaining W.contents near.old near.new (E.day exchange.old) (E.day exchange.new)) (passage S.remaining T.contents distant.old distant.new far.old far.new) (turned result)) × E.kept exchange.old (events_of_near ran) exchange.new }
+    ensures { (ran : RunsBoth (min turns (LAST_MOMENT - (E.day exchange.old).moment)) (passage R.remaining W.contents near.old near.new (E.day exchange.old) (E.day exchange.new)) (passage S.remaining T.contents distant.old distant.new far.old far.new) (turned result)) × E.kept exchange.old (events_of_near ran) exchange.new }
 {
     let count = turns.min(LAST_MOMENT - exchange.reached());
     let mut session = Session::new();
     let mut far_session = FarSession::new();
     for _turn in 0..count {
-        match session.open_turn(exchange, &mut near.writer) {
-            Ok(()) => {}
-            Err(fault) => return Err(fault),
-        }
-        match far_session.far_turn(far, &mut distant.reader, &mut distant.writer) {
-            Ok(_) => {}
-            Err(fault) => return Err(fault),
-        }
-        match session.close_turn(exchange, &mut near.reader, &mut near.writer) {
-            Ok(()) => {}
-            Err(fault) => return Err(fault),
-        }
+        session.open_turn(exchange, &mut near.writer)?;
+        far_session.far_turn(far, &mut distant.reader, &mut distant.writer)?;
+        session.close_turn(exchange, &mut near.reader, &mut near.writer)?;
     }
     match write_end_of_day(&mut near.writer) {
         Ok(()) => {}
         Err(_) => return Err(LinkFault::WriteFailed),
     }
-    let last = far_session.far_turn(far, &mut distant.reader, &mut distant.writer);
-    match last {
-        Ok(false) => Ok(()),
-        Ok(true) => Err(LinkFault::Closed),
-        Err(fault) => Err(fault),
+    let goes_on = far_session.far_turn(far, &mut distant.reader, &mut distant.writer)?;
+    if goes_on {
+        return Err(LinkFault::Closed);
     }
+    Ok(())
 }

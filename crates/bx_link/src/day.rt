@@ -5,9 +5,9 @@ ghost use Rattle.bx_link.specs.Days.{Talks, RunsDay, events_of_day};
 ghost use Rattle.bx_link.specs.Hearing.{turned};
 
 use crate::session::Session;
-use bx_calls::timers::LAST_MOMENT;
 use bx_day::Exchange;
 use bx_devices::Watched;
+use bx_events::LAST_MOMENT;
 use bx_frames::{LinkFault, write_end_of_day};
 use bx_turns::End;
 use std::io::{Read, Write};
@@ -23,37 +23,27 @@ fn run_turns<E: End<Exchange>, R: Read, W: Write>(
 {
     let mut session = Session::new();
     for _turn in 0..turns {
-        match session.open_turn(exchange, writer) {
-            Ok(()) => {}
-            Err(fault) => return Err(fault),
-        }
-        match session.close_turn(exchange, reader, writer) {
-            Ok(()) => {}
-            Err(fault) => return Err(fault),
-        }
+        session.open_turn(exchange, writer)?;
+        session.close_turn(exchange, reader, writer)?;
     }
     Ok(())
 }
 
-/// Opens and closes so many turns, or as many as there are to moment 300,000 where that is fewer, and then
+/// Opens and closes so many turns, or as many as there are to `LAST_MOMENT` where that is fewer, and then
 /// writes the end of the day. Each of these turns has its tick, and nothing is read behind the last end of turn.
-/// Takes no memory. At a fault the exchange has gone through all whole turns, the next tick, and each message of
-/// that turn that came whole; what was written is theirs. Where a write failed it was that of the last of these, or
-/// of the end of the day; a front of that was written, but not all of it, and nothing was read behind the last of
-/// these.
+/// Takes no memory. The first fault of the session is answered: the exchange has then gone through all whole turns, the next tick,
+/// and each message of that turn that came whole; what was written is theirs. At `WriteFailed` the write was that of the last of
+/// these, or of the end of the day; a front of that was written, but not all of it, and nothing was read behind the last of these.
 pub fn run_day<E: End<Exchange>, R: Read, W: Write>(
     exchange: &mut E,
     reader: &mut Watched<R>,
     writer: &mut Watched<W>,
     turns: u32,
 ) -> Result<(), LinkFault>
-    ensures { (ran : RunsDay R.remaining W.contents (min turns (300000 - (E.day exchange.old).moment)) reader.old reader.new writer.old writer.new (E.day exchange.old) (E.day exchange.new) (turned result)) × E.kept exchange.old (events_of_day ran) exchange.new }
+    ensures { (ran : RunsDay R.remaining W.contents (min turns (LAST_MOMENT - (E.day exchange.old).moment)) reader.old reader.new writer.old writer.new (E.day exchange.old) (E.day exchange.new) (turned result)) × E.kept exchange.old (events_of_day ran) exchange.new }
 {
     let count = turns.min(LAST_MOMENT - exchange.reached());
-    match run_turns(exchange, reader, writer, count) {
-        Ok(()) => {}
-        Err(fault) => return Err(fault),
-    }
+    run_turns(exchange, reader, writer, count)?;
     match write_end_of_day(writer) {
         Ok(()) => Ok(()),
         Err(_) => Err(LinkFault::WriteFailed),

@@ -23,10 +23,9 @@ pub fn run_far_day<E: End<Far>, R: Read, W: Write>(
 {
     let mut session = FarSession::new();
     for _turn in 0..MOST_TURNS {
-        match session.far_turn(far, reader, writer) {
-            Ok(true) => {}
-            Ok(false) => return Ok(()),
-            Err(fault) => return Err(fault),
+        let goes_on = session.far_turn(far, reader, writer)?;
+        if !goes_on {
+            return Ok(());
         }
     }
     Err(LinkFault::Closed)

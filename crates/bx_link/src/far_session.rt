@@ -8,7 +8,7 @@ ghost use Rattle.bx_frames.specs.declared.fault.LinkFault.TheVariants.{Closed};
 
 use bx_devices::Watched;
 use bx_far::Far;
-use bx_frames::{LinkFault, Side};
+use bx_frames::{LinkFault, Receiver};
 use bx_turns::{End, hear_turn, write_tick};
 use std::io::{Read, Write};
 
@@ -86,10 +86,9 @@ fn take_turn<E: End<Far>, R: Read, W: Write>(
     ensures { (took : TakesTurn R.remaining W.contents reader.old reader.new writer.old writer.new (E.day far.old) (E.day far.new) result) × E.kept far.old took.events far.new }
 {
     let due = far.turn();
-    match hear_turn(far, Side::FarEnd, due, reader, writer) {
-        Ok(true) => {}
-        Ok(false) => return Ok(false),
-        Err(fault) => return Err(fault),
+    let goes_on = hear_turn(far, Receiver::FarEnd, due, reader, writer)?;
+    if !goes_on {
+        return Ok(false);
     }
     match write_tick(far, writer) {
         Ok(()) => Ok(true),

@@ -8,7 +8,7 @@ ghost use Rattle.bx_frames.specs.declared.fault.LinkFault.TheVariants.{Closed};
 
 use bx_day::Exchange;
 use bx_devices::Watched;
-use bx_frames::{LinkFault, Side};
+use bx_frames::{LinkFault, Receiver};
 use bx_turns::{End, hear_turn, write_tick};
 use std::io::{Read, Write};
 
@@ -48,9 +48,9 @@ impl Session {
         }
     }
 
-    /// Opens a turn: the exchange ticks, and each message that it sends is written as a frame, in order, and
-    /// then the end of turn with its moment. Takes no memory. A closed session answers `Closed`, and neither
-    /// ticks nor writes. Where a write fails the session is closed: the tick has happened, and a front of
+    /// Opens a turn, where none is open: the exchange ticks, and each message that it sends is written as a frame, in
+    /// order, and then the end of turn with its moment. Takes no memory. A closed session answers `Closed`, and neither
+    /// ticks nor writes. At `WriteFailed` the session is closed: the tick has happened, and a front of
     /// these octets was written, but not all of them.
     pub fn open_turn<E: End<Exchange>, W: Write>(
         &mut self,
@@ -81,12 +81,12 @@ impl Session {
         }
     }
 
-    /// Closes a turn: each message that comes is received by the exchange, and the reply is written, up to the end
-    /// of turn with the exchange's moment. Nothing is read behind it. Takes no memory. A closed session answers
-    /// `Closed`, and neither reads nor writes. At any other fault the session is closed: the exchange has received
-    /// each message that came whole, and no more. Where a write failed it was that of the reply to the last message
-    /// that was received: it was not written whole, nothing was read behind that message, and all replies before were
-    /// written whole.
+    /// Closes a turn: one is open, unless the session is closed. Each message that comes is received by the exchange, and the
+    /// reply is written, up to the end of turn with the exchange's moment. Nothing is read behind it. Takes no memory. A closed
+    /// session answers `Closed`, and neither reads nor writes. At any other fault, which is one of `hear_turn`, the session is
+    /// closed: the exchange has received each message that came whole, and no more. At `WriteFailed` the write was that of the
+    /// reply to the last message that was received: it was not written whole, nothing was read behind that message, and all
+    /// replies before were written whole.
     pub fn close_turn<E: End<Exchange>, R: Read, W: Write>(
         &mut self,
         exchange: &mut E,
@@ -106,7 +106,7 @@ impl Session {
             return Err(LinkFault::Closed);
         }
         let moment = exchange.turn();
-        match hear_turn(exchange, Side::Exchange, moment, reader, writer) {
+        match hear_turn(exchange, Receiver::Exchange, moment, reader, writer) {
             Ok(_) => {
                 self.stage = Stage::BetweenTurns;
                 Ok(())

@@ -10,20 +10,35 @@ use bx_link::Session;
 use bx_worked_days::exchange;
 use std::alloc::Global;
 
-/// After how many writes the writer fails, and what comes; how the turn is opened and with which fault it ends, and
-/// how many octets are left.
-type Case = (u32, &'static [u8], Result<(), LinkFault>, LinkFault, usize);
+/// What is tried; after how many writes the writer fails, and what comes; how the turn is opened and with which fault it ends,
+/// and how many octets are left.
+type Case = (
+    &'static str,
+    u32,
+    &'static [u8],
+    Result<(), LinkFault>,
+    LinkFault,
+    usize,
+);
 
 static CASES: [Case; 3] = [
     (
+        "the first write fails",
         0,
         CONNECT,
         Err(LinkFault::WriteFailed),
         LinkFault::Closed,
         13,
     ),
-    (1, TORN, Err(LinkFault::WriteFailed), LinkFault::Closed, 5),
-    (2, TORN, Ok(()), LinkFault::EndedInFrame, 0),
+    (
+        "the second write fails",
+        1,
+        TORN,
+        Err(LinkFault::WriteFailed),
+        LinkFault::Closed,
+        5,
+    ),
+    ("a torn frame", 2, TORN, Ok(()), LinkFault::EndedInFrame, 0),
 ];
 
 /// Whether one tick has happened, and its call is there.
@@ -39,7 +54,7 @@ fn is_ticked(exchange: &Exchange) -> bool {
 
 /// Whether the session is closed so, and answers `Closed` from then on.
 fn is_closed(alloc: Global, case: &Case) -> Option<bool> {
-    let (writes, octets, opened, fault, left) = *case;
+    let (_, writes, octets, opened, fault, left) = *case;
     let mut exchange = exchange(alloc)?;
     let mut session = Session::new();
     let mut reader = Watched::new(octets);
@@ -56,7 +71,7 @@ fn is_closed(alloc: Global, case: &Case) -> Option<bool> {
 
 #[test]
 fn sessions_after_a_fault(rt: HostRuntime) {
-    for (index, case) in CASES.iter().enumerate() {
-        assert!(rt; is_closed(rt.alloc(), case) == Some(true), "case {index}");
+    for case in &CASES {
+        assert!(rt; is_closed(rt.alloc(), case) == Some(true), "{}", case.0);
     }
 }

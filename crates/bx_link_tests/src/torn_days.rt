@@ -7,9 +7,10 @@ use bx_link::{Connection, run_both_ends, run_far_day};
 use bx_worked_days::{exchange, far_end};
 use std::alloc::Global;
 
-/// What comes to the far end, in two parts, and to the exchange; how a day of one turn ends, and the moments that the
-/// exchange and the far end then have reached.
+/// What is tried; what comes to the far end, in two parts, and to the exchange; how a day of one turn ends, and the moments that
+/// the exchange and the far end then have reached.
 type Day = (
+    &'static str,
     [&'static [u8]; 2],
     &'static [u8],
     Result<(), LinkFault>,
@@ -17,49 +18,67 @@ type Day = (
 );
 
 static DAYS: [Day; 8] = [
-    ([OPENED, END_OF_DAY], END_OF_TURN, Ok(()), (1, 1)),
     (
+        "a whole day",
+        [OPENED, END_OF_DAY],
+        END_OF_TURN,
+        Ok(()),
+        (1, 1),
+    ),
+    (
+        "a second turn in place of the end",
         [END_OF_TURN, &[2, 0, 4, 0, 0, 0, 2]],
         END_OF_TURN,
         Err(LinkFault::Closed),
         (1, 2),
     ),
     (
+        "a day that ends at once",
         [END_OF_DAY, END_OF_DAY],
         END_OF_TURN,
         Err(LinkFault::Closed),
         (1, 0),
     ),
     (
+        "no end of the day",
         [OPENED, &[]],
         END_OF_TURN,
         Err(LinkFault::EndedInFrame),
         (1, 1),
     ),
     (
+        "a torn frame to the far end",
         [CONNECT, &[1]],
         END_OF_TURN,
         Err(LinkFault::EndedInFrame),
         (1, 0),
     ),
     (
+        "an unknown kind to the far end",
         [&[4], END_OF_DAY],
         &[3],
         Err(LinkFault::UnknownKind),
         (1, 0),
     ),
     (
+        "a bad length to the exchange",
         [OPENED, END_OF_DAY],
         &[2, 0, 3],
         Err(LinkFault::BadLength),
         (1, 1),
     ),
-    ([END_OF_DAY, &[]], &[], Err(LinkFault::EndedInFrame), (1, 0)),
+    (
+        "nothing to the exchange",
+        [END_OF_DAY, &[]],
+        &[],
+        Err(LinkFault::EndedInFrame),
+        (1, 0),
+    ),
 ];
 
 /// Whether the day ends so, and at these moments.
 fn ends_so(alloc: Global, day: &Day) -> Option<bool> {
-    let ([first, second], answered, expected, moments) = *day;
+    let (_, [first, second], answered, expected, moments) = *day;
     let told = joined(alloc, [first, second, &[]])?;
     let mut exchange = exchange(alloc)?;
     let mut far = far_end(alloc)?;
@@ -71,8 +90,8 @@ fn ends_so(alloc: Global, day: &Day) -> Option<bool> {
 
 #[test]
 fn days_of_both_ends(rt: HostRuntime) {
-    for (index, day) in DAYS.iter().enumerate() {
-        assert!(rt; ends_so(rt.alloc(), day) == Some(true), "day {index}");
+    for day in &DAYS {
+        assert!(rt; ends_so(rt.alloc(), day) == Some(true), "{}", day.0);
     }
 }
 
@@ -99,19 +118,37 @@ fn days_whose_writes_fail(rt: HostRuntime) {
     }
 }
 
-/// What comes to the far end; how its day ends, the moment that it has reached, and how many octets are left.
-type FarDay = (&'static [u8], Result<(), LinkFault>, u32, usize);
+/// What is tried; what comes to the far end; how its day ends, the moment that it has reached, and how many octets are left.
+type FarDay = (
+    &'static str,
+    &'static [u8],
+    Result<(), LinkFault>,
+    u32,
+    usize,
+);
 
 static FAR_DAYS: [FarDay; 4] = [
-    (&[2, 0, 4, 0, 0, 0, 1, 3, 0, 0, 3], Ok(()), 1, 1),
-    (&[3, 0, 0, 2], Ok(()), 0, 1),
-    (END_OF_TURN, Err(LinkFault::EndedInFrame), 1, 0),
-    (&[2, 0, 4, 0, 0, 0, 2, 3], Err(LinkFault::WrongMoment), 0, 1),
+    ("one turn", &[2, 0, 4, 0, 0, 0, 1, 3, 0, 0, 3], Ok(()), 1, 1),
+    ("no turn", &[3, 0, 0, 2], Ok(()), 0, 1),
+    (
+        "no end of the day",
+        END_OF_TURN,
+        Err(LinkFault::EndedInFrame),
+        1,
+        0,
+    ),
+    (
+        "a later moment",
+        &[2, 0, 4, 0, 0, 0, 2, 3],
+        Err(LinkFault::WrongMoment),
+        0,
+        1,
+    ),
 ];
 
 /// Whether the far end's day ends so.
 fn far_ends_so(alloc: Global, day: &FarDay) -> Option<bool> {
-    let (told, expected, moment, left) = *day;
+    let (_, told, expected, moment, left) = *day;
     let mut far = far_end(alloc)?;
     let mut reader = Watched::new(told);
     let mut writer = Watched::new(Vec::new(alloc));
@@ -124,10 +161,7 @@ fn far_ends_so(alloc: Global, day: &FarDay) -> Option<bool> {
 
 #[test]
 fn days_of_the_far_end(rt: HostRuntime) {
-    for (index, day) in FAR_DAYS.iter().enumerate() {
-        assert!(rt;
-            far_ends_so(rt.alloc(), day) == Some(true),
-            "far day {index}"
-        );
+    for day in &FAR_DAYS {
+        assert!(rt; far_ends_so(rt.alloc(), day) == Some(true), "{}", day.0);
     }
 }

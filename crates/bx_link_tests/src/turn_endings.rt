@@ -7,29 +7,107 @@ use bx_link::Session;
 use bx_worked_days::exchange;
 use std::alloc::Global;
 
-/// So many frames that are refused, and what comes behind them; how the turn ends, and how many octets are left.
-type Ending = (u8, &'static [u8], Result<(), LinkFault>, usize);
+/// What is tried; so many frames that are refused, and what comes behind them; how the turn ends, and how many octets are left.
+type Ending = (
+    &'static str,
+    u8,
+    &'static [u8],
+    Result<(), LinkFault>,
+    usize,
+);
 
 static ENDINGS: [Ending; 19] = [
-    (0, END_OF_TURN, Ok(()), 0),
-    (2, END_OF_TURN, Ok(()), 0),
-    (64, END_OF_TURN, Ok(()), 0),
-    (65, END_OF_TURN, Err(LinkFault::MoreThan64Messages), 12),
-    (64, &[1, 0, 5], Err(LinkFault::MoreThan64Messages), 0),
-    (64, &[1, 1, 5], Err(LinkFault::BadLength), 0),
-    (0, &[4], Err(LinkFault::UnknownKind), 0),
-    (1, &[0, 0, 0], Err(LinkFault::UnknownKind), 2),
-    (0, &[3, 0, 0], Err(LinkFault::UnknownKind), 2),
-    (0, &[1, 1, 5], Err(LinkFault::BadLength), 0),
-    (0, &[2, 0, 3], Err(LinkFault::BadLength), 0),
-    (3, &[2, 1, 4, 0], Err(LinkFault::BadLength), 1),
-    (0, &[], Err(LinkFault::EndedInFrame), 0),
-    (1, &[1], Err(LinkFault::EndedInFrame), 0),
-    (0, &[1, 1], Err(LinkFault::EndedInFrame), 0),
-    (1, &[1, 0, 10, 8, 2], Err(LinkFault::EndedInFrame), 0),
-    (0, &[2, 0, 4, 0, 0, 0], Err(LinkFault::EndedInFrame), 0),
-    (0, &[2, 0, 4, 0, 0, 0, 2], Err(LinkFault::WrongMoment), 0),
-    (1, &[2, 0, 4, 1, 0, 0, 1], Err(LinkFault::WrongMoment), 0),
+    ("no message", 0, END_OF_TURN, Ok(()), 0),
+    ("two messages", 2, END_OF_TURN, Ok(()), 0),
+    ("64 messages", 64, END_OF_TURN, Ok(()), 0),
+    (
+        "a 65th message",
+        65,
+        END_OF_TURN,
+        Err(LinkFault::MoreThan64Messages),
+        12,
+    ),
+    (
+        "the length of a 65th message",
+        64,
+        &[1, 0, 5],
+        Err(LinkFault::MoreThan64Messages),
+        0,
+    ),
+    (
+        "a bad length of a 65th message",
+        64,
+        &[1, 1, 5],
+        Err(LinkFault::BadLength),
+        0,
+    ),
+    ("an unknown kind", 0, &[4], Err(LinkFault::UnknownKind), 0),
+    (
+        "an unknown kind behind a message",
+        1,
+        &[0, 0, 0],
+        Err(LinkFault::UnknownKind),
+        2,
+    ),
+    (
+        "the end of the day",
+        0,
+        &[3, 0, 0],
+        Err(LinkFault::UnknownKind),
+        2,
+    ),
+    (
+        "a message of 261 octets",
+        0,
+        &[1, 1, 5],
+        Err(LinkFault::BadLength),
+        0,
+    ),
+    (
+        "an end of turn of 3 octets",
+        0,
+        &[2, 0, 3],
+        Err(LinkFault::BadLength),
+        0,
+    ),
+    (
+        "an end of turn of 260 octets",
+        3,
+        &[2, 1, 4, 0],
+        Err(LinkFault::BadLength),
+        1,
+    ),
+    ("nothing", 0, &[], Err(LinkFault::EndedInFrame), 0),
+    ("a kind alone", 1, &[1], Err(LinkFault::EndedInFrame), 0),
+    ("half a length", 0, &[1, 1], Err(LinkFault::EndedInFrame), 0),
+    (
+        "a torn message",
+        1,
+        &[1, 0, 10, 8, 2],
+        Err(LinkFault::EndedInFrame),
+        0,
+    ),
+    (
+        "a torn end of turn",
+        0,
+        &[2, 0, 4, 0, 0, 0],
+        Err(LinkFault::EndedInFrame),
+        0,
+    ),
+    (
+        "a later moment",
+        0,
+        &[2, 0, 4, 0, 0, 0, 2],
+        Err(LinkFault::WrongMoment),
+        0,
+    ),
+    (
+        "a moment with another high octet",
+        1,
+        &[2, 0, 4, 1, 0, 0, 1],
+        Err(LinkFault::WrongMoment),
+        0,
+    ),
 ];
 
 /// Whether this is the opening of the turn, and then so many refusals.
@@ -42,7 +120,7 @@ fn is_written(alloc: Global, octets: &[u8], refusals: u8) -> bool {
 
 /// Whether the turn is opened, ends so at moment 1, leaves so many octets, and writes just its replies.
 fn ends_so(alloc: Global, ending: &Ending) -> Option<bool> {
-    let (count, behind, expected, left) = *ending;
+    let (_, count, behind, expected, left) = *ending;
     let input = repeated(alloc, STRAY, count, behind)?;
     let mut exchange = exchange(alloc)?;
     let mut session = Session::new();
@@ -60,7 +138,7 @@ fn ends_so(alloc: Global, ending: &Ending) -> Option<bool> {
 
 #[test]
 fn endings_of_a_turn(rt: HostRuntime) {
-    for (index, ending) in ENDINGS.iter().enumerate() {
-        assert!(rt; ends_so(rt.alloc(), ending) == Some(true), "ending {index}");
+    for ending in &ENDINGS {
+        assert!(rt; ends_so(rt.alloc(), ending) == Some(true), "{}", ending.0);
     }
 }

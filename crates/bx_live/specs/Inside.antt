@@ -10,6 +10,7 @@ use Rattle.bx_live.specs.declared.running.Second.TheVariants.{Passed, Ended}
 use Rattle.bx_live.specs.Acts.{Act, ended}
 use Rattle.bx_live.specs.Running.{Runs}
 use Rattle.bx_live.specs.Runs.{Place, Between, Losing, Over, Closing}
+use Rattle.bx_events.specs.declared.moment.TheConstants.{LAST_MOMENT}
 
 -- the place behind what went well, or broke off
 abbrev pub or_stopped : {A : Type 0} → Place → Day → Result A Stop → Place
@@ -24,7 +25,7 @@ behind_second d (Ok Ended) = Closing d
 behind_second d (Err _) = Over d
 
 abbrev pub RisesBySecond : Day → Day → Result Second CannotRecord → Type 0
-RisesBySecond d d1 (Ok Passed) = d.moment < 300000 → d1.moment ≡ d.moment + 1
+RisesBySecond d d1 (Ok Passed) = d.moment < LAST_MOMENT → d1.moment ≡ d.moment + 1
 RisesBySecond d d1 (Ok Ended) = d1.moment ≡ d.moment
 RisesBySecond d d1 (Err _) = Unit {0}
 
@@ -35,6 +36,6 @@ IsSaid did old new d d1 (Ok Passed) = Unit {0}
 IsSaid did old new d d1 (Err fault) = Unit {0}
 
 abbrev pub RisesByTurn : {A : Type 0} → Day → Day → Result A Stop → Type 0
-RisesByTurn d d1 (Ok _) = d.moment < 300000 → d1.moment ≡ d.moment + 1
-RisesByTurn d d1 (Err (stops.Link fault)) = d.moment < 300000 → d1.moment ≡ d.moment + 1
+RisesByTurn d d1 (Ok _) = d.moment < LAST_MOMENT → d1.moment ≡ d.moment + 1
+RisesByTurn d d1 (Err (stops.Link fault)) = d.moment < LAST_MOMENT → d1.moment ≡ d.moment + 1
 RisesByTurn d d1 (Err stops.Record) = Unit {0}

@@ -23,10 +23,7 @@ pub(crate) fn hear_turn<W: World>(exchange: &mut Exchange, world: &mut W) -> Res
         match world.read(room) {
             Ok(Frame::Message(octets)) => {
                 room -= 1;
-                match answer(exchange, world, &octets) {
-                    Ok(()) => {}
-                    Err(stop) => return Err(stop),
-                }
+                answer(exchange, world, &octets)?;
             }
             Ok(Frame::EndOfTurn(said)) => {
                 return if said == exchange.moment() {

@@ -13,9 +13,8 @@ ghost use Rattle.bx_live.specs.Inside.{or_stopped, behind_second, RisesByTurn, R
 use crate::hearing::hear_turn;
 use crate::turn::{Stop, open_turn};
 use crate::world::{Begin, CannotRecord, Loss, World};
-use bx_calls::timers::LAST_MOMENT;
 use bx_day::Exchange;
-use bx_events::LiveEvent;
+use bx_events::{LAST_MOMENT, LiveEvent};
 
 /// How a second that was waited for is over.
 #[derive(Clone, Copy)]
@@ -87,31 +86,28 @@ fn close_day<W: World>(world: &mut W) -> Result<(), CannotRecord>
     ensures at_last { (d : Day) → Runs W.did world.old world.new (Between d) (or_over (Done d) d result) }
     ensures at_ended { (d : Day) → Runs W.did world.old world.new (Closing d) (or_over (Done d) d result) }
 {
-    match world.sync() {
-        Ok(()) => {}
-        Err(fault) => return Err(fault),
-    }
+    world.sync()?;
     world.end_day();
     Ok(())
 }
 
-/// Runs the day up to a second of it, or to moment 300,000 where that is earlier, or until the world says that it is over. Each second is waited for. In one with a peer
-/// each event is on record before it happens, and on the disk before messages are written for it. At a fault of the link the
-/// peer is dropped, and the day goes on. At its end all of it is on the disk. Where something cannot be put on record, nothing more is done.
+/// Runs the day up to a second of it, or to `LAST_MOMENT` where that is earlier, or until the world says that it is over. Each
+/// second is waited for. In one with a peer each event is on record before it happens, and on the disk before messages are written
+/// for it. At a fault of the link the peer is dropped, and the day goes on. At its end all of it is on the disk. At `CannotRecord`,
+/// where something could not be put on record or synced, nothing more is done.
 pub fn run_live<W: World>(
     exchange: &mut Exchange,
     world: &mut W,
     last: u32,
 ) -> Result<(), CannotRecord>
-    ensures ran { (ran : Runs W.did world.old world.new (Between exchange.old) (or_over (Done exchange.new) exchange.new result)) × (exchange.new ≡ live_day_after (recorded ran.acts) exchange.old) × OnOk result (ended ran.acts ≡ false → exchange.new.moment ≡ max exchange.old.moment (min last 300000)) }
-    ensures whole { OnOk result (exchange.new.moment ≤ max exchange.old.moment (min last 300000)) }
+    ensures ran { (ran : Runs W.did world.old world.new (Between exchange.old) (or_over (Done exchange.new) exchange.new result)) × (exchange.new ≡ live_day_after (recorded ran.acts) exchange.old) × OnOk result (ended ran.acts ≡ false → exchange.new.moment ≡ max exchange.old.moment (min last LAST_MOMENT)) }
+    ensures whole { OnOk result (exchange.new.moment ≤ max exchange.old.moment (min last LAST_MOMENT)) }
 {
     let end = last.min(LAST_MOMENT);
     for _second in exchange.moment()..end {
-        match run_second(exchange, world) {
-            Ok(Second::Passed) => {}
-            Ok(Second::Ended) => return close_day(world),
-            Err(fault) => return Err(fault),
+        match run_second(exchange, world)? {
+            Second::Passed => {}
+            Second::Ended => return close_day(world),
         }
     }
     close_day(world)

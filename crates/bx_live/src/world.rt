@@ -4,7 +4,7 @@ ghost use Rattle.std.specs.Prelude.{◌≡◌, ◌++◌, ◌∷◌, [], List, is
 ghost use Rattle.bx_events.specs.Told.{live_event_of};
 ghost use Rattle.bx_frames.specs.Frames.{message_frame, turn_frame, frames_of};
 ghost use Rattle.bx_frames.specs.Reading.{MayCome};
-ghost use Rattle.bx_frames.specs.declared.frame.Side.TheVariants.{Exchange};
+ghost use Rattle.bx_frames.specs.declared.frame.Receiver.TheVariants.{Exchange};
 ghost use Rattle.bx_live.specs.Acts.{Act, Began, Dropped, Recorded, Synced, Wrote, Read, EndedDay};
 
 use bx_devices::WriteFailed;
@@ -51,23 +51,24 @@ pub trait World {
     fn drop_peer(&mut self, loss: Loss)
         ensures { did self.old (Dropped loss ∷ []) self.new };
 
-    /// Puts an event on record. It need not be on the disk before the next sync.
+    /// Puts an event on record. It need not be on the disk before the next sync. `CannotRecord` where that failed.
     fn record(&mut self, event: LiveEvent<'_>) -> Result<(), CannotRecord>
         ensures { did self.old (Recorded (live_event_of event.entry) (is_ok result) ∷ []) self.new };
 
-    /// What was recorded is on the disk.
+    /// What was recorded is on the disk. `CannotRecord` where it may not be.
     fn sync(&mut self) -> Result<(), CannotRecord>
         ensures { did self.old (Synced (is_ok result) ∷ []) self.new };
 
-    /// Writes the messages of a second to the peer, and the end of the turn with its moment.
+    /// Writes the messages of a second to the peer, and the end of the turn with its moment. `WriteFailed` where not all of it was
+    /// written.
     fn write_turn(&mut self, sent: &[Octets], moment: u32) -> Result<(), WriteFailed>
         ensures { did self.old (Wrote (frames_of sent.now ++ turn_frame moment) (is_ok result) ∷ []) self.new };
 
-    /// Writes a message to the peer.
+    /// Writes a message to the peer. `WriteFailed` where not all of it was written.
     fn write_message(&mut self, message: &Octets) -> Result<(), WriteFailed>
         ensures { did self.old (Wrote (message_frame message.now.items) (is_ok result) ∷ []) self.new };
 
-    /// Reads the next frame that the peer sends. So many messages may still come in this turn.
+    /// Reads the next frame that the peer sends. So many messages may still come in this turn. A fault is one of the link.
     fn read(&mut self, room: u32) -> Result<Frame, LinkFault>
         ensures read { did self.old (Read room result ∷ []) self.new }
         ensures comes { IfOk result (λ f. MayCome Exchange room f) };

@@ -18,13 +18,14 @@ use Rattle.bx_live_commands.specs.WaitingDisks.{waiting_holds, no_crash, no_mome
 use Rattle.bx_live_commands.specs.declared.rehearsing.Opened.{Opened}
 use Rattle.bx_live_commands.specs.declared.rehearsing.Rehearsed.{Rehearsed}
 use Rattle.bx_live_commands.specs.declared.waiting.WaitingDisk.{WaitingDisk}
+use Rattle.bx_events.specs.declared.moment.TheConstants.{LAST_MOMENT}
 
 -- The acts of a whole run of a day. It is the one after just the events on record, as the journal has them on the disk; where its link
 -- was not lost it has reached the turn that was asked for; and its messages were captured.
 pub record IsOnRecord {D F : Type 0} (holds may_leave : D → List ℕ → Type 0) (files : F → Option (List ℕ)) (opened : Opened D) (file : Option (Watched F)) (first : ℕ) (rehearsed : Rehearsed D) (acts : List Act) : Type 0 where
   pub run : IsRun (Between opened.exchange) acts (Done rehearsed.exchange)
   pub after : rehearsed.exchange ≡ live_day_after (recorded acts) opened.exchange
-  pub reached : rehearsed.lost ≡ None → rehearsed.exchange.moment ≡ max opened.exchange.moment (min opened.turns 300000)
+  pub reached : rehearsed.lost ≡ None → rehearsed.exchange.moment ≡ max opened.exchange.moment (min opened.turns LAST_MOMENT)
   pub journal : holds opened.disk [] → IsSettled holds may_leave rehearsed.disk opened.plan (recorded acts)
   pub captured : IsRunKept files file first acts rehearsed.is_whole
 

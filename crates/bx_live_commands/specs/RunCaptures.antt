@@ -9,12 +9,13 @@ use Rattle.bx_devices.specs.declared.watched.Watched.{Watched}
 use Rattle.bx_frames.specs.declared.frame.Frame.TheVariants as frames
 use Rattle.bx_live.specs.Acts.{Act, Began, Wrote, Read}
 use Rattle.bx_world.specs.Captures.{AreFramesOf}
+use Rattle.bx_events.specs.declared.moment.TheConstants.{LAST_MOMENT}
 
 -- The packets of the messages of acts, one behind another: of those whose frames were written, and of each that was read. Each has
 -- the second that began last, behind the first second; this one did before the acts
 abbrev pub ArePackets : ℕ → ℕ → List Act → List ℕ → Type 0
 ArePackets first second [] packets = packets ≡ []
-ArePackets first second (Began begun begin ∷ acts) packets = ArePackets first (min begun 300000) acts packets
+ArePackets first second (Began begun begin ∷ acts) packets = ArePackets first (min begun LAST_MOMENT) acts packets
 ArePackets first second (Wrote octets done ∷ acts) packets =
     (messages : List (ArrayVec ℕ)) × AreFramesOf messages octets × ((more : List ℕ) × (packets ≡ flat_map (packet_sent (first + second)) messages ++ more) × ArePackets first second acts more)
 ArePackets first second (Read room (Ok (frames.Message message)) ∷ acts) packets = (more : List ℕ) × (packets ≡ packet (first + second) Received message.items ++ more) × ArePackets first second acts more

@@ -17,6 +17,7 @@ pub struct BufferedFile<F: Write + Drop> {
 }
 
 impl<F: Write + Drop> BufferedFile<F> {
+    /// A file of which no call has failed.
     pub fn new(file: BufWriter<F>) -> Self {
         BufferedFile {
             file,

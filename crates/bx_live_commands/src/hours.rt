@@ -42,10 +42,7 @@ pub(crate) fn hours_of<'a>(
     ensures hours { IfOk result (AreHours date.now zone.now pace) }
     ensures refused { IfErr result (IsNoHours date.now zone.now) }
 {
-    let first = match midnight_of(date, zone) {
-        Ok(first) => first,
-        Err(fault) => return Err(fault),
-    };
+    let first = midnight_of(date, zone)?;
     Ok(Hours {
         schedule: Schedule::new(u64::from(first), pace.max(1)),
         first,

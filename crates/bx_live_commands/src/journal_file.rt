@@ -16,6 +16,7 @@ pub struct JournalFile<F> {
 }
 
 impl<F> JournalFile<F> {
+    /// A file of which no call has failed.
     pub fn new(file: F) -> Self {
         JournalFile {
             file,

@@ -65,10 +65,7 @@ fn run_at_door<'a, H: Files + Clock + Eprint, S: Read + Write + Limits + Drop, G
         digest,
         turns,
     } = opening;
-    let resumed = match resume_named(rt, request.journal, &digest, exchange) {
-        Ok(resumed) => resumed,
-        Err(fault) => return Err(fault),
-    };
+    let resumed = resume_named(rt, request.journal, &digest, exchange)?;
     let file = match file_of(rt, request.sight.capture) {
         Ok(file) => file,
         Err(fault) => return Err(LiveFault::Day(fault)),
@@ -163,14 +160,9 @@ fn times_of<'a>(request: LiveRequest<'a>) -> Result<Times, DayCommandFault<'a>>
     ensures clock { IfOk result (λ times. IsRecordsClock (records_of request.entry) times.clock) }
     ensures refused { IfErr result (IsNoTime request.entry) }
 {
-    let hours = match hours_of(request.date, request.zone, request.pace) {
-        Ok(hours) => hours,
-        Err(fault) => return Err(fault),
-    };
-    match records_clock_of(records_of(request)) {
-        Ok(clock) => Ok(Times { hours, clock }),
-        Err(fault) => Err(fault),
-    }
+    let hours = hours_of(request.date, request.zone, request.pace)?;
+    let clock = records_clock_of(records_of(request))?;
+    Ok(Times { hours, clock })
 }
 
 /// The exchange at the end of a live day, with the file that was made for its records.
@@ -204,6 +196,13 @@ fn run_live_day<
 /// shows its moment on a terminal alone, writes what became of each booking, and its records into their file, where they are to be
 /// written. A capture or records that were not written whole are a refusal, behind all that was told; at any other refusal nothing was
 /// written, except that where the output failed a front of what was to be told was, and the records as if it had not.
+///
+/// What the day needs is opened in this order, and the first fault of it is answered, as `LiveFault::Day` but for `CannotRecord`:
+/// `Day` or `Capture` for the date and the zone; `Day` for the clock of the records; `Command` for the plan; `CannotListen` for
+/// the port or the socket; `Journal`, as `BadLine` or `OtherPlan`, `Command`, as `CannotRead`, or `CannotRecord` for the journal;
+/// `CannotWriteFile` for the file of the capture, and then for that of the records. `CannotRecord` is also answered where an
+/// event cannot be put on record. At the end `Command`, as `CannotWrite`, is the fault of the output; `CannotWriteFile` that of
+/// the capture; and `CannotWriteFile`, `Day`, as `OutOfRange`, or `Command`, as `Memory`, that of the records.
 pub fn live_on_files<
     'a,
     H: Files + AllocGlobal + Clock + Eprint + Net<Listener = TcpListener, Stream = TcpStream>,
@@ -219,8 +218,6 @@ pub fn live_on_files<
     ensures done { OnOk result (IsLiveTold H H.File.contents request.entry (W.contents (device_of output.old)) (W.contents (device_of output.new)) true (Ok tt)) }
     ensures refused { IfErr result (IsLiveRefusal H H.File.contents request.entry W.contents output.old output.new) }
 {
-    match run_live_day(rt, inputs, request, is_terminal) {
-        Ok(ended) => tell(rt.alloc(), ended, request.sight.capture, output),
-        Err(fault) => Err(fault),
-    }
+    let ended = run_live_day(rt, inputs, request, is_terminal)?;
+    tell(rt.alloc(), ended, request.sight.capture, output)
 }

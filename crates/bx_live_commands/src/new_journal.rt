@@ -36,10 +36,7 @@ fn journal_in<'a, F: Write + Drop>(
     ensures new { IfOk result (λ disk. length ≡ Ok 0) }
     ensures refused { IfErr result (IsNoNewJournal name.now length) }
 {
-    match judged(name, length) {
-        Ok(()) => {}
-        Err(fault) => return Err(fault),
-    }
+    judged(name, length)?;
     match BufWriter::new(alloc, file) {
         Ok(file) => Ok(BufferedFile::new(file)),
         Err(_) => Err(LiveFault::Day(DayCommandFault::Command(CommandFault::Memory))),
@@ -48,10 +45,8 @@ fn journal_in<'a, F: Write + Drop>(
 
 /// How many octets a file has.
 fn length_of<F: OpenFile>(file: &F) -> io::Result<u64> {
-    match file.metadata() {
-        Ok(metadata) => Ok(metadata.len()),
-        Err(error) => Err(error),
-    }
+    let metadata = file.metadata()?;
+    Ok(metadata.len())
 }
 
 /// The journal in the file of this name, which is made where it is not there. One that holds something is left as it is.
@@ -67,11 +62,7 @@ pub(crate) fn new_journal<'a, H: Files>(
         Err(_) => return Err(LiveFault::CannotRecord(name)),
     };
     let length = length_of(&file);
-    match journal_in(alloc, name, file, length) {
-        Ok(disk) => {
-            sync_entry(rt, name);
-            Ok(disk)
-        }
-        Err(fault) => Err(fault),
-    }
+    let disk = journal_in(alloc, name, file, length)?;
+    sync_entry(rt, name);
+    Ok(disk)
 }

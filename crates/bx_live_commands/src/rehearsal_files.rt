@@ -19,8 +19,8 @@ use crate::telling::{Ended, tell};
 use bx_book::Clock as DayClock;
 use bx_check_commands::Inputs;
 use bx_day_openings::{
-    DayCommandFault, RecordsFile, accepted, accepted_at, both_ends, far_end_of, file_of, first_of,
-    records_clock_of, records_file_of,
+    DayCommandFault, RecordsFile, accepted, accepted_at, connected_ends, far_end_of, file_of,
+    first_of, records_clock_of, records_file_of,
 };
 use bx_devices::Watched;
 use bx_link::Connection;
@@ -58,10 +58,7 @@ fn readied<'a, H: Files + AllocGlobal>(
     ensures readied { IfOk result (λ ready. IsReadied H.File.contents request.entry opening seen.first ready.opened ready.view.file ready.view.first seen.clock ready.records) }
     ensures refused { IfErr result (IsNotReadied H.File.contents request.entry) }
 {
-    let disk = match new_journal(rt, rt.alloc(), request.journal) {
-        Ok(disk) => disk,
-        Err(fault) => return Err(fault),
-    };
+    let disk = new_journal(rt, rt.alloc(), request.journal)?;
     let file = match file_of(rt, request.sight.capture) {
         Ok(file) => file,
         Err(fault) => return Err(LiveFault::Day(fault)),
@@ -139,11 +136,8 @@ fn rehearse_script<
         Ok(far) => far,
         Err(fault) => return Err(LiveFault::Day(fault)),
     };
-    let ready = match readied(rt, request, opening, seen) {
-        Ok(ready) => ready,
-        Err(fault) => return Err(fault),
-    };
-    let (near, distant) = match both_ends(rt) {
+    let ready = readied(rt, request, opening, seen)?;
+    let (near, distant) = match connected_ends(rt) {
         Ok(ends) => ends,
         Err(fault) => return Err(LiveFault::Day(fault)),
     };
@@ -176,10 +170,7 @@ fn rehearse_at_port<
     ensures records { IfOk result (λ run. IsRecordsFileFor request.entry.records seen.clock run.records) }
     ensures stopped { IfErr result (λ fault. IsRecordsClock request.entry.records seen.clock → StopsBehindPeer H.File.contents (Peer.At (Place.Port port)) request.entry fault) }
 {
-    let ready = match readied(rt, request, opening, seen) {
-        Ok(ready) => ready,
-        Err(fault) => return Err(fault),
-    };
+    let ready = readied(rt, request, opening, seen)?;
     let peer = match accepted(rt, port, seen.is_shown) {
         Ok(peer) => peer,
         Err(fault) => return Err(LiveFault::Day(fault)),
@@ -211,10 +202,7 @@ fn rehearse_at_socket<
     ensures records { IfOk result (λ run. IsRecordsFileFor request.entry.records seen.clock run.records) }
     ensures stopped { IfErr result (λ fault. IsRecordsClock request.entry.records seen.clock → StopsBehindPeer H.File.contents (Peer.At (Place.Socket path.entry)) request.entry fault) }
 {
-    let ready = match readied(rt, request, opening, seen) {
-        Ok(ready) => ready,
-        Err(fault) => return Err(fault),
-    };
+    let ready = readied(rt, request, opening, seen)?;
     let peer = match accepted_at(rt, path, seen.is_shown) {
         Ok(peer) => peer,
         Err(fault) => return Err(LiveFault::Day(fault)),
@@ -282,18 +270,13 @@ fn seen_of<'a>(
     ensures clock { IfOk result (λ seen. IsRecordsClock request.entry.records seen.clock) }
     ensures refused { IfErr result (IsUnseen request.entry) }
 {
-    let first = match first_of(request.sight.capture) {
-        Ok(first) => first,
-        Err(fault) => return Err(fault),
-    };
-    match records_clock_of(request.records) {
-        Ok(clock) => Ok(Seen {
-            first,
-            clock,
-            is_shown: is_terminal && !request.sight.is_quiet,
-        }),
-        Err(fault) => Err(fault),
-    }
+    let first = first_of(request.sight.capture)?;
+    let clock = records_clock_of(request.records)?;
+    Ok(Seen {
+        first,
+        clock,
+        is_shown: is_terminal && !request.sight.is_quiet,
+    })
 }
 
 /// The exchange at the end of a day that was rehearsed, with the file that was made for its records.
@@ -319,10 +302,8 @@ fn run_rehearsal<
         Ok(opening) => opening,
         Err(fault) => return Err(LiveFault::Day(fault)),
     };
-    match rehearse_with_peer(rt, inputs, request, opening, seen) {
-        Ok(run) => ended(run),
-        Err(fault) => Err(fault),
-    }
+    let run = rehearse_with_peer(rt, inputs, request, opening, seen)?;
+    ended(run)
 }
 
 /// Rehearses the day of a plan with the far end of a script, or towards the first peer that connects, as fast as they go and with what
@@ -331,6 +312,14 @@ fn run_rehearsal<
 /// cannot be put on record, the day is over; the journal has what happened until then. A capture or records that were not written whole
 /// are a refusal, behind all that was told; at any other refusal nothing was written, except that where the output failed a front of
 /// what was to be told was, and the records as if it had not.
+///
+/// What the day needs is opened in this order, and the first fault of it is answered, as `LiveFault::Day` but for `NotEmpty` and
+/// `CannotRecord`: `Day` or `Capture` for the date and the zone of the capture; `Day` for those of the records; `Command` for the
+/// plan; `Command` or `Script` for the script; `NotEmpty`, `CannotRecord` or `Command`, as `Memory`, for the journal;
+/// `CannotWriteFile` for the file of the capture, and then for that of the records; `CannotListen` or `CannotConnect` for the
+/// connection. `CannotRecord` is also answered where an event cannot be put on record, and `Link` is the fault of the link that
+/// ended the day. At the end `Command`, as `CannotWrite`, is the fault of the output; `CannotWriteFile` that of the capture; and
+/// `CannotWriteFile`, `Day`, as `OutOfRange`, or `Command`, as `Memory`, that of the records.
 pub fn rehearse_on_files<
     'a,
     H: Files + AllocGlobal + Clock + Eprint + Net<Listener = TcpListener, Stream = TcpStream>,
@@ -346,8 +335,6 @@ pub fn rehearse_on_files<
     ensures done { OnOk result (IsRehearsalTold H.File.contents request.entry (W.contents (device_of output.old)) (W.contents (device_of output.new)) true (Ok tt)) }
     ensures refused { IfErr result (IsRehearsalRefusal H.File.contents request.entry W.contents output.old output.new) }
 {
-    match run_rehearsal(rt, inputs, request, is_terminal) {
-        Ok(ended) => tell(rt.alloc(), ended, request.sight.capture, output),
-        Err(fault) => Err(fault),
-    }
+    let ended = run_rehearsal(rt, inputs, request, is_terminal)?;
+    tell(rt.alloc(), ended, request.sight.capture, output)
 }

@@ -66,7 +66,7 @@ fn put_away<D: Disk + Drop>(kept: Record<WaitingDisk<D>>) -> Result<D, CannotRec
 
 /// Rehearses a day with the far end of the same process, each at its end of a connection. Each event is on record before it happens; all
 /// of it is on the disk at the end, also where a fault of the link has ended the day. Where something cannot be put on record, nothing
-/// more is done.
+/// more is done, and `CannotRecord` is answered. The first second of the view is at most 4,294,667,295.
 pub fn rehearse_both<
     'a,
     'h,
@@ -128,7 +128,7 @@ pub fn rehearse_both<
     })
 }
 
-/// Rehearses a day towards one peer, in the same way.
+/// Rehearses a day towards one peer, in the same way, with the same fault. The first second of the view is at most 4,294,667,295.
 pub fn rehearse_towards<
     'a,
     'h,

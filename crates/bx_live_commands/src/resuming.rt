@@ -9,7 +9,7 @@ ghost use Rattle.bx_live_commands.specs.Resuming.{GoesOn, GoesOnBy, IsNotResumed
 use crate::fault::LiveFault;
 use crate::folder::sync_entry;
 use crate::journal_file::JournalFile;
-use bx_audit::told;
+use bx_audit::journal_read;
 use bx_day::Exchange;
 use bx_day_openings::DayCommandFault;
 use bx_devices::Watched;
@@ -61,17 +61,16 @@ fn replay<'a, R: Read>(
     ensures refused { IfErr result (IsNoJournal name.now plan.now (R.remaining (device_of journal.old)) (R.remaining (device_of journal.new)) (is_faulted journal.new)) }
 {
     let recovered = recover_day(journal, plan, exchange);
-    match told(name, recovered.whole) {
-        Ok(()) => Ok(Replayed {
-            exchange: recovered.exchange,
-            whole: recovered.whole,
-        }),
-        Err(fault) => Err(fault),
-    }
+    journal_read(name, recovered.whole)?;
+    Ok(Replayed {
+        exchange: recovered.exchange,
+        whole: recovered.whole,
+    })
 }
 
-/// Lets the events happen to the exchange that the journal in a file of this name has on record, and makes it ready for those that
-/// come. A journal that was not begun has none, and begins.
+/// Lets the events happen to the exchange that the journal in a file of this name has on record, and makes it ready for those
+/// that come. A journal that was not begun has none, and begins. `LiveFault::Day` where it is not read to its end: as `Journal`,
+/// as `BadLine` or `OtherPlan`, or as `Command`, as `CannotRead`; `CannotRecord` where it cannot be made ready.
 pub fn resume_on<'a, F: Read + Write + OpenFile + Drop>(
     name: &'a str,
     file: F,

@@ -69,8 +69,9 @@ pub(crate) fn run_in<'a, 'h, H: Clock + Eprint, W: World, F: Write + Drop>(
     }
 }
 
-/// Runs the rest of a day up to a turn of it, by the clock and towards the peers that come in by a door. Answers the exchange at the
-/// end of the day, and whether all that was to be captured was.
+/// Runs the rest of a day up to a turn of it, by the clock and towards the peers that come in by a door. Answers the exchange at
+/// the end of the day, and whether all that was to be captured was. `CannotRecord` where an event cannot be put on record:
+/// nothing more is done then. The first second of the view is at most 4,294,667,295.
 pub fn run_by_clock<
     'a,
     'h,
@@ -96,8 +97,6 @@ pub fn run_by_clock<
     } = resumed;
     let live = Live::new(rt, hours.schedule, door, record);
     let ran = run_in(rt, &mut exchange, live, turns, view);
-    match ran.done {
-        Ok(()) => Ok((exchange, ran.is_whole)),
-        Err(fault) => Err(fault),
-    }
+    ran.done?;
+    Ok((exchange, ran.is_whole))
 }

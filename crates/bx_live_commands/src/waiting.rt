@@ -14,23 +14,22 @@ pub struct WaitingDisk<D: Disk> {
 }
 
 impl<D: Disk> WaitingDisk<D> {
+    /// A disk that is synced no more until it is put away.
     pub fn new(disk: D) -> Self
         ensures { result.disk ≡ disk }
     {
         WaitingDisk { disk }
     }
 
-    /// The disk inside. From then on each crash leaves what it holds.
+    /// The disk inside. From then on each crash leaves what it holds. `DiskFailed` where it cannot be synced.
     pub fn put_away(self) -> Result<D, DiskFailed>
     where
         D: Drop,
         ensures { IfOk result (λ disk. (text : List ℕ) → D.holds self.disk text → D.holds disk text × Only text (D.may_leave disk)) }
     {
         let WaitingDisk { mut disk } = self;
-        match disk.sync() {
-            Ok(()) => Ok(disk),
-            Err(fault) => Err(fault),
-        }
+        disk.sync()?;
+        Ok(disk)
     }
 }
 

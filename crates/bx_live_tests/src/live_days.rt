@@ -9,8 +9,8 @@ use bx_worked_days::exchange;
 use std::alloc::Global;
 
 /// A peer is lost in the first second behind an end of turn that is none; the second has none; in the third one comes, asks for
-/// a call that is unknown and ends its turn; the fourth begins late; in the fifth it sends half a frame; the sixth has none; in the last
-/// two one ends its turns. No timer runs in the second, the fourth and the sixth, so T303 is due in the eighth.
+/// a call that is unknown and ends its turn; the fourth begins late; in the fifth it sends half a frame; the sixth has none; in
+/// the last two one ends its turns. No timer runs in the second, the fourth and the sixth, so T303 is due in the eighth.
 static SECONDS: [Scene; 8] = [
     Scene {
         begin: Begin::Joined,

@@ -6,7 +6,7 @@ use crate::journal::Journal;
 use bx_devices::{Watched, WriteFailed};
 use bx_events::LiveEvent;
 use bx_frames::{
-    Frame, LinkFault, Side, read_frame, write_end_of_turn, write_message, write_messages,
+    Frame, LinkFault, Receiver, read_frame, write_end_of_turn, write_message, write_messages,
 };
 use bx_live::{Begin, CannotRecord, Loss, World};
 use bx_q931::Octets;
@@ -129,7 +129,7 @@ impl World for MemoryWorld {
     }
 
     fn read(&mut self, room: u32) -> Result<Frame, LinkFault> {
-        read_frame(&mut self.reader, Side::Exchange, room)
+        read_frame(&mut self.reader, Receiver::Exchange, room)
     }
 
     fn end_day(&mut self) {

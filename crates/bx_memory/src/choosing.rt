@@ -7,7 +7,7 @@ use bx_dist::{Carried, Dist, Distances, Part, Potentials};
 use bx_flow::least_cost;
 use bx_heap::HeapDist;
 use bx_line::Line;
-use bx_planner::{AmendFail, Earning, PlanFail, amend, capacity, plan};
+use bx_planner::{Earning, NoAmendment, NoPlan, amend, capacity, plan};
 use bx_rounds::Rounds;
 use std::alloc::{AllocError, Global};
 
@@ -104,7 +104,7 @@ pub fn coloured(alloc: Global, world: &World) -> Answer {
 pub fn planned(alloc: Global, world: &World) -> Answer {
     match plan(alloc, &world.bookings, world.channels) {
         Ok(plan) => Answer::Right(plan.total),
-        Err(PlanFail::Memory) => Answer::Refused,
+        Err(NoPlan::Memory) => Answer::Refused,
         Err(_) => Answer::Wrong,
     }
 }
@@ -114,7 +114,7 @@ pub fn amended(alloc: Global, world: &World) -> Answer {
     let more = Bookings::new(alloc);
     match amend(alloc, &world.plan, &more) {
         Ok(plan) => Answer::Right(plan.total),
-        Err(AmendFail::Memory) => Answer::Refused,
+        Err(NoAmendment::Memory) => Answer::Refused,
         Err(_) => Answer::Wrong,
     }
 }

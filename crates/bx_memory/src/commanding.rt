@@ -6,7 +6,7 @@ use bx_check::check;
 use bx_check_commands::{CommandFault, check_against, check_self, decode};
 use bx_devices::Watched;
 use bx_plan_run::{CapacityFault, RunFault, capacity_run, plan_run};
-use bx_quote::{QuoteFail, QuoteFault, write_explained, write_refused};
+use bx_quote::{NoQuote, QuoteFault, write_explained, write_refused};
 use std::alloc::Global;
 
 /// A writer that has room for all that is written here, and does not grow.
@@ -18,7 +18,7 @@ fn output_of(alloc: Global) -> Option<Watched<Vec<u8>>> {
 }
 
 /// What was written, by its length, where the call was done; nothing, where a growth was refused.
-fn told(output: Watched<Vec<u8>>, is_done: bool) -> Answer {
+fn answer_of(output: Watched<Vec<u8>>, is_done: bool) -> Answer {
     let written = output.into_inner().len() as u64;
     if is_done {
         return Answer::Right(written);
@@ -35,8 +35,8 @@ pub fn plan_run_done(alloc: Global, world: &World) -> Answer {
     };
     let mut input = Watched::new(BOOKINGS);
     match plan_run(alloc, &mut input, &mut output, &world.day, world.channels) {
-        Ok(_) => told(output, true),
-        Err(RunFault::Memory) => told(output, false),
+        Ok(_) => answer_of(output, true),
+        Err(RunFault::Memory) => answer_of(output, false),
         Err(_) => Answer::Wrong,
     }
 }
@@ -47,9 +47,9 @@ pub fn capacity_told(alloc: Global, world: &World) -> Answer {
     };
     let mut input = Watched::new(BOOKINGS);
     match capacity_run(alloc, &mut input, &mut output, &world.day) {
-        Ok(()) => told(output, true),
+        Ok(()) => answer_of(output, true),
         Err(CapacityFault::Memory | CapacityFault::Unread(StreamFault::Memory)) => {
-            told(output, false)
+            answer_of(output, false)
         }
         Err(_) => Answer::Wrong,
     }
@@ -61,8 +61,8 @@ pub fn checked(alloc: Global, world: &World) -> Answer {
     };
     let mut input = Watched::new(world.text.as_slice());
     match check_self(alloc, &mut input, &mut output) {
-        Ok(_) => told(output, true),
-        Err(CommandFault::Memory) => told(output, false),
+        Ok(_) => answer_of(output, true),
+        Err(CommandFault::Memory) => answer_of(output, false),
         Err(_) => Answer::Wrong,
     }
 }
@@ -80,8 +80,8 @@ pub fn checked_against(alloc: Global, world: &World) -> Answer {
         &mut input,
         &mut output,
     ) {
-        Ok(_) => told(output, true),
-        Err(CommandFault::Memory) => told(output, false),
+        Ok(_) => answer_of(output, true),
+        Err(CommandFault::Memory) => answer_of(output, false),
         Err(_) => Answer::Wrong,
     }
 }
@@ -94,8 +94,8 @@ pub fn refused_told(alloc: Global, world: &World) -> Answer {
         return Answer::Wrong;
     }
     match write_refused(alloc, &world.plan, &mut output) {
-        Ok(()) => told(output, true),
-        Err(QuoteFault::Quote(QuoteFail::Memory)) => told(output, false),
+        Ok(()) => answer_of(output, true),
+        Err(QuoteFault::Quote(NoQuote::Memory)) => answer_of(output, false),
         Err(_) => Answer::Wrong,
     }
 }
@@ -108,8 +108,8 @@ pub fn row_explained(alloc: Global, world: &World) -> Answer {
         return Answer::Wrong;
     }
     match write_explained(alloc, &world.plan, 2, &mut output) {
-        Ok(()) => told(output, true),
-        Err(QuoteFault::Quote(QuoteFail::Memory)) => told(output, false),
+        Ok(()) => answer_of(output, true),
+        Err(QuoteFault::Quote(NoQuote::Memory)) => answer_of(output, false),
         Err(_) => Answer::Wrong,
     }
 }
@@ -119,8 +119,8 @@ pub fn decoded(alloc: Global) -> Answer {
         return Answer::Refused;
     };
     match decode(alloc, "080280015A08028091", &mut output) {
-        Ok(()) => told(output, true),
-        Err(CommandFault::Memory) => told(output, false),
+        Ok(()) => answer_of(output, true),
+        Err(CommandFault::Memory) => answer_of(output, false),
         Err(_) => Answer::Wrong,
     }
 }

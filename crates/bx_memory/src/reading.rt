@@ -5,7 +5,7 @@ use bx_base::{AddFault, Bookings};
 use bx_book::{BookFault, StreamFault, read_bookings, read_bookings_from};
 use bx_devices::{ReadFault, Watched, read_octets};
 use bx_far::{Script, ScriptFault};
-use bx_planfile::{PlanFault, read_plan};
+use bx_planfile::{PlanTextFault, read_plan};
 use std::alloc::Global;
 
 /// Five bookings one by one; a refused one leaves the list as it was.
@@ -60,7 +60,7 @@ pub fn bookings_streamed(alloc: Global, world: &World) -> Answer {
 pub fn plan_read(alloc: Global, world: &World) -> Answer {
     match read_plan(alloc, &world.text) {
         Ok(plan) if plan.bookings.same(&world.bookings) => Answer::Right(plan.total),
-        Err(PlanFault::Memory) => Answer::Refused,
+        Err(PlanTextFault::Memory) => Answer::Refused,
         _ => Answer::Wrong,
     }
 }

@@ -5,14 +5,14 @@ use bx_base::Booking;
 use bx_check::check;
 use bx_day::Exchange;
 use bx_planner::next_gain;
-use bx_quote::{Quote, QuoteFail, explain, quote};
+use bx_quote::{NoQuote, Quote, explain, quote};
 use bx_replay::{Event, replay};
 use std::alloc::Global;
 
-fn threshold(given: Result<Quote, QuoteFail>) -> Answer {
+fn threshold(given: Result<Quote, NoQuote>) -> Answer {
     match given {
         Ok(quote) => Answer::Right(quote.threshold),
-        Err(QuoteFail::Memory) => Answer::Refused,
+        Err(NoQuote::Memory) => Answer::Refused,
         Err(_) => Answer::Wrong,
     }
 }

@@ -1,5 +1,5 @@
 -- Why a call has no times, where its day is named and where it is not.
-use Rattle.std.proofs.Common.{◌≡◌, ℕ, ◌≤◌, List, Option, Some, None, refl, ◌⊎◌, inl, inr}
+use Rattle.std.proofs.Common.{ℕ, ◌≤◌, List, Option, Some, None, refl, inl, inr}
 use Rattle.std.specs.Prelude.{MatchOption}
 use Rattle.bx_book.specs.NamedDays.{IsDayOf}
 use Rattle.bx_book.specs.Rows.{Span, IsMomentOf, IsTimeFault, span_of}

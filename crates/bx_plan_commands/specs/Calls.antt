@@ -2,7 +2,7 @@
 use Rattle.std.specs.Prelude.{◌≡◌, ◌<◌, ◌≤◌, ◌⊎◌, ℕ, true, false, List, MatchOption}
 use Rattle.bx_base.specs.Bookings.{Row}
 use Rattle.bx_book.specs.NamedDays.{IsDayOf, IsDayFault}
-use Rattle.bx_book.specs.Rows.{Span, IsMomentOf, IsTimeFault, span_of}
+use Rattle.bx_book.specs.Rows.{IsMomentOf, IsTimeFault, span_of}
 use Rattle.bx_book.specs.declared.day.Day.{Day}
 use Rattle.bx_book.specs.declared.fault.BookFault.{BookFault}
 use Rattle.bx_book.specs.declared.fault.BookFault.TheVariants.{NotATime, OutsideDay, EndNotAfterStart}
@@ -11,6 +11,7 @@ use Rattle.bx_text.specs.Digits.{decimal_value}
 use Rattle.bx_plan_commands.specs.declared.fault.FileFault.{FileFault}
 use Rattle.bx_plan_commands.specs.declared.fault.FileFault.TheVariants as files
 use Rattle.bx_request.specs.declared.request.Call.{Call}
+use Rattle.bx_base.specs.declared.booking.TheConstants.{MAX_MOMENT}
 
 -- ---- seconds that are counted
 
@@ -18,12 +19,12 @@ use Rattle.bx_request.specs.declared.request.Call.{Call}
 pub record IsSecondOf (word : List ℕ) (second : ℕ) : Type 0 where
   pub decimal : is_decimal word ≡ true
   pub value : second ≡ decimal_value word
-  pub within : second ≤ 200000
+  pub within : second ≤ MAX_MOMENT
 
 -- it is no decimal, or its value lies behind each day
 abbrev pub IsSecondFault : List ℕ → BookFault → Type 0
 IsSecondFault word (NotATime row) = (row ≡ 1) × (is_decimal word ≡ false)
-IsSecondFault word (OutsideDay row) = (row ≡ 1) × (is_decimal word ≡ true) × (200000 < decimal_value word)
+IsSecondFault word (OutsideDay row) = (row ≡ 1) × (is_decimal word ≡ true) × (MAX_MOMENT < decimal_value word)
 IsSecondFault word _ = ⊥
 
 -- ---- two of them, or two times

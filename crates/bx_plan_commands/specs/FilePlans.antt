@@ -1,5 +1,5 @@
 -- What the commands on bookings write.
-use Rattle.std.specs.Prelude.{◌≤◌, ℕ, Bool, List, Option}
+use Rattle.std.specs.Prelude.{ℕ, Bool, List, Option}
 use Rattle.std.specs.Io.KnownBytes.{Appends}
 use Rattle.bx_base.specs.Bookings.{Row}
 use Rattle.bx_base.specs.Channels.{AreChannels, HasJust}

@@ -26,8 +26,9 @@ use Rattle.bx_check_commands.specs.declared.fault.CommandFault.TheVariants.{Cann
 use Rattle.bx_plan_run.specs.declared.planning.RunFault.{RunFault}
 use Rattle.bx_planner.specs.Amending.{amended}
 use Rattle.bx_planner.specs.Musts.{IsTooManyMust}
-use Rattle.bx_planner.specs.declared.amending.AmendFail.TheVariants.{TooMany, TooManyMust}
+use Rattle.bx_planner.specs.declared.amending.NoAmendment.TheVariants.{TooMany, TooManyMust}
 use Rattle.bx_request.specs.declared.request.Terms.{Terms}
+use Rattle.bx_base.specs.declared.bookings.TheConstants.{MAX_BOOKINGS}
 
 -- ---- before anything is written
 
@@ -115,8 +116,8 @@ IsCheckRefusal gives terms bookings plan contents old new fault =
 
 -- each fault of an amendment that can be seen is told, and no other in its place
 pub record IsToldOf (earlier : Parts) (more : List Row) (fault : AmendFault) : Type 0 where
-  pub full : (fault ≡ amend.Amend TooMany) ↔ (4000 < length earlier.rows + length more)
-  pub musts : (t : ℕ) → (fault ≡ amend.Amend (TooManyMust t)) ↔ ((length earlier.rows + length more ≤ 4000) × IsTooManyMust (amended earlier.rows earlier.assigned more) earlier.channels t)
+  pub full : (fault ≡ amend.Amend TooMany) ↔ (MAX_BOOKINGS < length earlier.rows + length more)
+  pub musts : (t : ℕ) → (fault ≡ amend.Amend (TooManyMust t)) ↔ ((length earlier.rows + length more ≤ MAX_BOOKINGS) × IsTooManyMust (amended earlier.rows earlier.assigned more) earlier.channels t)
 
 -- nothing was amended
 pub record IsUnamended (gives : List ℕ → Option (List ℕ) → Type 0) (date zone plan bookings : List ℕ) (output : Writing) (fault : AmendFault) : Type 0 where

@@ -14,8 +14,10 @@ use bx_plan_run::{CapacityFault, capacity_run};
 use std::alloc::Global;
 use std::io::Write;
 
-/// Writes what 0 to 30 channels would earn with the bookings of an input, a line for each count. At a refusal nothing was written,
-/// except that where the output failed a front of these lines was.
+/// Writes what 0 to 30 channels would earn with the bookings of an input, a line for each count. At a refusal nothing was
+/// written, except that where the output failed a front of these lines was. `Day` where the words name no day, `Command` where
+/// the input cannot be opened or read, the output fails or a growth is refused, and `Book` where what was read is no booking
+/// text.
 pub fn capacity_file<'a, I: Inputs, W: Write>(
     alloc: Global,
     inputs: &mut I,
@@ -26,22 +28,19 @@ pub fn capacity_file<'a, I: Inputs, W: Write>(
     ensures written { OnOk result (IsTableWritten (I.gives inputs.old) day.entry.0.now day.entry.1.now bookings.now (writing_of W.contents output.old output.new)) }
     ensures refused { IfErr result (IsTableRefusal (I.gives inputs.old) day.entry.0.now day.entry.1.now bookings.now W.contents output.old output.new) }
 {
-    let day = match day_of(day.0, day.1) {
-        Ok(day) => day,
-        Err(fault) => return Err(fault),
-    };
+    let day = day_of(day.0, day.1)?;
     let mut input = match inputs.open(bookings) {
         Ok(input) => input,
         Err(fault) => return Err(FileFault::Command(fault)),
     };
     match capacity_run(alloc, &mut input, output, &day) {
         Ok(()) => Ok(()),
-        Err(fault) => Err(told(bookings, fault)),
+        Err(fault) => Err(fault_of(bookings, fault)),
     }
 }
 
 /// The fault of this command, with the input's name.
-fn told<'a>(bookings: &'a str, fault: CapacityFault) -> FileFault<'a>
+fn fault_of<'a>(bookings: &'a str, fault: CapacityFault) -> FileFault<'a>
     ensures { result ≡ told_of bookings.entry fault }
 {
     match fault {

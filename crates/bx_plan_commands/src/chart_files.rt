@@ -27,8 +27,10 @@ fn clock_of<'a>(day: Option<(&str, &str)>) -> Result<Option<Clock>, FileFault<'a
     }
 }
 
-/// Writes a picture of the plan of an input, with what one more channel would add to its total, of the day with this date and zone
-/// where one is named. At a refusal nothing was written, except that where the output failed a front of the picture was.
+/// Writes a picture of the plan of an input, with what one more channel would add to its total, of the day with this date and
+/// zone where one is named. At a refusal nothing was written, except that where the output failed a front of the picture was.
+/// `Day` where the words name no day, `Command` where there is no proved plan of the input or a growth is refused, and `Chart`
+/// where no picture was written.
 pub fn chart_file<'a, I: Inputs, W: Write>(
     alloc: Global,
     inputs: &mut I,
@@ -39,10 +41,7 @@ pub fn chart_file<'a, I: Inputs, W: Write>(
     ensures drawn { OnOk result (IsPictured (I.gives inputs.old) day.entry plan.now (writing_of W.contents output.old output.new)) }
     ensures refused { IfErr result (IsNotPictured (I.gives inputs.old) day.entry plan.now W.contents output.old output.new) }
 {
-    let clock = match clock_of(day) {
-        Ok(clock) => clock,
-        Err(fault) => return Err(fault),
-    };
+    let clock = clock_of(day)?;
     let plan = match proved_named(alloc, inputs, plan) {
         Ok(plan) => plan,
         Err(fault) => return Err(FileFault::Command(fault)),

@@ -30,8 +30,6 @@ pub(crate) fn channels_and_day<'a>(terms: &Terms<'_>) -> Result<(ChannelSet, Day
         Ok(channels) => channels,
         Err(fault) => return Err(FileFault::Channels(fault)),
     };
-    match day_of(terms.date, terms.zone) {
-        Ok(day) => Ok((channels, day)),
-        Err(fault) => Err(fault),
-    }
+    let day = day_of(terms.date, terms.zone)?;
+    Ok((channels, day))
 }

@@ -16,7 +16,8 @@ use std::alloc::Global;
 use std::io::Write;
 
 /// Writes the plan of the bookings of an input. At a refusal nothing was written, except that where the output failed a front of
-/// a plan was.
+/// a plan was. `Channels` and `Day` where the words name none, `Command` where the input cannot be opened, and `Run` where the
+/// planning run is refused.
 pub fn plan_file<'a, I: Inputs, W: Write>(
     alloc: Global,
     inputs: &mut I,
@@ -27,10 +28,7 @@ pub fn plan_file<'a, I: Inputs, W: Write>(
     ensures planned { OnOk result (IsPlanned (I.gives inputs.old) terms.now bookings.now (writing_of W.contents output.old output.new)) }
     ensures refused { IfErr result (IsPlanRefusal (I.gives inputs.old) terms.now bookings.now W.contents output.old output.new) }
 {
-    let (channels, day) = match channels_and_day(terms) {
-        Ok(named) => named,
-        Err(fault) => return Err(fault),
-    };
+    let (channels, day) = channels_and_day(terms)?;
     let mut input = match inputs.open(bookings) {
         Ok(input) => input,
         Err(fault) => return Err(FileFault::Command(fault)),
@@ -42,7 +40,8 @@ pub fn plan_file<'a, I: Inputs, W: Write>(
 }
 
 /// Checks the plan of one input against the bookings of another, and writes `proved `, the total and LF. At a refusal nothing was
-/// written, except that where the output failed a front of that line was.
+/// written, except that where the output failed a front of that line was. `Channels` and `Day` where the words name none, `Book`
+/// where the first input has no booking text, and `Command` for all else.
 pub fn check_file<'a, I: Inputs, W: Write>(
     alloc: Global,
     inputs: &mut I,
@@ -54,14 +53,8 @@ pub fn check_file<'a, I: Inputs, W: Write>(
     ensures checked { OnOk result (IsChecked (I.gives inputs.old) terms.now bookings.now plan.now (writing_of W.contents output.old output.new)) }
     ensures refused { IfErr result (IsCheckRefusal (I.gives inputs.old) terms.now bookings.now plan.now W.contents output.old output.new) }
 {
-    let (channels, day) = match channels_and_day(terms) {
-        Ok(named) => named,
-        Err(fault) => return Err(fault),
-    };
-    let rows = match bookings_named(alloc, inputs, bookings, &day) {
-        Ok(rows) => rows,
-        Err(fault) => return Err(fault),
-    };
+    let (channels, day) = channels_and_day(terms)?;
+    let rows = bookings_named(alloc, inputs, bookings, &day)?;
     let mut input = match inputs.open(plan) {
         Ok(input) => input,
         Err(fault) => return Err(FileFault::Command(fault)),
@@ -72,8 +65,10 @@ pub fn check_file<'a, I: Inputs, W: Write>(
     }
 }
 
-/// Writes the plan that holds all that the plan of one input accepts, for its bookings and those of another. At a refusal nothing
-/// was written, except that where the output failed a front of such a plan was.
+/// Writes the plan that holds all that the plan of one input accepts, for its bookings and those of another. At a refusal
+/// nothing was written, except that where the output failed a front of such a plan was. `Day` where the words name none,
+/// `Command` where there is no plan of the first input or the second is not read, `Book` where that has no booking text, and
+/// `Amend` where nothing was amended.
 pub fn amend_file<'a, I: Inputs, W: Write>(
     alloc: Global,
     inputs: &mut I,
@@ -85,18 +80,12 @@ pub fn amend_file<'a, I: Inputs, W: Write>(
     ensures held { OnOk result (IsHeld (I.gives inputs.old) day.entry.0.now day.entry.1.now plan.now bookings.now (writing_of W.contents output.old output.new)) }
     ensures refused { IfErr result (IsNotAmended (I.gives inputs.old) day.entry.0.now day.entry.1.now plan.now bookings.now W.contents output.old output.new) }
 {
-    let day = match day_of(day.0, day.1) {
-        Ok(day) => day,
-        Err(fault) => return Err(fault),
-    };
+    let day = day_of(day.0, day.1)?;
     let earlier = match plan_named(alloc, inputs, plan) {
         Ok(earlier) => earlier,
         Err(fault) => return Err(FileFault::Command(fault)),
     };
-    let more = match bookings_named(alloc, inputs, bookings, &day) {
-        Ok(more) => more,
-        Err(fault) => return Err(fault),
-    };
+    let more = bookings_named(alloc, inputs, bookings, &day)?;
     match write_amended(alloc, &earlier, &more, output) {
         Ok(_) => Ok(()),
         Err(fault) => Err(FileFault::Amend(fault)),

@@ -6,6 +6,7 @@ ghost use Rattle.bx_book.specs.Rows.{IsMomentOf, IsTimeFault, span_of};
 ghost use Rattle.bx_plan_commands.specs.Answers.{IsExplained, IsQuoted};
 ghost use Rattle.bx_plan_commands.specs.Calls.{IsSecondOf, IsSecondFault, AreBoth, IsFirstOfBoth, AreTimesOf, IsCallOf, IsNoCall};
 ghost use Rattle.bx_plan_commands.specs.PlanRefusals.{IsNotExplained, IsNotQuoted};
+ghost use Rattle.bx_base.specs.declared.booking.TheConstants.{MAX_MOMENT};
 
 use crate::fault::FileFault;
 use crate::naming::day_of;
@@ -20,8 +21,9 @@ use bx_request::Call;
 use std::alloc::Global;
 use std::io::Write;
 
-/// Writes what each row that the plan of an input refuses pays, and what its seconds cost; or what one of them has to pay
-/// to be taken. At a refusal nothing was written, except that where the output failed a front of that was.
+/// Writes what each row that the plan of an input refuses pays, and what its seconds cost; or what one of them has to pay to be
+/// taken. At a refusal nothing was written, except that where the output failed a front of that was. `Command` where there is no
+/// proved plan of the input, and `Quote` where there is no quote, or it was not written.
 pub fn explain_file<'a, I: Inputs, W: Write>(
     alloc: Global,
     inputs: &mut I,
@@ -47,7 +49,9 @@ pub fn explain_file<'a, I: Inputs, W: Write>(
 }
 
 /// Writes what a call has to pay to be taken beside those of the plan of an input. At a refusal nothing was written, except that
-/// where the output failed a front of that was.
+/// where the output failed a front of that was. `Day` where the words of the call name no day, `Book` where they name no times,
+/// as for a text's row 1, `Command` where there is no proved plan of the input, and `Quote` where there is no quote, or it was
+/// not written.
 pub fn quote_file<'a, I: Inputs, W: Write>(
     alloc: Global,
     inputs: &mut I,
@@ -58,10 +62,7 @@ pub fn quote_file<'a, I: Inputs, W: Write>(
     ensures quoted { OnOk result (IsQuoted (I.gives inputs.old) call.now plan.now (writing_of W.contents output.old output.new)) }
     ensures refused { IfErr result (IsNotQuoted (I.gives inputs.old) call.now plan.now W.contents output.old output.new) }
 {
-    let booking = match booking_of(call) {
-        Ok(booking) => booking,
-        Err(fault) => return Err(fault),
-    };
+    let booking = booking_of(call)?;
     let plan = match proved_named(alloc, inputs, plan) {
         Ok(plan) => plan,
         Err(fault) => return Err(FileFault::Command(fault)),
@@ -77,10 +78,7 @@ fn booking_of<'a>(call: &Call<'_>) -> Result<Booking, FileFault<'a>>
     ensures booking { IfOk result (IsCallOf call.now) }
     ensures none { IfErr result (IsNoCall call.now) }
 {
-    let (start, end) = match seconds_of(call) {
-        Ok(seconds) => seconds,
-        Err(fault) => return Err(fault),
-    };
+    let (start, end) = seconds_of(call)?;
     if end <= start {
         return Err(FileFault::Book(BookFault::EndNotAfterStart(1)));
     }
@@ -97,7 +95,7 @@ fn booking_of<'a>(call: &Call<'_>) -> Result<Booking, FileFault<'a>>
 /// The seconds of the day at which the call starts and ends.
 fn seconds_of<'a>(call: &Call<'_>) -> Result<(u32, u32), FileFault<'a>>
     ensures times { IfOk result (λ s. AreTimesOf call.now s.0 s.1) }
-    ensures limit { IfOk result (λ s. s.1 ≤ 200000) }
+    ensures limit { IfOk result (λ s. s.1 ≤ MAX_MOMENT) }
     ensures none { IfErr result (IsNoCall call.now) }
 {
     let Some((date, zone)) = call.day else {
@@ -106,10 +104,7 @@ fn seconds_of<'a>(call: &Call<'_>) -> Result<(u32, u32), FileFault<'a>>
             Err(fault) => Err(FileFault::Book(fault)),
         };
     };
-    let day = match day_of(date, zone) {
-        Ok(day) => day,
-        Err(fault) => return Err(fault),
-    };
+    let day = day_of(date, zone)?;
     match times_of(call, &day) {
         Ok(seconds) => Ok(seconds),
         Err(fault) => Err(FileFault::Book(fault)),
@@ -119,19 +114,14 @@ fn seconds_of<'a>(call: &Call<'_>) -> Result<(u32, u32), FileFault<'a>>
 /// The seconds of the day at which the times of the call lie.
 fn times_of(call: &Call<'_>, day: &Day) -> Result<(u32, u32), BookFault>
     ensures times { IfOk result (λ s. AreBoth (IsMomentOf (span_of day.now)) call.now s.0 s.1) }
-    ensures limit { IfOk result (λ s. s.1 ≤ 200000) }
+    ensures limit { IfOk result (λ s. s.1 ≤ MAX_MOMENT) }
     ensures none { IfErr result (IsFirstOfBoth (IsMomentOf (span_of day.now)) (IsTimeFault (span_of day.now) 1) call.now) }
 {
     // Read for the prover alone, which learns a limit from it.
     let _seconds = day.length();
-    let start = match moment(call.start.as_bytes(), day, 1) {
-        Ok(start) => start,
-        Err(fault) => return Err(fault),
-    };
-    match moment(call.end.as_bytes(), day, 1) {
-        Ok(end) => Ok((start, end)),
-        Err(fault) => Err(fault),
-    }
+    let start = moment(call.start.as_bytes(), day, 1)?;
+    let end = moment(call.end.as_bytes(), day, 1)?;
+    Ok((start, end))
 }
 
 /// The seconds of the call where they are counted.
@@ -139,14 +129,9 @@ fn counted(call: &Call<'_>) -> Result<(u32, u32), BookFault>
     ensures times { IfOk result (λ s. AreBoth IsSecondOf call.now s.0 s.1) }
     ensures none { IfErr result (IsFirstOfBoth IsSecondOf IsSecondFault call.now) }
 {
-    let start = match second(call.start) {
-        Ok(start) => start,
-        Err(fault) => return Err(fault),
-    };
-    match second(call.end) {
-        Ok(end) => Ok((start, end)),
-        Err(fault) => Err(fault),
-    }
+    let start = second(call.start)?;
+    let end = second(call.end)?;
+    Ok((start, end))
 }
 
 /// The second of a day that a decimal names, as in a plan text.

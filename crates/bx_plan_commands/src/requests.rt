@@ -16,7 +16,7 @@ use std::alloc::Global;
 use std::io::Write;
 
 /// Does one command on files. At a refusal nothing was written, except that where the output failed a front of what was to be
-/// written was.
+/// written was. The faults are those of the command's own function.
 pub fn run_on_files<'a, I: Inputs, W: Write>(
     alloc: Global,
     inputs: &mut I,

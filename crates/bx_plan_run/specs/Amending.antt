@@ -9,7 +9,7 @@ use Rattle.bx_planfile.specs.declared.version.Version.TheVariants.{Three}
 use Rattle.bx_planfile.specs.Text.{plan_text}
 use Rattle.bx_plan_run.specs.declared.amending.AmendFault.{AmendFault}
 use Rattle.bx_plan_run.specs.declared.amending.AmendFault.TheVariants.{Amend, WriteFailed}
-use Rattle.bx_planner.specs.Amending.{IsBestPlan, IsAmendFail}
+use Rattle.bx_planner.specs.Amending.{IsBestPlan, IsNoAmendment}
 
 -- the text of a best plan of these rows and channels was written
 pub record IsAmended (rows : List Row) (channels : List Bool) (output : Writing) (total : ℕ) : Type 0 where
@@ -28,5 +28,5 @@ pub record IsCutAmended (rows : List Row) (channels : List Bool) (output : Writi
 
 -- each refusal: what went wrong, and that nothing was written, but where the output failed
 abbrev pub IsAmendRefusal : List Row → List Bool → Writing → AmendFault → Type 0
-IsAmendRefusal rows channels output (Amend fail) = IsAmendFail rows channels fail × KeepsOutput output
+IsAmendRefusal rows channels output (Amend fail) = IsNoAmendment rows channels fail × KeepsOutput output
 IsAmendRefusal rows channels output WriteFailed = (output.is_faulted ≡ true) × IsCutAmended rows channels output

@@ -18,7 +18,7 @@ AreUnread input span Memory = IsStreamFault input span stream.Memory
 AreUnread input span _ = ⊥
 
 -- why there is no plan
-abbrev pub IsPlanFail : List Row → List Bool → RunFault → Type 0
-IsPlanFail rows channels (TooManyMust moment) = IsTooManyMust rows channels moment
-IsPlanFail rows channels Memory = Unit {0}
-IsPlanFail rows channels _ = ⊥
+abbrev pub IsWithoutPlan : List Row → List Bool → RunFault → Type 0
+IsWithoutPlan rows channels (TooManyMust moment) = IsTooManyMust rows channels moment
+IsWithoutPlan rows channels Memory = Unit {0}
+IsWithoutPlan rows channels _ = ⊥

@@ -5,11 +5,12 @@ ghost use Rattle.bx_devices.specs.Devices.{writing_of};
 ghost use Rattle.bx_plan_run.specs.Amending.{IsAmended, IsAmendRefusal};
 ghost use Rattle.bx_planner.specs.Amending.{amended};
 ghost use Rattle.bx_planner.specs.Musts.{IsTooManyMust};
+ghost use Rattle.bx_base.specs.declared.bookings.TheConstants.{MAX_BOOKINGS};
 
 use bx_base::{Bookings, Plan};
 use bx_devices::Watched;
 use bx_planfile::write_plan;
-use bx_planner::{AmendFail, amend};
+use bx_planner::{NoAmendment, amend};
 use std::alloc::Global;
 use std::io::Write;
 use thiserror::Error;
@@ -19,13 +20,14 @@ use thiserror::Error;
 pub enum AmendFault {
     /// There is none.
     #[error("{0}")]
-    Amend(AmendFail),
+    Amend(NoAmendment),
     /// A write failed, or took none of what it was given: a front of the plan's text was written.
     #[error("F2 CannotWrite")]
     WriteFailed,
 }
 
-/// Amends the plan by more bookings, and writes the text of the new plan. Answers its total.
+/// Amends the plan by more bookings, and writes the text of the new plan. Answers its total. `Amend` with the refusal of `amend`,
+/// before which nothing is written, and then `WriteFailed`.
 pub fn write_amended<W: Write>(
     alloc: Global,
     plan: &Plan,
@@ -33,8 +35,8 @@ pub fn write_amended<W: Write>(
     output: &mut Watched<W>,
 ) -> Result<u64, AmendFault>
     ensures amended { IfOk result (IsAmended (amended plan.now.bookings plan.now.assigned.items more.now) plan.now.channels (writing_of W.contents output.old output.new)) }
-    ensures full { (result ≡ Err (AmendFault.Amend AmendFail.TooMany)) ↔ (4000 < length plan.now.bookings + length more.now) }
-    ensures musts { (t : ℕ) → (result ≡ Err (AmendFault.Amend (AmendFail.TooManyMust t))) ↔ ((length plan.now.bookings + length more.now ≤ 4000) × IsTooManyMust (amended plan.now.bookings plan.now.assigned.items more.now) plan.now.channels t) }
+    ensures full { (result ≡ Err (AmendFault.Amend NoAmendment.TooMany)) ↔ (MAX_BOOKINGS < length plan.now.bookings + length more.now) }
+    ensures musts { (t : ℕ) → (result ≡ Err (AmendFault.Amend (NoAmendment.TooManyMust t))) ↔ ((length plan.now.bookings + length more.now ≤ MAX_BOOKINGS) × IsTooManyMust (amended plan.now.bookings plan.now.assigned.items more.now) plan.now.channels t) }
     ensures refused { IfErr result (IsAmendRefusal (amended plan.now.bookings plan.now.assigned.items more.now) plan.now.channels (writing_of W.contents output.old output.new)) }
 {
     let amended = match amend(alloc, plan, more) {

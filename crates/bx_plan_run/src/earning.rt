@@ -39,8 +39,8 @@ fn table_of(alloc: Global, bookings: &Bookings) -> Result<Vec<u8>, AllocError>
 /// Reads a booking text of the day to its end, and writes a line for each count of channels from 0 to 30, in rising order: the
 /// count, `total`, the most that a lawful set of its bookings pays on so many channels, `next`, and what one more would add to
 /// it; or the count, `too few at`, and the first second of the day at which more must bookings run than so many channels carry.
-/// At most 4,194,304 octets are read, in at most 8,388,608 reads. The faults of reading and of the text are tested first;
-/// nothing is written before any fault but `WriteFailed`.
+/// At most 4,194,304 octets are read, in at most 8,388,608 reads. `Unread` with the faults of reading and of the text is tested
+/// first, then come `Memory` and `WriteFailed`; nothing is written before any fault but `WriteFailed`.
 pub fn capacity_run<R: Read, W: Write>(
     alloc: Global,
     input: &mut Watched<R>,

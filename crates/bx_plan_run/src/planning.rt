@@ -6,14 +6,14 @@ ghost use Rattle.bx_devices.specs.Devices.{reading_of, writing_of};
 ghost use Rattle.bx_book.specs.Rows.{span_of};
 ghost use Rattle.bx_book.specs.Streams.{IsBookRead};
 ghost use Rattle.bx_plan_run.specs.Planning.{IsRun, IsRunRefusal};
-ghost use Rattle.bx_plan_run.specs.Unplanned.{AreUnread, IsPlanFail};
+ghost use Rattle.bx_plan_run.specs.Unplanned.{AreUnread, IsWithoutPlan};
 ghost use Rattle.bx_planner.specs.Proved.{IsProved};
 
 use bx_base::{Bookings, ChannelSet, Plan};
 use bx_book::{BookFault, Day, StreamFault, read_bookings_from};
 use bx_devices::Watched;
 use bx_planfile::write_plan;
-use bx_planner::{PlanFail, plan};
+use bx_planner::{NoPlan, plan};
 use std::alloc::Global;
 use std::io::{Read, Write};
 use thiserror::Error;
@@ -63,19 +63,19 @@ fn bookings_of<R: Read>(
 fn plan_of(alloc: Global, bookings: &Bookings, channels: ChannelSet) -> Result<Plan, RunFault>
     ensures ok { IfOk result (λ p. IsProved bookings.now channels (parts_of p)) }
     ensures limits { IfOk result (λ p. IsPlan (parts_of p)) }
-    ensures err { IfErr result (IsPlanFail bookings.now channels) }
+    ensures err { IfErr result (IsWithoutPlan bookings.now channels) }
 {
     match plan(alloc, bookings, channels) {
         Ok(plan) => Ok(plan),
-        Err(PlanFail::TooManyMust(moment)) => Err(RunFault::TooManyMust(moment)),
-        Err(PlanFail::Memory) => Err(RunFault::Memory),
+        Err(NoPlan::TooManyMust(moment)) => Err(RunFault::TooManyMust(moment)),
+        Err(NoPlan::Memory) => Err(RunFault::Memory),
     }
 }
 
-/// Reads a booking text of the day to its end, plans its bookings on these channels, and writes the plan's text
-/// (version 3). Answers the total, which the checker proves. At most 4,194,304 octets are read, in at most 8,388,608
-/// reads. The faults are tested in this order: those of reading, of the text, `TooManyMust`, `WriteFailed`; nothing
-/// is written before any of them but `WriteFailed`.
+/// Reads a booking text of the day to its end, plans its bookings on these channels, and writes the plan's text (version 3).
+/// Answers the total, which the checker proves. At most 4,194,304 octets are read, in at most 8,388,608 reads. The faults are
+/// tested in this order: `ReadFailed` and `TooLong`, `Book`, `TooManyMust`, `WriteFailed`; `Memory` comes where a growth is
+/// refused. Nothing is written before any of them but `WriteFailed`.
 pub fn plan_run<R: Read, W: Write>(
     alloc: Global,
     input: &mut Watched<R>,

@@ -5,7 +5,7 @@ use Rattle.std.specs.Option.{option_map, ok_or}
 use Rattle.std.proofs.lemmas.Bool.{cases_lt, ltb-true, leb-true, lt-ltb, le-ltb, le-leb, lt-leb}
 use Rattle.std.proofs.lemmas.Bool.Decides.{nat_tests}
 use Rattle.bx_base.specs.Bound.{Charge}
-use Rattle.bx_planfile.specs.declared.fault.PlanFault.TheVariants.{BadLine, OutOfLimits}
+use Rattle.bx_planfile.specs.declared.fault.PlanTextFault.TheVariants.{BadLine, OutOfLimits}
 use Rattle.bx_planfile.specs.Forms.{Entry, is_channel, is_assignable, is_within, is_charge}
 use Rattle.bx_planfile.specs.Capped.{capped_entry, capped_charge}
 use Rattle.bx_text.specs.Digits.{capped}

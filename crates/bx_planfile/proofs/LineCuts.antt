@@ -2,7 +2,7 @@
 use Rattle.std.proofs.Common.{◌≡◌, ℕ, ◌+◌, ◌-◌, List, length, take, drop, Some, None, Ok, Err, refl, ap, ◌∙◌}
 use Rattle.std.specs.List.{position}
 use Rattle.std.proofs.lemmas.List.{take_rest}
-use Rattle.bx_planfile.specs.declared.fault.PlanFault.TheVariants.{BadLine}
+use Rattle.bx_planfile.specs.declared.fault.PlanTextFault.TheVariants.{BadLine}
 use Rattle.bx_planfile.specs.Lines.{is_lf, fields_of, cut_line}
 use Rattle.bx_planfile.specs.Reading.{or_fault, read_line}
 

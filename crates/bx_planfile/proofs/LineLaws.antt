@@ -9,8 +9,8 @@ use Rattle.bx_base.specs.Bookings.{Row, IsBooking}
 use Rattle.bx_base.specs.Bound.{Charge, IsCharge}
 use Rattle.bx_planfile.specs.declared.version.Version.{Version}
 use Rattle.bx_planfile.specs.declared.version.Version.TheVariants.{One, Two, Three}
-use Rattle.bx_planfile.specs.declared.fault.PlanFault.{PlanFault}
-use Rattle.bx_planfile.specs.declared.fault.PlanFault.TheVariants.{BadLine, BadCount, OutOfLimits, Trailing}
+use Rattle.bx_planfile.specs.declared.fault.PlanTextFault.{PlanTextFault}
+use Rattle.bx_planfile.specs.declared.fault.PlanTextFault.TheVariants.{BadLine, BadCount, OutOfLimits, Trailing}
 use Rattle.bx_text.specs.Lines.{named}
 use Rattle.bx_planfile.specs.Text.{version_field, channel_field, must_field, direction_field, mark_fields, booking_fields, price_fields, IsTold}
 use Rattle.bx_planfile.specs.Forms.{Entry, named_form, booking_form, is_assignable, is_within, price_form, is_charge, is_end}
@@ -23,19 +23,19 @@ use Rattle.bx_planfile.proofs.Limits.{within_from, test_from_number}
 use Rattle.bx_planfile.proofs.LineForms.{named_takes, named_again, IsBookingLine, booking_takes, booking_again, price_takes, price_again, end_takes, end_again}
 
 -- the value of a step that did not fail
-pub bind_ok : {A B : Type 0} (r : Result A PlanFault) (f : A → Result B PlanFault) (y : B) → (r >>= f) ≡ Ok y → (x : A) × (r ≡ Ok x) × (f x ≡ Ok y)
+pub bind_ok : {A B : Type 0} (r : Result A PlanTextFault) (f : A → Result B PlanTextFault) (y : B) → (r >>= f) ≡ Ok y → (x : A) × (r ≡ Ok x) × (f x ≡ Ok y)
 bind_ok (Ok x) f y e = (x, refl, e)
 bind_ok (Err d) f y e = absurd cc
 
-pub or_ok : {A : Type 0} (f : PlanFault) (o : Option A) (x : A) → or_fault f o ≡ Ok x → o ≡ Some x
+pub or_ok : {A : Type 0} (f : PlanTextFault) (o : Option A) (x : A) → or_fault f o ≡ Ok x → o ≡ Some x
 or_ok f None x e = absurd cc
 or_ok f (Some y) x e = cc
 
-pub holds_ok : {A : Type 0} (b : Bool) (f : PlanFault) (x y : A) → where_holds b f x ≡ Ok y → (b ≡ true) × (x ≡ y)
+pub holds_ok : {A : Type 0} (b : Bool) (f : PlanTextFault) (x y : A) → where_holds b f x ≡ Ok y → (b ≡ true) × (x ≡ y)
 holds_ok true f x y e = (refl, cc)
 holds_ok false f x y e = absurd cc
 
-pub ok_is : {A : Type 0} (x y : A) → ◌≡◌ {A = Result A PlanFault} (Ok x) (Ok y) → x ≡ y
+pub ok_is : {A : Type 0} (x y : A) → ◌≡◌ {A = Result A PlanTextFault} (Ok x) (Ok y) → x ≡ y
 ok_is x y e = cc
 
 -- ---- one line

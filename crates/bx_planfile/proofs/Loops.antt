@@ -4,20 +4,20 @@ use Rattle.std.proofs.lemmas.List.{append-nil}
 use Rattle.bx_base.specs.Bookings.{Row}
 use Rattle.bx_base.specs.Bound.{Charge}
 use Rattle.bx_planfile.specs.declared.version.Version.{Version}
-use Rattle.bx_planfile.specs.declared.fault.PlanFault.{PlanFault}
-use Rattle.bx_planfile.specs.declared.fault.PlanFault.TheVariants.{BadLine, BadCount, OutOfLimits, Trailing, Memory}
+use Rattle.bx_planfile.specs.declared.fault.PlanTextFault.{PlanTextFault}
+use Rattle.bx_planfile.specs.declared.fault.PlanTextFault.TheVariants.{BadLine, BadCount, OutOfLimits, Trailing, Memory}
 use Rattle.bx_planfile.specs.Forms.{Entry}
 use Rattle.bx_planfile.specs.Reading.{◌>>=◌, Fails, Entries, entries, read_line, read_booking, read_price, read_bookings, read_prices, SomeBookings, SomePrices}
 
 -- a fault of the first step is the fault of the whole
-pub fails_along : {A B : Type 0} (e : PlanFault) (r : Result A PlanFault) (f : A → Result B PlanFault) → Fails e r → Fails e (r >>= f)
+pub fails_along : {A B : Type 0} (e : PlanTextFault) (r : Result A PlanTextFault) (f : A → Result B PlanTextFault) → Fails e r → Fails e (r >>= f)
 fails_along (BadLine n) r f h = rw h refl
 fails_along BadCount r f h = rw h refl
 fails_along (OutOfLimits n) r f h = rw h refl
 fails_along Trailing r f h = rw h refl
 fails_along Memory r f h = tt
 
-pub fails_from : {A : Type 0} (e : PlanFault) (r : Result A PlanFault) → r ≡ Err e → Fails e r
+pub fails_from : {A : Type 0} (e : PlanTextFault) (r : Result A PlanTextFault) → r ≡ Err e → Fails e r
 fails_from (BadLine n) r h = h
 fails_from BadCount r h = h
 fails_from (OutOfLimits n) r h = h
@@ -25,10 +25,10 @@ fails_from Trailing r h = h
 fails_from Memory r h = tt
 
 -- bookings that were read before, and those that are still read
-abbrev pub with_entries : List Row → List (Option ℕ) → Result Entries PlanFault → Result Entries PlanFault
+abbrev pub with_entries : List Row → List (Option ℕ) → Result Entries PlanTextFault → Result Entries PlanTextFault
 with_entries rows assigned read = read >>= λ x. Ok (entries (rows ++ x.rows) (assigned ++ x.assigned) x.rest)
 
-with_none : (read : Result Entries PlanFault) → with_entries [] [] read ≡ read
+with_none : (read : Result Entries PlanTextFault) → with_entries [] [] read ≡ read
 with_none (Ok x) = refl
 with_none (Err f) = refl
 
@@ -39,12 +39,12 @@ no_entries version n bytes m =
     let line : n + 0 ≡ n = omega arith in
     rw (k, line) (with_none (read_bookings version m n bytes))
 
-regroup_entries : (rows : List Row) (assigned : List (Option ℕ)) (e : Entry) (read : Result Entries PlanFault)
+regroup_entries : (rows : List Row) (assigned : List (Option ℕ)) (e : Entry) (read : Result Entries PlanTextFault)
     → with_entries rows assigned (read >>= λ more. Ok (entries (e.row ∷ more.rows) (e.channel ∷ more.assigned) more.rest)) ≡ with_entries (rows ++ e.row ∷ []) (assigned ++ e.channel ∷ []) read
 regroup_entries rows assigned e (Ok x) = simp append_assoc
 regroup_entries rows assigned e (Err f) = refl
 
-module _ (version : Version) (count i n : ℕ) (bytes : List ℕ) (rows : List Row) (assigned : List (Option ℕ)) (total : Result Entries PlanFault)
+module _ (version : Version) (count i n : ℕ) (bytes : List ℕ) (rows : List Row) (assigned : List (Option ℕ)) (total : Result Entries PlanTextFault)
     (so_far : with_entries rows assigned (read_bookings version (count - i) (n + i) bytes) ≡ total) where
   pub booking_follows : (fields : List (List ℕ)) (after : List ℕ) (e : Entry) → i < count → read_line (n + i) bytes ≡ Ok (fields, after) → read_booking version (n + i) fields ≡ Ok e
       → with_entries (rows ++ e.row ∷ []) (assigned ++ e.channel ∷ []) (read_bookings version (count - (i + 1)) (n + (i + 1)) after) ≡ total
@@ -56,13 +56,13 @@ module _ (version : Version) (count i n : ℕ) (bytes : List ℕ) (rows : List R
       = rw (k, line, booking, next) (regroup_entries rows assigned e (read_bookings version (count - (i + 1)) (n + (i + 1)) after)) in
       sym one ∙ so_far
 
-  pub booking_line_fails : (f : PlanFault) → i < count → Fails f (read_line (n + i) bytes) → Fails f total
+  pub booking_line_fails : (f : PlanTextFault) → i < count → Fails f (read_line (n + i) bytes) → Fails f total
   unfolding read_bookings
   booking_line_fails f lt h =
       let k : count - i ≡ suc (count - (i + 1)) = omega arith in
       subst (Fails f) so_far (rw k (fails_along f _ _ (fails_along f _ _ h)))
 
-  pub booking_fails : (fields : List (List ℕ)) (after : List ℕ) (f : PlanFault) → i < count → read_line (n + i) bytes ≡ Ok (fields, after) → Fails f (read_booking version (n + i) fields) → Fails f total
+  pub booking_fails : (fields : List (List ℕ)) (after : List ℕ) (f : PlanTextFault) → i < count → read_line (n + i) bytes ≡ Ok (fields, after) → Fails f (read_booking version (n + i) fields) → Fails f total
   unfolding read_bookings
   booking_fails fields after f lt line h =
       let k : count - i ≡ suc (count - (i + 1)) = omega arith in
@@ -75,10 +75,10 @@ module _ (version : Version) (count i n : ℕ) (bytes : List ℕ) (rows : List R
       sym so_far ∙ rw k (simp append-nil)
 
 -- prices that were read before, and those that are still read
-abbrev pub with_prices : List Charge → Result (List Charge × List ℕ) PlanFault → Result (List Charge × List ℕ) PlanFault
+abbrev pub with_prices : List Charge → Result (List Charge × List ℕ) PlanTextFault → Result (List Charge × List ℕ) PlanTextFault
 with_prices front read = read >>= λ x. Ok (front ++ x.0, x.1)
 
-with_no_prices : (read : Result (List Charge × List ℕ) PlanFault) → with_prices [] read ≡ read
+with_no_prices : (read : Result (List Charge × List ℕ) PlanTextFault) → with_prices [] read ≡ read
 with_no_prices (Ok x) = refl
 with_no_prices (Err f) = refl
 
@@ -88,11 +88,11 @@ no_prices n bytes m =
     let line : n + 0 ≡ n = omega arith in
     rw (k, line) (with_no_prices (read_prices m n bytes))
 
-regroup_prices : (front : List Charge) (p : Charge) (read : Result (List Charge × List ℕ) PlanFault) → with_prices front (read >>= λ more. Ok (p ∷ more.0, more.1)) ≡ with_prices (front ++ p ∷ []) read
+regroup_prices : (front : List Charge) (p : Charge) (read : Result (List Charge × List ℕ) PlanTextFault) → with_prices front (read >>= λ more. Ok (p ∷ more.0, more.1)) ≡ with_prices (front ++ p ∷ []) read
 regroup_prices front p (Ok x) = simp append_assoc
 regroup_prices front p (Err f) = refl
 
-module _ (count i n : ℕ) (bytes : List ℕ) (front : List Charge) (total : Result (List Charge × List ℕ) PlanFault)
+module _ (count i n : ℕ) (bytes : List ℕ) (front : List Charge) (total : Result (List Charge × List ℕ) PlanTextFault)
     (so_far : with_prices front (read_prices (count - i) (n + i) bytes) ≡ total) where
   pub price_follows : (fields : List (List ℕ)) (after : List ℕ) (p : Charge) → i < count → read_line (n + i) bytes ≡ Ok (fields, after) → read_price (n + i) fields ≡ Ok p
       → with_prices (front ++ p ∷ []) (read_prices (count - (i + 1)) (n + (i + 1)) after) ≡ total
@@ -104,13 +104,13 @@ module _ (count i n : ℕ) (bytes : List ℕ) (front : List Charge) (total : Res
       = rw (k, line, price, next) (regroup_prices front p (read_prices (count - (i + 1)) (n + (i + 1)) after)) in
       sym one ∙ so_far
 
-  pub price_line_fails : (f : PlanFault) → i < count → Fails f (read_line (n + i) bytes) → Fails f total
+  pub price_line_fails : (f : PlanTextFault) → i < count → Fails f (read_line (n + i) bytes) → Fails f total
   unfolding read_prices
   price_line_fails f lt h =
       let k : count - i ≡ suc (count - (i + 1)) = omega arith in
       subst (Fails f) so_far (rw k (fails_along f _ _ (fails_along f _ _ h)))
 
-  pub price_fails : (fields : List (List ℕ)) (after : List ℕ) (f : PlanFault) → i < count → read_line (n + i) bytes ≡ Ok (fields, after) → Fails f (read_price (n + i) fields) → Fails f total
+  pub price_fails : (fields : List (List ℕ)) (after : List ℕ) (f : PlanTextFault) → i < count → read_line (n + i) bytes ≡ Ok (fields, after) → Fails f (read_price (n + i) fields) → Fails f total
   unfolding read_prices
   price_fails fields after f lt line h =
       let k : count - i ≡ suc (count - (i + 1)) = omega arith in

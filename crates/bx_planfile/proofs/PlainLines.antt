@@ -7,7 +7,7 @@ use Rattle.std.proofs.lemmas.Bool.Decides.{nat_tests}
 use Rattle.std.proofs.lemmas.List.{take_at, drop_at, take-append-drop, length-append, drop_more}
 use Rattle.std.proofs.lemmas.List.Quantifiers.{position-Some}
 use Rattle.std.proofs.lemmas.List.Splits.{join_with_byte-slice_split, slice_split_at, slice_split_none}
-use Rattle.bx_planfile.specs.declared.fault.PlanFault.TheVariants.{BadLine}
+use Rattle.bx_planfile.specs.declared.fault.PlanTextFault.TheVariants.{BadLine}
 use Rattle.bx_text.specs.Lines.{line_text}
 use Rattle.bx_planfile.specs.Lines.{is_lf, is_space, fields_of, cut_line, first_line}
 use Rattle.bx_planfile.specs.Reading.{or_fault, read_line}

@@ -9,8 +9,8 @@ use Rattle.bx_base.specs.Bound.{Charge, IsCharge, price_at}
 use Rattle.bx_base.specs.PlanParts.{Parts, IsPlan, parts_of}
 use Rattle.bx_base.specs.declared.plan.Plan.{Plan}
 use Rattle.bx_planfile.specs.declared.version.Version.{Version}
-use Rattle.bx_planfile.specs.declared.fault.PlanFault.{PlanFault}
-use Rattle.bx_planfile.specs.declared.fault.PlanFault.TheVariants.{BadLine, OutOfLimits}
+use Rattle.bx_planfile.specs.declared.fault.PlanTextFault.{PlanTextFault}
+use Rattle.bx_planfile.specs.declared.fault.PlanTextFault.TheVariants.{BadLine, OutOfLimits}
 use Rattle.bx_text.specs.Lines.{line_text, members_from, named}
 use Rattle.bx_planfile.specs.Text.{version_field, price_fields, booking_lines, plan_text, HasText, IsTextOf}
 use Rattle.bx_planfile.specs.Forms.{header_form, channels_form, channel_set}
@@ -201,16 +201,16 @@ all_again version parts plan told =
 
 -- ---- the laws of reading
 
-pub is_within_limits : (bytes : List ℕ) (r : Result Plan PlanFault) → Gives parts_of r (read_all bytes) → IfOk r (λ plan. IsPlan (parts_of plan))
+pub is_within_limits : (bytes : List ℕ) (r : Result Plan PlanTextFault) → Gives parts_of r (read_all bytes) → IfOk r (λ plan. IsPlan (parts_of plan))
 is_within_limits bytes (Ok plan) given = (all_takes bytes (parts_of plan) given).plan
 is_within_limits bytes (Err e) given = tt
 
-pub is_found : (bytes : List ℕ) (r : Result Plan PlanFault) → Gives parts_of r (read_all bytes) → IfOk r (λ plan. IsTextOf bytes (parts_of plan))
+pub is_found : (bytes : List ℕ) (r : Result Plan PlanTextFault) → Gives parts_of r (read_all bytes) → IfOk r (λ plan. IsTextOf bytes (parts_of plan))
 is_found bytes (Ok plan) given = let read = all_takes bytes (parts_of plan) given in (read.version, read.told, read.spelled)
 is_found bytes (Err e) given = tt
 
-pub is_only : (bytes : List ℕ) (r : Result Plan PlanFault) → Gives parts_of r (read_all bytes) → (parts : Parts) → IsPlan parts → IsTextOf bytes parts → Gives parts_of r (Ok parts)
-is_only bytes r given parts plan text = subst (λ (f : Result Parts PlanFault). Gives parts_of r f) (ap read_all text.2 ∙ all_again text.0 parts plan text.1) given
+pub is_only : (bytes : List ℕ) (r : Result Plan PlanTextFault) → Gives parts_of r (read_all bytes) → (parts : Parts) → IsPlan parts → IsTextOf bytes parts → Gives parts_of r (Ok parts)
+is_only bytes r given parts plan text = subst (λ (f : Result Parts PlanTextFault). Gives parts_of r f) (ap read_all text.2 ∙ all_again text.0 parts plan text.1) given
 
 -- one text is one plan's, in one version
 pub same_version : (v w : Version) (a b : Parts) → plan_text v a ≡ plan_text w b → v ≡ w

@@ -1,8 +1,8 @@
 -- No line is refused for want of memory.
 use Rattle.std.proofs.Common.{◌≡◌, ℕ, Bool, true, false, ◌+◌, List, Option, Some, None, Result, Ok, Err, refl, ap, ◌∙◌, ◌⊎◌}
 use Rattle.bx_planfile.specs.declared.version.Version.{Version}
-use Rattle.bx_planfile.specs.declared.fault.PlanFault.{PlanFault}
-use Rattle.bx_planfile.specs.declared.fault.PlanFault.TheVariants.{BadLine, BadCount, OutOfLimits, Trailing, Memory}
+use Rattle.bx_planfile.specs.declared.fault.PlanTextFault.{PlanTextFault}
+use Rattle.bx_planfile.specs.declared.fault.PlanTextFault.TheVariants.{BadLine, BadCount, OutOfLimits, Trailing, Memory}
 use Rattle.std.specs.Prelude.{codes, length, nat_le, ◌==◌, IsErrAnd}
 use Rattle.std.proofs.lemmas.Result.{err_from_is_err_and}
 use Rattle.bx_planfile.specs.Lines.{first_line}
@@ -14,7 +14,7 @@ no_option n None e = cc
 no_option n (Some x) e = cc
 
 -- a form, and limits behind it
-no_form : {A B : Type 0} (n : ℕ) (o : Option A) (f : A → Result B PlanFault) → ((x : A) → f x ≡ Err Memory → ⊥) → (or_fault (BadLine n) o >>= f) ≡ Err Memory → ⊥
+no_form : {A B : Type 0} (n : ℕ) (o : Option A) (f : A → Result B PlanTextFault) → ((x : A) → f x ≡ Err Memory → ⊥) → (or_fault (BadLine n) o >>= f) ≡ Err Memory → ⊥
 no_form n None f h e = cc
 no_form n (Some x) f h e = h x e
 
@@ -71,10 +71,10 @@ unfolding read_end
 end_never n fields rest e = no_end n (is_end fields) rest e
 
 -- a fault that is passed on is no want of memory where the line's is none
-pub passed_on : {B : Type 0} {e : PlanFault} {r : Result B PlanFault} → r ≡ Err Memory → IsErrAnd r (λ y. y ≡ e) → e ≡ Memory
+pub passed_on : {B : Type 0} {e : PlanTextFault} {r : Result B PlanTextFault} → r ≡ Err Memory → IsErrAnd r (λ y. y ≡ e) → e ≡ Memory
 passed_on {e} {r} m passed = let p = err_from_is_err_and r passed in cc
 
-pub not_memory : {A B X : Type 0} {read : Result A PlanFault} {e : PlanFault} {r : Result B PlanFault} → (read ≡ Err Memory → ⊥) → read ≡ Err e → r ≡ Err Memory → IsErrAnd r (λ y. y ≡ e) → X
+pub not_memory : {A B X : Type 0} {read : Result A PlanTextFault} {e : PlanTextFault} {r : Result B PlanTextFault} → (read ≡ Err Memory → ⊥) → read ≡ Err e → r ≡ Err Memory → IsErrAnd r (λ y. y ≡ e) → X
 not_memory never is m passed = absurd (never (is ∙ ap Err (passed_on m passed)))
 
 -- ---- the lines before the bookings were read, and a list was to grow behind them

@@ -9,6 +9,8 @@ use Rattle.bx_planfile.specs.declared.version.Version.{Version}
 use Rattle.bx_planfile.specs.declared.version.Version.TheVariants.{One, Two, Three}
 use Rattle.bx_text.specs.Digits.{decimal_value}
 use Rattle.bx_planfile.specs.Lines.{field, fields_from}
+use Rattle.bx_base.specs.declared.booking.TheConstants.{MAX_MOMENT, MAX_PAY}
+use Rattle.bx_base.specs.declared.plan.TheConstants.{MAX_TOTAL}
 
 abbrev pub is_nothing : List (List ℕ) → Bool
 is_nothing fields = length fields == 0
@@ -116,8 +118,8 @@ is_assignable (Some channel) = is_channel channel
 -- a booking within its limits, on a B channel where it is accepted
 unfoldable pub is_within : Entry → Bool
 is_within entry =
-    nat_lt entry.row.start entry.row.end && nat_le entry.row.end 200000
-    && nat_le 1 entry.row.pay && nat_le entry.row.pay 1000000000
+    nat_lt entry.row.start entry.row.end && nat_le entry.row.end MAX_MOMENT
+    && nat_le 1 entry.row.pay && nat_le entry.row.pay MAX_PAY
     && nat_le (length entry.row.number) 15 && is_assignable entry.channel
 
 -- ---- a price
@@ -128,7 +130,7 @@ price_form fields =
     then Some (charge_of (decimal_value (field 0 fields)) (decimal_value (field 1 fields))) else None
 
 unfoldable pub is_charge : Charge → Bool
-is_charge price = nat_lt price.moment 200000 && nat_le 1 price.amount && nat_le price.amount 4000000000000
+is_charge price = nat_lt price.moment MAX_MOMENT && nat_le 1 price.amount && nat_le price.amount MAX_TOTAL
 
 -- ---- the last line
 

@@ -4,72 +4,74 @@ use Rattle.bx_base.specs.Bookings.{Row}
 use Rattle.bx_base.specs.Bound.{Charge}
 use Rattle.bx_base.specs.PlanParts.{Parts}
 use Rattle.bx_planfile.specs.declared.version.Version.{Version}
-use Rattle.bx_planfile.specs.declared.fault.PlanFault.{PlanFault}
-use Rattle.bx_planfile.specs.declared.fault.PlanFault.TheVariants.{BadLine, BadCount, OutOfLimits, Trailing, Memory}
+use Rattle.bx_planfile.specs.declared.fault.PlanTextFault.{PlanTextFault}
+use Rattle.bx_planfile.specs.declared.fault.PlanTextFault.TheVariants.{BadLine, BadCount, OutOfLimits, Trailing, Memory}
 use Rattle.bx_planfile.specs.Lines.{first_line}
 use Rattle.bx_planfile.specs.Forms.{Entry, header_form, named_form, channels_form, channel_set, booking_form, is_within, price_form, is_charge, is_end}
+use Rattle.bx_base.specs.declared.bookings.TheConstants.{MAX_BOOKINGS}
+use Rattle.bx_base.specs.declared.plan.TheConstants.{MAX_PRICES, MAX_TOTAL}
 
 infixl 10 ◌>>=◌
-abbrev pub ◌>>=◌ : {A B : Type 0} → Result A PlanFault → (A → Result B PlanFault) → Result B PlanFault
+abbrev pub ◌>>=◌ : {A B : Type 0} → Result A PlanTextFault → (A → Result B PlanTextFault) → Result B PlanTextFault
 (Ok x) >>= f = f x
 (Err e) >>= f = Err e
 
 -- What a function returned, seen by view, is what reading gives, unless memory was refused.
-abbrev pub Fails : {Y : Type 0} → PlanFault → Result Y PlanFault → Type 0
+abbrev pub Fails : {Y : Type 0} → PlanTextFault → Result Y PlanTextFault → Type 0
 Fails (BadLine n) read = read ≡ Err (BadLine n)
 Fails BadCount read = read ≡ Err BadCount
 Fails (OutOfLimits n) read = read ≡ Err (OutOfLimits n)
 Fails Trailing read = read ≡ Err Trailing
 Fails Memory read = Unit {0}
 
-abbrev pub Gives : {X Y : Type 0} → (X → Y) → Result X PlanFault → Result Y PlanFault → Type 0
+abbrev pub Gives : {X Y : Type 0} → (X → Y) → Result X PlanTextFault → Result Y PlanTextFault → Type 0
 Gives view (Ok x) read = read ≡ Ok (view x)
 Gives view (Err e) read = Fails e read
 
 -- a value where there is one, and else this fault
-abbrev pub or_fault : {A : Type 0} → PlanFault → Option A → Result A PlanFault
+abbrev pub or_fault : {A : Type 0} → PlanTextFault → Option A → Result A PlanTextFault
 or_fault e None = Err e
 or_fault e (Some x) = Ok x
 
 -- a value where the test holds, and else this fault
-abbrev pub where_holds : {A : Type 0} → Bool → PlanFault → A → Result A PlanFault
+abbrev pub where_holds : {A : Type 0} → Bool → PlanTextFault → A → Result A PlanTextFault
 where_holds holds e x = if holds then Ok x else Err e
 
 -- the fields of the first line, which is line n of the text, and what stands behind it
-unfoldable pub read_line : ℕ → List ℕ → Result (List (List ℕ) × List ℕ) PlanFault
+unfoldable pub read_line : ℕ → List ℕ → Result (List (List ℕ) × List ℕ) PlanTextFault
 read_line n bytes = or_fault (BadLine n) (first_line bytes)
 
 -- Each reads the fields of line n. The form comes before the limits.
-unfoldable pub read_header : ℕ → List (List ℕ) → Result Version PlanFault
+unfoldable pub read_header : ℕ → List (List ℕ) → Result Version PlanTextFault
 read_header n fields = or_fault (BadLine n) (header_form fields)
 
-unfoldable pub read_channels : ℕ → List (List ℕ) → Result (List Bool) PlanFault
+unfoldable pub read_channels : ℕ → List (List ℕ) → Result (List Bool) PlanTextFault
 read_channels n fields = do
   numbers ← or_fault (BadLine n) (channels_form fields)
   or_fault (OutOfLimits n) (channel_set numbers)
 
-unfoldable pub read_count : List ℕ → ℕ → ℕ → List (List ℕ) → Result ℕ PlanFault
+unfoldable pub read_count : List ℕ → ℕ → ℕ → List (List ℕ) → Result ℕ PlanTextFault
 read_count word most n fields = do
   count ← or_fault (BadLine n) (named_form word fields)
   where_holds (nat_le count most) BadCount count
 
-unfoldable pub read_booking : Version → ℕ → List (List ℕ) → Result Entry PlanFault
+unfoldable pub read_booking : Version → ℕ → List (List ℕ) → Result Entry PlanTextFault
 read_booking version n fields = do
   entry ← or_fault (BadLine n) (booking_form version fields)
   where_holds (is_within entry) (OutOfLimits n) entry
 
-unfoldable pub read_price : ℕ → List (List ℕ) → Result Charge PlanFault
+unfoldable pub read_price : ℕ → List (List ℕ) → Result Charge PlanTextFault
 read_price n fields = do
   price ← or_fault (BadLine n) (price_form fields)
   where_holds (is_charge price) (OutOfLimits n) price
 
-unfoldable pub read_total : ℕ → List (List ℕ) → Result ℕ PlanFault
+unfoldable pub read_total : ℕ → List (List ℕ) → Result ℕ PlanTextFault
 read_total n fields = do
   total ← or_fault (BadLine n) (named_form (codes "total") fields)
-  where_holds (nat_le total 4000000000000) (OutOfLimits n) total
+  where_holds (nat_le total MAX_TOTAL) (OutOfLimits n) total
 
 -- the last line, with nothing behind it
-unfoldable pub read_end : ℕ → List (List ℕ) → List ℕ → Result (List ℕ) PlanFault
+unfoldable pub read_end : ℕ → List (List ℕ) → List ℕ → Result (List ℕ) PlanTextFault
 read_end n fields rest = do
   behind ← where_holds (is_end fields) (BadLine n) rest
   where_holds (length behind == 0) Trailing behind
@@ -84,7 +86,7 @@ abbrev pub entries : List Row → List (Option ℕ) → List ℕ → Entries
 entries rows assigned rest = record { rows = rows; assigned = assigned; rest = rest }
 
 -- so many bookings, the first of them in line n
-unfoldable pub read_bookings : Version → ℕ → ℕ → List ℕ → Result Entries PlanFault
+unfoldable pub read_bookings : Version → ℕ → ℕ → List ℕ → Result Entries PlanTextFault
 read_bookings version zero n bytes = Ok (entries [] [] bytes)
 read_bookings version (suc count) n bytes = do
   line ← read_line n bytes
@@ -93,7 +95,7 @@ read_bookings version (suc count) n bytes = do
   Ok (entries (entry.row ∷ more.rows) (entry.channel ∷ more.assigned) more.rest)
 
 -- so many prices, the first of them in line n
-unfoldable pub read_prices : ℕ → ℕ → List ℕ → Result (List Charge × List ℕ) PlanFault
+unfoldable pub read_prices : ℕ → ℕ → List ℕ → Result (List Charge × List ℕ) PlanTextFault
 read_prices zero n bytes = Ok ([], bytes)
 read_prices (suc count) n bytes = do
   line ← read_line n bytes
@@ -102,10 +104,10 @@ read_prices (suc count) n bytes = do
   Ok (price ∷ more.0, more.1)
 
 -- from the count of the prices, in line n, to the end: the prices and the total
-unfoldable pub read_tail : ℕ → List ℕ → Result (List Charge × ℕ) PlanFault
+unfoldable pub read_tail : ℕ → List ℕ → Result (List Charge × ℕ) PlanTextFault
 read_tail n bytes = do
   line ← read_line n bytes
-  count ← read_count (codes "prices") 8000 n line.0
+  count ← read_count (codes "prices") MAX_PRICES n line.0
   prices ← read_prices count (n + 1) line.1
   last ← read_line (n + 1 + count) prices.1
   total ← read_total (n + 1 + count) last.0
@@ -123,18 +125,18 @@ pub record Head : Type 0 where
 abbrev pub head_of : Version → List Bool → ℕ → List ℕ → Head
 head_of version channels count rest = record { version = version; channels = channels; count = count; rest = rest }
 
-unfoldable pub read_head : List ℕ → Result Head PlanFault
+unfoldable pub read_head : List ℕ → Result Head PlanTextFault
 read_head bytes = do
   first ← read_line 1 bytes
   version ← read_header 1 first.0
   second ← read_line 2 first.1
   channels ← read_channels 2 second.0
   third ← read_line 3 second.1
-  count ← read_count (codes "bookings") 4000 3 third.0
+  count ← read_count (codes "bookings") MAX_BOOKINGS 3 third.0
   Ok (head_of version channels count third.1)
 
 -- all lines of a plan
-unfoldable pub read_all : List ℕ → Result Parts PlanFault
+unfoldable pub read_all : List ℕ → Result Parts PlanTextFault
 read_all bytes = do
   head ← read_head bytes
   entries ← read_bookings head.version head.count 4 head.rest
@@ -153,7 +155,7 @@ pub record GrowsInTail (n : ℕ) (bytes : List ℕ) : Type 0 where
   pub line : List (List ℕ) × List ℕ
   pub count : ℕ
   pub is_line : read_line n bytes ≡ Ok line
-  pub is_count : read_count (codes "prices") 8000 n line.0 ≡ Ok count
+  pub is_count : read_count (codes "prices") MAX_PRICES n line.0 ≡ Ok count
   pub grows : SomePrices count (n + 1) line.1
 
 pub record Grows (bytes : List ℕ) : Type 0 where

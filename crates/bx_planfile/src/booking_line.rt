@@ -12,7 +12,7 @@ ghost use Rattle.bx_planfile.specs.Reading.{read_booking};
 ghost use Rattle.bx_planfile.specs.Inside.{Answers};
 
 use crate::decimals::{decimal, is_digits};
-use crate::fault::PlanFault;
+use crate::fault::PlanTextFault;
 use crate::fields::Fields;
 use crate::version::Version;
 use bx_base::Booking;
@@ -168,9 +168,9 @@ pub(crate) fn booking_of(
     version: Version,
     fields: Fields<'_>,
     n: u32,
-) -> Result<(Booking, Option<Channel>), PlanFault>
+) -> Result<(Booking, Option<Channel>), PlanTextFault>
     ensures { Answers (λ x. entry_of x.0 x.1) result (read_booking version n fields.entry) }
 {
-    let values = values_of(version, fields).ok_or(PlanFault::BadLine(n))?;
-    values.within_limits().ok_or(PlanFault::OutOfLimits(n))
+    let values = values_of(version, fields).ok_or(PlanTextFault::BadLine(n))?;
+    values.within_limits().ok_or(PlanTextFault::OutOfLimits(n))
 }

@@ -8,7 +8,7 @@ ghost use Rattle.bx_planfile.specs.Reading.{read_channels};
 ghost use Rattle.bx_planfile.specs.Inside.{Answers};
 
 use crate::decimals::decimal;
-use crate::fault::PlanFault;
+use crate::fault::PlanTextFault;
 use crate::fields::Fields;
 use bx_base::ChannelSet;
 use bx_channels::Channel;
@@ -45,11 +45,11 @@ fn rising_channels(mut fields: Fields<'_>) -> Option<ChannelSet>
 
 /// The channels in the fields of line `n`.
 #[tactic(auto, unfolding(crate::specs::Reading::read_channels, crate::specs::Forms::channels_form))]
-pub(crate) fn channels_of(mut fields: Fields<'_>, n: u32) -> Result<ChannelSet, PlanFault>
+pub(crate) fn channels_of(mut fields: Fields<'_>, n: u32) -> Result<ChannelSet, PlanTextFault>
     ensures { Answers (λ x. x) result (read_channels n fields.entry) }
 {
     if fields.take() != b"channels".as_slice() || !all_decimals(fields.again()) {
-        return Err(PlanFault::BadLine(n));
+        return Err(PlanTextFault::BadLine(n));
     }
-    rising_channels(fields).ok_or(PlanFault::OutOfLimits(n))
+    rising_channels(fields).ok_or(PlanTextFault::OutOfLimits(n))
 }

@@ -5,7 +5,7 @@ use thiserror::Error;
 /// The first fault of a plan text. Lines are counted from 1, and the form of a line is looked at before its
 /// values.
 #[derive(Clone, Copy, Debug, PartialEq, Eq, Error)]
-pub enum PlanFault {
+pub enum PlanTextFault {
     /// The line has another form than the one that belongs in its place, has no LF, or is missing.
     #[error("P1 BadLine {0}")]
     BadLine(u32),

@@ -6,7 +6,7 @@ ghost use Rattle.bx_planfile.specs.Forms.{is_nothing};
 ghost use Rattle.bx_planfile.specs.Reading.{read_line};
 ghost use Rattle.bx_planfile.specs.Inside.{Answers};
 
-use crate::fault::PlanFault;
+use crate::fault::PlanTextFault;
 use std::marker::Model;
 
 /// The fields of a line that were not taken yet. Single spaces keep them apart.
@@ -85,11 +85,11 @@ impl<'a> Fields<'a> {
 
 /// The fields of the first line, which is line `n` of the text, and what stands behind its LF.
 #[tactic(auto, unfolding(crate::specs::Reading::read_line))]
-pub(crate) fn line_of(bytes: &[u8], n: u32) -> Result<(Fields<'_>, &[u8]), PlanFault>
+pub(crate) fn line_of(bytes: &[u8], n: u32) -> Result<(Fields<'_>, &[u8]), PlanTextFault>
     ensures { Answers (λ x. (x.0, x.1.now)) result (read_line n bytes.now) }
 {
     match place_of(bytes, b'\n') {
         Some(end) => Ok((Fields::of(&bytes[..end]), &bytes[end + 1..])),
-        None => Err(PlanFault::BadLine(n)),
+        None => Err(PlanTextFault::BadLine(n)),
     }
 }

@@ -15,6 +15,6 @@ mod writing;
 mod written_lines;
 
 pub use decimals::decimal;
-pub use fault::{PlanFault, PlanWriteFault};
+pub use fault::{PlanTextFault, PlanWriteFault};
 pub use reading::read_plan;
 pub use writing::write_plan;

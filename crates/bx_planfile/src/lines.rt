@@ -8,9 +8,10 @@ ghost use Rattle.bx_text.specs.Digits.{capped};
 ghost use Rattle.bx_planfile.specs.Values.{charge_of_values};
 ghost use Rattle.bx_planfile.specs.Reading.{read_header, read_count, read_total, read_end, read_price};
 ghost use Rattle.bx_planfile.specs.Inside.{Answers};
+ghost use Rattle.bx_base.specs.declared.plan.TheConstants.{MAX_TOTAL};
 
 use crate::decimals::decimal;
-use crate::fault::PlanFault;
+use crate::fault::PlanTextFault;
 use crate::fields::Fields;
 use crate::version::Version;
 use bx_base::{MAX_TOTAL, Price};
@@ -38,10 +39,10 @@ fn version_of(mut fields: Fields<'_>) -> Option<Version>
 
 /// The version in the fields of line `n`.
 #[tactic(auto, unfolding(crate::specs::Reading::read_header))]
-pub(crate) fn header_of(fields: Fields<'_>, n: u32) -> Result<Version, PlanFault>
+pub(crate) fn header_of(fields: Fields<'_>, n: u32) -> Result<Version, PlanTextFault>
     ensures { Answers (λ x. x) result (read_header n fields.entry) }
 {
-    version_of(fields).ok_or(PlanFault::BadLine(n))
+    version_of(fields).ok_or(PlanTextFault::BadLine(n))
 }
 
 /// The decimal behind a word, which are all the fields.
@@ -58,26 +59,31 @@ fn number_behind(word: &[u8], mut fields: Fields<'_>) -> Option<u64>
 
 /// The count in the fields of line `n`, which is at most so many.
 #[tactic(auto, unfolding(crate::specs::Reading::read_count))]
-pub(crate) fn count_of(word: &[u8], most: u16, fields: Fields<'_>, n: u32) -> Result<u16, PlanFault>
+pub(crate) fn count_of(
+    word: &[u8],
+    most: u16,
+    fields: Fields<'_>,
+    n: u32,
+) -> Result<u16, PlanTextFault>
     ensures value { Answers (λ x. x) result (read_count word.now most n fields.entry) }
     ensures few { IfOk result (λ x. x ≤ most) }
 {
-    let count = number_behind(word, fields).ok_or(PlanFault::BadLine(n))?;
+    let count = number_behind(word, fields).ok_or(PlanTextFault::BadLine(n))?;
     if count > u64::from(most) {
-        return Err(PlanFault::BadCount);
+        return Err(PlanTextFault::BadCount);
     }
     Ok(count as u16)
 }
 
 /// The total in the fields of line `n`.
 #[tactic(auto, unfolding(crate::specs::Reading::read_total))]
-pub(crate) fn total_of(fields: Fields<'_>, n: u32) -> Result<u64, PlanFault>
+pub(crate) fn total_of(fields: Fields<'_>, n: u32) -> Result<u64, PlanTextFault>
     ensures value { Answers (λ x. x) result (read_total n fields.entry) }
-    ensures limit { IfOk result (λ x. x ≤ 4000000000000) }
+    ensures limit { IfOk result (λ x. x ≤ MAX_TOTAL) }
 {
-    let total = number_behind(b"total", fields).ok_or(PlanFault::BadLine(n))?;
+    let total = number_behind(b"total", fields).ok_or(PlanTextFault::BadLine(n))?;
     if total > MAX_TOTAL {
-        return Err(PlanFault::OutOfLimits(n));
+        return Err(PlanTextFault::OutOfLimits(n));
     }
     Ok(total)
 }
@@ -88,14 +94,14 @@ pub(crate) fn ends<'a>(
     mut fields: Fields<'_>,
     rest: &'a [u8],
     n: u32,
-) -> Result<&'a [u8], PlanFault>
+) -> Result<&'a [u8], PlanTextFault>
     ensures { Answers (λ x. x.now) result (read_end n fields.entry rest.now) }
 {
     if fields.take() != b"end".as_slice() || !fields.is_done() {
-        return Err(PlanFault::BadLine(n));
+        return Err(PlanTextFault::BadLine(n));
     }
     if !rest.is_empty() {
-        return Err(PlanFault::Trailing);
+        return Err(PlanTextFault::Trailing);
     }
     Ok(rest)
 }
@@ -131,9 +137,9 @@ impl PriceValues {
 
 /// The price in the fields of line `n`.
 #[tactic(auto, unfolding(crate::specs::Reading::read_price))]
-pub(crate) fn price_of(fields: Fields<'_>, n: u32) -> Result<Price, PlanFault>
+pub(crate) fn price_of(fields: Fields<'_>, n: u32) -> Result<Price, PlanTextFault>
     ensures { Answers (λ x. x) result (read_price n fields.entry) }
 {
-    let values = price_values(fields).ok_or(PlanFault::BadLine(n))?;
-    values.within_limits().ok_or(PlanFault::OutOfLimits(n))
+    let values = price_values(fields).ok_or(PlanTextFault::BadLine(n))?;
+    values.within_limits().ok_or(PlanTextFault::OutOfLimits(n))
 }

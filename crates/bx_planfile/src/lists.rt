@@ -2,9 +2,10 @@
 
 ghost use Rattle.std.specs.Prelude.{◌≡◌, ◌≤◌, ◌<◌, ◌+◌, ◌^◌, ◌++◌, ◌∷◌, [], length, vec_len, OnOk, OnErr, IfOk};
 ghost use Rattle.bx_planfile.specs.Reading.{Gives, read_bookings, read_prices, entries, SomeBookings, SomePrices};
+ghost use Rattle.bx_base.specs.declared.bookings.TheConstants.{MAX_BOOKINGS};
 
 use crate::booking_line::booking_of;
-use crate::fault::PlanFault;
+use crate::fault::PlanTextFault;
 use crate::fields::line_of;
 use crate::lines::price_of;
 use crate::version::Version;
@@ -12,15 +13,15 @@ use bx_base::{AddFault, Booking, Bookings, Price};
 use bx_channels::Channel;
 use std::alloc::Global;
 
-fn add(bookings: &mut Bookings, booking: Booking) -> Result<(), PlanFault>
-    requires { length bookings.old < 4000 }
+fn add(bookings: &mut Bookings, booking: Booking) -> Result<(), PlanTextFault>
+    requires { length bookings.old < MAX_BOOKINGS }
     ensures ok { OnOk result (bookings.new ≡ bookings.old ++ booking ∷ []) }
-    ensures err { OnErr result (result ≡ Err PlanFault.Memory) }
+    ensures err { OnErr result (result ≡ Err PlanTextFault.Memory) }
 {
     match bookings.push(booking) {
         Ok(()) => Ok(()),
         Err(AddFault::Full) => unreachable!(),
-        Err(AddFault::Memory) => Err(PlanFault::Memory),
+        Err(AddFault::Memory) => Err(PlanTextFault::Memory),
     }
 }
 
@@ -31,12 +32,12 @@ pub(crate) fn bookings_of(
     count: u16,
     bytes: &[u8],
     n: u32,
-) -> Result<(Bookings, Vec<Option<Channel>>, &[u8]), PlanFault>
-    requires few { count ≤ 4000 }
+) -> Result<(Bookings, Vec<Option<Channel>>, &[u8]), PlanTextFault>
+    requires few { count ≤ MAX_BOOKINGS }
     requires counts { n + count < 2 ^ 32 }
     ensures value { Gives (λ x. entries x.0 x.1.items x.2.now) result (read_bookings version count n bytes.now) }
     // Memory was refused only where the plan grew.
-    ensures memory { result ≡ Err PlanFault.Memory → SomeBookings version count n bytes.now }
+    ensures memory { result ≡ Err PlanTextFault.Memory → SomeBookings version count n bytes.now }
     ensures lengths { IfOk result (λ x. (length x.0 ≡ count) × (vec_len x.1 ≡ count)) }
 {
     let mut bookings = Bookings::new(alloc);
@@ -48,7 +49,7 @@ pub(crate) fn bookings_of(
         let (booking, channel) = booking_of(version, fields, line)?;
         add(&mut bookings, booking)?;
         if assigned.push(channel).is_err() {
-            return Err(PlanFault::Memory);
+            return Err(PlanTextFault::Memory);
         }
         rest = after;
     }
@@ -61,11 +62,11 @@ pub(crate) fn prices_of(
     count: u16,
     bytes: &[u8],
     n: u32,
-) -> Result<(Vec<Price>, &[u8]), PlanFault>
+) -> Result<(Vec<Price>, &[u8]), PlanTextFault>
     requires { n + count < 2 ^ 32 }
     ensures value { Gives (λ x. (x.0.items, x.1.now)) result (read_prices count n bytes.now) }
     // Memory was refused only where the list grew.
-    ensures memory { result ≡ Err PlanFault.Memory → SomePrices count n bytes.now }
+    ensures memory { result ≡ Err PlanTextFault.Memory → SomePrices count n bytes.now }
     ensures len { IfOk result (λ x. vec_len x.0 ≡ count) }
 {
     let mut prices = Vec::new(alloc);
@@ -75,7 +76,7 @@ pub(crate) fn prices_of(
         let (fields, after) = line_of(rest, line)?;
         let price = price_of(fields, line)?;
         if prices.push(price).is_err() {
-            return Err(PlanFault::Memory);
+            return Err(PlanTextFault::Memory);
         }
         rest = after;
     }

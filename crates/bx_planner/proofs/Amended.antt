@@ -1,5 +1,5 @@
 -- The rows that are planned anew, one by one.
-use Rattle.std.proofs.Common.{zero, suc, ◌≡◌, ℕ, ◌+◌, ◌-◌, ◌<◌, ◌≤◌, Bool, List, [], ◌∷◌, ◌++◌, length, Option, refl, sym, ◌∙◌, ap, arith}
+use Rattle.std.proofs.Common.{zero, suc, ◌≡◌, ℕ, ◌+◌, ◌-◌, ◌<◌, ◌≤◌, Bool, List, [], ◌∷◌, length, Option, cond, refl, sym, ◌∙◌, ap, arith}
 use Rattle.std.proofs.lemmas.List.{length-append, get_or_append_left, get_or-append_right}
 use Rattle.bx_base.specs.Bookings.{Row, row_at, no_row, Carries, IsLawful, pay_of}
 use Rattle.bx_base.specs.Plans.{is_accepted, channel_at}
@@ -8,6 +8,7 @@ use Rattle.bx_base.specs.PlanParts.{Parts}
 use Rattle.bx_planner.specs.Amending.{promised, promised_rows, amended, IsBestPlan, KeepsPromises}
 use Rattle.bx_planner.specs.Choices.{IsFirstFitPlan, ProvesBest}
 use Rattle.bx_planner.specs.Inside.{IsLeastBound}
+use Rattle.bx_base.proofs.SumLemmas.{sum_below-same}
 use Rattle.bx_planner.proofs.Chosen.{best_from_proof}
 use Rattle.bx_planner.proofs.SamePrices.{least_proof}
 
@@ -48,7 +49,12 @@ pub keeps : (rows : List Row) (assigned : List (Option ℕ)) (more : List Row) (
 keeps rows assigned more channels after lawful i h a =
     lawful.has_musts i (omega (arith, h, length_amended rows assigned more)) (ap (λ (r : Row). r.must) (row_earlier rows assigned more i h) ∙ a)
 
--- all that `plan` promises, from the clauses of its lower half
+-- what the accepted rows pay, from the marks that they were accepted by
+pub accepted_pay : (rows : List Row) (f g : ℕ → Bool) (total : ℕ) → total ≡ pay_of rows g → ((i : ℕ) → f i ≡ g i) → total ≡ pay_of rows f
+accepted_pay rows f g total paid same =
+    paid ∙ sum_below-same (length rows) (λ i. cond (g i) (row_at rows i).pay 0) (λ i. cond (f i) (row_at rows i).pay 0) (λ i h. ap (λ (b : Bool). cond b (row_at rows i).pay 0) (sym (same i)))
+
+-- all that `plan` promises, from the bounds that its prices set
 pub best_plan_of : (rows : List Row) (channels : List Bool) (plan : Parts) → plan.rows ≡ rows → plan.channels ≡ channels → IsFirstFitPlan rows channels plan.assigned → Carries rows channels (is_accepted plan.assigned) (channel_at plan.assigned) → IsLawful rows channels (is_accepted plan.assigned) → plan.total ≡ pay_of rows (is_accepted plan.assigned) → ProvesBest rows (count_of channels) plan.prices plan.total → IsLeastBound rows (count_of channels) plan.prices plan.total → IsBestPlan rows channels plan
 best_plan_of rows channels plan e f first carries lawful paid proof least =
     record {
@@ -62,11 +68,3 @@ best_plan_of rows channels plan e f first carries lawful paid proof least =
       best = best_from_proof rows channels plan.prices plan.total proof;
       least = least_proof rows channels plan.prices (is_accepted plan.assigned) plan.total lawful paid proof least;
     }
-
-none_promised : (assigned : List (Option ℕ)) → promised_rows [] assigned ≡ []
-unfolding promised_rows
-none_promised assigned = refl
-
--- without an earlier plan the others are all
-pub alone : (none : List Row) (assigned : List (Option ℕ)) (more whole : List Row) → whole ≡ amended none assigned more → none ≡ [] → whole ≡ more
-alone none assigned more whole e h = e ∙ (ap (λ (rows : List Row). amended rows assigned more) h ∙ ap (λ (rows : List Row). rows ++ more) (none_promised assigned))

@@ -4,11 +4,12 @@ use Rattle.bx_base.specs.Bookings.{Row, row_of, Carries, IsLawful, pay_of}
 use Rattle.bx_base.specs.Channels.{count_of}
 use Rattle.bx_base.specs.PlanParts.{Parts}
 use Rattle.bx_base.specs.Plans.{is_accepted, channel_at}
-use Rattle.bx_planner.specs.declared.amending.AmendFail.{AmendFail}
-use Rattle.bx_planner.specs.declared.amending.AmendFail.TheVariants.{TooMany, TooManyMust, Memory}
+use Rattle.bx_planner.specs.declared.amending.NoAmendment.{NoAmendment}
+use Rattle.bx_planner.specs.declared.amending.NoAmendment.TheVariants.{TooMany, TooManyMust, Memory}
 use Rattle.bx_planner.specs.Musts.{IsTooManyMust}
 use Rattle.bx_planner.specs.LeastProofs.{IsLeastProof}
 use Rattle.bx_planner.specs.Choices.{IsBest, IsFirstFitPlan, ProvesBest}
+use Rattle.bx_base.specs.declared.bookings.TheConstants.{MAX_BOOKINGS}
 
 -- a row of a plan as it is planned anew: must just where the plan accepts it
 abbrev pub promised : Row → Bool → Row
@@ -41,7 +42,7 @@ abbrev pub KeepsPromises : List Row → List (Option ℕ) → List (Option ℕ) 
 KeepsPromises rows before after = (i : ℕ) → i < length rows → is_accepted before i ≡ true → is_accepted after i ≡ true
 
 -- why nothing was amended
-abbrev pub IsAmendFail : List Row → List Bool → AmendFail → Type 0
-IsAmendFail rows channels TooMany = 4000 < length rows
-IsAmendFail rows channels (TooManyMust moment) = IsTooManyMust rows channels moment
-IsAmendFail rows channels Memory = Unit {0}
+abbrev pub IsNoAmendment : List Row → List Bool → NoAmendment → Type 0
+IsNoAmendment rows channels TooMany = MAX_BOOKINGS < length rows
+IsNoAmendment rows channels (TooManyMust moment) = IsTooManyMust rows channels moment
+IsNoAmendment rows channels Memory = Unit {0}

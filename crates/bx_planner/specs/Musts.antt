@@ -1,4 +1,4 @@
--- Bookings that each plan has to hold, and the first moment that has too many of them.
+-- Bookings that each plan has to hold, which are the mandatory ones, and the first moment that has too many of them.
 use Rattle.std.specs.Prelude.{ℕ, ◌<◌, ◌≤◌, ◌&&◌, Bool, List, length, if◌then◌else◌}
 use Rattle.bx_base.specs.Sums.{sum_below}
 use Rattle.bx_base.specs.Channels.{count_of}

@@ -3,8 +3,9 @@
 ghost use Rattle.std.specs.Prelude.{◌≡◌, ◌≤◌, ◌<◌, ◌+◌, ◌↔◌, ℕ, IfOk, IfErr, Err, length};
 ghost use Rattle.bx_base.specs.Channels.{count_of};
 ghost use Rattle.bx_base.specs.PlanParts.{IsPlan, parts_of};
-ghost use Rattle.bx_planner.specs.Amending.{amended, IsAmendFail, IsBestPlan, KeepsPromises};
+ghost use Rattle.bx_planner.specs.Amending.{amended, IsNoAmendment, IsBestPlan, KeepsPromises};
 ghost use Rattle.bx_planner.specs.Musts.{musts_at, IsTooManyMust};
+ghost use Rattle.bx_base.specs.declared.bookings.TheConstants.{MAX_BOOKINGS};
 
 use crate::demand::Demand;
 use crate::musts::too_many_must;
@@ -15,7 +16,7 @@ use thiserror::Error;
 
 /// Why a plan was not amended.
 #[derive(Clone, Copy, Debug, PartialEq, Eq, Error)]
-pub enum AmendFail {
+pub enum NoAmendment {
     /// Both together have more than 4,000 bookings.
     #[error("K2 TooMany")]
     TooMany,
@@ -32,25 +33,25 @@ pub enum AmendFail {
 /// promised, so it has to be held, each that it refuses is free, and the new ones keep their marks. It has all that `plan`
 /// promises of these bookings, so no promised call is dropped, and nothing better holds all promises. Channels may change.
 /// The plan need not be proved, or carried; its prices and its total do not matter. `TooMany` is tested first, then
-/// `TooManyMust`, both without memory; a refusal leaves both as they are.
-pub fn amend(alloc: Global, plan: &Plan, more: &Bookings) -> Result<Plan, AmendFail>
-    ensures full { (result ≡ Err AmendFail.TooMany) ↔ (4000 < length plan.now.bookings + length more.now) }
-    ensures musts { (t : ℕ) → (result ≡ Err (AmendFail.TooManyMust t)) ↔ ((length plan.now.bookings + length more.now ≤ 4000) × IsTooManyMust (amended plan.now.bookings plan.now.assigned.items more.now) plan.now.channels t) }
+/// `TooManyMust`, both without memory; `Memory` where a growth is refused. A refusal leaves both as they are.
+pub fn amend(alloc: Global, plan: &Plan, more: &Bookings) -> Result<Plan, NoAmendment>
+    ensures full { (result ≡ Err NoAmendment.TooMany) ↔ (MAX_BOOKINGS < length plan.now.bookings + length more.now) }
+    ensures musts { (t : ℕ) → (result ≡ Err (NoAmendment.TooManyMust t)) ↔ ((length plan.now.bookings + length more.now ≤ MAX_BOOKINGS) × IsTooManyMust (amended plan.now.bookings plan.now.assigned.items more.now) plan.now.channels t) }
     ensures planned { IfOk result (λ p. IsBestPlan (amended plan.now.bookings plan.now.assigned.items more.now) plan.now.channels (parts_of p)) }
     ensures limits { IfOk result (λ p. IsPlan (parts_of p)) }
-    ensures fail { IfErr result (IsAmendFail (amended plan.now.bookings plan.now.assigned.items more.now) plan.now.channels) }
+    ensures fail { IfErr result (IsNoAmendment (amended plan.now.bookings plan.now.assigned.items more.now) plan.now.channels) }
     ensures kept { IfOk result (λ p. KeepsPromises plan.now.bookings plan.now.assigned.items p.assigned.items) }
 {
     if (plan.bookings.len() + more.len()) as usize > MAX_BOOKINGS {
-        return Err(AmendFail::TooMany);
+        return Err(NoAmendment::TooMany);
     }
-    let demand = Demand::of(&plan.bookings, &plan.assigned, more);
+    let demand = Demand::of(plan, more);
     if let Some(moment) = too_many_must(&demand, plan.channels) {
-        return Err(AmendFail::TooManyMust(moment));
+        return Err(NoAmendment::TooManyMust(moment));
     }
     match planned_anew(alloc, &demand, plan.channels) {
         Ok(amended) => Ok(amended),
-        Err(_) => Err(AmendFail::Memory),
+        Err(_) => Err(NoAmendment::Memory),
     }
 }
 
@@ -60,7 +61,7 @@ fn planned_anew(
     demand: &Demand<'_>,
     channels: ChannelSet,
 ) -> Result<Plan, AllocError>
-    requires few { length demand.now ≤ 4000 }
+    requires few { length demand.now ≤ MAX_BOOKINGS }
     requires room { (s : ℕ) → musts_at demand.now s ≤ count_of channels }
     ensures planned { IfOk result (λ p. IsBestPlan demand.now channels (parts_of p)) }
     ensures limits { IfOk result (λ p. IsPlan (parts_of p)) }

@@ -12,6 +12,8 @@ ghost use Rattle.bx_line.specs.Moments.{HasJustMoments};
 ghost use Rattle.bx_line.specs.Network.{AreArcsOf, places_of};
 ghost use Rattle.bx_planner.specs.Musts.{musts_at};
 ghost use Rattle.bx_planner.specs.Inside.{IsBestChoice};
+ghost use Rattle.bx_base.specs.declared.bookings.TheConstants.{MAX_BOOKINGS};
+ghost use Rattle.bx_base.specs.declared.plan.TheConstants.{MAX_TOTAL};
 
 use crate::prices::prices_of;
 use bx_base::{Bookings, Price};
@@ -70,7 +72,7 @@ pub(crate) fn choice_of(
 
 /// Which of so many rows carry a unit.
 fn marks_of(alloc: Global, carried: &Carried, rows: u16) -> Result<Vec<bool>, AllocError>
-    requires { rows ≤ 4000 }
+    requires { rows ≤ MAX_BOOKINGS }
     ensures one_each { IfOk result (λ v. length v.items ≡ rows) }
     ensures each { IfOk result (λ v. (i : ℕ) → i < rows → is_in v.items i ≡ is_carried carried.now i) }
 {
@@ -85,7 +87,7 @@ fn marks_of(alloc: Global, carried: &Carried, rows: u16) -> Result<Vec<bool>, Al
 pub(crate) fn total_of(bookings: &Bookings, accepted: &[bool]) -> u64
     requires { length accepted.now ≡ length bookings.now }
     ensures total { result ≡ pay_of bookings.now (is_in accepted.now) }
-    ensures limit { result ≤ 4000000000000 }
+    ensures limit { result ≤ MAX_TOTAL }
 {
     let mut total = 0;
     for i in 0..bookings.len() {

@@ -1,57 +1,50 @@
 //! The bookings that a plan is asked for.
 
-ghost use Rattle.std.specs.Prelude.{◌≡◌, ◌≤◌, ◌<◌, IfOk, [], length};
+ghost use Rattle.std.specs.Prelude.{◌≡◌, ◌≤◌, ◌<◌, IfOk, length};
 ghost use Rattle.bx_base.specs.Bookings.{IsBooking, row_at};
 ghost use Rattle.bx_planner.specs.Amending.{promised, amended};
+ghost use Rattle.bx_base.specs.declared.bookings.TheConstants.{MAX_BOOKINGS};
 
-use bx_base::{Booking, Bookings};
-use bx_channels::Channel;
+use bx_base::{Booking, Bookings, Plan};
 use std::alloc::{AllocError, Global};
 use std::marker::Model;
 
-/// The bookings of an earlier plan, which have to be held just where it accepted them, and more behind them.
+/// Bookings alone, or more bookings behind those of an earlier plan, which have to be held just where it accepted them.
 #[derive(Drop)]
 pub(crate) struct Demand<'a> {
-    earlier: &'a Bookings,
-    assigned: &'a [Option<Channel>],
+    earlier: Option<&'a Plan>,
     more: &'a Bookings,
 }
 
 impl<'a> Model for Demand<'a> {
-    ghost use Rattle.std.specs.Prelude.{◌≡◌, ◌+◌, List, length};
+    ghost use Rattle.std.specs.Prelude.{List};
     ghost use Rattle.bx_base.specs.Bookings.{Row};
-    ghost use Rattle.bx_planner.specs.Amending.{amended};
+    ghost use Rattle.bx_planner.specs.Inside.{demanded};
 
     ghost Value = { List Row };
 
-    ghost view = { λ d. amended d.earlier.now d.assigned.now d.more.now };
-
-    ghost invariant = { λ d. (length d.assigned.now ≡ length d.earlier.now) × (length (amended d.earlier.now d.assigned.now d.more.now) ≡ length d.earlier.now + length d.more.now) };
+    ghost view = { λ d. demanded d.earlier d.more.now };
 }
 
 impl<'a> Demand<'a> {
-    /// The bookings of a plan with their channels, one entry for each, and more.
-    pub(crate) fn of(
-        earlier: &'a Bookings,
-        assigned: &'a [Option<Channel>],
-        more: &'a Bookings,
-    ) -> Demand<'a>
-        requires { length assigned.now ≡ length earlier.now }
-        ensures { result ≡ amended earlier.now assigned.now more.now }
+    /// The bookings of a plan, and more.
+    pub(crate) fn of(earlier: &'a Plan, more: &'a Bookings) -> Demand<'a>
+        ensures { result ≡ amended earlier.now.bookings earlier.now.assigned.items more.now }
     {
         Demand {
-            earlier,
-            assigned,
+            earlier: Some(earlier),
             more,
         }
     }
 
     /// Bookings alone, with no plan before them.
-    pub(crate) fn fresh(none: &'a Bookings, bookings: &'a Bookings) -> Demand<'a>
-        requires { none.now ≡ [] }
+    pub(crate) fn fresh(bookings: &'a Bookings) -> Demand<'a>
         ensures { result ≡ bookings.now }
     {
-        Demand::of(none, &[], bookings)
+        Demand {
+            earlier: None,
+            more: bookings,
+        }
     }
 
     /// How many there are: 0 to 8,000.
@@ -59,7 +52,10 @@ impl<'a> Demand<'a> {
         ensures count { result ≡ length self.now }
         ensures limit { result ≤ 8000 }
     {
-        self.earlier.len() + self.more.len()
+        match self.earlier {
+            Some(plan) => plan.bookings.len() + self.more.len(),
+            None => self.more.len(),
+        }
     }
 
     /// The booking at a place of the list, counted from 0.
@@ -67,19 +63,22 @@ impl<'a> Demand<'a> {
         requires { index < length self.now }
         ensures { result ≡ row_at self.now index }
     {
-        let earlier = self.earlier.len();
+        let Some(plan) = self.earlier else {
+            return self.more.nth(index);
+        };
+        let earlier = plan.bookings.len();
         if index >= earlier {
             return self.more.nth(index - earlier);
         }
         promised(
-            &self.earlier.nth(index),
-            self.assigned[index as usize].is_some(),
+            &plan.bookings.nth(index),
+            plan.assigned[index as usize].is_some(),
         )
     }
 
     /// All of them as one list.
     pub(crate) fn bookings(&self, alloc: Global) -> Result<Bookings, AllocError>
-        requires { length self.now ≤ 4000 }
+        requires { length self.now ≤ MAX_BOOKINGS }
         ensures { IfOk result (λ b. b ≡ self.now) }
     {
         let mut bookings = Bookings::new(alloc);

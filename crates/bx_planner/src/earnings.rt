@@ -34,20 +34,21 @@ pub enum Earning {
     TooFew(u32),
 }
 
-/// What each count of channels would earn, from 0 to 30, in rising order.
+/// What each count of channels would earn, from 0 to 30, in rising order: by a flow of least cost that grows by a unit for each
+/// channel (R. K. Ahuja, T. L. Magnanti, J. B. Orlin, Network flows, 1993: successive shortest paths). `AllocError` where a
+/// growth is refused.
 pub fn capacity(alloc: Global, bookings: &Bookings) -> Result<Vec<Earning>, AllocError>
     ensures { IfOk result (λ v. AreEarnings bookings.now v.items) }
 {
-    let none = Bookings::new(alloc);
-    let musts = must_load(&Demand::fresh(&none, bookings));
+    let musts = must_load(&Demand::fresh(bookings));
     let line = Line::of(alloc, bookings)?;
     let counts = line.cliques(alloc)?;
     let shorter = line.shortened(alloc, &counts)?;
     earnings_of(alloc, bookings, &line, &counts, &shorter, &musts)
 }
 
-/// What one more channel would add to the total of a plan that is proved for its own bookings, whatever proves it: the sum of
-/// the least prices for its bookings and channels.
+/// What one more channel would add to the total of a plan that has to be proved for its own bookings, whatever proves it: the
+/// sum of the least prices for its bookings and channels. `AllocError` where a growth is refused.
 pub fn next_gain(alloc: Global, plan: &Plan) -> Result<u64, AllocError>
     requires proved { IsOutcome plan.now.bookings plan.now.channels (parts_of plan.now) (Ok plan.now.total) }
     ensures { IfOk result (λ next. IsEarning plan.now.bookings (count_of plan.now.channels) (Earning.Most plan.now.total next)) }

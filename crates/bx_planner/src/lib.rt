@@ -10,6 +10,6 @@ mod musts;
 mod planning;
 mod prices;
 
-pub use amending::{AmendFail, amend};
+pub use amending::{NoAmendment, amend};
 pub use earnings::{Earning, capacity, next_gain};
-pub use planning::{PlanFail, plan};
+pub use planning::{NoPlan, plan};

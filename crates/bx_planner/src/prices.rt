@@ -3,6 +3,7 @@
 ghost use Rattle.std.specs.Prelude.{◌≡◌, ◌≤◌, ◌<◌, ◌+◌, ℕ, IfOk};
 ghost use Rattle.bx_line.specs.Network.{gaps_of};
 ghost use Rattle.bx_planner.specs.Prices.{fall_at, charges};
+ghost use Rattle.bx_base.specs.declared.plan.TheConstants.{MAX_TOTAL};
 
 use bx_base::Price;
 use bx_dist::Potentials;
@@ -15,7 +16,7 @@ pub(crate) fn prices_of(
     line: &Line,
     potentials: &Potentials,
 ) -> Result<Vec<Price>, AllocError>
-    requires { (v : ℕ) → v < gaps_of line.now → fall_at potentials.now v ≤ 4000000000000 }
+    requires { (v : ℕ) → v < gaps_of line.now → fall_at potentials.now v ≤ MAX_TOTAL }
     ensures { IfOk result (λ v. v.items ≡ charges line.now.moments potentials.now (gaps_of line.now)) }
 {
     let mut prices = Vec::new(alloc);

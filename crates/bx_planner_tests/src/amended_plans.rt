@@ -4,11 +4,12 @@ use crate::rows::{Row, bookings_of};
 use crate::worked_plans::are_prices;
 use bx_base::{Bookings, ChannelSet, Plan};
 use bx_channels::Channel;
-use bx_planner::{AmendFail, amend, plan};
+use bx_planner::{NoAmendment, amend, plan};
 use std::alloc::Global;
 
 /// The rows of a day on channel 1, more rows, and what the plan for both accepts, pays, and charges.
 struct Amended {
+    name: &'static str,
     rows: &'static [Row],
     more: &'static [Row],
     accepted: &'static [bool],
@@ -17,24 +18,27 @@ struct Amended {
 }
 
 static AMENDED: [Amended; 4] = [
-    // a dear booking comes late: both promises are kept, though it alone would pay more
+    // Both promises are kept, though the dear booking alone would pay more.
     Amended {
+        name: "a dear booking comes late",
         rows: &[(0, 10, 4, false), (5, 15, 6, false), (10, 20, 4, false)],
         more: &[(5, 15, 100, false)],
         accepted: &[true, false, true, false],
         total: 8,
         prices: &[(10, 100)],
     },
-    // what was refused stays out, and costs of promised bookings are bounded by nothing
+    // What was refused stays out, and costs of promised bookings are bounded by nothing.
     Amended {
+        name: "a must booking behind the others",
         rows: &[(0, 10, 4, false), (5, 15, 6, false), (10, 20, 4, false)],
         more: &[(20, 30, 7, true)],
         accepted: &[true, false, true, true],
         total: 15,
         prices: &[(10, 6)],
     },
-    // nothing more: what is promised has to be held now, and costs what it displaces
+    // What is promised has to be held now, and costs what it displaces.
     Amended {
+        name: "nothing more",
         rows: &[(0, 10, 5, false), (5, 15, 3, false)],
         more: &[],
         accepted: &[true, false],
@@ -42,6 +46,7 @@ static AMENDED: [Amended; 4] = [
         prices: &[(5, 3)],
     },
     Amended {
+        name: "nothing before",
         rows: &[],
         more: &[(0, 10, 5, false), (0, 10, 6, false)],
         accepted: &[false, true],
@@ -79,8 +84,8 @@ fn is_amended(alloc: Global, case: &Amended) -> Option<bool> {
 
 #[test]
 fn promises_are_kept(rt: HostRuntime) {
-    for (index, case) in AMENDED.iter().enumerate() {
-        assert!(rt; is_amended(rt.alloc(), case) == Some(true), "case {index}");
+    for case in &AMENDED {
+        assert!(rt; is_amended(rt.alloc(), case) == Some(true), "{}", case.name);
     }
 }
 
@@ -110,7 +115,7 @@ fn promises_are_kept_twice_over(rt: HostRuntime) {
 }
 
 /// The refusal of a plan of so many bookings, one after another, by one more that must be held from 5 to 15.
-fn refused(alloc: Global, count: u16) -> Option<AmendFail> {
+fn refused(alloc: Global, count: u16) -> Option<NoAmendment> {
     let mut rows = Vec::new(alloc);
     for row in 0..count {
         let start = u32::from(row) * 10;

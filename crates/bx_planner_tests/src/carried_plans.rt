@@ -5,13 +5,15 @@ use bx_base::{ChannelSet, Plan};
 use bx_channels::Channel;
 use std::alloc::Global;
 
-/// The ends of two bookings, their channels (0: none), and whether channels 1 and 2 carry them.
-static PLANS: [((u32, u32), [u8; 2], bool); 5] = [
-    ((10, 20), [1, 1], true),
-    ((11, 20), [1, 1], false),
-    ((11, 20), [1, 2], true),
-    ((11, 20), [1, 0], true),
-    ((10, 20), [1, 3], false),
+/// A plan by its name, the ends of its two bookings, their channels (0: none), and whether channels 1 and 2 carry them.
+type Planned = (&'static str, (u32, u32), [u8; 2], bool);
+
+static PLANS: [Planned; 5] = [
+    ("two that touch", (10, 20), [1, 1], true),
+    ("two that overlap", (11, 20), [1, 1], false),
+    ("two channels", (11, 20), [1, 2], true),
+    ("one is refused", (11, 20), [1, 0], true),
+    ("one is out of service", (10, 20), [1, 3], false),
 ];
 
 /// Whether the plan of two bookings with these ends and channels is carried.
@@ -33,10 +35,10 @@ fn is_carried(alloc: Global, ends: (u32, u32), numbers: [u8; 2]) -> Option<bool>
 
 #[test]
 fn plans(rt: HostRuntime) {
-    for (ends, numbers, carried) in PLANS {
+    for (name, ends, numbers, carried) in PLANS {
         assert!(rt;
             is_carried(rt.alloc(), ends, numbers) == Some(carried),
-            "{numbers:?}"
+            "{name}"
         );
     }
 }

@@ -14,15 +14,23 @@ static ROWS: [Row; 4] = [
     (5, 12, 1, false),
 ];
 
-/// The bookings that are accepted, and the channels that they are given (0: none); none where they do not fit
-/// on channels 15 and 17.
-type Choice = (&'static [bool], Option<[u8; 4]>);
+/// A choice by its name, the bookings that are accepted, and the channels that they are given (0: none); none where they do
+/// not fit on channels 15 and 17.
+type Choice = (&'static str, &'static [bool], Option<[u8; 4]>);
 
 static CHOICES: [Choice; 4] = [
-    (&[true, true, false, false], Some([15, 17, 0, 0])),
-    (&[false, true, true, true], Some([0, 15, 15, 17])),
-    (&[true, true, false, true], None),
-    (&[true, false], None),
+    (
+        "two that start together",
+        &[true, true, false, false],
+        Some([15, 17, 0, 0]),
+    ),
+    (
+        "two that touch, and one over both",
+        &[false, true, true, true],
+        Some([0, 15, 15, 17]),
+    ),
+    ("three at once", &[true, true, false, true], None),
+    ("too few marks", &[true, false], None),
 ];
 
 /// Whether the given channels are these numbers (0: none).
@@ -37,20 +45,21 @@ pub(crate) fn are_given(given: &[Option<Channel>], numbers: &[u8]) -> bool {
 /// Whether the accepted bookings get just these channels; false only where it is otherwise.
 fn is_coloured(alloc: Global, bookings: &Bookings, choice: &Choice) -> Option<bool> {
     let channels = ChannelSet::from_numbers(&[17, 15]).ok()?;
-    if fits(bookings, choice.0, channels) {
-        let given = colour(alloc, bookings, choice.0, channels).ok()?;
-        return Some(are_given(&given, &choice.1?));
+    if fits(bookings, choice.1, channels) {
+        let given = colour(alloc, bookings, choice.1, channels).ok()?;
+        return Some(are_given(&given, &choice.2?));
     }
-    Some(choice.1.is_none())
+    Some(choice.2.is_none())
 }
 
 #[test]
 fn two_at_once_on_channels_15_and_17(rt: HostRuntime) -> Result<(), Fail> {
     let bookings = bookings_of(rt.alloc(), &ROWS).ok_or("rows")?;
-    for (index, choice) in CHOICES.iter().enumerate() {
+    for choice in &CHOICES {
         assert!(rt;
             is_coloured(rt.alloc(), &bookings, choice) == Some(true),
-            "choice {index}"
+            "{}",
+            choice.0
         );
     }
     Ok(())

@@ -30,54 +30,106 @@ const FOUR_ON_ONE: &[Row] = &[(0, 10, 3, 1), (0, 10, 2, 0), (5, 15, 4, 1), (12, 
 
 const FOUR_OUTSIDE: &[Row] = &[(0, 10, 3, 1), (0, 10, 2, 0), (5, 15, 4, 3), (12, 20, 1, 1)];
 
-/// Plans, and what the check says of each as a plan of its own bookings and channels.
-static PLANS: [(Planned, &str); 21] = [
-    ((&[(0, 60, 5, 1)], 0, &[1], &[], 5), "5"),
-    ((&[], 0, &[1, 2, 3], &[], 0), "0"),
-    ((&[(10, 20, 7, 0)], 0, &[], &[(10, 7)], 0), "0"),
-    ((THREE, 0, &[1], &[(5, 2), (10, 4)], 8), "8"),
-    ((&[(0, 10, 3, 1), (10, 20, 3, 1)], 0, &[1], &[], 6), "6"),
+/// A plan by its name, and what the check says of it as a plan of its own bookings and channels.
+static PLANS: [(&str, Planned, &str); 21] = [
+    ("one booking", (&[(0, 60, 5, 1)], 0, &[1], &[], 5), "5"),
+    ("no bookings", (&[], 0, &[1, 2, 3], &[], 0), "0"),
     (
+        "no channels",
+        (&[(10, 20, 7, 0)], 0, &[], &[(10, 7)], 0),
+        "0",
+    ),
+    (
+        "a chain of three",
+        (THREE, 0, &[1], &[(5, 2), (10, 4)], 8),
+        "8",
+    ),
+    (
+        "two that touch",
+        (&[(0, 10, 3, 1), (10, 20, 3, 1)], 0, &[1], &[], 6),
+        "6",
+    ),
+    (
+        "two that overlap",
         (&[(0, 10, 5, 1), (5, 15, 3, 0)], 0, &[1], &[(5, 3)], 5),
         "5",
     ),
     (
+        "two alike, on two channels",
         (&[(0, 10, 1, 15), (0, 10, 1, 17)], 0, &[15, 17], &[], 2),
         "2",
     ),
     (
+        "the first of two alike",
         (&[(0, 10, 5, 1), (0, 10, 5, 0)], 0, &[1], &[(0, 5)], 5),
         "5",
     ),
     (
+        "the second of two alike",
         (&[(0, 10, 5, 0), (0, 10, 5, 1)], 0, &[1], &[(0, 5)], 5),
         "5",
     ),
-    ((THREE, 0, &[1], &[(5, 1), (10, 4)], 8), "C7 NotProved 9"),
-    ((THREE, 0, &[1], &[(5, 2), (10, 4)], 9), "C5 WrongTotal"),
     (
+        "a price too low",
+        (THREE, 0, &[1], &[(5, 1), (10, 4)], 8),
+        "C7 NotProved 9",
+    ),
+    (
+        "a total too high",
+        (THREE, 0, &[1], &[(5, 2), (10, 4)], 9),
+        "C5 WrongTotal",
+    ),
+    (
+        "a booking left out",
         (THIRD_LEFT_OUT, 0, &[1], &[(5, 2), (10, 4)], 8),
         "C5 WrongTotal",
     ),
     // A bound over the accepted rows alone would be 0, the total of these.
-    ((&[(0, 60, 5, 0)], 0, &[1], &[], 0), "C7 NotProved 5"),
-    ((&[(0, 60, 5, 0)], 0, &[1], &[(0, 5)], 0), "C7 NotProved 5"),
     (
+        "no price while a channel is free",
+        (&[(0, 60, 5, 0)], 0, &[1], &[], 0),
+        "C7 NotProved 5",
+    ),
+    (
+        "a price while a channel is free",
+        (&[(0, 60, 5, 0)], 0, &[1], &[(0, 5)], 0),
+        "C7 NotProved 5",
+    ),
+    (
+        "a later price first",
         (THREE, 0, &[1], &[(10, 4), (5, 2)], 8),
         "C6 PricesOutOfOrder",
     ),
     (
+        "two prices of one moment",
         (THREE, 0, &[1], &[(5, 2), (5, 4)], 8),
         "C6 PricesOutOfOrder",
     ),
-    ((FOUR, 0, &[1, 2], &[(5, 2)], 8), "8"),
-    ((FOUR_ON_ONE, 0, &[1, 2], &[(5, 2)], 8), "C4 Overlap 1 3"),
     (
+        "four on two channels",
+        (FOUR, 0, &[1, 2], &[(5, 2)], 8),
+        "8",
+    ),
+    (
+        "two on one channel at once",
+        (FOUR_ON_ONE, 0, &[1, 2], &[(5, 2)], 8),
+        "C4 Overlap 1 3",
+    ),
+    (
+        "a channel out of service",
         (FOUR_OUTSIDE, 0, &[1, 2], &[(5, 2)], 8),
         "C3 NotInService 3",
     ),
-    ((SECOND, 2, &[1], &[(5, 4), (10, 4)], 6), "6"),
-    ((THREE, 2, &[1], &[(5, 4), (10, 4)], 6), "C8 MustLeftOut 2"),
+    (
+        "a must booking in the chain",
+        (SECOND, 2, &[1], &[(5, 4), (10, 4)], 6),
+        "6",
+    ),
+    (
+        "a must booking left out",
+        (THREE, 2, &[1], &[(5, 4), (10, 4)], 6),
+        "C8 MustLeftOut 2",
+    ),
 ];
 
 fn booking_of(row: &Row, is_must: bool) -> Option<Booking> {
@@ -133,16 +185,16 @@ fn said(alloc: Global, planned: &Planned) -> Option<String> {
 
 #[test]
 fn worked_plans(rt: HostRuntime) -> Result<(), Fail> {
-    for (planned, expected) in &PLANS {
-        let found = said(rt.alloc(), planned).ok_or("plan")?;
-        assert_eq!(rt; found.as_str(), *expected);
+    for (name, planned, expected) in &PLANS {
+        let found = said(rt.alloc(), planned).ok_or(*name)?;
+        assert!(rt; found.as_str() == *expected, "{name}: {found}");
     }
     Ok(())
 }
 
 #[test]
 fn plans_of_something_else(rt: HostRuntime) -> Result<(), Fail> {
-    let plan = plan_of(rt.alloc(), &PLANS[3].0).ok_or("plan")?;
+    let plan = plan_of(rt.alloc(), &PLANS[3].1).ok_or("plan")?;
     let others = bookings_of(rt.alloc(), THREE, 1).ok_or("bookings")?;
     let two = ChannelSet::from_numbers(&[2])?;
     assert!(rt;

@@ -11,14 +11,33 @@ static FREE: [Row; 3] = [(0, 10, 4, false), (5, 15, 6, false), (10, 20, 4, false
 
 static SECOND_MUST: [Row; 3] = [(0, 10, 4, false), (5, 15, 6, true), (10, 20, 4, false)];
 
-/// Whether the second booking must be held, how many units are sent, the rows that carry one, and the distances.
-type Case = (bool, u8, [bool; 3], [i64; 5]);
+/// A flow by its name, whether the second booking must be held, how many units are sent, the rows that carry one, and the
+/// distances.
+type Case = (&'static str, bool, u8, [bool; 3], [i64; 5]);
 
 static FLOWS: [Case; 4] = [
-    (false, 0, [false, false, false], [0, 0, -4, -6, -8]),
-    (false, 1, [true, false, true], [0, 0, -2, -6, -6]),
-    (false, 2, [true, true, true], [0, 0, 0, 0, 0]),
-    (true, 1, [false, true, false], [0, 0, -4, -8, -8]),
+    (
+        "no unit",
+        false,
+        0,
+        [false, false, false],
+        [0, 0, -4, -6, -8],
+    ),
+    (
+        "one unit",
+        false,
+        1,
+        [true, false, true],
+        [0, 0, -2, -6, -6],
+    ),
+    ("two units", false, 2, [true, true, true], [0, 0, 0, 0, 0]),
+    (
+        "one unit and a must booking",
+        true,
+        1,
+        [false, true, false],
+        [0, 0, -4, -8, -8],
+    ),
 ];
 
 fn carries(carried: &Carried, rows: [bool; 3]) -> bool {
@@ -39,7 +58,7 @@ fn are(potentials: &Potentials, heights: [i64; 5]) -> bool {
 
 /// Whether the flow of the case carries just these rows, and has these distances.
 fn is_least(alloc: Global, case: &Case) -> Option<bool> {
-    let (is_must, units, rows, heights) = *case;
+    let (_, is_must, units, rows, heights) = *case;
     let bookings = bookings_of(alloc, if is_must { &SECOND_MUST } else { &FREE })?;
     let line = Line::of(alloc, &bookings).ok()?;
     let (carried, potentials) = least_cost(alloc, &line, units.min(30), &Rounds).ok()?;
@@ -48,8 +67,8 @@ fn is_least(alloc: Global, case: &Case) -> Option<bool> {
 
 #[test]
 fn no_unit_and_more(rt: HostRuntime) {
-    for (index, case) in FLOWS.iter().enumerate() {
-        assert!(rt; is_least(rt.alloc(), case) == Some(true), "flow {index}");
+    for case in &FLOWS {
+        assert!(rt; is_least(rt.alloc(), case) == Some(true), "{}", case.0);
     }
 }
 

@@ -22,21 +22,39 @@ static OFTEN_THE_SAME: Drawn = Drawn {
     pays: 3,
 };
 
-/// How many units are sent along the line of these bookings.
-type Day = (u8, &'static [Row]);
+/// A day by its name, how many units are sent along its line, and its bookings.
+type Day = (&'static str, u8, &'static [Row]);
 
 static DAYS: [Day; 9] = [
-    (3, &[]),
-    (0, &[(10, 20, 7, false)]),
+    ("no bookings", 3, &[]),
+    ("no unit", 0, &[(10, 20, 7, false)]),
     (
+        "a chain of three",
         1,
         &[(0, 10, 4, false), (5, 15, 6, false), (10, 20, 4, false)],
     ),
-    (1, &[(0, 10, 3, false), (10, 20, 3, false)]),
-    (1, &[(0, 10, 5, false), (5, 15, 3, false)]),
-    (2, &[(0, 10, 1, false), (0, 10, 1, false)]),
-    (1, &[(0, 10, 5, false), (0, 10, 5, false)]),
     (
+        "two that touch",
+        1,
+        &[(0, 10, 3, false), (10, 20, 3, false)],
+    ),
+    (
+        "two that overlap",
+        1,
+        &[(0, 10, 5, false), (5, 15, 3, false)],
+    ),
+    (
+        "two alike, on two channels",
+        2,
+        &[(0, 10, 1, false), (0, 10, 1, false)],
+    ),
+    (
+        "two alike, on one channel",
+        1,
+        &[(0, 10, 5, false), (0, 10, 5, false)],
+    ),
+    (
+        "four on two channels",
         2,
         &[
             (0, 10, 3, false),
@@ -46,6 +64,7 @@ static DAYS: [Day; 9] = [
         ],
     ),
     (
+        "a must booking in the chain",
         1,
         &[(0, 10, 4, false), (5, 15, 6, true), (10, 20, 4, false)],
     ),
@@ -132,8 +151,8 @@ fn as_by_rounds_over_many_small_days(rt: HostRuntime) {
 
 /// Whether a flow of least cost has the same potentials by a heap as by rounds.
 fn has_same_potentials(alloc: Global, day: &Day) -> Option<bool> {
-    let line = line_of(alloc, day.1)?;
-    let units = day.0.min(30);
+    let line = line_of(alloc, day.2)?;
+    let units = day.1.min(30);
     let (_, heap) = least_cost(alloc, &line, units, &HeapDist).ok()?;
     let (_, rounds) = least_cost(alloc, &line, units, &Rounds).ok()?;
     Some(are_same(&heap, &rounds, line.places()))
@@ -141,10 +160,11 @@ fn has_same_potentials(alloc: Global, day: &Day) -> Option<bool> {
 
 #[test]
 fn the_same_potentials_through_a_flow(rt: HostRuntime) {
-    for (index, day) in DAYS.iter().enumerate() {
+    for day in &DAYS {
         assert!(rt;
             has_same_potentials(rt.alloc(), day) == Some(true),
-            "day {index}"
+            "{}",
+            day.0
         );
     }
 }

@@ -9,9 +9,8 @@ use crate::sets::{
 use bx_base::Price;
 use bx_cases::SHARE;
 use bx_channels::Channel;
-use bx_quote::{Quote, QuoteFail, explain, quote};
+use bx_quote::{NoQuote, Quote, explain, quote};
 use std::alloc::Global;
-use std::test::Fail;
 
 /// Six rows on so many channels, of which the one at this index is asked for and free. The plan is for the first rows:
 /// for all six, or for all but the last.
@@ -109,50 +108,69 @@ fn is_right(asked: &Asked<'_>, accepted: u32, prices: &[Price], quote: &Quote) -
         && decides(asked, quote.threshold)
 }
 
-/// Whether the answer is the one that the search finds, for a row that is not accepted.
-fn is_answer(
+/// What came of a question, where that is right.
+#[derive(Clone, Copy, PartialEq)]
+enum Came {
+    /// A quote.
+    Quoted,
+    /// No quote, since the row finds no channel.
+    Refused,
+    /// No quote, since there is no plan, or the row is accepted.
+    Unasked,
+}
+
+/// This, where it is right.
+fn where_right(is_right: bool, came: Came) -> Option<Came> {
+    if is_right { Some(came) } else { None }
+}
+
+/// Whether no lawful set has the row, from just this moment on.
+fn is_refused(asked: &Asked<'_>, moment: u32) -> bool {
+    most_beside(asked.rows, asked.count, asked.index, true).is_none()
+        && first_full(asked.rows, asked.count, asked.index) == Some(moment)
+}
+
+/// What came of the question for a row that is not accepted; none where the answer is not the one that the search finds.
+fn answered(
     asked: &Asked<'_>,
     accepted: u32,
     prices: &[Price],
-    answer: &Result<Quote, QuoteFail>,
-) -> bool {
+    answer: &Result<Quote, NoQuote>,
+) -> Option<Came> {
     match answer {
-        Ok(quote) => is_right(asked, accepted, prices, quote),
-        Err(QuoteFail::NoChannel(moment)) => {
-            most_beside(asked.rows, asked.count, asked.index, true).is_none()
-                && first_full(asked.rows, asked.count, asked.index) == Some(*moment)
-        }
-        Err(_) => false,
+        Ok(quote) => where_right(is_right(asked, accepted, prices, quote), Came::Quoted),
+        Err(NoQuote::NoChannel(moment)) => where_right(is_refused(asked, *moment), Came::Refused),
+        Err(_) => None,
     }
 }
 
-/// Whether the row at this index is explained rightly; or there is no plan, and too many rows have to be held.
-fn is_explained(alloc: Global, rows: &[Row], count: usize, index: u16) -> bool {
+/// What came of the question for the row at this index of a plan; none where that is not right. There is no plan just where too
+/// many rows have to be held.
+fn explained(alloc: Global, rows: &[Row], count: usize, index: u16) -> Option<Came> {
     let Some(plan) = plan_of(alloc, rows, count) else {
-        return first_above(rows, count).is_some();
+        return where_right(first_above(rows, count).is_some(), Came::Unasked);
     };
     let accepted = set_of(&plan.assigned);
     let row = index.saturating_add(1);
     let answer = explain(alloc, &plan, row);
     if is_in(accepted, index as usize) {
-        return matches!(answer, Err(QuoteFail::Accepted(named)) if named == row);
+        let is_named = matches!(answer, Err(NoQuote::Accepted(named)) if named == row);
+        return where_right(is_named, Came::Unasked);
     }
     let asked = Asked {
         rows,
         count,
         index: index as usize,
     };
-    is_answer(&asked, accepted, &plan.prices, &answer)
+    answered(&asked, accepted, &plan.prices, &answer)
 }
 
-/// Whether the last row is quoted rightly beside a plan of the five before it; or there is none, and too many have to be held.
-fn is_quoted(alloc: Global, rows: &[Row; 6], count: usize) -> bool {
+/// The same for the last row beside a plan of the five before it.
+fn quoted(alloc: Global, rows: &[Row; 6], count: usize) -> Option<Came> {
     let Some(plan) = plan_of(alloc, &rows[..5], count) else {
-        return first_above(&rows[..5], count).is_some();
+        return where_right(first_above(&rows[..5], count).is_some(), Came::Unasked);
     };
-    let Some(booking) = booking_of(&rows[5]) else {
-        return false;
-    };
+    let booking = booking_of(&rows[5])?;
     let mut free = *rows;
     free[5].3 = false;
     let asked = Asked {
@@ -161,25 +179,46 @@ fn is_quoted(alloc: Global, rows: &[Row; 6], count: usize) -> bool {
         index: 5,
     };
     let answer = quote(alloc, &plan, &booking);
-    is_answer(&asked, set_of(&plan.assigned), &plan.prices, &answer)
+    answered(&asked, set_of(&plan.assigned), &plan.prices, &answer)
+}
+
+/// One where this came of a question, and else 0.
+fn one_if(came: Option<Came>, wanted: Came) -> u32 {
+    u32::from(came == Some(wanted))
 }
 
 #[test]
-fn no_choice_contradicts_a_quote(rt: HostRuntime) -> Result<(), Fail> {
-    let mut planned = 0u32;
+fn no_choice_contradicts_a_quote(rt: HostRuntime) {
+    let mut quotes = 0u32;
+    let mut refusals = 0u32;
     for seed in 0..60 / SHARE {
         let rows = six_rows(seed.wrapping_mul(7919), 5);
         for count in 0..3usize {
-            if first_above(&rows, count).is_none() {
-                planned = planned.saturating_add(1);
-            }
-            assert!(rt; is_quoted(rt.alloc(), &rows, count), "quote {seed} {count}");
+            let came = quoted(rt.alloc(), &rows, count);
+            assert!(rt; came.is_some(), "{seed} {count}");
+            quotes = quotes.saturating_add(one_if(came, Came::Quoted));
+            refusals = refusals.saturating_add(one_if(came, Came::Refused));
+        }
+    }
+    assert!(rt; quotes > 0, "no quote");
+    assert!(rt; refusals > 0, "no refusal");
+}
+
+#[test]
+fn no_choice_contradicts_an_explanation(rt: HostRuntime) {
+    let mut quotes = 0u32;
+    let mut refusals = 0u32;
+    for seed in 0..60 / SHARE {
+        let rows = six_rows(seed.wrapping_mul(7919), 5);
+        for count in 0..3usize {
             for index in 0..6u16 {
-                let explained = is_explained(rt.alloc(), &rows, count, index);
-                assert!(rt; explained, "explain {seed} {count} {index}");
+                let came = explained(rt.alloc(), &rows, count, index);
+                assert!(rt; came.is_some(), "{seed} {count} {index}");
+                quotes = quotes.saturating_add(one_if(came, Came::Quoted));
+                refusals = refusals.saturating_add(one_if(came, Came::Refused));
             }
         }
     }
-    assert!(rt; planned > 0, "no plan was asked");
-    Ok(())
+    assert!(rt; quotes > 0, "no quote");
+    assert!(rt; refusals > 0, "no refusal");
 }

@@ -2,24 +2,24 @@
 
 use crate::proved_plans::plan_of;
 use crate::rows::{Row, booking_of};
-use bx_quote::{QuoteFail, explain, quote};
+use bx_quote::{NoQuote, explain, quote};
 use std::alloc::Global;
 use std::test::Fail;
 
 static ROWS: [Row; 3] = [(0, 10, 4, false), (5, 15, 6, false), (20, 30, 1, true)];
 
 /// The refusal of a row of these rows on one channel.
-fn unexplained(alloc: Global, row: u16) -> Option<QuoteFail> {
+fn unexplained(alloc: Global, row: u16) -> Option<NoQuote> {
     explain(alloc, &plan_of(alloc, &ROWS, 1)?, row).err()
 }
 
 /// The refusal of a booking behind them on so many channels.
-fn unquoted(alloc: Global, count: usize, row: &Row) -> Option<QuoteFail> {
+fn unquoted(alloc: Global, count: usize, row: &Row) -> Option<NoQuote> {
     quote(alloc, &plan_of(alloc, &ROWS, count)?, &booking_of(row)?).err()
 }
 
 /// The refusal of a booking beside so many rows on one channel, of which the first has to be held, at its time.
-fn beside_many(alloc: Global, count: u16) -> Option<QuoteFail> {
+fn beside_many(alloc: Global, count: u16) -> Option<NoQuote> {
     let mut rows = Vec::new(alloc);
     for row in 0..count {
         let start = u32::from(row) * 10;
@@ -42,7 +42,8 @@ fn rows_without_a_quote(rt: HostRuntime) -> Result<(), Fail> {
         (4, "Q2 NoSuchRow"),
     ] {
         let fault = unexplained(rt.alloc(), row).ok_or("a quote")?;
-        assert_eq!(rt; fault.to_string(rt.alloc())?.as_str(), expected);
+        let found = fault.to_string(rt.alloc())?;
+        assert!(rt; found.as_str() == expected, "row {row}: {found}");
     }
     Ok(())
 }

@@ -4,12 +4,13 @@ use crate::channels::are_given;
 use crate::rows::{Row, bookings_of};
 use bx_base::{Bookings, ChannelSet, Plan, Price};
 use bx_check::check;
-use bx_planner::{PlanFail, plan};
+use bx_planner::{NoPlan, plan};
 use std::alloc::Global;
 
-/// The channels and bookings of a day, the channels of its best plan (0: refused), what it pays, and the prices (moments and
-/// amounts) that prove it.
+/// A day by its name, its channels and bookings, the channels of its best plan (0: refused), what it pays, and the prices
+/// (moments and amounts) that prove it.
 type Day = (
+    &'static str,
     &'static [u8],
     &'static [Row],
     &'static [u8],
@@ -18,9 +19,17 @@ type Day = (
 );
 
 static DAYS: [Day; 9] = [
-    (&[1, 2, 3], &[], &[], 0, &[]),
-    (&[], &[(10, 20, 7, false)], &[0], 0, &[(10, 7)]),
+    ("no bookings", &[1, 2, 3], &[], &[], 0, &[]),
     (
+        "no channels",
+        &[],
+        &[(10, 20, 7, false)],
+        &[0],
+        0,
+        &[(10, 7)],
+    ),
+    (
+        "a chain of three",
         &[1],
         &[(0, 10, 4, false), (5, 15, 6, false), (10, 20, 4, false)],
         &[1, 0, 1],
@@ -28,6 +37,7 @@ static DAYS: [Day; 9] = [
         &[(5, 2), (10, 4)],
     ),
     (
+        "two that touch",
         &[1],
         &[(0, 10, 3, false), (10, 20, 3, false)],
         &[1, 1],
@@ -35,6 +45,7 @@ static DAYS: [Day; 9] = [
         &[],
     ),
     (
+        "two that overlap",
         &[1],
         &[(0, 10, 5, false), (5, 15, 3, false)],
         &[1, 0],
@@ -42,6 +53,7 @@ static DAYS: [Day; 9] = [
         &[(5, 3)],
     ),
     (
+        "two alike, on two channels",
         &[15, 17],
         &[(0, 10, 1, false), (0, 10, 1, false)],
         &[15, 17],
@@ -49,6 +61,7 @@ static DAYS: [Day; 9] = [
         &[],
     ),
     (
+        "two alike, on one channel",
         &[1],
         &[(0, 10, 5, false), (0, 10, 5, false)],
         &[1, 0],
@@ -56,6 +69,7 @@ static DAYS: [Day; 9] = [
         &[(0, 5)],
     ),
     (
+        "four on two channels",
         &[1, 2],
         &[
             (0, 10, 3, false),
@@ -68,6 +82,7 @@ static DAYS: [Day; 9] = [
         &[(5, 2)],
     ),
     (
+        "a must booking in the chain",
         &[1],
         &[(0, 10, 4, false), (5, 15, 6, true), (10, 20, 4, false)],
         &[0, 1, 0],
@@ -95,21 +110,22 @@ pub(crate) fn are_prices(found: &[Price], expected: &[(u32, u64)]) -> bool {
 
 /// Whether the best plan of the day has these channels, this total and these prices, and the checker says so.
 fn is_planned(alloc: Global, day: &Day) -> Option<bool> {
-    let bookings = bookings_of(alloc, day.1)?;
-    let best = plan_on(alloc, &bookings, day.0)?;
-    let is_proved = check(&bookings, best.channels, &best) == Ok(day.3);
+    let (_, channels, rows, given, total, prices) = *day;
+    let bookings = bookings_of(alloc, rows)?;
+    let best = plan_on(alloc, &bookings, channels)?;
+    let is_proved = check(&bookings, best.channels, &best) == Ok(total);
     Some(
         is_proved
-            && best.total == day.3
-            && are_prices(&best.prices, day.4)
-            && are_given(&best.assigned, day.2),
+            && best.total == total
+            && are_prices(&best.prices, prices)
+            && are_given(&best.assigned, given),
     )
 }
 
 #[test]
 fn totals_and_prices(rt: HostRuntime) {
-    for (index, day) in DAYS.iter().enumerate() {
-        assert!(rt; is_planned(rt.alloc(), day) == Some(true), "day {index}");
+    for day in &DAYS {
+        assert!(rt; is_planned(rt.alloc(), day) == Some(true), "{}", day.0);
     }
 }
 
@@ -119,7 +135,7 @@ fn is_crowded(alloc: Global) -> Option<bool> {
     let channels = ChannelSet::from_numbers(&[1]).ok()?;
     let fail = plan(alloc, &bookings, channels).err()?;
     let printed = fail.to_string(alloc).ok()?;
-    Some(fail == PlanFail::TooManyMust(5) && printed.as_str() == "K1 TooManyMust 5")
+    Some(fail == NoPlan::TooManyMust(5) && printed.as_str() == "K1 TooManyMust 5")
 }
 
 #[test]

@@ -2,7 +2,7 @@
 
 use crate::proved_plans::plan_of;
 use crate::rows::{Row, booking_of};
-use bx_quote::{Quote, QuoteFail, explain, quote};
+use bx_quote::{NoQuote, Quote, explain, quote};
 use std::alloc::Global;
 
 /// What is asked for.
@@ -15,6 +15,7 @@ enum Ask {
 
 /// The rows of a day on so many channels, what is asked, and the whole answer.
 struct Worked {
+    name: &'static str,
     rows: &'static [Row],
     count: usize,
     ask: Ask,
@@ -25,8 +26,8 @@ struct Worked {
 }
 
 static WORKED: [Worked; 9] = [
-    // the place is free
     Worked {
+        name: "the place is free",
         rows: &[(0, 10, 5, false)],
         count: 1,
         ask: Ask::New((10, 20, 1, false)),
@@ -35,8 +36,9 @@ static WORKED: [Worked; 9] = [
         instead: &[],
         besides: &[],
     },
-    // it has to beat the one that is there, and its own mark and pay do not count
+    // Its own mark and pay do not count.
     Worked {
+        name: "it has to beat the one that is there",
         rows: &[(0, 60, 5, false)],
         count: 1,
         ask: Ask::New((30, 90, 1_000_000_000, true)),
@@ -45,8 +47,9 @@ static WORKED: [Worked; 9] = [
         instead: &[1],
         besides: &[],
     },
-    // a refused row has to beat both that it would displace, which is more than its seconds cost
+    // That is more than its seconds cost.
     Worked {
+        name: "a refused row has to beat both that it would displace",
         rows: &[(0, 10, 4, false), (5, 15, 6, false), (10, 20, 4, false)],
         count: 1,
         ask: Ask::Refused(2),
@@ -55,8 +58,8 @@ static WORKED: [Worked; 9] = [
         instead: &[1, 3],
         besides: &[],
     },
-    // what it displaces had kept two others out
     Worked {
+        name: "what it displaces had kept two others out",
         rows: &[(0, 30, 10, false), (0, 10, 4, false), (20, 30, 5, false)],
         count: 1,
         ask: Ask::New((10, 20, 7, false)),
@@ -65,8 +68,8 @@ static WORKED: [Worked; 9] = [
         instead: &[1],
         besides: &[2, 3],
     },
-    // a refused row comes back beside a refused row
     Worked {
+        name: "a refused row comes back beside a refused row",
         rows: &[(0, 30, 10, false), (0, 10, 4, false), (20, 30, 5, false)],
         count: 1,
         ask: Ask::Refused(2),
@@ -75,8 +78,8 @@ static WORKED: [Worked; 9] = [
         instead: &[1],
         besides: &[3],
     },
-    // a must row stays, though it pays less
     Worked {
+        name: "a must row stays, though it pays less",
         rows: &[(0, 10, 1, true), (0, 10, 7, false), (0, 10, 9, false)],
         count: 2,
         ask: Ask::Refused(2),
@@ -85,8 +88,8 @@ static WORKED: [Worked; 9] = [
         instead: &[3],
         besides: &[],
     },
-    // the threshold is above every pay
     Worked {
+        name: "the threshold is above every pay",
         rows: &[
             (0, 10, 1_000_000_000, false),
             (10, 20, 1_000_000_000, false),
@@ -99,8 +102,8 @@ static WORKED: [Worked; 9] = [
         instead: &[1, 2, 3],
         besides: &[],
     },
-    // of two channels one gets free where it is cheaper
     Worked {
+        name: "of two channels one gets free where it is cheaper",
         rows: &[(0, 20, 8, false), (0, 10, 3, false), (10, 20, 4, false)],
         count: 2,
         ask: Ask::New((5, 15, 5, false)),
@@ -110,6 +113,7 @@ static WORKED: [Worked; 9] = [
         besides: &[],
     },
     Worked {
+        name: "no other booking",
         rows: &[],
         count: 2,
         ask: Ask::New((0, 200_000, 5, false)),
@@ -120,7 +124,7 @@ static WORKED: [Worked; 9] = [
     },
 ];
 
-fn answer(alloc: Global, case: &Worked) -> Option<Result<Quote, QuoteFail>> {
+fn answer(alloc: Global, case: &Worked) -> Option<Result<Quote, NoQuote>> {
     let plan = plan_of(alloc, case.rows, case.count)?;
     Some(match &case.ask {
         Ask::New(row) => quote(alloc, &plan, &booking_of(row)?),
@@ -137,11 +141,11 @@ fn is_as(quote: &Quote, case: &Worked) -> bool {
 
 #[test]
 fn answers_are_whole(rt: HostRuntime) {
-    for (index, case) in WORKED.iter().enumerate() {
+    for case in &WORKED {
         let found = match answer(rt.alloc(), case) {
             Some(Ok(quote)) => is_as(&quote, case),
             _ => false,
         };
-        assert!(rt; found, "case {index}");
+        assert!(rt; found, "{}", case.name);
     }
 }

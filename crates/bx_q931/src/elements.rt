@@ -18,7 +18,7 @@ pub struct Element<'a> {
     pub contents: &'a [u8],
 }
 
-/// The elements that are left, in order; shifts are not among them.
+/// The elements that are left, in order; shifts (ITU-T Q.931, 4.5.2 to 4.5.4) are not among them.
 #[derive(Drop)]
 pub struct Elements<'a> {
     rest: &'a [u8],

@@ -96,7 +96,7 @@ impl<'a> Message<'a> {
         None
     }
 
-    /// What the message says of a channel.
+    /// What the message says of a channel (ITU-T Q.931, 4.5.13).
     pub fn channel(&self) -> ChannelField
         ensures { result ≡ channel_of self.now }
     {
@@ -106,7 +106,7 @@ impl<'a> Message<'a> {
         }
     }
 
-    /// The cause, below 128; none where there is no cause or it has too few octets.
+    /// The cause, below 128 (4.5.12); none where there is no cause or it has too few octets.
     pub fn cause(&self) -> Option<u8>
         ensures { result ≡ cause_of self.now }
     {
@@ -117,7 +117,7 @@ impl<'a> Message<'a> {
         }
     }
 
-    /// The call state, below 64; none where there is no call state or it is empty.
+    /// The call state, below 64 (4.5.7); none where there is no call state or it is empty.
     pub fn state(&self) -> Option<u8>
         ensures { result ≡ state_of self.now }
     {
@@ -125,7 +125,7 @@ impl<'a> Message<'a> {
         Some(*state & 0x3F)
     }
 
-    /// The called party number; none where there is none or it is not 1 to 15 digits.
+    /// The called party number (4.5.8); none where there is none or it is not 1 to 15 digits.
     pub fn called(&self) -> Option<Number>
         ensures { result ≡ called_of self.now }
     {

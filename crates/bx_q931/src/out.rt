@@ -113,7 +113,7 @@ impl Out {
         self.kind
     }
 
-    /// With sending complete.
+    /// With sending complete (ITU-T Q.931, 4.5.27).
     pub fn with_sending_complete(mut self) -> Out
         ensures { result ≡ record self { sending_complete = true } }
     {
@@ -121,7 +121,7 @@ impl Out {
         self
     }
 
-    /// With the bearer capability of a 64 kbit/s call: unrestricted digital, circuit mode.
+    /// With the bearer capability of a 64 kbit/s call: unrestricted digital, circuit mode (4.5.5).
     pub fn with_bearer(mut self) -> Out
         ensures { result ≡ record self { bearer = true } }
     {
@@ -129,7 +129,7 @@ impl Out {
         self
     }
 
-    /// With a cause: the low 4 bits of the location, and the low 7 bits of the value.
+    /// With a cause: the low 4 bits of the location, and the low 7 bits of the value (4.5.12).
     pub fn with_cause(mut self, location: u8, value: u8) -> Out
         ensures { result ≡ record self { cause = Some (location % 16, value % 128) } }
     {
@@ -137,7 +137,7 @@ impl Out {
         self
     }
 
-    /// With a call state: the low 6 bits.
+    /// With a call state: the low 6 bits (4.5.7).
     pub fn with_state(mut self, state: u8) -> Out
         ensures { result ≡ record self { state = Some (state % 64) } }
     {
@@ -145,7 +145,7 @@ impl Out {
         self
     }
 
-    /// With a channel; exclusive where no other will do.
+    /// With a channel; exclusive where no other will do (4.5.13).
     pub fn with_channel(mut self, channel: Channel, exclusive: bool) -> Out
         ensures { result ≡ record self { channel = Some (channel, exclusive) } }
     {
@@ -153,7 +153,7 @@ impl Out {
         self
     }
 
-    /// With a called party number.
+    /// With a called party number (4.5.8).
     pub fn with_called(mut self, number: Number) -> Out
         ensures { result ≡ record self { called = Some number } }
     {

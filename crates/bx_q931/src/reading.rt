@@ -56,9 +56,9 @@ fn message(octets: &[u8]) -> Result<Message<'_>, MessageFault>
     body(rest, *len as usize)
 }
 
-/// Reads a message (ITU-T Q.931, clause 4). A fault is the first of its octets: too many of them, too
-/// few, another discriminator, no length of the reference, a bad one, no whole reference and type, an
-/// element that is torn.
+/// Reads a message (ITU-T Q.931, clause 4). At a fault the first is answered, in this order: `TooLong`; `TooShort`
+/// where there is no octet; `NotQ931`; `TooShort` where there is no length of the reference; `BadCallReference`;
+/// `TooShort` where the reference and the type are not whole; `TornElement`.
 pub fn read(octets: &[u8]) -> Result<Message<'_>, MessageFault>
     ensures exact { result ≡ message_at octets.now }
     ensures message { (m : PlainMessage) → (result ≡ Ok m) ↔ IsMessage octets.now m }

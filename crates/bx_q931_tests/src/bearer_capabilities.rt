@@ -8,12 +8,22 @@ const MISSING: Option<u8> = Some(cause::MANDATORY_ELEMENT_MISSING);
 
 const OTHER: Option<u8> = Some(cause::INCOMPATIBLE_DESTINATION);
 
-static SETUPS: [(&[u8], Option<u8>); 5] = [
-    (SETUP, None),
-    (&[0x08, 0x02, 0x00, 0x05, 0x05], MISSING),
-    (&[0x08, 0x02, 0x00, 0x05, 0x05, 0x04, 0x00], OTHER),
-    (&[0x08, 0x02, 0x00, 0x05, 0x05, 0x04, 0x01, 0x88], OTHER),
+/// Which bearer capability a SETUP has, its octets, and the cause by which it is refused.
+static SETUPS: [(&str, &[u8], Option<u8>); 5] = [
+    ("64 kbit/s", SETUP, None),
+    ("none", &[0x08, 0x02, 0x00, 0x05, 0x05], MISSING),
     (
+        "an empty one",
+        &[0x08, 0x02, 0x00, 0x05, 0x05, 0x04, 0x00],
+        OTHER,
+    ),
+    (
+        "one octet",
+        &[0x08, 0x02, 0x00, 0x05, 0x05, 0x04, 0x01, 0x88],
+        OTHER,
+    ),
+    (
+        "speech",
         &[0x08, 0x02, 0x00, 0x05, 0x05, 0x04, 0x02, 0x80, 0x90],
         OTHER,
     ),
@@ -28,7 +38,7 @@ fn is_refused_by(setup: &[u8], fault: Option<u8>) -> bool {
 
 #[test]
 fn bearers_are_told_apart(rt: HostRuntime) {
-    for (index, (setup, fault)) in SETUPS.iter().enumerate() {
-        assert!(rt; is_refused_by(setup, *fault), "SETUP {index}");
+    for (name, setup, fault) in &SETUPS {
+        assert!(rt; is_refused_by(setup, *fault), "{name}");
     }
 }

@@ -11,26 +11,45 @@ enum Said {
     Unread,
 }
 
-/// The items of a CONNECT, and what they say of the channel.
-static FIELDS: [(&[u8], Said); 12] = [
-    (&[], Said::Absent),
-    (&[0x18, 4, 0xE9, 0x81, 0x83, 0x85], Said::Named(5, true)),
-    (&[0x18, 3, 0xA1, 0x83, 0x82], Said::Named(2, false)),
-    (&[0x18, 1, 0xA3], Said::AnyChannel),
-    (&[0x18, 3, 0xA9, 0x83, 0x90], Said::Unread),
-    (&[0x18, 2, 0xA9, 0x83], Said::Unread),
-    (&[0x18, 0], Said::Unread),
-    (&[0x18, 3, 0xA9, 0x83, 0x82], Said::Named(2, true)),
+/// What is tried, the items of a CONNECT, and what they say of the channel.
+static FIELDS: [(&str, &[u8], Said); 12] = [
+    ("none", &[], Said::Absent),
     (
+        "an interface that is named",
+        &[0x18, 4, 0xE9, 0x81, 0x83, 0x85],
+        Said::Named(5, true),
+    ),
+    (
+        "preferred",
+        &[0x18, 3, 0xA1, 0x83, 0x82],
+        Said::Named(2, false),
+    ),
+    ("any channel", &[0x18, 1, 0xA3], Said::AnyChannel),
+    ("the D channel", &[0x18, 3, 0xA9, 0x83, 0x90], Said::Unread),
+    ("no number", &[0x18, 2, 0xA9, 0x83], Said::Unread),
+    ("empty", &[0x18, 0], Said::Unread),
+    (
+        "exclusive",
+        &[0x18, 3, 0xA9, 0x83, 0x82],
+        Said::Named(2, true),
+    ),
+    (
+        "two of them",
         &[0x18, 3, 0xA9, 0x83, 0x81, 0x18, 3, 0xA9, 0x83, 0x82],
         Said::Named(1, true),
     ),
-    (&[0x96, 0x18, 3, 0xA9, 0x83, 0x82], Said::Absent),
     (
+        "behind a locking shift",
+        &[0x96, 0x18, 3, 0xA9, 0x83, 0x82],
+        Said::Absent,
+    ),
+    (
+        "behind a shift for one element",
         &[0x9E, 0x18, 3, 0xA9, 0x83, 0x82, 0x18, 3, 0xA9, 0x83, 0x81],
         Said::Named(1, true),
     ),
     (
+        "behind a locking shift and one for one element",
         &[0x96, 0x98, 0x18, 3, 0xA9, 0x83, 0x82],
         Said::Named(2, true),
     ),
@@ -66,7 +85,7 @@ fn is_read_so(items: &[u8], said: &Said) -> bool {
 
 #[test]
 fn channels_are_read(rt: HostRuntime) {
-    for (index, (items, said)) in FIELDS.iter().enumerate() {
-        assert!(rt; is_read_so(items, said), "field {index}");
+    for (name, items, said) in &FIELDS {
+        assert!(rt; is_read_so(items, said), "{name}");
     }
 }

@@ -23,65 +23,83 @@ const RELEASED: After = After::Live(CallState::ReleaseRequest);
 const CONNECTED: Row = (100, CONNECT, CONNECT_ACKNOWLEDGE, ACTIVE);
 
 /// Calls that the network offers at 100, of a booking that ends at 200.
-static OFFERED: [&[Row]; 8] = [
-    // answered twice, and gone on the other side
-    &[
-        CONNECTED,
-        (100, CONNECT, STATUS_101, ACTIVE),
-        (100, FAR_STATUS_NULL, &[], After::Over),
-    ],
-    &[
-        (100, CONNECT_CHANNEL_1, CONNECT_ACKNOWLEDGE, ACTIVE),
-        (100, FAR_STATUS_BARE, &[], ACTIVE),
-    ],
-    // answered on another channel
-    &[
-        (100, CONNECT_CHANNEL_2, RELEASE_6, RELEASED),
-        (103, &[], &[], RELEASED),
-        (104, &[], RELEASE_6, RELEASED),
-    ],
-    // another channel is heeded in the first answer alone
-    &[
-        (
-            100,
-            PROCEEDING_CHANNEL_1,
-            &[],
-            After::Live(CallState::IncomingCallProceeding),
-        ),
-        (
-            100,
-            ALERTING_CHANNEL_1,
-            &[],
-            After::Live(CallState::CallReceived),
-        ),
-        (101, CONNECT_CHANNEL_2, CONNECT_ACKNOWLEDGE, ACTIVE),
-    ],
-    // not answered
-    &[
-        (103, &[], &[], PRESENT),
-        (104, &[], SETUP, PRESENT),
-        (108, &[], RELEASE_COMPLETE_102, After::Over),
-    ],
-    // cleared at the end of the booking, and never released
-    &[
-        CONNECTED,
-        (199, &[], &[], ACTIVE),
-        (200, &[], DISCONNECT_16, CLEARING),
-        (229, &[], &[], CLEARING),
-        (230, &[], RELEASE_16, RELEASED),
-        (234, &[], RELEASE_16, RELEASED),
-        (237, &[], &[], RELEASED),
-        (238, &[], &[], After::Broken),
-    ],
-    // released, and cleared, by the other side
-    &[CONNECTED, (200, FAR_RELEASE, RELEASE_COMPLETE, After::Over)],
-    &[
-        CONNECTED,
-        (200, FAR_DISCONNECT_16, RELEASE, RELEASED),
-        (203, FAR_DISCONNECT_16, &[], RELEASED),
-        (204, &[], RELEASE, RELEASED),
-        (207, FAR_RELEASE, &[], After::Over),
-    ],
+static OFFERED: [(&str, &[Row]); 8] = [
+    (
+        "answered twice, and gone on the other side",
+        &[
+            CONNECTED,
+            (100, CONNECT, STATUS_101, ACTIVE),
+            (100, FAR_STATUS_NULL, &[], After::Over),
+        ],
+    ),
+    (
+        "answered with its channel",
+        &[
+            (100, CONNECT_CHANNEL_1, CONNECT_ACKNOWLEDGE, ACTIVE),
+            (100, FAR_STATUS_BARE, &[], ACTIVE),
+        ],
+    ),
+    (
+        "answered on another channel",
+        &[
+            (100, CONNECT_CHANNEL_2, RELEASE_6, RELEASED),
+            (103, &[], &[], RELEASED),
+            (104, &[], RELEASE_6, RELEASED),
+        ],
+    ),
+    (
+        "another channel behind the first answer",
+        &[
+            (
+                100,
+                PROCEEDING_CHANNEL_1,
+                &[],
+                After::Live(CallState::IncomingCallProceeding),
+            ),
+            (
+                100,
+                ALERTING_CHANNEL_1,
+                &[],
+                After::Live(CallState::CallReceived),
+            ),
+            (101, CONNECT_CHANNEL_2, CONNECT_ACKNOWLEDGE, ACTIVE),
+        ],
+    ),
+    (
+        "not answered",
+        &[
+            (103, &[], &[], PRESENT),
+            (104, &[], SETUP, PRESENT),
+            (108, &[], RELEASE_COMPLETE_102, After::Over),
+        ],
+    ),
+    (
+        "cleared at the end of the booking, and never released",
+        &[
+            CONNECTED,
+            (199, &[], &[], ACTIVE),
+            (200, &[], DISCONNECT_16, CLEARING),
+            (229, &[], &[], CLEARING),
+            (230, &[], RELEASE_16, RELEASED),
+            (234, &[], RELEASE_16, RELEASED),
+            (237, &[], &[], RELEASED),
+            (238, &[], &[], After::Broken),
+        ],
+    ),
+    (
+        "released by the other side",
+        &[CONNECTED, (200, FAR_RELEASE, RELEASE_COMPLETE, After::Over)],
+    ),
+    (
+        "cleared by the other side",
+        &[
+            CONNECTED,
+            (200, FAR_DISCONNECT_16, RELEASE, RELEASED),
+            (203, FAR_DISCONNECT_16, &[], RELEASED),
+            (204, &[], RELEASE, RELEASED),
+            (207, FAR_RELEASE, &[], After::Over),
+        ],
+    ),
 ];
 
 /// A call that the user begins at 1, of a booking that ends at 60.
@@ -109,8 +127,8 @@ fn calls_that_the_network_begins(rt: HostRuntime) -> Result<(), Fail> {
     let number = Number::new(b"1234").ok_or("a number")?;
     let (call, setup) = NetCall::offered(1, channel, number, 100);
     assert!(rt; is_offered(&call, &setup, channel), "offered");
-    for (index, rows) in OFFERED.iter().enumerate() {
-        assert!(rt; net_goes(call, 200, rows), "call {index}");
+    for (name, rows) in &OFFERED {
+        assert!(rt; net_goes(call, 200, rows), "{name}");
     }
     Ok(())
 }

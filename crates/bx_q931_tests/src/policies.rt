@@ -22,8 +22,9 @@ const PROCEEDING: After = After::Live(CallState::IncomingCallProceeding);
 const CLEARING: After = After::Live(CallState::DisconnectRequest);
 
 /// Policies, and how a call goes that is offered at 1.
-static POLICIES: [(Policy, &[Row]); 7] = [
+static POLICIES: [(&str, Policy, &[Row]); 7] = [
     (
+        "answered at once",
         Policy::Answer(0),
         &[
             (2, &[], CONNECT_CHANNEL_1, REQUESTED),
@@ -32,6 +33,7 @@ static POLICIES: [(Policy, &[Row]); 7] = [
         ],
     ),
     (
+        "answered after 2 seconds",
         Policy::Answer(2),
         &[
             (2, &[], ALERTING_CHANNEL_1, RECEIVED),
@@ -41,9 +43,10 @@ static POLICIES: [(Policy, &[Row]); 7] = [
             (8, &[], FAR_DISCONNECT_102, CLEARING),
         ],
     ),
-    (Policy::Busy, &[(2, &[], &[], PRESENT)]),
-    (Policy::Silent, &[(2, &[], &[], PRESENT)]),
+    ("busy", Policy::Busy, &[(2, &[], &[], PRESENT)]),
+    ("silent", Policy::Silent, &[(2, &[], &[], PRESENT)]),
     (
+        "alerted",
         Policy::Alert,
         &[
             (2, &[], ALERTING_CHANNEL_1, RECEIVED),
@@ -51,6 +54,7 @@ static POLICIES: [(Policy, &[Row]); 7] = [
         ],
     ),
     (
+        "proceeding",
         Policy::Proceed,
         &[
             (2, &[], PROCEEDING_CHANNEL_1, PROCEEDING),
@@ -58,6 +62,7 @@ static POLICIES: [(Policy, &[Row]); 7] = [
         ],
     ),
     (
+        "cleared after 3 seconds",
         Policy::Clear(3),
         &[
             (2, &[], CONNECT_CHANNEL_1, REQUESTED),
@@ -78,9 +83,9 @@ static POLICIES: [(Policy, &[Row]); 7] = [
 #[test]
 fn calls_by_policy(rt: HostRuntime) -> Result<(), Fail> {
     let channel = Channel::new(1).ok_or("a channel")?;
-    for (index, (policy, rows)) in POLICIES.iter().enumerate() {
+    for (name, policy, rows) in &POLICIES {
         let call = UserCall::offered(1, channel, *policy, 1);
-        assert!(rt; user_goes(call, rows), "policy {index}");
+        assert!(rt; user_goes(call, rows), "{name}");
     }
     Ok(())
 }

@@ -1,6 +1,6 @@
 //! The rows of worked calls, and calls that go by them.
 
-use bx_calls::{CallState, NetCall, Next, Step, UserCall};
+use bx_calls::{CallState, NetCall, Next, Transition, UserCall};
 use bx_q931::{Out, encode, read};
 
 /// What is left of a call.
@@ -22,7 +22,7 @@ pub(crate) fn says(reply: Option<Out>, octets: &[u8]) -> bool {
     }
 }
 
-fn net_step(call: NetCall, end: u32, row: &Row) -> Option<Step<NetCall>> {
+fn net_step(call: NetCall, end: u32, row: &Row) -> Option<Transition<NetCall>> {
     let moment = u32::from(row.0);
     if row.1.is_empty() {
         Some(call.on_second(moment, end))
@@ -31,7 +31,7 @@ fn net_step(call: NetCall, end: u32, row: &Row) -> Option<Step<NetCall>> {
     }
 }
 
-fn user_step(call: UserCall, row: &Row) -> Option<Step<UserCall>> {
+fn user_step(call: UserCall, row: &Row) -> Option<Transition<UserCall>> {
     let moment = u32::from(row.0);
     if row.1.is_empty() {
         Some(call.on_second(moment))
@@ -42,7 +42,7 @@ fn user_step(call: UserCall, row: &Row) -> Option<Step<UserCall>> {
 
 /// The call behind a row that is right; the one before it where none is left.
 fn after_net_row(call: NetCall, end: u32, row: &Row) -> Option<NetCall> {
-    let Step { next, reply } = net_step(call, end, row)?;
+    let Transition { next, reply } = net_step(call, end, row)?;
     let (left, after) = match next {
         Next::Live(live) => (live, After::Live(live.state())),
         Next::Over => (call, After::Over),
@@ -56,7 +56,7 @@ fn after_net_row(call: NetCall, end: u32, row: &Row) -> Option<NetCall> {
 }
 
 fn after_user_row(call: UserCall, row: &Row) -> Option<UserCall> {
-    let Step { next, reply } = user_step(call, row)?;
+    let Transition { next, reply } = user_step(call, row)?;
     let (left, after) = match next {
         Next::Live(live) => (live, After::Live(live.state())),
         Next::Over => (call, After::Over),

@@ -1,64 +1,84 @@
 //! Messages of calls that are not known, and refusals.
 
 use crate::steps::says;
-use bx_calls::{End, refuse, unknown};
+use bx_calls::{Side, refuse, unknown};
 use bx_q931::{cause, encode, read};
 use bx_worked_messages::FAR_STATUS_BARE;
 
-/// The end that a message comes to, the message, and what it answers.
-type Receipt = (End, &'static [u8], &'static [u8]);
+/// What comes, the end that it comes to, its octets, and what is answered.
+type Receipt = (&'static str, Side, &'static [u8], &'static [u8]);
 
 static RECEIPTS: [Receipt; 9] = [
     (
-        End::Network,
+        "ALERTING to the exchange",
+        Side::Network,
         &[0x08, 0x02, 0x80, 0x09, 0x01],
         &[0x08, 0x02, 0x00, 0x09, 0x5A, 0x08, 0x02, 0x82, 0xD1],
     ),
     (
-        End::User,
+        "an unknown type to the far end",
+        Side::User,
         &[0x08, 0x02, 0x00, 0x09, 0x6F],
         &[0x08, 0x02, 0x80, 0x09, 0x5A, 0x08, 0x02, 0x80, 0xD1],
     ),
     (
-        End::Network,
+        "STATUS ENQUIRY",
+        Side::Network,
         &[0x08, 0x02, 0x80, 0x09, 0x75],
         &[
             0x08, 0x02, 0x00, 0x09, 0x7D, 0x08, 0x02, 0x82, 0x9E, 0x14, 0x01, 0x00,
         ],
     ),
     (
-        End::Network,
+        "STATUS",
+        Side::Network,
         &[
             0x08, 0x02, 0x80, 0x09, 0x7D, 0x08, 0x02, 0x80, 0x9E, 0x14, 0x01, 0x0A,
         ],
         &[0x08, 0x02, 0x00, 0x09, 0x5A, 0x08, 0x02, 0x82, 0xE5],
     ),
     (
-        End::Network,
+        "STATUS that reports Null",
+        Side::Network,
         &[
             0x08, 0x02, 0x80, 0x09, 0x7D, 0x08, 0x02, 0x80, 0x9E, 0x14, 0x01, 0x00,
         ],
         &[],
     ),
-    (End::Network, FAR_STATUS_BARE, &[]),
-    (End::Network, &[0x08, 0x02, 0x80, 0x05, 0x05], &[]),
-    (End::Network, &[0x08, 0x02, 0x80, 0x00, 0x75], &[]),
-    (End::Network, &[0x08, 0x00, 0x75], &[]),
+    (
+        "STATUS without a state",
+        Side::Network,
+        FAR_STATUS_BARE,
+        &[],
+    ),
+    ("SETUP", Side::Network, &[0x08, 0x02, 0x80, 0x05, 0x05], &[]),
+    (
+        "the global reference",
+        Side::Network,
+        &[0x08, 0x02, 0x80, 0x00, 0x75],
+        &[],
+    ),
+    (
+        "the dummy reference",
+        Side::Network,
+        &[0x08, 0x00, 0x75],
+        &[],
+    ),
 ];
 
 fn is_answered(receipt: &Receipt) -> bool {
-    match read(receipt.1) {
-        Ok(message) => says(unknown(receipt.0, &message), receipt.2),
+    match read(receipt.2) {
+        Ok(message) => says(unknown(receipt.1, &message), receipt.3),
         Err(_) => false,
     }
 }
 
 #[test]
 fn unknown_references_are_answered(rt: HostRuntime) {
-    for (index, receipt) in RECEIPTS.iter().enumerate() {
-        assert!(rt; is_answered(receipt), "message {index}");
+    for receipt in &RECEIPTS {
+        assert!(rt; is_answered(receipt), "{}", receipt.0);
     }
-    let refusal = refuse(End::Network, 5, cause::MANDATORY_ELEMENT_MISSING);
+    let refusal = refuse(Side::Network, 5, cause::MANDATORY_ELEMENT_MISSING);
     assert_eq!(rt;
         encode(&refusal).as_slice(),
         [0x08, 0x02, 0x80, 0x05, 0x5A, 0x08, 0x02, 0x82, 0xE0].as_slice()

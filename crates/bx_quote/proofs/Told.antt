@@ -11,8 +11,8 @@ use Rattle.bx_devices.specs.Octets.{AppendsPrefix}
 use Rattle.bx_base.specs.PlanParts.{Parts}
 use Rattle.bx_base.specs.Plans.{is_accepted}
 use Rattle.bx_quote.specs.declared.answer.Quote.{Quote}
-use Rattle.bx_quote.specs.declared.answer.QuoteFail.{QuoteFail}
-use Rattle.bx_quote.specs.declared.answer.QuoteFail.TheVariants.{Accepted, Memory}
+use Rattle.bx_quote.specs.declared.answer.NoQuote.{NoQuote}
+use Rattle.bx_quote.specs.declared.answer.NoQuote.TheVariants.{Accepted, Memory}
 use Rattle.bx_quote.specs.declared.writing.QuoteFault.{QuoteFault}
 use Rattle.bx_quote.specs.declared.writing.QuoteFault.TheVariants as fault
 use Rattle.bx_quote.specs.Named.{picked}
@@ -60,22 +60,22 @@ pub rows_same : (plan : Parts) (n : ℕ) → is_accepted plan.assigned n ≡ tru
 rows_same plan n h = picked_same (λ j. not (is_accepted plan.assigned j)) n (refused_test plan n true h)
 
 abbrev pub Found : Type 0
-Found = Result Quote QuoteFail
+Found = Result Quote NoQuote
 
 -- a fail of the call below is told where it is answered, and only there
-pub as_told : {X : Type 0} (fail other : QuoteFail) → (◌≡◌ {A = Found} (Err fail) (Err other)) ↔ X → (◌≡◌ {A = Put} (Err (fault.Quote fail)) (Err (fault.Quote other))) ↔ X
+pub as_told : {X : Type 0} (fail other : NoQuote) → (◌≡◌ {A = Found} (Err fail) (Err other)) ↔ X → (◌≡◌ {A = Put} (Err (fault.Quote fail)) (Err (fault.Quote other))) ↔ X
 as_told fail other both = (
   λ e. let same : fail ≡ other = cc in both.0 (rw same refl),
   λ x. let found = both.1 x in let same : fail ≡ other = cc in rw same refl,
 )
 
-no_quote : (r : Put) (fail : QuoteFail) (output : Writing) (octets : List ℕ) → IfErr r (IsWriteFault output octets) → r ≡ Err (fault.Quote fail) → ⊥
+no_quote : (r : Put) (fail : NoQuote) (output : Writing) (octets : List ℕ) → IfErr r (IsWriteFault output octets) → r ≡ Err (fault.Quote fail) → ⊥
 no_quote (Ok x) fail output octets failed e = cc
 no_quote (Err fault.WriteFailed) fail output octets failed e = cc
 no_quote (Err (fault.Quote other)) fail output octets failed e = absurd failed
 
 -- no such fail is told where a quote was found, and its text was put
-pub never_told : {X : Type 0} (r : Put) (quote : Quote) (fail : QuoteFail) (output : Writing) (octets : List ℕ) → IfErr r (IsWriteFault output octets) → (◌≡◌ {A = Found} (Ok quote) (Err fail)) ↔ X → (r ≡ Err (fault.Quote fail)) ↔ X
+pub never_told : {X : Type 0} (r : Put) (quote : Quote) (fail : NoQuote) (output : Writing) (octets : List ℕ) → IfErr r (IsWriteFault output octets) → (◌≡◌ {A = Found} (Ok quote) (Err fail)) ↔ X → (r ≡ Err (fault.Quote fail)) ↔ X
 never_told r quote fail output octets failed both = (
   λ e. absurd (no_quote r fail output octets failed e),
   λ x. let found = both.1 x in absurd (let none : ⊥ = cc in none),

@@ -5,11 +5,12 @@ use Rattle.bx_base.specs.Bound.{cost_of}
 use Rattle.bx_base.specs.PlanParts.{Parts}
 use Rattle.bx_base.specs.Plans.{is_accepted}
 use Rattle.bx_quote.specs.declared.answer.Quote.{Quote}
-use Rattle.bx_quote.specs.declared.answer.QuoteFail.{QuoteFail}
-use Rattle.bx_quote.specs.declared.answer.QuoteFail.TheVariants.{TooMany, NoChannel, NoSuchRow, Accepted, Memory}
+use Rattle.bx_quote.specs.declared.answer.NoQuote.{NoQuote}
+use Rattle.bx_quote.specs.declared.answer.NoQuote.TheVariants.{TooMany, NoChannel, NoSuchRow, Accepted, Memory}
 use Rattle.bx_quote.specs.Named.{AreRows, pay_of_rows, traded}
 use Rattle.bx_quote.specs.Rooms.{IsNoChannel, IsNeverTaken}
 use Rattle.bx_quote.specs.Thresholds.{IsThreshold, Decides}
+use Rattle.bx_base.specs.declared.bookings.TheConstants.{MAX_BOOKINGS}
 
 -- the rows with one more behind them, which a plan is free to leave out
 abbrev pub asked : List Row → Row → List Row
@@ -38,16 +39,16 @@ pub record IsRefused (plan : Parts) (row : ℕ) : Type 0 where
   pub left_out : is_accepted plan.assigned (row - 1) ≡ false
 
 -- why a booking has no quote
-abbrev pub IsQuoteFail : Parts → Row → QuoteFail → Type 0
-IsQuoteFail plan booking TooMany = 4000 ≤ length plan.rows
-IsQuoteFail plan booking (NoChannel moment) = IsNoChannel plan.rows plan.channels booking moment × IsNeverTaken (asked plan.rows booking) plan.channels (length plan.rows)
-IsQuoteFail plan booking Memory = Unit {0}
-IsQuoteFail plan booking _ = ⊥
+abbrev pub IsNoQuote : Parts → Row → NoQuote → Type 0
+IsNoQuote plan booking TooMany = MAX_BOOKINGS ≤ length plan.rows
+IsNoQuote plan booking (NoChannel moment) = IsNoChannel plan.rows plan.channels booking moment × IsNeverTaken (asked plan.rows booking) plan.channels (length plan.rows)
+IsNoQuote plan booking Memory = Unit {0}
+IsNoQuote plan booking _ = ⊥
 
 -- why a row has none
-abbrev pub IsExplainFail : Parts → ℕ → QuoteFail → Type 0
-IsExplainFail plan row NoSuchRow = ¬ IsRowOf plan row
-IsExplainFail plan row (Accepted named) = (named ≡ row) × IsRowOf plan row × (is_accepted plan.assigned (row - 1) ≡ true)
-IsExplainFail plan row (NoChannel moment) = IsRefused plan row × IsNoChannel plan.rows plan.channels (row_at plan.rows (row - 1)) moment × IsNeverTaken plan.rows plan.channels (row - 1)
-IsExplainFail plan row Memory = Unit {0}
-IsExplainFail plan row _ = ⊥
+abbrev pub IsNoExplanation : Parts → ℕ → NoQuote → Type 0
+IsNoExplanation plan row NoSuchRow = ¬ IsRowOf plan row
+IsNoExplanation plan row (Accepted named) = (named ≡ row) × IsRowOf plan row × (is_accepted plan.assigned (row - 1) ≡ true)
+IsNoExplanation plan row (NoChannel moment) = IsRefused plan row × IsNoChannel plan.rows plan.channels (row_at plan.rows (row - 1)) moment × IsNeverTaken plan.rows plan.channels (row - 1)
+IsNoExplanation plan row Memory = Unit {0}
+IsNoExplanation plan row _ = ⊥

@@ -15,8 +15,8 @@ pub record IsMost (rows : List Row) (channels : List Bool) (i : ℕ) (held : Boo
   pub pays : pay_of rows (others set i) ≡ most
   pub limit : (other : ℕ → Bool) → IsLawful rows channels other → other i ≡ held → pay_of rows (others other i) ≤ most
 
--- the threshold of a free row: the most that a lawful set without it pays, less the most that the other rows of a lawful
--- set with it pay. What the row itself pays does not count.
+-- the threshold of a free row, its critical value: the most that a lawful set without it pays, less the most that the other rows
+-- of a lawful set with it pay. What the row itself pays does not count.
 pub record IsThreshold (rows : List Row) (channels : List Bool) (i threshold : ℕ) : Type 0 where
   pub without : ℕ
   pub beside : ℕ

@@ -6,10 +6,10 @@ use Rattle.bx_devices.specs.Devices.{Writing, KeepsOutput}
 use Rattle.bx_devices.specs.Octets.{AppendsPrefix}
 use Rattle.bx_base.specs.PlanParts.{Parts}
 use Rattle.bx_quote.specs.declared.answer.Quote.{Quote}
-use Rattle.bx_quote.specs.declared.answer.QuoteFail.TheVariants.{Memory}
+use Rattle.bx_quote.specs.declared.answer.NoQuote.TheVariants.{Memory}
 use Rattle.bx_quote.specs.declared.writing.QuoteFault.{QuoteFault}
 use Rattle.bx_quote.specs.declared.writing.QuoteFault.TheVariants as fault
-use Rattle.bx_quote.specs.Quotes.{IsQuote, IsQuoteFail, IsExplainFail, asked}
+use Rattle.bx_quote.specs.Quotes.{IsQuote, IsNoQuote, IsNoExplanation, asked}
 use Rattle.bx_quote.specs.Texts.{quote_text, explained_text, refused_text}
 
 -- the text of a quote of the row at i was written
@@ -26,12 +26,12 @@ pub record IsCutTold (rows : List Row) (plan : Parts) (i : ℕ) (text : Quote �
 
 -- each refusal of a quote: why there is none, and that nothing was written, or that the output failed
 abbrev pub IsQuoteRefusal : Parts → Row → Writing → QuoteFault → Type 0
-IsQuoteRefusal plan booking output (fault.Quote fail) = IsQuoteFail plan booking fail × KeepsOutput output
+IsQuoteRefusal plan booking output (fault.Quote fail) = IsNoQuote plan booking fail × KeepsOutput output
 IsQuoteRefusal plan booking output fault.WriteFailed = (output.is_faulted ≡ true) × IsCutTold (asked plan.rows booking) plan (length plan.rows) quote_text output
 
 -- the same of a row of the plan
 abbrev pub IsExplainRefusal : Parts → ℕ → Writing → QuoteFault → Type 0
-IsExplainRefusal plan row output (fault.Quote fail) = IsExplainFail plan row fail × KeepsOutput output
+IsExplainRefusal plan row output (fault.Quote fail) = IsNoExplanation plan row fail × KeepsOutput output
 IsExplainRefusal plan row output fault.WriteFailed = (output.is_faulted ≡ true) × IsCutTold plan.rows plan (row - 1) (explained_text row (row_at plan.rows (row - 1)).pay) output
 
 -- the same of all that the plan refuses: only memory and the output can fail

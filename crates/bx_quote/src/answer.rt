@@ -5,7 +5,8 @@ use thiserror::Error;
 /// What a booking has to pay to be taken, beside a plan that does not take it. Rows are named 1, 2, ..
 #[derive(Drop)]
 pub struct Quote {
-    /// Where it pays more than this, each best choice takes it; where it pays less, none does; at it some do.
+    /// Where it pays more than this, each best choice takes it; where it pays less, none does; at it some do. In auctions this is
+    /// its critical value.
     pub threshold: u64,
     /// What its seconds cost at the plan's prices: never above the threshold.
     pub cost: u64,
@@ -18,7 +19,7 @@ pub struct Quote {
 
 /// Why there is no quote.
 #[derive(Clone, Copy, Debug, PartialEq, Eq, Error)]
-pub enum QuoteFail {
+pub enum NoQuote {
     /// The plan has 4,000 bookings.
     #[error("K2 TooMany")]
     TooMany,

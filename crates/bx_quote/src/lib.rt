@@ -9,6 +9,6 @@ mod texts;
 mod weighing;
 mod writing;
 
-pub use answer::{Quote, QuoteFail};
+pub use answer::{NoQuote, Quote};
 pub use quoting::{explain, quote};
 pub use writing::{QuoteFault, write_explained, write_quote, write_refused};

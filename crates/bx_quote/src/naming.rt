@@ -4,6 +4,7 @@ ghost use Rattle.std.specs.Prelude.{◌≡◌, ◌≤◌, IfOk};
 ghost use Rattle.bx_base.specs.Plans.{is_accepted};
 ghost use Rattle.bx_quote.specs.Named.{picked};
 ghost use Rattle.bx_quote.specs.Inside.{is_apart};
+ghost use Rattle.bx_base.specs.declared.bookings.TheConstants.{MAX_BOOKINGS};
 
 use bx_channels::Channel;
 use std::alloc::{AllocError, Global};
@@ -17,7 +18,7 @@ pub(crate) fn apart(
     rows: u16,
     except: u16,
 ) -> Result<Vec<u16>, AllocError>
-    requires { rows ≤ 4000 }
+    requires { rows ≤ MAX_BOOKINGS }
     ensures { IfOk result (λ v. v.items ≡ picked (is_apart (is_accepted one.now) (is_accepted other.now) except) rows) }
 {
     let mut named = Vec::new(alloc);

@@ -6,67 +6,69 @@ ghost use Rattle.bx_base.specs.Channels.{count_of};
 ghost use Rattle.bx_base.specs.PlanParts.{parts_of};
 ghost use Rattle.bx_base.specs.Plans.{is_accepted};
 ghost use Rattle.bx_check.specs.Check.{IsOutcome};
-ghost use Rattle.bx_quote.specs.Quotes.{IsQuote, IsQuoteFail, IsExplainFail, IsRefused, IsRowOf, asked};
+ghost use Rattle.bx_quote.specs.Quotes.{IsQuote, IsNoQuote, IsNoExplanation, IsRefused, IsRowOf, asked};
 ghost use Rattle.bx_quote.specs.Rooms.{IsNoChannel};
 ghost use Rattle.bx_quote.specs.Weighing.{held};
+ghost use Rattle.bx_base.specs.declared.bookings.TheConstants.{MAX_BOOKINGS};
 
-use crate::answer::{Quote, QuoteFail};
+use crate::answer::{NoQuote, Quote};
 use crate::rooms::no_channel;
 use crate::weighing::weighed;
 use bx_base::{Booking, Bookings, MAX_BOOKINGS, Plan};
 use std::alloc::{AllocError, Global};
 
-/// What a booking that is not in the plan has to pay to be taken, where nothing else changes. Neither its own pay nor
-/// its must mark counts. `TooMany` is tested first, then `NoChannel`, both without memory. By two best plans: the one
-/// given, and one that has to hold the booking.
-pub fn quote(alloc: Global, plan: &Plan, booking: &Booking) -> Result<Quote, QuoteFail>
+/// What a booking that is not in the plan has to pay to be taken, where nothing else changes. Neither its own pay nor its must
+/// mark counts. The plan has to be proved for its own bookings and channels. `TooMany` is tested first, then `NoChannel`, both
+/// without memory; `Memory` where a growth is refused. By two best plans: the one given, and one that has to hold the booking.
+pub fn quote(alloc: Global, plan: &Plan, booking: &Booking) -> Result<Quote, NoQuote>
     requires proved { IsOutcome plan.now.bookings plan.now.channels (parts_of plan.now) (Ok plan.now.total) }
-    ensures full { (result ≡ Err QuoteFail.TooMany) ↔ (4000 ≤ length plan.now.bookings) }
-    ensures no_channel { (t : ℕ) → (result ≡ Err (QuoteFail.NoChannel t)) ↔ ((length plan.now.bookings < 4000) × IsNoChannel plan.now.bookings plan.now.channels booking.now t) }
+    ensures full { (result ≡ Err NoQuote.TooMany) ↔ (MAX_BOOKINGS ≤ length plan.now.bookings) }
+    ensures no_channel { (t : ℕ) → (result ≡ Err (NoQuote.NoChannel t)) ↔ ((length plan.now.bookings < MAX_BOOKINGS) × IsNoChannel plan.now.bookings plan.now.channels booking.now t) }
     ensures quoted { IfOk result (IsQuote (asked plan.now.bookings booking.now) (parts_of plan.now) (length plan.now.bookings)) }
-    ensures fail { IfErr result (IsQuoteFail (parts_of plan.now) booking.now) }
+    ensures fail { IfErr result (IsNoQuote (parts_of plan.now) booking.now) }
 {
     if plan.bookings.len() as usize >= MAX_BOOKINGS {
-        return Err(QuoteFail::TooMany);
+        return Err(NoQuote::TooMany);
     }
     if let Some(moment) = no_channel(&plan.bookings, plan.channels, booking) {
-        return Err(QuoteFail::NoChannel(moment));
+        return Err(NoQuote::NoChannel(moment));
     }
     match quoted(alloc, plan, booking) {
         Ok(quote) => Ok(quote),
-        Err(_) => Err(QuoteFail::Memory),
+        Err(_) => Err(NoQuote::Memory),
     }
 }
 
-/// What a row that the plan refuses has to pay to be taken. Its own pay does not count. `NoSuchRow`, `Accepted` and
-/// `NoChannel` are tested in this order, without memory.
-pub fn explain(alloc: Global, plan: &Plan, row: u16) -> Result<Quote, QuoteFail>
+/// What a row that the plan refuses has to pay to be taken. Its own pay does not count. The plan has to be proved for its own
+/// bookings and channels. `NoSuchRow`, `Accepted` and `NoChannel` are tested in this order, without memory; `Memory` where a
+/// growth is refused.
+pub fn explain(alloc: Global, plan: &Plan, row: u16) -> Result<Quote, NoQuote>
     requires proved { IsOutcome plan.now.bookings plan.now.channels (parts_of plan.now) (Ok plan.now.total) }
-    ensures no_row { (result ≡ Err QuoteFail.NoSuchRow) ↔ (¬ IsRowOf (parts_of plan.now) row) }
-    ensures accepted { (named : ℕ) → (result ≡ Err (QuoteFail.Accepted named)) ↔ ((named ≡ row) × IsRowOf (parts_of plan.now) row × (is_accepted plan.now.assigned.items (row - 1) ≡ true)) }
-    ensures no_channel { (t : ℕ) → (result ≡ Err (QuoteFail.NoChannel t)) ↔ (IsRefused (parts_of plan.now) row × IsNoChannel plan.now.bookings plan.now.channels (row_at plan.now.bookings (row - 1)) t) }
+    ensures no_row { (result ≡ Err NoQuote.NoSuchRow) ↔ (¬ IsRowOf (parts_of plan.now) row) }
+    ensures accepted { (named : ℕ) → (result ≡ Err (NoQuote.Accepted named)) ↔ ((named ≡ row) × IsRowOf (parts_of plan.now) row × (is_accepted plan.now.assigned.items (row - 1) ≡ true)) }
+    ensures no_channel { (t : ℕ) → (result ≡ Err (NoQuote.NoChannel t)) ↔ (IsRefused (parts_of plan.now) row × IsNoChannel plan.now.bookings plan.now.channels (row_at plan.now.bookings (row - 1)) t) }
     ensures explained { IfOk result (IsQuote plan.now.bookings (parts_of plan.now) (row - 1)) }
-    ensures fail { IfErr result (IsExplainFail (parts_of plan.now) row) }
+    ensures fail { IfErr result (IsNoExplanation (parts_of plan.now) row) }
 {
     let Some(booking) = plan.bookings.get(row) else {
-        return Err(QuoteFail::NoSuchRow);
+        return Err(NoQuote::NoSuchRow);
     };
     if plan.assigned[row as usize - 1].is_some() {
-        return Err(QuoteFail::Accepted(row));
+        return Err(NoQuote::Accepted(row));
     }
     if let Some(moment) = no_channel(&plan.bookings, plan.channels, &booking) {
-        return Err(QuoteFail::NoChannel(moment));
+        return Err(NoQuote::NoChannel(moment));
     }
     match explained(alloc, plan, row - 1) {
         Ok(quote) => Ok(quote),
-        Err(_) => Err(QuoteFail::Memory),
+        Err(_) => Err(NoQuote::Memory),
     }
 }
 
 /// The quote of a booking that has a channel.
 fn quoted(alloc: Global, plan: &Plan, booking: &Booking) -> Result<Quote, AllocError>
     requires proved { IsOutcome plan.now.bookings plan.now.channels (parts_of plan.now) (Ok plan.now.total) }
-    requires few { length plan.now.bookings < 4000 }
+    requires few { length plan.now.bookings < MAX_BOOKINGS }
     requires room { (t : ℕ) → ¬ IsNoChannel plan.now.bookings plan.now.channels booking.now t }
     ensures { IfOk result (IsQuote (asked plan.now.bookings booking.now) (parts_of plan.now) (length plan.now.bookings)) }
 {

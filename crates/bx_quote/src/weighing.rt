@@ -12,7 +12,7 @@ use crate::answer::Quote;
 use crate::naming::apart;
 use bx_base::{Bookings, ChannelSet, Plan};
 use bx_check::{cost, sums_of};
-use bx_planner::{PlanFail, plan};
+use bx_planner::{NoPlan, plan};
 use std::alloc::{AllocError, Global};
 
 /// The quote of the row at this place of the rows, which is marked must there and free for the plan: the best total
@@ -51,7 +51,7 @@ fn best_of(alloc: Global, rows: &Bookings, channels: ChannelSet) -> Result<Plan,
 {
     match plan(alloc, rows, channels) {
         Ok(plan) => Ok(plan),
-        Err(PlanFail::TooManyMust(_)) => unreachable!(),
-        Err(PlanFail::Memory) => Err(AllocError),
+        Err(NoPlan::TooManyMust(_)) => unreachable!(),
+        Err(NoPlan::Memory) => Err(AllocError),
     }
 }

@@ -13,8 +13,9 @@ ghost use Rattle.bx_quote.specs.Rooms.{IsNoChannel};
 ghost use Rattle.bx_quote.specs.Texts.{quote_text, explained_text, refused_text};
 ghost use Rattle.bx_quote.specs.Writing.{IsTold, IsQuoteRefusal, IsExplainRefusal, IsListRefusal};
 ghost use Rattle.bx_quote.specs.Inside.{IsWriteFault};
+ghost use Rattle.bx_base.specs.declared.bookings.TheConstants.{MAX_BOOKINGS};
 
-use crate::answer::QuoteFail;
+use crate::answer::NoQuote;
 use crate::quoting::{explain, quote};
 use crate::texts::{explained_text, quote_text, refused_text};
 use bx_base::{Booking, Plan};
@@ -28,14 +29,15 @@ use thiserror::Error;
 pub enum QuoteFault {
     /// There is none.
     #[error("{0}")]
-    Quote(QuoteFail),
+    Quote(NoQuote),
     /// A write failed, or took none of what it was given: a front of the lines was written.
     #[error("F2 CannotWrite")]
     WriteFailed,
 }
 
 /// Writes what a booking that is not in the plan has to pay to be taken: `its seconds cost`, `taken above`, `instead of`
-/// and `besides`, a line each.
+/// and `besides`, a line each. The plan has to be proved for its own bookings and channels. Faults are those of `quote`, before
+/// which nothing is written, and `WriteFailed`.
 pub fn write_quote<W: Write>(
     alloc: Global,
     plan: &Plan,
@@ -45,8 +47,8 @@ pub fn write_quote<W: Write>(
     requires proved { IsOutcome plan.now.bookings plan.now.channels (parts_of plan.now) (Ok plan.now.total) }
     ensures told { OnOk result (IsTold (asked plan.now.bookings booking.now) (parts_of plan.now) (length plan.now.bookings) quote_text (writing_of W.contents output.old output.new)) }
     ensures refused { IfErr result (IsQuoteRefusal (parts_of plan.now) booking.now (writing_of W.contents output.old output.new)) }
-    ensures too_many { (result ≡ Err (QuoteFault.Quote QuoteFail.TooMany)) ↔ (4000 ≤ length plan.now.bookings) }
-    ensures no_room { (t : ℕ) → (result ≡ Err (QuoteFault.Quote (QuoteFail.NoChannel t))) ↔ ((length plan.now.bookings < 4000) × IsNoChannel plan.now.bookings plan.now.channels booking.now t) }
+    ensures too_many { (result ≡ Err (QuoteFault.Quote NoQuote.TooMany)) ↔ (MAX_BOOKINGS ≤ length plan.now.bookings) }
+    ensures no_room { (t : ℕ) → (result ≡ Err (QuoteFault.Quote (NoQuote.NoChannel t))) ↔ ((length plan.now.bookings < MAX_BOOKINGS) × IsNoChannel plan.now.bookings plan.now.channels booking.now t) }
 {
     let quote = match quote(alloc, plan, booking) {
         Ok(quote) => quote,
@@ -54,12 +56,13 @@ pub fn write_quote<W: Write>(
     };
     match quote_text(alloc, &quote) {
         Ok(text) => put(output, &text),
-        Err(_) => Err(QuoteFault::Quote(QuoteFail::Memory)),
+        Err(_) => Err(QuoteFault::Quote(NoQuote::Memory)),
     }
 }
 
-/// Writes what a row that the plan refuses has to pay to be taken: the same behind a line `row`, its name, `pays`, and
-/// what it pays.
+/// Writes what a row that the plan refuses has to pay to be taken: the same behind a line `row`, its name, `pays`, and what it
+/// pays. The plan has to be proved for its own bookings and channels. Faults are those of `explain`, before which nothing is
+/// written, and `WriteFailed`.
 pub fn write_explained<W: Write>(
     alloc: Global,
     plan: &Plan,
@@ -70,12 +73,12 @@ pub fn write_explained<W: Write>(
     ensures told { OnOk result (IsTold plan.now.bookings (parts_of plan.now) (row - 1) (explained_text row (row_at plan.now.bookings (row - 1)).pay) (writing_of W.contents output.old output.new)) }
     ensures refused { IfErr result (IsExplainRefusal (parts_of plan.now) row (writing_of W.contents output.old output.new)) }
     ensures row_of { OnOk result (IsRowOf (parts_of plan.now) row) }
-    ensures no_row { (result ≡ Err (QuoteFault.Quote QuoteFail.NoSuchRow)) ↔ (¬ IsRowOf (parts_of plan.now) row) }
-    ensures accepted { (named : ℕ) → (result ≡ Err (QuoteFault.Quote (QuoteFail.Accepted named))) ↔ ((named ≡ row) × IsRowOf (parts_of plan.now) row × (is_accepted plan.now.assigned.items (row - 1) ≡ true)) }
-    ensures no_room { (t : ℕ) → (result ≡ Err (QuoteFault.Quote (QuoteFail.NoChannel t))) ↔ (IsRefused (parts_of plan.now) row × IsNoChannel plan.now.bookings plan.now.channels (row_at plan.now.bookings (row - 1)) t) }
+    ensures no_row { (result ≡ Err (QuoteFault.Quote NoQuote.NoSuchRow)) ↔ (¬ IsRowOf (parts_of plan.now) row) }
+    ensures accepted { (named : ℕ) → (result ≡ Err (QuoteFault.Quote (NoQuote.Accepted named))) ↔ ((named ≡ row) × IsRowOf (parts_of plan.now) row × (is_accepted plan.now.assigned.items (row - 1) ≡ true)) }
+    ensures no_room { (t : ℕ) → (result ≡ Err (QuoteFault.Quote (NoQuote.NoChannel t))) ↔ (IsRefused (parts_of plan.now) row × IsNoChannel plan.now.bookings plan.now.channels (row_at plan.now.bookings (row - 1)) t) }
 {
     let Some(booking) = plan.bookings.get(row) else {
-        return Err(QuoteFault::Quote(QuoteFail::NoSuchRow));
+        return Err(QuoteFault::Quote(NoQuote::NoSuchRow));
     };
     let quote = match explain(alloc, plan, row) {
         Ok(quote) => quote,
@@ -83,12 +86,13 @@ pub fn write_explained<W: Write>(
     };
     match explained_text(alloc, row, booking.pay(), &quote) {
         Ok(text) => put(output, &text),
-        Err(_) => Err(QuoteFault::Quote(QuoteFail::Memory)),
+        Err(_) => Err(QuoteFault::Quote(NoQuote::Memory)),
     }
 }
 
-/// Writes a line for each row that the plan refuses, its name, `pays`, what it pays, `of`, and what its seconds cost at
-/// the plan's prices; then a line `refused`, how many these are, `of`, and how many rows the plan has.
+/// Writes a line for each row that the plan refuses, its name, `pays`, what it pays, `of`, and what its seconds cost at the
+/// plan's prices; then a line `refused`, how many these are, `of`, and how many rows the plan has. The plan has to be proved for
+/// its own bookings and channels. Faults are `Memory`, before which nothing is written, and `WriteFailed`.
 pub fn write_refused<W: Write>(
     alloc: Global,
     plan: &Plan,
@@ -100,7 +104,7 @@ pub fn write_refused<W: Write>(
 {
     match refused_text(alloc, plan) {
         Ok(text) => put(output, &text),
-        Err(_) => Err(QuoteFault::Quote(QuoteFail::Memory)),
+        Err(_) => Err(QuoteFault::Quote(NoQuote::Memory)),
     }
 }
 

@@ -93,7 +93,7 @@ fn line_of(totals: Totals) -> Line
 }
 
 /// Writes one line of totals: `carried C of A accepted, paid P of T`, where C of the A bookings that the plan accepts were carried,
-/// these pay P, and all A pay T. At a fault the writer is faulted, and a front of the line was written.
+/// these pay P, and all A pay T. At `WriteFailed` the writer is faulted, and a front of the line was written.
 pub fn write_totals<W: Write>(
     exchange: &Exchange,
     output: &mut Watched<W>,

@@ -13,8 +13,8 @@ use bx_devices::Watched;
 use bx_journal::{JournalFault, read_journal};
 use std::io::Read;
 
-/// An exchange after the events of a journal, and how many octets of that are whole lines. At a fault the exchange is where the
-/// events before it have left it.
+/// An exchange after the events of a journal, and how many octets of that are whole lines, or the fault of `read_journal`. At a
+/// fault the exchange is where the events before it have left it.
 #[derive(Drop)]
 pub struct Recovered {
     pub exchange: Exchange,

@@ -7,7 +7,7 @@ use Rattle.bx_events.specs.Events.{Event, Tick}
 use Rattle.bx_far.specs.FarDay.{FarDay}
 use Rattle.bx_far.specs.Course.{far_next, far_due}
 use Rattle.bx_frames.specs.declared.fault.LinkFault.{LinkFault}
-use Rattle.bx_frames.specs.declared.frame.Side.TheVariants.{FarEnd}
+use Rattle.bx_frames.specs.declared.frame.Receiver.TheVariants.{FarEnd}
 use Rattle.bx_frames.proofs.ReadAnswers.{gave}
 use Rattle.bx_frames.proofs.ReadingSteps.{not_faulted}
 use Rattle.bx_link.specs.Hearing.{TakesTurn}

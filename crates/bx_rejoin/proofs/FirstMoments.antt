@@ -7,7 +7,7 @@ use Rattle.bx_frames.specs.Frames.{frame_in}
 use Rattle.bx_frames.specs.declared.fault.LinkFault.{LinkFault}
 use Rattle.bx_frames.specs.declared.fault.LinkFault.TheVariants.{WrongMoment, EndedInFrame}
 use Rattle.bx_frames.specs.declared.frame.Frame.{Frame}
-use Rattle.bx_frames.specs.declared.frame.Side.TheVariants.{FarEnd}
+use Rattle.bx_frames.specs.declared.frame.Receiver.TheVariants.{FarEnd}
 use Rattle.bx_frames.proofs.ReadAnswers.{faulty}
 use Rattle.bx_turns.specs.Talks.{stop, with_events, turn_in}
 use Rattle.bx_turns.proofs.Turns.{message_of, end_of_turn_of, end_of_day, turn_message, turn_right, turn_wrong, turn_day, turn_fault}

@@ -11,7 +11,7 @@ use Rattle.bx_frames.specs.declared.fault.LinkFault.{LinkFault}
 use Rattle.bx_frames.specs.declared.fault.LinkFault.TheVariants.{ReadFailed, WriteFailed, WrongMoment, EndedInFrame}
 use Rattle.bx_frames.specs.declared.frame.Frame.{Frame}
 use Rattle.bx_frames.specs.declared.frame.Frame.TheVariants as frames
-use Rattle.bx_frames.specs.declared.frame.Side.TheVariants.{FarEnd}
+use Rattle.bx_frames.specs.declared.frame.Receiver.TheVariants.{FarEnd}
 use Rattle.bx_frames.proofs.Locality.{frame_local}
 use Rattle.bx_frames.proofs.ReadAnswers.{gave, faulty, fails_behind, either_first}
 use Rattle.bx_frames.proofs.ReadingSteps.{was_found, not_faulted, same_fault}

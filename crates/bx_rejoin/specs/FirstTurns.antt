@@ -10,15 +10,16 @@ use Rattle.bx_frames.specs.declared.fault.LinkFault.{LinkFault}
 use Rattle.bx_frames.specs.declared.fault.LinkFault.TheVariants.{ReadFailed, WriteFailed}
 use Rattle.bx_frames.specs.declared.frame.Frame.{Frame}
 use Rattle.bx_frames.specs.declared.frame.Frame.TheVariants as frames
-use Rattle.bx_frames.specs.declared.frame.Side.TheVariants.{FarEnd}
+use Rattle.bx_frames.specs.declared.frame.Receiver.TheVariants.{FarEnd}
 use Rattle.bx_turns.specs.Heard.{IsHeard}
 use Rattle.bx_turns.specs.Talks.{Talk, turn_in}
+use Rattle.bx_events.specs.declared.moment.TheConstants.{LAST_MOMENT}
 
 -- ---- its moment
 
 -- a moment of the day, from the one that is due on
 abbrev pub may_end : ℕ → ℕ → Bool
-may_end due said = nat_le due said && nat_le said 300000
+may_end due said = nat_le due said && nat_le said LAST_MOMENT
 
 abbrev pub moment_by : ℕ → (List ℕ → ℕ) → Result Frame LinkFault → List ℕ → ℕ
 moment_by due more (Ok (frames.Message octets)) rest = more rest
@@ -65,4 +66,4 @@ pub record ReadsFirst {R : Type 0} (remaining : R → Option (List ℕ)) (due : 
   pub reads : ReadsTalk (first_turn_in due 64) remaining r r' (receipts messages) (ended ending)
   pub told : (known : List ℕ) (moment : ℕ) → remaining (device_of r) ≡ Some known → ending ≡ Ok (Some moment) → moment ≡ moment_in due 64 known
   pub least : (moment : ℕ) → ending ≡ Ok (Some moment) → due ≤ moment
-  pub limit : (moment : ℕ) → ending ≡ Ok (Some moment) → moment ≤ 300000
+  pub limit : (moment : ℕ) → ending ≡ Ok (Some moment) → moment ≤ LAST_MOMENT

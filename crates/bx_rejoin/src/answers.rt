@@ -57,10 +57,7 @@ pub(crate) fn answer_turn<E: End<Far>, W: Write>(
 ) -> Result<bool, LinkFault>
     ensures { (answers : Answers W.contents writer.old writer.new (E.day far.old) (E.day far.new) (receipts messages.now ++ Tick ∷ []) true result) × E.kept far.old answers.events far.new }
 {
-    match answer_held(far, messages, writer) {
-        Ok(()) => {}
-        Err(fault) => return Err(fault),
-    }
+    answer_held(far, messages, writer)?;
     match write_tick(far, writer) {
         Ok(()) => Ok(true),
         Err(_) => Err(LinkFault::WriteFailed),

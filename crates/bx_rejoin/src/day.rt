@@ -29,8 +29,9 @@ fn miss_seconds<E: RejoiningEnd>(far: &mut E, moment: u32)
 /// what it sends and the end of the turn. Answers true; or false where the end of the day comes in place of the end of turn: then
 /// no second goes by, the messages are received and answered, and the far end does not tick.
 ///
-/// An earlier moment, or one beyond 300,000, is `WrongMoment`, and a 65th message is `MoreThan64Messages`. At a fault of what is
-/// read nothing is received, and no second goes by. Where a write fails, nothing more is done.
+/// An earlier moment, or one beyond 300,000, is `WrongMoment`, and a 65th message is `MoreThan64Messages`; the other faults of
+/// what is read are `ReadFailed`, `EndedInFrame`, `BadLength` and `UnknownKind`. At each of these nothing is received, and no
+/// second goes by. Where a write fails, `WriteFailed` is answered, and nothing more is done.
 pub fn rejoin_turn<E: RejoiningEnd, R: Read, W: Write>(
     far: &mut E,
     reader: &mut Watched<R>,
@@ -40,24 +41,22 @@ pub fn rejoin_turn<E: RejoiningEnd, R: Read, W: Write>(
     // Where it ends with the moment that is due and no write fails, it is a turn as a far end takes any.
     ensures as_ever { (turn : RejoinsTurn R.remaining W.contents reader.old reader.new writer.old writer.new (E.day far.old) (E.day far.new) result) → turn.ending ≡ Ok (Some (far_due (E.day far.old))) → result ≡ Ok true → TakesTurn R.remaining W.contents reader.old reader.new writer.old writer.new (E.day far.old) (E.day far.new) result }
 {
-    let held = match hold_first_turn(reader, far.turn()) {
-        Ok(held) => held,
-        Err(fault) => return Err(fault),
-    };
+    let held = hold_first_turn(reader, far.turn())?;
     match held.moment {
         Some(moment) => {
             miss_seconds(far, moment);
             answer_turn(far, &held.messages, writer)
         }
-        None => match answer_held(far, &held.messages, writer) {
-            Ok(()) => Ok(false),
-            Err(fault) => Err(fault),
-        },
+        None => {
+            answer_held(far, &held.messages, writer)?;
+            Ok(false)
+        }
     }
 }
 
 /// Takes the turns of a connection until the exchange ends the day. The first may end with any later moment; each other ends
-/// with the moment that is due. Takes no memory. The first fault of a turn is answered; and `Closed` behind 2^64 turns.
+/// with the moment that is due. Takes no memory. The first fault of a turn is answered, one of those of `rejoin_turn`; and
+/// `Closed` behind 2^64 turns.
 pub fn rejoin_day<E: RejoiningEnd, R: Read, W: Write>(
     far: &mut E,
     reader: &mut Watched<R>,
@@ -65,9 +64,10 @@ pub fn rejoin_day<E: RejoiningEnd, R: Read, W: Write>(
 ) -> Result<(), LinkFault>
     ensures { (day : RejoinsDay R.remaining W.contents reader.old reader.new writer.old writer.new (E.day far.old) (E.day far.new) result) × E.live_kept far.old (events_of_day day) far.new }
 {
-    match rejoin_turn(far, reader, writer) {
-        Ok(true) => run_far_day(far, reader, writer),
-        Ok(false) => Ok(()),
-        Err(fault) => Err(fault),
+    let goes_on = rejoin_turn(far, reader, writer)?;
+    if goes_on {
+        run_far_day(far, reader, writer)
+    } else {
+        Ok(())
     }
 }

@@ -1,13 +1,14 @@
 //! The first turn of a new connection, read up to its end.
 
 ghost use Rattle.std.specs.Prelude.{◌≡◌, ◌≤◌, IfOk, IfErr, Ok};
+ghost use Rattle.bx_events.specs.declared.moment.TheConstants.{LAST_MOMENT};
 ghost use Rattle.bx_rejoin.specs.FirstTurns.{ReadsFirst, may_end};
 ghost use Rattle.bx_rejoin.specs.Holding.{FailsFirst};
 
 use arrayvec::ArrayVec;
-use bx_calls::timers::LAST_MOMENT;
 use bx_devices::Watched;
-use bx_frames::{Frame, LinkFault, Side, read_frame};
+use bx_events::LAST_MOMENT;
+use bx_frames::{Frame, LinkFault, Receiver, read_frame};
 use bx_q931::Octets;
 use std::io::Read;
 
@@ -34,19 +35,20 @@ fn may_end(due: u32, said: u32) -> bool
 ///
 /// Another moment is `WrongMoment`, and a 65th message is `MoreThan64Messages`.
 pub(crate) fn hold_first_turn<R: Read>(reader: &mut Watched<R>, due: u32) -> Result<Held, LinkFault>
-    requires { due ≤ 300000 }
+    requires { due ≤ LAST_MOMENT }
     ensures held { IfOk result (λ held. ReadsFirst R.remaining due reader.old reader.new held.messages.items (Ok held.moment)) }
     ensures failed { IfErr result (λ fault. FailsFirst R.remaining due reader.old reader.new fault) }
 {
     let mut messages = ArrayVec::new();
     let mut room = MAX_MESSAGES;
     loop {
-        match read_frame(reader, Side::FarEnd, room) {
-            Ok(Frame::Message(octets)) => {
+        let frame = read_frame(reader, Receiver::FarEnd, room)?;
+        match frame {
+            Frame::Message(octets) => {
                 messages.push(octets);
                 room -= 1;
             }
-            Ok(Frame::EndOfTurn(said)) => {
+            Frame::EndOfTurn(said) => {
                 return if may_end(due, said) {
                     Ok(Held {
                         messages,
@@ -56,13 +58,12 @@ pub(crate) fn hold_first_turn<R: Read>(reader: &mut Watched<R>, due: u32) -> Res
                     Err(LinkFault::WrongMoment)
                 };
             }
-            Ok(Frame::EndOfDay) => {
+            Frame::EndOfDay => {
                 return Ok(Held {
                     messages,
                     moment: None,
                 });
             }
-            Err(fault) => return Err(fault),
         }
     }
 }

@@ -12,6 +12,7 @@ use Rattle.bx_far.specs.Course.{far_next, far_sent, far_due}
 use Rattle.bx_rejoin.specs.LiveEvents.{all_taken, told_on_link}
 use Rattle.bx_request.specs.declared.request.RejoinRequest.{RejoinRequest}
 use Rattle.bx_turns.specs.Courses.{after, ticks_of}
+use Rattle.bx_events.specs.declared.moment.TheConstants.{LAST_MOMENT}
 
 -- the moment that the day of a script has reached after events on a link and seconds without one: as many seconds as went by, on
 -- a link or without one, and no more than a day has
@@ -20,7 +21,7 @@ pub record IsRejoinRun (moment : ℕ) : Type 0 where
   pub opens : IsFarOpening opened
   pub events : List LiveEvent
   pub reached : moment ≡ (after far_next (all_taken events) opened).moment
-  pub ticks : moment ≡ min (ticks_of (all_taken events)) 300000
+  pub ticks : moment ≡ min (ticks_of (all_taken events)) LAST_MOMENT
 
 -- the packets of the messages that went over a connection, where moments count from this second
 abbrev pub live_far_packets : ℕ → List LiveEvent → FarDay → List ℕ

@@ -1,33 +1,22 @@
 //! The far end that connects again, by the files that it is asked for.
 
-ghost use Rattle.std.specs.Prelude.{◌≡◌, ◌&&◌, not, IfOk, IfErr, OnOk, OnErr, true};
-ghost use Rattle.std.specs.Io.KnownBytes.{Appends};
-ghost use Rattle.bx_devices.specs.Octets.{AppendsPrefix};
-ghost use Rattle.bx_devices.specs.Watching.{device_of, is_faulted};
-ghost use Rattle.bx_day_commands.specs.Days.{ended_line};
+ghost use Rattle.std.specs.Prelude.{◌≡◌, ◌&&◌, not, IfOk, IfErr, OnOk, true};
+ghost use Rattle.bx_devices.specs.Watching.{device_of};
 ghost use Rattle.bx_rejoin_commands.specs.Kept.{IsRejoinCaptured};
 ghost use Rattle.bx_rejoin_commands.specs.Rejoined.{IsRejoinDone};
 ghost use Rattle.bx_rejoin_commands.specs.Refusals.{StopsRejoining, IsRejoinRefusal, IsRejoinNotDone};
 
 use crate::running::run_rejoined;
+use bx_capture::is_whole;
 use bx_check_commands::{CommandFault, Inputs};
-use bx_day_openings::{DayCommandFault, captured, far_end_of, file_of, first_of, is_whole};
-use bx_devices::{Watched, WriteFailed, write_octets};
+use bx_day_commands::write_ended;
+use bx_day_openings::{DayCommandFault, captured, far_end_of, file_of, first_of};
+use bx_devices::Watched;
 use bx_request::{RejoinRequest, Sight};
-use bx_text::named_line;
 use std::fs::Files;
 use std::io::Write;
 use std::net::{Net, TcpListener, TcpStream};
 use std::rt::Clock;
-
-/// Writes `ended at `, the moment and LF.
-fn write_ended<W: Write>(output: &mut Watched<W>, moment: u32) -> Result<(), WriteFailed>
-    ensures told { OnOk result (Appends (W.contents (device_of output.old)) (W.contents (device_of output.new)) (ended_line moment)) }
-    ensures cut { OnErr result (AppendsPrefix (W.contents (device_of output.old)) (W.contents (device_of output.new)) (ended_line moment)) }
-    ensures refused { OnErr result (is_faulted output.new ≡ true) }
-{
-    write_octets(output, &named_line(b"ended at", u64::from(moment)))
-}
 
 /// The moment at which the day of a script ended, and whether all that was to be captured was.
 fn run_script<
@@ -48,22 +37,11 @@ fn run_script<
         place,
         sight,
     } = request;
-    let first = match first_of(sight.capture) {
-        Ok(first) => first,
-        Err(fault) => return Err(fault),
-    };
-    let far = match far_end_of(rt.alloc(), inputs, script) {
-        Ok(far) => far,
-        Err(fault) => return Err(fault),
-    };
-    let mut file = match file_of(rt, sight.capture) {
-        Ok(file) => file,
-        Err(fault) => return Err(fault),
-    };
-    match run_rejoined(rt, place, far, &mut file, first, is_shown) {
-        Ok(moment) => Ok((moment, is_whole(&file))),
-        Err(fault) => Err(fault),
-    }
+    let first = first_of(sight.capture)?;
+    let far = far_end_of(rt.alloc(), inputs, script)?;
+    let mut file = file_of(rt, sight.capture)?;
+    let moment = run_rejoined(rt, place, far, &mut file, first, is_shown)?;
+    Ok((moment, is_whole(&file)))
 }
 
 /// Runs the far end of a day by a script, and writes the moment at which the day ended. Answers whether all that was to be
@@ -83,10 +61,7 @@ fn rejoin_files<
     ensures told { IfOk result (IsRejoinDone request.entry H.File.contents (W.contents (device_of output.old)) (W.contents (device_of output.new))) }
     ensures refused { IfErr result (IsRejoinNotDone request.entry H.File.contents W.contents output.old output.new) }
 {
-    let (moment, is_whole) = match run_script(rt, inputs, request, is_shown) {
-        Ok(ran) => ran,
-        Err(fault) => return Err(fault),
-    };
+    let (moment, is_whole) = run_script(rt, inputs, request, is_shown)?;
     match write_ended(output, moment) {
         Ok(()) => Ok(is_whole),
         Err(_) => Err(DayCommandFault::Command(CommandFault::CannotWrite)),
@@ -105,6 +80,11 @@ fn is_shown(sight: Sight<'_>, is_terminal: bool) -> bool
 /// again half a second later. The moment is shown while the day runs, on a terminal alone. A capture that was not written whole
 /// is a refusal, behind all that was told; at any other refusal nothing was written, except that where the output failed a front
 /// of that line was.
+///
+/// What the day needs is opened in this order, and the first fault of it is answered: `Day` or `Capture` for the date and the
+/// zone of the capture; `Command` or `Script` for the script; `CannotWriteFile` for the file of the capture. `Link`, as `Closed`,
+/// is answered where the exchange has not ended the day in 2^64 - 1 connections; `Command`, as `CannotWrite`, where the output
+/// failed; and `CannotWriteFile` for a capture that was not written whole.
 pub fn rejoin_on_files<
     'a,
     H: Files + AllocGlobal + Clock + Eprint + Net<Listener = TcpListener, Stream = TcpStream>,
@@ -121,8 +101,6 @@ pub fn rejoin_on_files<
     ensures refused { IfErr result (IsRejoinRefusal request.entry H.File.contents W.contents output.old output.new) }
 {
     let is_shown = is_shown(request.sight, is_terminal);
-    match rejoin_files(rt, inputs, request, output, is_shown) {
-        Ok(is_whole) => captured(request.sight.capture, is_whole),
-        Err(fault) => Err(fault),
-    }
+    let is_whole = rejoin_files(rt, inputs, request, output, is_shown)?;
+    captured(request.sight.capture, is_whole)
 }

@@ -22,7 +22,8 @@ pub struct Replayed {
     pub sent: Vec<Octets>,
 }
 
-/// The day of a plan over these events, from its opening.
+/// The day of a plan over these events, from its opening. The plan's channels carry its accepted bookings, as those of a
+/// checked plan do. `AllocError` where a growth was refused.
 pub fn replay(alloc: Global, plan: &Plan, events: &[Event<'_>]) -> Result<Replayed, AllocError>
     requires { Carries plan.now.bookings plan.now.channels (is_accepted plan.now.assigned.items) (channel_at plan.now.assigned.items) }
     ensures exchange { IfOk result (λ r. r.exchange ≡ day_after (map event_of events.now) (opening plan.now.bookings plan.now.assigned.items)) }

@@ -1,4 +1,4 @@
-//! Distances in the residual network of a flow along the line, by rounds over all steps.
+//! Distances in the residual network of a flow along the line, by rounds over all steps: Bellman-Ford.
 #![tactic(auto)]
 
 mod circle;

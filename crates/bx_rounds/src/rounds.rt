@@ -7,8 +7,9 @@ use bx_dist::{Carried, Dist, Distances, Part, Potentials, shorten};
 use bx_line::Line;
 use std::alloc::{AllocError, Global};
 
-/// Goes over all steps, those onward in the order of the places and then those back, again and again until none
-/// shortens anything. On a flow that carries nothing, one round does it.
+/// Goes over all steps, those onward in the order of the places and then those back, again and again until none shortens
+/// anything: Bellman-Ford (R. Bellman, On a routing problem, 1958; L. R. Ford, Network flow theory, 1956). On a flow that
+/// carries nothing, one round does it.
 #[derive(Clone, Copy, Debug)]
 pub struct Rounds;
 

@@ -12,7 +12,7 @@ pub fn all_digits(field: &[u8]) -> bool
     field.iter().all(|octet| octet.is_ascii_digit())
 }
 
-/// The value of digits, where it is below `u64::MAX`, and else that.
+/// The value of digits, where it is below `u64::MAX`, and else that. All octets have to be ASCII digits.
 pub fn digits_value(digits: &[u8]) -> u64
     requires { IsTrue (list_all is_ascii_digit digits.now) }
     ensures { result ≡ capped (decimal_value digits.now) }

@@ -14,7 +14,7 @@ use itoa::Buffer;
 /// A line, or its front: no line is as long.
 pub type Line = ArrayVec<u8, 128>;
 
-/// Adds octets.
+/// Adds octets. With them the line has to have at most 128.
 pub fn append(line: &mut Line, octets: &[u8])
     requires { array_vec_len line.old + length octets.now ≤ 128 }
     ensures items { line.new.items ≡ line.old.items ++ octets.now }
@@ -26,7 +26,7 @@ pub fn append(line: &mut Line, octets: &[u8])
     }
 }
 
-/// Adds a field, and what stands behind it.
+/// Adds a field, and what stands behind it. With them the line has to have at most 128 octets.
 pub fn add(line: &mut Line, field: &[u8], stop: u8)
     requires { array_vec_len line.old + length field.now < 128 }
     ensures items { line.new.items ≡ line.old.items ++ (field.now ++ stop ∷ []) }
@@ -36,7 +36,7 @@ pub fn add(line: &mut Line, field: &[u8], stop: u8)
     line.push(stop);
 }
 
-/// Adds a decimal, and what stands behind it.
+/// Adds a decimal, and what stands behind it: at most 21 octets. The line has to have at most 107 before.
 pub fn add_decimal(line: &mut Line, number: u64, stop: u8)
     requires { array_vec_len line.old ≤ 107 }
     ensures items { line.new.items ≡ line.old.items ++ (decimal number ++ stop ∷ []) }
@@ -46,7 +46,7 @@ pub fn add_decimal(line: &mut Line, number: u64, stop: u8)
     add(line, digits.format(number).as_bytes(), stop);
 }
 
-/// A line of a word and a decimal.
+/// A line of a word and a decimal. The word has to have at most 20 octets.
 pub fn named_line(word: &[u8], number: u64) -> Line
     requires { length word.now ≤ 20 }
     ensures { result.items ≡ line_text (named word.now number) }
@@ -74,7 +74,8 @@ fn add_member(line: &mut Line, channels: &ChannelSet, number: u8)
     }
 }
 
-/// Adds the numbers of the channels in the set, in rising order, each with a space before it.
+/// Adds the numbers of the channels in the set, in rising order, each with a space before it: at most 96 octets. The line has to
+/// have at most 31 before.
 pub fn add_members(line: &mut Line, channels: &ChannelSet)
     requires { array_vec_len line.old ≤ 31 }
     ensures items { line.new.items ≡ line.old.items ++ spaced (members_from 0 channels.now) }

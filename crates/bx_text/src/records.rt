@@ -27,7 +27,8 @@ pub fn records_of<R: Read>(alloc: Global, reader: R) -> Reader<R>
         .from_reader(alloc, reader)
 }
 
-/// Reads the next record, and answers whether there is one.
+/// Reads the next record, and answers whether there is one. The reader is one of `records_of` that no read has failed on.
+/// `ReadRefused` where the reader underneath fails, or a growth is refused.
 pub fn read_next<R: Read>(
     records: &mut Reader<R>,
     fields: &mut ByteRecord,

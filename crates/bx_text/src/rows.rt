@@ -108,7 +108,8 @@ fn read_rows<R: Read, F: RowForm>(
     }
 }
 
-/// Reads a header and at most 4,000 rows. The answer is all rows, or the first fault.
+/// Reads a header and at most 4,000 rows from a reader of `records_of` that nothing was read of. The answer is all rows, or the
+/// first fault: `BadHeader`, `Row`, `TooMany`; or `Memory` where a growth is refused or the reader underneath fails.
 pub fn read_records<R: Read, F: RowForm>(
     alloc: Global,
     form: &F,
@@ -119,13 +120,8 @@ pub fn read_records<R: Read, F: RowForm>(
     ensures err { IfErr result (λ e. IfSome (source_of R.remaining records.old) (λ text. IsFirstFault (F.form form.now) text e)) }
 {
     let mut fields = ByteRecord::new(alloc);
-    let columns = match read_header(form, records, &mut fields) {
-        Ok(columns) => columns,
-        Err(fault) => return Err(fault),
-    };
+    let columns = read_header(form, records, &mut fields)?;
     let mut list = F::none(alloc);
-    match read_rows(form, records, &mut fields, columns, &mut list) {
-        Ok(()) => Ok(list),
-        Err(fault) => Err(fault),
-    }
+    read_rows(form, records, &mut fields, columns, &mut list)?;
+    Ok(list)
 }

@@ -11,7 +11,7 @@ use Rattle.bx_frames.specs.Reading.{IsRead}
 use Rattle.bx_turns.specs.Talks.{Talk, with_events, stop}
 use Rattle.bx_turns.specs.Heard.{IsWhole, BreaksOff, IsHeard, IsCutShort, Tells, Goes}
 use Rattle.bx_frames.specs.declared.fault.LinkFault.{LinkFault}
-use Rattle.bx_frames.specs.declared.frame.Side.{Side}
+use Rattle.bx_frames.specs.declared.frame.Receiver.{Receiver}
 use Rattle.bx_frames.proofs.ReadAnswers.{fails_behind, either_first}
 use Rattle.bx_turns.proofs.Events.{after_more, told_more, last_behind}
 
@@ -40,8 +40,8 @@ module _ (finds onward : List ℕ → Talk) (xs : List Event) where
   pub read_on : (text : List ℕ) (left : Option (List ℕ)) (a : IsBeyond finds onward text xs left) (read : List ℕ) (later : Option (List ℕ)) → IsRead a.is_read.rest read later → IsRead text (a.read ++ read) later
   read_on text left a read later b = record { rest = b.rest; splits = a.is_read.splits ∙ ap (λ (l : List ℕ). a.read ++ l) b.splits ∙ sym (append_assoc a.read read b.rest); is_left = b.is_left }
 
-  module _ (side : Side) (text : List ℕ) (ys : List Event) (result : Result Bool LinkFault) (left later : Option (List ℕ)) (a : IsBeyond finds onward text xs left) where
-    pub heard_on : IsHeard side onward a.is_read.rest ys result later → IsHeard side finds text (xs ++ ys) result later
+  module _ (receiver : Receiver) (text : List ℕ) (ys : List Event) (result : Result Bool LinkFault) (left later : Option (List ℕ)) (a : IsBeyond finds onward text xs left) where
+    pub heard_on : IsHeard receiver onward a.is_read.rest ys result later → IsHeard receiver finds text (xs ++ ys) result later
     heard_on (inl whole) =
         let e : finds text ≡ with_events xs (onward a.is_read.rest) = ap finds a.is_read.splits ∙ a.splits a.is_read.rest in
         inl (record {
@@ -73,7 +73,7 @@ module _ (finds onward : List ℕ → Talk) (xs : List Event) where
             cut = cut_on unread.read e unread.cut;
           },
         )) where
-          cut_on : (read : List ℕ) → finds (a.read ++ read) ≡ with_events xs (onward read) → BreaksOff side (onward read).ending ys → BreaksOff side (finds (a.read ++ read)).ending (xs ++ ys)
+          cut_on : (read : List ℕ) → finds (a.read ++ read) ≡ with_events xs (onward read) → BreaksOff receiver (onward read).ending ys → BreaksOff receiver (finds (a.read ++ read)).ending (xs ++ ys)
           cut_on read e (inl cut) = inl (ap (λ (t : Talk). t.ending) e ∙ cut)
           cut_on read e (inr (ended, last, far)) = inr (ap (λ (t : Talk). t.ending) e ∙ ended, last_behind xs ys last, far)
 
@@ -132,10 +132,10 @@ module _ {D R W : Type 0} (next : D → Event → D) (text : D → Event → Lis
   }
 
   -- behind what went well
-  pub then_goes : (side : Side) (result : Result Bool LinkFault) → Goes side next text onward remaining contents r1 r2 w1 w2 d1 d2 ys result → Goes side next text finds remaining contents r r2 w w2 d d2 (xs ++ ys) result
-  then_goes side result p = record {
+  pub then_goes : (receiver : Receiver) (result : Result Bool LinkFault) → Goes receiver next text onward remaining contents r1 r2 w1 w2 d1 d2 ys result → Goes receiver next text finds remaining contents r r2 w w2 d d2 (xs ++ ys) result
+  then_goes receiver result p = record {
     day = day_on p.day;
-    talk = λ known e. let a = before.talk known e in heard_on finds onward xs side known ys result (remaining (device_of r1)) (remaining (device_of r2)) a (p.talk a.is_read.rest a.is_read.is_left);
+    talk = λ known e. let a = before.talk known e in heard_on finds onward xs receiver known ys result (remaining (device_of r1)) (remaining (device_of r2)) a (p.talk a.is_read.rest a.is_read.is_left);
     written = tells_on result p.written;
     faulted = λ e. fails_behind r r1 r2 before.counted (p.faulted e);
     counted = omega (arith, before.counted, p.counted);
@@ -171,8 +171,8 @@ module _ {D R W : Type 0} (next : D → Event → D) (text : D → Event → Lis
         rest = a.is_read.is_left ∙ sym (ap (λ (t : Talk). Some t.rest) e);
       }
 
-  pub all_goes : (side : Side) → SoFar next text finds onward remaining contents r r1 w w1 d d1 xs → Goes side next text finds remaining contents r r1 w w1 d d1 xs (Ok true)
-  all_goes side p = record {
+  pub all_goes : (receiver : Receiver) → SoFar next text finds onward remaining contents r r1 w w1 d d1 xs → Goes receiver next text finds remaining contents r r1 w w1 d d1 xs (Ok true)
+  all_goes receiver p = record {
     day = p.day;
     talk = λ known e. inl (is_whole known (remaining (device_of r1)) (p.talk known e));
     written = record { whole = inr p.written; part = λ e. cc; faulted = λ e. cc; unfaulted = inl p.writer };

@@ -16,7 +16,7 @@ use Rattle.bx_turns.specs.Heard.{IsHeard, Tells, Goes, Went, no_tick}
 use Rattle.bx_frames.specs.declared.fault.LinkFault.{LinkFault}
 use Rattle.bx_frames.specs.declared.fault.LinkFault.TheVariants as link
 use Rattle.bx_frames.specs.declared.fault.LinkFault.TheVariants.{ReadFailed, WrongMoment, EndedInFrame}
-use Rattle.bx_frames.specs.declared.frame.Side.{Side}
+use Rattle.bx_frames.specs.declared.frame.Receiver.{Receiver}
 use Rattle.bx_frames.specs.declared.frame.Frame.{Frame}
 use Rattle.bx_frames.specs.declared.frame.Frame.TheVariants as frames
 use Rattle.bx_frames.proofs.WritingFrames.{done, stopped}
@@ -62,30 +62,30 @@ none_told next text contents w d result other = record { whole = inr (Appends-ni
 
 -- ---- frames of a turn
 
-module _ {D R W : Type 0} (next : D → Event → D) (text : D → Event → List ℕ) (side : Side) (moment room : ℕ) (remaining : R → Option (List ℕ)) (contents : W → Option (List ℕ)) (r r1 : Watched R) (w : Watched W) (d : D) where
+module _ {D R W : Type 0} (next : D → Event → D) (text : D → Event → List ℕ) (receiver : Receiver) (moment room : ℕ) (remaining : R → Option (List ℕ)) (contents : W → Option (List ℕ)) (r r1 : Watched R) (w : Watched W) (d : D) where
   abbrev FindsTurn : List ℕ → Talk
-  FindsTurn = turn_in side moment room
+  FindsTurn = turn_in receiver moment room
 
   -- a message was read
-  module _ (octets : ArrayVec ℕ) (some : 0 < room) (reads : Reads remaining r r1 (message_of octets) (frame_in side room)) where
+  module _ (octets : ArrayVec ℕ) (some : 0 < room) (reads : Reads remaining r r1 (message_of octets) (frame_in receiver room)) where
     abbrev One_message : List Event
     One_message = Receive octets.items ∷ []
 
-    after_message : (known : List ℕ) → remaining (device_of r) ≡ Some known → IsBeyond FindsTurn (turn_in side moment (room - 1)) known One_message (remaining (device_of r1))
+    after_message : (known : List ℕ) → remaining (device_of r) ≡ Some known → IsBeyond FindsTurn (turn_in receiver moment (room - 1)) known One_message (remaining (device_of r1))
     after_message known e =
-        let f = was_found (frame_in side room) known (frames.Message octets) (remaining (device_of r1)) (reads.found known e) in
-        let t = frame_local side room known (frames.Message octets) f.answer in
+        let f = was_found (frame_in receiver room) known (frames.Message octets) (remaining (device_of r1)) (reads.found known e) in
+        let t = frame_local receiver room known (frames.Message octets) f.answer in
         record {
           read = t.read;
-          is_read = record { rest = (frame_in side room known).rest; splits = t.splits; is_left = f.rest };
+          is_read = record { rest = (frame_in receiver room known).rest; splits = t.splits; is_left = f.rest };
           splits = λ more.
-              turn_message side moment (t.read ++ more) room octets some (sym (ap (λ (x : Found Frame). x.answer) (t.onward more)))
-              ∙ ap (λ (x : Found Frame). with_events One_message (turn_in side moment (room - 1) x.rest)) (t.onward more);
+              turn_message receiver moment (t.read ++ more) room octets some (sym (ap (λ (x : Found Frame). x.answer) (t.onward more)))
+              ∙ ap (λ (x : Found Frame). with_events One_message (turn_in receiver moment (room - 1) x.rest)) (t.onward more);
         }
 
     -- and its reply written
     pub message_heard : (w1 : Watched W) (d1 : D) → d1 ≡ next d (Receive octets.items) → Sends contents w w1 done (text d (Receive octets.items))
-        → SoFar next text FindsTurn (turn_in side moment (room - 1)) remaining contents r r1 w w1 d d1 One_message
+        → SoFar next text FindsTurn (turn_in receiver moment (room - 1)) remaining contents r r1 w w1 d d1 One_message
     message_heard w1 d1 step writes = record {
       day = step;
       talk = after_message;
@@ -97,13 +97,13 @@ module _ {D R W : Type 0} (next : D → Event → D) (text : D → Event → Lis
 
     -- or its reply not written whole
     pub reply_failed : (w1 : Watched W) (d1 : D) (f : WriteFailed) → d1 ≡ next d (Receive octets.items) → Sends contents w w1 (stopped f) (text d (Receive octets.items))
-        → Goes side next text FindsTurn remaining contents r r1 w w1 d d1 One_message (faulty link.WriteFailed)
+        → Goes receiver next text FindsTurn remaining contents r r1 w w1 d d1 One_message (faulty link.WriteFailed)
     reply_failed w1 d1 f step writes = record {
       day = step;
       talk = λ known e.
           let b = after_message known e in
           let same : FindsTurn b.read ≡ with_events One_message (stop (Err EndedInFrame) [] []) =
-          ap FindsTurn (sym (append-nil b.read)) ∙ b.splits [] ∙ ap (with_events One_message) (turn_nothing side moment (room - 1)) in
+          ap FindsTurn (sym (append-nil b.read)) ∙ b.splits [] ∙ ap (with_events One_message) (turn_nothing receiver moment (room - 1)) in
           inr (inr (
             refl,
             record {
@@ -121,15 +121,15 @@ module _ {D R W : Type 0} (next : D → Event → D) (text : D → Event → Lis
       unfaulted = inl (not_faulted (frames.Message octets) (is_faulted r1 ≡ is_faulted r) reads.unfaulted);
     }
 
-module _ {D R W : Type 0} {next : D → Event → D} {text : D → Event → List ℕ} {side : Side} (moment room : ℕ) {remaining : R → Option (List ℕ)} {contents : W → Option (List ℕ)} {r r1 : Watched R} {w : Watched W} {d : D} where
+module _ {D R W : Type 0} {next : D → Event → D} {text : D → Event → List ℕ} {receiver : Receiver} (moment room : ℕ) {remaining : R → Option (List ℕ)} {contents : W → Option (List ℕ)} {r r1 : Watched R} {w : Watched W} {d : D} where
   -- another frame was read, and the turn is over
-  stopped_by : (frame : Frame) → Reads remaining r r1 (gave frame) (frame_in side room) → (result : Result Bool LinkFault) (behind : List ℕ → List ℕ)
-      → ((known : List ℕ) → gave frame ≡ (frame_in side room known).answer → turn_in side moment room known ≡ stop result (frame_in side room known).rest (behind known))
-      → (result ≡ Err ReadFailed → ⊥) → (result ≡ Err link.WriteFailed → ⊥) → Goes side next text (turn_in side moment room) remaining contents r r1 w w d d [] result
+  stopped_by : (frame : Frame) → Reads remaining r r1 (gave frame) (frame_in receiver room) → (result : Result Bool LinkFault) (behind : List ℕ → List ℕ)
+      → ((known : List ℕ) → gave frame ≡ (frame_in receiver room known).answer → turn_in receiver moment room known ≡ stop result (frame_in receiver room known).rest (behind known))
+      → (result ≡ Err ReadFailed → ⊥) → (result ≡ Err link.WriteFailed → ⊥) → Goes receiver next text (turn_in receiver moment room) remaining contents r r1 w w d d [] result
   stopped_by frame reads result behind so no_read no_write = record {
     day = refl;
     talk = λ known e.
-        let f = was_found (frame_in side room) known frame (remaining (device_of r1)) (reads.found known e) in
+        let f = was_found (frame_in receiver room) known frame (remaining (device_of r1)) (reads.found known e) in
         let same = so known f.answer in
         inl (record { all = sym (ap (λ (t : Talk). t.events) same); ending = sym (ap (λ (t : Talk). t.ending) same); rest = f.rest ∙ sym (ap (λ (t : Talk). Some t.rest) same) });
     written = none_told next text contents w d result no_write;
@@ -138,17 +138,17 @@ module _ {D R W : Type 0} {next : D → Event → D} {text : D → Event → Lis
     unfaulted = inl (not_faulted frame (is_faulted r1 ≡ is_faulted r) reads.unfaulted);
   }
 
-  pub ended_right : {said : ℕ} → said ≡ moment → Reads remaining r r1 (end_of_turn_of said) (frame_in side room) → Goes side next text (turn_in side moment room) remaining contents r r1 w w d d [] (gave true)
-  ended_right {said} h reads = stopped_by (frames.EndOfTurn said) reads (Ok true) (λ known. (frame_in side room known).rest) (λ known e. turn_right side moment known room said h e) (λ e. cc) (λ e. cc)
+  pub ended_right : {said : ℕ} → said ≡ moment → Reads remaining r r1 (end_of_turn_of said) (frame_in receiver room) → Goes receiver next text (turn_in receiver moment room) remaining contents r r1 w w d d [] (gave true)
+  ended_right {said} h reads = stopped_by (frames.EndOfTurn said) reads (Ok true) (λ known. (frame_in receiver room known).rest) (λ known e. turn_right receiver moment known room said h e) (λ e. cc) (λ e. cc)
 
-  pub ended_wrong : {said : ℕ} → said ≢ moment → Reads remaining r r1 (end_of_turn_of said) (frame_in side room) → Goes side next text (turn_in side moment room) remaining contents r r1 w w d d [] (faulty WrongMoment)
-  ended_wrong {said} h reads = stopped_by (frames.EndOfTurn said) reads (Err WrongMoment) (λ known. known) (λ known e. turn_wrong side moment known room said h e) (λ e. cc) (λ e. cc)
+  pub ended_wrong : {said : ℕ} → said ≢ moment → Reads remaining r r1 (end_of_turn_of said) (frame_in receiver room) → Goes receiver next text (turn_in receiver moment room) remaining contents r r1 w w d d [] (faulty WrongMoment)
+  ended_wrong {said} h reads = stopped_by (frames.EndOfTurn said) reads (Err WrongMoment) (λ known. known) (λ known e. turn_wrong receiver moment known room said h e) (λ e. cc) (λ e. cc)
 
-  pub day_ended : Reads remaining r r1 end_of_day (frame_in side room) → Goes side next text (turn_in side moment room) remaining contents r r1 w w d d [] (gave false)
-  day_ended reads = stopped_by frames.EndOfDay reads (Ok false) (λ known. (frame_in side room known).rest) (λ known e. turn_day side moment known room e) (λ e. cc) (λ e. cc)
+  pub day_ended : Reads remaining r r1 end_of_day (frame_in receiver room) → Goes receiver next text (turn_in receiver moment room) remaining contents r r1 w w d d [] (gave false)
+  day_ended reads = stopped_by frames.EndOfDay reads (Ok false) (λ known. (frame_in receiver room known).rest) (λ known e. turn_day receiver moment known room e) (λ e. cc) (λ e. cc)
 
   -- a fault was found, or a read failed
-  pub frame_fault : {fault : LinkFault} → Reads remaining r r1 (faulty {A = Frame} fault) (frame_in side room) → Goes side next text (turn_in side moment room) remaining contents r r1 w w d d [] (faulty fault)
+  pub frame_fault : {fault : LinkFault} → Reads remaining r r1 (faulty {A = Frame} fault) (frame_in receiver room) → Goes receiver next text (turn_in receiver moment room) remaining contents r r1 w w d d [] (faulty fault)
   frame_fault {fault} reads = record {
     day = refl;
     talk = λ known e. each known (reads.found known e);
@@ -157,13 +157,13 @@ module _ {D R W : Type 0} {next : D → Event → D} {text : D → Event → Lis
     counted = reads.counted;
     unfaulted = either reads.unfaulted;
   } where
-    each : (known : List ℕ) → IsFound (frame_in side room known) (faulty fault) (remaining (device_of r1)) ⊎ ((faulty {A = Frame} fault ≡ Err ReadFailed) × IsCut (frame_in side room) known (remaining (device_of r1)))
-        → IsHeard side (turn_in side moment room) known [] (faulty fault) (remaining (device_of r1))
+    each : (known : List ℕ) → IsFound (frame_in receiver room known) (faulty fault) (remaining (device_of r1)) ⊎ ((faulty {A = Frame} fault ≡ Err ReadFailed) × IsCut (frame_in receiver room) known (remaining (device_of r1)))
+        → IsHeard receiver (turn_in receiver moment room) known [] (faulty fault) (remaining (device_of r1))
     each known (inl f) =
-        let same = turn_fault side moment known room fault f.answer in
+        let same = turn_fault receiver moment known room fault f.answer in
         inl (record { all = sym (ap (λ (t : Talk). t.events) same); ending = sym (ap (λ (t : Talk). t.ending) same); rest = f.rest ∙ sym (ap (λ (t : Talk). Some t.rest) same) })
     each known (inr (e, c)) =
-        let same = turn_fault side moment c.read room EndedInFrame (sym (ap (λ (f : Found Frame). f.answer) c.cut)) in
+        let same = turn_fault receiver moment c.read room EndedInFrame (sym (ap (λ (f : Found Frame). f.answer) c.cut)) in
         inr (inl (same_fault fault ReadFailed e, record { read = c.read; is_read = c.is_read; all = sym (ap (λ (t : Talk). t.events) same); cut = ap (λ (t : Talk). t.ending) same }))
 
     either : (is_faulted r1 ≡ is_faulted r) ⊎ (faulty {A = Frame} fault ≡ Err ReadFailed) → (is_faulted r1 ≡ is_faulted r) ⊎ (faulty {A = Bool} fault ≡ Err ReadFailed)
@@ -175,8 +175,8 @@ module _ {D R W : Type 0} {next : D → Event → D} {text : D → Event → Lis
 pub none_ticked : (xs ys : List Event) → ticks_of xs ≡ 0 → ticks_of ys ≡ 0 → ticks_of (xs ++ ys) ≡ 0
 none_ticked xs ys none still = omega (arith, ticks_more xs ys, none, still)
 
-module _ {D R W : Type 0} {next : D → Event → D} {text : D → Event → List ℕ} (side : Side) (moment room : ℕ) {remaining : R → Option (List ℕ)} {contents : W → Option (List ℕ)} {r r1 r2 : Watched R} {w w1 w2 : Watched W} {d d1 d2 : D} where
-  abbrev pub turn_went : {xs ys : List Event} {result : Result Bool LinkFault} → SoFar next text (turn_in side moment 64) (turn_in side moment room) remaining contents r r1 w w1 d d1 xs → ticks_of xs ≡ 0
-      → Goes side next text (turn_in side moment room) remaining contents r1 r2 w1 w2 d1 d2 ys result → ticks_of ys ≡ 0 → Went side next text (turn_in side moment 64) no_tick remaining contents r r2 w w2 d d2 result
+module _ {D R W : Type 0} {next : D → Event → D} {text : D → Event → List ℕ} (receiver : Receiver) (moment room : ℕ) {remaining : R → Option (List ℕ)} {contents : W → Option (List ℕ)} {r r1 r2 : Watched R} {w w1 w2 : Watched W} {d d1 d2 : D} where
+  abbrev pub turn_went : {xs ys : List Event} {result : Result Bool LinkFault} → SoFar next text (turn_in receiver moment 64) (turn_in receiver moment room) remaining contents r r1 w w1 d d1 xs → ticks_of xs ≡ 0
+      → Goes receiver next text (turn_in receiver moment room) remaining contents r1 r2 w1 w2 d1 d2 ys result → ticks_of ys ≡ 0 → Went receiver next text (turn_in receiver moment 64) no_tick remaining contents r r2 w w2 d d2 result
   turn_went {xs} {ys} {result} so_far none p still =
-      record { events = xs ++ ys; goes = then_goes next text (turn_in side moment 64) (turn_in side moment room) remaining contents r r1 r2 w w1 w2 d d1 d2 xs ys so_far side result p; ticks = none_ticked xs ys none still }
+      record { events = xs ++ ys; goes = then_goes next text (turn_in receiver moment 64) (turn_in receiver moment room) remaining contents r r1 r2 w w1 w2 d d1 d2 xs ys so_far receiver result p; ticks = none_ticked xs ys none still }

@@ -10,7 +10,7 @@ use Rattle.bx_frames.specs.Frames.{is_far}
 use Rattle.bx_frames.specs.Reading.{IsRead, FailsToRead}
 use Rattle.bx_frames.specs.declared.fault.LinkFault.{LinkFault}
 use Rattle.bx_frames.specs.declared.fault.LinkFault.TheVariants.{ReadFailed, WriteFailed, EndedInFrame}
-use Rattle.bx_frames.specs.declared.frame.Side.{Side}
+use Rattle.bx_frames.specs.declared.frame.Receiver.{Receiver}
 
 -- ---- what was heard of a text
 
@@ -28,23 +28,23 @@ pub record IsTorn (finds : List ℕ → Talk) (text : List ℕ) (events : List E
   pub cut : (finds read).ending ≡ Err EndedInFrame
 
 -- octets broke off inside a frame; or they ended with an end of turn, behind which a far end has its tick
-abbrev pub BreaksOff : Side → Result Bool LinkFault → List Event → Type 0
-BreaksOff side ending events = (ending ≡ Err EndedInFrame) ⊎ ((ending ≡ Ok true) × (ticks_last false events ≡ true) × (is_far side ≡ true))
+abbrev pub BreaksOff : Receiver → Result Bool LinkFault → List Event → Type 0
+BreaksOff receiver ending events = (ending ≡ Err EndedInFrame) ⊎ ((ending ≡ Ok true) × (ticks_last false events ≡ true) × (is_far receiver ≡ true))
 
 -- what was read holds just these events, and ends behind the last frame of them: before the next, or behind an end of
 -- turn with whose tick the events of a far end end
-pub record IsUnread (side : Side) (finds : List ℕ → Talk) (text : List ℕ) (events : List Event) (left : Option (List ℕ)) : Type 0 where
+pub record IsUnread (receiver : Receiver) (finds : List ℕ → Talk) (text : List ℕ) (events : List Event) (left : Option (List ℕ)) : Type 0 where
   pub read : List ℕ
   pub is_read : IsRead text read left
   pub all : events ≡ (finds read).events
   pub behind : (finds read).behind ≡ []
   pub rest : (finds read).rest ≡ []
-  pub cut : BreaksOff side (finds read).ending events
+  pub cut : BreaksOff receiver (finds read).ending events
 
 -- all was heard up to the ending; or a read failed inside the frame behind these events; or a write failed, and nothing
 -- was read behind them
-abbrev pub IsHeard : Side → (List ℕ → Talk) → List ℕ → List Event → Result Bool LinkFault → Option (List ℕ) → Type 0
-IsHeard side finds text events result left = IsWhole (finds text) events result left ⊎ (((result ≡ Err ReadFailed) × IsTorn finds text events left) ⊎ ((result ≡ Err WriteFailed) × IsUnread side finds text events left))
+abbrev pub IsHeard : Receiver → (List ℕ → Talk) → List ℕ → List Event → Result Bool LinkFault → Option (List ℕ) → Type 0
+IsHeard receiver finds text events result left = IsWhole (finds text) events result left ⊎ (((result ≡ Err ReadFailed) × IsTorn finds text events left) ⊎ ((result ≡ Err WriteFailed) × IsUnread receiver finds text events left))
 
 -- ---- what was written for events
 
@@ -69,20 +69,20 @@ pub record Tells {D W : Type 0} (next : D → Event → D) (text : D → Event �
 -- ---- both
 
 -- an end has gone through these events, which are what a definition finds in what was read
-pub record Goes {D R W : Type 0} (side : Side) (next : D → Event → D) (text : D → Event → List ℕ) (finds : List ℕ → Talk) (remaining : R → Option (List ℕ)) (contents : W → Option (List ℕ))
+pub record Goes {D R W : Type 0} (receiver : Receiver) (next : D → Event → D) (text : D → Event → List ℕ) (finds : List ℕ → Talk) (remaining : R → Option (List ℕ)) (contents : W → Option (List ℕ))
     (r r' : Watched R) (w w' : Watched W) (d d' : D) (events : List Event) (result : Result Bool LinkFault) : Type 0 where
   pub day : d' ≡ after next events d
-  pub talk : (known : List ℕ) → remaining (device_of r) ≡ Some known → IsHeard side finds known events result (remaining (device_of r'))
+  pub talk : (known : List ℕ) → remaining (device_of r) ≡ Some known → IsHeard receiver finds known events result (remaining (device_of r'))
   pub written : Tells next text contents w w' d events result
   pub faulted : result ≡ Err ReadFailed → FailsToRead r r'
   pub counted : reads_of r ≤ reads_of r'
   pub unfaulted : (is_faulted r' ≡ is_faulted r) ⊎ (result ≡ Err ReadFailed)
 
 -- an end has gone through events with so many ticks among them
-pub record Went {D R W : Type 0} (side : Side) (next : D → Event → D) (text : D → Event → List ℕ) (finds : List ℕ → Talk) (ticking : Result Bool LinkFault → ℕ → Type 0) (remaining : R → Option (List ℕ))
+pub record Went {D R W : Type 0} (receiver : Receiver) (next : D → Event → D) (text : D → Event → List ℕ) (finds : List ℕ → Talk) (ticking : Result Bool LinkFault → ℕ → Type 0) (remaining : R → Option (List ℕ))
     (contents : W → Option (List ℕ)) (r r' : Watched R) (w w' : Watched W) (d d' : D) (result : Result Bool LinkFault) : Type 0 where
   pub events : List Event
-  pub goes : Goes side next text finds remaining contents r r' w w' d d' events result
+  pub goes : Goes receiver next text finds remaining contents r r' w w' d d' events result
   pub ticks : ticking result (ticks_of events)
 
 -- while an end hears, it does not tick

@@ -4,7 +4,7 @@ use Rattle.bx_events.specs.Events.{Event, Receive}
 use Rattle.bx_frames.specs.Frames.{Found, frame_in}
 use Rattle.bx_frames.specs.declared.fault.LinkFault.{LinkFault}
 use Rattle.bx_frames.specs.declared.fault.LinkFault.TheVariants.{MoreThan64Messages, WrongMoment}
-use Rattle.bx_frames.specs.declared.frame.Side.{Side}
+use Rattle.bx_frames.specs.declared.frame.Receiver.{Receiver}
 use Rattle.bx_frames.specs.declared.frame.Frame.{Frame}
 use Rattle.bx_frames.specs.declared.frame.Frame.TheVariants as frames
 
@@ -36,6 +36,6 @@ abbrev pub turn_from : ℕ → (List ℕ → Talk) → List ℕ → Found Frame 
 turn_from moment more text first = turn_by moment more text first.answer first.rest
 
 -- a turn in which so many messages may still come
-unfoldable pub turn_in : Side → ℕ → ℕ → List ℕ → Talk
-turn_in side moment zero text = turn_from moment (λ rest. stop (Err MoreThan64Messages) rest rest) text (frame_in side 0 text)
-turn_in side moment (suc room) text = turn_from moment (turn_in side moment room) text (frame_in side (suc room) text)
+unfoldable pub turn_in : Receiver → ℕ → ℕ → List ℕ → Talk
+turn_in receiver moment zero text = turn_from moment (λ rest. stop (Err MoreThan64Messages) rest rest) text (frame_in receiver 0 text)
+turn_in receiver moment (suc room) text = turn_from moment (turn_in receiver moment room) text (frame_in receiver (suc room) text)

@@ -6,6 +6,7 @@ ghost use Rattle.arrayvec.specs.ArrayVec.{ArrayVec};
 ghost use Rattle.bx_events.specs.Events.{Event, Tick, Receive};
 ghost use Rattle.bx_frames.specs.Frames.{frame_with, turn_frame};
 ghost use Rattle.bx_turns.specs.Courses.{reply_frame, reply_messages};
+ghost use Rattle.bx_events.specs.declared.moment.TheConstants.{LAST_MOMENT};
 
 use arrayvec::ArrayVec;
 use bx_q931::Octets;
@@ -53,15 +54,15 @@ pub trait End<L: Course> {
         ensures kept { result ≡ true → kept self.old (Tick ∷ []) self.new }
         ensures stays { result ≡ false → self.new ≡ self.old };
 
-    /// The moment of its day.
+    /// The moment of its day, 0 to 300,000.
     fn reached(&self) -> u32
         ensures value { result ≡ L.moment_of (day self.now) }
-        ensures limit { result ≤ 300000 };
+        ensures limit { result ≤ LAST_MOMENT };
 
-    /// The moment of the turn in which it hears what comes next.
+    /// The moment of the turn in which it hears what comes next, 0 to 300,000.
     fn turn(&self) -> u32
         ensures value { result ≡ L.turn_of (day self.now) }
-        ensures limit { result ≤ 300000 };
+        ensures limit { result ≤ LAST_MOMENT };
 
     ghost keeps_nothing: { (s : Self) → kept s [] s };
 

@@ -11,7 +11,7 @@ ghost use Rattle.bx_turns.specs.Talks.{turn_in};
 use crate::end::{Course, End};
 use bx_devices::{Watched, WriteFailed};
 use bx_frames::{
-    Frame, LinkFault, Side, read_frame, write_end_of_turn, write_message, write_messages,
+    Frame, LinkFault, Receiver, read_frame, write_end_of_turn, write_message, write_messages,
 };
 use bx_q931::Octets;
 use std::io::{Read, Write};
@@ -31,7 +31,8 @@ fn write_turn<W: Write>(
     write_end_of_turn(writer, moment)
 }
 
-/// The end ticks, and what it sends and the end of the turn are written. A second that is known to be quiet is skipped.
+/// The end ticks, and what it sends and the end of the turn are written. A second that is known to be quiet is skipped. At
+/// `WriteFailed` the tick has happened; a front of these frames was written, but not all of them, and the writer is faulted.
 pub fn write_tick<L: Course, E: End<L>, W: Write>(
     end: &mut E,
     writer: &mut Watched<W>,
@@ -64,33 +65,34 @@ fn answer<L: Course, E: End<L>, W: Write>(
 }
 
 /// Hears the messages of a turn up to its end, and writes each reply before more is read. Answers whether it
-/// ended with an end of turn, which has this moment; else it ended with the end of the day.
+/// ended with an end of turn, which has this moment; else it ended with the end of the day. The first fault is answered:
+/// one of `read_frame`; `WrongMoment` where the end of turn has another moment; `WriteFailed` where a reply was not written
+/// whole. Each message that came whole before it was heard.
 pub fn hear_turn<L: Course, E: End<L>, R: Read, W: Write>(
     end: &mut E,
-    side: Side,
+    receiver: Receiver,
     moment: u32,
     reader: &mut Watched<R>,
     writer: &mut Watched<W>,
 ) -> Result<bool, LinkFault>
-    ensures went { (went : Went side L.next L.text (turn_in side moment 64) no_tick R.remaining W.contents reader.old reader.new writer.old writer.new (E.day end.old) (E.day end.new) result) × E.kept end.old went.events end.new }
-    ensures far { result ≡ Ok false → is_far side ≡ true }
+    ensures went { (went : Went receiver L.next L.text (turn_in receiver moment 64) no_tick R.remaining W.contents reader.old reader.new writer.old writer.new (E.day end.old) (E.day end.new) result) × E.kept end.old went.events end.new }
+    ensures far { result ≡ Ok false → is_far receiver ≡ true }
 {
     let mut room = MAX_MESSAGES;
     loop {
-        match read_frame(reader, side, room) {
-            Ok(Frame::Message(octets)) => match answer(end, &octets, writer) {
+        match read_frame(reader, receiver, room)? {
+            Frame::Message(octets) => match answer(end, &octets, writer) {
                 Ok(()) => room -= 1,
                 Err(_) => return Err(LinkFault::WriteFailed),
             },
-            Ok(Frame::EndOfTurn(said)) => {
+            Frame::EndOfTurn(said) => {
                 return if said == moment {
                     Ok(true)
                 } else {
                     Err(LinkFault::WrongMoment)
                 };
             }
-            Ok(Frame::EndOfDay) => return Ok(false),
-            Err(fault) => return Err(fault),
+            Frame::EndOfDay => return Ok(false),
         }
     }
 }

@@ -9,14 +9,14 @@ use Rattle.bx_q931.specs.declared.channel_field.ChannelField.TheVariants.{Absent
 use Rattle.bx_q931.specs.Outgoing.{Outgoing}
 use Rattle.bx_calls.specs.Said.{Said}
 use Rattle.bx_calls.specs.Hearing.{Heard}
-use Rattle.bx_calls.specs.declared.step.Step.{Step}
-use Rattle.bx_calls.specs.declared.step.Next.{Next}
-use Rattle.bx_calls.specs.declared.step.Next.TheVariants.{Live, Over, Broken}
-use Rattle.bx_calls.specs.declared.unknown_reference.End.{End}
+use Rattle.bx_calls.specs.declared.transition.Transition.{Transition}
+use Rattle.bx_calls.specs.declared.transition.Next.{Next}
+use Rattle.bx_calls.specs.declared.transition.Next.TheVariants.{Live, Over, Broken}
+use Rattle.bx_calls.specs.declared.unknown_reference.Side.{Side}
 use Rattle.bx_calls.specs.PlainCalls.{PlainNetCall}
 use Rattle.bx_calls.specs.NetTable.{net_flag, net_message}
 use Rattle.bx_calls.specs.UnknownTable.{unknown_row, unknown_status}
-use Rattle.bx_calls.specs.declared.unknown_reference.End.TheVariants.{Network}
+use Rattle.bx_calls.specs.declared.unknown_reference.Side.TheVariants.{Network}
 use Rattle.bx_day.specs.declared.entry.Activity.{Activity}
 use Rattle.bx_day.specs.declared.entry.Entry.{Entry}
 use Rattle.bx_day.specs.declared.entry.Moved.{Moved}
@@ -173,7 +173,7 @@ follow_eq a t said Broken = refl
 heard_one : (assigned : List (Option ℕ)) (sent far_sent : List Outgoing) (t i : ℕ) (o : Outgoing) (e : Entry) (s : Standing) → names_call (said_from o) s ≡ true → (is_refused s ≡ false → Seat assigned i e) → EntryFits t (with_standing e s) → OutwardStanding (suc i) sent far_sent s → IsIn far_sent o
     → OneMoved sent far_sent i s (hears (said_from o) t s)
 heard_one assigned sent far_sent t i o e (OnCall c a) named seat fits outward is_in =
-    let step : Step PlainNetCall = net_message c (said_from o).heard t in
+    let step : Transition PlainNetCall = net_message c (said_from o).heard t in
     let p = and_parts (c.reference == o.reference) (bool_eq (net_flag c.origin) (not o.flag)) named in
     let row : net_flag c.origin ≡ false → c.reference ≡ suc i = λ f. outward_row e.row e.booking c.reference c.origin fits.origin f ∙ (seat refl).row in
     let said : OfSaid (λ x. x.flag ≡ false → (x.reference ≡ suc i) × Known sent x) step.reply = said_both (OfCall c.reference c.origin) (λ x. is_plain x.kind ≡ true) (λ x. x.flag ≡ false → (x.reference ≡ suc i) × Known sent x)
@@ -208,16 +208,16 @@ pub record Unknown (r : ℕ) (f : Bool) (o : Outgoing) : Type 0 where
   pub other : is_setup_kind o.kind ≡ false
   pub no_connect : is_connect_kind o.kind ≡ false
 
-status_says : (end : End) (r : ℕ) (f : Bool) (state : Option ℕ) → OfSaid (Unknown r f) (unknown_status end r f state)
-status_says end r f None = tt
-status_says end r f (Some state) = by_cases (state == 0) _ _ (λ (o : Option Outgoing). OfSaid (Unknown r f) o) (λ _. tt) (λ _. record { reference = refl; flag = refl; other = refl; no_connect = refl })
+status_says : (side : Side) (r : ℕ) (f : Bool) (state : Option ℕ) → OfSaid (Unknown r f) (unknown_status side r f state)
+status_says side r f None = tt
+status_says side r f (Some state) = by_cases (state == 0) _ _ (λ (o : Option Outgoing). OfSaid (Unknown r f) o) (λ _. tt) (λ _. record { reference = refl; flag = refl; other = refl; no_connect = refl })
 
-pub unknown_says : (end : End) (r : ℕ) (f : Bool) (m : Heard) (k : Kind) → OfSaid (Unknown r f) (unknown_row end r f m k)
-unknown_says end r f m ReleaseComplete = tt
-unknown_says end r f m Status = status_says end r f m.state
-unknown_says end r f m Setup = tt
-unknown_says end r f m StatusEnquiry = record { reference = refl; flag = refl; other = refl; no_connect = refl }
-unknown_says end r f m k = record { reference = refl; flag = refl; other = refl; no_connect = refl }
+pub unknown_says : (side : Side) (r : ℕ) (f : Bool) (m : Heard) (k : Kind) → OfSaid (Unknown r f) (unknown_row side r f m k)
+unknown_says side r f m ReleaseComplete = tt
+unknown_says side r f m Status = status_says side r f m.state
+unknown_says side r f m Setup = tt
+unknown_says side r f m StatusEnquiry = record { reference = refl; flag = refl; other = refl; no_connect = refl }
+unknown_says side r f m k = record { reference = refl; flag = refl; other = refl; no_connect = refl }
 
 index_none : (test : Entry → Bool) → test no_entry ≡ false → (es : List Entry) → index_of test es ≡ None → (j : ℕ) → test (entry_at es j) ≡ false
 index_none test n [] q j = n

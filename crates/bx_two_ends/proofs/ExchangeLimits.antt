@@ -10,10 +10,10 @@ use Rattle.bx_q931.specs.Outgoing.{Outgoing, IsCallReference}
 use Rattle.bx_calls.specs.PlainCalls.{PlainNetCall}
 use Rattle.bx_calls.specs.NetTable.{net_second, net_message}
 use Rattle.bx_calls.specs.declared.net_state.NetState.{NetState}
-use Rattle.bx_calls.specs.declared.step.Step.{Step}
-use Rattle.bx_calls.specs.declared.step.Next.{Next}
-use Rattle.bx_calls.specs.declared.step.Next.TheVariants.{Live, Over, Broken}
-use Rattle.bx_calls.specs.declared.unknown_reference.End.TheVariants.{Network}
+use Rattle.bx_calls.specs.declared.transition.Transition.{Transition}
+use Rattle.bx_calls.specs.declared.transition.Next.{Next}
+use Rattle.bx_calls.specs.declared.transition.Next.TheVariants.{Live, Over, Broken}
+use Rattle.bx_calls.specs.declared.unknown_reference.Side.TheVariants.{Network}
 use Rattle.bx_day.specs.declared.entry.Activity.{Activity}
 use Rattle.bx_day.specs.declared.entry.Activity.TheVariants.{Never, Since, Was}
 use Rattle.bx_day.specs.declared.entry.Entry.{Entry}
@@ -74,7 +74,7 @@ pub second_within : (assigned : List (Option ℕ)) (i t : ℕ) (e : Entry) (free
 second_within assigned i t e free Refused seat h = record { said = tt; standing = tt }
 second_within assigned i t e free Unoffered seat h = waits_within assigned i t e free (seat refl)
 second_within assigned i t e free (OnCall c a) seat h =
-    let step : Step PlainNetCall = net_second c t e.booking.end in
+    let step : Transition PlainNetCall = net_second c t e.booking.end in
     record {
       said = follow_said Sendable a t step.reply step.next (second_ok c.reference c.channel c.origin t e.booking.end c.state h.reference h.channel h.number);
       standing = follow_within c c.state false a t step.reply step.reply step.next (second_goes c.reference c.channel c.origin t e.booking.end c.state) h;
@@ -106,7 +106,7 @@ moved_ok d i m h k = record { reply = k.said; lims = λ n. set_at (λ e. Standin
 
 hears_ok : (o : Outgoing) (t : ℕ) (s : Standing) → StandingWithin s → MovedOk (hears (said_from o) t s)
 hears_ok o t (OnCall c a) h =
-    let step : Step PlainNetCall = net_message c (said_from o).heard t in
+    let step : Transition PlainNetCall = net_message c (said_from o).heard t in
     record {
       said = follow_said Sendable a t step.reply step.next (row_ok c.reference c.channel c.origin t (said_from o).heard c.state o.kind h.reference);
       standing = follow_within c c.state (is_connect_kind o.kind) a t step.reply step.reply step.next (row_goes c.reference c.channel c.origin t (said_from o).heard c.state o.kind) h;

@@ -9,9 +9,9 @@ use Rattle.bx_base.specs.Plans.{channel_at}
 use Rattle.bx_q931.specs.declared.kind.Kind.{Kind}
 use Rattle.bx_q931.specs.declared.kind.Kind.TheVariants.{Setup}
 use Rattle.bx_q931.specs.Outgoing.{Outgoing}
-use Rattle.bx_calls.specs.declared.step.Step.{Step}
-use Rattle.bx_calls.specs.declared.step.Next.{Next}
-use Rattle.bx_calls.specs.declared.step.Next.TheVariants.{Live, Over, Broken}
+use Rattle.bx_calls.specs.declared.transition.Transition.{Transition}
+use Rattle.bx_calls.specs.declared.transition.Next.{Next}
+use Rattle.bx_calls.specs.declared.transition.Next.TheVariants.{Live, Over, Broken}
 use Rattle.bx_calls.specs.PlainCalls.{PlainNetCall}
 use Rattle.bx_calls.specs.declared.net_state.NetOrigin.{NetOrigin}
 use Rattle.bx_calls.specs.declared.net_state.NetOrigin.TheVariants.{Outward, Inward}
@@ -89,7 +89,7 @@ TickSaysOf assigned sent i m = OfSaid (TickSays assigned sent i m.standing) m.sa
 call_says : (assigned : List (Option ℕ)) (sent far_sent : List Outgoing) (i t : ℕ) (e : Entry) (c : PlainNetCall) (a : Activity) → Seat assigned i e → CallFits t e c a → OutwardStanding (suc i) sent far_sent (OnCall c a)
     → TickSaysOf assigned sent i (second_at e (t + 1) true (OnCall c a))
 call_says assigned sent far_sent i t e c a seat fits outward =
-    let step : Step PlainNetCall = net_second c (t + 1) e.booking.end in
+    let step : Transition PlainNetCall = net_second c (t + 1) e.booking.end in
     let after : Standing = (follow a (t + 1) step.reply step.next).standing in
     follow_said (TickSays assigned sent i after) a (t + 1) step.reply step.next
     (said_both (Speaks c.reference c.channel c.origin) (λ o. is_calm after ≡ true → Mild o) (TickSays assigned sent i after)
@@ -328,7 +328,7 @@ entry_outward : (assigned : List (Option ℕ)) (i t : ℕ) (sent more far_sent :
 entry_outward assigned i t sent more far_sent e free Refused seat clean outward said calm = tt
 entry_outward assigned i t sent more far_sent e free Unoffered seat clean outward said calm = waits_outward assigned i t sent more far_sent e free (seat refl) (clean refl) said calm
 entry_outward assigned i t sent more far_sent e free (OnCall c a) seat clean outward said calm =
-    let step : Step PlainNetCall = net_second c t e.booking.end in
+    let step : Transition PlainNetCall = net_second c t e.booking.end in
     goes_outward i sent more far_sent c false a t step.reply step.reply step.next (second_goes c.reference c.channel c.origin t e.booking.end c.state) outward (λ _ k. absurd (false≢true k)) (λ q _. calm q)
 entry_outward assigned i t sent more far_sent e free (Carried from until) seat clean outward said calm = tt
 entry_outward assigned i t sent more far_sent e free Unanswered seat clean outward said calm = tt

@@ -11,10 +11,10 @@ use Rattle.bx_q931.specs.Parts.{channel_part}
 use Rattle.bx_calls.specs.PlainCalls.{PlainUserCall}
 use Rattle.bx_calls.specs.UserTable.{user_flag, user_message, user_offered}
 use Rattle.bx_calls.specs.UnknownTable.{unknown_row}
-use Rattle.bx_calls.specs.declared.unknown_reference.End.TheVariants.{User}
-use Rattle.bx_calls.specs.declared.step.Step.{Step}
-use Rattle.bx_calls.specs.declared.step.Next.{Next}
-use Rattle.bx_calls.specs.declared.step.Next.TheVariants.{Live, Over, Broken}
+use Rattle.bx_calls.specs.declared.unknown_reference.Side.TheVariants.{User}
+use Rattle.bx_calls.specs.declared.transition.Transition.{Transition}
+use Rattle.bx_calls.specs.declared.transition.Next.{Next}
+use Rattle.bx_calls.specs.declared.transition.Next.TheVariants.{Live, Over, Broken}
 use Rattle.bx_calls.specs.declared.user_state.Policy.{Policy}
 use Rattle.bx_calls.specs.declared.user_state.Policy.TheVariants.{Answer, Busy, Silent, Alert, Proceed, Clear}
 use Rattle.bx_calls.specs.declared.user_state.UserOrigin.{UserOrigin}
@@ -115,12 +115,12 @@ settle_size c Over ms = refl
 settle_size c Broken ms = length-set ms c true
 
 -- what is known of a step of a call of the far end; ack and cleared say what came
-pub record CallStep (sent : List Outgoing) (call : PlainUserCall) (ack cleared : Bool) (step : Step PlainUserCall) : Type 0 where
+pub record CallStep (sent : List Outgoing) (call : PlainUserCall) (ack cleared : Bool) (step : Transition PlainUserCall) : Type 0 where
   pub moves : Moves call.reference call.channel call.origin call.state ack cleared step.next
   pub acked : user_flag call.origin ≡ true → ack ≡ true → list_any (acknowledges call.reference) sent ≡ true
   pub over : user_flag call.origin ≡ true → cleared ≡ true → list_any (clears call.reference) sent ≡ true
 
-pub after_call : (assigned : List (Option ℕ)) (sent : List Outgoing) (call : PlainUserCall) (ack cleared : Bool) (step : Step PlainUserCall) → CallStep sent call ack cleared step → (user_flag call.origin ≡ true → OfferedCall assigned sent call) → (n : Next PlainUserCall) → Moves call.reference call.channel call.origin call.state ack cleared n → OnLive (λ c. user_flag c.origin ≡ true → OfferedCall assigned sent c) n
+pub after_call : (assigned : List (Option ℕ)) (sent : List Outgoing) (call : PlainUserCall) (ack cleared : Bool) (step : Transition PlainUserCall) → CallStep sent call ack cleared step → (user_flag call.origin ≡ true → OfferedCall assigned sent call) → (n : Next PlainUserCall) → Moves call.reference call.channel call.origin call.state ack cleared n → OnLive (λ c. user_flag c.origin ≡ true → OfferedCall assigned sent c) n
 after_call assigned sent call ack cleared step s old (Live c) g = λ f.
     let f' : user_flag call.origin ≡ true = ap user_flag (sym g.origin) ∙ f in
     let h = old f' in
@@ -148,7 +148,7 @@ placed r ch o st ack cleared on Over g = tt
 placed r ch o st ack cleared on Broken g = tt
 
 -- what is held stays, or goes into maintenance, or was cleared
-pub still : (assigned : List (Option ℕ)) (sent : List Outgoing) (f' : FarDay) (r : ℕ) (call : PlainUserCall) (ack cleared : Bool) (step : Step PlainUserCall) → CallStep sent call ack cleared step → (user_flag call.origin ≡ true → OfferedCall assigned sent call)
+pub still : (assigned : List (Option ℕ)) (sent : List Outgoing) (f' : FarDay) (r : ℕ) (call : PlainUserCall) (ack cleared : Bool) (step : Transition PlainUserCall) → CallStep sent call ack cleared step → (user_flag call.origin ≡ true → OfferedCall assigned sent call)
     → (n : Next PlainUserCall) → Moves call.reference call.channel call.origin call.state ack cleared n → (n ≡ Broken → IsChannel call.channel → is_set f'.maintenance call.channel ≡ true)
     → offered_as r (channel_at assigned (r - 1)) call ≡ true → (next_passes (offered_as r (channel_at assigned (r - 1))) n ≡ true) ⊎ Kept assigned sent f' r
 still assigned sent f' r call ack cleared step s old (Live c) g broken h = inl (
@@ -181,7 +181,7 @@ abbrev pub is_broken : Next PlainUserCall → Bool
 is_broken Broken = true
 is_broken _ = false
 
-follow_keeps : (assigned : List (Option ℕ)) (sent far_sent : List Outgoing) (f : FarDay) (test : PlainUserCall → Bool) (call : PlainUserCall) (ack cleared : Bool) (step : Step PlainUserCall) → FarBefore assigned sent far_sent f → first_call test f.calls ≡ Some call
+follow_keeps : (assigned : List (Option ℕ)) (sent far_sent : List Outgoing) (f : FarDay) (test : PlainUserCall → Bool) (call : PlainUserCall) (ack cleared : Bool) (step : Transition PlainUserCall) → FarBefore assigned sent far_sent f → first_call test f.calls ≡ Some call
     → CallStep sent call ack cleared step → OfSaid (λ o. (o.reference ≡ call.reference) × (o.flag ≡ user_flag call.origin)) step.reply → FarKeeps assigned sent far_sent f (far_follow f call.channel step)
 follow_keeps assigned sent far_sent f test call ack cleared step b first s speaks =
     let f' : FarDay = (far_follow f call.channel step).day in

@@ -13,10 +13,10 @@ use Rattle.bx_calls.specs.Saying.{setup_of}
 use Rattle.bx_calls.specs.UserTable.{user_second, user_message, user_calling, user_offered}
 use Rattle.bx_calls.specs.declared.user_state.Policy.{Policy}
 use Rattle.bx_calls.specs.declared.user_state.Policy.TheVariants.{Answer, Busy, Silent, Alert, Proceed, Clear}
-use Rattle.bx_calls.specs.declared.step.Step.{Step}
-use Rattle.bx_calls.specs.declared.step.Next.{Next}
-use Rattle.bx_calls.specs.declared.step.Next.TheVariants.{Live, Over, Broken}
-use Rattle.bx_calls.specs.declared.unknown_reference.End.TheVariants.{User}
+use Rattle.bx_calls.specs.declared.transition.Transition.{Transition}
+use Rattle.bx_calls.specs.declared.transition.Next.{Next}
+use Rattle.bx_calls.specs.declared.transition.Next.TheVariants.{Live, Over, Broken}
+use Rattle.bx_calls.specs.declared.unknown_reference.Side.TheVariants.{User}
 use Rattle.bx_day.proofs.Said.{OfSaid}
 use Rattle.bx_calls.specs.Shared.{is_set}
 use Rattle.bx_far.specs.FarDay.{FarDay, Begun, begin_row, begin_rows, far_begun, far_ticked, far_tick, second_calls, second_said, with_held, no_messages, far_follow, far_takes, far_called_on, far_called, far_stray, far_received_by, far_receive, far_names, first_call, is_taken}
@@ -112,7 +112,7 @@ with_calls f cs ms h k = record { calls = k; first = h.first; room = h.room }
 heard_ok : (f : FarDay) (o : Outgoing) (call : PlainUserCall) → FarWithin f → first_call (far_names (said_from o)) f.calls ≡ Some call → FarAnswerOk (far_follow f call.channel (user_message call (said_from o).heard f.moment))
 heard_ok f o call h first =
     let l : UserCallWithin call = (first_found UserCallWithin (far_names (said_from o)) f.calls call first h.calls).1 in
-    let step : Step PlainUserCall = user_message call (said_from o).heard f.moment in
+    let step : Transition PlainUserCall = user_message call (said_from o).heard f.moment in
     record {
       reply = user_row_ok call.reference call.channel call.origin f.moment (said_from o).heard call.state o.kind l.reference;
       lims = with_calls f _ _ h (settle_all UserCallWithin call.channel step.next f.calls (live_within call (is_acknowledge o.kind) (clears_as o.kind o.state) step.next (row_moves call.reference call.channel call.origin f.moment (said_from o).heard call.state o.kind) l) h.calls);

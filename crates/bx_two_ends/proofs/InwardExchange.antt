@@ -11,10 +11,10 @@ use Rattle.bx_q931.specs.Parts.{channel_part}
 use Rattle.bx_calls.specs.PlainCalls.{PlainNetCall}
 use Rattle.bx_calls.specs.NetTable.{net_flag, net_second, net_unlinked, net_message}
 use Rattle.bx_calls.specs.UnknownTable.{unknown_row, refusal_of}
-use Rattle.bx_calls.specs.declared.step.Step.{Step}
-use Rattle.bx_calls.specs.declared.step.Next.{Next}
-use Rattle.bx_calls.specs.declared.step.Next.TheVariants.{Live, Over, Broken}
-use Rattle.bx_calls.specs.declared.unknown_reference.End.TheVariants.{Network}
+use Rattle.bx_calls.specs.declared.transition.Transition.{Transition}
+use Rattle.bx_calls.specs.declared.transition.Next.{Next}
+use Rattle.bx_calls.specs.declared.transition.Next.TheVariants.{Live, Over, Broken}
+use Rattle.bx_calls.specs.declared.unknown_reference.Side.TheVariants.{Network}
 use Rattle.bx_day.specs.declared.entry.Activity.{Activity}
 use Rattle.bx_day.specs.declared.entry.Activity.TheVariants.{Never, Since, Was}
 use Rattle.bx_day.specs.declared.entry.Entry.{Entry}
@@ -138,7 +138,7 @@ second_moved : (named : ℕ → ℕ) (next : ℕ) (far_sent : List Outgoing) (e 
 second_moved named next far_sent e t free Refused h on = record { taken = tt; said = tt; kept = λ r k. absurd (false≢true k) }
 second_moved named next far_sent e t free Unoffered h on = waits_moves named next far_sent e t free
 second_moved named next far_sent e t free (OnCall c a) h on =
-    let step : Step PlainNetCall = net_second c t e.booking.end in
+    let step : Transition PlainNetCall = net_second c t e.booking.end in
     call_moves named next far_sent e.channel c a t false true step.reply step.next h on (net_second_moves c.reference c.channel c.origin t e.booking.end c.state) (λ _ k. absurd (false≢true k))
     (said_map (Speaks c.reference c.channel c.origin) (OfCall c.reference c.origin) (λ o s. (s.reference, s.flag)) step.reply (second_speaks c.reference c.channel c.origin t e.booking.end c.state))
 second_moved named next far_sent e t free (Carried from until) h on = record { taken = tt; said = tt; kept = λ r k. absurd (false≢true k) }
@@ -256,7 +256,7 @@ ticked_takes named next sent far_sent d b =
 -- and a second without a link, in which nothing is sent
 unlinked_moved : (named : ℕ → ℕ) (next : ℕ) (far_sent : List Outgoing) (e : Entry) (t : ℕ) (s : Standing) → TakenStanding named next s → PlacedAt e s → StandingMoves named next far_sent e.channel s (unlinked_at e t s)
 unlinked_moved named next far_sent e t (OnCall c a) h on =
-    let step : Step PlainNetCall = net_unlinked 1 c t e.booking.end in
+    let step : Transition PlainNetCall = net_unlinked 1 c t e.booking.end in
     call_moves named next far_sent e.channel c a t false true step.reply step.next h on (net_unlinked_moves c.reference c.channel c.origin t e.booking.end c.state) (λ _ k. absurd (false≢true k)) (unlinked_says (OfCall c.reference c.origin) c t e.booking.end)
 unlinked_moved named next far_sent e t Refused h on = second_moved named next far_sent e t false Refused h on
 unlinked_moved named next far_sent e t Unoffered h on = second_moved named next far_sent e t false Unoffered h on
@@ -340,7 +340,7 @@ flags_meet false f h q = absurd (false≢true q)
 
 heard_moves : (named : ℕ → ℕ) (next : ℕ) (far_sent : List Outgoing) (t : ℕ) (o : Outgoing) (e : Entry) (s : Standing) → names_call (said_from o) s ≡ true → IsIn far_sent o → TakenStanding named next s → PlacedAt e s → StandingMoves named next far_sent e.channel s (hears (said_from o) t s)
 heard_moves named next far_sent t o e (OnCall c a) named_by is_in h on =
-    let step : Step PlainNetCall = net_message c (said_from o).heard t in
+    let step : Transition PlainNetCall = net_message c (said_from o).heard t in
     let p = and_parts (c.reference == o.reference) (bool_eq (net_flag c.origin) (not o.flag)) named_by in
     call_moves named next far_sent e.channel c a t (clears_as o.kind o.state) false step.reply step.next h on (net_row_moves c.reference c.channel c.origin t (said_from o).heard c.state o.kind)
     (λ f k. is_in (clears c.reference) (and_from (from_beginner c.reference o) (clears_as o.kind o.state) (is_from_beginner c.reference o (sym (eqb-true c.reference o.reference p.0)) (flags_meet (net_flag c.origin) o.flag p.1 f)) k))

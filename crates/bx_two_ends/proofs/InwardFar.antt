@@ -10,10 +10,10 @@ use Rattle.bx_q931.specs.Outgoing.{Outgoing}
 use Rattle.bx_calls.specs.PlainCalls.{PlainUserCall}
 use Rattle.bx_calls.specs.UserTable.{user_flag, user_message, user_offered}
 use Rattle.bx_calls.specs.UnknownTable.{unknown_row, refusal_of}
-use Rattle.bx_calls.specs.declared.unknown_reference.End.TheVariants.{User}
-use Rattle.bx_calls.specs.declared.step.Step.{Step}
-use Rattle.bx_calls.specs.declared.step.Next.{Next}
-use Rattle.bx_calls.specs.declared.step.Next.TheVariants.{Live, Over, Broken}
+use Rattle.bx_calls.specs.declared.unknown_reference.Side.TheVariants.{User}
+use Rattle.bx_calls.specs.declared.transition.Transition.{Transition}
+use Rattle.bx_calls.specs.declared.transition.Next.{Next}
+use Rattle.bx_calls.specs.declared.transition.Next.TheVariants.{Live, Over, Broken}
 use Rattle.bx_calls.specs.declared.user_state.Policy.{Policy}
 use Rattle.bx_calls.specs.declared.user_state.Policy.TheVariants.{Answer, Busy, Silent, Alert, Proceed, Clear}
 use Rattle.bx_calls.specs.Sending.{reply_list, Answered, unchanged}
@@ -148,7 +148,7 @@ flags_meet false false h q = absurd (false≢true h)
 heard_inward : (named : ℕ → ℕ) (sent far_sent : List Outgoing) (f : FarDay) (o : Outgoing) (call : PlainUserCall) → InwardSents named f.next far_sent → InwardCalls named f.next sent far_sent f.calls → AreOnTheirOwn f.calls → first_call (far_names (said_from o)) f.calls ≡ Some call → IsIn sent o
     → InwardAfter named f.next sent far_sent (far_follow f call.channel (user_message call (said_from o).heard f.moment))
 heard_inward named sent far_sent f o call sents calls apart first is_in =
-    let step : Step PlainUserCall = user_message call (said_from o).heard f.moment in
+    let step : Transition PlainUserCall = user_message call (said_from o).heard f.moment in
     let found = first_found (Own named f.next sent far_sent) (far_names (said_from o)) f.calls call first calls in
     let p = and_parts (call.reference == o.reference) (bool_eq (user_flag call.origin) (not o.flag)) found.0 in
     let moves = own_row call.reference call.channel call.origin f.moment (said_from o).heard call.state o.kind in

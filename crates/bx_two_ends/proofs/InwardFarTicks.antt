@@ -6,9 +6,9 @@ use Rattle.bx_q931.specs.Outgoing.{Outgoing}
 use Rattle.bx_calls.specs.PlainCalls.{PlainUserCall}
 use Rattle.bx_calls.specs.UserTable.{user_flag, user_second, user_calling}
 use Rattle.bx_calls.specs.Saying.{setup_of}
-use Rattle.bx_calls.specs.declared.step.Step.{Step}
-use Rattle.bx_calls.specs.declared.step.Next.{Next}
-use Rattle.bx_calls.specs.declared.step.Next.TheVariants.{Live, Over, Broken}
+use Rattle.bx_calls.specs.declared.transition.Transition.{Transition}
+use Rattle.bx_calls.specs.declared.transition.Next.{Next}
+use Rattle.bx_calls.specs.declared.transition.Next.TheVariants.{Live, Over, Broken}
 use Rattle.bx_calls.specs.declared.user_state.UserOrigin.{UserOrigin}
 use Rattle.bx_calls.specs.declared.user_state.UserOrigin.TheVariants.{Offered, Calling}
 use Rattle.bx_calls.specs.declared.user_state.UserState.{UserState}
@@ -75,7 +75,7 @@ IsNew named first next t cs o = o.flag ≡ false → NewSent named first next t 
 -- what one of these calls says
 own_says : (named : ℕ → ℕ) (next t : ℕ) (sent far_sent : List Outgoing) (cs : List PlainUserCall) → InwardCalls named next sent far_sent cs → (c : PlainUserCall) → user_flag c.origin ≡ false → InwardCall named next sent far_sent c → OnlyOne c cs → OfSaid (IsNew named next next t cs) (user_second c t).reply
 own_says named next t sent far_sent cs calls c u own only =
-    let step : Step PlainUserCall = user_second c t in
+    let step : Transition PlainUserCall = user_second c t in
     said_both (OwnSpeaks c.reference c.channel c.origin) (λ o. stays_calm step.next ≡ true → Mild o) (IsNew named next next t cs)
     (λ o s calm f.
     let given : o.reference < next = subst (λ r. r < next) (sym s.reference) own.given in
@@ -217,7 +217,7 @@ pub record TickedInward (before : ℕ → ℕ) (next : ℕ) (sent far_sent more 
 -- a call that was live before the tick
 old_after : (named : ℕ → ℕ) (next t : ℕ) (sent far_sent more : List Outgoing) (c : PlainUserCall) → Own named next sent far_sent c → Spared t more c → OnLive (Own named next sent (far_sent ++ more)) (user_second c t).next
 old_after named next t sent far_sent more c own quiet =
-    let step : Step PlainUserCall = user_second c t in
+    let step : Transition PlainUserCall = user_second c t in
     by_origin (OnLive (Own named next sent (far_sent ++ more)) step.next) (user_flag c.origin)
     (λ u. own_after named next sent far_sent more c false step.reply step.next own (own_tick c.reference c.channel t c.origin c.state u) (λ _ k. absurd (false≢true k)) quiet)
     (λ u. offered_after (InwardCall named next sent (far_sent ++ more)) c.reference c.channel c.origin c.state false false step.next (second_moves c.reference c.channel c.origin t c.state) u)

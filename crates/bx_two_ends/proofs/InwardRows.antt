@@ -4,9 +4,9 @@ use Rattle.std.proofs.lemmas.Bool.{false≢true, or_left}
 use Rattle.bx_q931.specs.declared.kind.Kind.{Kind}
 use Rattle.bx_q931.specs.declared.kind.Kind.TheVariants.{Alerting, CallProceeding, Progress, Setup, Connect, ConnectAcknowledge, Disconnect, Release, ReleaseComplete, Notify, StatusEnquiry, Information, Status, Other}
 use Rattle.bx_q931.specs.Outgoing.{Outgoing}
-use Rattle.bx_calls.specs.declared.step.Step.{Step}
-use Rattle.bx_calls.specs.declared.step.Next.{Next}
-use Rattle.bx_calls.specs.declared.step.Next.TheVariants.{Live, Over, Broken}
+use Rattle.bx_calls.specs.declared.transition.Transition.{Transition}
+use Rattle.bx_calls.specs.declared.transition.Next.{Next}
+use Rattle.bx_calls.specs.declared.transition.Next.TheVariants.{Live, Over, Broken}
 use Rattle.bx_calls.specs.PlainCalls.{PlainNetCall, PlainUserCall}
 use Rattle.bx_calls.specs.declared.net_state.NetOrigin.{NetOrigin}
 use Rattle.bx_calls.specs.declared.net_state.NetOrigin.TheVariants.{Outward, Inward}
@@ -47,7 +47,7 @@ NetMoves r ch o s cleared ticks (Live c) = NetGoes r ch o s c
 NetMoves r ch o s cleared ticks Over = (cleared || is_presented s) ≡ true
 NetMoves r ch o s cleared ticks Broken = ticks ≡ true
 
-abbrev NetMovesBy : ℕ → ℕ → NetOrigin → NetState → Bool → Bool → Step PlainNetCall → Type 0
+abbrev NetMovesBy : ℕ → ℕ → NetOrigin → NetState → Bool → Bool → Transition PlainNetCall → Type 0
 NetMovesBy r ch o s cleared ticks step = NetMoves r ch o s cleared ticks step.next
 
 stays : (r ch : ℕ) (o : NetOrigin) (s : NetState) → NetGoes r ch o s (call_of r ch o s)
@@ -56,7 +56,7 @@ stays r ch o s = record { reference = refl; channel = refl; origin = refl; prese
 leads : (r ch : ℕ) (o : NetOrigin) (s s' : NetState) → is_presented s' ≡ false → NetGoes r ch o s (call_of r ch o s')
 leads r ch o s s' h = record { reference = refl; channel = refl; origin = refl; presented = λ q. absurd (false≢true (sym h ∙ q)) }
 
-abbrev NetRowMoves : ℕ → ℕ → NetOrigin → NetState → Heard → Kind → Step PlainNetCall → Type 0
+abbrev NetRowMoves : ℕ → ℕ → NetOrigin → NetState → Heard → Kind → Transition PlainNetCall → Type 0
 NetRowMoves r ch o s m k step = NetMovesBy r ch o s (clears_as k m.state) false step
 
 pub net_row_moves : (r ch : ℕ) (o : NetOrigin) (t : ℕ) (m : Heard) (s : NetState) (k : Kind) → NetRowMoves r ch o s m k (net_row (call_of r ch o s) m t s k)
@@ -79,7 +79,7 @@ net_row_moves r ch (Outward called) t m net.Active ConnectAcknowledge = stays r 
 net_row_moves r ch Inward t m net.Active ConnectAcknowledge = stays r ch Inward net.Active
 net_row_moves r ch o t m s k = stays r ch o s
 
-abbrev NetTickMoves : ℕ → ℕ → NetOrigin → NetState → Step PlainNetCall → Type 0
+abbrev NetTickMoves : ℕ → ℕ → NetOrigin → NetState → Transition PlainNetCall → Type 0
 NetTickMoves r ch o s step = NetMovesBy r ch o s false true step
 
 timer_moves : (r ch : ℕ) (o : NetOrigin) (t : ℕ) (s : NetState) → NetTickMoves r ch o s (net_timer (call_of r ch o s) t s)
@@ -136,7 +136,7 @@ OwnMoves r ch o s connected reply (Live c) = OwnGoes r ch o s connected reply c
 OwnMoves r ch o s connected reply Over = Unit {0}
 OwnMoves r ch o s connected reply Broken = Unit {0}
 
-abbrev pub OwnMovesBy : ℕ → ℕ → UserOrigin → UserState → Bool → Step PlainUserCall → Type 0
+abbrev pub OwnMovesBy : ℕ → ℕ → UserOrigin → UserState → Bool → Transition PlainUserCall → Type 0
 OwnMovesBy r ch o s connected step = OwnMoves r ch o s connected step.reply step.next
 
 live_user : (s : UserState) → (state_value (user_state s) % 64 == 0) ≡ false
@@ -208,7 +208,7 @@ pub record OwnSpeaks (r ch : ℕ) (o : UserOrigin) (out : Outgoing) : Type 0 whe
 other : (r ch : ℕ) (o : UserOrigin) (out : Outgoing) → out.reference ≡ r → out.flag ≡ user_flag o → is_setup_kind out.kind ≡ false → OwnSpeaks r ch o out
 other r ch o out a b c = record { reference = a; flag = b; setup = λ q. absurd (false≢true (sym c ∙ ap is_setup_kind q)) }
 
-abbrev OwnSays : ℕ → ℕ → UserOrigin → Step PlainUserCall → Type 0
+abbrev OwnSays : ℕ → ℕ → UserOrigin → Transition PlainUserCall → Type 0
 OwnSays r ch o step = OfSaid (OwnSpeaks r ch o) step.reply
 
 releases : (r ch : ℕ) (o : UserOrigin) (s : UserState) (again : Bool) (cause : Option ℕ) (t : ℕ) → OwnSays r ch o (user_releases (user_call_of r ch o s) again cause t)

@@ -8,7 +8,7 @@ use Rattle.bx_q931.specs.declared.kind.Kind.TheVariants.{Alerting, CallProceedin
 use Rattle.bx_q931.specs.Outgoing.{Outgoing, IsCallReference, plain}
 use Rattle.bx_calls.specs.declared.call_state.CallState.{CallState}
 use Rattle.bx_calls.specs.declared.call_state.CallState.TheVariants as call
-use Rattle.bx_calls.specs.declared.step.Step.{Step}
+use Rattle.bx_calls.specs.declared.transition.Transition.{Transition}
 use Rattle.bx_calls.specs.PlainCalls.{PlainNetCall, PlainUserCall}
 use Rattle.bx_calls.specs.declared.net_state.NetOrigin.{NetOrigin}
 use Rattle.bx_calls.specs.declared.net_state.NetOrigin.TheVariants.{Outward, Inward}
@@ -25,8 +25,8 @@ use Rattle.bx_calls.specs.States.{state_value, net_state, user_state}
 use Rattle.bx_calls.specs.NetTable.{net_row, net_second, net_timer, net_is_clearing, net_setup_again}
 use Rattle.bx_calls.specs.UserTable.{user_row, user_second, user_takes, user_answers, user_clears, user_setup_again}
 use Rattle.bx_calls.specs.UnknownTable.{unknown_row, unknown_status, location_of, refusal_of}
-use Rattle.bx_calls.specs.declared.unknown_reference.End.{End}
-use Rattle.bx_calls.specs.declared.unknown_reference.End.TheVariants.{Network, User}
+use Rattle.bx_calls.specs.declared.unknown_reference.Side.{Side}
+use Rattle.bx_calls.specs.declared.unknown_reference.Side.TheVariants.{Network, User}
 use Rattle.bx_day.proofs.Said.{OfSaid}
 use Rattle.bx_day.proofs.Second.{call_of}
 use Rattle.bx_two_ends.proofs.Delivery.{Sendable}
@@ -65,7 +65,7 @@ either : {X : Type 0} (b : Bool) (x y : X) (P : X → Type 0) → P x → P y �
 either true x y P h k = h
 either false x y P h k = k
 
-abbrev pub NetOk : Step PlainNetCall → Type 0
+abbrev pub NetOk : Transition PlainNetCall → Type 0
 NetOk step = OfSaid Sendable step.reply
 
 two : 2 < 16
@@ -122,27 +122,27 @@ second_ok r ch o t end s h c n = either (not (net_is_clearing s) && nat_le end t
 
 -- ---- unknown references
 
-location_ok : (end : End) → location_of end < 16
+location_ok : (side : Side) → location_of side < 16
 location_ok Network = two
 location_ok User = none
 
-unknown_status_ok : (end : End) (r : ℕ) (f : Bool) (state : Option ℕ) → IsCallReference r → OfSaid Sendable (unknown_status end r f state)
-unknown_status_ok end r f None h = tt
-unknown_status_ok end r f (Some state) h = either (state == 0) _ _ (λ (o : Option Outgoing). OfSaid Sendable o) tt (cause_ok r f ReleaseComplete _ 101 h tt (location_ok end))
+unknown_status_ok : (side : Side) (r : ℕ) (f : Bool) (state : Option ℕ) → IsCallReference r → OfSaid Sendable (unknown_status side r f state)
+unknown_status_ok side r f None h = tt
+unknown_status_ok side r f (Some state) h = either (state == 0) _ _ (λ (o : Option Outgoing). OfSaid Sendable o) tt (cause_ok r f ReleaseComplete _ 101 h tt (location_ok side))
 
-pub unknown_ok : (end : End) (r : ℕ) (f : Bool) (m : Heard) (k : Kind) → IsCallReference r → OfSaid Sendable (unknown_row end r f m k)
-unknown_ok end r f m ReleaseComplete h = tt
-unknown_ok end r f m Status h = unknown_status_ok end r f m.state h
-unknown_ok end r f m Setup h = tt
-unknown_ok end r f m StatusEnquiry h = status_ok r f _ 30 call.Null h (location_ok end)
-unknown_ok end r f m k h = cause_ok r f ReleaseComplete _ 81 h tt (location_ok end)
+pub unknown_ok : (side : Side) (r : ℕ) (f : Bool) (m : Heard) (k : Kind) → IsCallReference r → OfSaid Sendable (unknown_row side r f m k)
+unknown_ok side r f m ReleaseComplete h = tt
+unknown_ok side r f m Status h = unknown_status_ok side r f m.state h
+unknown_ok side r f m Setup h = tt
+unknown_ok side r f m StatusEnquiry h = status_ok r f _ 30 call.Null h (location_ok side)
+unknown_ok side r f m k h = cause_ok r f ReleaseComplete _ 81 h tt (location_ok side)
 
-pub refusal_ok : (end : End) (r cause : ℕ) → IsCallReference r → Sendable (refusal_of end r true cause)
-refusal_ok end r cause h = cause_ok r true ReleaseComplete _ cause h tt (location_ok end)
+pub refusal_ok : (side : Side) (r cause : ℕ) → IsCallReference r → Sendable (refusal_of side r true cause)
+refusal_ok side r cause h = cause_ok r true ReleaseComplete _ cause h tt (location_ok side)
 
 -- ---- the far end's table
 
-abbrev UserOk : Step PlainUserCall → Type 0
+abbrev UserOk : Transition PlainUserCall → Type 0
 UserOk step = OfSaid Sendable step.reply
 
 abbrev pub CalledBy : UserOrigin → Type 0

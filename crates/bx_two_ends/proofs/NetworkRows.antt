@@ -3,9 +3,9 @@ use Rattle.std.proofs.Common.{◌≡◌, ℕ, ◌==◌, ◌%◌, ◌&&◌, ◌||
 use Rattle.bx_q931.specs.declared.kind.Kind.{Kind}
 use Rattle.bx_q931.specs.declared.kind.Kind.TheVariants.{Alerting, CallProceeding, Progress, Setup, Connect, ConnectAcknowledge, Disconnect, Release, ReleaseComplete, Notify, StatusEnquiry, Information, Status, Other}
 use Rattle.bx_q931.specs.Outgoing.{Outgoing}
-use Rattle.bx_calls.specs.declared.step.Step.{Step}
-use Rattle.bx_calls.specs.declared.step.Next.{Next}
-use Rattle.bx_calls.specs.declared.step.Next.TheVariants.{Live, Over, Broken}
+use Rattle.bx_calls.specs.declared.transition.Transition.{Transition}
+use Rattle.bx_calls.specs.declared.transition.Next.{Next}
+use Rattle.bx_calls.specs.declared.transition.Next.TheVariants.{Live, Over, Broken}
 use Rattle.bx_calls.specs.PlainCalls.{PlainNetCall}
 use Rattle.bx_calls.specs.declared.net_state.NetOrigin.{NetOrigin}
 use Rattle.bx_calls.specs.declared.net_state.NetOrigin.TheVariants.{Outward, Inward}
@@ -50,7 +50,7 @@ OnNext P (Live c) = P c
 OnNext P Over = Unit {0}
 OnNext P Broken = Unit {0}
 
-abbrev pub GoesOn : ℕ → ℕ → NetOrigin → NetState → Bool → Step PlainNetCall → Type 0
+abbrev pub GoesOn : ℕ → ℕ → NetOrigin → NetState → Bool → Transition PlainNetCall → Type 0
 GoesOn r ch o s k step = OnNext (Goes r ch o s k step.reply) step.next
 
 -- no live state is Null
@@ -135,7 +135,7 @@ unlinked_goes r ch o t end s = by_cases (not (net_is_clearing s) && nat_le end t
 abbrev pub OfCall : ℕ → NetOrigin → Outgoing → Type 0
 OfCall r o out = (out.reference ≡ r) × (out.flag ≡ net_flag o)
 
-test_said : (P : Outgoing → Type 0) (b : Bool) (x y : Step PlainNetCall) → OfSaid P x.reply → OfSaid P y.reply → OfSaid P (if b then x else y).reply
+test_said : (P : Outgoing → Type 0) (b : Bool) (x y : Transition PlainNetCall) → OfSaid P x.reply → OfSaid P y.reply → OfSaid P (if b then x else y).reply
 test_said P true x y f g = f
 test_said P false x y f g = g
 

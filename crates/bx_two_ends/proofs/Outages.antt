@@ -4,7 +4,7 @@ use Rattle.std.proofs.lemmas.Bool.{false≢true}
 use Rattle.bx_q931.specs.Outgoing.{Outgoing}
 use Rattle.bx_calls.specs.PlainCalls.{PlainNetCall}
 use Rattle.bx_calls.specs.NetTable.{net_unlinked}
-use Rattle.bx_calls.specs.declared.step.Step.{Step}
+use Rattle.bx_calls.specs.declared.transition.Transition.{Transition}
 use Rattle.bx_day.specs.declared.entry.Entry.{Entry}
 use Rattle.bx_day.specs.declared.entry.Link.TheVariants.{Down}
 use Rattle.bx_day.specs.declared.entry.Moved.{Moved}
@@ -51,7 +51,7 @@ alone_outward i t sent far_sent e Unoffered h =
     let P : Moved → Type 0 = λ m. OutwardStanding (suc i) (sent ++ []) far_sent m.standing in
     by_cases (offers e t false) _ _ P (λ offered. absurd (false≢true (offers_parts e t false offered).2)) (λ _. by_cases (nat_le e.booking.end t) _ _ P (λ _. tt) (λ _. tt))
 alone_outward i t sent far_sent e (OnCall c a) h =
-    let step : Step PlainNetCall = net_unlinked 1 c t e.booking.end in
+    let step : Transition PlainNetCall = net_unlinked 1 c t e.booking.end in
     goes_outward i sent [] far_sent c false a t step.reply step.reply step.next (unlinked_goes c.reference c.channel c.origin t e.booking.end c.state) h (λ _ k. absurd (false≢true k)) (λ _ _. refl)
 alone_outward i t sent far_sent e (Carried from until) h = tt
 alone_outward i t sent far_sent e Unanswered h = tt
@@ -67,6 +67,6 @@ without_within assigned d seats h = by_cases (nat_le 300000 d.moment) _ _ Exchan
     let e = entry_at d.entries i in
     let t = d.moment + 1 in
     unlinked e t e.standing (λ m. StandingWithin m.standing)
-    (λ c a p. let step : Step PlainNetCall = net_unlinked 1 c t e.booking.end in
+    (λ c a p. let step : Transition PlainNetCall = net_unlinked 1 c t e.booking.end in
     follow_within c c.state false a t step.reply step.reply step.next (unlinked_goes c.reference c.channel c.origin t e.booking.end c.state) (subst StandingWithin p (h i)))
     (second_within assigned i t e false e.standing (seats i) (h i)).standing))

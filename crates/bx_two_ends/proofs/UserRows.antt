@@ -4,9 +4,9 @@ use Rattle.std.proofs.lemmas.Bool.{false≢true, or_left}
 use Rattle.bx_q931.specs.declared.kind.Kind.{Kind}
 use Rattle.bx_q931.specs.declared.kind.Kind.TheVariants.{CallProceeding, Progress, Setup, Connect, ConnectAcknowledge, Disconnect, Release, ReleaseComplete, Notify, StatusEnquiry, Information, Status, Other}
 use Rattle.bx_q931.specs.Outgoing.{Outgoing}
-use Rattle.bx_calls.specs.declared.step.Step.{Step}
-use Rattle.bx_calls.specs.declared.step.Next.{Next}
-use Rattle.bx_calls.specs.declared.step.Next.TheVariants.{Live, Over, Broken}
+use Rattle.bx_calls.specs.declared.transition.Transition.{Transition}
+use Rattle.bx_calls.specs.declared.transition.Next.{Next}
+use Rattle.bx_calls.specs.declared.transition.Next.TheVariants.{Live, Over, Broken}
 use Rattle.bx_calls.specs.PlainCalls.{PlainUserCall}
 use Rattle.bx_calls.specs.declared.user_state.Policy.TheVariants.{Answer, Alert, Proceed, Clear}
 use Rattle.bx_calls.specs.declared.user_state.UserOrigin.{UserOrigin}
@@ -46,7 +46,7 @@ Moves r ch o s ack cleared (Live c) = UserGoes r ch o s ack c
 Moves r ch o s ack cleared Over = (cleared || is_calling s) ≡ true
 Moves r ch o s ack cleared Broken = Unit {0}
 
-abbrev pub MovesBy : ℕ → ℕ → UserOrigin → UserState → Bool → Bool → Step PlainUserCall → Type 0
+abbrev pub MovesBy : ℕ → ℕ → UserOrigin → UserState → Bool → Bool → Transition PlainUserCall → Type 0
 MovesBy r ch o s ack cleared step = Moves r ch o s ack cleared step.next
 
 same : (r ch : ℕ) (o : UserOrigin) (s : UserState) (ack : Bool) → UserGoes r ch o s ack (user_call_of r ch o s)
@@ -61,7 +61,7 @@ talk r ch o s ack t a = record { reference = refl; channel = refl; origin = refl
 calls_on : (r ch : ℕ) (o : UserOrigin) (s s' : UserState) (ack : Bool) → is_talking s' ≡ false → is_calling s ≡ true → UserGoes r ch o s ack (user_call_of r ch o s')
 calls_on r ch o s s' ack a b = record { reference = refl; channel = refl; origin = refl; active = λ q. absurd (false≢true (sym a ∙ q)); calling = λ q. b }
 
-abbrev RowMoves : ℕ → ℕ → UserOrigin → UserState → Heard → Kind → Step PlainUserCall → Type 0
+abbrev RowMoves : ℕ → ℕ → UserOrigin → UserState → Heard → Kind → Transition PlainUserCall → Type 0
 RowMoves r ch o s m k step = MovesBy r ch o s (is_acknowledge k) (clears_as k m.state) step
 
 pub row_moves : (r ch : ℕ) (o : UserOrigin) (t : ℕ) (m : Heard) (s : UserState) (k : Kind) → RowMoves r ch o s m k (user_row (user_call_of r ch o s) m t s k)
@@ -80,7 +80,7 @@ row_moves r ch o t m (CallInitiated again due) Connect = by_cases (names_channel
 row_moves r ch o t m (OutgoingCallProceeding due) Connect = talk r ch o (OutgoingCallProceeding due) false t refl
 row_moves r ch o t m s k = same r ch o s (is_acknowledge k)
 
-abbrev TickMoves : ℕ → ℕ → UserOrigin → UserState → Step PlainUserCall → Type 0
+abbrev TickMoves : ℕ → ℕ → UserOrigin → UserState → Transition PlainUserCall → Type 0
 TickMoves r ch o s step = MovesBy r ch o s false false step
 
 takes_moves : (r ch t : ℕ) (o : UserOrigin) → TickMoves r ch o CallPresent (user_takes (user_call_of r ch o CallPresent) t o)
@@ -122,7 +122,7 @@ pub record UserSpeaks (r : ℕ) (o : UserOrigin) (next : Next PlainUserCall) (ou
   pub flag : out.flag ≡ user_flag o
   pub connect : is_connect_kind out.kind ≡ true → goes_on next ≡ true
 
-abbrev pub SpeaksBy : ℕ → UserOrigin → Step PlainUserCall → Type 0
+abbrev pub SpeaksBy : ℕ → UserOrigin → Transition PlainUserCall → Type 0
 SpeaksBy r o step = OfSaid (UserSpeaks r o step.next) step.reply
 
 live : (r : ℕ) (o : UserOrigin) (c : PlainUserCall) (out : Outgoing) → out.reference ≡ r → out.flag ≡ user_flag o → UserSpeaks r o (Live c) out

@@ -342,7 +342,8 @@ fn name_it_twice(words: &[&str]) -> bool {
 }
 
 /// The command of these words, which stand behind the program's name. `help faults` is no command: it asks for the list
-/// of faults.
+/// of faults. `Wrong` where the words are no command, `Help` where help or the version was asked for, `Memory` where a growth was
+/// refused.
 pub fn read_words<'a>(alloc: Global, words: &'a [&'a str]) -> Result<Request<'a>, Refusal> {
     if let ["help", "faults"] = words {
         return Err(faults(alloc));

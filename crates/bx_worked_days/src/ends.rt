@@ -6,7 +6,7 @@ use bx_far::Far;
 use bx_q931::Octets;
 
 /// The exchange or the far end.
-pub trait End {
+pub trait DayEnd {
     /// The second of its day.
     fn now(&self) -> u32;
 
@@ -17,7 +17,7 @@ pub trait End {
     fn hear(&mut self, octets: &[u8]) -> Option<Octets>;
 }
 
-impl End for Exchange {
+impl DayEnd for Exchange {
     fn now(&self) -> u32 {
         self.moment()
     }
@@ -31,7 +31,7 @@ impl End for Exchange {
     }
 }
 
-impl End for Far {
+impl DayEnd for Far {
     fn now(&self) -> u32 {
         self.moment()
     }
@@ -49,7 +49,7 @@ impl End for Far {
 pub const TICK: &[u8] = &[];
 
 /// Lets a second go by for each tick, and brings the octets of each other step.
-pub fn goes_through<E: End>(end: &mut E, steps: &[&[u8]]) {
+pub fn goes_through<E: DayEnd>(end: &mut E, steps: &[&[u8]]) {
     for step in steps {
         if step.is_empty() {
             let _sent = end.next_second();

@@ -4,5 +4,5 @@
 mod ends;
 mod openings;
 
-pub use ends::{End, TICK, are_same, goes_through};
+pub use ends::{DayEnd, TICK, are_same, goes_through};
 pub use openings::{Row, exchange, exchange_of, exchange_of_numbers, far_end, far_of, plan_of};

@@ -1,5 +1,4 @@
 pub mod Kept
 pub mod Waiting
-pub mod Taking
 pub mod Projections
 pub mod Putting

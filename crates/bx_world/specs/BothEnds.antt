@@ -4,7 +4,7 @@ use Rattle.bx_devices.specs.declared.watched.Watched.{Watched}
 use Rattle.bx_frames.specs.Frames.{message_frame, day_frame, frame_in}
 use Rattle.bx_frames.specs.Reading.{Reads}
 use Rattle.bx_frames.specs.declared.frame.Frame.{Frame}
-use Rattle.bx_frames.specs.declared.frame.Side.TheVariants.{Exchange}
+use Rattle.bx_frames.specs.declared.frame.Receiver.TheVariants.{Exchange}
 use Rattle.bx_frames.specs.declared.fault.LinkFault.{LinkFault}
 use Rattle.bx_frames.specs.declared.fault.LinkFault.TheVariants.{WriteFailed, Closed}
 use Rattle.bx_link.specs.Hearing.{TakesTurn}

@@ -10,6 +10,7 @@ use Rattle.bx_frames.specs.Frames.{frames_of, message_frame, turn_frame}
 use Rattle.bx_frames.specs.declared.frame.Frame.TheVariants as frames
 use Rattle.bx_live.specs.Acts.{Act, Began, Wrote, Read}
 use Rattle.bx_world.specs.declared.captured.CapturedWorld.{CapturedWorld}
+use Rattle.bx_events.specs.declared.moment.TheConstants.{LAST_MOMENT}
 
 -- the second of the clock that moment 0 has
 abbrev pub first_second : {W F : Type 0} → CapturedWorld W F → ℕ
@@ -27,7 +28,7 @@ OnFile contents second old act new = new ≡ old
 
 -- the second of the day is the one that began last
 abbrev pub OnSecond : ℕ → Act → ℕ → Type 0
-OnSecond old (Began second begin) new = new ≡ min second 300000
+OnSecond old (Began second begin) new = new ≡ min second LAST_MOMENT
 OnSecond old act new = new ≡ old
 
 pub record Captures {W F : Type 0} (contents : F → Option (List ℕ)) (old : CapturedWorld W F) (act : Act) (new : CapturedWorld W F) : Type 0 where

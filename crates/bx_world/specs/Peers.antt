@@ -8,7 +8,7 @@ use Rattle.bx_frames.specs.Frames.{day_frame, frame_in}
 use Rattle.bx_frames.specs.Reading.{Reads}
 use Rattle.bx_frames.specs.declared.fault.LinkFault.{LinkFault}
 use Rattle.bx_frames.specs.declared.fault.LinkFault.TheVariants.{WriteFailed, Closed}
-use Rattle.bx_frames.specs.declared.frame.Side.TheVariants.{Exchange}
+use Rattle.bx_frames.specs.declared.frame.Receiver.TheVariants.{Exchange}
 use Rattle.bx_live.specs.declared.world.Begin.{Begin}
 use Rattle.bx_live.specs.declared.world.Begin.TheVariants.{Joined, Ended}
 use Rattle.bx_live.specs.declared.world.Loss.{Loss}

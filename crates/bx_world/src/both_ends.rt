@@ -8,7 +8,7 @@ use crate::record::Record;
 use bx_devices::WriteFailed;
 use bx_events::LiveEvent;
 use bx_far::Far;
-use bx_frames::{Frame, LinkFault, Side, read_frame, write_end_of_day, write_message};
+use bx_frames::{Frame, LinkFault, Receiver, read_frame, write_end_of_day, write_message};
 use bx_journal::Disk;
 use bx_link::{Connection, FarSession};
 use bx_live::{Begin, CannotRecord, Loss, World};
@@ -84,14 +84,14 @@ impl<R: Read, W: Write, S: Read, T: Write, D: Disk> World for BothEnds<R, W, S, 
 
     fn read(&mut self, room: u32) -> Result<Frame, LinkFault> {
         if !self.is_due {
-            return read_frame(&mut self.near.reader, Side::Exchange, room);
+            return read_frame(&mut self.near.reader, Receiver::Exchange, room);
         }
         self.is_due = false;
-        match self.distant.take_turn() {
-            Ok(true) => read_frame(&mut self.near.reader, Side::Exchange, room),
-            Ok(false) => Err(LinkFault::Closed),
-            Err(fault) => Err(fault),
+        let goes_on = self.distant.take_turn()?;
+        if !goes_on {
+            return Err(LinkFault::Closed);
         }
+        read_frame(&mut self.near.reader, Receiver::Exchange, room)
     }
 
     fn end_day(&mut self) {

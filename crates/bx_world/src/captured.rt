@@ -1,14 +1,12 @@
 //! A live day with a capture of what goes over its link.
 
 ghost use Rattle.std.specs.Prelude.{◌≡◌, ◌≤◌};
-ghost use Rattle.std.specs.List.{flat_map};
-ghost use Rattle.bx_capture.specs.Captures.{packet_sent, is_unfaulted, IsKept, Keeps};
-ghost use Rattle.bx_capture.specs.Packets.{packet};
+ghost use Rattle.bx_capture.specs.Captures.{is_unfaulted};
+ghost use Rattle.bx_events.specs.declared.moment.TheConstants.{LAST_MOMENT};
 
-use bx_calls::timers::LAST_MOMENT;
-use bx_capture::{Direction, write_packet};
+use bx_capture::{Direction, is_whole, keep, keep_sent};
 use bx_devices::{Watched, WriteFailed};
-use bx_events::LiveEvent;
+use bx_events::{LAST_MOMENT, LiveEvent};
 use bx_frames::{Frame, LinkFault};
 use bx_live::{Begin, CannotRecord, Loss, World};
 use bx_q931::Octets;
@@ -23,51 +21,14 @@ pub struct CapturedWorld<W, F> {
     first: u32,
     second: u32,
     ghost limit: { first ≤ 4294667295 },
-    ghost day: { second ≤ 300000 },
-}
-
-/// Writes the packet of a message, unless a write failed before.
-fn write_while_whole<F: Write>(
-    file: &mut Watched<F>,
-    second: u32,
-    direction: Direction,
-    message: &Octets,
-)
-    ensures { IsKept F.contents file.old file.new (packet second direction message.now.items) }
-{
-    if file.faulted() {
-        return;
-    }
-    let _ = write_packet(file, second, direction, message);
-}
-
-/// Writes the packet of a message, where there is a file.
-fn keep<F: Write>(
-    file: &mut Option<Watched<F>>,
-    second: u32,
-    direction: Direction,
-    message: &Octets,
-)
-    ensures { Keeps F.contents file.old file.new (packet second direction message.now.items) }
-{
-    if let Some(file) = file {
-        write_while_whole(file, second, direction, message);
-    }
-}
-
-/// Writes the packets of messages that are sent.
-fn keep_sent<F: Write>(file: &mut Option<Watched<F>>, second: u32, sent: &[Octets])
-    ensures { Keeps F.contents file.old file.new (flat_map (packet_sent second) sent.now) }
-{
-    for message in sent {
-        keep(file, second, Direction::Sent, message);
-    }
+    ghost day: { second ≤ LAST_MOMENT },
 }
 
 impl<W, F: Write> CapturedWorld<W, F> {
     ghost use Rattle.bx_world.specs.Captures.{first_second};
 
-    /// Captures a world from now on, into the file where there is one. Moment 0 is the first second.
+    /// Captures a world from now on, into the file where there is one. Moment 0 is the first second. That is at most
+    /// 4,294,667,295, so that 32 bits number each of the 300,000 seconds behind it.
     pub fn new(world: W, file: Option<Watched<F>>, first: u32) -> Self
         requires { first ≤ 4294667295 }
         ensures world { result.world ≡ world }
@@ -101,10 +62,7 @@ impl<W, F: Write> CapturedWorld<W, F> {
     pub fn is_whole(&self) -> bool
         ensures { result ≡ is_unfaulted self.now.file }
     {
-        match &self.file {
-            Some(file) => !file.faulted(),
-            None => true,
-        }
+        is_whole(&self.file)
     }
 }
 

@@ -50,7 +50,7 @@ pub struct TcpDoor {
 }
 
 impl TcpDoor {
-    /// Listens on the port.
+    /// Listens on the port. The fault is the system's, where it cannot be listened on.
     pub fn open<H: Net<Listener = TcpListener, Stream = TcpStream>>(
         rt: &H,
         port: u16,
@@ -90,7 +90,8 @@ fn clear_away<H: Files + Net>(rt: &H, path: &str) -> io::Result<()> {
 }
 
 impl UnixDoor {
-    /// Listens on the socket of this path. A file of a socket on which nobody listens is replaced.
+    /// Listens on the socket of this path. A file of a socket on which nobody listens is replaced. The fault is the system's, where
+    /// the socket cannot be listened on; `AddrInUse` where somebody listens, or the file is another one.
     pub fn open<H: Files + Net>(rt: &H, path: &str) -> io::Result<UnixDoor> {
         let listener = match UnixListener::bind(rt, path) {
             Ok(listener) => listener,

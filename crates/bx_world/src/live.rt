@@ -11,7 +11,7 @@ use crate::schedule::{SECOND, Schedule};
 use crate::timed::Timed;
 use bx_devices::{Watched, WriteFailed};
 use bx_events::LiveEvent;
-use bx_frames::{Frame, LinkFault, Side, read_frame, write_end_of_day, write_message};
+use bx_frames::{Frame, LinkFault, Receiver, read_frame, write_end_of_day, write_message};
 use bx_journal::Disk;
 use bx_live::{Begin, CannotRecord, Loss, World};
 use bx_q931::Octets;
@@ -201,7 +201,7 @@ impl<'a, H: Clock, S: Read + Write + Limits + Drop, G: Door<S>, D: Disk> World
 
     fn read(&mut self, room: u32) -> Result<Frame, LinkFault> {
         match &mut self.peer {
-            Some(peer) => read_frame(peer, Side::Exchange, room),
+            Some(peer) => read_frame(peer, Receiver::Exchange, room),
             None => Err(LinkFault::ReadFailed),
         }
     }

@@ -50,7 +50,8 @@ fn bring_to_disk<D: Disk>(disk: &mut D) -> Result<(), CannotRecord>
 }
 
 impl<D: Disk> Record<D> {
-    /// Puts an event on record, where a journal is kept. It need not be on the disk before the next sync.
+    /// Puts an event on record, where a journal is kept. It need not be on the disk before the next sync. `CannotRecord` where what
+    /// came has more than 260 octets, or the disk did not take the line.
     pub fn record(&mut self, event: LiveEvent<'_>) -> Result<(), CannotRecord>
         ensures { OnRecord D.holds D.may_leave D.moment D.left_since self.old.disk (Recorded (live_event_of event.entry) (is_ok result)) self.new.disk }
     {
@@ -60,7 +61,7 @@ impl<D: Disk> Record<D> {
         }
     }
 
-    /// What was recorded is on the disk.
+    /// What was recorded is on the disk, where a journal is kept. `CannotRecord` where the disk did not do that.
     pub fn sync(&mut self) -> Result<(), CannotRecord>
         ensures { OnRecord D.holds D.may_leave D.moment D.left_since self.old.disk (Synced (is_ok result)) self.new.disk }
     {

@@ -6,7 +6,7 @@ use crate::peer::{begins_by, fault_of, write_turn};
 use crate::record::Record;
 use bx_devices::WriteFailed;
 use bx_events::LiveEvent;
-use bx_frames::{Frame, LinkFault, Side, read_frame, write_end_of_day, write_message};
+use bx_frames::{Frame, LinkFault, Receiver, read_frame, write_end_of_day, write_message};
 use bx_journal::Disk;
 use bx_link::Connection;
 use bx_live::{Begin, CannotRecord, Loss, World};
@@ -54,7 +54,7 @@ impl<R: Read, W: Write, D: Disk> World for Rehearsal<R, W, D> {
     }
 
     fn read(&mut self, room: u32) -> Result<Frame, LinkFault> {
-        read_frame(&mut self.connection.reader, Side::Exchange, room)
+        read_frame(&mut self.connection.reader, Receiver::Exchange, room)
     }
 
     fn end_day(&mut self) {

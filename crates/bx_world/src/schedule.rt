@@ -23,6 +23,8 @@ pub struct Schedule {
 impl Schedule {
     ghost use Rattle.bx_world.specs.Schedules.{instant_of, turn_of, first_of, pace_of};
 
+    /// The schedule of a day whose moment 0 is this second of the clock, and of which so many seconds, at least one, are one of the
+    /// clock.
     pub fn new(first: u64, pace: u32) -> Self
         requires { 1 ≤ pace }
         ensures first { first_of result ≡ first }

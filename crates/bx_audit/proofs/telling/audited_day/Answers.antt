@@ -3,9 +3,9 @@ use Rattle.bx_day.specs.Outages.{live_day_after}
 use Rattle.bx_audit.proofs.Audited.{kept_in}
 use Rattle.bx_audit.proofs.telling.audited_day.Goals as goal
 
-pub returns-in-Ok-clause-audited : goal.returns-in-Ok-clause-audited
-returns-in-Ok-clause-audited g c =
-    let whole = c.in-Ok.ensures.whole in
+pub returns-clause-audited : goal.returns-clause-audited
+returns-clause-audited g c =
+    let whole = c.in_ok-done.ensures.whole in
     let begun = c.new-captured.ensures in
     record {
       events = whole.events;

@@ -1,6 +1,6 @@
 use Rattle.std.proofs.Common.{◌+◌, ℕ, ℤ, List, Option, length, subst, arith}
 use Rattle.bx_line.specs.ByPlace.{IsFirstRow}
-use Rattle.bx_line.specs.declared.side.Side.TheVariants.{Leaving}
+use Rattle.bx_line.specs.declared.incidence.Incidence.TheVariants.{Leaving}
 use Rattle.bx_dist.specs.Search.{AreMedium}
 use Rattle.bx_dist.specs.Residual.{AreSmall}
 use Rattle.bx_dist.proofs.Along.{IsPassing, IsRowLeft, bounds_small, passed_bounds, idle_passed, row_passed, next_passed, rows_passed}

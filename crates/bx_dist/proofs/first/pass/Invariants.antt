@@ -1,6 +1,6 @@
 use Rattle.std.proofs.Common.{◌≡◌, ℕ, ◌<◌, Some, length}
 use Rattle.bx_line.specs.ByPlace.{row_place}
-use Rattle.bx_line.specs.declared.side.Side.TheVariants.{Leaving}
+use Rattle.bx_line.specs.declared.incidence.Incidence.TheVariants.{Leaving}
 use Rattle.bx_dist.proofs.Along.{IsPassing, IsRowLeft}
 use Rattle.bx_dist.proofs.Rows.{rows_left}
 use Rattle.bx_dist.proofs.first.pass.Given as goal

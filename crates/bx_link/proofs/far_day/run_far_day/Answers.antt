@@ -1,4 +1,5 @@
 use Rattle.std.proofs.Common.{◌+◌, true, false, refl, arith, inl, inr}
+use Rattle.std.proofs.lemmas.Result.{err_from_is_err_and}
 use Rattle.bx_frames.proofs.ReadAnswers.{gave, faulty}
 use Rattle.bx_frames.specs.declared.fault.LinkFault.TheVariants.{Closed}
 use Rattle.bx_link.proofs.ExchangeTurns.{over, broken}
@@ -16,7 +17,7 @@ loop-turn-init g c = record {
 pub loop-turn-preserved : goal.loop-turn-preserved
 loop-turn-preserved g c =
     let l = c.loop-turn in
-    let call = rw c.in-Ok-true.field-0-test at c.in-Ok-true.ensures in
+    let call = rw c.if-not-goes_on.false at c.in_ok-goes_on.ensures in
     let took = call.taken l.invariant.going_on in
     let so_far = l.invariant.so_far in
     record {
@@ -29,10 +30,10 @@ loop-turn-preserved g c =
       );
     }
 
-pub returns-in-Ok-false : goal.returns-in-Ok-false
-returns-in-Ok-false g c =
+pub returns-then-not-goes_on : goal.returns-then-not-goes_on
+returns-then-not-goes_on g c =
     let l = c.loop-turn in
-    let call = rw c.in-Ok-false.field-0-test at c.in-Ok-false.ensures in
+    let call = rw c.if-not-goes_on.true at c.in_ok-goes_on.ensures in
     let took = call.taken l.invariant.going_on in
     let so_far = l.invariant.so_far in (
       runs_so over (l._turn + 1) (gave false)
@@ -41,12 +42,14 @@ returns-in-Ok-false g c =
       g.met.E.End.keeps_on c.args.far.now l.far c.far_turn.new.far so_far.0.events took.0.events so_far.1 took.1,
     )
 
-pub returns-in-Err : goal.returns-in-Err
-returns-in-Err g c =
+pub returns-in_err-goes_on : goal.returns-in_err-goes_on
+returns-in_err-goes_on g c =
     let l = c.loop-turn in
-    let fault = c.in-Err.fault in
-    let took = c.in-Err.ensures.taken l.invariant.going_on in
-    let so_far = l.invariant.so_far in (
+    let p = err_from_is_err_and c.from_residual.result c.from_residual.ensures.1 in
+    let fault = c.in_err-goes_on.field-0.0 in
+    let took = c.in_err-goes_on.ensures.taken l.invariant.going_on in
+    let so_far = l.invariant.so_far in
+    rw (p.1, p.2) (
       runs_so (broken fault) (l._turn + 1) (faulty fault)
           (far_failed g.R.Read.remaining g.W.Write.contents l._turn c.args.reader.now l.reader c.args.writer.now l.writer (g.E.End.day c.args.far.now) (g.E.End.day l.far) so_far.0
           c.far_turn.new.reader c.far_turn.new.writer (g.E.End.day c.far_turn.new.far) fault took.0) (inl refl),

@@ -1,4 +1,5 @@
 use Rattle.std.proofs.Common.{◌-◌, ◌∙◌, refl, arith, Ok, Err}
+use Rattle.std.proofs.lemmas.Result.{err_from_is_err_and}
 use Rattle.bx_frames.specs.declared.frame.Frame.TheVariants as frames
 use Rattle.bx_frames.specs.declared.fault.LinkFault.TheVariants.{WrongMoment}
 use Rattle.bx_live.specs.declared.world.Loss.TheVariants as losses
@@ -16,21 +17,23 @@ loop-octets-preserved g c =
     let frame = rw c.in-Ok-Message.field-0-is at c.in-Ok-Message.ensures in
     record {
       within = omega (arith, l.invariant.within);
-      moment = c.in-Ok.ensures.moment ∙ l.invariant.moment;
+      moment = c.in_ok-answer-in-Ok-Message.ensures.moment ∙ l.invariant.moment;
       so_far = then_done g.met.W.World.did_more l.invariant.so_far
           (then_done g.met.W.World.did_more
           (one_done (Hearing l.exchange l.room) (Read l.room (Ok (frames.Message c.in-Ok-Message.octets))) frame.read refl)
-          (c.in-Ok.ensures.ran (l.room - 1)));
+          (c.in_ok-answer-in-Ok-Message.ensures.ran (l.room - 1)));
     }
 
-pub returns-in-Err-answer-clause-ran : goal.returns-in-Err-answer-clause-ran
-returns-in-Err-answer-clause-ran g c =
+pub returns-in_err-answer-in-Ok-Message-clause-ran : goal.returns-in_err-answer-in-Ok-Message-clause-ran
+returns-in_err-answer-in-Ok-Message-clause-ran g c =
     let l = c.loop-octets in
+    let p = err_from_is_err_and c.from_residual.result c.from_residual.ensures.1 in
     let frame = rw c.in-Ok-Message.field-0-is at c.in-Ok-Message.ensures in
-    then_done g.met.W.World.did_more l.invariant.so_far
+    rw (p.1, p.2)
+    (then_done g.met.W.World.did_more l.invariant.so_far
     (then_done g.met.W.World.did_more
     (one_done (Hearing l.exchange l.room) (Read l.room (Ok (frames.Message c.in-Ok-Message.octets))) frame.read refl)
-    (c.in-Err-answer.ensures.ran (l.room - 1)))
+    (c.in_err-answer-in-Ok-Message.ensures.ran (l.room - 1))))
 
 pub returns-then-said-moment-clause-ran : goal.returns-then-said-moment-clause-ran
 returns-then-said-moment-clause-ran g c =

@@ -1,20 +1,22 @@
 use Rattle.std.proofs.Common.{sym, ◌∙◌, arith, true≢false}
+use Rattle.std.proofs.lemmas.Result.{err_from_is_err_and}
 use Rattle.bx_live.specs.Runs.{Between, Over}
 use Rattle.bx_live.proofs.Steps.{none_done, then_done}
 use Rattle.bx_live.proofs.Days.{run_day, closed_day_is, ended_inside, at_any}
 use Rattle.bx_live.proofs.running.run_live.Goals as goal
 
-pub returns-in-Err-clause-ran : goal.returns-in-Err-clause-ran
-returns-in-Err-clause-ran g c =
-    let ran = then_done g.met.W.World.did_more c.loop-second.invariant.so_far c.in-Err.ensures.ran in
-    (ran, run_day (Between c.args.exchange.now) (Over c.run_second.new.exchange) ran.acts ran.goes, tt)
+pub returns-in_err-run_second-clause-ran : goal.returns-in_err-run_second-clause-ran
+returns-in_err-run_second-clause-ran g c =
+    let p = err_from_is_err_and c.from_residual.result c.from_residual.ensures.1 in
+    let ran = then_done g.met.W.World.did_more c.loop-second.invariant.so_far c.in_err-run_second.ensures.ran in
+    rw p.1 (ran, run_day (Between c.args.exchange.now) (Over c.run_second.new.exchange) ran.acts ran.goes, tt)
 
-pub returns-in-Ok-Ended-clause-ran : goal.returns-in-Ok-Ended-clause-ran
-returns-in-Ok-Ended-clause-ran g c =
+pub returns-in-Ended-clause-ran : goal.returns-in-Ended-clause-ran
+returns-in-Ended-clause-ran g c =
     let d = c.args.exchange.now in
     let d1 = c.run_second.new.exchange in
     let r = c.close_day.result in
-    let said = (rw c.in-Ok-Ended.field-0-is at c.in-Ok-Ended.ensures).said in
+    let said = (rw c.in-Ended.is at c.in_ok-run_second.ensures).said in
     let so_far = c.loop-second.invariant.so_far in
     let close = c.close_day.ensures.at_ended d1 in
     let ran = then_done g.met.W.World.did_more so_far (then_done g.met.W.World.did_more said.0 close) in
@@ -32,10 +34,10 @@ returns-clause-ran g c =
       at_any r (λ none. omega (arith, l.invariant.moment, l.invariant.reached, c.min-end.ensures, c.loop-second-test.false, l.auto._second, c.moment-second.ensures.value)),
     )
 
-pub returns-in-Ok-Ended-clause-whole : goal.returns-in-Ok-Ended-clause-whole
-returns-in-Ok-Ended-clause-whole g c =
+pub returns-in-Ended-clause-whole : goal.returns-in-Ended-clause-whole
+returns-in-Ended-clause-whole g c =
     let l = c.loop-second in
-    at_any c.close_day.result (omega (arith, l.invariant.moment, l.invariant.reached, c.min-end.ensures, (rw c.in-Ok-Ended.field-0-is at c.in-Ok-Ended.ensures).moment))
+    at_any c.close_day.result (omega (arith, l.invariant.moment, l.invariant.reached, c.min-end.ensures, (rw c.in-Ended.is at c.in_ok-run_second.ensures).moment))
 
 pub returns-clause-whole : goal.returns-clause-whole
 returns-clause-whole g c =
@@ -53,7 +55,7 @@ loop-second-init g c = record {
 pub loop-second-preserved : goal.loop-second-preserved
 loop-second-preserved g c =
     let l = c.loop-second in
-    let passed = rw c.in-Ok-Passed.field-0-is at c.in-Ok-Passed.ensures in
+    let passed = rw c.in-Passed.is at c.in_ok-run_second.ensures in
     record {
       moment = omega (arith, l.invariant.moment, passed.moment (omega (arith, l.invariant.moment, l.invariant.within, c.loop-second-test.true)));
       within = l.invariant.within;

@@ -4,26 +4,26 @@ use Rattle.bx_plan_commands.proofs.chart_files.chart_file.Goals as goal
 
 pub returns-in-Ok-write_chart-clause-drawn : goal.returns-in-Ok-write_chart-clause-drawn
 returns-in-Ok-write_chart-clause-drawn g c = record {
-  plan = parts_of c.in-Ok-proved_named.plan;
-  plan_of = c.in-Ok-proved_named.ensures.found;
-  total = c.in-Ok-proved_named.ensures.proved.0;
-  proved = c.in-Ok-proved_named.ensures.proved.1;
+  plan = parts_of c.in-Ok.plan;
+  plan_of = c.in-Ok.ensures.found;
+  total = c.in-Ok.ensures.proved.0;
+  proved = c.in-Ok.ensures.proved.1;
   gain = c.in-Ok-next_gain.gain;
   gain_of = c.in-Ok-next_gain.ensures;
-  clock = c.in-Ok.clock;
-  clock_of = c.in-Ok.ensures.clock;
+  clock = c.in_ok-clock.clock;
+  clock_of = c.in_ok-clock.ensures.clock;
   drawn = search rules steps 1000000;
 }
 
 pub returns-clause-refused : goal.returns-clause-refused
 returns-clause-refused g c = record {
-  plan = parts_of c.in-Ok-proved_named.plan;
-  plan_of = c.in-Ok-proved_named.ensures.found;
-  total = c.in-Ok-proved_named.ensures.proved.0;
-  proved = c.in-Ok-proved_named.ensures.proved.1;
+  plan = parts_of c.in-Ok.plan;
+  plan_of = c.in-Ok.ensures.found;
+  total = c.in-Ok.ensures.proved.0;
+  proved = c.in-Ok.ensures.proved.1;
   gain = c.in-Ok-next_gain.gain;
   gain_of = c.in-Ok-next_gain.ensures;
-  clock = c.in-Ok.clock;
-  clock_of = c.in-Ok.ensures.clock;
+  clock = c.in_ok-clock.clock;
+  clock_of = c.in_ok-clock.ensures.clock;
   refused = search rules steps 1000000;
 }

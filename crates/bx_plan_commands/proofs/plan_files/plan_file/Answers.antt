@@ -1,5 +1,27 @@
 use Rattle.std.proofs.Common.{inr, refl}
+use Rattle.bx_devices.specs.Devices.{reading_of}
 use Rattle.bx_plan_commands.proofs.plan_files.plan_file.Goals as goal
 
-pub returns-in-Err-open-clause-refused : goal.returns-in-Err-open-clause-refused
-returns-in-Err-open-clause-refused g c = (inr ((c.in-Ok.named.0, c.in-Ok.named.1, c.in-Ok.ensures.named), c.in-Err-open.ensures.unopened), refl)
+pub returns-in-Err-clause-refused : goal.returns-in-Err-clause-refused
+returns-in-Err-clause-refused g c = (inr ((c.in_ok-channels.channels, c.in_ok-channels.day, c.in_ok-channels.ensures.named), c.in-Err.ensures.unopened), refl)
+
+pub returns-in-Ok-plan_run-clause-planned : goal.returns-in-Ok-plan_run-clause-planned
+returns-in-Ok-plan_run-clause-planned g c = record {
+  channels = c.in_ok-channels.channels;
+  day = c.in_ok-channels.day;
+  named = c.in_ok-channels.ensures.named;
+  input = reading_of g.I.Reader.Read.remaining c.in-Ok.input c.plan_run.new.input;
+  of_name = record { given = c.in-Ok.ensures.opened; unfaulted = c.in-Ok.ensures.unfaulted; unread = c.in-Ok.ensures.unread };
+  total = c.in-Ok-plan_run.field-0;
+  run = c.in-Ok-plan_run.ensures.planned;
+}
+
+pub returns-clause-refused : goal.returns-clause-refused
+returns-clause-refused g c = record {
+  channels = c.in_ok-channels.channels;
+  day = c.in_ok-channels.day;
+  named = c.in_ok-channels.ensures.named;
+  input = reading_of g.I.Reader.Read.remaining c.in-Ok.input c.plan_run.new.input;
+  of_name = record { given = c.in-Ok.ensures.opened; unfaulted = c.in-Ok.ensures.unfaulted; unread = c.in-Ok.ensures.unread };
+  refused = c.in-Err-plan_run.ensures.refused;
+}

@@ -4,22 +4,22 @@ use Rattle.bx_plan_commands.proofs.quote_files.quote_file.Goals as goal
 
 pub returns-in-Ok-write_quote-clause-quoted : goal.returns-in-Ok-write_quote-clause-quoted
 returns-in-Ok-write_quote-clause-quoted g c = record {
-  plan = parts_of c.in-Ok-proved_named.plan;
-  plan_of = c.in-Ok-proved_named.ensures.found;
-  total = c.in-Ok-proved_named.ensures.proved.0;
-  proved = c.in-Ok-proved_named.ensures.proved.1;
-  booking = c.in-Ok.booking;
-  call_of = c.in-Ok.ensures.booking;
+  plan = parts_of c.in-Ok.plan;
+  plan_of = c.in-Ok.ensures.found;
+  total = c.in-Ok.ensures.proved.0;
+  proved = c.in-Ok.ensures.proved.1;
+  booking = c.in_ok-booking.booking;
+  call_of = c.in_ok-booking.ensures.booking;
   told = search rules steps 1000000;
 }
 
 pub returns-clause-refused : goal.returns-clause-refused
 returns-clause-refused g c = record {
-  plan = parts_of c.in-Ok-proved_named.plan;
-  plan_of = c.in-Ok-proved_named.ensures.found;
-  total = c.in-Ok-proved_named.ensures.proved.0;
-  proved = c.in-Ok-proved_named.ensures.proved.1;
-  booking = c.in-Ok.booking;
-  call_of = c.in-Ok.ensures.booking;
+  plan = parts_of c.in-Ok.plan;
+  plan_of = c.in-Ok.ensures.found;
+  total = c.in-Ok.ensures.proved.0;
+  proved = c.in-Ok.ensures.proved.1;
+  booking = c.in_ok-booking.booking;
+  call_of = c.in_ok-booking.ensures.booking;
   refused = search rules steps 1000000;
 }

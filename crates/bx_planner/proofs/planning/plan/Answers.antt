@@ -1,9 +1,7 @@
 use Rattle.std.proofs.Common.{◌≡◌, ℕ, ◌+◌, ap, arith, List, Some, refl, subst, sym}
 use Rattle.bx_base.specs.Bookings.{Row}
-use Rattle.bx_base.specs.Plans.{is_accepted}
 use Rattle.bx_planner.specs.Musts.{IsTooManyMust}
-use Rattle.bx_planner.proofs.Chosen.{best_from_proof, room_from_none}
-use Rattle.bx_planner.proofs.SamePrices.{least_proof}
+use Rattle.bx_planner.proofs.Chosen.{room_from_none}
 use Rattle.bx_planner.proofs.planning.plan.Goals as goal
 
 pub returns-in-Some-clause-musts : goal.returns-in-Some-clause-musts
@@ -21,14 +19,14 @@ returns-in-Ok-clause-musts c = λ t. (
   λ h. let found = (c.in_default.ensures t).1 (subst (λ (rows : List Row). IsTooManyMust rows c.args.channels t) (sym c.fresh.ensures) h) in absurd (cc),
 )
 
-pub returns-clause-musts : goal.returns-clause-musts
-returns-clause-musts c = λ t. (
+pub returns-in-Err-clause-musts : goal.returns-in-Err-clause-musts
+returns-in-Err-clause-musts c = λ t. (
   λ e. absurd (cc),
   λ h. let found = (c.in_default.ensures t).1 (subst (λ (rows : List Row). IsTooManyMust rows c.args.channels t) (sym c.fresh.ensures) h) in absurd (cc),
 )
 
 pub returns-in-Ok-clause-best : goal.returns-in-Ok-clause-best
-returns-in-Ok-clause-best c = best_from_proof c.args.bookings.now c.args.channels c.in-Ok.plan.prices.items c.in-Ok.plan.total c.in-Ok.ensures.prices
+returns-in-Ok-clause-best c = c.in-Ok.ensures.planned.best
 
 pub returns-in-Ok-clause-least : goal.returns-in-Ok-clause-least
-returns-in-Ok-clause-least c = least_proof c.args.bookings.now c.args.channels c.in-Ok.plan.prices.items (is_accepted c.in-Ok.plan.assigned.items) c.in-Ok.plan.total c.in-Ok.ensures.lawful c.in-Ok.ensures.total c.in-Ok.ensures.prices c.in-Ok.ensures.least
+returns-in-Ok-clause-least c = c.in-Ok.ensures.planned.least

@@ -4,7 +4,7 @@ use Rattle.bx_devices.specs.Devices.{writing_of}
 use Rattle.bx_base.specs.PlanParts.{parts_of}
 use Rattle.bx_quote.specs.Texts.{explained_text}
 use Rattle.bx_quote.specs.Writing.{IsExplainRefusal}
-use Rattle.bx_quote.specs.declared.answer.QuoteFail.TheVariants.{Accepted}
+use Rattle.bx_quote.specs.declared.answer.NoQuote.TheVariants.{Accepted}
 use Rattle.bx_quote.proofs.Told.{told, not_written, as_told, never_told, no_memory}
 use Rattle.bx_quote.proofs.writing.write_explained.Goals as goal
 

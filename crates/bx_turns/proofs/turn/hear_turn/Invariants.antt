@@ -9,7 +9,7 @@ abbrev pub invariant-loop-octets : goal.invariant-loop-octets
 invariant-loop-octets g l = record {
   within : l.room ≤ 64;
   events : List Event;
-  heard : SoFar g.L.Course.next g.L.Course.text (turn_in l.side l.moment 64) (turn_in l.side l.moment l.room) g.R.Read.remaining g.W.Write.contents l.fn.reader l.reader l.fn.writer l.writer (g.E.End.day l.fn.end) (g.E.End.day l.end) events;
+  heard : SoFar g.L.Course.next g.L.Course.text (turn_in l.receiver l.moment 64) (turn_in l.receiver l.moment l.room) g.R.Read.remaining g.W.Write.contents l.fn.reader l.reader l.fn.writer l.writer (g.E.End.day l.fn.end) (g.E.End.day l.end) events;
   ticks : ticks_of events ≡ 0;
   kept : g.E.End.kept l.fn.end events l.end;
 }

@@ -8,7 +8,7 @@ use Rattle.bx_day.proofs.Received.{opening_opens, preferred_opens, preferred_tak
 use Rattle.bx_day.proofs.exchange.Exchange.called_at.Goals as goal
 
 pub take-requires-clause-open : goal.take-requires-clause-open
-take-requires-clause-open c = opening_opens c.args.self.now c.args.channel c.opening-index.result c.opening-index.ensures.first
+take-requires-clause-open c = opening_opens c.args.self.now c.args.channel c.open_on-index.result c.open_on-index.ensures.first
 
 pub take-requires-else-exclusive-clause-open : goal.take-requires-else-exclusive-clause-open
 take-requires-else-exclusive-clause-open c = preferred_opens c.args.self.now c.args.channel c.preferred-index.result c.preferred-index.ensures.first

@@ -5,10 +5,10 @@ use Rattle.bx_day.specs.Receipts.{opens}
 use Rattle.bx_day.proofs.Received.{lowest_found}
 use Rattle.bx_day.proofs.exchange.Exchange.lowest.Goals as goal
 
-pub returns-in-Some-opening-clause-first : goal.returns-in-Some-opening-clause-first
-returns-in-Some-opening-clause-first c =
+pub returns-in-Some-open_on-clause-first : goal.returns-in-Some-open_on-clause-first
+returns-in-Some-open_on-clause-first c =
     let d = c.args.self.now in
     let n = c.loop-number.number in
     let is : IsChannel n = c.in-Some.ensures.exactly.0 refl in
-    let here : index_of (opens d n) d.entries ≡ Some c.in-Some-opening.index = ap (λ (k : ℕ). index_of (opens d k) d.entries) (sym c.in-Some.ensures.value) ∙ sym c.opening.ensures.first ∙ c.in-Some-opening.is in
-    sym (lowest_found d n c.in-Some-opening.index is c.loop-number.invariant here)
+    let here : index_of (opens d n) d.entries ≡ Some c.in-Some-open_on.index = ap (λ (k : ℕ). index_of (opens d k) d.entries) (sym c.in-Some.ensures.value) ∙ sym c.open_on.ensures.first ∙ c.in-Some-open_on.is in
+    sym (lowest_found d n c.in-Some-open_on.index is c.loop-number.invariant here)

@@ -1,5 +1,5 @@
 use Rattle.std.proofs.Common.{◌≡◌, ◌+◌, cond, ◌&&◌, ◌||◌, not, ◌∙◌, rules}
-use Rattle.bx_line.specs.declared.side.Side.TheVariants.{Leaving, Arriving}
+use Rattle.bx_line.specs.declared.incidence.Incidence.TheVariants.{Leaving, Arriving}
 use Rattle.bx_line.specs.Cliques.{has_row}
 use Rattle.bx_line.proofs.CliqueLemmas.{has_row-first, swept_more}
 use Rattle.bx_line.proofs.line.Line.cliques.Goals as goal

@@ -1,6 +1,6 @@
 use Rattle.std.proofs.Common.{◌≡◌, ℕ, length, subst, arith}
 use Rattle.bx_line.specs.ByPlace.{AreChains}
-use Rattle.bx_line.specs.declared.side.Side.TheVariants.{Leaving, Arriving}
+use Rattle.bx_line.specs.declared.incidence.Incidence.TheVariants.{Leaving, Arriving}
 use Rattle.bx_line.proofs.line.Line.joined.Goals as goal
 
 pub invariant_of-result : goal.invariant_of-result

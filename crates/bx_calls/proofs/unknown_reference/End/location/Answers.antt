@@ -1,5 +1,0 @@
-use Rattle.std.proofs.Common.{rules}
-use Rattle.bx_calls.proofs.unknown_reference.End.location.Goals as goal
-
-pub returns-in-User : goal.returns-in-User
-returns-in-User c = search rules steps 60000

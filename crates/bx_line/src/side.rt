@@ -1,8 +1,0 @@
-/// On which side of its row's arc a place lies.
-#[derive(Clone, Copy, Debug, PartialEq, Eq)]
-pub enum Side {
-    /// The arc leaves the place: the row starts there.
-    Leaving,
-    /// The arc arrives at the place: the row ends there.
-    Arriving,
-}

@@ -1,5 +1,0 @@
-use Rattle.std.proofs.Common.{rules}
-use Rattle.bx_world.proofs.captured.CapturedWorld.is_whole.Goals as goal
-
-pub returns-in-Some : goal.returns-in-Some
-returns-in-Some g c = search rules steps 60000
