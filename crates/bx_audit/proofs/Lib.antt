@@ -1,3 +1,2 @@
-pub mod ToldJournals
 mod Audited
 mod OnItsDay

@@ -1,5 +1,5 @@
 -- What is told of a day by its journal.
-use Rattle.std.specs.Prelude.{◌≡◌, ◌⊎◌, ℕ, Bool, List, [], Option, Some, None, Ok, Err}
+use Rattle.std.specs.Prelude.{◌≡◌, ℕ, Bool, List, Option, None}
 use Rattle.std.specs.Io.KnownBytes.{Appends}
 use Rattle.bx_base.specs.PlanParts.{Parts}
 use Rattle.bx_devices.specs.declared.watched.Watched.{Watched}
@@ -10,21 +10,10 @@ use Rattle.bx_day.specs.Outages.{live_day_after}
 use Rattle.bx_day.specs.Telling.{outcomes_text}
 use Rattle.bx_day_openings.specs.CaptureOpenings.{IsFirstOf, IsFileFor}
 use Rattle.bx_events.specs.Events.{LiveEvent}
-use Rattle.bx_journal.specs.declared.fault.JournalFault.TheVariants.{NotBegun}
-use Rattle.bx_journal.specs.Reading.{recovered}
 use Rattle.bx_journal_openings.specs.Tied.{IsTied}
 use Rattle.bx_request.specs.declared.request.CaptureWords.{CaptureWords}
 use Rattle.bx_audit.specs.LiveCaptures.{live_packets}
-
--- these events are on record in a text, of which a journal that was not begun has none
-abbrev pub AreOnRecord : List ℕ → List ℕ → List LiveEvent → Type 0
-AreOnRecord plan text events = (recovered plan text ≡ Ok events) ⊎ ((recovered plan text ≡ Err NotBegun) × (events ≡ []))
-
--- just these events are on record in the text that was read, which is what there was to read where the journal tells it
-pub record IsJournal (plan : List ℕ) (before : Option (List ℕ)) (events : List LiveEvent) : Type 0 where
-  pub text : List ℕ
-  pub told : (known : List ℕ) → before ≡ Some known → text ≡ known
-  pub are : AreOnRecord plan text events
+use Rattle.bx_journal_openings.specs.Journals.{IsJournal}
 
 -- the day after just the events of a journal, and the file took the packets of its messages
 pub record IsAudited {F : Type 0} (plan : List ℕ) (before : Option (List ℕ)) (contents : F → Option (List ℕ)) (file closed : Option (Watched F)) (first : ℕ) (opened day : Day) : Type 0 where

@@ -5,18 +5,7 @@ use Rattle.bx_day.specs.Day.{Day}
 use Rattle.bx_day.specs.Outages.{live_day_after}
 use Rattle.bx_devices.specs.declared.watched.Watched.{Watched}
 use Rattle.bx_events.specs.Events.{LiveEvent}
-use Rattle.bx_audit.specs.Audits.{IsJournal}
 use Rattle.bx_audit.specs.LiveCaptures.{live_packets}
-
--- all its events were followed
-pub record IsFollowedWhole {F : Type 0} (followed : F → List LiveEvent → F → Type 0) (plan : List ℕ) (before : Option (List ℕ)) (old new : F) : Type 0 where
-  pub events : List LiveEvent
-  pub journal : IsJournal plan before events
-  pub all : followed old events new
-
--- some were, in order, from the first on
-abbrev pub IsFollowedSoFar : {F : Type 0} → (F → List LiveEvent → F → Type 0) → F → F → Type 0
-IsFollowedSoFar followed old new = (events : List LiveEvent) × followed old events new
 
 -- the day went on by these events, and the file took the packets of each, which count from the same first second
 pub record IsLiveCaptured {W : Type 0} (contents : W → Option (List ℕ)) (first first' : ℕ) (file file' : Option (Watched W)) (d d' : Day) (events : List LiveEvent) : Type 0 where

@@ -1,12 +1,11 @@
 -- Private: days one behind another, with what was captured of them.
 use Rattle.std.proofs.Common.{◌≡◌, ℕ, List, [], ◌∷◌, ◌++◌, refl, sym, ap, ◌∙◌, subst, append_assoc, Option}
 use Rattle.bx_devices.specs.declared.watched.Watched.{Watched}
-use Rattle.bx_events.specs.Events.{Event, LiveEvent, OnLink, WithoutLink}
-use Rattle.bx_capture.specs.Captures.{packets_for, Keeps, IsCaptured}
+use Rattle.bx_events.specs.Events.{LiveEvent}
+use Rattle.bx_capture.specs.Captures.{Keeps}
 use Rattle.bx_capture.specs.Keeping.{keeps_nil, keeps_more}
 use Rattle.bx_day.specs.Day.{Day}
-use Rattle.bx_day.specs.Course.{exchange_next, exchange_sent}
-use Rattle.bx_day.specs.Outages.{live_happens, live_day_after, without_link}
+use Rattle.bx_day.specs.Outages.{live_happens, live_day_after}
 use Rattle.bx_recovery.specs.Days.{days_join}
 use Rattle.bx_audit.specs.Followed.{IsLiveCaptured}
 use Rattle.bx_audit.specs.LiveCaptures.{live_packets, live_packets_for}

@@ -1,4 +1,3 @@
-pub mod Answers
 pub mod LiveCaptures
 pub mod Joined
 pub mod Followed

@@ -2,11 +2,11 @@
 use Rattle.std.specs.Prelude.{◌≡◌, ◌⊎◌, ℕ, Bool, true, false, List, Option}
 use Rattle.std.specs.Io.KnownBytes.{Appends}
 use Rattle.bx_base.specs.PlanParts.{Parts}
-use Rattle.bx_book.specs.declared.clock.Clock.{Clock}
+use Rattle.bx_calendar.specs.declared.clock.Clock.{Clock}
 use Rattle.bx_day.specs.Day.{Day, opening}
 use Rattle.bx_day.specs.Outages.{live_day_after}
 use Rattle.bx_day.specs.declared.entry.Entry.{Entry}
-use Rattle.bx_day_openings.specs.Recording.{IsClockOf}
+use Rattle.bx_recording.specs.Recording.{IsClockOf}
 use Rattle.bx_devices.specs.Devices.{Writing, KeepsOutput}
 use Rattle.bx_devices.specs.Octets.{AppendsPrefix}
 use Rattle.bx_events.specs.Events.{LiveEvent}
@@ -14,7 +14,7 @@ use Rattle.bx_journal_openings.specs.Tied.{IsTiedOf}
 use Rattle.bx_records.specs.Totals.{totals_text}
 use Rattle.bx_records.specs.Writing.{IsRecorded}
 use Rattle.bx_request.specs.declared.request.RecordsRequest.{RecordsRequest}
-use Rattle.bx_audit.specs.Audits.{IsJournal}
+use Rattle.bx_journal_openings.specs.Journals.{IsJournal}
 
 -- the opening day of the plan that the input of this name gave, and the digest of the text of this plan
 pub record IsOpeningOf (gives : List ℕ → Option (List ℕ) → Type 0) (name : List ℕ) (opened : Day) (digest : List ℕ) : Type 0 where

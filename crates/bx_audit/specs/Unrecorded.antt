@@ -1,10 +1,10 @@
 -- Why the records of a day are not written by its journal, and what was written then.
 use Rattle.std.specs.Prelude.{◌≡◌, ◌⊎◌, ℕ, List, Option}
-use Rattle.bx_book.specs.declared.clock.Clock.{Clock}
+use Rattle.bx_calendar.specs.declared.clock.Clock.{Clock}
 use Rattle.bx_check_commands.specs.declared.fault.CommandFault.TheVariants.{CannotRead, CannotWrite}
 use Rattle.bx_day.specs.Day.{Day}
 use Rattle.bx_day_openings.specs.OpeningRefusals.{IsNoOpening}
-use Rattle.bx_day_openings.specs.Recording.{IsClockOf, IsNoClock, answer_for}
+use Rattle.bx_recording.specs.Recording.{IsClockOf, IsNoClock, answer_for}
 use Rattle.bx_day_openings.specs.declared.fault.DayCommandFault.{DayCommandFault}
 use Rattle.bx_day_openings.specs.declared.fault.DayCommandFault.TheVariants.{Command, Journal}
 use Rattle.bx_devices.specs.Devices.{Writing, writing_of}
@@ -13,7 +13,7 @@ use Rattle.bx_journal.specs.declared.fault.JournalFault.TheVariants.{BadLine, Ot
 use Rattle.bx_records.specs.Writing.{IsRecordsRefusal}
 use Rattle.bx_records.specs.declared.fault.RecordsFault.{RecordsFault}
 use Rattle.bx_request.specs.declared.request.RecordsRequest.{RecordsRequest}
-use Rattle.bx_audit.specs.AuditRefusals.{IsNoJournalText}
+use Rattle.bx_journal_openings.specs.JournalRefusals.{IsNoJournalText}
 use Rattle.bx_audit.specs.Recorded.{IsOpeningOf, IsDayTold}
 
 -- the input of this name is not read, or just this is the first fault of the text that it gave

@@ -4,18 +4,20 @@ ghost use Rattle.std.specs.Prelude.{◌≡◌, true, List, ℕ, Option, None, If
 ghost use Rattle.bx_devices.specs.Watching.{device_of};
 ghost use Rattle.bx_events.specs.Events.{LiveEvent};
 ghost use Rattle.bx_day_openings.specs.OpeningRefusals.{IsNoOpening};
-ghost use Rattle.bx_audit.specs.AuditRefusals.{HasNoJournal, StopsAudit, IsAuditRefusal};
-ghost use Rattle.bx_audit.specs.Audits.{IsTiedOpening, IsJournal, IsDayAudited, IsAuditTold};
+ghost use Rattle.bx_journal_openings.specs.JournalRefusals.{HasNoJournal};
+ghost use Rattle.bx_audit.specs.AuditRefusals.{StopsAudit, IsAuditRefusal};
+ghost use Rattle.bx_audit.specs.Audits.{IsTiedOpening, IsDayAudited, IsAuditTold};
+ghost use Rattle.bx_journal_openings.specs.Journals.{IsJournal};
 ghost use Rattle.bx_audit.specs.Recorded.{IsOpeningOf};
 
-use crate::following::{Reader, follow_to_end};
+use crate::following::Reader;
 use crate::telling::audited_day;
 use bx_capture::is_whole;
 use bx_check_commands::{CommandFault, Inputs, open};
 use bx_day::Exchange;
 use bx_day_openings::{DayCommandFault, captured, file_of, first_of};
 use bx_devices::Watched;
-use bx_journal_openings::tied_named;
+use bx_journal_openings::{follow_to_end, tied_named};
 use bx_request::AuditRequest;
 use std::alloc::Global;
 use std::fs::Files;

@@ -8,6 +8,5 @@ mod recorded_files;
 mod telling;
 
 pub use audited_files::audit_files;
-pub use following::journal_read;
 pub use recorded_files::record_files;
 pub use telling::audited_day;

@@ -1,7 +1,7 @@
 -- Sets of B channels.
 use Rattle.std.specs.Prelude.{◌≡◌, ◌≢◌, ◌↔◌, ℕ, ◌<◌, Bool, true, List, length, slice_index, if◌then◌else◌, All, Contains}
 use Rattle.bx_channels.specs.ChannelNumbers.{IsChannel}
-use Rattle.bx_base.specs.Marks.{is_marked}
+use Rattle.bx_channels.specs.Marks.{is_marked}
 use Rattle.bx_base.specs.Sums.{sum_below}
 
 -- a set of channels is a list that says of each number whether it is in the set

@@ -1,5 +1,4 @@
 pub mod Sums
-pub mod Marks
 pub mod Channels
 pub mod ChannelFaults
 pub mod Bookings

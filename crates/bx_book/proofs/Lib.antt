@@ -1,6 +1,3 @@
-pub mod Midnights
-pub mod Seconds
-pub mod Shown
 pub mod RowFaults
 mod Passing
 mod Streams

@@ -7,9 +7,9 @@ use Rattle.bx_base.specs.Bookings.{Row}
 use Rattle.bx_channels.specs.Numbers.{IsNumber}
 use Rattle.bx_text.specs.Digits.{decimal_value}
 use Rattle.bx_text.specs.Records.{field_of}
-use Rattle.bx_book.specs.DayParts.{start_of, length_of}
-use Rattle.bx_book.specs.Times.{IsTime, is_whole_time, instant_of}
-use Rattle.bx_book.specs.declared.day.Day.{Day}
+use Rattle.bx_calendar.specs.DayParts.{start_of, length_of}
+use Rattle.bx_calendar.specs.Times.{IsTime, is_whole_time, instant_of}
+use Rattle.bx_calendar.specs.declared.day.Day.{Day}
 use Rattle.bx_book.specs.declared.fault.BookFault.{BookFault}
 use Rattle.bx_book.specs.declared.fault.BookFault.TheVariants as f
 

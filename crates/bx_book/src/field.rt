@@ -4,10 +4,9 @@ ghost use Rattle.std.specs.Prelude.{◌≡◌, ◌≤◌, ◌<◌, ◌⊎◌, �
 ghost use Rattle.bx_book.specs.Rows.{span_of, IsMomentRead, is_pay, pay_value, word_value};
 ghost use Rattle.bx_base.specs.declared.booking.TheConstants.{MAX_MOMENT};
 
-use crate::day::Day;
 use crate::fault::BookFault;
-use crate::time::instant_at;
 use bx_base::MAX_PAY;
+use bx_calendar::{Day, instant_at};
 use bx_text::{all_digits, digits_value};
 
 /// How far a second is from the start of a day, where it is neither before it nor after the day's end.

@@ -5,10 +5,10 @@ ghost use Rattle.csv.specs.Records.{fields_of};
 ghost use Rattle.bx_book.specs.Rows.{span_of, must_of, inward_of};
 ghost use Rattle.bx_book.specs.Inside.{IsRowRead};
 
-use crate::day::Day;
 use crate::fault::BookFault;
 use crate::field::{inward, moment, must, pay};
 use bx_base::Booking;
+use bx_calendar::Day;
 use bx_channels::Number;
 use bx_text::field;
 use csv::ByteRecord;

@@ -10,11 +10,11 @@ ghost use Rattle.bx_book.specs.Texts.{IsBook, IsBookFault};
 ghost use Rattle.bx_book.specs.Streams.{IsBookRead, IsStreamFault};
 ghost use Rattle.bx_book.specs.Told.{IsMeterFault, told_as};
 
-use crate::day::Day;
 use crate::fault::BookFault;
 use crate::metered::{Metered, Origin};
 use crate::text::read_book;
 use bx_base::Bookings;
+use bx_calendar::Day;
 use bx_devices::{MAX_OCTETS, MAX_READS, Watched};
 use bx_text::records_of;
 use std::alloc::Global;

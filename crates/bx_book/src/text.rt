@@ -9,10 +9,10 @@ ghost use Rattle.bx_book.specs.Rows.{span_of};
 ghost use Rattle.bx_book.specs.Texts.{header_columns, IsBook, IsBookFault};
 ghost use Rattle.bx_book.specs.Inside.{told_as};
 
-use crate::day::Day;
 use crate::fault::BookFault;
 use crate::row::booking;
 use bx_base::{Booking, Bookings};
+use bx_calendar::Day;
 use bx_text::{RowForm, RowsFault, is_named, read_records, records_of};
 use csv::{ByteRecord, Reader};
 use std::alloc::{AllocError, Global};
@@ -36,8 +36,13 @@ fn columns_under(header: &ByteRecord) -> Option<usize>
     }
 }
 
-/// The rows of a booking text are bookings of its day.
-impl RowForm for Day {
+/// The rows of a booking text: bookings of its day.
+#[derive(Drop)]
+struct BookRows {
+    day: Day,
+}
+
+impl RowForm for BookRows {
     ghost use Rattle.bx_book.specs.Rows.{span_of};
     ghost use Rattle.bx_book.specs.Texts.{book_form};
 
@@ -47,7 +52,7 @@ impl RowForm for Day {
 
     type List = Bookings;
 
-    ghost form = { λ day. book_form (span_of day) };
+    ghost form = { λ rows. book_form (span_of rows.day) };
 
     ghost rows = { λ bookings. bookings };
 
@@ -61,7 +66,7 @@ impl RowForm for Day {
         columns: usize,
         number: u16,
     ) -> Result<Booking, BookFault> {
-        booking(fields, columns, self, number)
+        booking(fields, columns, &self.day, number)
     }
 
     fn none(alloc: Global) -> Bookings {
@@ -98,7 +103,8 @@ pub(crate) fn read_book<R: Read>(
     ensures ok { IfOk result (λ bookings. IfSome (source_of R.remaining records.old) (λ text. IsBook text (span_of day.now) bookings)) }
     ensures err { IfErr result (λ e. IfSome (source_of R.remaining records.old) (λ text. IsBookFault text (span_of day.now) e)) }
 {
-    match read_records(alloc, day, records) {
+    let rows = BookRows { day: *day };
+    match read_records(alloc, &rows, records) {
         Ok(bookings) => Ok(bookings),
         Err(fault) => Err(told_as(fault)),
     }

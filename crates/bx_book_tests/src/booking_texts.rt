@@ -3,7 +3,8 @@
 use crate::days_of_zones::EUROPE;
 use crate::text_faults::is_refused;
 use bx_base::{Booking, Bookings};
-use bx_book::{Day, read_bookings};
+use bx_book::read_bookings;
+use bx_calendar::Day;
 use std::alloc::{AllocError, Global};
 use std::test::Fail;
 

@@ -1,7 +1,7 @@
 //! Days of a time zone, and what is no day.
 
 use crate::printed_faults::is_printed;
-use bx_book::{Day, DayFault};
+use bx_calendar::{Day, DayFault};
 
 pub(crate) const EUROPE: &str = "CET-1CEST,M3.5.0,M10.5.0/3";
 

@@ -3,7 +3,8 @@
 use crate::booking_texts::last_of;
 use crate::printed_faults::is_read_as;
 use bx_base::{Booking, Bookings};
-use bx_book::{Day, StreamFault, read_bookings_from};
+use bx_book::{StreamFault, read_bookings_from};
+use bx_calendar::Day;
 use bx_devices::{Failing, Watched};
 use std::alloc::Global;
 use std::test::Fail;

@@ -1,7 +1,7 @@
 //! The names of the hours, and the times of the bars, also on days on which a clock is put forward or back.
 
 use crate::pictures::written;
-use bx_book::Clock;
+use bx_calendar::Clock;
 use std::alloc::Global;
 
 /// Central Europe: an hour forward at 2:00, an hour back at 3:00.

@@ -2,7 +2,7 @@
 
 use crate::small_picture::SMALL;
 use bx_base::{Booking, Bookings, ChannelSet, Plan, Price};
-use bx_book::Clock;
+use bx_calendar::Clock;
 use bx_channels::{Channel, Number};
 use bx_chart::{ChartFault, write_chart};
 use bx_devices::{Failing, Watched};

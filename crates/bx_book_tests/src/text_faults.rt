@@ -1,7 +1,8 @@
 //! Texts that are no bookings, with the first fault of each.
 
 use crate::printed_faults::is_printed;
-use bx_book::{Day, read_bookings};
+use bx_book::read_bookings;
+use bx_calendar::Day;
 use std::alloc::Global;
 use std::test::Fail;
 

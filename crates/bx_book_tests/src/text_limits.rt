@@ -1,7 +1,8 @@
 //! The longest text, and the last read.
 
 use crate::printed_faults::{is_printed, is_read_as};
-use bx_book::{Day, StreamFault, read_bookings_from};
+use bx_book::{StreamFault, read_bookings_from};
+use bx_calendar::Day;
 use bx_devices::Watched;
 use std::alloc::{AllocError, Global};
 use std::io;

@@ -2,10 +2,6 @@
 use Rattle.std.specs.Prelude.{ℕ, not, Bool, true, false, List, ◌∷◌, Option, Some, None, slice_index_or, replicate}
 use Rattle.bx_q931.specs.Outgoing.{Outgoing}
 
--- whether a channel is in a set of them
-abbrev pub is_set : List Bool → ℕ → Bool
-is_set channels c = slice_index_or channels c false
-
 -- no channel
 abbrev pub no_channel : List Bool
 no_channel = replicate 32 false

@@ -1,11 +1,11 @@
 //! The second at which a captured day begins.
 
 ghost use Rattle.std.specs.Prelude.{◌≡◌, ◌≤◌, pos, IfOk, IsErr};
-ghost use Rattle.bx_book.specs.DayParts.{start_of};
+ghost use Rattle.bx_calendar.specs.DayParts.{start_of};
 ghost use Rattle.bx_capture.specs.Starts.{IsNameable};
 
 use crate::fault::BeyondCapture;
-use bx_book::Day;
+use bx_calendar::Day;
 
 /// The last second from which a packet can name each of the 300,000 seconds behind it.
 const LAST_START: i64 = 4_294_667_295;

@@ -1,3 +1,4 @@
 pub mod ChannelNumbers
 pub mod Numbers
 pub mod NumberInside
+pub mod Marks

@@ -5,8 +5,8 @@ use Rattle.bx_base.specs.Channels.{has_channel}
 use Rattle.bx_base.specs.PlanParts.{Parts}
 use Rattle.bx_base.specs.Plans.{is_accepted, channel_at}
 use Rattle.bx_base.specs.Sums.{sum_below}
-use Rattle.bx_book.specs.Clocks.{second_shown_by}
-use Rattle.bx_book.specs.declared.clock.Clock.{Clock}
+use Rattle.bx_calendar.specs.Clocks.{second_shown_by}
+use Rattle.bx_calendar.specs.declared.clock.Clock.{Clock}
 
 -- the lane of a channel: how many channels in service have a lower number
 abbrev pub lane_of : List Bool → ℕ → ℕ

@@ -4,7 +4,7 @@ use Rattle.std.specs.Io.KnownBytes.{Appends}
 use Rattle.bx_devices.specs.Devices.{Writing, KeepsOutput}
 use Rattle.bx_devices.specs.Octets.{AppendsPrefix}
 use Rattle.bx_base.specs.PlanParts.{Parts}
-use Rattle.bx_book.specs.declared.clock.Clock.{Clock}
+use Rattle.bx_calendar.specs.declared.clock.Clock.{Clock}
 use Rattle.bx_chart.specs.Plain.{is_plain}
 use Rattle.bx_chart.specs.Bars.{bars}
 use Rattle.bx_chart.specs.Barless.{IsBarless}

@@ -3,9 +3,9 @@ use Rattle.std.specs.Prelude.{ℕ, zero, suc, ◌+◌, ◌*◌, ◌/◌, ◌%◌
 use Rattle.bx_base.specs.Bookings.{Row, row_at}
 use Rattle.bx_base.specs.Channels.{count_of}
 use Rattle.bx_base.specs.PlanParts.{Parts}
-use Rattle.bx_book.specs.Clocks.{clock_day, shown_by}
-use Rattle.bx_book.specs.DayParts.{length_of}
-use Rattle.bx_book.specs.declared.clock.Clock.{Clock}
+use Rattle.bx_calendar.specs.Clocks.{clock_day, shown_by}
+use Rattle.bx_calendar.specs.DayParts.{length_of}
+use Rattle.bx_calendar.specs.declared.clock.Clock.{Clock}
 use Rattle.bx_chart.specs.Bars.{two_digits}
 
 -- how long the day is: as its clock says, or 86,400 seconds

@@ -8,7 +8,7 @@ ghost use Rattle.bx_chart.specs.Bars.{lane_of, two_digits, clock, class_of, top_
 
 use crate::picture::Picture;
 use bx_base::{Booking, ChannelSet, Plan};
-use bx_book::Clock;
+use bx_calendar::Clock;
 use bx_channels::Channel;
 use std::alloc::{AllocError, Global};
 

@@ -7,7 +7,7 @@ ghost use Rattle.bx_chart.specs.Sheets.{room};
 use crate::bars::add_two_digits;
 use crate::picture::Picture;
 use crate::sheet::{BAND, Sheet, TOP};
-use bx_book::Clock;
+use bx_calendar::Clock;
 use std::alloc::AllocError;
 
 /// Adds a line and its name for each hour from the day's start on, or for each second or third one of a long day. It is

@@ -7,7 +7,7 @@ ghost use Rattle.bx_chart.specs.Hours.{across, day_length, latest_below, lanes_e
 ghost use Rattle.bx_base.specs.declared.booking.TheConstants.{MAX_MOMENT};
 
 use bx_base::Plan;
-use bx_book::Clock;
+use bx_calendar::Clock;
 
 /// Where the day begins, how wide it is, and where the lanes begin, in units of the picture.
 pub(crate) const LEFT: u64 = 56;

@@ -15,7 +15,7 @@ use crate::prices::add_prices;
 use crate::sheet::Sheet;
 use crate::starts::add_starts;
 use bx_base::Plan;
-use bx_book::Clock;
+use bx_calendar::Clock;
 use bx_devices::{Watched, write_octets};
 use std::alloc::{AllocError, Global};
 use std::io::Write;

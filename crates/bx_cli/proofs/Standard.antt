@@ -13,6 +13,16 @@ use Rattle.bx_plan_commands.specs.declared.fault.FileFault.{FileFault}
 use Rattle.bx_request.specs.declared.request.FileRequest.{FileRequest}
 use Rattle.bx_request.specs.declared.request.RecordsRequest.{RecordsRequest}
 
+-- what a command promises at its status
+
+pub done_at : {T E P : Type 0} (r : Result T E) (status : ℕ) → (status ≡ 0) ↔ IsOk r → OnOk r P → status ≡ 0 → P
+done_at (Ok value) status is what zero = what
+done_at (Err fault) status (there, back) what zero = absurd (false≢true (there zero))
+
+pub refused_at : {T E : Type 0} {Q : E → Type 0} (r : Result T E) (status : ℕ) → (status ≡ 0) ↔ IsOk r → IfErr r Q → status ≢ 0 → (fault : E) × Q fault
+refused_at (Ok value) status (there, back) why some = absurd (some (back refl))
+refused_at (Err fault) status is why some = (fault, why)
+
 pub is_done : {X T : Type 0} (remaining : X → Option (List ℕ)) (o : Option X) (x : X) (request : FileRequest) (output : Writing) (r : Result T FileFault) (status : ℕ) → o ≡ Some x → (status ≡ 0) ↔ IsOk r
     → OnOk r (plans.IsDone (λ name text. name ≡ codes "-" → GivesOnce remaining o text) request output) → status ≡ 0 → plans.IsDone (GivesStandard (remaining x)) request output
 is_done {X = X} remaining o x request output (Ok value) status is both what zero = subst (λ (p : Option X). plans.IsDone (λ name text. name ≡ codes "-" → GivesOnce remaining p text) request output) is what

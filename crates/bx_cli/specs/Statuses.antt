@@ -14,9 +14,9 @@ use Rattle.bx_day_commands.specs.DayRequests as days
 use Rattle.bx_day_openings.specs.declared.fault.DayCommandFault.{DayCommandFault}
 use Rattle.bx_live_commands.specs.LiveDays.{IsLiveTold}
 use Rattle.bx_live_commands.specs.LiveRefusals.{IsLiveRefusal}
-use Rattle.bx_live_commands.specs.RehearsedDays.{IsRehearsalTold}
-use Rattle.bx_live_commands.specs.RehearsalRefusals.{IsRehearsalRefusal}
-use Rattle.bx_live_commands.specs.declared.fault.LiveFault.{LiveFault}
+use Rattle.bx_rehearsal_commands.specs.RehearsedDays.{IsRehearsalTold}
+use Rattle.bx_rehearsal_commands.specs.RehearsalRefusals.{IsRehearsalRefusal}
+use Rattle.bx_day_runs.specs.declared.fault.LiveFault.{LiveFault}
 use Rattle.bx_plan_commands.specs.FileRequests as plans
 use Rattle.bx_plan_commands.specs.declared.fault.FileFault.{FileFault}
 use Rattle.bx_rejoin_commands.specs.Rejoined.{IsRejoinDone}

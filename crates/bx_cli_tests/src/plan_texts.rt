@@ -1,7 +1,8 @@
 //! Planning from a text to a text, over readers and writers that fail at each place.
 
 use bx_base::ChannelSet;
-use bx_book::{BookFault, Day};
+use bx_book::BookFault;
+use bx_calendar::Day;
 use bx_devices::{Failing, Watched};
 use bx_plan_run::{RunFault, plan_run};
 use std::alloc::Global;

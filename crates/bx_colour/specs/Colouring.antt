@@ -1,6 +1,6 @@
 -- First-fit colouring of accepted bookings by channels, and when it comes to an end (Carlisle and Lloyd 1995).
 use Rattle.std.specs.Prelude.{◌≡◌, ℕ, ◌<◌, ◌≤◌, ◌&&◌, ◌⊎◌, Bool, true, false, List, length, Option, Some, None, slice_index_or, if◌then◌else◌}
-use Rattle.bx_base.specs.Marks.{is_marked}
+use Rattle.bx_channels.specs.Marks.{is_marked}
 use Rattle.bx_base.specs.Sums.{sum_below}
 use Rattle.bx_base.specs.Channels.{has_channel, count_of}
 use Rattle.bx_base.specs.Bookings.{Row, row_at, is_running, Overlap}

@@ -1,6 +1,6 @@
 -- Clearing takes 38 seconds at most after the end of a booking, of those with a link: every event keeps that.
 use Rattle.std.proofs.Common.{◌≡◌, ℕ, ◌+◌, ◌≤◌, ◌<◌, Bool, true, false, List, [], ◌∷◌, map, Option, Some, None, arith, refl, inl, inr, nat_le, nat_lt, if◌then◌else◌, Result, Ok, Err, ◌==◌}
-use Rattle.std.specs.List.{AllByRecursion}
+use Rattle.std.specs.List.{AllByRecursion, position}
 use Rattle.std.proofs.lemmas.Bool.{leb-false, le-leb, lt-ltb, and_from, cases_lt, false≢true}
 use Rattle.bx_q931.specs.Outgoing.{Outgoing}
 use Rattle.bx_events.specs.Events.{Event, Tick, Receive, LiveEvent, OnLink, WithoutLink}
@@ -24,7 +24,7 @@ use Rattle.bx_calls.specs.Hearing.{Heard, reports_null}
 use Rattle.bx_calls.specs.NetTable.{net_row, net_second, net_unlinked}
 use Rattle.bx_calls.specs.Said.{Said, said_of}
 use Rattle.bx_calls.specs.Sending.{Sent, Answered}
-use Rattle.bx_day.specs.Day.{Day, entry_at, is_free, opening, entry_of, entries_from, index_of, every_channel}
+use Rattle.bx_day.specs.Day.{Day, entry_at, is_free, opening, entry_of, entries_from, every_channel}
 use Rattle.bx_day.specs.Moves.{follow, follows, over_at}
 use Rattle.bx_day.specs.Ticks.{after_in, second_at, waits, unlinked_at}
 use Rattle.bx_day.specs.Receipts.{hears, takes_call, takes_or, takes_preferred, called_on, called, stray, received_at, opens, lowest_open, names, with_moved}
@@ -213,8 +213,8 @@ on_clears : (lost : ℕ → ℕ) (d : Day) (m : Said) (f : ChannelField) → Day
 on_clears lost d m Absent h = takes_clears lost d m 34 (lowest_open d every_channel) h
 on_clears lost d m AnyChannel h = takes_clears lost d m 34 (lowest_open d every_channel) h
 on_clears lost d m Unread h = h
-on_clears lost d m (Named c true) h = takes_clears lost d m 44 (index_of (opens d c) d.entries) h
-on_clears lost d m (Named c false) h = preferred_clears lost d m (index_of (opens d c) d.entries) h
+on_clears lost d m (Named c true) h = takes_clears lost d m 44 (position (opens d c) d.entries) h
+on_clears lost d m (Named c false) h = preferred_clears lost d m (position (opens d c) d.entries) h
 
 called_clears : (lost : ℕ → ℕ) (d : Day) (m : Said) (b : Option ℕ) → DayClears lost d → DayClears lost (called d m b).day
 called_clears lost d m (Some cause) h = h
@@ -232,7 +232,7 @@ received_clears lost d m (Some i) fits h =
 
 from_clears : (lost : ℕ → ℕ) (d : Day) (m : PlainMessage) (r : Reference) → DayFits d → DayClears lost d → DayClears lost (receive_from d m r).day
 from_clears lost d m Dummy fits h = h
-from_clears lost d m (Value value flag) fits h = by_cases (value == 0) _ _ (λ (x : Answered Day). DayClears lost x.day) (λ _. h) (λ _. received_clears lost d (said_of value flag m) (index_of (names (said_of value flag m)) d.entries) fits h)
+from_clears lost d m (Value value flag) fits h = by_cases (value == 0) _ _ (λ (x : Answered Day). DayClears lost x.day) (λ _. h) (λ _. received_clears lost d (said_of value flag m) (position (names (said_of value flag m)) d.entries) fits h)
 
 read_clears : (lost : ℕ → ℕ) (d : Day) (r : Result PlainMessage MessageFault) → DayFits d → DayClears lost d → DayClears lost (receive_read d r).day
 read_clears lost d (Err fault) fits h = h

@@ -2,7 +2,7 @@
 use Rattle.std.proofs.Common.{◌≡◌, ◌≢◌, ℕ, zero, suc, ◌+◌, ◌≤◌, ◌<◌, not, Bool, true, false, List, [], ◌∷◌, map, length, Option, Some, None, arith, refl, sym, subst, ap, ◌∙◌, slice_set, slice_index_or, nat_le, nat_lt, ◌==◌, Result, Ok, Err}
 use Rattle.std.specs.Prelude.{is_some}
 use Rattle.std.specs.Option.{unwrap_or}
-use Rattle.std.specs.List.{AllByRecursion}
+use Rattle.std.specs.List.{AllByRecursion, position}
 use Rattle.std.proofs.lemmas.Bool.{false≢true, true≢false, and_from, le-leb, lt-ltb}
 use Rattle.bx_q931.specs.declared.kind.Kind.{Kind}
 use Rattle.bx_q931.specs.declared.kind.Kind.TheVariants.{Setup}
@@ -22,7 +22,7 @@ use Rattle.bx_day.specs.declared.entry.Entry.{Entry}
 use Rattle.bx_day.specs.declared.entry.Moved.{Moved}
 use Rattle.bx_day.specs.declared.entry.Link.{Link}
 use Rattle.bx_day.specs.declared.entry.Link.TheVariants.{Up, Down}
-use Rattle.bx_day.specs.Day.{Day, entry_at, no_entry, opening, entry_of, entries_from, is_free, is_live, index_of, every_channel}
+use Rattle.bx_day.specs.Day.{Day, entry_at, no_entry, opening, entry_of, entries_from, is_free, is_live, every_channel}
 use Rattle.bx_day.specs.Ticks.{after_in, second_at, second_by, waits, tick, passed_in}
 use Rattle.bx_day.specs.Receipts.{hears, takes_call, takes_or, takes_preferred, called_on, called, stray, received_at, receive, opens, lowest_open, names, with_moved}
 use Rattle.bx_calls.specs.Sending.{Sent, Answered}
@@ -213,8 +213,8 @@ on_framed : (rows : List Row) (assigned : List (Option ℕ)) (d : Day) (m : Said
 on_framed rows assigned d m Absent h = takes_framed rows assigned d m 34 (lowest_open d every_channel) (open_lowest d every_channel) h
 on_framed rows assigned d m AnyChannel h = takes_framed rows assigned d m 34 (lowest_open d every_channel) (open_lowest d every_channel) h
 on_framed rows assigned d m Unread h = h
-on_framed rows assigned d m (Named c true) h = takes_framed rows assigned d m 44 (index_of (opens d c) d.entries) (open_index d c) h
-on_framed rows assigned d m (Named c false) h = preferred_framed rows assigned d m (index_of (opens d c) d.entries) (open_index d c) h
+on_framed rows assigned d m (Named c true) h = takes_framed rows assigned d m 44 (position (opens d c) d.entries) (open_index d c) h
+on_framed rows assigned d m (Named c false) h = preferred_framed rows assigned d m (position (opens d c) d.entries) (open_index d c) h
 
 called_framed : (rows : List Row) (assigned : List (Option ℕ)) (d : Day) (m : Said) (b : Option ℕ) → Framed rows assigned d → Framed rows assigned (called d m b).day
 called_framed rows assigned d m (Some cause) h = h
@@ -234,7 +234,7 @@ pub record RunFits (rows : List Row) (assigned : List (Option ℕ)) (d : Day) : 
   pub framed : Framed rows assigned d
 
 received_run : (rows : List Row) (assigned : List (Option ℕ)) (d : Day) (m : Said) → RunFits rows assigned d → RunFits rows assigned (receive d m).day
-received_run rows assigned d m h = record { day = receive_fits d m h.day; framed = received_framed rows assigned d m (index_of (names m) d.entries) h.framed }
+received_run rows assigned d m h = record { day = receive_fits d m h.day; framed = received_framed rows assigned d m (position (names m) d.entries) h.framed }
 
 from_run : (rows : List Row) (assigned : List (Option ℕ)) (d : Day) (m : PlainMessage) (r : Reference) → RunFits rows assigned d → RunFits rows assigned (receive_from d m r).day
 from_run rows assigned d m Dummy h = h

@@ -5,7 +5,8 @@ use Rattle.std.proofs.lemmas.Bool.{false≢true, true≢false, leb-true}
 use Rattle.std.proofs.lemmas.List.{drop_all}
 use Rattle.bx_channels.specs.ChannelNumbers.{IsChannel}
 use Rattle.bx_q931.specs.Outgoing.{Outgoing}
-use Rattle.bx_calls.specs.Shared.{is_set, cons_some}
+use Rattle.bx_calls.specs.Shared.{cons_some}
+use Rattle.bx_channels.specs.Marks.{is_marked}
 use Rattle.bx_day.specs.Day.{Day, is_held, is_free, every_channel}
 use Rattle.bx_day.specs.Ticks.{second_at, second_by, second_in, after_in, said_on, tick, ticked, passed_in}
 use Rattle.bx_day.specs.Moves.{stays}
@@ -35,11 +36,11 @@ not_or : (a b : Bool) → not (a || b) ≡ (not a && not b)
 not_or true b = refl
 not_or false b = refl
 
-pub free_is : (d : Day) (blocked : List Bool) (c k : ℕ) → c ≡ k → AreBlocked d blocked → not (is_set blocked c) ≡ is_free d k
-free_is d blocked c k on set = ap not (set c) ∙ not_or (is_held d.entries c) (is_set d.maintenance c) ∙ ap (is_free d) on
+pub free_is : (d : Day) (blocked : List Bool) (c k : ℕ) → c ≡ k → AreBlocked d blocked → not (is_marked blocked c) ≡ is_free d k
+free_is d blocked c k on set = ap not (set c) ∙ not_or (is_held d.entries c) (is_marked d.maintenance c) ∙ ap (is_free d) on
 
 -- what a booking does, where its channel is known to be blocked or not
-pub moved_is : (link : Link) (d : Day) (e e' : Entry) (m : Moved) (blocked : List Bool) (c : ℕ) → e ≡ e' → c ≡ e.channel → AreBlocked d blocked → m ≡ second_by link e (d.moment + 1) (not (is_set blocked c)) e.standing → m ≡ second_in link d e'
+pub moved_is : (link : Link) (d : Day) (e e' : Entry) (m : Moved) (blocked : List Bool) (c : ℕ) → e ≡ e' → c ≡ e.channel → AreBlocked d blocked → m ≡ second_by link e (d.moment + 1) (not (is_marked blocked c)) e.standing → m ≡ second_in link d e'
 moved_is link d e e' m blocked c same on set is =
     is ∙ ap (λ f. second_by link e (d.moment + 1) f e.standing) (free_is d blocked c e.channel on set) ∙ ap (second_in link d) same
 

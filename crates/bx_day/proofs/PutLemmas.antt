@@ -1,11 +1,12 @@
 -- What a message of a call, or one that begins it, leaves in the slots.
 use Rattle.std.proofs.Common.{◌≡◌, ◌≢◌, ℕ, ◌≤◌, ◌<◌, ◌||◌, true, false, List, length, Option, Some, None, arith, refl, sym, subst, ap, ◌∙◌, inl, inr, slice_set, length-set, if◌then◌else◌}
 use Rattle.std.specs.Prelude.{is_some}
+use Rattle.std.specs.List.{position}
 use Rattle.std.proofs.lemmas.Bool.{true≢false, false≢true, cases_eq, or_cases}
 use Rattle.std.proofs.lemmas.List.{get_or-set_same, get_or-set_other}
 use Rattle.bx_calls.specs.NetTable.{net_message}
 use Rattle.bx_calls.specs.Said.{Said}
-use Rattle.bx_day.specs.Day.{index_of, Day, is_live, is_unoffered, holds, entry_at, no_entry}
+use Rattle.bx_day.specs.Day.{Day, is_live, is_unoffered, holds, entry_at, no_entry}
 use Rattle.bx_day.specs.Receipts.{hears, names, is_open}
 use Rattle.bx_day.specs.Invariant.{is_refused}
 use Rattle.bx_day.specs.Reading.{IsExchange, Seated}
@@ -228,5 +229,5 @@ pub live_turned : (d : Day) (e : Entry) → is_live e.standing ≡ true → IsTu
 live_turned d e h = ap (λ b. b || is_open d e) h
 
 -- one that is named is live
-pub named_there_live : (d : Day) (m : Said) (i : ℕ) → index_of (names m) d.entries ≡ Some i → is_live (entry_at d.entries i).standing ≡ true
+pub named_there_live : (d : Day) (m : Said) (i : ℕ) → position (names m) d.entries ≡ Some i → is_live (entry_at d.entries i).standing ≡ true
 named_there_live d m i is = named_live m (entry_at d.entries i) (subst (Passes (names m) d.entries) is (index_passes (names m) d.entries))

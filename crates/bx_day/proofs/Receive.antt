@@ -1,14 +1,15 @@
 -- A receipt keeps what is true of a day.
 use Rattle.std.proofs.Common.{◌≡◌, ℕ, zero, suc, ◌==◌, ◌&&◌, Bool, true, false, List, [], ◌∷◌, Option, Some, None, refl, sym, subst, slice_set}
-use Rattle.std.specs.List.{AllByRecursion}
+use Rattle.std.specs.List.{AllByRecursion, position}
 use Rattle.std.proofs.lemmas.Bool.{and_parts, false≢true, true≢false}
+use Rattle.std.proofs.lemmas.List.Quantifiers.{position-Some}
 use Rattle.bx_q931.specs.declared.kind.Kind.{Kind}
 use Rattle.bx_q931.specs.declared.kind.Kind.TheVariants.{Setup}
 use Rattle.bx_q931.specs.declared.channel_field.ChannelField.{ChannelField}
 use Rattle.bx_q931.specs.declared.channel_field.ChannelField.TheVariants.{Absent, Named, AnyChannel, Unread}
 use Rattle.bx_base.specs.Bookings.{is_running}
 use Rattle.bx_calls.specs.Said.{Said}
-use Rattle.bx_day.specs.Day.{Day, is_live, is_held, is_free, is_unoffered, index_of, one_more, entry_at, no_entry, every_channel}
+use Rattle.bx_day.specs.Day.{Day, is_live, is_held, is_free, is_unoffered, entry_at, no_entry, every_channel}
 use Rattle.bx_day.specs.Receipts.{is_open, opens, or_else, lowest_open, names, hears, takes_call, takes_or, takes_preferred, called_on, called, stray, received_at, receive}
 use Rattle.bx_calls.specs.Sending.{Answered}
 use Rattle.bx_day.specs.declared.entry.Entry.{Entry}
@@ -49,13 +50,12 @@ abbrev pub Passes : (Entry → Bool) → List Entry → Option ℕ → Type 0
 Passes test es None = Unit {0}
 Passes test es (Some i) = test (entry_at es i) ≡ true
 
-pub passes_more : (test : Entry → Bool) (e : Entry) (es : List Entry) (o : Option ℕ) → Passes test es o → Passes test (e ∷ es) (one_more o)
-passes_more test e es None h = tt
-passes_more test e es (Some i) h = h
-
-pub index_passes : (test : Entry → Bool) (es : List Entry) → Passes test es (index_of test es)
-index_passes test [] = tt
-index_passes test (e ∷ es) = by_cases (test e) _ _ (λ (o : Option ℕ). Passes test (e ∷ es) o) (λ h. h) (λ _. passes_more test e es (index_of test es) (index_passes test es))
+pub index_passes : (test : Entry → Bool) (es : List Entry) → Passes test es (position test es)
+index_passes test es = at (position test es) refl
+  where
+    at : (o : Option ℕ) → position test es ≡ o → Passes test es o
+    at None is = tt
+    at (Some i) is = (position-Some test es i no_entry is).1
 
 -- a live booking that hears a message
 pub hears_fits : (m : Said) (t : ℕ) (e : Entry) (s : Standing) → EntryFits t (with_standing e s) → EntryFits t (with_standing e (hears m t s).standing)
@@ -131,8 +131,8 @@ pub open_at_channel : (d : Day) (c : ℕ) (o : Option ℕ) → Passes (opens d c
 open_at_channel d c None h = tt
 open_at_channel d c (Some i) h = (and_parts (is_open d (entry_at d.entries i)) ((entry_at d.entries i).channel == c) h).0
 
-pub open_index : (d : Day) (c : ℕ) → OpenAt d (index_of (opens d c) d.entries)
-open_index d c = open_at_channel d c (index_of (opens d c) d.entries) (index_passes (opens d c) d.entries)
+pub open_index : (d : Day) (c : ℕ) → OpenAt d (position (opens d c) d.entries)
+open_index d c = open_at_channel d c (position (opens d c) d.entries) (index_passes (opens d c) d.entries)
 
 pub open_or : (d : Day) (o p : Option ℕ) → OpenAt d o → OpenAt d p → OpenAt d (or_else o p)
 open_or d None p h k = k
@@ -140,7 +140,7 @@ open_or d (Some i) p h k = h
 
 pub open_lowest : (d : Day) (cs : List ℕ) → OpenAt d (lowest_open d cs)
 open_lowest d [] = tt
-open_lowest d (c ∷ cs) = open_or d (index_of (opens d c) d.entries) (lowest_open d cs) (open_index d c) (open_lowest d cs)
+open_lowest d (c ∷ cs) = open_or d (position (opens d c) d.entries) (lowest_open d cs) (open_index d c) (open_lowest d cs)
 
 pub takes_fits : (d : Day) (m : Said) (cause : ℕ) (o : Option ℕ) → OpenAt d o → DayFits d → DayFits (takes_or d m cause o).day
 takes_fits d m cause None h fits = fits
@@ -170,8 +170,8 @@ pub on_fits : (d : Day) (m : Said) (f : ChannelField) → DayFits d → DayFits 
 on_fits d m Absent fits = takes_fits d m 34 (lowest_open d every_channel) (open_lowest d every_channel) fits
 on_fits d m AnyChannel fits = takes_fits d m 34 (lowest_open d every_channel) (open_lowest d every_channel) fits
 on_fits d m Unread fits = fits
-on_fits d m (Named c true) fits = takes_fits d m 44 (index_of (opens d c) d.entries) (open_index d c) fits
-on_fits d m (Named c false) fits = preferred_fits d m (index_of (opens d c) d.entries) (open_index d c) fits
+on_fits d m (Named c true) fits = takes_fits d m 44 (position (opens d c) d.entries) (open_index d c) fits
+on_fits d m (Named c false) fits = preferred_fits d m (position (opens d c) d.entries) (open_index d c) fits
 
 pub called_fits : (d : Day) (m : Said) (refused : Option ℕ) → DayFits d → DayFits (called d m refused).day
 called_fits d m (Some cause) fits = fits
@@ -186,4 +186,4 @@ received_fits d m None fits = stray_fits d m m.heard.kind fits
 received_fits d m (Some i) fits = heard_fits d m i fits
 
 pub receive_fits : (d : Day) (m : Said) → DayFits d → DayFits (receive d m).day
-receive_fits d m fits = received_fits d m (index_of (names m) d.entries) fits
+receive_fits d m fits = received_fits d m (position (names m) d.entries) fits

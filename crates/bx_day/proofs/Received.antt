@@ -1,6 +1,8 @@
 -- What a message does to a day is what the definition says, and a day stays one that an exchange may be in.
 use Rattle.std.proofs.Common.{◌≡◌, ℕ, zero, suc, ◌+◌, ◌≤◌, ◌<◌, ◌==◌, ◌&&◌, ◌||◌, not, Bool, true, false, List, [], ◌∷◌, length, Option, Some, None, arith, refl, sym, subst, ap, ◌∙◌, slice_set, nat_le, nat_lt, ◌≢◌, inl, inr, if◌then◌else◌}
 use Rattle.std.specs.Prelude.{is_some, IfSome}
+use Rattle.std.specs.List.{position}
+use Rattle.std.specs.Option.{option_map}
 use Rattle.std.proofs.lemmas.Bool.{and_parts, true≢false, false≢true, eqb-true, eqb-false, leb-true, ltb-true, not-true, or_cases, cases_eq, false_from_ne_true}
 use Rattle.bx_q931.specs.declared.kind.Kind.{Kind}
 use Rattle.bx_q931.specs.declared.kind.Kind.TheVariants.{Alerting, CallProceeding, Setup, Connect, ConnectAcknowledge, Disconnect, Release, ReleaseComplete, StatusEnquiry, Status}
@@ -16,8 +18,9 @@ use Rattle.bx_calls.specs.NetTable.{net_row, net_flag, net_answered}
 use Rattle.bx_base.specs.Bookings.{is_running}
 use Rattle.bx_channels.specs.ChannelNumbers.{IsChannel}
 use Rattle.bx_calls.specs.Said.{Said}
-use Rattle.bx_calls.specs.Shared.{bool_eq, is_set}
-use Rattle.bx_day.specs.Day.{Day, holds, is_held, is_free, is_unoffered, index_of, one_more, every_channel, entry_at}
+use Rattle.bx_calls.specs.Shared.{bool_eq}
+use Rattle.bx_channels.specs.Marks.{is_marked}
+use Rattle.bx_day.specs.Day.{Day, holds, is_held, is_free, is_unoffered, every_channel, entry_at}
 use Rattle.bx_day.specs.Receipts.{is_open, opens, or_else, lowest_open, names, names_call, hears, takes_call, takes_or, takes_preferred, with_moved, received_at}
 use Rattle.bx_day.specs.Moves.{becomes, follows}
 use Rattle.bx_day.specs.declared.entry.Activity.{Activity}
@@ -29,7 +32,7 @@ use Rattle.bx_day.specs.declared.entry.Standing.TheVariants.{Refused, Unoffered,
 use Rattle.bx_day.specs.Invariant.{StandingFits, EntryFits, OriginFits, DayFits, is_refused}
 use Rattle.bx_day.specs.Reading.{IsExchange, Seated}
 use Rattle.bx_day.specs.Calling.{awaits}
-use Rattle.bx_day.proofs.Indices.{index_found, index_none}
+use Rattle.bx_day.proofs.Indices.{index_found, index_none, position_next}
 use Rattle.bx_day.proofs.Receive.{all_at, OpenAt, open_parts, open_index, open_lowest, open_or, takes_fits, received_fits, hears_refused}
 use Rattle.bx_day.proofs.Tick.{with_standing}
 use Rattle.bx_day.proofs.Law.{all_update}
@@ -93,13 +96,13 @@ named_place d m k h flag lt named =
     let e = entry_at d.entries k in
     sym (h.numbered k lt) ∙ standing_row d.moment m e e.standing flag (all_at (EntryFits d.moment) tt d.entries k h.day.each) named
 
-pub outward_found : (d : Day) (m : Said) (i : ℕ) → IsExchange d → m.flag ≡ true → i < length d.entries → names m (entry_at d.entries i) ≡ true → index_of (names m) d.entries ≡ Some i
+pub outward_found : (d : Day) (m : Said) (i : ℕ) → IsExchange d → m.flag ≡ true → i < length d.entries → names m (entry_at d.entries i) ≡ true → position (names m) d.entries ≡ Some i
 outward_found d m i h flag lt named =
     let here = named_place d m i h flag lt named in
     index_found (names m) d.entries i lt named (λ k less. false_from_ne_true (names m (entry_at d.entries k)) (λ other.
     let there = named_place d m k h flag (omega (arith, less, lt)) other in omega (arith, here, there, less)))
 
-pub outward_none : (d : Day) (m : Said) (i : ℕ) → IsExchange d → m.flag ≡ true → m.reference ≡ i + 1 → (i < length d.entries → names m (entry_at d.entries i) ≡ false) → index_of (names m) d.entries ≡ None
+pub outward_none : (d : Day) (m : Said) (i : ℕ) → IsExchange d → m.flag ≡ true → m.reference ≡ i + 1 → (i < length d.entries → names m (entry_at d.entries i) ≡ false) → position (names m) d.entries ≡ None
 outward_none d m i h flag place unnamed = index_none (names m) d.entries (λ k lt. false_from_ne_true (names m (entry_at d.entries k)) (λ other.
     let there : k + 1 ≡ m.reference = named_place d m k h flag lt other in
     let same : k ≡ i = omega (arith, there, place) in
@@ -107,23 +110,23 @@ outward_none d m i h flag place unnamed = index_none (names m) d.entries (λ k l
 
 -- ---- who may be called
 
-pub held_index : (c : ℕ) (es : List Entry) → is_held es c ≡ is_some (index_of (holds c) es)
+pub held_index : (c : ℕ) (es : List Entry) → is_held es c ≡ is_some (position (holds c) es)
 held_index c [] = refl
-held_index c (e ∷ es) = step (holds c e) (is_held es c) (index_of (holds c) es) (held_index c es)
+held_index c (e ∷ es) = step (holds c e) (is_held es c) (position (holds c) es) (held_index c es) ∙ ap is_some (sym (position_next (holds c) e es))
   where
-    more : (o : Option ℕ) → is_some o ≡ is_some (one_more o)
+    more : (o : Option ℕ) → is_some o ≡ is_some (option_map suc o)
     more None = refl
     more (Some i) = refl
 
-    step : (b r : Bool) (o : Option ℕ) → r ≡ is_some o → (b || r) ≡ is_some (if b then Some 0 else one_more o)
+    step : (b r : Bool) (o : Option ℕ) → r ≡ is_some o → (b || r) ≡ is_some (if b then Some 0 else option_map suc o)
     step true r o h = refl
     step false r o h = h ∙ more o
 
-pub free_unheld : (d : Day) (c : ℕ) (o : Option ℕ) → o ≡ index_of (holds c) d.entries → is_some o ≡ false → not (is_set d.maintenance c) ≡ is_free d c
-free_unheld d c o e none = ap (λ (b : Bool). not b && not (is_set d.maintenance c)) (sym (held_index c d.entries ∙ ap is_some (sym e) ∙ none))
+pub free_unheld : (d : Day) (c : ℕ) (o : Option ℕ) → o ≡ position (holds c) d.entries → is_some o ≡ false → not (is_marked d.maintenance c) ≡ is_free d c
+free_unheld d c o e none = ap (λ (b : Bool). not b && not (is_marked d.maintenance c)) (sym (held_index c d.entries ∙ ap is_some (sym e) ∙ none))
 
-pub free_held : (d : Day) (c : ℕ) (o : Option ℕ) → o ≡ index_of (holds c) d.entries → is_some o ≡ true → false ≡ is_free d c
-free_held d c o e some = ap (λ (b : Bool). not b && not (is_set d.maintenance c)) (sym (held_index c d.entries ∙ ap is_some (sym e) ∙ some))
+pub free_held : (d : Day) (c : ℕ) (o : Option ℕ) → o ≡ position (holds c) d.entries → is_some o ≡ true → false ≡ is_free d c
+free_held d c o e some = ap (λ (b : Bool). not b && not (is_marked d.maintenance c)) (sym (held_index c d.entries ∙ ap is_some (sym e) ∙ some))
 
 pub opens_free : (d : Day) (c : ℕ) (e : Entry) → is_free d c ≡ true → opens d c e ≡ awaits d.moment c e
 opens_free d c e free = step (is_unoffered e.standing && e.booking.inward && is_running e.booking d.moment) (is_free d e.channel) (e.channel == c) (λ same. subst (λ (n : ℕ). is_free d n ≡ true) (sym (eqb-true e.channel c same)) free)
@@ -140,7 +143,7 @@ opens_taken d c e taken = false_from_ne_true (opens d c e) (λ h.
     let free = (open_parts d e p.0).free in
     true≢false (sym free ∙ subst (λ (n : ℕ). is_free d n ≡ false) (sym (eqb-true e.channel c p.1)) taken))
 
-pub opening_taken : (d : Day) (c : ℕ) → is_free d c ≡ false → index_of (opens d c) d.entries ≡ None
+pub opening_taken : (d : Day) (c : ℕ) → is_free d c ≡ false → position (opens d c) d.entries ≡ None
 opening_taken d c taken = index_none (opens d c) d.entries (λ k lt. opens_taken d c (entry_at d.entries k) taken)
 
 -- ---- the lowest open channel
@@ -175,24 +178,24 @@ reaches c x (y ∷ ys) h le cover =
     ] in
     (channel_is y q.0, λ other. let less : y < c = omega (arith, next, other) in (less, reaches c (y + 1) ys h (omega arith) p.1))
 
-lowest_at : (d : Day) (c i : ℕ) (cs : List ℕ) → Reaches c cs → ((n : ℕ) → n < c → IsChannel n → index_of (opens d n) d.entries ≡ None) → index_of (opens d c) d.entries ≡ Some i → lowest_open d cs ≡ Some i
+lowest_at : (d : Day) (c i : ℕ) (cs : List ℕ) → Reaches c cs → ((n : ℕ) → n < c → IsChannel n → position (opens d n) d.entries ≡ None) → position (opens d c) d.entries ≡ Some i → lowest_open d cs ≡ Some i
 lowest_at d c i [] r before here = absurd r
 lowest_at d c i (x ∷ xs) r before here = elim (cases_eq c x) [
-  | inl same ↦ ap (λ (o : Option ℕ). or_else o (lowest_open d xs)) (subst (λ (n : ℕ). index_of (opens d n) d.entries ≡ Some i) same here)
+  | inl same ↦ ap (λ (o : Option ℕ). or_else o (lowest_open d xs)) (subst (λ (n : ℕ). position (opens d n) d.entries ≡ Some i) same here)
   | inr other ↦ ap (λ (o : Option ℕ). or_else o (lowest_open d xs)) (before x (r.1 other).0 r.0) ∙ lowest_at d c i xs (r.1 other).1 before here
 ]
 
-pub lowest_found : (d : Day) (c i : ℕ) → IsChannel c → ((n : ℕ) → n < c → IsChannel n → index_of (opens d n) d.entries ≡ None) → index_of (opens d c) d.entries ≡ Some i → lowest_open d every_channel ≡ Some i
+pub lowest_found : (d : Day) (c i : ℕ) → IsChannel c → ((n : ℕ) → n < c → IsChannel n → position (opens d n) d.entries ≡ None) → position (opens d c) d.entries ≡ Some i → lowest_open d every_channel ≡ Some i
 lowest_found d c i h before here = lowest_at d c i every_channel (reaches c 1 every_channel h h.0 refl) before here
 
-none_at : (d : Day) (x : ℕ) (cs : List ℕ) → covers x cs ≡ true → ((n : ℕ) → IsChannel n → index_of (opens d n) d.entries ≡ None) → lowest_open d cs ≡ None
+none_at : (d : Day) (x : ℕ) (cs : List ℕ) → covers x cs ≡ true → ((n : ℕ) → IsChannel n → position (opens d n) d.entries ≡ None) → lowest_open d cs ≡ None
 none_at d x [] cover before = refl
 none_at d x (y ∷ ys) cover before =
     let p = and_parts (is_channel y && ((x == y) || ((x == 16) && (y == 17)))) (covers (y + 1) ys) cover in
     let q = and_parts (is_channel y) ((x == y) || ((x == 16) && (y == 17))) p.0 in
     ap (λ (o : Option ℕ). or_else o (lowest_open d ys)) (before y (channel_is y q.0)) ∙ none_at d (y + 1) ys p.1 before
 
-pub lowest_none : (d : Day) → ((n : ℕ) → IsChannel n → index_of (opens d n) d.entries ≡ None) → lowest_open d every_channel ≡ None
+pub lowest_none : (d : Day) → ((n : ℕ) → IsChannel n → position (opens d n) d.entries ≡ None) → lowest_open d every_channel ≡ None
 lowest_none d before = none_at d 1 every_channel refl before
 
 -- ---- what is taken is open
@@ -204,15 +207,15 @@ opened : (d : Day) (o : Option ℕ) → OpenAt d o → IsOpenAt d o
 opened d None h = tt
 opened d (Some i) h = h
 
-pub opening_opens : (d : Day) (c : ℕ) (o : Option ℕ) → o ≡ index_of (opens d c) d.entries → IfSome o (λ i. is_open d (entry_at d.entries i) ≡ true)
-opening_opens d c o e = subst (IsOpenAt d) (sym e) (opened d (index_of (opens d c) d.entries) (open_index d c))
+pub opening_opens : (d : Day) (c : ℕ) (o : Option ℕ) → o ≡ position (opens d c) d.entries → IfSome o (λ i. is_open d (entry_at d.entries i) ≡ true)
+opening_opens d c o e = subst (IsOpenAt d) (sym e) (opened d (position (opens d c) d.entries) (open_index d c))
 
 pub lowest_opens : (d : Day) (o : Option ℕ) → o ≡ lowest_open d every_channel → IfSome o (λ i. is_open d (entry_at d.entries i) ≡ true)
 lowest_opens d o e = subst (IsOpenAt d) (sym e) (opened d (lowest_open d every_channel) (open_lowest d every_channel))
 
-pub preferred_opens : (d : Day) (c : ℕ) (o : Option ℕ) → o ≡ or_else (index_of (opens d c) d.entries) (lowest_open d every_channel) → IfSome o (λ i. is_open d (entry_at d.entries i) ≡ true)
-preferred_opens d c o e = let p = or_else (index_of (opens d c) d.entries) (lowest_open d every_channel) in
-    subst (IsOpenAt d) (sym e) (opened d p (open_or d (index_of (opens d c) d.entries) (lowest_open d every_channel) (open_index d c) (open_lowest d every_channel)))
+pub preferred_opens : (d : Day) (c : ℕ) (o : Option ℕ) → o ≡ or_else (position (opens d c) d.entries) (lowest_open d every_channel) → IfSome o (λ i. is_open d (entry_at d.entries i) ≡ true)
+preferred_opens d c o e = let p = or_else (position (opens d c) d.entries) (lowest_open d every_channel) in
+    subst (IsOpenAt d) (sym e) (opened d p (open_or d (position (opens d c) d.entries) (lowest_open d every_channel) (open_index d c) (open_lowest d every_channel)))
 
 -- a preferred channel, by one index
 pub preferred_takes : (d : Day) (m : Said) (o : Option ℕ) → takes_or d m 34 (or_else o (lowest_open d every_channel)) ≡ takes_preferred d m o

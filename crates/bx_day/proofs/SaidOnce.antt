@@ -3,7 +3,8 @@ use Rattle.std.proofs.Common.{◌≡◌, ℕ, zero, suc, ◌+◌, ◌≤◌, ◌
 use Rattle.std.specs.List.{list_any}
 use Rattle.std.proofs.lemmas.Bool.{true≢false, false≢true, eqb-true, eq-eqb, or_cases}
 use Rattle.bx_q931.specs.Outgoing.{Outgoing}
-use Rattle.bx_calls.specs.Shared.{is_set, cons_some}
+use Rattle.bx_calls.specs.Shared.{cons_some}
+use Rattle.bx_channels.specs.Marks.{is_marked}
 use Rattle.bx_day.specs.Day.{Day, entry_at}
 use Rattle.bx_day.specs.Ticks.{second_in, said_in, breaks_in, maintained_in}
 use Rattle.bx_day.specs.declared.entry.Entry.{Entry}
@@ -55,12 +56,12 @@ pub maintained_size : (link : Link) (d : Day) (k : ℕ) (bs : List Bool) → len
 maintained_size link d k [] = refl
 maintained_size link d k (b ∷ bs) = ap suc (maintained_size link d (k + 1) bs)
 
-pub maintained_at : (link : Link) (d : Day) (k c : ℕ) (bs : List Bool) → c < length bs → is_set (maintained_in link d k bs) c ≡ (is_set bs c || list_any (breaks_in link d (k + c)) d.entries)
+pub maintained_at : (link : Link) (d : Day) (k c : ℕ) (bs : List Bool) → c < length bs → is_marked (maintained_in link d k bs) c ≡ (is_marked bs c || list_any (breaks_in link d (k + c)) d.entries)
 maintained_at link d k c [] lt = absurd (omega (arith, lt))
 maintained_at link d k zero (b ∷ bs) lt = ap (λ n. b || list_any (breaks_in link d n) d.entries) (let q : k ≡ k + 0 = omega arith in q)
-maintained_at link d k (suc c) (b ∷ bs) lt = maintained_at link d (k + 1) c bs (omega (arith, lt)) ∙ ap (λ n. is_set bs c || list_any (breaks_in link d n) d.entries) (let q : k + 1 + c ≡ k + suc c = omega arith in q)
+maintained_at link d k (suc c) (b ∷ bs) lt = maintained_at link d (k + 1) c bs (omega (arith, lt)) ∙ ap (λ n. is_marked bs c || list_any (breaks_in link d n) d.entries) (let q : k + 1 + c ≡ k + suc c = omega arith in q)
 
-pub same_set : (xs ys : List Bool) → length xs ≡ length ys → ((c : ℕ) → c < length xs → is_set xs c ≡ is_set ys c) → xs ≡ ys
+pub same_set : (xs ys : List Bool) → length xs ≡ length ys → ((c : ℕ) → c < length xs → is_marked xs c ≡ is_marked ys c) → xs ≡ ys
 same_set [] [] size h = refl
 same_set [] (y ∷ ys) size h = absurd (omega (arith, size))
 same_set (x ∷ xs) [] size h = absurd (omega (arith, size))

@@ -1,6 +1,6 @@
 -- What is sent is in its time: SETUP and CALL PROCEEDING only for an accepted booking that runs.
 use Rattle.std.proofs.Common.{◌≡◌, ℕ, suc, ◌+◌, ◌-◌, ◌≤◌, ◌<◌, not, Bool, true, false, List, [], ◌∷◌, Option, Some, None, arith, refl, sym, subst, ap, ◌∙◌, nat_le, if◌then◌else◌, ◌==◌, Result, Ok, Err}
-use Rattle.std.specs.List.{AllByRecursion}
+use Rattle.std.specs.List.{AllByRecursion, position}
 use Rattle.std.proofs.lemmas.Bool.{false≢true, true≢false, and_from, le-leb, lt-ltb, leb-false}
 use Rattle.std.proofs.lemmas.List.Elements.{All-cons, All-nil}
 use Rattle.std.specs.Prelude.{All, nat_lt}
@@ -30,7 +30,7 @@ use Rattle.bx_q931.specs.declared.channel_field.ChannelField.TheVariants.{Absent
 use Rattle.bx_calls.specs.UnknownTable.{unknown_row, unknown_status}
 use Rattle.bx_calls.specs.declared.unknown_reference.Side.TheVariants.{Network}
 use Rattle.bx_calls.specs.Said.{Said, said_of}
-use Rattle.bx_day.specs.Day.{Day, entry_at, is_free, index_of, every_channel}
+use Rattle.bx_day.specs.Day.{Day, entry_at, is_free, every_channel}
 use Rattle.bx_day.specs.Ticks.{waits, second_at, tick, second_in}
 use Rattle.bx_day.specs.Receipts.{opens, lowest_open, names, hears, takes_or, takes_preferred, called_on, called, stray, received_at}
 use Rattle.bx_day.specs.Moves.{follow}
@@ -262,8 +262,8 @@ on_said : (rows : List Row) (assigned : List (Option ℕ)) (d : Day) (m : Said) 
 on_said rows assigned d m Absent p = takes_said rows assigned d m 34 (lowest_open d every_channel) p (open_lowest d every_channel)
 on_said rows assigned d m AnyChannel p = takes_said rows assigned d m 34 (lowest_open d every_channel) p (open_lowest d every_channel)
 on_said rows assigned d m Unread p = plain_fits rows assigned d.moment _ refl
-on_said rows assigned d m (Named c true) p = takes_said rows assigned d m 44 (index_of (opens d c) d.entries) p (open_index d c)
-on_said rows assigned d m (Named c false) p = preferred_said rows assigned d m (index_of (opens d c) d.entries) p (open_index d c)
+on_said rows assigned d m (Named c true) p = takes_said rows assigned d m 44 (position (opens d c) d.entries) p (open_index d c)
+on_said rows assigned d m (Named c false) p = preferred_said rows assigned d m (position (opens d c) d.entries) p (open_index d c)
 
 called_said : (rows : List Row) (assigned : List (Option ℕ)) (d : Day) (m : Said) (o : Option ℕ) → AllByRecursion (Placed rows assigned) d.entries → ReplyFits rows assigned (called d m o)
 called_said rows assigned d m (Some cause) p = plain_fits rows assigned d.moment _ refl
@@ -290,7 +290,7 @@ received_said rows assigned d m (Some i) p = plain_said rows assigned d.moment (
 
 from_said : (rows : List Row) (assigned : List (Option ℕ)) (d : Day) (m : PlainMessage) (r : Reference) → AllByRecursion (Placed rows assigned) d.entries → ReplyFits rows assigned (receive_from d m r)
 from_said rows assigned d m Dummy p = tt
-from_said rows assigned d m (Value value flag) p = by_cases (value == 0) _ _ (λ (x : Answered Day). ReplyFits rows assigned x) (λ _. tt) (λ _. received_said rows assigned d (said_of value flag m) (index_of (names (said_of value flag m)) d.entries) p)
+from_said rows assigned d m (Value value flag) p = by_cases (value == 0) _ _ (λ (x : Answered Day). ReplyFits rows assigned x) (λ _. tt) (λ _. received_said rows assigned d (said_of value flag m) (position (names (said_of value flag m)) d.entries) p)
 
 read_said : (rows : List Row) (assigned : List (Option ℕ)) (d : Day) (r : Result PlainMessage MessageFault) → AllByRecursion (Placed rows assigned) d.entries → ReplyFits rows assigned (receive_read d r)
 read_said rows assigned d (Err fault) p = tt

@@ -1,13 +1,14 @@
 -- What the slots of the channels say of the day.
 use Rattle.std.proofs.Common.{◌≡◌, ◌≢◌, ℕ, min, ◌+◌, ◌≤◌, ◌<◌, ◌==◌, ◌&&◌, ◌||◌, Bool, true, false, List, length, Option, Some, None, arith, refl, sym, subst, ap, ◌∙◌, inl, inr, slice_index_or}
 use Rattle.std.specs.Prelude.{is_some, IfSome}
+use Rattle.std.specs.List.{position}
 use Rattle.std.specs.Option.{unwrap_or}
 use Rattle.std.proofs.lemmas.Bool.{and_parts, and_from, true≢false, false≢true, eqb-true, eq-eqb, false_from_ne_true, cases_eq, cases_lt}
 use Rattle.std.proofs.lemmas.List.{get_or_default}
 use Rattle.bx_channels.specs.ChannelNumbers.{IsChannel}
 use Rattle.bx_calls.specs.Said.{Said}
-use Rattle.bx_calls.specs.Shared.{is_set}
-use Rattle.bx_day.specs.Day.{Day, is_live, is_held, is_free, is_unoffered, holds, index_of, entry_at, no_entry}
+use Rattle.bx_channels.specs.Marks.{is_marked}
+use Rattle.bx_day.specs.Day.{Day, is_live, is_held, is_free, is_unoffered, holds, entry_at, no_entry}
 use Rattle.bx_day.specs.Receipts.{is_open, opens, names, names_call}
 use Rattle.bx_day.specs.Invariant.{EntryFits, StandingFits, is_refused}
 use Rattle.bx_day.specs.Reading.{IsExchange, Seated}
@@ -43,7 +44,7 @@ waits_from c e waits on = and_from (is_unoffered e.standing) (e.channel == c) wa
 
 -- ---- who holds a channel
 
-pub holder_is : (es : List Entry) (c : ℕ) (o : Option ℕ) → IsLiveOn es c o → o ≡ index_of (holds c) es
+pub holder_is : (es : List Entry) (c : ℕ) (o : Option ℕ) → IsLiveOn es c o → o ≡ position (holds c) es
 holder_is es c None h = sym (index_none (holds c) es (λ k lt. false_from_ne_true (holds c (entry_at es k)) (λ t. none≢some k (h.each k lt t))))
 holder_is es c (Some i) h =
     let p = h.there i refl in
@@ -52,8 +53,8 @@ holder_is es c (Some i) h =
 
 -- the channels below c that are held, and those in maintenance
 pub record IsBlockedBelow (d : Day) (c : ℕ) (blocked : List Bool) : Type 0 where
-  pub done : (k : ℕ) → k < c → is_set blocked k ≡ (is_held d.entries k || is_set d.maintenance k)
-  pub left : (k : ℕ) → c ≤ k → is_set blocked k ≡ is_set d.maintenance k
+  pub done : (k : ℕ) → k < c → is_marked blocked k ≡ (is_held d.entries k || is_marked d.maintenance k)
+  pub left : (k : ℕ) → c ≤ k → is_marked blocked k ≡ is_marked d.maintenance k
 
 -- ---- the first of the live bookings that pass a test, channel by channel
 
@@ -82,7 +83,7 @@ first_found test es n j (Some i) inside here only h = elim (cases_lt i j) [
 ]
 
 -- of all channels
-pub first_is : (test : Entry → Bool) (es : List Entry) (n : ℕ) (o : Option ℕ) → ((k : ℕ) → k < length es → test (entry_at es k) ≡ true → (entry_at es k).channel < n) → IsFirstBelow test es n o → o ≡ index_of test es
+pub first_is : (test : Entry → Bool) (es : List Entry) (n : ℕ) (o : Option ℕ) → ((k : ℕ) → k < length es → test (entry_at es k) ≡ true → (entry_at es k).channel < n) → IsFirstBelow test es n o → o ≡ position test es
 first_is test es n None all h = sym (index_none test es (λ k lt. false_from_ne_true (test (entry_at es k)) (λ t. true≢false (sym t ∙ h k lt (all k lt t)))))
 first_is test es n (Some i) all h = sym (index_found test es i h.0 h.1 (λ k less. let lt : i < length es = h.0 in false_from_ne_true (test (entry_at es k)) (λ t. true≢false (sym t ∙ h.2 k less (all k (omega (arith, less, lt)) t)))))
 
@@ -149,13 +150,13 @@ opens_parts : (d : Day) (c : ℕ) (e : Entry) → opens d c e ≡ true → (is_o
 opens_parts d c e h = let p = and_parts (is_open d e) (e.channel == c) h in (p.0, eqb-true e.channel c p.1)
 
 -- where nothing waits, nothing opens
-pub nothing_opens : (d : Day) (c : ℕ) (o : Option ℕ) → o ≡ None → IsWaitingOn d.entries c o → index_of (opens d c) d.entries ≡ None
+pub nothing_opens : (d : Day) (c : ℕ) (o : Option ℕ) → o ≡ None → IsWaitingOn d.entries c o → position (opens d c) d.entries ≡ None
 nothing_opens d c o none w = index_none (opens d c) d.entries (λ k lt. false_from_ne_true (opens d c (entry_at d.entries k)) (λ t.
     let p = opens_parts d c (entry_at d.entries k) t in
     false≢true (ap is_some (sym none) ∙ open_there d k o lt p.0 (subst (λ n. IsWaitingOn d.entries n o) (sym p.1) w))))
 
 -- the first that waits opens, or none does
-pub first_opens : (d : Day) (c r : ℕ) (o : Option ℕ) → IsExchange d → o ≡ Some r → IsWaitingOn d.entries c o → opens d c (entry_at d.entries r) ≡ true → index_of (opens d c) d.entries ≡ Some r
+pub first_opens : (d : Day) (c r : ℕ) (o : Option ℕ) → IsExchange d → o ≡ Some r → IsWaitingOn d.entries c o → opens d c (entry_at d.entries r) ≡ true → position (opens d c) d.entries ≡ Some r
 first_opens d c r o h is w opened =
     let inside = (w.there r is).0 in
     index_found (opens d c) d.entries r inside opened (λ k less. false_from_ne_true (opens d c (entry_at d.entries k)) (λ t.
@@ -163,7 +164,7 @@ first_opens d c r o h is w opened =
     let same : k ≡ r = open_first d k r o h (omega (arith, less, inside)) p.0 (subst (λ n. IsWaitingOn d.entries n o) (sym p.1) w) is in
     absurd (omega (arith, same, less))))
 
-pub first_closed : (d : Day) (c r : ℕ) (o : Option ℕ) → IsExchange d → o ≡ Some r → IsWaitingOn d.entries c o → opens d c (entry_at d.entries r) ≡ false → index_of (opens d c) d.entries ≡ None
+pub first_closed : (d : Day) (c r : ℕ) (o : Option ℕ) → IsExchange d → o ≡ Some r → IsWaitingOn d.entries c o → opens d c (entry_at d.entries r) ≡ false → position (opens d c) d.entries ≡ None
 first_closed d c r o h is w closed =
     index_none (opens d c) d.entries (λ k lt. false_from_ne_true (opens d c (entry_at d.entries k)) (λ t.
     let p = opens_parts d c (entry_at d.entries k) t in
@@ -201,14 +202,14 @@ unheld d c h never = held_index c d.entries ∙ ap is_some (index_none (holds c)
 
 pub none_blocked : (d : Day) → IsExchange d → IsBlockedBelow d 1 d.maintenance
 none_blocked d h = record {
-  done = λ k lt. sym (ap (λ b. b || is_set d.maintenance k) (unheld d k h (λ is. absurd (let low : 1 ≤ k = is.0 in omega (arith, low, lt)))));
+  done = λ k lt. sym (ap (λ b. b || is_marked d.maintenance k) (unheld d k h (λ is. absurd (let low : 1 ≤ k = is.0 in omega (arith, low, lt)))));
   left = λ k le. refl;
 }
 
-pub blocked_held : (d : Day) (n k : ℕ) (b b' : List Bool) → k ≡ n → is_held d.entries n ≡ true → is_set b' k ≡ true → ((m : ℕ) → m ≢ k → is_set b' m ≡ is_set b m) → IsBlockedBelow d n b → IsBlockedBelow d (n + 1) b'
+pub blocked_held : (d : Day) (n k : ℕ) (b b' : List Bool) → k ≡ n → is_held d.entries n ≡ true → is_marked b' k ≡ true → ((m : ℕ) → m ≢ k → is_marked b' m ≡ is_marked b m) → IsBlockedBelow d n b → IsBlockedBelow d (n + 1) b'
 blocked_held d n k b b' same held added others h = record {
   done = λ m lt. elim (cases_eq m n) [
-    | inl here ↦ ap (is_set b') (here ∙ sym same) ∙ added ∙ sym (ap (λ x. x || is_set d.maintenance m) (ap (is_held d.entries) here ∙ held))
+    | inl here ↦ ap (is_marked b') (here ∙ sym same) ∙ added ∙ sym (ap (λ x. x || is_marked d.maintenance m) (ap (is_held d.entries) here ∙ held))
     | inr other ↦ others m (λ q. other (q ∙ same)) ∙ h.done m (omega (arith, lt, other))
   ];
   left = λ m le. others m (λ q. absurd (omega (arith, q, same, le))) ∙ h.left m (omega (arith, le));
@@ -217,7 +218,7 @@ blocked_held d n k b b' same held added others h = record {
 pub blocked_free : (d : Day) (n : ℕ) (b : List Bool) → is_held d.entries n ≡ false → IsBlockedBelow d n b → IsBlockedBelow d (n + 1) b
 blocked_free d n b free h = record {
   done = λ m lt. elim (cases_eq m n) [
-    | inl here ↦ h.left m (omega (arith, here)) ∙ sym (ap (λ x. x || is_set d.maintenance m) (ap (is_held d.entries) here ∙ free))
+    | inl here ↦ h.left m (omega (arith, here)) ∙ sym (ap (λ x. x || is_marked d.maintenance m) (ap (is_held d.entries) here ∙ free))
     | inr other ↦ h.done m (omega (arith, lt, other))
   ];
   left = λ m le. h.left m (omega (arith, le));
@@ -226,5 +227,5 @@ blocked_free d n b free h = record {
 pub all_blocked : (d : Day) (n : ℕ) (b : List Bool) → IsExchange d → 32 ≤ n → IsBlockedBelow d n b → AreBlocked d b
 all_blocked d n b h all s c = elim (cases_lt c n) [
   | inl less ↦ s.done c less
-  | inr le ↦ s.left c le ∙ sym (ap (λ x. x || is_set d.maintenance c) (unheld d c h (λ is. absurd (let high : c ≤ 31 = is.1 in omega (arith, high, le, all)))))
+  | inr le ↦ s.left c le ∙ sym (ap (λ x. x || is_marked d.maintenance c) (unheld d c h (λ is. absurd (let high : c ≤ 31 = is.1 in omega (arith, high, le, all)))))
 ]

@@ -7,7 +7,7 @@ use Rattle.bx_calls.specs.PlainCalls.{PlainNetCall}
 use Rattle.bx_calls.specs.declared.transition.Next.{Next}
 use Rattle.bx_calls.specs.declared.transition.Next.TheVariants.{Live, Over, Broken}
 use Rattle.bx_base.specs.Bookings.{Row, is_running}
-use Rattle.bx_calls.specs.Shared.{is_set}
+use Rattle.bx_channels.specs.Marks.{is_marked}
 use Rattle.bx_day.specs.Day.{Day, is_live, holds, is_held, is_free}
 use Rattle.bx_day.specs.Ticks.{unlinked_at, second_at, second_by, after_in, waits, tick, passed_in}
 use Rattle.bx_day.specs.Outages.{without_link}
@@ -134,7 +134,7 @@ all_hold (e ∷ es) = (
 
 -- a channel that is free is not held
 pub free_held : (d : Day) (c : ℕ) → is_free d c ≡ true → is_held d.entries c ≡ true → ⊥
-free_held d c f h = both_ways (is_held d.entries c) (not-true (is_held d.entries c) (and_parts (not (is_held d.entries c)) (not (is_set d.maintenance c)) f).0) h
+free_held d c f h = both_ways (is_held d.entries c) (not-true (is_held d.entries c) (and_parts (not (is_held d.entries c)) (not (is_marked d.maintenance c)) f).0) h
 
 -- two bookings that are live after a tick are on two channels
 pub live_apart : (d : Day) (e f : Entry) → Apart e f → Holding (is_held d.entries) e → Holding (is_held d.entries) f → WasLive (d.moment + 1) (is_free d e.channel) e → WasLive (d.moment + 1) (is_free d f.channel) f → e.channel ≢ f.channel

@@ -4,7 +4,7 @@ use Rattle.std.specs.Prelude.{is_some}
 use Rattle.std.proofs.lemmas.Bool.{true≢false, false≢true, cases_eq, cases_lt, eqb-true, eq-eqb, or_cases, false_from_ne_true}
 use Rattle.std.proofs.lemmas.List.{get_or-set_same, get_or-set_other}
 use Rattle.bx_q931.specs.Outgoing.{Outgoing}
-use Rattle.bx_calls.specs.Shared.{is_set}
+use Rattle.bx_channels.specs.Marks.{is_marked}
 use Rattle.bx_day.specs.Day.{Day, entry_at, no_entry}
 use Rattle.bx_day.specs.Ticks.{second_in, after_in, said_in, breaks_in}
 use Rattle.bx_day.specs.Moves.{stays}
@@ -67,17 +67,17 @@ one_or P i j b h f g = elim (cases_eq i j) [
 pub other_or : (i j : ℕ) (b : Bool) → i ≢ j → ((i == j) || b) ≡ b
 other_or i j b other = ap (λ x. x || b) (false_from_ne_true (i == j) (λ is. other (eqb-true i j is)))
 
-pub set_kept : (b : Bool) (ms : List Bool) (c k : ℕ) → is_set ms k ≡ true → is_set (if b then slice_set ms c true else ms) k ≡ true
+pub set_kept : (b : Bool) (ms : List Bool) (c k : ℕ) → is_marked ms k ≡ true → is_marked (if b then slice_set ms c true else ms) k ≡ true
 set_kept false ms c k h = h
 set_kept true ms c k h = elim (cases_eq k c) [
   | inl same ↦ (elim (cases_lt c (length ms)) [
-    | inl less ↦ ap (is_set (slice_set ms c true)) same ∙ get_or-set_same ms c true false less
-    | inr le ↦ absurd (true≢false (sym h ∙ ap (is_set ms) same ∙ beyond_set ms c le))
+    | inl less ↦ ap (is_marked (slice_set ms c true)) same ∙ get_or-set_same ms c true false less
+    | inr le ↦ absurd (true≢false (sym h ∙ ap (is_marked ms) same ∙ beyond_set ms c le))
   ])
   | inr other ↦ get_or-set_other ms c k true false other ∙ h
 ]
   where
-    beyond_set : (xs : List Bool) (n : ℕ) → length xs ≤ n → is_set xs n ≡ false
+    beyond_set : (xs : List Bool) (n : ℕ) → length xs ≤ n → is_marked xs n ≡ false
     beyond_set [] n le = refl
     beyond_set (x ∷ xs) zero le = absurd (omega (arith, le))
     beyond_set (x ∷ xs) (suc n) le = beyond_set xs n (omega (arith, le))
@@ -96,7 +96,7 @@ pub record OneMore (link : Link) (d : Day) (j : ℕ) (broken : Bool) (o : Option
   breaks : (second_in link d (entry_at d.entries j)).broken ≡ broken
   says : (second_in link d (entry_at d.entries j)).said ≡ o
 
-pub whole_more : (link : Link) (d : Day) (j c k : ℕ) (b : Bool) (o : Option Outgoing) (ms : List Bool) → c ≡ (entry_at d.entries j).channel → OneMore link d j b o → breaks_in link d k (entry_at d.entries j) ≡ false → is_set ms k ≡ false → is_set (if b then slice_set ms c true else ms) k ≡ false
+pub whole_more : (link : Link) (d : Day) (j c k : ℕ) (b : Bool) (o : Option Outgoing) (ms : List Bool) → c ≡ (entry_at d.entries j).channel → OneMore link d j b o → breaks_in link d k (entry_at d.entries j) ≡ false → is_marked ms k ≡ false → is_marked (if b then slice_set ms c true else ms) k ≡ false
 whole_more link d j c k false o ms on m unbroken h = h
 whole_more link d j c k true o ms on m unbroken h = get_or-set_other ms c k true false (λ same. true≢false (sym (ap₂ (λ x y. x && y) m.breaks (eq-eqb (entry_at d.entries j).channel k (sym (same ∙ on)))) ∙ unbroken)) ∙ h
 
@@ -121,7 +121,7 @@ pub silent_now : (ss : List (Option Outgoing)) (c : ℕ) (o : Option Outgoing) �
 silent_now ss c None lt is = refl
 silent_now ss c (Some y) lt is = absurd (none≢some y (sym is ∙ get_or-set_same ss c (Some y) None lt))
 
-pub broken_now : (b : Bool) (ms : List Bool) (c : ℕ) → b ≡ true → c < length ms → is_set (if b then slice_set ms c true else ms) c ≡ true
+pub broken_now : (b : Bool) (ms : List Bool) (c : ℕ) → b ≡ true → c < length ms → is_marked (if b then slice_set ms c true else ms) c ≡ true
 broken_now true ms c h lt = get_or-set_same ms c true false lt
 broken_now false ms c h lt = absurd (false≢true h)
 
@@ -144,7 +144,7 @@ passed_more link d done j c m es es' ms ms' ss ss' h inside is on high e-is m-is
       broken = λ i lt now small breaks. one_or _ i j (done i) now
           (λ same. (
           let at_c : (entry_at d.entries i).channel ≡ c = ap (λ n. (entry_at d.entries n).channel) same ∙ sym on in
-          ap (is_set (if m.broken then slice_set ms c true else ms)) at_c ∙ broken_now m.broken ms c (sym one.breaks ∙ ap (λ n. (second_in link d (entry_at d.entries n)).broken) (sym same) ∙ breaks) (omega (arith, small, at_c, p.channels))))
+          ap (is_marked (if m.broken then slice_set ms c true else ms)) at_c ∙ broken_now m.broken ms c (sym one.breaks ∙ ap (λ n. (second_in link d (entry_at d.entries n)).broken) (sym same) ∙ breaks) (omega (arith, small, at_c, p.channels))))
           (λ other before. set_kept m.broken ms c (entry_at d.entries i).channel (p.broken i lt before small breaks));
       whole = λ k unset none. whole_more link d j c k m.broken m.said ms on one (none j inside) (p.whole k unset none);
       sizes = said_size (is_some m.said) ss c m.said ∙ p.sizes;

@@ -4,7 +4,8 @@ use Rattle.std.specs.Prelude.{is_some}
 use Rattle.std.specs.List.{list_any}
 use Rattle.std.proofs.lemmas.Bool.{true≢false, false≢true, cases_eq, cases_lt, eqb-true, eq-eqb, and_parts, lt-ltb, ltb-true, false_from_ne_true}
 use Rattle.bx_q931.specs.Outgoing.{Outgoing}
-use Rattle.bx_calls.specs.Shared.{is_set, cons_some}
+use Rattle.bx_calls.specs.Shared.{cons_some}
+use Rattle.bx_channels.specs.Marks.{is_marked}
 use Rattle.bx_day.specs.Day.{Day, is_unoffered, entry_at}
 use Rattle.bx_day.specs.Ticks.{second_in, after_in, said_in, breaks_in, maintained_in}
 use Rattle.bx_day.specs.Moves.{stays}
@@ -122,8 +123,8 @@ all_passed link d done es ms ss h others p = record {
   sizes = p.sizes;
 }
   where
-    now : (c : ℕ) → c < length d.maintenance → is_set ms c ≡ (is_set d.maintenance c || list_any (breaks_in link d (0 + c)) d.entries)
-    now c room = decide (is_set d.maintenance c)
+    now : (c : ℕ) → c < length d.maintenance → is_marked ms c ≡ (is_marked d.maintenance c || list_any (breaks_in link d (0 + c)) d.entries)
+    now c room = decide (is_marked d.maintenance c)
         (λ set. p.kept c set ∙ sym (ap (λ b. b || list_any (breaks_in link d (0 + c)) d.entries) set))
         (λ unset. decide (list_any (breaks_in link d (0 + c)) d.entries)
         (λ some. (
@@ -131,7 +132,7 @@ all_passed link d done es ms ss h others p = record {
         let q = and_parts (second_in link d (entry_at d.entries f.0)).broken ((entry_at d.entries f.0).channel == (0 + c)) f.2 in
         let on : (entry_at d.entries f.0).channel ≡ c = eqb-true (entry_at d.entries f.0).channel (0 + c) q.1 ∙ (let z : 0 + c ≡ c = omega arith in z) in
         let moved : done f.0 ≡ true = decide (done f.0) (λ yes. yes) (λ no. absurd (true≢false (sym q.0 ∙ ap (λ (m : Moved). m.broken) (others f.0 f.1 no)))) in
-        ap (is_set ms) (sym on) ∙ p.broken f.0 f.1 moved (omega (arith, on, room)) q.0 ∙ sym (ap₂ (λ a b. a || b) unset some)))
+        ap (is_marked ms) (sym on) ∙ p.broken f.0 f.1 moved (omega (arith, on, room)) q.0 ∙ sym (ap₂ (λ a b. a || b) unset some)))
         (λ none. p.whole c unset (λ i lt. ap (λ n. breaks_in link d n (entry_at d.entries i)) (let z : c ≡ 0 + c = omega arith in z) ∙ none_there (breaks_in link d (0 + c)) d.entries i none lt) ∙ sym (ap₂ (λ a b. a || b) unset none)))
 
     spoken : (c : ℕ) (o : Option Outgoing) → slice_index_or ss c None ≡ o → cons_some (slice_index_or ss c None) [] ≡ said_in link d c d.entries

@@ -1,7 +1,8 @@
 -- The day: what has become of each booking, and the channels in maintenance; how it opens.
-use Rattle.std.specs.Prelude.{ℕ, ◌+◌, ◌==◌, ◌&&◌, not, Bool, true, false, List, [], ◌∷◌, Option, Some, None, if◌then◌else◌, slice_index_or, suc}
+use Rattle.std.specs.Prelude.{ℕ, ◌+◌, ◌==◌, ◌&&◌, not, Bool, true, false, List, [], ◌∷◌, Option, Some, None, slice_index_or}
 use Rattle.std.specs.List.{list_any}
-use Rattle.bx_calls.specs.Shared.{is_set, no_channel}
+use Rattle.bx_calls.specs.Shared.{no_channel}
+use Rattle.bx_channels.specs.Marks.{is_marked}
 use Rattle.bx_day.specs.declared.entry.Standing.{Standing}
 use Rattle.bx_day.specs.declared.entry.Standing.TheVariants.{Refused, Unoffered, OnCall}
 use Rattle.bx_day.specs.declared.entry.Entry.{Entry}
@@ -29,16 +30,7 @@ is_held entries c = list_any (holds c) entries
 
 -- neither held nor in maintenance
 abbrev pub is_free : Day → ℕ → Bool
-is_free d c = not (is_held d.entries c) && not (is_set d.maintenance c)
-
--- the first index whose element passes
-abbrev pub one_more : Option ℕ → Option ℕ
-one_more None = None
-one_more (Some i) = Some (suc i)
-
-abbrev pub index_of : (Entry → Bool) → List Entry → Option ℕ
-index_of test [] = None
-index_of test (e ∷ es) = if test e then Some 0 else one_more (index_of test es)
+is_free d c = not (is_held d.entries c) && not (is_marked d.maintenance c)
 
 abbrev pub is_unoffered : Standing → Bool
 is_unoffered Unoffered = true

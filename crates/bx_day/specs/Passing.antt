@@ -1,7 +1,8 @@
 -- Private: a second as a pass over some of the bookings.
 use Rattle.std.specs.Prelude.{◌≡◌, ◌<◌, ◌==◌, ℕ, Bool, true, false, List, [], ◌∷◌, ◌||◌, length, map, Option, Some, None, slice_index_or, if◌then◌else◌}
 use Rattle.bx_q931.specs.Outgoing.{Outgoing}
-use Rattle.bx_calls.specs.Shared.{is_set, cons_some}
+use Rattle.bx_calls.specs.Shared.{cons_some}
+use Rattle.bx_channels.specs.Marks.{is_marked}
 use Rattle.bx_day.specs.Day.{Day, is_held, entry_at}
 use Rattle.bx_day.specs.Ticks.{second_in, after_in, breaks_in, said_in, maintained_in}
 use Rattle.bx_day.specs.Moves.{stays}
@@ -15,7 +16,7 @@ day_of moment entries maintenance = record { moment = moment; entries = entries;
 
 -- the channels that are held or in maintenance
 abbrev pub AreBlocked : Day → List Bool → Type 0
-AreBlocked d blocked = (c : ℕ) → is_set blocked c ≡ (is_held d.entries c || is_set d.maintenance c)
+AreBlocked d blocked = (c : ℕ) → is_marked blocked c ≡ (is_held d.entries c || is_marked d.maintenance c)
 
 -- what a second says on each channel
 abbrev pub SaysOnEach : Link → Day → List (Option Outgoing) → Type 0
@@ -39,9 +40,9 @@ pub record Passed (link : Link) (d : Day) (done : ℕ → Bool) (entries : List 
   pub size : length entries ≡ length d.entries
   pub rows : (i : ℕ) → i < length d.entries → entry_at entries i ≡ (if done i then after_in link d (entry_at d.entries i) else entry_at d.entries i)
   pub channels : length maintenance ≡ length d.maintenance
-  pub kept : (c : ℕ) → is_set d.maintenance c ≡ true → is_set maintenance c ≡ true
-  pub broken : (i : ℕ) → i < length d.entries → done i ≡ true → (entry_at d.entries i).channel < length d.maintenance → (second_in link d (entry_at d.entries i)).broken ≡ true → is_set maintenance (entry_at d.entries i).channel ≡ true
-  pub whole : (c : ℕ) → is_set d.maintenance c ≡ false → ((i : ℕ) → i < length d.entries → breaks_in link d c (entry_at d.entries i) ≡ false) → is_set maintenance c ≡ false
+  pub kept : (c : ℕ) → is_marked d.maintenance c ≡ true → is_marked maintenance c ≡ true
+  pub broken : (i : ℕ) → i < length d.entries → done i ≡ true → (entry_at d.entries i).channel < length d.maintenance → (second_in link d (entry_at d.entries i)).broken ≡ true → is_marked maintenance (entry_at d.entries i).channel ≡ true
+  pub whole : (c : ℕ) → is_marked d.maintenance c ≡ false → ((i : ℕ) → i < length d.entries → breaks_in link d c (entry_at d.entries i) ≡ false) → is_marked maintenance c ≡ false
   pub sizes : length slots ≡ 32
   pub said : (c : ℕ) (o : Outgoing) → slice_index_or slots c None ≡ Some o → said_in link d c d.entries ≡ o ∷ []
   pub silent : (i : ℕ) → i < length d.entries → done i ≡ true → slice_index_or slots (entry_at d.entries i).channel None ≡ None → (second_in link d (entry_at d.entries i)).said ≡ None

@@ -1,11 +1,12 @@
 -- What is read of a day, and what an exchange keeps in memory.
 use Rattle.std.specs.Prelude.{◌≡◌, ◌≤◌, ◌<◌, ℕ, ◌+◌, ◌-◌, false, List, length, Option, Some, None, if◌then◌else◌, ◌&&◌, nat_le}
-use Rattle.std.specs.List.{AllByRecursion}
+use Rattle.std.specs.List.{AllByRecursion, position}
 use Rattle.bx_channels.specs.ChannelNumbers.{IsChannel}
 use Rattle.bx_q931.specs.Outgoing.{IsCallReference}
 use Rattle.bx_calls.specs.States.{net_state}
 use Rattle.bx_calls.specs.declared.call_state.CallState.{CallState}
-use Rattle.bx_day.specs.Day.{Day, holds, index_of, entry_at}
+use Rattle.bx_base.specs.declared.bookings.TheConstants.{MAX_BOOKINGS}
+use Rattle.bx_day.specs.Day.{Day, holds, entry_at}
 use Rattle.bx_day.specs.Invariant.{DayFits, is_refused}
 use Rattle.bx_day.specs.declared.entry.Entry.{Entry}
 use Rattle.bx_day.specs.declared.entry.Standing.{Standing}
@@ -38,7 +39,7 @@ live_at d (Some i) = called_by (entry_at d.entries i) (entry_at d.entries i).sta
 
 -- who holds a channel
 abbrev pub on_channel : Day → ℕ → Option (ℕ × CallState)
-on_channel d c = live_at d (index_of (holds c) d.entries)
+on_channel d c = live_at d (position (holds c) d.entries)
 
 -- an accepted booking has a channel, and each row can be a call reference
 pub record Seated (e : Entry) : Type 0 where
@@ -52,7 +53,7 @@ IsNumbered entries = (i : ℕ) → i < length entries → (entry_at entries i).r
 -- a day that an exchange may be in
 pub record IsExchange (d : Day) : Type 0 where
   pub moment : d.moment ≤ LAST_MOMENT
-  pub rows : length d.entries ≤ 4000
+  pub rows : length d.entries ≤ MAX_BOOKINGS
   pub day : DayFits d
   pub seated : AllByRecursion Seated d.entries
   pub numbered : IsNumbered d.entries

@@ -1,5 +1,6 @@
 -- What the exchange does with a message that was read.
 use Rattle.std.specs.Prelude.{ℕ, ◌==◌, ◌&&◌, not, Bool, true, false, List, [], ◌∷◌, Option, Some, None, if◌then◌else◌, slice_set}
+use Rattle.std.specs.List.{position}
 use Rattle.bx_q931.specs.declared.kind.Kind.{Kind}
 use Rattle.bx_q931.specs.declared.kind.Kind.TheVariants.{Setup}
 use Rattle.bx_q931.specs.declared.channel_field.ChannelField.{ChannelField}
@@ -17,7 +18,7 @@ use Rattle.bx_base.specs.Bookings.{is_running}
 use Rattle.bx_calls.specs.Said.{Said}
 use Rattle.bx_calls.specs.Sending.{Answered, unchanged}
 use Rattle.bx_day.specs.Moves.{becomes, stays, follows}
-use Rattle.bx_day.specs.Day.{Day, every_channel, is_free, index_of, is_unoffered, entry_at}
+use Rattle.bx_day.specs.Day.{Day, every_channel, is_free, is_unoffered, entry_at}
 
 -- whether a message names this live booking: flag 1 names calls that the exchange began
 abbrev pub names_call : Said → Standing → Bool
@@ -41,7 +42,7 @@ or_else None o = o
 -- the index of the booking of the lowest open channel among these
 abbrev pub lowest_open : Day → List ℕ → Option ℕ
 lowest_open d [] = None
-lowest_open d (c ∷ cs) = or_else (index_of (opens d c) d.entries) (lowest_open d cs)
+lowest_open d (c ∷ cs) = or_else (position (opens d c) d.entries) (lowest_open d cs)
 
 -- the booking of index i did this
 abbrev pub with_moved : Day → ℕ → Moved → Answered Day
@@ -72,8 +73,8 @@ takes_preferred d m (Some i) = takes_or d m 34 (Some i)
 -- a SETUP with a good bearer capability, by its channel identification
 abbrev pub called_on : Day → Said → ChannelField → Answered Day
 called_on d m Unread = unchanged d (Some (refusal_of Network m.reference true 44))
-called_on d m (Named c true) = takes_or d m 44 (index_of (opens d c) d.entries)
-called_on d m (Named c false) = takes_preferred d m (index_of (opens d c) d.entries)
+called_on d m (Named c true) = takes_or d m 44 (position (opens d c) d.entries)
+called_on d m (Named c false) = takes_preferred d m (position (opens d c) d.entries)
 called_on d m Absent = takes_or d m 34 (lowest_open d every_channel)
 called_on d m AnyChannel = takes_or d m 34 (lowest_open d every_channel)
 
@@ -93,4 +94,4 @@ received_at d m (Some i) = with_moved d i (hears m d.moment (entry_at d.entries 
 
 -- a message that was read, with neither the dummy nor the global reference
 abbrev pub receive : Day → Said → Answered Day
-receive d m = received_at d m (index_of (names m) d.entries)
+receive d m = received_at d m (position (names m) d.entries)

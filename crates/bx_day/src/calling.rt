@@ -1,13 +1,13 @@
 //! What the exchange does with a SETUP of the far end.
 
 ghost use Rattle.std.specs.Prelude.{◌≡◌, ◌<◌, ℕ, Bool, true, false, length, IfSome, MatchOption};
-ghost use Rattle.std.specs.List.{list_any};
+ghost use Rattle.std.specs.List.{list_any, position};
 ghost use Rattle.bx_channels.specs.ChannelNumbers.{IsChannel};
 ghost use Rattle.bx_q931.specs.Messages.{PlainMessage};
 ghost use Rattle.bx_q931.specs.Outgoing.{IsCallReference};
 ghost use Rattle.bx_calls.specs.Said.{said_of};
-ghost use Rattle.bx_calls.specs.Shared.{is_set};
-ghost use Rattle.bx_day.specs.Day.{index_of, is_free, entry_at, every_channel};
+ghost use Rattle.bx_channels.specs.Marks.{is_marked};
+ghost use Rattle.bx_day.specs.Day.{is_free, entry_at, every_channel};
 ghost use Rattle.bx_day.specs.Receipts.{is_open, opens, lowest_open, or_else, takes_or, called_on, called};
 ghost use Rattle.bx_day.specs.Calling.{awaits};
 
@@ -93,7 +93,7 @@ impl Exchange {
 
     /// The index of the booking that may be called on the channel now.
     fn open_on(&self, channel: Channel) -> Option<usize>
-        ensures first { result ≡ index_of (opens self.now channel) self.now.entries }
+        ensures first { result ≡ position (opens self.now channel) self.now.entries }
         ensures inside { IfSome result (λ i. i < length self.now.entries) }
     {
         if !self.is_free(channel) {
@@ -111,7 +111,7 @@ impl Exchange {
 
     /// On the channel, and else on the lowest that is open.
     fn preferred(&self, channel: Channel) -> Option<usize>
-        ensures first { result ≡ or_else (index_of (opens self.now channel) self.now.entries) (lowest_open self.now every_channel) }
+        ensures first { result ≡ or_else (position (opens self.now channel) self.now.entries) (lowest_open self.now every_channel) }
         ensures inside { IfSome result (λ i. i < length self.now.entries) }
     {
         match self.open_on(channel) {

@@ -1,10 +1,11 @@
 //! The exchange during its day.
 
 ghost use Rattle.std.specs.Prelude.{◌≡◌, ◌<◌, length, IfOk, IfSome, IfNone, true, false, ℕ};
+ghost use Rattle.std.specs.List.{position};
 ghost use Rattle.bx_base.specs.Bookings.{Carries};
 ghost use Rattle.bx_base.specs.Plans.{is_accepted, channel_at};
-ghost use Rattle.bx_calls.specs.Shared.{is_set};
-ghost use Rattle.bx_day.specs.Day.{opening, holds, index_of};
+ghost use Rattle.bx_channels.specs.Marks.{is_marked};
+ghost use Rattle.bx_day.specs.Day.{opening, holds};
 ghost use Rattle.bx_day.specs.Reading.{IsExchange, on_channel, outcome_at};
 
 use crate::entry::{Entry, Standing};
@@ -91,7 +92,7 @@ impl Exchange {
 
     /// The index of the booking that holds the channel.
     pub(crate) fn holder(&self, channel: Channel) -> Option<usize>
-        ensures first { result ≡ index_of (holds channel) self.now.entries }
+        ensures first { result ≡ position (holds channel) self.now.entries }
         ensures inside { IfSome result (λ i. i < length self.now.entries) }
     {
         match self.live[channel.number() as usize] {
@@ -102,7 +103,7 @@ impl Exchange {
 
     /// Whether the channel is in maintenance: a call on it was given up without an answer to its release.
     pub fn in_maintenance(&self, channel: Channel) -> bool
-        ensures { result ≡ is_set self.now.maintenance channel }
+        ensures { result ≡ is_marked self.now.maintenance channel }
     {
         self.maintenance.has(channel)
     }

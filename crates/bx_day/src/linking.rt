@@ -2,6 +2,7 @@
 
 ghost use Rattle.std.specs.Prelude.{◌≡◌, ◌<◌, ◌≤◌, ℕ, IfOk, length};
 ghost use Rattle.std.specs.List.{AllByRecursion};
+ghost use Rattle.bx_base.specs.declared.bookings.TheConstants.{MAX_BOOKINGS};
 ghost use Rattle.bx_day.specs.Day.{entry_at};
 ghost use Rattle.bx_day.specs.Invariant.{Pairs, Apart, is_refused};
 ghost use Rattle.bx_day.specs.Reading.{Seated};
@@ -20,7 +21,7 @@ pub struct Links {
 /// The links of accepted bookings of which no two run at once on a channel, by one sort: from the last start to the
 /// first, each comes before the one that was linked last on its channel.
 pub(crate) fn linked(alloc: Global, entries: &[Entry]) -> Result<Links, AllocError>
-    requires few { length entries.now ≤ 4000 }
+    requires few { length entries.now ≤ MAX_BOOKINGS }
     requires seated { AllByRecursion Seated entries.now }
     requires apart { Pairs Apart entries.now }
     requires ordered { (i : ℕ) → i < length entries.now → (entry_at entries.now i).booking.start < (entry_at entries.now i).booking.end }
@@ -40,7 +41,7 @@ pub(crate) fn linked(alloc: Global, entries: &[Entry]) -> Result<Links, AllocErr
 
 /// The start and the index of each accepted booking, in the order of the starts.
 fn by_start(alloc: Global, entries: &[Entry]) -> Result<Vec<(u32, u16)>, AllocError>
-    requires { length entries.now ≤ 4000 }
+    requires { length entries.now ≤ MAX_BOOKINGS }
     ensures { IfOk result (λ v. AreByStart entries.now v.items) }
 {
     let mut order = starts(alloc, entries)?;
@@ -50,7 +51,7 @@ fn by_start(alloc: Global, entries: &[Entry]) -> Result<Vec<(u32, u16)>, AllocEr
 
 /// The same in the order of the bookings.
 fn starts(alloc: Global, entries: &[Entry]) -> Result<Vec<(u32, u16)>, AllocError>
-    requires { length entries.now ≤ 4000 }
+    requires { length entries.now ≤ MAX_BOOKINGS }
     ensures { IfOk result (λ v. AreStarts entries.now (length entries.now) v.items) }
 {
     let mut order = Vec::new(alloc);

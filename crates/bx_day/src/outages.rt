@@ -2,6 +2,7 @@
 
 ghost use Rattle.std.specs.Prelude.{◌≡◌, ◌≤◌, ◌<◌, ◌+◌, ℕ, length, replicate, Some};
 ghost use Rattle.std.specs.List.{AllByRecursion};
+ghost use Rattle.bx_base.specs.declared.bookings.TheConstants.{MAX_BOOKINGS};
 ghost use Rattle.bx_events.specs.Events.{WithoutLink};
 ghost use Rattle.bx_day.specs.Outages.{live_day_after};
 ghost use Rattle.bx_day.specs.Outlasting.{IsTimedBy, outlasted, AreOutlasting, starts_before, with_waiting, AreEarliest};
@@ -60,7 +61,7 @@ fn outlasted(entry: &Entry, seconds: u32, moment: u32) -> Standing
 
 /// For each channel the first of its bookings that wait.
 fn first_waiting(entries: &[Entry]) -> [Option<u16>; 32]
-    requires few { length entries.now ≤ 4000 }
+    requires few { length entries.now ≤ MAX_BOOKINGS }
     requires seated { AllByRecursion Seated entries.now }
     ensures { AreEarliest entries.now (length entries.now) result }
 {

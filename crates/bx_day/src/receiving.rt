@@ -1,10 +1,12 @@
 //! What the exchange does with octets that come.
 
 ghost use Rattle.std.specs.Prelude.{◌≡◌, ◌<◌, ℕ, Bool, true, false, length, Option, Some, None, IfSome, option_map, ◌||◌, if◌then◌else◌};
+ghost use Rattle.std.specs.List.{position};
+ghost use Rattle.bx_base.specs.declared.bookings.TheConstants.{MAX_BOOKINGS};
 ghost use Rattle.bx_q931.specs.Messages.{PlainMessage};
 ghost use Rattle.bx_q931.specs.Outgoing.{IsCallReference, out_octets};
 ghost use Rattle.bx_calls.specs.Said.{said_of};
-ghost use Rattle.bx_day.specs.Day.{index_of, is_live, is_unoffered, entry_at};
+ghost use Rattle.bx_day.specs.Day.{is_live, is_unoffered, entry_at};
 ghost use Rattle.bx_day.specs.Receipts.{names, with_moved, received_at, stray, receive, is_open};
 ghost use Rattle.bx_day.specs.SlotSteps.{earlier};
 ghost use Rattle.bx_day.specs.Run.{receive_from, receive_octets};
@@ -61,7 +63,7 @@ impl Exchange {
     /// The index of the live booking whose call has this reference, and sends with the other flag.
     fn named(&self, reference: u16, flag: bool) -> Option<usize>
         requires { IsCallReference reference }
-        ensures first { (m : PlainMessage) → result ≡ index_of (names (said_of reference flag m)) self.now.entries }
+        ensures first { (m : PlainMessage) → result ≡ position (names (said_of reference flag m)) self.now.entries }
         ensures inside { IfSome result (λ i. i < length self.now.entries) }
     {
         if flag {
@@ -74,7 +76,7 @@ impl Exchange {
     /// Of calls that the exchange began: their reference is their row.
     fn outward(&self, reference: u16) -> Option<usize>
         requires { IsCallReference reference }
-        ensures first { (m : PlainMessage) → result ≡ index_of (names (said_of reference true m)) self.now.entries }
+        ensures first { (m : PlainMessage) → result ≡ position (names (said_of reference true m)) self.now.entries }
         ensures inside { IfSome result (λ i. i < length self.now.entries) }
     {
         let index = reference as usize - 1;
@@ -90,7 +92,7 @@ impl Exchange {
 
     /// Of calls that the far end began.
     fn inward(&self, reference: u16) -> Option<usize>
-        ensures first { (m : PlainMessage) → result ≡ index_of (names (said_of reference false m)) self.now.entries }
+        ensures first { (m : PlainMessage) → result ≡ position (names (said_of reference false m)) self.now.entries }
         ensures inside { IfSome result (λ i. i < length self.now.entries) }
     {
         let mut first = None;
@@ -158,7 +160,7 @@ impl Exchange {
 
 /// The slot of the channel's live booking, where it can be none but this.
 fn live_slot(index: usize, standing: Standing) -> Option<u16>
-    requires { index < 4000 }
+    requires { index < MAX_BOOKINGS }
     ensures { result ≡ (if is_live standing then Some index else None) }
 {
     match standing {

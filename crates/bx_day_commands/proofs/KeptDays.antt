@@ -9,7 +9,7 @@ use Rattle.bx_day.specs.Day.{Day}
 use Rattle.bx_far.specs.FarDay.{FarDay}
 use Rattle.bx_day_openings.specs.CaptureOpenings.{IsFileFor}
 use Rattle.bx_day_openings.specs.OpeningRefusals.{IsNoFile}
-use Rattle.bx_day_openings.specs.Recording.{IsAllKept, IsUnkept}
+use Rattle.bx_recording.specs.Recording.{IsAllKept, IsUnkept}
 use Rattle.bx_day_openings.specs.declared.fault.DayCommandFault.{DayCommandFault}
 use Rattle.bx_request.specs.declared.request.CaptureWords.{CaptureWords}
 use Rattle.bx_request.specs.declared.request.DayRequest.{DayRequest}

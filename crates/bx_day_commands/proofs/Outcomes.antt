@@ -2,9 +2,9 @@
 use Rattle.std.proofs.Common.{◌≡◌, ℕ, Bool, List, Option, Result, Ok, Err, sym, subst}
 use Rattle.std.specs.Prelude.{IfOk, IfErr}
 use Rattle.bx_day.specs.Day.{Day}
-use Rattle.bx_day_openings.specs.Recording.{IsMade}
+use Rattle.bx_recording.specs.Recording.{IsMade}
 use Rattle.bx_day_openings.specs.declared.fault.DayCommandFault.{DayCommandFault}
-use Rattle.bx_day_openings.specs.declared.recording.RecordsFile.{RecordsFile}
+use Rattle.bx_recording.specs.declared.recording.RecordsFile.{RecordsFile}
 use Rattle.bx_devices.specs.Devices.{writing_of}
 use Rattle.bx_devices.specs.Watching.{device_of}
 use Rattle.bx_devices.specs.declared.watched.Watched.{Watched}

@@ -5,7 +5,7 @@ use Rattle.bx_check_commands.specs.declared.fault.CommandFault.TheVariants.{Cann
 use Rattle.bx_request.specs.declared.request.CaptureWords.{CaptureWords}
 use Rattle.bx_request.specs.declared.request.RecordsWords.{RecordsWords}
 use Rattle.bx_day_commands.specs.DayRefusals.{StopsDay, StopsServing, StopsFarEnd, IsRefusedRun, IsUnlinked, IsUnserved, IsUnjoined}
-use Rattle.bx_day_openings.specs.Recording.{IsNoRecordsClock}
+use Rattle.bx_recording.specs.Recording.{IsNoRecordsClock}
 use Rattle.bx_day_openings.specs.declared.fault.DayCommandFault.{DayCommandFault}
 use Rattle.bx_day_openings.specs.declared.fault.DayCommandFault.TheVariants.{Command}
 

@@ -9,7 +9,7 @@ use Rattle.bx_day.specs.Day.{Day}
 use Rattle.bx_events.specs.Events.{Event}
 use Rattle.bx_far.specs.FarDay.{FarDay}
 use Rattle.bx_day_openings.specs.Openings.{IsOpening, IsFarOpening}
-use Rattle.bx_day_openings.specs.Recording.{AreRecorded}
+use Rattle.bx_recording.specs.Recording.{AreRecorded}
 use Rattle.bx_day_openings.specs.declared.fault.DayCommandFault.{DayCommandFault}
 use Rattle.bx_day_commands.specs.Days.{IsDayTold, IsDayCut, IsFarTold, IsTakenByFar, exchange_packets, far_packets, packets_of, far_packets_of}
 

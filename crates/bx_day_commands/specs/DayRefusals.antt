@@ -5,9 +5,9 @@ use Rattle.bx_devices.specs.Watching.{device_of, is_faulted}
 use Rattle.bx_check_commands.specs.declared.fault.CommandFault.TheVariants.{CannotWrite}
 use Rattle.bx_request.specs.declared.request.CaptureWords.{CaptureWords}
 use Rattle.bx_request.specs.declared.request.RecordsWords.{RecordsWords}
-use Rattle.bx_day_openings.specs.AtHand.{HasFirst, HasClock, HasExchange, HasFarEnd, HasFile, HasRecordsFile}
+use Rattle.bx_day_openings.specs.AtHand.{HasFirst, HasExchange, HasFarEnd, HasFile}
+use Rattle.bx_recording.specs.Recording.{HasClock, HasRecordsFile, IsNoRecordsClock, IsNoRecordsFile}
 use Rattle.bx_day_openings.specs.OpeningRefusals.{IsNoFirst, IsNoOpening, IsNoFarEnd, IsNoFile, IsUnheard, IsUnconnected}
-use Rattle.bx_day_openings.specs.Recording.{IsNoRecordsClock, IsNoRecordsFile}
 use Rattle.bx_day_commands.specs.CapturedDays.{IsDayCutOff, IsDayStopped, IsFarStopped}
 use Rattle.bx_day_commands.specs.Days.{IsFarCut}
 use Rattle.bx_day_openings.specs.declared.fault.DayCommandFault.{DayCommandFault}

@@ -10,10 +10,10 @@ use Rattle.bx_day.specs.Day.{Day}
 use Rattle.bx_day.specs.Telling.{outcomes_text}
 use Rattle.bx_events.specs.Events.{Event}
 use Rattle.bx_far.specs.FarDay.{FarDay}
-use Rattle.bx_day_openings.specs.Recording.{IsRecording}
+use Rattle.bx_recording.specs.Recording.{IsRecording}
 use Rattle.bx_day_openings.specs.declared.fault.DayCommandFault.{DayCommandFault}
 use Rattle.bx_day_openings.specs.declared.fault.DayCommandFault.TheVariants.{Command}
-use Rattle.bx_day_openings.specs.declared.recording.RecordsFile.{RecordsFile}
+use Rattle.bx_recording.specs.declared.recording.RecordsFile.{RecordsFile}
 use Rattle.bx_request.specs.declared.request.CaptureWords.{CaptureWords}
 use Rattle.bx_day_commands.specs.CapturedDays.{IsCaptureOf}
 use Rattle.bx_day_commands.specs.Days.{IsDayRun, IsFarRun, HasTaken, IsTakenByFar, exchange_packets, far_packets, packets_of, far_packets_of}

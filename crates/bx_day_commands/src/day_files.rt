@@ -9,17 +9,15 @@ ghost use Rattle.bx_day_commands.specs.DayRefusals.{StopsDay, StopsServing, Stop
 ghost use Rattle.bx_day_commands.specs.CapturedDays.{IsBothDone, IsDayDone, IsFarDone};
 ghost use Rattle.bx_day_commands.specs.KeptDays.{IsBothCaptured, IsDayCaptured, IsFarCaptured, IsOutcomeTold, IsOutcomeCut};
 ghost use Rattle.bx_day_commands.specs.Days.{ended_line};
-ghost use Rattle.bx_day_openings.specs.Recording.{IsMade};
+ghost use Rattle.bx_recording.specs.Recording.{IsMade};
 
 use crate::running::{run_connected, run_linked, run_served};
 use bx_capture::is_whole;
 use bx_check_commands::{CommandFault, Inputs};
 use bx_day::Exchange;
-use bx_day_openings::{
-    DayCommandFault, RecordsFile, far_end_of, file_of, first_of, opening_of, record,
-    records_clock_of, records_file_of,
-};
+use bx_day_openings::{DayCommandFault, far_end_of, file_of, first_of, opening_of};
 use bx_devices::{Watched, WriteFailed, write_octets};
+use bx_recording::{RecordsFile, record, records_clock_of, records_file_of};
 use bx_request::{Place, RecordsWords, Sight};
 use bx_text::named_line;
 use std::alloc::Global;

@@ -6,8 +6,9 @@ ghost use Rattle.bx_day_commands.specs.DayRequests.{IsTold, IsDone, IsNotDone, I
 
 use crate::day_files::{DayWords, Kept, day_of_files, far_file, serve_file};
 use bx_check_commands::Inputs;
-use bx_day_openings::{DayCommandFault, kept};
+use bx_day_openings::DayCommandFault;
 use bx_devices::Watched;
+use bx_recording::kept;
 use bx_request::{CaptureWords, DayRequest, RecordsWords, Sight};
 use std::fs::Files;
 use std::io::Write;

@@ -1,3 +1,2 @@
 pub mod LastTurns
 mod Scripts
-mod Recordings

@@ -1,15 +1,11 @@
 -- What a command of a day has opened, as far as no file tells its octets.
 use Rattle.std.specs.Prelude.{ℕ, List, Option}
-use Rattle.bx_book.specs.declared.clock.Clock.{Clock}
 use Rattle.bx_day.specs.Day.{Day}
 use Rattle.bx_devices.specs.declared.watched.Watched.{Watched}
 use Rattle.bx_far.specs.FarDay.{FarDay}
 use Rattle.bx_request.specs.declared.request.CaptureWords.{CaptureWords}
-use Rattle.bx_request.specs.declared.request.RecordsWords.{RecordsWords}
 use Rattle.bx_day_openings.specs.CaptureOpenings.{IsFirstOf, IsFileFor}
 use Rattle.bx_day_openings.specs.Openings.{IsOpening, IsFarOpening}
-use Rattle.bx_day_openings.specs.Recording.{IsRecordsClock, IsMade}
-use Rattle.bx_day_openings.specs.declared.recording.RecordsFile.{RecordsFile}
 
 -- the second that moment 0 has in a capture
 abbrev pub HasFirst : Option CaptureWords → Type 0
@@ -26,11 +22,3 @@ HasFarEnd = (far : FarDay) × IsFarOpening far
 -- the file of a capture
 abbrev pub HasFile : {F : Type 0} → (F → Option (List ℕ)) → Option CaptureWords → Type 0
 HasFile {F = F} contents capture = (file : Option (Watched F)) × IsFileFor contents capture file
-
--- the clock of records
-abbrev pub HasClock : Option RecordsWords → Type 0
-HasClock records = (clock : Option Clock) × IsRecordsClock records clock
-
--- their file
-abbrev pub HasRecordsFile : Type 0 → Option RecordsWords → Type 0
-HasRecordsFile F records = (file : Option (RecordsFile F)) × IsMade records file

@@ -1,9 +1,9 @@
 -- How a capture begins: the second of its moment 0, and its file.
 use Rattle.std.specs.Prelude.{◌≡◌, ⊤, ℕ, pos, false, List, Option, Some, None, MatchOption}
 use Rattle.std.specs.Io.KnownBytes.{Appends}
-use Rattle.bx_book.specs.DayParts.{start_of}
-use Rattle.bx_book.specs.NamedDays.{IsDayOf}
-use Rattle.bx_book.specs.declared.day.Day.{Day}
+use Rattle.bx_calendar.specs.DayParts.{start_of}
+use Rattle.bx_calendar.specs.NamedDays.{IsDayOf}
+use Rattle.bx_calendar.specs.declared.day.Day.{Day}
 use Rattle.bx_capture.specs.Packets.{file_header}
 use Rattle.bx_devices.specs.declared.watched.Watched.{Watched}
 use Rattle.bx_devices.specs.Watching.{device_of, is_faulted}

@@ -3,4 +3,3 @@ pub mod OpeningRefusals
 pub mod CaptureOpenings
 pub mod AtHand
 pub mod Inside
-pub mod Recording

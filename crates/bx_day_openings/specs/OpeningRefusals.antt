@@ -1,10 +1,10 @@
 -- Why what a day needs is not opened.
 use Rattle.std.specs.Prelude.{◌≡◌, ℕ, List, Option, Some, None, MatchOption}
 use Rattle.csv.specs.Reading.{strip_bom}
-use Rattle.bx_book.specs.DayParts.{start_of}
-use Rattle.bx_book.specs.NamedDays.{IsDayOf, IsDayFault}
-use Rattle.bx_book.specs.declared.day.Day.{Day}
-use Rattle.bx_book.specs.declared.day.DayFault.{DayFault}
+use Rattle.bx_calendar.specs.DayParts.{start_of}
+use Rattle.bx_calendar.specs.NamedDays.{IsDayOf, IsDayFault}
+use Rattle.bx_calendar.specs.declared.day.Day.{Day}
+use Rattle.bx_calendar.specs.declared.day.DayFault.{DayFault}
 use Rattle.bx_capture.specs.Starts.{IsNameable}
 use Rattle.bx_check_commands.specs.PlanFiles.{HasNoProvedPlan}
 use Rattle.bx_check_commands.specs.declared.fault.CommandFault.TheVariants.{CannotRead, Memory}

@@ -8,7 +8,7 @@ ghost use Rattle.bx_day_openings.specs.CaptureOpenings.{IsFirstOf, IsFileFor};
 ghost use Rattle.bx_day_openings.specs.OpeningRefusals.{IsNoFirst, IsNoFile};
 
 use crate::fault::DayCommandFault;
-use bx_book::Day;
+use bx_calendar::Day;
 use bx_capture::{first_second, write_file_header};
 use bx_devices::{Watched, WriteFailed};
 use bx_request::CaptureWords;

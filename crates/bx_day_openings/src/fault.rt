@@ -1,6 +1,6 @@
 //! Why a day was not run, or not told.
 
-use bx_book::DayFault;
+use bx_calendar::DayFault;
 use bx_capture::BeyondCapture;
 use bx_check_commands::CommandFault;
 use bx_far::ScriptFault;

@@ -6,7 +6,6 @@ mod fault;
 mod loopback;
 mod openings;
 mod progress;
-mod recording;
 mod sockets;
 
 pub use capturing::{captured, file_of, first_of};
@@ -14,7 +13,4 @@ pub use fault::DayCommandFault;
 pub use loopback::{accepted, connected, connected_ends};
 pub use openings::{far_end_of, opening_of, turns_of};
 pub use progress::Shown;
-pub use recording::{
-    RecordsFile, clock_of, kept, record, records_clock_of, records_file_of, unrecorded,
-};
 pub use sockets::{accepted_at, connected_at};

@@ -9,7 +9,7 @@ use Rattle.bx_calls.specs.declared.user_state.Policy.{Policy}
 use Rattle.bx_calls.specs.declared.user_state.Policy.TheVariants.{Answer, Busy, Silent, Alert, Proceed, Clear}
 use Rattle.bx_far.specs.declared.row.ScriptRow.{ScriptRow}
 use Rattle.bx_far.specs.declared.row.ScriptRow.TheVariants.{Follows, Calls}
-use Rattle.bx_calls.specs.Shared.{is_set}
+use Rattle.bx_channels.specs.Marks.{is_marked}
 use Rattle.bx_far.specs.FarDay.{FarDay, far_takes, holder, is_taken, insert_call, first_call}
 use Rattle.bx_far.specs.Seats.{live_calls, IsSeat, AreSeated, IsFar, calls_later}
 use Rattle.bx_far.specs.Inside.{slot_at}
@@ -63,7 +63,7 @@ none_of None h = refl
 none_of (Some x) h = absurd (false≢true (sym h))
 
 pub free_slot : (d : FarDay) (slots : List (Option PlainUserCall)) (c : ℕ) → live_calls slots ≡ d.calls → AreSeated 0 slots → is_taken d c ≡ false → slot_at slots c ≡ None
-free_slot d slots c e h free = sym (holder_slot d slots c e h) ∙ none_of (holder d c) (or_false (is_some (holder d c)) (is_set d.maintenance c) free)
+free_slot d slots c e h free = sym (holder_slot d slots c e h) ∙ none_of (holder d c) (or_false (is_some (holder d c)) (is_marked d.maintenance c) free)
 
 -- a call in the slot of its channel
 pub far_with : (script : List ScriptRow) (moment next c : ℕ) (slots : List (Option PlainUserCall)) (o : Option PlainUserCall) → IsSeat c o → IsFar script moment next slots → IsFar script moment next (slice_set slots c o)

@@ -12,7 +12,7 @@ use Rattle.bx_calls.specs.declared.transition.Transition.{Transition}
 use Rattle.bx_calls.specs.declared.user_state.Policy.TheVariants.{Answer}
 use Rattle.bx_far.specs.declared.row.ScriptRow.{ScriptRow}
 use Rattle.bx_far.specs.declared.row.ScriptRow.TheVariants.{Follows, Calls}
-use Rattle.bx_calls.specs.Shared.{is_set}
+use Rattle.bx_channels.specs.Marks.{is_marked}
 use Rattle.bx_far.specs.FarDay.{FarDay, far_tick, far_ticked, Begun, begin_call, begin_row, insert_call, begin_rows, no_messages, second_calls, second_maintenance, second_said, settle_maintenance, next_then, with_held}
 use Rattle.bx_calls.specs.Sending.{in_order}
 use Rattle.bx_far.specs.Seats.{live_calls, IsSeat, AreSeated, calls_later}
@@ -197,7 +197,7 @@ pub held_all : (slots : List (Option PlainUserCall)) (i : ℕ) (held ms : List B
 held_all slots i held ms le h = ap (λ xs. with_held (live_calls xs) held) (sym (drop_all i slots le)) ∙ h
 
 abbrev pub IsFreeBelow : ℕ → List (Option PlainUserCall) → List Bool → Type 0
-IsFreeBelow i slots held = (c : ℕ) → c < i → is_set held c ≡ false → slot_at slots c ≡ None
+IsFreeBelow i slots held = (c : ℕ) → c < i → is_marked held c ≡ false → slot_at slots c ≡ None
 
 pub below_none : (slots : List (Option PlainUserCall)) (i : ℕ) (held : List Bool) → slot_at slots i ≡ None → IsFreeBelow i slots held → IsFreeBelow (i + 1) slots held
 below_none slots i held none h c lt unset = decide (c == i)
@@ -207,9 +207,9 @@ below_none slots i held none h c lt unset = decide (c == i)
     apart : (a b : ℕ) → (a == b) ≡ false → a ≢ b
     apart a b e q = false≢true (sym e ∙ eq-eqb a b q)
 
-pub below_call : (slots : List (Option PlainUserCall)) (i n : ℕ) (held held' : List Bool) → n ≡ i → is_set held' n ≡ true → ((k : ℕ) → k ≢ n → is_set held' k ≡ is_set held k) → IsFreeBelow i slots held → IsFreeBelow (i + 1) slots held'
+pub below_call : (slots : List (Option PlainUserCall)) (i n : ℕ) (held held' : List Bool) → n ≡ i → is_marked held' n ≡ true → ((k : ℕ) → k ≢ n → is_marked held' k ≡ is_marked held k) → IsFreeBelow i slots held → IsFreeBelow (i + 1) slots held'
 below_call slots i n held held' here added others h c lt unset = decide (c == n)
-    (λ e. absurd (false≢true (sym unset ∙ ap (is_set held') (eqb-true c n e) ∙ added)))
+    (λ e. absurd (false≢true (sym unset ∙ ap (is_marked held') (eqb-true c n e) ∙ added)))
     (λ e. let ne : c ≢ n = λ q. false≢true (sym e ∙ eq-eqb c n q) in h c (omega (arith, lt, here, ne)) (sym (others c ne) ∙ unset))
 
 past : (slots : List (Option PlainUserCall)) (c : ℕ) → length slots ≤ c → slot_at slots c ≡ None
@@ -229,15 +229,15 @@ below_all slots i held le h c unset = decide (nat_lt c i)
     le_from a b e = grind (arith, nat_tests)
 
 -- a call on a channel that was not blocked
-pub free_kept : (slots : List (Option PlainUserCall)) (n : ℕ) (call : PlainUserCall) (blocked blocked' : List Bool) → is_set blocked' n ≡ true → ((k : ℕ) → k ≢ n → is_set blocked' k ≡ is_set blocked k) → IsFree slots blocked → IsFree (slice_set slots n (Some call)) blocked'
+pub free_kept : (slots : List (Option PlainUserCall)) (n : ℕ) (call : PlainUserCall) (blocked blocked' : List Bool) → is_marked blocked' n ≡ true → ((k : ℕ) → k ≢ n → is_marked blocked' k ≡ is_marked blocked k) → IsFree slots blocked → IsFree (slice_set slots n (Some call)) blocked'
 free_kept slots n call blocked blocked' added others h c unset = decide (c == n)
-    (λ e. absurd (false≢true (sym unset ∙ ap (is_set blocked') (eqb-true c n e) ∙ added)))
+    (λ e. absurd (false≢true (sym unset ∙ ap (is_marked blocked') (eqb-true c n e) ∙ added)))
     (λ e. let ne : c ≢ n = λ q. false≢true (sym e ∙ eq-eqb c n q) in get_or-set_other slots n c (Some call) None ne ∙ h c (sym (others c ne) ∙ unset))
 
 -- ---- a call that a row begins
 
 pub turn_begun : (calls : List (Option PlainUserCall)) (said : List (Option Outgoing)) (blocked blocked' : List Bool) (next n : ℕ) (call : PlainUserCall) (out : Outgoing)
-    → IsChannel n → call.channel ≡ n → is_set blocked' n ≡ true → ((k : ℕ) → k ≢ n → is_set blocked' k ≡ is_set blocked k)
+    → IsChannel n → call.channel ≡ n → is_marked blocked' n ≡ true → ((k : ℕ) → k ≢ n → is_marked blocked' k ≡ is_marked blocked k)
     → IsBegunTick calls said blocked next → IsBegunTick (slice_set calls n (Some call)) (slice_set said n (Some out)) blocked' (next + 1)
 turn_begun calls said blocked blocked' next n call out channel on added others h = record {
   size = length-set calls n (Some call) ∙ h.size;
@@ -275,7 +275,7 @@ now_split t (Calls number moment channel) rows = decide (moment == t) (λ e. rw 
 pub row_room : (t : ℕ) (row : ScriptRow) (b : Begun) → (begin_row t row b).next ≤ b.next + calls_now t (row ∷ [])
 row_room t (Follows number policy) b = omega arith
 row_room t (Calls number moment channel) b = decide (moment == t)
-    (λ e. decide (is_set b.blocked channel) (λ s. rw (e, s) (omega arith)) (λ s. rw (e, s) (omega arith)))
+    (λ e. decide (is_marked b.blocked channel) (λ s. rw (e, s) (omega arith)) (λ s. rw (e, s) (omega arith)))
     (λ e. rw e (omega arith))
 
 pub rows_room : (t : ℕ) (rows : List ScriptRow) (b : Begun) → (begin_rows t rows b).next ≤ b.next + calls_now t rows

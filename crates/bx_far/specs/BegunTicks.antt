@@ -4,7 +4,7 @@ use Rattle.bx_channels.specs.ChannelNumbers.{IsChannel}
 use Rattle.bx_q931.specs.Outgoing.{Outgoing}
 use Rattle.bx_calls.specs.PlainCalls.{PlainUserCall}
 use Rattle.bx_calls.specs.UserTable.{user_second}
-use Rattle.bx_calls.specs.Shared.{is_set}
+use Rattle.bx_channels.specs.Marks.{is_marked}
 use Rattle.bx_far.specs.Seats.{AreSeated}
 use Rattle.bx_far.specs.Inside.{live_of, slot_at}
 
@@ -24,7 +24,7 @@ AreSpoken k (o ∷ os) = IsSpoken k o × AreSpoken (suc k) os
 
 -- a channel that is not blocked is not held
 abbrev pub IsFree : List (Option PlainUserCall) → List Bool → Type 0
-IsFree calls blocked = (c : ℕ) → is_set blocked c ≡ false → slot_at calls c ≡ None
+IsFree calls blocked = (c : ℕ) → is_marked blocked c ≡ false → slot_at calls c ≡ None
 
 pub record IsBegunTick (calls : List (Option PlainUserCall)) (said : List (Option Outgoing)) (blocked : List Bool) (next : ℕ) : Type 0 where
   pub size : length calls ≡ 32

@@ -6,7 +6,8 @@ use Rattle.bx_q931.specs.declared.kind.Kind.TheVariants.{Setup}
 use Rattle.bx_q931.specs.declared.channel_field.ChannelField.{ChannelField}
 use Rattle.bx_q931.specs.declared.channel_field.ChannelField.TheVariants.{Absent, Named, AnyChannel, Unread}
 use Rattle.bx_q931.specs.Outgoing.{Outgoing}
-use Rattle.bx_calls.specs.Shared.{is_set, no_channel, bool_eq}
+use Rattle.bx_calls.specs.Shared.{no_channel, bool_eq}
+use Rattle.bx_channels.specs.Marks.{is_marked}
 use Rattle.bx_calls.specs.declared.transition.Transition.{Transition}
 use Rattle.bx_calls.specs.declared.transition.Next.{Next}
 use Rattle.bx_calls.specs.declared.transition.Next.TheVariants.{Live, Over, Broken}
@@ -48,7 +49,7 @@ holder d c = first_call (is_on c) d.calls
 
 -- held or in maintenance
 abbrev pub is_taken : FarDay → ℕ → Bool
-is_taken d c = is_some (holder d c) || is_set d.maintenance c
+is_taken d c = is_some (holder d c) || is_marked d.maintenance c
 
 -- a new call is put where its channel stands among the others
 abbrev pub insert_call : PlainUserCall → List PlainUserCall → List PlainUserCall
@@ -112,7 +113,7 @@ begin_call t number c b = record {
 -- a row that may not call at its moment never does, and uses no reference
 abbrev pub begin_row : ℕ → ScriptRow → Begun → Begun
 begin_row t (Follows number policy) b = b
-begin_row t (Calls number moment c) b = if (moment == t) && not (is_set b.blocked c) then begin_call t number c b else b
+begin_row t (Calls number moment c) b = if (moment == t) && not (is_marked b.blocked c) then begin_call t number c b else b
 
 abbrev pub begin_rows : ℕ → List ScriptRow → Begun → Begun
 begin_rows t [] b = b

@@ -1,7 +1,7 @@
 //! Rows that call, at a tick.
 
 ghost use Rattle.std.specs.Prelude.{◌≡◌, ◌≤◌, ◌+◌, false, [], ◌∷◌};
-ghost use Rattle.bx_calls.specs.Shared.{is_set};
+ghost use Rattle.bx_channels.specs.Marks.{is_marked};
 ghost use Rattle.bx_far.specs.FarDay.{begin_call, begin_row, begin_rows};
 ghost use Rattle.bx_far.specs.Inside.{calls_now};
 
@@ -66,7 +66,7 @@ impl BegunTick {
 
     fn begin(&mut self, number: Number, channel: Channel, moment: u32)
         requires moment { moment ≤ LAST_MOMENT }
-        requires free { is_set self.old.blocked channel ≡ false }
+        requires free { is_marked self.old.blocked channel ≡ false }
         requires room { self.old.next ≤ 4000 }
         ensures { self.new ≡ begin_call moment number channel self.old }
     {

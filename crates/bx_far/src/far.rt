@@ -2,7 +2,7 @@
 
 ghost use Rattle.std.specs.Prelude.{◌≡◌, ◌≤◌, option_map};
 ghost use Rattle.bx_calls.specs.States.{user_state};
-ghost use Rattle.bx_calls.specs.Shared.{is_set};
+ghost use Rattle.bx_channels.specs.Marks.{is_marked};
 ghost use Rattle.bx_far.specs.FarDay.{is_taken, holder, far_opening};
 
 use crate::script::Script;
@@ -74,7 +74,7 @@ impl Far {
 
     /// Whether the channel is in maintenance: a call on it was given up without an answer to its release.
     pub fn in_maintenance(&self, channel: Channel) -> bool
-        ensures { result ≡ is_set self.now.maintenance channel }
+        ensures { result ≡ is_marked self.now.maintenance channel }
     {
         self.maintenance.has(channel)
     }

@@ -1,7 +1,7 @@
 -- Flows along the line: a number of units, each led from the first place to the last over idle arcs and over the arcs of
 -- rows, which take one unit each.
 use Rattle.std.specs.Prelude.{◌≡◌, ℕ, ◌+◌, ◌-◌, ◌<◌, ◌&&◌, ◌==◌, Bool, nat_lt, List, length, slice_index, if◌then◌else◌}
-use Rattle.bx_base.specs.Marks.{is_marked}
+use Rattle.bx_channels.specs.Marks.{is_marked}
 use Rattle.bx_base.specs.Sums.{sum_below}
 use Rattle.bx_line.specs.Network.{Network, places_of, gaps_of, arc_at, spans}
 

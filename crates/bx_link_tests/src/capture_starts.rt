@@ -1,6 +1,6 @@
 //! Days whose seconds a capture can name, and days whose it cannot.
 
-use bx_book::Day;
+use bx_calendar::Day;
 use bx_capture::first_second;
 
 /// A date and a zone, and the first second of the day, where a capture can name all.

@@ -1,5 +1,6 @@
 -- The moment of a day: a second raises it by one, and a message leaves it.
 use Rattle.std.proofs.Common.{◌≡◌, ℕ, List, [], ◌+◌, ◌<◌, ◌==◌, nat_le, Bool, true, false, if◌then◌else◌, refl, ap, ◌∙◌, arith, Option, Some, None, Result, Ok, Err}
+use Rattle.std.specs.List.{position}
 use Rattle.std.proofs.lemmas.Bool.Decides.{nat_tests}
 use Rattle.bx_q931.specs.Messages.{PlainMessage, message_at}
 use Rattle.bx_q931.specs.declared.channel_field.ChannelField.{ChannelField}
@@ -13,7 +14,7 @@ use Rattle.bx_events.specs.Events.{Tick, Receive}
 use Rattle.bx_calls.specs.Said.{Said, said_of}
 use Rattle.bx_calls.specs.Sending.{Sent, Answered, unchanged}
 use Rattle.bx_day.specs.declared.entry.Link.TheVariants.{Down}
-use Rattle.bx_day.specs.Day.{Day, every_channel, index_of}
+use Rattle.bx_day.specs.Day.{Day, every_channel}
 use Rattle.bx_day.specs.Ticks.{ticked, passed_in}
 use Rattle.bx_day.specs.Receipts.{opens, names, lowest_open, takes_or, takes_preferred, called_on, called, stray, received_at, receive}
 use Rattle.bx_day.specs.Run.{receive_from, receive_read, receive_octets}
@@ -34,8 +35,8 @@ module _ (d : Day) (m : Said) where
 
   called_on_stays : (field : ChannelField) → Stays d (called_on d m field)
   called_on_stays Unread = refl
-  called_on_stays (Named c true) = taken_stays 44 (index_of (opens d c) d.entries)
-  called_on_stays (Named c false) = preferred_stays (index_of (opens d c) d.entries)
+  called_on_stays (Named c true) = taken_stays 44 (position (opens d c) d.entries)
+  called_on_stays (Named c false) = preferred_stays (position (opens d c) d.entries)
   called_on_stays Absent = taken_stays 34 (lowest_open d every_channel)
   called_on_stays AnyChannel = taken_stays 34 (lowest_open d every_channel)
 
@@ -59,7 +60,7 @@ receive_stays : (d : Day) (octets : List ℕ) → Stays d (receive_octets d octe
 receive_stays d octets = by_read (message_at octets) where
   by_value : (m : PlainMessage) (value : ℕ) (flag b : Bool) → Stays d (if b then unchanged d None else receive d (said_of value flag m))
   by_value m value flag true = refl
-  by_value m value flag false = received_stays d (said_of value flag m) (index_of (names (said_of value flag m)) d.entries)
+  by_value m value flag false = received_stays d (said_of value flag m) (position (names (said_of value flag m)) d.entries)
 
   by_reference : (m : PlainMessage) (reference : Reference) → Stays d (receive_from d m reference)
   by_reference m Dummy = refl

@@ -5,7 +5,7 @@ use Rattle.std.specs.declared.net.TcpStream.{TcpStream}
 use Rattle.std.specs.declared.os.unix.net.UnixStream.{UnixStream}
 use Rattle.bx_check_commands.specs.declared.fault.CommandFault.TheVariants as commands
 use Rattle.bx_day.specs.Day.{Day}
-use Rattle.bx_day_openings.specs.Recording.{IsMade}
+use Rattle.bx_recording.specs.Recording.{IsMade}
 use Rattle.bx_day_openings.specs.declared.fault.DayCommandFault.TheVariants.{Command}
 use Rattle.bx_devices.specs.Devices.{writing_of}
 use Rattle.bx_devices.specs.Watching.{device_of}
@@ -21,11 +21,11 @@ use Rattle.bx_live_commands.specs.LiveDays.{IsLiveTold, IsLiveDayAt, DayAt, IsLi
 use Rattle.bx_live_commands.specs.LiveRuns.{RunsByClock}
 use Rattle.bx_live_commands.specs.LiveRefusals.{StopsAtDoor, StopsLive, IsLiveRefusal}
 use Rattle.bx_live_commands.specs.Resuming.{IsNoRecord}
-use Rattle.bx_live_commands.specs.TellingInside.{IsToldWhole, IsNotToldWhole}
-use Rattle.bx_live_commands.specs.declared.fault.LiveFault.{LiveFault}
-use Rattle.bx_live_commands.specs.declared.fault.LiveFault.TheVariants.{Day as OfDay, CannotRecord, NotEmpty}
-use Rattle.bx_live_commands.specs.declared.telling.Ended.{Ended}
-use Rattle.bx_live_commands.proofs.Refused.{whole_run_kept, no_clock}
+use Rattle.bx_day_runs.specs.Telling.{IsToldWhole, IsNotToldWhole}
+use Rattle.bx_day_runs.specs.declared.fault.LiveFault.{LiveFault}
+use Rattle.bx_day_runs.specs.declared.fault.LiveFault.TheVariants.{Day as OfDay, CannotRecord, NotEmpty}
+use Rattle.bx_day_runs.specs.declared.telling.Ended.{Ended}
+use Rattle.bx_day_runs.proofs.Refused.{whole_run_kept, no_clock}
 
 whole_at : {F : Type 0} (H : Type 0) (files : F → Option (List ℕ)) (place : Place) (request : LiveRequest) (day : Day) (is_whole : Bool) → DayAt H files place request day is_whole → (is_whole ≡ true) ⊎ (request.sight.capture ≡ None) → is_whole ≡ true
 whole_at H files (Port port) request day is_whole (remaining, contents, live) all = whole_run_kept files request.sight.capture live.file _ live.ran.acts is_whole live.file_opens live.ran.captured all

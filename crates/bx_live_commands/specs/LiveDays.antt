@@ -9,7 +9,7 @@ use Rattle.bx_devices.specs.declared.watched.Watched.{Watched}
 use Rattle.bx_day.specs.Day.{Day}
 use Rattle.bx_day.specs.Telling.{outcomes_text}
 use Rattle.bx_day_openings.specs.CaptureOpenings.{IsFileFor}
-use Rattle.bx_day_openings.specs.Recording.{AreRecorded}
+use Rattle.bx_recording.specs.Recording.{AreRecorded}
 use Rattle.bx_day_openings.specs.declared.fault.DayCommandFault.{DayCommandFault}
 use Rattle.bx_request.specs.declared.request.LiveRequest.{LiveRequest}
 use Rattle.bx_request.specs.declared.request.RecordsWords.{RecordsWords}
@@ -20,9 +20,9 @@ use Rattle.bx_world.specs.declared.door.TcpDoor.{TcpDoor}
 use Rattle.bx_world.specs.declared.door.UnixDoor.{UnixDoor}
 use Rattle.bx_world.specs.declared.record.Record.{Record}
 use Rattle.bx_world.specs.declared.schedule.Schedule.{Schedule}
-use Rattle.bx_live_commands.specs.JournalFiles.{holds_on, may_leave_on, moment_on, left_since_on}
+use Rattle.bx_day_runs.specs.JournalFiles.{holds_on, may_leave_on, moment_on, left_since_on}
 use Rattle.bx_live_commands.specs.LiveHours.{IsScheduled}
-use Rattle.bx_live_commands.specs.LiveOpenings.{IsTiedDay}
+use Rattle.bx_journal_openings.specs.TiedDays.{IsTiedDay}
 use Rattle.bx_live_commands.specs.LiveRuns.{RunsByClock}
 use Rattle.bx_live_commands.specs.Resuming.{GoesOnBy}
 use Rattle.bx_live_commands.specs.declared.journal_file.JournalFile.{JournalFile}

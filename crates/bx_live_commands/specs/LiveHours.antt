@@ -1,8 +1,8 @@
 -- When a live day is.
 use Rattle.std.specs.Prelude.{◌≡◌, ℕ, max, pos, List}
-use Rattle.bx_book.specs.DayParts.{start_of}
-use Rattle.bx_book.specs.NamedDays.{IsDayOf, IsDayFault}
-use Rattle.bx_book.specs.declared.day.Day.{Day}
+use Rattle.bx_calendar.specs.DayParts.{start_of}
+use Rattle.bx_calendar.specs.NamedDays.{IsDayOf, IsDayFault}
+use Rattle.bx_calendar.specs.declared.day.Day.{Day}
 use Rattle.bx_capture.specs.Starts.{IsNameable}
 use Rattle.bx_day_openings.specs.declared.fault.DayCommandFault.{DayCommandFault}
 use Rattle.bx_day_openings.specs.declared.fault.DayCommandFault.TheVariants as faults

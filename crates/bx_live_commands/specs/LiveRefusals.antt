@@ -4,7 +4,7 @@ use Rattle.std.specs.Borrow.{Bor}
 use Rattle.bx_check_commands.specs.declared.fault.CommandFault.TheVariants.{CannotWrite}
 use Rattle.bx_day.specs.Day.{Day}
 use Rattle.bx_day_openings.specs.AtHand.{HasFile}
-use Rattle.bx_day_openings.specs.Recording.{IsNoRecordsClock, IsNoRecordsFile, IsUnkept}
+use Rattle.bx_recording.specs.Recording.{IsNoRecordsClock, IsNoRecordsFile, IsUnkept}
 use Rattle.bx_day_openings.specs.OpeningRefusals.{IsNoOpening, IsNoFile, IsUnheard}
 use Rattle.bx_day_openings.specs.declared.fault.DayCommandFault.{DayCommandFault}
 use Rattle.bx_day_openings.specs.declared.fault.DayCommandFault.TheVariants.{Command}
@@ -13,16 +13,11 @@ use Rattle.bx_devices.specs.declared.watched.Watched.{Watched}
 use Rattle.bx_request.specs.declared.request.LiveRequest.{LiveRequest}
 use Rattle.bx_live_commands.specs.LiveDays.{IsLiveTold, IsLiveCut, records_of}
 use Rattle.bx_live_commands.specs.LiveHours.{IsNoHours}
-use Rattle.bx_live_commands.specs.LiveOpenings.{IsTiedDay}
+use Rattle.bx_journal_openings.specs.TiedDays.{IsTiedDay}
 use Rattle.bx_live_commands.specs.Resuming.{IsNoRecord}
-use Rattle.bx_live_commands.specs.declared.fault.LiveFault.{LiveFault}
-use Rattle.bx_live_commands.specs.declared.fault.LiveFault.TheVariants.{Day as OfDay, CannotRecord, NotEmpty}
-
--- what was not to be opened names no journal
-abbrev pub OfOpening : (DayCommandFault → Type 0) → LiveFault → Type 0
-OfOpening reason (OfDay fault) = reason fault
-OfOpening reason (CannotRecord name) = ⊥
-OfOpening reason (NotEmpty name) = ⊥
+use Rattle.bx_day_runs.specs.declared.fault.LiveFault.{LiveFault}
+use Rattle.bx_day_runs.specs.declared.fault.LiveFault.TheVariants.{Day as OfDay, CannotRecord, NotEmpty}
+use Rattle.bx_day_runs.specs.OpeningFaults.{OfOpening}
 
 -- this is the journal that is kept
 abbrev pub IsJournalName : Option (Bor (List ℕ)) → List ℕ → Type 0

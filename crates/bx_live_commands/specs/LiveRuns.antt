@@ -1,23 +1,15 @@
 -- A day that was run by the clock.
-use Rattle.std.specs.Prelude.{◌≡◌, ℕ, max, min, Bool, false, List, Option}
+use Rattle.std.specs.Prelude.{◌≡◌, ℕ, Bool, List, Option}
 use Rattle.bx_day.specs.Day.{Day}
-use Rattle.bx_day.specs.Outages.{live_day_after}
 use Rattle.bx_devices.specs.declared.watched.Watched.{Watched}
-use Rattle.bx_live.specs.Acts.{Act, recorded, ended}
-use Rattle.bx_live.specs.Runs.{Between, Done, IsRun}
+use Rattle.bx_live.specs.Acts.{Act}
 use Rattle.bx_world.specs.Chains.{Chain}
 use Rattle.bx_world.specs.Lives.{GoesLive}
 use Rattle.bx_world.specs.declared.live.Live.{Live}
 use Rattle.bx_world.specs.declared.record.Record.{Record}
 use Rattle.bx_world.specs.declared.schedule.Schedule.{Schedule}
-use Rattle.bx_live_commands.specs.RunCaptures.{IsRunKept}
-use Rattle.bx_events.specs.declared.moment.TheConstants.{LAST_MOMENT}
-
--- these acts are a live run of a day from here to its end, up to so many turns
-pub record IsWholeRun (turns : ℕ) (from to : Day) (acts : List Act) : Type 0 where
-  pub run : IsRun (Between from) acts (Done to)
-  pub after : to ≡ live_day_after (recorded acts) from
-  pub reached : ended acts ≡ false → to.moment ≡ max from.moment (min turns LAST_MOMENT)
+use Rattle.bx_day_runs.specs.RunCaptures.{IsRunKept}
+use Rattle.bx_day_runs.specs.WholeRuns.{IsWholeRun}
 
 -- a world with this schedule and this record has gone through the acts of such a run, and the file of a capture has taken the
 -- packets of their messages

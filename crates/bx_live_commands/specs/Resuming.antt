@@ -1,13 +1,13 @@
 -- How a day goes on by its journal.
 use Rattle.std.specs.Prelude.{◌≡◌, ℕ, List, Option, Some, None}
 use Rattle.std.specs.Borrow.{Bor}
-use Rattle.bx_audit.specs.Audits.{IsJournal}
-use Rattle.bx_audit.specs.AuditRefusals.{HasNoJournal}
+use Rattle.bx_journal_openings.specs.Journals.{IsJournal}
+use Rattle.bx_journal_openings.specs.JournalRefusals.{HasNoJournal}
 use Rattle.bx_day.specs.Day.{Day}
 use Rattle.bx_day.specs.Outages.{live_day_after}
 use Rattle.bx_events.specs.Events.{LiveEvent}
-use Rattle.bx_live_commands.specs.declared.fault.LiveFault.{LiveFault}
-use Rattle.bx_live_commands.specs.declared.fault.LiveFault.TheVariants.{Day as OfDay, CannotRecord, NotEmpty}
+use Rattle.bx_day_runs.specs.declared.fault.LiveFault.{LiveFault}
+use Rattle.bx_day_runs.specs.declared.fault.LiveFault.TheVariants.{Day as OfDay, CannotRecord, NotEmpty}
 
 -- the day after just the events of a journal that was read
 pub record GoesOn (plan : List ℕ) (before : Option (List ℕ)) (opened day : Day) : Type 0 where

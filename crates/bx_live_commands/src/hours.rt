@@ -4,7 +4,7 @@ ghost use Rattle.std.specs.Prelude.{◌≡◌, ◌≤◌, pos, IfOk, IfErr};
 ghost use Rattle.bx_live_commands.specs.HoursInside.{AreHours};
 ghost use Rattle.bx_live_commands.specs.LiveHours.{IsFirstSecond, IsNoHours};
 
-use bx_book::Day;
+use bx_calendar::Day;
 use bx_capture::first_second;
 use bx_day_openings::DayCommandFault;
 use bx_world::Schedule;

@@ -2,23 +2,23 @@
 
 ghost use Rattle.std.specs.Prelude.{◌≡◌, ◌≤◌, true, Ok, IfOk, IfErr, OnOk};
 ghost use Rattle.bx_day_openings.specs.OpeningRefusals.{IsUnheard};
-ghost use Rattle.bx_day_openings.specs.Recording.{IsRecordsClock, IsRecordsFileFor, IsMade};
+ghost use Rattle.bx_recording.specs.Recording.{IsRecordsClock, IsRecordsFileFor, IsMade};
 ghost use Rattle.bx_devices.specs.Watching.{device_of};
 ghost use Rattle.bx_live_commands.specs.HoursInside.{AreHours};
 ghost use Rattle.bx_live_commands.specs.LiveDays.{IsLiveDayAt, IsLiveDay, IsLiveTold, records_of};
-ghost use Rattle.bx_live_commands.specs.LiveOpenings.{IsTiedDay};
+ghost use Rattle.bx_journal_openings.specs.TiedDays.{IsTiedDay};
 ghost use Rattle.bx_live_commands.specs.LiveRefusals.{IsNoTime, StopsAtDoor, StopsAtPlace, StopsLive, IsLiveRefusal};
 
-use crate::fault::LiveFault;
+use crate::by_clock::run_by_clock;
 use crate::hours::{Hours, hours_of};
-use crate::opening::{Opening, tied_opening};
 use crate::resuming::resume_named;
-use crate::running::{View, run_by_clock};
-use crate::telling::{Ended, tell};
-use bx_book::Clock as DayClock;
+use bx_calendar::Clock as DayClock;
 use bx_check_commands::Inputs;
-use bx_day_openings::{DayCommandFault, file_of, records_clock_of, records_file_of};
+use bx_day_openings::{DayCommandFault, file_of};
+use bx_day_runs::{Ended, LiveFault, View, tell};
 use bx_devices::Watched;
+use bx_journal_openings::{Opening, tied_opening};
+use bx_recording::{records_clock_of, records_file_of};
 use bx_request::{LiveRequest, Place, RecordsWords};
 use bx_world::{Door, Limits, TcpDoor, UnixDoor};
 use std::fs::Files;

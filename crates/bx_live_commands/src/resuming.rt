@@ -2,18 +2,17 @@
 
 ghost use Rattle.std.specs.Prelude.{◌≡◌, true, is_some, IfOk, IfErr, OnOk};
 ghost use Rattle.bx_devices.specs.Watching.{device_of, is_faulted};
-ghost use Rattle.bx_audit.specs.AuditRefusals.{IsNoJournal};
+ghost use Rattle.bx_journal_openings.specs.JournalRefusals.{IsNoJournal};
 ghost use Rattle.bx_live_commands.specs.Inside.{IsReady};
 ghost use Rattle.bx_live_commands.specs.Resuming.{GoesOn, GoesOnBy, IsNotResumed, IsNoRecord};
 
-use crate::fault::LiveFault;
-use crate::folder::sync_entry;
 use crate::journal_file::JournalFile;
-use bx_audit::journal_read;
 use bx_day::Exchange;
 use bx_day_openings::DayCommandFault;
+use bx_day_runs::{LiveFault, sync_entry};
 use bx_devices::Watched;
 use bx_journal::{Disk, DiskFailed, JournalFault, begin, resume};
+use bx_journal_openings::journal_read;
 use bx_recovery::recover_day;
 use bx_world::Record;
 use std::fs::{File, Files, OpenFile};

@@ -1,7 +1,8 @@
 //! What the calls are made with.
 
 use bx_base::{Bookings, ChannelSet, Plan};
-use bx_book::{Day, read_bookings};
+use bx_book::read_bookings;
+use bx_calendar::Day;
 use bx_devices::Watched;
 use bx_planfile::write_plan;
 use bx_planner::plan;

@@ -1,9 +1,9 @@
 -- Why a call has no times, where its day is named and where it is not.
 use Rattle.std.proofs.Common.{ℕ, ◌≤◌, List, Option, Some, None, refl, inl, inr}
 use Rattle.std.specs.Prelude.{MatchOption}
-use Rattle.bx_book.specs.NamedDays.{IsDayOf}
+use Rattle.bx_calendar.specs.NamedDays.{IsDayOf}
 use Rattle.bx_book.specs.Rows.{Span, IsMomentOf, IsTimeFault, span_of}
-use Rattle.bx_book.specs.declared.day.Day.{Day}
+use Rattle.bx_calendar.specs.declared.day.Day.{Day}
 use Rattle.bx_book.specs.declared.fault.BookFault.{BookFault}
 use Rattle.bx_book.specs.declared.fault.BookFault.TheVariants.{EndNotAfterStart}
 use Rattle.bx_plan_commands.specs.Calls.{IsSecondOf, IsSecondFault, AreBoth, IsFirstOfBoth, AreNoTimes}

@@ -1,7 +1,7 @@
 -- What inputs give once one of them was opened, they have given before.
 use Rattle.std.proofs.Common.{ℕ, List, Option, inl, inr}
 use Rattle.bx_base.specs.Bookings.{Row}
-use Rattle.bx_book.specs.declared.day.Day.{Day}
+use Rattle.bx_calendar.specs.declared.day.Day.{Day}
 use Rattle.bx_devices.specs.Devices.{Reading}
 use Rattle.bx_check_commands.specs.Inputs.{IsReadOf}
 use Rattle.bx_plan_commands.specs.FilePlans.{AreBookingsOf}

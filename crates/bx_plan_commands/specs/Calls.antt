@@ -1,9 +1,9 @@
 -- The call that words name, and why they name none.
 use Rattle.std.specs.Prelude.{◌≡◌, ◌<◌, ◌≤◌, ◌⊎◌, ℕ, true, false, List, MatchOption}
 use Rattle.bx_base.specs.Bookings.{Row}
-use Rattle.bx_book.specs.NamedDays.{IsDayOf, IsDayFault}
+use Rattle.bx_calendar.specs.NamedDays.{IsDayOf, IsDayFault}
 use Rattle.bx_book.specs.Rows.{IsMomentOf, IsTimeFault, span_of}
-use Rattle.bx_book.specs.declared.day.Day.{Day}
+use Rattle.bx_calendar.specs.declared.day.Day.{Day}
 use Rattle.bx_book.specs.declared.fault.BookFault.{BookFault}
 use Rattle.bx_book.specs.declared.fault.BookFault.TheVariants.{NotATime, OutsideDay, EndNotAfterStart}
 use Rattle.bx_planfile.specs.Forms.{is_decimal}

@@ -5,10 +5,10 @@ use Rattle.bx_base.specs.Bookings.{Row}
 use Rattle.bx_base.specs.Channels.{AreChannels, HasJust}
 use Rattle.bx_devices.specs.Devices.{Reading, Writing}
 use Rattle.bx_base.specs.PlanParts.{Parts}
-use Rattle.bx_book.specs.NamedDays.{IsDayOf}
+use Rattle.bx_calendar.specs.NamedDays.{IsDayOf}
 use Rattle.bx_book.specs.Rows.{span_of}
 use Rattle.bx_book.specs.Streams.{IsBookRead}
-use Rattle.bx_book.specs.declared.day.Day.{Day}
+use Rattle.bx_calendar.specs.declared.day.Day.{Day}
 use Rattle.bx_plan_run.specs.Amending.{IsAmended}
 use Rattle.bx_plan_run.specs.Planning.{IsRun}
 use Rattle.bx_check_commands.specs.Inputs.{IsReadOf, IsPlanOf}

@@ -6,10 +6,10 @@ use Rattle.bx_base.specs.ChannelFaults.{IsFirstFault}
 use Rattle.bx_devices.specs.Devices.{Reading, Writing, writing_of}
 use Rattle.bx_base.specs.PlanParts.{Parts}
 use Rattle.bx_devices.specs.declared.watched.Watched.{Watched}
-use Rattle.bx_book.specs.NamedDays.{IsDayOf, IsDayFault}
+use Rattle.bx_calendar.specs.NamedDays.{IsDayOf, IsDayFault}
 use Rattle.bx_book.specs.Rows.{Span, span_of}
 use Rattle.bx_book.specs.Streams.{IsStreamFault}
-use Rattle.bx_book.specs.declared.day.Day.{Day}
+use Rattle.bx_calendar.specs.declared.day.Day.{Day}
 use Rattle.bx_book.specs.declared.stream.StreamFault.TheVariants as stream
 use Rattle.bx_plan_commands.specs.FilePlans.{AreTerms, AreBookingsOf}
 use Rattle.bx_plan_commands.specs.declared.fault.FileFault.{FileFault}

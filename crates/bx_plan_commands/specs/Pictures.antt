@@ -5,8 +5,8 @@ use Rattle.bx_devices.specs.Devices.{Writing, writing_of}
 use Rattle.bx_base.specs.Channels.{count_of}
 use Rattle.bx_base.specs.PlanParts.{Parts}
 use Rattle.bx_devices.specs.declared.watched.Watched.{Watched}
-use Rattle.bx_book.specs.Clocks.{IsClock}
-use Rattle.bx_book.specs.declared.clock.Clock.{Clock}
+use Rattle.bx_calendar.specs.Clocks.{IsClock}
+use Rattle.bx_calendar.specs.declared.clock.Clock.{Clock}
 use Rattle.bx_chart.specs.Charts.{IsDrawn, IsChartRefusal}
 use Rattle.bx_chart.specs.declared.writing.ChartFault.{ChartFault}
 use Rattle.bx_plan_commands.specs.FileRefusals.{IsNoDay, IsFileFault}

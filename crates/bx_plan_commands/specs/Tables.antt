@@ -2,9 +2,9 @@
 use Rattle.std.specs.Prelude.{◌≡◌, ◌⊎◌, ℕ, List, Option}
 use Rattle.bx_devices.specs.Devices.{Reading, Writing, writing_of}
 use Rattle.bx_devices.specs.declared.watched.Watched.{Watched}
-use Rattle.bx_book.specs.NamedDays.{IsDayOf}
+use Rattle.bx_calendar.specs.NamedDays.{IsDayOf}
 use Rattle.bx_book.specs.Rows.{Span, span_of}
-use Rattle.bx_book.specs.declared.day.Day.{Day}
+use Rattle.bx_calendar.specs.declared.day.Day.{Day}
 use Rattle.bx_book.specs.declared.stream.StreamFault.TheVariants as stream
 use Rattle.bx_check_commands.specs.Inputs.{IsReadOf}
 use Rattle.bx_check_commands.specs.PlanFiles.{IsUnopened}

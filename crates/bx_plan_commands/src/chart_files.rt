@@ -5,7 +5,7 @@ ghost use Rattle.bx_devices.specs.Devices.{writing_of};
 ghost use Rattle.bx_plan_commands.specs.Pictures.{IsClockOf, IsNoClock, IsPictured, IsNotPictured};
 
 use crate::fault::FileFault;
-use bx_book::Clock;
+use bx_calendar::Clock;
 use bx_chart::write_chart;
 use bx_check_commands::{CommandFault, Inputs, proved_named};
 use bx_devices::Watched;

@@ -1,7 +1,8 @@
 //! Why a command on files was refused.
 
 use bx_base::ChannelFault;
-use bx_book::{BookFault, DayFault};
+use bx_book::BookFault;
+use bx_calendar::DayFault;
 use bx_chart::ChartFault;
 use bx_check_commands::CommandFault;
 use bx_plan_run::{AmendFault, RunFault};

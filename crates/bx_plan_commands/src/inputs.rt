@@ -6,7 +6,8 @@ ghost use Rattle.bx_plan_commands.specs.FileRefusals.{HasNoBookings};
 
 use crate::fault::FileFault;
 use bx_base::Bookings;
-use bx_book::{Day, StreamFault, read_bookings_from};
+use bx_book::{StreamFault, read_bookings_from};
+use bx_calendar::Day;
 use bx_check_commands::{CommandFault, Inputs};
 use std::alloc::Global;
 

@@ -1,13 +1,13 @@
 //! What the words name: a day and channels.
 
 ghost use Rattle.std.specs.Prelude.{IfOk, IfErr};
-ghost use Rattle.bx_book.specs.NamedDays.{IsDayOf};
+ghost use Rattle.bx_calendar.specs.NamedDays.{IsDayOf};
 ghost use Rattle.bx_plan_commands.specs.FilePlans.{AreTerms};
 ghost use Rattle.bx_plan_commands.specs.FileRefusals.{IsNoDay, AreNoTerms};
 
 use crate::fault::FileFault;
 use bx_base::ChannelSet;
-use bx_book::Day;
+use bx_calendar::Day;
 use bx_request::Terms;
 
 /// The day that these words name.

@@ -7,7 +7,8 @@ ghost use Rattle.bx_plan_run.specs.Capacity.{IsCapacityRefusal, IsTable, IsTable
 
 use crate::lines::earning_lines;
 use bx_base::Bookings;
-use bx_book::{Day, StreamFault, read_bookings_from};
+use bx_book::{StreamFault, read_bookings_from};
+use bx_calendar::Day;
 use bx_devices::{Watched, write_octets};
 use bx_planner::capacity;
 use std::alloc::{AllocError, Global};

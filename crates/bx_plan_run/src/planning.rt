@@ -10,7 +10,8 @@ ghost use Rattle.bx_plan_run.specs.Unplanned.{AreUnread, IsWithoutPlan};
 ghost use Rattle.bx_planner.specs.Proved.{IsProved};
 
 use bx_base::{Bookings, ChannelSet, Plan};
-use bx_book::{BookFault, Day, StreamFault, read_bookings_from};
+use bx_book::{BookFault, StreamFault, read_bookings_from};
+use bx_calendar::Day;
 use bx_devices::Watched;
 use bx_planfile::write_plan;
 use bx_planner::{NoPlan, plan};

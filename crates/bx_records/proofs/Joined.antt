@@ -1,7 +1,7 @@
 -- Records, line behind line.
 use Rattle.std.proofs.Common.{◌≡◌, subst, ◌++◌, ◌+◌, ◌<◌, ◌∷◌, [], ◌∙◌, ap, refl, sym, ℕ, List, Option, length, drop, drop-cons, append_assoc, append-nil, slice_index_or, ap₂, suc, ◌≤◌, arith}
 use Rattle.std.proofs.lemmas.List.{drop_all}
-use Rattle.bx_book.specs.declared.clock.Clock.{Clock}
+use Rattle.bx_calendar.specs.declared.clock.Clock.{Clock}
 use Rattle.bx_day.specs.declared.entry.Entry.{Entry}
 use Rattle.bx_records.specs.Records.{IsRecord, AreRecords, IsRecordsText, header}
 

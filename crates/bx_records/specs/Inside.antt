@@ -1,6 +1,6 @@
 -- Private: what its functions promise one another.
 use Rattle.std.specs.Prelude.{Option}
-use Rattle.bx_book.specs.declared.clock.Clock.{Clock}
+use Rattle.bx_calendar.specs.declared.clock.Clock.{Clock}
 use Rattle.bx_records.specs.Writing.{IsBeyond}
 use Rattle.bx_records.specs.declared.fault.RecordsFault.{RecordsFault}
 use Rattle.bx_records.specs.declared.fault.RecordsFault.TheVariants.{OutOfRange, WriteFailed, Memory}

@@ -1,5 +1,6 @@
 -- Private: totals while they are counted.
 use Rattle.std.specs.Prelude.{◌≡◌, ℕ, ◌+◌, ◌*◌, ◌≤◌, Bool, List, [], ◌∷◌, ◌++◌, drop, codes, decimal}
+use Rattle.bx_base.specs.declared.booking.TheConstants.{MAX_PAY}
 use Rattle.bx_day.specs.declared.entry.Entry.{Entry}
 use Rattle.bx_day.specs.declared.entry.Standing.{Standing}
 use Rattle.bx_records.specs.Totals.{how_many, pays_of}
@@ -16,7 +17,7 @@ pub record IsTallySoFar (test : Standing → Bool) (entries : List Entry) (k : �
   pub count : tally.count + how_many test (drop k entries) ≡ how_many test entries
   pub pay : tally.pay + pays_of test (drop k entries) ≡ pays_of test entries
   pub few : tally.count ≤ k
-  pub limit : tally.pay ≤ k * 1000000000
+  pub limit : tally.pay ≤ k * MAX_PAY
 
 abbrev pub totals_line : Totals → List ℕ
 totals_line t = codes "carried " ++ (decimal t.carried.count ++ 32 ∷ []) ++ codes "of " ++ (decimal t.accepted.count ++ 32 ∷ [])

@@ -2,8 +2,8 @@
 use Rattle.std.specs.Prelude.{◌≡◌, ℕ, true, ◌≤◌, ◌+ℤ◌, ◌*ℤ◌, pos, List, Option, Some, None}
 use Rattle.std.specs.Io.KnownBytes.{Appends}
 use Rattle.jiff.specs.Words.{IsTimestampNanos}
-use Rattle.bx_book.specs.Clocks.{clock_start}
-use Rattle.bx_book.specs.declared.clock.Clock.{Clock}
+use Rattle.bx_calendar.specs.Clocks.{clock_start}
+use Rattle.bx_calendar.specs.declared.clock.Clock.{Clock}
 use Rattle.bx_day.specs.declared.entry.Entry.{Entry}
 use Rattle.bx_devices.specs.Devices.{Writing, KeepsOutput}
 use Rattle.bx_devices.specs.Octets.{AppendsPrefix}

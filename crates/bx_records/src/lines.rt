@@ -8,7 +8,7 @@ use crate::fault::RecordsFault;
 use crate::records::{
     active_from, active_until, put_booked, put_seconds, put_time, put_time_of, word_of,
 };
-use bx_book::Clock;
+use bx_calendar::Clock;
 use bx_day::Entry;
 use bx_text::append_decimal;
 use std::alloc::{AllocError, Global};

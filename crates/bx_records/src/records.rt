@@ -5,7 +5,7 @@ ghost use Rattle.bx_records.specs.Records.{outcome_word, from_of, until_of, dire
 ghost use Rattle.bx_records.specs.Inside.{IsUnbuilt};
 
 use crate::fault::RecordsFault;
-use bx_book::Clock;
+use bx_calendar::Clock;
 use bx_day::{Activity, Entry, Standing};
 use bx_text::append_decimal;
 use std::alloc::AllocError;

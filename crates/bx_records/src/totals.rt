@@ -2,6 +2,9 @@
 
 ghost use Rattle.std.specs.Prelude.{◌≡◌, ◌+◌, ◌<◌, ◌≤◌, length, not, if◌then◌else◌, IsTrue, OnOk, OnErr};
 ghost use Rattle.std.specs.Io.KnownBytes.{Appends};
+ghost use Rattle.bx_base.specs.declared.booking.TheConstants.{MAX_PAY};
+ghost use Rattle.bx_base.specs.declared.bookings.TheConstants.{MAX_BOOKINGS};
+ghost use Rattle.bx_base.specs.declared.plan.TheConstants.{MAX_TOTAL};
 ghost use Rattle.bx_day.specs.Invariant.{is_refused};
 ghost use Rattle.bx_devices.specs.Octets.{AppendsPrefix};
 ghost use Rattle.bx_devices.specs.Watching.{device_of, is_faulted};
@@ -25,11 +28,11 @@ impl Tally {
 
     /// Counts a booking, if it is one of them.
     fn count(&mut self, entry: &Entry, is_one: bool)
-        requires count { self.old.count < 4000 }
-        requires pay { self.old.pay ≤ 4000000000000 }
+        requires count { self.old.count < MAX_BOOKINGS }
+        requires pay { self.old.pay ≤ MAX_TOTAL }
         ensures count { self.new.count ≡ self.old.count + (if is_one then 1 else 0) }
         ensures pay { self.new.pay ≡ self.old.pay + (if is_one then entry.now.booking.pay else 0) }
-        ensures limit { self.new.pay ≤ self.old.pay + 1000000000 }
+        ensures limit { self.new.pay ≤ self.old.pay + MAX_PAY }
     {
         if is_one {
             self.count += 1;
@@ -61,7 +64,7 @@ fn carried(standing: &Standing) -> bool
 
 /// The totals of a day's bookings.
 fn totals_of(entries: &[Entry]) -> Totals
-    requires { length entries.now ≤ 4000 }
+    requires { length entries.now ≤ MAX_BOOKINGS }
     ensures accepted { IsTallyOf is_accepted entries.now result.accepted }
     ensures carried { IsTallyOf is_carried entries.now result.carried }
 {

@@ -6,7 +6,7 @@ ghost use Rattle.bx_records.specs.Writing.{IsRecorded, IsRecordsRefusal};
 
 use crate::fault::RecordsFault;
 use crate::lines::text_of;
-use bx_book::Clock;
+use bx_calendar::Clock;
 use bx_day::Exchange;
 use bx_devices::{Watched, WriteFailed, write_octets};
 use std::alloc::Global;

@@ -13,7 +13,7 @@ use Rattle.bx_calls.specs.declared.user_state.UserState.TheVariants as user
 use Rattle.bx_day.specs.declared.entry.Activity.{Activity}
 use Rattle.bx_day.specs.declared.entry.Standing.{Standing}
 use Rattle.bx_day.specs.declared.entry.Standing.TheVariants.{Refused, Unoffered, OnCall, Carried, Unanswered, Missed}
-use Rattle.bx_calls.specs.Shared.{is_set}
+use Rattle.bx_channels.specs.Marks.{is_marked}
 use Rattle.bx_day.specs.Day.{entry_at}
 use Rattle.bx_day.specs.Moves.{is_active}
 use Rattle.bx_day.specs.Invariant.{EntryFits, StandingFits, is_refused}
@@ -37,7 +37,7 @@ on_live Unanswered P f = tt
 on_live Missed P f = tt
 
 abbrev IsHeld : World → ℕ → ℕ → Type 0
-IsHeld w r ch = (far_holds w.far.calls r ch ≡ true) ⊎ (is_set w.far.maintenance ch ≡ true)
+IsHeld w r ch = (far_holds w.far.calls r ch ≡ true) ⊎ (is_marked w.far.maintenance ch ≡ true)
 
 from_kept : (assigned : List (Option ℕ)) (w : World) (r : ℕ) → Kept assigned w.sent w.far r → list_any (clears r) w.sent ≡ false → IsHeld w r (channel_at assigned (r - 1))
 from_kept assigned w r (Holds h) calm = inl h

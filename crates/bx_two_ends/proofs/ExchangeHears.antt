@@ -1,6 +1,7 @@
 -- A message that comes to the exchange keeps what is true of calls that it began.
 use Rattle.std.proofs.Common.{◌≡◌, ◌≢◌, ◌⊎◌, inl, inr, ℕ, zero, suc, ◌==◌, not, Bool, true, false, List, [], ◌∷◌, ◌++◌, Option, Some, None, refl, sym, ap, subst, ◌∙◌, arith, if◌then◌else◌, slice_set, is_some}
-use Rattle.std.specs.List.{AllByRecursion, list_any}
+use Rattle.std.specs.List.{AllByRecursion, list_any, position}
+use Rattle.std.specs.Option.{option_map}
 use Rattle.std.proofs.lemmas.Bool.{false≢true, true≢false, and_parts, and_from, eq-eqb, eqb-true, not-false}
 use Rattle.bx_q931.specs.declared.kind.Kind.{Kind}
 use Rattle.bx_q931.specs.declared.kind.Kind.TheVariants.{Setup, CallProceeding, ReleaseComplete, StatusEnquiry, Status}
@@ -23,12 +24,13 @@ use Rattle.bx_day.specs.declared.entry.Moved.{Moved}
 use Rattle.bx_day.specs.declared.entry.Standing.{Standing}
 use Rattle.bx_day.specs.declared.entry.Standing.TheVariants.{Refused, Unoffered, OnCall, Carried, Unanswered, Missed}
 use Rattle.bx_calls.specs.Shared.{bool_eq}
-use Rattle.bx_day.specs.Day.{Day, entry_at, no_entry, index_of, one_more, every_channel}
+use Rattle.bx_day.specs.Day.{Day, entry_at, no_entry, every_channel}
 use Rattle.bx_day.specs.Receipts.{names, names_call, hears, takes_call, takes_or, takes_preferred, called_on, called, stray, received_at, receive, with_moved, opens, lowest_open}
 use Rattle.bx_day.specs.Moves.{follow}
 use Rattle.bx_calls.specs.Sending.{Answered, unchanged, reply_list}
 use Rattle.bx_day.specs.Invariant.{EntryFits, DayFits, is_refused}
 use Rattle.bx_day.specs.Law.{standing_at}
+use Rattle.bx_day.proofs.Indices.{position_next}
 use Rattle.bx_day.proofs.Receive.{all_at, Passes, index_passes, OpenAt, open_parts, open_index, open_lowest}
 use Rattle.bx_day.proofs.Said.{OfSaid}
 use Rattle.bx_day.proofs.Sent.{row_plain, is_plain}
@@ -219,18 +221,18 @@ unknown_says side r f m Setup = tt
 unknown_says side r f m StatusEnquiry = record { reference = refl; flag = refl; other = refl; no_connect = refl }
 unknown_says side r f m k = record { reference = refl; flag = refl; other = refl; no_connect = refl }
 
-index_none : (test : Entry → Bool) → test no_entry ≡ false → (es : List Entry) → index_of test es ≡ None → (j : ℕ) → test (entry_at es j) ≡ false
+index_none : (test : Entry → Bool) → test no_entry ≡ false → (es : List Entry) → position test es ≡ None → (j : ℕ) → test (entry_at es j) ≡ false
 index_none test n [] q j = n
-index_none test n (e ∷ es) q j = decide (test e) refl q j (λ h k. index_none test n es h k)
+index_none test n (e ∷ es) q j = decide (test e) refl (sym (position_next test e es) ∙ q) j (λ h k. index_none test n es h k)
   where
-    more : (o : Option ℕ) → one_more o ≡ None → o ≡ None
+    more : (o : Option ℕ) → option_map suc o ≡ None → o ≡ None
     more None h = refl
     more (Some x) h = absurd (true≢false (ap is_some h))
 
-    decide : (b : Bool) → test e ≡ b → (if b then Some 0 else one_more (index_of test es)) ≡ None → (j : ℕ) → (index_of test es ≡ None → (k : ℕ) → test (entry_at es k) ≡ false) → test (entry_at (e ∷ es) j) ≡ false
+    decide : (b : Bool) → test e ≡ b → (if b then Some 0 else option_map suc (position test es)) ≡ None → (j : ℕ) → (position test es ≡ None → (k : ℕ) → test (entry_at es k) ≡ false) → test (entry_at (e ∷ es) j) ≡ false
     decide true p h j f = absurd (true≢false (ap is_some h))
     decide false p h zero f = p
-    decide false p h (suc k) f = f (more (index_of test es) h) k
+    decide false p h (suc k) f = f (more (position test es) h) k
 
 -- a live outward call is named by its row
 outward_named : (assigned : List (Option ℕ)) (t i : ℕ) (m : Said) (e : Entry) (s : Standing) → IsOutwardCall s → (is_refused s ≡ false → Seat assigned i e) → EntryFits t (with_standing e s) → m.reference ≡ suc i → m.flag ≡ true → names_call m s ≡ true
@@ -255,7 +257,7 @@ pub record Before (assigned : List (Option ℕ)) (sent far_sent : List Outgoing)
   pub sents : OutwardSents assigned d sent sent
   pub standings : OutwardStandings sent far_sent d
 
-unknown_stray : (assigned : List (Option ℕ)) (sent far_sent : List Outgoing) (d : Day) (o : Outgoing) (k : Kind) → Before assigned sent far_sent d → index_of (names (said_from o)) d.entries ≡ None → (o.flag ≡ true → list_any (sets_up o.reference) sent ≡ true)
+unknown_stray : (assigned : List (Option ℕ)) (sent far_sent : List Outgoing) (d : Day) (o : Outgoing) (k : Kind) → Before assigned sent far_sent d → position (names (said_from o)) d.entries ≡ None → (o.flag ≡ true → list_any (sets_up o.reference) sent ≡ true)
     → OfSaid (Stray sent d) (unknown_row Network o.reference (not o.flag) (said_from o).heard k)
 unknown_stray assigned sent far_sent d o k b none known =
     said_map (Unknown o.reference (not o.flag)) (Stray sent d) (λ x u f.
@@ -282,8 +284,8 @@ on_keeps : (assigned : List (Option ℕ)) (sent far_sent : List Outgoing) (d : D
 on_keeps assigned sent far_sent d m Absent b = takes_keeps assigned sent far_sent d m 34 (lowest_open d every_channel) b (open_lowest d every_channel)
 on_keeps assigned sent far_sent d m AnyChannel b = takes_keeps assigned sent far_sent d m 34 (lowest_open d every_channel) b (open_lowest d every_channel)
 on_keeps assigned sent far_sent d m Unread b = silent_keeps assigned sent far_sent d _ b refl
-on_keeps assigned sent far_sent d m (Named c true) b = takes_keeps assigned sent far_sent d m 44 (index_of (opens d c) d.entries) b (open_index d c)
-on_keeps assigned sent far_sent d m (Named c false) b = preferred (index_of (opens d c) d.entries) (open_index d c)
+on_keeps assigned sent far_sent d m (Named c true) b = takes_keeps assigned sent far_sent d m 44 (position (opens d c) d.entries) b (open_index d c)
+on_keeps assigned sent far_sent d m (Named c false) b = preferred (position (opens d c) d.entries) (open_index d c)
   where
     preferred : (x : Option ℕ) → OpenAt d x → ExchangeKeeps assigned sent far_sent (takes_preferred d m x)
     preferred None opened = takes_keeps assigned sent far_sent d m 34 (lowest_open d every_channel) b (open_lowest d every_channel)
@@ -293,11 +295,11 @@ called_keeps : (assigned : List (Option ℕ)) (sent far_sent : List Outgoing) (d
 called_keeps assigned sent far_sent d m (Some cause) b = silent_keeps assigned sent far_sent d _ b refl
 called_keeps assigned sent far_sent d m None b = on_keeps assigned sent far_sent d m m.heard.channel b
 
-stray_keeps : (assigned : List (Option ℕ)) (sent far_sent : List Outgoing) (d : Day) (o : Outgoing) (k : Kind) → Before assigned sent far_sent d → index_of (names (said_from o)) d.entries ≡ None → (o.flag ≡ true → list_any (sets_up o.reference) sent ≡ true) → ExchangeKeeps assigned sent far_sent (stray d (said_from o) k)
+stray_keeps : (assigned : List (Option ℕ)) (sent far_sent : List Outgoing) (d : Day) (o : Outgoing) (k : Kind) → Before assigned sent far_sent d → position (names (said_from o)) d.entries ≡ None → (o.flag ≡ true → list_any (sets_up o.reference) sent ≡ true) → ExchangeKeeps assigned sent far_sent (stray d (said_from o) k)
 stray_keeps assigned sent far_sent d o Setup b none known = by_cases o.flag _ _ (ExchangeKeeps assigned sent far_sent) (λ _. silent_keeps assigned sent far_sent d None b tt) (λ _. called_keeps assigned sent far_sent d (said_from o) (said_from o).refused b)
 stray_keeps assigned sent far_sent d o k b none known = unchanged_keeps assigned sent far_sent d _ (unknown_stray assigned sent far_sent d o k b none known) b.seats b.sents b.standings
 
-received_keeps : (assigned : List (Option ℕ)) (sent far_sent : List Outgoing) (d : Day) (o : Outgoing) (x : Option ℕ) → Before assigned sent far_sent d → index_of (names (said_from o)) d.entries ≡ x → (o.flag ≡ true → list_any (sets_up o.reference) sent ≡ true) → IsIn far_sent o → ExchangeKeeps assigned sent far_sent (received_at d (said_from o) x)
+received_keeps : (assigned : List (Option ℕ)) (sent far_sent : List Outgoing) (d : Day) (o : Outgoing) (x : Option ℕ) → Before assigned sent far_sent d → position (names (said_from o)) d.entries ≡ x → (o.flag ≡ true → list_any (sets_up o.reference) sent ≡ true) → IsIn far_sent o → ExchangeKeeps assigned sent far_sent (received_at d (said_from o) x)
 received_keeps assigned sent far_sent d o None b q known is_in = stray_keeps assigned sent far_sent d o o.kind b q known
 received_keeps assigned sent far_sent d o (Some i) b q known is_in =
     let e = entry_at d.entries i in
@@ -307,4 +309,4 @@ received_keeps assigned sent far_sent d o (Some i) b q known is_in =
     b.seats b.sents b.standings
 
 pub receive_keeps : (assigned : List (Option ℕ)) (sent far_sent : List Outgoing) (d : Day) (o : Outgoing) → Before assigned sent far_sent d → (o.flag ≡ true → list_any (sets_up o.reference) sent ≡ true) → IsIn far_sent o → ExchangeKeeps assigned sent far_sent (receive d (said_from o))
-receive_keeps assigned sent far_sent d o b known is_in = received_keeps assigned sent far_sent d o (index_of (names (said_from o)) d.entries) b refl known is_in
+receive_keeps assigned sent far_sent d o b known is_in = received_keeps assigned sent far_sent d o (position (names (said_from o)) d.entries) b refl known is_in

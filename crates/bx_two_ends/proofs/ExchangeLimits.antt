@@ -1,6 +1,6 @@
 -- What the exchange sends is within the limits of a message, at each event.
 use Rattle.std.proofs.Common.{◌≡◌, ℕ, ◌+◌, not, Bool, true, false, List, Option, Some, None, refl, sym, subst, arith, nat_le}
-use Rattle.std.specs.List.{AllByRecursion}
+use Rattle.std.specs.List.{AllByRecursion, position}
 use Rattle.bx_channels.specs.ChannelNumbers.{IsChannel}
 use Rattle.bx_q931.specs.declared.kind.Kind.{Kind}
 use Rattle.bx_q931.specs.declared.kind.Kind.TheVariants.{Setup, CallProceeding}
@@ -20,7 +20,7 @@ use Rattle.bx_day.specs.declared.entry.Entry.{Entry}
 use Rattle.bx_day.specs.declared.entry.Moved.{Moved}
 use Rattle.bx_day.specs.declared.entry.Standing.{Standing}
 use Rattle.bx_day.specs.declared.entry.Standing.TheVariants.{Refused, Unoffered, OnCall, Carried, Unanswered, Missed}
-use Rattle.bx_day.specs.Day.{Day, entry_at, is_free, index_of, every_channel}
+use Rattle.bx_day.specs.Day.{Day, entry_at, is_free, every_channel}
 use Rattle.bx_day.specs.Ticks.{second_at, waits, tick, second_in}
 use Rattle.bx_day.specs.Receipts.{names, hears, takes_call, takes_or, takes_preferred, called_on, called, stray, received_at, receive, with_moved, opens, lowest_open}
 use Rattle.bx_day.specs.Moves.{follow, over_at}
@@ -127,8 +127,8 @@ on_ok : (assigned : List (Option ℕ)) (d : Day) (o : Outgoing) (f : ChannelFiel
 on_ok assigned d o Absent seats h r = takes_ok assigned d o 34 (lowest_open d every_channel) seats h r (open_lowest d every_channel)
 on_ok assigned d o AnyChannel seats h r = takes_ok assigned d o 34 (lowest_open d every_channel) seats h r (open_lowest d every_channel)
 on_ok assigned d o Unread seats h r = record { reply = refusal_ok Network o.reference 44 r; lims = h }
-on_ok assigned d o (Named c true) seats h r = takes_ok assigned d o 44 (index_of (opens d c) d.entries) seats h r (open_index d c)
-on_ok assigned d o (Named c false) seats h r = preferred (index_of (opens d c) d.entries) (open_index d c)
+on_ok assigned d o (Named c true) seats h r = takes_ok assigned d o 44 (position (opens d c) d.entries) seats h r (open_index d c)
+on_ok assigned d o (Named c false) seats h r = preferred (position (opens d c) d.entries) (open_index d c)
   where
     preferred : (x : Option ℕ) → OpenAt d x → AnswerOk (takes_preferred d (said_from o) x)
     preferred None opened = takes_ok assigned d o 34 (lowest_open d every_channel) seats h r (open_lowest d every_channel)
@@ -147,4 +147,4 @@ received_ok assigned d o None seats h r = stray_ok assigned d o o.kind seats h r
 received_ok assigned d o (Some i) seats h r = moved_ok d i (hears (said_from o) d.moment (standing_at d i)) h (hears_ok o d.moment (standing_at d i) (h i))
 
 pub receive_ok : (assigned : List (Option ℕ)) (d : Day) (o : Outgoing) → Seats assigned d.entries → ExchangeWithin d → Sendable o → AnswerOk (receive d (said_from o))
-receive_ok assigned d o seats h s = received_ok assigned d o (index_of (names (said_from o)) d.entries) seats h s.out.reference
+receive_ok assigned d o seats h s = received_ok assigned d o (position (names (said_from o)) d.entries) seats h s.out.reference

@@ -19,7 +19,8 @@ use Rattle.bx_calls.specs.declared.user_state.Policy.{Policy}
 use Rattle.bx_calls.specs.declared.user_state.Policy.TheVariants.{Answer, Busy, Silent, Alert, Proceed, Clear}
 use Rattle.bx_calls.specs.declared.user_state.UserOrigin.{UserOrigin}
 use Rattle.bx_calls.specs.declared.user_state.UserState.{UserState}
-use Rattle.bx_calls.specs.Shared.{is_set, bool_eq}
+use Rattle.bx_calls.specs.Shared.{bool_eq}
+use Rattle.bx_channels.specs.Marks.{is_marked}
 use Rattle.bx_day.specs.Day.{Day}
 use Rattle.bx_calls.specs.Sending.{reply_list, Answered, unchanged}
 use Rattle.bx_day.proofs.Said.{OfSaid}
@@ -79,7 +80,7 @@ taken_keeps assigned sent far_sent f r policy b known on free =
     record {
       replies = saids_grow assigned sent far_sent [] f f' kept b.replies tt;
       calls = insert_all (λ c. user_flag c.origin ≡ true → OfferedCall assigned sent c) new f.calls (λ _. record { known = known; channel = refl; in_service = on; offered = refl; active = λ q. absurd (false≢true q) }) b.calls;
-      apart = insert_apart new f.calls (none_on (channel_at assigned (r - 1)) f.calls (or_parts (is_some (holder f (channel_at assigned (r - 1)))) (is_set f.maintenance (channel_at assigned (r - 1))) free).0) b.apart;
+      apart = insert_apart new f.calls (none_on (channel_at assigned (r - 1)) f.calls (or_parts (is_some (holder f (channel_at assigned (r - 1)))) (is_marked f.maintenance (channel_at assigned (r - 1))) free).0) b.apart;
       size = b.size;
       places = insert_all (λ c. IsChannel c.channel) new f.calls on b.places;
       script = refl;
@@ -92,19 +93,19 @@ taken_keeps assigned sent far_sent f r policy b known on free =
 
 -- ---- a live call hears a message
 
-pub set_stays : (ms : List Bool) (c k : ℕ) → is_set ms k ≡ true → is_set (slice_set ms c true) k ≡ true
+pub set_stays : (ms : List Bool) (c k : ℕ) → is_marked ms k ≡ true → is_marked (slice_set ms c true) k ≡ true
 set_stays [] c k h = h
 set_stays (m ∷ ms) zero zero h = refl
 set_stays (m ∷ ms) zero (suc k) h = h
 set_stays (m ∷ ms) (suc c) zero h = h
 set_stays (m ∷ ms) (suc c) (suc k) h = set_stays ms c k h
 
-pub set_now : (ms : List Bool) (c : ℕ) → c < length ms → is_set (slice_set ms c true) c ≡ true
+pub set_now : (ms : List Bool) (c : ℕ) → c < length ms → is_marked (slice_set ms c true) c ≡ true
 set_now [] c lt = absurd (omega (arith, lt))
 set_now (m ∷ ms) zero lt = refl
 set_now (m ∷ ms) (suc c) lt = set_now ms c (omega (arith, lt))
 
-pub settle_stays : (c : ℕ) (next : Next PlainUserCall) (ms : List Bool) (k : ℕ) → is_set ms k ≡ true → is_set (settle_maintenance c next ms) k ≡ true
+pub settle_stays : (c : ℕ) (next : Next PlainUserCall) (ms : List Bool) (k : ℕ) → is_marked ms k ≡ true → is_marked (settle_maintenance c next ms) k ≡ true
 settle_stays c (Live x) ms k h = h
 settle_stays c Over ms k h = h
 settle_stays c Broken ms k h = set_stays ms c k h
@@ -149,7 +150,7 @@ placed r ch o st ack cleared on Broken g = tt
 
 -- what is held stays, or goes into maintenance, or was cleared
 pub still : (assigned : List (Option ℕ)) (sent : List Outgoing) (f' : FarDay) (r : ℕ) (call : PlainUserCall) (ack cleared : Bool) (step : Transition PlainUserCall) → CallStep sent call ack cleared step → (user_flag call.origin ≡ true → OfferedCall assigned sent call)
-    → (n : Next PlainUserCall) → Moves call.reference call.channel call.origin call.state ack cleared n → (n ≡ Broken → IsChannel call.channel → is_set f'.maintenance call.channel ≡ true)
+    → (n : Next PlainUserCall) → Moves call.reference call.channel call.origin call.state ack cleared n → (n ≡ Broken → IsChannel call.channel → is_marked f'.maintenance call.channel ≡ true)
     → offered_as r (channel_at assigned (r - 1)) call ≡ true → (next_passes (offered_as r (channel_at assigned (r - 1))) n ≡ true) ⊎ Kept assigned sent f' r
 still assigned sent f' r call ack cleared step s old (Live c) g broken h = inl (
     ap (λ n. ((n == r) && user_flag c.origin) && (c.channel == channel_at assigned (r - 1))) g.reference
@@ -163,7 +164,7 @@ still assigned sent f' r call ack cleared step s old Over g broken h =
 still assigned sent f' r call ack cleared step s old Broken g broken h =
     let p = and_parts ((call.reference == r) && user_flag call.origin) (call.channel == channel_at assigned (r - 1)) h in
     let q = and_parts (call.reference == r) (user_flag call.origin) p.0 in
-    inr (Maintained (subst (λ n. is_set f'.maintenance n ≡ true) (eqb-true call.channel (channel_at assigned (r - 1)) p.1) (broken refl (old q.1).in_service)))
+    inr (Maintained (subst (λ n. is_marked f'.maintenance n ≡ true) (eqb-true call.channel (channel_at assigned (r - 1)) p.1) (broken refl (old q.1).in_service)))
 
 pub first_any : (test p : PlainUserCall → Bool) (cs : List PlainUserCall) (call : PlainUserCall) → first_call test cs ≡ Some call → p call ≡ true → list_any p cs ≡ true
 first_any test p [] call q h = absurd (false≢true (ap is_some q))
@@ -202,7 +203,7 @@ follow_keeps assigned sent far_sent f test call ack cleared step b first s speak
       script = refl;
     }
   where
-    broke : (n : Next PlainUserCall) → n ≡ Broken → IsChannel call.channel → is_set (settle_maintenance call.channel n f.maintenance) call.channel ≡ true
+    broke : (n : Next PlainUserCall) → n ≡ Broken → IsChannel call.channel → is_marked (settle_maintenance call.channel n f.maintenance) call.channel ≡ true
     broke (Live x) e on = absurd (false≢true (ap is_broken e))
     broke Over e on = absurd (false≢true (ap is_broken e))
     broke Broken e on = set_now f.maintenance call.channel (omega (arith, b.size, on.1))

@@ -18,7 +18,7 @@ use Rattle.bx_calls.specs.declared.transition.Next.{Next}
 use Rattle.bx_calls.specs.declared.transition.Next.TheVariants.{Live, Over, Broken}
 use Rattle.bx_calls.specs.declared.unknown_reference.Side.TheVariants.{User}
 use Rattle.bx_day.proofs.Said.{OfSaid}
-use Rattle.bx_calls.specs.Shared.{is_set}
+use Rattle.bx_channels.specs.Marks.{is_marked}
 use Rattle.bx_far.specs.FarDay.{FarDay, Begun, begin_row, begin_rows, far_begun, far_ticked, far_tick, second_calls, second_said, with_held, no_messages, far_follow, far_takes, far_called_on, far_called, far_stray, far_received_by, far_receive, far_names, first_call, is_taken}
 use Rattle.bx_calls.specs.Sending.{Sent, Answered}
 use Rattle.bx_far.specs.Policies.{policy_of}
@@ -59,8 +59,8 @@ one_now t moment number c q = ap (λ (b : Bool). if b then 1 else 0) q
 
 row_ok : (t : ℕ) (row : ScriptRow) (b : Begun) → IsScriptRow row → b.next + calls_now t (row ∷ []) ≤ 4001 → BeginsOk b → BeginsOk (begin_row t row b)
 row_ok t (Follows number policy) b is room h = h
-row_ok t (Calls number moment c) b is room h = by_cases ((moment == t) && not (is_set b.blocked c)) _ _ BeginsOk
-    (λ q. let r : IsCallReference b.next = (h.first, bound b.next (calls_now t (Calls number moment c ∷ [])) room (one_now t moment number c (and_parts (moment == t) (not (is_set b.blocked c)) q).0)) in record {
+row_ok t (Calls number moment c) b is room h = by_cases ((moment == t) && not (is_marked b.blocked c)) _ _ BeginsOk
+    (λ q. let r : IsCallReference b.next = (h.first, bound b.next (calls_now t (Calls number moment c ∷ [])) room (one_now t moment number c (and_parts (moment == t) (not (is_marked b.blocked c)) q).0)) in record {
       calls = insert_all UserCallWithin (user_calling b.next c number t) b.calls (record { reference = r; channel = is.1; number = is.0 }) h.calls;
       said = set_all (OfSaid Sendable) b.said c (Some (setup_of b.next c number)) (setup_ok b.next c number r is.1 is.0) h.said;
       first = omega arith;

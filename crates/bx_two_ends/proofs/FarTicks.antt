@@ -10,7 +10,7 @@ use Rattle.bx_calls.specs.UserTable.{user_flag, user_second, user_calling}
 use Rattle.bx_calls.specs.Saying.{setup_of}
 use Rattle.bx_calls.specs.declared.transition.Next.{Next}
 use Rattle.bx_calls.specs.declared.transition.Next.TheVariants.{Live, Over, Broken}
-use Rattle.bx_calls.specs.Shared.{is_set}
+use Rattle.bx_channels.specs.Marks.{is_marked}
 use Rattle.bx_day.proofs.Said.{OfSaid}
 use Rattle.bx_far.specs.FarDay.{FarDay, Begun, begin_row, begin_rows, far_begun, far_ticked, second_calls, second_maintenance, second_said, with_held, no_messages, next_then, settle_maintenance}
 use Rattle.bx_calls.specs.Sending.{Sent, in_order}
@@ -49,7 +49,7 @@ second_apart t (c ∷ cs) h = next_apart c.channel (user_second c t).next (secon
 
 -- ---- maintenance
 
-second_stays : (t : ℕ) (cs : List PlainUserCall) (ms : List Bool) (k : ℕ) → is_set ms k ≡ true → is_set (second_maintenance t cs ms) k ≡ true
+second_stays : (t : ℕ) (cs : List PlainUserCall) (ms : List Bool) (k : ℕ) → is_marked ms k ≡ true → is_marked (second_maintenance t cs ms) k ≡ true
 second_stays t [] ms k h = h
 second_stays t (c ∷ cs) ms k h = second_stays t cs (settle_maintenance c.channel (user_second c t).next ms) k (settle_stays c.channel (user_second c t).next ms k h)
 
@@ -57,13 +57,13 @@ second_size : (t : ℕ) (cs : List PlainUserCall) (ms : List Bool) → length (s
 second_size t [] ms = refl
 second_size t (c ∷ cs) ms = second_size t cs (settle_maintenance c.channel (user_second c t).next ms) ∙ settle_size c.channel (user_second c t).next ms
 
-broke_now : (c : ℕ) (n : Next PlainUserCall) (ms : List Bool) → n ≡ Broken → IsChannel c → length ms ≡ 32 → is_set (settle_maintenance c n ms) c ≡ true
+broke_now : (c : ℕ) (n : Next PlainUserCall) (ms : List Bool) → n ≡ Broken → IsChannel c → length ms ≡ 32 → is_marked (settle_maintenance c n ms) c ≡ true
 broke_now c (Live x) ms e on size = absurd (false≢true (ap is_broken e))
 broke_now c Over ms e on size = absurd (false≢true (ap is_broken e))
 broke_now c Broken ms e on size = set_now ms c (omega (arith, size, on.1))
 
 abbrev Breaks : ℕ → List Bool → PlainUserCall → Type 0
-Breaks t after c = (user_second c t).next ≡ Broken → IsChannel c.channel → is_set after c.channel ≡ true
+Breaks t after c = (user_second c t).next ≡ Broken → IsChannel c.channel → is_marked after c.channel ≡ true
 
 breaks : (t : ℕ) (cs : List PlainUserCall) (ms : List Bool) → length ms ≡ 32 → AllByRecursion (Breaks t (second_maintenance t cs ms)) cs
 breaks t [] ms size = tt
@@ -99,9 +99,9 @@ second_any assigned sent f' t r (c ∷ cs) old broken h =
 -- ---- rows that call
 
 abbrev Covers : List Bool → PlainUserCall → Type 0
-Covers blocked c = is_set blocked c.channel ≡ true
+Covers blocked c = is_marked blocked c.channel ≡ true
 
-held_stays : (cs : List PlainUserCall) (ms : List Bool) (k : ℕ) → is_set ms k ≡ true → is_set (with_held cs ms) k ≡ true
+held_stays : (cs : List PlainUserCall) (ms : List Bool) (k : ℕ) → is_marked ms k ≡ true → is_marked (with_held cs ms) k ≡ true
 held_stays [] ms k h = h
 held_stays (c ∷ cs) ms k h = held_stays cs (slice_set ms c.channel true) k (set_stays ms c.channel k h)
 
@@ -132,12 +132,12 @@ set_all P (y ∷ ys) (suc i) x p h = (h.0, set_all P ys i x p h.1)
 
 row_begins : (assigned : List (Option ℕ)) (sent : List Outgoing) (P : Outgoing → Type 0) → ((o : Outgoing) → o.flag ≡ false → P o) → (t : ℕ) (row : ScriptRow) (b : Begun) → IsScriptRow row → Begins assigned sent P b → Begins assigned sent P (begin_row t row b)
 row_begins assigned sent P outward t (Follows number policy) b is h = h
-row_begins assigned sent P outward t (Calls number moment c) b is h = by_cases ((moment == t) && not (is_set b.blocked c)) _ _ (Begins assigned sent P)
-    (λ q. let free : not (is_set b.blocked c) ≡ true = (and_parts (moment == t) (not (is_set b.blocked c)) q).1 in
+row_begins assigned sent P outward t (Calls number moment c) b is h = by_cases ((moment == t) && not (is_marked b.blocked c)) _ _ (Begins assigned sent P)
+    (λ q. let free : not (is_marked b.blocked c) ≡ true = (and_parts (moment == t) (not (is_marked b.blocked c)) q).1 in
     let new : PlainUserCall = user_calling b.next c number t in
     record {
       calls = insert_all (Old assigned sent) new b.calls (λ u. absurd (false≢true u)) h.calls;
-      apart = insert_apart new b.calls (all_calls (Covers b.blocked) (λ x. x.channel ≢ c) (λ x on e. both (is_set b.blocked c) free (subst (λ n. is_set b.blocked n ≡ true) e on)) b.calls h.covers) h.apart;
+      apart = insert_apart new b.calls (all_calls (Covers b.blocked) (λ x. x.channel ≢ c) (λ x on e. both (is_marked b.blocked c) free (subst (λ n. is_marked b.blocked n ≡ true) e on)) b.calls h.covers) h.apart;
       places = insert_all (λ x. IsChannel x.channel) new b.calls is.1 h.places;
       covers = insert_all (Covers (slice_set b.blocked c true)) new b.calls (set_now b.blocked c (omega (arith, h.size, is.1.1))) (all_calls (Covers b.blocked) (Covers (slice_set b.blocked c true)) (λ x on. set_stays b.blocked c x.channel on) b.calls h.covers);
       size = length-set b.blocked c true ∙ h.size;
@@ -155,7 +155,7 @@ rows_begin assigned sent P outward t (row ∷ rows) b is h = rows_begin assigned
 
 row_any : (p : PlainUserCall → Bool) (t : ℕ) (row : ScriptRow) (b : Begun) → list_any p b.calls ≡ true → list_any p (begin_row t row b).calls ≡ true
 row_any p t (Follows number policy) b h = h
-row_any p t (Calls number moment c) b h = by_cases ((moment == t) && not (is_set b.blocked c)) _ _ (λ (x : Begun). list_any p x.calls ≡ true) (λ _. insert_any p (user_calling b.next c number t) b.calls h) (λ _. h)
+row_any p t (Calls number moment c) b h = by_cases ((moment == t) && not (is_marked b.blocked c)) _ _ (λ (x : Begun). list_any p x.calls ≡ true) (λ _. insert_any p (user_calling b.next c number t) b.calls h) (λ _. h)
 
 rows_any : (p : PlainUserCall → Bool) (t : ℕ) (rows : List ScriptRow) (b : Begun) → list_any p b.calls ≡ true → list_any p (begin_rows t rows b).calls ≡ true
 rows_any p t [] b h = h
@@ -205,7 +205,7 @@ far_ticked_keeps assigned sent far_sent f script b =
       calls = second_all (Old assigned sent) (Old assigned sent) t (λ c old. after_call assigned sent c false false (user_second c t) (call_step sent c t) old (user_second c t).next (second_moves c.reference c.channel c.origin t c.state)) f.calls b.calls;
       apart = second_apart t f.calls b.apart;
       places = second_all (λ c. IsChannel c.channel) (λ c. IsChannel c.channel) t (λ c on. placed c.reference c.channel c.origin c.state false false on (user_second c t).next (second_moves c.reference c.channel c.origin t c.state)) f.calls b.places;
-      covers = second_all (Covers (with_held f.calls f.maintenance)) (Covers (with_held f.calls f.maintenance)) t (λ c on. live_map (λ y. y.channel ≡ c.channel) (Covers (with_held f.calls f.maintenance)) (λ y e. subst (λ n. is_set (with_held f.calls f.maintenance) n ≡ true) (sym e) on) (user_second c t).next (second_on c t)) f.calls (held_covers f.calls f.maintenance b.size b.places);
+      covers = second_all (Covers (with_held f.calls f.maintenance)) (Covers (with_held f.calls f.maintenance)) t (λ c on. live_map (λ y. y.channel ≡ c.channel) (Covers (with_held f.calls f.maintenance)) (λ y e. subst (λ n. is_marked (with_held f.calls f.maintenance) n ≡ true) (sym e) on) (user_second c t).next (second_on c t)) f.calls (held_covers f.calls f.maintenance b.size b.places);
       size = held_size f.calls f.maintenance ∙ b.size;
       said = second_said_all P t f.calls no_messages (all_calls (λ c. Old assigned sent c × CallIn f.calls c) (λ c. OfSaid P (user_second c t).reply) says f.calls (both_calls (Old assigned sent) (CallIn f.calls) f.calls b.calls (calls_in f.calls))) (none_said P 32);
     }) in

@@ -24,7 +24,7 @@ use Rattle.bx_q931.specs.Outgoing.{Outgoing}
 use Rattle.bx_calls.specs.PlainCalls.{PlainNetCall, PlainUserCall}
 use Rattle.bx_calls.specs.NetTable.{net_flag}
 use Rattle.bx_calls.specs.UserTable.{user_flag}
-use Rattle.bx_calls.specs.Shared.{is_set}
+use Rattle.bx_channels.specs.Marks.{is_marked}
 use Rattle.bx_day.specs.Day.{Day}
 use Rattle.bx_day.specs.declared.entry.Entry.{Entry}
 use Rattle.bx_day.specs.declared.entry.Standing.{Standing}
@@ -57,7 +57,7 @@ InwardCalls named next sent far_sent cs = AllByRecursion (λ (c : PlainUserCall)
 -- the exchange holds it on its channel, or has that in maintenance, or the far end cleared it
 pub data KeptInward (named : ℕ → ℕ) (far_sent : List Outgoing) (d : Day) (r : ℕ) : Type 0 where
   Holds : exchange_holds d.entries r (named r) ≡ true → KeptInward named far_sent d r
-  Maintained : is_set d.maintenance (named r) ≡ true → KeptInward named far_sent d r
+  Maintained : is_marked d.maintenance (named r) ≡ true → KeptInward named far_sent d r
   Cleared : list_any (clears r) far_sent ≡ true → KeptInward named far_sent d r
 
 -- a message of the exchange for a call that the far end began

@@ -1,6 +1,6 @@
 -- A tick of the exchange, and a message that comes to it, keep what is true of calls that the far end began.
 use Rattle.std.proofs.Common.{◌≡◌, ◌⊎◌, inl, inr, ℕ, zero, suc, ◌+◌, ◌<◌, ◌==◌, ◌&&◌, not, Bool, true, false, List, [], ◌∷◌, ◌++◌, map, length, Option, Some, None, refl, sym, ap, subst, ◌∙◌, arith, nat_le, slice_set, length-set}
-use Rattle.std.specs.List.{AllByRecursion, list_any}
+use Rattle.std.specs.List.{AllByRecursion, list_any, position}
 use Rattle.std.proofs.lemmas.Bool.{false≢true, true≢false, and_parts, and_from, eq-eqb, eqb-true, or_left, or_right, or_cases, not-true}
 use Rattle.bx_base.specs.Bookings.{is_running}
 use Rattle.bx_channels.specs.ChannelNumbers.{IsChannel}
@@ -23,8 +23,9 @@ use Rattle.bx_day.specs.declared.entry.Link.{Link}
 use Rattle.bx_day.specs.declared.entry.Link.TheVariants.{Up, Down}
 use Rattle.bx_day.specs.declared.entry.Standing.{Standing}
 use Rattle.bx_day.specs.declared.entry.Standing.TheVariants.{Refused, Unoffered, OnCall, Carried, Unanswered, Missed}
-use Rattle.bx_calls.specs.Shared.{is_set, bool_eq}
-use Rattle.bx_day.specs.Day.{Day, entry_at, is_free, is_unoffered, index_of, every_channel}
+use Rattle.bx_calls.specs.Shared.{bool_eq}
+use Rattle.bx_channels.specs.Marks.{is_marked}
+use Rattle.bx_day.specs.Day.{Day, entry_at, is_free, is_unoffered, every_channel}
 use Rattle.bx_day.specs.Ticks.{waits, second_at, unlinked_at, second_by, second_in, after_in, breaks_in, maintained_in, passed_in}
 use Rattle.bx_day.specs.Receipts.{is_open, opens, names, names_call, hears, takes_call, takes_or, called_on, called, stray, received_at, receive, with_moved}
 use Rattle.bx_day.specs.Moves.{follow, over_at}
@@ -153,12 +154,12 @@ any_entry p (e ∷ es) (suc i) n h = or_right (p e) (list_any p es) (any_entry p
 
 -- ---- maintenance over a second
 
-maintained_stays : (link : Link) (d : Day) (k : ℕ) (ms : List Bool) (c : ℕ) → is_set ms c ≡ true → is_set (maintained_in link d k ms) c ≡ true
+maintained_stays : (link : Link) (d : Day) (k : ℕ) (ms : List Bool) (c : ℕ) → is_marked ms c ≡ true → is_marked (maintained_in link d k ms) c ≡ true
 maintained_stays link d k [] c h = h
 maintained_stays link d k (b ∷ bs) zero h = or_left b (list_any (breaks_in link d k) d.entries) h
 maintained_stays link d k (b ∷ bs) (suc c) h = maintained_stays link d (k + 1) bs c h
 
-maintained_now : (link : Link) (d : Day) (k : ℕ) (ms : List Bool) (c n : ℕ) → c < length ms → k + c ≡ n → list_any (breaks_in link d n) d.entries ≡ true → is_set (maintained_in link d k ms) c ≡ true
+maintained_now : (link : Link) (d : Day) (k : ℕ) (ms : List Bool) (c n : ℕ) → c < length ms → k + c ≡ n → list_any (breaks_in link d n) d.entries ≡ true → is_marked (maintained_in link d k ms) c ≡ true
 maintained_now link d k [] c n lt q h = absurd (omega (arith, lt))
 maintained_now link d k (b ∷ bs) zero n lt q h = or_right b (list_any (breaks_in link d k) d.entries) (subst (λ x. list_any (breaks_in link d x) d.entries ≡ true) (sym (same k n q)) h)
   where
@@ -176,7 +177,7 @@ Moves link named next far_sent d e = StandingMoves named next far_sent e.channel
 
 -- one that breaks leaves its channel in maintenance
 abbrev Breaks : Link → Day → Entry → Type 0
-Breaks link d e = is_refused e.standing ≡ false → (second_in link d e).broken ≡ true → is_set (maintained_in link d 0 d.maintenance) e.channel ≡ true
+Breaks link d e = is_refused e.standing ≡ false → (second_in link d e).broken ≡ true → is_marked (maintained_in link d 0 d.maintenance) e.channel ≡ true
 
 nothing_more : (n : ℕ) → 0 + n ≡ n
 nothing_more n = omega arith
@@ -209,7 +210,7 @@ tick_held link named next far_sent d r (e ∷ es) moves broken h =
       | inl k ↦ elim (moves.0.kept r k) [
         | inl p ↦ inl (or_left (answered_as r (named r) (second_in link d e).standing) (exchange_holds (map (after_in link d) es) r (named r)) p)
         | inr p ↦ elim p [
-          | inl q ↦ inr (Maintained (subst (λ c. is_set (maintained_in link d 0 d.maintenance) c ≡ true) q.1 (broken.0 (live_accepted r (named r) e.standing k) q.0)))
+          | inl q ↦ inr (Maintained (subst (λ c. is_marked (maintained_in link d 0 d.maintenance) c ≡ true) q.1 (broken.0 (live_accepted r (named r) e.standing k) q.0)))
           | inr q ↦ inr (Cleared q)
         ]
       ]
@@ -314,12 +315,12 @@ moved_takes named next sent far_sent d i m b on moves =
       size = by_cases m.broken _ _ (λ (ms : List Bool). length ms ≡ 32) (λ _. length-set d.maintenance (entry_at d.entries i).channel true ∙ b.size) (λ _. b.size);
     }
   where
-    breaks : (r : ℕ) → m.broken ≡ true → (entry_at d.entries i).channel ≡ named r → is_set (with_moved d i m).day.maintenance (named r) ≡ true
-    breaks r broken q = subst (λ c. is_set (with_moved d i m).day.maintenance c ≡ true) q
-        (by_cases m.broken _ _ (λ (ms : List Bool). is_set ms (entry_at d.entries i).channel ≡ true) (λ _. set_now d.maintenance (entry_at d.entries i).channel (omega (arith, b.size, on.1))) (λ n. absurd (true≢false (sym broken ∙ n))))
+    breaks : (r : ℕ) → m.broken ≡ true → (entry_at d.entries i).channel ≡ named r → is_marked (with_moved d i m).day.maintenance (named r) ≡ true
+    breaks r broken q = subst (λ c. is_marked (with_moved d i m).day.maintenance c ≡ true) q
+        (by_cases m.broken _ _ (λ (ms : List Bool). is_marked ms (entry_at d.entries i).channel ≡ true) (λ _. set_now d.maintenance (entry_at d.entries i).channel (omega (arith, b.size, on.1))) (λ n. absurd (true≢false (sym broken ∙ n))))
 
     keep : (r : ℕ) → KeptInward named far_sent d r → KeptInward named far_sent (with_moved d i m).day r
-    keep r (Maintained h) = Maintained (by_cases m.broken _ _ (λ (ms : List Bool). is_set ms (named r) ≡ true) (λ _. set_stays d.maintenance (entry_at d.entries i).channel (named r) h) (λ _. h))
+    keep r (Maintained h) = Maintained (by_cases m.broken _ _ (λ (ms : List Bool). is_marked ms (named r) ≡ true) (λ _. set_stays d.maintenance (entry_at d.entries i).channel (named r) h) (λ _. h))
     keep r (Cleared h) = Cleared h
     keep r (Holds h) = elim (set_any (KeptInward named far_sent (with_moved d i m).day r) (answered_as r (named r)) d.entries i (with_standing (entry_at d.entries i) m.standing)
         (λ k. elim (moves.kept r k) [
@@ -408,7 +409,7 @@ stray_takes named next sent far_sent d o Setup kind b own = by_cases o.flag _ _ 
     asked : o.flag ≡ false → (cause : Option ℕ) → Takes named next sent far_sent (called d (said_from o) cause)
     asked flag (Some cause) = unchanged_takes named next sent far_sent d (Some (refusal_of Network o.reference true cause)) b (λ _. ((own flag).given, refl))
     asked flag None = subst (λ ch. Takes named next sent far_sent (called_on d (said_from o) (channel_part ch))) (sym ((own flag).channel kind))
-        (called_takes named next sent far_sent d o (index_of (opens d (named o.reference)) d.entries) b (own flag).given (index_passes (opens d (named o.reference)) d.entries))
+        (called_takes named next sent far_sent d o (position (opens d (named o.reference)) d.entries) b (own flag).given (index_passes (opens d (named o.reference)) d.entries))
 stray_takes named next sent far_sent d o k kind b own = unchanged_takes named next sent far_sent d (unknown_row Network o.reference (not o.flag) (said_from o).heard k) b
     (said_map (Unknown o.reference (not o.flag)) (Plain next) (λ x u f. (subst (λ r. r < next) (sym u.reference) (own (not-true o.flag (sym u.flag ∙ f))).given, u.no_connect)) (unknown_row Network o.reference (not o.flag) (said_from o).heard k) (unknown_says Network o.reference (not o.flag) (said_from o).heard k))
 
@@ -420,4 +421,4 @@ received_takes named next sent far_sent d o (Some i) b passes own is_in =
     (heard_moves named next far_sent d.moment o e e.standing passes is_in (all_at (λ x. TakenStanding named next x.standing) tt d.entries i b.entries) (b.placed i))
 
 pub receive_takes : (named : ℕ → ℕ) (next : ℕ) (sent far_sent : List Outgoing) (d : Day) (o : Outgoing) → TakenBefore named next sent far_sent d → (o.flag ≡ false → InwardSent named next o) → IsIn far_sent o → Takes named next sent far_sent (receive d (said_from o))
-receive_takes named next sent far_sent d o b own is_in = received_takes named next sent far_sent d o (index_of (names (said_from o)) d.entries) b (index_passes (names (said_from o)) d.entries) own is_in
+receive_takes named next sent far_sent d o b own is_in = received_takes named next sent far_sent d o (position (names (said_from o)) d.entries) b (index_passes (names (said_from o)) d.entries) own is_in

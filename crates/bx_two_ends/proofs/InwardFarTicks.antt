@@ -12,7 +12,7 @@ use Rattle.bx_calls.specs.declared.transition.Next.TheVariants.{Live, Over, Brok
 use Rattle.bx_calls.specs.declared.user_state.UserOrigin.{UserOrigin}
 use Rattle.bx_calls.specs.declared.user_state.UserOrigin.TheVariants.{Offered, Calling}
 use Rattle.bx_calls.specs.declared.user_state.UserState.{UserState}
-use Rattle.bx_calls.specs.Shared.{is_set}
+use Rattle.bx_channels.specs.Marks.{is_marked}
 use Rattle.bx_day.proofs.Said.{OfSaid}
 use Rattle.bx_day.proofs.Tick.{by_cases}
 use Rattle.bx_far.specs.FarDay.{FarDay, Begun, begin_call, begin_row, begin_rows, far_begun, far_ticked, second_calls, second_said, with_held, no_messages}
@@ -101,7 +101,7 @@ rows_keep I t f (row ∷ rows) b h = rows_keep I t f rows (begin_row t row b) (o
   where
     one : (row : ScriptRow) → I (begin_row t row b)
     one (Follows number policy) = h
-    one (Calls number moment c) = by_cases ((moment == t) && not (is_set b.blocked c)) _ _ I (λ _. f number c b h) (λ _. h)
+    one (Calls number moment c) = by_cases ((moment == t) && not (is_marked b.blocked c)) _ _ I (λ _. f number c b h) (λ _. h)
 
 -- a call of its own is on the channel of its reference, which was given
 record Given (named : ℕ → ℕ) (next : ℕ) (c : PlainUserCall) : Type 0 where

@@ -13,7 +13,7 @@ use Rattle.bx_calls.specs.declared.user_state.UserState.TheVariants as user
 use Rattle.bx_day.specs.declared.entry.Entry.{Entry}
 use Rattle.bx_day.specs.declared.entry.Standing.{Standing}
 use Rattle.bx_day.specs.declared.entry.Standing.TheVariants.{Refused, Unoffered, OnCall, Carried, Unanswered, Missed}
-use Rattle.bx_calls.specs.Shared.{is_set}
+use Rattle.bx_channels.specs.Marks.{is_marked}
 use Rattle.bx_day.specs.Day.{Day, entries_from, entry_at}
 use Rattle.bx_day.specs.Ticks.{ticked, passed_in}
 use Rattle.bx_day.specs.declared.entry.Link.TheVariants.{Down}
@@ -62,7 +62,7 @@ less r n m l g = omega (arith, l, g)
 
 kept_named : (before named : ℕ → ℕ) (far_sent more : List Outgoing) (d : Day) (r : ℕ) → named r ≡ before r → KeptInward before far_sent d r → KeptInward named (far_sent ++ more) d r
 kept_named before named far_sent more d r q (Holds h) = Holds (subst (λ c. exchange_holds d.entries r c ≡ true) (sym q) h)
-kept_named before named far_sent more d r q (Maintained h) = Maintained (subst (λ c. is_set d.maintenance c ≡ true) (sym q) h)
+kept_named before named far_sent more d r q (Maintained h) = Maintained (subst (λ c. is_marked d.maintenance c ≡ true) (sym q) h)
 kept_named before named far_sent more d r q (Cleared h) = Cleared (has_more (clears r) far_sent more h)
 
 taken_named : (before named : ℕ → ℕ) (next later : ℕ) → ((r : ℕ) → r < next → named r ≡ before r) → next ≤ later → (s : Standing) → TakenStanding before next s → TakenStanding named later s
@@ -179,7 +179,7 @@ active_calm (user.DisconnectRequest cause due) h = absurd h
 active_calm (user.ReleaseRequest again cause due) h = absurd h
 
 abbrev HeldInward : World → ℕ → ℕ → Type 0
-HeldInward w r c = (exchange_holds w.exchange.entries r c ≡ true) ⊎ (is_set w.exchange.maintenance c ≡ true)
+HeldInward w r c = (exchange_holds w.exchange.entries r c ≡ true) ⊎ (is_marked w.exchange.maintenance c ≡ true)
 
 from_kept : (named : ℕ → ℕ) (w : World) (r : ℕ) → KeptInward named w.far_sent w.exchange r → list_any (clears r) w.far_sent ≡ false → HeldInward w r (named r)
 from_kept named w r (Holds h) calm = inl h

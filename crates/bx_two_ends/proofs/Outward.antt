@@ -38,7 +38,7 @@ use Rattle.bx_calls.specs.UserTable.{user_flag}
 use Rattle.bx_day.specs.declared.entry.Entry.{Entry}
 use Rattle.bx_day.specs.declared.entry.Standing.{Standing}
 use Rattle.bx_day.specs.declared.entry.Standing.TheVariants.{OnCall, Carried, Unanswered}
-use Rattle.bx_calls.specs.Shared.{is_set}
+use Rattle.bx_channels.specs.Marks.{is_marked}
 use Rattle.bx_day.specs.Day.{Day, entry_at}
 use Rattle.bx_day.specs.Moves.{is_active}
 use Rattle.bx_day.specs.Law.{standing_at}
@@ -102,7 +102,7 @@ OutwardStandings sent far_sent d = (i : ℕ) → OutwardStanding (suc i) sent fa
 -- the far end holds the call on its channel, or that is in maintenance there, or the exchange cleared the call
 pub data Kept (assigned : List (Option ℕ)) (sent : List Outgoing) (f : FarDay) (r : ℕ) : Type 0 where
   Holds : far_holds f.calls r (channel_at assigned (r - 1)) ≡ true → Kept assigned sent f r
-  Maintained : is_set f.maintenance (channel_at assigned (r - 1)) ≡ true → Kept assigned sent f r
+  Maintained : is_marked f.maintenance (channel_at assigned (r - 1)) ≡ true → Kept assigned sent f r
   Cleared : list_any (clears r) sent ≡ true → Kept assigned sent f r
 
 -- a message of the far end for a call that the exchange began

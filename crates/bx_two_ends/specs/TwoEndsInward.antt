@@ -20,7 +20,7 @@ use Rattle.bx_q931.specs.Outgoing.{Outgoing}
 use Rattle.bx_calls.specs.PlainCalls.{PlainUserCall}
 use Rattle.bx_calls.specs.NetTable.{net_flag}
 use Rattle.bx_calls.specs.UserTable.{user_flag}
-use Rattle.bx_calls.specs.Shared.{is_set}
+use Rattle.bx_channels.specs.Marks.{is_marked}
 use Rattle.bx_day.specs.declared.entry.Entry.{Entry}
 use Rattle.bx_day.specs.declared.entry.Standing.{Standing}
 use Rattle.bx_day.specs.declared.entry.Standing.TheVariants.{OnCall}
@@ -51,7 +51,7 @@ connects r o = (o.reference == r) && o.flag && is_connect_kind o.kind
 
 -- what holds of a call that the far end began and that is Active there
 pub record IsConnected (w : World) (call : PlainUserCall) : Type 0 where
-  pub held : (exchange_holds w.exchange.entries call.reference call.channel ≡ true) ⊎ (is_set w.exchange.maintenance call.channel ≡ true)
+  pub held : (exchange_holds w.exchange.entries call.reference call.channel ≡ true) ⊎ (is_marked w.exchange.maintenance call.channel ≡ true)
   pub connected : list_any (connects call.reference) w.sent ≡ true
 
 abbrev pub IsTwoEndsInward : World → Type 0

@@ -3,7 +3,7 @@
 use crate::letters::LetterDisk;
 use crate::stage::Stage;
 use crate::visitors::{Manner, Visit, Visitor, Visitors};
-use bx_book::Clock;
+use bx_calendar::Clock;
 use bx_day::Exchange;
 use bx_live::{CannotRecord, World, run_live};
 use bx_worked_days::exchange;

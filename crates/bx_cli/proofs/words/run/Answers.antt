@@ -2,7 +2,7 @@ use Rattle.std.proofs.Common.{subst, sym}
 use Rattle.bx_cli.specs.Statuses.{IsRequestDone, IsRequestRefused}
 use Rattle.bx_devices.specs.Devices.{writing_of}
 use Rattle.bx_devices.specs.Watching.{device_of}
-use Rattle.bx_cli.proofs.Standard.{is_done, is_refused, are_recorded, are_unrecorded}
+use Rattle.bx_cli.proofs.Standard.{done_at, refused_at, is_done, is_refused, are_recorded, are_unrecorded}
 use Rattle.bx_request.specs.declared.request.Request.{Request}
 use Rattle.bx_cli.proofs.words.run.Goals as goal
 
@@ -25,3 +25,63 @@ pub returns-in-Records-clause-refused : goal.returns-in-Records-clause-refused
 returns-in-Records-clause-refused g c some =
     subst (λ (r : Request). IsRequestRefused g.row.H.Denot (g.R.Read.remaining (device_of c.args.input.now)) r g.H.File.Write.contents g.W.Write.contents c.args.output.now c.record_files.new.output) (sym c.in-Records.is)
     (are_unrecorded _ _ _ c.in-Records.request g.W.Write.contents c.args.output.now c.record_files.new.output c.record_files.result c.status_of-in-Records.result c.new-inputs.ensures c.status_of-in-Records.ensures.done c.record_files.ensures.refused some)
+
+pub returns-in-Day-clause-done : goal.returns-in-Day-clause-done
+returns-in-Day-clause-done g c zero =
+    subst (λ (r : Request). IsRequestDone g.row.H.Denot (g.R.Read.remaining (device_of c.args.input.now)) r g.H.File.Write.contents g.W.Write.contents c.args.output.now c.run_day_on_files.new.output) (sym c.in-Day.is)
+    (done_at c.run_day_on_files.result c.status_of-in-Day.result c.status_of-in-Day.ensures.done c.run_day_on_files.ensures.done zero)
+
+pub returns-in-Day-clause-refused : goal.returns-in-Day-clause-refused
+returns-in-Day-clause-refused g c some =
+    subst (λ (r : Request). IsRequestRefused g.row.H.Denot (g.R.Read.remaining (device_of c.args.input.now)) r g.H.File.Write.contents g.W.Write.contents c.args.output.now c.run_day_on_files.new.output) (sym c.in-Day.is)
+    (refused_at c.run_day_on_files.result c.status_of-in-Day.result c.status_of-in-Day.ensures.done c.run_day_on_files.ensures.refused some)
+
+pub returns-in-Rehearsal-clause-done : goal.returns-in-Rehearsal-clause-done
+returns-in-Rehearsal-clause-done g c zero =
+    subst (λ (r : Request). IsRequestDone g.row.H.Denot (g.R.Read.remaining (device_of c.args.input.now)) r g.H.File.Write.contents g.W.Write.contents c.args.output.now c.rehearse_on_files.new.output) (sym c.in-Rehearsal.is)
+    (done_at c.rehearse_on_files.result c.status_of-in-Rehearsal.result c.status_of-in-Rehearsal.ensures.done c.rehearse_on_files.ensures.done zero)
+
+pub returns-in-Rehearsal-clause-refused : goal.returns-in-Rehearsal-clause-refused
+returns-in-Rehearsal-clause-refused g c some =
+    subst (λ (r : Request). IsRequestRefused g.row.H.Denot (g.R.Read.remaining (device_of c.args.input.now)) r g.H.File.Write.contents g.W.Write.contents c.args.output.now c.rehearse_on_files.new.output) (sym c.in-Rehearsal.is)
+    (refused_at c.rehearse_on_files.result c.status_of-in-Rehearsal.result c.status_of-in-Rehearsal.ensures.done c.rehearse_on_files.ensures.refused some)
+
+pub returns-in-Rejoin-clause-done : goal.returns-in-Rejoin-clause-done
+returns-in-Rejoin-clause-done g c zero =
+    subst (λ (r : Request). IsRequestDone g.row.H.Denot (g.R.Read.remaining (device_of c.args.input.now)) r g.H.File.Write.contents g.W.Write.contents c.args.output.now c.rejoin_on_files.new.output) (sym c.in-Rejoin.is)
+    (done_at c.rejoin_on_files.result c.status_of-in-Rejoin.result c.status_of-in-Rejoin.ensures.done c.rejoin_on_files.ensures.done zero)
+
+pub returns-in-Rejoin-clause-refused : goal.returns-in-Rejoin-clause-refused
+returns-in-Rejoin-clause-refused g c some =
+    subst (λ (r : Request). IsRequestRefused g.row.H.Denot (g.R.Read.remaining (device_of c.args.input.now)) r g.H.File.Write.contents g.W.Write.contents c.args.output.now c.rejoin_on_files.new.output) (sym c.in-Rejoin.is)
+    (refused_at c.rejoin_on_files.result c.status_of-in-Rejoin.result c.status_of-in-Rejoin.ensures.done c.rejoin_on_files.ensures.refused some)
+
+pub returns-in-Live-clause-done : goal.returns-in-Live-clause-done
+returns-in-Live-clause-done g c zero =
+    subst (λ (r : Request). IsRequestDone g.row.H.Denot (g.R.Read.remaining (device_of c.args.input.now)) r g.H.File.Write.contents g.W.Write.contents c.args.output.now c.live_on_files.new.output) (sym c.in-Live.is)
+    (done_at c.live_on_files.result c.status_of-in-Live.result c.status_of-in-Live.ensures.done c.live_on_files.ensures.done zero)
+
+pub returns-in-Live-clause-refused : goal.returns-in-Live-clause-refused
+returns-in-Live-clause-refused g c some =
+    subst (λ (r : Request). IsRequestRefused g.row.H.Denot (g.R.Read.remaining (device_of c.args.input.now)) r g.H.File.Write.contents g.W.Write.contents c.args.output.now c.live_on_files.new.output) (sym c.in-Live.is)
+    (refused_at c.live_on_files.result c.status_of-in-Live.result c.status_of-in-Live.ensures.done c.live_on_files.ensures.refused some)
+
+pub returns-in-Audit-clause-done : goal.returns-in-Audit-clause-done
+returns-in-Audit-clause-done g c zero =
+    subst (λ (r : Request). IsRequestDone g.row.H.Denot (g.R.Read.remaining (device_of c.args.input.now)) r g.H.File.Write.contents g.W.Write.contents c.args.output.now c.audit_files.new.output) (sym c.in-Audit.is)
+    (done_at c.audit_files.result c.status_of-in-Audit.result c.status_of-in-Audit.ensures.done c.audit_files.ensures.done zero)
+
+pub returns-in-Audit-clause-refused : goal.returns-in-Audit-clause-refused
+returns-in-Audit-clause-refused g c some =
+    subst (λ (r : Request). IsRequestRefused g.row.H.Denot (g.R.Read.remaining (device_of c.args.input.now)) r g.H.File.Write.contents g.W.Write.contents c.args.output.now c.audit_files.new.output) (sym c.in-Audit.is)
+    (refused_at c.audit_files.result c.status_of-in-Audit.result c.status_of-in-Audit.ensures.done c.audit_files.ensures.refused some)
+
+pub returns-in-Decode-clause-done : goal.returns-in-Decode-clause-done
+returns-in-Decode-clause-done g c zero =
+    subst (λ (r : Request). IsRequestDone g.row.H.Denot (g.R.Read.remaining (device_of c.args.input.now)) r g.H.File.Write.contents g.W.Write.contents c.args.output.now c.decode.new.output) (sym c.in-Decode.is)
+    (done_at c.decode.result c.status_of-in-Decode.result c.status_of-in-Decode.ensures.done c.decode.ensures.done zero)
+
+pub returns-in-Decode-clause-refused : goal.returns-in-Decode-clause-refused
+returns-in-Decode-clause-refused g c some =
+    subst (λ (r : Request). IsRequestRefused g.row.H.Denot (g.R.Read.remaining (device_of c.args.input.now)) r g.H.File.Write.contents g.W.Write.contents c.args.output.now c.decode.new.output) (sym c.in-Decode.is)
+    (refused_at c.decode.result c.status_of-in-Decode.result c.status_of-in-Decode.ensures.done c.decode.ensures.refused some)

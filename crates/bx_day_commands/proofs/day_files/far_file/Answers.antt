@@ -1,5 +1,4 @@
-use Rattle.std.proofs.Common.{rules}
-use Rattle.std.proofs.Common.{None}
+use Rattle.std.proofs.Common.{rules, None}
 use Rattle.std.proofs.lemmas.Result.{err_from_is_err_and}
 use Rattle.bx_day_commands.specs.DayRefusals.{StopsFarEnd}
 use Rattle.bx_day_commands.specs.Days.{IsFarCut}

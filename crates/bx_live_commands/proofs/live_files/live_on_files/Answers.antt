@@ -1,5 +1,5 @@
 use Rattle.std.proofs.lemmas.Result.{err_from_is_err_and}
-use Rattle.bx_live_commands.proofs.Runs.{on_ok, if_err}
+use Rattle.bx_day_runs.proofs.Runs.{on_ok, if_err}
 use Rattle.bx_live_commands.proofs.ToldLive.{live_told, live_refused, live_stopped}
 use Rattle.bx_live_commands.proofs.live_files.live_on_files.Goals as goal
 

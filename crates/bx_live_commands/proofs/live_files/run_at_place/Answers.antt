@@ -1,4 +1,4 @@
-use Rattle.bx_live_commands.proofs.Runs.{if_ok}
+use Rattle.bx_day_runs.proofs.Runs.{if_ok}
 use Rattle.bx_live_commands.proofs.ToldLive.{at_port, at_socket}
 use Rattle.bx_live_commands.proofs.live_files.run_at_place.Goals as goal
 

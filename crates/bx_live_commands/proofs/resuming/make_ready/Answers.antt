@@ -1,4 +1,5 @@
-use Rattle.bx_live_commands.proofs.Runs.{on_ok, ready_on}
+use Rattle.bx_day_runs.proofs.Runs.{on_ok}
+use Rattle.bx_live_commands.proofs.Runs.{ready_on}
 use Rattle.bx_live_commands.proofs.resuming.make_ready.Goals as goal
 
 pub returns-in-Ok : goal.returns-in-Ok

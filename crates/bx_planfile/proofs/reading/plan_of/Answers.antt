@@ -1,8 +1,7 @@
 use Rattle.std.proofs.lemmas.Grind.{common_steps}
 use Rattle.std.proofs.Common.{arith, rules, Err, inl, inr, ap}
 use Rattle.bx_planfile.proofs.Refusals.{line_never, header_never, channels_never, count_never, not_memory, passed_on, grows_behind}
-use Rattle.bx_planfile.specs.Reading.{entries}
-use Rattle.bx_planfile.specs.Reading.{read_head, read_all}
+use Rattle.bx_planfile.specs.Reading.{entries, read_head, read_all}
 use Rattle.bx_planfile.proofs.reading.plan_of.Goals as goal
 
 pub returns-in_err-fields-clause-memory : goal.returns-in_err-fields-clause-memory

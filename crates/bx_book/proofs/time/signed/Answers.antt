@@ -1,6 +1,0 @@
-use Rattle.std.proofs.Common.{arith}
-use Rattle.std.proofs.lemmas.Grind.{common_steps}
-use Rattle.bx_book.proofs.time.signed.Goals as goal
-
-pub returns-then-is_below-clause-value : goal.returns-then-is_below-clause-value
-returns-then-is_below-clause-value c = grind (arith, common_steps) steps 60000

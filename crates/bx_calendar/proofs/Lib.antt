@@ -1,0 +1,3 @@
+pub mod Midnights
+pub mod Seconds
+pub mod Shown

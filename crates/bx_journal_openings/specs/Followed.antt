@@ -1,0 +1,14 @@
+-- How a journal was followed.
+use Rattle.std.specs.Prelude.{ℕ, List, Option}
+use Rattle.bx_events.specs.Events.{LiveEvent}
+use Rattle.bx_journal_openings.specs.Journals.{IsJournal}
+
+-- all its events were followed
+pub record IsFollowedWhole {F : Type 0} (followed : F → List LiveEvent → F → Type 0) (plan : List ℕ) (before : Option (List ℕ)) (old new : F) : Type 0 where
+  pub events : List LiveEvent
+  pub journal : IsJournal plan before events
+  pub all : followed old events new
+
+-- some were, in order, from the first on
+abbrev pub IsFollowedSoFar : {F : Type 0} → (F → List LiveEvent → F → Type 0) → F → F → Type 0
+IsFollowedSoFar followed old new = (events : List LiveEvent) × followed old events new

@@ -1,0 +1,4 @@
+mod Recorded
+mod RehearsalRuns
+mod ToldRehearsals
+mod RehearsedWith

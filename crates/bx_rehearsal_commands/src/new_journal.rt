@@ -1,0 +1,67 @@
+//! A journal that is to be new.
+
+ghost use Rattle.std.specs.Prelude.{◌≡◌, Ok, OnOk, IfOk, IfErr};
+ghost use Rattle.bx_rehearsal_commands.specs.NewJournals.{HasNoNewJournal};
+ghost use Rattle.bx_rehearsal_commands.specs.NewJournalsInside.{IsNotNew, IsNoNewJournal};
+
+use crate::buffered_file::BufferedFile;
+use bx_check_commands::CommandFault;
+use bx_day_openings::DayCommandFault;
+use bx_day_runs::{LiveFault, sync_entry};
+use std::alloc::Global;
+use std::fs::{File, Files, OpenFile};
+use std::io;
+use std::io::{BufWriter, Write};
+
+/// Whether a file of this length holds nothing yet.
+fn judged<'a>(name: &'a str, length: io::Result<u64>) -> Result<(), LiveFault<'a>>
+    ensures new { OnOk result (length ≡ Ok 0) }
+    ensures refused { IfErr result (IsNotNew name.now length) }
+{
+    match length {
+        Ok(0) => Ok(()),
+        Ok(_) => Err(LiveFault::NotEmpty(name)),
+        Err(_) => Err(LiveFault::CannotRecord(name)),
+    }
+}
+
+/// The journal in a file of this length, which may hold nothing yet.
+fn journal_in<'a, F: Write + Drop>(
+    alloc: Global,
+    name: &'a str,
+    file: F,
+    length: io::Result<u64>,
+) -> Result<BufferedFile<F>, LiveFault<'a>>
+    ensures new { IfOk result (λ disk. length ≡ Ok 0) }
+    ensures refused { IfErr result (IsNoNewJournal name.now length) }
+{
+    judged(name, length)?;
+    match BufWriter::new(alloc, file) {
+        Ok(file) => Ok(BufferedFile::new(file)),
+        Err(_) => Err(LiveFault::Day(DayCommandFault::Command(CommandFault::Memory))),
+    }
+}
+
+/// How many octets a file has.
+fn length_of<F: OpenFile>(file: &F) -> io::Result<u64> {
+    let metadata = file.metadata()?;
+    Ok(metadata.len())
+}
+
+/// The journal in the file of this name, which is made where it is not there. One that holds something is left as it is.
+pub(crate) fn new_journal<'a, H: Files>(
+    rt: &H,
+    alloc: Global,
+    name: &'a str,
+) -> Result<BufferedFile<H::File>, LiveFault<'a>>
+    ensures { IfErr result (HasNoNewJournal name.now) }
+{
+    let file = match File::options().append(true).create(true).open(rt, name) {
+        Ok(file) => file,
+        Err(_) => return Err(LiveFault::CannotRecord(name)),
+    };
+    let length = length_of(&file);
+    let disk = journal_in(alloc, name, file, length)?;
+    sync_entry(rt, name);
+    Ok(disk)
+}
