@@ -25,3 +25,7 @@ headed t0 t1 t2 t3 t4 o p o' p' style counts e0 e1 e2 e3 e4 e5 e6 = cc
 -- three pieces, by what they count
 pub counted : (total : List ℕ) (a a' r r' m m' s s' : ℕ) → a ≡ a' → r ≡ r' → m ≡ m' → s ≡ s' → (total ++ row_words a r m) ++ service_words s ≡ (total ++ row_words a' r' m') ++ service_words s'
 counted total a a' r r' m m' s s' e1 e2 e3 e4 = cc
+
+-- three texts that are added one behind the other to none
+pub fronted : (t0 t1 t2 t3 a b d : List ℕ) → t0 ≡ [] → t1 ≡ t0 ++ a → t2 ≡ t1 ++ b → t3 ≡ t2 ++ d → t3 ≡ a ++ b ++ d
+fronted t0 t1 t2 t3 a b d e0 e1 e2 e3 = cc

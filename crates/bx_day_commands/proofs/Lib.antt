@@ -1,5 +1,6 @@
 mod ToldDays
 mod Refusals
+mod Stops
 mod KeptDays
 mod Outcomes
 mod Asked

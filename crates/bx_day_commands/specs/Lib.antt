@@ -3,3 +3,4 @@ pub mod CapturedDays
 pub mod KeptDays
 pub mod DayRefusals
 pub mod DayRequests
+pub mod Unplanned

@@ -1,15 +1,18 @@
 //! The commands that run a day.
 
-ghost use Rattle.std.specs.Prelude.{◌≡◌, true, IfOk, IfErr, OnOk, OnErr};
+ghost use Rattle.std.specs.Prelude.{◌≡◌, ◌≤◌, true, IfOk, IfErr, OnOk, OnErr};
 ghost use Rattle.std.specs.Io.KnownBytes.{Appends};
 ghost use Rattle.bx_devices.specs.Octets.{AppendsPrefix};
 ghost use Rattle.bx_devices.specs.Devices.{writing_of};
 ghost use Rattle.bx_devices.specs.Watching.{device_of, is_faulted};
 ghost use Rattle.bx_day_commands.specs.DayRefusals.{StopsDay, StopsServing, StopsFarEnd, IsDayRefusal, IsServeRefusal, IsFarRefusal};
+ghost use Rattle.bx_day_commands.specs.Unplanned.{StopsPlanning, StopsFiles};
 ghost use Rattle.bx_day_commands.specs.CapturedDays.{IsBothDone, IsDayDone, IsFarDone};
 ghost use Rattle.bx_day_commands.specs.KeptDays.{IsBothCaptured, IsDayCaptured, IsFarCaptured, IsOutcomeTold, IsOutcomeCut};
 ghost use Rattle.bx_day_commands.specs.Days.{ended_line};
-ghost use Rattle.bx_recording.specs.Recording.{IsMade};
+ghost use Rattle.bx_day_openings.specs.CaptureOpenings.{IsFirstOf, IsFileFor};
+ghost use Rattle.bx_day_openings.specs.Openings.{IsOpening};
+ghost use Rattle.bx_recording.specs.Recording.{IsMade, IsRecordsClock, IsRecordsFileFor};
 
 use crate::running::{run_connected, run_linked, run_served};
 use bx_capture::is_whole;
@@ -50,6 +53,52 @@ struct Ran<'a, F> {
     records: Option<RecordsFile<'a, F>>,
 }
 
+/// What a day of a plan needs before it makes its files: the second that moment 0 has in its capture, the clock of its records, where
+/// they have one, and the exchange with the turns that it has.
+struct Planned {
+    first: u32,
+    clock: Option<bx_calendar::Clock>,
+    opened: (Exchange, u32),
+}
+
+/// What the day of a plan needs before it makes its files.
+fn plan_day<'a, H: AllocGlobal, I: Inputs>(
+    rt: &H,
+    inputs: &mut I,
+    plan: &'a str,
+    words: DayWords<'a>,
+) -> Result<Planned, DayCommandFault<'a>>
+    ensures first { IfOk result (λ planned. IsFirstOf words.entry.sight.capture planned.first) }
+    ensures limit { IfOk result (λ planned. planned.first ≤ 4294667295) }
+    ensures clock { IfOk result (λ planned. IsRecordsClock words.entry.records planned.clock) }
+    ensures opened { IfOk result (λ planned. IsOpening words.entry.turns planned.opened.0 planned.opened.1) }
+    ensures stopped { IfErr result (StopsPlanning plan.now words.entry.sight.capture words.entry.records) }
+{
+    let first = first_of(words.sight.capture)?;
+    let clock = records_clock_of(words.records)?;
+    let opened = opening_of(rt.alloc(), inputs, plan, words.turns)?;
+    Ok(Planned {
+        first,
+        clock,
+        opened,
+    })
+}
+
+/// The file of the capture of a day, and that of its records, where they are to be written.
+fn files_of<'a, H: Files>(
+    rt: &H,
+    words: DayWords<'a>,
+    clock: Option<bx_calendar::Clock>,
+) -> Result<(Option<Watched<H::File>>, Option<RecordsFile<'a, H::File>>), DayCommandFault<'a>>
+    ensures capture { IfOk result (λ files. IsFileFor H.File.contents words.entry.sight.capture files.0) }
+    ensures records { IfOk result (λ files. IsRecordsFileFor words.entry.records clock files.1) }
+    ensures stopped { IfErr result (StopsFiles H.File.contents words.entry.sight.capture words.entry.records) }
+{
+    let file = file_of(rt, words.sight.capture)?;
+    let records = records_file_of(rt, words.records, clock)?;
+    Ok((file, records))
+}
+
 /// The exchange at the end of the day of a plan, of which both ends were run over one TCP connection.
 fn run_of_both<
     'a,
@@ -66,12 +115,13 @@ fn run_of_both<
     ensures made { IfOk result (λ ran. IsMade words.entry.records ran.records) }
     ensures stopped { IfErr result (StopsDay H.File.contents plan.now script.now words.entry.sight.capture words.entry.records words.entry.turns) }
 {
-    let first = first_of(words.sight.capture)?;
-    let clock = records_clock_of(words.records)?;
-    let opened = opening_of(rt.alloc(), inputs, plan, words.turns)?;
+    let Planned {
+        first,
+        clock,
+        opened,
+    } = plan_day(rt, inputs, plan, words)?;
     let mut far = far_end_of(rt.alloc(), inputs, script)?;
-    let mut file = file_of(rt, words.sight.capture)?;
-    let records = records_file_of(rt, words.records, clock)?;
+    let (mut file, records) = files_of(rt, words, clock)?;
     let is_shown = !words.sight.is_quiet;
     let exchange = run_linked(rt, opened, &mut far, &mut file, first, is_shown)?;
     Ok(Ran {
@@ -152,11 +202,12 @@ fn run_towards_peer<
     ensures made { IfOk result (λ ran. IsMade words.entry.records ran.records) }
     ensures stopped { IfErr result (StopsServing H.File.contents plan.now words.entry.sight.capture words.entry.records words.entry.turns) }
 {
-    let first = first_of(words.sight.capture)?;
-    let clock = records_clock_of(words.records)?;
-    let opened = opening_of(rt.alloc(), inputs, plan, words.turns)?;
-    let mut file = file_of(rt, words.sight.capture)?;
-    let records = records_file_of(rt, words.records, clock)?;
+    let Planned {
+        first,
+        clock,
+        opened,
+    } = plan_day(rt, inputs, plan, words)?;
+    let (mut file, records) = files_of(rt, words, clock)?;
     let exchange = run_served(rt, place, opened, &mut file, first, !words.sight.is_quiet)?;
     Ok(Ran {
         exchange,

@@ -13,4 +13,4 @@ returns-in_err-moment-clause-refused g c =
     (far_writes g.H.File.Write.contents c.args.script.now c.args.script.now c.args.sight.capture None None) c.in_err-moment.ensures.stopped)
 
 pub returns-in-Ok-clause-told : goal.returns-in-Ok-clause-told
-returns-in-Ok-clause-told g c = (record { moment = c.in_ok-moment.moment; run = c.in_ok-moment.ensures.ran.0; written = search rules steps 1000000 }, c.in_ok-moment.ensures.ran.1)
+returns-in-Ok-clause-told g c = (record { moment = c.in_ok-moment.moment; run = c.in_ok-moment.ensures.ran.0; written = c.in-Ok.ensures.told }, c.in_ok-moment.ensures.ran.1)
