@@ -1,0 +1,12 @@
+pub mod Check
+pub mod Numbers
+pub mod Media
+pub mod Flow
+pub mod Steps
+pub mod Worlds
+pub mod Lanes
+pub mod Sources
+pub mod Sinks
+pub mod Lines
+pub mod ReadBack
+pub mod Bounds

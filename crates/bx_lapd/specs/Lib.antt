@@ -1,0 +1,10 @@
+pub mod Links
+pub mod Table
+pub mod Rows
+pub mod Codec
+pub mod Endpoints
+pub mod World
+pub mod Law
+pub mod Bounds
+pub mod Once
+pub mod ReadBack

@@ -1,0 +1,224 @@
+-- The table of a data link entity (ITU-T Q.921, Annex B): what comes, in each state.
+use Rattle.std.specs.Prelude.{ℕ, ◌+◌, ◌%◌, ◌==◌, nat_le, nat_lt, ◌&&◌, ◌||◌, not, Bool, true, false, List, [], ◌∷◌, ◌++◌, length, if◌then◌else◌, Option, Some, None}
+use Rattle.arrayvec.specs.ArrayVec.{ArrayVec}
+use Rattle.bx_lapd.specs.declared.words.LinkState.{LinkState}
+use Rattle.bx_lapd.specs.declared.words.LinkState.TheVariants.{Assigned, AwaitingEstablishment, AwaitingRelease, Established, TimerRecovery}
+use Rattle.bx_lapd.specs.declared.words.Timer.{Timer}
+use Rattle.bx_lapd.specs.declared.words.Timer.TheVariants.{Stopped, T200, T203}
+use Rattle.bx_lapd.specs.declared.words.Supervisory.{Supervisory}
+use Rattle.bx_lapd.specs.declared.words.Supervisory.TheVariants.{ReceiveReady, ReceiveNotReady, Reject}
+use Rattle.bx_lapd.specs.declared.words.Unnumbered.{Unnumbered}
+use Rattle.bx_lapd.specs.declared.words.Unnumbered.TheVariants as u
+use Rattle.bx_lapd.specs.declared.words.ErrorCode.{ErrorCode}
+use Rattle.bx_lapd.specs.declared.words.ErrorCode.TheVariants as error
+use Rattle.bx_lapd.specs.declared.frame.Frame.{Frame}
+use Rattle.bx_lapd.specs.declared.frame.Frame.TheVariants.{Information, Numbered, Plain}
+use Rattle.bx_lapd.specs.Links.{t200, t203, Link, Step, does, follows, is_valid, final, enquiry, establishing, establishes, begun, assigned, discarded, acknowledged, wrong_number, is_established, is_recovering, is_up, flush}
+use Rattle.bx_lapd.specs.declared.indication.Indication.{Indication}
+use Rattle.bx_lapd.specs.declared.indication.Indication.TheVariants.{LinkEstablished, LinkReleased, Delivered, LinkError}
+
+-- ---- layer 3's requests
+
+-- DL-ESTABLISH request (state 6 keeps its release: layer 3 asks again)
+abbrev pub establish : LinkState → Link → ℕ → Step
+establish AwaitingRelease l now = does l [] []
+establish AwaitingEstablishment l now = does (record (discarded l) { asked = true }) [] []
+establish _ l now = establishes (discarded l) true now
+
+-- DL-RELEASE request
+abbrev pub release : LinkState → Link → ℕ → Step
+release Assigned l now = does l [] (LinkReleased ∷ [])
+release AwaitingRelease l now = does l [] []
+release _ l now = does (record (discarded l) { state = AwaitingRelease; rc = 0; busy = false; rejected = false; owed = false; timer = T200 (now + t200) }) (Plain u.Disc true ∷ []) []
+
+-- DL-DATA request: taken in states 7 and 8, and in state 5 where the link comes back by itself; at most 32 messages wait
+abbrev pub takes : LinkState → Link → Bool
+takes Established l = nat_lt (length l.queue) 32
+takes TimerRecovery l = nat_lt (length l.queue) 32
+takes AwaitingEstablishment l = not l.asked && nat_lt (length l.queue) 32
+takes _ l = false
+
+abbrev pub give : Link → ArrayVec ℕ → ℕ → Step
+give l m now = if takes l.state l then flush now (record l { queue = l.queue ++ m ∷ [] }) else does l [] []
+
+-- ---- timers
+
+abbrev pub is_due : Timer → ℕ → Bool
+is_due Stopped now = false
+is_due (T200 due) now = nat_le due now
+is_due (T203 due) now = nat_le due now
+
+abbrev pub due_of : Timer → Option ℕ
+due_of Stopped = None
+due_of (T200 due) = Some due
+due_of (T203 due) = Some due
+
+-- RC behind the first enquiry: T200 counts
+abbrev pub first_count : Timer → ℕ
+first_count (T200 due) = 1
+first_count _ = 0
+
+abbrev pub enquires : Link → ℕ → ℕ → Step
+enquires l rc now = does (record l { state = TimerRecovery; rc = rc; owed = false; timer = T200 (now + t200) }) (enquiry l ∷ []) []
+
+-- a timer is due; N200 is 3
+abbrev pub expires : LinkState → Link → ℕ → Step
+expires Assigned l now = does l [] []
+expires AwaitingEstablishment l now =
+    if nat_lt l.rc 3 then does (record l { rc = l.rc + 1; timer = T200 (now + t200) }) (Plain u.Sabme true ∷ []) []
+    else does (discarded (assigned l)) [] (LinkError error.SabmeUnanswered ∷ LinkReleased ∷ [])
+expires AwaitingRelease l now =
+    if nat_lt l.rc 3 then does (record l { rc = l.rc + 1; timer = T200 (now + t200) }) (Plain u.Disc true ∷ []) []
+    else does (assigned l) [] (LinkError error.DiscUnanswered ∷ LinkReleased ∷ [])
+expires Established l now = enquires l (first_count l.timer) now
+expires TimerRecovery l now =
+    if nat_lt l.rc 3 then enquires l (l.rc + 1) now
+    else does (establishing l false now) (Plain u.Sabme true ∷ []) (LinkError error.EnquiryUnanswered ∷ [])
+
+abbrev pub elapse : Link → ℕ → Step
+elapse l now = if is_due l.timer now then expires l.state l now else does l [] []
+
+-- ---- unnumbered frames
+
+-- SABME in states 7 and 8: what was sent and not acknowledged may have come or not, so layer 3 is told
+abbrev pub established_anew : Bool → Link → Bool → ℕ → Step
+established_anew true l poll now = does (begun l now) (Plain u.Ua poll ∷ []) (LinkError error.PeerEstablishes ∷ [])
+established_anew false l poll now = does (begun (discarded l) now) (Plain u.Ua poll ∷ []) (LinkError error.PeerEstablishes ∷ LinkEstablished ∷ [])
+
+abbrev pub hear_sabme : LinkState → Link → Bool → ℕ → Step
+hear_sabme AwaitingRelease l poll now = does l (Plain u.Dm poll ∷ []) []
+hear_sabme AwaitingEstablishment l poll now = does l (Plain u.Ua poll ∷ []) []
+hear_sabme Assigned l poll now = does (begun l now) (Plain u.Ua poll ∷ []) (LinkEstablished ∷ [])
+hear_sabme _ l poll now = established_anew (l.vs == l.va) l poll now
+
+abbrev pub hear_disc : LinkState → Link → Bool → Step
+hear_disc Assigned l poll = does l (Plain u.Dm poll ∷ []) []
+hear_disc AwaitingEstablishment l poll = does l (Plain u.Dm poll ∷ []) []
+hear_disc AwaitingRelease l poll = does l (Plain u.Ua poll ∷ []) []
+hear_disc _ l poll = does (discarded (assigned l)) (Plain u.Ua poll ∷ []) (LinkReleased ∷ [])
+
+-- the link that was asked for is there, by layer 3 or by this end itself
+abbrev pub confirmed : Bool → Bool → Link → ℕ → Step
+confirmed true _ l now = does (begun l now) [] (LinkEstablished ∷ [])
+confirmed false true l now = does (begun l now) [] []
+confirmed false false l now = does (begun (discarded l) now) [] (LinkEstablished ∷ [])
+
+abbrev pub hear_ua : LinkState → Link → Bool → ℕ → Step
+hear_ua AwaitingEstablishment l true now = confirmed l.asked (l.vs == l.va) l now
+hear_ua AwaitingRelease l true now = does (assigned l) [] (LinkReleased ∷ [])
+hear_ua _ l true now = does l [] (LinkError error.UaFinal ∷ [])
+hear_ua _ l false now = does l [] (LinkError error.Ua ∷ [])
+
+abbrev pub hear_dm : LinkState → Link → Bool → ℕ → Step
+hear_dm Assigned l false now = establishes l true now
+hear_dm Assigned l true now = does l [] []
+hear_dm AwaitingEstablishment l true now = does (discarded (assigned l)) [] (LinkReleased ∷ [])
+hear_dm AwaitingEstablishment l false now = does l [] []
+hear_dm AwaitingRelease l true now = does (assigned l) [] (LinkReleased ∷ [])
+hear_dm AwaitingRelease l false now = does l [] []
+hear_dm Established l true now = does l [] (LinkError error.DmFinal ∷ [])
+hear_dm TimerRecovery l true now = does (establishing l false now) (Plain u.Sabme true ∷ []) (LinkError error.DmFinal ∷ [])
+hear_dm _ l false now = does (establishing l false now) (Plain u.Sabme true ∷ []) (LinkError error.Dm ∷ [])
+
+-- an error for which a link that is up is established anew
+abbrev pub fails : Bool → Link → ErrorCode → ℕ → Step
+fails true l code now = does (establishing l false now) (Plain u.Sabme true ∷ []) (LinkError code ∷ [])
+fails false l code now = does l [] []
+
+abbrev pub hear_plain : Unnumbered → Link → Bool → ℕ → Step
+hear_plain u.Sabme l poll now = hear_sabme l.state l poll now
+hear_plain u.Disc l poll now = hear_disc l.state l poll
+hear_plain u.Ua l poll now = hear_ua l.state l poll now
+hear_plain u.Dm l poll now = hear_dm l.state l poll now
+hear_plain u.Frmr l poll now = fails (is_up l.state) l error.Frmr now
+hear_plain u.Ui l poll now = does l [] []
+hear_plain u.Xid l poll now = does l [] []
+
+-- ---- I frames, in states 7 and 8
+
+-- P = 1 is answered at once
+abbrev pub answers : Bool → Link → List Indication → Step
+answers true l told = does (record l { owed = false }) (final l ∷ []) told
+answers false l told = does l [] told
+
+-- the message that is due is delivered, and owed an acknowledgement
+abbrev pub took : Link → Link
+took l = record l { vr = (l.vr + 1) % 128; rejected = false; owed = true }
+
+-- any other: REJ, once until what is due has come
+abbrev pub rejects : Bool → Link → Bool → Step
+rejects true l poll = answers poll l []
+rejects false l poll = does (record l { rejected = true; owed = false }) (Numbered Reject false poll l.vr ∷ []) []
+
+abbrev pub hear_message : Bool → Link → Bool → ArrayVec ℕ → Step
+hear_message true l poll m = answers poll (took l) (Delivered m ∷ [])
+hear_message false l poll m = rejects l.rejected l poll
+
+-- the timer behind an acknowledgement; `same` says that it acknowledged nothing new
+abbrev pub timed : Bool → Bool → Link → ℕ → Link
+timed true same l now = record l { timer = T203 (now + t203) }
+timed false true l now = l
+timed false false l now = record l { timer = T200 (now + t200) }
+
+abbrev pub settled : Bool → Bool → Link → ℕ → Link
+settled true same l now = l
+settled false same l now = timed (l.vs == l.va) same l now
+
+-- N(R) of an I frame, and of RR in state 7
+abbrev pub hear_number : Bool → Link → ℕ → ℕ → Step
+hear_number true l nr now = does (settled (is_recovering l.state || l.busy) (nr == l.va) (acknowledged l nr) now) [] []
+hear_number false l nr now = wrong_number l now
+
+abbrev pub hear_information : Link → Bool → ℕ → ℕ → ArrayVec ℕ → ℕ → Step
+hear_information l poll ns nr m now = follows (hear_message (ns == l.vr) l poll m) (λ k. hear_number (is_valid k nr) k nr now)
+
+-- ---- RR, RNR and REJ, in states 7 and 8
+
+abbrev pub is_not_ready : Supervisory → Bool
+is_not_ready ReceiveNotReady = true
+is_not_ready _ = false
+
+-- in state 7
+abbrev pub guided : Supervisory → Bool → Link → ℕ → Link
+guided ReceiveReady same l now = settled false same l now
+guided Reject same l now = record l { vs = l.va; timer = T203 (now + t203) }
+guided ReceiveNotReady same l now = record l { timer = T200 (now + t200) }
+
+-- in state 8: F = 1 ends the recovery, and what is not acknowledged is sent again. Profile: where the peer is busy V(S) does not go
+-- back, so that it is never below what was sent; T200 finds what is missing
+abbrev pub recovered : Bool → Supervisory → Link → ℕ → Link
+recovered false kind l now = l
+recovered true ReceiveNotReady l now = record l { state = Established; timer = T200 (now + t200) }
+recovered true _ l now = record l { state = Established; vs = l.va; timer = T203 (now + t203) }
+
+abbrev pub hear_supervised : Bool → LinkState → Link → Supervisory → Bool → ℕ → ℕ → Step
+hear_supervised false _ l kind f nr now = wrong_number l now
+hear_supervised true TimerRecovery l kind f nr now = does (recovered f kind (acknowledged l nr) now) [] []
+hear_supervised true _ l kind f nr now = does (guided kind (nr == l.va) (acknowledged l nr) now) [] []
+
+abbrev pub unasked : Bool → List Indication
+unasked true = LinkError error.UnaskedFinal ∷ []
+unasked false = []
+
+abbrev pub hear_numbered : Link → Supervisory → Bool → Bool → ℕ → ℕ → Step
+hear_numbered l kind command poll nr now =
+    follows (answers (command && poll) (record l { busy = is_not_ready kind }) (unasked (is_established l.state && not command && poll)))
+    (λ k. hear_supervised (is_valid k nr) k.state k kind (not command && poll) nr now)
+
+-- ---- a frame
+
+abbrev pub heard : Link → Frame → ℕ → Step
+heard l (Plain kind poll) now = hear_plain kind l poll now
+heard l (Information poll ns nr m) now = if is_up l.state then hear_information l poll ns nr m now else does l [] []
+heard l (Numbered kind command poll nr) now = if is_up l.state then hear_numbered l kind command poll nr now else does l [] []
+
+abbrev pub hear : Link → Frame → ℕ → Step
+hear l f now = follows (heard l f now) (flush now)
+
+-- a frame rejection condition (5.8.5): it is told in every state
+abbrev pub faulted : Bool → Link → ErrorCode → ℕ → Step
+faulted true l code now = fails true l code now
+faulted false l code now = does l [] (LinkError code ∷ [])
+
+abbrev pub hear_fault : Link → ErrorCode → ℕ → Step
+hear_fault l code now = faulted (is_up l.state) l code now
