@@ -7,3 +7,4 @@ pub mod Sides
 pub mod Plans
 pub mod PlanParts
 pub mod Orders
+pub mod Extending

@@ -46,6 +46,7 @@ net_every c m t (net.CallPresent again due) Release row e = cc
 net_every c m t (net.IncomingCallProceeding due) Release row e = cc
 net_every c m t (net.CallReceived due) Release row e = cc
 net_every c m t net.Active Release row e = cc
+net_every c m t (net.Enquiring asked due) Release row e = cc
 net_every c m t (net.DisconnectIndication cause due) Release row e = cc
 net_every c m t (net.ReleaseRequest again cause due) Release row e = cc
 net_every c m t state ReleaseComplete row e = cc

@@ -1,1 +1,2 @@
 mod EveryState
+mod Unlinked

@@ -1,16 +1,19 @@
 -- The call table of the network side (ITU-T Q.931, 5.1 to 5.3 and 5.8): one line for a row, and the first
 -- row that fits counts. N3, N6, N9, N7, N10, N12 and N19 are OutgoingCallProceeding, CallPresent,
--- IncomingCallProceeding, CallReceived, Active, DisconnectIndication and ReleaseRequest.
-use Rattle.std.specs.Prelude.{◌≡◌, ◌≤◌, ℕ, ◌+◌, nat_le, Bool, true, false, not, ◌&&◌, List, Option, Some, None, if◌then◌else◌}
+-- IncomingCallProceeding, CallReceived, Active, DisconnectIndication and ReleaseRequest. Enquiring is N10 too, while the
+-- user is asked whether the call is still up.
+use Rattle.std.specs.Prelude.{◌≡◌, ◌≤◌, ℕ, ◌+◌, nat_le, Bool, true, false, not, ◌&&◌, ◌==◌, List, Option, Some, None, if◌then◌else◌}
 use Rattle.bx_q931.specs.Outgoing.{Outgoing, plain}
 use Rattle.bx_q931.specs.declared.kind.Kind.{Kind}
 use Rattle.bx_q931.specs.declared.kind.Kind.TheVariants.{Alerting, CallProceeding, Progress, Setup, Connect, ConnectAcknowledge, Disconnect, Release, ReleaseComplete, Notify, StatusEnquiry, Information, Status, Other}
 use Rattle.bx_calls.specs.declared.transition.Transition.{Transition}
 use Rattle.bx_calls.specs.declared.net_state.NetOrigin.{NetOrigin}
 use Rattle.bx_calls.specs.declared.net_state.NetOrigin.TheVariants.{Outward, Inward}
+use Rattle.bx_calls.specs.declared.net_state.Asked.{Asked}
+use Rattle.bx_calls.specs.declared.net_state.Asked.TheVariants.{NotYet, Once, Twice}
 use Rattle.bx_calls.specs.declared.net_state.NetState.{NetState}
-use Rattle.bx_calls.specs.declared.net_state.NetState.TheVariants.{OutgoingCallProceeding, CallPresent, IncomingCallProceeding, CallReceived, Active, DisconnectIndication, ReleaseRequest}
-use Rattle.bx_calls.specs.Timers.{t301, t303, t305, t308, t310}
+use Rattle.bx_calls.specs.declared.net_state.NetState.TheVariants.{OutgoingCallProceeding, CallPresent, IncomingCallProceeding, CallReceived, Active, Enquiring, DisconnectIndication, ReleaseRequest}
+use Rattle.bx_calls.specs.Timers.{t301, t303, t305, t308, t310, t322}
 use Rattle.bx_calls.specs.PlainCalls.{PlainNetCall}
 use Rattle.bx_calls.specs.States.{net_state}
 use Rattle.bx_calls.specs.Hearing.{Heard, names_channel, reports_null}
@@ -68,6 +71,10 @@ abbrev pub net_setup_again : PlainNetCall → NetOrigin → Option Outgoing
 net_setup_again c (Outward called) = Some (setup_of c.reference c.channel called)
 net_setup_again c Inward = None
 
+-- STATUS ENQUIRY, T322
+abbrev pub net_asks : PlainNetCall → Asked → ℕ → Transition PlainNetCall
+net_asks c asked t = net_to c (Some (net_says c StatusEnquiry)) (Enquiring asked (t + t322))
+
 -- a row that stands where the channel identification is absent or names the channel of the call; else
 -- RELEASE with cause 6, channel unacceptable (profile)
 abbrev pub net_on_channel : PlainNetCall → Heard → ℕ → Transition PlainNetCall → Transition PlainNetCall
@@ -109,8 +116,16 @@ net_row c m t _ Information = net_same c None
 net_row c m t _ (Other octet) = net_same c (Some (net_status c 97))
 net_row c m t _ _ = net_same c (Some (net_status c 101))
 
+-- any message of a call shows that it is up, where the user was asked (5.8.10)
+abbrev pub net_awake_state : NetState → NetState
+net_awake_state (Enquiring asked due) = Active
+net_awake_state state = state
+
+abbrev pub net_awake : PlainNetCall → PlainNetCall
+net_awake c = record c { state = net_awake_state c.state }
+
 abbrev pub net_message : PlainNetCall → Heard → ℕ → Transition PlainNetCall
-net_message c m t = net_row c m t c.state m.kind
+net_message c m t = net_row (net_awake c) m t (net_awake_state c.state) m.kind
 
 -- ---- seconds: a tick to moment t
 
@@ -128,6 +143,9 @@ net_timer c t (CallPresent true due) = if nat_le due t then ends (Some (net_says
 net_timer c t (IncomingCallProceeding due) = if nat_le due t then net_disconnects c 102 t else net_same c None
 net_timer c t (CallReceived due) = if nat_le due t then net_disconnects c 102 t else net_same c None
 net_timer c t Active = net_same c None
+net_timer c t (Enquiring NotYet due) = if nat_le due t then net_asks c Once t else net_same c None
+net_timer c t (Enquiring Once due) = if nat_le due t then net_asks c Twice t else net_same c None
+net_timer c t (Enquiring Twice due) = if nat_le due t then net_disconnects c 41 t else net_same c None
 net_timer c t (DisconnectIndication cause due) = if nat_le due t then net_releases c false (Some cause) t else net_same c None
 net_timer c t (ReleaseRequest false cause due) = if nat_le due t then net_releases c true cause t else net_same c None
 net_timer c t (ReleaseRequest true cause due) = if nat_le due t then breaks else net_same c None
@@ -145,27 +163,34 @@ net_due (CallPresent again due) = Some due
 net_due (IncomingCallProceeding due) = Some due
 net_due (CallReceived due) = Some due
 net_due Active = None
+net_due (Enquiring asked due) = Some due
 net_due (DisconnectIndication cause due) = Some due
 net_due (ReleaseRequest again cause due) = Some due
 
--- ---- n seconds without a link to the user, of which the last comes to moment t: no timer runs
+-- ---- n seconds without a link to the user, of which the last comes to moment t
 
--- the state with its timer, if it has one, standing still
-abbrev pub net_later : ℕ → NetState → NetState
-net_later n OutgoingCallProceeding = OutgoingCallProceeding
-net_later n (CallPresent again due) = CallPresent again (due + n)
-net_later n (IncomingCallProceeding due) = IncomingCallProceeding (due + n)
-net_later n (CallReceived due) = CallReceived (due + n)
-net_later n Active = Active
-net_later n (DisconnectIndication cause due) = DisconnectIndication cause (due + n)
-net_later n (ReleaseRequest again cause due) = ReleaseRequest again cause (due + n)
+-- the state behind one such second or more: the timers of calls that are set up stand still. In the next second with a
+-- link the user is asked whether a call in N10 is still up (5.8.9, 5.8.10), and a call that is being cleared says RELEASE,
+-- which it may say twice from then on.
+abbrev pub net_lost : ℕ → ℕ → NetState → NetState
+net_lost n t OutgoingCallProceeding = OutgoingCallProceeding
+net_lost n t (CallPresent again due) = CallPresent again (due + n)
+net_lost n t (IncomingCallProceeding due) = IncomingCallProceeding (due + n)
+net_lost n t (CallReceived due) = CallReceived (due + n)
+net_lost n t Active = Enquiring NotYet (t + 1)
+net_lost n t (Enquiring asked due) = Enquiring NotYet (t + 1)
+net_lost n t (DisconnectIndication cause due) = DisconnectIndication cause (t + 1)
+net_lost n t (ReleaseRequest again cause due) = ReleaseRequest false cause (t + 1)
+
+abbrev pub net_later : ℕ → ℕ → NetState → NetState
+net_later n t state = if n == 0 then state else net_lost n t state
 
 -- the end of the booking clears the call, as at a tick, but its DISCONNECT is lost: so RELEASE is due in the next second
 -- with a link
 abbrev pub net_unlinked : ℕ → PlainNetCall → ℕ → ℕ → Transition PlainNetCall
 net_unlinked n c t end =
     if not (net_is_clearing c.state) && nat_le end t then net_to c None (DisconnectIndication 16 (t + 1))
-    else net_to c None (net_later n c.state)
+    else net_to c None (net_later n t c.state)
 
 -- a timer, if it runs, is due at this moment at the latest
 abbrev pub IsDueBy : ℕ → NetState → Type 0

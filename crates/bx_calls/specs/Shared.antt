@@ -1,5 +1,5 @@
 -- Small definitions that the days of both ends have.
-use Rattle.std.specs.Prelude.{ℕ, not, Bool, true, false, List, ◌∷◌, Option, Some, None, slice_index_or, replicate}
+use Rattle.std.specs.Prelude.{not, Bool, true, false, List, ◌∷◌, Option, Some, None, replicate}
 use Rattle.bx_q931.specs.Outgoing.{Outgoing}
 
 -- no channel

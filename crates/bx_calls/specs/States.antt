@@ -26,6 +26,7 @@ net_state (net.CallPresent again due) = call.CallPresent
 net_state (net.IncomingCallProceeding due) = call.IncomingCallProceeding
 net_state (net.CallReceived due) = call.CallReceived
 net_state net.Active = call.Active
+net_state (net.Enquiring asked due) = call.Active
 net_state (net.DisconnectIndication cause due) = call.DisconnectIndication
 net_state (net.ReleaseRequest again cause due) = call.ReleaseRequest
 

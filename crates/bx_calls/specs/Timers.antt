@@ -18,6 +18,9 @@ t308 = 4
 abbrev pub t310 : ℕ
 t310 = 10
 
+abbrev pub t322 : ℕ
+t322 = 4
+
 -- Q.931: 30 to 120 seconds at the user side
 abbrev pub t310_user : ℕ
 t310_user = 30

@@ -23,7 +23,7 @@ mod user_state;
 pub use bearer::bearer_fault;
 pub use call_state::CallState;
 pub use net_call::NetCall;
-pub use net_state::{NetOrigin, NetState};
+pub use net_state::{Asked, NetOrigin, NetState};
 pub use sending::spell;
 pub use transition::{Next, Transition};
 pub use unknown_reference::{Side, refuse, unknown};

@@ -113,13 +113,13 @@ impl NetCall {
             NetState::CallPresent { .. } => CallState::CallPresent,
             NetState::IncomingCallProceeding { .. } => CallState::IncomingCallProceeding,
             NetState::CallReceived { .. } => CallState::CallReceived,
-            NetState::Active => CallState::Active,
+            NetState::Active | NetState::Enquiring { .. } => CallState::Active,
             NetState::DisconnectIndication { .. } => CallState::DisconnectIndication,
             NetState::ReleaseRequest { .. } => CallState::ReleaseRequest,
         }
     }
 
-    /// The moment at which the call's timer is due, where one runs: in all states but N3 and N10.
+    /// The moment at which the call's timer is due, where one runs: in all states but N3, and N10 where the user is not asked.
     pub fn due(&self) -> Option<u32>
         ensures { result ≡ net_due self.now.state }
     {
@@ -128,6 +128,7 @@ impl NetCall {
             NetState::CallPresent { due, .. }
             | NetState::IncomingCallProceeding { due }
             | NetState::CallReceived { due }
+            | NetState::Enquiring { due, .. }
             | NetState::DisconnectIndication { due, .. }
             | NetState::ReleaseRequest { due, .. } => Some(due),
         }

@@ -3,13 +3,14 @@
 ghost use Rattle.std.specs.Prelude.{◌≡◌, ◌≤◌};
 ghost use Rattle.bx_calls.specs.Expected.{IsProgress, net_released};
 ghost use Rattle.bx_calls.specs.Hearing.{heard_of};
-ghost use Rattle.bx_calls.specs.NetTable.{net_row, net_message};
+ghost use Rattle.bx_calls.specs.NetTable.{net_awake, net_row, net_message};
 
 use crate::every_state::in_every_state;
 use crate::hearing::names_channel;
 use crate::net_call::NetCall;
 use crate::net_state::NetState::{
-    Active, CallPresent, CallReceived, DisconnectIndication, IncomingCallProceeding, ReleaseRequest,
+    Active, CallPresent, CallReceived, DisconnectIndication, Enquiring, IncomingCallProceeding,
+    ReleaseRequest,
 };
 use crate::timers::{T301, T310};
 use crate::transition::Transition;
@@ -21,10 +22,31 @@ use bx_q931::{Kind, Message, Out};
 
 impl NetCall {
     /// What the call does with a message of its reference at this moment, which is at most `LAST_MOMENT` (ITU-T Q.931, 5.1 to 5.3
-    /// and 5.8).
+    /// and 5.8). It shows that the call is up, where the user was asked.
     pub fn on_message(self, message: &Message<'_>, moment: u32) -> Transition<NetCall>
         requires moment { moment ≤ LAST_MOMENT }
         ensures { result ≡ net_message self (heard_of message.now) moment }
+    {
+        self.awake().on_heard(message, moment)
+    }
+
+    /// The same call, asked no more.
+    fn awake(self) -> NetCall
+        ensures { result ≡ net_awake self }
+    {
+        match self.state {
+            Enquiring { .. } => NetCall {
+                state: Active,
+                ..self
+            },
+            _ => self,
+        }
+    }
+
+    /// The rows of all messages.
+    fn on_heard(self, message: &Message<'_>, moment: u32) -> Transition<NetCall>
+        requires moment { moment ≤ LAST_MOMENT }
+        ensures { result ≡ net_row self (heard_of message.now) moment self.state message.now.kind }
     {
         let status = self.status(RESPONSE_TO_STATUS_ENQUIRY);
         match in_every_state(self, message, status, self.released()) {

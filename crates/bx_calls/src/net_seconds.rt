@@ -1,15 +1,15 @@
 //! What a second does to a call at the network side.
 
-ghost use Rattle.std.specs.Prelude.{◌≡◌, ◌≤◌, ◌+◌, ℕ};
-ghost use Rattle.bx_calls.specs.NetTable.{net_is_clearing, net_setup_again, net_timer, net_second, net_later, net_unlinked, IsDueBy};
+ghost use Rattle.std.specs.Prelude.{◌≡◌, ◌≤◌, ◌+◌, ℕ, None};
+ghost use Rattle.bx_calls.specs.NetTable.{net_to, net_is_clearing, net_setup_again, net_asks, net_timer, net_second, net_lost, net_later, net_unlinked, IsDueBy};
 
 use crate::net_call::NetCall;
-use crate::net_state::{NetOrigin, NetState};
+use crate::net_state::{Asked, NetOrigin, NetState};
 use crate::outgoing::setup;
-use crate::timers::T303;
+use crate::timers::{T303, T322};
 use crate::transition::Transition;
 use bx_events::LAST_MOMENT;
-use bx_q931::cause::{NORMAL_CALL_CLEARING, RECOVERY_ON_TIMER_EXPIRY};
+use bx_q931::cause::{NORMAL_CALL_CLEARING, RECOVERY_ON_TIMER_EXPIRY, TEMPORARY_FAILURE};
 use bx_q931::{Kind, Out};
 
 impl NetCall {
@@ -26,9 +26,9 @@ impl NetCall {
     }
 
     /// What the call does in so many seconds without a link to the user, of which the last comes to this moment: its
-    /// timer stands still. Where its booking ends by then its DISCONNECT is lost, and RELEASE is due in the next second
-    /// with a link. A timer that would be due behind the last moment of a `u32` is due at that. The moment is at most
-    /// `LAST_MOMENT`.
+    /// timer stands still while it is set up. In the next second with a link the user is asked whether a call in N10 is
+    /// still up, and RELEASE is due for one that is being cleared; so it is where the booking ends by then. A timer that
+    /// would be due behind the last moment of a `u32` is due at that. The moment is at most `LAST_MOMENT`.
     pub fn on_seconds_unlinked(self, seconds: u32, moment: u32, end: u32) -> Transition<NetCall>
         requires moment { moment ≤ LAST_MOMENT }
         ensures { (latest : ℕ) → IsDueBy latest self.state → latest + seconds ≤ 4294967295 → result ≡ net_unlinked seconds self moment end }
@@ -38,9 +38,17 @@ impl NetCall {
             let cause = NORMAL_CALL_CLEARING;
             self.goes(None, NetState::DisconnectIndication { cause, due })
         } else {
-            let state = standing_still(self.state, seconds);
-            self.goes(None, state)
+            self.outlasts(seconds, moment)
         }
+    }
+
+    /// The same where the booking does not end.
+    fn outlasts(self, seconds: u32, moment: u32) -> Transition<NetCall>
+        requires moment { moment ≤ LAST_MOMENT }
+        ensures { (latest : ℕ) → IsDueBy latest self.state → latest + seconds ≤ 4294967295 → result ≡ net_to self None (net_later seconds moment self.state) }
+    {
+        let state = behind(self.state, seconds, moment);
+        self.goes(None, state)
     }
 
     /// The rows of the timers.
@@ -66,6 +74,18 @@ impl NetCall {
             }
             NetState::IncomingCallProceeding { due } | NetState::CallReceived { due }
                 if due <= moment => self.disconnects(RECOVERY_ON_TIMER_EXPIRY, moment),
+            NetState::Enquiring {
+                asked: Asked::NotYet,
+                due,
+            } if due <= moment => self.asks(Asked::Once, moment),
+            NetState::Enquiring {
+                asked: Asked::Once,
+                due,
+            } if due <= moment => self.asks(Asked::Twice, moment),
+            NetState::Enquiring {
+                asked: Asked::Twice,
+                due,
+            } if due <= moment => self.disconnects(TEMPORARY_FAILURE, moment),
             NetState::DisconnectIndication { cause, due } if due <= moment => {
                 self.releases(false, Some(cause), moment)
             }
@@ -81,6 +101,16 @@ impl NetCall {
             } if due <= moment => Transition::broken(),
             _ => self.stays(None),
         }
+    }
+
+    /// STATUS ENQUIRY, and T322.
+    fn asks(self, asked: Asked, moment: u32) -> Transition<NetCall>
+        requires moment { moment ≤ LAST_MOMENT }
+        ensures { result ≡ net_asks self asked moment }
+    {
+        let due = moment + T322;
+        let reply = self.says(Kind::StatusEnquiry);
+        self.goes(Some(reply), NetState::Enquiring { asked, due })
     }
 
     fn is_clearing(&self) -> bool
@@ -102,9 +132,22 @@ impl NetCall {
     }
 }
 
-/// The state with its timer standing still for so many seconds.
-fn standing_still(state: NetState, seconds: u32) -> NetState
-    ensures { (latest : ℕ) → IsDueBy latest state → latest + seconds ≤ 4294967295 → result ≡ net_later seconds state }
+/// The state behind so many seconds without a link, of which the last comes to this moment.
+fn behind(state: NetState, seconds: u32, moment: u32) -> NetState
+    requires { moment ≤ LAST_MOMENT }
+    ensures { (latest : ℕ) → IsDueBy latest state → latest + seconds ≤ 4294967295 → result ≡ net_later seconds moment state }
+{
+    if seconds == 0 {
+        state
+    } else {
+        standing_still(state, seconds, moment)
+    }
+}
+
+/// The same of one such second or more.
+fn standing_still(state: NetState, seconds: u32, moment: u32) -> NetState
+    requires { moment ≤ LAST_MOMENT }
+    ensures { (latest : ℕ) → IsDueBy latest state → latest + seconds ≤ 4294967295 → result ≡ net_lost seconds moment state }
 {
     match state {
         NetState::OutgoingCallProceeding => NetState::OutgoingCallProceeding,
@@ -118,15 +161,18 @@ fn standing_still(state: NetState, seconds: u32) -> NetState
         NetState::CallReceived { due } => NetState::CallReceived {
             due: later(due, seconds),
         },
-        NetState::Active => NetState::Active,
-        NetState::DisconnectIndication { cause, due } => NetState::DisconnectIndication {
-            cause,
-            due: later(due, seconds),
+        NetState::Active | NetState::Enquiring { .. } => NetState::Enquiring {
+            asked: Asked::NotYet,
+            due: moment + 1,
         },
-        NetState::ReleaseRequest { again, cause, due } => NetState::ReleaseRequest {
-            again,
+        NetState::DisconnectIndication { cause, .. } => NetState::DisconnectIndication {
             cause,
-            due: later(due, seconds),
+            due: moment + 1,
+        },
+        NetState::ReleaseRequest { cause, .. } => NetState::ReleaseRequest {
+            again: false,
+            cause,
+            due: moment + 1,
         },
     }
 }

@@ -9,6 +9,14 @@ pub enum NetOrigin {
     Inward,
 }
 
+/// How often the user was asked whether a call is still up, since there is a link again.
+#[derive(Clone, Copy)]
+pub enum Asked {
+    NotYet,
+    Once,
+    Twice,
+}
+
 /// The states of the network side (ITU-T Q.931, 2.1.2). A state with a timer has the moment at which it is
 /// due; `again` says that the message that is waited for was asked for twice.
 #[derive(Clone, Copy)]
@@ -30,6 +38,11 @@ pub enum NetState {
     },
     /// N10.
     Active,
+    /// N10, T322: there was no link for a while, and the user is asked by STATUS ENQUIRY whether the call is still up.
+    Enquiring {
+        asked: Asked,
+        due: u32,
+    },
     /// N12, T305, with the cause of the DISCONNECT.
     DisconnectIndication {
         cause: u8,

@@ -13,5 +13,7 @@ pub const T308: u32 = 4;
 pub const T310: u32 = 10;
 /// The user waits for CONNECT behind CALL PROCEEDING; Q.931 has 30 to 120 seconds.
 pub const T310_USER: u32 = 30;
+/// The network waits for what shows that a call is up, behind its STATUS ENQUIRY.
+pub const T322: u32 = 4;
 /// The user waits for CONNECT ACKNOWLEDGE behind CONNECT.
 pub const T313: u32 = 4;

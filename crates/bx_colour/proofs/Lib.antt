@@ -3,3 +3,4 @@ pub mod Sweeping
 pub mod Counting
 pub mod Outcome
 pub mod LoadLemmas
+pub mod FirstFitStays

@@ -3,6 +3,7 @@
 
 mod colouring;
 mod fitting;
+pub mod laws;
 mod load;
 mod order;
 mod sweep;

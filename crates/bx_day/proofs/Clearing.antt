@@ -1,9 +1,9 @@
--- Clearing takes 38 seconds at most after the end of a booking, of those with a link: every event keeps that.
-use Rattle.std.proofs.Common.{◌≡◌, ℕ, ◌+◌, ◌≤◌, ◌<◌, Bool, true, false, List, [], ◌∷◌, map, Option, Some, None, arith, refl, inl, inr, nat_le, nat_lt, if◌then◌else◌, Result, Ok, Err, ◌==◌}
+-- Clearing takes 38 seconds at most after the end of a booking, and for each second without a link that and T308: every event keeps that.
+use Rattle.std.proofs.Common.{◌≡◌, ℕ, ◌+◌, ◌*◌, ◌≤◌, ◌<◌, Bool, true, false, List, [], ◌∷◌, map, Option, Some, None, arith, refl, inl, inr, nat_le, nat_lt, if◌then◌else◌, Result, Ok, Err, ◌==◌}
 use Rattle.std.specs.List.{AllByRecursion, position}
 use Rattle.std.proofs.lemmas.Bool.{leb-false, le-leb, lt-ltb, and_from, cases_lt, false≢true}
 use Rattle.bx_q931.specs.Outgoing.{Outgoing}
-use Rattle.bx_events.specs.Events.{Event, Tick, Receive, LiveEvent, OnLink, WithoutLink}
+use Rattle.bx_events.specs.Events.{Event, Tick, Receive, LiveEvent, OnLink, WithoutLink, Sold}
 use Rattle.bx_q931.specs.Messages.{PlainMessage, message_at}
 use Rattle.bx_q931.specs.declared.fault.MessageFault.{MessageFault}
 use Rattle.bx_q931.specs.declared.kind.Kind.{Kind}
@@ -18,10 +18,11 @@ use Rattle.bx_calls.specs.declared.transition.Next.TheVariants.{Live, Over, Brok
 use Rattle.bx_calls.specs.declared.transition.Transition.{Transition}
 use Rattle.bx_calls.specs.PlainCalls.{PlainNetCall}
 use Rattle.bx_calls.specs.declared.net_state.NetOrigin.{NetOrigin}
+use Rattle.bx_calls.specs.declared.net_state.Asked.TheVariants.{NotYet, Once, Twice}
 use Rattle.bx_calls.specs.declared.net_state.NetState.{NetState}
-use Rattle.bx_calls.specs.declared.net_state.NetState.TheVariants.{OutgoingCallProceeding, CallPresent, IncomingCallProceeding, CallReceived, Active, DisconnectIndication, ReleaseRequest}
+use Rattle.bx_calls.specs.declared.net_state.NetState.TheVariants.{OutgoingCallProceeding, CallPresent, IncomingCallProceeding, CallReceived, Active, Enquiring, DisconnectIndication, ReleaseRequest}
 use Rattle.bx_calls.specs.Hearing.{Heard, reports_null}
-use Rattle.bx_calls.specs.NetTable.{net_row, net_second, net_unlinked}
+use Rattle.bx_calls.specs.NetTable.{net_awake_state, net_row, net_second, net_unlinked}
 use Rattle.bx_calls.specs.Said.{Said, said_of}
 use Rattle.bx_calls.specs.Sending.{Sent, Answered}
 use Rattle.bx_day.specs.Day.{Day, entry_at, is_free, opening, entry_of, entries_from, every_channel}
@@ -39,6 +40,7 @@ use Rattle.bx_day.specs.declared.entry.Moved.{Moved}
 use Rattle.bx_day.specs.declared.entry.Link.TheVariants.{Up, Down}
 use Rattle.bx_day.specs.declared.entry.Standing.{Standing}
 use Rattle.bx_day.specs.declared.entry.Standing.TheVariants.{Refused, Unoffered, OnCall, Carried, Unanswered, Missed}
+use Rattle.bx_day.proofs.Hear.{awake_fits}
 use Rattle.bx_day.proofs.Second.{call_of}
 use Rattle.bx_day.proofs.Tick.{by_cases, with_standing, offers, all_weaker}
 use Rattle.bx_day.proofs.Receive.{all_at}
@@ -52,6 +54,7 @@ more_state m n (CallPresent again due) le h = tt
 more_state m n (IncomingCallProceeding due) le h = tt
 more_state m n (CallReceived due) le h = tt
 more_state m n Active le h = tt
+more_state m n (Enquiring asked due) le h = tt
 more_state m n (DisconnectIndication cause due) le h = omega (arith, le, h)
 more_state m n (ReleaseRequest false cause due) le h = omega (arith, le, h)
 more_state m n (ReleaseRequest true cause due) le h = omega (arith, le, h)
@@ -113,6 +116,9 @@ second_clears n t e r ch o (CallPresent again due) a h c = at_end n t e a _ _ (�
 second_clears n t e r ch o (IncomingCallProceeding due) a h c = at_end n t e a _ _ (λ late. omega (arith, h.phase.1))
 second_clears n t e r ch o (CallReceived due) a h c = at_end n t e a _ _ (λ late. omega (arith, h.phase.1))
 second_clears n t e r ch o Active a h c = at_end n t e a _ _ (λ late. omega (arith, h.phase.1))
+second_clears n t e r ch o (Enquiring NotYet due) a h c = at_end n t e a _ _ (λ late. omega (arith, h.phase.1))
+second_clears n t e r ch o (Enquiring Once due) a h c = at_end n t e a _ _ (λ late. omega (arith, h.phase.1))
+second_clears n t e r ch o (Enquiring Twice due) a h c = at_end n t e a _ _ (λ late. omega (arith, h.phase.1))
 second_clears n t e r ch o (DisconnectIndication cause due) a h c =
     clears_test (nat_le due (t + 1)) n (t + 1) e a _ _ (λ _ late. next_within t e.booking.end n due 30 30 c h.due.0 (omega arith) late) (λ _ late. within t e.booking.end n due 30 30 c h.due.1 (omega arith) late)
 second_clears n t e r ch o (ReleaseRequest false cause due) a h c =
@@ -120,25 +126,26 @@ second_clears n t e r ch o (ReleaseRequest false cause due) a h c =
 second_clears n t e r ch o (ReleaseRequest true cause due) a h c =
     clears_test (nat_le due (t + 1)) n (t + 1) e a _ _ (λ _. over_clears n (t + 1) (t + 1) e.booking a) (λ _ late. within t e.booking.end n due 4 38 c h.due.1 (omega arith) late)
 
--- a second without a link, which is one of those behind the end if the booking was over before it
-still_clears_at : (t end n n' due k room : ℕ) → n ≤ n' → (end ≤ t → n + 1 ≤ n') → (end ≤ t → due ≤ end + n + room) → due ≤ t + k → k ≤ room → end ≤ t + 1 → due + 1 ≤ end + n' + room
-still_clears_at t end n n' due k room le more c most fit late = elim (cases_lt t end) [
-  | inl less ↦ omega (arith, le, most, less, fit)
+-- a second without a link, which is one of those behind the end if the booking was over before it: RELEASE is due in the next
+still_clears_at : (t end n n' due room room' : ℕ) → (end ≤ t → n + 5 ≤ n') → (end ≤ t → due ≤ end + n + room) → t < due → room ≤ room' + 4 → 1 ≤ room' → end ≤ t + 1 → t + 1 + 1 ≤ end + n' + room'
+still_clears_at t end n n' due room room' more c waits fit some late = elim (cases_lt t end) [
+  | inl less ↦ omega (arith, less, some)
   | inr over ↦ up (c over) (more over)
 ]
   where
-    up : due ≤ end + n + room → n + 1 ≤ n' → due + 1 ≤ end + n' + room
-    up p q = omega (arith, p, q)
+    up : due ≤ end + n + room → n + 5 ≤ n' → t + 1 + 1 ≤ end + n' + room'
+    up p q = omega (arith, p, q, waits, fit)
 
-still_clears : (n n' t : ℕ) (e : Entry) (r ch : ℕ) (o : NetOrigin) (s : NetState) (a : Activity) → n ≤ n' → (e.booking.end ≤ t → n + 1 ≤ n') → CallFits t e (call_of r ch o s) a → (e.booking.end ≤ t → ClearsBy (e.booking.end + n) s) → StepClears n' (t + 1) e a (net_unlinked 1 (call_of r ch o s) (t + 1) e.booking.end)
-still_clears n n' t e r ch o OutgoingCallProceeding a le more h c = at_end n' t e a _ _ (λ late. omega (arith, h.phase.1))
-still_clears n n' t e r ch o (CallPresent again due) a le more h c = at_end n' t e a _ _ (λ late. omega (arith, h.phase.1))
-still_clears n n' t e r ch o (IncomingCallProceeding due) a le more h c = at_end n' t e a _ _ (λ late. omega (arith, h.phase.1))
-still_clears n n' t e r ch o (CallReceived due) a le more h c = at_end n' t e a _ _ (λ late. omega (arith, h.phase.1))
-still_clears n n' t e r ch o Active a le more h c = at_end n' t e a _ _ (λ late. omega (arith, h.phase.1))
-still_clears n n' t e r ch o (DisconnectIndication cause due) a le more h c = λ late. still_clears_at t e.booking.end n n' due 30 30 le more c h.due.1 (omega arith) late
-still_clears n n' t e r ch o (ReleaseRequest false cause due) a le more h c = λ late. still_clears_at t e.booking.end n n' due 4 34 le more c h.due.1 (omega arith) late
-still_clears n n' t e r ch o (ReleaseRequest true cause due) a le more h c = λ late. still_clears_at t e.booking.end n n' due 4 38 le more c h.due.1 (omega arith) late
+still_clears : (n n' t : ℕ) (e : Entry) (r ch : ℕ) (o : NetOrigin) (s : NetState) (a : Activity) → (e.booking.end ≤ t → n + 5 ≤ n') → CallFits t e (call_of r ch o s) a → (e.booking.end ≤ t → ClearsBy (e.booking.end + n) s) → StepClears n' (t + 1) e a (net_unlinked 1 (call_of r ch o s) (t + 1) e.booking.end)
+still_clears n n' t e r ch o OutgoingCallProceeding a more h c = at_end n' t e a _ _ (λ late. omega (arith, h.phase.1))
+still_clears n n' t e r ch o (CallPresent again due) a more h c = at_end n' t e a _ _ (λ late. omega (arith, h.phase.1))
+still_clears n n' t e r ch o (IncomingCallProceeding due) a more h c = at_end n' t e a _ _ (λ late. omega (arith, h.phase.1))
+still_clears n n' t e r ch o (CallReceived due) a more h c = at_end n' t e a _ _ (λ late. omega (arith, h.phase.1))
+still_clears n n' t e r ch o Active a more h c = at_end n' t e a _ _ (λ late. omega (arith, h.phase.1))
+still_clears n n' t e r ch o (Enquiring asked due) a more h c = at_end n' t e a _ _ (λ late. omega (arith, h.phase.1))
+still_clears n n' t e r ch o (DisconnectIndication cause due) a more h c = λ late. still_clears_at t e.booking.end n n' due 30 30 more c h.due.0 (omega arith) (omega arith) late
+still_clears n n' t e r ch o (ReleaseRequest false cause due) a more h c = λ late. still_clears_at t e.booking.end n n' due 34 34 more c h.due.0 (omega arith) (omega arith) late
+still_clears n n' t e r ch o (ReleaseRequest true cause due) a more h c = λ late. still_clears_at t e.booking.end n n' due 38 34 more c h.due.0 (omega arith) (omega arith) late
 
 -- a message, row by row
 row_clears : (n t : ℕ) (e : Entry) (r ch : ℕ) (o : NetOrigin) (a : Activity) (m : Heard) (s : NetState) (k : Kind) → CallFits t e (call_of r ch o s) a → (e.booking.end ≤ t → ClearsBy (e.booking.end + n) s) → StepClears n t e a (net_row (call_of r ch o s) m t s k)
@@ -147,6 +154,7 @@ row_clears n t e r ch o a m (CallPresent again due) k h c = early_clears n t e a
 row_clears n t e r ch o a m (IncomingCallProceeding due) k h c = early_clears n t e a (net_row (call_of r ch o (IncomingCallProceeding due)) m t (IncomingCallProceeding due) k) h.phase.1
 row_clears n t e r ch o a m (CallReceived due) k h c = early_clears n t e a (net_row (call_of r ch o (CallReceived due)) m t (CallReceived due) k) h.phase.1
 row_clears n t e r ch o a m Active k h c = early_clears n t e a (net_row (call_of r ch o Active) m t Active k) h.phase.1
+row_clears n t e r ch o a m (Enquiring asked due) k h c = early_clears n t e a (net_row (call_of r ch o (Enquiring asked due)) m t (Enquiring asked due) k) h.phase.1
 row_clears n t e r ch o a m (DisconnectIndication cause due) ReleaseComplete h c = over_clears n t t e.booking a
 row_clears n t e r ch o a m (DisconnectIndication cause due) Release h c = over_clears n t t e.booking a
 row_clears n t e r ch o a m (DisconnectIndication cause due) Status h c = clears_test (reports_null m.state) n t e a _ _ (λ _. over_clears n t t e.booking a) (λ _. c)
@@ -156,6 +164,17 @@ row_clears n t e r ch o a m (ReleaseRequest again cause due) ReleaseComplete h c
 row_clears n t e r ch o a m (ReleaseRequest again cause due) Release h c = over_clears n t t e.booking a
 row_clears n t e r ch o a m (ReleaseRequest again cause due) Status h c = clears_test (reports_null m.state) n t e a _ _ (λ _. over_clears n t t e.booking a) (λ _. c)
 row_clears n t e r ch o a m (ReleaseRequest again cause due) k h c = c
+
+-- asked no more
+awake_clears : (m end t : ℕ) (s : NetState) → (end ≤ t → ClearsBy m s) → end ≤ t → ClearsBy m (net_awake_state s)
+awake_clears m end t (Enquiring asked due) c = λ late. tt
+awake_clears m end t OutgoingCallProceeding c = c
+awake_clears m end t (CallPresent again due) c = c
+awake_clears m end t (IncomingCallProceeding due) c = c
+awake_clears m end t (CallReceived due) c = c
+awake_clears m end t Active c = c
+awake_clears m end t (DisconnectIndication cause due) c = c
+awake_clears m end t (ReleaseRequest again cause due) c = c
 
 -- ---- a booking
 
@@ -172,16 +191,16 @@ tick_clears_at n t e free (Carried from until) h k = tt
 tick_clears_at n t e free Unanswered h k = tt
 tick_clears_at n t e free Missed h k = tt
 
-unlinked_clears_at : (n n' t : ℕ) (e : Entry) (s : Standing) → n ≤ n' → (e.booking.end ≤ t → n + 1 ≤ n') → EntryFits t (with_standing e s) → StandingClears n t e.booking s → StandingClears n' (t + 1) e.booking (unlinked_at e (t + 1) s).standing
-unlinked_clears_at n n' t e (OnCall c a) le more h k = still_clears n n' t (with_standing e (OnCall c a)) c.reference c.channel c.origin c.state a le more h k
-unlinked_clears_at n n' t e Unoffered le more h k = waits_clears n' (t + 1) e false
-unlinked_clears_at n n' t e Refused le more h k = tt
-unlinked_clears_at n n' t e (Carried from until) le more h k = tt
-unlinked_clears_at n n' t e Unanswered le more h k = tt
-unlinked_clears_at n n' t e Missed le more h k = tt
+unlinked_clears_at : (n n' t : ℕ) (e : Entry) (s : Standing) → (e.booking.end ≤ t → n + 5 ≤ n') → EntryFits t (with_standing e s) → StandingClears n t e.booking s → StandingClears n' (t + 1) e.booking (unlinked_at e (t + 1) s).standing
+unlinked_clears_at n n' t e (OnCall c a) more h k = still_clears n n' t (with_standing e (OnCall c a)) c.reference c.channel c.origin c.state a more h k
+unlinked_clears_at n n' t e Unoffered more h k = waits_clears n' (t + 1) e false
+unlinked_clears_at n n' t e Refused more h k = tt
+unlinked_clears_at n n' t e (Carried from until) more h k = tt
+unlinked_clears_at n n' t e Unanswered more h k = tt
+unlinked_clears_at n n' t e Missed more h k = tt
 
 hears_clears : (n t : ℕ) (m : Said) (e : Entry) (s : Standing) → EntryFits t (with_standing e s) → StandingClears n t e.booking s → StandingClears n t e.booking (hears m t s).standing
-hears_clears n t m e (OnCall c a) h k = row_clears n t (with_standing e (OnCall c a)) c.reference c.channel c.origin a m.heard c.state m.heard.kind h k
+hears_clears n t m e (OnCall c a) h k = row_clears n t (with_standing e (OnCall c a)) c.reference c.channel c.origin a m.heard (net_awake_state c.state) m.heard.kind (awake_fits t (with_standing e (OnCall c a)) c.reference c.channel c.origin c.state a h) (awake_clears (e.booking.end + n) e.booking.end t c.state k)
 hears_clears n t m e Refused h k = tt
 hears_clears n t m e Unoffered h k = tt
 hears_clears n t m e (Carried from until) h k = tt
@@ -194,9 +213,9 @@ up_clears : (lost : ℕ → ℕ) (d : Day) (es : List Entry) → AllByRecursion 
 up_clears lost d [] h k = tt
 up_clears lost d (e ∷ es) h k = (tick_clears_at (lost e.booking.end) d.moment e (is_free d e.channel) e.standing h.0 k.0, up_clears lost d es h.1 k.1)
 
-down_clears : (lost lost' : ℕ → ℕ) (d : Day) → ((m : ℕ) → lost m ≤ lost' m) → ((m : ℕ) → m ≤ d.moment → lost m + 1 ≤ lost' m) → (es : List Entry) → AllByRecursion (EntryFits d.moment) es → AllByRecursion (EntryClears lost d.moment) es → AllByRecursion (EntryClears lost' (d.moment + 1)) (map (after_in Down d) es)
-down_clears lost lost' d le more [] h k = tt
-down_clears lost lost' d le more (e ∷ es) h k = (unlinked_clears_at (lost e.booking.end) (lost' e.booking.end) d.moment e e.standing (le e.booking.end) (more e.booking.end) h.0 k.0, down_clears lost lost' d le more es h.1 k.1)
+down_clears : (lost lost' : ℕ → ℕ) (d : Day) → ((m : ℕ) → m ≤ d.moment → lost m + 5 ≤ lost' m) → (es : List Entry) → AllByRecursion (EntryFits d.moment) es → AllByRecursion (EntryClears lost d.moment) es → AllByRecursion (EntryClears lost' (d.moment + 1)) (map (after_in Down d) es)
+down_clears lost lost' d more [] h k = tt
+down_clears lost lost' d more (e ∷ es) h k = (unlinked_clears_at (lost e.booking.end) (lost' e.booking.end) d.moment e e.standing (more e.booking.end) h.0 k.0, down_clears lost lost' d more es h.1 k.1)
 
 moved_clears : (lost : ℕ → ℕ) (d : Day) (i : ℕ) (m : Moved) → (EntryClears lost d.moment (entry_at d.entries i) → EntryClears lost d.moment (with_standing (entry_at d.entries i) m.standing)) → DayClears lost d → DayClears lost (with_moved d i m).day
 moved_clears lost d i m f h = all_update (EntryClears lost d.moment) d.entries i (with_standing (entry_at d.entries i) m.standing) f h
@@ -247,33 +266,34 @@ happens_clears lost d (Receive octets) fits h = read_clears lost d (message_at o
 abbrev one_if : Bool → ℕ
 one_if b = if b then 1 else 0
 
-one_more : (b : Bool) (n : ℕ) → b ≡ true → n + 1 ≤ n + one_if b
+one_more : (b : Bool) (n : ℕ) → b ≡ true → n + 5 ≤ n + 5 * one_if b
 one_more true n h = omega arith
 one_more false n h = absurd (false≢true h)
 
-without_clears : (lost : ℕ → ℕ) (d : Day) → DayFits d → DayClears lost d → DayClears (λ m. lost m + one_if (is_lost m d WithoutLink)) (without_link d)
+without_clears : (lost : ℕ → ℕ) (d : Day) → DayFits d → DayClears lost d → DayClears (λ m. lost m + 5 * one_if (is_lost m d WithoutLink)) (without_link d)
 without_clears lost d fits h =
-    let lost' : ℕ → ℕ = λ m. lost m + one_if (is_lost m d WithoutLink) in
+    let lost' : ℕ → ℕ = λ m. lost m + 5 * one_if (is_lost m d WithoutLink) in
     by_cases (nat_le 300000 d.moment) _ _ (DayClears lost')
     (λ _. more_lost lost lost' d (λ m. omega arith) h)
-    (λ early. down_clears lost lost' d (λ m. omega arith) (λ m le. one_more (is_lost m d WithoutLink) (lost m) (and_from (nat_le m d.moment) (nat_lt d.moment 300000) (le-leb m d.moment le) (lt-ltb d.moment 300000 (leb-false 300000 d.moment early)))) d.entries fits.each h)
+    (λ early. down_clears lost lost' d (λ m le. one_more (is_lost m d WithoutLink) (lost m) (and_from (nat_le m d.moment) (nat_lt d.moment 300000) (le-leb m d.moment le) (lt-ltb d.moment 300000 (leb-false 300000 d.moment early)))) d.entries fits.each h)
 
-event_clears : (lost : ℕ → ℕ) (d : Day) (e : LiveEvent) → DayFits d → DayClears lost d → DayClears (λ m. lost m + one_if (is_lost m d e)) (live_happens d e).day
-event_clears lost d (OnLink e) fits h = more_lost lost (λ m. lost m + 0) (happens d e).day (λ m. omega arith) (happens_clears lost d e fits h)
+event_clears : (lost : ℕ → ℕ) (d : Day) (e : LiveEvent) → DayFits d → DayClears lost d → DayClears (λ m. lost m + 5 * one_if (is_lost m d e)) (live_happens d e).day
+event_clears lost d (OnLink e) fits h = more_lost lost (λ m. lost m + 5 * 0) (happens d e).day (λ m. omega arith) (happens_clears lost d e fits h)
 event_clears lost d WithoutLink fits h = without_clears lost d fits h
+event_clears lost d (Sold booking) fits h = more_lost lost (λ m. lost m + 0) d (λ m. omega arith) h
 
-run_from : (rows : List Row) (assigned : List (Option ℕ)) (lost : ℕ → ℕ) (events : List LiveEvent) (d : Day) → RunFits rows assigned d → DayClears lost d → DayClears (λ m. lost m + lost_since m events d) (live_day_after events d)
-run_from rows assigned lost [] d run h = more_lost lost (λ m. lost m + 0) d (λ m. omega arith) h
+run_from : (rows : List Row) (assigned : List (Option ℕ)) (lost : ℕ → ℕ) (events : List LiveEvent) (d : Day) → RunFits rows assigned d → DayClears lost d → DayClears (λ m. lost m + 5 * lost_since m events d) (live_day_after events d)
+run_from rows assigned lost [] d run h = more_lost lost (λ m. lost m + 5 * 0) d (λ m. omega arith) h
 run_from rows assigned lost (e ∷ es) d run h =
     let d' : Day = (live_happens d e).day in
-    more_lost (λ m. lost m + one_if (is_lost m d e) + lost_since m es d') (λ m. lost m + (one_if (is_lost m d e) + lost_since m es d')) (live_day_after es d') (λ m. joined (lost m) (one_if (is_lost m d e)) (lost_since m es d'))
-    (run_from rows assigned (λ m. lost m + one_if (is_lost m d e)) es d' (live_fits rows assigned d e run) (event_clears lost d e run.day h))
+    more_lost (λ m. lost m + 5 * one_if (is_lost m d e) + 5 * lost_since m es d') (λ m. lost m + 5 * (one_if (is_lost m d e) + lost_since m es d')) (live_day_after es d') (λ m. joined (lost m) (one_if (is_lost m d e)) (lost_since m es d'))
+    (run_from rows assigned (λ m. lost m + 5 * one_if (is_lost m d e)) es d' (live_fits rows assigned d e run) (event_clears lost d e run.day h))
   where
-    joined : (x y z : ℕ) → x + y + z ≤ x + (y + z)
+    joined : (x y z : ℕ) → x + 5 * y + 5 * z ≤ x + 5 * (y + z)
     joined x y z = omega arith
 
-pub run_clears : (rows : List Row) (assigned : List (Option ℕ)) (events : List LiveEvent) (d : Day) → RunFits rows assigned d → DayClears (λ m. 0) d → DayClears (λ m. lost_since m events d) (live_day_after events d)
-run_clears rows assigned events d run h = more_lost (λ m. 0 + lost_since m events d) (λ m. lost_since m events d) (live_day_after events d) (λ m. same (lost_since m events d)) (run_from rows assigned (λ m. 0) events d run h)
+pub run_clears : (rows : List Row) (assigned : List (Option ℕ)) (events : List LiveEvent) (d : Day) → RunFits rows assigned d → DayClears (λ m. 0) d → DayClears (λ m. 5 * lost_since m events d) (live_day_after events d)
+run_clears rows assigned events d run h = more_lost (λ m. 0 + 5 * lost_since m events d) (λ m. 5 * lost_since m events d) (live_day_after events d) (λ m. same (5 * lost_since m events d)) (run_from rows assigned (λ m. 0) events d run h)
   where
     same : (x : ℕ) → 0 + x ≤ x
     same x = omega arith

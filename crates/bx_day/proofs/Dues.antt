@@ -5,8 +5,9 @@ use Rattle.std.proofs.lemmas.Bool.{true≢false, leb-true, leb-false, le-leb, lt
 use Rattle.bx_base.specs.Bookings.{is_running}
 use Rattle.bx_calls.specs.PlainCalls.{PlainNetCall}
 use Rattle.bx_calls.specs.declared.transition.Transition.{Transition}
+use Rattle.bx_calls.specs.declared.net_state.Asked.TheVariants.{NotYet, Once, Twice}
 use Rattle.bx_calls.specs.declared.net_state.NetState.{NetState}
-use Rattle.bx_calls.specs.declared.net_state.NetState.TheVariants.{OutgoingCallProceeding, CallPresent, IncomingCallProceeding, CallReceived, Active, DisconnectIndication, ReleaseRequest}
+use Rattle.bx_calls.specs.declared.net_state.NetState.TheVariants.{OutgoingCallProceeding, CallPresent, IncomingCallProceeding, CallReceived, Active, Enquiring, DisconnectIndication, ReleaseRequest}
 use Rattle.bx_calls.specs.NetTable.{net_second}
 use Rattle.bx_day.specs.Day.{Day, is_free, entry_at}
 use Rattle.bx_day.specs.Ticks.{second_at, waits, tick, ticked, second_in, after_in}
@@ -57,19 +58,22 @@ state_stage (CallPresent true due) = 4
 state_stage (IncomingCallProceeding due) = 5
 state_stage (CallReceived due) = 6
 state_stage Active = 7
-state_stage (DisconnectIndication cause due) = 8
-state_stage (ReleaseRequest false cause due) = 9
-state_stage (ReleaseRequest true cause due) = 10
+state_stage (Enquiring NotYet due) = 8
+state_stage (Enquiring Once due) = 9
+state_stage (Enquiring Twice due) = 10
+state_stage (DisconnectIndication cause due) = 11
+state_stage (ReleaseRequest false cause due) = 12
+state_stage (ReleaseRequest true cause due) = 13
 
 abbrev pub stage : Standing → ℕ
 stage Refused = 0
 stage Unoffered = 1
 stage (OnCall call activity) = state_stage call.state
-stage (Carried from until) = 11
-stage Unanswered = 11
-stage Missed = 11
+stage (Carried from until) = 14
+stage Unanswered = 14
+stage Missed = 14
 
-over_stage : (a : Activity) (t : ℕ) → stage (over_at a t) ≡ 11
+over_stage : (a : Activity) (t : ℕ) → stage (over_at a t) ≡ 14
 over_stage Never t = refl
 over_stage (Since from) t = refl
 over_stage (Was from until) t = refl
@@ -86,31 +90,43 @@ neither due end t le early waiting =
     omega (arith, le, c)
 
 call_rises : (c : PlainNetCall) (s : NetState) (a : Activity) (t end : ℕ) → call_due s end ≤ t → Rises t a (state_stage s) (net_second (record c { state = s }) t end)
-call_rises c OutgoingCallProceeding a t end le = by_cases (nat_le end t) _ _ (Rises t a 2) (λ ended. let lt : 2 < 8 = omega arith in lt) (λ _. let lt : 2 < 7 = omega arith in lt)
+call_rises c OutgoingCallProceeding a t end le = by_cases (nat_le end t) _ _ (Rises t a 2) (λ ended. let lt : 2 < 11 = omega arith in lt) (λ _. let lt : 2 < 7 = omega arith in lt)
 call_rises c (CallPresent false due) a t end le =
     by_cases (nat_le end t) _ _ (Rises t a 3)
-    (λ ended. let lt : 3 < 8 = omega arith in lt)
+    (λ ended. let lt : 3 < 11 = omega arith in lt)
     (λ early. by_cases (nat_le due t) _ _ (Rises t a 3) (λ fires. let lt : 3 < 4 = omega arith in lt) (λ waiting. absurd (neither due end t le early waiting)))
 call_rises c (CallPresent true due) a t end le =
     by_cases (nat_le end t) _ _ (Rises t a 4)
-    (λ ended. let lt : 4 < 8 = omega arith in lt)
-    (λ early. by_cases (nat_le due t) _ _ (Rises t a 4) (λ fires. subst (λ n. 4 < n) (sym (over_stage a t)) (let lt : 4 < 11 = omega arith in lt)) (λ waiting. absurd (neither due end t le early waiting)))
+    (λ ended. let lt : 4 < 11 = omega arith in lt)
+    (λ early. by_cases (nat_le due t) _ _ (Rises t a 4) (λ fires. subst (λ n. 4 < n) (sym (over_stage a t)) (let lt : 4 < 14 = omega arith in lt)) (λ waiting. absurd (neither due end t le early waiting)))
 call_rises c (IncomingCallProceeding due) a t end le =
     by_cases (nat_le end t) _ _ (Rises t a 5)
-    (λ ended. let lt : 5 < 8 = omega arith in lt)
-    (λ early. by_cases (nat_le due t) _ _ (Rises t a 5) (λ fires. let lt : 5 < 8 = omega arith in lt) (λ waiting. absurd (neither due end t le early waiting)))
+    (λ ended. let lt : 5 < 11 = omega arith in lt)
+    (λ early. by_cases (nat_le due t) _ _ (Rises t a 5) (λ fires. let lt : 5 < 11 = omega arith in lt) (λ waiting. absurd (neither due end t le early waiting)))
 call_rises c (CallReceived due) a t end le =
     by_cases (nat_le end t) _ _ (Rises t a 6)
-    (λ ended. let lt : 6 < 8 = omega arith in lt)
-    (λ early. by_cases (nat_le due t) _ _ (Rises t a 6) (λ fires. let lt : 6 < 8 = omega arith in lt) (λ waiting. absurd (neither due end t le early waiting)))
+    (λ ended. let lt : 6 < 11 = omega arith in lt)
+    (λ early. by_cases (nat_le due t) _ _ (Rises t a 6) (λ fires. let lt : 6 < 11 = omega arith in lt) (λ waiting. absurd (neither due end t le early waiting)))
 call_rises c Active a t end le =
-    by_cases (nat_le end t) _ _ (Rises t a 7) (λ ended. let lt : 7 < 8 = omega arith in lt) (λ early. absurd (true≢false (sym (le-leb end t le) ∙ early)))
+    by_cases (nat_le end t) _ _ (Rises t a 7) (λ ended. let lt : 7 < 11 = omega arith in lt) (λ early. absurd (true≢false (sym (le-leb end t le) ∙ early)))
+call_rises c (Enquiring NotYet due) a t end le =
+    by_cases (nat_le end t) _ _ (Rises t a 8)
+    (λ ended. let lt : 8 < 11 = omega arith in lt)
+    (λ early. by_cases (nat_le due t) _ _ (Rises t a 8) (λ fires. let lt : 8 < 9 = omega arith in lt) (λ waiting. absurd (neither due end t le early waiting)))
+call_rises c (Enquiring Once due) a t end le =
+    by_cases (nat_le end t) _ _ (Rises t a 9)
+    (λ ended. let lt : 9 < 11 = omega arith in lt)
+    (λ early. by_cases (nat_le due t) _ _ (Rises t a 9) (λ fires. let lt : 9 < 10 = omega arith in lt) (λ waiting. absurd (neither due end t le early waiting)))
+call_rises c (Enquiring Twice due) a t end le =
+    by_cases (nat_le end t) _ _ (Rises t a 10)
+    (λ ended. let lt : 10 < 11 = omega arith in lt)
+    (λ early. by_cases (nat_le due t) _ _ (Rises t a 10) (λ fires. let lt : 10 < 11 = omega arith in lt) (λ waiting. absurd (neither due end t le early waiting)))
 call_rises c (DisconnectIndication cause due) a t end le =
-    by_cases (nat_le due t) _ _ (Rises t a 8) (λ fires. let lt : 8 < 9 = omega arith in lt) (λ early. absurd (true≢false (sym (le-leb due t le) ∙ early)))
+    by_cases (nat_le due t) _ _ (Rises t a 11) (λ fires. let lt : 11 < 12 = omega arith in lt) (λ early. absurd (true≢false (sym (le-leb due t le) ∙ early)))
 call_rises c (ReleaseRequest false cause due) a t end le =
-    by_cases (nat_le due t) _ _ (Rises t a 9) (λ fires. let lt : 9 < 10 = omega arith in lt) (λ early. absurd (true≢false (sym (le-leb due t le) ∙ early)))
+    by_cases (nat_le due t) _ _ (Rises t a 12) (λ fires. let lt : 12 < 13 = omega arith in lt) (λ early. absurd (true≢false (sym (le-leb due t le) ∙ early)))
 call_rises c (ReleaseRequest true cause due) a t end le =
-    by_cases (nat_le due t) _ _ (Rises t a 10) (λ fires. subst (λ n. 10 < n) (sym (over_stage a t)) (let lt : 10 < 11 = omega arith in lt)) (λ early. absurd (true≢false (sym (le-leb due t le) ∙ early)))
+    by_cases (nat_le due t) _ _ (Rises t a 13) (λ fires. subst (λ n. 13 < n) (sym (over_stage a t)) (let lt : 13 < 14 = omega arith in lt)) (λ early. absurd (true≢false (sym (le-leb due t le) ∙ early)))
 
 -- one that is due before its end is offered
 must_offer : (start end t : ℕ) (inward free : Bool) → (if free then (if inward then end else start) else end) ≤ t → t < end → (nat_le start t && nat_lt t end && not inward && free) ≡ true
@@ -123,7 +139,7 @@ waits_rises t free e le =
     by_cases (offers e t free) _ _ (λ (m : Moved). 1 < stage m.standing)
     (λ offered. let lt : 1 < 3 = omega arith in lt)
     (λ kept. by_cases (nat_le e.booking.end t) _ _ (λ (m : Moved). 1 < stage m.standing)
-    (λ ended. let lt : 1 < 11 = omega arith in lt)
+    (λ ended. let lt : 1 < 14 = omega arith in lt)
     (λ going. absurd (true≢false (sym (must_offer e.booking.start e.booking.end t e.booking.inward free le (leb-false e.booking.end t going)) ∙ kept))))
 
 due_rises : (t : ℕ) (free : Bool) (e : Entry) (s : Standing) → t ≤ 300000 → tick_due e free s ≤ t → stage s < stage (second_at e t free s).standing

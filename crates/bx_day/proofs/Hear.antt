@@ -6,9 +6,9 @@ use Rattle.bx_q931.specs.declared.kind.Kind.TheVariants.{Alerting, CallProceedin
 use Rattle.bx_calls.specs.declared.net_state.NetOrigin.{NetOrigin}
 use Rattle.bx_calls.specs.declared.net_state.NetOrigin.TheVariants.{Outward, Inward}
 use Rattle.bx_calls.specs.declared.net_state.NetState.{NetState}
-use Rattle.bx_calls.specs.declared.net_state.NetState.TheVariants.{OutgoingCallProceeding, CallPresent, IncomingCallProceeding, CallReceived, Active, DisconnectIndication, ReleaseRequest}
+use Rattle.bx_calls.specs.declared.net_state.NetState.TheVariants.{OutgoingCallProceeding, CallPresent, IncomingCallProceeding, CallReceived, Active, Enquiring, DisconnectIndication, ReleaseRequest}
 use Rattle.bx_calls.specs.Hearing.{Heard, names_channel, reports_null}
-use Rattle.bx_calls.specs.NetTable.{net_row}
+use Rattle.bx_calls.specs.NetTable.{net_awake_state, net_row}
 use Rattle.bx_day.specs.Moves.{over_at}
 use Rattle.bx_day.specs.declared.entry.Entry.{Entry}
 use Rattle.bx_day.specs.declared.entry.Activity.{Activity}
@@ -23,6 +23,7 @@ same_fits t e r ch o (CallPresent again due) a h = goes_on t t e r ch o (CallPre
 same_fits t e r ch o (IncomingCallProceeding due) a h = goes_on t t e r ch o (IncomingCallProceeding due) a (IncomingCallProceeding due) h h.phase h.due (ringing_kept t t e.booking a h.activity)
 same_fits t e r ch o (CallReceived due) a h = goes_on t t e r ch o (CallReceived due) a (CallReceived due) h h.phase h.due (ringing_kept t t e.booking a h.activity)
 same_fits t e r ch o Active a h = goes_on t t e r ch o Active a Active h h.phase h.due (talking_kept t t e.booking a (omega arith) h.activity)
+same_fits t e r ch o (Enquiring asked due) a h = goes_on t t e r ch o (Enquiring asked due) a (Enquiring asked due) h h.phase h.due (talking_kept t t e.booking a (omega arith) h.activity)
 same_fits t e r ch o (DisconnectIndication cause due) a h = goes_on t t e r ch o (DisconnectIndication cause due) a (DisconnectIndication cause due) h h.phase h.due (clearing_kept t t e.booking a (omega arith) h.activity)
 same_fits t e r ch o (ReleaseRequest again cause due) a h = goes_on t t e r ch o (ReleaseRequest again cause due) a (ReleaseRequest again cause due) h h.phase h.due (clearing_kept t t e.booking a (omega arith) h.activity)
 
@@ -33,6 +34,7 @@ over_fits t e r ch o (CallPresent again due) a h = ringing_over t t e a h.activi
 over_fits t e r ch o (IncomingCallProceeding due) a h = ringing_over t t e a h.activity
 over_fits t e r ch o (CallReceived due) a h = ringing_over t t e a h.activity
 over_fits t e r ch o Active a h = talking_over t t e a (omega arith) (omega arith) h.activity
+over_fits t e r ch o (Enquiring asked due) a h = talking_over t t e a (omega arith) (omega (arith, h.phase.1)) h.activity
 over_fits t e r ch o (DisconnectIndication cause due) a h = clearing_over t t e a h.activity
 over_fits t e r ch o (ReleaseRequest again cause due) a h = clearing_over t t e a h.activity
 
@@ -47,8 +49,20 @@ release_fits t e r ch o (CallPresent again due) a c n h = goes_on t t e r ch o (
 release_fits t e r ch o (IncomingCallProceeding due) a c n h = goes_on t t e r ch o (IncomingCallProceeding due) a (ReleaseRequest false c (t + 4)) h tt (omega arith, omega arith) (ringing_clears t t e.booking a h.activity)
 release_fits t e r ch o (CallReceived due) a c n h = goes_on t t e r ch o (CallReceived due) a (ReleaseRequest false c (t + 4)) h tt (omega arith, omega arith) (ringing_clears t t e.booking a h.activity)
 release_fits t e r ch o Active a c n h = goes_on t t e r ch o Active a (ReleaseRequest false c (t + 4)) h tt (omega arith, omega arith) (talking_clears t t e.booking a (omega arith) (omega arith) h.activity)
+release_fits t e r ch o (Enquiring asked due) a c n h = goes_on t t e r ch o (Enquiring asked due) a (ReleaseRequest false c (t + 4)) h tt (omega arith, omega arith) (talking_clears t t e.booking a (omega arith) (omega (arith, h.phase.1)) h.activity)
 release_fits t e r ch o (DisconnectIndication cause due) a c n h = goes_on t t e r ch o (DisconnectIndication cause due) a (ReleaseRequest false c (t + 4)) h tt (omega arith, omega arith) (clearing_kept t t e.booking a (omega arith) h.activity)
 release_fits t e r ch o (ReleaseRequest again cause due) a c n h = absurd (true≢false n)
+
+-- asked no more
+pub awake_fits : (t : ℕ) (e : Entry) (r ch : ℕ) (o : NetOrigin) (s : NetState) (a : Activity) → CallFits t e (call_of r ch o s) a → CallFits t e (call_of r ch o (net_awake_state s)) a
+awake_fits t e r ch o (Enquiring asked due) a h = record { channel = h.channel; origin = h.origin; phase = h.phase; due = tt; activity = h.activity }
+awake_fits t e r ch o OutgoingCallProceeding a h = h
+awake_fits t e r ch o (CallPresent again due) a h = h
+awake_fits t e r ch o (IncomingCallProceeding due) a h = h
+awake_fits t e r ch o (CallReceived due) a h = h
+awake_fits t e r ch o Active a h = h
+awake_fits t e r ch o (DisconnectIndication cause due) a h = h
+awake_fits t e r ch o (ReleaseRequest again cause due) a h = h
 
 -- each row of the table, in its order
 pub row_fits : (t : ℕ) (e : Entry) (r ch : ℕ) (o : NetOrigin) (a : Activity) (m : Heard) (s : NetState) (k : Kind) → CallFits t e (call_of r ch o s) a → StepFits t e a (net_row (call_of r ch o s) m t s k)

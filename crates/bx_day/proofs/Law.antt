@@ -1,5 +1,5 @@
 -- One call per channel: the opening day, every event, and what that says.
-use Rattle.std.proofs.Common.{◌≡◌, ◌≢◌, ℕ, zero, suc, ◌+◌, ◌≤◌, ◌<◌, not, Bool, true, false, List, [], ◌∷◌, map, length, Option, Some, None, arith, refl, sym, subst, ap, ◌∙◌, slice_set, slice_index_or, nat_le, nat_lt, ◌==◌, Result, Ok, Err}
+use Rattle.std.proofs.Common.{◌≡◌, ◌≢◌, ℕ, zero, suc, ◌+◌, ◌*◌, ◌≤◌, ◌<◌, not, Bool, true, false, List, [], ◌∷◌, map, length, Option, Some, None, arith, refl, sym, subst, ap, ◌∙◌, slice_set, slice_index_or, nat_le, nat_lt, ◌==◌, Result, Ok, Err}
 use Rattle.std.specs.Prelude.{is_some}
 use Rattle.std.specs.Option.{unwrap_or}
 use Rattle.std.specs.List.{AllByRecursion, position}
@@ -10,7 +10,7 @@ use Rattle.bx_q931.specs.declared.channel_field.ChannelField.{ChannelField}
 use Rattle.bx_q931.specs.declared.channel_field.ChannelField.TheVariants.{Absent, Named, AnyChannel, Unread}
 use Rattle.bx_calls.specs.PlainCalls.{PlainNetCall}
 use Rattle.bx_calls.specs.declared.net_state.NetState.{NetState}
-use Rattle.bx_calls.specs.declared.net_state.NetState.TheVariants.{OutgoingCallProceeding, CallPresent, IncomingCallProceeding, CallReceived, Active, DisconnectIndication, ReleaseRequest}
+use Rattle.bx_calls.specs.declared.net_state.NetState.TheVariants.{OutgoingCallProceeding, CallPresent, IncomingCallProceeding, CallReceived, Active, Enquiring, DisconnectIndication, ReleaseRequest}
 use Rattle.bx_calls.specs.NetTable.{net_message, net_second, net_unlinked}
 use Rattle.bx_base.specs.Bookings.{Row, row_at, is_running, AreBookings, Carries}
 use Rattle.bx_base.specs.Plans.{is_accepted, channel_at}
@@ -22,11 +22,12 @@ use Rattle.bx_day.specs.declared.entry.Entry.{Entry}
 use Rattle.bx_day.specs.declared.entry.Moved.{Moved}
 use Rattle.bx_day.specs.declared.entry.Link.{Link}
 use Rattle.bx_day.specs.declared.entry.Link.TheVariants.{Up, Down}
+use Rattle.bx_day.specs.Moves.{is_active}
 use Rattle.bx_day.specs.Day.{Day, entry_at, no_entry, opening, entry_of, entries_from, is_free, is_live, every_channel}
 use Rattle.bx_day.specs.Ticks.{after_in, second_at, second_by, waits, tick, passed_in}
 use Rattle.bx_day.specs.Receipts.{hears, takes_call, takes_or, takes_preferred, called_on, called, stray, received_at, receive, opens, lowest_open, names, with_moved}
 use Rattle.bx_calls.specs.Sending.{Sent, Answered}
-use Rattle.bx_events.specs.Events.{Event, Tick, Receive, LiveEvent, OnLink, WithoutLink}
+use Rattle.bx_events.specs.Events.{Event, Tick, Receive, LiveEvent, OnLink, WithoutLink, Sold}
 use Rattle.bx_day.specs.Outages.{without_link, live_happens, live_day_after}
 use Rattle.bx_day.specs.Run.{receive_from, receive_read, happens, day_after}
 use Rattle.bx_q931.specs.Messages.{PlainMessage, message_at}
@@ -258,6 +259,7 @@ without_run rows assigned d h = record { day = without_fits d h.day; framed = wi
 pub live_fits : (rows : List Row) (assigned : List (Option ℕ)) (d : Day) (e : LiveEvent) → RunFits rows assigned d → RunFits rows assigned (live_happens d e).day
 live_fits rows assigned d (OnLink e) h = happens_fits rows assigned d e h
 live_fits rows assigned d WithoutLink h = without_run rows assigned d h
+live_fits rows assigned d (Sold booking) h = h
 
 pub live_run : (rows : List Row) (assigned : List (Option ℕ)) (events : List LiveEvent) (d : Day) → RunFits rows assigned d → RunFits rows assigned (live_day_after events d)
 live_run rows assigned [] d h = h
@@ -295,9 +297,19 @@ not_refused : (a : Option ℕ) → false ≡ not (is_some a) → is_some a ≡ t
 not_refused None h = absurd (false≢true h)
 not_refused (Some c) h = refl
 
-active_runs : (t : ℕ) (b : Row) (c : PlainNetCall) → c.state ≡ Active → PhaseFits t b (phase_of c.state) → is_running b t ≡ true
+active_talks : (t : ℕ) (b : Row) (s : NetState) → is_active s ≡ true → PhaseFits t b (phase_of s) → (b.start ≤ t) × (t < b.end)
+active_talks t b Active at h = h
+active_talks t b (Enquiring asked due) at h = h
+active_talks t b OutgoingCallProceeding at h = h
+active_talks t b (CallPresent again due) at h = h
+active_talks t b (IncomingCallProceeding due) at h = h
+active_talks t b (CallReceived due) at h = h
+active_talks t b (DisconnectIndication cause due) at h = absurd (false≢true at)
+active_talks t b (ReleaseRequest again cause due) at h = absurd (false≢true at)
+
+active_runs : (t : ℕ) (b : Row) (c : PlainNetCall) → is_active c.state ≡ true → PhaseFits t b (phase_of c.state) → is_running b t ≡ true
 active_runs t b c at h =
-    let p : (b.start ≤ t) × (t < b.end) = subst (λ s. PhaseFits t b (phase_of s)) at h in
+    let p : (b.start ≤ t) × (t < b.end) = active_talks t b c.state at h in
     and_from (nat_le b.start t) (nat_lt t b.end) (le-leb b.start t p.0) (lt-ltb t b.end p.1)
 
 call_at : (d : Day) (i : ℕ) → DayFits d → (c : PlainNetCall) (a : Activity) → standing_at d i ≡ OnCall c a → CallFits d.moment (entry_at d.entries i) c a
@@ -310,6 +322,7 @@ late_none t n b (CallPresent again due) p q c h = omega (arith, p.1, h)
 late_none t n b (IncomingCallProceeding due) p q c h = omega (arith, p.1, h)
 late_none t n b (CallReceived due) p q c h = omega (arith, p.1, h)
 late_none t n b Active p q c h = omega (arith, p.1, h)
+late_none t n b (Enquiring asked due) p q c h = omega (arith, p.1, h)
 late_none t n b (DisconnectIndication cause due) p q c h = omega (arith, q.0, c (omega (arith, h)), h)
 late_none t n b (ReleaseRequest false cause due) p q c h = omega (arith, q.0, c (omega (arith, h)), h)
 late_none t n b (ReleaseRequest true cause due) p q c h = omega (arith, q.0, c (omega (arith, h)), h)
@@ -319,7 +332,7 @@ pub held_apart : (rows : List Row) (assigned : List (Option ℕ)) (d : Day) → 
 held_apart rows assigned d h i j lt = on_live (standing_at d i) _ (λ c a p. on_live (standing_at d j) _ (λ c' a' p' same.
     (pairs_at d.entries i j lt h.day.pairs).live (ap is_live p) (ap is_live p') (sym (call_at d i h.day c a p).channel ∙ same ∙ (call_at d j h.day c' a' p').channel)))
 
-pub orderly : (rows : List Row) (assigned : List (Option ℕ)) (lost : ℕ → ℕ) (d : Day) → RunFits rows assigned d → DayClears lost d → IsOrderly rows assigned lost d
+pub orderly : (rows : List Row) (assigned : List (Option ℕ)) (lost : ℕ → ℕ) (d : Day) → RunFits rows assigned d → DayClears (λ m. 5 * lost m) d → IsOrderly rows assigned lost d
 orderly rows assigned lost d h clears = record {
   planned = λ i lt. on_live (standing_at d i) _ (λ c a p. (
     not_refused (slice_index_or assigned i None) (sym (ap is_refused p) ∙ (h.framed.0 i lt).accepted),
@@ -330,8 +343,8 @@ orderly rows assigned lost d h clears = record {
   carried = λ i lt. on_carried (standing_at d i) _ (λ from until p. subst (λ b. (b.start ≤ from) × (from ≤ until) × (until ≤ b.end)) (h.framed.0 i lt).booking (subst (StandingFits d.moment (entry_at d.entries i)) p (all_at (EntryFits d.moment) tt d.entries i h.day.each)));
   cleared = λ i lt late.
       (let b : Row = (entry_at d.entries i).booking in
-      let over : b.end + 38 + lost b.end ≤ d.moment = subst (λ b. b.end + 38 + lost b.end ≤ d.moment) (sym (h.framed.0 i lt).booking) late in (
+      let over : b.end + 38 + 5 * lost b.end ≤ d.moment = subst (λ b. b.end + 38 + 5 * lost b.end ≤ d.moment) (sym (h.framed.0 i lt).booking) late in (
         (λ p. let early : d.moment < (entry_at d.entries i).booking.end = subst (StandingFits d.moment (entry_at d.entries i)) p (all_at (EntryFits d.moment) tt d.entries i h.day.each) in omega arith),
-        on_live (standing_at d i) _ (λ c a p. late_none d.moment (lost b.end) b c.state (call_at d i h.day c a p).phase (call_at d i h.day c a p).due (subst (StandingClears (lost b.end) d.moment b) p (all_at (EntryClears lost d.moment) tt d.entries i clears)) over),
+        on_live (standing_at d i) _ (λ c a p. late_none d.moment (5 * lost b.end) b c.state (call_at d i h.day c a p).phase (call_at d i h.day c a p).due (subst (StandingClears (5 * lost b.end) d.moment b) p (all_at (EntryClears (λ m. 5 * lost m) d.moment) tt d.entries i clears)) over),
       ));
 }

@@ -30,3 +30,6 @@ pub mod TouchLemmas
 pub mod TouchSlots
 mod Outlasting
 mod WaitingAnew
+pub mod Extended
+pub mod LongerPlan
+pub mod ExtendedIndex

@@ -1,14 +1,14 @@
 -- Many seconds without a link at once are as many one after another.
 use Rattle.std.proofs.Common.{◌≡◌, ℕ, zero, suc, min, ◌+◌, ◌-◌, ◌≤◌, ◌<◌, ◌==◌, ◌&&◌, ◌||◌, not, Bool, true, false, List, [], ◌∷◌, map, replicate, Option, Some, None, arith, refl, sym, subst, ap, ap₂, ◌∙◌, inl, inr, nat_le, if◌then◌else◌, unwrap_or, is_some}
 use Rattle.std.specs.List.{AllByRecursion, list_any}
-use Rattle.std.proofs.lemmas.Bool.{leb-true, leb-false, le-leb, and_right, false≢true, cases_lt}
+use Rattle.std.proofs.lemmas.Bool.{leb-true, leb-false, le-leb, and_right, false≢true, false_from_ne_true, eqb-true, cases_lt}
 use Rattle.bx_base.specs.Bookings.{Row}
 use Rattle.bx_events.specs.Events.{WithoutLink}
 use Rattle.bx_calls.specs.declared.transition.Transition.{Transition}
 use Rattle.bx_calls.specs.PlainCalls.{PlainNetCall}
 use Rattle.bx_calls.specs.declared.net_state.NetState.{NetState}
-use Rattle.bx_calls.specs.declared.net_state.NetState.TheVariants.{OutgoingCallProceeding, CallPresent, IncomingCallProceeding, CallReceived, Active, DisconnectIndication, ReleaseRequest}
-use Rattle.bx_calls.specs.NetTable.{net_to, net_is_clearing, net_later, net_unlinked, IsDueBy}
+use Rattle.bx_calls.specs.declared.net_state.NetState.TheVariants.{OutgoingCallProceeding, CallPresent, IncomingCallProceeding, CallReceived, Active, Enquiring, DisconnectIndication, ReleaseRequest}
+use Rattle.bx_calls.specs.NetTable.{net_to, net_is_clearing, net_lost, net_later, net_unlinked, IsDueBy}
 use Rattle.bx_day.specs.declared.entry.Activity.{Activity}
 use Rattle.bx_day.specs.declared.entry.Activity.TheVariants.{Never, Since, Was}
 use Rattle.bx_day.specs.declared.entry.Entry.{Entry}
@@ -42,6 +42,7 @@ state_timed t (CallPresent again x) h due is = due_most x due (t + 180) is (omeg
 state_timed t (IncomingCallProceeding x) h due is = due_most x due (t + 180) is (omega (arith, h.1))
 state_timed t (CallReceived x) h due is = due_most x due (t + 180) is (omega (arith, h.1))
 state_timed t Active h due is = absurd (no_due due is)
+state_timed t (Enquiring asked x) h due is = due_most x due (t + 180) is (omega (arith, h.1))
 state_timed t (DisconnectIndication cause x) h due is = due_most x due (t + 180) is (omega (arith, h.1))
 state_timed t (ReleaseRequest again cause x) h due is = due_most x due (t + 180) is (omega (arith, h.1))
 
@@ -57,50 +58,72 @@ fits_timed t e Missed h = tt
 
 ended_is : (n u end : ℕ) (c : PlainNetCall) → net_is_clearing c.state ≡ false → end ≤ u → net_unlinked n c u end ≡ net_to c None (DisconnectIndication 16 (u + 1))
 ended_is n u end c runs over =
-    ap (λ b. if not b && nat_le end u then net_to c None (DisconnectIndication 16 (u + 1)) else net_to c None (net_later n c.state)) runs
-    ∙ ap (λ b. if b then net_to c None (DisconnectIndication 16 (u + 1)) else net_to c None (net_later n c.state)) (le-leb end u over)
+    ap (λ b. if not b && nat_le end u then net_to c None (DisconnectIndication 16 (u + 1)) else net_to c None (net_later n u c.state)) runs
+    ∙ ap (λ b. if b then net_to c None (DisconnectIndication 16 (u + 1)) else net_to c None (net_later n u c.state)) (le-leb end u over)
 
-going_is : (n u end : ℕ) (c : PlainNetCall) → u < end → net_unlinked n c u end ≡ net_to c None (net_later n c.state)
-going_is n u end c early = ap (λ b. if b then net_to c None (DisconnectIndication 16 (u + 1)) else net_to c None (net_later n c.state)) (and_right (not (net_is_clearing c.state)) (nat_le end u) (late end u early))
+going_is : (n u end : ℕ) (c : PlainNetCall) → u < end → net_unlinked n c u end ≡ net_to c None (net_later n u c.state)
+going_is n u end c early = ap (λ b. if b then net_to c None (DisconnectIndication 16 (u + 1)) else net_to c None (net_later n u c.state)) (and_right (not (net_is_clearing c.state)) (nat_le end u) (late end u early))
 
-clearing_is : (n u end : ℕ) (c : PlainNetCall) → net_is_clearing c.state ≡ true → net_unlinked n c u end ≡ net_to c None (net_later n c.state)
-clearing_is n u end c clears = ap (λ b. if not b && nat_le end u then net_to c None (DisconnectIndication 16 (u + 1)) else net_to c None (net_later n c.state)) clears
+clearing_is : (n u end : ℕ) (c : PlainNetCall) → net_is_clearing c.state ≡ true → net_unlinked n c u end ≡ net_to c None (net_later n u c.state)
+clearing_is n u end c clears = ap (λ b. if not b && nat_le end u then net_to c None (DisconnectIndication 16 (u + 1)) else net_to c None (net_later n u c.state)) clears
 
-later_more : (n : ℕ) (s : NetState) → net_later n (net_later 1 s) ≡ net_later (n + 1) s
-later_more n OutgoingCallProceeding = refl
-later_more n (CallPresent again due) = ap (λ x. CallPresent again x) (let q : due + 1 + n ≡ due + (n + 1) = omega arith in q)
-later_more n (IncomingCallProceeding due) = ap (λ x. IncomingCallProceeding x) (let q : due + 1 + n ≡ due + (n + 1) = omega arith in q)
-later_more n (CallReceived due) = ap (λ x. CallReceived x) (let q : due + 1 + n ≡ due + (n + 1) = omega arith in q)
-later_more n Active = refl
-later_more n (DisconnectIndication cause due) = ap (λ x. DisconnectIndication cause x) (let q : due + 1 + n ≡ due + (n + 1) = omega arith in q)
-later_more n (ReleaseRequest again cause due) = ap (λ x. ReleaseRequest again cause x) (let q : due + 1 + n ≡ due + (n + 1) = omega arith in q)
+-- one second or more
+later_is : (n t : ℕ) (s : NetState) → (n == 0) ≡ false → net_later n t s ≡ net_lost n t s
+later_is n t s some = ap (λ b. if b then s else net_lost n t s) some
 
-later_none : (s : NetState) → net_later 0 s ≡ s
-later_none OutgoingCallProceeding = refl
-later_none (CallPresent again due) = ap (λ x. CallPresent again x) (let q : due + 0 ≡ due = omega arith in q)
-later_none (IncomingCallProceeding due) = ap (λ x. IncomingCallProceeding x) (let q : due + 0 ≡ due = omega arith in q)
-later_none (CallReceived due) = ap (λ x. CallReceived x) (let q : due + 0 ≡ due = omega arith in q)
-later_none Active = refl
-later_none (DisconnectIndication cause due) = ap (λ x. DisconnectIndication cause x) (let q : due + 0 ≡ due = omega arith in q)
-later_none (ReleaseRequest again cause due) = ap (λ x. ReleaseRequest again cause x) (let q : due + 0 ≡ due = omega arith in q)
+later_none : (n t : ℕ) (s : NetState) → (n == 0) ≡ true → net_later n t s ≡ s
+later_none n t s none = ap (λ b. if b then s else net_lost n t s) none
 
-later_clearing : (n : ℕ) (s : NetState) → net_is_clearing (net_later n s) ≡ net_is_clearing s
-later_clearing n OutgoingCallProceeding = refl
-later_clearing n (CallPresent again due) = refl
-later_clearing n (IncomingCallProceeding due) = refl
-later_clearing n (CallReceived due) = refl
-later_clearing n Active = refl
-later_clearing n (DisconnectIndication cause due) = refl
-later_clearing n (ReleaseRequest again cause due) = refl
+one_more : (n : ℕ) → (n + 1 == 0) ≡ false
+one_more n = false_from_ne_true (n + 1 == 0) (λ e. let q : n + 1 ≡ 0 = eqb-true (n + 1) 0 e in omega (arith, q))
 
-later_active : (n : ℕ) (s : NetState) → is_active (net_later n s) ≡ is_active s
-later_active n OutgoingCallProceeding = refl
-later_active n (CallPresent again due) = refl
-later_active n (IncomingCallProceeding due) = refl
-later_active n (CallReceived due) = refl
-later_active n Active = refl
-later_active n (DisconnectIndication cause due) = refl
-later_active n (ReleaseRequest again cause due) = refl
+lost_more : (n t u : ℕ) (s : NetState) → net_lost n u (net_lost 1 t s) ≡ net_lost (n + 1) u s
+lost_more n t u OutgoingCallProceeding = refl
+lost_more n t u (CallPresent again due) = ap (λ x. CallPresent again x) (let q : due + 1 + n ≡ due + (n + 1) = omega arith in q)
+lost_more n t u (IncomingCallProceeding due) = ap (λ x. IncomingCallProceeding x) (let q : due + 1 + n ≡ due + (n + 1) = omega arith in q)
+lost_more n t u (CallReceived due) = ap (λ x. CallReceived x) (let q : due + 1 + n ≡ due + (n + 1) = omega arith in q)
+lost_more n t u Active = refl
+lost_more n t u (Enquiring asked due) = refl
+lost_more n t u (DisconnectIndication cause due) = refl
+lost_more n t u (ReleaseRequest again cause due) = refl
+
+later_more : (n t u : ℕ) (s : NetState) → u ≡ t + 1 + n → net_later n u (net_later 1 (t + 1) s) ≡ net_later (n + 1) u s
+later_more n t u s q = decide (n == 0)
+    (λ none. let zero : n ≡ 0 = eqb-true n 0 none in
+    later_none n u (net_later 1 (t + 1) s) none ∙ ap₂ (λ k m. net_later k m s) (let p : 1 ≡ n + 1 = omega (arith, zero) in p) (let p : t + 1 ≡ u = omega (arith, zero, q) in p))
+    (λ some. later_is n u (net_later 1 (t + 1) s) some ∙ lost_more n (t + 1) u s ∙ sym (later_is (n + 1) u s (one_more n)))
+
+later_disconnects : (n t u : ℕ) → u ≡ t + 1 + n → net_later n u (DisconnectIndication 16 (t + 1 + 1)) ≡ DisconnectIndication 16 (u + 1)
+later_disconnects n t u q = decide (n == 0)
+    (λ none. let zero : n ≡ 0 = eqb-true n 0 none in
+    later_none n u (DisconnectIndication 16 (t + 1 + 1)) none ∙ ap (λ x. DisconnectIndication 16 x) (let p : t + 1 + 1 ≡ u + 1 = omega (arith, zero, q) in p))
+    (λ some. later_is n u (DisconnectIndication 16 (t + 1 + 1)) some)
+
+lost_clearing : (n t : ℕ) (s : NetState) → net_is_clearing (net_lost n t s) ≡ net_is_clearing s
+lost_clearing n t OutgoingCallProceeding = refl
+lost_clearing n t (CallPresent again due) = refl
+lost_clearing n t (IncomingCallProceeding due) = refl
+lost_clearing n t (CallReceived due) = refl
+lost_clearing n t Active = refl
+lost_clearing n t (Enquiring asked due) = refl
+lost_clearing n t (DisconnectIndication cause due) = refl
+lost_clearing n t (ReleaseRequest again cause due) = refl
+
+later_clearing : (n t : ℕ) (s : NetState) → net_is_clearing (net_later n t s) ≡ net_is_clearing s
+later_clearing n t s = decide (n == 0) (λ none. ap net_is_clearing (later_none n t s none)) (λ some. ap net_is_clearing (later_is n t s some) ∙ lost_clearing n t s)
+
+lost_active : (n t : ℕ) (s : NetState) → is_active (net_lost n t s) ≡ is_active s
+lost_active n t OutgoingCallProceeding = refl
+lost_active n t (CallPresent again due) = refl
+lost_active n t (IncomingCallProceeding due) = refl
+lost_active n t (CallReceived due) = refl
+lost_active n t Active = refl
+lost_active n t (Enquiring asked due) = refl
+lost_active n t (DisconnectIndication cause due) = refl
+lost_active n t (ReleaseRequest again cause due) = refl
+
+later_active : (n t : ℕ) (s : NetState) → is_active (net_later n t s) ≡ is_active s
+later_active n t s = decide (n == 0) (λ none. ap is_active (later_none n t s none)) (λ some. ap is_active (later_is n t s some) ∙ lost_active n t s)
 
 -- a call that is not being cleared runs
 runs : (t : ℕ) (b : Row) (s : NetState) → PhaseFits t b (phase_of s) → net_is_clearing s ≡ false → t < b.end
@@ -109,6 +132,7 @@ runs t b (CallPresent again due) h q = h.1
 runs t b (IncomingCallProceeding due) h q = h.1
 runs t b (CallReceived due) h q = h.1
 runs t b Active h q = h.1
+runs t b (Enquiring asked due) h q = h.1
 runs t b (DisconnectIndication cause due) h q = absurd (false≢true (sym q))
 runs t b (ReleaseRequest again cause due) h q = absurd (false≢true (sym q))
 
@@ -120,9 +144,9 @@ twice (Was from until) t u = refl
 abbrev in_state : PlainNetCall → NetState → Activity → Standing
 in_state c s a = OnCall (record c { state = s }) a
 
--- a call that goes on, with its timer standing still
-stands : (n t u : ℕ) (b : Row) (c : PlainNetCall) (a : Activity) → ActivityFits t b (phase_of c.state) a → (follows a u (net_to c None (net_later n c.state))).standing ≡ in_state c (net_later n c.state) a
-stands n t u b c a h = ap (λ x. in_state c (net_later n c.state) (activity_after a x u)) (later_active n c.state) ∙ ap (in_state c (net_later n c.state)) (activity_stays t u b c.state a h)
+-- a call that goes on
+stands : (n m t u : ℕ) (b : Row) (c : PlainNetCall) (a : Activity) → ActivityFits t b (phase_of c.state) a → (follows a u (net_to c None (net_later n m c.state))).standing ≡ in_state c (net_later n m c.state) a
+stands n m t u b c a h = ap (λ x. in_state c (net_later n m c.state) (activity_after a x u)) (later_active n m c.state) ∙ ap (in_state c (net_later n m c.state)) (activity_stays t u b c.state a h)
 
 -- n seconds behind one
 abbrev Then : ℕ → ℕ → Row → Activity → ℕ → Transition PlainNetCall → Standing
@@ -131,40 +155,41 @@ Then n u b a t step = outlasted n u b (follows a t step).standing
 abbrev At : Row → Activity → Transition PlainNetCall → Standing
 At b a step = (follows a b.end step).standing
 
-call_clears : (n t u : ℕ) (e : Entry) (c : PlainNetCall) (a : Activity) → ActivityFits t e.booking (phase_of c.state) a → net_is_clearing c.state ≡ true → Then n u e.booking a (t + 1) (net_unlinked 1 c (t + 1) e.booking.end) ≡ At e.booking a (net_unlinked (n + 1) c u e.booking.end)
-call_clears n t u e c a h clears =
+call_clears : (n t u : ℕ) (e : Entry) (c : PlainNetCall) (a : Activity) → u ≡ t + 1 + n → ActivityFits t e.booking (phase_of c.state) a → net_is_clearing c.state ≡ true → Then n u e.booking a (t + 1) (net_unlinked 1 c (t + 1) e.booking.end) ≡ At e.booking a (net_unlinked (n + 1) c u e.booking.end)
+call_clears n t u e c a q h clears =
     let b = e.booking in
-    let c' : PlainNetCall = record c { state = net_later 1 c.state } in
+    let c' : PlainNetCall = record c { state = net_later 1 (t + 1) c.state } in
     ap (Then n u b a (t + 1)) (clearing_is 1 (t + 1) b.end c clears)
-    ∙ ap (outlasted n u b) (stands 1 t (t + 1) b c a h)
-    ∙ ap (At b a) (clearing_is n u b.end c' (later_clearing 1 c.state ∙ clears))
-    ∙ ap (λ s. At b a (net_to c None s)) (later_more n c.state)
+    ∙ ap (outlasted n u b) (stands 1 (t + 1) t (t + 1) b c a h)
+    ∙ ap (At b a) (clearing_is n u b.end c' (later_clearing 1 (t + 1) c.state ∙ clears))
+    ∙ ap (λ s. At b a (net_to c None s)) (later_more n t u c.state q)
     ∙ ap (At b a) (sym (clearing_is (n + 1) u b.end c clears))
 
 call_ends : (n t u : ℕ) (e : Entry) (c : PlainNetCall) (a : Activity) → u ≡ t + 1 + n → t + 1 ≡ e.booking.end → net_is_clearing c.state ≡ false → Then n u e.booking a (t + 1) (net_unlinked 1 c (t + 1) e.booking.end) ≡ At e.booking a (net_unlinked (n + 1) c u e.booking.end)
 call_ends n t u e c a q now going =
     let b = e.booking in
     ap (Then n u b a (t + 1)) (ended_is 1 (t + 1) b.end c going (omega (arith, now)))
-    ∙ ap₂ (λ x y. in_state c (DisconnectIndication 16 x) y) (let p : t + 1 + 1 + n ≡ u + 1 = omega (arith, q) in p) (twice a (t + 1) b.end ∙ ap (activity_after a false) now)
+    ∙ ap (λ s. At b (activity_after a false (t + 1)) (net_to c None s)) (later_disconnects n t u q)
+    ∙ ap (in_state c (DisconnectIndication 16 (u + 1))) (twice a (t + 1) b.end ∙ ap (activity_after a false) now)
     ∙ ap (At b a) (sym (ended_is (n + 1) u b.end c going (omega (arith, q, now))))
 
-call_goes : (n t u : ℕ) (e : Entry) (c : PlainNetCall) (a : Activity) → ActivityFits t e.booking (phase_of c.state) a → t + 1 < e.booking.end → net_is_clearing c.state ≡ false → Then n u e.booking a (t + 1) (net_unlinked 1 c (t + 1) e.booking.end) ≡ At e.booking a (net_unlinked (n + 1) c u e.booking.end)
-call_goes n t u e c a h early going =
+call_goes : (n t u : ℕ) (e : Entry) (c : PlainNetCall) (a : Activity) → u ≡ t + 1 + n → ActivityFits t e.booking (phase_of c.state) a → t + 1 < e.booking.end → net_is_clearing c.state ≡ false → Then n u e.booking a (t + 1) (net_unlinked 1 c (t + 1) e.booking.end) ≡ At e.booking a (net_unlinked (n + 1) c u e.booking.end)
+call_goes n t u e c a q h early going =
     let b = e.booking in
-    let c' : PlainNetCall = record c { state = net_later 1 c.state } in
+    let c' : PlainNetCall = record c { state = net_later 1 (t + 1) c.state } in
     ap (Then n u b a (t + 1)) (going_is 1 (t + 1) b.end c early)
-    ∙ ap (outlasted n u b) (stands 1 t (t + 1) b c a h)
+    ∙ ap (outlasted n u b) (stands 1 (t + 1) t (t + 1) b c a h)
     ∙ elim (cases_lt u b.end) [
-      | inl runs ↦ ap (At b a) (going_is n u b.end c' runs) ∙ ap (λ s. At b a (net_to c None s)) (later_more n c.state) ∙ ap (At b a) (sym (going_is (n + 1) u b.end c runs))
-      | inr over ↦ ap (At b a) (ended_is n u b.end c' (later_clearing 1 c.state ∙ going) over) ∙ ap (At b a) (sym (ended_is (n + 1) u b.end c going over))
+      | inl runs ↦ ap (At b a) (going_is n u b.end c' runs) ∙ ap (λ s. At b a (net_to c None s)) (later_more n t u c.state q) ∙ ap (At b a) (sym (going_is (n + 1) u b.end c runs))
+      | inr over ↦ ap (At b a) (ended_is n u b.end c' (later_clearing 1 (t + 1) c.state ∙ going) over) ∙ ap (At b a) (sym (ended_is (n + 1) u b.end c going over))
     ]
 
 call_more : (n t u : ℕ) (e : Entry) (c : PlainNetCall) (a : Activity) → u ≡ t + 1 + n → CallFits t e c a → Then n u e.booking a (t + 1) (net_unlinked 1 c (t + 1) e.booking.end) ≡ At e.booking a (net_unlinked (n + 1) c u e.booking.end)
 call_more n t u e c a q h =
-    decide (net_is_clearing c.state) (λ clears. call_clears n t u e c a h.activity clears)
+    decide (net_is_clearing c.state) (λ clears. call_clears n t u e c a q h.activity clears)
     (λ going. let lt : t < e.booking.end = runs t e.booking c.state h.phase going in
     elim (cases_lt (t + 1) e.booking.end) [
-      | inl early ↦ call_goes n t u e c a h.activity early going
+      | inl early ↦ call_goes n t u e c a q h.activity early going
       | inr over ↦ call_ends n t u e c a q (omega (arith, lt, over)) going
     ])
 
@@ -172,7 +197,7 @@ call_none : (t : ℕ) (e : Entry) (c : PlainNetCall) (a : Activity) → CallFits
 call_none t e c a h =
     let b = e.booking in
     ap (At b a) (decide (net_is_clearing c.state) (λ clears. clearing_is 0 t b.end c clears) (λ going. going_is 0 t b.end c (runs t b c.state h.phase going)))
-    ∙ stands 0 t b.end b c a h.activity ∙ ap (λ s. in_state c s a) (later_none c.state)
+    ∙ stands 0 t t b.end b c a h.activity ∙ ap (λ s. in_state c s a) (later_none 0 t c.state refl)
 
 -- ---- a booking
 

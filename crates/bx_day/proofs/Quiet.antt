@@ -5,8 +5,9 @@ use Rattle.std.proofs.Math.Nat.{min-le_left, min-le_right}
 use Rattle.std.proofs.lemmas.Bool.{true≢false, false≢true, leb-true}
 use Rattle.bx_base.specs.Bookings.{Row, is_running}
 use Rattle.bx_calls.specs.PlainCalls.{PlainNetCall}
+use Rattle.bx_calls.specs.declared.net_state.Asked.TheVariants.{NotYet, Once, Twice}
 use Rattle.bx_calls.specs.declared.net_state.NetState.{NetState}
-use Rattle.bx_calls.specs.declared.net_state.NetState.TheVariants.{OutgoingCallProceeding, CallPresent, IncomingCallProceeding, CallReceived, Active, DisconnectIndication, ReleaseRequest}
+use Rattle.bx_calls.specs.declared.net_state.NetState.TheVariants.{OutgoingCallProceeding, CallPresent, IncomingCallProceeding, CallReceived, Active, Enquiring, DisconnectIndication, ReleaseRequest}
 use Rattle.bx_calls.specs.NetTable.{net_second, net_same, net_offered}
 use Rattle.bx_calls.specs.Saying.{setup_of}
 use Rattle.bx_day.specs.Day.{Day, every_channel, entry_at}
@@ -85,6 +86,9 @@ activity_stays t u b (CallReceived due) (Was from until) h = refl
 activity_stays t u b Active Never h = absurd h
 activity_stays t u b Active (Since from) h = refl
 activity_stays t u b Active (Was from until) h = absurd h
+activity_stays t u b (Enquiring asked due) Never h = absurd h
+activity_stays t u b (Enquiring asked due) (Since from) h = refl
+activity_stays t u b (Enquiring asked due) (Was from until) h = absurd h
 activity_stays t u b (DisconnectIndication cause due) Never h = refl
 activity_stays t u b (DisconnectIndication cause due) (Since from) h = absurd h
 activity_stays t u b (DisconnectIndication cause due) (Was from until) h = refl
@@ -103,6 +107,9 @@ at_rest c (CallPresent true due) t end lt = rw (late end t (omega (arith, lt, mi
 at_rest c (IncomingCallProceeding due) t end lt = rw (late end t (omega (arith, lt, min-le_right due end))) (rw (late due t (omega (arith, lt, min-le_left due end))) refl)
 at_rest c (CallReceived due) t end lt = rw (late end t (omega (arith, lt, min-le_right due end))) (rw (late due t (omega (arith, lt, min-le_left due end))) refl)
 at_rest c Active t end lt = rw (late end t lt) refl
+at_rest c (Enquiring NotYet due) t end lt = rw (late end t (omega (arith, lt, min-le_right due end))) (rw (late due t (omega (arith, lt, min-le_left due end))) refl)
+at_rest c (Enquiring Once due) t end lt = rw (late end t (omega (arith, lt, min-le_right due end))) (rw (late due t (omega (arith, lt, min-le_left due end))) refl)
+at_rest c (Enquiring Twice due) t end lt = rw (late end t (omega (arith, lt, min-le_right due end))) (rw (late due t (omega (arith, lt, min-le_left due end))) refl)
 at_rest c (DisconnectIndication cause due) t end lt = rw (late due t lt) refl
 at_rest c (ReleaseRequest false cause due) t end lt = rw (late due t lt) refl
 at_rest c (ReleaseRequest true cause due) t end lt = rw (late due t lt) refl

@@ -14,7 +14,7 @@ use Rattle.bx_calls.specs.declared.net_state.NetOrigin.TheVariants.{Outward, Inw
 use Rattle.bx_calls.specs.declared.net_state.NetState.{NetState}
 use Rattle.bx_calls.specs.declared.net_state.NetState.TheVariants.{CallPresent, IncomingCallProceeding, CallReceived, Active, DisconnectIndication, ReleaseRequest}
 use Rattle.bx_calls.specs.Hearing.{Heard, names_channel, reports_null}
-use Rattle.bx_calls.specs.NetTable.{net_row, net_flag, net_answered}
+use Rattle.bx_calls.specs.NetTable.{net_awake_state, net_awake, net_row, net_flag, net_answered}
 use Rattle.bx_base.specs.Bookings.{is_running}
 use Rattle.bx_channels.specs.ChannelNumbers.{IsChannel}
 use Rattle.bx_calls.specs.Said.{Said}
@@ -67,7 +67,7 @@ row_whole c m t a Inward Active ConnectAcknowledge e = rw e refl
 row_whole c m t a o s k e = refl
 
 pub hears_whole : (m : Said) (t : ℕ) (s : Standing) → (hears m t s).broken ≡ false
-hears_whole m t (OnCall c a) = row_whole c m.heard t a c.origin c.state m.heard.kind refl
+hears_whole m t (OnCall c a) = row_whole (net_awake c) m.heard t a c.origin (net_awake_state c.state) m.heard.kind refl
 hears_whole m t Refused = refl
 hears_whole m t Unoffered = refl
 hears_whole m t (Carried from until) = refl

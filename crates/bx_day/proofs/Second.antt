@@ -4,8 +4,9 @@ use Rattle.std.proofs.lemmas.Bool.{leb-false}
 use Rattle.bx_calls.specs.declared.transition.Transition.{Transition}
 use Rattle.bx_calls.specs.PlainCalls.{PlainNetCall}
 use Rattle.bx_calls.specs.declared.net_state.NetOrigin.{NetOrigin}
+use Rattle.bx_calls.specs.declared.net_state.Asked.TheVariants.{NotYet, Once, Twice}
 use Rattle.bx_calls.specs.declared.net_state.NetState.{NetState}
-use Rattle.bx_calls.specs.declared.net_state.NetState.TheVariants.{OutgoingCallProceeding, CallPresent, IncomingCallProceeding, CallReceived, Active, DisconnectIndication, ReleaseRequest}
+use Rattle.bx_calls.specs.declared.net_state.NetState.TheVariants.{OutgoingCallProceeding, CallPresent, IncomingCallProceeding, CallReceived, Active, Enquiring, DisconnectIndication, ReleaseRequest}
 use Rattle.bx_calls.specs.NetTable.{net_second, net_unlinked}
 use Rattle.bx_day.specs.Moves.{activity_after, is_active, follows}
 use Rattle.bx_day.specs.declared.entry.Entry.{Entry}
@@ -82,6 +83,24 @@ second_fits t e r ch o Active a h =
     (λ ended. disconnects t e r ch o Active a 16 h h.phase.1 (talking_clears t (t + 1) b a (omega arith) (omega arith) h.activity))
     (λ runs. let late : t + 1 < b.end = leb-false b.end (t + 1) runs in
     goes_on t (t + 1) e r ch o Active a Active h (omega arith, late) tt (talking_kept t (t + 1) b a (omega arith) h.activity))
+second_fits t e r ch o (Enquiring NotYet due) a h =
+    let s = Enquiring NotYet due in
+    let clears = talking_clears t (t + 1) e.booking a (omega arith) (omega (arith, h.phase.1)) h.activity in
+    by_times due t e a _ _ _ (disconnects t e r ch o s a 16 h h.phase.1 clears)
+    (λ late. goes_on t (t + 1) e r ch o s a (Enquiring Once (t + 1 + 4)) h (omega arith, late) (omega arith, omega arith) (talking_kept t (t + 1) e.booking a (omega arith) h.activity))
+    (λ late waits. goes_on t (t + 1) e r ch o s a s h (omega arith, late) (waits, omega (arith, h.due.1)) (talking_kept t (t + 1) e.booking a (omega arith) h.activity))
+second_fits t e r ch o (Enquiring Once due) a h =
+    let s = Enquiring Once due in
+    let clears = talking_clears t (t + 1) e.booking a (omega arith) (omega (arith, h.phase.1)) h.activity in
+    by_times due t e a _ _ _ (disconnects t e r ch o s a 16 h h.phase.1 clears)
+    (λ late. goes_on t (t + 1) e r ch o s a (Enquiring Twice (t + 1 + 4)) h (omega arith, late) (omega arith, omega arith) (talking_kept t (t + 1) e.booking a (omega arith) h.activity))
+    (λ late waits. goes_on t (t + 1) e r ch o s a s h (omega arith, late) (waits, omega (arith, h.due.1)) (talking_kept t (t + 1) e.booking a (omega arith) h.activity))
+second_fits t e r ch o (Enquiring Twice due) a h =
+    let s = Enquiring Twice due in
+    let clears = talking_clears t (t + 1) e.booking a (omega arith) (omega (arith, h.phase.1)) h.activity in
+    by_times due t e a _ _ _ (disconnects t e r ch o s a 16 h h.phase.1 clears)
+    (λ late. disconnects t e r ch o s a 41 h h.phase.1 clears)
+    (λ late waits. goes_on t (t + 1) e r ch o s a s h (omega arith, late) (waits, omega (arith, h.due.1)) (talking_kept t (t + 1) e.booking a (omega arith) h.activity))
 second_fits t e r ch o (DisconnectIndication cause due) a h =
     let b = e.booking in
     let s = DisconnectIndication cause due in
@@ -135,8 +154,13 @@ unlinked_fits t e r ch o (CallReceived due) a h =
 unlinked_fits t e r ch o Active a h =
     let b = e.booking in
     by_test (nat_le b.end (t + 1)) (t + 1) e a _ _ (λ ended. ends_unlinked t e r ch o Active a h (talking_clears t (t + 1) b a (omega arith) (omega arith) h.activity))
-    (λ runs. let late : t + 1 < b.end = leb-false b.end (t + 1) runs in goes_on t (t + 1) e r ch o Active a Active h (omega arith, late) tt (talking_kept t (t + 1) b a (omega arith) h.activity))
+    (λ runs. let late : t + 1 < b.end = leb-false b.end (t + 1) runs in goes_on t (t + 1) e r ch o Active a (Enquiring NotYet (t + 1 + 1)) h (omega arith, late) (omega arith, omega arith) (talking_kept t (t + 1) b a (omega arith) h.activity))
+unlinked_fits t e r ch o (Enquiring asked due) a h =
+    let b = e.booking in
+    let s = Enquiring asked due in
+    by_test (nat_le b.end (t + 1)) (t + 1) e a _ _ (λ ended. ends_unlinked t e r ch o s a h (talking_clears t (t + 1) b a (omega arith) (omega (arith, h.phase.1)) h.activity))
+    (λ runs. let late : t + 1 < b.end = leb-false b.end (t + 1) runs in goes_on t (t + 1) e r ch o s a (Enquiring NotYet (t + 1 + 1)) h (omega arith, late) (omega arith, omega arith) (talking_kept t (t + 1) b a (omega arith) h.activity))
 unlinked_fits t e r ch o (DisconnectIndication cause due) a h =
-    goes_on t (t + 1) e r ch o (DisconnectIndication cause due) a (DisconnectIndication cause (due + 1)) h tt (still_due t due 30 h.due) (clearing_kept t (t + 1) e.booking a (omega arith) h.activity)
+    goes_on t (t + 1) e r ch o (DisconnectIndication cause due) a (DisconnectIndication cause (t + 1 + 1)) h tt (omega arith, omega arith) (clearing_kept t (t + 1) e.booking a (omega arith) h.activity)
 unlinked_fits t e r ch o (ReleaseRequest again cause due) a h =
-    goes_on t (t + 1) e r ch o (ReleaseRequest again cause due) a (ReleaseRequest again cause (due + 1)) h tt (still_due t due 4 h.due) (clearing_kept t (t + 1) e.booking a (omega arith) h.activity)
+    goes_on t (t + 1) e r ch o (ReleaseRequest again cause due) a (ReleaseRequest false cause (t + 1 + 1)) h tt (omega arith, omega arith) (clearing_kept t (t + 1) e.booking a (omega arith) h.activity)

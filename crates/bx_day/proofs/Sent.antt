@@ -15,10 +15,11 @@ use Rattle.bx_calls.specs.declared.transition.Next.TheVariants.{Live, Over, Brok
 use Rattle.bx_calls.specs.PlainCalls.{PlainNetCall}
 use Rattle.bx_calls.specs.declared.net_state.NetOrigin.{NetOrigin}
 use Rattle.bx_calls.specs.declared.net_state.NetOrigin.TheVariants.{Outward, Inward}
+use Rattle.bx_calls.specs.declared.net_state.Asked.TheVariants.{NotYet, Once, Twice}
 use Rattle.bx_calls.specs.declared.net_state.NetState.{NetState}
-use Rattle.bx_calls.specs.declared.net_state.NetState.TheVariants.{OutgoingCallProceeding, CallPresent, IncomingCallProceeding, CallReceived, Active, DisconnectIndication, ReleaseRequest}
+use Rattle.bx_calls.specs.declared.net_state.NetState.TheVariants.{OutgoingCallProceeding, CallPresent, IncomingCallProceeding, CallReceived, Active, Enquiring, DisconnectIndication, ReleaseRequest}
 use Rattle.bx_calls.specs.Hearing.{Heard, names_channel, reports_null}
-use Rattle.bx_calls.specs.NetTable.{net_row, net_message, net_second, net_releases, net_setup_again, proceeding_of}
+use Rattle.bx_calls.specs.NetTable.{net_awake_state, net_row, net_message, net_second, net_releases, net_setup_again, proceeding_of}
 use Rattle.bx_calls.specs.Saying.{setup_of}
 use Rattle.bx_day.specs.Law.{OutFits, SentFits}
 use Rattle.bx_q931.specs.Messages.{PlainMessage, message_at}
@@ -35,7 +36,7 @@ use Rattle.bx_day.specs.Ticks.{waits, second_at, tick, second_in}
 use Rattle.bx_day.specs.Receipts.{opens, lowest_open, names, hears, takes_or, takes_preferred, called_on, called, stray, received_at}
 use Rattle.bx_day.specs.Moves.{follow}
 use Rattle.bx_calls.specs.Sending.{Sent, Answered, reply_list}
-use Rattle.bx_events.specs.Events.{Event, Tick, Receive, LiveEvent, OnLink, WithoutLink}
+use Rattle.bx_events.specs.Events.{Event, Tick, Receive, LiveEvent, OnLink, WithoutLink, Sold}
 use Rattle.bx_day.specs.Outages.{live_happens}
 use Rattle.bx_day.specs.Run.{receive_from, receive_read, happens}
 use Rattle.bx_day.specs.declared.entry.Standing.{Standing}
@@ -184,6 +185,15 @@ second_said rows assigned t e r ch o (CallReceived due) a p acc h =
     (λ _. test_said (OutFits rows assigned (t + 1)) (nat_le due (t + 1)) _ _ (λ _. plain_fits rows assigned (t + 1) _ refl) (λ _. tt))
 second_said rows assigned t e r ch o Active a p acc h =
     test_said (OutFits rows assigned (t + 1)) (nat_le e.booking.end (t + 1)) _ _ (λ _. plain_fits rows assigned (t + 1) _ refl) (λ _. tt)
+second_said rows assigned t e r ch o (Enquiring NotYet due) a p acc h =
+    test_said (OutFits rows assigned (t + 1)) (nat_le e.booking.end (t + 1)) _ _ (λ _. plain_fits rows assigned (t + 1) _ refl)
+    (λ _. test_said (OutFits rows assigned (t + 1)) (nat_le due (t + 1)) _ _ (λ _. plain_fits rows assigned (t + 1) _ refl) (λ _. tt))
+second_said rows assigned t e r ch o (Enquiring Once due) a p acc h =
+    test_said (OutFits rows assigned (t + 1)) (nat_le e.booking.end (t + 1)) _ _ (λ _. plain_fits rows assigned (t + 1) _ refl)
+    (λ _. test_said (OutFits rows assigned (t + 1)) (nat_le due (t + 1)) _ _ (λ _. plain_fits rows assigned (t + 1) _ refl) (λ _. tt))
+second_said rows assigned t e r ch o (Enquiring Twice due) a p acc h =
+    test_said (OutFits rows assigned (t + 1)) (nat_le e.booking.end (t + 1)) _ _ (λ _. plain_fits rows assigned (t + 1) _ refl)
+    (λ _. test_said (OutFits rows assigned (t + 1)) (nat_le due (t + 1)) _ _ (λ _. plain_fits rows assigned (t + 1) _ refl) (λ _. tt))
 second_said rows assigned t e r ch o (DisconnectIndication cause due) a p acc h =
     test_said (OutFits rows assigned (t + 1)) (nat_le due (t + 1)) _ _ (λ _. plain_fits rows assigned (t + 1) _ refl) (λ _. tt)
 second_said rows assigned t e r ch o (ReleaseRequest false cause due) a p acc h =
@@ -237,7 +247,7 @@ placed_at rows assigned es i h =
 hears_plain : (m : Said) (t : ℕ) (s : Standing) → OfSaid Plain (hears m t s).said
 hears_plain m t Refused = tt
 hears_plain m t Unoffered = tt
-hears_plain m t (OnCall c a) = follow_said Plain a t (net_message c m.heard t).reply (net_message c m.heard t).next (row_plain c.reference c.channel c.origin t m.heard c.state m.heard.kind)
+hears_plain m t (OnCall c a) = follow_said Plain a t (net_message c m.heard t).reply (net_message c m.heard t).next (row_plain c.reference c.channel c.origin t m.heard (net_awake_state c.state) m.heard.kind)
 hears_plain m t (Carried from until) = tt
 hears_plain m t Unanswered = tt
 hears_plain m t Missed = tt
@@ -314,3 +324,4 @@ sent_fits rows assigned d (Receive octets) p h =
 pub live_sent : (rows : List Row) (assigned : List (Option ℕ)) (d : Day) (event : LiveEvent) → AllByRecursion (Placed rows assigned) d.entries → DayFits d → SentFits rows assigned (live_happens d event)
 live_sent rows assigned d (OnLink event) p h = sent_fits rows assigned d event p h
 live_sent rows assigned d WithoutLink p h = record { each = All-nil _ }
+live_sent rows assigned d (Sold booking) p h = record { each = All-nil _ }

@@ -17,7 +17,7 @@ ClearsBy m (ReleaseRequest false cause due) = due ≤ m + (t305 + t308)
 ClearsBy m (ReleaseRequest true cause due) = due ≤ m + clearing_time
 ClearsBy m _ = Unit {0}
 
--- a call whose booking is over, with n seconds without a link since its end
+-- a call whose booking is over, with n seconds added since its end: for each one without a link that, and T308 once more
 abbrev pub StandingClears : ℕ → ℕ → Row → Standing → Type 0
 StandingClears n t b (OnCall call activity) = b.end ≤ t → ClearsBy (b.end + n) call.state
 StandingClears n t b _ = Unit {0}

@@ -5,7 +5,7 @@ use Rattle.bx_calls.specs.PlainCalls.{PlainNetCall}
 use Rattle.bx_calls.specs.declared.net_state.NetOrigin.{NetOrigin}
 use Rattle.bx_calls.specs.declared.net_state.NetOrigin.TheVariants.{Outward, Inward}
 use Rattle.bx_calls.specs.declared.net_state.NetState.{NetState}
-use Rattle.bx_calls.specs.declared.net_state.NetState.TheVariants.{OutgoingCallProceeding, CallPresent, IncomingCallProceeding, CallReceived, Active, DisconnectIndication, ReleaseRequest}
+use Rattle.bx_calls.specs.declared.net_state.NetState.TheVariants.{OutgoingCallProceeding, CallPresent, IncomingCallProceeding, CallReceived, Active, Enquiring, DisconnectIndication, ReleaseRequest}
 use Rattle.bx_base.specs.Bookings.{Row, is_running}
 use Rattle.bx_day.specs.Day.{Day, is_live}
 use Rattle.bx_day.specs.declared.entry.Entry.{Entry}
@@ -26,6 +26,7 @@ phase_of (CallPresent again due) = Ringing
 phase_of (IncomingCallProceeding due) = Ringing
 phase_of (CallReceived due) = Ringing
 phase_of Active = Talking
+phase_of (Enquiring asked due) = Talking
 phase_of (DisconnectIndication cause due) = Clearing
 phase_of (ReleaseRequest again cause due) = Clearing
 
@@ -42,6 +43,7 @@ DueFits t (CallPresent again due) = (t < due) × (due ≤ t + 4)
 DueFits t (IncomingCallProceeding due) = (t < due) × (due ≤ t + 10)
 DueFits t (CallReceived due) = (t < due) × (due ≤ t + 180)
 DueFits t Active = Unit {0}
+DueFits t (Enquiring asked due) = (t < due) × (due ≤ t + 4)
 DueFits t (DisconnectIndication cause due) = (t < due) × (due ≤ t + 30)
 DueFits t (ReleaseRequest again cause due) = (t < due) × (due ≤ t + 4)
 

@@ -1,13 +1,13 @@
 -- One call per channel, over every list of events.
-use Rattle.std.specs.Prelude.{◌≡◌, ◌≢◌, ℕ, ◌+◌, ◌-◌, ◌≤◌, ◌<◌, true, false, List, length, All, Option, Some}
+use Rattle.std.specs.Prelude.{◌≡◌, ◌≢◌, ℕ, ◌+◌, ◌*◌, ◌-◌, ◌≤◌, ◌<◌, true, false, List, length, All, Option, Some}
 use Rattle.bx_q931.specs.declared.kind.Kind.TheVariants.{Setup, CallProceeding}
 use Rattle.bx_q931.specs.Outgoing.{Outgoing}
 use Rattle.bx_calls.specs.PlainCalls.{PlainNetCall}
-use Rattle.bx_calls.specs.Timers.{clearing_time}
-use Rattle.bx_calls.specs.declared.net_state.NetState.TheVariants.{Active}
+use Rattle.bx_calls.specs.Timers.{t308, clearing_time}
 use Rattle.bx_base.specs.Bookings.{Row, row_at, is_running}
 use Rattle.bx_base.specs.Plans.{is_accepted, channel_at}
 use Rattle.bx_day.specs.Day.{Day, entry_at}
+use Rattle.bx_day.specs.Moves.{is_active}
 use Rattle.bx_calls.specs.Sending.{Sent}
 use Rattle.bx_day.specs.declared.entry.Standing.{Standing}
 use Rattle.bx_day.specs.declared.entry.Activity.{Activity}
@@ -33,10 +33,10 @@ pub record IsOrderly (rows : List Row) (assigned : List (Option ℕ)) (lost : �
   -- no channel is held twice
   pub apart : (i j : ℕ) → i < j → j < length rows → OnLive (standing_at d i) (λ call a. OnLive (standing_at d j) (λ other b. call.channel ≢ other.channel))
   -- a call is Active only while its booking runs
-  pub active : (i : ℕ) → i < length rows → OnLive (standing_at d i) (λ call a. call.state ≡ Active → is_running (row_at rows i) d.moment ≡ true)
+  pub active : (i : ℕ) → i < length rows → OnLive (standing_at d i) (λ call a. is_active call.state ≡ true → is_running (row_at rows i) d.moment ≡ true)
   pub carried : (i : ℕ) → i < length rows → OnCarried (standing_at d i) (λ from until. ((row_at rows i).start ≤ from) × (from ≤ until) × (until ≤ (row_at rows i).end))
-  -- T305 and twice T308 with a link after its end a booking is over or missed
-  pub cleared : (i : ℕ) → i < length rows → (row_at rows i).end + clearing_time + lost (row_at rows i).end ≤ d.moment → (standing_at d i ≢ Unoffered) × OnLive (standing_at d i) (λ call a. ⊥)
+  -- T305 and twice T308 with a link after its end a booking is over or missed, where each second without one may take T308 more
+  pub cleared : (i : ℕ) → i < length rows → (row_at rows i).end + clearing_time + (1 + t308) * lost (row_at rows i).end ≤ d.moment → (standing_at d i ≢ Unoffered) × OnLive (standing_at d i) (λ call a. ⊥)
 
 -- a SETUP is sent for an accepted outward booking that runs, which its reference names, on its channel
 pub record SetupFits (rows : List Row) (assigned : List (Option ℕ)) (t : ℕ) (o : Outgoing) : Type 0 where

@@ -18,3 +18,4 @@ pub mod Passing
 pub mod SlotSteps
 pub mod Course
 pub mod Outlasting
+pub mod Extended

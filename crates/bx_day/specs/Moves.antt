@@ -6,7 +6,7 @@ use Rattle.bx_calls.specs.declared.transition.Next.{Next}
 use Rattle.bx_calls.specs.declared.transition.Next.TheVariants.{Live, Over, Broken}
 use Rattle.bx_calls.specs.PlainCalls.{PlainNetCall}
 use Rattle.bx_calls.specs.declared.net_state.NetState.{NetState}
-use Rattle.bx_calls.specs.declared.net_state.NetState.TheVariants.{Active}
+use Rattle.bx_calls.specs.declared.net_state.NetState.TheVariants.{Active, Enquiring}
 use Rattle.bx_day.specs.declared.entry.Activity.{Activity}
 use Rattle.bx_day.specs.declared.entry.Activity.TheVariants.{Never, Since, Was}
 use Rattle.bx_day.specs.declared.entry.Standing.{Standing}
@@ -21,6 +21,7 @@ stays s = becomes s None
 
 abbrev pub is_active : NetState → Bool
 is_active Active = true
+is_active (Enquiring asked due) = true
 is_active _ = false
 
 -- by whether the call is Active now

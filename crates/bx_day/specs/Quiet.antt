@@ -1,7 +1,7 @@
 -- When a tick may do something to a booking.
 use Rattle.std.specs.Prelude.{ℕ, min, if◌then◌else◌}
 use Rattle.bx_calls.specs.declared.net_state.NetState.{NetState}
-use Rattle.bx_calls.specs.declared.net_state.NetState.TheVariants.{OutgoingCallProceeding, CallPresent, IncomingCallProceeding, CallReceived, Active, DisconnectIndication, ReleaseRequest}
+use Rattle.bx_calls.specs.declared.net_state.NetState.TheVariants.{OutgoingCallProceeding, CallPresent, IncomingCallProceeding, CallReceived, Active, Enquiring, DisconnectIndication, ReleaseRequest}
 use Rattle.bx_day.specs.declared.entry.Entry.{Entry}
 use Rattle.bx_day.specs.declared.entry.Standing.{Standing}
 use Rattle.bx_day.specs.declared.entry.Standing.TheVariants.{Unoffered, OnCall}
@@ -13,6 +13,7 @@ call_due (CallPresent again due) end = min due end
 call_due (IncomingCallProceeding due) end = min due end
 call_due (CallReceived due) end = min due end
 call_due Active end = end
+call_due (Enquiring asked due) end = min due end
 call_due (DisconnectIndication cause due) end = due
 call_due (ReleaseRequest again cause due) end = due
 

@@ -7,6 +7,7 @@ mod calling;
 mod end;
 mod entry;
 mod exchange;
+mod extending;
 pub mod laws;
 mod linking;
 mod moving;
@@ -22,4 +23,5 @@ mod ticking;
 
 pub use entry::{Activity, Entry, Standing};
 pub use exchange::Exchange;
+pub use extending::NoExtension;
 pub use outcome::Outcome;

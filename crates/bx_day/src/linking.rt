@@ -64,7 +64,7 @@ fn starts(alloc: Global, entries: &[Entry]) -> Result<Vec<(u32, u16)>, AllocErro
     Ok(order)
 }
 
-fn is_refused(standing: Standing) -> bool
+pub(crate) fn is_refused(standing: Standing) -> bool
     ensures { result ≡ is_refused standing }
 {
     match standing {

@@ -60,7 +60,7 @@ fn outlasted(entry: &Entry, seconds: u32, moment: u32) -> Standing
 }
 
 /// For each channel the first of its bookings that wait.
-fn first_waiting(entries: &[Entry]) -> [Option<u16>; 32]
+pub(crate) fn first_waiting(entries: &[Entry]) -> [Option<u16>; 32]
     requires few { length entries.now ≤ MAX_BOOKINGS }
     requires seated { AllByRecursion Seated entries.now }
     ensures { AreEarliest entries.now (length entries.now) result }

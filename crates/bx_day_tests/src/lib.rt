@@ -46,6 +46,8 @@ mod quiet_seconds;
 #[cfg(test)]
 mod replayed_days;
 #[cfg(test)]
+mod sales;
+#[cfg(test)]
 mod script_faults;
 #[cfg(test)]
 mod script_policies;

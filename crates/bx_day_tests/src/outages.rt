@@ -8,7 +8,7 @@ use bx_worked_days::{Row, exchange_of};
 use bx_worked_messages::{
     ALERTING, CONNECT, CONNECT_ACKNOWLEDGE, DISCONNECT_16, FAR_RELEASE, FAR_RELEASE_COMPLETE,
     PROCEEDING, RELEASE_16, RELEASE_COMPLETE, RELEASE_COMPLETE_102, SETUP, SETUP_REFERENCE_2,
-    SETUP_REFERENCE_7,
+    SETUP_REFERENCE_7, STATUS_101,
 };
 use std::alloc::Global;
 
@@ -43,9 +43,21 @@ const CONNECT_REFERENCE_2: &[u8] = &[0x08, 0x02, 0x80, 0x02, 0x07];
 
 const CONNECT_ACKNOWLEDGE_REFERENCE_2: &[u8] = &[0x08, 0x02, 0x00, 0x02, 0x0F];
 
+const STATUS_ENQUIRY: &[u8] = &[0x08, 0x02, 0x00, 0x01, 0x75];
+
+const FAR_STATUS_ACTIVE: &[u8] = &[
+    0x08, 0x02, 0x80, 0x01, 0x7D, 0x08, 0x02, 0x80, 0x9E, 0x14, 0x01, 0x0A,
+];
+
+const FAR_STATUS_NULL: &[u8] = &[
+    0x08, 0x02, 0x80, 0x01, 0x7D, 0x08, 0x02, 0x80, 0x9E, 0x14, 0x01, 0x00,
+];
+
+const DISCONNECT_41: &[u8] = &[0x08, 0x02, 0x00, 0x01, 0x45, 0x08, 0x02, 0x82, 0xA9];
+
 const DISCONNECT_102: &[u8] = &[0x08, 0x02, 0x00, 0x01, 0x45, 0x08, 0x02, 0x82, 0xE6];
 
-static WORKED: [Worked; 19] = [
+static WORKED: [Worked; 23] = [
     Worked {
         name: "a booking that starts without a link is offered in the first second with one",
         bookings: &[(10, 60, 1, false)],
@@ -178,14 +190,14 @@ static WORKED: [Worked; 19] = [
         is_broken: false,
     },
     Worked {
-        name: "T305 stands still",
+        name: "RELEASE behind a DISCONNECT goes out in the first second with a link",
         bookings: &[(0, 60, 1, false)],
         steps: &[
             Step::Linked(1, &[], &[SETUP]),
             Step::Linked(1, CONNECT, &[CONNECT_ACKNOWLEDGE]),
             Step::Linked(60, &[], &[DISCONNECT_16]),
             Step::Without(100),
-            Step::Linked(130, &[], &[RELEASE_16]),
+            Step::Linked(101, &[], &[RELEASE_16]),
         ],
         outcomes: &[Outcome::Live],
         held: Some((1, CallState::ReleaseRequest)),
@@ -266,7 +278,7 @@ static WORKED: [Worked; 19] = [
         is_broken: false,
     },
     Worked {
-        name: "a release that was sent twice is not given up without a link",
+        name: "a release that was sent twice is sent again in the first second with a link",
         bookings: &[(0, 60, 1, false)],
         steps: &[
             Step::Linked(1, &[], &[SETUP]),
@@ -275,14 +287,15 @@ static WORKED: [Worked; 19] = [
             Step::Linked(90, &[], &[RELEASE_16]),
             Step::Linked(94, &[], &[RELEASE_16]),
             Step::Without(150),
-            Step::Linked(153, &[], &[]),
+            Step::Linked(151, &[], &[RELEASE_16]),
+            Step::Linked(154, &[], &[]),
         ],
         outcomes: &[Outcome::Live],
         held: Some((1, CallState::ReleaseRequest)),
         is_broken: false,
     },
     Worked {
-        name: "it is given up 4 seconds with a link behind its second try",
+        name: "it is given up 4 seconds with a link behind the two tries of that",
         bookings: &[(0, 60, 1, false)],
         steps: &[
             Step::Linked(1, &[], &[SETUP]),
@@ -291,11 +304,76 @@ static WORKED: [Worked; 19] = [
             Step::Linked(90, &[], &[RELEASE_16]),
             Step::Linked(94, &[], &[RELEASE_16]),
             Step::Without(150),
-            Step::Linked(154, &[], &[]),
+            Step::Linked(151, &[], &[RELEASE_16]),
+            Step::Linked(155, &[], &[]),
         ],
         outcomes: &[Outcome::Carried { from: 1, until: 60 }],
         held: None,
         is_broken: true,
+    },
+    Worked {
+        name: "the user is asked in the first second with a link, and a call that it has goes on",
+        bookings: &[(0, 60, 1, false)],
+        steps: &[
+            Step::Linked(1, &[], &[SETUP]),
+            Step::Linked(1, CONNECT, &[CONNECT_ACKNOWLEDGE]),
+            Step::Without(20),
+            Step::Linked(21, &[], &[STATUS_ENQUIRY]),
+            Step::Linked(21, FAR_STATUS_ACTIVE, &[]),
+            Step::Linked(60, &[], &[DISCONNECT_16]),
+        ],
+        outcomes: &[Outcome::Live],
+        held: Some((1, CallState::DisconnectIndication)),
+        is_broken: false,
+    },
+    Worked {
+        name: "a call that the user has not is over",
+        bookings: &[(0, 60, 1, false)],
+        steps: &[
+            Step::Linked(1, &[], &[SETUP]),
+            Step::Linked(1, CONNECT, &[CONNECT_ACKNOWLEDGE]),
+            Step::Without(20),
+            Step::Linked(21, &[], &[STATUS_ENQUIRY]),
+            Step::Linked(21, FAR_STATUS_NULL, &[]),
+        ],
+        outcomes: &[Outcome::Carried { from: 1, until: 21 }],
+        held: None,
+        is_broken: false,
+    },
+    Worked {
+        name: "where no answer comes it is asked once more, and then cleared",
+        bookings: &[(0, 60, 1, false)],
+        steps: &[
+            Step::Linked(1, &[], &[SETUP]),
+            Step::Linked(1, CONNECT, &[CONNECT_ACKNOWLEDGE]),
+            Step::Without(20),
+            Step::Linked(21, &[], &[STATUS_ENQUIRY]),
+            Step::Linked(25, &[], &[STATUS_ENQUIRY]),
+            Step::Linked(29, &[], &[DISCONNECT_41]),
+            Step::Linked(29, FAR_RELEASE, &[RELEASE_COMPLETE]),
+        ],
+        outcomes: &[Outcome::Carried { from: 1, until: 29 }],
+        held: None,
+        is_broken: false,
+    },
+    Worked {
+        name: "behind each outage it is asked anew",
+        bookings: &[(0, 60, 1, false)],
+        steps: &[
+            Step::Linked(1, &[], &[SETUP]),
+            Step::Linked(1, CONNECT, &[CONNECT_ACKNOWLEDGE]),
+            Step::Without(20),
+            Step::Linked(21, &[], &[STATUS_ENQUIRY]),
+            Step::Linked(25, &[], &[STATUS_ENQUIRY]),
+            Step::Without(27),
+            Step::Linked(28, &[], &[STATUS_ENQUIRY]),
+            Step::Linked(32, &[], &[STATUS_ENQUIRY]),
+            Step::Linked(32, CONNECT, &[STATUS_101]),
+            Step::Linked(60, &[], &[DISCONNECT_16]),
+        ],
+        outcomes: &[Outcome::Live],
+        held: Some((1, CallState::DisconnectIndication)),
+        is_broken: false,
     },
 ];
 

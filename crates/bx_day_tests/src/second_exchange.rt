@@ -7,12 +7,14 @@ use bx_channels::Channel;
 use bx_day::{Exchange, Outcome};
 use bx_worked_days::Row;
 
-/// A live call: the number of its state, what is left of its timer, whether its message was sent again, and its reference.
+/// A live call: the number of its state, what is left of its timer, whether its message was sent again, how often the timer
+/// of an Active call is due before that is cleared, if one runs, and its reference.
 #[derive(Clone, Copy)]
 struct Live {
     state: u8,
     left: u32,
     again: bool,
+    asks: u8,
     reference: u16,
 }
 
@@ -75,6 +77,7 @@ impl Booked {
             state,
             left,
             again: false,
+            asks: 0,
             reference,
         };
         self.becomes(Course::Live(live), now);
@@ -87,6 +90,13 @@ impl Booked {
                 self.course = Course::Live(Live {
                     left: 4,
                     again: true,
+                    ..live
+                });
+            }
+            (10, _) if live.asks > 1 => {
+                self.course = Course::Live(Live {
+                    left: 4,
+                    asks: live.asks - 1,
                     ..live
                 });
             }
@@ -108,7 +118,14 @@ impl Booked {
             self.goes_to(live.reference, 12, if linked { 30 } else { 1 }, now);
         } else if linked && live.state == 3 {
             self.goes_to(live.reference, 10, 0, now);
-        } else if linked && live.state != 10 {
+        } else if !linked && (clears || live.state == 10) {
+            self.course = Course::Live(Live {
+                left: 1,
+                again: false,
+                asks: if clears { 0 } else { 3 },
+                ..live
+            });
+        } else if linked && (live.state != 10 || live.asks > 0) {
             let left = live.left.saturating_sub(1);
             if left == 0 {
                 return self.fires(live, now);
@@ -145,6 +162,9 @@ impl Booked {
             channel: self.row.2,
             from_network: !self.row.3,
         };
+        if let Course::Live(live) = self.course {
+            self.course = Course::Live(Live { asks: 0, ..live });
+        }
         match at_network(call, heard).1 {
             Next::Same => {}
             Next::Over => self.becomes(Course::Over, now),

@@ -7,9 +7,10 @@ pub enum Event<'a> {
     Receive(&'a [u8]),
 }
 
-/// An event of a live day: one on its link, or a second without a link.
+/// An event of a live day: one on its link, a second without a link, or a booking that is sold, as a line tells it.
 #[derive(Clone, Copy)]
 pub enum LiveEvent<'a> {
     OnLink(Event<'a>),
     WithoutLink,
+    Sold(&'a [u8]),
 }

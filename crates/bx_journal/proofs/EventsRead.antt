@@ -5,7 +5,7 @@ use Rattle.std.specs.List.{flat_map}
 use Rattle.std.specs.Option.{option_map}
 use Rattle.std.proofs.lemmas.List.{map_push, flat_map_more}
 use Rattle.std.proofs.lemmas.Slice.Eq.{bytes_eq-Decides}
-use Rattle.bx_events.specs.Events.{Tick, Receive, LiveEvent, OnLink, WithoutLink}
+use Rattle.bx_events.specs.Events.{Tick, Receive, LiveEvent, OnLink, WithoutLink, Sold}
 use Rattle.bx_journal.specs.Hex.{hex_of}
 use Rattle.bx_journal.proofs.Digits.{hex_length}
 use Rattle.bx_journal.specs.declared.event.RecordedEvent.{RecordedEvent}
@@ -86,6 +86,7 @@ short : (e : LiveEvent) → IsEvent e → length (line_of e) ≤ 526
 short (OnLink Tick) is = omega arith
 short (OnLink (Receive octets)) is = omega (arith, length-append (codes "heard ") (hex_of 65 octets), hex_length 65 octets, is.1)
 short WithoutLink is = omega arith
+short (Sold booking) is = omega (arith, length-append (codes "sold ") booking, is.1.0)
 
 none_of : (line : List ℕ) (o : Option LiveEvent) → event_on line ≡ o → 526 < length line → o ≡ None
 none_of line None is long = refl

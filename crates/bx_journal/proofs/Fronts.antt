@@ -46,8 +46,8 @@ module _ (plan : List ℕ) where
     | inr torn ↦
         let front : take m (ended (plan_line plan) ++ []) ≡ take m (plan_line plan) =
         ap (take m) (append-nil (ended (plan_line plan))) ∙ take-append-le m (plan_line plan) (10 ∷ []) torn in
-        let none = (lines_without_lf plan []).1 in
-        let lines = lines_whole (first ∷ []) (take m (plan_line plan)) ((lines_without_lf plan []).0, tt) (torn_line _ (front_without_lf m (plan_line plan) none.0)) in
+        let none = (lines_without_lf plan [] tt).1 in
+        let lines = lines_whole (first ∷ []) (take m (plan_line plan)) ((lines_without_lf plan [] tt).0, tt) (torn_line _ (front_without_lf m (plan_line plan) none.0)) in
         inl (ap (λ (l : List ℕ). recovered plan (ended first ++ l)) front ∙ ap (journal_events plan) (ap (λ (l : List ℕ). whole_lines (l ++ take m (plan_line plan))) (sym (append-nil (ended first))) ∙ lines))
   ]
 
@@ -58,5 +58,5 @@ module _ (plan : List ℕ) where
         subst (λ k. IsUnbegun plan (take k (journal_text plan []))) split (subst (IsUnbegun plan) (sym (take_past (ended first) (ended (plan_line plan) ++ []) (n - 13))) (second_front (n - 13)))
     | inr torn ↦
         let front : take n (journal_text plan []) ≡ take n first = take-append-le n first (10 ∷ (ended (plan_line plan) ++ [])) (omega arith) in
-        inl (ap (recovered plan) front ∙ ap (journal_events plan) (torn_line _ (front_without_lf n first (lines_without_lf plan []).0)))
+        inl (ap (recovered plan) front ∙ ap (journal_events plan) (torn_line _ (front_without_lf n first (lines_without_lf plan [] tt).0)))
   ]

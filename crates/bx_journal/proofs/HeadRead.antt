@@ -35,10 +35,10 @@ module _ (plan : List ℕ) where
 
   -- the first line is right
   pub behind_first : (more : List ℕ) → recovered plan (ended first ++ more) ≡ tied_events plan (whole_lines more)
-  behind_first more = ap (journal_events plan) (line_first first more (lines_without_lf plan []).0)
+  behind_first more = ap (journal_events plan) (line_first first more (lines_without_lf plan [] tt).0)
 
   pub events_behind_first : (more : List ℕ) → events_before plan (ended first ++ more) ≡ events_behind_plan plan (whole_lines more)
-  events_behind_first more = ap (events_behind_head plan) (line_first first more (lines_without_lf plan []).0)
+  events_behind_first more = ap (events_behind_head plan) (line_first first more (lines_without_lf plan [] tt).0)
 
   -- the second line is another one
   pub other_second : (line more : List ℕ) → HasNoLf line → bytes_eq line (plan_line plan) ≡ false → recovered plan (ended first ++ (ended line ++ more)) ≡ Err (plan_fault line)
@@ -57,12 +57,12 @@ module _ (plan : List ℕ) where
   pub behind_head : (more : List ℕ) → recovered plan (head ++ more) ≡ events_on 3 (whole_lines more)
   behind_head more =
       ap (recovered plan) (append_assoc (ended first) (ended (plan_line plan)) more) ∙ behind_first (ended (plan_line plan) ++ more)
-      ∙ ap (tied_events plan) (line_first (plan_line plan) more (lines_without_lf plan []).1.0) ∙ is_tied plan (plan_line plan) (whole_lines more) same
+      ∙ ap (tied_events plan) (line_first (plan_line plan) more (lines_without_lf plan [] tt).1.0) ∙ is_tied plan (plan_line plan) (whole_lines more) same
 
   pub events_behind_both : (more : List ℕ) → events_before plan (head ++ more) ≡ events_to_fault (whole_lines more)
   events_behind_both more =
       ap (events_before plan) (append_assoc (ended first) (ended (plan_line plan)) more) ∙ events_behind_first (ended (plan_line plan) ++ more)
-      ∙ ap (events_behind_plan plan) (line_first (plan_line plan) more (lines_without_lf plan []).1.0) ∙ ap (λ b. cond b (events_to_fault (whole_lines more)) []) same
+      ∙ ap (events_behind_plan plan) (line_first (plan_line plan) more (lines_without_lf plan [] tt).1.0) ∙ ap (λ b. cond b (events_to_fault (whole_lines more)) []) same
 
   pub torn_first : (torn : List ℕ) → HasNoLf torn → recovered plan torn ≡ Err NotBegun
   torn_first torn none = ap (journal_events plan) (torn_line torn none)
@@ -92,16 +92,16 @@ module _ (plan : List ℕ) where
   lines_then (line ∷ lines) rest none =
       ap whole_lines (append_assoc (ended line) (flat_map ended lines) rest) ∙ line_first line (flat_map ended lines ++ rest) none.0 ∙ ap (λ (ls : List (List ℕ)). line ∷ ls) (lines_then lines rest none.1)
 
-  broken_lines : (events : List LiveEvent) (line more : List ℕ) → HasNoLf line → whole_lines (lines_text events ++ (ended line ++ more)) ≡ map line_of events ++ line ∷ whole_lines more
-  broken_lines events line more none =
-      lines_then (map line_of events) (ended line ++ more) (lines_without_lf plan events).1.1 ∙ ap (λ (ls : List (List ℕ)). map line_of events ++ ls) (line_first line more none)
+  broken_lines : (events : List LiveEvent) (line more : List ℕ) → AreEvents events → HasNoLf line → whole_lines (lines_text events ++ (ended line ++ more)) ≡ map line_of events ++ line ∷ whole_lines more
+  broken_lines events line more are none =
+      lines_then (map line_of events) (ended line ++ more) (lines_without_lf plan events are).1.1 ∙ ap (λ (ls : List (List ℕ)). map line_of events ++ ls) (line_first line more none)
 
   module _ (events : List LiveEvent) (line : List ℕ) (are : AreEvents events) (none : HasNoLf line) (bad : event_on line ≡ None) (more : List ℕ) where
     regroup : (head ++ (lines_text events ++ ended line)) ++ more ≡ head ++ (lines_text events ++ (ended line ++ more))
     regroup = append_assoc head (lines_text events ++ ended line) more ∙ ap (λ (l : List ℕ). head ++ l) (append_assoc (lines_text events) (ended line) more)
 
     pub broken : recovered plan ((head ++ (lines_text events ++ ended line)) ++ more) ≡ Err (BadLine (3 + length events))
-    broken = ap (recovered plan) regroup ∙ behind_head (lines_text events ++ (ended line ++ more)) ∙ ap (events_on 3) (broken_lines events line more none) ∙ break_after 3 events line more are none bad
+    broken = ap (recovered plan) regroup ∙ behind_head (lines_text events ++ (ended line ++ more)) ∙ ap (events_on 3) (broken_lines events line more are none) ∙ break_after 3 events line more are none bad
 
     pub before_break : events_before plan ((head ++ (lines_text events ++ ended line)) ++ more) ≡ events
-    before_break = ap (events_before plan) regroup ∙ events_behind_both (lines_text events ++ (ended line ++ more)) ∙ ap events_to_fault (broken_lines events line more none) ∙ events_then_break events line more are bad
+    before_break = ap (events_before plan) regroup ∙ events_behind_both (lines_text events ++ (ended line ++ more)) ∙ ap events_to_fault (broken_lines events line more are none) ∙ events_then_break events line more are bad

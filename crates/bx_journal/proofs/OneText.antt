@@ -12,8 +12,8 @@ use Rattle.bx_journal.proofs.Digits.{octets_read}
 use Rattle.bx_journal.proofs.WholeLines.{lines_whole}
 use Rattle.bx_journal.proofs.ReadAgain.{lines_without_lf, events_read}
 
-whole : (plan : List ℕ) (es : List LiveEvent) → whole_lines (journal_text plan es) ≡ lines_of plan es
-whole plan es = ap whole_lines (sym (append-nil (journal_text plan es))) ∙ lines_whole (lines_of plan es) [] (lines_without_lf plan es) refl
+whole : (plan : List ℕ) (es : List LiveEvent) → AreEvents es → whole_lines (journal_text plan es) ≡ lines_of plan es
+whole plan es are = ap whole_lines (sym (append-nil (journal_text plan es))) ∙ lines_whole (lines_of plan es) [] (lines_without_lf plan es are) refl
 
 abbrev the_ok : List LiveEvent → Result (List LiveEvent) JournalFault
 the_ok es = Ok es
@@ -26,7 +26,7 @@ same_plan p q e = cc
 
 pub one : (p q : List ℕ) (a b : List LiveEvent) → AreOctets p → AreOctets q → AreEvents a → AreEvents b → journal_text p a ≡ journal_text q b → (p ≡ q) × (a ≡ b)
 one p q a b p_are q_are a_are b_are same =
-    let lines : lines_of p a ≡ lines_of q b = sym (whole p a) ∙ ap whole_lines same ∙ whole q b in
+    let lines : lines_of p a ≡ lines_of q b = sym (whole p a a_are) ∙ ap whole_lines same ∙ whole q b b_are in
     let digits : hex_of 97 p ≡ hex_of 97 q = ap (λ (ls : List (List ℕ)). drop 5 (get_or ls 1 [])) lines in
     let events : map line_of a ≡ map line_of b = ap (λ (ls : List (List ℕ)). drop 2 ls) lines in (
       same_plan p q (sym (octets_read 97 (omega arith) p p_are) ∙ ap (octets_in 97) digits ∙ octets_read 97 (omega arith) q q_are),

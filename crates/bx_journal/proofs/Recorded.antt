@@ -35,7 +35,7 @@ front_left plan es e n are is = elim (cases_lt (length (line_of e)) n) [
       inr (ap (λ (l : List ℕ). recovered plan (journal_text plan es ++ l)) all ∙ ap (recovered plan) (sym (text_more plan es e)) ∙ recovered_whole plan (es ++ e ∷ []) (are_more es e are is))
   | inr torn ↦
       let front : take n (ended (line_of e)) ≡ take n (line_of e) = take-append-le n (line_of e) (10 ∷ []) torn in
-      inl (ap (λ (l : List ℕ). recovered plan (journal_text plan es ++ l)) front ∙ recovered_again plan es (take n (line_of e)) are (torn_line _ (front_without_lf n (line_of e) (line_without_lf e))))
+      inl (ap (λ (l : List ℕ). recovered plan (journal_text plan es ++ l)) front ∙ recovered_again plan es (take n (line_of e)) are (torn_line _ (front_without_lf n (line_of e) (line_without_lf e is))))
 ]
 
 -- with one event more, which is not on record

@@ -1,19 +1,19 @@
 -- What is read is spelled so.
-use Rattle.std.proofs.Common.{codes, ◌≡◌, ℕ, zero, suc, ◌+◌, ◌-◌, ◌*◌, ◌/◌, ◌%◌, ◌≤◌, ◌<◌, ◌==◌, ◌&&◌, Bool, true, false, cond, leb, List, [], ◌∷◌, ◌++◌, length, take, drop, get_or, map, Option, Some, None, Result, Ok, Err, refl, ap, sym, ◌∙◌, subst, arith, length-append, take-append-drop}
+use Rattle.std.proofs.Common.{codes, ◌≡◌, ℕ, zero, suc, ◌+◌, ◌-◌, ◌*◌, ◌/◌, ◌%◌, ◌≤◌, ◌<◌, ◌==◌, ◌&&◌, Bool, true, false, cond, leb, nat_le, List, [], ◌∷◌, ◌++◌, length, take, drop, get_or, map, Option, Some, None, Result, Ok, Err, refl, ap, sym, ◌∙◌, subst, arith, length-append, take-append-drop}
 use Rattle.std.specs.Str.{bytes_eq}
-use Rattle.std.specs.List.{flat_map}
+use Rattle.std.specs.List.{flat_map, list_all}
 use Rattle.std.specs.Option.{option_map}
 use Rattle.std.proofs.lemmas.List.{take_at, drop_at}
-use Rattle.std.proofs.lemmas.Bool.{eqb-true, leb-true, lt-ltb, le-ltb}
+use Rattle.std.proofs.lemmas.Bool.{eqb-true, leb-true, lt-ltb, le-ltb, and_parts}
 use Rattle.std.proofs.lemmas.Slice.Eq.{bytes_eq-Decides}
-use Rattle.bx_events.specs.Events.{Tick, LiveEvent, OnLink, WithoutLink}
+use Rattle.bx_events.specs.Events.{Tick, LiveEvent, OnLink, WithoutLink, Sold}
 use Rattle.bx_journal.specs.declared.fault.JournalFault.{JournalFault}
-use Rattle.bx_journal.specs.Events.{AreOctets, IsEvent, AreEvents}
+use Rattle.bx_journal.specs.Events.{AreOctets, IsEvent, AreEvents, is_printable}
 use Rattle.bx_journal.specs.Hex.{hex_digit, hex_of, hex_value, octet_of, octets_in, behind_octet}
 use Rattle.bx_journal.specs.Lines.{whole_lines, whole_text, ended, onto}
 use Rattle.bx_journal.specs.Inside.{HasNoLf}
 use Rattle.bx_journal.specs.Text.{line_of, plan_line, lines_of, journal_text}
-use Rattle.bx_journal.specs.Reading.{event_on, heard_on, heard_event, events_on, with_event, tied_events, plan_fault, journal_events, recovered, Recovery, journal_in, with_whole}
+use Rattle.bx_journal.specs.Reading.{event_on, heard_on, heard_event, sold_on, events_on, with_event, tied_events, plan_fault, journal_events, recovered, Recovery, journal_in, with_whole}
 use Rattle.bx_journal.proofs.Digits.{hex_length}
 use Rattle.bx_journal.proofs.WholeLines.{HaveNoLf, lines_whole, torn_line, front_without_lf}
 
@@ -110,15 +110,25 @@ limited : (few : Bool) (line : List ℕ) (e : LiveEvent) → leb (length (drop 6
 limited true line e few word some = heard line (octets_in 65 (drop 6 line)) e (leb-true _ _ few) refl word some
 limited false line e few word some = absurd cc
 
-forms : (t d h : Bool) (line : List ℕ) (e : LiveEvent) → bytes_eq line (codes "tick") ≡ t → bytes_eq line (codes "down") ≡ d → bytes_eq (take 6 line) (codes "heard ") ≡ h
-    → cond t (Some (OnLink Tick)) (cond d (Some WithoutLink) (cond h (heard_on (drop 6 line)) None)) ≡ Some e → IsLineOf line e
-forms true d h line e is down word some = subst (IsLineOf line) (some_inj _ _ some) (record { spelled = (bytes_eq-Decides line (codes "tick")).0 is; octets = (tt, tt) })
-forms false true h line e is down word some = subst (IsLineOf line) (some_inj _ _ some) (record { spelled = (bytes_eq-Decides line (codes "down")).0 down; octets = (tt, tt) })
-forms false false true line e is down word some = limited (leb (length (drop 6 line)) 520) line e refl ((bytes_eq-Decides (take 6 line) (codes "heard ")).0 word) some
-forms false false false line e is down word some = absurd cc
+sold : (fine : Bool) (line : List ℕ) (e : LiveEvent) → (nat_le (length (drop 5 line)) 120 && list_all is_printable (drop 5 line)) ≡ fine → take 5 line ≡ codes "sold " → cond fine (Some (Sold (drop 5 line))) None ≡ Some e → IsLineOf line e
+sold true line e fine word some =
+    let p = and_parts (nat_le (length (drop 5 line)) 120) (list_all is_printable (drop 5 line)) fine in
+    subst (IsLineOf line) (some_inj _ _ some) (record {
+      spelled = sym (take-append-drop 5 line) ∙ ap (λ (l : List ℕ). l ++ drop 5 line) word;
+      octets = (tt, (leb-true _ _ p.0, p.1));
+    })
+sold false line e fine word some = absurd cc
+
+forms : (t d h s : Bool) (line : List ℕ) (e : LiveEvent) → bytes_eq line (codes "tick") ≡ t → bytes_eq line (codes "down") ≡ d → bytes_eq (take 6 line) (codes "heard ") ≡ h → bytes_eq (take 5 line) (codes "sold ") ≡ s
+    → cond t (Some (OnLink Tick)) (cond d (Some WithoutLink) (cond h (heard_on (drop 6 line)) (cond s (sold_on (drop 5 line)) None))) ≡ Some e → IsLineOf line e
+forms true d h s line e is down word sells some = subst (IsLineOf line) (some_inj _ _ some) (record { spelled = (bytes_eq-Decides line (codes "tick")).0 is; octets = (tt, tt) })
+forms false true h s line e is down word sells some = subst (IsLineOf line) (some_inj _ _ some) (record { spelled = (bytes_eq-Decides line (codes "down")).0 down; octets = (tt, tt) })
+forms false false true s line e is down word sells some = limited (leb (length (drop 6 line)) 520) line e refl ((bytes_eq-Decides (take 6 line) (codes "heard ")).0 word) some
+forms false false false true line e is down word sells some = sold (nat_le (length (drop 5 line)) 120 && list_all is_printable (drop 5 line)) line e refl ((bytes_eq-Decides (take 5 line) (codes "sold ")).0 sells) some
+forms false false false false line e is down word sells some = absurd cc
 
 pub line_spelled : (line : List ℕ) (e : LiveEvent) → event_on line ≡ Some e → IsLineOf line e
-line_spelled line e some = forms (bytes_eq line (codes "tick")) (bytes_eq line (codes "down")) (bytes_eq (take 6 line) (codes "heard ")) line e refl refl refl some
+line_spelled line e some = forms (bytes_eq line (codes "tick")) (bytes_eq line (codes "down")) (bytes_eq (take 6 line) (codes "heard ")) (bytes_eq (take 5 line) (codes "sold ")) line e refl refl refl refl some
 
 abbrev the_ok : List LiveEvent → Result (List LiveEvent) JournalFault
 the_ok x = Ok x

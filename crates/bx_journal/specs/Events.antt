@@ -1,6 +1,7 @@
 -- What may be put on record.
-use Rattle.std.specs.Prelude.{ℕ, ◌≤◌, ◌<◌, List, [], ◌∷◌, length, slice_index, slice_index_or}
-use Rattle.bx_events.specs.Events.{Tick, Receive, LiveEvent, OnLink, WithoutLink}
+use Rattle.std.specs.Prelude.{◌≡◌, ℕ, ◌≤◌, ◌<◌, ◌&&◌, nat_le, Bool, true, List, [], ◌∷◌, length, slice_index, slice_index_or}
+use Rattle.std.specs.List.{list_all}
+use Rattle.bx_events.specs.Events.{Tick, Receive, LiveEvent, OnLink, WithoutLink, Sold}
 use Rattle.bx_events.specs.Told.{live_event_of}
 use Rattle.bx_events.specs.declared.event.LiveEvent.TheVariants as rust
 use Rattle.bx_events.specs.declared.event.Event.TheVariants as plain
@@ -8,11 +9,16 @@ use Rattle.bx_events.specs.declared.event.LiveEvent as rust_live
 use Rattle.bx_journal.specs.declared.event.RecordedEvent.{RecordedEvent}
 use Rattle.bx_journal.specs.declared.event.RecordedEvent.TheVariants as recorded
 
--- what came is no longer than the longest message
+-- printable ASCII
+abbrev pub is_printable : ℕ → Bool
+is_printable octet = nat_le 32 octet && nat_le octet 126
+
+-- what came is no longer than the longest message, and what is sold is printable, and no longer than its line may be
 abbrev pub IsMessage : LiveEvent → Type 0
 IsMessage (OnLink Tick) = Unit {0}
 IsMessage (OnLink (Receive octets)) = length octets ≤ 260
 IsMessage WithoutLink = Unit {0}
+IsMessage (Sold booking) = (length booking ≤ 120) × (list_all is_printable booking ≡ true)
 
 abbrev pub AreOctets : List ℕ → Type 0
 AreOctets octets = (i : ℕ) → slice_index octets i < 256
@@ -21,6 +27,7 @@ abbrev pub HasOctets : LiveEvent → Type 0
 HasOctets (OnLink Tick) = Unit {0}
 HasOctets (OnLink (Receive octets)) = AreOctets octets
 HasOctets WithoutLink = Unit {0}
+HasOctets (Sold booking) = Unit {0}
 
 -- an event that has a line: what came are octets, and no more than a message has
 abbrev pub IsEvent : LiveEvent → Type 0
@@ -39,3 +46,4 @@ abbrev pub recorded_event : RecordedEvent → LiveEvent
 recorded_event recorded.Tick = OnLink Tick
 recorded_event (recorded.Heard octets) = OnLink (Receive octets.items)
 recorded_event recorded.Down = WithoutLink
+recorded_event (recorded.Sold booking) = Sold booking.items

@@ -3,9 +3,10 @@ use Rattle.std.specs.Prelude.{ℕ, ◌+◌, ◌==◌, ◌&&◌, nat_le, Bool, fa
 use Rattle.std.specs.Str.{bytes_eq}
 use Rattle.std.specs.List.{list_all}
 use Rattle.std.specs.Option.{option_map}
-use Rattle.bx_events.specs.Events.{Tick, Receive, LiveEvent, OnLink, WithoutLink}
+use Rattle.bx_events.specs.Events.{Tick, Receive, LiveEvent, OnLink, WithoutLink, Sold}
 use Rattle.bx_journal.specs.declared.fault.JournalFault.{JournalFault}
 use Rattle.bx_journal.specs.declared.fault.JournalFault.TheVariants.{BadLine, OtherPlan, NotBegun}
+use Rattle.bx_journal.specs.Events.{is_printable}
 use Rattle.bx_journal.specs.Hex.{octets_in, is_hex}
 use Rattle.bx_journal.specs.Lines.{whole_lines, whole_text}
 use Rattle.bx_journal.specs.Text.{plan_line}
@@ -17,13 +18,20 @@ heard_event octets = OnLink (Receive octets)
 abbrev pub heard_on : List ℕ → Option LiveEvent
 heard_on digits = if nat_le (length digits) 520 then option_map heard_event (octets_in 65 digits) else None
 
+-- what was sold
+abbrev pub sold_on : List ℕ → Option LiveEvent
+sold_on booking = if nat_le (length booking) 120 && list_all is_printable booking then Some (Sold booking) else None
+
+abbrev pub sold_by : List ℕ → Option LiveEvent
+sold_by line = if bytes_eq (take 5 line) (codes "sold ") then sold_on (drop 5 line) else None
+
 -- the event of a line
 abbrev pub event_on : List ℕ → Option LiveEvent
 event_on line =
     if bytes_eq line (codes "tick") then Some (OnLink Tick)
     else if bytes_eq line (codes "down") then Some WithoutLink
     else if bytes_eq (take 6 line) (codes "heard ") then heard_on (drop 6 line)
-    else None
+    else sold_by line
 
 -- an event, and those of the lines behind it; the first fault is answered
 abbrev pub with_event : ℕ → Option LiveEvent → Result (List LiveEvent) JournalFault → Result (List LiveEvent) JournalFault

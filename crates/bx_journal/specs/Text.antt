@@ -1,7 +1,7 @@
 -- The text of a journal: the octets of a plan's digest, and events.
 use Rattle.std.specs.Prelude.{ℕ, List, ◌∷◌, ◌++◌, map, codes}
 use Rattle.std.specs.List.{flat_map}
-use Rattle.bx_events.specs.Events.{Tick, Receive, LiveEvent, OnLink, WithoutLink}
+use Rattle.bx_events.specs.Events.{Tick, Receive, LiveEvent, OnLink, WithoutLink, Sold}
 use Rattle.bx_journal.specs.Hex.{hex_of}
 use Rattle.bx_journal.specs.Lines.{ended}
 
@@ -10,6 +10,7 @@ abbrev pub line_of : LiveEvent → List ℕ
 line_of (OnLink Tick) = codes "tick"
 line_of (OnLink (Receive octets)) = codes "heard " ++ hex_of 65 octets
 line_of WithoutLink = codes "down"
+line_of (Sold booking) = codes "sold " ++ booking
 
 -- the line that ties a journal to its plan
 abbrev pub plan_line : List ℕ → List ℕ

@@ -2,8 +2,12 @@
 
 ghost use Rattle.std.specs.Prelude.{◌≡◌};
 
+use arrayvec::ArrayVec;
 use bx_events::{Event, LiveEvent};
 use bx_q931::Octets;
+
+/// The line of a booking that is sold: printable ASCII.
+pub type SoldLine = ArrayVec<u8, 120>;
 
 /// An event of a live day, with the octets that came.
 #[derive(Drop)]
@@ -11,6 +15,7 @@ pub enum RecordedEvent {
     Tick,
     Heard(Octets),
     Down,
+    Sold(SoldLine),
 }
 
 impl RecordedEvent {
@@ -25,6 +30,7 @@ impl RecordedEvent {
             RecordedEvent::Tick => LiveEvent::OnLink(Event::Tick),
             RecordedEvent::Heard(octets) => LiveEvent::OnLink(Event::Receive(octets)),
             RecordedEvent::Down => LiveEvent::WithoutLink,
+            RecordedEvent::Sold(booking) => LiveEvent::Sold(booking),
         }
     }
 }

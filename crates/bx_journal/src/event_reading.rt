@@ -1,11 +1,12 @@
 //! The event of a line.
 
 ghost use Rattle.std.specs.Prelude.{◌≡◌};
+ghost use Rattle.std.specs.List.{list_all};
 ghost use Rattle.std.specs.Option.{option_map};
-ghost use Rattle.bx_journal.specs.Events.{recorded_event};
-ghost use Rattle.bx_journal.specs.Reading.{event_on, heard_on};
+ghost use Rattle.bx_journal.specs.Events.{is_printable, recorded_event};
+ghost use Rattle.bx_journal.specs.Reading.{event_on, heard_on, sold_by, sold_on};
 
-use crate::event::RecordedEvent;
+use crate::event::{RecordedEvent, SoldLine};
 use crate::hex::octets_in;
 
 /// What came, by its digits.
@@ -16,6 +17,43 @@ fn heard_on(digits: &[u8]) -> Option<RecordedEvent>
         return None;
     }
     Some(RecordedEvent::Heard(octets_in(digits)?))
+}
+
+/// Whether each octet is printable ASCII.
+pub fn are_printable(octets: &[u8]) -> bool
+    ensures { result ≡ list_all is_printable octets.now }
+{
+    for octet in octets {
+        if *octet < 32 || *octet > 126 {
+            return false;
+        }
+    }
+    true
+}
+
+/// What was sold.
+fn sold_on(booking: &[u8]) -> Option<RecordedEvent>
+    ensures { option_map recorded_event result ≡ sold_on booking.now }
+{
+    let mut line = SoldLine::new();
+    if booking.len() > 120 || !are_printable(booking) {
+        return None;
+    }
+    match line.try_extend_from_slice(booking) {
+        Ok(()) => Some(RecordedEvent::Sold(line)),
+        Err(_) => None,
+    }
+}
+
+/// What was sold, by its line.
+fn sold_by(line: &[u8]) -> Option<RecordedEvent>
+    ensures { option_map recorded_event result ≡ sold_by line.now }
+{
+    if line.len() >= 5 && &line[..5] == b"sold ".as_slice() {
+        sold_on(&line[5..])
+    } else {
+        None
+    }
 }
 
 /// The event of a line, where it has one.
@@ -29,6 +67,6 @@ pub(crate) fn event_on(line: &[u8]) -> Option<RecordedEvent>
     } else if line.len() >= 6 && &line[..6] == b"heard ".as_slice() {
         heard_on(&line[6..])
     } else {
-        None
+        sold_by(line)
     }
 }

@@ -67,6 +67,10 @@ pub(crate) fn line_of(event: LiveEvent<'_>) -> Line
             add_hex(&mut line, b'A', octets);
         }
         LiveEvent::WithoutLink => add(&mut line, b"down"),
+        LiveEvent::Sold(booking) => {
+            add(&mut line, b"sold ");
+            add(&mut line, booking);
+        }
     }
     line.push(b'\n');
     line

@@ -2,7 +2,7 @@
 
 use crate::losing_disk::{LosingDisk, events_read};
 use crate::told::reading;
-use crate::worked::{DOWN, ENDS, ENQUIRY, PLAN, TEXT, TICK};
+use crate::worked::{DOWN, ENDS, ENQUIRY, PLAN, SOLD, TEXT, TICK};
 use arrayvec::ArrayVec;
 use bx_journal::{
     Event, JournalFault, LiveEvent, begin, commit, record_event, record_events, resume, write_event,
@@ -24,7 +24,10 @@ fn recorded(disk: &mut LosingDisk) -> u64 {
     if write_event(disk, nothing).is_err() || commit(disk).is_err() {
         return 4;
     }
-    5
+    if record_event(disk, SOLD).is_err() {
+        return 5;
+    }
+    6
 }
 
 /// Whether what a crash left is a front of the worked journal, with so many events at least.
@@ -54,14 +57,14 @@ fn are_fronts(calls: u32) -> bool {
 #[test]
 fn what_a_crash_leaves_is_a_front(rt: HostRuntime) -> Result<(), Fail> {
     let mut fronts = true;
-    for calls in 0..12u32 {
+    for calls in 0..14u32 {
         fronts = fronts && are_fronts(calls);
     }
     assert!(rt; fronts);
-    let mut disk = LosingDisk::new(ArrayVec::new(), 12);
-    assert_eq!(rt; recorded(&mut disk), 5);
+    let mut disk = LosingDisk::new(ArrayVec::new(), 14);
+    assert_eq!(rt; recorded(&mut disk), 6);
     assert_eq!(rt; disk.octets.as_slice(), TEXT);
-    assert_eq!(rt; disk.synced, 122);
+    assert_eq!(rt; disk.synced, 143);
     Ok(())
 }
 

@@ -48,6 +48,9 @@ fn event_line(line: &[u8], marks: &mut Marks) -> bool {
         mark(marks, b"d");
         return true;
     }
+    if let Some(booking) = line.strip_prefix(b"sold ".as_slice()) {
+        return sold_line(booking, marks);
+    }
     let Some(digits) = line.strip_prefix(b"heard ".as_slice()) else {
         return false;
     };
@@ -60,6 +63,17 @@ fn event_line(line: &[u8], marks: &mut Marks) -> bool {
         }
         None => false,
     }
+}
+
+/// The same of what stands behind `sold `.
+fn sold_line(booking: &[u8], marks: &mut Marks) -> bool {
+    let right = booking.len() <= 120 && booking.iter().all(|octet| *octet >= 32 && *octet <= 126);
+    if right {
+        mark(marks, b"s");
+        mark(marks, booking);
+        mark(marks, b".");
+    }
+    right
 }
 
 /// What is wrong with a second line.

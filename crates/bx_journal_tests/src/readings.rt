@@ -28,10 +28,10 @@ fn is_same_turned(at: usize, value: u8) -> bool {
 #[test]
 fn the_worked_journal_is_read(rt: HostRuntime) -> Result<(), Fail> {
     let read = reading(TEXT, &PLAN);
-    assert!(rt; read.answer == Ok(122));
+    assert!(rt; read.answer == Ok(143));
     assert_eq!(rt;
         read.marks.as_slice(),
-        b"th\x08\x02\x01\x00\x75.dth.".as_slice()
+        b"th\x08\x02\x01\x00\x75.dth.s60 90 5 1234 in.".as_slice()
     );
     Ok(())
 }
@@ -68,12 +68,12 @@ fn is_cut_off(reads: u32) -> bool {
 #[test]
 fn each_read_may_fail(rt: HostRuntime) -> Result<(), Fail> {
     let mut same = true;
-    for reads in 0..=122u32 {
+    for reads in 0..=143u32 {
         same = same && is_cut_off(reads);
     }
     assert!(rt; same);
-    let whole = reading(Failing::new(TEXT, 123, 1), &PLAN);
-    assert!(rt; whole.answer == Ok(122));
+    let whole = reading(Failing::new(TEXT, 144, 1), &PLAN);
+    assert!(rt; whole.answer == Ok(143));
     Ok(())
 }
 
@@ -87,10 +87,15 @@ fn another_plan_is_named(rt: HostRuntime) -> Result<(), Fail> {
     Ok(())
 }
 
-/// What is read of the head and so many digits behind `heard `, with an end of the line or without.
-fn heard_digits(alloc: Global, digits: u32, end: &[u8]) -> Option<Result<u64, JournalFault>> {
+/// What is read of the head and so many digits behind a word, with an end of the line or without.
+fn digits_behind(
+    alloc: Global,
+    word: &[u8],
+    digits: u32,
+    end: &[u8],
+) -> Option<Result<u64, JournalFault>> {
     let mut text = TEXT[..83].to_vec(alloc).ok()?;
-    text.extend_from_slice(b"heard ").ok()?;
+    text.extend_from_slice(word).ok()?;
     for _ in 0..digits {
         text.push(b'0').ok()?;
     }
@@ -101,9 +106,19 @@ fn heard_digits(alloc: Global, digits: u32, end: &[u8]) -> Option<Result<u64, Jo
 #[test]
 fn no_line_is_longer_than_that_of_the_longest_message(rt: HostRuntime) -> Result<(), Fail> {
     let alloc = rt.alloc();
-    assert!(rt; heard_digits(alloc, 520, b"\n") == Some(Ok(610)));
-    assert!(rt; heard_digits(alloc, 522, b"\n") == Some(Err(JournalFault::BadLine(3))));
-    assert!(rt; heard_digits(alloc, 20_000, b"\n") == Some(Err(JournalFault::BadLine(3))));
-    assert!(rt; heard_digits(alloc, 20_000, b"") == Some(Ok(83)));
+    let bad = Some(Err(JournalFault::BadLine(3)));
+    assert!(rt; digits_behind(alloc, b"heard ", 520, b"\n") == Some(Ok(610)));
+    assert!(rt; digits_behind(alloc, b"heard ", 522, b"\n") == bad);
+    assert!(rt; digits_behind(alloc, b"heard ", 20_000, b"\n") == bad);
+    assert!(rt; digits_behind(alloc, b"heard ", 20_000, b"") == Some(Ok(83)));
+    Ok(())
+}
+
+#[test]
+fn no_booking_is_longer_than_its_line(rt: HostRuntime) -> Result<(), Fail> {
+    let alloc = rt.alloc();
+    let bad = Some(Err(JournalFault::BadLine(3)));
+    assert!(rt; digits_behind(alloc, b"sold ", 120, b"\n") == Some(Ok(209)));
+    assert!(rt; digits_behind(alloc, b"sold ", 121, b"\n") == bad);
     Ok(())
 }

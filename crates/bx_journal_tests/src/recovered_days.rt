@@ -11,14 +11,14 @@ use bx_worked_days::exchange;
 use std::alloc::Global;
 use std::test::Fail;
 
-/// Two seconds on the link and one without, a CONNECT for the first booking's call, a second on the link, and a line that
-/// was cut.
+/// Two seconds on the link and one without, a booking that is sold, a CONNECT for the first booking's call, a second on the
+/// link, and a line that was cut.
 static TEXT: &[u8] =
-    b"bx-journal 1\nplan abababababababababababababababababababababababababababababababab\ntick\ndown\ntick\nheard 0802800107\ntick\ntic";
+    b"bx-journal 1\nplan abababababababababababababababababababababababababababababababab\ntick\ndown\nsold 70 80 5 1234 out\ntick\nheard 0802800107\ntick\ntic";
 
-/// The same with a fifth event that is none.
+/// The same with a sixth event that is none.
 static DAMAGED: &[u8] =
-    b"bx-journal 1\nplan abababababababababababababababababababababababababababababababab\ntick\ndown\ntick\nheard 0802800107\ntock\n";
+    b"bx-journal 1\nplan abababababababababababababababababababababababababababababababab\ntick\ndown\nsold 70 80 5 1234 out\ntick\nheard 0802800107\ntock\n";
 
 /// The moment, what is on channel 1, and what has become of the booking.
 fn outcome_at(exchange: &Exchange) -> Option<(u32, Option<(u16, CallState)>, Option<Outcome>)> {
@@ -59,7 +59,7 @@ fn is_day(
 #[test]
 fn the_day_goes_on_by_each_event(rt: HostRuntime) -> Result<(), Fail> {
     let alloc = rt.alloc();
-    assert!(rt; is_day(alloc, TEXT, true, Ok(120)) == Some(true));
-    assert!(rt; is_day(alloc, DAMAGED, false, Err(JournalFault::BadLine(7))) == Some(true));
+    assert!(rt; is_day(alloc, TEXT, true, Ok(142)) == Some(true));
+    assert!(rt; is_day(alloc, DAMAGED, false, Err(JournalFault::BadLine(8))) == Some(true));
     Ok(())
 }

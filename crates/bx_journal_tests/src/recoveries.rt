@@ -1,7 +1,7 @@
 //! A journal on a disk in memory.
 
 use crate::told::reading;
-use crate::worked::{DOWN, ENQUIRY, PLAN, TEXT, TICK};
+use crate::worked::{DOWN, ENQUIRY, PLAN, SOLD, TEXT, TICK};
 use bx_journal::{
     Event, LiveEvent, MemoryDisk, begin, plan_digest, record_event, record_events, resume,
 };
@@ -16,6 +16,7 @@ fn recorded(alloc: Global) -> Option<MemoryDisk> {
     record_event(&mut disk, LiveEvent::OnLink(Event::Receive(&ENQUIRY))).ok()?;
     record_events(&mut disk, &[DOWN, TICK]).ok()?;
     record_event(&mut disk, LiveEvent::OnLink(Event::Receive(&[]))).ok()?;
+    record_event(&mut disk, SOLD).ok()?;
     Some(disk)
 }
 

@@ -30,6 +30,11 @@ impl Follower for Told {
                 mark(&mut self.marks, b".");
             }
             RecordedEvent::Down => mark(&mut self.marks, b"d"),
+            RecordedEvent::Sold(booking) => {
+                mark(&mut self.marks, b"s");
+                mark(&mut self.marks, booking);
+                mark(&mut self.marks, b".");
+            }
         }
     }
 

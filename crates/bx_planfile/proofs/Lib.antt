@@ -14,3 +14,4 @@ pub mod WrittenLines
 pub mod WritingSteps
 pub mod Loops
 pub mod Refusals
+pub mod OneBooking

@@ -7,3 +7,4 @@ pub mod Inside
 pub mod Capped
 pub mod Values
 pub mod Writing
+pub mod OneBooking

@@ -9,6 +9,7 @@ mod fields;
 pub mod laws;
 mod lines;
 mod lists;
+mod one_booking;
 mod reading;
 mod version;
 mod writing;
@@ -16,5 +17,6 @@ mod written_lines;
 
 pub use decimals::decimal;
 pub use fault::{PlanTextFault, PlanWriteFault};
+pub use one_booking::{booking_on, spell_booking};
 pub use reading::read_plan;
 pub use writing::write_plan;

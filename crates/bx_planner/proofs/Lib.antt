@@ -20,3 +20,4 @@ pub mod SamePrices
 pub mod Proved
 pub mod NotLeast
 pub mod Amended
+pub mod Extending

@@ -8,3 +8,4 @@ pub mod Amending
 pub mod Proved
 pub mod Capacity
 pub mod Earnings
+pub mod Extending

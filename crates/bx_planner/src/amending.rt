@@ -2,8 +2,10 @@
 
 ghost use Rattle.std.specs.Prelude.{◌≡◌, ◌≤◌, ◌<◌, ◌+◌, ◌↔◌, ℕ, IfOk, IfErr, Err, length};
 ghost use Rattle.bx_base.specs.Channels.{count_of};
+ghost use Rattle.bx_base.specs.Extending.{Extends};
 ghost use Rattle.bx_base.specs.PlanParts.{IsPlan, parts_of};
 ghost use Rattle.bx_planner.specs.Amending.{amended, IsNoAmendment, IsBestPlan, KeepsPromises};
+ghost use Rattle.bx_planner.specs.Extending.{IsBestFirstFit, StartFrom};
 ghost use Rattle.bx_planner.specs.Musts.{musts_at, IsTooManyMust};
 ghost use Rattle.bx_base.specs.declared.bookings.TheConstants.{MAX_BOOKINGS};
 
@@ -31,7 +33,9 @@ pub enum NoAmendment {
 
 /// A best plan for the bookings of a plan, followed by more, on the plan's channels: each booking that the plan accepts is
 /// promised, so it has to be held, each that it refuses is free, and the new ones keep their marks. It has all that `plan`
-/// promises of these bookings, so no promised call is dropped, and nothing better holds all promises. Channels may change.
+/// promises of these bookings, so no promised call is dropped, and nothing better holds all promises. Channels may change, but
+/// where the plan is a best one and first fit, as `plan` and `amend` make them, and the new bookings start at a moment or later,
+/// none that starts before that moment has another channel, and what was refused stays so (`extended`).
 /// The plan need not be proved, or carried; its prices and its total do not matter. `TooMany` is tested first, then
 /// `TooManyMust`, both without memory; `Memory` where a growth is refused. A refusal leaves both as they are.
 pub fn amend(alloc: Global, plan: &Plan, more: &Bookings) -> Result<Plan, NoAmendment>
@@ -41,6 +45,7 @@ pub fn amend(alloc: Global, plan: &Plan, more: &Bookings) -> Result<Plan, NoAmen
     ensures limits { IfOk result (λ p. IsPlan (parts_of p)) }
     ensures fail { IfErr result (IsNoAmendment (amended plan.now.bookings plan.now.assigned.items more.now) plan.now.channels) }
     ensures kept { IfOk result (λ p. KeepsPromises plan.now.bookings plan.now.assigned.items p.assigned.items) }
+    ensures extended { IfOk result (λ p. (m : ℕ) → IsBestFirstFit plan.now.bookings plan.now.channels plan.now.assigned.items → StartFrom m more.now → Extends m plan.now.bookings plan.now.assigned.items p.bookings p.assigned.items) }
 {
     if (plan.bookings.len() + more.len()) as usize > MAX_BOOKINGS {
         return Err(NoAmendment::TooMany);

@@ -1,14 +1,17 @@
 //! Laws of plans.
 
 ghost use Rattle.std.specs.Prelude.{◌≡◌, ℕ, Bool, List, Option, Ok};
-ghost use Rattle.bx_base.specs.Bookings.{Row, Carries, IsLawful, pay_of};
+ghost use Rattle.bx_base.specs.Bookings.{Row, AreBookings, Carries, IsLawful, pay_of};
 ghost use Rattle.bx_base.specs.Bound.{Charge};
 ghost use Rattle.bx_base.specs.Channels.{count_of};
+ghost use Rattle.bx_base.specs.Extending.{Extends};
 ghost use Rattle.bx_base.specs.PlanParts.{Parts};
 ghost use Rattle.bx_base.specs.Plans.{is_accepted, channel_at};
 ghost use Rattle.bx_check.specs.Check.{IsOutcome};
 ghost use Rattle.bx_planner.specs.Capacity.{AreGainsNeverRising, IsPriceOfChannel};
-ghost use Rattle.bx_planner.specs.Choices.{ProvesBest, planned};
+ghost use Rattle.bx_planner.specs.Amending.{amended, IsBestPlan, KeepsPromises};
+ghost use Rattle.bx_planner.specs.Choices.{IsFirstFitPlan, ProvesBest, planned};
+ghost use Rattle.bx_planner.specs.Extending.{IsBestFirstFit, StartFrom};
 ghost use Rattle.bx_planner.specs.LeastProofs.{ArePricesUnique};
 ghost use Rattle.bx_planner.specs.Tight.{AreProofsTight};
 
@@ -42,4 +45,12 @@ pub fn price_of_a_channel()
 /// pays is no more than what the first of them adds.
 pub fn gains_never_rise()
     ensures { AreGainsNeverRising }
+{}
+
+/// Whoever chooses among new bookings, best or first come, first served: a first-fit plan that keeps all promises of a best
+/// first-fit plan, and whose new bookings start at moment m or later, extends it from m (`extends`). What `plan` and `amend` make
+/// is best and first fit (`again`), so a day may be sold on any number of times.
+pub fn plans_are_extended()
+    ensures extends { (m : ℕ) (rows : List Row) (more : List Row) (channels : List Bool) (assigned : List (Option ℕ)) (after : List (Option ℕ)) → AreBookings rows → IsBestFirstFit rows channels assigned → IsFirstFitPlan (amended rows assigned more) channels after → Carries (amended rows assigned more) channels (is_accepted after) (channel_at after) → KeepsPromises rows assigned after → StartFrom m more → Extends m rows assigned (amended rows assigned more) after }
+    ensures again { (rows : List Row) (channels : List Bool) (plan : Parts) → IsBestPlan rows channels plan → IsBestFirstFit rows channels plan.assigned }
 {}

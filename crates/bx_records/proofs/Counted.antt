@@ -1,5 +1,5 @@
 -- Bookings that are counted one after another.
-use Rattle.std.proofs.Common.{◌≡◌, ◌∙◌, refl, sym, subst, ap, ◌+◌, ◌*◌, ◌≤◌, ℕ, Bool, true, false, List, [], ◌∷◌, drop, length, if◌then◌else◌, arith}
+use Rattle.std.proofs.Common.{◌≡◌, sym, subst, ◌+◌, ◌≤◌, ℕ, Bool, true, false, List, ◌∷◌, drop, length, if◌then◌else◌, arith}
 use Rattle.std.proofs.lemmas.List.{drop_all}
 use Rattle.bx_day.specs.declared.entry.Entry.{Entry}
 use Rattle.bx_day.specs.declared.entry.Standing.{Standing}

@@ -3,7 +3,7 @@ use Rattle.std.proofs.Common.{◌≡◌, subst, ◌++◌, ◌+◌, ◌<◌, ◌�
 use Rattle.std.proofs.lemmas.List.{drop_all}
 use Rattle.bx_calendar.specs.declared.clock.Clock.{Clock}
 use Rattle.bx_day.specs.declared.entry.Entry.{Entry}
-use Rattle.bx_records.specs.Records.{IsRecord, AreRecords, IsRecordsText, header}
+use Rattle.bx_records.specs.Records.{IsRecord, AreRecords, IsRecordsText}
 
 -- seven pieces
 pub joined : (a b c d e f g h p1 p2 p3 p4 p5 p6 p7 : List ℕ) → b ≡ a ++ p1 → c ≡ b ++ p2 → d ≡ c ++ p3 → e ≡ d ++ p4 → f ≡ e ++ p5 → g ≡ f ++ p6 → h ≡ g ++ p7

@@ -1,6 +1,5 @@
 -- The records of a day: what is written of each booking.
 use Rattle.std.specs.Prelude.{◌≡◌, ℕ, ◌-◌, Bool, List, [], ◌∷◌, ◌++◌, Option, Some, None, codes, decimal, if◌then◌else◌}
-use Rattle.bx_base.specs.Bookings.{Row}
 use Rattle.bx_calendar.specs.Clocks.{IsLocalTime}
 use Rattle.bx_calendar.specs.declared.clock.Clock.{Clock}
 use Rattle.bx_day.specs.declared.entry.Activity.{Activity}

@@ -1,5 +1,5 @@
 -- What is written of a day's records, and what each refusal says.
-use Rattle.std.specs.Prelude.{◌≡◌, ℕ, true, ◌≤◌, ◌+ℤ◌, ◌*ℤ◌, pos, List, Option, Some, None}
+use Rattle.std.specs.Prelude.{◌≡◌, ℕ, true, ◌+ℤ◌, ◌*ℤ◌, pos, List, Option, Some, None}
 use Rattle.std.specs.Io.KnownBytes.{Appends}
 use Rattle.jiff.specs.Words.{IsTimestampNanos}
 use Rattle.bx_calendar.specs.Clocks.{clock_start}

@@ -26,6 +26,8 @@ impl Follower for Following {
                 let _reply = self.exchange.receive(octets);
             }
             RecordedEvent::Down => self.exchange.second_without_link(),
+            // The plan that the exchange was opened with has it.
+            RecordedEvent::Sold(_) => {}
         }
     }
 

@@ -1,13 +1,14 @@
 -- What the kept facts say of two ends is the law.
 use Rattle.std.proofs.Common.{◌≡◌, ◌⊎◌, inl, inr, ℕ, suc, ◌+◌, ◌-◌, true, false, List, Option, refl, sym, ap, subst, ◌∙◌, arith}
 use Rattle.std.specs.List.{list_any}
-use Rattle.std.proofs.lemmas.Bool.{true≢false, and_parts}
+use Rattle.std.proofs.lemmas.Bool.{true≢false, false≢true, and_parts}
 use Rattle.bx_base.specs.Bookings.{Row}
 use Rattle.bx_base.specs.Plans.{channel_at}
 use Rattle.bx_calls.specs.PlainCalls.{PlainNetCall}
 use Rattle.bx_calls.specs.NetTable.{net_flag, net_is_clearing}
 use Rattle.bx_calls.specs.UserTable.{user_flag}
-use Rattle.bx_calls.specs.declared.net_state.NetState.TheVariants.{Active}
+use Rattle.bx_calls.specs.declared.net_state.NetState.{NetState}
+use Rattle.bx_calls.specs.declared.net_state.NetState.TheVariants.{OutgoingCallProceeding, CallPresent, IncomingCallProceeding, CallReceived, Active, Enquiring, DisconnectIndication, ReleaseRequest}
 use Rattle.bx_calls.specs.declared.user_state.UserState.{UserState}
 use Rattle.bx_calls.specs.declared.user_state.UserState.TheVariants as user
 use Rattle.bx_day.specs.declared.entry.Activity.{Activity}
@@ -44,11 +45,21 @@ from_kept assigned w r (Holds h) calm = inl h
 from_kept assigned w r (Maintained h) calm = inr h
 from_kept assigned w r (Cleared h) calm = absurd (true≢false (sym h ∙ calm))
 
-held : (rows : List Row) (assigned : List (Option ℕ)) (w : World) (i : ℕ) → KeepsOutward rows assigned w → (c : PlainNetCall) (a : Activity) → standing_at w.exchange i ≡ OnCall c a → net_flag c.origin ≡ false → c.state ≡ Active → IsHeld w (i + 1) c.channel
+active_calm : (s : NetState) → is_active s ≡ true → net_is_clearing s ≡ false
+active_calm OutgoingCallProceeding h = refl
+active_calm (CallPresent again due) h = refl
+active_calm (IncomingCallProceeding due) h = refl
+active_calm (CallReceived due) h = refl
+active_calm Active h = refl
+active_calm (Enquiring asked due) h = refl
+active_calm (DisconnectIndication cause due) h = absurd (false≢true h)
+active_calm (ReleaseRequest again cause due) h = absurd (false≢true h)
+
+held : (rows : List Row) (assigned : List (Option ℕ)) (w : World) (i : ℕ) → KeepsOutward rows assigned w → (c : PlainNetCall) (a : Activity) → standing_at w.exchange i ≡ OnCall c a → net_flag c.origin ≡ false → is_active c.state ≡ true → IsHeld w (i + 1) c.channel
 held rows assigned w i k c a at outward active =
     let own : OutwardCall (suc i) w.sent w.far_sent c = subst (OutwardStanding (suc i) w.sent w.far_sent) at (k.standings i) outward in
-    let has : list_any (connects (suc i)) w.far_sent ≡ true = own.active (ap is_active active) in
-    let calm : list_any (clears (suc i)) w.sent ≡ false = own.calm (ap net_is_clearing active) in
+    let has : list_any (connects (suc i)) w.far_sent ≡ true = own.active active in
+    let calm : list_any (clears (suc i)) w.sent ≡ false = own.calm (active_calm c.state active) in
     let x = found (λ o. o.flag ≡ true → OutwardReply assigned w.sent w.far o) (connects (suc i)) w.far_sent k.replies has in
     let p = and_parts (from_other (suc i) x.0) (is_connect_kind x.0.kind) x.1 in
     let q = other_parts (suc i) x.0 p.0 in

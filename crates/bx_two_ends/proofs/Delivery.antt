@@ -43,7 +43,7 @@ heard_again o p =
     ∙ ap (λ x. said_by o.reference o.flag o.kind (channel_part o.channel) x (bearer_fault_in (first_of 0x04 m))) p.state
     ∙ ap (λ x. said_by o.reference o.flag o.kind (channel_part o.channel) o.state x) (ap bearer_fault_in p.bearer ∙ bearer_again o.bearer)
 
-not_zero : (n : ℕ) → 1 ≤ n → (n == 0) ≡ false
+pub not_zero : (n : ℕ) → 1 ≤ n → (n == 0) ≡ false
 not_zero n h = ne_eqb n 0 (λ e. absurd (omega (arith, e, h)))
 
 pub receive_sent : (d : Day) (o : Outgoing) → Sendable o → receive_octets d (out_octets o) ≡ receive d (said_from o)

@@ -15,7 +15,7 @@ use Rattle.bx_calls.specs.declared.transition.Next.{Next}
 use Rattle.bx_calls.specs.declared.transition.Next.TheVariants.{Live, Over, Broken}
 use Rattle.bx_calls.specs.declared.unknown_reference.Side.{Side}
 use Rattle.bx_calls.specs.PlainCalls.{PlainNetCall}
-use Rattle.bx_calls.specs.NetTable.{net_flag, net_message}
+use Rattle.bx_calls.specs.NetTable.{net_flag, net_awake_state, net_message}
 use Rattle.bx_calls.specs.UnknownTable.{unknown_row, unknown_status}
 use Rattle.bx_calls.specs.declared.unknown_reference.Side.TheVariants.{Network}
 use Rattle.bx_day.specs.declared.entry.Activity.{Activity}
@@ -36,7 +36,7 @@ use Rattle.bx_day.proofs.Said.{OfSaid}
 use Rattle.bx_day.proofs.Sent.{row_plain, is_plain}
 use Rattle.bx_day.proofs.Tick.{by_cases, with_standing}
 use Rattle.bx_two_ends.proofs.Delivery.{said_from}
-use Rattle.bx_two_ends.proofs.NetworkRows.{row_goes, row_says, OfCall, Mild, clears_as}
+use Rattle.bx_two_ends.proofs.NetworkRows.{heard_goes, row_says, OfCall, Mild, clears_as}
 use Rattle.bx_two_ends.proofs.History.{from_beginner, from_other, is_setup_kind, sets_up, clears, has_more, has_none, none_all, IsIn, beginner_parts, is_from_other, not_both, listed, said_map, said_both}
 use Rattle.bx_two_ends.proofs.Outward.{is_started, Seat, Seats, OutwardSent, OutwardSents, OutwardStanding, OutwardStandings}
 use Rattle.bx_two_ends.proofs.ExchangeTicks.{sents_grow, goes_outward, follow_calm, follow_started, outward_row}
@@ -182,18 +182,18 @@ heard_one assigned sent far_sent t i o e (OnCall c a) named seat fits outward is
     (λ x k q f. let g : net_flag c.origin ≡ false = sym k.1 ∙ f in let r : x.reference ≡ suc i = k.0 ∙ row g in
     (r, record { known = subst (λ n. list_any (sets_up n) sent ≡ true) (sym r) (outward g).known; other = not_setup x.kind q }))
     step.reply
-    (row_says c.reference c.channel c.origin t (said_from o).heard c.state o.kind)
-    (row_plain c.reference c.channel c.origin t (said_from o).heard c.state o.kind) in
+    (row_says c.reference c.channel c.origin t (said_from o).heard (net_awake_state c.state) o.kind)
+    (row_plain c.reference c.channel c.origin t (said_from o).heard (net_awake_state c.state) o.kind) in
     record {
       refused = λ _. refl;
       started = λ _. follow_started a t step.reply step.next;
       said = subst (OfSaid (λ x. x.flag ≡ false → (x.reference ≡ suc i) × Known sent x)) (sym (follow_eq a t step.reply step.next)) said;
       outward = goes_outward i sent (reply_list (follow a t step.reply step.next).said) far_sent c (is_connect_kind o.kind) a t step.reply step.reply step.next
-          (row_goes c.reference c.channel c.origin t (said_from o).heard c.state o.kind) outward
+          (heard_goes c.reference c.channel c.origin t (said_from o).heard c.state o.kind) outward
           (λ f k. is_in (connects (suc i)) (and_from (from_other (suc i) o) (is_connect_kind o.kind) (is_from_other (suc i) o (sym (eqb-true c.reference o.reference p.0) ∙ row f) (flags_meet (net_flag c.origin) o.flag p.1 f)) k))
           (λ q f. none_said (suc i) (follow a t step.reply step.next).said (subst (OfSaid (λ x. clears (suc i) x ≡ false)) (sym (follow_eq a t step.reply step.next))
           (said_map Mild (λ x. clears (suc i) x ≡ false) (λ x mild. not_both (from_beginner (suc i) x) (clears_as x.kind x.state) (λ n c'. false≢true (sym mild ∙ c'))) step.reply
-          (follow_calm c.reference c.channel c.origin c.state (is_connect_kind o.kind) a t step.reply step.reply step.next (row_goes c.reference c.channel c.origin t (said_from o).heard c.state o.kind) q))));
+          (follow_calm c.reference c.channel c.origin c.state (is_connect_kind o.kind) a t step.reply step.reply step.next (heard_goes c.reference c.channel c.origin t (said_from o).heard c.state o.kind) q))));
     }
 heard_one assigned sent far_sent t i o e Refused named seat fits outward is_in = absurd (false≢true named)
 heard_one assigned sent far_sent t i o e Unoffered named seat fits outward is_in = absurd (false≢true named)

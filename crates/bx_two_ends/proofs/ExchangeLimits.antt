@@ -8,7 +8,7 @@ use Rattle.bx_q931.specs.declared.channel_field.ChannelField.{ChannelField}
 use Rattle.bx_q931.specs.declared.channel_field.ChannelField.TheVariants.{Absent, Named, AnyChannel, Unread}
 use Rattle.bx_q931.specs.Outgoing.{Outgoing, IsCallReference}
 use Rattle.bx_calls.specs.PlainCalls.{PlainNetCall}
-use Rattle.bx_calls.specs.NetTable.{net_second, net_message}
+use Rattle.bx_calls.specs.NetTable.{net_awake_state, net_second, net_message}
 use Rattle.bx_calls.specs.declared.net_state.NetState.{NetState}
 use Rattle.bx_calls.specs.declared.transition.Transition.{Transition}
 use Rattle.bx_calls.specs.declared.transition.Next.{Next}
@@ -31,7 +31,7 @@ use Rattle.bx_day.proofs.Receive.{OpenAt, open_parts, open_index, open_lowest}
 use Rattle.bx_day.proofs.Said.{OfSaid, all_said}
 use Rattle.bx_day.proofs.Tick.{by_cases, offers, with_standing}
 use Rattle.bx_two_ends.proofs.Delivery.{Sendable, said_from}
-use Rattle.bx_two_ends.proofs.NetworkRows.{Goes, OnNext, second_goes, row_goes}
+use Rattle.bx_two_ends.proofs.NetworkRows.{Goes, OnNext, second_goes, heard_goes}
 use Rattle.bx_two_ends.proofs.Outward.{Seat, Seats}
 use Rattle.bx_two_ends.proofs.ExchangeTicks.{after_at, all_from, follow_said}
 use Rattle.bx_two_ends.proofs.ExchangeHears.{set_at}
@@ -108,8 +108,8 @@ hears_ok : (o : Outgoing) (t : ℕ) (s : Standing) → StandingWithin s → Move
 hears_ok o t (OnCall c a) h =
     let step : Transition PlainNetCall = net_message c (said_from o).heard t in
     record {
-      said = follow_said Sendable a t step.reply step.next (row_ok c.reference c.channel c.origin t (said_from o).heard c.state o.kind h.reference);
-      standing = follow_within c c.state (is_connect_kind o.kind) a t step.reply step.reply step.next (row_goes c.reference c.channel c.origin t (said_from o).heard c.state o.kind) h;
+      said = follow_said Sendable a t step.reply step.next (row_ok c.reference c.channel c.origin t (said_from o).heard (net_awake_state c.state) o.kind h.reference);
+      standing = follow_within c c.state (is_connect_kind o.kind) a t step.reply step.reply step.next (heard_goes c.reference c.channel c.origin t (said_from o).heard c.state o.kind) h;
     }
 hears_ok o t Refused h = record { said = tt; standing = tt }
 hears_ok o t Unoffered h = record { said = tt; standing = tt }

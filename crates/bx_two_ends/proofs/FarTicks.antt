@@ -41,7 +41,7 @@ live_map P Q f Broken h = h
 second_on : (c : PlainUserCall) (t : ℕ) → OnLive (λ x. x.channel ≡ c.channel) (user_second c t).next
 second_on c t = on_channel c.reference c.channel c.origin c.state false false (user_second c t).next (second_moves c.reference c.channel c.origin t c.state)
 
-second_apart : (t : ℕ) (cs : List PlainUserCall) → AreOnTheirOwn cs → AreOnTheirOwn (second_calls t cs)
+pub second_apart : (t : ℕ) (cs : List PlainUserCall) → AreOnTheirOwn cs → AreOnTheirOwn (second_calls t cs)
 second_apart t [] h = tt
 second_apart t (c ∷ cs) h = next_apart c.channel (user_second c t).next (second_calls t cs) (second_on c t)
     (second_all (λ x. c.channel ≢ x.channel) (λ x. c.channel ≢ x.channel) t (λ x ne. live_map (λ y. y.channel ≡ x.channel) (λ y. c.channel ≢ y.channel) (λ y on e. ne (e ∙ on)) (user_second x t).next (second_on x t)) cs h.0)

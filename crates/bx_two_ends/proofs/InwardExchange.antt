@@ -9,7 +9,7 @@ use Rattle.bx_q931.specs.declared.kind.Kind.TheVariants.{Setup}
 use Rattle.bx_q931.specs.Outgoing.{Outgoing}
 use Rattle.bx_q931.specs.Parts.{channel_part}
 use Rattle.bx_calls.specs.PlainCalls.{PlainNetCall}
-use Rattle.bx_calls.specs.NetTable.{net_flag, net_second, net_unlinked, net_message}
+use Rattle.bx_calls.specs.NetTable.{net_flag, net_second, net_unlinked, net_awake_state, net_message}
 use Rattle.bx_calls.specs.UnknownTable.{unknown_row, refusal_of}
 use Rattle.bx_calls.specs.declared.transition.Transition.{Transition}
 use Rattle.bx_calls.specs.declared.transition.Next.{Next}
@@ -42,7 +42,7 @@ use Rattle.bx_two_ends.proofs.History.{from_beginner, clears, IsIn, is_from_begi
 use Rattle.bx_two_ends.proofs.ExchangeTicks.{all_from, follow_said}
 use Rattle.bx_two_ends.proofs.ExchangeHears.{Unknown, unknown_says}
 use Rattle.bx_two_ends.proofs.FarHears.{set_now, set_stays}
-use Rattle.bx_two_ends.proofs.InwardRows.{is_presented, NetMoves, net_row_moves, net_second_moves, net_unlinked_moves}
+use Rattle.bx_two_ends.proofs.InwardRows.{is_presented, NetMoves, net_heard_moves, net_second_moves, net_unlinked_moves}
 use Rattle.bx_two_ends.proofs.Inward.{InwardSent, KeptInward, Holds, Maintained, Cleared, InwardReply, InwardReplies, TakenStanding, TakenEntries}
 
 -- a live call is on the channel of its booking
@@ -343,9 +343,9 @@ heard_moves : (named : ℕ → ℕ) (next : ℕ) (far_sent : List Outgoing) (t :
 heard_moves named next far_sent t o e (OnCall c a) named_by is_in h on =
     let step : Transition PlainNetCall = net_message c (said_from o).heard t in
     let p = and_parts (c.reference == o.reference) (bool_eq (net_flag c.origin) (not o.flag)) named_by in
-    call_moves named next far_sent e.channel c a t (clears_as o.kind o.state) false step.reply step.next h on (net_row_moves c.reference c.channel c.origin t (said_from o).heard c.state o.kind)
+    call_moves named next far_sent e.channel c a t (clears_as o.kind o.state) false step.reply step.next h on (net_heard_moves c.reference c.channel c.origin t (said_from o).heard c.state o.kind)
     (λ f k. is_in (clears c.reference) (and_from (from_beginner c.reference o) (clears_as o.kind o.state) (is_from_beginner c.reference o (sym (eqb-true c.reference o.reference p.0)) (flags_meet (net_flag c.origin) o.flag p.1 f)) k))
-    (row_says c.reference c.channel c.origin t (said_from o).heard c.state o.kind)
+    (row_says c.reference c.channel c.origin t (said_from o).heard (net_awake_state c.state) o.kind)
 heard_moves named next far_sent t o e Refused named_by is_in h on = absurd (false≢true named_by)
 heard_moves named next far_sent t o e Unoffered named_by is_in h on = absurd (false≢true named_by)
 heard_moves named next far_sent t o e (Carried from until) named_by is_in h on = absurd (false≢true named_by)

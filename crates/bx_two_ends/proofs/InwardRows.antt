@@ -10,6 +10,8 @@ use Rattle.bx_calls.specs.declared.transition.Next.TheVariants.{Live, Over, Brok
 use Rattle.bx_calls.specs.PlainCalls.{PlainNetCall, PlainUserCall}
 use Rattle.bx_calls.specs.declared.net_state.NetOrigin.{NetOrigin}
 use Rattle.bx_calls.specs.declared.net_state.NetOrigin.TheVariants.{Outward, Inward}
+use Rattle.bx_calls.specs.declared.net_state.Asked.{Asked}
+use Rattle.bx_calls.specs.declared.net_state.Asked.TheVariants.{NotYet, Once, Twice}
 use Rattle.bx_calls.specs.declared.net_state.NetState.{NetState}
 use Rattle.bx_calls.specs.declared.net_state.NetState.TheVariants as net
 use Rattle.bx_calls.specs.declared.user_state.UserOrigin.{UserOrigin}
@@ -18,7 +20,7 @@ use Rattle.bx_calls.specs.declared.user_state.UserState.{UserState}
 use Rattle.bx_calls.specs.declared.user_state.UserState.TheVariants as user
 use Rattle.bx_calls.specs.Hearing.{Heard, names_channel, reports_null}
 use Rattle.bx_calls.specs.States.{state_value, user_state}
-use Rattle.bx_calls.specs.NetTable.{net_row, net_second, net_timer, net_is_clearing, net_unlinked, net_later}
+use Rattle.bx_calls.specs.NetTable.{net_awake_state, net_row, net_second, net_timer, net_is_clearing, net_unlinked, net_later}
 use Rattle.bx_calls.specs.UserTable.{user_row, user_second, user_flag, user_releases}
 use Rattle.bx_day.proofs.Said.{OfSaid}
 use Rattle.bx_day.proofs.Second.{call_of}
@@ -89,6 +91,9 @@ timer_moves r ch o t (net.CallPresent true due) = by_cases (nat_le due t) _ _ (N
 timer_moves r ch o t (net.IncomingCallProceeding due) = by_cases (nat_le due t) _ _ (NetTickMoves r ch o (net.IncomingCallProceeding due)) (λ _. leads r ch o (net.IncomingCallProceeding due) _ refl) (λ _. stays r ch o (net.IncomingCallProceeding due))
 timer_moves r ch o t (net.CallReceived due) = by_cases (nat_le due t) _ _ (NetTickMoves r ch o (net.CallReceived due)) (λ _. leads r ch o (net.CallReceived due) _ refl) (λ _. stays r ch o (net.CallReceived due))
 timer_moves r ch o t net.Active = stays r ch o net.Active
+timer_moves r ch o t (net.Enquiring NotYet due) = by_cases (nat_le due t) _ _ (NetTickMoves r ch o (net.Enquiring NotYet due)) (λ _. leads r ch o (net.Enquiring NotYet due) _ refl) (λ _. stays r ch o (net.Enquiring NotYet due))
+timer_moves r ch o t (net.Enquiring Once due) = by_cases (nat_le due t) _ _ (NetTickMoves r ch o (net.Enquiring Once due)) (λ _. leads r ch o (net.Enquiring Once due) _ refl) (λ _. stays r ch o (net.Enquiring Once due))
+timer_moves r ch o t (net.Enquiring Twice due) = by_cases (nat_le due t) _ _ (NetTickMoves r ch o (net.Enquiring Twice due)) (λ _. leads r ch o (net.Enquiring Twice due) _ refl) (λ _. stays r ch o (net.Enquiring Twice due))
 timer_moves r ch o t (net.DisconnectIndication cause due) = by_cases (nat_le due t) _ _ (NetTickMoves r ch o (net.DisconnectIndication cause due)) (λ _. leads r ch o (net.DisconnectIndication cause due) _ refl) (λ _. stays r ch o (net.DisconnectIndication cause due))
 timer_moves r ch o t (net.ReleaseRequest false cause due) = by_cases (nat_le due t) _ _ (NetTickMoves r ch o (net.ReleaseRequest false cause due)) (λ _. leads r ch o (net.ReleaseRequest false cause due) _ refl) (λ _. stays r ch o (net.ReleaseRequest false cause due))
 timer_moves r ch o t (net.ReleaseRequest true cause due) = by_cases (nat_le due t) _ _ (NetTickMoves r ch o (net.ReleaseRequest true cause due)) (λ _. refl) (λ _. stays r ch o (net.ReleaseRequest true cause due))
@@ -97,17 +102,34 @@ pub net_second_moves : (r ch : ℕ) (o : NetOrigin) (t end : ℕ) (s : NetState)
 net_second_moves r ch o t end s = by_cases (not (net_is_clearing s) && nat_le end t) _ _ (NetTickMoves r ch o s) (λ _. leads r ch o s _ refl) (λ _. timer_moves r ch o t s)
 
 -- in a second without a link
-still_moves : (r ch : ℕ) (o : NetOrigin) (s : NetState) → NetGoes r ch o s (call_of r ch o (net_later 1 s))
-still_moves r ch o net.OutgoingCallProceeding = stays r ch o net.OutgoingCallProceeding
-still_moves r ch o (net.CallPresent again due) = record { reference = refl; channel = refl; origin = refl; presented = λ h. refl }
-still_moves r ch o (net.IncomingCallProceeding due) = leads r ch o (net.IncomingCallProceeding due) _ refl
-still_moves r ch o (net.CallReceived due) = leads r ch o (net.CallReceived due) _ refl
-still_moves r ch o net.Active = stays r ch o net.Active
-still_moves r ch o (net.DisconnectIndication cause due) = leads r ch o (net.DisconnectIndication cause due) _ refl
-still_moves r ch o (net.ReleaseRequest again cause due) = leads r ch o (net.ReleaseRequest again cause due) _ refl
+still_moves : (r ch t : ℕ) (o : NetOrigin) (s : NetState) → NetGoes r ch o s (call_of r ch o (net_later 1 t s))
+still_moves r ch t o net.OutgoingCallProceeding = stays r ch o net.OutgoingCallProceeding
+still_moves r ch t o (net.CallPresent again due) = record { reference = refl; channel = refl; origin = refl; presented = λ h. refl }
+still_moves r ch t o (net.IncomingCallProceeding due) = leads r ch o (net.IncomingCallProceeding due) _ refl
+still_moves r ch t o (net.CallReceived due) = leads r ch o (net.CallReceived due) _ refl
+still_moves r ch t o net.Active = leads r ch o net.Active _ refl
+still_moves r ch t o (net.Enquiring asked due) = leads r ch o (net.Enquiring asked due) _ refl
+still_moves r ch t o (net.DisconnectIndication cause due) = leads r ch o (net.DisconnectIndication cause due) _ refl
+still_moves r ch t o (net.ReleaseRequest again cause due) = leads r ch o (net.ReleaseRequest again cause due) _ refl
 
 pub net_unlinked_moves : (r ch : ℕ) (o : NetOrigin) (t end : ℕ) (s : NetState) → NetTickMoves r ch o s (net_unlinked 1 (call_of r ch o s) t end)
-net_unlinked_moves r ch o t end s = by_cases (not (net_is_clearing s) && nat_le end t) _ _ (NetTickMoves r ch o s) (λ _. leads r ch o s _ refl) (λ _. still_moves r ch o s)
+net_unlinked_moves r ch o t end s = by_cases (not (net_is_clearing s) && nat_le end t) _ _ (NetTickMoves r ch o s) (λ _. leads r ch o s _ refl) (λ _. still_moves r ch t o s)
+
+-- a message, where the user may be asked
+asked_moves : (r ch : ℕ) (o : NetOrigin) (asked : Asked) (due : ℕ) (cleared : Bool) (n : Next PlainNetCall) → NetMoves r ch o net.Active cleared false n → NetMoves r ch o (net.Enquiring asked due) cleared false n
+asked_moves r ch o asked due cleared (Live c) g = record { reference = g.reference; channel = g.channel; origin = g.origin; presented = g.presented }
+asked_moves r ch o asked due cleared Over g = g
+asked_moves r ch o asked due cleared Broken g = g
+
+pub net_heard_moves : (r ch : ℕ) (o : NetOrigin) (t : ℕ) (m : Heard) (s : NetState) (k : Kind) → NetRowMoves r ch o s m k (net_row (call_of r ch o (net_awake_state s)) m t (net_awake_state s) k)
+net_heard_moves r ch o t m (net.Enquiring asked due) k = asked_moves r ch o asked due (clears_as k m.state) (net_row (call_of r ch o net.Active) m t net.Active k).next (net_row_moves r ch o t m net.Active k)
+net_heard_moves r ch o t m net.OutgoingCallProceeding k = net_row_moves r ch o t m net.OutgoingCallProceeding k
+net_heard_moves r ch o t m (net.CallPresent again due) k = net_row_moves r ch o t m (net.CallPresent again due) k
+net_heard_moves r ch o t m (net.IncomingCallProceeding due) k = net_row_moves r ch o t m (net.IncomingCallProceeding due) k
+net_heard_moves r ch o t m (net.CallReceived due) k = net_row_moves r ch o t m (net.CallReceived due) k
+net_heard_moves r ch o t m net.Active k = net_row_moves r ch o t m net.Active k
+net_heard_moves r ch o t m (net.DisconnectIndication cause due) k = net_row_moves r ch o t m (net.DisconnectIndication cause due) k
+net_heard_moves r ch o t m (net.ReleaseRequest again cause due) k = net_row_moves r ch o t m (net.ReleaseRequest again cause due) k
 
 -- ---- a call of the far end
 

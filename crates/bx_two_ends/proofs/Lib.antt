@@ -23,3 +23,10 @@ pub mod InwardFar
 pub mod InwardFarTicks
 pub mod InwardPoints
 pub mod ReadScripts
+pub mod Holders
+pub mod FarTurns
+pub mod FarCalled
+pub mod FarAnswered
+pub mod TickCalls
+pub mod ExchangeAnswers
+pub mod Lockstep

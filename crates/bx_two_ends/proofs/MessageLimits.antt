@@ -12,6 +12,7 @@ use Rattle.bx_calls.specs.declared.transition.Transition.{Transition}
 use Rattle.bx_calls.specs.PlainCalls.{PlainNetCall, PlainUserCall}
 use Rattle.bx_calls.specs.declared.net_state.NetOrigin.{NetOrigin}
 use Rattle.bx_calls.specs.declared.net_state.NetOrigin.TheVariants.{Outward, Inward}
+use Rattle.bx_calls.specs.declared.net_state.Asked.TheVariants.{NotYet, Once, Twice}
 use Rattle.bx_calls.specs.declared.net_state.NetState.{NetState}
 use Rattle.bx_calls.specs.declared.net_state.NetState.TheVariants as net
 use Rattle.bx_calls.specs.declared.user_state.Policy.TheVariants.{Answer, Alert, Proceed, Clear}
@@ -113,6 +114,9 @@ timer_ok r ch o t (net.CallPresent true due) h c n = either (nat_le due t) _ _ N
 timer_ok r ch o t (net.IncomingCallProceeding due) h c n = either (nat_le due t) _ _ NetOk (cause_ok r _ Disconnect 2 102 h tt two) tt
 timer_ok r ch o t (net.CallReceived due) h c n = either (nat_le due t) _ _ NetOk (cause_ok r _ Disconnect 2 102 h tt two) tt
 timer_ok r ch o t net.Active h c n = tt
+timer_ok r ch o t (net.Enquiring NotYet due) h c n = either (nat_le due t) _ _ NetOk (plain_ok r _ StatusEnquiry h tt) tt
+timer_ok r ch o t (net.Enquiring Once due) h c n = either (nat_le due t) _ _ NetOk (plain_ok r _ StatusEnquiry h tt) tt
+timer_ok r ch o t (net.Enquiring Twice due) h c n = either (nat_le due t) _ _ NetOk (cause_ok r _ Disconnect 2 41 h tt two) tt
 timer_ok r ch o t (net.DisconnectIndication cause due) h c n = either (nat_le due t) _ _ NetOk (cause_ok r _ Release 2 cause h tt two) tt
 timer_ok r ch o t (net.ReleaseRequest false cause due) h c n = either (nat_le due t) _ _ NetOk (kept_ok r _ Release 2 cause h tt two) tt
 timer_ok r ch o t (net.ReleaseRequest true cause due) h c n = either (nat_le due t) _ _ NetOk tt tt

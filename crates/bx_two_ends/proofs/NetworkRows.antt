@@ -9,11 +9,13 @@ use Rattle.bx_calls.specs.declared.transition.Next.TheVariants.{Live, Over, Brok
 use Rattle.bx_calls.specs.PlainCalls.{PlainNetCall}
 use Rattle.bx_calls.specs.declared.net_state.NetOrigin.{NetOrigin}
 use Rattle.bx_calls.specs.declared.net_state.NetOrigin.TheVariants.{Outward, Inward}
+use Rattle.bx_calls.specs.declared.net_state.Asked.{Asked}
+use Rattle.bx_calls.specs.declared.net_state.Asked.TheVariants.{NotYet, Once, Twice}
 use Rattle.bx_calls.specs.declared.net_state.NetState.{NetState}
-use Rattle.bx_calls.specs.declared.net_state.NetState.TheVariants.{OutgoingCallProceeding, CallPresent, IncomingCallProceeding, CallReceived, Active, DisconnectIndication, ReleaseRequest}
+use Rattle.bx_calls.specs.declared.net_state.NetState.TheVariants.{OutgoingCallProceeding, CallPresent, IncomingCallProceeding, CallReceived, Active, Enquiring, DisconnectIndication, ReleaseRequest}
 use Rattle.bx_calls.specs.Hearing.{Heard, names_channel, reports_null}
 use Rattle.bx_calls.specs.States.{state_value, net_state}
-use Rattle.bx_calls.specs.NetTable.{net_row, net_second, net_timer, net_flag, net_is_clearing, net_releases, net_unlinked, net_later}
+use Rattle.bx_calls.specs.NetTable.{net_awake_state, net_row, net_second, net_timer, net_flag, net_is_clearing, net_releases, net_unlinked, net_later}
 use Rattle.std.proofs.lemmas.Bool.{false≢true, or_left}
 use Rattle.bx_day.specs.Moves.{is_active}
 use Rattle.bx_day.proofs.Said.{OfSaid}
@@ -60,6 +62,7 @@ live_state (CallPresent again due) = refl
 live_state (IncomingCallProceeding due) = refl
 live_state (CallReceived due) = refl
 live_state Active = refl
+live_state (Enquiring asked due) = refl
 live_state (DisconnectIndication cause due) = refl
 live_state (ReleaseRequest again cause due) = refl
 
@@ -78,6 +81,10 @@ ringing r ch o s s' k reply h a b m = record { reference = refl; channel = refl;
 -- Active
 talking : (r ch : ℕ) (o : NetOrigin) (s : NetState) (k : Bool) (reply : Option Outgoing) → net_is_clearing s ≡ false → (is_active s || (k || is_proceeding s)) ≡ true → OfSaid Mild reply → Goes r ch o s k reply (call_of r ch o Active)
 talking r ch o s k reply h a m = record { reference = refl; channel = refl; origin = refl; mild = λ c. (h, m); active = λ c. a; proceeding = λ c. absurd (false≢true c) }
+
+-- Active still, and asked
+asking : (r ch : ℕ) (o : NetOrigin) (s s' : NetState) (k : Bool) (reply : Option Outgoing) → net_is_clearing s ≡ false → is_active s ≡ true → is_proceeding s' ≡ false → OfSaid Mild reply → Goes r ch o s k reply (call_of r ch o s')
+asking r ch o s s' k reply h a b m = record { reference = refl; channel = refl; origin = refl; mild = λ c. (h, m); active = λ c. or_left (is_active s) (k || is_proceeding s) a; proceeding = λ c. absurd (false≢true (sym b ∙ c)) }
 
 pub row_goes : (r ch : ℕ) (o : NetOrigin) (t : ℕ) (m : Heard) (s : NetState) (k : Kind) → GoesOn r ch o s (is_connect_kind k) (net_row (call_of r ch o s) m t s k)
 row_goes r ch o t m s ReleaseComplete = tt
@@ -111,6 +118,9 @@ timer_goes r ch o t (CallPresent true due) = by_cases (nat_le due t) _ _ (GoesOn
 timer_goes r ch o t (IncomingCallProceeding due) = by_cases (nat_le due t) _ _ (GoesOn r ch o (IncomingCallProceeding due) false) (λ _. clearing r ch o (IncomingCallProceeding due) _ false _ refl refl refl) (λ _. same r ch o (IncomingCallProceeding due) false None tt)
 timer_goes r ch o t (CallReceived due) = by_cases (nat_le due t) _ _ (GoesOn r ch o (CallReceived due) false) (λ _. clearing r ch o (CallReceived due) _ false _ refl refl refl) (λ _. same r ch o (CallReceived due) false None tt)
 timer_goes r ch o t Active = same r ch o Active false None tt
+timer_goes r ch o t (Enquiring NotYet due) = by_cases (nat_le due t) _ _ (GoesOn r ch o (Enquiring NotYet due) false) (λ _. asking r ch o (Enquiring NotYet due) _ false _ refl refl refl refl) (λ _. same r ch o (Enquiring NotYet due) false None tt)
+timer_goes r ch o t (Enquiring Once due) = by_cases (nat_le due t) _ _ (GoesOn r ch o (Enquiring Once due) false) (λ _. asking r ch o (Enquiring Once due) _ false _ refl refl refl refl) (λ _. same r ch o (Enquiring Once due) false None tt)
+timer_goes r ch o t (Enquiring Twice due) = by_cases (nat_le due t) _ _ (GoesOn r ch o (Enquiring Twice due) false) (λ _. clearing r ch o (Enquiring Twice due) _ false _ refl refl refl) (λ _. same r ch o (Enquiring Twice due) false None tt)
 timer_goes r ch o t (DisconnectIndication cause due) = by_cases (nat_le due t) _ _ (GoesOn r ch o (DisconnectIndication cause due) false) (λ _. clearing r ch o (DisconnectIndication cause due) _ false _ refl refl refl) (λ _. same r ch o (DisconnectIndication cause due) false None tt)
 timer_goes r ch o t (ReleaseRequest false cause due) = by_cases (nat_le due t) _ _ (GoesOn r ch o (ReleaseRequest false cause due) false) (λ _. clearing r ch o (ReleaseRequest false cause due) _ false _ refl refl refl) (λ _. same r ch o (ReleaseRequest false cause due) false None tt)
 timer_goes r ch o t (ReleaseRequest true cause due) = by_cases (nat_le due t) _ _ (GoesOn r ch o (ReleaseRequest true cause due) false) (λ _. tt) (λ _. same r ch o (ReleaseRequest true cause due) false None tt)
@@ -119,17 +129,37 @@ pub second_goes : (r ch : ℕ) (o : NetOrigin) (t end : ℕ) (s : NetState) → 
 second_goes r ch o t end s = by_cases (not (net_is_clearing s) && nat_le end t) _ _ (GoesOn r ch o s false) (λ _. clearing r ch o s _ false _ refl refl refl) (λ _. timer_goes r ch o t s)
 
 -- in a second without a link
-still_goes : (r ch : ℕ) (o : NetOrigin) (s : NetState) → Goes r ch o s false None (call_of r ch o (net_later 1 s))
-still_goes r ch o OutgoingCallProceeding = same r ch o OutgoingCallProceeding false None tt
-still_goes r ch o (CallPresent again due) = ringing r ch o (CallPresent again due) _ false None refl refl refl tt
-still_goes r ch o (IncomingCallProceeding due) = ringing r ch o (IncomingCallProceeding due) _ false None refl refl refl tt
-still_goes r ch o (CallReceived due) = ringing r ch o (CallReceived due) _ false None refl refl refl tt
-still_goes r ch o Active = same r ch o Active false None tt
-still_goes r ch o (DisconnectIndication cause due) = clearing r ch o (DisconnectIndication cause due) _ false None refl refl refl
-still_goes r ch o (ReleaseRequest again cause due) = clearing r ch o (ReleaseRequest again cause due) _ false None refl refl refl
+still_goes : (r ch t : ℕ) (o : NetOrigin) (s : NetState) → Goes r ch o s false None (call_of r ch o (net_later 1 t s))
+still_goes r ch t o OutgoingCallProceeding = same r ch o OutgoingCallProceeding false None tt
+still_goes r ch t o (CallPresent again due) = ringing r ch o (CallPresent again due) _ false None refl refl refl tt
+still_goes r ch t o (IncomingCallProceeding due) = ringing r ch o (IncomingCallProceeding due) _ false None refl refl refl tt
+still_goes r ch t o (CallReceived due) = ringing r ch o (CallReceived due) _ false None refl refl refl tt
+still_goes r ch t o Active = asking r ch o Active _ false None refl refl refl tt
+still_goes r ch t o (Enquiring asked due) = asking r ch o (Enquiring asked due) _ false None refl refl refl tt
+still_goes r ch t o (DisconnectIndication cause due) = clearing r ch o (DisconnectIndication cause due) _ false None refl refl refl
+still_goes r ch t o (ReleaseRequest again cause due) = clearing r ch o (ReleaseRequest again cause due) _ false None refl refl refl
 
 pub unlinked_goes : (r ch : ℕ) (o : NetOrigin) (t end : ℕ) (s : NetState) → GoesOn r ch o s false (net_unlinked 1 (call_of r ch o s) t end)
-unlinked_goes r ch o t end s = by_cases (not (net_is_clearing s) && nat_le end t) _ _ (GoesOn r ch o s false) (λ _. clearing r ch o s _ false None refl refl refl) (λ _. still_goes r ch o s)
+unlinked_goes r ch o t end s = by_cases (not (net_is_clearing s) && nat_le end t) _ _ (GoesOn r ch o s false) (λ _. clearing r ch o s _ false None refl refl refl) (λ _. still_goes r ch t o s)
+
+-- a message, where the user may be asked
+asked_goes : (r ch : ℕ) (o : NetOrigin) (asked : Asked) (due : ℕ) (k : Bool) (reply : Option Outgoing) (n : Next PlainNetCall) → OnNext (Goes r ch o Active k reply) n → OnNext (Goes r ch o (Enquiring asked due) k reply) n
+asked_goes r ch o asked due k reply (Live c) g = record { reference = g.reference; channel = g.channel; origin = g.origin; mild = g.mild; active = g.active; proceeding = g.proceeding }
+asked_goes r ch o asked due k reply Over g = tt
+asked_goes r ch o asked due k reply Broken g = tt
+
+abbrev HeardGoes : ℕ → ℕ → NetOrigin → ℕ → Heard → NetState → Kind → Type 0
+HeardGoes r ch o t m s k = GoesOn r ch o s (is_connect_kind k) (net_row (call_of r ch o (net_awake_state s)) m t (net_awake_state s) k)
+
+pub heard_goes : (r ch : ℕ) (o : NetOrigin) (t : ℕ) (m : Heard) (s : NetState) (k : Kind) → HeardGoes r ch o t m s k
+heard_goes r ch o t m (Enquiring asked due) k = let step : Transition PlainNetCall = net_row (call_of r ch o Active) m t Active k in asked_goes r ch o asked due (is_connect_kind k) step.reply step.next (row_goes r ch o t m Active k)
+heard_goes r ch o t m OutgoingCallProceeding k = row_goes r ch o t m OutgoingCallProceeding k
+heard_goes r ch o t m (CallPresent again due) k = row_goes r ch o t m (CallPresent again due) k
+heard_goes r ch o t m (IncomingCallProceeding due) k = row_goes r ch o t m (IncomingCallProceeding due) k
+heard_goes r ch o t m (CallReceived due) k = row_goes r ch o t m (CallReceived due) k
+heard_goes r ch o t m Active k = row_goes r ch o t m Active k
+heard_goes r ch o t m (DisconnectIndication cause due) k = row_goes r ch o t m (DisconnectIndication cause due) k
+heard_goes r ch o t m (ReleaseRequest again cause due) k = row_goes r ch o t m (ReleaseRequest again cause due) k
 
 -- what is said is of the call
 abbrev pub OfCall : ℕ → NetOrigin → Outgoing → Type 0
@@ -188,6 +218,9 @@ timer_speaks r ch o t (CallPresent true due) = test_said (Speaks r ch o) (nat_le
 timer_speaks r ch o t (IncomingCallProceeding due) = test_said (Speaks r ch o) (nat_le due t) _ _ (other r ch o _ refl refl refl) tt
 timer_speaks r ch o t (CallReceived due) = test_said (Speaks r ch o) (nat_le due t) _ _ (other r ch o _ refl refl refl) tt
 timer_speaks r ch o t Active = tt
+timer_speaks r ch o t (Enquiring NotYet due) = test_said (Speaks r ch o) (nat_le due t) _ _ (other r ch o _ refl refl refl) tt
+timer_speaks r ch o t (Enquiring Once due) = test_said (Speaks r ch o) (nat_le due t) _ _ (other r ch o _ refl refl refl) tt
+timer_speaks r ch o t (Enquiring Twice due) = test_said (Speaks r ch o) (nat_le due t) _ _ (other r ch o _ refl refl refl) tt
 timer_speaks r ch o t (DisconnectIndication cause due) = test_said (Speaks r ch o) (nat_le due t) _ _ (other r ch o _ refl refl refl) tt
 timer_speaks r ch o t (ReleaseRequest false cause due) = test_said (Speaks r ch o) (nat_le due t) _ _ (again_speaks r ch o t (ReleaseRequest false cause due) true cause) tt
 timer_speaks r ch o t (ReleaseRequest true cause due) = test_said (Speaks r ch o) (nat_le due t) _ _ tt tt

@@ -29,10 +29,10 @@ use Rattle.bx_q931.specs.Outgoing.{Outgoing}
 use Rattle.bx_calls.specs.PlainCalls.{PlainUserCall}
 use Rattle.bx_calls.specs.NetTable.{net_flag}
 use Rattle.bx_calls.specs.UserTable.{user_flag}
-use Rattle.bx_calls.specs.declared.net_state.NetState.TheVariants.{Active}
 use Rattle.bx_calls.specs.declared.user_state.UserState.{UserState}
 use Rattle.bx_calls.specs.declared.user_state.UserState.TheVariants as user
 use Rattle.bx_day.specs.Law.{OnLive, standing_at}
+use Rattle.bx_day.specs.Moves.{is_active}
 use Rattle.bx_channels.specs.Marks.{is_marked}
 use Rattle.bx_far.specs.declared.row.ScriptRow.{ScriptRow}
 use Rattle.bx_two_ends.specs.Scripts.{AreScriptRows}
@@ -69,7 +69,7 @@ AreOnTheirOwn (call ∷ calls) = AllByRecursion (λ (other : PlainUserCall). cal
 -- what holds of a world
 pub record IsTwoEnds (rows : List Row) (w : World) : Type 0 where
   -- while the exchange has an outward booking Active, the far end holds its call on its channel, or has that in maintenance
-  pub held : (i : ℕ) → i < length rows → OnLive (standing_at w.exchange i) (λ call a. net_flag call.origin ≡ false → call.state ≡ Active
+  pub held : (i : ℕ) → i < length rows → OnLive (standing_at w.exchange i) (λ call a. net_flag call.origin ≡ false → is_active call.state ≡ true
       → (far_holds w.far.calls (i + 1) call.channel ≡ true) ⊎ (is_marked w.far.maintenance call.channel ≡ true))
   -- no end holds two calls on a channel
   pub apart : (i j : ℕ) → i < j → j < length rows → OnLive (standing_at w.exchange i) (λ call a. OnLive (standing_at w.exchange j) (λ other b. call.channel ≢ other.channel))

@@ -1,6 +1,7 @@
 //! What holds of two ends over every list of events.
 
 ghost use Rattle.bx_two_ends.specs.Scripts.{ScriptsFit};
+ghost use Rattle.bx_two_ends.specs.Lockstep.{FarAnswers};
 ghost use Rattle.bx_two_ends.specs.TwoEnds.{TwoEnds};
 ghost use Rattle.bx_two_ends.specs.TwoEndsInward.{TwoEndsInward};
 
@@ -24,4 +25,10 @@ pub fn two_ends_inward()
 /// B channel. That it has at most 4,000 rows is in the type of what `Script::read` answers.
 pub fn scripts_fit()
     ensures { ScriptsFit }
+{}
+
+/// A far end whose script answers each call at once, and calls nobody, answers by its messages in each turn of a day of both ends
+/// over a link that loses nothing. So what is planned is earned then (`bx_day::laws::turns_are_answered`, `planned_is_carried`).
+pub fn far_answers()
+    ensures { FarAnswers }
 {}

@@ -1,10 +1,14 @@
 use Rattle.std.proofs.lemmas.Grind.{common_steps}
 use Rattle.std.proofs.Common.{rules, ◌≡◌, ℕ, ◌+◌, ap, arith, List, length, Some, refl, subst, sym}
 use Rattle.bx_base.specs.Bookings.{Row, IsLawful}
+use Rattle.bx_base.specs.Extending.{Extends}
+use Rattle.bx_base.specs.PlanParts.{parts_of}
 use Rattle.bx_base.specs.Plans.{is_accepted}
+use Rattle.bx_planner.specs.Amending.{IsBestPlan}
 use Rattle.bx_planner.specs.Musts.{IsTooManyMust}
 use Rattle.bx_planner.proofs.Amended.{keeps, length_amended}
 use Rattle.bx_planner.proofs.Chosen.{room_from_none}
+use Rattle.bx_planner.proofs.Extending.{amended_extends}
 use Rattle.bx_planner.proofs.amending.amend.Goals as goal
 
 pub returns-in-Some-clause-musts : goal.returns-in-Some-clause-musts
@@ -42,3 +46,12 @@ returns-in-Ok-clause-full c = search rules steps 400000
 
 pub returns-in-Err-clause-full : goal.returns-in-Err-clause-full
 returns-in-Err-clause-full c = grind (arith, common_steps) steps 60000
+
+pub returns-in-Ok-clause-extended : goal.returns-in-Ok-clause-extended
+returns-in-Ok-clause-extended c m before starts =
+    let plan = c.args.plan.now in
+    let p = c.in-Ok.amended in
+    let whole = subst (λ (rows : List Row). IsBestPlan rows plan.channels (parts_of p)) c.of-demand.ensures c.in-Ok.ensures.planned in
+    let kept = keeps plan.bookings plan.assigned.items c.args.more.now plan.channels p.assigned.items whole.lawful in
+    subst (λ (rows : List Row). Extends m plan.bookings plan.assigned.items rows p.assigned.items) (sym whole.bookings)
+    (amended_extends m plan.bookings c.args.more.now plan.channels plan.assigned.items p.assigned.items c.len.ensures.bookings before whole.first_fit whole.carried kept starts)

@@ -1,4 +1,4 @@
-use Rattle.std.proofs.Common.{ℕ, List, Option, refl, subst}
+use Rattle.std.proofs.Common.{ℕ, Option, refl, subst}
 use Rattle.bx_records.specs.Records.{IsTimeText, IsTimeTextOf}
 use Rattle.bx_records.proofs.Joined.{joined}
 use Rattle.bx_records.proofs.lines.put_record.Goals as goal

@@ -1,7 +1,6 @@
 use Rattle.std.proofs.Common.{arith}
-use Rattle.bx_records.specs.Totals.{is_accepted, is_carried}
-use Rattle.bx_records.proofs.Joined.{entries_from}
-use Rattle.bx_records.proofs.Counted.{one_counted, all_counted}
+use Rattle.bx_records.specs.Totals.{is_accepted}
+use Rattle.bx_records.proofs.Counted.{all_counted}
 use Rattle.bx_records.proofs.totals.totals_of.Goals as goal
 
 pub returns-clause-accepted : goal.returns-clause-accepted

@@ -1,7 +1,5 @@
 use Rattle.std.proofs.Common.{sym, ◌∙◌}
 use Rattle.bx_calls.specs.Hearing.{heard_of}
-use Rattle.bx_calls.specs.UserTable.{user_status}
-use Rattle.bx_calls.specs.Expected.{user_released}
 use Rattle.bx_calls.proofs.EveryState.{progress_of, user_every}
 use Rattle.bx_calls.proofs.user_call.UserCall.on_message.Goals as goal
 

@@ -1,0 +1,10 @@
+pub mod Asking
+pub mod Carrying
+pub mod Turning
+pub mod Earned
+pub mod EarnedDays
+pub mod Naming
+pub mod Answering
+pub mod Sparing
+pub mod AnsweringDays
+pub mod Paid

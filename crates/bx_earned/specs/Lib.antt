@@ -1,0 +1,3 @@
+pub mod Earning
+pub mod Answering
+pub mod Asking

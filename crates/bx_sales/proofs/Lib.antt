@@ -1,0 +1,5 @@
+mod FirstFit
+mod Told
+pub mod Journal
+mod ExtendedBy
+mod Sales

@@ -1,0 +1,103 @@
+-- The record tells the day, by induction along the record: so far the day is that of one first-fit plan over the events so far. A sale
+-- makes the plan longer, and the law of longer plans carries the events so far over to it. First fit is one colouring of its marks.
+use Rattle.std.proofs.Common.{◌≡◌, ℕ, suc, ◌+◌, ◌<◌, not, Bool, true, false, List, [], ◌∷◌, ◌++◌, map, length, Option, None, arith, refl, sym, subst, ap, ap₂, ◌∙◌, slice_index_or}
+use Rattle.std.proofs.lemmas.List.{length-append}
+use Rattle.bx_base.specs.Bookings.{Row, row_at, AreBookings, Carries}
+use Rattle.bx_base.specs.Plans.{is_accepted, channel_at}
+use Rattle.bx_colour.specs.Colouring.{IsFirstFit, is_in}
+use Rattle.bx_colour.proofs.FirstFitStays.{channels_stay, marked}
+use Rattle.bx_day.specs.Day.{Day, entry_at, opening}
+use Rattle.bx_day.specs.Extended.{extended, IsExtendedBy}
+use Rattle.bx_day.specs.Invariant.{is_refused}
+use Rattle.bx_day.specs.Outages.{live_happens, live_day_after}
+use Rattle.bx_day.specs.declared.entry.Entry.{Entry}
+use Rattle.bx_sales.proofs.ExtendedBy.{size, frame_at, goes_on}
+use Rattle.bx_sales.proofs.Sales.{one_more, joined}
+use Rattle.bx_events.specs.Events.{LiveEvent}
+use Rattle.bx_sales.specs.Selling.{rows_of, marks_of, rows_with, marks_with}
+use Rattle.bx_sales.specs.Sold.{Item, Happened, Bought, events_in, bought_in, GoesThrough}
+
+nothing_more : {X : Type 0} (xs : List X) → xs ++ [] ≡ xs
+nothing_more [] = refl
+nothing_more (x ∷ xs) = ap (λ ys. x ∷ ys) (nothing_more xs)
+
+twice_not : (b : Bool) → not (not b) ≡ b
+twice_not true = refl
+twice_not false = refl
+
+-- ---- lists, index by index
+
+same_channels : (xs ys : List (Option ℕ)) → length xs ≡ length ys → ((i : ℕ) → i < length ys → slice_index_or xs i None ≡ slice_index_or ys i None) → xs ≡ ys
+same_channels [] [] count same = refl
+same_channels [] (y ∷ ys) count same = absurd (omega (arith, count))
+same_channels (x ∷ xs) [] count same = absurd (omega (arith, count))
+same_channels (x ∷ xs) (y ∷ ys) count same = ap₂ (λ z zs. z ∷ zs) (same 0 (omega arith)) (same_channels xs ys (omega (arith, count)) (λ i lt. same (suc i) (omega (arith, lt))))
+
+same_rows : (es : List Entry) (rows : List Row) → length es ≡ length rows → ((i : ℕ) → i < length rows → (entry_at es i).booking ≡ row_at rows i) → map (λ (e : Entry). e.booking) es ≡ rows
+same_rows [] [] count same = refl
+same_rows [] (r ∷ rows) count same = absurd (omega (arith, count))
+same_rows (e ∷ es) [] count same = absurd (omega (arith, count))
+same_rows (e ∷ es) (r ∷ rows) count same = ap₂ (λ z zs. z ∷ zs) (same 0 (omega arith)) (same_rows es rows (omega (arith, count)) (λ i lt. same (suc i) (omega (arith, lt))))
+
+same_marks : (es : List Entry) (marks : List Bool) → length es ≡ length marks → ((i : ℕ) → i < length marks → not (is_refused (entry_at es i).standing) ≡ is_in marks i) → map (λ (e : Entry). not (is_refused e.standing)) es ≡ marks
+same_marks [] [] count same = refl
+same_marks [] (m ∷ marks) count same = absurd (omega (arith, count))
+same_marks (e ∷ es) [] count same = absurd (omega (arith, count))
+same_marks (e ∷ es) (m ∷ marks) count same = ap₂ (λ z zs. z ∷ zs) (same 0 (omega arith)) (same_marks es marks (omega (arith, count)) (λ i lt. same (suc i) (omega (arith, lt))))
+
+-- ---- first fit is one colouring
+
+pub once : (rows : List Row) (channels accepted : List Bool) (assigned last : List (Option ℕ)) → IsFirstFit rows channels accepted assigned → IsFirstFit rows channels accepted last → assigned ≡ last
+once rows channels accepted assigned last first second = same_channels assigned last (first.one_each ∙ sym second.one_each) (λ i inside.
+    let lt : i < length rows = omega (arith, inside, second.one_each) in
+    channels_stay ((row_at rows i).start + 1) rows rows channels accepted accepted last assigned (record {
+      first = second;
+      second = first;
+      longer = omega arith;
+      same = λ k less. record { start = refl; end = refl; pay = refl; number = refl; inward = refl };
+      marks = λ k less early. refl;
+      later = λ k low less. absurd (omega (arith, low, less));
+    }) i lt (omega arith))
+
+-- ---- the day has its plan
+
+rows_now : (rows : List Row) (channels : List Bool) (assigned : List (Option ℕ)) (events : List LiveEvent) → AreBookings rows → Carries rows channels (is_accepted assigned) (channel_at assigned) → rows_of (live_day_after events (opening rows assigned)) ≡ rows
+rows_now rows channels assigned events bookings carries = same_rows (live_day_after events (opening rows assigned)).entries rows (size rows channels assigned events bookings carries) (λ i lt. (frame_at rows channels assigned events bookings carries i lt).booking)
+
+marks_now : (rows : List Row) (channels accepted : List Bool) (assigned : List (Option ℕ)) (events : List LiveEvent) → length accepted ≡ length rows → AreBookings rows → Carries rows channels (is_accepted assigned) (channel_at assigned) → IsFirstFit rows channels accepted assigned → marks_of (live_day_after events (opening rows assigned)) ≡ accepted
+marks_now rows channels accepted assigned events count bookings carries first = same_marks (live_day_after events (opening rows assigned)).entries accepted (size rows channels assigned events bookings carries ∙ sym count) (λ i inside.
+    let lt : i < length rows = omega (arith, inside, count) in
+    ap not (frame_at rows channels assigned events bookings carries i lt).accepted ∙ twice_not (is_accepted assigned i) ∙ marked rows channels accepted assigned i (is_in accepted i) first refl lt)
+
+-- ---- along the record
+
+pub told : (channels : List Bool) (items : List Item) (rows : List Row) (accepted : List Bool) (assigned : List (Option ℕ)) (events : List LiveEvent) (d now : Day) → length accepted ≡ length rows → AreBookings rows → Carries rows channels (is_accepted assigned) (channel_at assigned) → IsFirstFit rows channels accepted assigned → d ≡ live_day_after events (opening rows assigned) → GoesThrough channels items d now → (last : List (Option ℕ)) → IsFirstFit (rows ++ bought_in items) channels (accepted ++ map (λ (row : Row). true) (bought_in items)) last → now ≡ live_day_after (events ++ events_in items) (opening (rows ++ bought_in items) last)
+told channels [] rows accepted assigned events d now count bookings carries first is through last fit =
+    let p : rows ++ [] ≡ rows = nothing_more rows in
+    let fit1 = subst (λ rs. IsFirstFit rs channels (accepted ++ []) last) p fit in
+    let fit2 = subst (λ ms. IsFirstFit rows channels ms last) (nothing_more accepted) fit1 in
+    through ∙ is ∙ ap (λ a. live_day_after events (opening rows a)) (once rows channels accepted assigned last first fit2)
+    ∙ ap₂ (λ xs rs. live_day_after xs (opening rs last)) (sym (nothing_more events)) (sym p)
+told channels (Happened event ∷ items) rows accepted assigned events d now count bookings carries first is through last fit =
+    told channels items rows accepted assigned (events ++ event ∷ []) (live_happens d event).day now count bookings carries first (ap (λ (x : Day). (live_happens x event).day) is ∙ one_more events event (opening rows assigned)) through last fit
+    ∙ ap (λ xs. live_day_after xs (opening (rows ++ bought_in items) last)) (joined events (events_in items) event)
+told channels (Bought row ∷ items) rows accepted assigned events d now count bookings carries first is through last fit =
+    let sold = through.0 in
+    let s = through.1 in
+    let r : rows_with d row ≡ rows ++ row ∷ [] = ap (λ rs. rs ++ row ∷ []) (ap rows_of is ∙ rows_now rows channels assigned events bookings carries) in
+    let k : marks_with d ≡ accepted ++ true ∷ [] = ap (λ ms. ms ++ true ∷ []) (ap marks_of is ∙ marks_now rows channels accepted assigned events count bookings carries first) in
+    let fit1 = subst (λ rs. IsFirstFit rs channels (marks_with d) s.assigned) r s.first_fit in
+    let fit2 = subst (λ ms. IsFirstFit (rows ++ row ∷ []) channels ms s.assigned) k fit1 in
+    let bookings1 = subst AreBookings r s.sale.bookings in
+    let carries1 = subst (λ rs. Carries rs channels (is_accepted s.assigned) (channel_at s.assigned)) r s.sale.carried in
+    let tested = subst (λ rs. IsExtendedBy d rs s.assigned) r s.sale.extended_by in
+    let day : sold ≡ live_day_after events (opening (rows ++ row ∷ []) s.assigned) =
+    s.day ∙ ap (λ rs. extended rs s.assigned d) r ∙ ap (extended (rows ++ row ∷ []) s.assigned) is
+    ∙ sym (goes_on rows channels assigned events bookings carries (rows ++ row ∷ []) s.assigned bookings1 (subst (λ (x : Day). IsExtendedBy x (rows ++ row ∷ []) s.assigned) is tested)) in
+    let whole : (rows ++ row ∷ []) ++ bought_in items ≡ rows ++ row ∷ bought_in items = joined rows (bought_in items) row in
+    let all_marks : (accepted ++ true ∷ []) ++ map (λ (x : Row). true) (bought_in items) ≡ accepted ++ true ∷ map (λ (x : Row). true) (bought_in items) = joined accepted (map (λ (x : Row). true) (bought_in items)) true in
+    let fit3 = subst (λ rs. IsFirstFit rs channels (accepted ++ true ∷ map (λ (x : Row). true) (bought_in items)) last) (sym whole) fit in
+    let fit4 = subst (λ ms. IsFirstFit ((rows ++ row ∷ []) ++ bought_in items) channels ms last) (sym all_marks) fit3 in
+    let longer : length (accepted ++ true ∷ []) ≡ length (rows ++ row ∷ []) = (let a = length-append accepted (true ∷ []) in let b = length-append rows (row ∷ []) in omega (arith, a, b, count)) in
+    told channels items (rows ++ row ∷ []) (accepted ++ true ∷ []) s.assigned events sold now longer bookings1 carries1 fit2 day through.2 last fit4
+    ∙ ap (λ rs. live_day_after (events ++ events_in items) (opening rs last)) whole

@@ -1,0 +1,31 @@
+-- A journal that has sales among its events tells the last plan and the day.
+use Rattle.std.specs.Prelude.{◌≡◌, ℕ, Bool, true, List, [], ◌∷◌, ◌++◌, map, length, Option}
+use Rattle.bx_base.specs.Bookings.{Row, AreBookings, Carries}
+use Rattle.bx_base.specs.Plans.{is_accepted, channel_at}
+use Rattle.bx_colour.specs.Colouring.{IsFirstFit}
+use Rattle.bx_day.specs.Day.{Day, opening}
+use Rattle.bx_day.specs.Outages.{live_happens, live_day_after}
+use Rattle.bx_events.specs.Events.{LiveEvent, OnLink, WithoutLink, Sold}
+use Rattle.bx_sales.specs.Selling.{IsSold}
+
+-- the bookings that were sold, by what their lines say
+abbrev pub sold_in : (List ℕ → Row) → List LiveEvent → List Row
+sold_in row_on [] = []
+sold_in row_on (Sold line ∷ events) = row_on line ∷ sold_in row_on events
+sold_in row_on (OnLink event ∷ events) = sold_in row_on events
+sold_in row_on (WithoutLink ∷ events) = sold_in row_on events
+
+-- a day that goes through these, and goes on with a longer plan at each sale
+abbrev pub RunsThrough : List Bool → (List ℕ → Row) → List LiveEvent → Day → Day → Type 0
+RunsThrough channels row_on [] old new = new ≡ old
+RunsThrough channels row_on (Sold line ∷ events) old new = (sold : Day) × IsSold channels (row_on line) old sold × RunsThrough channels row_on events sold new
+RunsThrough channels row_on (OnLink event ∷ events) old new = RunsThrough channels row_on events (live_happens old (OnLink event)).day new
+RunsThrough channels row_on (WithoutLink ∷ events) old new = RunsThrough channels row_on events (live_happens old WithoutLink).day new
+
+-- the plan of the morning with all that was sold, coloured once, has the day by just these events
+abbrev pub IsToldByJournal : Type 0
+IsToldByJournal = (channels : List Bool) (row_on : List ℕ → Row) (rows : List Row) (accepted : List Bool) (assigned : List (Option ℕ)) (events : List LiveEvent) (d : Day) →
+    length accepted ≡ length rows → AreBookings rows → Carries rows channels (is_accepted assigned) (channel_at assigned) → IsFirstFit rows channels accepted assigned →
+    RunsThrough channels row_on events (opening rows assigned) d →
+    (last : List (Option ℕ)) → IsFirstFit (rows ++ sold_in row_on events) channels (accepted ++ map (λ (row : Row). true) (sold_in row_on events)) last →
+    d ≡ live_day_after events (opening (rows ++ sold_in row_on events) last)

@@ -1,0 +1,4 @@
+pub mod Selling
+pub mod Sold
+pub mod Journal
+pub mod Sales

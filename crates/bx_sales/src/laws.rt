@@ -1,0 +1,49 @@
+//! Laws of a day on which bookings are sold.
+
+ghost use Rattle.std.specs.Prelude.{◌≡◌, ◌<◌, ℕ, Bool, List, Option};
+ghost use Rattle.bx_base.specs.Bookings.{Row, AreBookings, Carries};
+ghost use Rattle.bx_base.specs.Extending.{Extends};
+ghost use Rattle.bx_base.specs.Plans.{is_accepted, channel_at};
+ghost use Rattle.bx_day.specs.Day.{opening};
+ghost use Rattle.bx_events.specs.Events.{LiveEvent};
+ghost use Rattle.bx_day.specs.Outages.{live_day_after, live_happens};
+ghost use Rattle.bx_day.specs.Extended.{extended, IsExtendedBy};
+ghost use Rattle.bx_sales.specs.Sales.{Step, sold_day_after, events_of_steps, last_rows, last_assigned, AreSales};
+ghost use Rattle.bx_sales.specs.Journal.{IsToldByJournal};
+ghost use Rattle.bx_sales.specs.Sold.{IsFirstFitSold, IsToldByRecord};
+
+/// The record tells the day: where the plan of the morning is first fit, a day that went through events and sales, in whatever order,
+/// is the day of one plan over these events alone: of the morning's bookings with all that was sold behind them, coloured once.
+pub fn told_by_record()
+    ensures { IsToldByRecord }
+{}
+
+/// A day whose plan is first fit is never refused as `OtherChannels`: the plan with one booking more is one that it goes on with.
+pub fn first_fit_is_sold()
+    ensures { IsFirstFitSold }
+{}
+
+/// A journal that has sales among its events tells the last plan, and the day: it is that of the last plan by just these events.
+pub fn told_by_journal()
+    ensures { IsToldByJournal }
+{}
+
+/// Where a plan extends another from moment m, their days agree up to there. After every list of events behind which the moment is
+/// still below m, the day of the longer plan is that of the plan before, of which each booking that waits has its new channel, and
+/// behind which the new bookings stand (`day`); and while the moment stays below m, each event has the same sent (`sent`).
+/// So bookings may be sold while the day runs: it is the day of its last plan. What `Exchange::extend` tests of its day is
+/// just that (`tested`, `goes_on`).
+pub fn day_of_a_longer_plan()
+    ensures day { (m : ℕ) (rows : List Row) (assigned : List (Option ℕ)) (rows' : List Row) (assigned' : List (Option ℕ)) (events : List LiveEvent) → AreBookings rows' → Extends m rows assigned rows' assigned' → (live_day_after events (opening rows assigned)).moment < m → live_day_after events (opening rows' assigned') ≡ extended rows' assigned' (live_day_after events (opening rows assigned)) }
+    ensures sent { (m : ℕ) (rows : List Row) (assigned : List (Option ℕ)) (rows' : List Row) (assigned' : List (Option ℕ)) (events : List LiveEvent) (event : LiveEvent) → AreBookings rows' → Extends m rows assigned rows' assigned' → (live_day_after events (opening rows assigned)).moment < m → (live_happens (live_day_after events (opening rows assigned)) event).day.moment < m → (live_happens (live_day_after events (opening rows' assigned')) event).sent ≡ (live_happens (live_day_after events (opening rows assigned)) event).sent }
+    ensures tested { (m : ℕ) (rows : List Row) (channels : List Bool) (assigned : List (Option ℕ)) (rows' : List Row) (assigned' : List (Option ℕ)) (events : List LiveEvent) → AreBookings rows → Carries rows channels (is_accepted assigned) (channel_at assigned) → (live_day_after events (opening rows assigned)).moment < m → Extends m rows assigned rows' assigned' → IsExtendedBy (live_day_after events (opening rows assigned)) rows' assigned' }
+    ensures goes_on { (rows : List Row) (channels : List Bool) (assigned : List (Option ℕ)) (rows' : List Row) (assigned' : List (Option ℕ)) (events : List LiveEvent) → AreBookings rows → Carries rows channels (is_accepted assigned) (channel_at assigned) → AreBookings rows' → IsExtendedBy (live_day_after events (opening rows assigned)) rows' assigned' → live_day_after events (opening rows' assigned') ≡ extended rows' assigned' (live_day_after events (opening rows assigned)) }
+{}
+
+/// However often bookings are sold while the day runs: the day is that of the last plan over the same events (`day`), and that
+/// plan's channels carry it (`carried`), so each law of a day holds of it.
+pub fn day_of_the_last_plan()
+    ensures day { (channels : List Bool) (rows : List Row) (assigned : List (Option ℕ)) (steps : List Step) → AreBookings rows → Carries rows channels (is_accepted assigned) (channel_at assigned) → AreSales channels steps (opening rows assigned) → sold_day_after steps (opening rows assigned) ≡ live_day_after (events_of_steps steps) (opening (last_rows rows steps) (last_assigned assigned steps)) }
+    ensures bookings { (channels : List Bool) (rows : List Row) (assigned : List (Option ℕ)) (steps : List Step) → AreBookings rows → AreSales channels steps (opening rows assigned) → AreBookings (last_rows rows steps) }
+    ensures carried { (channels : List Bool) (rows : List Row) (assigned : List (Option ℕ)) (steps : List Step) → Carries rows channels (is_accepted assigned) (channel_at assigned) → AreSales channels steps (opening rows assigned) → Carries (last_rows rows steps) channels (is_accepted (last_assigned assigned steps)) (channel_at (last_assigned assigned steps)) }
+{}
