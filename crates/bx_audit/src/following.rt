@@ -33,6 +33,8 @@ impl<W: Write> Follower for Recaptured<W> {
                 let _reply = self.captured.hear(octets);
             }
             RecordedEvent::Down => self.captured.end.second_without_link(),
+            // The plan that the exchange was opened with has it.
+            RecordedEvent::Sold(_) => {}
         }
     }
 

@@ -31,4 +31,7 @@ pub enum LinkFault {
     /// The session was closed before.
     #[error("L8 Closed")]
     Closed,
+    /// The data link was released or established anew (ITU-T Q.921, 5.5 and 5.7), and messages may be lost.
+    #[error("L9 LinkReset")]
+    LinkReset,
 }

@@ -3,7 +3,7 @@
 use bx_frames::LinkFault;
 use std::test::Fail;
 
-static FAULTS: [(LinkFault, &str); 8] = [
+static FAULTS: [(LinkFault, &str); 9] = [
     (LinkFault::ReadFailed, "L1 ReadFailed"),
     (LinkFault::WriteFailed, "L2 WriteFailed"),
     (LinkFault::EndedInFrame, "L3 EndedInFrame"),
@@ -12,6 +12,7 @@ static FAULTS: [(LinkFault, &str); 8] = [
     (LinkFault::MoreThan64Messages, "L6 MoreThan64Messages"),
     (LinkFault::WrongMoment, "L7 WrongMoment"),
     (LinkFault::Closed, "L8 Closed"),
+    (LinkFault::LinkReset, "L9 LinkReset"),
 ];
 
 #[test]

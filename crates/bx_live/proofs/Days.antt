@@ -6,7 +6,7 @@ use Rattle.bx_frames.specs.declared.frame.Frame.{Frame}
 use Rattle.bx_frames.specs.declared.frame.Frame.TheVariants as frames
 use Rattle.bx_day.specs.Day.{Day}
 use Rattle.bx_day.specs.Course.{exchange_next, exchange_sent, exchange_text}
-use Rattle.bx_events.specs.Events.{LiveEvent, OnLink, WithoutLink}
+use Rattle.bx_events.specs.Events.{LiveEvent, OnLink, WithoutLink, Sold}
 use Rattle.bx_day.specs.Outages.{live_day_after}
 use Rattle.bx_live.specs.declared.world.Begin.{Begin}
 use Rattle.bx_live.specs.declared.world.Begin.TheVariants as begins
@@ -15,7 +15,7 @@ use Rattle.bx_live.specs.declared.world.Loss.{Loss}
 use Rattle.bx_live.specs.declared.world.Loss.TheVariants as losses
 use Rattle.bx_live.specs.declared.running.Second.{Second}
 use Rattle.bx_live.specs.declared.running.Second.TheVariants as seconds
-use Rattle.bx_live.specs.Inside.{IsSaid}
+use Rattle.bx_live.specs.Seconds.{IsSaid}
 use Rattle.bx_live.specs.Acts.{Act, Began, Dropped, Recorded, Synced, Wrote, Read, EndedDay, recorded, ended}
 use Rattle.bx_live.specs.Runs.{Place, Between, Recording, Owing, Losing, Over, Closing, Done, IsDue, IsRun, next, day_at, owing, begun, heard, lost}
 use Rattle.bx_live.specs.Running.{or_over}
@@ -53,6 +53,7 @@ Steps p act = day_at (next p act) ≡ live_day_after (recorded (act ∷ [])) (da
 recorded_day : (d : Day) (room : ℕ) (event : LiveEvent) (done : Bool) → Steps (Recording d room event) (Recorded event done)
 recorded_day d room (OnLink e) true = owing_day (exchange_next d e) room (exchange_sent d e) (exchange_text d e)
 recorded_day d room WithoutLink true = refl
+recorded_day d room (Sold line) true = refl
 recorded_day d room event false = refl
 
 synced_day : (d : Day) (room : ℕ) (text : List ℕ) (done : Bool) → Steps (Owing d room true text) (Synced done)

@@ -2,7 +2,7 @@
 use Rattle.std.proofs.Common.{◌≡◌, ◌⊎◌, inl, inr, ℕ, ◌+◌, List, [], ◌∷◌, ◌++◌, refl, sym, ap, ◌∙◌, subst, true, false, Bool, Result, Ok, Err, ◌==◌, if◌then◌else◌}
 use Rattle.std.proofs.lemmas.List.{append-nil, append_assoc}
 use Rattle.arrayvec.specs.ArrayVec.{ArrayVec}
-use Rattle.bx_events.specs.Events.{Event, LiveEvent, OnLink, WithoutLink}
+use Rattle.bx_events.specs.Events.{Event, LiveEvent, OnLink, WithoutLink, Sold}
 use Rattle.bx_frames.specs.declared.fault.LinkFault.{LinkFault}
 use Rattle.bx_frames.specs.declared.frame.Frame.{Frame}
 use Rattle.bx_frames.specs.declared.frame.Frame.TheVariants as frames
@@ -25,6 +25,7 @@ days_on : (xs ys : List LiveEvent) (d : Day) → live_day_after (xs ++ ys) d ≡
 days_on [] ys d = refl
 days_on (OnLink e ∷ xs) ys d = days_on xs ys (exchange_next d e)
 days_on (WithoutLink ∷ xs) ys d = days_on xs ys _
+days_on (Sold line ∷ xs) ys d = days_on xs ys d
 
 pub recorded_on : (xs ys : List Act) → recorded (xs ++ ys) ≡ recorded xs ++ recorded ys
 recorded_on [] ys = refl
@@ -131,6 +132,7 @@ module _ (d : Day) (acts : List Act) where
       owing_owes d (behind_act (Recorded (OnLink e) true)) (exchange_next day e) room (recorded acts) e (exchange_sent day e) (exchange_text day e)
       (recorded_on acts (Recorded (OnLink e) true ∷ [])) (ap (λ x. exchange_sent x e) stands.day) (ap (λ x. exchange_text x e) stands.day)
   owed_recorded day room WithoutLink true stands = tt
+  owed_recorded day room (Sold line) true stands = tt
   owed_recorded day room event false stands = tt
 
   owed_synced : (day : Day) (room : ℕ) (text : List ℕ) (done : Bool) → KeepsOwed (Owing day room true text) (Synced done)

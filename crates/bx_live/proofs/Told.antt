@@ -7,7 +7,7 @@ use Rattle.bx_frames.specs.declared.frame.Frame.{Frame}
 use Rattle.bx_frames.specs.declared.frame.Frame.TheVariants as frames
 use Rattle.bx_day.specs.Day.{Day}
 use Rattle.bx_day.specs.Course.{exchange_next, exchange_sent, exchange_text}
-use Rattle.bx_events.specs.Events.{LiveEvent, OnLink, WithoutLink}
+use Rattle.bx_events.specs.Events.{LiveEvent, OnLink, WithoutLink, Sold}
 use Rattle.bx_day.specs.Outages.{live_happens, live_day_after}
 use Rattle.bx_live.specs.declared.world.Begin.{Begin}
 use Rattle.bx_live.specs.declared.world.Begin.TheVariants as begins
@@ -84,6 +84,7 @@ tells_begun d begins.Ended well = refl
 tells_recorded : (d : Day) (room : ℕ) (event : LiveEvent) (done : Bool) → Tells (Recording d room event) (Recorded event done)
 tells_recorded d room (OnLink e) true well = owes_text (exchange_next d e) room (exchange_sent d e) (exchange_text d e)
 tells_recorded d room WithoutLink true well = refl
+tells_recorded d room (Sold line) true well = refl
 tells_recorded d room event false well = cc
 
 tells_synced : (d : Day) (room : ℕ) (text : List ℕ) (done : Bool) → Tells (Owing d room true text) (Synced done)

@@ -1,5 +1,6 @@
 pub mod Acts
 pub mod Runs
 pub mod Running
+pub mod Seconds
 pub mod Written
 pub mod Inside

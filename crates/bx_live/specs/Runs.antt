@@ -1,7 +1,7 @@
 -- A live run of a day: which acts come one after another.
 use Rattle.std.specs.Prelude.{◌≡◌, ℕ, ◌+◌, ◌-◌, ◌==◌, Bool, true, false, List, [], ◌∷◌, if◌then◌else◌, Result, Ok, Err}
 use Rattle.arrayvec.specs.ArrayVec.{ArrayVec}
-use Rattle.bx_events.specs.Events.{Tick, Receive, LiveEvent, OnLink, WithoutLink}
+use Rattle.bx_events.specs.Events.{Tick, Receive, LiveEvent, OnLink, WithoutLink, Sold}
 use Rattle.bx_frames.specs.declared.fault.LinkFault.{LinkFault}
 use Rattle.bx_frames.specs.declared.fault.LinkFault.TheVariants.{WriteFailed, WrongMoment, UnknownKind}
 use Rattle.bx_frames.specs.declared.frame.Frame.{Frame}
@@ -70,6 +70,7 @@ owing d room (message ∷ sent) text = Owing d room true text
 -- an event that is on record happens
 abbrev pub happened : Day → ℕ → LiveEvent → Place
 happened d room WithoutLink = Between (without_link d)
+happened d room (Sold line) = Between d
 happened d room (OnLink event) = owing (exchange_next d event) room (exchange_sent d event) (exchange_text d event)
 
 -- a second with a peer is a turn of at most 64 messages; any other is one without a link, in which there is no peer. Where no second

@@ -1,6 +1,6 @@
 -- What may be written to a peer.
 use Rattle.std.specs.Prelude.{◌≡◌, ◌⊎◌, ℕ, ◌&&◌, Bool, true, List, [], ◌∷◌, ◌++◌}
-use Rattle.bx_events.specs.Events.{Event, LiveEvent, OnLink, WithoutLink}
+use Rattle.bx_events.specs.Events.{Event, LiveEvent, OnLink, WithoutLink, Sold}
 use Rattle.bx_day.specs.Day.{Day}
 use Rattle.bx_day.specs.Course.{exchange_sent, exchange_text}
 use Rattle.bx_day.specs.Outages.{live_happens, live_day_after}
@@ -32,10 +32,11 @@ pub record IsWrittenFor (d : Day) (acts : List Act) (octets : List ℕ) : Type 0
 
 -- ---- all that is written
 
--- what is written for an event: nothing, in a second without a link
+-- what is written for an event: nothing, in a second without a link or where a booking is sold
 abbrev pub live_text : Day → LiveEvent → List ℕ
 live_text d (OnLink event) = exchange_text d event
 live_text d WithoutLink = []
+live_text d (Sold line) = []
 
 abbrev pub live_told : List LiveEvent → Day → List ℕ
 live_told [] d = []

@@ -7,5 +7,5 @@ mod running;
 mod turn;
 mod world;
 
-pub use running::run_live;
+pub use running::{Second, close_day, run_live, run_second};
 pub use world::{Begin, CannotRecord, Loss, World};

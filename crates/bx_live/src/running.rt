@@ -8,7 +8,8 @@ ghost use Rattle.bx_live.specs.Acts.{recorded, ended};
 ghost use Rattle.bx_live.specs.Runs.{Recording, Hearing, Between, Closing, Done, Losing};
 ghost use Rattle.bx_live.specs.Running.{Runs, or_over};
 ghost use Rattle.bx_live.specs.declared.running.Second.TheVariants.{Ended};
-ghost use Rattle.bx_live.specs.Inside.{or_stopped, behind_second, RisesByTurn, RisesBySecond, IsSaid};
+ghost use Rattle.bx_live.specs.Seconds.{behind_second, RisesBySecond, IsSaid};
+ghost use Rattle.bx_live.specs.Inside.{or_stopped, RisesByTurn};
 
 use crate::hearing::hear_turn;
 use crate::turn::{Stop, open_turn};
@@ -17,8 +18,8 @@ use bx_day::Exchange;
 use bx_events::{LAST_MOMENT, LiveEvent};
 
 /// How a second that was waited for is over.
-#[derive(Clone, Copy)]
-enum Second {
+#[derive(Clone, Copy, Debug, PartialEq, Eq)]
+pub enum Second {
     /// It has passed.
     Passed,
     /// It does not begin: the day is over before it.
@@ -64,8 +65,9 @@ fn pass_with_peer<W: World>(exchange: &mut Exchange, world: &mut W) -> Result<Se
     }
 }
 
-/// The next second, where one begins.
-fn run_second<W: World>(exchange: &mut Exchange, world: &mut W) -> Result<Second, CannotRecord>
+/// The next second, where one begins: it is waited for, and what happens in it is on record before it happens, and on the disk before
+/// messages are written for it. At a fault of the link the peer is dropped. At `CannotRecord` nothing more is to be done.
+pub fn run_second<W: World>(exchange: &mut Exchange, world: &mut W) -> Result<Second, CannotRecord>
     ensures ran { Runs W.did world.old world.new (Between exchange.old) (behind_second exchange.new result) }
     ensures moment { RisesBySecond exchange.old exchange.new result }
     ensures said { IsSaid W.did world.old world.new exchange.old exchange.new result }
@@ -82,7 +84,7 @@ fn run_second<W: World>(exchange: &mut Exchange, world: &mut W) -> Result<Second
 }
 
 /// The end of a day: all of it is on the disk, then the peer is told.
-fn close_day<W: World>(world: &mut W) -> Result<(), CannotRecord>
+pub fn close_day<W: World>(world: &mut W) -> Result<(), CannotRecord>
     ensures at_last { (d : Day) → Runs W.did world.old world.new (Between d) (or_over (Done d) d result) }
     ensures at_ended { (d : Day) → Runs W.did world.old world.new (Closing d) (or_over (Done d) d result) }
 {

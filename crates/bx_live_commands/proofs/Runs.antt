@@ -8,11 +8,11 @@ use Rattle.bx_journal.specs.Recording.{IsSettled}
 use Rattle.bx_journal.specs.declared.fault.JournalFault.{JournalFault}
 use Rattle.bx_live.specs.Acts.{Act}
 use Rattle.bx_live.specs.declared.world.CannotRecord.{CannotRecord}
-use Rattle.bx_world.specs.Chains.{Chain}
+use Rattle.bx_live_parts.specs.Chains.{Chain}
 use Rattle.bx_world.specs.Lives.{GoesLive}
 use Rattle.bx_world.specs.declared.live.Live.{Live}
-use Rattle.bx_world.specs.declared.record.Record.{Record}
-use Rattle.bx_world.specs.declared.schedule.Schedule.{Schedule}
+use Rattle.bx_live_parts.specs.declared.record.Record.{Record}
+use Rattle.bx_live_parts.specs.declared.schedule.Schedule.{Schedule}
 use Rattle.bx_live_commands.specs.LiveRuns.{RunsByClock}
 use Rattle.bx_day_runs.specs.Runs.{RunsIn}
 use Rattle.bx_live_commands.specs.Inside.{IsReady}

@@ -15,8 +15,8 @@ use Rattle.bx_request.specs.declared.request.Place.{Place}
 use Rattle.bx_request.specs.declared.request.Place.TheVariants.{Port, Socket}
 use Rattle.bx_world.specs.declared.door.TcpDoor.{TcpDoor}
 use Rattle.bx_world.specs.declared.door.UnixDoor.{UnixDoor}
-use Rattle.bx_world.specs.declared.record.Record.{Record}
-use Rattle.bx_world.specs.declared.schedule.Schedule.{Schedule}
+use Rattle.bx_live_parts.specs.declared.record.Record.{Record}
+use Rattle.bx_live_parts.specs.declared.schedule.Schedule.{Schedule}
 use Rattle.bx_live_commands.specs.LiveDays.{IsLiveTold, IsLiveDayAt, DayAt, IsLiveDay, records_of}
 use Rattle.bx_live_commands.specs.LiveRuns.{RunsByClock}
 use Rattle.bx_live_commands.specs.LiveRefusals.{StopsAtDoor, StopsLive, IsLiveRefusal}

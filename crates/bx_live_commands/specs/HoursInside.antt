@@ -1,6 +1,6 @@
 -- Private: when a live day is, as its functions promise it one another.
 use Rattle.std.specs.Prelude.{◌≡◌, ◌≤◌, ℕ, List}
-use Rattle.bx_world.specs.Schedules.{first_of}
+use Rattle.bx_live_parts.specs.Schedules.{first_of}
 use Rattle.bx_live_commands.specs.LiveHours.{IsScheduled}
 use Rattle.bx_live_commands.specs.declared.hours.Hours.{Hours}
 

@@ -15,11 +15,11 @@ use Rattle.bx_request.specs.declared.request.LiveRequest.{LiveRequest}
 use Rattle.bx_request.specs.declared.request.RecordsWords.{RecordsWords}
 use Rattle.bx_request.specs.declared.request.Place.{Place}
 use Rattle.bx_request.specs.declared.request.Place.TheVariants.{Port, Socket}
-use Rattle.bx_world.specs.Schedules.{first_of}
+use Rattle.bx_live_parts.specs.Schedules.{first_of}
 use Rattle.bx_world.specs.declared.door.TcpDoor.{TcpDoor}
 use Rattle.bx_world.specs.declared.door.UnixDoor.{UnixDoor}
-use Rattle.bx_world.specs.declared.record.Record.{Record}
-use Rattle.bx_world.specs.declared.schedule.Schedule.{Schedule}
+use Rattle.bx_live_parts.specs.declared.record.Record.{Record}
+use Rattle.bx_live_parts.specs.declared.schedule.Schedule.{Schedule}
 use Rattle.bx_day_runs.specs.JournalFiles.{holds_on, may_leave_on, moment_on, left_since_on}
 use Rattle.bx_live_commands.specs.LiveHours.{IsScheduled}
 use Rattle.bx_journal_openings.specs.TiedDays.{IsTiedDay}

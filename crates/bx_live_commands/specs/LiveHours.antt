@@ -6,8 +6,8 @@ use Rattle.bx_calendar.specs.declared.day.Day.{Day}
 use Rattle.bx_capture.specs.Starts.{IsNameable}
 use Rattle.bx_day_openings.specs.declared.fault.DayCommandFault.{DayCommandFault}
 use Rattle.bx_day_openings.specs.declared.fault.DayCommandFault.TheVariants as faults
-use Rattle.bx_world.specs.Schedules.{first_of, pace_of}
-use Rattle.bx_world.specs.declared.schedule.Schedule.{Schedule}
+use Rattle.bx_live_parts.specs.Schedules.{first_of, pace_of}
+use Rattle.bx_live_parts.specs.declared.schedule.Schedule.{Schedule}
 
 -- the day of this date in this zone begins at this second of the clock
 abbrev pub IsFirstSecond : List ℕ → List ℕ → ℕ → Type 0

@@ -3,11 +3,11 @@ use Rattle.std.specs.Prelude.{◌≡◌, ℕ, Bool, List, Option}
 use Rattle.bx_day.specs.Day.{Day}
 use Rattle.bx_devices.specs.declared.watched.Watched.{Watched}
 use Rattle.bx_live.specs.Acts.{Act}
-use Rattle.bx_world.specs.Chains.{Chain}
+use Rattle.bx_live_parts.specs.Chains.{Chain}
 use Rattle.bx_world.specs.Lives.{GoesLive}
 use Rattle.bx_world.specs.declared.live.Live.{Live}
-use Rattle.bx_world.specs.declared.record.Record.{Record}
-use Rattle.bx_world.specs.declared.schedule.Schedule.{Schedule}
+use Rattle.bx_live_parts.specs.declared.record.Record.{Record}
+use Rattle.bx_live_parts.specs.declared.schedule.Schedule.{Schedule}
 use Rattle.bx_day_runs.specs.RunCaptures.{IsRunKept}
 use Rattle.bx_day_runs.specs.WholeRuns.{IsWholeRun}
 

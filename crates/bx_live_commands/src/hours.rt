@@ -7,7 +7,7 @@ ghost use Rattle.bx_live_commands.specs.LiveHours.{IsFirstSecond, IsNoHours};
 use bx_calendar::Day;
 use bx_capture::first_second;
 use bx_day_openings::DayCommandFault;
-use bx_world::Schedule;
+use bx_live_parts::Schedule;
 
 /// When the seconds of a live day begin.
 #[derive(Clone, Copy)]

@@ -13,8 +13,8 @@ use bx_day_runs::{LiveFault, sync_entry};
 use bx_devices::Watched;
 use bx_journal::{Disk, DiskFailed, JournalFault, begin, resume};
 use bx_journal_openings::journal_read;
+use bx_live_parts::Record;
 use bx_recovery::recover_day;
-use bx_world::Record;
 use std::fs::{File, Files, OpenFile};
 use std::io::{Read, Write};
 

@@ -2,7 +2,7 @@
 use Rattle.std.specs.Prelude.{◌≡◌, List, [], ◌++◌, map}
 use Rattle.std.proofs.Common.{sym, ap, ◌∙◌}
 use Rattle.std.proofs.lemmas.List.{append-nil, append_assoc}
-use Rattle.bx_events.specs.Events.{Tick, Receive, LiveEvent, OnLink, WithoutLink}
+use Rattle.bx_events.specs.Events.{Tick, Receive, LiveEvent, OnLink, WithoutLink, Sold}
 use Rattle.bx_live.specs.Acts.{Act, recorded}
 use Rattle.bx_live.proofs.Onward.{recorded_on}
 use Rattle.bx_live_tests.specs.declared.journal.Mark.{Mark}
@@ -12,6 +12,7 @@ abbrev pub event_in : Mark → LiveEvent
 event_in marks.Tick = OnLink Tick
 event_in (marks.Heard octets) = OnLink (Receive octets.items)
 event_in marks.Down = WithoutLink
+event_in (marks.Bought line) = Sold line.items
 
 abbrev pub events_in : List Mark → List LiveEvent
 events_in kept = map event_in kept

@@ -17,6 +17,7 @@ pub enum Mark {
     Tick,
     Heard(Octets),
     Down,
+    Bought(ArrayVec<u8, 120>),
 }
 
 /// Lines in memory, so many of them at most.
@@ -33,6 +34,10 @@ fn mark_of(event: LiveEvent<'_>) -> Option<Mark>
     match event {
         LiveEvent::OnLink(Event::Tick) => Some(Mark::Tick),
         LiveEvent::WithoutLink => Some(Mark::Down),
+        LiveEvent::Sold(line) => match ArrayVec::try_from(line) {
+            Ok(line) => Some(Mark::Bought(line)),
+            Err(_) => None,
+        },
         LiveEvent::OnLink(Event::Receive(octets)) => match ArrayVec::try_from(octets) {
             Ok(octets) => Some(Mark::Heard(octets)),
             Err(_) => None,

@@ -1,7 +1,7 @@
 -- What a file has kept of live events, and what it keeps behind that.
 use Rattle.std.proofs.Common.{◌≡◌, ℕ, List, [], ◌∷◌, ◌++◌, refl, sym, ap, ◌∙◌, subst, append_assoc, Option}
 use Rattle.bx_devices.specs.declared.watched.Watched.{Watched}
-use Rattle.bx_events.specs.Events.{Event, Tick, LiveEvent, OnLink, WithoutLink}
+use Rattle.bx_events.specs.Events.{Event, Tick, LiveEvent, OnLink, WithoutLink, Sold}
 use Rattle.bx_turns.specs.Courses.{after, told}
 use Rattle.bx_capture.specs.Captures.{Keeps, IsCaptured}
 use Rattle.bx_capture.specs.Keeping.{keeps_more}
@@ -13,6 +13,7 @@ module _ {D : Type 0} (next : D → Event → D) where
   live_after_more [] ys d = refl
   live_after_more (OnLink x ∷ xs) ys d = live_after_more xs ys (next d x)
   live_after_more (WithoutLink ∷ xs) ys d = live_after_more xs ys (next d Tick)
+  live_after_more (Sold line ∷ xs) ys d = live_after_more xs ys d
 
   pub after_on_link : (xs : List Event) (d : D) → after next (all_taken (on_link xs)) d ≡ after next xs d
   after_on_link [] d = refl
@@ -24,6 +25,7 @@ module _ {D : Type 0} (next : D → Event → D) where
     told_more_on_link (OnLink x ∷ xs) ys d =
         ap (λ (l : List ℕ). text d x ++ l) (told_more_on_link xs ys (next d x)) ∙ sym (append_assoc (text d x) (told_on_link next text xs (next d x)) (told_on_link next text ys (after next (all_taken xs) (next d x))))
     told_more_on_link (WithoutLink ∷ xs) ys d = told_more_on_link xs ys (next d Tick)
+    told_more_on_link (Sold line ∷ xs) ys d = told_more_on_link xs ys d
 
     pub told_all_on_link : (xs : List Event) (d : D) → told_on_link next text (on_link xs) d ≡ told next text xs d
     told_all_on_link [] d = refl

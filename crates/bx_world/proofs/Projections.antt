@@ -3,9 +3,9 @@ use Rattle.std.proofs.Common.{◌≡◌, List, [], ◌∷◌, refl, sym, ap, sub
 use Rattle.bx_frames.specs.declared.fault.LinkFault.{LinkFault}
 use Rattle.bx_live.specs.declared.world.Begin.{Begin}
 use Rattle.bx_live.specs.Acts.{Act, Began, Dropped, Recorded, Synced, Wrote, Read, EndedDay, ended}
-use Rattle.bx_world.specs.Chains.{Chain, chain_one, chain_first}
+use Rattle.bx_live_parts.specs.Chains.{Chain, chain_one, chain_first}
 use Rattle.bx_world.specs.Peers.{OnLost, fault_of}
-use Rattle.bx_world.specs.Records.{OnRecord, OnDisk}
+use Rattle.bx_live_parts.specs.Records.{OnRecord, OnDisk}
 
 pub chain_map : {W V : Type 0} (step : W → Act → W → Type 0) (part : V → Act → V → Type 0) (f : W → V) → ((s t : W) (act : Act) → step s act t → part (f s) act (f t)) → (s t : W) (acts : List Act) → Chain step s acts t → Chain part (f s) acts (f t)
 chain_map step part f so s t [] e = ap f e

@@ -10,7 +10,7 @@ use Rattle.bx_frames.specs.declared.fault.LinkFault.TheVariants.{WriteFailed, Cl
 use Rattle.bx_link.specs.Hearing.{TakesTurn}
 use Rattle.bx_link.specs.Sessions.{is_far_over}
 use Rattle.bx_live.specs.Acts.{Act, Wrote, Read, EndedDay}
-use Rattle.bx_world.specs.Records.{OnRecord}
+use Rattle.bx_live_parts.specs.Records.{OnRecord}
 use Rattle.bx_world.specs.Peers.{Puts, OnLost}
 use Rattle.bx_world.specs.declared.both_ends.FarEnd.{FarEnd}
 use Rattle.bx_world.specs.declared.both_ends.BothEnds.{BothEnds}

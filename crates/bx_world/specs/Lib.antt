@@ -1,10 +1,7 @@
-pub mod Chains
-pub mod Records
 pub mod Kept
 pub mod Peers
 pub mod Rehearsals
 pub mod BothEnds
-pub mod Schedules
 pub mod Streams
 pub mod Waits
 pub mod Lives

@@ -9,11 +9,11 @@ use Rattle.bx_live.specs.declared.world.Begin.{Begin}
 use Rattle.bx_live.specs.declared.world.Begin.TheVariants.{Late, Alone, Joined, Ended}
 use Rattle.bx_live.specs.Acts.{Act, Began, Dropped, Recorded, Synced, Wrote, Read, EndedDay}
 use Rattle.bx_world.specs.Peers.{Puts}
-use Rattle.bx_world.specs.Records.{OnRecord}
-use Rattle.bx_world.specs.Schedules.{instant_of}
+use Rattle.bx_live_parts.specs.Records.{OnRecord}
+use Rattle.bx_live_parts.specs.Schedules.{instant_of}
 use Rattle.bx_world.specs.Streams.{stream_in, stream_of}
 use Rattle.bx_world.specs.declared.live.Live.{Live}
-use Rattle.bx_world.specs.declared.schedule.Schedule.{Schedule}
+use Rattle.bx_live_parts.specs.declared.schedule.Schedule.{Schedule}
 use Rattle.bx_world.specs.declared.timed.Timed.{Timed}
 
 -- How a second begins, by its instant and by what the clock shows: never before its instant. More than a second behind it is late

@@ -1,7 +1,7 @@
 -- A rehearsal of a day: towards one peer, and as fast as it goes.
 use Rattle.std.specs.Prelude.{ℕ, List, Option}
 use Rattle.bx_live.specs.Acts.{Act}
-use Rattle.bx_world.specs.Records.{OnRecord}
+use Rattle.bx_live_parts.specs.Records.{OnRecord}
 use Rattle.bx_world.specs.Peers.{OnWriter, OnReader, OnLost}
 use Rattle.bx_world.specs.declared.rehearsal.Rehearsal.{Rehearsal}
 

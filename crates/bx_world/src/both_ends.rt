@@ -4,7 +4,6 @@ ghost use Rattle.std.specs.Prelude.{◌≡◌};
 ghost use Rattle.bx_world.specs.BothEnds.{FarTurn};
 
 use crate::peer::{begins_by, fault_of, write_turn};
-use crate::record::Record;
 use bx_devices::WriteFailed;
 use bx_events::LiveEvent;
 use bx_far::Far;
@@ -12,6 +11,7 @@ use bx_frames::{Frame, LinkFault, Receiver, read_frame, write_end_of_day, write_
 use bx_journal::Disk;
 use bx_link::{Connection, FarSession};
 use bx_live::{Begin, CannotRecord, Loss, World};
+use bx_live_parts::Record;
 use bx_q931::Octets;
 use std::io::{Read, Write};
 
@@ -51,7 +51,7 @@ pub struct BothEnds<R: Read, W: Write, S: Read, T: Write, D: Disk> {
 }
 
 impl<R: Read, W: Write, S: Read, T: Write, D: Disk> World for BothEnds<R, W, S, T, D> {
-    ghost use Rattle.bx_world.specs.Chains.{Chain, chain_more};
+    ghost use Rattle.bx_live_parts.specs.Chains.{Chain, chain_more};
     ghost use Rattle.bx_world.specs.BothEnds.{GoesBoth};
     ghost use Rattle.std.proofs.Common.{refl};
 

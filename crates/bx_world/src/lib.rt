@@ -7,9 +7,7 @@ mod door;
 pub mod laws;
 mod live;
 mod peer;
-mod record;
 mod rehearsal;
-mod schedule;
 mod telling;
 mod timed;
 
@@ -17,8 +15,6 @@ pub use both_ends::{BothEnds, FarEnd};
 pub use captured::CapturedWorld;
 pub use door::{Door, Limits, TcpDoor, UnixDoor};
 pub use live::Live;
-pub use record::Record;
 pub use rehearsal::Rehearsal;
-pub use schedule::Schedule;
 pub use telling::Telling;
 pub use timed::Timed;

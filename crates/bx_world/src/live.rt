@@ -6,14 +6,13 @@ ghost use Rattle.bx_world.specs.Waits.{Waits, Renews};
 
 use crate::door::{Door, Limits};
 use crate::peer::write_turn;
-use crate::record::Record;
-use crate::schedule::{SECOND, Schedule};
 use crate::timed::Timed;
 use bx_devices::{Watched, WriteFailed};
 use bx_events::LiveEvent;
 use bx_frames::{Frame, LinkFault, Receiver, read_frame, write_end_of_day, write_message};
 use bx_journal::Disk;
 use bx_live::{Begin, CannotRecord, Loss, World};
+use bx_live_parts::{Record, SECOND, Schedule};
 use bx_q931::Octets;
 use std::io::{Read, Write};
 use std::rt::Clock;
@@ -158,7 +157,7 @@ impl<'a, H: Clock, S: Drop, G: Door<S>, D: Disk> Live<'a, H, S, G, D> {
 
 impl<'a, H: Clock, S: Read + Write + Limits + Drop, G: Door<S>, D: Disk> World
     for Live<'a, H, S, G, D> {
-    ghost use Rattle.bx_world.specs.Chains.{Chain, chain_more};
+    ghost use Rattle.bx_live_parts.specs.Chains.{Chain, chain_more};
     ghost use Rattle.bx_world.specs.Lives.{GoesLive};
     ghost use Rattle.std.proofs.Common.{refl};
 

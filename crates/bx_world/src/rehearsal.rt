@@ -3,13 +3,13 @@
 ghost use Rattle.std.specs.Prelude.{◌≡◌};
 
 use crate::peer::{begins_by, fault_of, write_turn};
-use crate::record::Record;
 use bx_devices::WriteFailed;
 use bx_events::LiveEvent;
 use bx_frames::{Frame, LinkFault, Receiver, read_frame, write_end_of_day, write_message};
 use bx_journal::Disk;
 use bx_link::Connection;
 use bx_live::{Begin, CannotRecord, Loss, World};
+use bx_live_parts::Record;
 use bx_q931::Octets;
 use std::io::{Read, Write};
 
@@ -23,7 +23,7 @@ pub struct Rehearsal<R: Read, W: Write, D: Disk> {
 }
 
 impl<R: Read, W: Write, D: Disk> World for Rehearsal<R, W, D> {
-    ghost use Rattle.bx_world.specs.Chains.{Chain, chain_more};
+    ghost use Rattle.bx_live_parts.specs.Chains.{Chain, chain_more};
     ghost use Rattle.bx_world.specs.Rehearsals.{Rehearses};
     ghost use Rattle.std.proofs.Common.{refl};
 

@@ -1,5 +1,5 @@
 use Rattle.std.proofs.Common.{◌≡◌, max, sym, subst}
-use Rattle.bx_world.specs.Schedules.{first_of, pace_of}
+use Rattle.bx_live_parts.specs.Schedules.{first_of, pace_of}
 use Rattle.bx_live_commands.specs.LiveHours.{IsFirstSecond}
 use Rattle.bx_live_commands.proofs.hours.hours_of.Goals as goal
 

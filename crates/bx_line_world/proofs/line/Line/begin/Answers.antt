@@ -1,0 +1,8 @@
+use Rattle.std.proofs.Common.{ap}
+use Rattle.bx_line_world.specs.declared.post.Post.{Post}
+use Rattle.bx_line_world.proofs.line.Line.begin.Goals as goal
+
+pub returns : goal.returns
+returns g c =
+    let w = c.serve.new.self in
+    record { asked = c.ask.new.self; asks = c.ask.ensures; waited = w; served = c.serve.ensures; begun = c.begun-begin.ensures; line = ap (λ (p : Post). record w { post = p }) c.begin.ensures }

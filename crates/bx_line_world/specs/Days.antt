@@ -1,0 +1,92 @@
+-- A live day over a data link: what each act does to its link, its clock and its record.
+use Rattle.std.specs.Prelude.{◌≡◌, ◌⊎◌, ℕ, ◌+◌, ◌≤◌, ◌<◌, min, zero, ◌&&◌, not, Bool, true, false, List, [], ◌∷◌, ◌++◌, Some, None, Result, Ok, Err}
+use Rattle.arrayvec.specs.ArrayVec.{ArrayVec}
+use Rattle.bx_frames.specs.Frames.{frames_of, turn_frame}
+use Rattle.bx_frames.specs.declared.fault.LinkFault.{LinkFault}
+use Rattle.bx_frames.specs.declared.frame.Frame.{Frame}
+use Rattle.bx_frames.specs.declared.frame.Frame.TheVariants as frames
+use Rattle.bx_lapd.specs.Links.{is_up}
+use Rattle.bx_lapd.specs.Table.{takes}
+use Rattle.bx_live.specs.declared.world.Begin.{Begin}
+use Rattle.bx_live.specs.declared.world.Begin.TheVariants.{Late, Alone, Joined, Ended}
+use Rattle.bx_live.specs.Acts.{Act, Began, Dropped, Recorded, Synced, Wrote, Read, EndedDay}
+use Rattle.bx_live_parts.specs.Chains.{Chain}
+use Rattle.bx_live_parts.specs.Records.{OnRecord}
+use Rattle.bx_live_parts.specs.Schedules.{instant_of}
+use Rattle.bx_line_world.specs.Wires.{WireAct}
+use Rattle.bx_line_world.specs.Posts.{with_messages, begun_by, dropped_by, is_lost}
+use Rattle.bx_line_world.specs.Serving.{Served, Asks, Gives, is_idle}
+use Rattle.bx_line_world.specs.declared.line.Line.{Line}
+use Rattle.bx_line_world.specs.declared.line_world.LineWorld.{LineWorld}
+
+-- the link is up, and nothing was lost that the day is not told of
+abbrev pub is_here : {W : Type 0} → Line W → Bool
+is_here s = is_up s.end.link.state && not (is_lost s.post.lost)
+
+-- How a second begins whose instant was waited for. Late is more than a second behind the instant, by the last reading of the clock.
+-- It is never said that none begins any more
+abbrev pub IsBegun : {W : Type 0} → Begin → ℕ → Line W → Type 0
+IsBegun Late instant s = instant + 1_000_000_000 < s.shown
+IsBegun Alone instant s = (s.shown ≤ instant + 1_000_000_000) × (is_here s ≡ false)
+IsBegun Joined instant s = (s.shown ≤ instant + 1_000_000_000) × (is_here s ≡ true)
+IsBegun Ended instant s = ⊥
+
+-- the instant of a second is waited for: first a link is asked for, where there is none; then it is served
+pub record Begins {W : Type 0} (did : W → List WireAct → W → Type 0) (instant : ℕ) (begin : Begin) (old new : Line W) : Type 0 where
+  pub asked : Line W
+  pub asks : Asks did (is_idle old.end.link) old asked
+  pub waited : Line W
+  pub served : Served did instant false asked waited
+  pub begun : IsBegun begin instant waited
+  pub line : new ≡ record waited { post = begun_by waited.post begin }
+
+-- the octets of messages, alone or with an end of turn
+abbrev pub IsTextOf : List (ArrayVec ℕ) → List ℕ → Type 0
+IsTextOf messages octets = (octets ≡ frames_of messages) ⊎ ((moment : ℕ) × (octets ≡ frames_of messages ++ turn_frame moment))
+
+-- messages are given to the link, in their order: all, or those up to the first that it does not take
+pub record GivesAll {W : Type 0} (did : W → List WireAct → W → Type 0) (messages : List (ArrayVec ℕ)) (done : Bool) (old new : Line W) : Type 0 where
+  pub given : List (ArrayVec ℕ)
+  pub rest : List (ArrayVec ℕ)
+  pub all : messages ≡ given ++ rest
+  pub run : Chain (Gives did) old given new
+  pub whole : done ≡ true → rest ≡ []
+  pub refused : done ≡ false → takes new.end.link.state new.end.link ≡ false
+
+pub record Writes {W : Type 0} (did : W → List WireAct → W → Type 0) (octets : List ℕ) (done : Bool) (old new : Line W) : Type 0 where
+  pub messages : List (ArrayVec ℕ)
+  pub text : IsTextOf messages octets
+  pub gives : GivesAll did messages done old new
+
+-- what is answered behind a wait: a loss, else the first message, else the end of the turn, which this world makes itself
+abbrev pub Answers : {W : Type 0} → ℕ → Line W → Result Frame LinkFault → Line W → Type 0
+Answers second waited (Err fault) new = (waited.post.lost ≡ Some fault) × (new ≡ waited)
+Answers second waited (Ok (frames.Message m)) new = (waited.post.lost ≡ None) × (rest : List (ArrayVec ℕ)) × (waited.post.messages.items ≡ m ∷ rest) × (new ≡ record waited { post = with_messages waited.post rest })
+Answers second waited (Ok (frames.EndOfTurn said)) new = (waited.post.lost ≡ None) × (waited.post.messages.items ≡ []) × (said ≡ second) × (new ≡ waited)
+Answers second waited (Ok frames.EndOfDay) new = ⊥
+
+-- the turn lasts until the next second begins
+pub record Reads {W : Type 0} (did : W → List WireAct → W → Type 0) (until second : ℕ) (answer : Result Frame LinkFault) (old new : Line W) : Type 0 where
+  pub waited : Line W
+  pub served : Served did until true old waited
+  pub answers : Answers second waited answer new
+
+-- where no message may come any more, the turn ends at once
+abbrev pub ReadsFor : {W : Type 0} → (W → List WireAct → W → Type 0) → ℕ → ℕ → ℕ → Result Frame LinkFault → Line W → Line W → Type 0
+ReadsFor did zero until second answer old new = (answer ≡ Ok (frames.EndOfTurn second)) × (new ≡ old)
+ReadsFor did room until second answer old new = Reads did until second answer old new
+
+abbrev pub OnLine : {W D : Type 0} → (W → List WireAct → W → Type 0) → LineWorld W D → Act → LineWorld W D → Type 0
+OnLine did old (Began second begin) new = Begins did (instant_of old.schedule second) begin old.line new.line × (new.second ≡ second)
+OnLine did old (Dropped loss) new = (new.line ≡ record old.line { post = dropped_by old.line.post loss }) × (new.second ≡ old.second)
+OnLine did old (Wrote octets done) new = Writes did octets done old.line new.line × (new.second ≡ old.second)
+OnLine did old (Read room answer) new = ReadsFor did room (instant_of old.schedule (min (old.second + 1) 4294967295)) old.second answer old.line new.line × (new.second ≡ old.second)
+OnLine did old (Recorded event done) new = (new.line ≡ old.line) × (new.second ≡ old.second)
+OnLine did old (Synced done) new = (new.line ≡ old.line) × (new.second ≡ old.second)
+OnLine did old EndedDay new = (new.line ≡ old.line) × (new.second ≡ old.second)
+
+-- one act
+pub record GoesByLine {W D : Type 0} (did : W → List WireAct → W → Type 0) (holds may_leave : D → List ℕ → Type 0) (moment : D → ℕ) (left_since : D → ℕ → List ℕ → Type 0) (old : LineWorld W D) (act : Act) (new : LineWorld W D) : Type 0 where
+  pub recorded : OnRecord holds may_leave moment left_since old.record.disk act new.record.disk
+  pub schedule : new.schedule ≡ old.schedule
+  pub line : OnLine did old act new

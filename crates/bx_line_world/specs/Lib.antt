@@ -1,0 +1,6 @@
+pub mod Wires
+pub mod Posts
+pub mod Lines
+pub mod Serving
+pub mod Days
+pub mod Steps

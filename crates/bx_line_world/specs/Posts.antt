@@ -1,0 +1,60 @@
+-- What a link has told, and the day has not heard.
+use Rattle.std.specs.Prelude.{ℕ, nat_lt, Bool, true, false, List, [], ◌∷◌, ◌++◌, length, Option, Some, None}
+use Rattle.arrayvec.specs.ArrayVec.{ArrayVec}
+use Rattle.bx_frames.specs.declared.fault.LinkFault.{LinkFault}
+use Rattle.bx_frames.specs.declared.fault.LinkFault.TheVariants.{LinkReset, MoreThan64Messages}
+use Rattle.bx_lapd.specs.declared.indication.Indication.{Indication}
+use Rattle.bx_lapd.specs.declared.indication.Indication.TheVariants.{LinkEstablished, LinkReleased, Delivered, LinkError}
+use Rattle.bx_live.specs.declared.world.Begin.{Begin}
+use Rattle.bx_live.specs.declared.world.Begin.TheVariants.{Late, Alone, Joined, Ended}
+use Rattle.bx_live.specs.declared.world.Loss.{Loss}
+use Rattle.bx_live.specs.declared.world.Loss.TheVariants as losses
+use Rattle.bx_line_world.specs.declared.post.Post.{Post}
+
+-- nothing
+abbrev pub no_post : Post
+no_post = record { messages = record { items = [] }; lost = None; here = false }
+
+abbrev pub with_messages : Post → List (ArrayVec ℕ) → Post
+with_messages p ms = record p { messages = record { items = ms } }
+
+-- what was under way is lost: the day is told, where it has this link
+abbrev pub reset : Bool → Post → Post
+reset true p = record (with_messages p []) { lost = Some LinkReset }
+reset false p = with_messages p []
+
+-- a message that there is no room for is lost
+abbrev pub put : Bool → Post → ArrayVec ℕ → Post
+put true p m = with_messages p (p.messages.items ++ m ∷ [])
+put false p m = record p { lost = Some MoreThan64Messages }
+
+-- the link has told this
+abbrev pub told_to : Post → Indication → Post
+told_to p (Delivered m) = put (nat_lt (length p.messages.items) 64) p m
+told_to p LinkEstablished = reset p.here p
+told_to p LinkReleased = reset p.here p
+told_to p (LinkError code) = p
+
+abbrev pub all_told_to : Post → List Indication → Post
+all_told_to p [] = p
+all_told_to p (told ∷ more) = all_told_to (told_to p told) more
+
+-- a second has begun: the day has the link, or not. A late one changes nothing
+abbrev pub begun_by : Post → Begin → Post
+begun_by p Late = p
+begun_by p Alone = record p { here = false; lost = None }
+begun_by p Joined = record p { here = true; lost = None }
+begun_by p Ended = p
+
+-- the day has dropped the link
+abbrev pub dropped_by : Post → Loss → Post
+dropped_by p losses.Late = p
+dropped_by p (losses.Fault fault) = record p { here = false; lost = None }
+
+abbrev pub is_lost : Option LinkFault → Bool
+is_lost None = false
+is_lost (Some fault) = true
+
+abbrev pub is_any : List (ArrayVec ℕ) → Bool
+is_any [] = false
+is_any (m ∷ ms) = true

@@ -1,0 +1,60 @@
+-- A data link that is served while an instant is waited for.
+use Rattle.std.specs.Prelude.{◌≡◌, ◌⊎◌, ℕ, nat_le, ◌&&◌, ◌||◌, not, Bool, true, false, List, length, is_some}
+use Rattle.arrayvec.specs.ArrayVec.{ArrayVec}
+use Rattle.bx_lapd.specs.Links.{Link, is_up}
+use Rattle.bx_lapd.specs.Table.{due_of}
+use Rattle.bx_live_parts.specs.Chains.{Chain}
+use Rattle.bx_line_world.specs.Wires.{WireAct}
+use Rattle.bx_line_world.specs.Posts.{is_lost, is_any}
+use Rattle.bx_line_world.specs.Lines.{LineEvent, Asked, Given, Elapsed, Heard, Quiet, Serves}
+use Rattle.bx_line_world.specs.declared.line.Line.{Line}
+use Rattle.bx_line_world.specs.declared.post.Post.{Post}
+
+-- a message is there, or one was lost
+abbrev pub has_news : Post → Bool
+has_news p = is_lost p.lost || is_any p.messages.items
+
+-- the instant has come; or, in a turn, there is news
+abbrev pub is_over : {W : Type 0} → Line W → ℕ → Bool → Bool
+is_over s until in_turn = nat_le until s.shown || (in_turn && has_news s.post)
+
+abbrev pub IsWait : ℕ → LineEvent → Type 0
+IsWait until (Heard end octets shown) = end ≡ until
+IsWait until (Quiet end) = end ≡ until
+IsWait until event = ⊥
+
+-- a slice of a wait: the timer was looked at, the wait is not over, and a frame was waited for
+pub record Slice {W : Type 0} (did : W → List WireAct → W → Type 0) (until : ℕ) (in_turn : Bool) (old : Line W) (came : LineEvent) (new : Line W) : Type 0 where
+  pub between : Line W
+  pub shown : ℕ
+  pub looked : Serves did old (Elapsed shown) between
+  pub goes_on : is_over between until in_turn ≡ false
+  pub is_wait : IsWait until came
+  pub waited : Serves did between came new
+
+-- so many slices, one after another
+pub record Sliced {W : Type 0} (did : W → List WireAct → W → Type 0) (until : ℕ) (in_turn : Bool) (old new : Line W) (count : ℕ) : Type 0 where
+  pub waits : List LineEvent
+  pub run : Chain (Slice did until in_turn) old waits new
+  pub counted : length waits ≡ count
+
+-- a wait: slices, and a last look, at which it is over; or it was given up after 2^64 - 1 slices, which is never reached
+pub record Served {W : Type 0} (did : W → List WireAct → W → Type 0) (until : ℕ) (in_turn : Bool) (old new : Line W) : Type 0 where
+  pub count : ℕ
+  pub before : Line W
+  pub sliced : Sliced did until in_turn old before count
+  pub shown : ℕ
+  pub looked : Serves did before (Elapsed shown) new
+  pub over : (is_over new until in_turn ≡ true) ⊎ (count ≡ 18446744073709551615)
+
+-- a link that is not there, and for which no attempt runs, is asked for
+abbrev pub is_idle : Link → Bool
+is_idle l = not (is_up l.state) && not (is_some (due_of l.timer))
+
+abbrev pub Asks : {W : Type 0} → (W → List WireAct → W → Type 0) → Bool → Line W → Line W → Type 0
+Asks did true old new = (shown : ℕ) × Serves did old (Asked shown) new
+Asks did false old new = new ≡ old
+
+-- a message was given
+abbrev pub Gives : {W : Type 0} → (W → List WireAct → W → Type 0) → Line W → ArrayVec ℕ → Line W → Type 0
+Gives did old message new = (shown : ℕ) × Serves did old (Given message shown) new

@@ -1,0 +1,53 @@
+-- Private: what the functions of a line promise one another.
+use Rattle.std.specs.Prelude.{◌≡◌, ℕ, Bool, true, false, List, [], ◌∷◌, map, Option, Some, None}
+use Rattle.arrayvec.specs.ArrayVec.{ArrayVec}
+use Rattle.bx_lapd.specs.declared.frame.Frame.{Frame}
+use Rattle.bx_lapd.specs.declared.indication.Indication.{Indication}
+use Rattle.bx_lapd.specs.Links.{Did}
+use Rattle.bx_lapd.specs.Table.{takes}
+use Rattle.bx_line_world.specs.Wires.{WireAct, Shown}
+use Rattle.bx_line_world.specs.Posts.{all_told_to, with_messages}
+use Rattle.bx_line_world.specs.Lines.{LineEvent, Elapsed, Serves, passed_by, sent_as}
+use Rattle.bx_line_world.specs.Serving.{Gives, IsWait, Slice, is_over}
+use Rattle.bx_line_world.specs.declared.line.Line.{Line}
+use Rattle.bx_line_world.specs.declared.post.Post.{Post}
+
+-- the clock was read
+pub record Looks {W : Type 0} (did : W → List WireAct → W → Type 0) (old new : Line W) : Type 0 where
+  pub wire : did old.wire (Shown new.shown ∷ []) new.wire
+  pub rest : new ≡ record old { wire = new.wire; shown = new.shown; passed = passed_by old.passed old.shown new.shown }
+
+abbrev pub with_wire : {W : Type 0} → Line W → W → Line W
+with_wire s wire = record s { wire = wire }
+
+-- frames were sent
+pub record Sends {W : Type 0} (did : W → List WireAct → W → Type 0) (frames : List Frame) (old new : Line W) : Type 0 where
+  pub wire : did old.wire (map (sent_as old.end.network) frames) new.wire
+  pub rest : new ≡ record old { wire = new.wire }
+
+-- and what was told is kept
+abbrev pub keeps : {W : Type 0} → Line W → List Indication → Line W
+keeps old told = record old { post = all_told_to old.post told }
+
+pub record Carries {W : Type 0} (did : W → List WireAct → W → Type 0) (done : Did) (old new : Line W) : Type 0 where
+  pub wire : did old.wire (map (sent_as old.end.network) done.frames) new.wire
+  pub rest : new ≡ record old { wire = new.wire; post = all_told_to old.post done.told }
+
+-- a message was given, or is not taken
+abbrev pub GivesWhere : {W : Type 0} → (W → List WireAct → W → Type 0) → ArrayVec ℕ → Bool → Line W → Line W → Type 0
+GivesWhere did message true old new = Gives did old message new
+GivesWhere did message false old new = (new ≡ old) × (takes old.end.link.state old.end.link ≡ false)
+
+-- a frame was waited for
+abbrev pub Waits : {W : Type 0} → (W → List WireAct → W → Type 0) → ℕ → Line W → Line W → Type 0
+Waits did until old new = (came : LineEvent) × IsWait until came × Serves did old came new
+
+-- one look and one wait, or a look at which the wait is over
+abbrev pub GoesOn : {W : Type 0} → (W → List WireAct → W → Type 0) → ℕ → Bool → Bool → Line W → Line W → Type 0
+GoesOn did until in_turn true old new = (shown : ℕ) × Serves did old (Elapsed shown) new × (is_over new until in_turn ≡ true)
+GoesOn did until in_turn false old new = (came : LineEvent) × Slice did until in_turn old came new
+
+-- the first message is taken, where one is there
+abbrev pub TakesFirst : Post → Option (ArrayVec ℕ) → Post → Type 0
+TakesFirst old None new = (old.messages.items ≡ []) × (new ≡ old)
+TakesFirst old (Some m) new = (rest : List (ArrayVec ℕ)) × (old.messages.items ≡ m ∷ rest) × (new ≡ with_messages old rest)

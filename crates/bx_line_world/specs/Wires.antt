@@ -1,0 +1,15 @@
+-- What a wire and the clock beside it were asked, and what they answered.
+use Rattle.std.specs.Prelude.{ℕ, List, take, Option, Some, None}
+
+pub data WireAct : Type 0 where
+  -- the clock was read: nanoseconds since 1970-01-01T00:00:00Z
+  Shown : (nanos : ℕ) → WireAct
+  -- the octets of a frame were handed to the wire
+  Sent : (octets : List ℕ) → WireAct
+  -- a frame was waited for, so many nanoseconds at most: its octets, or none came
+  Waited : (most : ℕ) (came : Option (List ℕ)) → WireAct
+
+-- what came, at the front of the room for it
+abbrev pub came_in : Option ℕ → List ℕ → Option (List ℕ)
+came_in None room = None
+came_in (Some n) room = Some (take n room)

@@ -1,0 +1,143 @@
+//! A live day over a data link: by the clock, towards whoever is at the other end of the wire.
+
+ghost use Rattle.std.specs.Prelude.{◌≡◌, is_ok};
+ghost use Rattle.bx_line_world.specs.Days.{IsBegun, Begins, GivesAll, Reads};
+
+use crate::line::Line;
+use crate::post::copied;
+use crate::wire::Wire;
+use bx_devices::WriteFailed;
+use bx_events::LiveEvent;
+use bx_frames::{Frame, LinkFault};
+use bx_journal::Disk;
+use bx_live::{Begin, CannotRecord, Loss, World};
+use bx_live_parts::{Record, SECOND, Schedule};
+use bx_q931::Octets;
+
+/// A world with a data link over a wire, whose seconds begin by the clock beside it, and a record.
+#[derive(Drop)]
+pub struct LineWorld<W, D: Disk> {
+    pub schedule: Schedule,
+    pub line: Line<W>,
+    /// The second that began last.
+    pub second: u32,
+    pub record: Record<D>,
+}
+
+impl<W, D: Disk> LineWorld<W, D> {
+    /// A world whose seconds begin by the schedule.
+    pub fn new(schedule: Schedule, line: Line<W>, kept: Record<D>) -> Self
+        ensures schedule { result.schedule ≡ schedule }
+        ensures line { result.line ≡ line }
+        ensures kept { result.record ≡ kept }
+    {
+        LineWorld {
+            schedule,
+            line,
+            second: 0,
+            record: kept,
+        }
+    }
+}
+
+impl<W: Wire> Line<W> {
+    /// How a second begins whose instant was waited for.
+    fn begun(&self, instant: u128) -> Begin
+        ensures { IsBegun result instant self.now }
+    {
+        if self.shown.saturating_sub(instant) > SECOND {
+            return Begin::Late;
+        }
+        if self.end.is_up() && self.post.lost.is_none() {
+            Begin::Joined
+        } else {
+            Begin::Alone
+        }
+    }
+
+    /// Waits for the instant of a second, and says how it begins.
+    fn begin(&mut self, instant: u128) -> Begin
+        ensures { Begins W.did instant result self.old self.new }
+    {
+        self.ask();
+        self.serve(instant, false);
+        let begin = self.begun(instant);
+        self.post.begin(begin);
+        begin
+    }
+
+    /// Gives messages, up to the first that is not taken.
+    fn give_all(&mut self, messages: &[Octets]) -> Result<(), WriteFailed>
+        ensures { GivesAll W.did messages.now (is_ok result) self.old self.new }
+    {
+        for message in messages {
+            match self.give(copied(message)) {
+                Ok(()) => {}
+                Err(_) => return Err(WriteFailed),
+            }
+        }
+        Ok(())
+    }
+
+    /// The next message of a turn that lasts until an instant, or its end.
+    fn next(&mut self, until: u128, second: u32) -> Result<Frame, LinkFault>
+        ensures { Reads W.did until second result self.old self.new }
+    {
+        self.serve(until, true);
+        match self.post.lost {
+            Some(fault) => return Err(fault),
+            None => {}
+        }
+        match self.post.take_first() {
+            Some(message) => Ok(Frame::Message(message)),
+            None => Ok(Frame::EndOfTurn(second)),
+        }
+    }
+}
+
+impl<W: Wire, D: Disk> World for LineWorld<W, D> {
+    ghost use Rattle.bx_live_parts.specs.Chains.{Chain, chain_more};
+    ghost use Rattle.bx_line_world.specs.Days.{GoesByLine};
+    ghost use Rattle.std.proofs.Common.{refl};
+
+    ghost did = { Chain (GoesByLine W.did D.holds D.may_leave D.moment D.left_since) };
+
+    fn begin(&mut self, second: u32) -> Begin {
+        self.second = second;
+        self.line.begin(self.schedule.instant(second))
+    }
+
+    fn drop_peer(&mut self, loss: Loss) {
+        self.line.post.drop_link(loss);
+    }
+
+    fn record(&mut self, event: LiveEvent<'_>) -> Result<(), CannotRecord> {
+        self.record.record(event)
+    }
+
+    fn sync(&mut self) -> Result<(), CannotRecord> {
+        self.record.sync()
+    }
+
+    fn write_turn(&mut self, sent: &[Octets], _moment: u32) -> Result<(), WriteFailed> {
+        self.line.give_all(sent)
+    }
+
+    fn write_message(&mut self, message: &Octets) -> Result<(), WriteFailed> {
+        self.line.give(copied(message))
+    }
+
+    fn read(&mut self, room: u32) -> Result<Frame, LinkFault> {
+        if room == 0 {
+            return Ok(Frame::EndOfTurn(self.second));
+        }
+        let until = self.schedule.instant(self.second.saturating_add(1));
+        self.line.next(until, self.second)
+    }
+
+    fn end_day(&mut self) {}
+
+    ghost did_nothing = { λ s. refl };
+
+    ghost did_more = { chain_more (GoesByLine W.did D.holds D.may_leave D.moment D.left_since) };
+}

@@ -1,0 +1,125 @@
+//! What a link has told, and the day has not heard.
+
+ghost use Rattle.std.specs.Prelude.{◌≡◌};
+ghost use Rattle.bx_lapd.specs.declared.indication.Indication.TheVariants.{Delivered};
+ghost use Rattle.bx_line_world.specs.Posts.{no_post, told_to, reset, begun_by, dropped_by};
+ghost use Rattle.bx_line_world.specs.Serving.{has_news};
+ghost use Rattle.bx_line_world.specs.Steps.{TakesFirst};
+
+use arrayvec::ArrayVec;
+use bx_frames::LinkFault;
+use bx_lapd::Indication;
+use bx_live::{Begin, Loss};
+use bx_q931::Octets;
+
+/// The messages that were delivered and not read, at most 64; whether some may be lost, and why; and whether the day has this link.
+#[derive(Drop)]
+pub struct Post {
+    pub messages: ArrayVec<Octets, 64>,
+    pub lost: Option<LinkFault>,
+    pub here: bool,
+}
+
+/// A message again.
+pub(crate) fn copied(message: &Octets) -> Octets
+    ensures { result ≡ message.now }
+{
+    let mut copy = Octets::new();
+    match copy.try_extend_from_slice(message.as_slice()) {
+        Ok(()) => copy,
+        Err(_) => unreachable!(),
+    }
+}
+
+impl Post {
+    /// Nothing.
+    pub(crate) fn new() -> Post
+        ensures { result ≡ no_post }
+    {
+        Post {
+            messages: ArrayVec::new(),
+            lost: None,
+            here: false,
+        }
+    }
+
+    /// What was under way is lost.
+    fn reset(&mut self)
+        ensures { self.new ≡ reset self.old.here self.old }
+    {
+        self.messages.clear();
+        if self.here {
+            self.lost = Some(LinkFault::LinkReset);
+        }
+    }
+
+    /// One more message, where there is room.
+    fn put(&mut self, message: Octets)
+        ensures { self.new ≡ told_to self.old (Delivered message) }
+    {
+        if self.messages.len() < 64 {
+            self.messages.push(message);
+        } else {
+            self.lost = Some(LinkFault::MoreThan64Messages);
+        }
+    }
+
+    /// The link has told this.
+    pub(crate) fn hear(&mut self, told: &Indication)
+        ensures { self.new ≡ told_to self.old told.now }
+    {
+        match told {
+            Indication::Delivered(message) => self.put(copied(message)),
+            Indication::LinkEstablished => self.reset(),
+            Indication::LinkReleased => self.reset(),
+            Indication::LinkError(_) => {}
+        }
+    }
+
+    /// Whether a message is there, or one was lost.
+    pub(crate) fn has_news(&self) -> bool
+        ensures { result ≡ has_news self.now }
+    {
+        self.lost.is_some() || !self.messages.is_empty()
+    }
+
+    /// A second has begun.
+    pub(crate) fn begin(&mut self, begin: Begin)
+        ensures { self.new ≡ begun_by self.old begin }
+    {
+        match begin {
+            Begin::Late | Begin::Ended => {}
+            Begin::Alone => {
+                self.here = false;
+                self.lost = None;
+            }
+            Begin::Joined => {
+                self.here = true;
+                self.lost = None;
+            }
+        }
+    }
+
+    /// The day has dropped the link.
+    pub(crate) fn drop_link(&mut self, loss: Loss)
+        ensures { self.new ≡ dropped_by self.old loss }
+    {
+        match loss {
+            Loss::Late => {}
+            Loss::Fault(_) => {
+                self.here = false;
+                self.lost = None;
+            }
+        }
+    }
+
+    /// The first message, which is taken.
+    pub(crate) fn take_first(&mut self) -> Option<Octets>
+        ensures { TakesFirst self.old result self.new }
+    {
+        if self.messages.is_empty() {
+            return None;
+        }
+        Some(self.messages.remove(0))
+    }
+}

@@ -1,0 +1,38 @@
+//! A data link that is served while an instant is waited for.
+
+ghost use Rattle.bx_line_world.specs.Serving.{Served};
+ghost use Rattle.bx_line_world.specs.Steps.{GoesOn};
+
+use crate::line::Line;
+use crate::wire::Wire;
+
+/// How many slices a wait has at most: more than are ever waited for.
+const MOST_SLICES: u64 = u64::MAX;
+
+impl<W: Wire> Line<W> {
+    /// Looks at the timer, and waits for a frame where the wait is not over. Answers whether it is.
+    fn serve_once(&mut self, until: u128, in_turn: bool) -> bool
+        ensures { GoesOn W.did until in_turn result self.old self.new }
+    {
+        self.elapse();
+        if self.is_over(until, in_turn) {
+            return true;
+        }
+        self.wait(until);
+        false
+    }
+
+    /// Serves the link up to an instant; or, in a turn, until a message is there or one was lost.
+    pub(crate) fn serve(&mut self, until: u128, in_turn: bool)
+        ensures { Served W.did until in_turn self.old self.new }
+    {
+        let mut slices = 0u64;
+        while slices < MOST_SLICES {
+            if self.serve_once(until, in_turn) {
+                return;
+            }
+            slices += 1;
+        }
+        self.elapse();
+    }
+}

@@ -1,0 +1,122 @@
+//! Days of 12 seconds with one booking, from 2 to 8 on channel 1, whose call the far end answers in the next second.
+
+use crate::wire::{Manner, MemoryWire};
+use bx_day::Outcome;
+use bx_journal::MemoryDisk;
+use bx_line_world::{Line, LineWorld, run_by_line};
+use bx_live_parts::{Record, Schedule};
+use bx_worked_days::{Row, exchange_of, far_end};
+use std::alloc::Global;
+
+/// How many of a thousand frames are lost, the seed by which they are drawn, and between which seconds all are.
+type Losses = (u64, u64, u64, u64);
+
+/// What comes of a day: the first letters of its journal's lines (a tick, a second without a link (down), a message that was heard), the
+/// outcome of the booking, and how many frames were lost.
+type Day = (&'static str, Losses, &'static [u8], Outcome, u32);
+
+static ROWS: [Row; 1] = [(2, 8, 1, false)];
+
+static DAYS: [Day; 8] = [
+    (
+        "whole",
+        (0, 1, 0, 0),
+        b"ttthttttthtttt",
+        Outcome::Carried { from: 3, until: 8 },
+        0,
+    ),
+    (
+        "one of ten, the request first",
+        (100, 7919, 0, 0),
+        b"dtthttttthtttt",
+        Outcome::Carried { from: 3, until: 8 },
+        2,
+    ),
+    (
+        "one of ten",
+        (100, 15838, 0, 0),
+        b"ttthttttthtttt",
+        Outcome::Carried { from: 3, until: 8 },
+        2,
+    ),
+    (
+        "three of ten, to no answer",
+        (300, 7919, 0, 0),
+        b"dtttttttthhhttt",
+        Outcome::Unanswered,
+        10,
+    ),
+    (
+        "three of ten, to a late answer",
+        (300, 15838, 0, 0),
+        b"ttttttththtttt",
+        Outcome::Carried { from: 7, until: 8 },
+        6,
+    ),
+    (
+        "cut when it is offered",
+        (0, 1, 2, 4),
+        b"ttttthttthtttt",
+        Outcome::Carried { from: 5, until: 8 },
+        2,
+    ),
+    (
+        "cut when it ends",
+        (0, 1, 8, 11),
+        b"ttthttttttttht",
+        Outcome::Carried { from: 3, until: 8 },
+        3,
+    ),
+    (
+        "cut all day",
+        (0, 1, 0, 20),
+        b"dddddddddddd",
+        Outcome::Missed,
+        22,
+    ),
+];
+
+/// What comes of a day; none where it does not come to its last second.
+fn run(alloc: Global, losses: &Losses) -> Option<(Vec<u8>, Outcome, u32)> {
+    let mut exchange = exchange_of(alloc, &ROWS)?;
+    let manner = Manner {
+        loss: losses.0,
+        seed: losses.1,
+        cut: (losses.2, losses.3),
+        anew: 0,
+        release: 0,
+    };
+    let wire = MemoryWire::new(alloc, far_end(alloc)?, manner);
+    let record = Record {
+        disk: Some(MemoryDisk::new(alloc, Vec::new(alloc))),
+    };
+    let mut world = LineWorld::new(Schedule::new(0, 1), Line::new(true, wire), record);
+    run_by_line(&mut exchange, &mut world, 12).ok()?;
+    if exchange.moment() != 12 {
+        return None;
+    }
+    let mut letters = Vec::new(alloc);
+    for line in world.record.disk?.octets().split(|octet| *octet == b'\n') {
+        if let Some(letter) = line.first() {
+            letters.push(*letter).ok()?;
+        }
+    }
+    Some((letters, exchange.outcome(1)?, world.line.wire.lost))
+}
+
+/// Whether just this comes of a day.
+fn is_as(alloc: Global, day: &Day) -> bool {
+    match run(alloc, &day.1) {
+        Some((letters, outcome, lost)) => {
+            letters.as_slice() == day.2 && outcome == day.3 && lost == day.4
+        }
+        None => false,
+    }
+}
+
+#[test]
+fn days_over_wires(rt: HostRuntime) {
+    for day in &DAYS {
+        assert!(rt; is_as(rt.alloc(), day), "{}", day.0);
+    }
+}

@@ -1,0 +1,74 @@
+//! What a live day puts on record.
+
+ghost use Rattle.std.specs.Prelude.{◌≡◌, ◌≤◌, true, length, is_ok, Some, None};
+ghost use Rattle.bx_events.specs.Told.{live_event_of};
+ghost use Rattle.bx_journal.specs.Events.{IsMessage};
+ghost use Rattle.bx_live.specs.Acts.{Recorded, Synced};
+ghost use Rattle.bx_live_parts.specs.Records.{Writes, Commits, OnRecord};
+
+use bx_events::{Event, LiveEvent};
+use bx_journal::{Disk, are_printable, commit, write_event};
+use bx_live::CannotRecord;
+
+/// The journal of a day, on its disk, where one is kept.
+#[derive(Drop)]
+pub struct Record<D: Disk> {
+    pub disk: Option<D>,
+}
+
+/// Whether what came is no longer than the longest message, and what is sold is printable and no longer than its line may be.
+fn is_message(event: LiveEvent<'_>) -> bool
+    ensures { result ≡ true → IsMessage (live_event_of event.entry) }
+{
+    match event {
+        LiveEvent::OnLink(Event::Receive(octets)) => octets.len() <= 260,
+        LiveEvent::OnLink(Event::Tick) | LiveEvent::WithoutLink => true,
+        LiveEvent::Sold(booking) => booking.len() <= 120 && are_printable(booking),
+    }
+}
+
+/// Writes the line of an event.
+fn write_line<D: Disk>(disk: &mut D, event: LiveEvent<'_>) -> Result<(), CannotRecord>
+    ensures { Writes D.holds D.may_leave D.moment D.left_since disk.old (live_event_of event.entry) (is_ok result) disk.new }
+{
+    if !is_message(event) {
+        return Err(CannotRecord);
+    }
+    match write_event(disk, event) {
+        Ok(()) => Ok(()),
+        Err(_) => Err(CannotRecord),
+    }
+}
+
+/// Brings what was written to the disk.
+fn bring_to_disk<D: Disk>(disk: &mut D) -> Result<(), CannotRecord>
+    ensures { Commits D.holds D.may_leave D.moment D.left_since disk.old (is_ok result) disk.new }
+{
+    match commit(disk) {
+        Ok(()) => Ok(()),
+        Err(_) => Err(CannotRecord),
+    }
+}
+
+impl<D: Disk> Record<D> {
+    /// Puts an event on record, where a journal is kept. It need not be on the disk before the next sync. `CannotRecord` where what
+    /// came has more than 260 octets, or the disk did not take the line.
+    pub fn record(&mut self, event: LiveEvent<'_>) -> Result<(), CannotRecord>
+        ensures { OnRecord D.holds D.may_leave D.moment D.left_since self.old.disk (Recorded (live_event_of event.entry) (is_ok result)) self.new.disk }
+    {
+        match &mut self.disk {
+            Some(disk) => write_line(disk, event),
+            None => Ok(()),
+        }
+    }
+
+    /// What was recorded is on the disk, where a journal is kept. `CannotRecord` where the disk did not do that.
+    pub fn sync(&mut self) -> Result<(), CannotRecord>
+        ensures { OnRecord D.holds D.may_leave D.moment D.left_since self.old.disk (Synced (is_ok result)) self.new.disk }
+    {
+        match &mut self.disk {
+            Some(disk) => bring_to_disk(disk),
+            None => Ok(()),
+        }
+    }
+}

@@ -1,0 +1,5 @@
+pub mod Deals
+pub mod Stands
+pub mod SaleRuns
+pub mod Told
+pub mod Offers

@@ -1,0 +1,61 @@
+-- A live run with sales: which acts come one after another.
+use Rattle.std.specs.Prelude.{◌≡◌, Bool, true, false, List, [], ◌∷◌, ◌++◌, Option, Some, None}
+use Rattle.bx_base.specs.Bookings.{Row}
+use Rattle.bx_day.specs.Day.{Day}
+use Rattle.bx_events.specs.Events.{Sold}
+use Rattle.bx_live.specs.Acts.{Recorded, Synced}
+use Rattle.bx_live.specs.Runs.{Place, Between, Over, IsDue, next, day_at}
+use Rattle.bx_planfile.specs.OneBooking.{row_on}
+use Rattle.bx_sales.specs.Selling.{IsSold}
+use Rattle.bx_market.specs.Deals.{Deal, Ran, Asked, Answered, sold_of}
+
+-- where a run stands
+pub data Stand : Type 0 where
+  -- in the run by the clock, at this place
+  Within : (p : Place) → Stand
+  -- a batch was asked for, and these of it are sold so far, each on record
+  Filing : (d : Day) (batch sold : List Row) → Stand
+  -- what is sold of the batch is on the disk
+  Telling : (d : Day) (batch sold : List Row) → Stand
+
+-- the day as far as its events and sales are on record
+abbrev pub stand_day : Stand → Day
+stand_day (Within p) = day_at p
+stand_day (Filing d batch sold) = d
+stand_day (Telling d batch sold) = d
+
+-- one booking more is sold and on record; or it could not be put on record, and nothing more is done
+abbrev pub Filed : List Bool → Day → List Row → List Row → Row → Bool → Stand → Type 0
+Filed channels d batch sold row true to = (d1 : Day) × IsSold channels row d d1 × (to ≡ Filing d1 batch (sold ++ row ∷ []))
+Filed channels d batch sold row false to = to ≡ Within (Over d)
+
+-- all that is sold of the batch is on the disk; or it may not be, and nothing more is done
+abbrev pub synced : Day → List Row → List Row → Bool → Stand
+synced d batch sold true = Telling d batch sold
+synced d batch sold false = Within (Over d)
+
+abbrev pub asked : Day → Option (List Row) → Stand
+asked d None = Within (Between d)
+asked d (Some batch) = Filing d batch []
+
+-- A deal leads from one stand to another. Between two seconds the market is asked. Each booking that is sold is put on record, one sync
+-- follows, and only then the customer is answered; where nothing is sold, no sync is wanted.
+abbrev pub Goes : List Bool → Stand → Deal → Stand → Type 0
+Goes channels (Within p) (Ran act) to = IsDue p act × (to ≡ Within (next p act))
+Goes channels (Within (Between d)) (Asked batch) to = to ≡ asked d batch
+Goes channels (Filing d batch sold) (Ran (Recorded (Sold line) done)) to = Filed channels d batch sold (row_on line) done to
+Goes channels (Filing d batch sold) (Ran (Synced done)) to = to ≡ synced d batch sold done
+Goes channels (Filing d batch sold) (Answered answers) to = (sold ≡ []) × (sold_of batch answers ≡ []) × (to ≡ Within (Between d))
+Goes channels (Telling d batch sold) (Answered answers) to = (sold_of batch answers ≡ sold) × (to ≡ Within (Between d))
+Goes _ _ _ _ = ⊥
+
+-- the deals of a run from one stand to another
+abbrev pub IsMarketRun : List Bool → Stand → List Deal → Stand → Type 0
+IsMarketRun channels from [] to = from ≡ to
+IsMarketRun channels from (deal ∷ deals) to = (mid : Stand) × Goes channels from deal mid × IsMarketRun channels mid deals to
+
+-- the world has gone through the deals of a run
+pub record Deals {W : Type 0} (dealt : W → List Deal → W → Type 0) (channels : List Bool) (old new : W) (from to : Stand) : Type 0 where
+  pub deals : List Deal
+  pub done : dealt old deals new
+  pub goes : IsMarketRun channels from deals to

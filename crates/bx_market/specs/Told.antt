@@ -1,0 +1,40 @@
+-- What holds of every run with sales: nothing is sold off the record, and the day is that of the last plan.
+use Rattle.std.specs.Prelude.{◌≡◌, ◌⊎◌, ℕ, Bool, true, List, [], ◌∷◌, ◌++◌, map, length, Option, Some}
+use Rattle.bx_base.specs.Bookings.{Row, AreBookings, Carries}
+use Rattle.bx_base.specs.Plans.{is_accepted, channel_at}
+use Rattle.bx_colour.specs.Colouring.{IsFirstFit}
+use Rattle.bx_day.specs.Day.{Day, opening}
+use Rattle.bx_day.specs.Outages.{live_day_after}
+use Rattle.bx_events.specs.Events.{LiveEvent}
+use Rattle.bx_live.specs.Acts.{recorded}
+use Rattle.bx_live.specs.Written.{filed}
+use Rattle.bx_live.specs.Runs.{Between}
+use Rattle.bx_planfile.specs.OneBooking.{row_on}
+use Rattle.bx_sales.specs.Journal.{sold_in}
+use Rattle.bx_market.specs.declared.market.Answer.{Answer}
+use Rattle.bx_market.specs.Deals.{Deal, Asked, Answered, acts_of, sold_of}
+use Rattle.bx_market.specs.Stands.{Stand, Within, IsMarketRun, stand_day}
+
+-- what a customer is told behind these deals is on record: since the batch was asked for, just those of its bookings were recorded as
+-- sold that are answered as accepted; where there are such, all that is on record is on the disk
+pub record IsToldOnRecord (deals : List Deal) (answers : List Answer) : Type 0 where
+  pub batch : List Row
+  pub before : List Deal
+  pub since : List Deal
+  pub are : deals ≡ before ++ Asked (Some batch) ∷ since
+  pub sold : sold_in row_on (recorded (acts_of since)) ≡ sold_of batch answers
+  pub on_disk : (sold_of batch answers ≡ []) ⊎ ((filed (acts_of deals)).more ≡ [])
+
+abbrev pub IsNothingOffRecord : Type 0
+IsNothingOffRecord = (channels : List Bool) (d : Day) (before behind : List Deal) (answers : List Answer) (to : Stand) →
+    IsMarketRun channels (Within (Between d)) (before ++ Answered answers ∷ behind) to → IsToldOnRecord before answers
+
+-- A run that goes on from the day of a plan: the rows of that plan, with all that is sold behind them, coloured once, have the day by the
+-- events before and those on record. It may have gone on with a journal, whose sales the plan has among its rows.
+abbrev pub IsDayOfTheLastPlan : Type 0
+IsDayOfTheLastPlan = (channels : List Bool) (rows : List Row) (accepted : List Bool) (assigned : List (Option ℕ)) (earlier : List LiveEvent) (d : Day) (deals : List Deal) (to : Stand) →
+    length accepted ≡ length rows → AreBookings rows → Carries rows channels (is_accepted assigned) (channel_at assigned) → IsFirstFit rows channels accepted assigned →
+    d ≡ live_day_after earlier (opening rows assigned) → IsMarketRun channels (Within (Between d)) deals to →
+    (last : List (Option ℕ)) →
+    IsFirstFit (rows ++ sold_in row_on (recorded (acts_of deals))) channels (accepted ++ map (λ (row : Row). true) (sold_in row_on (recorded (acts_of deals)))) last →
+    stand_day to ≡ live_day_after (earlier ++ recorded (acts_of deals)) (opening (rows ++ sold_in row_on (recorded (acts_of deals))) last)

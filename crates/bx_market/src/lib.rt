@@ -1,0 +1,10 @@
+//! A live run with sales: between two seconds customers ask for bookings, and what is sold is on record before they are told.
+#![tactic(auto)]
+
+pub mod laws;
+mod market;
+mod offering;
+mod running;
+
+pub use market::{Answer, Market};
+pub use running::run_market;

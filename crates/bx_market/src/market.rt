@@ -1,0 +1,40 @@
+//! The world outside a live day on which bookings are sold.
+
+ghost use Rattle.std.specs.Prelude.{◌≡◌, ◌++◌, ◌∷◌, [], List};
+ghost use Rattle.bx_live.specs.Acts.{Act};
+ghost use Rattle.bx_market.specs.Deals.{Deal, Asked, Answered, all_ran};
+
+use bx_base::Bookings;
+use bx_live::World;
+use bx_sales::NoSale;
+
+/// What a customer is told of one booking.
+#[derive(Clone, Copy, Debug, PartialEq, Eq)]
+pub enum Answer {
+    Accepted,
+    Refused(NoSale),
+}
+
+/// Nothing is accepted unasked.
+impl Default for Answer {
+    fn default() -> Self {
+        Answer::Refused(NoSale::Memory)
+    }
+}
+
+/// A world in which customers ask for bookings. `dealt` says which deals may lie between two states of it.
+pub trait Market: World {
+    ghost dealt: { Self → List Deal → Self → Type 0 };
+
+    /// The next batch that a customer asks for, if one waits. It does not wait for one.
+    fn ask(&mut self) -> Option<Bookings>
+        ensures { dealt self.old (Asked result ∷ []) self.new };
+
+    /// Tells the customer of the last batch which of its bookings are accepted, in the order of its rows.
+    fn answer(&mut self, answers: &[Answer])
+        ensures { dealt self.old (Answered answers.now ∷ []) self.new };
+
+    ghost dealt_by: { (v w : Self) (acts : List Act) → Self.did v acts w → dealt v (all_ran acts) w };
+
+    ghost dealt_more: { (u v w : Self) (xs ys : List Deal) → dealt u xs v → dealt v ys w → dealt u (xs ++ ys) w };
+}

@@ -1,0 +1,93 @@
+//! A live day with sales, second by second.
+
+ghost use Rattle.std.specs.Prelude.{◌≡◌, OnOk};
+ghost use Rattle.bx_live.specs.Runs.{Between};
+ghost use Rattle.bx_market.specs.Stands.{Within};
+ghost use Rattle.bx_market.specs.Offers.{OrOver, PassesSecond};
+ghost use Rattle.bx_market.specs.SaleRuns.{IsSaleRun};
+
+use crate::market::Market;
+use crate::offering::offer_all;
+use bx_base::ChannelSet;
+use bx_day::Exchange;
+use bx_events::LAST_MOMENT;
+use bx_live::{CannotRecord, Second, close_day, run_second};
+use std::alloc::Global;
+
+/// The most batches that are taken between two seconds.
+const MAX_BATCHES: u32 = 64;
+
+/// Asks the market once, and sells what fits of its batch.
+fn ask_once<W: Market>(
+    alloc: Global,
+    exchange: &mut Exchange,
+    world: &mut W,
+    channels: ChannelSet,
+) -> Result<bool, CannotRecord>
+    ensures sold { OrOver W.dealt channels world.old world.new (Within (Between exchange.old)) (Within (Between exchange.new)) result }
+    ensures moment { OnOk result (exchange.new.moment ≡ exchange.old.moment) }
+{
+    match world.ask() {
+        Some(batch) => {
+            offer_all(alloc, exchange, world, channels, &batch)?;
+            Ok(true)
+        }
+        None => Ok(false),
+    }
+}
+
+/// Asks the market until it has no batch, or has had so many.
+fn ask_all<W: Market>(
+    alloc: Global,
+    exchange: &mut Exchange,
+    world: &mut W,
+    channels: ChannelSet,
+) -> Result<(), CannotRecord>
+    ensures sold { OrOver W.dealt channels world.old world.new (Within (Between exchange.old)) (Within (Between exchange.new)) result }
+    ensures moment { OnOk result (exchange.new.moment ≡ exchange.old.moment) }
+{
+    for _batch in 0..MAX_BATCHES {
+        let is_asked = ask_once(alloc, exchange, world, channels)?;
+        if !is_asked {
+            return Ok(());
+        }
+    }
+    Ok(())
+}
+
+/// What is asked before a second, and the second.
+fn market_second<W: Market>(
+    alloc: Global,
+    exchange: &mut Exchange,
+    world: &mut W,
+    channels: ChannelSet,
+) -> Result<Second, CannotRecord>
+    ensures { PassesSecond W.dealt channels world.old world.new exchange.old exchange.new result }
+{
+    ask_all(alloc, exchange, world, channels)?;
+    run_second(exchange, world)
+}
+
+/// Runs the day up to a second of it, or to `LAST_MOMENT` where that is earlier, or until the world says that it is over. Before each
+/// second the market is asked for batches of bookings, at most 64 times: of each batch what fits is sold, row by row, put on record,
+/// brought to the disk by one sync, and only then answered. So the day is the one of the last plan over the events on record
+/// (`laws::day_of_the_last_plan`). At `CannotRecord` nothing more is done, and nothing is answered: the exchange is to be dropped, and the
+/// day that is on record is read again.
+pub fn run_market<W: Market>(
+    alloc: Global,
+    exchange: &mut Exchange,
+    world: &mut W,
+    channels: ChannelSet,
+    last: u32,
+) -> Result<(), CannotRecord>
+    ensures { IsSaleRun W.dealt channels world.old world.new exchange.old exchange.new last result }
+{
+    let end = last.min(LAST_MOMENT);
+    for _second in exchange.moment()..end {
+        match market_second(alloc, exchange, world, channels)? {
+            Second::Passed => {}
+            Second::Ended => return close_day(world),
+        }
+    }
+    close_day(world)
+}

@@ -1,0 +1,4 @@
+pub mod Restarts
+pub mod Joined
+pub mod Joining
+pub mod Inside

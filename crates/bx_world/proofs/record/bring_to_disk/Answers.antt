@@ -1,9 +1,0 @@
-use Rattle.std.proofs.Common.{◌++◌}
-use Rattle.bx_journal.proofs.Recorded.{pending}
-use Rattle.bx_world.proofs.record.bring_to_disk.Goals as goal
-
-pub returns-in-Ok : goal.returns-in-Ok
-returns-in-Ok g c = record {
-  committed = λ e plan events more p. pending g.D.Disk.holds g.D.Disk.may_leave c.commit.new.disk plan (events ++ more) (c.in-Ok.ensures.committed plan events more p);
-  any_moment = c.in-Ok.ensures.any_moment;
-}
