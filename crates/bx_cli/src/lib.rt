@@ -1,7 +1,9 @@
 //! What the program does for the words of its command line.
 #![tactic(auto)]
 
+mod program;
 mod words;
 
 pub use bx_check_commands::check_self;
+pub use program::run_program;
 pub use words::main_words;

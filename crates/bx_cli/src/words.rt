@@ -13,8 +13,8 @@ ghost use Rattle.bx_request.specs.declared.request.Request.{Request};
 
 use bx_audit::{audit_files, record_files};
 use bx_check_commands::{CommandFault, FilesAndInput, check_self, decode};
-use bx_day_commands::run_day_on_files;
 use bx_devices::{Watched, write_octets};
+use bx_far_commands::far_on_files;
 use bx_live_commands::live_on_files;
 use bx_plan_commands::run_on_files;
 use bx_rehearsal_commands::rehearse_on_files;
@@ -99,15 +99,15 @@ fn run<
             run_on_files(rt.alloc(), &mut inputs, &request, output),
             errors,
         ),
-        Request::Day(request) => {
-            status_of(
-                run_day_on_files(rt, &mut inputs, request, output, is_terminal),
-                errors,
-            )
-        }
         Request::Rehearsal(request) => {
             status_of(
                 rehearse_on_files(rt, &mut inputs, request, output, is_terminal),
+                errors,
+            )
+        }
+        Request::Far(request) => {
+            status_of(
+                far_on_files(rt, &mut inputs, request, output, is_terminal),
                 errors,
             )
         }

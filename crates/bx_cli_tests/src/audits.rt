@@ -8,7 +8,7 @@ use std::fs;
 use std::test::Fail;
 
 /// Journals of the plan in `one.txt`, and of others.
-static JOURNALS: [(&str, &str); 7] = [
+static JOURNALS: [(&str, &str); 9] = [
     ("empty.journal", ""),
     (
         "front.journal",
@@ -26,6 +26,15 @@ static JOURNALS: [(&str, &str); 7] = [
         "late.journal",
         "bx-journal 1\nplan 2115e49ff6c2d6cbbe45cbc298589d645d156451f70f44ccb653b62c10c98e95\ndown\ntick\n",
     ),
+    // An outage behind which the far end answers, and one behind which no word comes.
+    (
+        "asked.journal",
+        "bx-journal 1\nplan 2115e49ff6c2d6cbbe45cbc298589d645d156451f70f44ccb653b62c10c98e95\ntick\nheard 0802800107\ndown\ntick\nheard 080280017D0802809E14010A\ntick\ntick\ntick\ntick\ntick\ntick\ntick\ntick\ntick\nheard 080280014D\n",
+    ),
+    (
+        "silent.journal",
+        "bx-journal 1\nplan 2115e49ff6c2d6cbbe45cbc298589d645d156451f70f44ccb653b62c10c98e95\ntick\nheard 0802800107\ndown\ntick\ntick\ntick\ntick\ntick\ntick\ntick\ntick\ntick\nheard 080280014D\n",
+    ),
     (
         "wrong.journal",
         "bx-journal 1\nplan 2115e49ff6c2d6cbbe45cbc298589d645d156451f70f44ccb653b62c10c98e95\ntick\ndown \n",
@@ -36,7 +45,7 @@ static JOURNALS: [(&str, &str); 7] = [
     ),
 ];
 
-static CASES: [Case; 17] = [
+static CASES: [Case; 19] = [
     (
         "audit @one.txt @empty.journal",
         Prints("1 waiting\nmaintenance none\n"),
@@ -56,6 +65,14 @@ static CASES: [Case; 17] = [
     (
         "audit @one.txt @late.journal --capture @late.pcap",
         Prints("1 live\nmaintenance none\n"),
+    ),
+    (
+        "audit @one.txt @asked.journal",
+        Prints("1 carried 1 12\nmaintenance none\n"),
+    ),
+    (
+        "audit @one.txt @silent.journal",
+        Prints("1 carried 1 11\nmaintenance none\n"),
     ),
     ("audit @one.txt @other.journal", Fails("bx: J2 OtherPlan\n")),
     ("audit @two.txt @torn.journal", Fails("bx: J2 OtherPlan\n")),

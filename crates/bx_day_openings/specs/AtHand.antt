@@ -1,19 +1,14 @@
 -- What a command of a day has opened, as far as no file tells its octets.
 use Rattle.std.specs.Prelude.{ℕ, List, Option}
-use Rattle.bx_day.specs.Day.{Day}
 use Rattle.bx_devices.specs.declared.watched.Watched.{Watched}
 use Rattle.bx_far.specs.FarDay.{FarDay}
 use Rattle.bx_request.specs.declared.request.CaptureWords.{CaptureWords}
 use Rattle.bx_day_openings.specs.CaptureOpenings.{IsFirstOf, IsFileFor}
-use Rattle.bx_day_openings.specs.Openings.{IsOpening, IsFarOpening}
+use Rattle.bx_day_openings.specs.Openings.{IsFarOpening}
 
 -- the second that moment 0 has in a capture
 abbrev pub HasFirst : Option CaptureWords → Type 0
 HasFirst capture = (first : ℕ) × IsFirstOf capture first
-
--- the exchange
-abbrev pub HasExchange : Option ℕ → Type 0
-HasExchange asked = (day : Day) × (turns : ℕ) × IsOpening asked day turns
 
 -- the far end
 abbrev pub HasFarEnd : Type 0

@@ -1,12 +1,10 @@
--- Both ends at the opening of a day that a command runs.
+-- How many turns a day has, and its far end at its opening.
 use Rattle.std.specs.Prelude.{◌≡◌, ℕ, ◌+◌, ◌≤◌, ◌<◌, true, false, List, length, Option, Some, None, ◌⊎◌}
 use Rattle.csv.specs.Reading.{strip_bom}
 use Rattle.bx_base.specs.Bookings.{Row, row_at}
 use Rattle.bx_base.specs.PlanParts.{Parts}
 use Rattle.bx_base.specs.Plans.{is_accepted}
 use Rattle.bx_calls.specs.Timers.{clearing_time}
-use Rattle.bx_check_commands.specs.Proved.{IsProvedFor}
-use Rattle.bx_day.specs.Day.{Day, opening}
 use Rattle.bx_far.specs.FarDay.{FarDay, far_opening}
 use Rattle.bx_far.specs.ScriptTexts.{IsScript}
 use Rattle.bx_far.specs.declared.row.ScriptRow.{ScriptRow}
@@ -21,14 +19,6 @@ pub record IsLastOf (rows : List Row) (assigned : List (Option ℕ)) (count turn
 abbrev pub AreTurns : Option ℕ → Parts → ℕ → Type 0
 AreTurns (Some asked) plan turns = turns ≡ asked
 AreTurns None plan turns = IsLastOf plan.rows plan.assigned (length plan.rows) turns
-
--- the opening day of a plan that is proved for its own bookings and channels, and how many turns it is to have
-pub record IsOpening (asked : Option ℕ) (day : Day) (turns : ℕ) : Type 0 where
-  pub plan : Parts
-  pub total : ℕ
-  pub proved : IsProvedFor plan.rows plan.channels plan total
-  pub opens : day ≡ opening plan.rows plan.assigned
-  pub are_turns : AreTurns asked plan turns
 
 -- this is the text of a script, but for a byte order mark at its front, and what there was to read, where the input tells it
 pub record IsScriptRead (before : Option (List ℕ)) (script : List ScriptRow) : Type 0 where

@@ -1,4 +1,4 @@
-//! What a command that runs a day opens: both ends of the day, their connection, the captured file and the moment that is shown.
+//! What a command that runs a day opens: its far end, how long it is to run, the connection, the captured file and the moment that is shown.
 #![tactic(auto)]
 
 mod capturing;
@@ -11,6 +11,6 @@ mod sockets;
 pub use capturing::{captured, file_of, first_of};
 pub use fault::DayCommandFault;
 pub use loopback::{accepted, connected, connected_ends};
-pub use openings::{far_end_of, opening_of, turns_of};
+pub use openings::{far_end_of, turns_of};
 pub use progress::Shown;
 pub use sockets::{accepted_at, connected_at};

@@ -1,4 +1,4 @@
-//! How a day opens: its exchange from a plan, and its far end from a script.
+//! How a day opens: how long it is to run, and its far end from a script.
 
 ghost use Rattle.std.specs.Prelude.{◌≡◌, ◌≤◌, ◌<◌, ◌+◌, length, if◌then◌else◌, IfOk, IfErr};
 ghost use Rattle.bx_base.specs.Bookings.{row_at};
@@ -6,16 +6,15 @@ ghost use Rattle.bx_base.specs.Plans.{is_accepted};
 ghost use Rattle.bx_devices.specs.Devices.{reading_of};
 ghost use Rattle.bx_devices.specs.Watching.{device_of};
 ghost use Rattle.bx_day_openings.specs.Inside.{IsNoScript};
-ghost use Rattle.bx_day_openings.specs.OpeningRefusals.{IsNoOpening, IsNoFarEnd};
-ghost use Rattle.bx_day_openings.specs.Openings.{IsLastOf, IsOpening, IsScriptRead, IsFarOpening};
+ghost use Rattle.bx_day_openings.specs.OpeningRefusals.{IsNoFarEnd};
+ghost use Rattle.bx_day_openings.specs.Openings.{IsLastOf, IsScriptRead, IsFarOpening};
 ghost use Rattle.bx_base.specs.declared.booking.TheConstants.{MAX_MOMENT};
 ghost use Rattle.bx_calls.specs.Timers.{clearing_time};
 
 use crate::fault::DayCommandFault;
 use bx_base::Plan;
 use bx_calls::timers::{T305, T308};
-use bx_check_commands::{CommandFault, Inputs, proved_named};
-use bx_day::Exchange;
+use bx_check_commands::{CommandFault, Inputs};
 use bx_devices::{ReadFault, Watched, read_octets};
 use bx_far::{Far, Script, ScriptFault};
 use std::alloc::Global;
@@ -45,31 +44,6 @@ pub fn turns_of(plan: &Plan) -> u32
         turns = turns.max(over_from(plan, index));
     }
     turns
-}
-
-/// The exchange at the opening of the day of the plan of an input, and how many turns it is to run. `Command` where the input
-/// cannot be read, holds no plan, or one that is not proved, or a growth was refused.
-pub fn opening_of<'a, I: Inputs>(
-    alloc: Global,
-    inputs: &mut I,
-    name: &'a str,
-    turns: Option<u32>,
-) -> Result<(Exchange, u32), DayCommandFault<'a>>
-    ensures opened { IfOk result (λ opened. IsOpening turns opened.0 opened.1) }
-    ensures refused { IfErr result (IsNoOpening name.now) }
-{
-    let plan = match proved_named(alloc, inputs, name) {
-        Ok(plan) => plan,
-        Err(fault) => return Err(DayCommandFault::Command(fault)),
-    };
-    let turns = match turns {
-        Some(turns) => turns,
-        None => turns_of(&plan),
-    };
-    match Exchange::new(alloc, &plan) {
-        Ok(exchange) => Ok((exchange, turns)),
-        Err(_) => Err(DayCommandFault::Command(CommandFault::Memory)),
-    }
 }
 
 /// The script whose text is read to the end of an input of this name.

@@ -1,20 +1,31 @@
 -- What the journal of a rehearsal has behind the day.
-use Rattle.std.proofs.Common.{◌≡◌, ℕ, Bool, true, false, List, [], ◌∷◌, ◌++◌, Option, Some, None, refl, subst}
+use Rattle.std.proofs.Common.{◌≡◌, ℕ, ◌+◌, ◌==◌, Bool, true, false, if◌then◌else◌, is_some, List, [], ◌∷◌, ◌++◌, Option, Some, None, Result, Ok, Err, refl, sym, subst}
+use Rattle.arrayvec.specs.ArrayVec.{ArrayVec}
 use Rattle.bx_day.specs.Day.{Day}
-use Rattle.bx_events.specs.Events.{LiveEvent}
+use Rattle.bx_day.specs.Course.{exchange_next, exchange_sent, exchange_text}
+use Rattle.bx_events.specs.Events.{LiveEvent, OnLink, WithoutLink, Sold}
+use Rattle.bx_frames.specs.declared.fault.LinkFault.{LinkFault}
+use Rattle.bx_frames.specs.declared.fault.LinkFault.TheVariants.{WrongMoment}
+use Rattle.bx_frames.specs.declared.frame.Frame.{Frame}
+use Rattle.bx_frames.specs.declared.frame.Frame.TheVariants as frames
 use Rattle.bx_journal.specs.Events.{AreEvents}
 use Rattle.bx_journal.specs.Recording.{IsSettled, IsPending}
 use Rattle.bx_journal.specs.Text.{journal_text}
 use Rattle.bx_journal.proofs.Recorded.{pending}
 use Rattle.bx_live.specs.Acts.{Act, Began, Dropped, Recorded, Synced, Wrote, Read, EndedDay, recorded}
-use Rattle.bx_live.specs.Runs.{Place, Between, Recording, Owing, Over, Closing, Done, IsDue, IsRun, next}
+use Rattle.bx_live.specs.declared.world.Begin.{Begin}
+use Rattle.bx_live.specs.declared.world.Begin.TheVariants as begins
+use Rattle.bx_live.specs.declared.world.Loss.{Loss}
+use Rattle.bx_live.specs.declared.world.Loss.TheVariants as losses
+use Rattle.bx_live.specs.Runs.{Place, Between, Recording, Owing, Hearing, Losing, Over, Closing, Done, IsDue, IsRun, next, owing}
 use Rattle.bx_live.specs.Written.{Filed, filed_by}
 use Rattle.bx_live.proofs.Due.{by_due}
 use Rattle.bx_live.proofs.Onward.{filed_law}
-use Rattle.bx_world.specs.Chains.{Chain, chain_first}
+use Rattle.bx_live_parts.specs.Chains.{Chain, chain_first}
 use Rattle.bx_world.specs.Kept.{keeps_record}
-use Rattle.bx_world.specs.Records.{OnRecord, OnDisk}
+use Rattle.bx_live_parts.specs.Records.{OnRecord, OnDisk}
 use Rattle.bx_world.proofs.Projections.{kept_on}
+use Rattle.bx_rehearsal_commands.specs.Rehearsals.{IsJournalOf}
 use Rattle.bx_rehearsal_commands.specs.RehearsalsInside.{IsPutAway}
 use Rattle.bx_rehearsal_commands.specs.WaitingDisks.{waiting_holds, no_crash, no_moment, none_left, HasBegun}
 use Rattle.bx_rehearsal_commands.specs.declared.waiting.WaitingDisk.{WaitingDisk}
@@ -70,6 +81,79 @@ all_kept p e (Wrote octets done ∷ acts) (due, goes) = all_kept (next p (Wrote 
 all_kept p e (Read room answer ∷ acts) (due, goes) = all_kept (next p (Read room answer)) e acts goes
 all_kept p e (EndedDay ∷ acts) (due, goes) = all_kept (next p EndedDay) e acts goes
 
+-- ---- a run in which nothing failed is not over before its end
+
+abbrev IsOver : Place → Type 0
+IsOver (Over d) = Unit {0}
+IsOver _ = ⊥
+
+-- where an act goes well the run goes on
+abbrev GoesOn : Place → Act → Type 0
+GoesOn p (Recorded event false) = Unit {0}
+GoesOn p (Synced false) = Unit {0}
+GoesOn p act = IsOver (next p act) → ⊥
+
+goes_on : (p : Place) (act : Act) → IsDue p act → GoesOn p act
+goes_on = by_due GoesOn on_begun on_recorded on_synced on_written on_read on_lost on_closing on_closed (λ d over. over) where
+  on_begun : (d : Day) (begin : Begin) → GoesOn (Between d) (Began (d.moment + 1) begin)
+  on_begun d begins.Late over = over
+  on_begun d begins.Alone over = over
+  on_begun d begins.Joined over = over
+  on_begun d begins.Ended over = over
+
+  owing_on : (d : Day) (room : ℕ) (sent : List (ArrayVec ℕ)) (text : List ℕ) → IsOver (owing d room sent text) → ⊥
+  owing_on d room [] [] over = over
+  owing_on d room [] (octet ∷ text) over = over
+  owing_on d room (message ∷ sent) text over = over
+
+  on_recorded : (d : Day) (room : ℕ) (event : LiveEvent) (done : Bool) → GoesOn (Recording d room event) (Recorded event done)
+  on_recorded d room event false = tt
+  on_recorded d room WithoutLink true = λ over. over
+  on_recorded d room (Sold line) true = λ over. over
+  on_recorded d room (OnLink event) true = owing_on (exchange_next d event) room (exchange_sent d event) (exchange_text d event)
+
+  on_synced : (d : Day) (room : ℕ) (text : List ℕ) (done : Bool) → GoesOn (Owing d room true text) (Synced done)
+  on_synced d room text true = λ over. over
+  on_synced d room text false = tt
+
+  on_written : (d : Day) (room : ℕ) (text : List ℕ) (done : Bool) → GoesOn (Owing d room false text) (Wrote text done)
+  on_written d room text true = λ over. over
+  on_written d room text false = λ over. over
+
+  turn_on : (d : Day) (b : Bool) → IsOver (if b then Between d else Losing d (losses.Fault WrongMoment)) → ⊥
+  turn_on d true over = over
+  turn_on d false over = over
+
+  on_read : (d : Day) (room : ℕ) (answer : Result Frame LinkFault) → GoesOn (Hearing d room) (Read room answer)
+  on_read d room (Ok (frames.Message octets)) = λ over. over
+  on_read d room (Ok (frames.EndOfTurn said)) = turn_on d (said == d.moment)
+  on_read d room (Ok frames.EndOfDay) = λ over. over
+  on_read d room (Err fault) = λ over. over
+
+  on_lost : (d : Day) (loss : Loss) → GoesOn (Losing d loss) (Dropped loss)
+  on_lost d losses.Late = λ over. over
+  on_lost d (losses.Fault fault) = λ over. over
+
+  on_closing : (d : Day) (done : Bool) → GoesOn (Between d) (Synced done)
+  on_closing d true = λ over. over
+  on_closing d false = tt
+
+  on_closed : (d : Day) (done : Bool) → GoesOn (Closing d) (Synced done)
+  on_closed d true = λ over. over
+  on_closed d false = tt
+
+over_of : (p : Place) (e : Day) (acts : List Act) → keeps_record acts ≡ true → IsRun p acts (Over e) → IsOver p
+over_of p e [] kept same = subst IsOver (sym same) tt
+over_of p e (Recorded event true ∷ acts) kept (due, goes) = absurd (goes_on p (Recorded event true) due (over_of (next p (Recorded event true)) e acts kept goes))
+over_of p e (Recorded event false ∷ acts) kept (due, goes) = cc
+over_of p e (Synced true ∷ acts) kept (due, goes) = absurd (goes_on p (Synced true) due (over_of (next p (Synced true)) e acts kept goes))
+over_of p e (Synced false ∷ acts) kept (due, goes) = cc
+over_of p e (Began second begin ∷ acts) kept (due, goes) = absurd (goes_on p (Began second begin) due (over_of (next p (Began second begin)) e acts kept goes))
+over_of p e (Dropped loss ∷ acts) kept (due, goes) = absurd (goes_on p (Dropped loss) due (over_of (next p (Dropped loss)) e acts kept goes))
+over_of p e (Wrote octets done ∷ acts) kept (due, goes) = absurd (goes_on p (Wrote octets done) due (over_of (next p (Wrote octets done)) e acts kept goes))
+over_of p e (Read room answer ∷ acts) kept (due, goes) = absurd (goes_on p (Read room answer) due (over_of (next p (Read room answer)) e acts kept goes))
+over_of p e (EndedDay ∷ acts) kept (due, goes) = absurd (goes_on p EndedDay due (over_of (next p EndedDay) e acts kept goes))
+
 -- ---- what a disk holds behind acts, all of which went well
 
 module _ {D : Type 0} (holds may_leave : D → List ℕ → Type 0) (moment : D → ℕ) (left_since : D → ℕ → List ℕ → Type 0) (plan : List ℕ) where
@@ -103,17 +187,74 @@ module _ {D : Type 0} (holds may_leave : D → List ℕ → Type 0) (moment : D 
 
 -- ---- a journal that waited, and is put away
 
-module _ {D : Type 0} (holds may_leave : D → List ℕ → Type 0) (plan : List ℕ) (disk closed : D) where
+module _ {D : Type 0} (holds may_leave : D → List ℕ → Type 0) (plan : List ℕ) where
   abbrev Kept : Option (WaitingDisk D) → Act → Option (WaitingDisk D) → Type 0
   Kept = OnRecord (waiting_holds holds) no_crash no_moment none_left
 
-  put_away : (acts : List Act) (w : WaitingDisk D) (o : Option (WaitingDisk D)) → o ≡ Some w → IsPutAway holds may_leave o closed → AreEvents (recorded acts) × waiting_holds holds w (journal_text plan (recorded acts)) → IsSettled holds may_leave closed plan (recorded acts)
-  put_away acts w o is away held =
-      let settled = subst (λ (x : Option (WaitingDisk D)). IsPutAway holds may_leave x closed) is away (journal_text plan (recorded acts)) held.1 in
-      record { events_are = held.0; written = settled.0; durable = settled.1 }
+  put_away : (events : List LiveEvent) (disk : D) (w : WaitingDisk D) (o : Option (WaitingDisk D)) (closed : Option D) → o ≡ Some w → IsPutAway holds may_leave o closed → (holds disk [] → AreEvents events × waiting_holds holds w (journal_text plan events))
+      → IsJournalOf holds may_leave (Some disk) closed plan events
+  put_away events disk w o (Some closed) is away held = λ empty.
+      let h = held empty in
+      let settled = subst (λ (x : Option (WaitingDisk D)). IsPutAway holds may_leave x (Some closed)) is away (journal_text plan events) h.1 in
+      record { events_are = h.0; written = settled.0; durable = settled.1 }
+  put_away events disk w o None is away held = absurd (subst (λ (x : Option (WaitingDisk D)). IsPutAway holds may_leave x None) is away)
 
-  pub journal_kept : (o p : Option (WaitingDisk D)) (acts : List Act) (d e : Day) → HasBegun holds plan disk o → IsPutAway holds may_leave p closed → Chain Kept o acts p → IsRun (Between d) acts (Done e) → holds disk [] → IsSettled holds may_leave closed plan (recorded acts)
-  journal_kept None p acts d e begun away chain run empty = absurd begun
-  journal_kept (Some first) p acts d e begun away chain run empty =
+  -- without a journal there is none behind an act
+  none_by : (act : Act) (o : Option (WaitingDisk D)) → Kept None act o → o ≡ None
+  none_by (Recorded event done) None p = refl
+  none_by (Recorded event done) (Some w) p = absurd p
+  none_by (Synced done) None p = refl
+  none_by (Synced done) (Some w) p = absurd p
+  none_by (Began second begin) o p = sym p
+  none_by (Dropped loss) o p = sym p
+  none_by (Wrote octets done) o p = sym p
+  none_by (Read room answer) o p = sym p
+  none_by EndedDay o p = sym p
+
+  none_on : (acts : List Act) (o : Option (WaitingDisk D)) → Chain Kept None acts o → o ≡ None
+  none_on [] o e = sym e
+  none_on (act ∷ acts) o chain =
+      let (mid, step, more) = chain_first Kept None o act acts chain in
+      none_on acts o (subst (λ (x : Option (WaitingDisk D)). Chain Kept x acts o) (none_by act mid step) more)
+
+  pub journal_kept : (disk closed : Option D) (o p : Option (WaitingDisk D)) (acts : List Act) (d e : Day) → HasBegun holds plan disk o → IsPutAway holds may_leave p closed → Chain Kept o acts p → IsRun (Between d) acts (Done e)
+      → IsJournalOf holds may_leave disk closed plan (recorded acts)
+  journal_kept None closed o p acts d e begun away chain run =
+      subst (λ (x : Option (WaitingDisk D)). IsPutAway holds may_leave x closed) (none_on acts p (subst (λ (x : Option (WaitingDisk D)). Chain Kept x acts p) begun chain)) away
+  journal_kept (Some disk) closed None p acts d e begun away chain run = absurd begun
+  journal_kept (Some disk) closed (Some first) p acts d e begun away chain run =
       let (last, is, onto) = kept_on (waiting_holds holds) no_crash no_moment none_left first p acts chain in
-      put_away acts last p is away (held_whole (waiting_holds holds) no_crash no_moment none_left plan acts first last d e run onto (begun empty))
+      put_away (recorded acts) disk last p closed is away (λ empty. held_whole (waiting_holds holds) no_crash no_moment none_left plan acts first last d e run onto (begun empty))
+
+  -- ---- what can't be put on record, or away, is kept
+
+  none_keeps : (acts : List Act) (o : Option (WaitingDisk D)) → Chain Kept None acts o → keeps_record acts ≡ true
+  none_keeps [] o e = refl
+  none_keeps (act ∷ acts) o chain =
+      let (mid, step, more) = chain_first Kept None o act acts chain in
+      keeps_by act mid step (none_keeps acts o (subst (λ (x : Option (WaitingDisk D)). Chain Kept x acts o) (none_by act mid step) more)) where
+        keeps_by : (act : Act) (mid : Option (WaitingDisk D)) → Kept None act mid → keeps_record acts ≡ true → keeps_record (act ∷ acts) ≡ true
+        keeps_by (Recorded event true) mid p kept = kept
+        keeps_by (Recorded event false) None p kept = cc
+        keeps_by (Recorded event false) (Some w) p kept = absurd p
+        keeps_by (Synced true) mid p kept = kept
+        keeps_by (Synced false) None p kept = cc
+        keeps_by (Synced false) (Some w) p kept = absurd p
+        keeps_by (Began second begin) mid p kept = kept
+        keeps_by (Dropped loss) mid p kept = kept
+        keeps_by (Wrote octets done) mid p kept = kept
+        keeps_by (Read room answer) mid p kept = kept
+        keeps_by EndedDay mid p kept = kept
+
+  -- a run that is over before its end has a journal
+  pub stopped_kept : (disk : Option D) (o p : Option (WaitingDisk D)) (acts : List Act) (d e : Day) → HasBegun holds plan disk o → Chain Kept o acts p → IsRun (Between d) acts (Over e) → is_some disk ≡ true
+  stopped_kept (Some disk) o p acts d e begun chain run = refl
+  stopped_kept None o p acts d e begun chain run =
+      absurd (over_of (Between d) e acts (none_keeps acts p (subst (λ (x : Option (WaitingDisk D)). Chain Kept x acts p) begun chain)) run)
+
+  -- and so has one that is not put away
+  pub unput_kept : (disk : Option D) (o p : Option (WaitingDisk D)) (acts : List Act) → HasBegun holds plan disk o → Chain Kept o acts p → is_some p ≡ true → is_some disk ≡ true
+  unput_kept (Some disk) o p acts begun chain there = refl
+  unput_kept None o p acts begun chain there =
+      let none = none_on acts p (subst (λ (x : Option (WaitingDisk D)). Chain Kept x acts p) begun chain) in
+      subst (λ (x : Option (WaitingDisk D)). is_some x ≡ true) none there

@@ -1,5 +1,6 @@
 -- A world behind a rehearsal.
-use Rattle.std.proofs.Common.{◌≡◌, ◌∙◌, ℕ, false, List, Option, None, Result, Ok, refl}
+use Rattle.std.proofs.Common.{◌≡◌, ◌∙◌, ℕ, Bool, true, false, is_some, List, Option, None, Result, Ok, Err, OnErr, refl}
+use Rattle.bx_day.specs.Day.{Day}
 use Rattle.bx_devices.specs.declared.watched.Watched.{Watched}
 use Rattle.bx_far.specs.FarDay.{FarDay}
 use Rattle.bx_frames.specs.declared.fault.LinkFault.{LinkFault}
@@ -9,12 +10,12 @@ use Rattle.bx_link.specs.declared.far_session.FarSession.{FarSession}
 use Rattle.bx_live.specs.Acts.{Act}
 use Rattle.bx_live.specs.declared.world.CannotRecord.{CannotRecord}
 use Rattle.bx_world.specs.BothEnds.{GoesBoth}
-use Rattle.bx_world.specs.Chains.{Chain}
+use Rattle.bx_live_parts.specs.Chains.{Chain}
 use Rattle.bx_world.specs.Peers.{OnLost}
-use Rattle.bx_world.specs.Records.{OnRecord}
+use Rattle.bx_live_parts.specs.Records.{OnRecord}
 use Rattle.bx_world.specs.Rehearsals.{Rehearses}
 use Rattle.bx_world.specs.declared.both_ends.BothEnds.{BothEnds}
-use Rattle.bx_world.specs.declared.record.Record.{Record}
+use Rattle.bx_live_parts.specs.declared.record.Record.{Record}
 use Rattle.bx_world.specs.declared.rehearsal.Rehearsal.{Rehearsal}
 use Rattle.bx_world.proofs.Projections.{chain_map, none_ended}
 use Rattle.bx_day_runs.specs.Runs.{RunsIn}
@@ -24,7 +25,7 @@ use Rattle.bx_rehearsal_commands.specs.WaitingDisks.{waiting_holds, no_crash, no
 use Rattle.bx_rehearsal_commands.specs.declared.rehearsing.Opened.{Opened}
 use Rattle.bx_rehearsal_commands.specs.declared.rehearsing.Rehearsed.{Rehearsed}
 use Rattle.bx_rehearsal_commands.specs.declared.waiting.WaitingDisk.{WaitingDisk}
-use Rattle.bx_rehearsal_commands.proofs.Recorded.{journal_kept}
+use Rattle.bx_rehearsal_commands.proofs.Recorded.{journal_kept, stopped_kept, unput_kept}
 use Rattle.bx_day_runs.proofs.Runs.{whole_run}
 
 -- any world with such a journal, which a lost link ends
@@ -45,6 +46,23 @@ module _ {W D F : Type 0} (step : W → Act → W → Type 0) (kept : W → Opti
         captured = r.kept;
       }
 
+  -- one that is over before its end, or is not put away, has a journal
+  pub failed_run : ((s t : W) (act : Act) → step s act t → OnRecord (waiting_holds holds) no_crash no_moment none_left (kept s) act (kept t)) → (plan : List ℕ) (disk : Option D) (old new : W) (turns : ℕ) (from to : Day) (done : Result (Unit {0}) CannotRecord) (e : CannotRecord)
+      (file : Option (Watched F)) (first : ℕ) (is_whole : Bool) → done ≡ Err e → RunsIn (Chain step) old new turns from to done files file first is_whole → HasBegun holds plan disk (kept old) → is_some disk ≡ true
+  failed_run records plan disk old new turns from to (Err fault) e file first is_whole is r begun =
+      stopped_kept holds may_leave plan disk (kept old) (kept new) r.ran.acts from to begun (chain_map step (OnRecord (waiting_holds holds) no_crash no_moment none_left) kept records old new r.ran.acts r.ran.done) r.ran.goes
+  failed_run records plan disk old new turns from to (Ok v) e file first is_whole is r begun = absurd cc
+
+  pub failed_away : ((s t : W) (act : Act) → step s act t → OnRecord (waiting_holds holds) no_crash no_moment none_left (kept s) act (kept t)) → (plan : List ℕ) (disk : Option D) (old new : W) (turns : ℕ) (from to : Day) (done : Result (Unit {0}) CannotRecord)
+      (file : Option (Watched F)) (first : ℕ) (is_whole : Bool) → RunsIn (Chain step) old new turns from to done files file first is_whole → HasBegun holds plan disk (kept old) → is_some (kept new) ≡ true → is_some disk ≡ true
+  failed_away records plan disk old new turns from to done file first is_whole r begun there =
+      unput_kept holds may_leave plan disk (kept old) (kept new) r.ran.acts begun (chain_map step (OnRecord (waiting_holds holds) no_crash no_moment none_left) kept records old new r.ran.acts r.ran.done) there
+
+-- what holds anyway, at a refusal
+pub at_any : {A E P : Type 0} (r : Result A E) → P → OnErr r P
+at_any (Ok v) p = tt
+at_any (Err e) p = p
+
 -- ---- both ends, and one peer
 
 module _ {R W S T D F : Type 0} (remaining : R → Option (List ℕ)) (contents : W → Option (List ℕ)) (far_remaining : S → Option (List ℕ)) (far_contents : T → Option (List ℕ)) (holds may_leave : D → List ℕ → Type 0) (files : F → Option (List ℕ)) where
@@ -53,6 +71,16 @@ module _ {R W S T D F : Type 0} (remaining : R → Option (List ℕ)) (contents 
 
   abbrev ends_at : Connection R W → FarDay → FarSession → Connection S T → Record (WaitingDisk D) → BothEnds R W S T (WaitingDisk D)
   ends_at near far session distant kept = record { near = near; distant = record { far = far; session = session; connection = distant }; is_due = false; «record» = kept; lost = None }
+
+  pub both_stopped : (opened : Opened D) (far : FarDay) (near : Connection R W) (distant : Connection S T) (session : FarSession) (kept : Record (WaitingDisk D)) (new : BothEnds R W S T (WaitingDisk D)) (to : Day) (done : Result (Unit {0}) CannotRecord) (e : CannotRecord)
+      (file : Option (Watched F)) (first : ℕ) (is_whole : Bool) → done ≡ Err e → HasBegun holds opened.plan opened.disk kept.disk → RunsIn (Chain Both) (ends_at near far session distant kept) new opened.turns opened.exchange to done files file first is_whole → is_some opened.disk ≡ true
+  both_stopped opened far near distant session kept new to done e file first is_whole is begun r =
+      failed_run Both (λ w. w.record.disk) (λ w. w.lost) holds may_leave files (λ s t act p. p.recorded) opened.plan opened.disk (ends_at near far session distant kept) new opened.turns opened.exchange to done e file first is_whole is r begun
+
+  pub both_unput : (opened : Opened D) (far : FarDay) (near : Connection R W) (distant : Connection S T) (session : FarSession) (kept : Record (WaitingDisk D)) (new : BothEnds R W S T (WaitingDisk D)) (to : Day) (done : Result (Unit {0}) CannotRecord)
+      (file : Option (Watched F)) (first : ℕ) (is_whole : Bool) → HasBegun holds opened.plan opened.disk kept.disk → RunsIn (Chain Both) (ends_at near far session distant kept) new opened.turns opened.exchange to done files file first is_whole → is_some new.record.disk ≡ true → is_some opened.disk ≡ true
+  both_unput opened far near distant session kept new to done file first is_whole begun r there =
+      failed_away Both (λ w. w.record.disk) (λ w. w.lost) holds may_leave files (λ s t act p. p.recorded) opened.plan opened.disk (ends_at near far session distant kept) new opened.turns opened.exchange to done file first is_whole r begun there
 
   pub rehearsed_both : (opened : Opened D) (far : FarDay) (near : Connection R W) (distant : Connection S T) (file : Option (Watched F)) (first : ℕ) (rehearsed : Rehearsed D) (session : FarSession) (kept : Record (WaitingDisk D)) (new : BothEnds R W S T (WaitingDisk D)) (done : Result (Unit {0}) CannotRecord)
       → is_far_over session ≡ false → done ≡ Ok tt → HasBegun holds opened.plan opened.disk kept.disk → IsPutAway holds may_leave new.record.disk rehearsed.disk → new.lost ≡ rehearsed.lost
@@ -80,6 +108,16 @@ module _ {R W D F : Type 0} (remaining : R → Option (List ℕ)) (contents : W 
 
   abbrev peer_at : Connection R W → Record (WaitingDisk D) → Rehearsal R W (WaitingDisk D)
   peer_at connection kept = record { connection = connection; «record» = kept; lost = None }
+
+  pub towards_stopped : (opened : Opened D) (connection : Connection R W) (kept : Record (WaitingDisk D)) (new : Rehearsal R W (WaitingDisk D)) (to : Day) (done : Result (Unit {0}) CannotRecord) (e : CannotRecord)
+      (file : Option (Watched F)) (first : ℕ) (is_whole : Bool) → done ≡ Err e → HasBegun holds opened.plan opened.disk kept.disk → RunsIn (Chain Alone) (peer_at connection kept) new opened.turns opened.exchange to done files file first is_whole → is_some opened.disk ≡ true
+  towards_stopped opened connection kept new to done e file first is_whole is begun r =
+      failed_run Alone (λ w. w.record.disk) (λ w. w.lost) holds may_leave files (λ s t act p. p.recorded) opened.plan opened.disk (peer_at connection kept) new opened.turns opened.exchange to done e file first is_whole is r begun
+
+  pub towards_unput : (opened : Opened D) (connection : Connection R W) (kept : Record (WaitingDisk D)) (new : Rehearsal R W (WaitingDisk D)) (to : Day) (done : Result (Unit {0}) CannotRecord)
+      (file : Option (Watched F)) (first : ℕ) (is_whole : Bool) → HasBegun holds opened.plan opened.disk kept.disk → RunsIn (Chain Alone) (peer_at connection kept) new opened.turns opened.exchange to done files file first is_whole → is_some new.record.disk ≡ true → is_some opened.disk ≡ true
+  towards_unput opened connection kept new to done file first is_whole begun r there =
+      failed_away Alone (λ w. w.record.disk) (λ w. w.lost) holds may_leave files (λ s t act p. p.recorded) opened.plan opened.disk (peer_at connection kept) new opened.turns opened.exchange to done file first is_whole r begun there
 
   pub rehearsed_towards : (opened : Opened D) (connection : Connection R W) (file : Option (Watched F)) (first : ℕ) (rehearsed : Rehearsed D) (kept : Record (WaitingDisk D)) (new : Rehearsal R W (WaitingDisk D)) (done : Result (Unit {0}) CannotRecord)
       → done ≡ Ok tt → HasBegun holds opened.plan opened.disk kept.disk → IsPutAway holds may_leave new.record.disk rehearsed.disk → new.lost ≡ rehearsed.lost

@@ -34,6 +34,7 @@ module _ {F : Type 0} (files : F → Option (List ℕ)) (request : RehearsalRequ
   with_peer peer ran = record {
     opened = opened;
     opens = tied;
+    is_kept = ready.disk;
     first = second;
     begins = subst (IsFirstOf request.sight.capture) (sym ready.first_is) begins;
     file = file;

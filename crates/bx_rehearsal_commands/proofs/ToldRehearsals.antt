@@ -1,5 +1,6 @@
 -- A rehearsal that was told, or not whole.
-use Rattle.std.proofs.Common.{◌≡◌, ◌⊎◌, ◌∙◌, ℕ, Bool, true, List, Option, None, Ok, inl, inr, refl, subst}
+use Rattle.std.proofs.Common.{◌≡◌, ◌⊎◌, ◌∙◌, ℕ, Bool, true, List, Option, Some, None, Ok, inl, inr, refl, subst}
+use Rattle.std.specs.Borrow.{Bor}
 use Rattle.bx_check_commands.specs.declared.fault.CommandFault.TheVariants as commands
 use Rattle.bx_recording.specs.Recording.{IsMade}
 use Rattle.bx_day_openings.specs.declared.fault.DayCommandFault.TheVariants.{Command, Link}
@@ -11,8 +12,9 @@ use Rattle.bx_request.specs.declared.request.Peer.TheVariants.{Script, At}
 use Rattle.bx_request.specs.declared.request.Place.TheVariants.{Port, Socket}
 use Rattle.bx_request.specs.declared.request.RehearsalRequest.{RehearsalRequest}
 use Rattle.bx_rehearsal_commands.specs.RehearsedDays.{RehearsalWith, IsRehearsedDay, IsRehearsalTold}
+use Rattle.bx_rehearsal_commands.specs.NewJournals.{HasNoNewJournal}
 use Rattle.bx_rehearsal_commands.specs.ReadyInside.{IsLostBy}
-use Rattle.bx_rehearsal_commands.specs.RehearsalRefusals.{IsNoPeer, IsUnmet, StopsBehindPeer, StopsRehearsal, IsRehearsalRefusal}
+use Rattle.bx_rehearsal_commands.specs.RehearsalRefusals.{IsNoPeer, IsUnmet, IsUnkept, StopsBehindPeer, StopsRehearsal, IsRehearsalRefusal}
 use Rattle.bx_day_runs.specs.Telling.{IsToldWhole, IsNotToldWhole}
 use Rattle.bx_rehearsal_commands.specs.declared.buffered_file.BufferedFile.{BufferedFile}
 use Rattle.bx_day_runs.specs.declared.fault.LiveFault.{LiveFault}
@@ -61,13 +63,21 @@ met (Script script) (inl unheard) = unheard
 met (Script script) (inr unconnected) = unconnected
 met (At place) unheard = unheard
 
+no_journal : (name : Option (Bor (List ℕ))) → HasNoNewJournal name (OfDay (Command commands.CannotWrite)) → ⊥
+no_journal None none = none
+no_journal (Some name) none = none
+
+kept : (name : Option (Bor (List ℕ))) → IsUnkept name (OfDay (Command commands.CannotWrite)) → ⊥
+kept None unkept = unkept
+kept (Some name) unkept = unkept
+
 module _ {F : Type 0} (files : F → Option (List ℕ)) (request : RehearsalRequest) where
   behind_writes : (peer : Peer) → StopsBehindPeer files peer request (OfDay (Command commands.CannotWrite)) → ⊥
-  behind_writes peer (inl journal) = journal
+  behind_writes peer (inl journal) = no_journal request.journal journal
   behind_writes peer (inr (inl file)) = file
   behind_writes peer (inr (inr (inl (has, records)))) = records
-  behind_writes peer (inr (inr (inr (has, kept, inl unmet)))) = met peer unmet
-  behind_writes peer (inr (inr (inr (has, kept, inr unkept)))) = unkept
+  behind_writes peer (inr (inr (inr (has, there, inl unmet)))) = met peer unmet
+  behind_writes peer (inr (inr (inr (has, there, inr unkept)))) = kept request.journal unkept
 
   writes : StopsRehearsal files request (OfDay (Command commands.CannotWrite)) → ⊥
   writes (inl (inl first)) = first

@@ -1,5 +1,5 @@
 -- Private: what a rehearsal runs over, and how it ends.
-use Rattle.std.specs.Prelude.{◌≡◌, ◌⊎◌, ℕ, List, Option, Some, None}
+use Rattle.std.specs.Prelude.{◌≡◌, ◌⊎◌, ℕ, is_some, List, Option, Some, None}
 use Rattle.bx_calendar.specs.declared.clock.Clock.{Clock}
 use Rattle.bx_day_openings.specs.AtHand.{HasFile}
 use Rattle.bx_day_openings.specs.CaptureOpenings.{IsFileFor}
@@ -20,18 +20,19 @@ use Rattle.bx_rehearsal_commands.specs.declared.rehearsing.Opened.{Opened}
 use Rattle.bx_rehearsal_commands.specs.declared.rehearsing.Rehearsed.{Rehearsed}
 use Rattle.bx_day_runs.specs.declared.telling.Ended.{Ended}
 
--- the day of this opening, with the disk of its journal and the files of its capture and its records
+-- the day of this opening, with the disk of its journal, where one is named, and the files of its capture and its records
 pub record IsReadied {F : Type 0} (files : F → Option (List ℕ)) (request : RehearsalRequest) (opening : Opening) (first : ℕ) (opened : Opened (BufferedFile F)) (file : Option (Watched F)) (second : ℕ) (clock : Option Clock) (records : Option (RecordsFile F)) : Type 0 where
   pub exchange : opened.exchange ≡ opening.exchange
   pub plan : opened.plan ≡ opening.digest
   pub turns : opened.turns ≡ opening.turns
+  pub disk : is_some opened.disk ≡ is_some request.journal
   pub first_is : second ≡ first
   pub file_opens : IsFileFor files request.sight.capture file
   pub records_open : IsRecordsFileFor request.records clock records
 
 abbrev pub IsNotReadied : {F : Type 0} → (F → Option (List ℕ)) → RehearsalRequest → LiveFault → Type 0
 IsNotReadied files request fault =
-    HasNoNewJournal request.journal.now fault
+    HasNoNewJournal request.journal fault
     ⊎ OfOpening (IsNoFile request.sight.capture) fault
     ⊎ (HasFile files request.sight.capture × OfOpening (IsNoRecordsFile request.records) fault)
 

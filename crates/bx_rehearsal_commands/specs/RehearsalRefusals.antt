@@ -1,5 +1,6 @@
 -- Why a day is not rehearsed, and what was written then.
 use Rattle.std.specs.Prelude.{◌≡◌, ◌⊎◌, ⊤, ℕ, Bool, true, List, Option, Some, Result}
+use Rattle.std.specs.Borrow.{Bor}
 use Rattle.bx_check_commands.specs.declared.fault.CommandFault.TheVariants.{CannotWrite}
 use Rattle.bx_day.specs.Day.{Day}
 use Rattle.bx_day_openings.specs.AtHand.{HasFirst, HasFarEnd, HasFile}
@@ -40,8 +41,8 @@ IsUnmet (Script script) fault = IsUnheard fault ⊎ IsUnconnected fault
 IsUnmet (At place) fault = IsUnheard fault
 
 -- something can't be put on record in the journal of this name
-abbrev pub IsUnkept : List ℕ → LiveFault → Type 0
-IsUnkept name (CannotRecord named) = named.now ≡ name
+abbrev pub IsUnkept : Option (Bor (List ℕ)) → LiveFault → Type 0
+IsUnkept (Some name) (CannotRecord named) = named.now ≡ name.now
 IsUnkept name fault = ⊥
 
 -- the day was rehearsed until its link had this fault
@@ -52,10 +53,10 @@ IsLost files request fault = ⊥
 -- why a day whose ends are opened stops: what it needs is opened in this order, and what is tested first is answered
 abbrev pub StopsBehindPeer : {F : Type 0} → (F → Option (List ℕ)) → Peer → RehearsalRequest → LiveFault → Type 0
 StopsBehindPeer {F = F} files peer request fault =
-    HasNoNewJournal request.journal.now fault
+    HasNoNewJournal request.journal fault
     ⊎ OfOpening (IsNoFile request.sight.capture) fault
     ⊎ (HasFile files request.sight.capture × OfOpening (IsNoRecordsFile request.records) fault)
-    ⊎ (HasFile files request.sight.capture × HasRecordsFile F request.records × (OfOpening (IsUnmet peer) fault ⊎ IsUnkept request.journal.now fault))
+    ⊎ (HasFile files request.sight.capture × HasRecordsFile F request.records × (OfOpening (IsUnmet peer) fault ⊎ IsUnkept request.journal fault))
 
 abbrev pub StopsAtPeer : {F : Type 0} → (F → Option (List ℕ)) → Peer → RehearsalRequest → LiveFault → Type 0
 StopsAtPeer files peer request fault = OfOpening (IsNoPeer peer) fault ⊎ (HasPeer peer × StopsBehindPeer files peer request fault)

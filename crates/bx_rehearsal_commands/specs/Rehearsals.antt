@@ -1,6 +1,7 @@
--- A day that was rehearsed, with what happens on record.
-use Rattle.std.specs.Prelude.{◌≡◌, ℕ, max, min, false, List, [], Option, None}
+-- A day that was rehearsed, with or without a journal.
+use Rattle.std.specs.Prelude.{◌≡◌, ℕ, max, min, false, List, [], Option, Some, None}
 use Rattle.bx_day.specs.Outages.{live_day_after}
+use Rattle.bx_events.specs.Events.{LiveEvent}
 use Rattle.bx_devices.specs.declared.watched.Watched.{Watched}
 use Rattle.bx_far.specs.FarDay.{FarDay}
 use Rattle.bx_journal.specs.Recording.{IsSettled}
@@ -9,7 +10,7 @@ use Rattle.bx_link.specs.declared.connection.Connection.{Connection}
 use Rattle.bx_live.specs.Acts.{Act, recorded}
 use Rattle.bx_live.specs.Runs.{Between, Done, IsRun}
 use Rattle.bx_world.specs.BothEnds.{GoesBoth}
-use Rattle.bx_world.specs.Chains.{Chain}
+use Rattle.bx_live_parts.specs.Chains.{Chain}
 use Rattle.bx_world.specs.Rehearsals.{Rehearses}
 use Rattle.bx_world.specs.declared.both_ends.BothEnds.{BothEnds}
 use Rattle.bx_world.specs.declared.rehearsal.Rehearsal.{Rehearsal}
@@ -20,16 +21,22 @@ use Rattle.bx_rehearsal_commands.specs.declared.rehearsing.Rehearsed.{Rehearsed}
 use Rattle.bx_rehearsal_commands.specs.declared.waiting.WaitingDisk.{WaitingDisk}
 use Rattle.bx_events.specs.declared.moment.TheConstants.{LAST_MOMENT}
 
--- The acts of a whole run of a day. It is the one after just the events on record, as the journal has them on the disk; where its link
--- was not lost it has reached the turn that was asked for; and its messages were captured.
+-- where a journal is kept that began on an empty disk, it has these events
+abbrev pub IsJournalOf : {D : Type 0} → (D → List ℕ → Type 0) → (D → List ℕ → Type 0) → Option D → Option D → List ℕ → List LiveEvent → Type 0
+IsJournalOf holds may_leave None closed plan events = closed ≡ None
+IsJournalOf holds may_leave (Some disk) None plan events = ⊥
+IsJournalOf holds may_leave (Some disk) (Some closed) plan events = holds disk [] → IsSettled holds may_leave closed plan events
+
+-- The acts of a whole run of a day. It is the one after just the events that happened, as a journal has them on the disk, where one is
+-- kept; where its link was not lost it has reached the turn that was asked for; and its messages were captured.
 pub record IsOnRecord {D F : Type 0} (holds may_leave : D → List ℕ → Type 0) (files : F → Option (List ℕ)) (opened : Opened D) (file : Option (Watched F)) (first : ℕ) (rehearsed : Rehearsed D) (acts : List Act) : Type 0 where
   pub run : IsRun (Between opened.exchange) acts (Done rehearsed.exchange)
   pub after : rehearsed.exchange ≡ live_day_after (recorded acts) opened.exchange
   pub reached : rehearsed.lost ≡ None → rehearsed.exchange.moment ≡ max opened.exchange.moment (min opened.turns LAST_MOMENT)
-  pub journal : holds opened.disk [] → IsSettled holds may_leave rehearsed.disk opened.plan (recorded acts)
+  pub journal : IsJournalOf holds may_leave opened.disk rehearsed.disk opened.plan (recorded acts)
   pub captured : IsRunKept files file first acts rehearsed.is_whole
 
--- a world of both ends at their connections, with a journal that has begun, has gone through such acts
+-- a world of both ends at their connections, with a journal that has begun, where one is kept, has gone through such acts
 pub record RehearsesBoth {R W S T D F : Type 0} (remaining : R → Option (List ℕ)) (contents : W → Option (List ℕ)) (far_remaining : S → Option (List ℕ)) (far_contents : T → Option (List ℕ)) (holds may_leave : D → List ℕ → Type 0) (files : F → Option (List ℕ)) (opened : Opened D) (far : FarDay) (near : Connection R W) (distant : Connection S T) (file : Option (Watched F)) (first : ℕ) (rehearsed : Rehearsed D) : Type 0 where
   pub acts : List Act
   pub old : BothEnds R W S T (WaitingDisk D)

@@ -1,5 +1,5 @@
--- What is told of a day that is rehearsed with what happens on record.
-use Rattle.std.specs.Prelude.{◌≡◌, ℕ, Bool, List, Option, None, Result}
+-- What is told of a day that is rehearsed.
+use Rattle.std.specs.Prelude.{◌≡◌, ℕ, Bool, is_some, List, Option, None, Result}
 use Rattle.std.specs.Borrow.{Bor}
 use Rattle.std.specs.Io.KnownBytes.{Appends}
 use Rattle.std.specs.declared.net.TcpStream.{TcpStream}
@@ -49,10 +49,11 @@ RanWith files (At (Port port)) opened file first rehearsed = RanOver TcpStream f
 RanWith files (At (Socket path)) opened file first rehearsed = RanOver UnixStream files opened file first rehearsed
 
 -- The day of a plan that is proved, which was rehearsed with such a peer: each event that happened is on record, and no other, in a journal
--- that began with the day; and its messages are captured, where they are to be.
+-- that began with the day, where one is named; and its messages are captured, where they are to be.
 pub record RehearsalWith {F : Type 0} (files : F → Option (List ℕ)) (peer : Peer) (request : RehearsalRequest) (rehearsed : Rehearsed (BufferedFile F)) : Type 0 where
   pub opened : Opened (BufferedFile F)
   pub opens : IsTiedDay request.turns opened.exchange opened.plan opened.turns
+  pub is_kept : is_some opened.disk ≡ is_some request.journal
   pub first : ℕ
   pub begins : IsFirstOf request.sight.capture first
   pub file : Option (Watched F)

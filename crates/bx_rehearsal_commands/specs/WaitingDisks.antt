@@ -1,5 +1,5 @@
 -- A disk that waits for its one sync: what it holds is known, and of a crash before that sync nothing is said.
-use Rattle.std.specs.Prelude.{ℕ, List, [], Option, Some, None}
+use Rattle.std.specs.Prelude.{◌≡◌, ℕ, List, [], Option, Some, None}
 use Rattle.bx_journal.specs.Recording.{IsSettled}
 use Rattle.bx_rehearsal_commands.specs.declared.waiting.WaitingDisk.{WaitingDisk}
 
@@ -16,7 +16,8 @@ no_moment w = 0
 abbrev pub none_left : {D : Type 0} → WaitingDisk D → ℕ → List ℕ → Type 0
 none_left w t c = ⊥
 
--- a journal of this plan has begun on an empty disk, and has no event
-abbrev pub HasBegun : {D : Type 0} → (D → List ℕ → Type 0) → List ℕ → D → Option (WaitingDisk D) → Type 0
-HasBegun holds plan disk None = ⊥
-HasBegun holds plan disk (Some w) = holds disk [] → IsSettled (waiting_holds holds) no_crash w plan []
+-- a journal of this plan has begun on an empty disk, where one is kept, and has no event
+abbrev pub HasBegun : {D : Type 0} → (D → List ℕ → Type 0) → List ℕ → Option D → Option (WaitingDisk D) → Type 0
+HasBegun holds plan None kept = kept ≡ None
+HasBegun holds plan (Some disk) None = ⊥
+HasBegun holds plan (Some disk) (Some w) = holds disk [] → IsSettled (waiting_holds holds) no_crash w plan []

@@ -1,4 +1,4 @@
-//! The command that rehearses a day, as fast as its peer goes, with what happens on record in a new journal.
+//! The command that rehearses a day, as fast as its peer goes, with or without a journal of what happens.
 #![tactic(auto)]
 
 mod buffered_file;

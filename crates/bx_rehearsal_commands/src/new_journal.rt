@@ -1,6 +1,6 @@
 //! A journal that is to be new.
 
-ghost use Rattle.std.specs.Prelude.{◌≡◌, Ok, OnOk, IfOk, IfErr};
+ghost use Rattle.std.specs.Prelude.{◌≡◌, is_some, Ok, OnOk, IfOk, IfErr};
 ghost use Rattle.bx_rehearsal_commands.specs.NewJournals.{HasNoNewJournal};
 ghost use Rattle.bx_rehearsal_commands.specs.NewJournalsInside.{IsNotNew, IsNoNewJournal};
 
@@ -48,14 +48,19 @@ fn length_of<F: OpenFile>(file: &F) -> io::Result<u64> {
     Ok(metadata.len())
 }
 
-/// The journal in the file of this name, which is made where it is not there. One that holds something is left as it is.
+/// The journal in the file of this name, where one is named. It is made where it is not there; one that holds something is left as it
+/// is.
 pub(crate) fn new_journal<'a, H: Files>(
     rt: &H,
     alloc: Global,
-    name: &'a str,
-) -> Result<BufferedFile<H::File>, LiveFault<'a>>
-    ensures { IfErr result (HasNoNewJournal name.now) }
+    name: Option<&'a str>,
+) -> Result<Option<BufferedFile<H::File>>, LiveFault<'a>>
+    ensures named { IfOk result (λ disk. is_some disk ≡ is_some name.entry) }
+    ensures refused { IfErr result (HasNoNewJournal name.entry) }
 {
+    let Some(name) = name else {
+        return Ok(None);
+    };
     let file = match File::options().append(true).create(true).open(rt, name) {
         Ok(file) => file,
         Err(_) => return Err(LiveFault::CannotRecord(name)),
@@ -63,5 +68,5 @@ pub(crate) fn new_journal<'a, H: Files>(
     let length = length_of(&file);
     let disk = journal_in(alloc, name, file, length)?;
     sync_entry(rt, name);
-    Ok(disk)
+    Ok(Some(disk))
 }

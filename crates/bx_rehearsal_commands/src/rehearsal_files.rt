@@ -1,13 +1,13 @@
-//! The command that rehearses a day, with what happens on record.
+//! The command that rehearses a day.
 
-ghost use Rattle.std.specs.Prelude.{◌≡◌, ◌≤◌, true, Ok, IfOk, IfErr, OnOk};
+ghost use Rattle.std.specs.Prelude.{◌≡◌, ◌≤◌, ◌&&◌, not, true, is_some, Ok, IfOk, IfErr, OnOk};
 ghost use Rattle.bx_day_openings.specs.CaptureOpenings.{IsFirstOf};
 ghost use Rattle.bx_recording.specs.Recording.{IsRecordsClock, IsRecordsFileFor, IsMade};
 ghost use Rattle.bx_devices.specs.Watching.{device_of};
 ghost use Rattle.bx_journal_openings.specs.TiedDays.{IsTiedDay};
 ghost use Rattle.bx_rehearsal_commands.specs.ReadyInside.{IsReadied, IsNotReadied, IsEnded, IsLostBy};
 ghost use Rattle.bx_rehearsal_commands.specs.RehearsedDays.{RehearsalWith, IsRehearsal, IsRehearsedDay, IsRehearsalTold};
-ghost use Rattle.bx_rehearsal_commands.specs.RehearsalRefusals.{IsUnseen, StopsAtPeer, StopsBehindPeer, StopsRehearsal, IsRehearsalRefusal};
+ghost use Rattle.bx_rehearsal_commands.specs.RehearsalRefusals.{IsUnseen, IsUnkept, StopsAtPeer, StopsBehindPeer, StopsRehearsal, IsRehearsalRefusal};
 
 use crate::buffered_file::BufferedFile;
 use crate::new_journal::new_journal;
@@ -38,7 +38,7 @@ struct Seen {
     is_shown: bool,
 }
 
-/// What a rehearsal runs over: its day with the disk of its journal, what is seen of it, and the file for its records.
+/// What a rehearsal runs over: its day with the disk of its journal, where one is kept, what is seen of it, and the file for its records.
 #[derive(Drop)]
 struct Ready<'a, F: Write + Drop> {
     opened: Opened<BufferedFile<F>>,
@@ -46,7 +46,18 @@ struct Ready<'a, F: Write + Drop> {
     records: Option<RecordsFile<'a, F>>,
 }
 
-/// Opens the journal of a day that is opened, and the files of its capture and its records.
+/// The fault by which something cannot be put on record in a journal that is kept.
+fn unrecorded<'a>(journal: Option<&'a str>) -> LiveFault<'a>
+    requires { is_some journal ≡ true }
+    ensures { IsUnkept journal.entry result }
+{
+    match journal {
+        Some(name) => LiveFault::CannotRecord(name),
+        None => unreachable!(),
+    }
+}
+
+/// Opens the journal of a day that is opened, where one is to be kept, and the files of its capture and its records.
 fn readied<'a, H: Files + AllocGlobal>(
     rt: &H,
     request: RehearsalRequest<'a>,
@@ -148,7 +159,7 @@ fn rehearse_script<
     let distant = connection(&distant);
     match rehearse_both(rt, opened, far, near, distant, view) {
         Ok(rehearsed) => Ok(Run { rehearsed, records }),
-        Err(_) => Err(LiveFault::CannotRecord(request.journal)),
+        Err(_) => Err(unrecorded(request.journal)),
     }
 }
 
@@ -180,7 +191,7 @@ fn rehearse_at_port<
     } = ready;
     match rehearse_towards(rt, opened, connection(&peer), view) {
         Ok(rehearsed) => Ok(Run { rehearsed, records }),
-        Err(_) => Err(LiveFault::CannotRecord(request.journal)),
+        Err(_) => Err(unrecorded(request.journal)),
     }
 }
 
@@ -212,7 +223,7 @@ fn rehearse_at_socket<
     } = ready;
     match rehearse_towards(rt, opened, socket_connection(&peer), view) {
         Ok(rehearsed) => Ok(Run { rehearsed, records }),
-        Err(_) => Err(LiveFault::CannotRecord(request.journal)),
+        Err(_) => Err(unrecorded(request.journal)),
     }
 }
 
@@ -266,6 +277,7 @@ fn seen_of<'a>(
     ensures first { IfOk result (λ seen. IsFirstOf request.entry.sight.capture seen.first) }
     ensures limit { IfOk result (λ seen. seen.first ≤ 4294667295) }
     ensures clock { IfOk result (λ seen. IsRecordsClock request.entry.records seen.clock) }
+    ensures shown { IfOk result (λ seen. seen.is_shown ≡ (is_terminal && not request.entry.sight.is_quiet)) }
     ensures refused { IfErr result (IsUnseen request.entry) }
 {
     let first = first_of(request.sight.capture)?;
@@ -304,16 +316,16 @@ fn run_rehearsal<
     ended(run)
 }
 
-/// Rehearses the day of a plan with the far end of a script, or towards the first peer that connects, as fast as they go and with what
-/// happens on record in a new journal; shows its moment on a terminal alone, writes what became of each booking, and its records into
-/// their file, where they are to be written. A journal that holds something is left as it is. At a fault of the link, and at an event that
-/// cannot be put on record, the day is over; the journal has what happened until then. A capture or records that were not written whole
+/// Rehearses the day of a plan with the far end of a script, or towards the first peer that connects, as fast as they go, and with what
+/// happens on record in a new journal, where one is named; shows its moment on a terminal alone, writes what became of each booking, and
+/// its records into their file, where they are to be written. A journal that holds something is left as it is. At a fault of the link, and
+/// at an event that cannot be put on record, the day is over; the journal has what happened until then. A capture or records that were not written whole
 /// are a refusal, behind all that was told; at any other refusal nothing was written, except that where the output failed a front of
 /// what was to be told was, and the records as if it had not.
 ///
 /// What the day needs is opened in this order, and the first fault of it is answered, as `LiveFault::Day` but for `NotEmpty` and
 /// `CannotRecord`: `Day` or `Capture` for the date and the zone of the capture; `Day` for those of the records; `Command` for the
-/// plan; `Command` or `Script` for the script; `NotEmpty`, `CannotRecord` or `Command`, as `Memory`, for the journal;
+/// plan; `Command` or `Script` for the script; `NotEmpty`, `CannotRecord` or `Command`, as `Memory`, for a journal that is named;
 /// `CannotWriteFile` for the file of the capture, and then for that of the records; `CannotListen` or `CannotConnect` for the
 /// connection. `CannotRecord` is also answered where an event cannot be put on record, and `Link` is the fault of the link that
 /// ended the day. At the end `Command`, as `CannotWrite`, is the fault of the output; `CannotWriteFile` that of the capture; and

@@ -1,6 +1,6 @@
-//! A day that is opened, rehearsed: as fast as its peer goes, with what happens on record.
+//! A day that is opened, rehearsed: as fast as its peer goes.
 
-ghost use Rattle.std.specs.Prelude.{◌≡◌, ◌≤◌, ℕ, List, Some, IfOk};
+ghost use Rattle.std.specs.Prelude.{◌≡◌, ◌≤◌, true, is_some, IfOk, OnErr};
 ghost use Rattle.bx_rehearsal_commands.specs.RehearsalsInside.{IsPutAway};
 ghost use Rattle.bx_rehearsal_commands.specs.Rehearsals.{RehearsesBoth, RehearsesTowards};
 ghost use Rattle.bx_rehearsal_commands.specs.WaitingDisks.{HasBegun};
@@ -13,35 +13,43 @@ use bx_frames::LinkFault;
 use bx_journal::{Disk, begin};
 use bx_link::{Connection, FarSession};
 use bx_live::CannotRecord;
-use bx_world::{BothEnds, FarEnd, Record, Rehearsal};
+use bx_live_parts::Record;
+use bx_world::{BothEnds, FarEnd, Rehearsal};
 use std::io::{Read, Write};
 use std::rt::Clock;
 
 /// A day before its rehearsal: the exchange at its opening, the digest of its plan, how many turns it is to have, and the disk on
-/// which its journal is to begin.
+/// which its journal is to begin, where one is to be kept.
 #[derive(Drop)]
 pub struct Opened<D> {
     pub exchange: Exchange,
     pub plan: [u8; 32],
     pub turns: u32,
-    pub disk: D,
+    pub disk: Option<D>,
 }
 
-/// A day behind its rehearsal, with the disk on which its journal is.
+/// A day behind its rehearsal, with the disk on which its journal is, where one was kept.
 #[derive(Drop)]
 pub struct Rehearsed<D> {
     pub exchange: Exchange,
-    pub disk: D,
+    pub disk: Option<D>,
     /// The fault of the link that ended the day, where one did.
     pub lost: Option<LinkFault>,
     /// Whether all that was to be captured was.
     pub is_whole: bool,
 }
 
-/// Begins a journal on an empty disk, which is synced once it is put away.
-fn begun<D: Disk + Drop>(disk: D, plan: &[u8; 32]) -> Result<Record<WaitingDisk<D>>, CannotRecord>
-    ensures { IfOk result (λ kept. HasBegun D.holds plan.now disk kept.disk) }
+/// Begins a journal on an empty disk, where there is one. It is synced once it is put away.
+fn begun<D: Disk + Drop>(
+    disk: Option<D>,
+    plan: &[u8; 32],
+) -> Result<Record<WaitingDisk<D>>, CannotRecord>
+    ensures begun { IfOk result (λ kept. HasBegun D.holds plan.now disk kept.disk) }
+    ensures failed { OnErr result (is_some disk ≡ true) }
 {
+    let Some(disk) = disk else {
+        return Ok(Record { disk: None });
+    };
     let mut waiting = WaitingDisk::new(disk);
     match begin(&mut waiting, plan) {
         Ok(()) => Ok(Record {
@@ -51,22 +59,24 @@ fn begun<D: Disk + Drop>(disk: D, plan: &[u8; 32]) -> Result<Record<WaitingDisk<
     }
 }
 
-/// The disk of a journal, with all that is on record.
-fn put_away<D: Disk + Drop>(kept: Record<WaitingDisk<D>>) -> Result<D, CannotRecord>
-    ensures { IfOk result (IsPutAway D.holds D.may_leave kept.disk) }
+/// The disk of a journal, with all that is on record, where one was kept.
+fn put_away<D: Disk + Drop>(kept: Record<WaitingDisk<D>>) -> Result<Option<D>, CannotRecord>
+    ensures away { IfOk result (IsPutAway D.holds D.may_leave kept.disk) }
+    ensures failed { OnErr result (is_some kept.disk ≡ true) }
 {
     let Some(waiting) = kept.disk else {
-        return Err(CannotRecord);
+        return Ok(None);
     };
     match waiting.put_away() {
-        Ok(disk) => Ok(disk),
+        Ok(disk) => Ok(Some(disk)),
         Err(_) => Err(CannotRecord),
     }
 }
 
-/// Rehearses a day with the far end of the same process, each at its end of a connection. Each event is on record before it happens; all
-/// of it is on the disk at the end, also where a fault of the link has ended the day. Where something cannot be put on record, nothing
-/// more is done, and `CannotRecord` is answered. The first second of the view is at most 4,294,667,295.
+/// Rehearses a day with the far end of the same process, each at its end of a connection. Where a journal is kept, each event is on
+/// record before it happens, and all of it is on the disk at the end, also where a fault of the link has ended the day; where something
+/// cannot be put on record there, nothing more is done, and `CannotRecord` is answered. The first second of the view is at most
+/// 4,294,667,295.
 pub fn rehearse_both<
     'a,
     'h,
@@ -86,7 +96,8 @@ pub fn rehearse_both<
     view: View<'a, F>,
 ) -> Result<Rehearsed<D>, CannotRecord>
     requires { view.first ≤ 4294667295 }
-    ensures { IfOk result (RehearsesBoth R.remaining W.contents S.remaining T.contents D.holds D.may_leave F.contents opened far near distant view.entry.file view.entry.first) }
+    ensures failed { OnErr result (is_some opened.disk ≡ true) }
+    ensures ran { IfOk result (RehearsesBoth R.remaining W.contents S.remaining T.contents D.holds D.may_leave F.contents opened far near distant view.entry.file view.entry.first) }
 {
     let Opened {
         mut exchange,
@@ -144,7 +155,8 @@ pub fn rehearse_towards<
     view: View<'a, F>,
 ) -> Result<Rehearsed<D>, CannotRecord>
     requires { view.first ≤ 4294667295 }
-    ensures { IfOk result (RehearsesTowards R.remaining W.contents D.holds D.may_leave F.contents opened connection view.entry.file view.entry.first) }
+    ensures failed { OnErr result (is_some opened.disk ≡ true) }
+    ensures ran { IfOk result (RehearsesTowards R.remaining W.contents D.holds D.may_leave F.contents opened connection view.entry.file view.entry.first) }
 {
     let Opened {
         mut exchange,

@@ -3,9 +3,8 @@ use Rattle.std.proofs.Common.{◌≡◌, ◌∙◌, ℕ, ◌+◌, ◌≤◌, ◌
 use Rattle.bx_devices.specs.declared.watched.Watched.{Watched}
 use Rattle.bx_devices.specs.Watching.{device_of}
 use Rattle.bx_events.specs.Events.{Event, LiveEvent}
-use Rattle.bx_capture.specs.Captures.{Keeps, is_unfaulted}
-use Rattle.bx_day_commands.specs.CapturedDays.{IsCaptureOf}
-use Rattle.bx_day_openings.specs.CaptureOpenings.{IsFileFor}
+use Rattle.bx_capture.specs.Captures.{Keeps}
+use Rattle.bx_far_commands.proofs.KeptDays.{whole_capture}
 use Rattle.bx_day_openings.specs.OpeningRefusals.{IsNoFile}
 use Rattle.bx_day_openings.specs.Openings.{IsFarOpening}
 use Rattle.bx_day_openings.specs.declared.fault.DayCommandFault.{DayCommandFault}
@@ -15,7 +14,6 @@ use Rattle.bx_link.proofs.FarMoments.{moment_of}
 use Rattle.bx_turns.specs.Courses.{after, ticks_of}
 use Rattle.bx_rejoin.specs.LiveCaptures.{IsLiveCaptured}
 use Rattle.bx_rejoin.specs.LiveEvents.{all_taken, told_on_link}
-use Rattle.bx_request.specs.declared.request.CaptureWords.{CaptureWords}
 use Rattle.bx_request.specs.declared.request.RejoinRequest.{RejoinRequest}
 use Rattle.bx_rejoin_commands.specs.Rejoined.{IsRejoinRun, IsRejoinDone}
 use Rattle.bx_rejoin_commands.specs.Refusals.{IsRejoinRefusal}
@@ -44,15 +42,6 @@ run_of P d d1 events moment opening reached same p =
     (run, p)
 
 -- ---- where nothing is to be captured, all of that was
-
-no_file : {F : Type 0} (contents : F → Option (List ℕ)) (file closed : Option (Watched F)) (packets : List ℕ) → IsFileFor contents None file → Keeps contents file closed packets → is_unfaulted closed ≡ true
-no_file contents None None packets opens keeps = refl
-no_file contents None (Some w) packets opens keeps = absurd keeps
-no_file contents (Some w) closed packets opens keeps = absurd opens
-
-whole_capture : {F : Type 0} {contents : F → Option (List ℕ)} (capture : Option CaptureWords) (packets : ℕ → List ℕ) (is_whole : Bool) → capture ≡ None → IsCaptureOf contents capture packets is_whole → is_whole ≡ true
-whole_capture {contents = contents} capture packets is_whole none kept =
-    kept.kept.whole ∙ no_file contents kept.file kept.kept.closed (packets kept.first) (subst (λ (c : Option CaptureWords). IsFileFor contents c kept.file) none kept.opens) kept.kept.keeps
 
 pub done_whole : {F : Type 0} (contents : F → Option (List ℕ)) (request : RejoinRequest) (before after : Option (List ℕ)) (is_whole : Bool) → (is_whole ≡ true) ⊎ (request.sight.capture ≡ None)
     → IsRejoinDone request contents before after is_whole → IsRejoinDone request contents before after true

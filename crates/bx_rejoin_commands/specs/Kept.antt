@@ -3,7 +3,7 @@ use Rattle.std.specs.Prelude.{ℕ, Bool, List, Option}
 use Rattle.bx_devices.specs.declared.watched.Watched.{Watched}
 use Rattle.bx_events.specs.Events.{LiveEvent}
 use Rattle.bx_capture.specs.Captures.{Keeps}
-use Rattle.bx_day_commands.specs.CapturedDays.{IsCaptureOf}
+use Rattle.bx_far_commands.specs.CapturedDays.{IsCaptureOf}
 use Rattle.bx_far.specs.FarDay.{FarDay}
 use Rattle.bx_request.specs.declared.request.CaptureWords.{CaptureWords}
 use Rattle.bx_rejoin_commands.specs.Rejoined.{IsRejoinRun, live_far_packets, packets_of}

@@ -4,7 +4,7 @@ use Rattle.bx_devices.specs.declared.watched.Watched.{Watched}
 use Rattle.bx_devices.specs.Watching.{device_of}
 use Rattle.bx_events.specs.Events.{LiveEvent}
 use Rattle.bx_capture.specs.Captures.{Keeps}
-use Rattle.bx_day_commands.specs.DayRefusals.{IsRefusedRun, IsSessionFault}
+use Rattle.bx_far_commands.specs.FarRefusals.{IsRefusedRun, IsSessionFault}
 use Rattle.bx_day_openings.specs.AtHand.{HasFirst, HasFarEnd, HasFile}
 use Rattle.bx_day_openings.specs.CaptureOpenings.{IsFirstOf, IsFileFor}
 use Rattle.bx_day_openings.specs.OpeningRefusals.{IsNoFirst, IsNoFarEnd, IsNoFile}

@@ -4,8 +4,8 @@ use Rattle.std.specs.Io.KnownBytes.{Appends}
 use Rattle.bx_devices.specs.Octets.{AppendsPrefix}
 use Rattle.bx_events.specs.Events.{LiveEvent}
 use Rattle.bx_capture.specs.Captures.{packets_for}
-use Rattle.bx_day_commands.specs.CapturedDays.{IsCaptureOf}
-use Rattle.bx_day_commands.specs.Days.{ended_line}
+use Rattle.bx_far_commands.specs.CapturedDays.{IsCaptureOf}
+use Rattle.bx_far_commands.specs.Days.{ended_line}
 use Rattle.bx_day_openings.specs.Openings.{IsFarOpening}
 use Rattle.bx_far.specs.FarDay.{FarDay}
 use Rattle.bx_far.specs.Course.{far_next, far_sent, far_due}

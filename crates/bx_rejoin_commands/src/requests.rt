@@ -9,9 +9,9 @@ ghost use Rattle.bx_rejoin_commands.specs.Refusals.{StopsRejoining, IsRejoinRefu
 use crate::running::run_rejoined;
 use bx_capture::is_whole;
 use bx_check_commands::{CommandFault, Inputs};
-use bx_day_commands::write_ended;
 use bx_day_openings::{DayCommandFault, captured, far_end_of, file_of, first_of};
 use bx_devices::Watched;
+use bx_far_commands::write_ended;
 use bx_request::{RejoinRequest, Sight};
 use std::fs::Files;
 use std::io::Write;

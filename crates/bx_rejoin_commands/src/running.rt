@@ -1,7 +1,7 @@
 //! The day of a script, run over one connection after another.
 
 ghost use Rattle.std.specs.Prelude.{◌≡◌, ◌≤◌, IfOk, IfErr};
-ghost use Rattle.bx_day_commands.specs.DayRefusals.{IsSessionFault};
+ghost use Rattle.bx_far_commands.specs.FarRefusals.{IsSessionFault};
 ghost use Rattle.bx_day_openings.specs.Openings.{IsFarOpening};
 ghost use Rattle.bx_rejoin_commands.specs.Kept.{IsRejoinKept, IsRejoinKeptSoFar};
 

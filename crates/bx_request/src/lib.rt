@@ -4,6 +4,6 @@
 mod request;
 
 pub use request::{
-    AuditRequest, Call, CaptureWords, DayRequest, FileRequest, LiveRequest, Peer, Place,
+    AuditRequest, Call, CaptureWords, FarRequest, FileRequest, LiveRequest, Peer, Place,
     RecordsRequest, RecordsWords, RehearsalRequest, RejoinRequest, Request, Sight, Terms,
 };

@@ -94,31 +94,12 @@ pub enum Place<'a> {
     Socket(&'a str),
 }
 
-/// A command that runs a day, with its words.
+/// The far end of a day that is to be run.
 #[derive(Clone, Copy)]
-pub enum DayRequest<'a> {
-    /// Run both ends of a plan's day.
-    Day {
-        plan: &'a str,
-        script: &'a str,
-        turns: Option<u32>,
-        records: Option<RecordsWords<'a>>,
-        sight: Sight<'a>,
-    },
-    /// Run the exchange's end of a plan's day.
-    Serve {
-        plan: &'a str,
-        place: Place<'a>,
-        turns: Option<u32>,
-        records: Option<RecordsWords<'a>>,
-        sight: Sight<'a>,
-    },
-    /// Run the far end of a day.
-    Far {
-        script: &'a str,
-        place: Place<'a>,
-        sight: Sight<'a>,
-    },
+pub struct FarRequest<'a> {
+    pub script: &'a str,
+    pub place: Place<'a>,
+    pub sight: Sight<'a>,
 }
 
 /// Who is at the other end of a day that is rehearsed.
@@ -130,13 +111,13 @@ pub enum Peer<'a> {
     At(Place<'a>),
 }
 
-/// A plan's day that is to be run as fast as its peer goes, with what happens on record.
+/// A plan's day that is to be run as fast as its peer goes.
 #[derive(Clone, Copy)]
 pub struct RehearsalRequest<'a> {
     pub plan: &'a str,
     pub peer: Peer<'a>,
-    /// The file of its journal, which may not hold one.
-    pub journal: &'a str,
+    /// The file of its journal, where what happens is to go on record. It may not hold one.
+    pub journal: Option<&'a str>,
     pub turns: Option<u32>,
     pub records: Option<RecordsWords<'a>>,
     pub sight: Sight<'a>,
@@ -191,8 +172,8 @@ pub struct RecordsRequest<'a> {
 #[derive(Drop)]
 pub enum Request<'a> {
     Files(FileRequest<'a>),
-    Day(DayRequest<'a>),
     Rehearsal(RehearsalRequest<'a>),
+    Far(FarRequest<'a>),
     Rejoin(RejoinRequest<'a>),
     Live(LiveRequest<'a>),
     Audit(AuditRequest<'a>),

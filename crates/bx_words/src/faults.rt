@@ -61,6 +61,7 @@ L5 UnknownKind        the link: a frame has an unknown kind
 L6 MoreThan64Messages the link: more than 64 messages came in one turn
 L7 WrongMoment        the link: an end of turn has another moment
 L8 Closed             the link: the session was closed before
+L9 LinkReset          the link: the data link was released or established anew
 N1 NotABChannel n     n is no B channel: 0, 16, or above 31
 N2 Repeated n         channel n stands twice
 H1 NotHex             the word is not pairs of hexadecimal digits

@@ -4,7 +4,7 @@ use crate::channel_list::channel_numbers;
 use crate::command_line::program_of_words;
 use crate::faults::FAULTS;
 use bx_request::{
-    AuditRequest, Call, CaptureWords, DayRequest, FileRequest, LiveRequest, Peer, Place,
+    AuditRequest, Call, CaptureWords, FarRequest, FileRequest, LiveRequest, Peer, Place,
     RecordsRequest, RecordsWords, RehearsalRequest, RejoinRequest, Request, Sight, Terms,
 };
 use clap::error::ErrorKind;
@@ -176,17 +176,16 @@ fn place_of<'a>(matches: &ArgMatches<'a>) -> Place<'a> {
     }
 }
 
-/// The rehearsal towards this peer that these words want, where its events are to go on record.
-fn rehearsal_of<'a>(matches: &ArgMatches<'a>, peer: Peer<'a>) -> Option<RehearsalRequest<'a>> {
-    let journal = matches.get_str("journal")?;
-    Some(RehearsalRequest {
+/// The rehearsal towards this peer that these words want.
+fn rehearsal_of<'a>(matches: &ArgMatches<'a>, peer: Peer<'a>) -> RehearsalRequest<'a> {
+    RehearsalRequest {
         plan: word(matches, "plan"),
         peer,
-        journal,
+        journal: matches.get_str("journal"),
         turns: matches.get_one::<u32>("turns"),
         records: records_of(matches),
         sight: sight_of(matches),
-    })
+    }
 }
 
 /// The day that these words want to be run by the clock.
@@ -219,17 +218,8 @@ fn day_request<'a>(alloc: Global, matches: &ArgMatches<'a>) -> Result<Request<'a
             "'--date <DATE>' stands only beside '--capture <FILE>' or '--records <FILE>'",
         ));
     }
-    let script = word(matches, "script");
-    Ok(match rehearsal_of(matches, Peer::Script(script)) {
-        Some(rehearsal) => Request::Rehearsal(rehearsal),
-        None => Request::Day(DayRequest::Day {
-            plan: word(matches, "plan"),
-            script,
-            turns: matches.get_one::<u32>("turns"),
-            records: records_of(matches),
-            sight: sight_of(matches),
-        }),
-    })
+    let peer = Peer::Script(word(matches, "script"));
+    Ok(Request::Rehearsal(rehearsal_of(matches, peer)))
 }
 
 /// What these words want of an exchange that serves.
@@ -243,17 +233,8 @@ fn serve_request<'a>(alloc: Global, matches: &ArgMatches<'a>) -> Result<Request<
             "'--date <DATE>' stands only beside '--live', '--capture <FILE>' or '--records <FILE>'",
         ));
     }
-    let place = place_of(matches);
-    Ok(match rehearsal_of(matches, Peer::At(place)) {
-        Some(rehearsal) => Request::Rehearsal(rehearsal),
-        None => Request::Day(DayRequest::Serve {
-            plan: word(matches, "plan"),
-            place,
-            turns: matches.get_one::<u32>("turns"),
-            records: records_of(matches),
-            sight: sight_of(matches),
-        }),
-    })
+    let peer = Peer::At(place_of(matches));
+    Ok(Request::Rehearsal(rehearsal_of(matches, peer)))
 }
 
 /// What these words want of a far end.
@@ -268,7 +249,7 @@ fn far_request<'a>(matches: &ArgMatches<'a>) -> Request<'a> {
             sight,
         })
     } else {
-        Request::Day(DayRequest::Far {
+        Request::Far(FarRequest {
             script,
             place,
             sight,

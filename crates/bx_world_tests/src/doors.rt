@@ -2,8 +2,9 @@
 
 use crate::letters::LetterDisk;
 use bx_live::run_live;
+use bx_live_parts::{Record, Schedule};
 use bx_worked_days::exchange;
-use bx_world::{Door, Live, Record, Schedule, UnixDoor};
+use bx_world::{Door, Live, UnixDoor};
 use std::fs;
 use std::io::Write;
 use std::os::unix::net::UnixStream;

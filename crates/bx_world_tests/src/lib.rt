@@ -12,6 +12,8 @@ pub use visitors::{Manner, Visit, Visitor, Visitors};
 #[cfg(test)]
 mod doors;
 #[cfg(test)]
+mod engines;
+#[cfg(test)]
 mod live_days;
 #[cfg(test)]
 mod rehearsals;

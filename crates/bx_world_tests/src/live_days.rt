@@ -6,8 +6,9 @@ use crate::visitors::{Manner, Visit, Visitor, Visitors};
 use bx_calendar::Clock;
 use bx_day::Exchange;
 use bx_live::{CannotRecord, World, run_live};
+use bx_live_parts::{Record, Schedule};
 use bx_worked_days::exchange;
-use bx_world::{Live, Record, Schedule, Telling};
+use bx_world::{Live, Telling};
 use std::alloc::Global;
 
 type Day<'a> = Live<'a, Stage, Visitor<'a>, Visitors<'a>, LetterDisk>;

@@ -6,8 +6,9 @@ use bx_devices::Watched;
 use bx_frames::LinkFault;
 use bx_link::{Connection, FarSession};
 use bx_live::run_live;
+use bx_live_parts::Record;
 use bx_worked_days::{exchange, far_end};
-use bx_world::{BothEnds, CapturedWorld, FarEnd, Record, Rehearsal};
+use bx_world::{BothEnds, CapturedWorld, FarEnd, Rehearsal};
 use std::alloc::Global;
 
 /// CONNECT with the channel, the ends of the turns of moments 1 and 2, and half a frame.

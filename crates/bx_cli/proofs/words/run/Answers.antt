@@ -26,15 +26,15 @@ returns-in-Records-clause-refused g c some =
     subst (λ (r : Request). IsRequestRefused g.row.H.Denot (g.R.Read.remaining (device_of c.args.input.now)) r g.H.File.Write.contents g.W.Write.contents c.args.output.now c.record_files.new.output) (sym c.in-Records.is)
     (are_unrecorded _ _ _ c.in-Records.request g.W.Write.contents c.args.output.now c.record_files.new.output c.record_files.result c.status_of-in-Records.result c.new-inputs.ensures c.status_of-in-Records.ensures.done c.record_files.ensures.refused some)
 
-pub returns-in-Day-clause-done : goal.returns-in-Day-clause-done
-returns-in-Day-clause-done g c zero =
-    subst (λ (r : Request). IsRequestDone g.row.H.Denot (g.R.Read.remaining (device_of c.args.input.now)) r g.H.File.Write.contents g.W.Write.contents c.args.output.now c.run_day_on_files.new.output) (sym c.in-Day.is)
-    (done_at c.run_day_on_files.result c.status_of-in-Day.result c.status_of-in-Day.ensures.done c.run_day_on_files.ensures.done zero)
+pub returns-in-Far-clause-done : goal.returns-in-Far-clause-done
+returns-in-Far-clause-done g c zero =
+    subst (λ (r : Request). IsRequestDone g.row.H.Denot (g.R.Read.remaining (device_of c.args.input.now)) r g.H.File.Write.contents g.W.Write.contents c.args.output.now c.far_on_files.new.output) (sym c.in-Far.is)
+    (done_at c.far_on_files.result c.status_of-in-Far.result c.status_of-in-Far.ensures.done c.far_on_files.ensures.done zero)
 
-pub returns-in-Day-clause-refused : goal.returns-in-Day-clause-refused
-returns-in-Day-clause-refused g c some =
-    subst (λ (r : Request). IsRequestRefused g.row.H.Denot (g.R.Read.remaining (device_of c.args.input.now)) r g.H.File.Write.contents g.W.Write.contents c.args.output.now c.run_day_on_files.new.output) (sym c.in-Day.is)
-    (refused_at c.run_day_on_files.result c.status_of-in-Day.result c.status_of-in-Day.ensures.done c.run_day_on_files.ensures.refused some)
+pub returns-in-Far-clause-refused : goal.returns-in-Far-clause-refused
+returns-in-Far-clause-refused g c some =
+    subst (λ (r : Request). IsRequestRefused g.row.H.Denot (g.R.Read.remaining (device_of c.args.input.now)) r g.H.File.Write.contents g.W.Write.contents c.args.output.now c.far_on_files.new.output) (sym c.in-Far.is)
+    (refused_at c.far_on_files.result c.status_of-in-Far.result c.status_of-in-Far.ensures.done c.far_on_files.ensures.refused some)
 
 pub returns-in-Rehearsal-clause-done : goal.returns-in-Rehearsal-clause-done
 returns-in-Rehearsal-clause-done g c zero =

@@ -1,6 +1,0 @@
-mod ToldDays
-mod Refusals
-mod Stops
-mod KeptDays
-mod Outcomes
-mod Asked

@@ -1,6 +1,0 @@
-pub mod Days
-pub mod CapturedDays
-pub mod KeptDays
-pub mod DayRefusals
-pub mod DayRequests
-pub mod Unplanned

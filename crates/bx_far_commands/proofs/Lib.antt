@@ -1,0 +1,3 @@
+mod ToldDays
+mod Refusals
+pub mod KeptDays

@@ -1,0 +1,4 @@
+pub mod Days
+pub mod CapturedDays
+pub mod FarRefusals
+pub mod Kept
