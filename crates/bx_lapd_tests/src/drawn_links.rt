@@ -104,6 +104,9 @@ fn drawn_links(rt: HostRuntime) {
     let mut seen = ArrayVec::new();
     let odd = first_odd(&mut seen);
     assert_eq!(rt; odd, None, "a drawn link");
-    let told = seen.len();
-    assert_eq!(rt; told, 18, "what was told");
+    // A share of the links does not come to all that can be told.
+    if SHARE == 1 {
+        let told = seen.len();
+        assert_eq!(rt; told, 18, "what was told");
+    }
 }
