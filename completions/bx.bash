@@ -15,15 +15,15 @@ _bx() {
         quote) options="--inward --date --zone --help" ;;
         chart) options="--date --zone --help" ;;
         day) options="--turns --journal --records --capture --date --zone --quiet --help" ;;
-        serve) options="--port --socket --live --date --zone --journal --pace --turns --records --capture --quiet --help" ;;
-        far) options="--port --socket --rejoin --capture --date --zone --quiet --help" ;;
+        serve) options="--port --socket --live --line --date --zone --journal --pace --turns --records --capture --quiet --help" ;;
+        far) options="--port --socket --line --date --zone --pace --turns --capture --quiet --help" ;;
         audit) options="--capture --date --zone --help" ;;
         records) options="--date --zone --quiet --help" ;;
         decode) options="--help" ;;
         help) COMPREPLY=($(compgen -W "plan check amend capacity explain quote chart day serve far audit records decode faults" -- "$word")); return ;;
     esac
     case $before in
-        --channels | --date | --pace | --port | --turns | --zone) return ;;
+        --channels | --date | --line | --pace | --port | --turns | --zone) return ;;
     esac
     case $word in
         -*) COMPREPLY=($(compgen -W "$options" -- "$word")) ;;

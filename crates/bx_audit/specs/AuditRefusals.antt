@@ -9,6 +9,7 @@ use Rattle.bx_day_openings.specs.declared.fault.DayCommandFault.TheVariants.{Com
 use Rattle.bx_devices.specs.Watching.{device_of, is_faulted}
 use Rattle.bx_devices.specs.declared.watched.Watched.{Watched}
 use Rattle.bx_events.specs.Events.{LiveEvent}
+use Rattle.bx_journal.specs.Heads.{of_any_day}
 use Rattle.bx_request.specs.declared.request.AuditRequest.{AuditRequest}
 use Rattle.bx_audit.specs.Audits.{IsTiedOpening, IsAuditTold, IsAuditCut}
 use Rattle.bx_journal_openings.specs.Journals.{IsJournal}
@@ -16,7 +17,7 @@ use Rattle.bx_journal_openings.specs.JournalRefusals.{HasNoJournal}
 
 -- the journal of a plan that is proved, in a file
 abbrev pub HasJournal : Type 0
-HasJournal = (opened : Day) × (digest : List ℕ) × IsTiedOpening opened digest × ((events : List LiveEvent) × IsJournal digest None events)
+HasJournal = (opened : Day) × (digest : List ℕ) × IsTiedOpening opened digest × ((events : List LiveEvent) × IsJournal (of_any_day digest) None events)
 
 -- why an audit stops before anything is told: what it needs is opened in this order, and what is tested first is answered; where
 -- there is to be a capture, the journal is read through before the file of that is made
@@ -24,7 +25,7 @@ abbrev pub StopsAudit : {F : Type 0} → (F → Option (List ℕ)) → AuditRequ
 StopsAudit files request fault =
     IsNoFirst request.capture fault
     ⊎ (HasFirst request.capture × IsNoOpening request.plan.now fault)
-    ⊎ (HasFirst request.capture × ((opened : Day) × (digest : List ℕ) × IsTiedOpening opened digest × HasNoJournal request.journal.now digest fault))
+    ⊎ (HasFirst request.capture × ((opened : Day) × (digest : List ℕ) × IsTiedOpening opened digest × HasNoJournal request.journal.now (of_any_day digest) fault))
     ⊎ (HasFirst request.capture × HasJournal × IsNoFile request.capture fault)
 
 -- the output has failed, and a front of what was to be told was; or the audit stopped, and the output is as it was; or all was

@@ -6,10 +6,11 @@ use Rattle.bx_calendar.specs.declared.clock.Clock.{Clock}
 use Rattle.bx_day.specs.Day.{Day, opening}
 use Rattle.bx_day.specs.Outages.{live_day_after}
 use Rattle.bx_day.specs.declared.entry.Entry.{Entry}
-use Rattle.bx_recording.specs.Recording.{IsClockOf}
+use Rattle.bx_day_openings.specs.Recording.{IsClockOf}
 use Rattle.bx_devices.specs.Devices.{Writing, KeepsOutput}
 use Rattle.bx_devices.specs.Octets.{AppendsPrefix}
 use Rattle.bx_events.specs.Events.{LiveEvent}
+use Rattle.bx_journal.specs.Heads.{of_any_day}
 use Rattle.bx_journal_openings.specs.Tied.{IsTiedOf}
 use Rattle.bx_records.specs.Totals.{totals_text}
 use Rattle.bx_records.specs.Writing.{IsRecorded}
@@ -30,7 +31,7 @@ pub record IsDayTold (gives : List ℕ → Option (List ℕ) → Type 0) (plan j
   pub before : Option (List ℕ)
   pub given : gives journal before
   pub events : List LiveEvent
-  pub on_record : IsJournal digest before events
+  pub on_record : IsJournal (of_any_day digest) before events
   pub after : day ≡ live_day_after events opened
 
 -- the records of this day were written, with the clock that the words name

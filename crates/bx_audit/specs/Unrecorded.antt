@@ -4,12 +4,13 @@ use Rattle.bx_calendar.specs.declared.clock.Clock.{Clock}
 use Rattle.bx_check_commands.specs.declared.fault.CommandFault.TheVariants.{CannotRead, CannotWrite}
 use Rattle.bx_day.specs.Day.{Day}
 use Rattle.bx_day_openings.specs.OpeningRefusals.{IsNoOpening}
-use Rattle.bx_recording.specs.Recording.{IsClockOf, IsNoClock, answer_for}
+use Rattle.bx_day_openings.specs.Recording.{IsClockOf, IsNoClock, answer_for}
 use Rattle.bx_day_openings.specs.declared.fault.DayCommandFault.{DayCommandFault}
 use Rattle.bx_day_openings.specs.declared.fault.DayCommandFault.TheVariants.{Command, Journal}
 use Rattle.bx_devices.specs.Devices.{Writing, writing_of}
 use Rattle.bx_devices.specs.declared.watched.Watched.{Watched}
-use Rattle.bx_journal.specs.declared.fault.JournalFault.TheVariants.{BadLine, OtherPlan}
+use Rattle.bx_journal.specs.Heads.{of_any_day}
+use Rattle.bx_journal.specs.declared.fault.JournalFault.TheVariants.{BadLine, OtherPlan, OtherDay, OtherRules}
 use Rattle.bx_records.specs.Writing.{IsRecordsRefusal}
 use Rattle.bx_records.specs.declared.fault.RecordsFault.{RecordsFault}
 use Rattle.bx_request.specs.declared.request.RecordsRequest.{RecordsRequest}
@@ -18,8 +19,10 @@ use Rattle.bx_audit.specs.Recorded.{IsOpeningOf, IsDayTold}
 
 -- the input of this name is not read, or just this is the first fault of the text that it gave
 abbrev pub IsNoJournalOf : (List ℕ → Option (List ℕ) → Type 0) → List ℕ → List ℕ → DayCommandFault → Type 0
-IsNoJournalOf gives name plan (Journal (BadLine n)) = (before : Option (List ℕ)) × gives name before × IsNoJournalText plan before (BadLine n)
-IsNoJournalOf gives name plan (Journal OtherPlan) = (before : Option (List ℕ)) × gives name before × IsNoJournalText plan before OtherPlan
+IsNoJournalOf gives name plan (Journal (BadLine n)) = (before : Option (List ℕ)) × gives name before × IsNoJournalText (of_any_day plan) before (BadLine n)
+IsNoJournalOf gives name plan (Journal OtherPlan) = (before : Option (List ℕ)) × gives name before × IsNoJournalText (of_any_day plan) before OtherPlan
+IsNoJournalOf gives name plan (Journal OtherDay) = (before : Option (List ℕ)) × gives name before × IsNoJournalText (of_any_day plan) before OtherDay
+IsNoJournalOf gives name plan (Journal OtherRules) = (before : Option (List ℕ)) × gives name before × IsNoJournalText (of_any_day plan) before OtherRules
 IsNoJournalOf gives name plan (Command (CannotRead n)) = n.now ≡ name
 IsNoJournalOf gives name plan _ = ⊥
 

@@ -4,6 +4,7 @@ ghost use Rattle.std.specs.Prelude.{◌≡◌, true, List, ℕ, Option, None, If
 ghost use Rattle.bx_devices.specs.Watching.{device_of};
 ghost use Rattle.bx_events.specs.Events.{LiveEvent};
 ghost use Rattle.bx_day_openings.specs.OpeningRefusals.{IsNoOpening};
+ghost use Rattle.bx_journal.specs.Heads.{of_any_day};
 ghost use Rattle.bx_journal_openings.specs.JournalRefusals.{HasNoJournal};
 ghost use Rattle.bx_audit.specs.AuditRefusals.{StopsAudit, IsAuditRefusal};
 ghost use Rattle.bx_audit.specs.Audits.{IsTiedOpening, IsDayAudited, IsAuditTold};
@@ -17,6 +18,7 @@ use bx_check_commands::{CommandFault, Inputs, open};
 use bx_day::Exchange;
 use bx_day_openings::{DayCommandFault, captured, file_of, first_of};
 use bx_devices::Watched;
+use bx_journal::Wanted;
 use bx_journal_openings::{follow_to_end, tied_named};
 use bx_request::AuditRequest;
 use std::alloc::Global;
@@ -50,14 +52,15 @@ fn read_through<'a, H: Files>(
     name: &'a str,
     plan: &[u8; 32],
 ) -> Result<(), DayCommandFault<'a>>
-    ensures read { OnOk result ((events : List LiveEvent) × IsJournal plan.now None events) }
-    ensures refused { IfErr result (HasNoJournal name.now plan.now) }
+    ensures read { OnOk result ((events : List LiveEvent) × IsJournal (of_any_day plan.now) None events) }
+    ensures refused { IfErr result (HasNoJournal name.now (of_any_day plan.now)) }
 {
     let mut journal = match open(rt, name) {
         Ok(journal) => journal,
         Err(fault) => return Err(DayCommandFault::Command(fault)),
     };
-    follow_to_end(name, &mut journal, plan, &mut Reader)
+    let wanted = Wanted::of_any_day(plan);
+    follow_to_end(name, &mut journal, &wanted, &mut Reader)
 }
 
 /// The exchange after the events of the journal in a file, and whether all that was to be captured of its day was.
@@ -94,9 +97,9 @@ fn audited_in<'a, H: Files + AllocGlobal, I: Inputs>(
 /// the output failed a front of what was to be told was.
 ///
 /// What is needed is opened in this order, and the first fault of it is answered: `Day` or `Capture` for the date and the zone of
-/// the capture; `Command` for the plan; `Command`, as `CannotRead`, or `Journal`, as `BadLine` or `OtherPlan`, for the journal;
-/// `CannotWriteFile` for the file of the capture. `Command`, as `CannotWrite`, is the fault of the output, and `CannotWriteFile`
-/// that of a capture that was not written whole.
+/// the capture; `Command` for the plan; `Command`, as `CannotRead`, or `Journal`, as `BadLine`, `OtherPlan` or `OtherRules`, for the
+/// journal; `CannotWriteFile` for the file of the capture. `Command`, as `CannotWrite`, is the fault of the output, and
+/// `CannotWriteFile` that of a capture that was not written whole.
 pub fn audit_files<'a, H: Files + AllocGlobal, I: Inputs, W: Write>(
     rt: &H,
     inputs: &mut I,

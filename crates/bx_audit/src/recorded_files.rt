@@ -9,9 +9,8 @@ use crate::audited_files::opened_by;
 use crate::telling::audited_day;
 use bx_check_commands::{CommandFault, Inputs};
 use bx_day::Exchange;
-use bx_day_openings::DayCommandFault;
+use bx_day_openings::{DayCommandFault, clock_of, unrecorded};
 use bx_devices::Watched;
-use bx_recording::{clock_of, unrecorded};
 use bx_records::{write_records, write_totals};
 use bx_request::RecordsRequest;
 use std::alloc::Global;
@@ -50,8 +49,8 @@ fn tell_totals<E: Write>(exchange: &Exchange, is_quiet: bool, errors: &mut Watch
 /// except that where the output failed a front of the records was.
 ///
 /// What is needed is opened in this order, and the first fault of it is answered: `Day` for the date and the zone; `Command` for
-/// the plan; `Command`, as `CannotRead`, or `Journal`, as `BadLine` or `OtherPlan`, for the journal. Then `Day`, as `OutOfRange`,
-/// where a moment lies behind the last that can be named; `Command`, as `Memory`, where a growth was refused, and as
+/// the plan; `Command`, as `CannotRead`, or `Journal`, as `BadLine`, `OtherPlan` or `OtherRules`, for the journal. Then `Day`, as
+/// `OutOfRange`, where a moment lies behind the last that can be named; `Command`, as `Memory`, where a growth was refused, and as
 /// `CannotWrite`, where the output failed.
 pub fn record_files<'a, I: Inputs, W: Write, E: Write>(
     alloc: Global,

@@ -1,7 +1,8 @@
 //! The day after a journal.
 
-ghost use Rattle.std.specs.Prelude.{◌≤◌, IfOk, IfErr};
+ghost use Rattle.std.specs.Prelude.{◌≤◌, IfOk, IfErr, IsErrOf};
 ghost use Rattle.bx_devices.specs.Watching.{device_of, is_faulted};
+ghost use Rattle.bx_journal.specs.Heads.{of_any_day};
 ghost use Rattle.bx_journal_openings.specs.JournalRefusals.{IsNoJournal};
 ghost use Rattle.bx_audit.specs.Audits.{IsAudited, IsKeptSoFar};
 
@@ -10,6 +11,7 @@ use bx_capture::Captured;
 use bx_day::Exchange;
 use bx_day_openings::DayCommandFault;
 use bx_devices::Watched;
+use bx_journal::{JournalFault, Wanted};
 use bx_journal_openings::follow_to_end;
 use std::io::{Read, Write};
 
@@ -18,8 +20,8 @@ use std::io::{Read, Write};
 /// them on the day of the journal; moment 0 is the first second, which is at most 4,294,667,295. The journal is read in pieces,
 /// so it may be of any length.
 ///
-/// `Journal`, as `BadLine` or `OtherPlan`, where what was read is no journal of the plan; `Command`, as `CannotRead` of that name,
-/// where a read failed.
+/// `Journal`, as `BadLine`, `OtherPlan` or `OtherRules`, where what was read is no journal of the plan, of whatever day; `Command`, as
+/// `CannotRead` of that name, where a read failed.
 pub fn audited_day<'a, R: Read, W: Write + Drop>(
     name: &'a str,
     journal: &mut Watched<R>,
@@ -30,12 +32,15 @@ pub fn audited_day<'a, R: Read, W: Write + Drop>(
 ) -> Result<Exchange, DayCommandFault<'a>>
     requires { first ≤ 4294667295 }
     ensures audited { IfOk result (IsAudited plan.now (R.remaining (device_of journal.old)) W.contents file.old file.new first exchange) }
-    ensures refused { IfErr result (IsNoJournal name.now plan.now (R.remaining (device_of journal.old)) (R.remaining (device_of journal.new)) (is_faulted journal.new)) }
+    ensures refused { IfErr result (IsNoJournal name.now (of_any_day plan.now) (R.remaining (device_of journal.old)) (R.remaining (device_of journal.new)) (is_faulted journal.new)) }
+    // No day is wanted, so none is another one.
+    ensures any_day { IsErrOf result (DayCommandFault.Journal JournalFault.OtherDay) → ⊥ }
     ensures kept { IfErr result (λ fault. IsKeptSoFar W.contents file.old file.new first exchange) }
 {
     let captured = Captured::new(exchange, file.take(), first);
     let mut recaptured = Recaptured { captured };
-    let done = follow_to_end(name, journal, plan, &mut recaptured);
+    let wanted = Wanted::of_any_day(plan);
+    let done = follow_to_end(name, journal, &wanted, &mut recaptured);
     let Captured {
         end,
         file: kept,

@@ -13,25 +13,25 @@ use Rattle.bx_check_commands.specs.declared.fault.CommandFault.{CommandFault}
 use Rattle.bx_day_openings.specs.declared.fault.DayCommandFault.{DayCommandFault}
 use Rattle.bx_far_commands.specs.CapturedDays.{IsFarDone}
 use Rattle.bx_far_commands.specs.FarRefusals.{IsFarRefusal}
-use Rattle.bx_live_commands.specs.LiveDays.{IsLiveTold}
-use Rattle.bx_live_commands.specs.LiveRefusals.{IsLiveRefusal}
-use Rattle.bx_rehearsal_commands.specs.RehearsedDays.{IsRehearsalTold}
-use Rattle.bx_rehearsal_commands.specs.RehearsalRefusals.{IsRehearsalRefusal}
-use Rattle.bx_day_runs.specs.declared.fault.LiveFault.{LiveFault}
+use Rattle.bx_far_commands.specs.LineDays.{IsFarLineDone}
+use Rattle.bx_far_commands.specs.LineRefusals.{IsFarLineRefusal}
+use Rattle.bx_run_commands.specs.LiveDays.{IsLiveTold}
+use Rattle.bx_run_commands.specs.LiveRefusals.{IsLiveRefusal}
+use Rattle.bx_run_commands.specs.RehearsedDays.{IsRehearsalTold}
+use Rattle.bx_run_commands.specs.RehearsalRefusals.{IsRehearsalRefusal}
+use Rattle.bx_run_commands.specs.declared.fault.LiveFault.{LiveFault}
 use Rattle.bx_plan_commands.specs.FileRequests as plans
 use Rattle.bx_plan_commands.specs.declared.fault.FileFault.{FileFault}
-use Rattle.bx_rejoin_commands.specs.Rejoined.{IsRejoinDone}
-use Rattle.bx_rejoin_commands.specs.Refusals.{IsRejoinRefusal}
 use Rattle.bx_request.specs.declared.request.Request.{Request}
-use Rattle.bx_request.specs.declared.request.Request.TheVariants.{Files, Rehearsal, Far, Rejoin, Live, Audit, Records, Decode}
+use Rattle.bx_request.specs.declared.request.Request.TheVariants.{Files, Rehearsal, Far, FarLine, Live, Audit, Records, Decode}
 
 -- at 0: it is done by a program of such a host, where this was left on standard input
 abbrev pub IsRequestDone : {F W : Type 0} → Type 0 → Option (List ℕ) → Request → (F → Option (List ℕ)) → (W → Option (List ℕ)) → Watched W → Watched W → Type 0
 IsRequestDone H left (Files request) files contents old new = plans.IsDone (GivesStandard left) request (writing_of contents old new)
 IsRequestDone H left (Rehearsal request) files contents old new = IsRehearsalTold files request (contents (device_of old)) (contents (device_of new)) true (Ok tt)
 IsRequestDone H left (Far request) files contents old new = IsFarDone files request.sight.capture (contents (device_of old)) (contents (device_of new)) true
-IsRequestDone H left (Rejoin request) files contents old new = IsRejoinDone request files (contents (device_of old)) (contents (device_of new)) true
-IsRequestDone H left (Live request) files contents old new = IsLiveTold H files request (contents (device_of old)) (contents (device_of new)) true (Ok tt)
+IsRequestDone H left (FarLine request) files contents old new = IsFarLineDone H files request (contents (device_of old)) (contents (device_of new)) true
+IsRequestDone H left (Live request) files contents old new = IsLiveTold H files request (contents (device_of old)) (contents (device_of new))
 IsRequestDone H left (Audit request) files contents old new = IsAuditTold files request.capture (contents (device_of old)) (contents (device_of new)) true
 IsRequestDone H left (Records request) files contents old new = AreRecordsWritten (GivesStandard left) request (writing_of contents old new)
 IsRequestDone H left (Decode octets) files contents old new = IsDecoded octets.now (writing_of contents old new)
@@ -41,7 +41,7 @@ abbrev pub IsRequestRefused : {F W : Type 0} → Type 0 → Option (List ℕ) �
 IsRequestRefused H left (Files request) files contents old new = (fault : FileFault) × plans.IsRefused (GivesStandard left) request contents old new fault
 IsRequestRefused H left (Rehearsal request) files contents old new = (fault : LiveFault) × IsRehearsalRefusal files request contents old new fault
 IsRequestRefused H left (Far request) files contents old new = (fault : DayCommandFault) × IsFarRefusal files request contents old new fault
-IsRequestRefused H left (Rejoin request) files contents old new = (fault : DayCommandFault) × IsRejoinRefusal request files contents old new fault
+IsRequestRefused H left (FarLine request) files contents old new = (fault : DayCommandFault) × IsFarLineRefusal H files request contents old new fault
 IsRequestRefused H left (Live request) files contents old new = (fault : LiveFault) × IsLiveRefusal H files request contents old new fault
 IsRequestRefused H left (Audit request) files contents old new = (fault : DayCommandFault) × IsAuditRefusal request files contents old new fault
 IsRequestRefused H left (Records request) files contents old new = (fault : DayCommandFault) × IsRecordsCommandRefusal (GivesStandard left) request contents old new fault

@@ -14,12 +14,10 @@ ghost use Rattle.bx_request.specs.declared.request.Request.{Request};
 use bx_audit::{audit_files, record_files};
 use bx_check_commands::{CommandFault, FilesAndInput, check_self, decode};
 use bx_devices::{Watched, write_octets};
-use bx_far_commands::far_on_files;
-use bx_live_commands::live_on_files;
+use bx_far_commands::{far_by_line, far_on_files};
 use bx_plan_commands::run_on_files;
-use bx_rehearsal_commands::rehearse_on_files;
-use bx_rejoin_commands::rejoin_on_files;
 use bx_request::Request;
+use bx_run_commands::{Locks, live_on_files, rehearse_on_files};
 use bx_words::{Refusal, read_words};
 use std::fmt::Display;
 use std::fs::Files;
@@ -32,7 +30,12 @@ use std::rt::Clock;
 /// A failing standard error changes no status. While a day runs its moment is shown on standard error, where that is a
 /// terminal.
 pub fn main_words<
-    H: Files + AllocGlobal + Clock + Eprint + Net<Listener = TcpListener, Stream = TcpStream>,
+    H: Files
+        + Locks
+        + AllocGlobal
+        + Clock
+        + Eprint
+        + Net<Listener = TcpListener, Stream = TcpStream>,
     R: Read,
     W: Write,
     E: Write,
@@ -77,7 +80,12 @@ pub fn main_words<
 /// Does one command, and answers its status.
 fn run<
     'a,
-    H: Files + AllocGlobal + Clock + Eprint + Net<Listener = TcpListener, Stream = TcpStream>,
+    H: Files
+        + Locks
+        + AllocGlobal
+        + Clock
+        + Eprint
+        + Net<Listener = TcpListener, Stream = TcpStream>,
     R: Read,
     W: Write,
     E: Write,
@@ -111,9 +119,9 @@ fn run<
                 errors,
             )
         }
-        Request::Rejoin(request) => {
+        Request::FarLine(request) => {
             status_of(
-                rejoin_on_files(rt, &mut inputs, request, output, is_terminal),
+                far_by_line(rt, &mut inputs, request, output, is_terminal),
                 errors,
             )
         }

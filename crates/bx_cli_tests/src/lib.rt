@@ -18,6 +18,8 @@ mod day_commands;
 #[cfg(test)]
 mod day_records;
 #[cfg(test)]
+mod far_lines;
+#[cfg(test)]
 mod file_commands;
 #[cfg(test)]
 mod files;
@@ -37,8 +39,6 @@ mod quote_commands;
 mod records;
 #[cfg(test)]
 mod rehearsals;
-#[cfg(test)]
-mod rejoining;
 #[cfg(test)]
 mod standard_input;
 #[cfg(test)]

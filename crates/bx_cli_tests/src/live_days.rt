@@ -4,33 +4,42 @@ use crate::file_commands::{Case, first_wrong};
 use crate::files::{does, folder, placed};
 use crate::program::Answer::{Fails, Misused, Prints};
 use std::fs;
-use std::os::unix::net::UnixListener;
+use std::fs::File;
+use std::net::UdpSocket;
 use std::test::Fail;
 
-/// A day whose peer never comes.
+/// A day whose other end never comes.
 const MISSED: &str = "1 missed\nmaintenance none\n";
 
-/// Its records, in the clock of the day.
-const RECORDS: &str =
-    "row,direction,number,channel,start,end,pay,outcome,from,until,seconds\n1,out,1234,1,2020-01-01T00:00:00+00:00,2020-01-01T00:01:00+00:00,5,missed,,,\n";
-
 /// Days that go by, and go on from their journals; and why others do not.
-static DAYS: [Case; 20] = [
+static DAYS: [Case; 19] = [
     (
-        "serve @one.txt --socket @live --live --date 2020-01-01",
+        "serve @one.txt --live --line 19801:19802 --date 2020-01-01",
         Prints(MISSED),
     ),
     (
-        "serve @one.txt --socket @live --live --date 2020-01-01 --journal @day.journal --capture @day.pcap",
+        "serve @one.txt --live --line 19801:19802 --date 2020-01-01 --journal @day.journal",
         Prints(MISSED),
     ),
     ("audit @one.txt @day.journal", Prints(MISSED)),
     (
-        "serve @one.txt --socket @live --live --date 2020-01-01 --journal @day.journal --pace 1000 --quiet",
+        "serve @one.txt --live --line 19801:19802 --date 2020-01-01 --journal @day.journal --quiet",
         Prints(MISSED),
     ),
     (
-        "serve @one.txt --socket @live --live --date 2020-01-01 --journal @short.journal --turns 1",
+        "serve @one.txt --live --line 19801:19802 --date 2020-01-02 --journal @day.journal",
+        Fails("bx: J5 OtherDay\n"),
+    ),
+    (
+        "serve @one.txt --live --line 19801:19802 --date 2020-01-01 --zone XXX-1 --journal @day.journal",
+        Fails("bx: J5 OtherDay\n"),
+    ),
+    (
+        "serve @one.txt --live --line 19801:19802 --date 2020-01-01 --journal @day.journal --pace 1000",
+        Fails("bx: J5 OtherDay\n"),
+    ),
+    (
+        "serve @one.txt --live --line 19801:19802 --date 2020-01-01 --journal @short.journal --turns 1",
         Prints("1 waiting\nmaintenance none\n"),
     ),
     (
@@ -38,87 +47,113 @@ static DAYS: [Case; 20] = [
         Prints("1 waiting\nmaintenance none\n"),
     ),
     (
-        "serve @one.txt --socket @live --live --date 2020-01-01 --journal @short.journal",
+        "serve @one.txt --live --line 19801:19802 --date 2020-01-01 --journal @short.journal",
         Prints(MISSED),
     ),
     (
-        "serve @two.txt --socket @live --live --date 2020-01-01 --journal @day.journal",
+        "serve @two.txt --live --line 19801:19802 --date 2020-01-01 --journal @day.journal",
         Fails("bx: J2 OtherPlan\n"),
     ),
     (
-        "serve @one.txt --socket @live --live --date 2020-01-01 --journal @one.csv",
+        "serve @one.txt --live --line 19801:19802 --date 2020-01-01 --journal @one.csv",
         Fails("bx: J1 BadLine 1\n"),
     ),
     (
-        "serve @one.txt --socket @live --live --date 2020-01-01 --journal @gone/day.journal",
+        "serve @one.txt --live --line 19801:19802 --date 2020-01-01 --journal @gone/day.journal",
         Fails("bx: J4 CannotRecord @gone/day.journal\n"),
     ),
     (
-        "serve @one.txt --socket @live --live --date 2020-01-01 --capture @gone/day.pcap",
-        Fails("bx: F5 CannotWrite @gone/day.pcap\n"),
+        "serve @one.txt --live --line 19801:19802 --date 2020-01-01 --journal /dev/null",
+        Fails("bx: J7 NotAFile /dev/null\n"),
     ),
     (
-        "serve @one.txt --socket @live --live --date 2020-01-01 --records @day.csv",
-        Prints(MISSED),
-    ),
-    (
-        "serve @one.txt --socket @live --live --date 2020-01-01 --capture @gone/day.pcap --records @gone/day.csv",
-        Fails("bx: F5 CannotWrite @gone/day.pcap\n"),
-    ),
-    (
-        "serve @one.txt --socket @gone/live --live --date 2020-01-01 --journal @one.csv",
-        Fails("bx: F3 CannotListen\n"),
-    ),
-    (
-        "serve @one.txt --socket @one.csv --live --date 2020-01-01",
-        Fails("bx: F3 CannotListen\n"),
-    ),
-    (
-        "serve @unproved.txt --socket @gone/live --live --date 2020-01-01",
+        "serve @unproved.txt --live --line 19801:19802 --date 2020-01-01",
         Fails("bx: C7 NotProved 5\n"),
     ),
     (
-        "serve @gone --socket @gone/live --live --date 2026-02-29",
+        "serve @gone --live --line 19801:19802 --date 2026-02-29",
         Fails("bx: A1 BadDate\n"),
     ),
     (
-        "serve @gone --socket @gone/live --live --date 2020-01-01 --zone X",
+        "serve @gone --live --line 19801:19802 --date 2020-01-01 --zone X",
         Fails("bx: A2 BadZone\n"),
     ),
     (
-        "serve @gone --socket @gone/live --live --date 1969-12-31",
+        "serve @gone --live --line 19801:19802 --date 1969-12-31",
         Fails("bx: A5 BeyondCapture\n"),
     ),
-    ("serve @one.txt --socket @live --live", Misused),
+    ("serve @one.txt --live --line 19801:19802", Misused),
 ];
 
 /// Words of days that are wrong.
-static WRONG: [Case; 8] = [
+static WRONG: [Case; 20] = [
     ("serve @one.txt --live --date 2020-01-01", Misused),
     (
-        "serve @one.txt --port 1 --socket @live --live --date 2020-01-01",
+        "serve @one.txt --line 19801:19802 --date 2020-01-01",
+        Misused,
+    ),
+    ("serve @one.txt --port 1 --live --date 2020-01-01", Misused),
+    (
+        "serve @one.txt --port 1 --live --line 19801:19802 --date 2020-01-01",
+        Misused,
+    ),
+    (
+        "serve @one.txt --socket @live --live --line 19801:19802 --date 2020-01-01",
+        Misused,
+    ),
+    (
+        "serve @one.txt --live --line 19801 --date 2020-01-01",
+        Misused,
+    ),
+    (
+        "serve @one.txt --live --line 19801:0 --date 2020-01-01",
+        Misused,
+    ),
+    (
+        "serve @one.txt --live --line 19801:65536 --date 2020-01-01",
+        Misused,
+    ),
+    (
+        "serve @one.txt --live --line 19801:19801 --date 2020-01-01",
+        Misused,
+    ),
+    (
+        "serve @one.txt --live --line +1:19801 --date 2020-01-01",
+        Misused,
+    ),
+    (
+        "serve @one.txt --live --line 19801:19802 --date 2020-01-01 --capture @day.pcap",
+        Misused,
+    ),
+    (
+        "serve @one.txt --live --line 19801:19802 --date 2020-01-01 --records @day.csv",
         Misused,
     ),
     ("serve @one.txt --port 1 --date 2020-01-01", Misused),
     ("serve @one.txt --port 1 --pace 5", Misused),
     (
-        "serve @one.txt --port 1 --live --date 2020-01-01 --pace 0",
+        "serve @one.txt --live --line 19801:19802 --date 2020-01-01 --pace 0",
         Misused,
     ),
     (
-        "serve @one.txt --port 1 --live --date 2020-01-01 --pace 1001",
+        "serve @one.txt --live --line 19801:19802 --date 2020-01-01 --pace 1001",
         Misused,
     ),
     (
-        "serve @one.txt --port 1 --live --date 2020-01-01 --turns 300001",
+        "serve @one.txt --live --line 19801:19802 --date 2020-01-01 --turns 300001",
         Misused,
     ),
-    ("serve @one.txt --port 1 --live --zone UTC0", Misused),
+    (
+        "serve @one.txt --live --line 19801:19802 --zone UTC0",
+        Misused,
+    ),
+    ("far @answer.csv --line 19805:19806", Misused),
+    ("far @answer.csv --port 1 --pace 5", Misused),
 ];
 
-/// The head of a journal of the plan in `one.txt`.
+/// The head of the journal of a live day of the plan in `one.txt`.
 const HEAD: &str =
-    "bx-journal 1\nplan 2115e49ff6c2d6cbbe45cbc298589d645d156451f70f44ccb653b62c10c98e95\n";
+    "bx-journal 2 rules 1\nplan 2115e49ff6c2d6cbbe45cbc298589d645d156451f70f44ccb653b62c10c98e95\nday live 1577836800 1\n";
 
 /// Whether the journal of this name has the head, and behind it this text and so many seconds without a link.
 fn holds(
@@ -155,11 +190,6 @@ fn days_that_have_gone_by(rt: HostRuntime) -> Result<(), Fail> {
         holds(&rt, &folder, "@short.journal", "", 98)?,
         "the day went on"
     );
-    let path = placed(rt.alloc(), "@day.csv", &folder)?;
-    assert_eq!(rt;
-        fs::read(&rt, path.as_str())?.as_slice(),
-        RECORDS.as_bytes()
-    );
     fs::remove_dir_all(&rt, folder.as_str())?;
     Ok(())
 }
@@ -168,7 +198,8 @@ fn days_that_have_gone_by(rt: HostRuntime) -> Result<(), Fail> {
 #[test]
 fn torn_journals(rt: HostRuntime) -> Result<(), Fail> {
     let folder = folder(&rt)?;
-    let words = "serve @one.txt --socket @live --live --date 2020-01-01 --journal @torn.journal";
+    let words =
+        "serve @one.txt --live --line 19803:19804 --date 2020-01-01 --journal @torn.journal";
     let path = placed(rt.alloc(), "@torn.journal", &folder)?;
     let text = format!(in rt.alloc(); "{HEAD}tick\nheard 0")?;
     fs::write(&rt, path.as_str(), text.as_str())?;
@@ -188,20 +219,32 @@ fn torn_journals(rt: HostRuntime) -> Result<(), Fail> {
     Ok(())
 }
 
-/// A socket in use is left alone, and one on which nobody listens is replaced.
+/// A line whose own port is in use, before its journal is touched; and a journal that another program writes, which is left as it is.
 #[test]
-fn sockets_in_use(rt: HostRuntime) -> Result<(), Fail> {
+fn what_is_in_use(rt: HostRuntime) -> Result<(), Fail> {
     let folder = folder(&rt)?;
-    let words = "serve @one.txt --socket @live --live --date 2020-01-01";
-    let path = placed(rt.alloc(), "@live", &folder)?;
-    let listener = UnixListener::bind(&rt, path.as_str())?;
+    let held = UdpSocket::bind(&rt, "127.0.0.1:0")?;
+    let port = held.local_addr()?.port();
+    let words = format!(in rt.alloc();
+        "serve @one.txt --live --line {port}:19808 --date 2020-01-01 --journal @one.csv"
+    )?;
     let refused = (1, "", "bx: F3 CannotListen\n");
-    assert!(rt; does(&rt, &folder, words, refused)?, "in use");
-    drop(listener);
-    assert!(rt;
-        does(&rt, &folder, words, (0, MISSED, ""))?,
-        "nobody listens"
-    );
+    assert!(rt; does(&rt, &folder, &words, refused)?, "the port");
+    let path = placed(rt.alloc(), "@held.journal", &folder)?;
+    fs::write(&rt, path.as_str(), "")?;
+    let journal = File::open(&rt, path.as_str())?;
+    journal.lock()?;
+    let refused = format!(in rt.alloc(); "bx: J6 InUse {path}\n")?;
+    for words in [
+        "serve @one.txt --live --line 19807:19808 --date 2020-01-01 --journal @held.journal",
+        "day @one.txt @answer.csv --journal @held.journal",
+    ] {
+        assert!(rt;
+            does(&rt, &folder, words, (1, "", refused.as_str()))?,
+            "{words}"
+        );
+    }
+    assert!(rt; fs::read(&rt, path.as_str())?.is_empty(), "left as it is");
     fs::remove_dir_all(&rt, folder.as_str())?;
     Ok(())
 }

@@ -63,7 +63,7 @@ static DAYS: [Case; 21] = [
     ),
     (
         "day @one.txt @answer.csv --journal /dev/full",
-        Fails("bx: J4 CannotRecord /dev/full\n"),
+        Fails("bx: J7 NotAFile /dev/full\n"),
     ),
     (
         "day @one.txt @gone --journal @one.csv",

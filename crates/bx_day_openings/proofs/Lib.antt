@@ -1,2 +1,3 @@
 pub mod LastTurns
 mod Scripts
+mod Recordings

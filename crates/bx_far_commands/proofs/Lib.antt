@@ -1,3 +1,5 @@
 mod ToldDays
 mod Refusals
+mod LineRuns
+mod ToldLines
 pub mod KeptDays

@@ -1,5 +1,5 @@
 -- The day of a far end that was run.
-use Rattle.std.proofs.Common.{◌≡◌, ℕ, ◌+◌, ◌≤◌, min, List, ap, ◌∙◌, Option, Result, Ok, arith}
+use Rattle.std.proofs.Common.{◌≡◌, ℕ, ◌+◌, ◌≤◌, min, List, ap, ◌∙◌, Option, Result, arith}
 use Rattle.bx_devices.specs.declared.watched.Watched.{Watched}
 use Rattle.bx_far.specs.FarDay.{FarDay}
 use Rattle.bx_link.specs.Days.{RunsFarDay}

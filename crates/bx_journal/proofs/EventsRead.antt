@@ -1,21 +1,17 @@
 -- Lines of events that are read, one more each time.
-use Rattle.std.proofs.Common.{codes, ◌≡◌, ℕ, ◌+◌, ◌<◌, ◌≤◌, Bool, true, false, List, [], ◌∷◌, ◌++◌, length, map, Option, Some, None, refl, ap, sym, ◌∙◌, subst, arith, length-append}
-use Rattle.std.specs.Str.{bytes_eq}
+use Rattle.std.proofs.Common.{codes, ◌≡◌, ℕ, ◌+◌, ◌<◌, ◌≤◌, Bool, List, [], ◌∷◌, ◌++◌, length, map, Option, Some, None, refl, ap, sym, ◌∙◌, subst, arith, length-append}
 use Rattle.std.specs.List.{flat_map}
 use Rattle.std.specs.Option.{option_map}
 use Rattle.std.proofs.lemmas.List.{map_push, flat_map_more}
-use Rattle.std.proofs.lemmas.Slice.Eq.{bytes_eq-Decides}
 use Rattle.bx_events.specs.Events.{Tick, Receive, LiveEvent, OnLink, WithoutLink, Sold}
 use Rattle.bx_journal.specs.Hex.{hex_of}
 use Rattle.bx_journal.proofs.Digits.{hex_length}
 use Rattle.bx_journal.specs.declared.event.RecordedEvent.{RecordedEvent}
-use Rattle.std.proofs.lemmas.Bool.{ne_eqb}
-use Rattle.bx_journal.specs.declared.fault.JournalFault.TheVariants.{BadLine}
 use Rattle.bx_journal.specs.Held.{Held}
 use Rattle.bx_journal.specs.Events.{IsEvent, recorded_event}
 use Rattle.bx_journal.specs.Lines.{ended}
 use Rattle.bx_journal.specs.Text.{line_of}
-use Rattle.bx_journal.specs.Reading.{event_on, plan_fault}
+use Rattle.bx_journal.specs.Reading.{event_on}
 use Rattle.bx_journal.specs.Taking.{Takes, TakesLine, TakesEvents, EventsEnd, EventsStop, EventsBreak, Ends, Stops, lines_text}
 use Rattle.bx_journal.proofs.Takings.{takes_then}
 use Rattle.bx_journal.proofs.Spelled.{line_spelled}
@@ -31,9 +27,9 @@ pub no_event_on : (o : Option RecordedEvent) (line : List ℕ) → option_map re
 no_event_on o line is none = sym is ∙ ap (option_map recorded_event) none
 
 module _ {F : Type 0} (followed : F → List LiveEvent → F → Type 0) (on : (s t u : F) (xs ys : List LiveEvent) → followed s xs t → followed t ys u → followed s (xs ++ ys) u)
-    (f g h : F) (before middle after : Option (List ℕ)) (old mid new : Held) (n : ℕ) where
-  pub event_more : (line : List ℕ) (o : Option RecordedEvent) (r : RecordedEvent) → TakesEvents followed f g n before middle old mid → TakesLine middle after mid new line → option_map recorded_event o ≡ event_on line → o ≡ Some r
-      → followed g (recorded_event r ∷ []) h → TakesEvents followed f h (n + 1) before after old new
+    (f g h : F) (first : ℕ) (before middle after : Option (List ℕ)) (old mid new : Held) (n : ℕ) where
+  pub event_more : (line : List ℕ) (o : Option RecordedEvent) (r : RecordedEvent) → TakesEvents followed f g first n before middle old mid → TakesLine middle after mid new line → option_map recorded_event o ≡ event_on line → o ≡ Some r
+      → followed g (recorded_event r ∷ []) h → TakesEvents followed f h first (n + 1) before after old new
   event_more line o r so_far next is some one =
       let e = recorded_event r in
       let spelled = line_spelled line e (read_as o r line is some) in
@@ -46,7 +42,7 @@ module _ {F : Type 0} (followed : F → List LiveEvent → F → Type 0) (on : (
         number = omega (arith, so_far.number, length-append so_far.events (e ∷ []));
       }
 
-  pub ended_by : (whole : ℕ) → whole ≡ mid.taken → TakesEvents followed f g n before middle old mid → Ends middle after mid new → EventsEnd followed f g before after old new whole
+  pub ended_by : (whole : ℕ) → whole ≡ mid.taken → TakesEvents followed f g first n before middle old mid → Ends middle after mid new → EventsEnd followed f g before after old new whole
   ended_by whole is so_far next = record {
     events = so_far.events;
     are = so_far.are;
@@ -58,7 +54,7 @@ module _ {F : Type 0} (followed : F → List LiveEvent → F → Type 0) (on : (
     whole_is = is ∙ so_far.takes.count;
   }
 
-  pub stopped_by : (faulted : Bool) → TakesEvents followed f g n before middle old mid → Stops faulted middle after mid new → EventsStop followed f g faulted before after old new
+  pub stopped_by : (faulted : Bool) → TakesEvents followed f g first n before middle old mid → Stops faulted middle after mid new → EventsStop followed f g faulted before after old new
   stopped_by faulted so_far next = record {
     events = so_far.events;
     are = so_far.are;
@@ -69,7 +65,7 @@ module _ {F : Type 0} (followed : F → List LiveEvent → F → Type 0) (on : (
     stopped = next.stopped;
   }
 
-  pub broken_by : (line : List ℕ) → TakesEvents followed f g n before middle old mid → TakesLine middle after mid new line → event_on line ≡ None → EventsBreak followed f g n before after old new
+  pub broken_by : (line : List ℕ) → TakesEvents followed f g first n before middle old mid → TakesLine middle after mid new line → event_on line ≡ None → EventsBreak followed f g first n before after old new
   broken_by line so_far next bad = record {
     events = so_far.events;
     are = so_far.are;
@@ -96,14 +92,3 @@ none_of line (Some e) is long =
 
 pub too_long : (line : List ℕ) → 526 < length line → event_on line ≡ None
 too_long line long = none_of line (event_on line) refl long
-
--- a line that is another one than each of at most 526 octets
-other_line : (line right : List ℕ) (b : Bool) → bytes_eq line right ≡ b → 526 < length line → length right ≤ 526 → b ≡ false
-other_line line right false is long few = refl
-other_line line right true is long few = absurd (omega (arith, long, few, ap length ((bytes_eq-Decides line right).0 is)))
-
-pub long_fault : (line : List ℕ) → 526 < length line → plan_fault line ≡ BadLine 2
-long_fault line long = rw (ne_eqb (length line) 69 (λ e. omega (arith, e, long))) refl
-
-pub long_other : (line right : List ℕ) → 526 < length line → length right ≤ 526 → bytes_eq line right ≡ false
-long_other line right long few = other_line line right (bytes_eq line right) refl long few

@@ -1,28 +1,97 @@
 -- What a journal is read as, by the parts that were taken.
-use Rattle.std.proofs.Common.{codes, ◌≡◌, ◌⊎◌, inl, inr, ⊎_elim, ℕ, Bool, List, [], ◌++◌, length, Option, Result, Ok, Err, refl, ap, sym, ◌∙◌, subst, append_assoc, arith, length-append}
-use Rattle.std.proofs.lemmas.List.{append-nil}
+use Rattle.std.proofs.Common.{◌≡◌, ◌⊎◌, inl, inr, ⊎_elim, ℕ, ◌+◌, Bool, List, [], ◌∷◌, ◌++◌, length, map, Option, None, Result, Ok, Err, refl, ap, sym, ◌∙◌, subst, append_assoc, arith, length-append}
+use Rattle.std.specs.List.{flat_map}
+use Rattle.std.proofs.lemmas.Grind.{flat_map-append}
+use Rattle.std.proofs.lemmas.List.{append-nil, drop_at}
 use Rattle.std.specs.Io.KnownBytes.{Consumes}
 use Rattle.bx_events.specs.Events.{LiveEvent}
 use Rattle.bx_journal.specs.declared.fault.JournalFault.{JournalFault}
-use Rattle.bx_journal.specs.declared.fault.JournalFault.TheVariants.{BadLine, OtherPlan, NotBegun, ReadFailed}
+use Rattle.bx_journal.specs.declared.fault.JournalFault.TheVariants.{BadLine, OtherPlan, OtherDay, OtherRules, NotBegun, ReadFailed}
+use Rattle.bx_journal.specs.declared.head.Wanted.{Wanted}
+use Rattle.bx_journal.specs.Events.{AreEvents}
 use Rattle.bx_journal.specs.Held.{Held}
-use Rattle.bx_journal.specs.Lines.{ended}
-use Rattle.bx_journal.specs.Text.{plan_line, journal_text}
-use Rattle.bx_journal.specs.Reading.{recovered, journal_in, plan_fault, events_before}
-use Rattle.bx_journal.specs.Taking.{Takes, IsOver, HasStopped, IsOther, IsHeadLine, AreEventLines, first_fault, lines_text}
+use Rattle.bx_journal.specs.Inside.{HasNoLf, HaveNoLf}
+use Rattle.bx_journal.specs.Lines.{ended, whole_lines, whole_text}
+use Rattle.bx_journal.specs.Text.{line_of}
+use Rattle.bx_journal.specs.Reading.{head_on, event_on, events_on, events_behind, journal_events, recovered, journal_in, with_whole, events_to_fault, events_behind_head, events_before}
+use Rattle.bx_journal.specs.Taking.{Takes, IsOver, HasStopped, HeadTaken, HeadRefused, IsHead, AreEventLines, lines_text}
 use Rattle.bx_journal.specs.Follows.{WasRead, WasRefused, WasNotBegun, WasCutOff, IsFollowed}
-use Rattle.bx_journal.proofs.WholeLines.{torn_line}
-use Rattle.bx_journal.proofs.ReadAgain.{recovered_again, journal_again}
+use Rattle.bx_journal.proofs.WholeLines.{line_first, lines_then, lines_whole, torn_line}
+use Rattle.bx_journal.proofs.ReadAgain.{event_lines, event_read, events_read}
 use Rattle.bx_journal.proofs.Takings.{takes_then, all_read}
-use Rattle.bx_journal.proofs.HeadRead.{head, head_text, other_first, none_at_first, other_second, none_at_second, torn_first, torn_second, broken, before_break}
 
-abbrev pub first : List ℕ
-first = codes "bx-journal 1"
+-- ---- lines of events behind a head
 
-module _ {F : Type 0} (followed : F → List LiveEvent → F → Type 0) (f g : F) (plan : List ℕ) (before after : Option (List ℕ)) (old new : Held) (none : old.octets ≡ []) (zero : old.taken ≡ 0) where
+-- a line of no event, behind those of events
+break_after : (n : ℕ) (events : List LiveEvent) (line : List ℕ) (rest : List (List ℕ)) → AreEvents events → event_on line ≡ None → events_on n (map line_of events ++ line ∷ rest) ≡ Err (BadLine (n + length events))
+break_after n [] line rest are bad = let z : n ≡ n + 0 = omega arith in rw bad (ap (λ k. Err (BadLine k)) z)
+break_after n (e ∷ events) line rest are bad =
+    let next : n + 1 + length events ≡ n + length (e ∷ events) = omega arith in
+    rw (event_read e are.0, break_after (n + 1) events line rest are.1 bad, next) refl
+
+events_then_break : (events : List LiveEvent) (line : List ℕ) (rest : List (List ℕ)) → AreEvents events → event_on line ≡ None → events_to_fault (map line_of events ++ line ∷ rest) ≡ events
+events_then_break [] line rest are bad = rw bad refl
+events_then_break (e ∷ events) line rest are bad = rw (event_read e are.0, events_then_break events line rest are.1 bad) refl
+
+module _ (wanted : Wanted) (lines : List (List ℕ)) (none : HaveNoLf lines) where
+  -- by the lines behind it
+  said_of : (r : Result ℕ JournalFault) (more : List ℕ) → head_on wanted (lines ++ whole_lines more) ≡ r → recovered wanted (flat_map ended lines ++ more) ≡ events_behind r (lines ++ whole_lines more)
+  said_of r more is = ap (journal_events wanted) (lines_then lines more none) ∙ ap (λ (x : Result ℕ JournalFault). events_behind x (lines ++ whole_lines more)) is
+
+  before_of : (r : Result ℕ JournalFault) (more : List ℕ) → head_on wanted (lines ++ whole_lines more) ≡ r → events_before wanted (flat_map ended lines ++ more) ≡ events_behind_head r (lines ++ whole_lines more)
+  before_of r more is = ap (λ (ls : List (List ℕ)). events_behind_head (head_on wanted ls) ls) (lines_then lines more none) ∙ ap (λ (x : Result ℕ JournalFault). events_behind_head x (lines ++ whole_lines more)) is
+
+  -- inside of it
+  pub torn_head : (torn : List ℕ) → HasNoLf torn → head_on wanted lines ≡ Err NotBegun → recovered wanted (flat_map ended lines ++ torn) ≡ Err NotBegun
+  torn_head torn clean is = ap (journal_events wanted) (lines_whole lines torn none (torn_line torn clean)) ∙ ap (λ (r : Result ℕ JournalFault). events_behind r lines) is
+
+  pub fault_in_head : (fault : JournalFault) → ((rest : List (List ℕ)) → head_on wanted (lines ++ rest) ≡ Err fault) → (more : List ℕ) → recovered wanted (flat_map ended lines ++ more) ≡ Err fault
+  fault_in_head fault is more = said_of (Err fault) more (is (whole_lines more))
+
+  pub none_before : (fault : JournalFault) → ((rest : List (List ℕ)) → head_on wanted (lines ++ rest) ≡ Err fault) → (more : List ℕ) → events_before wanted (flat_map ended lines ++ more) ≡ []
+  none_before fault is more = before_of (Err fault) more (is (whole_lines more))
+
+  module _ (n : ℕ) (count : length lines ≡ n) (is : (rest : List (List ℕ)) → head_on wanted (lines ++ rest) ≡ Ok n) where
+    behind_head : (more : List ℕ) → recovered wanted (flat_map ended lines ++ more) ≡ events_on (n + 1) (whole_lines more)
+    behind_head more = said_of (Ok n) more (is (whole_lines more)) ∙ ap (events_on (n + 1)) (drop_at lines (whole_lines more) n count)
+
+    events_of : (more : List ℕ) → events_before wanted (flat_map ended lines ++ more) ≡ events_to_fault (whole_lines more)
+    events_of more = before_of (Ok n) more (is (whole_lines more)) ∙ ap events_to_fault (drop_at lines (whole_lines more) n count)
+
+    module _ (events : List LiveEvent) (are : AreEvents events) where
+      pub events_taken : (torn : List ℕ) → HasNoLf torn → recovered wanted (flat_map ended lines ++ (lines_text events ++ torn)) ≡ Ok events
+      events_taken torn clean =
+          behind_head (lines_text events ++ torn) ∙ ap (events_on (n + 1)) (lines_whole (map line_of events) torn (event_lines events are) (torn_line torn clean)) ∙ events_read (n + 1) events are
+
+      pub journal_taken : (torn : List ℕ) → HasNoLf torn → journal_in wanted (flat_map ended lines ++ (lines_text events ++ torn)) ≡ Ok (record { events = events; whole = length (flat_map ended lines ++ lines_text events) })
+      journal_taken torn clean =
+          let text = flat_map ended lines ++ (lines_text events ++ torn) in
+          let all : whole_lines text ≡ lines ++ map line_of events =
+          lines_then lines (lines_text events ++ torn) none ∙ ap (λ (ls : List (List ℕ)). lines ++ ls) (lines_whole (map line_of events) torn (event_lines events are) (torn_line torn clean)) in
+          ap (with_whole (length (whole_text text))) (events_taken torn clean)
+          ∙ ap (λ (ls : List (List ℕ)). Ok (record { events = events; whole = length (flat_map ended ls) })) all
+          ∙ ap (λ (l : List ℕ). Ok (record { events = events; whole = length l })) (flat_map-append ended lines (map line_of events))
+
+      module _ (line : List ℕ) (clean : HasNoLf line) (bad : event_on line ≡ None) (more : List ℕ) where
+        regroup : (flat_map ended lines ++ (lines_text events ++ ended line)) ++ more ≡ flat_map ended lines ++ (lines_text events ++ (ended line ++ more))
+        regroup = append_assoc (flat_map ended lines) (lines_text events ++ ended line) more ∙ ap (λ (l : List ℕ). flat_map ended lines ++ l) (append_assoc (lines_text events) (ended line) more)
+
+        broken_lines : whole_lines (lines_text events ++ (ended line ++ more)) ≡ map line_of events ++ line ∷ whole_lines more
+        broken_lines = lines_then (map line_of events) (ended line ++ more) (event_lines events are) ∙ ap (λ (ls : List (List ℕ)). map line_of events ++ ls) (line_first line more clean)
+
+        pub broken : recovered wanted ((flat_map ended lines ++ (lines_text events ++ ended line)) ++ more) ≡ Err (BadLine (n + 1 + length events))
+        broken =
+            ap (recovered wanted) regroup ∙ behind_head (lines_text events ++ (ended line ++ more)) ∙ ap (events_on (n + 1)) broken_lines ∙ break_after (n + 1) events line (whole_lines more) are bad
+
+        pub before_break : events_before wanted ((flat_map ended lines ++ (lines_text events ++ ended line)) ++ more) ≡ events
+        before_break = ap (events_before wanted) regroup ∙ events_of (lines_text events ++ (ended line ++ more)) ∙ ap events_to_fault broken_lines ∙ events_then_break events line (whole_lines more) are bad
+
+-- ---- the whole journal
+
+module _ {F : Type 0} (followed : F → List LiveEvent → F → Type 0) (f g : F) (wanted : Wanted) (before after : Option (List ℕ)) (old new : Held) (none : old.octets ≡ []) (zero : old.taken ≡ 0) where
   -- taken in all, of a reader that held nothing
   module _ (xs : List ℕ) (t : Takes before after old new xs) where
-    refused : (fault : JournalFault) (events : List LiveEvent) → ((more : List ℕ) → recovered plan (xs ++ more) ≡ Err fault) → ((more : List ℕ) → events_before plan (xs ++ more) ≡ events) → followed f events g → WasRefused followed before after plan f g fault
+    refused : (fault : JournalFault) (events : List LiveEvent) → ((more : List ℕ) → recovered wanted (xs ++ more) ≡ Err fault) → ((more : List ℕ) → events_before wanted (xs ++ more) ≡ events) → followed f events g → WasRefused followed before after wanted f g fault
     refused fault events is are all =
         let text : (more : List ℕ) → t.read ++ more ≡ xs ++ (new.octets ++ more) = λ more. ap (λ (l : List ℕ). l ++ more) (all_read before after old new xs none t) ∙ append_assoc xs new.octets more in
         record {
@@ -30,21 +99,21 @@ module _ {F : Type 0} (followed : F → List LiveEvent → F → Type 0) (f g : 
           consumed = t.consumed;
           events = events;
           followed_all = all;
-          is = λ more. ap (recovered plan) (text more) ∙ is (new.octets ++ more);
-          are = λ more. ap (events_before plan) (text more) ∙ are (new.octets ++ more);
+          is = λ more. ap (recovered wanted) (text more) ∙ is (new.octets ++ more);
+          are = λ more. ap (events_before wanted) (text more) ∙ are (new.octets ++ more);
         }
 
     all_taken : new.octets ≡ [] → t.read ≡ xs
     all_taken over = all_read before after old new xs none t ∙ ap (λ (l : List ℕ). xs ++ l) over ∙ append-nil xs
 
-    not_begun : IsOver after new → recovered plan xs ≡ Err NotBegun → followed f [] g → WasNotBegun followed before after plan f g
-    not_begun over is all = record { text = t.read; consumed = t.consumed; at_end = over.at_end; is = ap (recovered plan) (all_taken over.none) ∙ is; followed_none = all }
+    not_begun : IsOver after new → recovered wanted xs ≡ Err NotBegun → followed f [] g → WasNotBegun followed before after wanted f g
+    not_begun over is all = record { text = t.read; consumed = t.consumed; at_end = over.at_end; is = ap (recovered wanted) (all_taken over.none) ∙ is; followed_none = all }
 
-    was_read : (events : List LiveEvent) (whole : ℕ) → IsOver after new → journal_in plan xs ≡ Ok (record { events = events; whole = whole }) → followed f events g → WasRead followed before after plan f g whole
+    was_read : (events : List LiveEvent) (whole : ℕ) → IsOver after new → journal_in wanted xs ≡ Ok (record { events = events; whole = whole }) → followed f events g → WasRead followed before after wanted f g whole
     was_read events whole over is all =
-        record { text = t.read; consumed = t.consumed; at_end = over.at_end; events = events; is = ap (journal_in plan) (all_taken over.none) ∙ is; followed_all = all }
+        record { text = t.read; consumed = t.consumed; at_end = over.at_end; events = events; is = ap (journal_in wanted) (all_taken over.none) ∙ is; followed_all = all }
 
-    cut_off : (faulted : Bool) (events : List LiveEvent) → HasStopped faulted new → (recovered plan xs ≡ Ok events) ⊎ ((recovered plan xs ≡ Err NotBegun) × (events ≡ [])) → followed f events g → WasCutOff followed faulted before after plan f g
+    cut_off : (faulted : Bool) (events : List LiveEvent) → HasStopped faulted new → (recovered wanted xs ≡ Ok events) ⊎ ((recovered wanted xs ≡ Err NotBegun) × (events ≡ [])) → followed f events g → WasCutOff followed faulted before after wanted f g
     cut_off faulted events stopped is all = record {
       read = xs;
       held = new.octets;
@@ -55,49 +124,38 @@ module _ {F : Type 0} (followed : F → List LiveEvent → F → Type 0) (f g : 
       cause = ⊎_elim (λ failed. inl failed) (λ full. inr (omega (arith, full, t.count, zero))) stopped;
     }
 
-  -- the first line was not right
-  first_other : (fault : JournalFault) → IsOther first first_fault fault before after old new → followed f [] g → WasRefused followed before after plan f g fault
-  first_other fault o all =
-      refused (ended o.line) o.takes.takes fault [] (λ more. other_first plan o.line more o.takes.no_lf o.other ∙ ap Err o.fault_is) (λ more. none_at_first plan o.line more o.takes.no_lf o.other) all
+  -- the head has a fault, or was not read whole
+  head_refused : (fault : JournalFault) → HeadRefused wanted before after old new fault → followed f [] g → WasRefused followed before after wanted f g fault
+  head_refused fault h all =
+      refused (flat_map ended h.lines) h.taken.takes fault [] (fault_in_head wanted h.lines h.taken.no_lf fault h.is) (none_before wanted h.lines h.taken.no_lf fault h.is) all
 
-  pub first_failed : (faulted : Bool) (fault : JournalFault) → IsHeadLine first first_fault faulted before after old new (Err fault) → followed f [] g → IsFollowed followed faulted before after plan f g (Err fault)
-  first_failed faulted (BadLine n) o all = first_other (BadLine n) o all
-  first_failed faulted OtherPlan o all = first_other OtherPlan o all
-  first_failed faulted NotBegun o all = not_begun o.torn o.part.takes o.over (torn_first plan o.torn o.part.no_lf) all
-  first_failed faulted ReadFailed o all = cut_off o.torn o.part.takes faulted [] o.stopped (inr (torn_first plan o.torn o.part.no_lf, refl)) all
+  pub head_failed : (faulted : Bool) (fault : JournalFault) → IsHead wanted faulted before after old new (Err fault) → followed f [] g → IsFollowed followed faulted before after wanted f g (Err fault)
+  head_failed faulted (BadLine n) h all = head_refused (BadLine n) h all
+  head_failed faulted OtherPlan h all = head_refused OtherPlan h all
+  head_failed faulted OtherDay h all = head_refused OtherDay h all
+  head_failed faulted OtherRules h all = head_refused OtherRules h all
+  head_failed faulted NotBegun h all =
+      not_begun (flat_map ended h.lines ++ h.taken.torn) h.taken.takes h.over (torn_head wanted h.lines h.taken.no_lf h.taken.torn h.taken.torn_no_lf h.is) all
+  head_failed faulted ReadFailed h all =
+      cut_off (flat_map ended h.lines ++ h.taken.torn) h.taken.takes faulted [] h.stopped (inr (torn_head wanted h.lines h.taken.no_lf h.taken.torn h.taken.torn_no_lf h.is, refl)) all
 
-  module _ (middle : Option (List ℕ)) (mid : Held) (one : Takes before middle old mid (ended first)) where
-    behind : (xs : List ℕ) → Takes middle after mid new xs → Takes before after old new (ended first ++ xs)
-    behind xs t = takes_then before middle after old mid new (ended first) xs one t
+  module _ (middle : Option (List ℕ)) (mid : Held) (n : ℕ) (head : HeadTaken wanted before middle old mid n) where
+    behind : (xs : List ℕ) → Takes middle after mid new xs → Takes before after old new (flat_map ended head.lines ++ xs)
+    behind xs t = takes_then before middle after old mid new (flat_map ended head.lines) xs head.taken.takes t
 
-    second_other : (fault : JournalFault) → IsOther (plan_line plan) plan_fault fault middle after mid new → followed f [] g → WasRefused followed before after plan f g fault
-    second_other fault o all =
-        let group : (more : List ℕ) → (ended first ++ ended o.line) ++ more ≡ ended first ++ (ended o.line ++ more) = λ more. append_assoc (ended first) (ended o.line) more in
-        refused (ended first ++ ended o.line) (behind (ended o.line) o.takes.takes) fault []
-        (λ more. ap (recovered plan) (group more) ∙ other_second plan o.line more o.takes.no_lf o.other ∙ ap Err o.fault_is)
-        (λ more. ap (events_before plan) (group more) ∙ none_at_second plan o.line more o.takes.no_lf o.other) all
-
-    pub second_failed : (faulted : Bool) (fault : JournalFault) → IsHeadLine (plan_line plan) plan_fault faulted middle after mid new (Err fault) → followed f [] g → IsFollowed followed faulted before after plan f g (Err fault)
-    second_failed faulted (BadLine n) o all = second_other (BadLine n) o all
-    second_failed faulted OtherPlan o all = second_other OtherPlan o all
-    second_failed faulted NotBegun o all = not_begun (ended first ++ o.torn) (behind o.torn o.part.takes) o.over (torn_second plan o.torn o.part.no_lf) all
-    second_failed faulted ReadFailed o all = cut_off (ended first ++ o.torn) (behind o.torn o.part.takes) faulted [] o.stopped (inr (torn_second plan o.torn o.part.no_lf, refl)) all
-
-  module _ (middle : Option (List ℕ)) (mid : Held) (two : Takes before middle old mid (head plan)) where
-    behind_both : (xs : List ℕ) → Takes middle after mid new xs → Takes before after old new (head plan ++ xs)
-    behind_both xs t = takes_then before middle after old mid new (head plan) xs two t
-
-    pub events_done : (faulted : Bool) (r : Result ℕ JournalFault) → AreEventLines followed f g faulted middle after mid new r → IsFollowed followed faulted before after plan f g r
+    pub events_done : (faulted : Bool) (r : Result ℕ JournalFault) → AreEventLines followed f g (n + 1) faulted middle after mid new r → IsFollowed followed faulted before after wanted f g r
     events_done faulted (Ok whole) o =
-        let count : length (journal_text plan o.events) ≡ whole =
-        omega (arith, o.whole_is, two.count, zero, length-append (ended first) (ended (plan_line plan)), length-append (ended first) (ended (plan_line plan) ++ lines_text o.events), length-append (ended (plan_line plan)) (lines_text o.events)) in
-        was_read (head plan ++ (lines_text o.events ++ o.torn)) (behind_both (lines_text o.events ++ o.torn) o.takes) o.events whole o.over
-        (ap (journal_in plan) (head_text plan o.events o.torn) ∙ journal_again plan o.events o.torn o.are (torn_line o.torn o.no_lf) ∙ ap (λ n. Ok (record { events = o.events; whole = n })) count) o.followed_all
-    events_done faulted (Err (BadLine n)) o =
-        refused (head plan ++ (lines_text o.events ++ ended o.line)) (behind_both (lines_text o.events ++ ended o.line) o.takes) (BadLine n) o.events
-        (λ more. broken plan o.events o.line o.are o.no_lf o.no_event more ∙ ap (λ k. Err (BadLine k)) (sym o.number)) (λ more. before_break plan o.events o.line o.are o.no_lf o.no_event more) o.followed_all
+        let count : length (flat_map ended head.lines ++ lines_text o.events) ≡ whole = omega (arith, o.whole_is, head.taken.takes.count, zero, length-append (flat_map ended head.lines) (lines_text o.events)) in
+        was_read (flat_map ended head.lines ++ (lines_text o.events ++ o.torn)) (behind (lines_text o.events ++ o.torn) o.takes) o.events whole o.over
+        (journal_taken wanted head.lines head.taken.no_lf n head.count head.is o.events o.are o.torn o.no_lf ∙ ap (λ k. Ok (record { events = o.events; whole = k })) count) o.followed_all
+    events_done faulted (Err (BadLine k)) o =
+        refused (flat_map ended head.lines ++ (lines_text o.events ++ ended o.line)) (behind (lines_text o.events ++ ended o.line) o.takes) (BadLine k) o.events
+        (λ more. broken wanted head.lines head.taken.no_lf n head.count head.is o.events o.are o.line o.no_lf o.no_event more ∙ ap (λ m. Err (BadLine m)) (sym o.number))
+        (λ more. before_break wanted head.lines head.taken.no_lf n head.count head.is o.events o.are o.line o.no_lf o.no_event more) o.followed_all
     events_done faulted (Err OtherPlan) o = absurd o
+    events_done faulted (Err OtherDay) o = absurd o
+    events_done faulted (Err OtherRules) o = absurd o
     events_done faulted (Err NotBegun) o = absurd o
     events_done faulted (Err ReadFailed) o =
-        cut_off (head plan ++ (lines_text o.events ++ o.torn)) (behind_both (lines_text o.events ++ o.torn) o.takes) faulted o.events o.stopped
-        (inl (ap (recovered plan) (head_text plan o.events o.torn) ∙ recovered_again plan o.events o.torn o.are (torn_line o.torn o.no_lf))) o.followed_all
+        cut_off (flat_map ended head.lines ++ (lines_text o.events ++ o.torn)) (behind (lines_text o.events ++ o.torn) o.takes) faulted o.events o.stopped
+        (inl (events_taken wanted head.lines head.taken.no_lf n head.count head.is o.events o.are o.torn o.no_lf)) o.followed_all

@@ -1,6 +1,10 @@
 pub mod HexSteps
 pub mod Digits
 pub mod WholeLines
+pub mod Takings
+pub mod NumbersRead
+pub mod DayLines
+pub mod HeadLines
 pub mod ReadAgain
 pub mod Moments
 pub mod Recorded
@@ -8,8 +12,7 @@ pub mod PastContents
 pub mod Fronts
 pub mod Spelled
 pub mod OneText
-pub mod Takings
-pub mod HeadRead
+pub mod AnyDay
 pub mod EventsRead
 pub mod JournalRead
 pub mod Runs

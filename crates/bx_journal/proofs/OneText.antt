@@ -1,19 +1,27 @@
--- One plan and one list of events have one text.
-use Rattle.std.proofs.Common.{◌≡◌, List, [], ℕ, get_or, drop, map, Some, Ok, Result, refl, arith, ap, sym, ◌∙◌}
+-- One head and one list of events have one text, and no head is taken for another.
+use Rattle.std.proofs.Common.{◌≡◌, List, [], ◌++◌, ◌∷◌, ℕ, get_or, drop, map, Some, Ok, Err, Result, refl, arith, ap, sym, ◌∙◌}
 use Rattle.std.proofs.lemmas.List.{append-nil}
 use Rattle.bx_events.specs.Events.{LiveEvent}
 use Rattle.bx_journal.specs.declared.fault.JournalFault.{JournalFault}
+use Rattle.bx_journal.specs.declared.fault.JournalFault.TheVariants.{OtherRules}
+use Rattle.bx_journal.specs.declared.head.Head.{Head}
+use Rattle.bx_journal.specs.declared.head.JournalDay.{JournalDay}
+use Rattle.bx_journal.specs.declared.head.Wanted.{Wanted}
 use Rattle.bx_journal.specs.Events.{AreOctets, AreEvents}
+use Rattle.bx_journal.specs.Heads.{IsDay, IsWanted, wanted_of}
 use Rattle.bx_journal.specs.Hex.{hex_of, octets_in}
 use Rattle.bx_journal.specs.Lines.{whole_lines}
-use Rattle.bx_journal.specs.Text.{line_of, lines_of, journal_text}
-use Rattle.bx_journal.specs.Reading.{events_on}
+use Rattle.bx_journal.specs.Text.{line_of, plan_line, lines_of, journal_text, undated_lines, undated_text}
+use Rattle.bx_journal.specs.Reading.{Recovery, day_on, events_on, events_behind, recovered, journal_events, journal_in}
 use Rattle.bx_journal.proofs.Digits.{octets_read}
-use Rattle.bx_journal.proofs.WholeLines.{lines_whole}
-use Rattle.bx_journal.proofs.ReadAgain.{lines_without_lf, events_read}
+use Rattle.bx_journal.proofs.DayLines.{day_read}
+use Rattle.bx_journal.proofs.HeadLines.{undated_refused}
+use Rattle.bx_journal.proofs.WholeLines.{lines_whole, lines_then}
+use Rattle.bx_journal.proofs.ReadAgain.{lines_without_lf, undated_without_lf, lines_read, events_read}
+use Rattle.bx_journal.proofs.Spelled.{own_lines, own_spelled}
 
-whole : (plan : List ℕ) (es : List LiveEvent) → AreEvents es → whole_lines (journal_text plan es) ≡ lines_of plan es
-whole plan es are = ap whole_lines (sym (append-nil (journal_text plan es))) ∙ lines_whole (lines_of plan es) [] (lines_without_lf plan es are) refl
+whole : (head : Head) (es : List LiveEvent) → IsDay head.day → AreEvents es → whole_lines (journal_text head es) ≡ lines_of head es
+whole head es day are = ap whole_lines (sym (append-nil (journal_text head es))) ∙ lines_whole (lines_of head es) [] (lines_without_lf head es day are) refl
 
 abbrev the_ok : List LiveEvent → Result (List LiveEvent) JournalFault
 the_ok es = Ok es
@@ -24,11 +32,39 @@ same_events a b e = cc
 same_plan : (p q : List ℕ) → Some p ≡ Some q → p ≡ q
 same_plan p q e = cc
 
-pub one : (p q : List ℕ) (a b : List LiveEvent) → AreOctets p → AreOctets q → AreEvents a → AreEvents b → journal_text p a ≡ journal_text q b → (p ≡ q) × (a ≡ b)
-one p q a b p_are q_are a_are b_are same =
-    let lines : lines_of p a ≡ lines_of q b = sym (whole p a a_are) ∙ ap whole_lines same ∙ whole q b b_are in
-    let digits : hex_of 97 p ≡ hex_of 97 q = ap (λ (ls : List (List ℕ)). drop 5 (get_or ls 1 [])) lines in
-    let events : map line_of a ≡ map line_of b = ap (λ (ls : List (List ℕ)). drop 2 ls) lines in (
-      same_plan p q (sym (octets_read 97 (omega arith) p p_are) ∙ ap (octets_in 97) digits ∙ octets_read 97 (omega arith) q q_are),
-      same_events a b (sym (events_read 3 a a_are) ∙ ap (events_on 3) events ∙ events_read 3 b b_are),
-    )
+same_day : (p q : JournalDay) → Some p ≡ Some q → p ≡ q
+same_day p q e = cc
+
+same_head : (p q : Head) → p.plan ≡ q.plan → p.day ≡ q.day → p ≡ q
+same_head p q plan day = ap (λ (l : List ℕ). record { plan = l; day = p.day }) plan ∙ ap (λ (d : JournalDay). record { plan = q.plan; day = d }) day
+
+-- by their lines
+one_by : (p q : Head) (a b : List LiveEvent) → AreOctets p.plan → AreOctets q.plan → IsDay p.day → IsDay q.day → AreEvents a → AreEvents b → lines_of p a ≡ lines_of q b → (p ≡ q) × (a ≡ b)
+one_by p q a b p_are q_are p_day q_day a_are b_are lines =
+    let digits : hex_of 97 p.plan ≡ hex_of 97 q.plan = ap (λ (ls : List (List ℕ)). drop 5 (get_or ls 1 [])) lines in
+    let plan : p.plan ≡ q.plan = same_plan p.plan q.plan (sym (octets_read 97 (omega arith) p.plan p_are) ∙ ap (octets_in 97) digits ∙ octets_read 97 (omega arith) q.plan q_are) in
+    let day : p.day ≡ q.day = same_day p.day q.day (sym (day_read p.day p_day) ∙ ap (λ (ls : List (List ℕ)). day_on (get_or ls 2 [])) lines ∙ day_read q.day q_day) in
+    let events : map line_of a ≡ map line_of b = ap (λ (ls : List (List ℕ)). drop 3 ls) lines in
+    (same_head p q plan day, same_events a b (sym (events_read 4 a a_are) ∙ ap (events_on 4) events ∙ events_read 4 b b_are))
+
+pub one : (p q : Head) (a b : List LiveEvent) → AreOctets p.plan → AreOctets q.plan → IsDay p.day → IsDay q.day → AreEvents a → AreEvents b → journal_text p a ≡ journal_text q b → (p ≡ q) × (a ≡ b)
+one p q a b p_are q_are p_day q_day a_are b_are same = one_by p q a b p_are q_are p_day q_day a_are b_are (sym (whole p a p_day a_are) ∙ ap whole_lines same ∙ whole q b q_day b_are)
+
+-- what is read where a head is wanted was written with it
+pub own_head : (p q : Head) (torn : List ℕ) (es : List LiveEvent) (r : Recovery) → AreOctets p.plan → AreOctets q.plan → IsDay p.day → AreEvents es → whole_lines torn ≡ [] → journal_in (wanted_of q) (journal_text p es ++ torn) ≡ Ok r → p ≡ q
+own_head p q torn es r p_are q_are p_day are t e =
+    let read = own_spelled q (journal_text p es ++ torn) r e in
+    let lines = lines_whole (lines_of p es) torn (lines_without_lf p es p_day are) t in
+    (one_by p q es r.events p_are q_are p_day read.day are read.events (sym lines ∙ read.lines)).0
+
+pub undated_none : (wanted : Wanted) (day : JournalDay) (plan torn : List ℕ) (es : List LiveEvent) → wanted.day ≡ Some day → AreEvents es → recovered wanted (undated_text plan es ++ torn) ≡ Err OtherRules
+undated_none wanted day plan torn es some are =
+    let rest = plan_line plan ∷ (map line_of es ++ whole_lines torn) in
+    ap (journal_events wanted) (lines_then (undated_lines plan es) torn (undated_without_lf plan es are))
+    ∙ ap (λ (r : Result ℕ JournalFault). events_behind r (undated_lines plan es ++ whole_lines torn)) (undated_refused wanted day rest some)
+
+-- what is read where a head is wanted is read alike where less is
+pub with_less : (head : Head) (wanted : Wanted) (left : List ℕ) (es : List LiveEvent) → IsWanted wanted head → recovered (wanted_of head) left ≡ Ok es → recovered wanted left ≡ Ok es
+with_less head wanted left es is e =
+    let own = own_lines head (whole_lines left) es e in
+    ap (journal_events wanted) own.0 ∙ lines_read wanted head es is own.1 own.2

@@ -1,5 +1,5 @@
 -- What is read is spelled so.
-use Rattle.std.proofs.Common.{codes, ◌≡◌, ℕ, zero, suc, ◌+◌, ◌-◌, ◌*◌, ◌/◌, ◌%◌, ◌≤◌, ◌<◌, ◌==◌, ◌&&◌, Bool, true, false, cond, leb, nat_le, List, [], ◌∷◌, ◌++◌, length, take, drop, get_or, map, Option, Some, None, Result, Ok, Err, refl, ap, sym, ◌∙◌, subst, arith, length-append, take-append-drop}
+use Rattle.std.proofs.Common.{codes, ◌≡◌, ◌⊎◌, inl, inr, ℕ, zero, suc, ◌+◌, ◌-◌, ◌*◌, ◌/◌, ◌%◌, ◌≤◌, ◌<◌, ◌==◌, ◌&&◌, Bool, true, false, cond, leb, nat_le, List, [], ◌∷◌, ◌++◌, length, take, drop, get_or, map, Option, Some, None, Result, Ok, Err, refl, ap, sym, ◌∙◌, subst, arith, length-append, take-append-drop}
 use Rattle.std.specs.Str.{bytes_eq}
 use Rattle.std.specs.List.{flat_map, list_all}
 use Rattle.std.specs.Option.{option_map}
@@ -11,11 +11,17 @@ use Rattle.bx_journal.specs.declared.fault.JournalFault.{JournalFault}
 use Rattle.bx_journal.specs.Events.{AreOctets, IsEvent, AreEvents, is_printable}
 use Rattle.bx_journal.specs.Hex.{hex_digit, hex_of, hex_value, octet_of, octets_in, behind_octet}
 use Rattle.bx_journal.specs.Lines.{whole_lines, whole_text, ended, onto}
-use Rattle.bx_journal.specs.Inside.{HasNoLf}
-use Rattle.bx_journal.specs.Text.{line_of, plan_line, lines_of, journal_text}
-use Rattle.bx_journal.specs.Reading.{event_on, heard_on, heard_event, sold_on, events_on, with_event, tied_events, plan_fault, journal_events, recovered, Recovery, journal_in, with_whole}
+use Rattle.bx_journal.specs.Inside.{HasNoLf, HaveNoLf}
+use Rattle.bx_journal.specs.Text.{line_of, rules_line, plan_line, day_line, lines_of, journal_text, undated_lines}
+use Rattle.bx_journal.specs.Reading.{event_on, heard_on, heard_event, sold_on, events_on, with_event, head_on, events_behind, journal_events, recovered, Recovery, journal_in, with_whole, IsJournalText}
+use Rattle.bx_journal.specs.Heads.{IsDay, IsWanted, wanted_of}
+use Rattle.bx_journal.specs.declared.head.Head.{Head}
+use Rattle.bx_journal.specs.declared.head.JournalDay.{JournalDay}
+use Rattle.bx_journal.specs.declared.head.TheConstants.{RULES}
+use Rattle.bx_journal.specs.declared.head.Wanted.{Wanted}
 use Rattle.bx_journal.proofs.Digits.{hex_length}
-use Rattle.bx_journal.proofs.WholeLines.{HaveNoLf, lines_whole, torn_line, front_without_lf}
+use Rattle.bx_journal.proofs.WholeLines.{lines_whole, torn_line, front_without_lf, take_past}
+use Rattle.bx_journal.proofs.HeadLines.{IsDated, IsUndated, head_spelled}
 
 -- a text is its whole lines, and octets without LF
 pub record Split (bytes lines : List ℕ) : Type 0 where
@@ -152,35 +158,60 @@ pub lines_spelled : (n : ℕ) (lines : List (List ℕ)) (es : List LiveEvent) �
 lines_spelled n [] es e = subst (AreLinesOf []) (ok_inj _ _ e) (record { spelled = refl; octets = tt })
 lines_spelled n (line ∷ lines) es e = one n line lines es (event_on line) (events_on (n + 1) lines) refl (λ xs is. lines_spelled (n + 1) lines xs is) e
 
-pub record IsJournalOf (plan : List ℕ) (lines : List (List ℕ)) (es : List LiveEvent) : Type 0 where
-  pub spelled : lines ≡ lines_of plan es
-  pub octets : AreEvents es
+-- the lines of a head that is wanted, or of version 1, and of these events
+pub record AreLinesDated (wanted : Wanted) (lines : List (List ℕ)) (es : List LiveEvent) : Type 0 where
+  pub head : Head
+  pub is_wanted : IsWanted wanted head
+  pub day : IsDay head.day
+  pub are : lines ≡ lines_of head es
+  pub events : AreEvents es
 
-tied : (t : Bool) (plan line : List ℕ) (lines : List (List ℕ)) (es : List LiveEvent) → bytes_eq line (plan_line plan) ≡ t → cond t (events_on 3 lines) (Err (plan_fault line)) ≡ Ok es → (line ≡ plan_line plan) × AreLinesOf lines es
-tied false plan line lines es is e = absurd cc
-tied true plan line lines es is e = ((bytes_eq-Decides line (plan_line plan)).0 is, lines_spelled 3 lines es e)
+pub record AreLinesUndated (wanted : Wanted) (lines : List (List ℕ)) (es : List LiveEvent) : Type 0 where
+  pub none : wanted.day ≡ None
+  pub are : lines ≡ undated_lines wanted.plan es
+  pub events : AreEvents es
 
-begun : (plan : List ℕ) (lines : List (List ℕ)) (es : List LiveEvent) → tied_events plan lines ≡ Ok es → lines ≡ plan_line plan ∷ map line_of es × AreEvents es
-begun plan [] es e = absurd cc
-begun plan (line ∷ lines) es e =
-    let t = tied (bytes_eq line (plan_line plan)) plan line lines es refl e in
-    (rw (t.0, t.1.spelled) refl, t.1.octets)
+abbrev pub AreLines : Wanted → List (List ℕ) → List LiveEvent → Type 0
+AreLines wanted lines es = AreLinesDated wanted lines es ⊎ AreLinesUndated wanted lines es
 
-headed : (t : Bool) (plan line : List ℕ) (lines : List (List ℕ)) (es : List LiveEvent) (fault : JournalFault) → bytes_eq line (codes "bx-journal 1") ≡ t → cond t (tied_events plan lines) (Err fault) ≡ Ok es → IsJournalOf plan (line ∷ lines) es
-headed false plan line lines es fault is e = absurd cc
-headed true plan line lines es fault is e =
-    let b = begun plan lines es e in
-    record { spelled = rw ((bytes_eq-Decides line (codes "bx-journal 1")).0 is, b.0) refl; octets = b.1 }
+behind_head : (wanted : Wanted) (lines : List (List ℕ)) (es : List LiveEvent) (n : ℕ) → IsDated wanted lines n ⊎ IsUndated wanted lines n → events_on (n + 1) (drop n lines) ≡ Ok es → AreLines wanted lines es
+behind_head wanted lines es n (inl d) e =
+    let at : events_on 4 d.rest ≡ Ok es = sym (ap (λ (ls : List (List ℕ)). events_on 4 (drop 3 ls)) d.are) ∙ ap (λ k. events_on (k + 1) (drop k lines)) (sym d.count) ∙ e in
+    let rest = lines_spelled 4 d.rest es at in
+    inl (record { head = d.head; is_wanted = d.is_wanted; day = d.day; are = d.are ∙ ap (λ (ls : List (List ℕ)). rules_line RULES ∷ plan_line d.head.plan ∷ day_line d.head.day ∷ ls) rest.spelled; events = rest.octets })
+behind_head wanted lines es n (inr u) e =
+    let at : events_on 3 u.rest ≡ Ok es = sym (ap (λ (ls : List (List ℕ)). events_on 3 (drop 2 ls)) u.are) ∙ ap (λ k. events_on (k + 1) (drop k lines)) (sym u.count) ∙ e in
+    let rest = lines_spelled 3 u.rest es at in
+    inr (record { none = u.none; are = u.are ∙ ap (λ (ls : List (List ℕ)). codes "bx-journal 1" ∷ plan_line wanted.plan ∷ ls) rest.spelled; events = rest.octets })
 
-all_lines : (plan : List ℕ) (lines : List (List ℕ)) (es : List LiveEvent) → journal_events plan lines ≡ Ok es → IsJournalOf plan lines es
-all_lines plan [] es e = absurd cc
-all_lines plan (line ∷ lines) es e = headed (bytes_eq line (codes "bx-journal 1")) plan line lines es _ refl e
+by_head : (wanted : Wanted) (lines : List (List ℕ)) (es : List LiveEvent) (r : Result ℕ JournalFault) → head_on wanted lines ≡ r → events_behind r lines ≡ Ok es → AreLines wanted lines es
+by_head wanted lines es (Err f) is e = absurd cc
+by_head wanted lines es (Ok n) is e = behind_head wanted lines es n (head_spelled wanted n lines is) e
+
+pub all_lines : (wanted : Wanted) (lines : List (List ℕ)) (es : List LiveEvent) → journal_events wanted lines ≡ Ok es → AreLines wanted lines es
+all_lines wanted lines es e = by_head wanted lines es (head_on wanted lines) refl e
+
+-- the same where a head is wanted
+own_lines_by : (head : Head) (lines : List (List ℕ)) (es : List LiveEvent) → AreLines (wanted_of head) lines es → (lines ≡ lines_of head es) × IsDay head.day × AreEvents es
+own_lines_by head lines es (inl d) =
+    let same : d.head ≡ head = one_head head d.head d.is_wanted.plan d.is_wanted.day in
+    (d.are ∙ ap (λ (h : Head). lines_of h es) same, subst (λ (h : Head). IsDay h.day) same d.day, d.events) where
+      one_head : (p q : Head) → p.plan ≡ q.plan → p.day ≡ q.day → q ≡ p
+      one_head p q plan day = sym (ap (λ (l : List ℕ). record { plan = l; day = p.day }) plan ∙ ap (λ (d : JournalDay). record { plan = q.plan; day = d }) day)
+own_lines_by head lines es (inr u) = absurd (some_is_none head.day u.none) where
+  some_is_none : (day : JournalDay) → Some day ≡ None → ⊥
+  some_is_none day e = absurd cc
+
+pub own_lines : (head : Head) (lines : List (List ℕ)) (es : List LiveEvent) → journal_events (wanted_of head) lines ≡ Ok es → (lines ≡ lines_of head es) × IsDay head.day × AreEvents es
+own_lines head lines es e = own_lines_by head lines es (all_lines (wanted_of head) lines es e)
 
 -- the text of what is read, and octets without LF behind it
-pub recovered_text : (plan bytes : List ℕ) (es : List LiveEvent) → recovered plan bytes ≡ Ok es → (whole_text bytes ≡ journal_text plan es) × AreEvents es
-recovered_text plan bytes es e =
-    let j = all_lines plan (whole_lines bytes) es e in
-    (ap (flat_map ended) j.spelled, j.octets)
+text_by : (wanted : Wanted) (text : List ℕ) (lines : List (List ℕ)) (es : List LiveEvent) → text ≡ flat_map ended lines → AreLines wanted lines es → IsJournalText wanted es text × AreEvents es
+text_by wanted text lines es is (inl d) = (inl (record { head = d.head; is_wanted = d.is_wanted; is_day = d.day; is = is ∙ ap (flat_map ended) d.are }), d.events)
+text_by wanted text lines es is (inr u) = (inr (u.none, is ∙ ap (flat_map ended) u.are), u.events)
+
+pub recovered_text : (wanted : Wanted) (bytes : List ℕ) (es : List LiveEvent) → recovered wanted bytes ≡ Ok es → IsJournalText wanted es (whole_text bytes) × AreEvents es
+recovered_text wanted bytes es e = text_by wanted (whole_text bytes) (whole_lines bytes) es refl (all_lines wanted (whole_lines bytes) es e)
 
 -- ---- cutting off what is torn
 
@@ -196,10 +227,6 @@ clean : (bytes : List ℕ) → HaveNoLf (whole_lines bytes)
 clean [] = tt
 clean (b ∷ bytes) = clean_step (b == 10) b bytes refl (clean bytes)
 
-take_past : (xs ys : List ℕ) (m : ℕ) → take (length xs + m) (xs ++ ys) ≡ xs ++ take m ys
-take_past [] ys m = let e : 0 + m ≡ m = omega arith in ap (λ k. take k ys) e
-take_past (x ∷ xs) ys m = let e : suc (length xs) + m ≡ suc (length xs + m) = omega arith in rw e (ap (λ (l : List ℕ). x ∷ l) (take_past xs ys m))
-
 cut_lines : (bytes : List ℕ) (n : ℕ) → length (whole_text bytes) ≤ n → whole_lines (take n bytes) ≡ whole_lines bytes
 cut_lines bytes n le =
     let s = split bytes in
@@ -209,8 +236,8 @@ cut_lines bytes n le =
     ap whole_lines front ∙ lines_whole (whole_lines bytes) (take m s.torn) (clean bytes) (torn_line _ (front_without_lf m s.torn s.none))
 
 -- what is cut off is in no line
-pub recovered_cut : (plan bytes : List ℕ) (n : ℕ) → length (whole_text bytes) ≤ n → recovered plan (take n bytes) ≡ recovered plan bytes
-recovered_cut plan bytes n le = ap (journal_events plan) (cut_lines bytes n le)
+pub recovered_cut : (wanted : Wanted) (bytes : List ℕ) (n : ℕ) → length (whole_text bytes) ≤ n → recovered wanted (take n bytes) ≡ recovered wanted bytes
+recovered_cut wanted bytes n le = ap (journal_events wanted) (cut_lines bytes n le)
 
 pub whole_front : (bytes : List ℕ) → take (length (whole_text bytes)) bytes ≡ whole_text bytes
 whole_front bytes = let s = split bytes in ap (take (length (whole_text bytes))) s.is ∙ take_at (whole_text bytes) s.torn (length (whole_text bytes)) refl
@@ -224,21 +251,37 @@ pub whole_within : (bytes : List ℕ) → length (whole_text bytes) ≤ length b
 whole_within bytes = let s = split bytes in omega (arith, ap length s.is, length-append (whole_text bytes) s.torn)
 
 -- the pieces of a recovery
-pub record IsRecovery (plan bytes : List ℕ) (r : Recovery) : Type 0 where
-  pub events : recovered plan bytes ≡ the_ok r.events
+pub record IsRecovery (wanted : Wanted) (bytes : List ℕ) (r : Recovery) : Type 0 where
+  pub events : recovered wanted bytes ≡ the_ok r.events
   pub whole : r.whole ≡ length (whole_text bytes)
 
-recovery : (n : ℕ) (plan bytes : List ℕ) (read : Result (List LiveEvent) JournalFault) (r : Recovery) → recovered plan bytes ≡ read → n ≡ length (whole_text bytes) → with_whole n read ≡ Ok r → IsRecovery plan bytes r
-recovery n plan bytes (Err f) r is len e = absurd cc
-recovery n plan bytes (Ok es) r is len e =
+recovery : (n : ℕ) (wanted : Wanted) (bytes : List ℕ) (read : Result (List LiveEvent) JournalFault) (r : Recovery) → recovered wanted bytes ≡ read → n ≡ length (whole_text bytes) → with_whole n read ≡ Ok r → IsRecovery wanted bytes r
+recovery n wanted bytes (Err f) r is len e = absurd cc
+recovery n wanted bytes (Ok es) r is len e =
     let same : record { events = es; whole = n } ≡ r = cc in
-    subst (IsRecovery plan bytes) same (record { events = is; whole = len })
+    subst (IsRecovery wanted bytes) same (record { events = is; whole = len })
 
-pub recovery_parts : (plan bytes : List ℕ) (r : Recovery) → journal_in plan bytes ≡ Ok r → IsRecovery plan bytes r
-recovery_parts plan bytes r e = recovery (length (whole_text bytes)) plan bytes (recovered plan bytes) r refl refl e
+pub recovery_parts : (wanted : Wanted) (bytes : List ℕ) (r : Recovery) → journal_in wanted bytes ≡ Ok r → IsRecovery wanted bytes r
+recovery_parts wanted bytes r e = recovery (length (whole_text bytes)) wanted bytes (recovered wanted bytes) r refl refl e
 
-pub front_spelled : (plan bytes : List ℕ) (r : Recovery) → journal_in plan bytes ≡ Ok r → (take r.whole bytes ≡ journal_text plan r.events) × (whole_lines (drop r.whole bytes) ≡ []) × AreEvents r.events
-front_spelled plan bytes r e =
-    let p = recovery_parts plan bytes r e in
-    let t = recovered_text plan bytes r.events p.events in
-    (ap (λ k. take k bytes) p.whole ∙ whole_front bytes ∙ t.0, ap (λ k. whole_lines (drop k bytes)) p.whole ∙ torn_behind bytes, t.1)
+taken_whole : (wanted : Wanted) (bytes : List ℕ) (r : Recovery) → IsRecovery wanted bytes r → take r.whole bytes ≡ whole_text bytes
+taken_whole wanted bytes r p = ap (λ k. take k bytes) p.whole ∙ whole_front bytes
+
+pub front_spelled : (wanted : Wanted) (bytes : List ℕ) (r : Recovery) → journal_in wanted bytes ≡ Ok r → IsJournalText wanted r.events (take r.whole bytes) × (whole_lines (drop r.whole bytes) ≡ []) × AreEvents r.events
+front_spelled wanted bytes r e =
+    let p = recovery_parts wanted bytes r e in
+    let t = recovered_text wanted bytes r.events p.events in
+    (subst (IsJournalText wanted r.events) (sym (taken_whole wanted bytes r p)) t.0, ap (λ k. whole_lines (drop k bytes)) p.whole ∙ torn_behind bytes, t.1)
+
+-- the same where a head is wanted
+pub record IsOwn (head : Head) (bytes : List ℕ) (r : Recovery) : Type 0 where
+  pub text : take r.whole bytes ≡ journal_text head r.events
+  pub lines : whole_lines bytes ≡ lines_of head r.events
+  pub day : IsDay head.day
+  pub events : AreEvents r.events
+
+pub own_spelled : (head : Head) (bytes : List ℕ) (r : Recovery) → journal_in (wanted_of head) bytes ≡ Ok r → IsOwn head bytes r
+own_spelled head bytes r e =
+    let p = recovery_parts (wanted_of head) bytes r e in
+    let own = own_lines head (whole_lines bytes) r.events p.events in
+    record { text = taken_whole (wanted_of head) bytes r p ∙ ap (flat_map ended) own.0; lines = own.0; day = own.1; events = own.2 }

@@ -1,8 +1,10 @@
 -- The whole lines of a text that is built line by line.
-use Rattle.std.proofs.Common.{◌≡◌, ℕ, zero, suc, List, [], ◌∷◌, ◌++◌, take, refl, ap, ◌∙◌, append_assoc}
+use Rattle.std.proofs.Common.{◌≡◌, inl, inr, ℕ, zero, suc, ◌+◌, ◌-◌, ◌≤◌, List, [], ◌∷◌, ◌++◌, length, take, refl, ap, sym, ◌∙◌, append_assoc, arith, length-append}
+use Rattle.std.proofs.lemmas.List.{take-append-le}
+use Rattle.std.proofs.lemmas.Bool.{cases_lt}
 use Rattle.std.specs.List.{flat_map}
 use Rattle.bx_journal.specs.Lines.{whole_lines, ended, onto}
-use Rattle.bx_journal.specs.Inside.{HasNoLf}
+use Rattle.bx_journal.specs.Inside.{HasNoLf, HaveNoLf}
 
 pub first_line : (line rest : List ℕ) → HasNoLf line → whole_lines (line ++ 10 ∷ rest) ≡ line ∷ whole_lines rest
 first_line [] rest none = refl
@@ -17,10 +19,6 @@ front_without_lf zero line none = tt
 front_without_lf (suc n) [] none = tt
 front_without_lf (suc n) (b ∷ line) none = (none.0, front_without_lf n line none.1)
 
-abbrev pub HaveNoLf : List (List ℕ) → Type 0
-HaveNoLf [] = Unit {0}
-HaveNoLf (line ∷ lines) = HasNoLf line × HaveNoLf lines
-
 regroup : (line more torn : List ℕ) → (ended line ++ more) ++ torn ≡ line ++ 10 ∷ (more ++ torn)
 regroup line more torn = append_assoc (ended line) more torn ∙ append_assoc line (10 ∷ []) (more ++ torn)
 
@@ -28,3 +26,47 @@ pub lines_whole : (lines : List (List ℕ)) (torn : List ℕ) → HaveNoLf lines
 lines_whole [] torn none t = t
 lines_whole (line ∷ lines) torn none t =
     ap whole_lines (regroup line (flat_map ended lines) torn) ∙ first_line line (flat_map ended lines ++ torn) none.0 ∙ ap (λ (ls : List (List ℕ)). line ∷ ls) (lines_whole lines torn none.1 t)
+
+-- a line with its LF, before other octets
+pub line_first : (line more : List ℕ) → HasNoLf line → whole_lines (ended line ++ more) ≡ line ∷ whole_lines more
+line_first line more none = ap whole_lines (append_assoc line (10 ∷ []) more) ∙ first_line line more none
+
+pub lines_then : (lines : List (List ℕ)) (rest : List ℕ) → HaveNoLf lines → whole_lines (flat_map ended lines ++ rest) ≡ lines ++ whole_lines rest
+lines_then [] rest none = refl
+lines_then (line ∷ lines) rest none =
+    ap whole_lines (append_assoc (ended line) (flat_map ended lines) rest) ∙ line_first line (flat_map ended lines ++ rest) none.0 ∙ ap (λ (ls : List (List ℕ)). line ∷ ls) (lines_then lines rest none.1)
+
+pub take_past : (xs ys : List ℕ) (m : ℕ) → take (length xs + m) (xs ++ ys) ≡ xs ++ take m ys
+take_past [] ys m = let e : 0 + m ≡ m = omega arith in ap (λ k. take k ys) e
+take_past (x ∷ xs) ys m = let e : suc (length xs) + m ≡ suc (length xs + m) = omega arith in rw e (ap (λ (l : List ℕ). x ∷ l) (take_past xs ys m))
+
+take_none : (n : ℕ) → take {A = ℕ} n [] ≡ []
+take_none zero = refl
+take_none (suc n) = refl
+
+-- a front of lines has the first of them
+pub record IsFrontOf (lines : List (List ℕ)) (octets : List ℕ) : Type 0 where
+  pub count : ℕ
+  pub within : count ≤ length lines
+  pub are : whole_lines octets ≡ take count lines
+
+pub front_of : (lines : List (List ℕ)) (n : ℕ) → HaveNoLf lines → IsFrontOf lines (take n (flat_map ended lines))
+front_of [] n none = record { count = 0; within = omega arith; are = ap whole_lines (take_none n) }
+front_of (line ∷ lines) n none = elim (cases_lt (length line) n) [
+  | inl whole ↦
+      let m = n - length (ended line) in
+      let split : length (ended line) + m ≡ n = omega (arith, whole, length-append line (10 ∷ [])) in
+      let rest = front_of lines m none.1 in
+      record {
+        count = suc rest.count;
+        within = omega (arith, rest.within);
+        are = ap (λ k. whole_lines (take k (ended line ++ flat_map ended lines))) (sym split)
+            ∙ ap whole_lines (take_past (ended line) (flat_map ended lines) m)
+            ∙ line_first line (take m (flat_map ended lines)) none.0
+            ∙ ap (λ (ls : List (List ℕ)). line ∷ ls) rest.are;
+      }
+  | inr torn ↦
+      let front : take n (ended line ++ flat_map ended lines) ≡ take n line =
+      ap (take n) (append_assoc line (10 ∷ []) (flat_map ended lines)) ∙ take-append-le n line (10 ∷ flat_map ended lines) torn in
+      record { count = 0; within = omega arith; are = ap whole_lines front ∙ torn_line (take n line) (front_without_lf n line none.0) }
+]

@@ -1,6 +1,8 @@
 pub mod Lines
 pub mod Hex
 pub mod Events
+pub mod Heads
+pub mod Numbers
 pub mod Text
 pub mod Reading
 pub mod Inside
@@ -8,6 +10,7 @@ pub mod Held
 pub mod Taking
 pub mod Follows
 pub mod Disk
+pub mod Files
 pub mod Recording
 pub mod Past
 pub mod Memory

@@ -1,15 +1,24 @@
 -- What a text is read as, or its first fault.
-use Rattle.std.specs.Prelude.{ℕ, ◌+◌, ◌==◌, ◌&&◌, nat_le, Bool, false, List, [], ◌∷◌, length, take, drop, Option, Some, None, Result, Ok, Err, codes, if◌then◌else◌}
+use Rattle.std.specs.Prelude.{◌≡◌, ◌⊎◌, ℕ, ◌+◌, ◌==◌, ◌&&◌, nat_le, Bool, true, false, List, [], ◌∷◌, length, take, drop, Option, Some, None, Result, Ok, Err, codes, if◌then◌else◌}
 use Rattle.std.specs.Str.{bytes_eq}
 use Rattle.std.specs.List.{list_all}
 use Rattle.std.specs.Option.{option_map}
 use Rattle.bx_events.specs.Events.{Tick, Receive, LiveEvent, OnLink, WithoutLink, Sold}
 use Rattle.bx_journal.specs.declared.fault.JournalFault.{JournalFault}
-use Rattle.bx_journal.specs.declared.fault.JournalFault.TheVariants.{BadLine, OtherPlan, NotBegun}
+use Rattle.bx_journal.specs.declared.fault.JournalFault.TheVariants.{BadLine, OtherPlan, OtherDay, OtherRules, NotBegun}
+use Rattle.bx_journal.specs.declared.head.Head.{Head}
+use Rattle.bx_journal.specs.declared.head.JournalDay.{JournalDay}
+use Rattle.bx_journal.specs.declared.head.JournalDay.TheVariants.{Rehearsed, Live}
+use Rattle.bx_journal.specs.declared.head.TheConstants.{RULES}
+use Rattle.bx_journal.specs.declared.head.Wanted.{Wanted}
+use Rattle.bx_journal.specs.declared.head_reading.Version.{Version}
+use Rattle.bx_journal.specs.declared.head_reading.Version.TheVariants.{Undated, Dated}
 use Rattle.bx_journal.specs.Events.{is_printable}
+use Rattle.bx_journal.specs.Heads.{IsDay, IsWanted}
 use Rattle.bx_journal.specs.Hex.{octets_in, is_hex}
 use Rattle.bx_journal.specs.Lines.{whole_lines, whole_text}
-use Rattle.bx_journal.specs.Text.{plan_line}
+use Rattle.bx_journal.specs.Numbers.{number_on, space_at}
+use Rattle.bx_journal.specs.Text.{plan_line, journal_text, undated_text}
 
 abbrev pub heard_event : List ℕ → LiveEvent
 heard_event octets = OnLink (Receive octets)
@@ -44,6 +53,26 @@ abbrev pub events_on : ℕ → List (List ℕ) → Result (List LiveEvent) Journ
 events_on n [] = Ok []
 events_on n (line ∷ lines) = with_event n (event_on line) (events_on (n + 1) lines)
 
+-- ---- the head
+
+-- what a journal of version 1 is, where this day is wanted: it tells no day, and its rules are older
+abbrev pub undated : Option JournalDay → Result Version JournalFault
+undated None = Ok Undated
+undated (Some day) = Err OtherRules
+
+-- version 2, by the number of its rules
+abbrev pub dated_by : Option ℕ → Result Version JournalFault
+dated_by None = Err (BadLine 1)
+dated_by (Some rules) = if rules == RULES then Ok Dated else Err OtherRules
+
+-- the same, by its line
+abbrev pub dated_on : List ℕ → Result Version JournalFault
+dated_on line = if bytes_eq (take 19 line) (codes "bx-journal 2 rules ") then dated_by (number_on (drop 19 line)) else Err (BadLine 1)
+
+-- the version that the first line names, or its fault
+abbrev pub version_on : Option JournalDay → List ℕ → Result Version JournalFault
+version_on day line = if bytes_eq line (codes "bx-journal 1") then undated day else dated_on line
+
 -- the line of some plan
 abbrev pub is_plan_line : List ℕ → Bool
 is_plan_line line = if length line == 69 && bytes_eq (take 5 line) (codes "plan ") then list_all (is_hex 97) (drop 5 line) else false
@@ -52,18 +81,74 @@ is_plan_line line = if length line == 69 && bytes_eq (take 5 line) (codes "plan 
 abbrev pub plan_fault : List ℕ → JournalFault
 plan_fault line = if is_plan_line line then OtherPlan else BadLine 2
 
--- from the second line on. Where it is not there yet, the journal was never begun.
-abbrev pub tied_events : List ℕ → List (List ℕ) → Result (List LiveEvent) JournalFault
-tied_events plan [] = Err NotBegun
-tied_events plan (line ∷ lines) = if bytes_eq line (plan_line plan) then events_on 3 lines else Err (plan_fault line)
+-- whether the second line is that of the plan, or its fault
+abbrev pub plan_on : List ℕ → List ℕ → Result (Unit {0}) JournalFault
+plan_on plan line = if bytes_eq line (plan_line plan) then Ok tt else Err (plan_fault line)
 
-abbrev pub journal_events : List ℕ → List (List ℕ) → Result (List LiveEvent) JournalFault
-journal_events plan [] = Err NotBegun
-journal_events plan (line ∷ lines) = if bytes_eq line (codes "bx-journal 1") then tied_events plan lines else Err (BadLine 1)
+-- a live day, by its numbers
+abbrev pub live_of : Option ℕ → Option ℕ → Option JournalDay
+live_of None pace = None
+live_of (Some first) None = None
+live_of (Some first) (Some pace) = if nat_le 1 pace then Some (Live first pace) else None
 
--- the events that a text has on record for a plan: those of its whole lines
-abbrev pub recovered : List ℕ → List ℕ → Result (List LiveEvent) JournalFault
-recovered plan octets = journal_events plan (whole_lines octets)
+abbrev pub live_on : List ℕ → Option JournalDay
+live_on text = live_of (number_on (take (space_at text) text)) (number_on (drop (space_at text + 1) text))
+
+-- the same, by its line
+abbrev pub live_by : List ℕ → Option JournalDay
+live_by line = if bytes_eq (take 9 line) (codes "day live ") then live_on (drop 9 line) else None
+
+-- the day of a line
+abbrev pub day_on : List ℕ → Option JournalDay
+day_on line = if bytes_eq line (codes "day rehearsed") then Some Rehearsed else live_by line
+
+abbrev pub is_day : JournalDay → JournalDay → Bool
+is_day Rehearsed Rehearsed = true
+is_day Rehearsed (Live first pace) = false
+is_day (Live first pace) Rehearsed = false
+is_day (Live first pace) (Live second other) = (first == second) && (pace == other)
+
+-- whether a day is the one that is wanted, or its fault
+abbrev pub fits_day : Option JournalDay → Option JournalDay → Result (Unit {0}) JournalFault
+fits_day wanted None = Err (BadLine 3)
+fits_day None (Some day) = Ok tt
+fits_day (Some wanted) (Some day) = if is_day wanted day then Ok tt else Err OtherDay
+
+-- how many lines the head has, or the first fault in it. Where it is not there whole yet, the journal was never begun.
+abbrev pub behind_day : Result (Unit {0}) JournalFault → Result ℕ JournalFault
+behind_day (Ok fits) = Ok 3
+behind_day (Err fault) = Err fault
+
+abbrev pub dated_head : Option JournalDay → List (List ℕ) → Result ℕ JournalFault
+dated_head day [] = Err NotBegun
+dated_head day (line ∷ lines) = behind_day (fits_day day (day_on line))
+
+abbrev pub behind_plan : Option JournalDay → Result (Unit {0}) JournalFault → Version → List (List ℕ) → Result ℕ JournalFault
+behind_plan day (Err fault) version lines = Err fault
+behind_plan day (Ok tied) Undated lines = Ok 2
+behind_plan day (Ok tied) Dated lines = dated_head day lines
+
+abbrev pub behind_version : Wanted → Result Version JournalFault → List (List ℕ) → Result ℕ JournalFault
+behind_version wanted (Err fault) lines = Err fault
+behind_version wanted (Ok version) [] = Err NotBegun
+behind_version wanted (Ok version) (line ∷ lines) = behind_plan wanted.day (plan_on wanted.plan line) version lines
+
+abbrev pub head_on : Wanted → List (List ℕ) → Result ℕ JournalFault
+head_on wanted [] = Err NotBegun
+head_on wanted (line ∷ lines) = behind_version wanted (version_on wanted.day line) lines
+
+-- ---- the whole
+
+abbrev pub events_behind : Result ℕ JournalFault → List (List ℕ) → Result (List LiveEvent) JournalFault
+events_behind (Ok n) lines = events_on (n + 1) (drop n lines)
+events_behind (Err fault) lines = Err fault
+
+abbrev pub journal_events : Wanted → List (List ℕ) → Result (List LiveEvent) JournalFault
+journal_events wanted lines = events_behind (head_on wanted lines) lines
+
+-- the events that a text has on record, where it is the journal that is wanted: those of its whole lines
+abbrev pub recovered : Wanted → List ℕ → Result (List LiveEvent) JournalFault
+recovered wanted octets = journal_events wanted (whole_lines octets)
 
 -- the events, and how many octets are whole lines
 pub record Recovery : Type 0 where
@@ -74,8 +159,8 @@ abbrev pub with_whole : ℕ → Result (List LiveEvent) JournalFault → Result 
 with_whole whole (Ok events) = Ok (record { events = events; whole = whole })
 with_whole whole (Err fault) = Err fault
 
-abbrev pub journal_in : List ℕ → List ℕ → Result Recovery JournalFault
-journal_in plan octets = with_whole (length (whole_text octets)) (recovered plan octets)
+abbrev pub journal_in : Wanted → List ℕ → Result Recovery JournalFault
+journal_in wanted octets = with_whole (length (whole_text octets)) (recovered wanted octets)
 
 -- an event, and those behind it, up to the first line that has none
 abbrev pub then_events : Option LiveEvent → List LiveEvent → List LiveEvent
@@ -86,14 +171,23 @@ abbrev pub events_to_fault : List (List ℕ) → List LiveEvent
 events_to_fault [] = []
 events_to_fault (line ∷ lines) = then_events (event_on line) (events_to_fault lines)
 
-abbrev pub events_behind_plan : List ℕ → List (List ℕ) → List LiveEvent
-events_behind_plan plan [] = []
-events_behind_plan plan (line ∷ lines) = if bytes_eq line (plan_line plan) then events_to_fault lines else []
-
-abbrev pub events_behind_head : List ℕ → List (List ℕ) → List LiveEvent
-events_behind_head plan [] = []
-events_behind_head plan (line ∷ lines) = if bytes_eq line (codes "bx-journal 1") then events_behind_plan plan lines else []
+abbrev pub events_behind_head : Result ℕ JournalFault → List (List ℕ) → List LiveEvent
+events_behind_head (Ok n) lines = events_to_fault (drop n lines)
+events_behind_head (Err fault) lines = []
 
 -- the events of the whole lines before the first fault, or of all of them
-abbrev pub events_before : List ℕ → List ℕ → List LiveEvent
-events_before plan octets = events_behind_head plan (whole_lines octets)
+abbrev pub events_before : Wanted → List ℕ → List LiveEvent
+events_before wanted octets = events_behind_head (head_on wanted (whole_lines octets)) (whole_lines octets)
+
+-- ---- what is read, by how it is written
+
+-- the journal of a head that is wanted
+pub record IsOfHead (wanted : Wanted) (events : List LiveEvent) (text : List ℕ) : Type 0 where
+  pub head : Head
+  pub is_wanted : IsWanted wanted head
+  pub is_day : IsDay head.day
+  pub is : text ≡ journal_text head events
+
+-- the text of a journal that is wanted, of these events: of version 2, or, where no day is wanted, of version 1
+abbrev pub IsJournalText : Wanted → List LiveEvent → List ℕ → Type 0
+IsJournalText wanted events text = IsOfHead wanted events text ⊎ ((wanted.day ≡ None) × (text ≡ undated_text wanted.plan events))

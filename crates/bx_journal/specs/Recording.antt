@@ -4,34 +4,38 @@ use Rattle.bx_events.specs.Events.{LiveEvent}
 use Rattle.bx_journal.specs.declared.fault.JournalFault.TheVariants.{NotBegun}
 use Rattle.bx_journal.specs.Disk.{Only, LeavesOnly}
 use Rattle.bx_journal.specs.Events.{AreEvents}
+use Rattle.bx_journal.specs.Heads.{IsDay, wanted_of}
+use Rattle.bx_journal.specs.declared.head.Head.{Head}
 use Rattle.bx_journal.specs.Text.{journal_text}
 use Rattle.bx_journal.specs.Reading.{recovered}
 
 -- the disk holds the journal of these events, and each crash leaves all of it
-pub record IsSettled {D : Type 0} (holds may_leave : D → List ℕ → Type 0) (disk : D) (plan : List ℕ) (events : List LiveEvent) : Type 0 where
+pub record IsSettled {D : Type 0} (holds may_leave : D → List ℕ → Type 0) (disk : D) (head : Head) (events : List LiveEvent) : Type 0 where
+  pub day_is : IsDay head.day
   pub events_are : AreEvents events
-  pub written : holds disk (journal_text plan events)
-  pub durable : Only (journal_text plan events) (may_leave disk)
+  pub written : holds disk (journal_text head events)
+  pub durable : Only (journal_text head events) (may_leave disk)
 
 -- what a crash left has these events on record, and a front of more
-abbrev pub IsFront : List ℕ → List LiveEvent → List LiveEvent → List ℕ → Type 0
-IsFront plan events more left = (n : ℕ) × (n ≤ length more) × (recovered plan left ≡ Ok (events ++ take n more))
+abbrev pub IsFront : Head → List LiveEvent → List LiveEvent → List ℕ → Type 0
+IsFront head events more left = (n : ℕ) × (n ≤ length more) × (recovered (wanted_of head) left ≡ Ok (events ++ take n more))
 
 -- the disk holds the journal of these events and of more, and each crash leaves these, and a front of the others
-pub record IsPending {D : Type 0} (holds may_leave : D → List ℕ → Type 0) (disk : D) (plan : List ℕ) (events more : List LiveEvent) : Type 0 where
+pub record IsPending {D : Type 0} (holds may_leave : D → List ℕ → Type 0) (disk : D) (head : Head) (events more : List LiveEvent) : Type 0 where
+  pub day_is : IsDay head.day
   pub events_are : AreEvents (events ++ more)
-  pub written : holds disk (journal_text plan (events ++ more))
-  pub left : (c : List ℕ) → may_leave disk c → IsFront plan events more c
+  pub written : holds disk (journal_text head (events ++ more))
+  pub left : (c : List ℕ) → may_leave disk c → IsFront head events more c
 
 -- what a crash left was never begun, or has no event on record
-abbrev pub IsUnbegun : List ℕ → List ℕ → Type 0
-IsUnbegun plan left = (recovered plan left ≡ Err NotBegun) ⊎ (recovered plan left ≡ Ok [])
+abbrev pub IsUnbegun : Head → List ℕ → Type 0
+IsUnbegun head left = (recovered (wanted_of head) left ≡ Err NotBegun) ⊎ (recovered (wanted_of head) left ≡ Ok [])
 
 -- From disk old to disk new an event was put on record: where all before it were, each crash from then on leaves it too, and one
 -- at any moment in between leaves all before it, with it or without.
 pub record Records {D : Type 0} (holds may_leave : D → List ℕ → Type 0) (moment : D → ℕ) (left_since : D → ℕ → List ℕ → Type 0) (old : D) (event : LiveEvent) (new : D) : Type 0 where
-  pub recorded : (plan : List ℕ) (before : List LiveEvent) → IsSettled holds may_leave old plan before → IsSettled holds may_leave new plan (before ++ event ∷ [])
-  pub any_moment : (plan : List ℕ) (before : List LiveEvent) → IsSettled holds may_leave old plan before → LeavesOnly moment left_since old new (IsFront plan before (event ∷ []))
+  pub recorded : (head : Head) (before : List LiveEvent) → IsSettled holds may_leave old head before → IsSettled holds may_leave new head (before ++ event ∷ [])
+  pub any_moment : (head : Head) (before : List LiveEvent) → IsSettled holds may_leave old head before → LeavesOnly moment left_since old new (IsFront head before (event ∷ []))
 
 -- events were put on record, one after another
 abbrev pub AreRecorded : {D : Type 0} → (D → List ℕ → Type 0) → (D → List ℕ → Type 0) → (D → ℕ) → (D → ℕ → List ℕ → Type 0) → D → List LiveEvent → D → Type 0

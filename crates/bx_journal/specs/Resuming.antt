@@ -1,7 +1,8 @@
 -- Going on with a journal after a crash.
 use Rattle.std.specs.Prelude.{◌≡◌, List, ℕ}
 use Rattle.bx_journal.specs.Reading.{recovered}
+use Rattle.bx_journal.specs.declared.head.Wanted.{Wanted}
 
 -- what a crash left has the same events on record, or the same fault
-abbrev pub IsReadAs : List ℕ → List ℕ → List ℕ → Type 0
-IsReadAs plan octets left = recovered plan left ≡ recovered plan octets
+abbrev pub IsReadAs : Wanted → List ℕ → List ℕ → Type 0
+IsReadAs wanted octets left = recovered wanted left ≡ recovered wanted octets

@@ -1,19 +1,19 @@
 -- Private: what is taken from a device that is read in pieces.
-use Rattle.std.specs.Prelude.{◌≡◌, ◌⊎◌, ℕ, ◌+◌, ◌<◌, Bool, true, false, List, [], ◌∷◌, ◌++◌, length, map, Option, Some, None, Result, Ok, Err}
+use Rattle.std.specs.Prelude.{◌≡◌, ◌⊎◌, ℕ, ◌+◌, ◌<◌, Bool, true, List, [], ◌∷◌, ◌++◌, length, map, Option, Some, None, Result, Ok, Err}
 use Rattle.std.specs.List.{flat_map}
-use Rattle.std.specs.Str.{bytes_eq}
 use Rattle.std.specs.Io.KnownBytes.{Consumes, IsAtEnd}
 use Rattle.bx_events.specs.Events.{LiveEvent}
 use Rattle.bx_journal.specs.declared.fault.JournalFault.{JournalFault}
-use Rattle.bx_journal.specs.declared.fault.JournalFault.TheVariants.{BadLine, OtherPlan, NotBegun, ReadFailed}
+use Rattle.bx_journal.specs.declared.fault.JournalFault.TheVariants.{BadLine, OtherPlan, OtherDay, OtherRules, NotBegun, ReadFailed}
+use Rattle.bx_journal.specs.declared.head.Wanted.{Wanted}
 use Rattle.bx_journal.specs.declared.pieces.CannotRead.{CannotRead}
 use Rattle.bx_journal.specs.declared.line_reading.LineEnd.{LineEnd}
 use Rattle.bx_journal.specs.declared.line_reading.LineEnd.TheVariants.{Whole, TooLong, Torn}
 use Rattle.bx_journal.specs.Held.{Held}
 use Rattle.bx_journal.specs.Events.{AreEvents}
 use Rattle.bx_journal.specs.Lines.{ended}
-use Rattle.bx_journal.specs.Inside.{HasNoLf}
-use Rattle.bx_journal.specs.Reading.{event_on}
+use Rattle.bx_journal.specs.Inside.{HasNoLf, HaveNoLf}
+use Rattle.bx_journal.specs.Reading.{event_on, head_on}
 use Rattle.bx_journal.specs.Text.{line_of}
 
 -- These octets were taken: they stood first in what was held and in what was read behind it.
@@ -71,36 +71,80 @@ IsLine faulted before after old new line (Ok TooLong) = (long : List ℕ) × Tak
 IsLine faulted before after old new line (Ok Torn) = Ends before after old new
 IsLine faulted before after old new line (Err fault) = Stops faulted before after old new
 
--- whatever else stands in the first line
-abbrev pub first_fault : List ℕ → JournalFault
-first_fault line = BadLine 1
-
--- a line of the head that is another one, and its fault
-pub record IsOther (right : List ℕ) (fault_of : List ℕ → JournalFault) (fault : JournalFault) (before after : Option (List ℕ)) (old new : Held) : Type 0 where
+-- a line of the head was taken, and this is what is said of it
+pub record IsJudged {T : Type 0} (judge : List ℕ → Result T JournalFault) (before after : Option (List ℕ)) (old new : Held) (said : Result T JournalFault) : Type 0 where
   pub line : List ℕ
   pub takes : TakesLine before after old new line
-  pub other : bytes_eq line right ≡ false
-  pub fault_is : fault_of line ≡ fault
+  pub is : judge line ≡ said
 
--- a line of the head
-abbrev pub IsHeadLine : List ℕ → (List ℕ → JournalFault) → Bool → Option (List ℕ) → Option (List ℕ) → Held → Held → Result (Unit {0}) JournalFault → Type 0
-IsHeadLine right fault_of faulted before after old new (Ok done) = Takes before after old new (ended right)
-IsHeadLine right fault_of faulted before after old new (Err (BadLine n)) = IsOther right fault_of (BadLine n) before after old new
-IsHeadLine right fault_of faulted before after old new (Err OtherPlan) = IsOther right fault_of OtherPlan before after old new
-IsHeadLine right fault_of faulted before after old new (Err NotBegun) = Ends before after old new
-IsHeadLine right fault_of faulted before after old new (Err ReadFailed) = Stops faulted before after old new
+-- none was taken
+abbrev pub IsCutShort : {T : Type 0} → Bool → Option (List ℕ) → Option (List ℕ) → Held → Held → Result T JournalFault → Type 0
+IsCutShort faulted before after old new (Err NotBegun) = Ends before after old new
+IsCutShort faulted before after old new (Err ReadFailed) = Stops faulted before after old new
+IsCutShort faulted before after old new said = ⊥
+
+abbrev pub IsHeadLine : {T : Type 0} → (List ℕ → Result T JournalFault) → Bool → Option (List ℕ) → Option (List ℕ) → Held → Held → Result T JournalFault → Type 0
+IsHeadLine judge faulted before after old new said = IsJudged judge before after old new said ⊎ IsCutShort faulted before after old new said
+
+-- lines of the head were taken
+pub record TakesLines (before after : Option (List ℕ)) (old new : Held) (lines : List (List ℕ)) : Type 0 where
+  pub takes : Takes before after old new (flat_map ended lines)
+  pub no_lf : HaveNoLf lines
+
+-- the same, and what stands behind them without LF
+pub record TakesTorn (before after : Option (List ℕ)) (old new : Held) (lines : List (List ℕ)) : Type 0 where
+  pub torn : List ℕ
+  pub takes : Takes before after old new (flat_map ended lines ++ torn)
+  pub no_lf : HaveNoLf lines
+  pub torn_no_lf : HasNoLf torn
+
+-- the head was taken, of so many lines
+pub record HeadTaken (wanted : Wanted) (before after : Option (List ℕ)) (old new : Held) (n : ℕ) : Type 0 where
+  pub lines : List (List ℕ)
+  pub taken : TakesLines before after old new lines
+  pub count : length lines ≡ n
+  pub is : (rest : List (List ℕ)) → head_on wanted (lines ++ rest) ≡ Ok n
+
+-- it has a fault
+pub record HeadRefused (wanted : Wanted) (before after : Option (List ℕ)) (old new : Held) (fault : JournalFault) : Type 0 where
+  pub lines : List (List ℕ)
+  pub taken : TakesLines before after old new lines
+  pub is : (rest : List (List ℕ)) → head_on wanted (lines ++ rest) ≡ Err fault
+
+-- the text ends in it
+pub record HeadEnds (wanted : Wanted) (before after : Option (List ℕ)) (old new : Held) : Type 0 where
+  pub lines : List (List ℕ)
+  pub taken : TakesTorn before after old new lines
+  pub over : IsOver after new
+  pub is : head_on wanted lines ≡ Err NotBegun
+
+-- or what was read of it
+pub record HeadStops (wanted : Wanted) (faulted : Bool) (before after : Option (List ℕ)) (old new : Held) : Type 0 where
+  pub lines : List (List ℕ)
+  pub taken : TakesTorn before after old new lines
+  pub stopped : HasStopped faulted new
+  pub is : head_on wanted lines ≡ Err NotBegun
+
+abbrev pub IsHead : Wanted → Bool → Option (List ℕ) → Option (List ℕ) → Held → Held → Result ℕ JournalFault → Type 0
+IsHead wanted faulted before after old new (Ok n) = HeadTaken wanted before after old new n
+IsHead wanted faulted before after old new (Err (BadLine n)) = HeadRefused wanted before after old new (BadLine n)
+IsHead wanted faulted before after old new (Err OtherPlan) = HeadRefused wanted before after old new OtherPlan
+IsHead wanted faulted before after old new (Err OtherDay) = HeadRefused wanted before after old new OtherDay
+IsHead wanted faulted before after old new (Err OtherRules) = HeadRefused wanted before after old new OtherRules
+IsHead wanted faulted before after old new (Err NotBegun) = HeadEnds wanted before after old new
+IsHead wanted faulted before after old new (Err ReadFailed) = HeadStops wanted faulted before after old new
 
 -- the lines of events
 abbrev pub lines_text : List LiveEvent → List ℕ
 lines_text events = flat_map ended (map line_of events)
 
 -- events were followed, and their lines taken, of which the next one is line n
-pub record TakesEvents {F : Type 0} (followed : F → List LiveEvent → F → Type 0) (f g : F) (n : ℕ) (before after : Option (List ℕ)) (old new : Held) : Type 0 where
+pub record TakesEvents {F : Type 0} (followed : F → List LiveEvent → F → Type 0) (f g : F) (first n : ℕ) (before after : Option (List ℕ)) (old new : Held) : Type 0 where
   pub events : List LiveEvent
   pub are : AreEvents events
   pub takes : Takes before after old new (lines_text events)
   pub followed_all : followed f events g
-  pub number : n ≡ 3 + length events
+  pub number : n ≡ first + length events
 
 -- the same, and what stands behind these lines
 pub record EventsEnd {F : Type 0} (followed : F → List LiveEvent → F → Type 0) (f g : F) (before after : Option (List ℕ)) (old new : Held) (whole : ℕ) : Type 0 where
@@ -122,7 +166,7 @@ pub record EventsStop {F : Type 0} (followed : F → List LiveEvent → F → Ty
   pub takes : Takes before after old new (lines_text events ++ torn)
   pub stopped : HasStopped faulted new
 
-pub record EventsBreak {F : Type 0} (followed : F → List LiveEvent → F → Type 0) (f g : F) (n : ℕ) (before after : Option (List ℕ)) (old new : Held) : Type 0 where
+pub record EventsBreak {F : Type 0} (followed : F → List LiveEvent → F → Type 0) (f g : F) (first n : ℕ) (before after : Option (List ℕ)) (old new : Held) : Type 0 where
   pub events : List LiveEvent
   pub are : AreEvents events
   pub followed_all : followed f events g
@@ -130,11 +174,13 @@ pub record EventsBreak {F : Type 0} (followed : F → List LiveEvent → F → T
   pub no_lf : HasNoLf line
   pub takes : Takes before after old new (lines_text events ++ ended line)
   pub no_event : event_on line ≡ None
-  pub number : n ≡ 3 + length events
+  pub number : n ≡ first + length events
 
-abbrev pub AreEventLines : {F : Type 0} → (F → List LiveEvent → F → Type 0) → F → F → Bool → Option (List ℕ) → Option (List ℕ) → Held → Held → Result ℕ JournalFault → Type 0
-AreEventLines followed f g faulted before after old new (Ok whole) = EventsEnd followed f g before after old new whole
-AreEventLines followed f g faulted before after old new (Err (BadLine n)) = EventsBreak followed f g n before after old new
-AreEventLines followed f g faulted before after old new (Err OtherPlan) = ⊥
-AreEventLines followed f g faulted before after old new (Err NotBegun) = ⊥
-AreEventLines followed f g faulted before after old new (Err ReadFailed) = EventsStop followed f g faulted before after old new
+abbrev pub AreEventLines : {F : Type 0} → (F → List LiveEvent → F → Type 0) → F → F → ℕ → Bool → Option (List ℕ) → Option (List ℕ) → Held → Held → Result ℕ JournalFault → Type 0
+AreEventLines followed f g first faulted before after old new (Ok whole) = EventsEnd followed f g before after old new whole
+AreEventLines followed f g first faulted before after old new (Err (BadLine n)) = EventsBreak followed f g first n before after old new
+AreEventLines followed f g first faulted before after old new (Err OtherPlan) = ⊥
+AreEventLines followed f g first faulted before after old new (Err OtherDay) = ⊥
+AreEventLines followed f g first faulted before after old new (Err OtherRules) = ⊥
+AreEventLines followed f g first faulted before after old new (Err NotBegun) = ⊥
+AreEventLines followed f g first faulted before after old new (Err ReadFailed) = EventsStop followed f g faulted before after old new

@@ -11,7 +11,13 @@ pub enum JournalFault {
     /// The second line names another plan.
     #[error("J2 OtherPlan")]
     OtherPlan,
-    /// The text ends inside its first two lines, so no event is on record.
+    /// The third line names another day.
+    #[error("J5 OtherDay")]
+    OtherDay,
+    /// The first line names other rules, or the version that named none, where a day is wanted.
+    #[error("J8 OtherRules")]
+    OtherRules,
+    /// The text ends inside its head, so no event is on record.
     #[error("NotBegun")]
     NotBegun,
     /// A read failed.

@@ -1,20 +1,79 @@
-//! Reading the two lines at the head.
+//! Reading the lines at the head.
 
-ghost use Rattle.std.specs.Prelude.{◌≡◌, Err, OnOk, codes, ◌⊎◌};
+ghost use Rattle.std.specs.Prelude.{◌≡◌, ◌≤◌, ◌<◌, Err, ◌⊎◌, IfOk};
 ghost use Rattle.std.specs.List.{list_all};
 ghost use Rattle.bx_devices.specs.Watching.{device_of, is_faulted};
 ghost use Rattle.bx_journal.specs.Hex.{is_hex};
-ghost use Rattle.bx_journal.specs.Reading.{is_plan_line, plan_fault};
-ghost use Rattle.bx_journal.specs.Taking.{IsHeadLine, first_fault};
-ghost use Rattle.bx_journal.specs.Text.{plan_line};
+ghost use Rattle.bx_journal.specs.Numbers.{number_on};
+ghost use Rattle.bx_journal.specs.Reading.{day_on, dated_by, dated_on, fits_day, is_day, is_plan_line, live_by, live_on, plan_fault, plan_on, undated, version_on};
+ghost use Rattle.bx_journal.specs.Taking.{IsHead, IsHeadLine};
 
 use crate::fault::JournalFault;
+use crate::head::{JournalDay, RULES, Wanted};
 use crate::hex::is_hex;
 use crate::line_reading::{LineEnd, WholeLine, next_line};
+use crate::numbers::{number_on, space_at};
 use crate::pieces::Pieces;
 use crate::written::plan_line;
 use bx_devices::Watched;
 use std::io::Read;
+
+/// The versions of a journal.
+#[derive(Clone, Copy)]
+pub enum Version {
+    /// 1, whose head is two lines and tells no day.
+    Undated,
+    /// 2, whose head is three.
+    Dated,
+}
+
+/// What a journal of version 1 is, where this day is wanted.
+fn undated(day: Option<JournalDay>) -> Result<Version, JournalFault>
+    ensures { result ≡ undated day }
+{
+    match day {
+        None => Ok(Version::Undated),
+        Some(_) => Err(JournalFault::OtherRules),
+    }
+}
+
+/// Version 2, by the number of its rules.
+fn dated_by(digits: &[u8]) -> Result<Version, JournalFault>
+    ensures { result ≡ dated_by (number_on digits.now) }
+{
+    match number_on(digits) {
+        None => Err(JournalFault::BadLine(1)),
+        Some(rules) => {
+            if rules == RULES {
+                Ok(Version::Dated)
+            } else {
+                Err(JournalFault::OtherRules)
+            }
+        }
+    }
+}
+
+/// Version 2, by its line.
+fn dated_on(line: &[u8]) -> Result<Version, JournalFault>
+    ensures { result ≡ dated_on line.now }
+{
+    if line.len() >= 19 && &line[..19] == b"bx-journal 2 rules ".as_slice() {
+        dated_by(&line[19..])
+    } else {
+        Err(JournalFault::BadLine(1))
+    }
+}
+
+/// The version that the first line names, or its fault.
+fn version_on(day: Option<JournalDay>, line: &[u8]) -> Result<Version, JournalFault>
+    ensures { result ≡ version_on day line.now }
+{
+    if line == b"bx-journal 1".as_slice() {
+        undated(day)
+    } else {
+        dated_on(line)
+    }
+}
 
 /// Whether all octets are digits of a digest.
 fn all_hex(octets: &[u8]) -> bool
@@ -45,23 +104,105 @@ fn plan_fault(line: &[u8]) -> JournalFault
     }
 }
 
-/// Reads the first line.
-pub(crate) fn read_version<R: Read>(
+/// Whether the second line is that of the plan, or its fault.
+fn plan_on(plan: &[u8; 32], line: &[u8]) -> Result<(), JournalFault>
+    ensures { result ≡ plan_on plan.now line.now }
+{
+    if line == plan_line(plan).as_slice() {
+        Ok(())
+    } else {
+        Err(plan_fault(line))
+    }
+}
+
+/// The live day of two numbers with a space between them.
+fn live_on(text: &[u8]) -> Option<JournalDay>
+    ensures { result ≡ live_on text.now }
+{
+    let at = space_at(text);
+    if at == text.len() {
+        return None;
+    }
+    let first = number_on(&text[..at])?;
+    let pace = number_on(&text[at + 1..])?;
+    if pace >= 1 {
+        Some(JournalDay::Live { first, pace })
+    } else {
+        None
+    }
+}
+
+/// The live day of a line, where it has one.
+fn live_by(line: &[u8]) -> Option<JournalDay>
+    ensures { result ≡ live_by line.now }
+{
+    if line.len() >= 9 && &line[..9] == b"day live ".as_slice() {
+        live_on(&line[9..])
+    } else {
+        None
+    }
+}
+
+/// The day of a line, where it has one.
+fn day_on(line: &[u8]) -> Option<JournalDay>
+    ensures { result ≡ day_on line.now }
+{
+    if line == b"day rehearsed".as_slice() {
+        Some(JournalDay::Rehearsed)
+    } else {
+        live_by(line)
+    }
+}
+
+/// Whether two days are the same.
+fn is_day(wanted: JournalDay, day: JournalDay) -> bool
+    ensures { result ≡ is_day wanted day }
+{
+    match (wanted, day) {
+        (JournalDay::Rehearsed, JournalDay::Rehearsed) => true,
+        (JournalDay::Rehearsed, JournalDay::Live { .. }) => false,
+        (JournalDay::Live { .. }, JournalDay::Rehearsed) => false,
+        (
+            JournalDay::Live { first, pace },
+            JournalDay::Live {
+                first: second,
+                pace: other,
+            },
+        ) => first == second && pace == other,
+    }
+}
+
+/// Whether a day is the one that is wanted, or its fault.
+fn fits_day(wanted: Option<JournalDay>, day: Option<JournalDay>) -> Result<(), JournalFault>
+    ensures { result ≡ fits_day wanted day }
+{
+    let Some(day) = day else {
+        return Err(JournalFault::BadLine(3));
+    };
+    match wanted {
+        None => Ok(()),
+        Some(wanted) => {
+            if is_day(wanted, day) {
+                Ok(())
+            } else {
+                Err(JournalFault::OtherDay)
+            }
+        }
+    }
+}
+
+/// Reads the first line, which names the version and the rules.
+fn read_version<R: Read>(
     pieces: &mut Pieces,
     device: &mut Watched<R>,
-) -> Result<(), JournalFault>
-    ensures line { IsHeadLine (codes "bx-journal 1") first_fault (is_faulted device.new) (R.remaining (device_of device.old)) (R.remaining (device_of device.new)) pieces.old pieces.new result }
+    day: Option<JournalDay>,
+) -> Result<Version, JournalFault>
+    ensures line { IsHeadLine (version_on day) (is_faulted device.new) (R.remaining (device_of device.old)) (R.remaining (device_of device.new)) pieces.old pieces.new result }
     ensures unfaulted { (is_faulted device.new ≡ is_faulted device.old) ⊎ (result ≡ Err JournalFault.ReadFailed) }
 {
     let mut line = WholeLine::new();
     match next_line(pieces, device, &mut line) {
-        Ok(LineEnd::Whole) => {
-            if line.as_slice() == b"bx-journal 1".as_slice() {
-                Ok(())
-            } else {
-                Err(JournalFault::BadLine(1))
-            }
-        }
+        Ok(LineEnd::Whole) => version_on(day, &line),
         Ok(LineEnd::TooLong) => Err(JournalFault::BadLine(1)),
         Ok(LineEnd::Torn) => Err(JournalFault::NotBegun),
         Err(_) => Err(JournalFault::ReadFailed),
@@ -69,25 +210,59 @@ pub(crate) fn read_version<R: Read>(
 }
 
 /// Reads the second line, which ties the journal to its plan.
-pub(crate) fn read_plan_line<R: Read>(
+fn read_plan_line<R: Read>(
     pieces: &mut Pieces,
     device: &mut Watched<R>,
     plan: &[u8; 32],
 ) -> Result<(), JournalFault>
-    ensures line { IsHeadLine (plan_line plan.now) plan_fault (is_faulted device.new) (R.remaining (device_of device.old)) (R.remaining (device_of device.new)) pieces.old pieces.new result }
+    ensures line { IsHeadLine (plan_on plan.now) (is_faulted device.new) (R.remaining (device_of device.old)) (R.remaining (device_of device.new)) pieces.old pieces.new result }
     ensures unfaulted { (is_faulted device.new ≡ is_faulted device.old) ⊎ (result ≡ Err JournalFault.ReadFailed) }
 {
     let mut line = WholeLine::new();
     match next_line(pieces, device, &mut line) {
-        Ok(LineEnd::Whole) => {
-            if line.as_slice() == plan_line(plan).as_slice() {
-                Ok(())
-            } else {
-                Err(plan_fault(&line))
-            }
-        }
+        Ok(LineEnd::Whole) => plan_on(plan, &line),
         Ok(LineEnd::TooLong) => Err(JournalFault::BadLine(2)),
         Ok(LineEnd::Torn) => Err(JournalFault::NotBegun),
         Err(_) => Err(JournalFault::ReadFailed),
+    }
+}
+
+/// Reads the third line, which ties the journal to its day.
+fn read_day_line<R: Read>(
+    pieces: &mut Pieces,
+    device: &mut Watched<R>,
+    day: Option<JournalDay>,
+) -> Result<(), JournalFault>
+    ensures line { IsHeadLine (λ line. fits_day day (day_on line)) (is_faulted device.new) (R.remaining (device_of device.old)) (R.remaining (device_of device.new)) pieces.old pieces.new result }
+    ensures unfaulted { (is_faulted device.new ≡ is_faulted device.old) ⊎ (result ≡ Err JournalFault.ReadFailed) }
+{
+    let mut line = WholeLine::new();
+    match next_line(pieces, device, &mut line) {
+        Ok(LineEnd::Whole) => fits_day(day, day_on(&line)),
+        Ok(LineEnd::TooLong) => Err(JournalFault::BadLine(3)),
+        Ok(LineEnd::Torn) => Err(JournalFault::NotBegun),
+        Err(_) => Err(JournalFault::ReadFailed),
+    }
+}
+
+/// Reads the head, and answers how many lines it has: fewer than octets.
+pub(crate) fn read_head<R: Read>(
+    pieces: &mut Pieces,
+    device: &mut Watched<R>,
+    wanted: &Wanted,
+) -> Result<u64, JournalFault>
+    ensures head { IsHead wanted.now (is_faulted device.new) (R.remaining (device_of device.old)) (R.remaining (device_of device.new)) pieces.old pieces.new result }
+    ensures few { IfOk result (λ n. n ≤ 3) }
+    ensures past { IfOk result (λ n. n < pieces.new.taken) }
+    ensures unfaulted { (is_faulted device.new ≡ is_faulted device.old) ⊎ (result ≡ Err JournalFault.ReadFailed) }
+{
+    let version = read_version(pieces, device, wanted.day)?;
+    read_plan_line(pieces, device, &wanted.plan)?;
+    match version {
+        Version::Undated => Ok(2),
+        Version::Dated => {
+            read_day_line(pieces, device, wanted.day)?;
+            Ok(3)
+        }
     }
 }

@@ -10,7 +10,8 @@ ghost use Rattle.bx_journal.specs.Taking.{AreEventLines};
 use crate::event::RecordedEvent;
 use crate::event_reading::event_on;
 use crate::fault::JournalFault;
-use crate::head_reading::{read_plan_line, read_version};
+use crate::head::Wanted;
+use crate::head_reading::read_head;
 use crate::line_reading::{LineEnd, WholeLine, next_line};
 use crate::pieces::Pieces;
 use bx_devices::Watched;
@@ -30,18 +31,19 @@ pub trait Follower {
     ghost follows_on: { (s t u : Self) (xs ys : List LiveEvent) → followed s xs t → followed t ys u → followed s (xs ++ ys) u };
 }
 
-/// Reads lines to the end, the first of which is line 3, and answers how many octets stand before what is torn.
+/// Reads lines to the end, the first of which is line `first`, and answers how many octets stand before what is torn.
 fn read_events<R: Read, F: Follower>(
     pieces: &mut Pieces,
     device: &mut Watched<R>,
     follower: &mut F,
+    first: u64,
 ) -> Result<u64, JournalFault>
-    requires { 3 ≤ pieces.old.taken }
-    ensures lines { AreEventLines F.followed follower.old follower.new (is_faulted device.new) (R.remaining (device_of device.old)) (R.remaining (device_of device.new)) pieces.old pieces.new result }
+    requires { first ≤ pieces.old.taken }
+    ensures lines { AreEventLines F.followed follower.old follower.new first (is_faulted device.new) (R.remaining (device_of device.old)) (R.remaining (device_of device.new)) pieces.old pieces.new result }
     ensures unfaulted { (is_faulted device.new ≡ is_faulted device.old) ⊎ (result ≡ Err JournalFault.ReadFailed) }
 {
     let mut line = WholeLine::new();
-    let mut n = 3u64;
+    let mut n = first;
     while pieces.taken() < u64::MAX {
         let whole = pieces.taken();
         match next_line(pieces, device, &mut line) {
@@ -58,21 +60,21 @@ fn read_events<R: Read, F: Follower>(
     Err(JournalFault::ReadFailed)
 }
 
-/// Reads the journal of a plan to its end, and lets its events be followed one by one. It keeps neither the text nor the
+/// Reads the journal that is wanted to its end, and lets its events be followed one by one. It keeps neither the text nor the
 /// events, so a journal may be of any length. Answers how many octets are whole lines: what stands behind them is what a
 /// crash cut, and is dropped. Lines are read in order, and the first fault is answered: `NotBegun` where the text ends inside its
-/// first two lines, `OtherPlan`, `BadLine` with the number of the line, or `ReadFailed`. The events before it were followed. What
-/// was read of a device that does not tell its octets is some text, of which the same is said.
+/// head, `OtherRules` at line 1, `OtherPlan` at line 2, `OtherDay` at line 3, `BadLine` with the number of the line, or
+/// `ReadFailed`. The events before it were followed. What was read of a device that does not tell its octets is some text, of
+/// which the same is said.
 pub fn read_journal<R: Read, F: Follower>(
     device: &mut Watched<R>,
-    plan: &[u8; 32],
+    wanted: &Wanted,
     follower: &mut F,
 ) -> Result<u64, JournalFault>
-    ensures read { IsFollowed F.followed (is_faulted device.new) (R.remaining (device_of device.old)) (R.remaining (device_of device.new)) plan.now follower.old follower.new result }
+    ensures read { IsFollowed F.followed (is_faulted device.new) (R.remaining (device_of device.old)) (R.remaining (device_of device.new)) wanted.now follower.old follower.new result }
     ensures unfaulted { (is_faulted device.new ≡ is_faulted device.old) ⊎ (result ≡ Err JournalFault.ReadFailed) }
 {
     let mut pieces = Pieces::new();
-    read_version(&mut pieces, device)?;
-    read_plan_line(&mut pieces, device, plan)?;
-    read_events(&mut pieces, device, follower)
+    let lines = read_head(&mut pieces, device, wanted)?;
+    read_events(&mut pieces, device, follower, lines + 1)
 }

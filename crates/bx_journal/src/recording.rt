@@ -1,10 +1,11 @@
 //! Putting events on record.
 
-ghost use Rattle.std.specs.Prelude.{◌≡◌, ◌≤◌, ◌++◌, ◌∷◌, [], ℕ, List, map, IsTrue, OnOk, OnErr};
+ghost use Rattle.std.specs.Prelude.{◌≡◌, ◌≤◌, ◌++◌, ◌∷◌, [], List, map, IsTrue, OnOk, OnErr};
 ghost use Rattle.bx_events.specs.Events.{LiveEvent as PlainEvent};
 ghost use Rattle.bx_journal.specs.Disk.{LeavesOnly};
 ghost use Rattle.bx_events.specs.Told.{live_event_of};
 ghost use Rattle.bx_journal.specs.Events.{IsMessage, AreMessages};
+ghost use Rattle.bx_journal.specs.declared.head.Head.{Head};
 ghost use Rattle.bx_journal.specs.Recording.{IsSettled, IsPending, IsFront, Records};
 
 use crate::disk::{Disk, DiskFailed};
@@ -15,9 +16,9 @@ use bx_events::LiveEvent;
 /// are at most 260. `DiskFailed` where the write failed.
 pub fn write_event<D: Disk>(disk: &mut D, event: LiveEvent<'_>) -> Result<(), DiskFailed>
     requires { IsMessage (live_event_of event) }
-    ensures written { OnOk result ((plan : List ℕ) (events more : List PlainEvent) → IsPending D.holds D.may_leave disk.old plan events more → IsPending D.holds D.may_leave disk.new plan events (more ++ live_event_of event.entry ∷ [])) }
+    ensures written { OnOk result ((head : Head) (events more : List PlainEvent) → IsPending D.holds D.may_leave disk.old head events more → IsPending D.holds D.may_leave disk.new head events (more ++ live_event_of event.entry ∷ [])) }
     // A crash at any moment of the call leaves the events that are on record, and a front of the others.
-    ensures any_moment { (plan : List ℕ) (events more : List PlainEvent) → IsPending D.holds D.may_leave disk.old plan events more → LeavesOnly D.moment D.left_since disk.old disk.new (IsFront plan events (more ++ live_event_of event.entry ∷ [])) }
+    ensures any_moment { (head : Head) (events more : List PlainEvent) → IsPending D.holds D.may_leave disk.old head events more → LeavesOnly D.moment D.left_since disk.old disk.new (IsFront head events (more ++ live_event_of event.entry ∷ [])) }
     // It does not give up by itself.
     ensures failed { OnErr result (IsTrue (D.has_failed disk.new)) }
     ensures unfailed { OnOk result (D.has_failed disk.new ≡ D.has_failed disk.old) }
@@ -30,8 +31,8 @@ pub fn write_event<D: Disk>(disk: &mut D, event: LiveEvent<'_>) -> Result<(), Di
 /// the sync failed, some of them may be on record: none must be acted on, and the journal has to be read again before anything else
 /// is written to it.
 pub fn commit<D: Disk>(disk: &mut D) -> Result<(), DiskFailed>
-    ensures committed { OnOk result ((plan : List ℕ) (events more : List PlainEvent) → IsPending D.holds D.may_leave disk.old plan events more → IsSettled D.holds D.may_leave disk.new plan (events ++ more)) }
-    ensures any_moment { (plan : List ℕ) (events more : List PlainEvent) → IsPending D.holds D.may_leave disk.old plan events more → LeavesOnly D.moment D.left_since disk.old disk.new (IsFront plan events more) }
+    ensures committed { OnOk result ((head : Head) (events more : List PlainEvent) → IsPending D.holds D.may_leave disk.old head events more → IsSettled D.holds D.may_leave disk.new head (events ++ more)) }
+    ensures any_moment { (head : Head) (events more : List PlainEvent) → IsPending D.holds D.may_leave disk.old head events more → LeavesOnly D.moment D.left_since disk.old disk.new (IsFront head events more) }
     ensures failed { OnErr result (IsTrue (D.has_failed disk.new)) }
     ensures unfailed { OnOk result (D.has_failed disk.new ≡ D.has_failed disk.old) }
 {
@@ -43,11 +44,11 @@ pub fn commit<D: Disk>(disk: &mut D) -> Result<(), DiskFailed>
 /// not.
 pub fn record_event<D: Disk>(disk: &mut D, event: LiveEvent<'_>) -> Result<(), DiskFailed>
     requires { IsMessage (live_event_of event) }
-    ensures recorded { OnOk result ((plan : List ℕ) (events : List PlainEvent) → IsSettled D.holds D.may_leave disk.old plan events → IsSettled D.holds D.may_leave disk.new plan (events ++ live_event_of event.entry ∷ [])) }
+    ensures recorded { OnOk result ((head : Head) (events : List PlainEvent) → IsSettled D.holds D.may_leave disk.old head events → IsSettled D.holds D.may_leave disk.new head (events ++ live_event_of event.entry ∷ [])) }
     // What a run of such calls leaves is a law (`laws::front_is_left`).
     ensures step { OnOk result (Records D.holds D.may_leave D.moment D.left_since disk.old (live_event_of event.entry) disk.new) }
     // A crash at any moment of the call leaves the events from before it, with the new one or without.
-    ensures any_moment { (plan : List ℕ) (events : List PlainEvent) → IsSettled D.holds D.may_leave disk.old plan events → LeavesOnly D.moment D.left_since disk.old disk.new (IsFront plan events (live_event_of event.entry ∷ [])) }
+    ensures any_moment { (head : Head) (events : List PlainEvent) → IsSettled D.holds D.may_leave disk.old head events → LeavesOnly D.moment D.left_since disk.old disk.new (IsFront head events (live_event_of event.entry ∷ [])) }
     ensures failed { OnErr result (IsTrue (D.has_failed disk.new)) }
     ensures unfailed { OnOk result (D.has_failed disk.new ≡ D.has_failed disk.old) }
 {
@@ -59,9 +60,9 @@ pub fn record_event<D: Disk>(disk: &mut D, event: LiveEvent<'_>) -> Result<(), D
 /// each event. At `DiskFailed`, where a write or the sync failed, a front of them may be on record.
 pub fn record_events<D: Disk>(disk: &mut D, events: &[LiveEvent<'_>]) -> Result<(), DiskFailed>
     requires { AreMessages events.now }
-    ensures recorded { OnOk result ((plan : List ℕ) (before : List PlainEvent) → IsSettled D.holds D.may_leave disk.old plan before → IsSettled D.holds D.may_leave disk.new plan (before ++ map live_event_of events.now)) }
+    ensures recorded { OnOk result ((head : Head) (before : List PlainEvent) → IsSettled D.holds D.may_leave disk.old head before → IsSettled D.holds D.may_leave disk.new head (before ++ map live_event_of events.now)) }
     // A crash at any moment of the call leaves the events from before it, and a front of these: none is skipped.
-    ensures any_moment { (plan : List ℕ) (before : List PlainEvent) → IsSettled D.holds D.may_leave disk.old plan before → LeavesOnly D.moment D.left_since disk.old disk.new (IsFront plan before (map live_event_of events.now)) }
+    ensures any_moment { (head : Head) (before : List PlainEvent) → IsSettled D.holds D.may_leave disk.old head before → LeavesOnly D.moment D.left_since disk.old disk.new (IsFront head before (map live_event_of events.now)) }
     ensures failed { OnErr result (IsTrue (D.has_failed disk.new)) }
     ensures unfailed { OnOk result (D.has_failed disk.new ≡ D.has_failed disk.old) }
 {

@@ -1,15 +1,17 @@
 //! Lines, each built before it is written.
 
-ghost use Rattle.std.specs.Prelude.{◌≡◌, ◌+◌, ◌*◌, ◌<◌, ◌≤◌, ◌++◌, [], length};
+ghost use Rattle.std.specs.Prelude.{◌≡◌, ◌+◌, ◌*◌, ◌<◌, ◌≤◌, ◌++◌, [], length, decimal};
 ghost use Rattle.arrayvec.specs.ArrayVec.{array_vec_len};
 ghost use Rattle.bx_journal.specs.Hex.{hex_digit, hex_of};
 ghost use Rattle.bx_journal.specs.Lines.{ended};
 ghost use Rattle.bx_events.specs.Told.{live_event_of};
 ghost use Rattle.bx_journal.specs.Events.{IsMessage, IsEvent, AreOctets};
-ghost use Rattle.bx_journal.specs.Text.{line_of, plan_line, journal_text};
+ghost use Rattle.bx_journal.specs.Text.{line_of, plan_line, day_line, journal_text};
 
+use crate::head::{Head, JournalDay, RULES};
 use arrayvec::ArrayVec;
 use bx_events::{Event, LiveEvent};
+use itoa::Buffer;
 
 /// A line, or its front: none is longer than that of a message of 260 octets.
 pub type Line = ArrayVec<u8, 527>;
@@ -86,13 +88,44 @@ pub(crate) fn plan_line(plan: &[u8; 32]) -> Line
     line
 }
 
-/// The two lines at the head of a journal, with their LF.
-pub(crate) fn head_text(plan: &[u8; 32]) -> Line
-    ensures { result.items ≡ journal_text plan.now [] }
+/// Adds a number.
+fn add_number(line: &mut Line, number: u32)
+    requires { array_vec_len line.old ≤ 487 }
+    ensures items { line.new.items ≡ line.old.items ++ decimal number }
+    ensures len { array_vec_len line.new ≤ array_vec_len line.old + 40 }
+{
+    let mut digits = Buffer::new();
+    add(line, digits.format(number).as_bytes());
+}
+
+/// Adds the line of a day, without its LF.
+fn add_day(line: &mut Line, day: JournalDay)
+    requires { array_vec_len line.old ≤ 300 }
+    ensures items { line.new.items ≡ line.old.items ++ day_line day }
+    ensures len { array_vec_len line.new ≤ array_vec_len line.old + 100 }
+{
+    match day {
+        JournalDay::Rehearsed => add(line, b"day rehearsed"),
+        JournalDay::Live { first, pace } => {
+            add(line, b"day live ");
+            add_number(line, first);
+            add(line, b" ");
+            add_number(line, pace);
+        }
+    }
+}
+
+/// The three lines at the head of a journal, with their LF.
+pub(crate) fn head_text(head: &Head) -> Line
+    ensures { result.items ≡ journal_text head.now [] }
 {
     let mut line = Line::new();
-    add(&mut line, b"bx-journal 1\nplan ");
-    add_hex(&mut line, b'a', plan);
+    add(&mut line, b"bx-journal 2 rules ");
+    add_number(&mut line, RULES);
+    add(&mut line, b"\nplan ");
+    add_hex(&mut line, b'a', &head.plan);
+    line.push(b'\n');
+    add_day(&mut line, head.day);
     line.push(b'\n');
     line
 }

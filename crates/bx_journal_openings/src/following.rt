@@ -9,7 +9,7 @@ ghost use Rattle.bx_journal_openings.specs.Followed.{IsFollowedWhole, IsFollowed
 use bx_check_commands::CommandFault;
 use bx_day_openings::DayCommandFault;
 use bx_devices::Watched;
-use bx_journal::{Follower, JournalFault, read_journal};
+use bx_journal::{Follower, JournalFault, Wanted, read_journal};
 use std::io::Read;
 
 /// How a command tells of a journal of this name that was read. One that was not begun is empty. `ReadFailed` is told as `Command`,
@@ -30,18 +30,18 @@ pub fn journal_read<'a>(
     }
 }
 
-/// Lets the events of a journal of this name be followed to its end. One that was not begun has none.
+/// Lets the events of a journal of this name, where it is the one that is wanted, be followed to its end. One that was not begun has none.
 pub fn follow_to_end<'a, R: Read, F: Follower>(
     name: &'a str,
     journal: &mut Watched<R>,
-    plan: &[u8; 32],
+    wanted: &Wanted,
     follower: &mut F,
 ) -> Result<(), DayCommandFault<'a>>
-    ensures whole { OnOk result (IsFollowedWhole F.followed plan.now (R.remaining (device_of journal.old)) follower.old follower.new) }
-    ensures refused { IfErr result (IsNoJournal name.now plan.now (R.remaining (device_of journal.old)) (R.remaining (device_of journal.new)) (is_faulted journal.new)) }
+    ensures whole { OnOk result (IsFollowedWhole F.followed wanted.now (R.remaining (device_of journal.old)) follower.old follower.new) }
+    ensures refused { IfErr result (IsNoJournal name.now wanted.now (R.remaining (device_of journal.old)) (R.remaining (device_of journal.new)) (is_faulted journal.new)) }
     // At a refusal the events before it were followed.
     ensures front { IfErr result (λ fault. IsFollowedSoFar F.followed follower.old follower.new) }
 {
-    let whole = read_journal(journal, plan, follower);
+    let whole = read_journal(journal, wanted, follower);
     journal_read(name, whole)
 }

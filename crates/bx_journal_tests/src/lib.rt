@@ -2,6 +2,10 @@
 #![tactic(auto)]
 
 #[cfg(test)]
+mod file_disks;
+#[cfg(test)]
+mod heads;
+#[cfg(test)]
 mod losing_disk;
 #[cfg(test)]
 mod losses;

@@ -2,7 +2,7 @@
 
 use crate::losing_disk::{LosingDisk, events_read};
 use crate::told::reading;
-use crate::worked::{DOWN, ENDS, ENQUIRY, PLAN, SOLD, TEXT, TICK};
+use crate::worked::{DOWN, ENDS, ENQUIRY, HEAD, SOLD, TEXT, TICK};
 use arrayvec::ArrayVec;
 use bx_journal::{
     Event, JournalFault, LiveEvent, begin, commit, record_event, record_events, resume, write_event,
@@ -11,7 +11,7 @@ use std::test::Fail;
 
 /// Puts the events of the worked journal on record, and answers for how many that was done before a call failed.
 fn recorded(disk: &mut LosingDisk) -> u64 {
-    if begin(disk, &PLAN).is_err() || record_event(disk, TICK).is_err() {
+    if begin(disk, &HEAD).is_err() || record_event(disk, TICK).is_err() {
         return 0;
     }
     if record_event(disk, LiveEvent::OnLink(Event::Receive(&ENQUIRY))).is_err() {
@@ -35,7 +35,7 @@ fn is_front(left: &[u8], least: u64) -> bool {
     if !TEXT.starts_with(left) {
         return false;
     }
-    let read = reading(left, &PLAN);
+    let read = reading(left, &HEAD.wanted());
     match read.answer {
         Ok(_) => events_read(&read) >= least,
         Err(fault) => fault == JournalFault::NotBegun && least == 0,
@@ -64,14 +64,14 @@ fn what_a_crash_leaves_is_a_front(rt: HostRuntime) -> Result<(), Fail> {
     let mut disk = LosingDisk::new(ArrayVec::new(), 14);
     assert_eq!(rt; recorded(&mut disk), 6);
     assert_eq!(rt; disk.octets.as_slice(), TEXT);
-    assert_eq!(rt; disk.synced, 143);
+    assert_eq!(rt; disk.synced, 174);
     Ok(())
 }
 
 /// Whether a journal of which so many octets are left goes on behind its last whole line.
 fn goes_on(len: usize) -> bool {
     let left = &TEXT[..len.min(TEXT.len())];
-    let Ok(whole) = reading(left, &PLAN).answer else {
+    let Ok(whole) = reading(left, &HEAD.wanted()).answer else {
         return false;
     };
     let Ok(octets) = ArrayVec::try_from(left) else {
@@ -89,10 +89,10 @@ fn goes_on(len: usize) -> bool {
 #[test]
 fn a_torn_line_is_cut_off(rt: HostRuntime) -> Result<(), Fail> {
     let mut all = true;
-    for len in 83..=TEXT.len() {
+    for len in 114..=TEXT.len() {
         all = all && goes_on(len);
     }
     assert!(rt; all);
-    assert!(rt; !goes_on(82));
+    assert!(rt; !goes_on(113));
     Ok(())
 }

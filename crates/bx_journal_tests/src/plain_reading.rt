@@ -1,11 +1,10 @@
 //! A second reader of journals, written plainly: line by line, over a text that is held.
 
 use crate::told::{WasRead, mark};
-use crate::worked::TEXT;
 use arrayvec::ArrayVec;
 use bx_journal::JournalFault;
 
-type Line = ArrayVec<u8, 160>;
+type Line = ArrayVec<u8, 200>;
 
 type Marks = ArrayVec<u8, 256>;
 
@@ -22,7 +21,7 @@ fn value(digits: &[u8], digit: u8) -> Option<u8> {
 }
 
 /// The octets of a line behind `heard `, where it is right.
-fn octets(digits: &[u8]) -> Option<ArrayVec<u8, 160>> {
+fn octets(digits: &[u8]) -> Option<Line> {
     let mut octets = ArrayVec::new();
     let mut high = None;
     for digit in digits {
@@ -76,35 +75,112 @@ fn sold_line(booking: &[u8], marks: &mut Marks) -> bool {
     right
 }
 
-/// What is wrong with a second line.
-fn plan_line(line: &[u8]) -> Option<JournalFault> {
-    if line == &TEXT[13..82] {
+/// The number of 32 bits that digits spell, with no zero in front.
+fn number(digits: &[u8]) -> Option<u64> {
+    let is_padded = digits.starts_with(b"0") && digits.len() > 1;
+    if digits.is_empty() || digits.len() > 10 || is_padded {
         return None;
     }
+    let mut sum = 0u64;
+    for digit in digits {
+        let value = value(b"0123456789", *digit)?;
+        sum = sum.saturating_mul(10).saturating_add(u64::from(value));
+    }
+    if sum <= 4_294_967_295 {
+        Some(sum)
+    } else {
+        None
+    }
+}
+
+/// What is wrong with a first line.
+fn version_line(line: &[u8], wants_day: bool) -> Option<JournalFault> {
+    if line == b"bx-journal 1".as_slice() {
+        return if wants_day {
+            Some(JournalFault::OtherRules)
+        } else {
+            None
+        };
+    }
+    let Some(digits) = line.strip_prefix(b"bx-journal 2 rules ".as_slice()) else {
+        return Some(JournalFault::BadLine(1));
+    };
+    match number(digits) {
+        Some(1) => None,
+        Some(_) => Some(JournalFault::OtherRules),
+        None => Some(JournalFault::BadLine(1)),
+    }
+}
+
+/// What is wrong with a second line, for the plan of the worked journal.
+fn plan_line(line: &[u8]) -> Option<JournalFault> {
     let Some(digits) = line.strip_prefix(b"plan ".as_slice()) else {
         return Some(JournalFault::BadLine(2));
     };
     let right = digits
         .iter()
         .all(|digit| value(b"0123456789abcdef", *digit).is_some());
-    if right && digits.len() == 64 {
-        Some(JournalFault::OtherPlan)
+    if !right || digits.len() != 64 {
+        return Some(JournalFault::BadLine(2));
+    }
+    if digits == b"abababababababababababababababababababababababababababababababab".as_slice() {
+        None
     } else {
-        Some(JournalFault::BadLine(2))
+        Some(JournalFault::OtherPlan)
     }
 }
 
-/// What is wrong with line n.
-fn line_fault(n: u64, line: &[u8], marks: &mut Marks) -> Option<JournalFault> {
-    if n == 1 {
-        return if line == b"bx-journal 1".as_slice() {
-            None
+/// Whether a line is one of a live day.
+fn is_live(line: &[u8]) -> bool {
+    let Some(numbers) = line.strip_prefix(b"day live ".as_slice()) else {
+        return false;
+    };
+    let mut first = Line::new();
+    let mut pace = Line::new();
+    let mut is_behind = false;
+    for octet in numbers {
+        if is_behind {
+            let _ = pace.try_push(*octet);
+        } else if *octet == b' ' {
+            is_behind = true;
         } else {
-            Some(JournalFault::BadLine(1))
-        };
+            let _ = first.try_push(*octet);
+        }
+    }
+    is_behind && number(&first).is_some() && number(&pace).unwrap_or(0) >= 1
+}
+
+/// What is wrong with a third line, for the day of the worked journal.
+fn day_line(line: &[u8], wants_day: bool) -> Option<JournalFault> {
+    if line == b"day live 1767222000 60".as_slice() {
+        return None;
+    }
+    if line != b"day rehearsed".as_slice() && !is_live(line) {
+        return Some(JournalFault::BadLine(3));
+    }
+    if wants_day {
+        Some(JournalFault::OtherDay)
+    } else {
+        None
+    }
+}
+
+/// What is wrong with line n of a journal whose head has so many lines.
+fn line_fault(
+    n: u64,
+    line: &[u8],
+    head: u64,
+    wants_day: bool,
+    marks: &mut Marks,
+) -> Option<JournalFault> {
+    if n == 1 {
+        return version_line(line, wants_day);
     }
     if n == 2 {
         return plan_line(line);
+    }
+    if n == 3 && head == 3 {
+        return day_line(line, wants_day);
     }
     if event_line(line, marks) {
         None
@@ -113,8 +189,13 @@ fn line_fault(n: u64, line: &[u8], marks: &mut Marks) -> Option<JournalFault> {
     }
 }
 
-/// What is read of a text, for the plan of the worked journal.
-pub fn plain_reading(text: &[u8]) -> WasRead {
+/// What is read of a text, for the plan of the worked journal, and for its day, or for any.
+pub fn plain_reading(text: &[u8], wants_day: bool) -> WasRead {
+    let head = if text.starts_with(b"bx-journal 1\n") {
+        2
+    } else {
+        3
+    };
     let mut marks = Marks::new();
     let mut line = Line::new();
     let mut n = 1u64;
@@ -126,7 +207,7 @@ pub fn plain_reading(text: &[u8]) -> WasRead {
             let _ = line.try_push(*octet);
             continue;
         }
-        if let Some(fault) = line_fault(n, &line, &mut marks) {
+        if let Some(fault) = line_fault(n, &line, head, wants_day, &mut marks) {
             return WasRead {
                 answer: Err(fault),
                 marks,
@@ -136,7 +217,7 @@ pub fn plain_reading(text: &[u8]) -> WasRead {
         n = n.saturating_add(1);
         whole = at;
     }
-    let answer = if n < 3 {
+    let answer = if n <= head {
         Err(JournalFault::NotBegun)
     } else {
         Ok(whole)

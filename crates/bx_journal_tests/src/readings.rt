@@ -2,33 +2,52 @@
 
 use crate::plain_reading::plain_reading;
 use crate::told::reading;
-use crate::worked::{PLAN, TEXT};
+use crate::worked::{HEAD, PLAN, REHEARSED, TEXT, UNDATED};
 use arrayvec::ArrayVec;
 use bx_devices::Failing;
-use bx_journal::{JournalFault, plan_digest};
+use bx_journal::{JournalFault, Wanted, plan_digest};
 use std::alloc::Global;
 use std::test::Fail;
 
-/// Whether both readers say the same of a text.
-fn is_same(text: &[u8]) -> bool {
-    let read = reading(text, &PLAN);
-    let plain = plain_reading(text);
+/// Whether both readers say the same of a text, where the day of the worked journal is wanted, or any.
+fn is_same_for(text: &[u8], wants_day: bool) -> bool {
+    let wanted = if wants_day {
+        HEAD.wanted()
+    } else {
+        Wanted::of_any_day(&PLAN)
+    };
+    let read = reading(text, &wanted);
+    let plain = plain_reading(text, wants_day);
     read.answer == plain.answer && read.marks.as_slice() == plain.marks.as_slice()
+}
+
+/// Whether they do for both.
+fn is_same(text: &[u8]) -> bool {
+    is_same_for(text, true) && is_same_for(text, false)
 }
 
 /// Whether both say the same where one octet is another one.
 fn is_same_turned(at: usize, value: u8) -> bool {
-    let mut text = ArrayVec::<u8, 160>::new();
+    let mut text = ArrayVec::<u8, 200>::new();
     for (place, octet) in TEXT.iter().enumerate() {
         let _ = text.try_push(if place == at { value } else { *octet });
     }
     is_same(&text)
 }
 
+/// Whether they do of each front of a text.
+fn is_same_in_front(text: &[u8]) -> bool {
+    let mut same = true;
+    for len in 0..=text.len() {
+        same = same && is_same(&text[..len]);
+    }
+    same
+}
+
 #[test]
 fn the_worked_journal_is_read(rt: HostRuntime) -> Result<(), Fail> {
-    let read = reading(TEXT, &PLAN);
-    assert!(rt; read.answer == Ok(143));
+    let read = reading(TEXT, &HEAD.wanted());
+    assert!(rt; read.answer == Ok(174));
     assert_eq!(rt;
         read.marks.as_slice(),
         b"th\x08\x02\x01\x00\x75.dth.s60 90 5 1234 in.".as_slice()
@@ -38,11 +57,9 @@ fn the_worked_journal_is_read(rt: HostRuntime) -> Result<(), Fail> {
 
 #[test]
 fn each_front_is_read(rt: HostRuntime) -> Result<(), Fail> {
-    let mut same = true;
-    for len in 0..=TEXT.len() {
-        same = same && is_same(&TEXT[..len]);
-    }
-    assert!(rt; same);
+    assert!(rt; is_same_in_front(TEXT));
+    assert!(rt; is_same_in_front(REHEARSED));
+    assert!(rt; is_same_in_front(UNDATED));
     Ok(())
 }
 
@@ -60,20 +77,20 @@ fn each_octet_may_be_another(rt: HostRuntime) -> Result<(), Fail> {
 
 /// Whether a failed read behind so many octets leaves the events of the whole lines before it.
 fn is_cut_off(reads: u32) -> bool {
-    let read = reading(Failing::new(TEXT, reads, 1), &PLAN);
-    let plain = plain_reading(&TEXT[..(reads as usize).min(TEXT.len())]);
+    let read = reading(Failing::new(TEXT, reads, 1), &HEAD.wanted());
+    let plain = plain_reading(&TEXT[..(reads as usize).min(TEXT.len())], true);
     read.answer == Err(JournalFault::ReadFailed) && read.marks.as_slice() == plain.marks.as_slice()
 }
 
 #[test]
 fn each_read_may_fail(rt: HostRuntime) -> Result<(), Fail> {
     let mut same = true;
-    for reads in 0..=143u32 {
+    for reads in 0..=174u32 {
         same = same && is_cut_off(reads);
     }
     assert!(rt; same);
-    let whole = reading(Failing::new(TEXT, 144, 1), &PLAN);
-    assert!(rt; whole.answer == Ok(143));
+    let whole = reading(Failing::new(TEXT, 175, 1), &HEAD.wanted());
+    assert!(rt; whole.answer == Ok(174));
     Ok(())
 }
 
@@ -81,7 +98,7 @@ fn each_read_may_fail(rt: HostRuntime) -> Result<(), Fail> {
 fn another_plan_is_named(rt: HostRuntime) -> Result<(), Fail> {
     // The digest of FIPS 180-4's one-block message.
     let other = plan_digest(b"abc");
-    let read = reading(TEXT, &other);
+    let read = reading(TEXT, &Wanted::of_any_day(&other));
     assert!(rt; read.answer == Err(JournalFault::OtherPlan));
     assert_eq!(rt; read.marks.as_slice(), b"".as_slice());
     Ok(())
@@ -94,31 +111,31 @@ fn digits_behind(
     digits: u32,
     end: &[u8],
 ) -> Option<Result<u64, JournalFault>> {
-    let mut text = TEXT[..83].to_vec(alloc).ok()?;
+    let mut text = TEXT[..114].to_vec(alloc).ok()?;
     text.extend_from_slice(word).ok()?;
     for _ in 0..digits {
         text.push(b'0').ok()?;
     }
     text.extend_from_slice(end).ok()?;
-    Some(reading(text.as_slice(), &PLAN).answer)
+    Some(reading(text.as_slice(), &HEAD.wanted()).answer)
 }
 
 #[test]
 fn no_line_is_longer_than_that_of_the_longest_message(rt: HostRuntime) -> Result<(), Fail> {
     let alloc = rt.alloc();
-    let bad = Some(Err(JournalFault::BadLine(3)));
-    assert!(rt; digits_behind(alloc, b"heard ", 520, b"\n") == Some(Ok(610)));
+    let bad = Some(Err(JournalFault::BadLine(4)));
+    assert!(rt; digits_behind(alloc, b"heard ", 520, b"\n") == Some(Ok(641)));
     assert!(rt; digits_behind(alloc, b"heard ", 522, b"\n") == bad);
     assert!(rt; digits_behind(alloc, b"heard ", 20_000, b"\n") == bad);
-    assert!(rt; digits_behind(alloc, b"heard ", 20_000, b"") == Some(Ok(83)));
+    assert!(rt; digits_behind(alloc, b"heard ", 20_000, b"") == Some(Ok(114)));
     Ok(())
 }
 
 #[test]
 fn no_booking_is_longer_than_its_line(rt: HostRuntime) -> Result<(), Fail> {
     let alloc = rt.alloc();
-    let bad = Some(Err(JournalFault::BadLine(3)));
-    assert!(rt; digits_behind(alloc, b"sold ", 120, b"\n") == Some(Ok(209)));
+    let bad = Some(Err(JournalFault::BadLine(4)));
+    assert!(rt; digits_behind(alloc, b"sold ", 120, b"\n") == Some(Ok(240)));
     assert!(rt; digits_behind(alloc, b"sold ", 121, b"\n") == bad);
     Ok(())
 }

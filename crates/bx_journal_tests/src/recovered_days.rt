@@ -1,6 +1,6 @@
 //! The day of an exchange after a journal.
 
-use crate::worked::PLAN;
+use crate::worked::HEAD;
 use bx_calls::CallState;
 use bx_channels::Channel;
 use bx_day::{Exchange, Outcome};
@@ -14,11 +14,11 @@ use std::test::Fail;
 /// Two seconds on the link and one without, a booking that is sold, a CONNECT for the first booking's call, a second on the
 /// link, and a line that was cut.
 static TEXT: &[u8] =
-    b"bx-journal 1\nplan abababababababababababababababababababababababababababababababab\ntick\ndown\nsold 70 80 5 1234 out\ntick\nheard 0802800107\ntick\ntic";
+    b"bx-journal 2 rules 1\nplan abababababababababababababababababababababababababababababababab\nday live 1767222000 60\ntick\ndown\nsold 70 80 5 1234 out\ntick\nheard 0802800107\ntick\ntic";
 
 /// The same with a sixth event that is none.
 static DAMAGED: &[u8] =
-    b"bx-journal 1\nplan abababababababababababababababababababababababababababababababab\ntick\ndown\nsold 70 80 5 1234 out\ntick\nheard 0802800107\ntock\n";
+    b"bx-journal 2 rules 1\nplan abababababababababababababababababababababababababababababababab\nday live 1767222000 60\ntick\ndown\nsold 70 80 5 1234 out\ntick\nheard 0802800107\ntock\n";
 
 /// The moment, what is on channel 1, and what has become of the booking.
 fn outcome_at(exchange: &Exchange) -> Option<(u32, Option<(u16, CallState)>, Option<Outcome>)> {
@@ -51,7 +51,7 @@ fn is_day(
     whole: Result<u64, JournalFault>,
 ) -> Option<bool> {
     let mut device = Watched::new(text);
-    let recovered = recover_day(&mut device, &PLAN, exchange(alloc)?);
+    let recovered = recover_day(&mut device, &HEAD.wanted(), exchange(alloc)?);
     let expected = by_hand(alloc, has_last)?;
     Some(outcome_at(&recovered.exchange)? == outcome_at(&expected)? && recovered.whole == whole)
 }
@@ -59,7 +59,7 @@ fn is_day(
 #[test]
 fn the_day_goes_on_by_each_event(rt: HostRuntime) -> Result<(), Fail> {
     let alloc = rt.alloc();
-    assert!(rt; is_day(alloc, TEXT, true, Ok(142)) == Some(true));
-    assert!(rt; is_day(alloc, DAMAGED, false, Err(JournalFault::BadLine(8))) == Some(true));
+    assert!(rt; is_day(alloc, TEXT, true, Ok(173)) == Some(true));
+    assert!(rt; is_day(alloc, DAMAGED, false, Err(JournalFault::BadLine(9))) == Some(true));
     Ok(())
 }

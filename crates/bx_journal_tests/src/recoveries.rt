@@ -1,9 +1,10 @@
 //! A journal on a disk in memory.
 
 use crate::told::reading;
-use crate::worked::{DOWN, ENQUIRY, PLAN, SOLD, TEXT, TICK};
+use crate::worked::{DOWN, ENQUIRY, HEAD, SOLD, TEXT, TICK};
 use bx_journal::{
-    Event, LiveEvent, MemoryDisk, begin, plan_digest, record_event, record_events, resume,
+    Event, Head, JournalDay, LiveEvent, MemoryDisk, begin, plan_digest, record_event,
+    record_events, resume,
 };
 use std::alloc::Global;
 use std::test::Fail;
@@ -11,7 +12,7 @@ use std::test::Fail;
 /// A disk with the worked journal, if no growth was refused.
 fn recorded(alloc: Global) -> Option<MemoryDisk> {
     let mut disk = MemoryDisk::new(alloc, Vec::new(alloc));
-    begin(&mut disk, &PLAN).ok()?;
+    begin(&mut disk, &HEAD).ok()?;
     record_event(&mut disk, TICK).ok()?;
     record_event(&mut disk, LiveEvent::OnLink(Event::Receive(&ENQUIRY))).ok()?;
     record_events(&mut disk, &[DOWN, TICK]).ok()?;
@@ -29,22 +30,26 @@ fn each_event_is_a_line(rt: HostRuntime) -> Result<(), Fail> {
 }
 
 #[test]
-fn the_head_names_the_plan(rt: HostRuntime) -> Result<(), Fail> {
+fn the_head_names_the_plan_and_the_day(rt: HostRuntime) -> Result<(), Fail> {
     let alloc = rt.alloc();
     let mut disk = MemoryDisk::new(alloc, Vec::new(alloc));
     // The digest of FIPS 180-4's one-block message.
-    let begun = begin(&mut disk, &plan_digest(b"abc"));
+    let head = Head {
+        plan: plan_digest(b"abc"),
+        day: JournalDay::Rehearsed,
+    };
+    let begun = begin(&mut disk, &head);
     assert!(rt; begun.is_ok());
     let head =
-        b"bx-journal 1\nplan ba7816bf8f01cfea414140de5dae2223b00361a396177a9cb410ff61f20015ad\n";
+        b"bx-journal 2 rules 1\nplan ba7816bf8f01cfea414140de5dae2223b00361a396177a9cb410ff61f20015ad\nday rehearsed\n";
     assert_eq!(rt; disk.octets(), head.as_slice());
     Ok(())
 }
 
 /// The text after a journal whose end is torn went on by a tick.
 fn went_on(alloc: Global) -> Option<Vec<u8>> {
-    let torn = TEXT[..104].to_vec(alloc).ok()?;
-    let whole = reading(torn.as_slice(), &PLAN).answer.ok()?;
+    let torn = TEXT[..135].to_vec(alloc).ok()?;
+    let whole = reading(torn.as_slice(), &HEAD.wanted()).answer.ok()?;
     let mut disk = MemoryDisk::new(alloc, torn);
     resume(&mut disk, whole).ok()?;
     record_event(&mut disk, TICK).ok()?;
@@ -55,6 +60,6 @@ fn went_on(alloc: Global) -> Option<Vec<u8>> {
 fn a_journal_in_memory_goes_on(rt: HostRuntime) -> Result<(), Fail> {
     let alloc = rt.alloc();
     let text = went_on(alloc).expect(&rt, "no growth was refused");
-    assert!(rt; text.as_slice().strip_prefix(&TEXT[..88]) == Some(b"tick\n".as_slice()));
+    assert!(rt; text.as_slice().strip_prefix(&TEXT[..119]) == Some(b"tick\n".as_slice()));
     Ok(())
 }

@@ -2,7 +2,7 @@
 
 use arrayvec::ArrayVec;
 use bx_devices::Watched;
-use bx_journal::{Follower, JournalFault, RecordedEvent, read_journal};
+use bx_journal::{Follower, JournalFault, RecordedEvent, Wanted, read_journal};
 use std::io::Read;
 
 /// A letter for each event, `t`, `d` or `h`, and behind `h` the octets that came and a full stop.
@@ -50,13 +50,13 @@ pub struct WasRead {
     pub marks: ArrayVec<u8, 256>,
 }
 
-/// Reads the journal of a plan.
-pub fn reading<R: Read + Drop>(device: R, plan: &[u8; 32]) -> WasRead {
+/// Reads the journal that is wanted.
+pub fn reading<R: Read + Drop>(device: R, wanted: &Wanted) -> WasRead {
     let mut device = Watched::new(device);
     let mut told = Told {
         marks: ArrayVec::new(),
     };
-    let answer = read_journal(&mut device, plan, &mut told);
+    let answer = read_journal(&mut device, wanted, &mut told);
     let Told { marks } = told;
     WasRead { answer, marks }
 }

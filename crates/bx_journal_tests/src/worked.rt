@@ -1,16 +1,33 @@
 //! A journal that the tests share.
 
-use bx_journal::{Event, LiveEvent};
+use bx_journal::{Event, Head, JournalDay, LiveEvent};
 
 /// The digest of some plan.
 pub static PLAN: [u8; 32] = [0xAB; 32];
 
+/// Some live day.
+pub static HEAD: Head = Head {
+    plan: [0xAB; 32],
+    day: JournalDay::Live {
+        first: 1_767_222_000,
+        pace: 60,
+    },
+};
+
 /// A tick, a STATUS ENQUIRY, a second without a link, a tick, a message without octets, and a booking that is sold.
 pub static TEXT: &[u8] =
-    b"bx-journal 1\nplan abababababababababababababababababababababababababababababababab\ntick\nheard 0802010075\ndown\ntick\nheard \nsold 60 90 5 1234 in\n";
+    b"bx-journal 2 rules 1\nplan abababababababababababababababababababababababababababababababab\nday live 1767222000 60\ntick\nheard 0802010075\ndown\ntick\nheard \nsold 60 90 5 1234 in\n";
 
 /// Where the head ends, and each event behind it.
-pub static ENDS: [u64; 7] = [83, 88, 105, 110, 115, 122, 143];
+pub static ENDS: [u64; 7] = [114, 119, 136, 141, 146, 153, 174];
+
+/// The same events of a day that was rehearsed.
+pub static REHEARSED: &[u8] =
+    b"bx-journal 2 rules 1\nplan abababababababababababababababababababababababababababababababab\nday rehearsed\ntick\nheard 0802010075\ndown\ntick\nheard \nsold 60 90 5 1234 in\n";
+
+/// The same events in a journal of version 1.
+pub static UNDATED: &[u8] =
+    b"bx-journal 1\nplan abababababababababababababababababababababababababababababababab\ntick\nheard 0802010075\ndown\ntick\nheard \nsold 60 90 5 1234 in\n";
 
 pub const TICK: LiveEvent<'static> = LiveEvent::OnLink(Event::Tick);
 

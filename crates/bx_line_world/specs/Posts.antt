@@ -49,7 +49,7 @@ begun_by p Ended = p
 -- the day has dropped the link
 abbrev pub dropped_by : Post → Loss → Post
 dropped_by p losses.Late = p
-dropped_by p (losses.Fault fault) = record p { here = false; lost = None }
+dropped_by p (losses.Fault fault) = record p { here = false; lost = Some fault }
 
 abbrev pub is_lost : Option LinkFault → Bool
 is_lost None = false

@@ -1,6 +1,7 @@
 //! A live day over a data link: a world with a wire and the clock beside it.
 #![tactic(auto)]
 
+pub mod laws;
 mod line;
 mod line_world;
 mod post;

@@ -100,15 +100,16 @@ impl Post {
         }
     }
 
-    /// The day has dropped the link.
+    /// The day has dropped the link. Behind a fault the next second is one without a link, also where it is up again by then: what was under
+    /// way is lost, and the day is to ask.
     pub(crate) fn drop_link(&mut self, loss: Loss)
         ensures { self.new ≡ dropped_by self.old loss }
     {
         match loss {
             Loss::Late => {}
-            Loss::Fault(_) => {
+            Loss::Fault(fault) => {
                 self.here = false;
-                self.lost = None;
+                self.lost = Some(fault);
             }
         }
     }

@@ -22,8 +22,6 @@ mod frames;
 #[cfg(test)]
 mod printed_faults;
 #[cfg(test)]
-mod rejoining;
-#[cfg(test)]
 mod torn_days;
 #[cfg(test)]
 mod turn_endings;

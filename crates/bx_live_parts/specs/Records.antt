@@ -3,19 +3,20 @@ use Rattle.std.specs.Prelude.{◌≡◌, ℕ, Bool, true, List, [], ◌∷◌, �
 use Rattle.bx_events.specs.Events.{LiveEvent}
 use Rattle.bx_journal.specs.Disk.{LeavesOnly}
 use Rattle.bx_journal.specs.Recording.{IsPending, IsFront}
+use Rattle.bx_journal.specs.declared.head.Head.{Head}
 use Rattle.bx_live.specs.Acts.{Act, Recorded, Synced}
 
 -- The line of an event was written, or could not be. A crash at any moment of it leaves what was on the disk, and a front of the
 -- other events, with this one or without.
 pub record Writes {D : Type 0} (holds may_leave : D → List ℕ → Type 0) (moment : D → ℕ) (left_since : D → ℕ → List ℕ → Type 0) (old : D) (event : LiveEvent) (done : Bool) (new : D) : Type 0 where
-  pub written : done ≡ true → (plan : List ℕ) (events more : List LiveEvent) → IsPending holds may_leave old plan events more → IsPending holds may_leave new plan events (more ++ event ∷ [])
-  pub any_moment : (plan : List ℕ) (events more : List LiveEvent) → IsPending holds may_leave old plan events more → LeavesOnly moment left_since old new (IsFront plan events (more ++ event ∷ []))
+  pub written : done ≡ true → (head : Head) (events more : List LiveEvent) → IsPending holds may_leave old head events more → IsPending holds may_leave new head events (more ++ event ∷ [])
+  pub any_moment : (head : Head) (events more : List LiveEvent) → IsPending holds may_leave old head events more → LeavesOnly moment left_since old new (IsFront head events (more ++ event ∷ []))
 
 -- What was written is on the disk, or could not be brought there. A crash at any moment of it leaves what was there, and a front of
 -- what was written.
 pub record Commits {D : Type 0} (holds may_leave : D → List ℕ → Type 0) (moment : D → ℕ) (left_since : D → ℕ → List ℕ → Type 0) (old : D) (done : Bool) (new : D) : Type 0 where
-  pub committed : done ≡ true → (plan : List ℕ) (events more : List LiveEvent) → IsPending holds may_leave old plan events more → IsPending holds may_leave new plan (events ++ more) []
-  pub any_moment : (plan : List ℕ) (events more : List LiveEvent) → IsPending holds may_leave old plan events more → LeavesOnly moment left_since old new (IsFront plan events more)
+  pub committed : done ≡ true → (head : Head) (events more : List LiveEvent) → IsPending holds may_leave old head events more → IsPending holds may_leave new head (events ++ more) []
+  pub any_moment : (head : Head) (events more : List LiveEvent) → IsPending holds may_leave old head events more → LeavesOnly moment left_since old new (IsFront head events more)
 
 -- the same of the journal, where one is kept; where none is, none is begun
 abbrev pub WritesKept : {D : Type 0} → (D → List ℕ → Type 0) → (D → List ℕ → Type 0) → (D → ℕ) → (D → ℕ → List ℕ → Type 0) → Option D → LiveEvent → Bool → Option D → Type 0

@@ -4,13 +4,15 @@ ghost use Rattle.std.specs.Prelude.{◌≡◌, ◌⊎◌, ℕ, List, Some, Err};
 ghost use Rattle.bx_devices.specs.Watching.{device_of, is_faulted};
 ghost use Rattle.bx_events.specs.Events.{LiveEvent};
 ghost use Rattle.bx_journal.specs.Follows.{IsFollowed};
+ghost use Rattle.bx_journal.specs.Heads.{IsWanted};
 ghost use Rattle.bx_journal.specs.Recording.{IsFront};
+ghost use Rattle.bx_journal.specs.declared.head.Head.{Head};
 ghost use Rattle.bx_recovery.specs.Recovered.{goes_on, IsRecovered, IsFrontDay};
 
 use crate::following::Following;
 use bx_day::Exchange;
 use bx_devices::Watched;
-use bx_journal::{JournalFault, read_journal};
+use bx_journal::{JournalFault, Wanted, read_journal};
 use std::io::Read;
 
 /// An exchange after the events of a journal, and how many octets of that are whole lines, or the fault of `read_journal`. At a
@@ -21,22 +23,22 @@ pub struct Recovered {
     pub whole: Result<u64, JournalFault>,
 }
 
-/// Reads the journal of a plan to its end, and lets each of its events happen to the exchange, which stands at its opening, as
+/// Reads the journal that is wanted to its end, and lets each of its events happen to the exchange, which stands at its opening, as
 /// it is read.
 pub fn recover_day<R: Read>(
     device: &mut Watched<R>,
-    plan: &[u8; 32],
+    wanted: &Wanted,
     exchange: Exchange,
 ) -> Recovered
     // Of a device that does not tell its octets: some text was read of it, and the day is the one after the events of that.
-    ensures read { IsFollowed goes_on (is_faulted device.new) (R.remaining (device_of device.old)) (R.remaining (device_of device.new)) plan.now exchange result.exchange result.whole }
-    ensures day { (text : List ℕ) → R.remaining (device_of device.old) ≡ Some text → IsRecovered plan.now text exchange result.exchange result.whole }
-    // After a crash while events were put on record it is the day after a front of them, with each whose record was done.
-    ensures front { (text : List ℕ) (before more : List LiveEvent) → R.remaining (device_of device.old) ≡ Some text → IsFront plan.now before more text → IsFrontDay before more exchange result.exchange result.whole }
+    ensures read { IsFollowed goes_on (is_faulted device.new) (R.remaining (device_of device.old)) (R.remaining (device_of device.new)) wanted.now exchange result.exchange result.whole }
+    ensures day { (text : List ℕ) → R.remaining (device_of device.old) ≡ Some text → IsRecovered wanted.now text exchange result.exchange result.whole }
+    // After a crash while events were put on record, in the journal of a head that is wanted, it is the day after a front of them, with each whose record was done.
+    ensures front { (head : Head) (text : List ℕ) (before more : List LiveEvent) → IsWanted wanted.now head → R.remaining (device_of device.old) ≡ Some text → IsFront head before more text → IsFrontDay before more exchange result.exchange result.whole }
     ensures unfaulted { (is_faulted device.new ≡ is_faulted device.old) ⊎ (result.whole ≡ Err JournalFault.ReadFailed) }
 {
     let mut following = Following { exchange };
-    let whole = read_journal(device, plan, &mut following);
+    let whole = read_journal(device, wanted, &mut following);
     let Following { exchange } = following;
     Recovered { exchange, whole }
 }

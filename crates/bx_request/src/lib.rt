@@ -4,6 +4,7 @@
 mod request;
 
 pub use request::{
-    AuditRequest, Call, CaptureWords, FarRequest, FileRequest, LiveRequest, Peer, Place,
-    RecordsRequest, RecordsWords, RehearsalRequest, RejoinRequest, Request, Sight, Terms,
+    AuditRequest, Call, CaptureWords, DayHours, FarLineRequest, FarRequest, FileRequest, LinePorts,
+    LiveRequest, Peer, Place, RecordsRequest, RecordsWords, RehearsalRequest, Request, Sight,
+    Terms,
 };

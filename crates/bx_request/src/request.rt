@@ -123,30 +123,47 @@ pub struct RehearsalRequest<'a> {
     pub sight: Sight<'a>,
 }
 
-/// The far end of a day that is to be run, and to connect again whenever its connection is lost.
+/// The two UDP ports of 127.0.0.1 between which a data link goes.
 #[derive(Clone, Copy)]
-pub struct RejoinRequest<'a> {
-    pub script: &'a str,
-    pub place: Place<'a>,
-    pub sight: Sight<'a>,
+pub struct LinePorts {
+    /// That of this end.
+    pub here: u16,
+    /// That of the other end.
+    pub there: u16,
 }
 
-/// A plan's day that is to be run by the clock.
+/// When a day is that goes by the clock.
 #[derive(Clone, Copy)]
-pub struct LiveRequest<'a> {
-    pub plan: &'a str,
-    pub place: Place<'a>,
+pub struct DayHours<'a> {
     /// The date and the zone of the day, whose midnight is its moment 0.
     pub date: &'a str,
     pub zone: &'a str,
     /// How many seconds of the day go by in one of the clock.
     pub pace: u32,
+}
+
+/// The far end of a day that is to be run by the clock, over a data link.
+#[derive(Clone, Copy)]
+pub struct FarLineRequest<'a> {
+    pub script: &'a str,
+    pub line: LinePorts,
+    pub hours: DayHours<'a>,
+    pub turns: Option<u32>,
+    /// The file of its capture, where one is to be written.
+    pub capture: Option<&'a str>,
+    pub is_quiet: bool,
+}
+
+/// A plan's day that is to be run by the clock, over a data link.
+#[derive(Clone, Copy)]
+pub struct LiveRequest<'a> {
+    pub plan: &'a str,
+    pub line: LinePorts,
+    pub hours: DayHours<'a>,
     /// The file of its journal, where one is kept.
     pub journal: Option<&'a str>,
     pub turns: Option<u32>,
-    /// The file of its records, where they are to be written.
-    pub records: Option<&'a str>,
-    pub sight: Sight<'a>,
+    pub is_quiet: bool,
 }
 
 /// A day that is to be told by its journal.
@@ -174,7 +191,7 @@ pub enum Request<'a> {
     Files(FileRequest<'a>),
     Rehearsal(RehearsalRequest<'a>),
     Far(FarRequest<'a>),
-    Rejoin(RejoinRequest<'a>),
+    FarLine(FarLineRequest<'a>),
     Live(LiveRequest<'a>),
     Audit(AuditRequest<'a>),
     Records(RecordsRequest<'a>),

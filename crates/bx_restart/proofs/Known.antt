@@ -9,7 +9,8 @@ use Rattle.bx_day.specs.Day.{Day, opening}
 use Rattle.bx_day.specs.Outages.{live_day_after}
 use Rattle.bx_events.specs.Events.{LiveEvent}
 use Rattle.bx_journal.specs.declared.fault.JournalFault.{JournalFault}
-use Rattle.bx_journal.specs.declared.fault.JournalFault.TheVariants.{BadLine, OtherPlan, NotBegun, ReadFailed}
+use Rattle.bx_journal.specs.declared.fault.JournalFault.TheVariants.{BadLine, OtherPlan, OtherDay, OtherRules, NotBegun, ReadFailed}
+use Rattle.bx_journal.specs.declared.head.Wanted.{Wanted}
 use Rattle.bx_journal.specs.Follows.{WasRead, IsFollowed}
 use Rattle.bx_journal.specs.Reading.{Recovery, recovered, journal_in}
 use Rattle.bx_planfile.specs.OneBooking.{row_on}
@@ -32,37 +33,41 @@ whole_text text read before after known c e = at_end after (subst (λ (b : Optio
   at_end None c e = absurd c
   at_end (Some rest) c e = c ∙ ap (λ (l : List ℕ). read ++ l) e ∙ append-nil read
 
-fault_read : (digest text read : List ℕ) (before after : Option (List ℕ)) (fault : JournalFault) → before ≡ Some text → Consumes before after read → ((more : List ℕ) → recovered digest (read ++ more) ≡ Err fault) → recovered digest text ≡ Err fault
-fault_read digest text read before after fault known c is = by_rest after (subst (λ (b : Option (List ℕ)). Consumes b after read) known c) where
-  by_rest : (after : Option (List ℕ)) → Consumes (Some text) after read → recovered digest text ≡ Err fault
+fault_read : (wanted : Wanted) (text read : List ℕ) (before after : Option (List ℕ)) (fault : JournalFault) → before ≡ Some text → Consumes before after read → ((more : List ℕ) → recovered wanted (read ++ more) ≡ Err fault) → recovered wanted text ≡ Err fault
+fault_read wanted text read before after fault known c is = by_rest after (subst (λ (b : Option (List ℕ)). Consumes b after read) known c) where
+  by_rest : (after : Option (List ℕ)) → Consumes (Some text) after read → recovered wanted text ≡ Err fault
   by_rest None c = absurd c
-  by_rest (Some rest) c = ap (recovered digest) c ∙ is rest
+  by_rest (Some rest) c = ap (recovered wanted) c ∙ is rest
 
-pub has_fault : (digest text : List ℕ) (before after : Option (List ℕ)) (faulted : Bool) {F : Type 0} (followed : F → List LiveEvent → F → Type 0) (f g : F) (fault : JournalFault)
-    → before ≡ Some text → IsFollowed followed faulted before after digest f g (Err fault) → IsFaultOf digest text fault
-has_fault digest text before after faulted followed f g (BadLine n) known r = fault_read digest text r.read before after (BadLine n) known r.consumed r.is
-has_fault digest text before after faulted followed f g OtherPlan known r = fault_read digest text r.read before after OtherPlan known r.consumed r.is
-has_fault digest text before after faulted followed f g NotBegun known r = ap (recovered digest) (whole_text text r.text before after known r.consumed r.at_end) ∙ r.is
-has_fault digest text before after faulted followed f g ReadFailed known r = tt
+pub has_fault : (wanted : Wanted) (text : List ℕ) (before after : Option (List ℕ)) (faulted : Bool) {F : Type 0} (followed : F → List LiveEvent → F → Type 0) (f g : F) (fault : JournalFault)
+    → before ≡ Some text → IsFollowed followed faulted before after wanted f g (Err fault) → IsFaultOf wanted text fault
+has_fault wanted text before after faulted followed f g (BadLine n) known r = fault_read wanted text r.read before after (BadLine n) known r.consumed r.is
+has_fault wanted text before after faulted followed f g OtherPlan known r = fault_read wanted text r.read before after OtherPlan known r.consumed r.is
+has_fault wanted text before after faulted followed f g OtherDay known r = fault_read wanted text r.read before after OtherDay known r.consumed r.is
+has_fault wanted text before after faulted followed f g OtherRules known r = fault_read wanted text r.read before after OtherRules known r.consumed r.is
+has_fault wanted text before after faulted followed f g NotBegun known r = ap (recovered wanted) (whole_text text r.text before after known r.consumed r.at_end) ∙ r.is
+has_fault wanted text before after faulted followed f g ReadFailed known r = tt
 
-pub fault_again : (digest text : List ℕ) (old new : Day) (fault : JournalFault) → IsRecovered digest text old new (Err fault) → IsFaultOf digest text fault
-fault_again digest text old new (BadLine n) r = r.is
-fault_again digest text old new OtherPlan r = r.is
-fault_again digest text old new NotBegun r = r.0
-fault_again digest text old new ReadFailed r = tt
+pub fault_again : (wanted : Wanted) (text : List ℕ) (old new : Day) (fault : JournalFault) → IsRecovered wanted text old new (Err fault) → IsFaultOf wanted text fault
+fault_again wanted text old new (BadLine n) r = r.is
+fault_again wanted text old new OtherPlan r = r.is
+fault_again wanted text old new OtherDay r = r.is
+fault_again wanted text old new OtherRules r = r.is
+fault_again wanted text old new NotBegun r = r.0
+fault_again wanted text old new ReadFailed r = tt
 
-has_read : (digest text : List ℕ) (before after : Option (List ℕ)) (n : ℕ) (old new : Collecting) → before ≡ Some text → WasRead HasCollected before after digest old new n → HasRead digest text old new
-has_read digest text before after n old new known r = record {
+has_read : (wanted : Wanted) (text : List ℕ) (before after : Option (List ℕ)) (n : ℕ) (old new : Collecting) → before ≡ Some text → WasRead HasCollected before after wanted old new n → HasRead wanted text old new
+has_read wanted text before after n old new known r = record {
   events = r.events;
   whole = n;
-  is = ap (journal_in digest) (whole_text text r.text before after known r.consumed r.at_end) ∙ r.is;
+  is = ap (journal_in wanted) (whole_text text r.text before after known r.consumed r.at_end) ∙ r.is;
   collected = r.followed_all;
 }
 
-pub begun_read : (digest text : List ℕ) (before after : Option (List ℕ)) (n : ℕ) (rows : List Row) (marks : List Bool) (old new : Collecting) → before ≡ Some text → WasRead HasCollected before after digest old new n
-    → old.rows ≡ rows → old.marks.items ≡ marks → old.moment ≡ 0 → old.sales ≡ Whole → IsRead digest text rows marks (Ok new)
-begun_read digest text before after n rows marks old new known r rows_are marks_are at whole =
-    (old, record { rows_are = rows_are; marks_are = marks_are; at = at; whole = whole }, has_read digest text before after n old new known r)
+pub begun_read : (wanted : Wanted) (text : List ℕ) (before after : Option (List ℕ)) (n : ℕ) (rows : List Row) (marks : List Bool) (old new : Collecting) → before ≡ Some text → WasRead HasCollected before after wanted old new n
+    → old.rows ≡ rows → old.marks.items ≡ marks → old.moment ≡ 0 → old.sales ≡ Whole → IsRead wanted text rows marks (Ok new)
+begun_read wanted text before after n rows marks old new known r rows_are marks_are at whole =
+    (old, record { rows_are = rows_are; marks_are = marks_are; at = at; whole = whole }, has_read wanted text before after n old new known r)
 
 -- all was found whole
 was_found : (old new : Collecting) (events : List LiveEvent) (s : Sales) → HasCollected old events new → new.sales ≡ s → IsFound old events new s
@@ -75,10 +80,10 @@ whole_of Late e = cc
 whole_of TooMany e = cc
 whole_of NoMemory e = cc
 
-pub plan_read : (digest text : List ℕ) (channels : List Bool) (rows rows0 last_rows : List Row) (accepted marks marks2 : List Bool) (assigned : List (Option ℕ)) (new : Collecting) → IsRead digest text rows0 marks (Ok new) → told_of new.sales ≡ Ok tt
+pub plan_read : (wanted : Wanted) (text : List ℕ) (channels : List Bool) (rows rows0 last_rows : List Row) (accepted marks marks2 : List Bool) (assigned : List (Option ℕ)) (new : Collecting) → IsRead wanted text rows0 marks (Ok new) → told_of new.sales ≡ Ok tt
     → rows0 ≡ rows → marks ≡ accepted → marks2 ≡ new.marks.items → last_rows ≡ new.rows → IsFirstFit new.rows channels marks2 assigned → Carries last_rows channels (is_accepted assigned) (channel_at assigned)
-    → IsPlanRead digest text channels rows accepted last_rows assigned
-plan_read digest text channels rows rows0 last_rows accepted marks marks2 assigned new (old, begun, r) is same_rows marked same_marks same fit carried =
+    → IsPlanRead wanted text channels rows accepted last_rows assigned
+plan_read wanted text channels rows rows0 last_rows accepted marks marks2 assigned new (old, begun, r) is same_rows marked same_marks same fit carried =
     let a : AreCollected old r.events new = was_found old new r.events Whole r.collected (whole_of new.sales is) in
     let sold = sold_in row_on r.events in
     let rows_are : new.rows ≡ rows ++ sold = a.rows ∙ ap (λ (rs : List Row). rs ++ sold) (begun.rows_are ∙ same_rows) in
@@ -104,37 +109,37 @@ many_of old events t =
     let all : length (old.rows ++ sold_in row_on events) ≡ length old.rows + length (front ++ rest) = ap (λ (l : List Row). length (old.rows ++ l)) are ∙ length-append old.rows (front ++ rest) in
     omega (arith, t.many, all, length-append old.rows front, length-append front rest)
 
-pub not_collected : (digest text : List ℕ) (channels : List Bool) (rows rows0 : List Row) (accepted marks : List Bool) (assigned : List (Option ℕ)) (new : Collecting) (fault : RestartFault) → IsRead digest text rows0 marks (Ok new) → rows0 ≡ rows
-    → (s : Sales) → new.sales ≡ s → told_of s ≡ Err fault → IsNoRestart digest text channels rows accepted assigned fault
-not_collected digest text channels rows rows0 accepted marks assigned new fault (old, begun, r) same = by_sales where
+pub not_collected : (wanted : Wanted) (text : List ℕ) (channels : List Bool) (rows rows0 : List Row) (accepted marks : List Bool) (assigned : List (Option ℕ)) (new : Collecting) (fault : RestartFault) → IsRead wanted text rows0 marks (Ok new) → rows0 ≡ rows
+    → (s : Sales) → new.sales ≡ s → told_of s ≡ Err fault → IsNoRestart wanted text channels rows accepted assigned fault
+not_collected wanted text channels rows rows0 accepted marks assigned new fault (old, begun, r) same = by_sales where
   found : (s : Sales) → new.sales ≡ s → IsFound old r.events new s
   found s e = was_found old new r.events s r.collected e
 
-  as_told : (reason : RestartFault) (r : Result (Unit {0}) RestartFault) → r ≡ Err reason → r ≡ Err fault → IsNoRestart digest text channels rows accepted assigned reason → IsNoRestart digest text channels rows accepted assigned fault
-  as_told reason r e told p = let same : reason ≡ fault = cc in subst (λ (x : RestartFault). IsNoRestart digest text channels rows accepted assigned x) same p
+  as_told : (reason : RestartFault) (r : Result (Unit {0}) RestartFault) → r ≡ Err reason → r ≡ Err fault → IsNoRestart wanted text channels rows accepted assigned reason → IsNoRestart wanted text channels rows accepted assigned fault
+  as_told reason r e told p = let same : reason ≡ fault = cc in subst (λ (x : RestartFault). IsNoRestart wanted text channels rows accepted assigned x) same p
 
-  not_before : (s : Sales) → old.sales ≡ s → (s ≡ Whole → ⊥) → IsNoRestart digest text channels rows accepted assigned fault
+  not_before : (s : Sales) → old.sales ≡ s → (s ≡ Whole → ⊥) → IsNoRestart wanted text channels rows accepted assigned fault
   not_before s e other = absurd (other (sym e ∙ begun.whole))
 
-  by_sales : (s : Sales) → new.sales ≡ s → told_of s ≡ Err fault → IsNoRestart digest text channels rows accepted assigned fault
+  by_sales : (s : Sales) → new.sales ≡ s → told_of s ≡ Err fault → IsNoRestart wanted text channels rows accepted assigned fault
   by_sales Whole e told = cc
   by_sales NoBooking e told = by_found (found NoBooking e) where
-    by_found : IsFound old r.events new NoBooking → IsNoRestart digest text channels rows accepted assigned fault
+    by_found : IsFound old r.events new NoBooking → IsNoRestart wanted text channels rows accepted assigned fault
     by_found (inl before) = not_before NoBooking before (λ e. cc)
     by_found (inr none) = as_told faults.BadSale (told_of NoBooking) refl told (record { events = r.events; whole = r.whole; is = r.is; holds = none })
   by_sales Late e told = by_found (found Late e) where
-    by_found : IsFound old r.events new Late → IsNoRestart digest text channels rows accepted assigned fault
+    by_found : IsFound old r.events new Late → IsNoRestart wanted text channels rows accepted assigned fault
     by_found (inl before) = not_before Late before (λ e. cc)
     by_found (inr (sale, late)) = as_told faults.LateSale (told_of Late) refl told (record { events = r.events; whole = r.whole; is = r.is; holds = (sale, is_late r.events rows assigned sale (subst (λ (m : ℕ). IsLateAt m sale) begun.at late)) })
   by_sales TooMany e told = by_found (found TooMany e) where
-    by_found : IsFound old r.events new TooMany → IsNoRestart digest text channels rows accepted assigned fault
+    by_found : IsFound old r.events new TooMany → IsNoRestart wanted text channels rows accepted assigned fault
     by_found (inl before) = not_before TooMany before (λ e. cc)
     by_found (inr t) = as_told faults.TooMany (told_of TooMany) refl told (record { events = r.events; whole = r.whole; is = r.is; holds = subst (λ (rs : List Row). 4000 < length (rs ++ sold_in row_on r.events)) (begun.rows_are ∙ same) (many_of old r.events t) })
   by_sales NoMemory e told = as_told faults.Memory (told_of NoMemory) refl told tt
 
-pub not_carried : (digest text : List ℕ) (channels : List Bool) (rows rows0 : List Row) (accepted marks marks2 : List Bool) (assigned : List (Option ℕ)) (new : Collecting) → IsRead digest text rows0 marks (Ok new) → told_of new.sales ≡ Ok tt
-    → rows0 ≡ rows → marks ≡ accepted → marks2 ≡ new.marks.items → (fault : RestartFault) → IsUncarried new.rows marks2 channels fault → IsNoRestart digest text channels rows accepted assigned fault
-not_carried digest text channels rows rows0 accepted marks marks2 assigned new (old, begun, r) is same_rows marked same_marks = by_fault where
+pub not_carried : (wanted : Wanted) (text : List ℕ) (channels : List Bool) (rows rows0 : List Row) (accepted marks marks2 : List Bool) (assigned : List (Option ℕ)) (new : Collecting) → IsRead wanted text rows0 marks (Ok new) → told_of new.sales ≡ Ok tt
+    → rows0 ≡ rows → marks ≡ accepted → marks2 ≡ new.marks.items → (fault : RestartFault) → IsUncarried new.rows marks2 channels fault → IsNoRestart wanted text channels rows accepted assigned fault
+not_carried wanted text channels rows rows0 accepted marks marks2 assigned new (old, begun, r) is same_rows marked same_marks = by_fault where
   a : AreCollected old r.events new
   a = was_found old new r.events Whole r.collected (whole_of new.sales is)
 
@@ -145,7 +150,7 @@ not_carried digest text channels rows rows0 accepted marks marks2 assigned new (
       let marks_are : marks2 ≡ accepted ++ all_true sold = same_marks ∙ (a.marked ∙ ap (λ (ms : List Bool). ms ++ all_true sold) (begun.marks_are ∙ marked)) in
       subst (λ (ms : List Bool). FitsChannels new.rows ms channels) (sym marks_are) (subst (λ (rs : List Row). FitsChannels rs (accepted ++ all_true sold) channels) (sym rows_are) fit)
 
-  by_fault : (fault : RestartFault) → IsUncarried new.rows marks2 channels fault → IsNoRestart digest text channels rows accepted assigned fault
+  by_fault : (fault : RestartFault) → IsUncarried new.rows marks2 channels fault → IsNoRestart wanted text channels rows accepted assigned fault
   by_fault faults.NotCarried out = record { events = r.events; whole = r.whole; is = r.is; holds = λ fit. out (fitting fit) }
   by_fault faults.Memory out = tt
   by_fault (faults.Journal why) out = absurd out
@@ -154,22 +159,22 @@ not_carried digest text channels rows rows0 accepted marks marks2 assigned new (
   by_fault faults.TooMany out = absurd out
 
 -- the journal's own fault
-pub not_read : (digest text : List ℕ) (channels : List Bool) (rows rows0 : List Row) (accepted marks : List Bool) (assigned : List (Option ℕ)) (fault : RestartFault) → IsRead digest text rows0 marks (Err fault) → IsNoRestart digest text channels rows accepted assigned fault
-not_read digest text channels rows rows0 accepted marks assigned (faults.Journal why) out = out
-not_read digest text channels rows rows0 accepted marks assigned faults.BadSale out = absurd out
-not_read digest text channels rows rows0 accepted marks assigned faults.LateSale out = absurd out
-not_read digest text channels rows rows0 accepted marks assigned faults.TooMany out = absurd out
-not_read digest text channels rows rows0 accepted marks assigned faults.NotCarried out = absurd out
-not_read digest text channels rows rows0 accepted marks assigned faults.Memory out = absurd out
+pub not_read : (wanted : Wanted) (text : List ℕ) (channels : List Bool) (rows rows0 : List Row) (accepted marks : List Bool) (assigned : List (Option ℕ)) (fault : RestartFault) → IsRead wanted text rows0 marks (Err fault) → IsNoRestart wanted text channels rows accepted assigned fault
+not_read wanted text channels rows rows0 accepted marks assigned (faults.Journal why) out = out
+not_read wanted text channels rows rows0 accepted marks assigned faults.BadSale out = absurd out
+not_read wanted text channels rows rows0 accepted marks assigned faults.LateSale out = absurd out
+not_read wanted text channels rows rows0 accepted marks assigned faults.TooMany out = absurd out
+not_read wanted text channels rows rows0 accepted marks assigned faults.NotCarried out = absurd out
+not_read wanted text channels rows rows0 accepted marks assigned faults.Memory out = absurd out
 
 the_events : (a b : Recovery) (r : Result Recovery JournalFault) → r ≡ Ok a → r ≡ Ok b → a ≡ b
 the_events a b r p q = cc
 
-pub restarted : (digest text : List ℕ) (channels : List Bool) (rows : List Row) (accepted : List Bool) (last_rows : List Row) (assigned : List (Option ℕ)) (old d : Day) (n : ℕ)
-    → IsPlanRead digest text channels rows accepted last_rows assigned → old ≡ opening last_rows assigned → IsDayOf digest text old d n
-    → IsDayRestarted digest text channels rows accepted last_rows assigned d n
-restarted digest text channels rows accepted last_rows assigned old d n p open_at r =
-    let same = the_events _ _ (journal_in digest text) p.is r.is in
+pub restarted : (wanted : Wanted) (text : List ℕ) (channels : List Bool) (rows : List Row) (accepted : List Bool) (last_rows : List Row) (assigned : List (Option ℕ)) (old d : Day) (n : ℕ)
+    → IsPlanRead wanted text channels rows accepted last_rows assigned → old ≡ opening last_rows assigned → IsDayOf wanted text old d n
+    → IsDayRestarted wanted text channels rows accepted last_rows assigned d n
+restarted wanted text channels rows accepted last_rows assigned old d n p open_at r =
+    let same = the_events _ _ (journal_in wanted text) p.is r.is in
     let events : p.events ≡ r.events = ap (λ (x : Recovery). x.events) same in
     record {
       events = r.events;

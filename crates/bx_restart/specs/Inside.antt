@@ -4,6 +4,7 @@ use Rattle.bx_base.specs.Bookings.{Row}
 use Rattle.bx_colour.specs.Colouring.{FitsChannels}
 use Rattle.bx_events.specs.Events.{LiveEvent}
 use Rattle.bx_journal.specs.Reading.{journal_in}
+use Rattle.bx_journal.specs.declared.head.Wanted.{Wanted}
 use Rattle.bx_restart.specs.declared.collecting.Collecting.{Collecting}
 use Rattle.bx_restart.specs.declared.collecting.Sales.{Sales}
 use Rattle.bx_restart.specs.declared.collecting.Sales.TheVariants.{Whole, NoBooking, Late, TooMany, NoMemory}
@@ -13,18 +14,18 @@ use Rattle.bx_restart.specs.declared.restarting.RestartFault.TheVariants as faul
 use Rattle.bx_restart.specs.Joined.{HasCollected, AreInTime}
 use Rattle.bx_restart.specs.Restarts.{IsLastPlan, IsFaultOf}
 
-pub record IsPlanRead (digest text : List ℕ) (channels : List Bool) (rows : List Row) (accepted : List Bool) (last_rows : List Row) (assigned : List (Option ℕ)) : Type 0 where
+pub record IsPlanRead (wanted : Wanted) (text : List ℕ) (channels : List Bool) (rows : List Row) (accepted : List Bool) (last_rows : List Row) (assigned : List (Option ℕ)) : Type 0 where
   pub events : List LiveEvent
   pub whole : ℕ
-  pub is : journal_in digest text ≡ Ok (record { events = events; whole = whole })
+  pub is : journal_in wanted text ≡ Ok (record { events = events; whole = whole })
   pub plan : IsLastPlan channels rows accepted events last_rows assigned
   pub in_time : AreInTime 0 events
 
 -- a journal was read to its end for what was sold
-pub record HasRead (digest text : List ℕ) (old new : Collecting) : Type 0 where
+pub record HasRead (wanted : Wanted) (text : List ℕ) (old new : Collecting) : Type 0 where
   pub events : List LiveEvent
   pub whole : ℕ
-  pub is : journal_in digest text ≡ Ok (record { events = events; whole = whole })
+  pub is : journal_in wanted text ≡ Ok (record { events = events; whole = whole })
   pub collected : HasCollected old events new
 
 -- it begins with these rows and marks, and nothing is wrong yet
@@ -35,10 +36,10 @@ pub record IsBegun (rows : List Row) (marks : List Bool) (old : Collecting) : Ty
   pub whole : old.sales ≡ Whole
 
 -- it was read to its end, or has a fault
-abbrev pub IsRead : List ℕ → List ℕ → List Row → List Bool → Result Collecting RestartFault → Type 0
-IsRead digest text rows marks (Ok new) = (old : Collecting) × IsBegun rows marks old × HasRead digest text old new
-IsRead digest text rows marks (Err (Journal fault)) = IsFaultOf digest text fault
-IsRead digest text rows marks (Err fault) = ⊥
+abbrev pub IsRead : Wanted → List ℕ → List Row → List Bool → Result Collecting RestartFault → Type 0
+IsRead wanted text rows marks (Ok new) = (old : Collecting) × IsBegun rows marks old × HasRead wanted text old new
+IsRead wanted text rows marks (Err (Journal fault)) = IsFaultOf wanted text fault
+IsRead wanted text rows marks (Err fault) = ⊥
 
 -- what is told of what was found
 abbrev pub told_of : Sales → Result (Unit {0}) RestartFault

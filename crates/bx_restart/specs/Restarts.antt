@@ -10,6 +10,7 @@ use Rattle.bx_events.specs.Events.{LiveEvent, Sold}
 use Rattle.bx_journal.specs.declared.fault.JournalFault.{JournalFault}
 use Rattle.bx_journal.specs.declared.fault.JournalFault.TheVariants.{ReadFailed}
 use Rattle.bx_journal.specs.Reading.{recovered, journal_in}
+use Rattle.bx_journal.specs.declared.head.Wanted.{Wanted}
 use Rattle.bx_planfile.specs.OneBooking.{booking_on, row_on}
 use Rattle.bx_sales.specs.Journal.{sold_in}
 use Rattle.bx_restart.specs.declared.restarting.RestartFault.{RestartFault}
@@ -34,17 +35,17 @@ pub record IsLastPlan (channels : List Bool) (rows : List Row) (accepted : List 
 
 -- the journal of this text was read twice: its sales make the last plan, each of a row that starts behind the moment at which its line
 -- stands, and its events the day of that plan
-pub record IsDayRestarted (digest text : List ℕ) (channels : List Bool) (rows : List Row) (accepted : List Bool) (last_rows : List Row) (assigned : List (Option ℕ)) (d : Day) (whole : ℕ) : Type 0 where
+pub record IsDayRestarted (wanted : Wanted) (text : List ℕ) (channels : List Bool) (rows : List Row) (accepted : List Bool) (last_rows : List Row) (assigned : List (Option ℕ)) (d : Day) (whole : ℕ) : Type 0 where
   pub events : List LiveEvent
-  pub is : journal_in digest text ≡ Ok (record { events = events; whole = whole })
+  pub is : journal_in wanted text ≡ Ok (record { events = events; whole = whole })
   pub plan : IsLastPlan channels rows accepted events last_rows assigned
   pub in_time : (sale : SaleIn events) → (live_day_after sale.before (opening last_rows assigned)).moment < (row_on sale.line).start
   pub day : d ≡ live_day_after events (opening last_rows assigned)
 
 -- a fault of the text itself; that a read failed is none
-abbrev pub IsFaultOf : List ℕ → List ℕ → JournalFault → Type 0
-IsFaultOf digest text ReadFailed = Unit {0}
-IsFaultOf digest text fault = recovered digest text ≡ Err fault
+abbrev pub IsFaultOf : Wanted → List ℕ → JournalFault → Type 0
+IsFaultOf wanted text ReadFailed = Unit {0}
+IsFaultOf wanted text fault = recovered wanted text ≡ Err fault
 
 -- a sale that cannot be
 abbrev pub TellsNone : {events : List LiveEvent} → SaleIn events → Type 0
@@ -54,17 +55,17 @@ abbrev pub IsLate : {events : List LiveEvent} → List Row → List (Option ℕ)
 IsLate rows assigned sale = (row_on sale.line).start ≤ (live_day_after sale.before (opening rows assigned)).moment
 
 -- a text has events of which this holds
-pub record InJournal (digest text : List ℕ) (P : List LiveEvent → Type 0) : Type 0 where
+pub record InJournal (wanted : Wanted) (text : List ℕ) (P : List LiveEvent → Type 0) : Type 0 where
   pub events : List LiveEvent
   pub whole : ℕ
-  pub is : journal_in digest text ≡ Ok (record { events = events; whole = whole })
+  pub is : journal_in wanted text ≡ Ok (record { events = events; whole = whole })
   pub holds : P events
 
 -- why a day was not restarted
-abbrev pub IsNoRestart : List ℕ → List ℕ → List Bool → List Row → List Bool → List (Option ℕ) → RestartFault → Type 0
-IsNoRestart digest text channels rows accepted assigned (Journal fault) = IsFaultOf digest text fault
-IsNoRestart digest text channels rows accepted assigned BadSale = InJournal digest text (λ events. (sale : SaleIn events) × TellsNone sale)
-IsNoRestart digest text channels rows accepted assigned LateSale = InJournal digest text (λ events. (sale : SaleIn events) × IsLate rows assigned sale)
-IsNoRestart digest text channels rows accepted assigned TooMany = InJournal digest text (λ events. MAX_BOOKINGS < length (rows ++ sold_in row_on events))
-IsNoRestart digest text channels rows accepted assigned NotCarried = InJournal digest text (λ events. ¬ FitsChannels (rows ++ sold_in row_on events) (accepted ++ all_true (sold_in row_on events)) channels)
-IsNoRestart digest text channels rows accepted assigned Memory = Unit {0}
+abbrev pub IsNoRestart : Wanted → List ℕ → List Bool → List Row → List Bool → List (Option ℕ) → RestartFault → Type 0
+IsNoRestart wanted text channels rows accepted assigned (Journal fault) = IsFaultOf wanted text fault
+IsNoRestart wanted text channels rows accepted assigned BadSale = InJournal wanted text (λ events. (sale : SaleIn events) × TellsNone sale)
+IsNoRestart wanted text channels rows accepted assigned LateSale = InJournal wanted text (λ events. (sale : SaleIn events) × IsLate rows assigned sale)
+IsNoRestart wanted text channels rows accepted assigned TooMany = InJournal wanted text (λ events. MAX_BOOKINGS < length (rows ++ sold_in row_on events))
+IsNoRestart wanted text channels rows accepted assigned NotCarried = InJournal wanted text (λ events. ¬ FitsChannels (rows ++ sold_in row_on events) (accepted ++ all_true (sold_in row_on events)) channels)
+IsNoRestart wanted text channels rows accepted assigned Memory = Unit {0}

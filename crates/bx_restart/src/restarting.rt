@@ -14,7 +14,7 @@ use bx_channels::Channel;
 use bx_colour::{colour, fits};
 use bx_day::Exchange;
 use bx_devices::Watched;
-use bx_journal::{JournalFault, read_journal};
+use bx_journal::{JournalFault, Wanted, read_journal};
 use bx_recovery::recover_day;
 use std::alloc::{AllocError, Global};
 use std::io::Read;
@@ -87,11 +87,11 @@ fn coloured(
 /// Reads a journal for what was sold.
 fn collect<R: Read>(
     journal: &mut Watched<R>,
-    digest: &[u8; 32],
+    wanted: &Wanted,
     rows: Bookings,
     marks: Vec<bool>,
 ) -> Result<Collecting, RestartFault>
-    ensures { (text : List ℕ) → R.remaining (device_of journal.old) ≡ Some text → IsRead digest.now text rows marks.items result }
+    ensures { (text : List ℕ) → R.remaining (device_of journal.old) ≡ Some text → IsRead wanted.now text rows marks.items result }
 {
     let mut collecting = Collecting {
         rows,
@@ -99,7 +99,7 @@ fn collect<R: Read>(
         moment: 0,
         sales: Sales::Whole,
     };
-    match read_journal(journal, digest, &mut collecting) {
+    match read_journal(journal, wanted, &mut collecting) {
         Ok(_) => Ok(collecting),
         Err(fault) => Err(RestartFault::Journal(fault)),
     }
@@ -122,12 +122,12 @@ fn told(sales: Sales) -> Result<(), RestartFault>
 fn last_plan<R: Read>(
     alloc: Global,
     journal: &mut Watched<R>,
-    digest: &[u8; 32],
+    wanted: &Wanted,
     plan: &Plan,
 ) -> Result<Plan, RestartFault>
-    ensures read { (text : List ℕ) → R.remaining (device_of journal.old) ≡ Some text → IfOk result (λ p. IsPlanRead digest.now text plan.now.channels plan.now.bookings (map is_some plan.now.assigned.items) p.bookings p.assigned.items) }
+    ensures read { (text : List ℕ) → R.remaining (device_of journal.old) ≡ Some text → IfOk result (λ p. IsPlanRead wanted.now text plan.now.channels plan.now.bookings (map is_some plan.now.assigned.items) p.bookings p.assigned.items) }
     ensures carried { IfOk result (λ p. Carries p.bookings p.channels (is_accepted p.assigned.items) (channel_at p.assigned.items)) }
-    ensures refused { (text : List ℕ) → R.remaining (device_of journal.old) ≡ Some text → IfErr result (IsNoRestart digest.now text plan.now.channels plan.now.bookings (map is_some plan.now.assigned.items) plan.now.assigned.items) }
+    ensures refused { (text : List ℕ) → R.remaining (device_of journal.old) ≡ Some text → IfErr result (IsNoRestart wanted.now text plan.now.channels plan.now.bookings (map is_some plan.now.assigned.items) plan.now.assigned.items) }
 {
     let Ok(rows) = plan.bookings.copy() else {
         return Err(RestartFault::Memory);
@@ -135,13 +135,13 @@ fn last_plan<R: Read>(
     let Ok(marks) = marks_of(alloc, &plan.assigned) else {
         return Err(RestartFault::Memory);
     };
-    let collected = collect(journal, digest, rows, marks)?;
+    let collected = collect(journal, wanted, rows, marks)?;
     told(collected.sales)?;
     let Collecting { rows, marks, .. } = collected;
     coloured(alloc, rows, &marks, plan.channels)
 }
 
-/// Restarts a live day with sales from its journal, which is read twice: first what was sold, which stands behind the rows of the plan of
+/// Restarts a live day with sales from its journal, where it is the one that is wanted. It is read twice: first what was sold, which stands behind the rows of the plan of
 /// the morning, all coloured once; then the events, which happen to the exchange of that plan. So the day is the one of the last plan.
 /// A journal is refused that has a fault; else of which the line of a sale tells no booking (`BadSale`), or one that had started by then
 /// (`LateSale`), or one too many (`TooMany`), whichever comes first; else whose bookings are not carried (`NotCarried`).
@@ -149,17 +149,17 @@ pub fn restart<R: Read, S: Read>(
     alloc: Global,
     first: &mut Watched<R>,
     second: &mut Watched<S>,
-    digest: &[u8; 32],
+    wanted: &Wanted,
     plan: &Plan,
 ) -> Result<Restarted, RestartFault>
-    ensures day { (text : List ℕ) → R.remaining (device_of first.old) ≡ Some text → S.remaining (device_of second.old) ≡ Some text → IfOk result (λ r. IsDayRestarted digest.now text plan.now.channels plan.now.bookings (map is_some plan.now.assigned.items) r.plan.bookings r.plan.assigned.items r.exchange r.whole) }
-    ensures refused { (text : List ℕ) → R.remaining (device_of first.old) ≡ Some text → S.remaining (device_of second.old) ≡ Some text → IfErr result (IsNoRestart digest.now text plan.now.channels plan.now.bookings (map is_some plan.now.assigned.items) plan.now.assigned.items) }
+    ensures day { (text : List ℕ) → R.remaining (device_of first.old) ≡ Some text → S.remaining (device_of second.old) ≡ Some text → IfOk result (λ r. IsDayRestarted wanted.now text plan.now.channels plan.now.bookings (map is_some plan.now.assigned.items) r.plan.bookings r.plan.assigned.items r.exchange r.whole) }
+    ensures refused { (text : List ℕ) → R.remaining (device_of first.old) ≡ Some text → S.remaining (device_of second.old) ≡ Some text → IfErr result (IsNoRestart wanted.now text plan.now.channels plan.now.bookings (map is_some plan.now.assigned.items) plan.now.assigned.items) }
 {
-    let last = last_plan(alloc, first, digest, plan)?;
+    let last = last_plan(alloc, first, wanted, plan)?;
     let Ok(exchange) = Exchange::new(alloc, &last) else {
         return Err(RestartFault::Memory);
     };
-    let recovered = recover_day(second, digest, exchange);
+    let recovered = recover_day(second, wanted, exchange);
     match recovered.whole {
         Ok(whole) => Ok(Restarted {
             plan: last,

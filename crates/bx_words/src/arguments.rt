@@ -21,10 +21,14 @@ pub enum Form {
     Flag,
     /// An option for a number of seconds of a day, from 1 on.
     Seconds,
-    /// An option for a port, which has to be there, or a socket in its place.
+    /// The same, which stands only beside another.
+    SecondsBeside(&'static str),
+    /// An option for a port, which has to be there, or a socket or a line in its place.
     Port,
     /// An option for a socket in place of a port.
     Socket,
+    /// An option for a line in place of a port, which stands only beside others.
+    Line(&'static [&'static str]),
     /// An option without a value that stands only beside another.
     FlagBeside(&'static str),
     /// An option for how many seconds of a day go by in one of the clock, 1 to 1,000, that stands only beside another.
@@ -116,18 +120,46 @@ pub const SOCKET: Argument = Argument {
     help: "The path of a Unix socket, in place of a port",
 };
 
+pub const SERVED_LINE: Argument = Argument {
+    name: "line",
+    value: "HERE:THERE",
+    form: Form::Line(&["live", "date"]),
+    help: "The two UDP ports on 127.0.0.1 between which the data link of a live day goes: that of this end, and that of the other",
+};
+
+pub const FAR_LINE: Argument = Argument {
+    name: "line",
+    value: "HERE:THERE",
+    form: Form::Line(&["date"]),
+    help: "The two UDP ports on 127.0.0.1 of a data link, this end's and the exchange's: run the day by the clock, from the midnight of --date",
+};
+
 pub const LIVE: Argument = Argument {
     name: "live",
     value: "",
-    form: Form::FlagBeside("date"),
-    help: "Run the day by the clock, towards peers that come and go: its first second is the midnight of --date",
+    form: Form::FlagBeside("line"),
+    help: "Run the day by the clock, over a data link: its first second is the midnight of --date",
 };
 
 pub const SERVED_DAY: Argument = Argument {
     name: "date",
     value: "DATE",
     form: Form::Optional,
-    help: "The day, as YYYY-MM-DD: that of a live day, and of the times of a capture and of records, which else are seconds of the day",
+    help: "The day, as YYYY-MM-DD: that of a live day, or of the times of a capture and of records, which else are seconds of the day",
+};
+
+pub const FAR_PACE: Argument = Argument {
+    name: "pace",
+    value: "N",
+    form: Form::Pace("line"),
+    help: "Seconds of the day in one of the clock, 1 to 1000 [default: 1]",
+};
+
+pub const FAR_TURNS: Argument = Argument {
+    name: "turns",
+    value: "N",
+    form: Form::SecondsBeside("line"),
+    help: "Seconds of the day to run, 1 to 300000 [default: until 38 s after the end of the day]",
 };
 
 pub const PACE: Argument = Argument {
@@ -156,13 +188,6 @@ pub const RECORDS: Argument = Argument {
     value: "FILE",
     form: Form::Optional,
     help: "When the day has ended write its records into this file, as CSV for bills and spreadsheets",
-};
-
-pub const REJOIN: Argument = Argument {
-    name: "rejoin",
-    value: "",
-    form: Form::Flag,
-    help: "Wait for the exchange, and connect again whenever the connection is lost, until the day ends",
 };
 
 pub const OCTETS: Argument = Argument {
@@ -235,6 +260,13 @@ pub const CAPTURED_DAY: Argument = Argument {
     help: "The day, as YYYY-MM-DD: the time stamps of the capture are its instants, and not seconds of the day",
 };
 
+pub const FAR_DAY: Argument = Argument {
+    name: "date",
+    value: "DATE",
+    form: Form::Optional,
+    help: "The day, as YYYY-MM-DD: that of a day by the clock, or of the time stamps of a capture, which else are seconds of the day",
+};
+
 pub const QUIET: Argument = Argument {
     name: "quiet",
     value: "",
@@ -286,11 +318,19 @@ pub(crate) fn arg_of<'a>(alloc: Global, argument: &Argument) -> Result<Arg<'a>, 
         Form::Seconds => arg
             .long(argument.name)
             .value_parser(value_parser!(u32).range(1..=300_000)),
+        Form::SecondsBeside(other) => arg
+            .long(argument.name)
+            .requires_arg(other)?
+            .value_parser(value_parser!(u32).range(1..=300_000)),
         Form::Port => arg
             .long(argument.name)
-            .required_unless_present("socket")?
+            .required_unless_present_any(&["socket", "line"])?
             .value_parser(value_parser!(u16).range(1..)),
         Form::Socket => arg.long(argument.name).conflicts_with("port")?,
+        Form::Line(others) => arg
+            .long(argument.name)
+            .conflicts_with_all(&["port", "socket"])?
+            .requires_all(others)?,
         Form::Pace(other) => arg
             .long(argument.name)
             .requires_arg(other)?

@@ -1,10 +1,10 @@
 //! The command line as `clap` knows it.
 
 use crate::arguments::{
-    Argument, BOOKINGS, CAPTURE, CAPTURED_DAY, CHANNELS, DATE, DAY, DAY_ZONE, END, INWARD, JOURNAL,
-    KEPT_JOURNAL, LIVE, NEW_JOURNAL, NO_TOTALS, OCTETS, PACE, PICTURED_DAY, PLAN, PORT, QUIET,
-    RECORDED_DAY, RECORDED_JOURNAL, RECORDS, REJOIN, ROW, SCRIPT, SEEN_DAY, SERVED_DAY, SOCKET,
-    START, TURNS, ZONE, arg_of,
+    Argument, BOOKINGS, CAPTURE, CAPTURED_DAY, CHANNELS, DATE, DAY, DAY_ZONE, END, FAR_DAY,
+    FAR_LINE, FAR_PACE, FAR_TURNS, INWARD, JOURNAL, KEPT_JOURNAL, LIVE, NEW_JOURNAL, NO_TOTALS,
+    OCTETS, PACE, PICTURED_DAY, PLAN, PORT, QUIET, RECORDED_DAY, RECORDED_JOURNAL, RECORDS, ROW,
+    SCRIPT, SEEN_DAY, SERVED_DAY, SERVED_LINE, SOCKET, START, TURNS, ZONE, arg_of,
 };
 use clap::Command;
 use std::alloc::{AllocError, Global};
@@ -30,8 +30,9 @@ const AFTER: &str = "Examples:
   bx chart plan.txt > plan.svg
   bx day plan.txt script.csv --capture day.pcap
   bx serve plan.txt --port 9931
-  bx serve plan.txt --port 9931 --live --date 2026-03-29 --zone CET-1CEST,M3.5.0,M10.5.0/3 --journal day.journal
+  bx serve plan.txt --live --line 9931:9932 --date 2026-03-29 --zone CET-1CEST,M3.5.0,M10.5.0/3 --journal day.journal
   bx far script.csv --port 9931
+  bx far script.csv --line 9932:9931 --date 2026-03-29 --zone CET-1CEST,M3.5.0,M10.5.0/3
   bx audit plan.txt day.journal
   bx records plan.txt day.journal --date 2026-03-29 --zone CET-1CEST,M3.5.0,M10.5.0/3 > records.csv
   bx decode 080280015A08028091
@@ -103,12 +104,13 @@ static DAY_COMMANDS: [Words; 6] = [
     },
     Words {
         name: "serve",
-        about: "Run the exchange's end of a proved plan's day towards the first peer, or by the clock towards peers that come and go, and print what became of each booking; may wait and run long",
+        about: "Run the exchange's end of a proved plan's day towards the first peer, or by the clock over a data link, and print what became of each booking; may wait and run long",
         arguments: &[
             PLAN,
             PORT,
             SOCKET,
             LIVE,
+            SERVED_LINE,
             SERVED_DAY,
             DAY_ZONE,
             KEPT_JOURNAL,
@@ -121,16 +123,9 @@ static DAY_COMMANDS: [Words; 6] = [
     },
     Words {
         name: "far",
-        about: "Run the far end of a day by a script, towards an exchange that serves; may wait and run long",
+        about: "Run the far end of a day by a script, towards an exchange that serves, or by the clock over a data link; may wait and run long",
         arguments: &[
-            SCRIPT,
-            PORT,
-            SOCKET,
-            REJOIN,
-            CAPTURE,
-            CAPTURED_DAY,
-            DAY_ZONE,
-            QUIET,
+            SCRIPT, PORT, SOCKET, FAR_LINE, FAR_DAY, DAY_ZONE, FAR_PACE, FAR_TURNS, CAPTURE, QUIET,
         ],
     },
     Words {

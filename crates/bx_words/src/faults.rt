@@ -17,8 +17,8 @@ C7 NotProved bound    the prices set this bound, above the total: they do not pr
 C8 MustLeftOut b      row b must be held, and is not accepted
 F1 CannotRead NAME    the file cannot be opened or read, or has more than 4,194,304 octets
 F2 CannotWrite        standard output failed
-F3 CannotListen       the port or the socket cannot be listened on
-F4 CannotConnect      nobody listens on the port or the socket
+F3 CannotListen       the port or the socket cannot be listened on, or the line's own port cannot be had
+F4 CannotConnect      nobody listens on the port or the socket, or the line's other port cannot be spoken to
 F5 CannotWrite NAME   the file of the capture or of the records cannot be created, or a write of it failed
 G1 ReadFailed         a read of the bookings failed
 G2 TooLong            the bookings have more than 4,194,304 octets
@@ -53,6 +53,10 @@ J1 BadLine n          line n of the journal has another form than the line that 
 J2 OtherPlan          the journal is that of another plan
 J3 NotEmpty NAME      the file that is to take the journal of a new day holds something
 J4 CannotRecord NAME  the journal cannot be written
+J5 OtherDay           the journal is that of another day: of another date, zone or pace, or of a rehearsal
+J6 InUse NAME         another program writes the journal
+J7 NotAFile NAME      what is to be the journal is no plain file
+J8 OtherRules         the journal was written by other rules than those of this program
 L1 ReadFailed         the link: a read failed
 L2 WriteFailed        the link: a write failed
 L3 EndedInFrame       the link: it ended inside a frame, or before the end of a turn

@@ -5,6 +5,7 @@ mod arguments;
 mod channel_list;
 mod command_line;
 mod faults;
+mod line_ports;
 mod reading;
 
 pub use reading::{Refusal, read_words};

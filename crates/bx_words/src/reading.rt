@@ -3,9 +3,11 @@
 use crate::channel_list::channel_numbers;
 use crate::command_line::program_of_words;
 use crate::faults::FAULTS;
+use crate::line_ports::ports_in;
 use bx_request::{
-    AuditRequest, Call, CaptureWords, FarRequest, FileRequest, LiveRequest, Peer, Place,
-    RecordsRequest, RecordsWords, RehearsalRequest, RejoinRequest, Request, Sight, Terms,
+    AuditRequest, Call, CaptureWords, DayHours, FarLineRequest, FarRequest, FileRequest, LinePorts,
+    LiveRequest, Peer, Place, RecordsRequest, RecordsWords, RehearsalRequest, Request, Sight,
+    Terms,
 };
 use clap::error::ErrorKind;
 use clap::{ArgMatches, Error};
@@ -188,19 +190,44 @@ fn rehearsal_of<'a>(matches: &ArgMatches<'a>, peer: Peer<'a>) -> RehearsalReques
     }
 }
 
-/// The day that these words want to be run by the clock.
-fn live_request<'a>(matches: &ArgMatches<'a>) -> LiveRequest<'a> {
-    LiveRequest {
-        plan: word(matches, "plan"),
-        place: place_of(matches),
+/// When the day by the clock is that these words want.
+fn hours_of<'a>(matches: &ArgMatches<'a>) -> DayHours<'a> {
+    DayHours {
         date: word(matches, "date"),
         zone: matches.get_str("zone").unwrap_or("UTC0"),
         pace: matches.get_one::<u32>("pace").unwrap_or(1),
+    }
+}
+
+/// The two ports of the line that these words name.
+fn line_of(alloc: Global, text: &str) -> Result<LinePorts, Refusal> {
+    match ports_in(text) {
+        Some(line) => Ok(line),
+        None => {
+            let message = format!(in alloc;
+                "invalid value '{text}' for '--line <HERE:THERE>': not two ports from 1 to 65535 that differ"
+            )?;
+            Err(wrong(alloc, &message))
+        }
+    }
+}
+
+/// The day that these words want to be run by the clock.
+fn live_request<'a>(alloc: Global, matches: &ArgMatches<'a>) -> Result<LiveRequest<'a>, Refusal> {
+    if matches.get_str("capture").is_some() || matches.get_str("records").is_some() {
+        return Err(wrong(
+            alloc,
+            "'--capture <FILE>' and '--records <FILE>' do not stand beside '--live': `bx audit --capture` and `bx records` make both by the journal, at any time",
+        ));
+    }
+    Ok(LiveRequest {
+        plan: word(matches, "plan"),
+        line: line_of(alloc, word(matches, "line"))?,
+        hours: hours_of(matches),
         journal: matches.get_str("journal"),
         turns: matches.get_one::<u32>("turns"),
-        records: matches.get_str("records"),
-        sight: sight_of(matches),
-    }
+        is_quiet: matches.get_flag("quiet"),
+    })
 }
 
 /// Whether a day is named, and nothing that needs it.
@@ -225,7 +252,7 @@ fn day_request<'a>(alloc: Global, matches: &ArgMatches<'a>) -> Result<Request<'a
 /// What these words want of an exchange that serves.
 fn serve_request<'a>(alloc: Global, matches: &ArgMatches<'a>) -> Result<Request<'a>, Refusal> {
     if matches.get_flag("live") {
-        return Ok(Request::Live(live_request(matches)));
+        return Ok(Request::Live(live_request(alloc, matches)?));
     }
     if is_date_alone(matches) {
         return Err(wrong(
@@ -237,24 +264,38 @@ fn serve_request<'a>(alloc: Global, matches: &ArgMatches<'a>) -> Result<Request<
     Ok(Request::Rehearsal(rehearsal_of(matches, peer)))
 }
 
+/// What these words want of a far end by the clock, over this line.
+fn far_line_request<'a>(
+    alloc: Global,
+    matches: &ArgMatches<'a>,
+    line: &str,
+) -> Result<Request<'a>, Refusal> {
+    Ok(Request::FarLine(FarLineRequest {
+        script: word(matches, "script"),
+        line: line_of(alloc, line)?,
+        hours: hours_of(matches),
+        turns: matches.get_one::<u32>("turns"),
+        capture: matches.get_str("capture"),
+        is_quiet: matches.get_flag("quiet"),
+    }))
+}
+
 /// What these words want of a far end.
-fn far_request<'a>(matches: &ArgMatches<'a>) -> Request<'a> {
-    let script = word(matches, "script");
-    let place = place_of(matches);
-    let sight = sight_of(matches);
-    if matches.get_flag("rejoin") {
-        Request::Rejoin(RejoinRequest {
-            script,
-            place,
-            sight,
-        })
-    } else {
-        Request::Far(FarRequest {
-            script,
-            place,
-            sight,
-        })
+fn far_request<'a>(alloc: Global, matches: &ArgMatches<'a>) -> Result<Request<'a>, Refusal> {
+    if let Some(line) = matches.get_str("line") {
+        return far_line_request(alloc, matches, line);
     }
+    if matches.get_str("date").is_some() && matches.get_str("capture").is_none() {
+        return Err(wrong(
+            alloc,
+            "'--date <DATE>' stands only beside '--line <HERE:THERE>' or '--capture <FILE>'",
+        ));
+    }
+    Ok(Request::Far(FarRequest {
+        script: word(matches, "script"),
+        place: place_of(matches),
+        sight: sight_of(matches),
+    }))
 }
 
 /// The day that these words want to be told by its journal.
@@ -285,7 +326,7 @@ fn request_for_day<'a>(
     match name {
         "day" => Ok(Some(day_request(alloc, matches)?)),
         "serve" => Ok(Some(serve_request(alloc, matches)?)),
-        "far" => Ok(Some(far_request(matches))),
+        "far" => Ok(Some(far_request(alloc, matches)?)),
         "audit" => Ok(Some(Request::Audit(audit_request(matches)))),
         "records" => Ok(Some(Request::Records(records_request(matches)))),
         _ => Ok(None),

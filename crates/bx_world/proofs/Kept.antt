@@ -1,17 +1,17 @@
 -- What a crash leaves of a run over the disk of a journal.
-use Rattle.std.proofs.Common.{◌≡◌, ◌⊎◌, inl, inr, ⊎_elim, ℕ, suc, ◌+◌, ◌≤◌, List, [], ◌∷◌, ◌++◌, length, take, refl, sym, ap, ◌∙◌, subst, true, false, Bool, Ok, arith, length-append}
+use Rattle.std.proofs.Common.{◌≡◌, inl, inr, ⊎_elim, ℕ, suc, ◌+◌, List, [], ◌∷◌, ◌++◌, length, take, refl, sym, ap, ◌∙◌, subst, true, false, Bool, Ok, arith, length-append}
 use Rattle.std.proofs.lemmas.List.{append-nil, append_assoc, take-append-le}
 use Rattle.bx_events.specs.Events.{LiveEvent}
 use Rattle.bx_day.specs.Day.{Day}
 use Rattle.bx_journal.specs.Disk.{LeavesOnly}
-use Rattle.bx_journal.specs.Reading.{recovered}
 use Rattle.bx_journal.specs.Recording.{IsSettled, IsPending, IsFront}
 use Rattle.bx_journal.proofs.Fronts.{leaves_then}
 use Rattle.bx_journal.proofs.Moments.{started, weaker}
 use Rattle.bx_journal.proofs.Recorded.{pending}
+use Rattle.bx_journal.specs.declared.head.Head.{Head}
 use Rattle.bx_live.specs.Acts.{Act, Began, Dropped, Recorded, Synced, Wrote, Read, EndedDay, recorded}
 use Rattle.bx_live.specs.Runs.{Place, Between, Recording, Owing, Over, Closing, IsDue, IsRun, next}
-use Rattle.bx_live.specs.Written.{Filed, filed, filed_by, IsWrittenFor}
+use Rattle.bx_live.specs.Written.{Filed, filed, filed_by}
 use Rattle.bx_live.proofs.Due.{by_due}
 use Rattle.bx_live.proofs.Onward.{filed_law, written_law}
 use Rattle.bx_live_parts.specs.Chains.{Chain, chain_one, chain_first}
@@ -118,45 +118,45 @@ chain_split step s t (x ∷ xs) ys chain =
 -- ---- fronts
 
 -- more events, which are not on record
-longer_by : (plan : List ℕ) (es more xs : List LiveEvent) (c : List ℕ) → IsFront plan es more c → IsFront plan es (more ++ xs) c
-longer_by plan es more xs c f = (f.0, omega (arith, f.1, length-append more xs), f.2 ∙ ap (λ (l : List LiveEvent). Ok (es ++ l)) (sym (take-append-le f.0 more xs f.1)))
+longer_by : (head : Head) (es more xs : List LiveEvent) (c : List ℕ) → IsFront head es more c → IsFront head es (more ++ xs) c
+longer_by head es more xs c f = (f.0, omega (arith, f.1, length-append more xs), f.2 ∙ ap (λ (l : List LiveEvent). Ok (es ++ l)) (sym (take-append-le f.0 more xs f.1)))
 
 take_past : (xs ys : List LiveEvent) (m : ℕ) → take (length xs + m) (xs ++ ys) ≡ xs ++ take m ys
 take_past [] ys m = let e : 0 + m ≡ m = omega arith in ap (λ k. take k ys) e
 take_past (x ∷ xs) ys m = let e : suc (length xs) + m ≡ suc (length xs + m) = omega arith in rw e (ap (λ (l : List LiveEvent). x ∷ l) (take_past xs ys m))
 
 -- what was synced stands at the front of what was not
-unsynced : (plan : List ℕ) (earlier disk more xs : List LiveEvent) (c : List ℕ) → IsFront plan (earlier ++ (disk ++ more)) xs c → IsFront plan (earlier ++ disk) (more ++ xs) c
-unsynced plan earlier disk more xs c f = (
+unsynced : (head : Head) (earlier disk more xs : List LiveEvent) (c : List ℕ) → IsFront head (earlier ++ (disk ++ more)) xs c → IsFront head (earlier ++ disk) (more ++ xs) c
+unsynced head earlier disk more xs c f = (
   length more + f.0,
   omega (arith, f.1, length-append more xs),
   f.2 ∙ ap Ok (ap (λ (l : List LiveEvent). l ++ take f.0 xs) (sym (append_assoc earlier disk more)) ∙ append_assoc (earlier ++ disk) more (take f.0 xs)
       ∙ ap (λ (l : List LiveEvent). (earlier ++ disk) ++ l) (sym (take_past more xs f.0))),
 )
 
-known : (plan : List ℕ) (es more : List LiveEvent) (c : List ℕ) → IsFront plan es more c → Knows plan es c
-known plan es more c f = (take f.0 more, f.2)
+known : (head : Head) (es more : List LiveEvent) (c : List ℕ) → IsFront head es more c → Knows head es c
+known head es more c f = (take f.0 more, f.2)
 
-module _ {D : Type 0} (holds may_leave : D → List ℕ → Type 0) (moment : D → ℕ) (left_since : D → ℕ → List ℕ → Type 0) (only_now : (disk : D) (c : List ℕ) → left_since disk (moment disk) c → may_leave disk c) (plan : List ℕ) (earlier : List LiveEvent) where
+module _ {D : Type 0} (holds may_leave : D → List ℕ → Type 0) (moment : D → ℕ) (left_since : D → ℕ → List ℕ → Type 0) (only_now : (disk : D) (c : List ℕ) → left_since disk (moment disk) c → may_leave disk c) (head : Head) (earlier : List LiveEvent) where
   abbrev Step : D → Act → D → Type 0
   Step = OnDisk holds may_leave moment left_since
 
   -- what the disk holds, by what was filed behind the earlier events
   abbrev Holds : Filed → D → Type 0
-  Holds f disk = IsPending holds may_leave disk plan (earlier ++ f.disk) f.more
+  Holds f disk = IsPending holds may_leave disk head (earlier ++ f.disk) f.more
 
-  synced_holds : (f : Filed) (disk : D) → IsPending holds may_leave disk plan ((earlier ++ f.disk) ++ f.more) [] → Holds (record { disk = f.disk ++ f.more; more = [] }) disk
-  synced_holds f disk p = subst (λ (es : List LiveEvent). IsPending holds may_leave disk plan es []) (append_assoc earlier f.disk f.more) p
+  synced_holds : (f : Filed) (disk : D) → IsPending holds may_leave disk head ((earlier ++ f.disk) ++ f.more) [] → Holds (record { disk = f.disk ++ f.more; more = [] }) disk
+  synced_holds f disk p = subst (λ (es : List LiveEvent). IsPending holds may_leave disk head es []) (append_assoc earlier f.disk f.more) p
 
   held_on : (acts : List Act) (f : Filed) (u v : D) → keeps_record acts ≡ true → Chain Step u acts v → Holds f u → Holds (filed_by acts f) v
   held_on [] f u v kept e h = subst (λ (x : D). Holds f x) e h
   held_on (Recorded event true ∷ acts) f u v kept chain h =
       let (mid, writes, more) = chain_first Step u v (Recorded event true) acts chain in
-      held_on acts (record { disk = f.disk; more = f.more ++ event ∷ [] }) mid v kept more (writes.written refl plan (earlier ++ f.disk) f.more h)
+      held_on acts (record { disk = f.disk; more = f.more ++ event ∷ [] }) mid v kept more (writes.written refl head (earlier ++ f.disk) f.more h)
   held_on (Recorded event false ∷ acts) f u v kept chain h = cc
   held_on (Synced true ∷ acts) f u v kept chain h =
       let (mid, commits, more) = chain_first Step u v (Synced true) acts chain in
-      held_on acts (record { disk = f.disk ++ f.more; more = [] }) mid v kept more (synced_holds f mid (commits.committed refl plan (earlier ++ f.disk) f.more h))
+      held_on acts (record { disk = f.disk ++ f.more; more = [] }) mid v kept more (synced_holds f mid (commits.committed refl head (earlier ++ f.disk) f.more h))
   held_on (Synced false ∷ acts) f u v kept chain h = cc
   held_on (Began second begin ∷ acts) f u v kept chain h = let (mid, same, more) = chain_first Step u v (Began second begin) acts chain in held_on acts f mid v kept more (subst (λ (x : D). Holds f x) same h)
   held_on (Dropped loss ∷ acts) f u v kept chain h = let (mid, same, more) = chain_first Step u v (Dropped loss) acts chain in held_on acts f mid v kept more (subst (λ (x : D). Holds f x) same h)
@@ -165,31 +165,31 @@ module _ {D : Type 0} (holds may_leave : D → List ℕ → Type 0) (moment : D 
   held_on (EndedDay ∷ acts) f u v kept chain h = let (mid, same, more) = chain_first Step u v EndedDay acts chain in held_on acts f mid v kept more (subst (λ (x : D). Holds f x) same h)
 
   abbrev Leaves : Filed → List Act → D → D → Type 0
-  Leaves f acts u v = LeavesOnly moment left_since u v (IsFront plan (earlier ++ f.disk) (f.more ++ asked acts))
+  Leaves f acts u v = LeavesOnly moment left_since u v (IsFront head (earlier ++ f.disk) (f.more ++ asked acts))
 
   -- nothing more was done
-  at_once : (f : Filed) (u : D) → Holds f u → LeavesOnly moment left_since u u (IsFront plan (earlier ++ f.disk) f.more)
-  at_once f u h = started moment left_since u (IsFront plan (earlier ++ f.disk) f.more) (λ c left. h.left c (only_now u c left))
+  at_once : (f : Filed) (u : D) → Holds f u → LeavesOnly moment left_since u u (IsFront head (earlier ++ f.disk) f.more)
+  at_once f u h = started moment left_since u (IsFront head (earlier ++ f.disk) f.more) (λ c left. h.left c (only_now u c left))
 
   leaves_on : (acts : List Act) (f : Filed) (u v : D) → LastFails acts → Chain Step u acts v → Holds f u → Leaves f acts u v
-  leaves_on [] f u v fails e h = subst (λ (x : D). LeavesOnly moment left_since u x (IsFront plan (earlier ++ f.disk) (f.more ++ []))) e (weaker moment left_since u u _ _ (at_once f u h) (λ c front. longer_by plan (earlier ++ f.disk) f.more [] c front))
+  leaves_on [] f u v fails e h = subst (λ (x : D). LeavesOnly moment left_since u x (IsFront head (earlier ++ f.disk) (f.more ++ []))) e (weaker moment left_since u u _ _ (at_once f u h) (λ c front. longer_by head (earlier ++ f.disk) f.more [] c front))
   leaves_on (Recorded event true ∷ acts) f u v fails chain h =
       let (mid, writes, more) = chain_first Step u v (Recorded event true) acts chain in
-      let rest = leaves_on acts (record { disk = f.disk; more = f.more ++ event ∷ [] }) mid v fails more (writes.written refl plan (earlier ++ f.disk) f.more h) in
+      let rest = leaves_on acts (record { disk = f.disk; more = f.more ++ event ∷ [] }) mid v fails more (writes.written refl head (earlier ++ f.disk) f.more h) in
       let all : (f.more ++ event ∷ []) ++ asked acts ≡ f.more ++ event ∷ asked acts = append_assoc f.more (event ∷ []) (asked acts) in
-      subst (λ (es : List LiveEvent). LeavesOnly moment left_since u v (IsFront plan (earlier ++ f.disk) es)) all
-      (leaves_then moment left_since u mid v _ _ (weaker moment left_since u mid _ _ (writes.any_moment plan (earlier ++ f.disk) f.more h) (λ c front. longer_by plan (earlier ++ f.disk) (f.more ++ event ∷ []) (asked acts) c front)) rest (λ c front. front))
+      subst (λ (es : List LiveEvent). LeavesOnly moment left_since u v (IsFront head (earlier ++ f.disk) es)) all
+      (leaves_then moment left_since u mid v _ _ (weaker moment left_since u mid _ _ (writes.any_moment head (earlier ++ f.disk) f.more h) (λ c front. longer_by head (earlier ++ f.disk) (f.more ++ event ∷ []) (asked acts) c front)) rest (λ c front. front))
   leaves_on (Recorded event false ∷ acts) f u v fails chain h =
       let writes = subst (λ (xs : List Act). Chain Step u (Recorded event false ∷ xs) v) fails chain in
-      subst (λ (xs : List Act). LeavesOnly moment left_since u v (IsFront plan (earlier ++ f.disk) (f.more ++ event ∷ asked xs))) (sym fails) (writes.any_moment plan (earlier ++ f.disk) f.more h)
+      subst (λ (xs : List Act). LeavesOnly moment left_since u v (IsFront head (earlier ++ f.disk) (f.more ++ event ∷ asked xs))) (sym fails) (writes.any_moment head (earlier ++ f.disk) f.more h)
   leaves_on (Synced true ∷ acts) f u v fails chain h =
       let (mid, commits, more) = chain_first Step u v (Synced true) acts chain in
-      let rest = leaves_on acts (record { disk = f.disk ++ f.more; more = [] }) mid v fails more (synced_holds f mid (commits.committed refl plan (earlier ++ f.disk) f.more h)) in
-      leaves_then moment left_since u mid v _ _ (weaker moment left_since u mid _ _ (commits.any_moment plan (earlier ++ f.disk) f.more h) (λ c front. longer_by plan (earlier ++ f.disk) f.more (asked acts) c front)) rest
-      (λ c front. unsynced plan earlier f.disk f.more (asked acts) c front)
+      let rest = leaves_on acts (record { disk = f.disk ++ f.more; more = [] }) mid v fails more (synced_holds f mid (commits.committed refl head (earlier ++ f.disk) f.more h)) in
+      leaves_then moment left_since u mid v _ _ (weaker moment left_since u mid _ _ (commits.any_moment head (earlier ++ f.disk) f.more h) (λ c front. longer_by head (earlier ++ f.disk) f.more (asked acts) c front)) rest
+      (λ c front. unsynced head earlier f.disk f.more (asked acts) c front)
   leaves_on (Synced false ∷ acts) f u v fails chain h =
       let commits = subst (λ (xs : List Act). Chain Step u (Synced false ∷ xs) v) fails chain in
-      weaker moment left_since u v _ _ (commits.any_moment plan (earlier ++ f.disk) f.more h) (λ c front. longer_by plan (earlier ++ f.disk) f.more (asked acts) c front)
+      weaker moment left_since u v _ _ (commits.any_moment head (earlier ++ f.disk) f.more h) (λ c front. longer_by head (earlier ++ f.disk) f.more (asked acts) c front)
   leaves_on (Began second begin ∷ acts) f u v fails chain h =
       let (mid, same, more) = chain_first Step u v (Began second begin) acts chain in
       subst (λ (x : D). Leaves f acts x v) (sym same) (leaves_on acts f mid v fails more (subst (λ (x : D). Holds f x) same h))
@@ -209,27 +209,27 @@ module _ {D : Type 0} (holds may_leave : D → List ℕ → Type 0) (moment : D 
   abbrev nothing_filed : Filed
   nothing_filed = record { disk = []; more = [] }
 
-  at_first : (first : D) → IsSettled holds may_leave first plan earlier → Holds nothing_filed first
-  at_first first settled = subst (λ (es : List LiveEvent). IsPending holds may_leave first plan es []) (sym (append-nil earlier)) (pending holds may_leave first plan earlier settled)
+  at_first : (first : D) → IsSettled holds may_leave first head earlier → Holds nothing_filed first
+  at_first first settled = subst (λ (es : List LiveEvent). IsPending holds may_leave first head es []) (sym (append-nil earlier)) (pending holds may_leave first head earlier settled)
 
-  pub front_law : (first mid last : D) (before behind : List Act) (d : Day) (to : Place) → IsSettled holds may_leave first plan earlier → IsRun (Between d) (before ++ behind) to → keeps_record before ≡ true
-      → Chain Step first before mid → Chain Step mid behind last → LeavesOnly moment left_since mid last (IsFront plan (earlier ++ (filed before).disk) ((filed before).more ++ asked behind))
+  pub front_law : (first mid last : D) (before behind : List Act) (d : Day) (to : Place) → IsSettled holds may_leave first head earlier → IsRun (Between d) (before ++ behind) to → keeps_record before ≡ true
+      → Chain Step first before mid → Chain Step mid behind last → LeavesOnly moment left_since mid last (IsFront head (earlier ++ (filed before).disk) ((filed before).more ++ asked behind))
   front_law first mid last before behind d to settled run kept so_far rest =
       leaves_on behind (filed before) mid last (behind_fails before behind (last_fails (Between d) to (before ++ behind) run) kept) rest (held_on before nothing_filed first mid kept so_far (at_first first settled))
 
-  pub moments_law : (first last : D) (before behind : List Act) (d : Day) (to : Place) → IsSettled holds may_leave first plan earlier → IsRun (Between d) (before ++ behind) to → keeps_record before ≡ true
-      → Chain Step first (before ++ behind) last → (mid : D) × Chain Step first before mid × LeavesOnly moment left_since mid last (IsFront plan (earlier ++ (filed before).disk) ((filed before).more ++ asked behind))
+  pub moments_law : (first last : D) (before behind : List Act) (d : Day) (to : Place) → IsSettled holds may_leave first head earlier → IsRun (Between d) (before ++ behind) to → keeps_record before ≡ true
+      → Chain Step first (before ++ behind) last → (mid : D) × Chain Step first before mid × LeavesOnly moment left_since mid last (IsFront head (earlier ++ (filed before).disk) ((filed before).more ++ asked behind))
   moments_law first last before behind d to settled run kept chain =
       let cut = chain_split Step first last before behind chain in
       (cut.0, cut.1, front_law first cut.0 last before behind d to settled run kept cut.1 cut.2)
 
-  known_all : (u v : D) (acts more : List Act) → (filed acts).more ≡ [] → LeavesOnly moment left_since u v (IsFront plan (earlier ++ (filed acts).disk) ((filed acts).more ++ asked more)) → LeavesOnly moment left_since u v (Knows plan (earlier ++ recorded acts))
+  known_all : (u v : D) (acts more : List Act) → (filed acts).more ≡ [] → LeavesOnly moment left_since u v (IsFront head (earlier ++ (filed acts).disk) ((filed acts).more ++ asked more)) → LeavesOnly moment left_since u v (Knows head (earlier ++ recorded acts))
   known_all u v acts more none leaves =
       let all : (filed acts).disk ≡ recorded acts = sym (append-nil (filed acts).disk) ∙ (ap (λ (es : List LiveEvent). (filed acts).disk ++ es) (sym none) ∙ filed_law acts) in
-      weaker moment left_since u v _ _ leaves (λ c front. subst (λ (es : List LiveEvent). Knows plan (earlier ++ es) c) all (known plan (earlier ++ (filed acts).disk) ((filed acts).more ++ asked more) c front))
+      weaker moment left_since u v _ _ leaves (λ c front. subst (λ (es : List LiveEvent). Knows head (earlier ++ es) c) all (known head (earlier ++ (filed acts).disk) ((filed acts).more ++ asked more) c front))
 
-  pub safe_law : (first mid last : D) (before behind : List Act) (octets : List ℕ) (done : Bool) (d : Day) (to : Place) → IsSettled holds may_leave first plan earlier → IsRun (Between d) (before ++ Wrote octets done ∷ behind) to
-      → Chain Step first before mid → Chain Step mid (Wrote octets done ∷ behind) last → IsSafe d before octets (LeavesOnly moment left_since mid last (Knows plan (earlier ++ recorded before)))
+  pub safe_law : (first mid last : D) (before behind : List Act) (octets : List ℕ) (done : Bool) (d : Day) (to : Place) → IsSettled holds may_leave first head earlier → IsRun (Between d) (before ++ Wrote octets done ∷ behind) to
+      → Chain Step first before mid → Chain Step mid (Wrote octets done ∷ behind) last → IsSafe d before octets (LeavesOnly moment left_since mid last (Knows head (earlier ++ recorded before)))
   safe_law first mid last before behind octets done d to settled run so_far rest =
       let belongs = written_law d before behind octets done to run in
       let fails = last_fails (Between d) to (before ++ Wrote octets done ∷ behind) run in

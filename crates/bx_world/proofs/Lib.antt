@@ -1,4 +1,3 @@
 pub mod Kept
-pub mod Waiting
-pub mod Projections
+pub mod Losing
 pub mod Putting

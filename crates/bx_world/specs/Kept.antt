@@ -4,7 +4,9 @@ use Rattle.bx_events.specs.Events.{LiveEvent}
 use Rattle.bx_day.specs.Day.{Day}
 use Rattle.bx_day.specs.Course.{exchange_sent}
 use Rattle.bx_day.specs.Outages.{live_day_after}
+use Rattle.bx_journal.specs.Heads.{wanted_of}
 use Rattle.bx_journal.specs.Reading.{recovered}
+use Rattle.bx_journal.specs.declared.head.Head.{Head}
 use Rattle.bx_live.specs.Acts.{Act, Recorded, Synced}
 use Rattle.bx_live.specs.Written.{IsWrittenFor}
 
@@ -22,8 +24,8 @@ asked (Recorded event done ∷ acts) = event ∷ asked acts
 asked (act ∷ acts) = asked acts
 
 -- what a crash left has these events at its front
-abbrev pub Knows : List ℕ → List LiveEvent → List ℕ → Type 0
-Knows plan events left = (more : List LiveEvent) × (recovered plan left ≡ Ok (events ++ more))
+abbrev pub Knows : Head → List LiveEvent → List ℕ → Type 0
+Knows head events left = (more : List LiveEvent) × (recovered (wanted_of head) left ≡ Ok (events ++ more))
 
 -- what was written belongs to the last event on record; and where messages are among it, this holds as well
 pub record IsSafe (d : Day) (before : List Act) (octets : List ℕ) (known : Type 0) : Type 0 where

@@ -5,6 +5,7 @@ ghost use Rattle.bx_events.specs.Events.{LiveEvent};
 ghost use Rattle.bx_day.specs.Day.{Day};
 ghost use Rattle.bx_journal.specs.Disk.{LeavesOnly};
 ghost use Rattle.bx_journal.specs.Recording.{IsSettled, IsFront};
+ghost use Rattle.bx_journal.specs.declared.head.Head.{Head};
 ghost use Rattle.bx_live.specs.Acts.{Act, Wrote, recorded, ended};
 ghost use Rattle.bx_live.specs.Runs.{Place, Between, IsRun};
 ghost use Rattle.bx_live.specs.Written.{filed};
@@ -13,10 +14,8 @@ ghost use Rattle.bx_world.specs.Kept.{keeps_record, asked, Knows, IsSafe};
 ghost use Rattle.bx_live_parts.specs.Records.{OnDisk};
 ghost use Rattle.bx_world.specs.Rehearsals.{Rehearses};
 ghost use Rattle.bx_world.specs.BothEnds.{GoesBoth};
-ghost use Rattle.bx_world.specs.Lives.{GoesLive};
 ghost use Rattle.bx_world.specs.declared.rehearsal.Rehearsal.{Rehearsal as PlainRehearsal};
 ghost use Rattle.bx_world.specs.declared.both_ends.BothEnds.{BothEnds as PlainBothEnds};
-ghost use Rattle.bx_world.specs.declared.live.Live.{Live as PlainLive};
 
 use bx_journal::Disk;
 use std::io::{Read, Write};
@@ -25,10 +24,10 @@ use std::io::{Read, Write};
 /// earlier moment, and a front of those behind; and whenever messages were written to a peer, a crash from then on leaves all that
 /// was on record then, with the event for which they were written. So a restart knows everything that was ever sent.
 pub fn nothing_is_lost<D: Disk>()
-    ensures front { (plan : List ℕ) (earlier : List LiveEvent) (first mid last : D) (before behind : List Act) (d : Day) (to : Place) → IsSettled D.holds D.may_leave first plan earlier → IsRun (Between d) (before ++ behind) to → keeps_record before ≡ true → Chain (OnDisk D.holds D.may_leave D.moment D.left_since) first before mid → Chain (OnDisk D.holds D.may_leave D.moment D.left_since) mid behind last → LeavesOnly D.moment D.left_since mid last (IsFront plan (earlier ++ (filed before).disk) ((filed before).more ++ asked behind)) }
+    ensures front { (head : Head) (earlier : List LiveEvent) (first mid last : D) (before behind : List Act) (d : Day) (to : Place) → IsSettled D.holds D.may_leave first head earlier → IsRun (Between d) (before ++ behind) to → keeps_record before ≡ true → Chain (OnDisk D.holds D.may_leave D.moment D.left_since) first before mid → Chain (OnDisk D.holds D.may_leave D.moment D.left_since) mid behind last → LeavesOnly D.moment D.left_since mid last (IsFront head (earlier ++ (filed before).disk) ((filed before).more ++ asked behind)) }
     // The same of one run, whose acts are told up to that moment and behind it.
-    ensures moments { (plan : List ℕ) (earlier : List LiveEvent) (first last : D) (before behind : List Act) (d : Day) (to : Place) → IsSettled D.holds D.may_leave first plan earlier → IsRun (Between d) (before ++ behind) to → keeps_record before ≡ true → Chain (OnDisk D.holds D.may_leave D.moment D.left_since) first (before ++ behind) last → (mid : D) × Chain (OnDisk D.holds D.may_leave D.moment D.left_since) first before mid × LeavesOnly D.moment D.left_since mid last (IsFront plan (earlier ++ (filed before).disk) ((filed before).more ++ asked behind)) }
-    ensures written { (plan : List ℕ) (earlier : List LiveEvent) (first mid last : D) (before behind : List Act) (octets : List ℕ) (done : Bool) (d : Day) (to : Place) → IsSettled D.holds D.may_leave first plan earlier → IsRun (Between d) (before ++ Wrote octets done ∷ behind) to → Chain (OnDisk D.holds D.may_leave D.moment D.left_since) first before mid → Chain (OnDisk D.holds D.may_leave D.moment D.left_since) mid (Wrote octets done ∷ behind) last → IsSafe d before octets (LeavesOnly D.moment D.left_since mid last (Knows plan (earlier ++ recorded before))) }
+    ensures moments { (head : Head) (earlier : List LiveEvent) (first last : D) (before behind : List Act) (d : Day) (to : Place) → IsSettled D.holds D.may_leave first head earlier → IsRun (Between d) (before ++ behind) to → keeps_record before ≡ true → Chain (OnDisk D.holds D.may_leave D.moment D.left_since) first (before ++ behind) last → (mid : D) × Chain (OnDisk D.holds D.may_leave D.moment D.left_since) first before mid × LeavesOnly D.moment D.left_since mid last (IsFront head (earlier ++ (filed before).disk) ((filed before).more ++ asked behind)) }
+    ensures written { (head : Head) (earlier : List LiveEvent) (first mid last : D) (before behind : List Act) (octets : List ℕ) (done : Bool) (d : Day) (to : Place) → IsSettled D.holds D.may_leave first head earlier → IsRun (Between d) (before ++ Wrote octets done ∷ behind) to → Chain (OnDisk D.holds D.may_leave D.moment D.left_since) first before mid → Chain (OnDisk D.holds D.may_leave D.moment D.left_since) mid (Wrote octets done ∷ behind) last → IsSafe d before octets (LeavesOnly D.moment D.left_since mid last (Knows head (earlier ++ recorded before))) }
 {}
 
 /// Towards one peer: where it was not lost, each second began; and the disk of the journal has gone through the acts.
@@ -41,9 +40,4 @@ pub fn of_rehearsal<R: Read, W: Write, D: Disk>()
 pub fn of_both_ends<R: Read, W: Write, S: Read, T: Write, D: Disk>()
     ensures stays { (old new : PlainBothEnds R W S T D) (acts : List Act) → Chain (GoesBoth R.remaining W.contents S.remaining T.contents D.holds D.may_leave D.moment D.left_since) old acts new → new.lost ≡ None → ended acts ≡ false }
     ensures kept { (old new : PlainBothEnds R W S T D) (acts : List Act) (first : D) → Chain (GoesBoth R.remaining W.contents S.remaining T.contents D.holds D.may_leave D.moment D.left_since) old acts new → old.record.disk ≡ Some first → (last : D) × (new.record.disk ≡ Some last) × Chain (OnDisk D.holds D.may_leave D.moment D.left_since) first acts last }
-{}
-
-/// By the clock: the disk of the journal has gone through the acts.
-pub fn of_live<H, S: Read + Write, G, D: Disk>()
-    ensures { (old new : PlainLive H S G D) (acts : List Act) (first : D) → Chain (GoesLive S.remaining S.contents D.holds D.may_leave D.moment D.left_since) old acts new → old.record.disk ≡ Some first → (last : D) × (new.record.disk ≡ Some last) × Chain (OnDisk D.holds D.may_leave D.moment D.left_since) first acts last }
 {}

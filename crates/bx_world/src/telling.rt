@@ -14,8 +14,8 @@ use std::time::{Duration, Instant};
 /// How many milliseconds a moment that was shown stands at least.
 const STANDS: u64 = 250;
 
-/// A world whose moment is shown on standard error, where it is to be shown, at most four times a second; and whose lost peers and
-/// late seconds are told there in a line each, where there is a clock for the time of day. What standard error does with it changes
+/// A world whose moment is shown on standard error, where it is to be shown, at most four times a second; and whose faults of the link, late
+/// seconds, and seconds from which on there is no link or one again are told there in a line each, where there is a clock for the time of day. What standard error does with it changes
 /// nothing.
 #[derive(Drop)]
 pub struct Telling<'a, W, H> {
@@ -25,6 +25,7 @@ pub struct Telling<'a, W, H> {
     is_shown: bool,
     second: u32,
     late: u32,
+    is_away: bool,
     last: Option<Instant>,
 }
 
@@ -40,6 +41,7 @@ impl<'a, W, H> Telling<'a, W, H> {
             is_shown,
             second: 0,
             late: 0,
+            is_away: false,
             last: None,
         }
     }
@@ -55,6 +57,7 @@ impl<'a, W, H> Telling<'a, W, H> {
             is_shown: _,
             second: _,
             late: _,
+            is_away: _,
             last: _,
         } = self;
         world
@@ -125,6 +128,21 @@ impl<'a, W, H: Clock + Eprint> Telling<'a, W, H> {
         }
     }
 
+    /// Tells that there is no link from this second on, or one again, where that is new.
+    fn tell_link(&mut self, is_away: bool)
+        ensures { self.new.world ≡ self.old.world }
+    {
+        if is_away == self.is_away {
+            return;
+        }
+        self.is_away = is_away;
+        let what = if is_away { "no link" } else { "a link" };
+        if let Some((hours, minutes, seconds)) = self.time() {
+            self.clear();
+            let _ = eprintln!(self.rt; "{what} from {hours:02}:{minutes:02}:{seconds:02} on");
+        }
+    }
+
     /// Tells of a second that has begun.
     fn tell_begun(&mut self, second: u32, begin: Begin)
         ensures { self.new.world ≡ self.old.world }
@@ -134,6 +152,11 @@ impl<'a, W, H: Clock + Eprint> Telling<'a, W, H> {
             Begin::Alone | Begin::Joined | Begin::Ended => self.tell_late(),
         }
         self.second = second;
+        match begin {
+            Begin::Alone => self.tell_link(true),
+            Begin::Joined => self.tell_link(false),
+            Begin::Late | Begin::Ended => {}
+        }
         self.show();
     }
 }

@@ -46,15 +46,15 @@ returns-in-Rehearsal-clause-refused g c some =
     subst (λ (r : Request). IsRequestRefused g.row.H.Denot (g.R.Read.remaining (device_of c.args.input.now)) r g.H.File.Write.contents g.W.Write.contents c.args.output.now c.rehearse_on_files.new.output) (sym c.in-Rehearsal.is)
     (refused_at c.rehearse_on_files.result c.status_of-in-Rehearsal.result c.status_of-in-Rehearsal.ensures.done c.rehearse_on_files.ensures.refused some)
 
-pub returns-in-Rejoin-clause-done : goal.returns-in-Rejoin-clause-done
-returns-in-Rejoin-clause-done g c zero =
-    subst (λ (r : Request). IsRequestDone g.row.H.Denot (g.R.Read.remaining (device_of c.args.input.now)) r g.H.File.Write.contents g.W.Write.contents c.args.output.now c.rejoin_on_files.new.output) (sym c.in-Rejoin.is)
-    (done_at c.rejoin_on_files.result c.status_of-in-Rejoin.result c.status_of-in-Rejoin.ensures.done c.rejoin_on_files.ensures.done zero)
+pub returns-in-FarLine-clause-done : goal.returns-in-FarLine-clause-done
+returns-in-FarLine-clause-done g c zero =
+    subst (λ (r : Request). IsRequestDone g.row.H.Denot (g.R.Read.remaining (device_of c.args.input.now)) r g.H.File.Write.contents g.W.Write.contents c.args.output.now c.far_by_line.new.output) (sym c.in-FarLine.is)
+    (done_at c.far_by_line.result c.status_of-in-FarLine.result c.status_of-in-FarLine.ensures.done c.far_by_line.ensures.done zero)
 
-pub returns-in-Rejoin-clause-refused : goal.returns-in-Rejoin-clause-refused
-returns-in-Rejoin-clause-refused g c some =
-    subst (λ (r : Request). IsRequestRefused g.row.H.Denot (g.R.Read.remaining (device_of c.args.input.now)) r g.H.File.Write.contents g.W.Write.contents c.args.output.now c.rejoin_on_files.new.output) (sym c.in-Rejoin.is)
-    (refused_at c.rejoin_on_files.result c.status_of-in-Rejoin.result c.status_of-in-Rejoin.ensures.done c.rejoin_on_files.ensures.refused some)
+pub returns-in-FarLine-clause-refused : goal.returns-in-FarLine-clause-refused
+returns-in-FarLine-clause-refused g c some =
+    subst (λ (r : Request). IsRequestRefused g.row.H.Denot (g.R.Read.remaining (device_of c.args.input.now)) r g.H.File.Write.contents g.W.Write.contents c.args.output.now c.far_by_line.new.output) (sym c.in-FarLine.is)
+    (refused_at c.far_by_line.result c.status_of-in-FarLine.result c.status_of-in-FarLine.ensures.done c.far_by_line.ensures.refused some)
 
 pub returns-in-Live-clause-done : goal.returns-in-Live-clause-done
 returns-in-Live-clause-done g c zero =

@@ -2,4 +2,4 @@ use Rattle.bx_journal.proofs.Spelled.{front_spelled}
 use Rattle.bx_journal.proofs.laws.spelled.Goals as goal
 
 pub returns : goal.returns
-returns c = λ plan octets r e. front_spelled plan octets r e
+returns c = λ wanted octets r e. front_spelled wanted octets r e

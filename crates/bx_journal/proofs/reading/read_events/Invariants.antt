@@ -5,7 +5,7 @@ use Rattle.bx_journal.proofs.reading.read_events.Given as goal
 
 abbrev pub invariant-loop-line : goal.invariant-loop-line
 invariant-loop-line g l = record {
-  so_far : TakesEvents g.F.Follower.followed l.fn.follower l.follower l.n (g.R.Read.remaining (device_of l.fn.device)) (g.R.Read.remaining (device_of l.device)) l.fn.pieces l.pieces;
+  so_far : TakesEvents g.F.Follower.followed l.fn.follower l.follower l.first l.n (g.R.Read.remaining (device_of l.fn.device)) (g.R.Read.remaining (device_of l.device)) l.fn.pieces l.pieces;
   early : l.n ≤ l.pieces.taken;
   unfaulted : is_faulted l.device ≡ is_faulted l.fn.device;
 }

@@ -4,6 +4,7 @@ use Rattle.bx_events.specs.Events.{LiveEvent}
 use Rattle.bx_events.specs.declared.event.LiveEvent.TheVariants as rust
 use Rattle.bx_events.specs.declared.event.Event.TheVariants as plain
 use Rattle.bx_events.specs.Told.{live_event_of}
+use Rattle.bx_journal.specs.declared.head.Head.{Head}
 use Rattle.bx_journal.specs.Recording.{IsSettled, IsPending, IsFront}
 use Rattle.bx_journal.proofs.Moments.{started}
 use Rattle.bx_journal.proofs.Recorded.{pending, ok_then}
@@ -11,29 +12,29 @@ use Rattle.bx_journal.proofs.Fronts.{leaves_then, more_of}
 use Rattle.bx_journal.proofs.recording.record_events.Goals as goal
 
 -- a front of a front
-within : (plan : List ℕ) (before all : List LiveEvent) (i : ℕ) (c : List ℕ) → IsFront plan before (take i all) c → IsFront plan before all c
-within plan before all i c f =
+within : (head : Head) (before all : List LiveEvent) (i : ℕ) (c : List ℕ) → IsFront head before (take i all) c → IsFront head before all c
+within head before all i c f =
     (f.0, omega (arith, f.1, length-take i all), f.2 ∙ ap (λ (l : List LiveEvent). Ok (before ++ l)) (take-take f.0 i all (omega (arith, f.1, length-take i all))))
 
 pub loop-event-init : goal.loop-event-init
 loop-event-init g c = record {
-  written = λ plan before s. pending g.D.Disk.holds g.D.Disk.may_leave c.args.disk.now plan before s;
-  left = λ plan before s.
+  written = λ head before s. pending g.D.Disk.holds g.D.Disk.may_leave c.args.disk.now head before s;
+  left = λ head before s.
       let all = map live_event_of c.args.events.now in
-      let p = pending g.D.Disk.holds g.D.Disk.may_leave c.args.disk.now plan before s in
-      started g.D.Disk.moment g.D.Disk.left_since c.args.disk.now (IsFront plan before all) (λ f left. within plan before all 0 f (p.left f (g.met.D.Disk.only_now c.args.disk.now f left)));
+      let p = pending g.D.Disk.holds g.D.Disk.may_leave c.args.disk.now head before s in
+      started g.D.Disk.moment g.D.Disk.left_since c.args.disk.now (IsFront head before all) (λ f left. within head before all 0 f (p.left f (g.met.D.Disk.only_now c.args.disk.now f left)));
   unfailed = refl;
 }
 
 pub returns-in_err-write_event-clause-any_moment : goal.returns-in_err-write_event-clause-any_moment
-returns-in_err-write_event-clause-any_moment g c = λ plan before s.
+returns-in_err-write_event-clause-any_moment g c = λ head before s.
     let i = c.loop-event.event-index in
     let all = map live_event_of c.args.events.now in
     let e = live_event_of (get_or c.args.events.now i (rust.OnLink plain.Tick)) in
     let next = more_of c.args.events.now i c.loop-event-test.true in
-    leaves_then g.D.Disk.moment g.D.Disk.left_since c.args.disk.now c.loop-event.disk c.write_event.new.disk (IsFront plan before all) (IsFront plan before (take i all ++ e ∷ []))
-    (c.loop-event.invariant.left plan before s) (c.write_event.ensures.any_moment plan before (take i all) (c.loop-event.invariant.written plan before s))
-    (λ f q. within plan before all (i + 1) f (subst (λ (l : List LiveEvent). IsFront plan before l f) (sym next) q))
+    leaves_then g.D.Disk.moment g.D.Disk.left_since c.args.disk.now c.loop-event.disk c.write_event.new.disk (IsFront head before all) (IsFront head before (take i all ++ e ∷ []))
+    (c.loop-event.invariant.left head before s) (c.write_event.ensures.any_moment head before (take i all) (c.loop-event.invariant.written head before s))
+    (λ f q. within head before all (i + 1) f (subst (λ (l : List LiveEvent). IsFront head before l f) (sym next) q))
 
 pub loop-event-preserved : goal.loop-event-preserved
 loop-event-preserved g c =
@@ -42,24 +43,24 @@ loop-event-preserved g c =
     let e = live_event_of (get_or c.args.events.now i (rust.OnLink plain.Tick)) in
     let next = more_of c.args.events.now i c.loop-event-test.true in
     record {
-      written = λ plan before s.
-          subst (IsPending g.D.Disk.holds g.D.Disk.may_leave c.write_event.new.disk plan before) (sym next) (c.in_ok-write_event.ensures.written plan before (take i all) (c.loop-event.invariant.written plan before s));
-      left = λ plan before s.
-          leaves_then g.D.Disk.moment g.D.Disk.left_since c.args.disk.now c.loop-event.disk c.write_event.new.disk (IsFront plan before all) (IsFront plan before (take i all ++ e ∷ []))
-          (c.loop-event.invariant.left plan before s) (c.write_event.ensures.any_moment plan before (take i all) (c.loop-event.invariant.written plan before s))
-          (λ f q. within plan before all (i + 1) f (subst (λ (l : List LiveEvent). IsFront plan before l f) (sym next) q));
+      written = λ head before s.
+          subst (IsPending g.D.Disk.holds g.D.Disk.may_leave c.write_event.new.disk head before) (sym next) (c.in_ok-write_event.ensures.written head before (take i all) (c.loop-event.invariant.written head before s));
+      left = λ head before s.
+          leaves_then g.D.Disk.moment g.D.Disk.left_since c.args.disk.now c.loop-event.disk c.write_event.new.disk (IsFront head before all) (IsFront head before (take i all ++ e ∷ []))
+          (c.loop-event.invariant.left head before s) (c.write_event.ensures.any_moment head before (take i all) (c.loop-event.invariant.written head before s))
+          (λ f q. within head before all (i + 1) f (subst (λ (l : List LiveEvent). IsFront head before l f) (sym next) q));
       unfailed = c.in_ok-write_event.ensures.unfailed ∙ c.loop-event.invariant.unfailed;
     }
 
 pub returns-clause-recorded : goal.returns-clause-recorded
-returns-clause-recorded g c = ok_then c.commit.result c.commit.ensures.committed (λ committed plan before s.
+returns-clause-recorded g c = ok_then c.commit.result c.commit.ensures.committed (λ committed head before s.
     let all = map live_event_of c.args.events.now in
     let whole : take c.loop-event.event-index all ≡ all = take_all c.loop-event.event-index all (omega (arith, length-map c.args.events.now live_event_of, c.loop-event-test.false)) in
-    subst (λ (l : List LiveEvent). IsSettled g.D.Disk.holds g.D.Disk.may_leave c.commit.new.disk plan (before ++ l)) whole (committed plan before (take c.loop-event.event-index all) (c.loop-event.invariant.written plan before s)))
+    subst (λ (l : List LiveEvent). IsSettled g.D.Disk.holds g.D.Disk.may_leave c.commit.new.disk head (before ++ l)) whole (committed head before (take c.loop-event.event-index all) (c.loop-event.invariant.written head before s)))
 
 pub returns-clause-any_moment : goal.returns-clause-any_moment
-returns-clause-any_moment g c = λ plan before s.
+returns-clause-any_moment g c = λ head before s.
     let i = c.loop-event.event-index in
     let all = map live_event_of c.args.events.now in
-    leaves_then g.D.Disk.moment g.D.Disk.left_since c.args.disk.now c.loop-event.disk c.commit.new.disk (IsFront plan before all) (IsFront plan before (take i all))
-    (c.loop-event.invariant.left plan before s) (c.commit.ensures.any_moment plan before (take i all) (c.loop-event.invariant.written plan before s)) (λ f q. within plan before all i f q)
+    leaves_then g.D.Disk.moment g.D.Disk.left_since c.args.disk.now c.loop-event.disk c.commit.new.disk (IsFront head before all) (IsFront head before (take i all))
+    (c.loop-event.invariant.left head before s) (c.commit.ensures.any_moment head before (take i all) (c.loop-event.invariant.written head before s)) (λ f q. within head before all i f q)

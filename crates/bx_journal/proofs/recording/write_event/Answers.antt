@@ -8,22 +8,23 @@ use Rattle.bx_journal.proofs.Recorded.{write_leaves, longer, text_more, are_more
 use Rattle.bx_journal.proofs.recording.write_event.Goals as goal
 
 pub returns-clause-written : goal.returns-clause-written
-returns-clause-written g c = ok_then c.append.result c.append.ensures.written (λ written plan events more s.
+returns-clause-written g c = ok_then c.append.result c.append.ensures.written (λ written head events more s.
     let e = live_event_of c.args.event in
     let line = c.deref.ensures.0 ∙ c.line_of-line.ensures.text in
-    let text = ap (λ (l : List ℕ). journal_text plan (events ++ more) ++ l) line ∙ sym (text_more plan (events ++ more) e) ∙ ap (journal_text plan) (append_assoc events more (e ∷ [])) in
+    let text = ap (λ (l : List ℕ). journal_text head (events ++ more) ++ l) line ∙ sym (text_more head (events ++ more) e) ∙ ap (journal_text head) (append_assoc events more (e ∷ [])) in
     record {
+      day_is = s.day_is;
       events_are = subst AreEvents (append_assoc events more (e ∷ [])) (are_more (events ++ more) e s.events_are c.line_of-line.ensures.octets);
-      written = subst (g.D.Disk.holds c.append.new.self) text (written (journal_text plan (events ++ more)) s.written);
-      left = λ f left. write_leaves plan events more e c.deref.result.now s.events_are c.line_of-line.ensures.octets line f (⊎_elim (λ was. inl (s.left f was)) (λ torn. inr (torn _ s.written)) (c.append.ensures.crash f left));
+      written = subst (g.D.Disk.holds c.append.new.self) text (written (journal_text head (events ++ more)) s.written);
+      left = λ f left. write_leaves head events more e c.deref.result.now s.day_is s.events_are c.line_of-line.ensures.octets line f (⊎_elim (λ was. inl (s.left f was)) (λ torn. inr (torn _ s.written)) (c.append.ensures.crash f left));
     })
 
 pub returns-clause-any_moment : goal.returns-clause-any_moment
-returns-clause-any_moment g c = λ plan events more s.
+returns-clause-any_moment g c = λ head events more s.
     let e = live_event_of c.args.event in
-    let P = IsFront plan events (more ++ e ∷ []) in
+    let P = IsFront head events (more ++ e ∷ []) in
     let line = c.deref.ensures.0 ∙ c.line_of-line.ensures.text in
     let here : (f : List ℕ) → g.D.Disk.may_leave c.append.new.self f → P f =
-    λ f left. write_leaves plan events more e c.deref.result.now s.events_are c.line_of-line.ensures.octets line f (⊎_elim (λ was. inl (s.left f was)) (λ torn. inr (torn _ s.written)) (c.append.ensures.crash f left)) in
-    let at_start = started g.D.Disk.moment g.D.Disk.left_since c.args.disk.now P (λ f left. longer plan events more e f (s.left f (g.met.D.Disk.only_now c.args.disk.now f left))) in
+    λ f left. write_leaves head events more e c.deref.result.now s.day_is s.events_are c.line_of-line.ensures.octets line f (⊎_elim (λ was. inl (s.left f was)) (λ torn. inr (torn _ s.written)) (c.append.ensures.crash f left)) in
+    let at_start = started g.D.Disk.moment g.D.Disk.left_since c.args.disk.now P (λ f left. longer head events more e f (s.left f (g.met.D.Disk.only_now c.args.disk.now f left))) in
     goes_on g.D.Disk.moment g.D.Disk.left_since c.args.disk.now c.args.disk.now c.append.new.self P _ at_start c.append.ensures.time here

@@ -4,6 +4,6 @@ use Rattle.bx_live_parts.proofs.record.bring_to_disk.Goals as goal
 
 pub returns-in-Ok : goal.returns-in-Ok
 returns-in-Ok g c = record {
-  committed = λ e plan events more p. pending g.D.Disk.holds g.D.Disk.may_leave c.commit.new.disk plan (events ++ more) (c.in-Ok.ensures.committed plan events more p);
+  committed = λ e head events more p. pending g.D.Disk.holds g.D.Disk.may_leave c.commit.new.disk head (events ++ more) (c.in-Ok.ensures.committed head events more p);
   any_moment = c.in-Ok.ensures.any_moment;
 }

@@ -12,4 +12,4 @@ returns-in-Ok-whole-clause-day g c text known again =
     restarted _ _ _ _ _ _ _ _ _ _ (c.in_ok-last.ensures.read text known) c.in-Ok.ensures (rw c.in-Ok-whole.is at (c.recover_day-recovered.ensures.day text again))
 
 pub returns-in-Err-clause-refused : goal.returns-in-Err-clause-refused
-returns-in-Err-clause-refused g c text known again = fault_again c.args.digest.now text _ _ c.in-Err.fault (rw c.in-Err.is at (c.recover_day-recovered.ensures.day text again))
+returns-in-Err-clause-refused g c text known again = fault_again c.args.wanted.now text _ _ c.in-Err.fault (rw c.in-Err.is at (c.recover_day-recovered.ensures.day text again))

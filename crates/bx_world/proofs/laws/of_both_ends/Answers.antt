@@ -1,6 +1,7 @@
 use Rattle.bx_world.specs.Peers.{OnLost}
 use Rattle.bx_world.specs.BothEnds.{GoesBoth}
-use Rattle.bx_world.proofs.Projections.{chain_map, none_ended, kept_in}
+use Rattle.bx_live_parts.proofs.Projections.{chain_map, kept_in}
+use Rattle.bx_world.proofs.Losing.{none_ended}
 use Rattle.bx_world.proofs.laws.of_both_ends.Goals as goal
 
 pub returns-clause-stays : goal.returns-clause-stays

@@ -1,7 +1,7 @@
 use Rattle.bx_world.specs.Peers.{OnLost}
 use Rattle.bx_world.specs.Rehearsals.{Rehearses}
-use Rattle.bx_world.specs.declared.rehearsal.Rehearsal.{Rehearsal}
-use Rattle.bx_world.proofs.Projections.{chain_map, none_ended, kept_in}
+use Rattle.bx_live_parts.proofs.Projections.{chain_map, kept_in}
+use Rattle.bx_world.proofs.Losing.{none_ended}
 use Rattle.bx_world.proofs.laws.of_rehearsal.Goals as goal
 
 pub returns-clause-stays : goal.returns-clause-stays

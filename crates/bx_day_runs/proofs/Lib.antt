@@ -1,3 +1,0 @@
-pub mod Runs
-mod RunCaptured
-pub mod Refused

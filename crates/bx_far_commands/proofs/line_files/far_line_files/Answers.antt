@@ -1,0 +1,17 @@
+use Rattle.std.proofs.lemmas.Result.{err_from_is_err_and}
+use Rattle.bx_far_commands.specs.LineDays.{IsFarLineCut}
+use Rattle.bx_far_commands.specs.LineRefusals.{StopsFarLine}
+use Rattle.bx_far_commands.proofs.Refusals.{kept_output}
+use Rattle.bx_far_commands.proofs.ToldLines.{line_writes}
+use Rattle.bx_far_commands.proofs.line_files.far_line_files.Goals as goal
+
+pub returns-in_err-moment-clause-refused : goal.returns-in_err-moment-clause-refused
+returns-in_err-moment-clause-refused g c =
+    let p = err_from_is_err_and c.from_residual.result c.from_residual.ensures.1 in
+    let H = g.row.H.Denot in
+    let files = g.H.File.Write.contents in
+    rw (p.1, p.2)
+    (kept_output (StopsFarLine files c.args.request) (IsFarLineCut H files c.args.request) g.W.Write.contents c.args.output.now c.in_err-moment.field-0.0 (line_writes H files c.args.request) c.in_err-moment.ensures.stopped)
+
+pub returns-in-Ok-clause-told : goal.returns-in-Ok-clause-told
+returns-in-Ok-clause-told g c = record { moment = c.in_ok-moment.moment; day = c.in_ok-moment.ensures.ran; written = c.in-Ok.ensures.told }

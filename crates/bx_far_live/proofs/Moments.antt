@@ -1,0 +1,12 @@
+-- The moment of a far end's day: a tick raises it by one, and a message leaves it.
+use Rattle.std.proofs.Common.{◌≡◌, ℕ, ◌+◌, ◌≤◌, ◌<◌, List, [], ◌∷◌, arith}
+use Rattle.bx_events.specs.Events.{Tick, Receive}
+use Rattle.bx_far.specs.FarDay.{FarDay}
+use Rattle.bx_far.specs.Course.{far_next}
+use Rattle.bx_link.proofs.FarMoments.{moment_of}
+
+pub tick_rises : (d d1 : FarDay) → d1 ≡ far_next d Tick → d.moment < 300000 → d1.moment ≡ d.moment + 1
+tick_rises d d1 e early = let moment = moment_of (Tick ∷ []) d d1 e (omega (arith, early)) in omega (arith, moment, early)
+
+pub hearing_stays : (d d1 : FarDay) (octets : List ℕ) → d1 ≡ far_next d (Receive octets) → d.moment ≤ 300000 → d1.moment ≡ d.moment
+hearing_stays d d1 octets e within = let moment = moment_of (Receive octets ∷ []) d d1 e within in omega (arith, moment, within)

@@ -1,0 +1,121 @@
+-- Whatever is written belongs to the last event.
+use Rattle.std.proofs.Common.{◌≡◌, ℕ, ◌+◌, List, [], ◌∷◌, ◌++◌, refl, sym, ap, ◌∙◌, subst, true, false, Bool, Result, Ok, Err, ◌==◌, if◌then◌else◌}
+use Rattle.std.proofs.lemmas.List.{append-nil, append_assoc}
+use Rattle.bx_events.specs.Events.{Event, Tick, Receive, OnLink, WithoutLink}
+use Rattle.bx_frames.specs.declared.fault.LinkFault.{LinkFault}
+use Rattle.bx_frames.specs.declared.frame.Frame.{Frame}
+use Rattle.bx_frames.specs.declared.frame.Frame.TheVariants as frames
+use Rattle.bx_far.specs.FarDay.{FarDay}
+use Rattle.bx_far.specs.Course.{far_next, far_text}
+use Rattle.bx_live.specs.declared.world.Begin.{Begin}
+use Rattle.bx_live.specs.declared.world.Begin.TheVariants as begins
+use Rattle.bx_live.specs.declared.world.Loss.{Loss}
+use Rattle.bx_live.specs.Acts.{Act, Began, Dropped, Recorded, Synced, Wrote, Read, EndedDay}
+use Rattle.bx_far_live.specs.Events.{far_events}
+use Rattle.bx_far_live.specs.Runs.{Place, Between, Owing, Hearing, Losing, Ending, Done, IsDue, IsFarRun, next, day_at, owing}
+use Rattle.bx_far_live.specs.Written.{IsFarWrittenFor}
+use Rattle.bx_far_live.proofs.Due.{by_due}
+use Rattle.bx_far_live.proofs.Days.{far_after, more_taken, step_day}
+
+-- ---- lists of acts, one behind the other
+
+events_on : (xs ys : List Act) → far_events (xs ++ ys) ≡ far_events xs ++ far_events ys
+events_on [] ys = refl
+events_on (Began second begins.Joined ∷ xs) ys = ap (λ es. OnLink Tick ∷ es) (events_on xs ys)
+events_on (Began second begins.Alone ∷ xs) ys = ap (λ es. WithoutLink ∷ es) (events_on xs ys)
+events_on (Began second begins.Late ∷ xs) ys = ap (λ es. WithoutLink ∷ es) (events_on xs ys)
+events_on (Began second begins.Ended ∷ xs) ys = events_on xs ys
+events_on (Read room (Ok (frames.Message octets)) ∷ xs) ys = ap (λ es. OnLink (Receive octets.items) ∷ es) (events_on xs ys)
+events_on (Read room (Ok (frames.EndOfTurn said)) ∷ xs) ys = events_on xs ys
+events_on (Read room (Ok frames.EndOfDay) ∷ xs) ys = events_on xs ys
+events_on (Read room (Err fault) ∷ xs) ys = events_on xs ys
+events_on (Dropped loss ∷ xs) ys = events_on xs ys
+events_on (Recorded event done ∷ xs) ys = events_on xs ys
+events_on (Synced done ∷ xs) ys = events_on xs ys
+events_on (Wrote octets done ∷ xs) ys = events_on xs ys
+events_on (EndedDay ∷ xs) ys = events_on xs ys
+
+after_on : (xs : List Act) (act : Act) (d : FarDay) → far_after (xs ++ act ∷ []) d ≡ far_after (act ∷ []) (far_after xs d)
+after_on [] act d = refl
+after_on (x ∷ xs) act d = more_taken x (xs ++ act ∷ []) d ∙ (after_on xs act (far_after (x ∷ []) d) ∙ ap (far_after (act ∷ [])) (sym (more_taken x xs d)))
+
+-- ---- what is owed
+
+abbrev Owes : FarDay → List Act → Place → Type 0
+Owes d acts (Owing day room text) = IsFarWrittenFor d acts text
+Owes d acts (Between day) = Unit {0}
+Owes d acts (Hearing day room) = Unit {0}
+Owes d acts (Losing day loss) = Unit {0}
+Owes d acts (Ending day) = Unit {0}
+Owes d acts (Done day) = Unit {0}
+
+record Stands (d : FarDay) (acts : List Act) (p : Place) : Type 0 where
+  day : day_at p ≡ far_after acts d
+  owes : Owes d acts p
+
+module _ (d : FarDay) (acts : List Act) where
+  abbrev behind_act : Act → List Act
+  behind_act act = acts ++ act ∷ []
+
+  abbrev KeepsOwed : Place → Act → Type 0
+  KeepsOwed p act = Stands d acts p → Owes d (behind_act act) (next p act)
+
+  -- an event that is told by the act, by the day as it is before it
+  told_now : (p : Place) (act : Act) (event : Event) → far_events (act ∷ []) ≡ OnLink event ∷ [] → Stands d acts p → IsFarWrittenFor d (behind_act act) (far_text (day_at p) event)
+  told_now p act event tells stands = record {
+    earlier = far_events acts;
+    event = event;
+    last = events_on acts (act ∷ []) ∙ ap (λ es. far_events acts ++ es) tells;
+    text = ap (λ (x : FarDay). far_text x event) stands.day;
+  }
+
+  owed_begun : (day : FarDay) (begin : Begin) → KeepsOwed (Between day) (Began (day.moment + 1) begin)
+  owed_begun day begins.Joined stands = told_now (Between day) (Began (day.moment + 1) begins.Joined) Tick refl stands
+  owed_begun day begins.Alone stands = tt
+  owed_begun day begins.Late stands = tt
+  owed_begun day begins.Ended stands = tt
+
+  owed_wrote : (day : FarDay) (room : ℕ) (text : List ℕ) (done : Bool) → KeepsOwed (Owing day room text) (Wrote text done)
+  owed_wrote day room text true stands = tt
+  owed_wrote day room text false stands = tt
+
+  owing_owes : (day : FarDay) (room : ℕ) (text : List ℕ) (before : List Act) → IsFarWrittenFor d before text → Owes d before (owing day room text)
+  owing_owes day room [] before written = tt
+  owing_owes day room (octet ∷ text) before written = written
+
+  either_owes : (b : Bool) (day : FarDay) (loss : Loss) (before : List Act) → Owes d before (if b then Between day else Losing day loss)
+  either_owes true day loss before = tt
+  either_owes false day loss before = tt
+
+  owed_heard : (day : FarDay) (room : ℕ) (answer : Result Frame LinkFault) → KeepsOwed (Hearing day room) (Read room answer)
+  owed_heard day room (Ok (frames.Message octets)) stands =
+      let act = Read room (Ok (frames.Message octets)) in
+      owing_owes (far_next day (Receive octets.items)) _ (far_text day (Receive octets.items)) (behind_act act) (told_now (Hearing day room) act (Receive octets.items) refl stands)
+  owed_heard day room (Ok (frames.EndOfTurn said)) stands = either_owes (said == day.moment) day _ _
+  owed_heard day room (Ok frames.EndOfDay) stands = tt
+  owed_heard day room (Err fault) stands = tt
+
+  keeps_owed : (p : Place) (act : Act) → IsDue p act → KeepsOwed p act
+  keeps_owed = by_due KeepsOwed owed_begun owed_wrote owed_heard (λ day loss stands. tt) (λ day stands. tt) (λ day stands. tt)
+
+  stands_on : (p : Place) (act : Act) → IsDue p act → Stands d acts p → Stands d (behind_act act) (next p act)
+  stands_on p act due stands = record {
+    day = step_day p act due ∙ (ap (far_after (act ∷ [])) stands.day ∙ sym (after_on acts act d));
+    owes = keeps_owed p act due stands;
+  }
+
+  written_now : (p : Place) (octets : List ℕ) (done : Bool) → IsDue p (Wrote octets done) → Stands d acts p → IsFarWrittenFor d acts octets
+  written_now (Owing day room text) octets done due stands = subst (IsFarWrittenFor d acts) (sym due) stands.owes
+  written_now (Between day) octets done due stands = absurd due
+  written_now (Hearing day room) octets done due stands = absurd due
+  written_now (Losing day loss) octets done due stands = absurd due
+  written_now (Ending day) octets done due stands = absurd due
+  written_now (Done day) octets done due stands = absurd due
+
+written_behind : (d : FarDay) (acts : List Act) (p : Place) → Stands d acts p → (before behind : List Act) (octets : List ℕ) (done : Bool) (to : Place) → IsFarRun p (before ++ Wrote octets done ∷ behind) to → IsFarWrittenFor d (acts ++ before) octets
+written_behind d acts p stands [] behind octets done to (due, goes) = subst (λ xs. IsFarWrittenFor d xs octets) (sym (append-nil acts)) (written_now d acts p octets done due stands)
+written_behind d acts p stands (act ∷ before) behind octets done to (due, goes) =
+    subst (λ xs. IsFarWrittenFor d xs octets) (append_assoc acts (act ∷ []) before) (written_behind d (acts ++ act ∷ []) (next p act) (stands_on d acts p act due stands) before behind octets done to goes)
+
+pub written_law : (d : FarDay) (before behind : List Act) (octets : List ℕ) (done : Bool) (to : Place) → IsFarRun (Between d) (before ++ Wrote octets done ∷ behind) to → IsFarWrittenFor d before octets
+written_law d before behind octets done to run = written_behind d [] (Between d) (record { day = refl; owes = tt }) before behind octets done to run

@@ -1,4 +1,0 @@
-mod Recorded
-mod RehearsalRuns
-mod ToldRehearsals
-mod RehearsedWith

@@ -1,5 +1,0 @@
-pub mod FirstMoments
-pub mod FirstReading
-pub mod Answering
-pub mod Onward
-pub mod AsEver

@@ -1,6 +1,0 @@
-pub mod LiveEvents
-pub mod LiveCaptures
-pub mod LiveKeeping
-pub mod FirstTurns
-pub mod Rejoined
-pub mod Holding

@@ -1,4 +1,0 @@
-pub mod Rejoined
-pub mod Refusals
-pub mod Onward
-pub mod Kept

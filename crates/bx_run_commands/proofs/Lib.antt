@@ -1,0 +1,10 @@
+mod Runs
+mod RunCaptured
+mod Refused
+mod Unkept
+mod LineRuns
+mod ToldLive
+mod Recorded
+mod RehearsalRuns
+mod RehearsedWith
+mod ToldRehearsals

@@ -1,0 +1,99 @@
+-- Runs over a data link, and journals that are ready to go on.
+use Rattle.std.proofs.Common.{◌≡◌, ◌∙◌, ℕ, max, min, Bool, false, true, is_some, List, Option, Some, None, Result, Ok, Err, OnOk, ap, refl, sym, subst}
+use Rattle.std.specs.Borrow.{Bor}
+use Rattle.bx_day.specs.Day.{Day}
+use Rattle.bx_day_openings.specs.declared.fault.DayCommandFault.{DayCommandFault}
+use Rattle.bx_day.specs.Outages.{live_day_after}
+use Rattle.bx_events.specs.Events.{LiveEvent}
+use Rattle.bx_events.specs.declared.moment.TheConstants.{LAST_MOMENT}
+use Rattle.bx_journal.specs.Follows.{IsFollowed}
+use Rattle.bx_journal.specs.Heads.{wanted_of}
+use Rattle.bx_journal.specs.Reading.{journal_in}
+use Rattle.bx_journal.specs.Recording.{IsSettled}
+use Rattle.bx_journal.specs.declared.disk_files.SystemFile.{SystemFile}
+use Rattle.bx_journal.specs.declared.file.FileDisk.{FileDisk}
+use Rattle.bx_journal.specs.declared.fault.JournalFault.{JournalFault}
+use Rattle.bx_journal.specs.declared.head.Head.{Head}
+use Rattle.bx_journal.specs.declared.head.Wanted.{Wanted}
+use Rattle.bx_journal_openings.specs.Followed.{IsFollowedWhole}
+use Rattle.bx_journal_openings.specs.Journals.{IsJournal}
+use Rattle.bx_line_world.specs.Days.{GoesByLine}
+use Rattle.bx_line_world.specs.Posts.{no_post}
+use Rattle.bx_line_world.specs.Wires.{WireAct}
+use Rattle.bx_line_world.specs.declared.line_world.LineWorld.{LineWorld}
+use Rattle.bx_line_world.proofs.Never.{never_ends}
+use Rattle.bx_live.specs.Acts.{Act, recorded, ended}
+use Rattle.bx_live.specs.Runs.{Between, Done, Over, IsRun}
+use Rattle.bx_live.specs.Running.{Runs, or_over}
+use Rattle.bx_live.specs.declared.world.CannotRecord.{CannotRecord}
+use Rattle.bx_live_parts.specs.Chains.{Chain}
+use Rattle.bx_live_parts.specs.Records.{OnRecord}
+use Rattle.bx_live_parts.proofs.Projections.{chain_map}
+use Rattle.bx_live_parts.specs.declared.record.Record.{Record}
+use Rattle.bx_live_parts.specs.declared.schedule.Schedule.{Schedule}
+use Rattle.bx_recovery.specs.Recovered.{goes_on}
+use Rattle.bx_run_commands.specs.Resuming.{GoesOn, IsFollowedBy, IsKeptOn, IsKeptBy}
+use Rattle.bx_run_commands.proofs.Recorded.{over_of}
+use Rattle.bx_run_commands.proofs.Unkept.{none_keeps}
+use Rattle.bx_run_commands.specs.Readying.{IsReady}
+use Rattle.bx_run_commands.specs.LiveRuns.{RunsByLine}
+
+module _ {W D : Type 0} (did : W → List WireAct → W → Type 0) (holds may_leave : D → List ℕ → Type 0) (moment : D → ℕ) (left_since : D → ℕ → List ℕ → Type 0) where
+  abbrev Goes : LineWorld W D → List Act → LineWorld W D → Type 0
+  Goes = Chain (GoesByLine did holds may_leave moment left_since)
+
+  pub by_line : (wire : W) (schedule : Schedule) (kept : Record D) (turns : ℕ) (from to : Day) (old new : LineWorld W D) (done : Result (Unit {0}) CannotRecord) → done ≡ Ok tt → old.line.wire ≡ wire → old.schedule ≡ schedule → old.record ≡ kept → old.line.end.network ≡ true → old.line.post ≡ no_post
+      → (ran : Runs Goes old new (Between from) (or_over (Done to) to done)) → to ≡ live_day_after (recorded ran.acts) from → OnOk done (ended ran.acts ≡ false → to.moment ≡ max from.moment (min turns LAST_MOMENT))
+      → RunsByLine did holds may_leave moment left_since wire schedule kept turns from to
+  by_line wire schedule kept turns from to old new done is over scheduled by side nothing ran after reached = record {
+    acts = ran.acts;
+    old = old;
+    new = new;
+    over = over;
+    scheduled = scheduled;
+    kept_by = by;
+    side = side;
+    nothing_told = nothing;
+    went = ran.done;
+    run = subst (λ (r : Result (Unit {0}) CannotRecord). IsRun (Between from) ran.acts (or_over (Done to) to r)) is ran.goes;
+    after = after;
+    reached = subst (λ (r : Result (Unit {0}) CannotRecord). OnOk r (ended ran.acts ≡ false → to.moment ≡ max from.moment (min turns LAST_MOMENT))) is reached (never_ends did holds may_leave moment left_since old new ran.acts ran.done);
+  }
+
+  -- a run that is over before its end has a journal
+  pub kept_on : (from to : Day) (kept : Record D) (old new : LineWorld W D) (acts : List Act) (o : Option D) → old.record ≡ kept → kept.disk ≡ o → Goes old acts new → IsRun (Between from) acts (Over to) → is_some o ≡ true
+  kept_on from to kept old new acts (Some disk) by is chain run = refl
+  kept_on from to kept old new acts None by is chain run =
+      let mapped = chain_map (GoesByLine did holds may_leave moment left_since) (OnRecord holds may_leave moment left_since) (λ w. w.record.disk) (λ s t act p. p.recorded) old new acts chain in
+      let start : old.record.disk ≡ None = ap (λ (r : Record D). r.disk) by ∙ is in
+      absurd (over_of (Between from) to acts (none_keeps holds may_leave moment left_since acts new.record.disk (subst (λ (x : Option D). Chain (OnRecord holds may_leave moment left_since) x acts new.record.disk) start mapped)) run)
+
+  pub failed_line : (from to : Day) (kept : Record D) (old new : LineWorld W D) (done : Result (Unit {0}) CannotRecord) (fault : CannotRecord) → done ≡ Err fault → old.record ≡ kept → Runs Goes old new (Between from) (or_over (Done to) to done) → is_some kept.disk ≡ true
+  failed_line from to kept old new done fault is by ran =
+      kept_on from to kept old new ran.acts kept.disk by refl ran.done (subst (λ (r : Result (Unit {0}) CannotRecord). IsRun (Between from) ran.acts (or_over (Done to) to r)) is ran.goes)
+
+-- a journal that was read whole
+pub ready_on : {D : Type 0} (holds may_leave : D → List ℕ → Type 0) (head : Head) (whole : Result ℕ JournalFault) (old new : D) (w : ℕ) → whole ≡ Ok w
+    → ((head : Head) (text : List ℕ) (events : List LiveEvent) → journal_in (wanted_of head) text ≡ Ok (record { events = events; whole = w }) → holds old text → IsSettled holds may_leave new head events) → IsReady holds may_leave head whole old new
+ready_on holds may_leave head whole old new w is resumed = record {
+  resumed = λ text events n same read held. let e : n ≡ w = cc in resumed head text events (subst (λ (k : ℕ). journal_in (wanted_of head) text ≡ Ok (record { events = events; whole = k })) e read) held;
+  begun = λ text fault same held. absurd cc;
+}
+
+-- the day after a journal that was followed whole
+pub goes_on_by : (head : Head) (wanted : Wanted) (before : Option (List ℕ)) (opened day : Day) (r : Result (Unit {0}) DayCommandFault) (v : Unit {0}) → wanted ≡ wanted_of head → r ≡ Ok v → OnOk r (IsFollowedWhole goes_on wanted before opened day) → GoesOn head before opened day
+goes_on_by head wanted before opened day r v same is followed =
+    let f = subst (λ (x : Result (Unit {0}) DayCommandFault). OnOk x (IsFollowedWhole goes_on wanted before opened day)) is followed in
+    record { events = f.events; journal = subst (λ (w : Wanted). IsJournal w before f.events) same f.journal; after = f.all }
+
+-- ---- how a journal was followed, and on what its record is kept
+
+pub followed_by : (head : Head) (wanted : Wanted) (faulted : Bool) (before after : Option (List ℕ)) (opened day : Day) (whole : Result ℕ JournalFault) → wanted ≡ wanted_of head → IsFollowed goes_on faulted before after wanted opened day whole → IsFollowedBy head before opened day whole
+followed_by head wanted faulted before after opened day whole same f = (faulted, after, subst (λ (w : Wanted). IsFollowed goes_on faulted before after w opened day whole) same f)
+
+pub kept_by : {F : Type 0} (head : Head) (before : Option (List ℕ)) (opened day : Day) (kept : Record (FileDisk (SystemFile F))) (o : Option (Bor (List ℕ))) (name : Bor (List ℕ)) → o ≡ Some name → IsKeptOn (λ file. None) false head before opened day kept → IsKeptBy head o opened day kept
+kept_by {F = F} head before opened day kept o name is k = subst (λ (x : Option (Bor (List ℕ))). IsKeptBy {F = F} head x opened day kept) (sym is) (before, k)
+
+pub journal_kept_by : {F : Type 0} (head : Head) (opened day : Day) (kept : Record (FileDisk (SystemFile F))) (o : Option (Bor (List ℕ))) → IsKeptBy head o opened day kept → is_some kept.disk ≡ true → is_some o ≡ true
+journal_kept_by head opened day kept (Some name) k there = refl
+journal_kept_by {F = F} head opened day kept None k there = subst (λ (x : Option (FileDisk (SystemFile F))). is_some x ≡ true) k there

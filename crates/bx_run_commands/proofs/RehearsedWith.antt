@@ -1,0 +1,56 @@
+-- A rehearsal with the peer of the words.
+use Rattle.std.proofs.Common.{ℕ, List, Option, ap, sym, subst}
+use Rattle.std.specs.Borrow.{Bor}
+use Rattle.std.specs.declared.net.TcpStream.{TcpStream}
+use Rattle.std.specs.declared.os.unix.net.UnixStream.{UnixStream}
+use Rattle.bx_calendar.specs.declared.clock.Clock.{Clock}
+use Rattle.bx_day.specs.Day.{Day}
+use Rattle.bx_day_openings.specs.CaptureOpenings.{IsFirstOf}
+use Rattle.bx_day_openings.specs.Openings.{IsFarOpening}
+use Rattle.bx_day_openings.specs.declared.recording.RecordsFile.{RecordsFile}
+use Rattle.bx_devices.specs.declared.watched.Watched.{Watched}
+use Rattle.bx_far.specs.FarDay.{FarDay}
+use Rattle.bx_request.specs.declared.request.Peer.{Peer}
+use Rattle.bx_request.specs.declared.request.Peer.TheVariants.{Script, At}
+use Rattle.bx_request.specs.declared.request.Place.TheVariants.{Port, Socket}
+use Rattle.bx_request.specs.declared.request.RehearsalRequest.{RehearsalRequest}
+use Rattle.bx_journal.specs.declared.head.Head.{Head}
+use Rattle.bx_journal.specs.Files.{holds_unknown, may_leave_any}
+use Rattle.bx_journal_openings.specs.TiedDays.{IsTiedDay}
+use Rattle.bx_run_commands.specs.ReadyInside.{IsReadied}
+use Rattle.bx_run_commands.specs.RehearsedDays.{Known, Stream, RanWith, RehearsalWith}
+use Rattle.bx_run_commands.specs.Rehearsals.{RehearsesBoth, RehearsesTowards}
+use Rattle.bx_run_commands.specs.JournalDisks.{JournalDisk}
+use Rattle.bx_journal_openings.specs.declared.opening.Opening.{Opening}
+use Rattle.bx_run_commands.specs.declared.rehearsing.Opened.{Opened}
+use Rattle.bx_run_commands.specs.declared.rehearsing.Rehearsed.{Rehearsed}
+
+module _ {F : Type 0} (files : F → Option (List ℕ)) (request : RehearsalRequest) (opening : Opening) (first : ℕ) (opened : Opened (JournalDisk F)) (file : Option (Watched F)) (second : ℕ) (clock : Option Clock) (records : Option (RecordsFile F)) (ready : IsReadied files request opening first opened file second clock records) (begins : IsFirstOf request.sight.capture first) (opens : IsTiedDay request.turns opening.exchange opening.digest opening.turns) (rehearsed : Rehearsed (JournalDisk F)) where
+  tied : IsTiedDay request.turns opened.exchange opened.head.plan opened.turns
+  tied = subst (λ (n : ℕ). IsTiedDay request.turns opened.exchange opened.head.plan n) (sym ready.turns)
+      (subst (λ (digest : List ℕ). IsTiedDay request.turns opened.exchange digest opening.turns) (sym (ap (λ (h : Head). h.plan) ready.head))
+      (subst (λ (day : Day). IsTiedDay request.turns day opening.digest opening.turns) (sym ready.exchange) opens))
+
+  with_peer : (peer : Peer) → RanWith files peer opened file second rehearsed → RehearsalWith files peer request rehearsed
+  with_peer peer ran = record {
+    opened = opened;
+    opens = tied;
+    of_rehearsal = ap (λ (h : Head). h.day) ready.head;
+    is_kept = ready.disk;
+    first = second;
+    begins = subst (IsFirstOf request.sight.capture) (sym ready.first_is) begins;
+    file = file;
+    file_opens = ready.file_opens;
+    ran = ran;
+  }
+
+  pub with_script : (script : Bor (List ℕ)) (far : FarDay) → IsFarOpening far → {remaining contents far_remaining far_contents : Known TcpStream} {near distant : Stream TcpStream} → RehearsesBoth remaining contents far_remaining far_contents holds_unknown may_leave_any files opened far near distant file second rehearsed
+      → RehearsalWith files (Script script) request rehearsed
+  with_script script far far_opens {remaining = remaining} {contents = contents} {far_remaining = far_remaining} {far_contents = far_contents} {near = near} {distant = distant} ran =
+      with_peer (Script script) (far, far_opens, (remaining, contents, far_remaining, far_contents, (near, distant, ran)))
+
+  pub with_port : (port : ℕ) {remaining contents : Known TcpStream} {connection : Stream TcpStream} → RehearsesTowards remaining contents holds_unknown may_leave_any files opened connection file second rehearsed → RehearsalWith files (At (Port port)) request rehearsed
+  with_port port {remaining = remaining} {contents = contents} {connection = connection} ran = with_peer (At (Port port)) (remaining, contents, (connection, ran))
+
+  pub with_socket : (path : Bor (List ℕ)) {remaining contents : Known UnixStream} {connection : Stream UnixStream} → RehearsesTowards remaining contents holds_unknown may_leave_any files opened connection file second rehearsed → RehearsalWith files (At (Socket path)) request rehearsed
+  with_socket path {remaining = remaining} {contents = contents} {connection = connection} ran = with_peer (At (Socket path)) (remaining, contents, (connection, ran))

@@ -1,0 +1,31 @@
+-- A live day that stopped did not fail by its output.
+use Rattle.std.proofs.Common.{ℕ, List, Option, Some, None, inl, inr, refl}
+use Rattle.std.specs.Borrow.{Bor}
+use Rattle.bx_check_commands.specs.declared.fault.CommandFault.TheVariants as commands
+use Rattle.bx_day_openings.specs.declared.fault.DayCommandFault.TheVariants.{Command}
+use Rattle.bx_devices.specs.declared.watched.Watched.{Watched}
+use Rattle.bx_journal.specs.declared.head.Head.{Head}
+use Rattle.bx_request.specs.declared.request.LiveRequest.{LiveRequest}
+use Rattle.bx_run_commands.specs.Heads.{live_head}
+use Rattle.bx_run_commands.specs.LiveRefusals.{StopsLive, IsLiveRefusal}
+use Rattle.bx_run_commands.specs.Resuming.{IsNoRecord}
+use Rattle.bx_run_commands.specs.declared.fault.LiveFault.{LiveFault}
+use Rattle.bx_run_commands.specs.declared.fault.LiveFault.TheVariants.{Day as OfDay}
+use Rattle.bx_run_commands.proofs.Refused.{no_output}
+
+no_journal : (journal : Option (Bor (List ℕ))) (head : Head) → IsNoRecord journal head (OfDay (Command commands.CannotWrite)) → ⊥
+no_journal None head none = none
+no_journal (Some name) head none = none
+
+module _ (request : LiveRequest) where
+  writes : StopsLive request (OfDay (Command commands.CannotWrite)) → ⊥
+  writes (inl hours) = hours
+  writes (inr (inl plan)) = plan
+  writes (inr (inr (inl (at_hand, inl unheard)))) = unheard
+  writes (inr (inr (inl (at_hand, inr unconnected)))) = unconnected
+  writes (inr (inr (inr (at_hand, inl journal)))) = no_journal request.journal (live_head at_hand.digest at_hand.hours) journal
+  writes (inr (inr (inr (at_hand, inr unrecorded)))) = no_output request.journal unrecorded
+
+  pub live_stopped : {F W : Type 0} (H : Type 0) (files : F → Option (List ℕ)) (contents : W → Option (List ℕ)) (output : Watched W) (fault : LiveFault) → StopsLive request fault → IsLiveRefusal H files request contents output output fault
+  live_stopped H files contents output (OfDay (Command commands.CannotWrite)) stops = absurd (writes stops)
+  live_stopped H files contents output fault stops = (stops, refl)

@@ -1,0 +1,46 @@
+-- Without a journal nothing fails to be put on record.
+use Rattle.std.proofs.Common.{◌≡◌, ℕ, true, false, List, [], ◌∷◌, Option, Some, None, refl, sym, subst}
+use Rattle.bx_live.specs.Acts.{Act, Began, Dropped, Recorded, Synced, Wrote, Read, EndedDay}
+use Rattle.bx_live_parts.specs.Chains.{Chain, chain_first}
+use Rattle.bx_live_parts.specs.Records.{OnRecord}
+use Rattle.bx_world.specs.Kept.{keeps_record}
+
+module _ {D : Type 0} (holds may_leave : D → List ℕ → Type 0) (moment : D → ℕ) (left_since : D → ℕ → List ℕ → Type 0) where
+  abbrev pub Kept : Option D → Act → Option D → Type 0
+  Kept = OnRecord holds may_leave moment left_since
+
+  -- without a journal there is none behind an act
+  none_by : (act : Act) (o : Option D) → Kept None act o → o ≡ None
+  none_by (Recorded event done) None p = refl
+  none_by (Recorded event done) (Some w) p = absurd p
+  none_by (Synced done) None p = refl
+  none_by (Synced done) (Some w) p = absurd p
+  none_by (Began second begin) o p = sym p
+  none_by (Dropped loss) o p = sym p
+  none_by (Wrote octets done) o p = sym p
+  none_by (Read room answer) o p = sym p
+  none_by EndedDay o p = sym p
+
+  pub none_on : (acts : List Act) (o : Option D) → Chain Kept None acts o → o ≡ None
+  none_on [] o e = sym e
+  none_on (act ∷ acts) o chain =
+      let (mid, step, more) = chain_first Kept None o act acts chain in
+      none_on acts o (subst (λ (x : Option D). Chain Kept x acts o) (none_by act mid step) more)
+
+  pub none_keeps : (acts : List Act) (o : Option D) → Chain Kept None acts o → keeps_record acts ≡ true
+  none_keeps [] o e = refl
+  none_keeps (act ∷ acts) o chain =
+      let (mid, step, more) = chain_first Kept None o act acts chain in
+      keeps_by act mid step (none_keeps acts o (subst (λ (x : Option D). Chain Kept x acts o) (none_by act mid step) more)) where
+        keeps_by : (act : Act) (mid : Option D) → Kept None act mid → keeps_record acts ≡ true → keeps_record (act ∷ acts) ≡ true
+        keeps_by (Recorded event true) mid p kept = kept
+        keeps_by (Recorded event false) None p kept = cc
+        keeps_by (Recorded event false) (Some w) p kept = absurd p
+        keeps_by (Synced true) mid p kept = kept
+        keeps_by (Synced false) None p kept = cc
+        keeps_by (Synced false) (Some w) p kept = absurd p
+        keeps_by (Began second begin) mid p kept = kept
+        keeps_by (Dropped loss) mid p kept = kept
+        keeps_by (Wrote octets done) mid p kept = kept
+        keeps_by (Read room answer) mid p kept = kept
+        keeps_by EndedDay mid p kept = kept

@@ -1,0 +1,52 @@
+-- A live day of a plan, and what is told of it.
+use Rattle.std.specs.Prelude.{ℕ, List, Option}
+use Rattle.std.specs.Io.KnownBytes.{Appends}
+use Rattle.bx_day.specs.Day.{Day}
+use Rattle.bx_day.specs.Telling.{outcomes_text}
+use Rattle.bx_day_openings.specs.Hours.{AreHours}
+use Rattle.bx_day_openings.specs.declared.hours.Hours.{Hours}
+use Rattle.bx_devices.specs.Octets.{AppendsPrefix}
+use Rattle.bx_journal.specs.declared.disk_files.SystemFile.{SystemFile}
+use Rattle.bx_journal.specs.declared.file.FileDisk.{FileDisk}
+use Rattle.bx_journal_openings.specs.TiedDays.{IsTiedDay}
+use Rattle.bx_line_world.specs.declared.udp.UdpWire.{UdpWire}
+use Rattle.bx_line_world.specs.Wires.{WireAct}
+use Rattle.bx_live_parts.specs.declared.record.Record.{Record}
+use Rattle.bx_request.specs.declared.request.LiveRequest.{LiveRequest}
+use Rattle.bx_run_commands.specs.Heads.{live_head}
+use Rattle.bx_journal.specs.Files.{holds_unknown, may_leave_any, no_moment, any_since}
+use Rattle.bx_run_commands.specs.LiveRuns.{RunsByLine}
+use Rattle.bx_run_commands.specs.Resuming.{GoesOnBy, IsKeptBy}
+
+-- what is known of what a socket did: nothing
+abbrev pub did_on : {H : Type 0} → UdpWire H → List WireAct → UdpWire H → Type 0
+did_on old acts new = Unit {0}
+
+-- The day of a plan that is proved, after the events of its journal, and then those of a live run to the turn that was asked for, or
+-- that its accepted bookings need. Where there is a journal it was that of this plan on this day, all of it was read, and what
+-- happens is put on record in just this journal; the run goes by the hours of the words.
+pub record IsLiveDay {F : Type 0} (H : Type 0) (files : F → Option (List ℕ)) (request : LiveRequest) (day : Day) : Type 0 where
+  pub hours : Hours
+  pub are_hours : AreHours request.hours hours
+  pub opened : Day
+  pub digest : List ℕ
+  pub turns : ℕ
+  pub opens : IsTiedDay request.turns opened digest turns
+  pub resumed : Day
+  pub kept : Record (FileDisk (SystemFile F))
+  pub goes_on : GoesOnBy (live_head digest hours) request.journal opened resumed
+  pub is_kept : IsKeptBy (live_head digest hours) request.journal opened resumed kept
+  pub wire : UdpWire H
+  pub ran : RunsByLine did_on holds_unknown may_leave_any no_moment any_since wire hours.schedule kept turns resumed day
+
+-- what became of each booking of such a day was written
+pub record IsLiveTold {F : Type 0} (H : Type 0) (files : F → Option (List ℕ)) (request : LiveRequest) (before after : Option (List ℕ)) : Type 0 where
+  pub day : Day
+  pub live : IsLiveDay H files request day
+  pub written : Appends before after (outcomes_text day)
+
+-- or a front of it was
+pub record IsLiveCut {F : Type 0} (H : Type 0) (files : F → Option (List ℕ)) (request : LiveRequest) (before after : Option (List ℕ)) : Type 0 where
+  pub day : Day
+  pub live : IsLiveDay H files request day
+  pub written : AppendsPrefix before after (outcomes_text day)

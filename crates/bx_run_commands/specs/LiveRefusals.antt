@@ -1,0 +1,46 @@
+-- Why a live day is refused, and what was written then.
+use Rattle.std.specs.Prelude.{◌≡◌, ◌⊎◌, ℕ, true, List, Option}
+use Rattle.bx_check_commands.specs.declared.fault.CommandFault.TheVariants.{CannotWrite}
+use Rattle.bx_day.specs.Day.{Day}
+use Rattle.bx_day_openings.specs.Hours.{AreHours, IsNoHours}
+use Rattle.bx_day_openings.specs.OpeningRefusals.{IsNoOpening, IsUnheard, IsUnconnected}
+use Rattle.bx_day_openings.specs.declared.fault.DayCommandFault.{DayCommandFault}
+use Rattle.bx_day_openings.specs.declared.fault.DayCommandFault.TheVariants.{Command}
+use Rattle.bx_day_openings.specs.declared.hours.Hours.{Hours}
+use Rattle.bx_devices.specs.Watching.{device_of, is_faulted}
+use Rattle.bx_devices.specs.declared.watched.Watched.{Watched}
+use Rattle.bx_journal_openings.specs.TiedDays.{IsTiedDay}
+use Rattle.bx_request.specs.declared.request.LiveRequest.{LiveRequest}
+use Rattle.bx_run_commands.specs.Heads.{live_head}
+use Rattle.bx_run_commands.specs.LiveDays.{IsLiveCut}
+use Rattle.bx_run_commands.specs.OpeningFaults.{OfOpening, IsUnrecorded}
+use Rattle.bx_run_commands.specs.Resuming.{IsNoRecord}
+use Rattle.bx_run_commands.specs.declared.fault.LiveFault.{LiveFault}
+use Rattle.bx_run_commands.specs.declared.fault.LiveFault.TheVariants.{Day as OfDay}
+
+-- there is no socket at this end's port, or it may not speak to the other
+abbrev pub IsNoLine : DayCommandFault → Type 0
+IsNoLine fault = IsUnheard fault ⊎ IsUnconnected fault
+
+-- a plan was read and proved, and the day's hours are those of the words
+pub record IsAtHand (request : LiveRequest) : Type 0 where
+  pub hours : Hours
+  pub are_hours : AreHours request.hours hours
+  pub opened : Day
+  pub digest : List ℕ
+  pub turns : ℕ
+  pub opens : IsTiedDay request.turns opened digest turns
+
+-- Why it stops: what it needs is opened in this order, and what is tested first is answered. So a journal is not touched where the
+-- line is in use.
+abbrev pub StopsLive : LiveRequest → LiveFault → Type 0
+StopsLive request fault =
+    OfOpening (IsNoHours request.hours) fault
+    ⊎ OfOpening (IsNoOpening request.plan.now) fault
+    ⊎ (IsAtHand request × OfOpening IsNoLine fault)
+    ⊎ ((at_hand : IsAtHand request) × (IsNoRecord request.journal (live_head at_hand.digest at_hand.hours) fault ⊎ IsUnrecorded request.journal fault))
+
+-- the output has failed, and a front of what was to be told was; or the day stopped, and the output is as it was
+abbrev pub IsLiveRefusal : {F W : Type 0} → Type 0 → (F → Option (List ℕ)) → LiveRequest → (W → Option (List ℕ)) → Watched W → Watched W → LiveFault → Type 0
+IsLiveRefusal H files request contents old new (OfDay (Command CannotWrite)) = (is_faulted new ≡ true) × IsLiveCut H files request (contents (device_of old)) (contents (device_of new))
+IsLiveRefusal H files request contents old new fault = StopsLive request fault × (new ≡ old)

@@ -1,0 +1,26 @@
+-- Private: why a file takes no journal, and no new one, by its length.
+use Rattle.std.specs.Prelude.{◌≡◌, ℕ, suc, List, Result, Ok, Err}
+use Rattle.std.specs.Borrow.{Bor}
+use Rattle.std.specs.declared.io.Error.{Error}
+use Rattle.bx_check_commands.specs.declared.fault.CommandFault.TheVariants.{Memory}
+use Rattle.bx_day_openings.specs.declared.fault.DayCommandFault.TheVariants.{Command}
+use Rattle.bx_run_commands.specs.declared.fault.LiveFault.{LiveFault}
+use Rattle.bx_run_commands.specs.declared.fault.LiveFault.TheVariants.{Day as OfDay, CannotRecord, NotEmpty, InUse, NotAFile}
+
+-- a file of this name holds something, by its length; or its length is not known
+abbrev pub IsNotNew : List ℕ → Result ℕ Error → LiveFault → Type 0
+IsNotNew name (Ok (suc n)) (NotEmpty named) = named.now ≡ name
+IsNotNew name (Err error) (CannotRecord named) = named.now ≡ name
+IsNotNew name length fault = ⊥
+
+-- so it is, or a growth was refused
+abbrev pub IsNoNewJournal : List ℕ → Result ℕ Error → LiveFault → Type 0
+IsNoNewJournal name length (OfDay (Command Memory)) = length ≡ Ok 0
+IsNoNewJournal name length fault = IsNotNew name length fault
+
+-- the file of this name is not opened, is no plain file, or another program writes it
+abbrev pub IsUnopened : Bor (List ℕ) → LiveFault → Type 0
+IsUnopened name (CannotRecord n) = n.now ≡ name.now
+IsUnopened name (InUse n) = n.now ≡ name.now
+IsUnopened name (NotAFile n) = n.now ≡ name.now
+IsUnopened name _ = ⊥

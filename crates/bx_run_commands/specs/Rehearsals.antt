@@ -1,0 +1,67 @@
+-- A day that was rehearsed, with or without a journal.
+use Rattle.std.specs.Prelude.{◌≡◌, ℕ, max, min, false, List, [], Option, Some, None}
+use Rattle.bx_day.specs.Outages.{live_day_after}
+use Rattle.bx_events.specs.Events.{LiveEvent}
+use Rattle.bx_devices.specs.declared.watched.Watched.{Watched}
+use Rattle.bx_far.specs.FarDay.{FarDay}
+use Rattle.bx_journal.specs.Heads.{IsDay}
+use Rattle.bx_journal.specs.declared.head.Head.{Head}
+use Rattle.bx_journal.specs.Recording.{IsSettled}
+use Rattle.bx_link.specs.Sessions.{is_far_over}
+use Rattle.bx_link.specs.declared.connection.Connection.{Connection}
+use Rattle.bx_live.specs.Acts.{Act, recorded}
+use Rattle.bx_live.specs.Runs.{Between, Done, IsRun}
+use Rattle.bx_world.specs.BothEnds.{GoesBoth}
+use Rattle.bx_live_parts.specs.Chains.{Chain}
+use Rattle.bx_world.specs.Rehearsals.{Rehearses}
+use Rattle.bx_world.specs.declared.both_ends.BothEnds.{BothEnds}
+use Rattle.bx_world.specs.declared.rehearsal.Rehearsal.{Rehearsal}
+use Rattle.bx_run_commands.specs.RunCaptures.{IsRunKept}
+use Rattle.bx_run_commands.specs.WaitingDisks.{waiting_holds, no_crash, no_moment, none_left, HasBegun}
+use Rattle.bx_run_commands.specs.declared.rehearsing.Opened.{Opened}
+use Rattle.bx_run_commands.specs.declared.rehearsing.Rehearsed.{Rehearsed}
+use Rattle.bx_run_commands.specs.declared.waiting.WaitingDisk.{WaitingDisk}
+use Rattle.bx_events.specs.declared.moment.TheConstants.{LAST_MOMENT}
+
+-- where a journal is kept that began on an empty disk, it has these events
+abbrev pub IsJournalOf : {D : Type 0} → (D → List ℕ → Type 0) → (D → List ℕ → Type 0) → Option D → Option D → Head → List LiveEvent → Type 0
+IsJournalOf holds may_leave None closed head events = closed ≡ None
+IsJournalOf holds may_leave (Some disk) None head events = ⊥
+IsJournalOf holds may_leave (Some disk) (Some closed) head events = IsDay head.day → holds disk [] → IsSettled holds may_leave closed head events
+
+-- The acts of a whole run of a day. It is the one after just the events that happened, as a journal has them on the disk, where one is
+-- kept; where its link was not lost it has reached the turn that was asked for; and its messages were captured.
+pub record IsOnRecord {D F : Type 0} (holds may_leave : D → List ℕ → Type 0) (files : F → Option (List ℕ)) (opened : Opened D) (file : Option (Watched F)) (first : ℕ) (rehearsed : Rehearsed D) (acts : List Act) : Type 0 where
+  pub run : IsRun (Between opened.exchange) acts (Done rehearsed.exchange)
+  pub after : rehearsed.exchange ≡ live_day_after (recorded acts) opened.exchange
+  pub reached : rehearsed.lost ≡ None → rehearsed.exchange.moment ≡ max opened.exchange.moment (min opened.turns LAST_MOMENT)
+  pub journal : IsJournalOf holds may_leave opened.disk rehearsed.disk opened.head (recorded acts)
+  pub captured : IsRunKept files file first acts rehearsed.is_whole
+
+-- a world of both ends at their connections, with a journal that has begun, where one is kept, has gone through such acts
+pub record RehearsesBoth {R W S T D F : Type 0} (remaining : R → Option (List ℕ)) (contents : W → Option (List ℕ)) (far_remaining : S → Option (List ℕ)) (far_contents : T → Option (List ℕ)) (holds may_leave : D → List ℕ → Type 0) (files : F → Option (List ℕ)) (opened : Opened D) (far : FarDay) (near : Connection R W) (distant : Connection S T) (file : Option (Watched F)) (first : ℕ) (rehearsed : Rehearsed D) : Type 0 where
+  pub acts : List Act
+  pub old : BothEnds R W S T (WaitingDisk D)
+  pub new : BothEnds R W S T (WaitingDisk D)
+  pub near_is : old.near ≡ near
+  pub distant_is : old.distant.connection ≡ distant
+  pub far_is : old.distant.far ≡ far
+  pub fresh : is_far_over old.distant.session ≡ false
+  pub due : old.is_due ≡ false
+  pub begun : HasBegun holds opened.head opened.disk old.record.disk
+  pub unlost : old.lost ≡ None
+  pub went : Chain (GoesBoth remaining contents far_remaining far_contents (waiting_holds holds) no_crash no_moment none_left) old acts new
+  pub lost : new.lost ≡ rehearsed.lost
+  pub day : IsOnRecord holds may_leave files opened file first rehearsed acts
+
+-- the same of a world of one peer at its connection
+pub record RehearsesTowards {R W D F : Type 0} (remaining : R → Option (List ℕ)) (contents : W → Option (List ℕ)) (holds may_leave : D → List ℕ → Type 0) (files : F → Option (List ℕ)) (opened : Opened D) (connection : Connection R W) (file : Option (Watched F)) (first : ℕ) (rehearsed : Rehearsed D) : Type 0 where
+  pub acts : List Act
+  pub old : Rehearsal R W (WaitingDisk D)
+  pub new : Rehearsal R W (WaitingDisk D)
+  pub connection_is : old.connection ≡ connection
+  pub begun : HasBegun holds opened.head opened.disk old.record.disk
+  pub unlost : old.lost ≡ None
+  pub went : Chain (Rehearses remaining contents (waiting_holds holds) no_crash no_moment none_left) old acts new
+  pub lost : new.lost ≡ rehearsed.lost
+  pub day : IsOnRecord holds may_leave files opened file first rehearsed acts

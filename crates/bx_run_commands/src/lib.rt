@@ -1,0 +1,26 @@
+//! The commands that run the exchange's end of a day: as fast as its peer goes, or by the clock over a data link.
+#![tactic(auto)]
+
+mod by_line;
+mod fault;
+mod folder;
+mod live_files;
+mod locks;
+mod new_journal;
+mod rehearsal_files;
+mod rehearsing;
+mod resuming;
+mod running;
+mod telling;
+mod waiting;
+
+pub use by_line::{Told, run_by_clock};
+pub use fault::LiveFault;
+pub use live_files::live_on_files;
+pub use locks::Locks;
+pub use rehearsal_files::rehearse_on_files;
+pub use rehearsing::{Opened, Rehearsed, rehearse_both, rehearse_towards};
+pub use resuming::{Resumed, resume_on};
+pub use running::{Ran, View, run_in};
+pub use telling::{Ended, tell};
+pub use waiting::WaitingDisk;

@@ -1,0 +1,116 @@
+//! The command that runs a day by the clock, over a data link.
+
+ghost use Rattle.std.specs.Prelude.{IfOk, IfErr, OnOk};
+ghost use Rattle.bx_devices.specs.Watching.{device_of};
+ghost use Rattle.bx_run_commands.specs.Heads.{live_head};
+ghost use Rattle.bx_run_commands.specs.LiveDays.{IsLiveDay, IsLiveTold};
+ghost use Rattle.bx_run_commands.specs.LiveInside.{IsLiveRun, StopsRecording};
+ghost use Rattle.bx_run_commands.specs.LiveRefusals.{StopsLive, IsLiveRefusal};
+
+use crate::by_line::{Told, run_by_clock};
+use crate::fault::{LiveFault, unrecorded};
+use crate::locks::Locks;
+use crate::resuming::resume_named;
+use bx_calendar::Clock as DayClock;
+use bx_check_commands::{CommandFault, Inputs};
+use bx_day::Exchange;
+use bx_day_openings::{DayCommandFault, Hours, hours_of, line_between};
+use bx_devices::Watched;
+use bx_journal::{Head, JournalDay};
+use bx_journal_openings::{Opening, tied_opening};
+use bx_line_world::UdpWire;
+use bx_request::LiveRequest;
+use std::fs::Files;
+use std::io::Write;
+use std::net::{Net, UdpSocket};
+use std::rt::Clock;
+
+/// What is told of a live day while it runs, its moment on a terminal alone.
+fn told_of(request: LiveRequest<'_>, is_terminal: bool) -> Told {
+    Told {
+        clock: DayClock::new(request.hours.date, request.hours.zone).ok(),
+        is_shown: is_terminal && !request.is_quiet,
+    }
+}
+
+/// Runs an opened day over a socket, from where its journal has left it.
+fn run_on_socket<'a, H: Files + Locks + Clock + Eprint>(
+    rt: &H,
+    request: LiveRequest<'a>,
+    hours: Hours,
+    opening: Opening,
+    socket: UdpSocket,
+    is_terminal: bool,
+) -> Result<Exchange, LiveFault<'a>>
+    ensures ran { IfOk result (IsLiveRun H H.File.contents request.entry hours opening) }
+    ensures stopped { IfErr result (StopsRecording request.entry.journal (live_head opening.digest hours)) }
+{
+    let Opening {
+        exchange,
+        digest,
+        turns,
+    } = opening;
+    let head = Head {
+        plan: digest,
+        day: JournalDay::Live {
+            first: hours.first,
+            pace: hours.pace,
+        },
+    };
+    let resumed = resume_named(rt, request.journal, &head, exchange)?;
+    let wire = UdpWire::new(rt, socket);
+    let told = told_of(request, is_terminal);
+    match run_by_clock(rt, resumed, wire, hours.schedule, turns, told) {
+        Ok(exchange) => Ok(exchange),
+        Err(_) => Err(unrecorded(request.journal)),
+    }
+}
+
+/// The exchange at the end of a live day.
+fn run_live_day<'a, H: Files + Locks + AllocGlobal + Clock + Eprint + Net, I: Inputs>(
+    rt: &H,
+    inputs: &mut I,
+    request: LiveRequest<'a>,
+    is_terminal: bool,
+) -> Result<Exchange, LiveFault<'a>>
+    ensures ran { IfOk result (IsLiveDay H H.File.contents request.entry) }
+    ensures stopped { IfErr result (StopsLive request.entry) }
+{
+    let hours = hours_of(request.hours)?;
+    let opening = tied_opening(rt.alloc(), inputs, request.plan, request.turns)?;
+    let socket = line_between(rt, request.line)?;
+    run_on_socket(rt, request, hours, opening, socket, is_terminal)
+}
+
+/// Runs the exchange's end of the day of a plan by the clock, as the network's end of a data link over UDP, from where its journal has
+/// left it; tells each fault of the link and each late second on standard error, and its moment on a terminal alone; and writes what
+/// became of each booking. What a capture and records are made of stands in the journal.
+///
+/// What the day needs is opened in this order, and the first fault of it is answered: `Day` or `Capture` for the date and the zone;
+/// `Command` for the plan; `CannotListen` or `CannotConnect` for the line, all of these as `LiveFault::Day`; for the journal
+/// `CannotRecord` where it cannot be opened, `NotAFile` where it is no plain file, `InUse` where another program writes it,
+/// `LiveFault::Day`, as `Journal` (`BadLine`, `OtherPlan`, `OtherDay` or `OtherRules`) or `Command` (`CannotRead`), where it is none
+/// of this day, and `CannotRecord` where it cannot be made ready. `CannotRecord` is also answered where an event cannot be put on record.
+/// At each of these nothing was written. `LiveFault::Day`, as `Command` (`CannotWrite`), is the fault of the output, of which a front was
+/// written then.
+pub fn live_on_files<
+    'a,
+    H: Files + Locks + AllocGlobal + Clock + Eprint + Net,
+    I: Inputs,
+    W: Write,
+>(
+    rt: &H,
+    inputs: &mut I,
+    request: LiveRequest<'a>,
+    output: &mut Watched<W>,
+    is_terminal: bool,
+) -> Result<(), LiveFault<'a>>
+    ensures done { OnOk result (IsLiveTold H H.File.contents request.entry (W.contents (device_of output.old)) (W.contents (device_of output.new))) }
+    ensures refused { IfErr result (IsLiveRefusal H H.File.contents request.entry W.contents output.old output.new) }
+{
+    let exchange = run_live_day(rt, inputs, request, is_terminal)?;
+    match exchange.write_outcomes(output) {
+        Ok(()) => Ok(()),
+        Err(_) => Err(LiveFault::Day(DayCommandFault::Command(CommandFault::CannotWrite))),
+    }
+}

@@ -1,0 +1,375 @@
+//! The command that rehearses a day.
+
+ghost use Rattle.std.specs.Prelude.{◌≡◌, ◌≤◌, ◌&&◌, not, true, is_some, Ok, IfOk, IfErr, OnOk};
+ghost use Rattle.bx_day_openings.specs.CaptureOpenings.{IsFirstOf};
+ghost use Rattle.bx_day_openings.specs.Recording.{IsRecordsClock, IsRecordsFileFor, IsMade};
+ghost use Rattle.bx_devices.specs.Watching.{device_of};
+ghost use Rattle.bx_journal_openings.specs.TiedDays.{IsTiedDay};
+ghost use Rattle.bx_run_commands.specs.ReadyInside.{IsReadied, IsNotReadied, IsEnded, IsLostBy};
+ghost use Rattle.bx_run_commands.specs.RehearsedDays.{RehearsalWith, IsRehearsal, IsRehearsedDay, IsRehearsalTold};
+ghost use Rattle.bx_run_commands.specs.RehearsalRefusals.{IsUnseen, StopsAtPeer, StopsBehindPeer, StopsRehearsal, IsRehearsalRefusal};
+
+use crate::fault::{LiveFault, unrecorded};
+use crate::locks::Locks;
+use crate::new_journal::{JournalDisk, new_journal};
+use crate::rehearsing::{Opened, Rehearsed, rehearse_both, rehearse_towards};
+use crate::running::View;
+use crate::telling::{Ended, tell};
+use bx_calendar::Clock as DayClock;
+use bx_check_commands::Inputs;
+use bx_day_openings::{
+    DayCommandFault, RecordsFile, accepted, accepted_at, connected_ends, far_end_of, file_of,
+    first_of, records_clock_of, records_file_of,
+};
+use bx_devices::Watched;
+use bx_journal::{Head, JournalDay};
+use bx_journal_openings::{Opening, tied_opening};
+use bx_link::Connection;
+use bx_request::{Peer, Place, RehearsalRequest};
+use std::fs::Files;
+use std::io::Write;
+use std::net::{Net, TcpListener, TcpStream};
+use std::os::unix::net::UnixStream;
+use std::rt::Clock;
+
+/// What the words of a rehearsal say of its time and of what is seen: the second that moment 0 has in a capture, the clock of the
+/// records, and whether the moment is shown.
+#[derive(Clone, Copy)]
+struct Seen {
+    first: u32,
+    clock: Option<DayClock>,
+    is_shown: bool,
+}
+
+/// What a rehearsal runs over: its day with the disk of its journal, where one is kept, what is seen of it, and the file for its records.
+#[derive(Drop)]
+struct Ready<'a, F: Write + Drop> {
+    opened: Opened<JournalDisk<F>>,
+    view: View<'a, F>,
+    records: Option<RecordsFile<'a, F>>,
+}
+
+/// Opens the journal of a day that is opened, where one is to be kept, and the files of its capture and its records.
+fn readied<'a, H: Files + Locks + AllocGlobal>(
+    rt: &H,
+    request: RehearsalRequest<'a>,
+    opening: Opening,
+    seen: Seen,
+) -> Result<Ready<'a, H::File>, LiveFault<'a>>
+    ensures readied { IfOk result (λ ready. IsReadied H.File.contents request.entry opening seen.first ready.opened ready.view.file ready.view.first seen.clock ready.records) }
+    ensures refused { IfErr result (IsNotReadied H.File.contents request.entry) }
+{
+    let disk = new_journal(rt, rt.alloc(), request.journal)?;
+    let file = match file_of(rt, request.sight.capture) {
+        Ok(file) => file,
+        Err(fault) => return Err(LiveFault::Day(fault)),
+    };
+    let records = match records_file_of(rt, request.records, seen.clock) {
+        Ok(records) => records,
+        Err(fault) => return Err(LiveFault::Day(fault)),
+    };
+    let Opening {
+        exchange,
+        digest,
+        turns,
+    } = opening;
+    let opened = Opened {
+        exchange,
+        head: Head {
+            plan: digest,
+            day: JournalDay::Rehearsed,
+        },
+        turns,
+        disk,
+    };
+    let view = View {
+        file,
+        first: seen.first,
+        day: None,
+        is_shown: seen.is_shown,
+    };
+    Ok(Ready {
+        opened,
+        view,
+        records,
+    })
+}
+
+/// The two directions of a TCP stream.
+fn connection<'a>(stream: &'a TcpStream) -> Connection<&'a TcpStream, &'a TcpStream> {
+    Connection {
+        reader: Watched::new(stream),
+        writer: Watched::new(stream),
+    }
+}
+
+/// The two directions of a Unix stream.
+fn socket_connection<'a>(stream: &'a UnixStream) -> Connection<&'a UnixStream, &'a UnixStream> {
+    Connection {
+        reader: Watched::new(stream),
+        writer: Watched::new(stream),
+    }
+}
+
+/// A day behind its rehearsal, with the file for its records.
+#[derive(Drop)]
+struct Run<'a, F: Write + Drop> {
+    rehearsed: Rehearsed<JournalDisk<F>>,
+    records: Option<RecordsFile<'a, F>>,
+}
+
+/// Rehearses an opened day with the far end of a script, over one TCP connection.
+fn rehearse_script<
+    'a,
+    H: Files
+        + Locks
+        + AllocGlobal
+        + Clock
+        + Eprint
+        + Net<Listener = TcpListener, Stream = TcpStream>,
+    I: Inputs,
+>(
+    rt: &H,
+    inputs: &mut I,
+    script: &'a str,
+    request: RehearsalRequest<'a>,
+    opening: Opening,
+    seen: Seen,
+) -> Result<Run<'a, H::File>, LiveFault<'a>>
+    requires { seen.first ≤ 4294667295 }
+    ensures ran { IfOk result (λ run. IsFirstOf request.entry.sight.capture seen.first → IsTiedDay request.entry.turns opening.exchange opening.digest opening.turns → RehearsalWith H.File.contents (Peer.Script script.entry) request.entry run.rehearsed) }
+    ensures records { IfOk result (λ run. IsRecordsFileFor request.entry.records seen.clock run.records) }
+    ensures stopped { IfErr result (λ fault. IsRecordsClock request.entry.records seen.clock → StopsAtPeer H.File.contents (Peer.Script script.entry) request.entry fault) }
+{
+    let far = match far_end_of(rt.alloc(), inputs, script) {
+        Ok(far) => far,
+        Err(fault) => return Err(LiveFault::Day(fault)),
+    };
+    let ready = readied(rt, request, opening, seen)?;
+    let (near, distant) = match connected_ends(rt) {
+        Ok(ends) => ends,
+        Err(fault) => return Err(LiveFault::Day(fault)),
+    };
+    let Ready {
+        opened,
+        view,
+        records,
+    } = ready;
+    let near = connection(&near);
+    let distant = connection(&distant);
+    match rehearse_both(rt, opened, far, near, distant, view) {
+        Ok(rehearsed) => Ok(Run { rehearsed, records }),
+        Err(_) => Err(unrecorded(request.journal)),
+    }
+}
+
+/// Rehearses an opened day towards the first peer that connects to a port.
+fn rehearse_at_port<
+    'a,
+    H: Files
+        + Locks
+        + AllocGlobal
+        + Clock
+        + Eprint
+        + Net<Listener = TcpListener, Stream = TcpStream>,
+>(
+    rt: &H,
+    port: u16,
+    request: RehearsalRequest<'a>,
+    opening: Opening,
+    seen: Seen,
+) -> Result<Run<'a, H::File>, LiveFault<'a>>
+    requires { seen.first ≤ 4294667295 }
+    ensures ran { IfOk result (λ run. IsFirstOf request.entry.sight.capture seen.first → IsTiedDay request.entry.turns opening.exchange opening.digest opening.turns → RehearsalWith H.File.contents (Peer.At (Place.Port port)) request.entry run.rehearsed) }
+    ensures records { IfOk result (λ run. IsRecordsFileFor request.entry.records seen.clock run.records) }
+    ensures stopped { IfErr result (λ fault. IsRecordsClock request.entry.records seen.clock → StopsBehindPeer H.File.contents (Peer.At (Place.Port port)) request.entry fault) }
+{
+    let ready = readied(rt, request, opening, seen)?;
+    let peer = match accepted(rt, port, seen.is_shown) {
+        Ok(peer) => peer,
+        Err(fault) => return Err(LiveFault::Day(fault)),
+    };
+    let Ready {
+        opened,
+        view,
+        records,
+    } = ready;
+    match rehearse_towards(rt, opened, connection(&peer), view) {
+        Ok(rehearsed) => Ok(Run { rehearsed, records }),
+        Err(_) => Err(unrecorded(request.journal)),
+    }
+}
+
+/// Rehearses an opened day towards the first peer that connects to a socket.
+fn rehearse_at_socket<
+    'a,
+    H: Files
+        + Locks
+        + AllocGlobal
+        + Clock
+        + Eprint
+        + Net<Listener = TcpListener, Stream = TcpStream>,
+>(
+    rt: &H,
+    path: &'a str,
+    request: RehearsalRequest<'a>,
+    opening: Opening,
+    seen: Seen,
+) -> Result<Run<'a, H::File>, LiveFault<'a>>
+    requires { seen.first ≤ 4294667295 }
+    ensures ran { IfOk result (λ run. IsFirstOf request.entry.sight.capture seen.first → IsTiedDay request.entry.turns opening.exchange opening.digest opening.turns → RehearsalWith H.File.contents (Peer.At (Place.Socket path.entry)) request.entry run.rehearsed) }
+    ensures records { IfOk result (λ run. IsRecordsFileFor request.entry.records seen.clock run.records) }
+    ensures stopped { IfErr result (λ fault. IsRecordsClock request.entry.records seen.clock → StopsBehindPeer H.File.contents (Peer.At (Place.Socket path.entry)) request.entry fault) }
+{
+    let ready = readied(rt, request, opening, seen)?;
+    let peer = match accepted_at(rt, path, seen.is_shown) {
+        Ok(peer) => peer,
+        Err(fault) => return Err(LiveFault::Day(fault)),
+    };
+    let Ready {
+        opened,
+        view,
+        records,
+    } = ready;
+    match rehearse_towards(rt, opened, socket_connection(&peer), view) {
+        Ok(rehearsed) => Ok(Run { rehearsed, records }),
+        Err(_) => Err(unrecorded(request.journal)),
+    }
+}
+
+/// Rehearses an opened day with the peer that is asked for.
+fn rehearse_with_peer<
+    'a,
+    H: Files
+        + Locks
+        + AllocGlobal
+        + Clock
+        + Eprint
+        + Net<Listener = TcpListener, Stream = TcpStream>,
+    I: Inputs,
+>(
+    rt: &H,
+    inputs: &mut I,
+    request: RehearsalRequest<'a>,
+    opening: Opening,
+    seen: Seen,
+) -> Result<Run<'a, H::File>, LiveFault<'a>>
+    requires { seen.first ≤ 4294667295 }
+    ensures ran { IfOk result (λ run. IsFirstOf request.entry.sight.capture seen.first → IsTiedDay request.entry.turns opening.exchange opening.digest opening.turns → IsRehearsal H.File.contents request.entry run.rehearsed) }
+    ensures records { IfOk result (λ run. IsRecordsFileFor request.entry.records seen.clock run.records) }
+    ensures stopped { IfErr result (λ fault. IsRecordsClock request.entry.records seen.clock → StopsAtPeer H.File.contents request.entry.peer request.entry fault) }
+{
+    match request.peer {
+        Peer::Script(script) => rehearse_script(rt, inputs, script, request, opening, seen),
+        Peer::At(place) => match place {
+            Place::Port(port) => rehearse_at_port(rt, port, request, opening, seen),
+            Place::Socket(path) => rehearse_at_socket(rt, path, request, opening, seen),
+        },
+    }
+}
+
+/// A day behind its rehearsal, up to its end; or the fault of the link that ended it before.
+fn ended<'a, F: Write + Drop>(run: Run<'a, F>) -> Result<Ended<'a, F>, LiveFault<'a>>
+    ensures ended { IfOk result (IsEnded run.entry.rehearsed run.entry.records) }
+    ensures lost { IfErr result (IsLostBy run.entry.rehearsed.lost) }
+{
+    let Run { rehearsed, records } = run;
+    match rehearsed.lost {
+        None => Ok(Ended {
+            exchange: rehearsed.exchange,
+            is_whole: rehearsed.is_whole,
+            records,
+        }),
+        Some(fault) => Err(LiveFault::Day(DayCommandFault::Link(fault))),
+    }
+}
+
+/// What the words of a rehearsal say of its time and of what is seen.
+fn seen_of<'a>(
+    request: RehearsalRequest<'a>,
+    is_terminal: bool,
+) -> Result<Seen, DayCommandFault<'a>>
+    ensures first { IfOk result (λ seen. IsFirstOf request.entry.sight.capture seen.first) }
+    ensures limit { IfOk result (λ seen. seen.first ≤ 4294667295) }
+    ensures clock { IfOk result (λ seen. IsRecordsClock request.entry.records seen.clock) }
+    ensures shown { IfOk result (λ seen. seen.is_shown ≡ (is_terminal && not request.entry.sight.is_quiet)) }
+    ensures refused { IfErr result (IsUnseen request.entry) }
+{
+    let first = first_of(request.sight.capture)?;
+    let clock = records_clock_of(request.records)?;
+    Ok(Seen {
+        first,
+        clock,
+        is_shown: is_terminal && !request.sight.is_quiet,
+    })
+}
+
+/// The exchange at the end of a day that was rehearsed, with the file that was made for its records.
+fn run_rehearsal<
+    'a,
+    H: Files
+        + Locks
+        + AllocGlobal
+        + Clock
+        + Eprint
+        + Net<Listener = TcpListener, Stream = TcpStream>,
+    I: Inputs,
+>(
+    rt: &H,
+    inputs: &mut I,
+    request: RehearsalRequest<'a>,
+    is_terminal: bool,
+) -> Result<Ended<'a, H::File>, LiveFault<'a>>
+    ensures ran { IfOk result (λ ended. IsRehearsedDay H.File.contents request.entry ended.exchange ended.is_whole) }
+    ensures records { IfOk result (λ ended. IsMade request.entry.records ended.records) }
+    ensures stopped { IfErr result (StopsRehearsal H.File.contents request.entry) }
+{
+    let seen = match seen_of(request, is_terminal) {
+        Ok(seen) => seen,
+        Err(fault) => return Err(LiveFault::Day(fault)),
+    };
+    let opening = match tied_opening(rt.alloc(), inputs, request.plan, request.turns) {
+        Ok(opening) => opening,
+        Err(fault) => return Err(LiveFault::Day(fault)),
+    };
+    let run = rehearse_with_peer(rt, inputs, request, opening, seen)?;
+    ended(run)
+}
+
+/// Rehearses the day of a plan with the far end of a script, or towards the first peer that connects, as fast as they go, and with what
+/// happens on record in a new journal, where one is named; shows its moment on a terminal alone, writes what became of each booking, and
+/// its records into their file, where they are to be written. A journal that holds something is left as it is. At a fault of the link, and
+/// at an event that cannot be put on record, the day is over; the journal has what happened until then. A capture or records that were not written whole
+/// are a refusal, behind all that was told; at any other refusal nothing was written, except that where the output failed a front of
+/// what was to be told was, and the records as if it had not.
+///
+/// What the day needs is opened in this order, and the first fault of it is answered, as `LiveFault::Day` but for `NotEmpty` and
+/// `CannotRecord`: `Day` or `Capture` for the date and the zone of the capture; `Day` for those of the records; `Command` for the
+/// plan; `Command` or `Script` for the script; `CannotRecord`, `NotAFile`, `InUse`, `NotEmpty` or `Command`, as `Memory`, for a journal that is named;
+/// `CannotWriteFile` for the file of the capture, and then for that of the records; `CannotListen` or `CannotConnect` for the
+/// connection. `CannotRecord` is also answered where an event cannot be put on record, and `Link` is the fault of the link that
+/// ended the day. At the end `Command`, as `CannotWrite`, is the fault of the output; `CannotWriteFile` that of the capture; and
+/// `CannotWriteFile`, `Day`, as `OutOfRange`, or `Command`, as `Memory`, that of the records.
+pub fn rehearse_on_files<
+    'a,
+    H: Files
+        + Locks
+        + AllocGlobal
+        + Clock
+        + Eprint
+        + Net<Listener = TcpListener, Stream = TcpStream>,
+    I: Inputs,
+    W: Write,
+>(
+    rt: &H,
+    inputs: &mut I,
+    request: RehearsalRequest<'a>,
+    output: &mut Watched<W>,
+    is_terminal: bool,
+) -> Result<(), LiveFault<'a>>
+    ensures done { OnOk result (IsRehearsalTold H.File.contents request.entry (W.contents (device_of output.old)) (W.contents (device_of output.new)) true (Ok tt)) }
+    ensures refused { IfErr result (IsRehearsalRefusal H.File.contents request.entry W.contents output.old output.new) }
+{
+    let ended = run_rehearsal(rt, inputs, request, is_terminal)?;
+    tell(rt.alloc(), ended, request.sight.capture, output)
+}

@@ -1,0 +1,66 @@
+//! A day that is opened, run over a world.
+
+ghost use Rattle.std.specs.Prelude.{◌≤◌};
+ghost use Rattle.bx_run_commands.specs.Runs.{RunsIn};
+
+use bx_calendar::Clock as DayClock;
+use bx_day::Exchange;
+use bx_devices::Watched;
+use bx_live::{CannotRecord, World, run_live};
+use bx_world::{CapturedWorld, Telling};
+use std::io::Write;
+use std::rt::Clock;
+
+/// What is seen of a day while it runs: its messages in the file of a capture, where there is one, from the first second on; its moment,
+/// where it is shown; and each fault with the time of day, where a date and a zone are named.
+#[derive(Drop)]
+pub struct View<'a, F> {
+    pub file: Option<Watched<F>>,
+    pub first: u32,
+    pub day: Option<(&'a str, &'a str)>,
+    pub is_shown: bool,
+}
+
+/// A world behind a run of a day, with whether all of that is on record, and all that was to be captured was.
+#[derive(Drop)]
+pub struct Ran<W> {
+    pub world: W,
+    pub done: Result<(), CannotRecord>,
+    pub is_whole: bool,
+}
+
+/// The clock of the day that is named, if it is one.
+fn clock_of(day: Option<(&str, &str)>) -> Option<DayClock> {
+    let (date, zone) = day?;
+    DayClock::new(date, zone).ok()
+}
+
+/// Runs a day over a world up to a turn of it, so that it is seen. The first second of the view is at most 4,294,667,295.
+pub fn run_in<'a, 'h, H: Clock + Eprint, W: World, F: Write + Drop>(
+    rt: &'h H,
+    exchange: &mut Exchange,
+    world: W,
+    turns: u32,
+    view: View<'a, F>,
+) -> Ran<W>
+    requires { view.first ≤ 4294667295 }
+    ensures { RunsIn W.did world result.world turns exchange.old exchange.new result.done F.contents view.entry.file view.entry.first result.is_whole }
+{
+    let View {
+        file,
+        first,
+        day,
+        is_shown,
+    } = view;
+    let telling = Telling::new(rt, world, clock_of(day), is_shown);
+    let mut world = CapturedWorld::new(telling, file, first);
+    let done = run_live(exchange, &mut world, turns);
+    let is_whole = world.is_whole();
+    let mut telling = world.into_world();
+    telling.clear();
+    Ran {
+        world: telling.into_world(),
+        done,
+        is_whole,
+    }
+}
