@@ -1,0 +1,79 @@
+"""What the scripts need of the two ends of a day: the peers' programs, ports, plans, and the messages of a capture."""
+import datetime
+import os
+import shutil
+import socket
+import struct
+import subprocess
+import time
+
+TOP = os.path.dirname(os.path.dirname(os.path.abspath(__file__)))
+BX = f"{TOP}/crates/bx/out/bx"
+
+
+def build(scratch, name):
+    """A program of peers/libpri, or none where there is no C compiler or no libpri."""
+    compiler, program = shutil.which("cc"), f"{scratch}/{name}"
+    if not compiler:
+        return None
+    words = [compiler, "-std=gnu17", "-O1", "-o", program, f"{TOP}/peers/libpri/{name}.c", "-lpri"]
+    return program if subprocess.run(words, capture_output=True).returncode == 0 else None
+
+
+def free_ports(count):
+    """So many UDP ports of 127.0.0.1 that nobody has now, each another."""
+    sockets = [socket.socket(socket.AF_INET, socket.SOCK_DGRAM) for _ in range(count)]
+    for one in sockets:
+        one.bind(("127.0.0.1", 0))
+    ports = [one.getsockname()[1] for one in sockets]
+    for one in sockets:
+        one.close()
+    return ports
+
+
+def time_of(second):
+    return f"2026-01-05T{second // 3600:02}:{second // 60 % 60:02}:{second % 60:02}Z"
+
+
+def write_plan(rows, path, *words):
+    """Writes the plan of bookings, which are rows of CSV under their header."""
+    with open(f"{path}.csv", "w", encoding="ascii") as file:
+        file.write("\n".join(rows) + "\n")
+    with open(path, "w", encoding="ascii") as file:
+        subprocess.run([BX, "plan", "--date", "2026-01-05", *words, f"{path}.csv"], stdout=file, check=True)
+    return path
+
+
+def midnight_in(seconds):
+    """An instant of whole seconds so far from now at least, in seconds since 1970."""
+    return int(time.time() + seconds) + 1
+
+
+def day_words(midnight, pace, turns):
+    """The words of a live day that begins at an instant: the midnight of its zone is just then."""
+    date = datetime.datetime.fromtimestamp(midnight, datetime.timezone.utc)
+    return ["--date", f"{date:%Y-%m-%d}", "--zone", f"XXX+{date:%H:%M:%S}", "--pace", str(pace), "--turns", str(turns), "--quiet"]
+
+
+def packets_of(capture):
+    """The messages that were sent, and that were received, by a capture of `bx`."""
+    with open(capture, "rb") as file:
+        octets, at, messages = file.read(), 24, ([], [])
+    while at < len(octets):
+        length = struct.unpack_from(">I", octets, at + 8)[0]
+        packet = octets[at + 16 : at + 16 + length]
+        messages[packet[15]].append(packet[20:])
+        at += 16 + length
+    return messages
+
+
+def audited(plan, journal, capture):
+    """The outcomes of a day by its journal, and the messages that the exchange sent and received by it."""
+    audit = subprocess.run([BX, "audit", plan, journal, "--capture", capture], capture_output=True, text=True)
+    return audit.stdout, *packets_of(capture)
+
+
+def are_among(messages, record):
+    """Whether messages stand in a record, in their order."""
+    rest = iter(record)
+    return all(message in rest for message in messages)
