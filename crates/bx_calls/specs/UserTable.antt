@@ -2,7 +2,7 @@
 -- that fits counts. U1, U3, U6, U7, U8, U9, U10, U11 and U19 are CallInitiated, OutgoingCallProceeding,
 -- CallPresent, CallReceived, ConnectRequest, IncomingCallProceeding, Active, DisconnectRequest and
 -- ReleaseRequest.
-use Rattle.std.specs.Prelude.{ℕ, ◌+◌, ◌==◌, max, nat_le, Bool, true, false, List, Option, Some, None, if◌then◌else◌}
+use Rattle.std.specs.Prelude.{ℕ, ◌+◌, ◌==◌, max, min, nat_le, Bool, true, false, List, Option, Some, None, if◌then◌else◌}
 use Rattle.bx_q931.specs.Outgoing.{Outgoing, plain}
 use Rattle.bx_q931.specs.declared.kind.Kind.{Kind}
 use Rattle.bx_q931.specs.declared.kind.Kind.TheVariants.{Alerting, CallProceeding, Progress, Setup, Connect, ConnectAcknowledge, Disconnect, Release, ReleaseComplete, Notify, StatusEnquiry, Information, Status, Other}
@@ -145,3 +145,25 @@ user_second_row c t (ReleaseRequest true cause due) = if nat_le due t then break
 
 abbrev pub user_second : PlainUserCall → ℕ → Transition PlainUserCall
 user_second c t = user_second_row c t c.state
+
+-- ---- a second without a link to the network, to moment t
+
+-- a timer is due a second later; a moment has 32 bits
+abbrev pub due_later : ℕ → ℕ
+due_later due = min (due + 1) 4294967295
+
+-- nothing is said in it, and the timers of calls that are set up stand still. In the next second with a link a call that is being
+-- cleared says RELEASE; one that had said it is given up T308 later.
+abbrev pub user_later : ℕ → UserState → UserState
+user_later t (CallInitiated again due) = CallInitiated again (due_later due)
+user_later t (OutgoingCallProceeding due) = OutgoingCallProceeding (due_later due)
+user_later t (ConnectRequest due) = ConnectRequest (due_later due)
+user_later t (DisconnectRequest cause due) = DisconnectRequest cause (t + 1)
+user_later t (ReleaseRequest again cause due) = ReleaseRequest false cause (t + 1)
+user_later t CallPresent = CallPresent
+user_later t CallReceived = CallReceived
+user_later t IncomingCallProceeding = IncomingCallProceeding
+user_later t (Active since) = Active since
+
+abbrev pub user_unlinked : ℕ → PlainUserCall → PlainUserCall
+user_unlinked t c = record c { state = user_later t c.state }

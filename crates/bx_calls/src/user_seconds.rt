@@ -1,7 +1,7 @@
 //! What a second does to a call at the user side.
 
 ghost use Rattle.std.specs.Prelude.{◌≡◌, ◌≤◌};
-ghost use Rattle.bx_calls.specs.UserTable.{user_setup_again, user_takes, user_answers, user_clears, user_second_row, user_second};
+ghost use Rattle.bx_calls.specs.UserTable.{user_setup_again, user_takes, user_answers, user_clears, user_second_row, user_second, user_later, user_unlinked, due_later};
 
 use crate::outgoing::setup;
 use crate::timers::T303;
@@ -50,6 +50,17 @@ impl UserCall {
             } if due <= moment => Transition::broken(),
             _ => self.stays(None),
         }
+    }
+
+    /// What the call is behind a second without a link to the network, which comes to this moment: nothing is said in it, and its
+    /// timer stands still while it is set up. In the next second with a link RELEASE is due for one that is being cleared. A
+    /// timer that would be due behind the last moment of a `u32` is due at that. The moment is at most `LAST_MOMENT`.
+    pub fn on_second_unlinked(self, moment: u32) -> UserCall
+        requires moment { moment ≤ LAST_MOMENT }
+        ensures { result ≡ user_unlinked moment self }
+    {
+        let state = behind(self.state, moment);
+        UserCall { state, ..self }
     }
 
     /// U6: the first tick to a call that was offered.
@@ -118,4 +129,45 @@ impl UserCall {
             UserOrigin::Offered { .. } => None,
         }
     }
+}
+
+/// The state behind a second without a link to this moment.
+fn behind(state: UserState, moment: u32) -> UserState
+    requires moment { moment ≤ LAST_MOMENT }
+    ensures { result ≡ user_later moment state }
+{
+    match state {
+        UserState::CallInitiated { again, due } => UserState::CallInitiated {
+            again,
+            due: later(due),
+        },
+        UserState::OutgoingCallProceeding { due } => UserState::OutgoingCallProceeding {
+            due: later(due),
+        },
+        UserState::ConnectRequest { due } => UserState::ConnectRequest { due: later(due) },
+        UserState::DisconnectRequest { cause, due: _ } => UserState::DisconnectRequest {
+            cause,
+            due: moment + 1,
+        },
+        UserState::ReleaseRequest {
+            again: _,
+            cause,
+            due: _,
+        } => UserState::ReleaseRequest {
+            again: false,
+            cause,
+            due: moment + 1,
+        },
+        UserState::CallPresent
+        | UserState::CallReceived
+        | UserState::IncomingCallProceeding
+        | UserState::Active { .. } => state,
+    }
+}
+
+/// When a timer is due that stands still for a second.
+fn later(due: u32) -> u32
+    ensures { result ≡ due_later due }
+{
+    due.saturating_add(1)
 }

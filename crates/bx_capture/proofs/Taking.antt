@@ -10,7 +10,7 @@ use Rattle.bx_devices.specs.declared.octets.WriteFailed.{WriteFailed}
 use Rattle.bx_devices.specs.Watching.{device_of, is_faulted}
 use Rattle.bx_events.specs.Events.{Event, Tick, Receive}
 use Rattle.bx_text.specs.Writing.{Writes}
-use Rattle.bx_turns.specs.Courses.{told}
+use Rattle.bx_frames.specs.Courses.{told}
 use Rattle.bx_capture.specs.Packets.{packet}
 use Rattle.bx_capture.specs.Captures.{packet_sent, packets_for, IsKept, Keeps}
 use Rattle.bx_capture.specs.Keeping.{keeps_nil, keeps_more}

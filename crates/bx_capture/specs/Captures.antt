@@ -7,7 +7,7 @@ use Rattle.bx_devices.specs.declared.watched.Watched.{Watched}
 use Rattle.bx_devices.specs.Watching.{device_of, is_faulted}
 use Rattle.bx_devices.specs.Octets.{AppendsPrefix}
 use Rattle.bx_events.specs.Events.{Event, Tick, Receive}
-use Rattle.bx_turns.specs.Courses.{after, told}
+use Rattle.bx_frames.specs.Courses.{after, told}
 use Rattle.bx_capture.specs.Packets.{packet}
 use Rattle.bx_capture.specs.declared.packet.Direction.TheVariants.{Sent, Received}
 

@@ -6,8 +6,8 @@ use Rattle.bx_devices.proofs.OctetLemmas.{AppendsPrefix-more, AppendsPrefix-afte
 use Rattle.bx_devices.specs.declared.watched.Watched.{Watched}
 use Rattle.bx_devices.specs.Watching.{device_of, is_faulted}
 use Rattle.bx_events.specs.Events.{Event}
-use Rattle.bx_turns.specs.Courses.{after, told}
-use Rattle.bx_turns.proofs.Events.{after_more, told_more}
+use Rattle.bx_frames.specs.Courses.{after, told}
+use Rattle.bx_frames.proofs.Events.{after_more, told_more}
 use Rattle.bx_capture.specs.Captures.{IsKept, Keeps, IsCaptured}
 
 module _ {W : Type 0} (contents : W → Option (List ℕ)) where

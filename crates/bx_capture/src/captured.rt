@@ -3,7 +3,7 @@
 ghost use Rattle.std.specs.Prelude.{◌≡◌, ◌+◌, ◌≤◌, ◌++◌, ◌∷◌, [], ℕ, List, true, false};
 ghost use Rattle.std.specs.List.{flat_map};
 ghost use Rattle.bx_events.specs.Events.{Event, Tick, Receive};
-ghost use Rattle.bx_turns.specs.Courses.{after, told, reply_frame, reply_messages};
+ghost use Rattle.bx_frames.specs.Courses.{after, told, reply_frame, reply_messages};
 ghost use Rattle.bx_frames.specs.Frames.{frame_with, turn_frame};
 ghost use Rattle.bx_capture.specs.Packets.{packet};
 ghost use Rattle.bx_capture.specs.Captures.{packet_sent, packets_for, is_unfaulted, IsKept, Keeps, IsCaptured};
@@ -13,8 +13,8 @@ ghost use Rattle.bx_capture.specs.declared.packet.Direction.TheVariants.{Sent, R
 use crate::packet::{Direction, write_packet};
 use arrayvec::ArrayVec;
 use bx_devices::Watched;
+use bx_frames::{Course, End};
 use bx_q931::Octets;
-use bx_turns::{Course, End};
 use std::io::Write;
 
 /// An end of the link, and the file, if there is one, into which the packets of its messages are written. Moments count from

@@ -2,8 +2,8 @@
 
 use crate::exchange::Exchange;
 use arrayvec::ArrayVec;
+use bx_frames::{Course, End};
 use bx_q931::Octets;
-use bx_turns::{Course, End};
 
 impl Course for Exchange {
     ghost use Rattle.bx_day.specs.Course.{exchange_next, exchange_sent, exchange_text};

@@ -2,12 +2,12 @@
 
 use crate::booked_days::{Day, run_day, tells};
 use crate::steps::{Step, first_wrong};
-use bx_worked_days::{Row, exchange_of};
-use bx_worked_messages::{
+use bx_cases::messages::{
     CONNECT, CONNECT_ACKNOWLEDGE, CONNECT_CHANNEL_2, DISCONNECT_16, FAR_DISCONNECT_16, FAR_RELEASE,
     RELEASE, RELEASE_6, RELEASE_16, RELEASE_COMPLETE, SETUP, SETUP_REFERENCE_2, SETUP_REFERENCE_7,
     STATUS_101,
 };
+use bx_worked_days::{Row, exchange_of};
 use std::alloc::Global;
 use std::test::Fail;
 

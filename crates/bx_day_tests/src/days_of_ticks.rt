@@ -2,7 +2,7 @@
 
 use crate::booked_days::{Day, run_day};
 use bx_cases::SHARE;
-use bx_worked_messages::{RELEASE_COMPLETE_102, SETUP, SETUP_CHANNEL_2, SETUP_REFERENCE_2};
+use bx_cases::messages::{RELEASE_COMPLETE_102, SETUP, SETUP_CHANNEL_2, SETUP_REFERENCE_2};
 use std::test::Fail;
 
 static DAYS: [Day<'static>; 4] = [

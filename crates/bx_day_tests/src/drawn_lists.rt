@@ -89,6 +89,7 @@ impl Generator {
             }
             (4..=7, Line::Whole | Line::ToFarOnly) => Event::ToFar(self.index(ends.sent.len())),
             (drawn, Line::Cut) if drawn % 2 == 0 => Event::WithoutLink,
+            (drawn, Line::Cut) if drawn % 4 == 1 => Event::FarWithoutLink,
             (drawn, _) if drawn % 2 == 0 => Event::TickExchange,
             _ => Event::TickFar,
         }

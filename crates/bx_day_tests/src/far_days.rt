@@ -2,15 +2,15 @@
 
 use crate::steps::{Step, first_wrong};
 use bx_calls::CallState;
-use bx_channels::Channel;
-use bx_far::Far;
-use bx_worked_days::far_of;
-use bx_worked_messages::{
+use bx_cases::messages::{
     ALERTING_CHANNEL_1, CONNECT, CONNECT_ACKNOWLEDGE, CONNECT_CHANNEL_1, FAR_DISCONNECT_16,
     FAR_DISCONNECT_102, FAR_RELEASE_16, FAR_RELEASE_COMPLETE, FAR_RELEASE_COMPLETE_17,
     FAR_RELEASE_COMPLETE_44, PROCEEDING_CHANNEL_1, RELEASE, SETUP, SETUP_CHANNEL_2,
     SETUP_REFERENCE_2, SETUP_REFERENCE_3_CHANNEL_3, USER_RELEASE_COMPLETE_102,
 };
+use bx_channels::Channel;
+use bx_far::Far;
+use bx_worked_days::far_of;
 use std::alloc::Global;
 use std::test::Fail;
 

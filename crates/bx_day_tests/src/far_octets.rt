@@ -3,9 +3,9 @@
 
 use crate::far_days::{FREE, ends};
 use crate::steps::{Messages, answers, are_short_ignored};
+use bx_cases::messages::FAR_RELEASE_COMPLETE_44;
 use bx_far::Far;
 use bx_worked_days::far_of;
-use bx_worked_messages::FAR_RELEASE_COMPLETE_44;
 use std::test::Fail;
 
 /// What comes, by name and in octets, and what is sent for it.

@@ -1,10 +1,10 @@
 //! The exchange at the opening, and with a call in each state that a message can find.
 
-use bx_worked_days::TICK;
-use bx_worked_messages::{
+use bx_cases::messages::{
     ALERTING, CONNECT, DISCONNECT_REFERENCE_7, FAR_DISCONNECT, FAR_RELEASE_COMPLETE, PROCEEDING,
     SETUP_REFERENCE_7_UNNUMBERED,
 };
+use bx_worked_days::TICK;
 
 /// How a day comes to a call on channel 1: its name, whether its booking is inward, what happens, and the
 /// state of the call then (0: there is none).

@@ -1,10 +1,10 @@
 //! The far end at the opening, and with a call in each state that a message can find.
 
-use bx_worked_days::TICK;
-use bx_worked_messages::{
+use bx_cases::messages::{
     CONNECT, CONNECT_ACKNOWLEDGE, DISCONNECT, FAR_DISCONNECT, PROCEEDING, RELEASE_COMPLETE,
     SETUP_NOT_COMPLETE,
 };
+use bx_worked_days::TICK;
 
 /// How a day comes to a call of reference 1 on channel 1: its name, the script, what happens, the state of
 /// the call then (0: there is none), and whether the network began it. In each script calls to 1 find the user busy.

@@ -20,6 +20,8 @@ mod far_days;
 #[cfg(test)]
 mod far_octets;
 #[cfg(test)]
+mod far_outages;
+#[cfg(test)]
 mod hostile_days;
 #[cfg(test)]
 mod hostile_exchange;

@@ -1,10 +1,10 @@
 //! The day of one booking, event by event, with another that waits for its channel.
 
 use crate::steps::{Step, first_wrong};
+use bx_cases::messages::{CONNECT, CONNECT_ACKNOWLEDGE, DISCONNECT_16, RELEASE_16, SETUP};
 use bx_channels::Channel;
 use bx_day::{Exchange, Outcome};
 use bx_worked_days::{Row, exchange_of};
-use bx_worked_messages::{CONNECT, CONNECT_ACKNOWLEDGE, DISCONNECT_16, RELEASE_16, SETUP};
 use std::alloc::Global;
 
 /// A step, what the two bookings are told to be then, and whether their channel is in maintenance.

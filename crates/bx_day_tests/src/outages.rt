@@ -2,14 +2,14 @@
 
 use crate::steps::{Messages, first_wrong};
 use bx_calls::CallState;
-use bx_channels::Channel;
-use bx_day::{Exchange, Outcome};
-use bx_worked_days::{Row, exchange_of};
-use bx_worked_messages::{
+use bx_cases::messages::{
     ALERTING, CONNECT, CONNECT_ACKNOWLEDGE, DISCONNECT_16, FAR_RELEASE, FAR_RELEASE_COMPLETE,
     PROCEEDING, RELEASE_16, RELEASE_COMPLETE, RELEASE_COMPLETE_102, SETUP, SETUP_REFERENCE_2,
     SETUP_REFERENCE_7, STATUS_101,
 };
+use bx_channels::Channel;
+use bx_day::{Exchange, Outcome};
+use bx_worked_days::{Row, exchange_of};
 use std::alloc::Global;
 
 /// What happens: ticks to a moment, of which only the last sends something, or octets that come at it, and what is sent; or

@@ -1,13 +1,13 @@
 //! Quiet seconds: how many there are, and that to skip them leaves the day that ticks leave.
 
 use crate::steps::{Step, first_wrong};
-use bx_channels::Channel;
-use bx_day::Exchange;
-use bx_worked_days::{Row, exchange_of};
-use bx_worked_messages::{
+use bx_cases::messages::{
     CONNECT, CONNECT_ACKNOWLEDGE, DISCONNECT_16, FAR_DISCONNECT_16, FAR_RELEASE, RELEASE_16,
     RELEASE_COMPLETE, RELEASE_COMPLETE_102, SETUP, SETUP_REFERENCE_2, SETUP_REFERENCE_7,
 };
+use bx_channels::Channel;
+use bx_day::Exchange;
+use bx_worked_days::{Row, exchange_of};
 use std::alloc::Global;
 
 /// Bookings, and steps with the quiet seconds behind each.

@@ -1,8 +1,8 @@
 //! A day replayed from its events.
 
-use bx_replay::{Event, Replayed, replay};
+use bx_cases::messages::{CONNECT, CONNECT_ACKNOWLEDGE, SETUP};
+use bx_recovery::{Event, Replayed, replay};
 use bx_worked_days::{Row, are_same, plan_of};
-use bx_worked_messages::{CONNECT, CONNECT_ACKNOWLEDGE, SETUP};
 use std::alloc::Global;
 
 static ROWS: [Row; 1] = [(0, 60, 1, false)];

@@ -6,13 +6,14 @@ use bx_q931::Octets;
 use bx_worked_days::{DayEnd, Row, exchange_of_numbers, far_of};
 use std::alloc::{AllocError, Global};
 
-/// A tick of one end, a second of the exchange without a link, or a message of the other's list that comes to an end, by
+/// A tick of one end, a second of one without a link, or a message of the other's list that comes to an end, by
 /// its index.
 #[derive(Clone, Copy)]
 pub(crate) enum Event {
     TickExchange,
     WithoutLink,
     TickFar,
+    FarWithoutLink,
     ToExchange(usize),
     ToFar(usize),
 }
@@ -57,6 +58,10 @@ impl Ends {
                 Ok(())
             }
             Event::TickFar => tick(&mut self.far, &mut self.far_sent),
+            Event::FarWithoutLink => {
+                self.far.second_without_link();
+                Ok(())
+            }
             Event::ToExchange(index) => {
                 bring(&mut self.exchange, &self.far_sent, index, &mut self.sent)
             }

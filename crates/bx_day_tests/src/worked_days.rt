@@ -1,7 +1,7 @@
 //! What `bx_worked_days` opens and compares, where no other test would tell it from something else.
 
+use bx_cases::messages::{SETUP, SETUP_CHANNEL_2, SETUP_REFERENCE_2};
 use bx_worked_days::{Row, are_same, exchange_of_numbers};
-use bx_worked_messages::{SETUP, SETUP_CHANNEL_2, SETUP_REFERENCE_2};
 use std::alloc::Global;
 
 static ROWS: [Row; 2] = [(0, 60, 2, false), (0, 60, 1, false)];

@@ -2,14 +2,14 @@
 
 use crate::two_ends::{Ends, Event, opened};
 use bx_calls::CallState;
-use bx_channels::Channel;
-use bx_q931::Octets;
-use bx_worked_days::{Row, are_same};
-use bx_worked_messages::{
+use bx_cases::messages::{
     CONNECT_ACKNOWLEDGE, CONNECT_CHANNEL_1, DISCONNECT_16, FAR_RELEASE, FAR_RELEASE_COMPLETE,
     PROCEEDING_CHANNEL_1, RELEASE, RELEASE_16, RELEASE_COMPLETE, SETUP, SETUP_REFERENCE_2,
     STATUS_101,
 };
+use bx_channels::Channel;
+use bx_q931::Octets;
+use bx_worked_days::{Row, are_same};
 use std::alloc::Global;
 use std::test::Fail;
 
@@ -163,7 +163,7 @@ fn sent_so(ends: &Ends, before: (usize, usize), event: Event, expected: &[&[u8]]
         Event::TickExchange | Event::WithoutLink | Event::ToExchange(_) => {
             since(&ends.sent, before.0, expected) && since(&ends.far_sent, before.1, &[])
         }
-        Event::TickFar | Event::ToFar(_) => {
+        Event::TickFar | Event::FarWithoutLink | Event::ToFar(_) => {
             since(&ends.far_sent, before.1, expected) && since(&ends.sent, before.0, &[])
         }
     }

@@ -3,3 +3,4 @@ pub mod Seats
 pub mod Keeping
 pub mod Kept
 pub mod Passing
+pub mod Standstill

@@ -3,7 +3,7 @@ use Rattle.std.specs.Prelude.{◌≡◌, ◌≤◌, ⊤, ℕ, suc, false, Bool, 
 use Rattle.bx_channels.specs.ChannelNumbers.{IsChannel}
 use Rattle.bx_q931.specs.Outgoing.{Outgoing}
 use Rattle.bx_calls.specs.PlainCalls.{PlainUserCall}
-use Rattle.bx_calls.specs.UserTable.{user_second}
+use Rattle.bx_calls.specs.UserTable.{user_second, user_unlinked}
 use Rattle.bx_channels.specs.Marks.{is_marked}
 use Rattle.bx_far.specs.Seats.{AreSeated}
 use Rattle.bx_far.specs.Inside.{live_of, slot_at}
@@ -12,6 +12,11 @@ use Rattle.bx_far.specs.Inside.{live_of, slot_at}
 abbrev pub after_slot : ℕ → Option PlainUserCall → Option PlainUserCall
 after_slot t None = None
 after_slot t (Some call) = live_of (user_second call t).next
+
+-- and what one without a link does
+abbrev pub later_slot : ℕ → Option PlainUserCall → Option PlainUserCall
+later_slot t None = None
+later_slot t (Some call) = Some (user_unlinked t call)
 
 -- only on channels something is said
 abbrev pub IsSpoken : ℕ → Option Outgoing → Type 0

@@ -1,16 +1,26 @@
 -- A far end as an end of the link: for a tick its messages and the end of the turn are written, for a message the reply to it.
-use Rattle.std.specs.Prelude.{ℕ, ◌+◌, min, List, ◌++◌}
+use Rattle.std.specs.Prelude.{ℕ, ◌+◌, min, List, [], ◌∷◌, ◌++◌}
 use Rattle.arrayvec.specs.ArrayVec.{ArrayVec}
-use Rattle.bx_events.specs.Events.{Event, Tick, Receive}
+use Rattle.bx_events.specs.Events.{Event, Tick, Receive, LiveEvent, OnLink, WithoutLink, Sold}
 use Rattle.bx_frames.specs.Frames.{frames_of, turn_frame}
 use Rattle.bx_calls.specs.Sending.{reply_list, spelled}
-use Rattle.bx_far.specs.FarDay.{FarDay, far_tick}
+use Rattle.bx_far.specs.FarDay.{FarDay, far_tick, far_without_link}
 use Rattle.bx_far.specs.FarRun.{far_receive_octets}
 use Rattle.bx_events.specs.declared.moment.TheConstants.{LAST_MOMENT}
 
 abbrev pub far_next : FarDay → Event → FarDay
 far_next d Tick = (far_tick d).day
 far_next d (Receive octets) = (far_receive_octets d octets).day
+
+-- the day over seconds without a link too; of what is sold it knows nothing
+abbrev pub far_live_next : FarDay → LiveEvent → FarDay
+far_live_next d (OnLink event) = far_next d event
+far_live_next d WithoutLink = far_without_link d
+far_live_next d (Sold line) = d
+
+abbrev pub far_live_after : List LiveEvent → FarDay → FarDay
+far_live_after [] d = d
+far_live_after (event ∷ events) d = far_live_after events (far_live_next d event)
 
 -- the messages that it sends
 abbrev pub far_sent : FarDay → Event → List (ArrayVec ℕ)

@@ -1,6 +1,6 @@
 -- The day of the far end: what its script says, its live calls in rising order of channel, and the channels in
 -- maintenance.
-use Rattle.std.specs.Prelude.{ℕ, ◌+◌, ◌==◌, nat_le, nat_lt, ◌&&◌, ◌||◌, not, Bool, true, List, [], ◌∷◌, Option, Some, None, if◌then◌else◌, is_some, slice_set, replicate}
+use Rattle.std.specs.Prelude.{ℕ, ◌+◌, ◌==◌, nat_le, nat_lt, ◌&&◌, ◌||◌, not, Bool, true, List, [], ◌∷◌, Option, Some, None, if◌then◌else◌, is_some, slice_set, replicate, map}
 use Rattle.bx_q931.specs.declared.kind.Kind.{Kind}
 use Rattle.bx_q931.specs.declared.kind.Kind.TheVariants.{Setup}
 use Rattle.bx_q931.specs.declared.channel_field.ChannelField.{ChannelField}
@@ -18,7 +18,7 @@ use Rattle.bx_calls.specs.PlainCalls.{PlainUserCall}
 use Rattle.bx_calls.specs.Said.{Said}
 use Rattle.bx_calls.specs.Saying.{setup_of}
 use Rattle.bx_calls.specs.UnknownTable.{refusal_of, unknown_row}
-use Rattle.bx_calls.specs.UserTable.{user_flag, user_second, user_message, user_offered, user_calling}
+use Rattle.bx_calls.specs.UserTable.{user_flag, user_second, user_message, user_offered, user_calling, user_unlinked}
 use Rattle.bx_far.specs.Policies.{policy_of}
 use Rattle.bx_far.specs.declared.row.ScriptRow.{ScriptRow}
 use Rattle.bx_far.specs.declared.row.ScriptRow.TheVariants.{Follows, Calls}
@@ -139,6 +139,14 @@ far_ticked d = far_after d (d.moment + 1) (far_begun d (d.moment + 1))
 
 abbrev pub far_tick : FarDay → Sent FarDay
 far_tick d = if nat_le LAST_MOMENT d.moment then record { day = d; sent = [] } else far_ticked d
+
+-- ---- a second without a link to the exchange: no timer runs, no row calls, and nothing is said
+
+abbrev pub far_unlinked : FarDay → FarDay
+far_unlinked d = record d { moment = d.moment + 1; calls = map (user_unlinked (d.moment + 1)) d.calls }
+
+abbrev pub far_without_link : FarDay → FarDay
+far_without_link d = if nat_le LAST_MOMENT d.moment then d else far_unlinked d
 
 -- ---- a receipt
 

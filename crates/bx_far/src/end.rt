@@ -3,8 +3,8 @@
 use crate::far::Far;
 use arrayvec::ArrayVec;
 use bx_events::LAST_MOMENT;
+use bx_frames::{Course, End};
 use bx_q931::Octets;
-use bx_turns::{Course, End};
 
 impl Course for Far {
     ghost use Rattle.bx_far.specs.Course.{far_due, far_next, far_sent, far_text};

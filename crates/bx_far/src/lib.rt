@@ -6,6 +6,7 @@ mod begun_tick;
 mod end;
 mod far;
 mod fault;
+mod outages;
 mod receiving;
 mod row;
 mod script;

@@ -3,3 +3,7 @@ pub mod OctetSteps
 pub mod WritingFrames
 pub mod Locality
 pub mod ReadingSteps
+pub mod Events
+pub mod Composing
+pub mod Turns
+pub mod Hearing

@@ -4,8 +4,8 @@ use Rattle.bx_devices.specs.declared.watched.Watched.{Watched}
 use Rattle.bx_day.specs.Day.{Day}
 use Rattle.bx_events.specs.Events.{Event, Tick, Receive}
 use Rattle.bx_far.specs.FarDay.{FarDay}
-use Rattle.bx_turns.specs.Courses.{ticks_of, ticks_last}
-use Rattle.bx_turns.specs.Talks.{Talk, stop, with_events}
+use Rattle.bx_frames.specs.Courses.{ticks_of, ticks_last}
+use Rattle.bx_frames.specs.Talks.{Talk, stop, with_events}
 use Rattle.bx_link.specs.Talking.{talk_in, follow}
 use Rattle.bx_link.specs.Hearing.{TakesTurn, Opens, Hears}
 use Rattle.bx_link.specs.Days.{EndsDay, FarTalks, TalksToEnd}
@@ -16,10 +16,10 @@ use Rattle.bx_frames.specs.declared.fault.LinkFault.{LinkFault}
 use Rattle.bx_frames.specs.declared.fault.LinkFault.TheVariants.{WriteFailed, EndedInFrame, Closed}
 use Rattle.bx_frames.specs.declared.frame.Receiver.TheVariants.{Exchange}
 use Rattle.bx_frames.proofs.ReadAnswers.{gave, faulty}
-use Rattle.bx_turns.proofs.Events.{ticks_more, last_more}
+use Rattle.bx_frames.proofs.Events.{ticks_more, last_more}
 use Rattle.bx_link.proofs.ExchangeTurns.{Onward, TalkedSoFar, over, broken, opened_so_far, talk_over}
 use Rattle.bx_link.proofs.FarTurns.{FarSoFar, far_stands, far_goes_on, far_failed, far_ended, far_closed}
-use Rattle.bx_turns.proofs.Turns.{turn_nothing}
+use Rattle.bx_frames.proofs.Turns.{turn_nothing}
 
 -- ---- the far end's session
 

@@ -7,23 +7,23 @@ use Rattle.bx_day.specs.Day.{Day}
 use Rattle.bx_devices.specs.declared.octets.WriteFailed.{WriteFailed as Failed}
 use Rattle.bx_events.specs.Events.{Event, Tick}
 use Rattle.bx_day.specs.Run.{day_after}
-use Rattle.bx_turns.specs.Courses.{after, told, ticks_of}
+use Rattle.bx_frames.specs.Courses.{after, told, ticks_of}
 use Rattle.bx_day.specs.Course.{exchange_next, exchange_text}
 use Rattle.bx_frames.specs.Frames.{is_far, day_frame}
 use Rattle.bx_frames.specs.Writing.{Sends}
-use Rattle.bx_turns.specs.Talks.{Talk, stop, with_events}
+use Rattle.bx_frames.specs.Talks.{Talk, stop, with_events}
 use Rattle.bx_link.specs.Talking.{exchange_turn, talk_in, follow}
-use Rattle.bx_turns.specs.Heard.{Goes, Went, no_tick}
+use Rattle.bx_frames.specs.Heard.{Goes, Went, no_tick}
 use Rattle.bx_link.specs.Hearing.{Opens, Hears}
 use Rattle.bx_link.specs.Days.{Talks, EndsDay}
 use Rattle.bx_frames.specs.declared.fault.LinkFault.{LinkFault}
 use Rattle.bx_frames.specs.declared.fault.LinkFault.TheVariants.{ReadFailed, WriteFailed, EndedInFrame}
 use Rattle.bx_frames.specs.declared.frame.Receiver.TheVariants.{Exchange}
 use Rattle.bx_frames.proofs.ReadAnswers.{gave, faulty}
-use Rattle.bx_turns.proofs.Composing.{SoFar, nothing_yet, then_goes, then_so_far, all_goes}
-use Rattle.bx_turns.proofs.Events.{ticks_more, no_last}
+use Rattle.bx_frames.proofs.Composing.{SoFar, nothing_yet, then_goes, then_so_far, all_goes}
+use Rattle.bx_frames.proofs.Events.{ticks_more, no_last}
 use Rattle.bx_link.proofs.Following.{follow_on, follow_fault, written_whole, still_written}
-use Rattle.bx_turns.proofs.Turns.{turn_nothing, turn_local}
+use Rattle.bx_frames.proofs.Turns.{turn_nothing, turn_local}
 use Rattle.bx_frames.proofs.WritingFrames.{done, stopped}
 
 -- done, or not

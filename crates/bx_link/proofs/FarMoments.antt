@@ -21,7 +21,7 @@ use Rattle.bx_far.specs.FarRun.{far_receive_from, far_receive_read, far_receive_
 use Rattle.bx_far.specs.Policies.{policy_of}
 use Rattle.bx_devices.specs.declared.watched.Watched.{Watched}
 use Rattle.bx_link.specs.Days.{FarTalks, EndsFarDay, RunsFarDay}
-use Rattle.bx_turns.specs.Courses.{after, ticks_of}
+use Rattle.bx_frames.specs.Courses.{after, ticks_of}
 use Rattle.bx_far.specs.Course.{far_next}
 use Rattle.bx_frames.specs.declared.fault.LinkFault.{LinkFault}
 

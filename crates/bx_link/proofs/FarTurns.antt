@@ -4,23 +4,23 @@ use Rattle.bx_devices.specs.declared.octets.WriteFailed.{WriteFailed as Failed}
 use Rattle.bx_devices.specs.declared.watched.Watched.{Watched}
 use Rattle.bx_events.specs.Events.{Event, Tick}
 use Rattle.bx_far.specs.FarDay.{FarDay}
-use Rattle.bx_turns.specs.Courses.{after, ticks_of}
+use Rattle.bx_frames.specs.Courses.{after, ticks_of}
 use Rattle.bx_far.specs.Course.{far_next, far_text}
 use Rattle.bx_frames.specs.Writing.{Sends}
-use Rattle.bx_turns.specs.Talks.{Talk, stop}
+use Rattle.bx_frames.specs.Talks.{Talk, stop}
 use Rattle.bx_link.specs.Talking.{far_hears, far_turn, ticked, closed_before, far_talk_in, follow, follow_by}
-use Rattle.bx_turns.specs.Heard.{Goes, Went, no_tick}
+use Rattle.bx_frames.specs.Heard.{Goes, Went, no_tick}
 use Rattle.bx_link.specs.Hearing.{TakesTurn}
 use Rattle.bx_link.specs.Days.{FarTalks}
 use Rattle.bx_frames.specs.declared.fault.LinkFault.{LinkFault}
 use Rattle.bx_frames.specs.declared.fault.LinkFault.TheVariants.{WriteFailed, Closed}
 use Rattle.bx_frames.specs.declared.frame.Receiver.TheVariants.{FarEnd}
 use Rattle.bx_frames.proofs.ReadAnswers.{gave, faulty}
-use Rattle.bx_turns.proofs.Composing.{SoFar, nothing_yet, then_goes, then_so_far, all_goes}
-use Rattle.bx_turns.proofs.Events.{ticks_more, no_last}
+use Rattle.bx_frames.proofs.Composing.{SoFar, nothing_yet, then_goes, then_so_far, all_goes}
+use Rattle.bx_frames.proofs.Events.{ticks_more, no_last}
 use Rattle.bx_link.proofs.Following.{IsQuiet, follow_on, follow_fault, follow_day}
-use Rattle.bx_turns.proofs.Hearing.{one_told, one_failed}
-use Rattle.bx_turns.proofs.Turns.{IsEnded, IsLocalTalk, turn_nothing, turn_local}
+use Rattle.bx_frames.proofs.Hearing.{one_told, one_failed}
+use Rattle.bx_frames.proofs.Turns.{IsEnded, IsLocalTalk, turn_nothing, turn_local}
 use Rattle.bx_frames.proofs.WritingFrames.{done, stopped}
 
 -- the ending is what it was said to be

@@ -4,19 +4,19 @@ use Rattle.std.specs.Io.KnownBytes.{Appends}
 use Rattle.bx_devices.specs.declared.watched.Watched.{Watched}
 use Rattle.bx_devices.specs.Watching.{device_of, is_faulted}
 use Rattle.bx_events.specs.Events.{Event}
-use Rattle.bx_turns.specs.Courses.{told, ticks_last}
+use Rattle.bx_frames.specs.Courses.{told, ticks_last}
 use Rattle.bx_frames.specs.Frames.{is_far}
 use Rattle.bx_frames.specs.Reading.{IsRead}
-use Rattle.bx_turns.specs.Talks.{Talk, stop, with_events}
+use Rattle.bx_frames.specs.Talks.{Talk, stop, with_events}
 use Rattle.bx_link.specs.Talking.{follow, follow_by}
-use Rattle.bx_turns.specs.Heard.{IsWhole, BreaksOff, IsUnread, IsHeard, Goes}
+use Rattle.bx_frames.specs.Heard.{IsWhole, BreaksOff, IsUnread, IsHeard, Goes}
 use Rattle.bx_frames.specs.declared.fault.LinkFault.{LinkFault}
 use Rattle.bx_frames.specs.declared.fault.LinkFault.TheVariants.{ReadFailed, WriteFailed, EndedInFrame}
 use Rattle.bx_frames.specs.declared.frame.Receiver.{Receiver}
 use Rattle.bx_frames.proofs.ReadAnswers.{gave, faulty}
-use Rattle.bx_turns.proofs.Composing.{IsBeyond, SoFar}
+use Rattle.bx_frames.proofs.Composing.{IsBeyond, SoFar}
 use Rattle.bx_frames.proofs.ReadingSteps.{not_faulted}
-use Rattle.bx_turns.proofs.Turns.{IsLocalTalk}
+use Rattle.bx_frames.proofs.Turns.{IsLocalTalk}
 
 -- what went well was heard whole
 pub heard_whole : (receiver : Receiver) (finds : List ℕ → Talk) (text : List ℕ) (events : List Event) (b : Bool) (left : Option (List ℕ)) → IsHeard receiver finds text events (gave b) left → IsWhole (finds text) events (gave b) left

@@ -6,10 +6,10 @@ use Rattle.bx_devices.specs.Watching.{device_of, is_faulted}
 use Rattle.bx_day.specs.Day.{Day}
 use Rattle.bx_events.specs.Events.{Event}
 use Rattle.bx_far.specs.FarDay.{FarDay}
-use Rattle.bx_turns.specs.Courses.{after, told, ticks_of, ticks_last}
+use Rattle.bx_frames.specs.Courses.{after, told, ticks_of, ticks_last}
 use Rattle.bx_day.specs.Course.{exchange_next, exchange_text}
 use Rattle.bx_link.specs.Talking.{talk_in}
-use Rattle.bx_turns.specs.Heard.{IsUnread}
+use Rattle.bx_frames.specs.Heard.{IsUnread}
 use Rattle.bx_link.specs.Days.{Talks, TalksToEnd, FarTalks}
 use Rattle.bx_link.specs.declared.connection.Connection.{Connection}
 use Rattle.bx_frames.specs.declared.fault.LinkFault.{LinkFault}

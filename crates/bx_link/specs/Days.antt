@@ -7,13 +7,13 @@ use Rattle.bx_devices.specs.Watching.{device_of, is_faulted}
 use Rattle.bx_day.specs.Day.{Day}
 use Rattle.bx_far.specs.FarDay.{FarDay}
 use Rattle.bx_events.specs.Events.{Event}
-use Rattle.bx_turns.specs.Courses.{ticks_of}
+use Rattle.bx_frames.specs.Courses.{ticks_of}
 use Rattle.bx_day.specs.Course.{exchange_next, exchange_text}
 use Rattle.bx_far.specs.Course.{far_next, far_text}
 use Rattle.bx_frames.specs.Frames.{day_frame}
 use Rattle.bx_devices.specs.Octets.{AppendsPart}
 use Rattle.bx_link.specs.Talking.{talk_in, far_talk_in}
-use Rattle.bx_turns.specs.Heard.{Went}
+use Rattle.bx_frames.specs.Heard.{Went}
 use Rattle.bx_frames.specs.declared.fault.LinkFault.{LinkFault}
 use Rattle.bx_frames.specs.declared.fault.LinkFault.TheVariants.{WriteFailed, Closed}
 use Rattle.bx_frames.specs.declared.frame.Receiver.TheVariants.{Exchange, FarEnd}

@@ -1,6 +1,6 @@
 -- What each end and its devices are after one turn.
 use Rattle.std.specs.Prelude.{◌≡◌, ℕ, Bool, true, false, List, [], ◌∷◌, Option, Result, Ok, Err, ◌⊎◌}
-use Rattle.bx_turns.specs.Heard.{Tells, Went, no_tick}
+use Rattle.bx_frames.specs.Heard.{Tells, Went, no_tick}
 use Rattle.bx_devices.specs.declared.watched.Watched.{Watched}
 use Rattle.bx_day.specs.Day.{Day}
 use Rattle.bx_events.specs.Events.{Tick}

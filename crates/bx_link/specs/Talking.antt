@@ -3,8 +3,8 @@ use Rattle.std.specs.Prelude.{ℕ, zero, suc, Bool, true, false, List, [], ◌�
 use Rattle.bx_day.specs.Day.{Day}
 use Rattle.bx_events.specs.Events.{Event, Tick}
 use Rattle.bx_far.specs.FarDay.{FarDay}
-use Rattle.bx_turns.specs.Courses.{after}
-use Rattle.bx_turns.specs.Talks.{Talk, stop, with_events, turn_in}
+use Rattle.bx_frames.specs.Courses.{after}
+use Rattle.bx_frames.specs.Talks.{Talk, stop, with_events, turn_in}
 use Rattle.bx_day.specs.Course.{exchange_next}
 use Rattle.bx_far.specs.Course.{far_next, far_due}
 use Rattle.bx_frames.specs.declared.fault.LinkFault.{LinkFault}

@@ -10,8 +10,7 @@ use crate::session::Session;
 use bx_day::Exchange;
 use bx_events::LAST_MOMENT;
 use bx_far::Far;
-use bx_frames::{LinkFault, write_end_of_day};
-use bx_turns::End;
+use bx_frames::{End, LinkFault, write_end_of_day};
 use std::io::{Read, Write};
 
 /// Runs a day of both ends, each at its end of a connection. The exchange opens a turn, the far end takes it, and

@@ -8,8 +8,7 @@ use crate::session::Session;
 use bx_day::Exchange;
 use bx_devices::Watched;
 use bx_events::LAST_MOMENT;
-use bx_frames::{LinkFault, write_end_of_day};
-use bx_turns::End;
+use bx_frames::{End, LinkFault, write_end_of_day};
 use std::io::{Read, Write};
 
 /// Opens and closes so many turns.

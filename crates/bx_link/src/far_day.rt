@@ -5,8 +5,7 @@ ghost use Rattle.bx_link.specs.Days.{RunsFarDay};
 use crate::far_session::FarSession;
 use bx_devices::Watched;
 use bx_far::Far;
-use bx_frames::LinkFault;
-use bx_turns::End;
+use bx_frames::{End, LinkFault};
 use std::io::{Read, Write};
 
 /// More turns than a connection lasts for.

@@ -8,8 +8,7 @@ ghost use Rattle.bx_frames.specs.declared.fault.LinkFault.TheVariants.{Closed};
 
 use bx_devices::Watched;
 use bx_far::Far;
-use bx_frames::{LinkFault, Receiver};
-use bx_turns::{End, hear_turn, write_tick};
+use bx_frames::{End, LinkFault, Receiver, hear_turn, write_tick};
 use std::io::{Read, Write};
 
 /// A session of the far end. After a fault, and after the end of the day, it is closed, and neither reads nor

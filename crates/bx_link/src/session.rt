@@ -8,8 +8,7 @@ ghost use Rattle.bx_frames.specs.declared.fault.LinkFault.TheVariants.{Closed};
 
 use bx_day::Exchange;
 use bx_devices::Watched;
-use bx_frames::{LinkFault, Receiver};
-use bx_turns::{End, hear_turn, write_tick};
+use bx_frames::{End, LinkFault, Receiver, hear_turn, write_tick};
 use std::io::{Read, Write};
 
 /// Where a session stands.

@@ -1,8 +1,8 @@
 //! Bearer capabilities that are taken, and the cause by which others are refused.
 
 use bx_calls::bearer_fault;
+use bx_cases::messages::SETUP;
 use bx_q931::{cause, read};
-use bx_worked_messages::SETUP;
 
 const MISSING: Option<u8> = Some(cause::MANDATORY_ELEMENT_MISSING);
 

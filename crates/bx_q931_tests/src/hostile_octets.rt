@@ -1,8 +1,8 @@
 //! Octets from anyone: whatever is read as a message spells its octets again, but for the shifts.
 
 use crate::messages::{DUMMY_REFERENCE, ONE_OCTET_REFERENCE, STATUS};
+use bx_cases::messages::{FAR_RELEASE_COMPLETE_17, SETUP};
 use bx_q931::{Element, Message, Octets, read};
-use bx_worked_messages::{FAR_RELEASE_COMPLETE_17, SETUP};
 
 static SHIFTED: [u8; 23] = [
     0x08, 0x02, 0x80, 0x01, 0x07, 0x96, 0x9E, 0x91, 0x18, 0x03, 0xA9, 0x83, 0x82, 0x18, 0x03, 0xA9,

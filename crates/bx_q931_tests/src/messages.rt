@@ -1,8 +1,8 @@
 //! Messages that are encoded and read, against worked octets.
 
+use bx_cases::messages::{FAR_RELEASE_COMPLETE_17, SETUP};
 use bx_channels::{Channel, Number};
 use bx_q931::{Kind, Out, Reference, cause, encode, laws, read};
-use bx_worked_messages::{FAR_RELEASE_COMPLETE_17, SETUP};
 use std::test::Fail;
 
 /// STATUS with cause 101 and state 10, of reference 258 with flag 1.

@@ -2,14 +2,14 @@
 
 use crate::steps::{After, Row, net_goes};
 use bx_calls::{CallState, NetCall};
-use bx_channels::{Channel, Number};
-use bx_q931::{Out, encode};
-use bx_worked_messages::{
+use bx_cases::messages::{
     ALERTING_CHANNEL_1, CONNECT, CONNECT_ACKNOWLEDGE, CONNECT_CHANNEL_1, CONNECT_CHANNEL_2,
     DISCONNECT_16, FAR_DISCONNECT_16, FAR_RELEASE, FAR_STATUS_BARE, FAR_STATUS_NULL,
     PROCEEDING_CHANNEL_1, RELEASE, RELEASE_6, RELEASE_16, RELEASE_COMPLETE, RELEASE_COMPLETE_102,
     SETUP, STATUS_101,
 };
+use bx_channels::{Channel, Number};
+use bx_q931::{Out, encode};
 use std::test::Fail;
 
 const PRESENT: After = After::Live(CallState::CallPresent);

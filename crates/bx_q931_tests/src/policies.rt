@@ -2,11 +2,11 @@
 
 use crate::steps::{After, Row, user_goes};
 use bx_calls::{CallState, Policy, UserCall};
-use bx_channels::Channel;
-use bx_worked_messages::{
+use bx_cases::messages::{
     ALERTING_CHANNEL_1, CONNECT, CONNECT_ACKNOWLEDGE, CONNECT_CHANNEL_1, FAR_DISCONNECT_16,
     FAR_DISCONNECT_102, FAR_RELEASE_16, PROCEEDING_CHANNEL_1,
 };
+use bx_channels::Channel;
 use std::test::Fail;
 
 const PRESENT: After = After::Live(CallState::CallPresent);

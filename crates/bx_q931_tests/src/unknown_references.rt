@@ -2,8 +2,8 @@
 
 use crate::steps::says;
 use bx_calls::{Side, refuse, unknown};
+use bx_cases::messages::FAR_STATUS_BARE;
 use bx_q931::{cause, encode, read};
-use bx_worked_messages::FAR_STATUS_BARE;
 
 /// What comes, the end that it comes to, its octets, and what is answered.
 type Receipt = (&'static str, Side, &'static [u8], &'static [u8]);

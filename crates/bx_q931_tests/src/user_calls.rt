@@ -2,11 +2,11 @@
 
 use crate::steps::{After, Row, user_goes};
 use bx_calls::{CallState, UserCall};
-use bx_channels::{Channel, Number};
-use bx_q931::{Out, encode};
-use bx_worked_messages::{
+use bx_cases::messages::{
     CONNECT, CONNECT_CHANNEL_2, PROCEEDING_CHANNEL_1, SETUP, USER_RELEASE_COMPLETE_102,
 };
+use bx_channels::{Channel, Number};
+use bx_q931::{Out, encode};
 use std::test::Fail;
 
 const INITIATED: After = After::Live(CallState::CallInitiated);

@@ -1,1 +1,2 @@
 pub mod KnownText
+pub mod Replays

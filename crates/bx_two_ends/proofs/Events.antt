@@ -16,8 +16,8 @@ use Rattle.bx_events.specs.Events.{Tick, Receive}
 use Rattle.bx_day.specs.Law.{standing_at}
 use Rattle.bx_day.proofs.Law.{RunFits, run_fits, without_run}
 use Rattle.bx_day.proofs.Tick.{by_cases}
-use Rattle.bx_far.specs.FarDay.{FarDay, far_ticked, far_receive}
-use Rattle.bx_two_ends.specs.World.{World, WorldEvent, TickExchange, TickFar, WithoutLink, ToExchange, ToFar, exchange_becomes, far_becomes, comes_to_exchange, comes_to_far, message_nth, world_happens}
+use Rattle.bx_far.specs.FarDay.{FarDay, far_ticked, far_unlinked, far_receive}
+use Rattle.bx_two_ends.specs.World.{World, WorldEvent, TickExchange, TickFar, WithoutLink, FarWithoutLink, ToExchange, ToFar, exchange_becomes, far_becomes, comes_to_exchange, comes_to_far, message_nth, world_happens}
 use Rattle.bx_two_ends.specs.Scripts.{IsScriptRow}
 use Rattle.bx_two_ends.specs.TwoEnds.{acknowledges, AreOnTheirOwn}
 use Rattle.bx_two_ends.proofs.Delivery.{Sendable, said_from, receive_sent, far_receive_sent}
@@ -29,6 +29,7 @@ use Rattle.bx_two_ends.proofs.FarCalls.{all_calls}
 use Rattle.bx_two_ends.proofs.Outages.{without_started, without_seats, without_standings}
 use Rattle.bx_day.specs.declared.entry.Link.TheVariants.{Down}
 use Rattle.bx_two_ends.proofs.FarHears.{FarBefore, saids_grow, far_receive_keeps}
+use Rattle.bx_two_ends.proofs.FarOutages.{far_unlinked_keeps}
 use Rattle.bx_two_ends.proofs.FarTicks.{far_ticked_keeps}
 use Rattle.bx_two_ends.specs.TwoEndsInward.{connects}
 
@@ -116,6 +117,13 @@ tick_far rows assigned w k = by_cases (nat_le 300000 w.far.moment) _ _ (λ (s : 
     (λ _. let t = far_ticked_keeps assigned w.sent w.far_sent w.far k.script (far_before rows assigned w k) in
     far_step rows assigned w (far_ticked w.far).day (far_ticked w.far).sent k t.replies t.calls t.apart t.size t.places k.script)
 
+-- a second without a link
+far_without_keeps : (rows : List Row) (assigned : List (Option ℕ)) (w : World) → KeepsOutward rows assigned w → KeepsOutward rows assigned (world_happens w FarWithoutLink)
+far_without_keeps rows assigned w k = by_cases (nat_le 300000 w.far.moment) _ _ (λ (f : FarDay). KeepsOutward rows assigned (far_becomes w f []))
+    (λ _. far_step rows assigned w w.far [] k (saids_grow assigned w.sent w.far_sent [] w.far w.far (λ r h. h) k.replies tt) k.calls k.apart k.size k.places k.script)
+    (λ _. let t = far_unlinked_keeps assigned w.sent w.far_sent w.far (far_before rows assigned w k) in
+    far_step rows assigned w (far_unlinked w.far) [] k t.replies t.calls t.apart t.size t.places k.script)
+
 -- ---- messages
 
 -- all that was sent is within the limits of a message
@@ -141,6 +149,7 @@ to_far rows assigned w (Some o) k h =
 pub happens_keeps : (rows : List Row) (assigned : List (Option ℕ)) (w : World) (e : WorldEvent) → KeepsOutward rows assigned w → MessagesWithin w → KeepsOutward rows assigned (world_happens w e)
 happens_keeps rows assigned w TickExchange k l = tick_exchange rows assigned w k
 happens_keeps rows assigned w WithoutLink k l = without_keeps rows assigned w k
+happens_keeps rows assigned w FarWithoutLink k l = far_without_keeps rows assigned w k
 happens_keeps rows assigned w TickFar k l = tick_far rows assigned w k
 happens_keeps rows assigned w (ToExchange n) k l = to_exchange rows assigned w (message_nth w.far_sent n) k
     (nth_holds (λ x. (IsIn w.far_sent x × (x.flag ≡ true → OutwardReply assigned w.sent w.far x)) × Sendable x) w.far_sent n

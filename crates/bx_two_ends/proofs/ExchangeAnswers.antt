@@ -21,9 +21,9 @@ use Rattle.bx_calls.specs.declared.unknown_reference.Side.TheVariants.{Network}
 use Rattle.bx_calls.specs.declared.net_state.NetState.{NetState}
 use Rattle.bx_calls.specs.declared.net_state.NetState.TheVariants as net
 use Rattle.bx_calls.specs.declared.transition.Transition.{Transition}
-use Rattle.bx_earned.specs.Answering.{is_ringing, is_clearing, said_in, said_read, tells, clears_by, Spares, SparesAll}
+use Rattle.bx_two_ends.specs.Answering.{is_ringing, is_clearing, said_in, said_read, tells, clears_by, Spares, SparesAll}
 use Rattle.bx_day.specs.Day.{Day, entry_at, is_live}
-use Rattle.bx_earned.specs.Earning.{heard_in, is_going}
+use Rattle.bx_two_ends.specs.Earning.{heard_in, is_going}
 use Rattle.bx_day.specs.Invariant.{StandingFits}
 use Rattle.bx_day.specs.Law.{standing_at}
 use Rattle.bx_day.specs.Moves.{follows, activity_after, is_active, over_at}
@@ -35,13 +35,13 @@ use Rattle.bx_day.specs.declared.entry.Entry.{Entry}
 use Rattle.bx_day.specs.declared.entry.Moved.{Moved}
 use Rattle.bx_day.specs.declared.entry.Standing.{Standing}
 use Rattle.bx_day.specs.declared.entry.Standing.TheVariants.{Refused, Unoffered, OnCall, Carried, Unanswered, Missed}
-use Rattle.bx_earned.proofs.Answering.{IsHearing, hears_next, is_up, going_live}
-use Rattle.bx_earned.proofs.Naming.{named_found, names_live, live_inside, set_at}
+use Rattle.bx_two_ends.proofs.Answering.{IsHearing, hears_next, is_up, going_live}
+use Rattle.bx_two_ends.proofs.Naming.{named_found, names_live, live_inside, set_at}
 use Rattle.bx_day.proofs.Once.{decide}
 use Rattle.bx_day.proofs.Received.{outward_none}
 use Rattle.bx_day.proofs.Said.{OfSaid}
 use Rattle.bx_day.proofs.Tick.{with_standing}
-use Rattle.bx_earned.proofs.Turning.{fits_at}
+use Rattle.bx_two_ends.proofs.Turning.{fits_at}
 use Rattle.bx_two_ends.specs.Lockstep.{exchange_says}
 use Rattle.bx_two_ends.proofs.Delivery.{Sendable, said_from, receive_sent, not_zero, heard_again}
 use Rattle.bx_two_ends.proofs.FarTurns.{channel_of}

@@ -20,10 +20,10 @@ use Rattle.bx_calls.specs.declared.user_state.UserOrigin.{UserOrigin}
 use Rattle.bx_calls.specs.declared.user_state.UserOrigin.TheVariants.{Offered, Calling}
 use Rattle.bx_calls.specs.declared.user_state.UserState.{UserState}
 use Rattle.bx_calls.specs.declared.user_state.UserState.TheVariants.{CallInitiated, OutgoingCallProceeding, CallPresent, CallReceived, ConnectRequest, IncomingCallProceeding, Active, DisconnectRequest, ReleaseRequest}
-use Rattle.bx_earned.specs.Answering.{is_ringing, is_clearing}
+use Rattle.bx_two_ends.specs.Answering.{is_ringing, is_clearing}
 use Rattle.bx_day.specs.Day.{Day, is_live}
 use Rattle.bx_day.specs.Law.{standing_at}
-use Rattle.bx_earned.proofs.Answering.{is_up}
+use Rattle.bx_two_ends.proofs.Answering.{is_up}
 use Rattle.bx_day.proofs.Said.{OfSaid}
 use Rattle.bx_far.specs.FarDay.{FarDay, Begun, holder, settle_maintenance, far_received_by, far_follow, far_stray, begin_rows, far_after, far_tick, far_ticked, second_calls, second_said, second_maintenance, with_held, no_messages}
 use Rattle.bx_far.specs.FarRun.{far_receive_octets}

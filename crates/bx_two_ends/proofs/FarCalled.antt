@@ -24,14 +24,14 @@ use Rattle.bx_calls.specs.NetTable.{net_is_clearing}
 use Rattle.bx_calls.specs.declared.net_state.NetOrigin.{NetOrigin}
 use Rattle.bx_calls.specs.declared.net_state.NetState.{NetState}
 use Rattle.bx_calls.specs.declared.net_state.NetState.TheVariants as net
-use Rattle.bx_earned.specs.Answering.{is_ringing_in, is_ringing, is_clearing}
-use Rattle.bx_earned.specs.Earning.{is_settled_in}
+use Rattle.bx_two_ends.specs.Answering.{is_ringing_in, is_ringing, is_clearing}
+use Rattle.bx_two_ends.specs.Earning.{is_settled_in}
 use Rattle.bx_day.specs.declared.entry.Standing.{Standing}
 use Rattle.bx_day.specs.declared.entry.Standing.TheVariants.{Refused, Unoffered, OnCall, Carried, Unanswered, Missed}
 use Rattle.std.proofs.lemmas.List.{append-nil, append_assoc}
 use Rattle.bx_day.specs.Day.{Day, is_live}
 use Rattle.bx_day.specs.Law.{standing_at}
-use Rattle.bx_earned.proofs.Answering.{is_up}
+use Rattle.bx_two_ends.proofs.Answering.{is_up}
 use Rattle.bx_day.proofs.Tick.{by_cases}
 use Rattle.bx_far.specs.FarDay.{FarDay, is_taken, holder, settle_calls, settle_maintenance, far_received_by, far_follow, far_takes, far_refuses}
 use Rattle.bx_far.specs.FarRun.{far_receive_octets}

@@ -22,9 +22,9 @@ use Rattle.bx_calls.specs.Sending.{Sent, Answered, reply_list}
 use Rattle.bx_day.specs.Invariant.{EntryFits, StandingFits}
 use Rattle.bx_day.proofs.Receive.{all_at}
 use Rattle.bx_day.proofs.Tick.{by_cases}
-use Rattle.bx_far.specs.FarDay.{FarDay, far_ticked, far_receive}
+use Rattle.bx_far.specs.FarDay.{FarDay, far_ticked, far_unlinked, far_receive}
 use Rattle.bx_far.specs.declared.row.ScriptRow.{ScriptRow}
-use Rattle.bx_two_ends.specs.World.{World, WorldEvent, TickExchange, TickFar, WithoutLink, ToExchange, ToFar, exchange_becomes, far_becomes, comes_to_exchange, comes_to_far, message_nth, world_happens, world_opening, world_after}
+use Rattle.bx_two_ends.specs.World.{World, WorldEvent, TickExchange, TickFar, WithoutLink, FarWithoutLink, ToExchange, ToFar, exchange_becomes, far_becomes, comes_to_exchange, comes_to_far, message_nth, world_happens, world_opening, world_after}
 use Rattle.bx_two_ends.specs.Scripts.{AreScriptRows}
 use Rattle.bx_two_ends.specs.TwoEnds.{IsUserActive}
 use Rattle.bx_two_ends.specs.TwoEndsInward.{exchange_holds, is_connect_kind, connects, IsConnected, IsTwoEndsInward}
@@ -40,6 +40,7 @@ use Rattle.bx_two_ends.proofs.InwardRows.{is_user_clearing}
 use Rattle.bx_two_ends.proofs.Inward.{InwardSent, InwardSents, InwardCall, InwardCalls, KeptInward, Holds, Maintained, Cleared, InwardReply, TakenStanding, TakenEntries, KeepsInward}
 use Rattle.bx_two_ends.proofs.InwardExchange.{PlacedAt, TakenBefore, TakenAfter, unchanged_takes, ticked_takes, without_takes, receive_takes}
 use Rattle.bx_two_ends.proofs.InwardFar.{Own, silent_inward, far_receive_inward}
+use Rattle.bx_two_ends.proofs.FarOutages.{far_unlinked_inward}
 use Rattle.bx_two_ends.proofs.InwardFarTicks.{far_ticked_inward}
 
 -- ---- what the exchange does leaves the far end's messages and calls as they are
@@ -122,6 +123,13 @@ tick_far rows assigned w o k = by_cases (nat_le 300000 w.far.moment) _ _ (λ (s 
     (λ _. let x = silent_inward k.named w.sent w.far_sent w.far k.sents k.calls in far_inward w w.far [] k k.named (λ r l. refl) (omega arith) x.sents x.calls)
     (λ _. let x = far_ticked_inward k.named w.sent w.far_sent w.far k.sents k.calls o.apart in far_inward w (far_ticked w.far).day (far_ticked w.far).sent k x.named x.agrees x.grown x.sents x.calls)
 
+far_without_link_inward : (rows : List Row) (assigned : List (Option ℕ)) (w : World) → KeepsOutward rows assigned w → KeepsInward w → KeepsInward (world_happens w FarWithoutLink)
+far_without_link_inward rows assigned w o k =
+    let x = silent_inward k.named w.sent w.far_sent w.far k.sents k.calls in
+    by_cases (nat_le 300000 w.far.moment) _ _ (λ (f : FarDay). KeepsInward (far_becomes w f []))
+    (λ _. far_inward w w.far [] k k.named (λ r l. refl) (omega arith) x.sents x.calls)
+    (λ _. far_inward w (far_unlinked w.far) [] k k.named (λ r l. refl) (omega arith) x.sents (far_unlinked_inward k.named w.far.next (w.far.moment + 1) w.sent (w.far_sent ++ []) w.far.calls x.calls))
+
 to_exchange : (rows : List Row) (assigned : List (Option ℕ)) (w : World) (m : Option Outgoing) → KeepsOutward rows assigned w → (k : KeepsInward w) → IfMessage (λ x. (IsIn w.far_sent x × (x.flag ≡ false → InwardSent k.named w.far.next x)) × Sendable x) m → KeepsInward (comes_to_exchange w m)
 to_exchange rows assigned w None o k h = k
 to_exchange rows assigned w (Some m) o k h =
@@ -142,6 +150,7 @@ to_far rows assigned w (Some m) o k h =
 happens_inward : (rows : List Row) (assigned : List (Option ℕ)) (w : World) (e : WorldEvent) → KeepsOutward rows assigned w → KeepsInward w → WorldWithin w → KeepsInward (world_happens w e)
 happens_inward rows assigned w TickExchange o k l = tick_exchange rows assigned w o k
 happens_inward rows assigned w WithoutLink o k l = without_link_inward rows assigned w o k
+happens_inward rows assigned w FarWithoutLink o k l = far_without_link_inward rows assigned w o k
 happens_inward rows assigned w TickFar o k l = tick_far rows assigned w o k
 happens_inward rows assigned w (ToExchange n) o k l = to_exchange rows assigned w (message_nth w.far_sent n) o k
     (nth_holds (λ x. (IsIn w.far_sent x × (x.flag ≡ false → InwardSent k.named w.far.next x)) × Sendable x) w.far_sent n

@@ -17,10 +17,10 @@ use Rattle.bx_calls.specs.declared.net_state.NetOrigin.{NetOrigin}
 use Rattle.bx_calls.specs.declared.net_state.NetState.{NetState}
 use Rattle.bx_calls.specs.declared.net_state.NetState.TheVariants as net
 use Rattle.bx_calls.specs.declared.user_state.UserState.{UserState}
-use Rattle.bx_earned.specs.Answering.{is_ringing_in, is_ringing, is_clearing, is_enquired, said_in, tells, is_told, is_connect, is_release, Answers, EachHeard, AnswersAll}
-use Rattle.bx_earned.specs.Asking.{is_asked}
+use Rattle.bx_two_ends.specs.Answering.{is_ringing_in, is_ringing, is_clearing, is_enquired, said_in, tells, is_told, is_connect, is_release, Answers, EachHeard, AnswersAll}
+use Rattle.bx_two_ends.specs.Asking.{is_asked}
 use Rattle.bx_day.specs.Day.{Day, opening, entry_at, entries_from, is_live}
-use Rattle.bx_earned.specs.Earning.{heard_in, is_settled_in, IsAnswered}
+use Rattle.bx_two_ends.specs.Earning.{heard_in, is_settled_in, IsAnswered}
 use Rattle.bx_day.specs.Law.{standing_at}
 use Rattle.bx_day.specs.Reading.{IsExchange}
 use Rattle.bx_day.specs.Receipts.{names}
@@ -29,12 +29,12 @@ use Rattle.bx_day.specs.declared.entry.Entry.{Entry}
 use Rattle.bx_day.specs.declared.entry.Link.TheVariants.{Up}
 use Rattle.bx_day.specs.declared.entry.Standing.{Standing}
 use Rattle.bx_day.specs.declared.entry.Standing.TheVariants.{Refused, Unoffered, OnCall, Carried, Unanswered, Missed}
-use Rattle.bx_earned.proofs.Asking.{awake_unasked}
-use Rattle.bx_earned.proofs.Answering.{IsHearing, is_up, is_third, is_third_call, turn_answered}
-use Rattle.bx_earned.proofs.AnsweringDays.{idle_at}
-use Rattle.bx_earned.proofs.Earned.{IsCalm, called_turn, calm_linked, answered_cleared}
-use Rattle.bx_earned.proofs.EarnedDays.{opening_calm, unmarked}
-use Rattle.bx_earned.proofs.Naming.{IsNamedOnce, names_live, once_second}
+use Rattle.bx_two_ends.proofs.Asking.{awake_unasked}
+use Rattle.bx_two_ends.proofs.Answering.{IsHearing, is_up, is_third, is_third_call, turn_answered}
+use Rattle.bx_two_ends.proofs.AnsweringDays.{idle_at}
+use Rattle.bx_two_ends.proofs.Calm.{IsCalm, called_turn, calm_linked, answered_cleared}
+use Rattle.bx_two_ends.proofs.EarnedDays.{opening_calm, unmarked}
+use Rattle.bx_two_ends.proofs.Naming.{IsNamedOnce, names_live, once_second}
 use Rattle.bx_day.proofs.Once.{decide}
 use Rattle.bx_day.proofs.OpeningDay.{opening_is}
 use Rattle.bx_day.proofs.Passing.{passed_stays, tick_is}

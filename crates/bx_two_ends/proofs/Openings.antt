@@ -29,7 +29,7 @@ not_back : (b : Bool) → false ≡ not b → b ≡ true
 not_back true h = refl
 not_back false h = absurd (false≢true h)
 
-opening_seats : (rows : List Row) (channels : List Bool) (assigned : List (Option ℕ)) → AreBookings rows → IsChannelSet channels → Carries rows channels (is_accepted assigned) (channel_at assigned) → Seats assigned (entries_from 1 rows assigned)
+pub opening_seats : (rows : List Row) (channels : List Bool) (assigned : List (Option ℕ)) → AreBookings rows → IsChannelSet channels → Carries rows channels (is_accepted assigned) (channel_at assigned) → Seats assigned (entries_from 1 rows assigned)
 opening_seats rows channels assigned b set h i q =
     let p = seated 1 rows assigned i (suc i) (omega arith) q in
     let f : IsFrame (row_at rows i) (slice_index_or assigned i None) (entry_at (entries_from 1 rows assigned) i) = opening_framed 1 rows assigned i p.0 in

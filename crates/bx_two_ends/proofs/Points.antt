@@ -1,5 +1,5 @@
 -- At every point of every list of events the kept facts are true, and all messages within limits.
-use Rattle.std.proofs.Common.{ℕ, zero, suc, ◌+◌, Bool, List, [], ◌∷◌, Option, Some, None, sym, subst, arith}
+use Rattle.std.proofs.Common.{ℕ, zero, suc, ◌+◌, Bool, List, [], ◌∷◌, Option, Some, None, sym, subst, arith, nat_le}
 use Rattle.bx_base.specs.Channels.{IsChannelSet}
 use Rattle.bx_base.specs.Bookings.{Row, AreBookings, Carries}
 use Rattle.bx_base.specs.Plans.{is_accepted, channel_at}
@@ -11,7 +11,7 @@ use Rattle.bx_calls.specs.Sending.{Answered, reply_list}
 use Rattle.bx_far.specs.FarDay.{FarDay, far_tick, far_receive}
 use Rattle.bx_far.specs.declared.row.ScriptRow.{ScriptRow}
 use Rattle.bx_far.proofs.Kept.{later_few}
-use Rattle.bx_two_ends.specs.World.{World, WorldEvent, TickExchange, TickFar, WithoutLink, ToExchange, ToFar, exchange_becomes, far_becomes, comes_to_exchange, comes_to_far, message_nth, world_happens, world_opening, world_after}
+use Rattle.bx_two_ends.specs.World.{World, WorldEvent, TickExchange, TickFar, WithoutLink, FarWithoutLink, ToExchange, ToFar, exchange_becomes, far_becomes, comes_to_exchange, comes_to_far, message_nth, world_happens, world_opening, world_after}
 use Rattle.bx_two_ends.specs.Scripts.{AreScriptRows}
 use Rattle.bx_two_ends.specs.TwoEnds.{IsTwoEnds}
 use Rattle.bx_two_ends.proofs.Delivery.{Sendable, said_from, receive_sent, far_receive_sent}
@@ -19,6 +19,8 @@ use Rattle.bx_two_ends.proofs.History.{all_joined, IfMessage, nth_holds, listed}
 use Rattle.bx_two_ends.proofs.Outward.{KeepsOutward}
 use Rattle.bx_two_ends.proofs.ExchangeLimits.{StandingWithin, ExchangeWithin, tick_sendable, tick_within, receive_ok}
 use Rattle.bx_two_ends.proofs.FarLimits.{FarWithin, far_tick_ok, far_receive_ok}
+use Rattle.bx_two_ends.proofs.FarOutages.{far_unlinked_within}
+use Rattle.bx_day.proofs.Tick.{by_cases}
 use Rattle.bx_two_ends.proofs.Outages.{without_within}
 use Rattle.bx_two_ends.proofs.Events.{MessagesWithin, happens_keeps}
 use Rattle.bx_two_ends.proofs.Openings.{opening_keeps}
@@ -52,13 +54,18 @@ happens_within rows assigned w WithoutLink k l = record {
   exchange = without_within assigned w.exchange k.seats l.exchange;
   far = l.far;
 }
+happens_within rows assigned w FarWithoutLink k l = record {
+  messages = record { sent = l.messages.sent; far_sent = all_joined Sendable w.far_sent [] l.messages.far_sent tt };
+  exchange = l.exchange;
+  far = by_cases (nat_le 300000 w.far.moment) _ _ FarWithin (λ _. l.far) (λ _. far_unlinked_within w.far l.far);
+}
 happens_within rows assigned w TickFar k l =
     let x = far_tick_ok w.far k.script l.far in
     record { messages = record { sent = l.messages.sent; far_sent = all_joined Sendable w.far_sent (far_tick w.far).sent l.messages.far_sent x.sent }; exchange = l.exchange; far = x.lims }
 happens_within rows assigned w (ToExchange n) k l = exchange_within rows assigned w (message_nth w.far_sent n) k l (nth_holds Sendable w.far_sent n l.messages.far_sent)
 happens_within rows assigned w (ToFar n) k l = far_within w (message_nth w.sent n) l (nth_holds Sendable w.sent n l.messages.sent)
 
-opening_standing : (k : ℕ) (rows : List Row) (assigned : List (Option ℕ)) (i : ℕ) → StandingWithin (entry_at (entries_from k rows assigned) i).standing
+pub opening_standing : (k : ℕ) (rows : List Row) (assigned : List (Option ℕ)) (i : ℕ) → StandingWithin (entry_at (entries_from k rows assigned) i).standing
 opening_standing k [] assigned i = tt
 opening_standing k (b ∷ bs) [] zero = tt
 opening_standing k (b ∷ bs) [] (suc i) = opening_standing (k + 1) bs [] i

@@ -15,7 +15,7 @@ use Rattle.bx_calls.specs.declared.net_state.NetOrigin.TheVariants.{Outward, Inw
 use Rattle.bx_calls.specs.declared.net_state.NetState.{NetState}
 use Rattle.bx_calls.specs.declared.net_state.NetState.TheVariants as net
 use Rattle.bx_calls.specs.declared.transition.Transition.{Transition}
-use Rattle.bx_earned.specs.Answering.{is_ringing, is_clearing}
+use Rattle.bx_two_ends.specs.Answering.{is_ringing, is_clearing}
 use Rattle.bx_day.specs.Day.{Day, entry_at, is_live, is_free}
 use Rattle.bx_day.specs.Invariant.{StandingFits, CallFits, is_refused}
 use Rattle.bx_day.specs.Law.{standing_at}
@@ -30,7 +30,7 @@ use Rattle.bx_day.specs.declared.entry.Standing.{Standing}
 use Rattle.bx_day.specs.declared.entry.Standing.TheVariants.{Refused, Unoffered, OnCall, Carried, Unanswered, Missed}
 use Rattle.bx_day.proofs.Law.{RunFits, at_map_in}
 use Rattle.bx_day.proofs.LiveTurns.{live_once}
-use Rattle.bx_earned.proofs.Naming.{live_inside}
+use Rattle.bx_two_ends.proofs.Naming.{live_inside}
 use Rattle.bx_day.proofs.Once.{each_at}
 use Rattle.bx_calls.specs.Sending.{Sent}
 use Rattle.bx_day.proofs.Passing.{tick_is, map_size}
@@ -38,7 +38,7 @@ use Rattle.bx_day.proofs.Said.{OfSaid, all_said}
 use Rattle.bx_day.proofs.Second.{call_of}
 use Rattle.bx_day.proofs.SlotLemmas.{holds_from}
 use Rattle.bx_day.proofs.Tick.{by_cases, offers, second_refused, passed_fits}
-use Rattle.bx_earned.proofs.Turning.{fits_at}
+use Rattle.bx_two_ends.proofs.Turning.{fits_at}
 use Rattle.bx_two_ends.proofs.Delivery.{Sendable}
 use Rattle.bx_two_ends.proofs.ExchangeTicks.{all_from, is_sent}
 use Rattle.bx_two_ends.proofs.FarTurns.{IsCalledDay, channel_of}

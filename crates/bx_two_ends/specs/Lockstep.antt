@@ -9,9 +9,9 @@ use Rattle.bx_base.specs.Plans.{is_accepted, channel_at}
 use Rattle.bx_q931.specs.Outgoing.{Outgoing, out_octets}
 use Rattle.bx_calls.specs.Sending.{reply_list}
 use Rattle.bx_calls.specs.declared.user_state.Policy.TheVariants.{Answer}
-use Rattle.bx_earned.specs.Answering.{AnswersAll}
+use Rattle.bx_two_ends.specs.Answering.{AnswersAll}
 use Rattle.bx_day.specs.Day.{Day, opening}
-use Rattle.bx_earned.specs.Earning.{LiveSecond, Linked, heard_in}
+use Rattle.bx_two_ends.specs.Earning.{LiveSecond, Linked, heard_in}
 use Rattle.bx_day.specs.Run.{receive_octets}
 use Rattle.bx_day.specs.Ticks.{tick}
 use Rattle.bx_far.specs.FarDay.{FarDay, far_tick, far_opening}

@@ -1,7 +1,7 @@
 -- The world of two ends: the exchange's day of a plan, the far end's day of a script, and all messages that each ever
 -- sent. An event ticks one end, or brings it any message of the other's list, as often as one likes, so that messages
 -- are lost, repeated, delayed and reordered at will. What comes is the octets of the message, read as any octets are.
--- In a second without a link the exchange goes on, and what it says in it is never sent: it is in no list.
+-- In a second without a link either end goes on, and what it says in it is never sent: it is in no list.
 use Rattle.std.specs.Prelude.{ℕ, zero, suc, List, [], ◌∷◌, ◌++◌, Option, Some, None}
 use Rattle.bx_base.specs.Bookings.{Row}
 use Rattle.bx_q931.specs.Outgoing.{Outgoing, out_octets}
@@ -10,7 +10,7 @@ use Rattle.bx_day.specs.Ticks.{tick}
 use Rattle.bx_day.specs.Outages.{without_link}
 use Rattle.bx_day.specs.Run.{receive_octets}
 use Rattle.bx_calls.specs.Sending.{reply_list}
-use Rattle.bx_far.specs.FarDay.{FarDay, far_tick, far_opening}
+use Rattle.bx_far.specs.FarDay.{FarDay, far_tick, far_without_link, far_opening}
 use Rattle.bx_far.specs.FarRun.{far_receive_octets}
 use Rattle.bx_far.specs.declared.row.ScriptRow.{ScriptRow}
 
@@ -30,8 +30,9 @@ message_nth (o ∷ os) (suc n) = message_nth os n
 pub data WorldEvent : Type 0 where
   TickExchange : WorldEvent
   TickFar : WorldEvent
-  -- a second of the exchange without a link
+  -- a second of the exchange without a link, and one of the far end
   WithoutLink : WorldEvent
+  FarWithoutLink : WorldEvent
   -- the message of this index in the other end's list comes
   ToExchange : (n : ℕ) → WorldEvent
   ToFar : (n : ℕ) → WorldEvent
@@ -55,6 +56,7 @@ comes_to_far w (Some o) = far_becomes w (far_receive_octets w.far (out_octets o)
 abbrev pub world_happens : World → WorldEvent → World
 world_happens w TickExchange = exchange_becomes w (tick w.exchange).day (tick w.exchange).sent
 world_happens w WithoutLink = exchange_becomes w (without_link w.exchange) []
+world_happens w FarWithoutLink = far_becomes w (far_without_link w.far) []
 world_happens w TickFar = far_becomes w (far_tick w.far).day (far_tick w.far).sent
 world_happens w (ToExchange n) = comes_to_exchange w (message_nth w.far_sent n)
 world_happens w (ToFar n) = comes_to_far w (message_nth w.sent n)

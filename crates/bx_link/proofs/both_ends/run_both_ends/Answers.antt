@@ -2,7 +2,7 @@ use Rattle.std.proofs.Common.{◌≡◌, ◌+◌, ◌-◌, suc, true, false, [],
 use Rattle.std.proofs.lemmas.Result.{err_from_is_err_and}
 use Rattle.bx_events.specs.Events.{Tick}
 use Rattle.bx_frames.specs.declared.fault.LinkFault.TheVariants.{Closed}
-use Rattle.bx_turns.proofs.Events.{ticks_more}
+use Rattle.bx_frames.proofs.Events.{ticks_more}
 use Rattle.bx_link.proofs.BothEnds.{stands_so, call_over, call_stands, call_failed, near_ended, waits_now, not_opened, was_opened}
 use Rattle.bx_link.proofs.ExchangeTurns.{nothing_happened, only_write, talk_not_opened, turn_over, turn_failed, day_written, day_not_written}
 use Rattle.bx_link.proofs.FarTurns.{no_turn_yet}

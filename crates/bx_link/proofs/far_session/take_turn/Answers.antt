@@ -2,8 +2,8 @@ use Rattle.std.proofs.Common.{ℕ, true, false, [], ◌∷◌, subst}
 use Rattle.std.proofs.lemmas.Result.{err_from_is_err_and}
 use Rattle.bx_events.specs.Events.{Tick}
 use Rattle.bx_far.specs.Course.{far_next, far_text}
-use Rattle.bx_turns.specs.Heard.{Went, no_tick}
-use Rattle.bx_turns.specs.Talks.{turn_in}
+use Rattle.bx_frames.specs.Heard.{Went, no_tick}
+use Rattle.bx_frames.specs.Talks.{turn_in}
 use Rattle.bx_frames.specs.declared.frame.Receiver.TheVariants.{FarEnd}
 use Rattle.bx_frames.proofs.ReadAnswers.{gave, faulty}
 use Rattle.bx_link.proofs.FarTurns.{turn_stopped, day_over, turn_ticked, tick_failed}

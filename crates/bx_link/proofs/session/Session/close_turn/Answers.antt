@@ -1,8 +1,8 @@
 use Rattle.std.proofs.Common.{ℕ, true, List, subst}
 use Rattle.bx_events.specs.Events.{Event}
 use Rattle.bx_day.specs.Course.{exchange_next, exchange_text}
-use Rattle.bx_turns.specs.Heard.{Went, no_tick}
-use Rattle.bx_turns.specs.Talks.{turn_in}
+use Rattle.bx_frames.specs.Heard.{Went, no_tick}
+use Rattle.bx_frames.specs.Talks.{turn_in}
 use Rattle.bx_frames.specs.declared.frame.Receiver.TheVariants.{Exchange}
 use Rattle.bx_frames.proofs.ReadAnswers.{gave, faulty}
 use Rattle.bx_link.proofs.ExchangeTurns.{as_turned}

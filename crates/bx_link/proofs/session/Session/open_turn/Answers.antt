@@ -1,7 +1,7 @@
 use Rattle.std.proofs.Common.{rules, true, inl, inr, refl}
 use Rattle.bx_events.specs.Events.{Tick}
 use Rattle.bx_day.specs.Course.{exchange_next, exchange_text}
-use Rattle.bx_turns.proofs.Hearing.{one_told, one_failed}
+use Rattle.bx_frames.proofs.Hearing.{one_told, one_failed}
 use Rattle.bx_link.proofs.session.Session.open_turn.Goals as goal
 
 pub returns-in-Ok-clause-opened : goal.returns-in-Ok-clause-opened

@@ -1,3 +1,0 @@
-pub mod Earning
-pub mod Answering
-pub mod Asking

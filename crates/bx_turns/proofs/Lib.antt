@@ -1,4 +1,0 @@
-pub mod Events
-pub mod Composing
-pub mod Turns
-pub mod Hearing
