@@ -6,7 +6,7 @@ use Rattle.bx_day.specs.Day.{Day}
 use Rattle.bx_day.specs.Course.{exchange_next, exchange_sent}
 use Rattle.bx_day.specs.Outages.{live_day_after}
 use Rattle.bx_day.specs.Run.{happens, day_after}
-use Rattle.bx_turns.specs.Courses.{told}
+use Rattle.bx_frames.specs.Courses.{told}
 use Rattle.bx_audit.specs.LiveCaptures.{live_packets, live_packets_for}
 
 abbrev on_link : List Event → List LiveEvent

@@ -12,8 +12,8 @@ use Rattle.bx_events.specs.Events.{LiveEvent}
 use Rattle.bx_journal.specs.Heads.{of_any_day}
 use Rattle.bx_request.specs.declared.request.AuditRequest.{AuditRequest}
 use Rattle.bx_audit.specs.Audits.{IsTiedOpening, IsAuditTold, IsAuditCut}
-use Rattle.bx_journal_openings.specs.Journals.{IsJournal}
-use Rattle.bx_journal_openings.specs.JournalRefusals.{HasNoJournal}
+use Rattle.bx_day_openings.specs.Journals.{IsJournal}
+use Rattle.bx_day_openings.specs.JournalRefusals.{HasNoJournal}
 
 -- the journal of a plan that is proved, in a file
 abbrev pub HasJournal : Type 0

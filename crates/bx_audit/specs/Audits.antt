@@ -11,10 +11,10 @@ use Rattle.bx_day.specs.Telling.{outcomes_text}
 use Rattle.bx_day_openings.specs.CaptureOpenings.{IsFirstOf, IsFileFor}
 use Rattle.bx_events.specs.Events.{LiveEvent}
 use Rattle.bx_journal.specs.Heads.{of_any_day}
-use Rattle.bx_journal_openings.specs.Tied.{IsTied}
+use Rattle.bx_day_openings.specs.Tied.{IsTied}
 use Rattle.bx_request.specs.declared.request.CaptureWords.{CaptureWords}
 use Rattle.bx_audit.specs.LiveCaptures.{live_packets}
-use Rattle.bx_journal_openings.specs.Journals.{IsJournal}
+use Rattle.bx_day_openings.specs.Journals.{IsJournal}
 
 -- the day after just the events of a journal, and the file took the packets of its messages
 pub record IsAudited {F : Type 0} (plan : List ℕ) (before : Option (List ℕ)) (contents : F → Option (List ℕ)) (file closed : Option (Watched F)) (first : ℕ) (opened day : Day) : Type 0 where

@@ -11,11 +11,11 @@ use Rattle.bx_devices.specs.Devices.{Writing, KeepsOutput}
 use Rattle.bx_devices.specs.Octets.{AppendsPrefix}
 use Rattle.bx_events.specs.Events.{LiveEvent}
 use Rattle.bx_journal.specs.Heads.{of_any_day}
-use Rattle.bx_journal_openings.specs.Tied.{IsTiedOf}
+use Rattle.bx_day_openings.specs.Tied.{IsTiedOf}
 use Rattle.bx_records.specs.Totals.{totals_text}
 use Rattle.bx_records.specs.Writing.{IsRecorded}
 use Rattle.bx_request.specs.declared.request.RecordsRequest.{RecordsRequest}
-use Rattle.bx_journal_openings.specs.Journals.{IsJournal}
+use Rattle.bx_day_openings.specs.Journals.{IsJournal}
 
 -- the opening day of the plan that the input of this name gave, and the digest of the text of this plan
 pub record IsOpeningOf (gives : List ℕ → Option (List ℕ) → Type 0) (name : List ℕ) (opened : Day) (digest : List ℕ) : Type 0 where

@@ -14,7 +14,7 @@ use Rattle.bx_journal.specs.declared.fault.JournalFault.TheVariants.{BadLine, Ot
 use Rattle.bx_records.specs.Writing.{IsRecordsRefusal}
 use Rattle.bx_records.specs.declared.fault.RecordsFault.{RecordsFault}
 use Rattle.bx_request.specs.declared.request.RecordsRequest.{RecordsRequest}
-use Rattle.bx_journal_openings.specs.JournalRefusals.{IsNoJournalText}
+use Rattle.bx_day_openings.specs.JournalRefusals.{IsNoJournalText}
 use Rattle.bx_audit.specs.Recorded.{IsOpeningOf, IsDayTold}
 
 -- the input of this name is not read, or just this is the first fault of the text that it gave

@@ -5,10 +5,10 @@ ghost use Rattle.bx_devices.specs.Watching.{device_of};
 ghost use Rattle.bx_events.specs.Events.{LiveEvent};
 ghost use Rattle.bx_day_openings.specs.OpeningRefusals.{IsNoOpening};
 ghost use Rattle.bx_journal.specs.Heads.{of_any_day};
-ghost use Rattle.bx_journal_openings.specs.JournalRefusals.{HasNoJournal};
+ghost use Rattle.bx_day_openings.specs.JournalRefusals.{HasNoJournal};
 ghost use Rattle.bx_audit.specs.AuditRefusals.{StopsAudit, IsAuditRefusal};
 ghost use Rattle.bx_audit.specs.Audits.{IsTiedOpening, IsDayAudited, IsAuditTold};
-ghost use Rattle.bx_journal_openings.specs.Journals.{IsJournal};
+ghost use Rattle.bx_day_openings.specs.Journals.{IsJournal};
 ghost use Rattle.bx_audit.specs.Recorded.{IsOpeningOf};
 
 use crate::following::Reader;
@@ -16,10 +16,9 @@ use crate::telling::audited_day;
 use bx_capture::is_whole;
 use bx_check_commands::{CommandFault, Inputs, open};
 use bx_day::Exchange;
-use bx_day_openings::{DayCommandFault, captured, file_of, first_of};
+use bx_day_openings::{DayCommandFault, captured, file_of, first_of, follow_to_end, tied_named};
 use bx_devices::Watched;
 use bx_journal::Wanted;
-use bx_journal_openings::{follow_to_end, tied_named};
 use bx_request::AuditRequest;
 use std::alloc::Global;
 use std::fs::Files;
@@ -47,7 +46,7 @@ pub(crate) fn opened_by<'a, I: Inputs>(
 }
 
 /// Reads the journal in a file through, so that a fault of it is told before the file of a capture is made anew.
-fn read_through<'a, H: Files>(
+fn read_through<'a, H: Files + Eprint>(
     rt: &H,
     name: &'a str,
     plan: &[u8; 32],
@@ -64,7 +63,7 @@ fn read_through<'a, H: Files>(
 }
 
 /// The exchange after the events of the journal in a file, and whether all that was to be captured of its day was.
-fn audited_in<'a, H: Files + AllocGlobal, I: Inputs>(
+fn audited_in<'a, H: Files + AllocGlobal + Eprint, I: Inputs>(
     rt: &H,
     inputs: &mut I,
     request: AuditRequest<'a>,
@@ -100,7 +99,7 @@ fn audited_in<'a, H: Files + AllocGlobal, I: Inputs>(
 /// the capture; `Command` for the plan; `Command`, as `CannotRead`, or `Journal`, as `BadLine`, `OtherPlan` or `OtherRules`, for the
 /// journal; `CannotWriteFile` for the file of the capture. `Command`, as `CannotWrite`, is the fault of the output, and
 /// `CannotWriteFile` that of a capture that was not written whole.
-pub fn audit_files<'a, H: Files + AllocGlobal, I: Inputs, W: Write>(
+pub fn audit_files<'a, H: Files + AllocGlobal + Eprint, I: Inputs, W: Write>(
     rt: &H,
     inputs: &mut I,
     request: AuditRequest<'a>,

@@ -5,8 +5,8 @@ ghost use Rattle.bx_events.specs.Events.{LiveEvent};
 
 use bx_capture::Captured;
 use bx_day::Exchange;
+use bx_frames::End;
 use bx_journal::{Follower, RecordedEvent};
-use bx_turns::End;
 use std::io::Write;
 
 /// An exchange to which the events of a journal happen, and the file, if there is one, into which the packets of its messages are

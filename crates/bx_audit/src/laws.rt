@@ -7,7 +7,7 @@ ghost use Rattle.bx_day.specs.Day.{Day};
 ghost use Rattle.bx_day.specs.Outages.{live_day_after};
 ghost use Rattle.bx_day.specs.Run.{day_after};
 ghost use Rattle.bx_events.specs.Events.{Event, LiveEvent, OnLink};
-ghost use Rattle.bx_turns.specs.Courses.{told};
+ghost use Rattle.bx_frames.specs.Courses.{told};
 ghost use Rattle.bx_audit.specs.LiveCaptures.{live_packets};
 
 /// Of a day that was always on its link a capture that is made afterwards has just the packets that one has which is kept while

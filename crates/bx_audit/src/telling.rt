@@ -3,16 +3,15 @@
 ghost use Rattle.std.specs.Prelude.{◌≤◌, IfOk, IfErr, IsErrOf};
 ghost use Rattle.bx_devices.specs.Watching.{device_of, is_faulted};
 ghost use Rattle.bx_journal.specs.Heads.{of_any_day};
-ghost use Rattle.bx_journal_openings.specs.JournalRefusals.{IsNoJournal};
+ghost use Rattle.bx_day_openings.specs.JournalRefusals.{IsNoJournal};
 ghost use Rattle.bx_audit.specs.Audits.{IsAudited, IsKeptSoFar};
 
 use crate::following::Recaptured;
 use bx_capture::Captured;
 use bx_day::Exchange;
-use bx_day_openings::DayCommandFault;
+use bx_day_openings::{DayCommandFault, follow_to_end};
 use bx_devices::Watched;
 use bx_journal::{JournalFault, Wanted};
-use bx_journal_openings::follow_to_end;
 use std::io::{Read, Write};
 
 /// The exchange after just the events of a journal of this name, where it stands at the opening of the plan whose digest this is.

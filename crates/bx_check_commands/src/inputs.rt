@@ -7,6 +7,7 @@ ghost use Rattle.bx_check_commands.specs.Inputs.{GivesOnce, IsPlanOf, IsNoPlanOf
 ghost use Rattle.bx_check_commands.specs.PlanFiles.{IsUnopened};
 ghost use Rattle.bx_check_commands.specs.Proved.{IsProvedFor};
 
+use crate::causes::tell_cause;
 use crate::checking::{plan_from, proved_plan};
 use crate::fault::CommandFault;
 use bx_base::Plan;
@@ -54,7 +55,7 @@ impl<'f, H: Files, R: Read + Drop> FilesAndInput<'f, H, R> {
     }
 }
 
-impl<'f, H: Files, R: Read + Drop> Inputs for FilesAndInput<'f, H, R> {
+impl<'f, H: Files + Eprint, R: Read + Drop> Inputs for FilesAndInput<'f, H, R> {
     ghost use Rattle.bx_check_commands.specs.Inputs.{input_of};
 
     type Reader = Either<H::File, R>;
@@ -70,7 +71,10 @@ impl<'f, H: Files, R: Read + Drop> Inputs for FilesAndInput<'f, H, R> {
         }
         match fs::open(self.files, name) {
             Ok(file) => Ok(Watched::new(Left(file))),
-            Err(_) => Err(CommandFault::CannotRead(name)),
+            Err(cause) => {
+                tell_cause(self.files, &name, &cause);
+                Err(CommandFault::CannotRead(name))
+            }
         }
     }
 }

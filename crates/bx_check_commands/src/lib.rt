@@ -2,6 +2,7 @@
 //! a name, and the decoding of a message.
 #![tactic(auto)]
 
+mod causes;
 mod checking;
 mod decoding;
 mod fault;
@@ -9,6 +10,7 @@ mod inputs;
 mod message_lines;
 mod reading_files;
 
+pub use causes::tell_cause;
 pub use checking::{check_against, check_self, plan_from, proved_plan};
 pub use decoding::decode;
 pub use fault::CommandFault;

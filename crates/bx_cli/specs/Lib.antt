@@ -1,1 +1,3 @@
+pub mod Uses
+pub mod Locations
 pub mod Statuses

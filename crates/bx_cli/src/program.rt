@@ -5,7 +5,9 @@ ghost use Rattle.std.specs.Prelude.{◌≤◌, IfOk};
 use crate::words::main_words;
 use bx_devices::Watched;
 use std::alloc::{AllocError, Global};
+use std::fs::File;
 use std::io::{ErrorKind, IsTerminal};
+use std::os::unix::io::AsRawFd;
 use std::{env, io};
 
 /// The words as texts.
@@ -55,10 +57,24 @@ fn no_memory(rt: &HostRuntime) -> u8
     1
 }
 
+/// Holds a folder open in place of each standard stream that is closed, so that no file or socket which is opened later is taken for one.
+/// As before, nothing can be read from such a stream or written to it.
+fn stand_ins(rt: &HostRuntime) -> [Option<File>; 3] {
+    let mut held = [None, None, None];
+    for place in &mut held {
+        match File::open(rt, "/") {
+            Ok(folder) if folder.as_raw_fd() <= 2 => *place = Some(folder),
+            _ => break,
+        }
+    }
+    held
+}
+
 /// Runs the program on its words, and answers its status, as `main_words` has it.
 pub fn run_program(rt: &HostRuntime) -> u8
     ensures { result ≤ 2 }
 {
+    let _held = stand_ins(rt);
     let words = match env::args(rt) {
         Ok(words) => words,
         Err(error) => return without_words(rt, &error),

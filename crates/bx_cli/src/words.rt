@@ -8,16 +8,19 @@ ghost use Rattle.bx_devices.specs.Watching.{device_of, is_faulted};
 ghost use Rattle.bx_check_commands.specs.Proved.{IsProvedText, proved_line};
 ghost use Rattle.bx_check_commands.specs.Refusals.{IsRefusal};
 ghost use Rattle.bx_check_commands.specs.declared.fault.CommandFault.{CommandFault};
+ghost use Rattle.bx_cli.specs.Locations.{IsMet, NoFileMeets};
 ghost use Rattle.bx_cli.specs.Statuses.{IsRequestDone, IsRequestRefused};
 ghost use Rattle.bx_request.specs.declared.request.Request.{Request};
 
+use crate::locations::Locates;
+use crate::meetings::{SameFile, met_file};
 use bx_audit::{audit_files, record_files};
 use bx_check_commands::{CommandFault, FilesAndInput, check_self, decode};
 use bx_devices::{Watched, write_octets};
 use bx_far_commands::{far_by_line, far_on_files};
 use bx_plan_commands::run_on_files;
 use bx_request::Request;
-use bx_run_commands::{Locks, live_on_files, rehearse_on_files};
+use bx_run_commands::{Locks, Standing, live_on_files, rehearse_on_files};
 use bx_words::{Refusal, read_words};
 use std::fmt::Display;
 use std::fs::Files;
@@ -27,11 +30,14 @@ use std::rt::Clock;
 
 /// Does what the words behind the program's name ask for, and answers the status: 0 done, 1 refused, 2 wrong
 /// words. Without words it is `check_self`, whose refusal is printed behind `bx: ` as one line on standard error.
-/// A failing standard error changes no status. While a day runs its moment is shown on standard error, where that is a
+/// A failing standard error changes no status. A command of which a file would be written that it names twice is refused by `SameFile` before
+/// anything is opened. While a day runs its moment is shown on standard error, where that is a
 /// terminal.
 pub fn main_words<
     H: Files
         + Locks
+        + Locates
+        + Standing
         + AllocGlobal
         + Clock
         + Eprint
@@ -55,10 +61,10 @@ pub fn main_words<
     // Else it was refused.
     ensures refused { words.now ≡ [] → result ≢ 0 → (result ≡ 1) × (fault : CommandFault) × IsRefusal (reading_of R.remaining input.old input.new) (writing_of W.contents output.old output.new) fault }
     ensures status { result ≤ 2 }
-    // With words, 0 says that some command is done, or that a text that was asked for was written.
-    ensures words { words.now ≢ [] → result ≡ 0 → ((request : Request) × IsRequestDone H (R.remaining (device_of input.old)) request H.File.contents W.contents output.old output.new) ⊎ ((text : List ℕ) × Appends (W.contents (device_of output.old)) (W.contents (device_of output.new)) text) }
-    // And 1 says that some command is refused, or such a text was not written whole, or nothing was done.
-    ensures not_done { words.now ≢ [] → result ≡ 1 → ((request : Request) × IsRequestRefused H (R.remaining (device_of input.old)) request H.File.contents W.contents output.old output.new) ⊎ ((text : List ℕ) × (is_faulted output.new ≡ true) × AppendsPrefix (W.contents (device_of output.old)) (W.contents (device_of output.new)) text) ⊎ (output.new ≡ output.old) }
+    // With words, 0 says that some command is done, whose files are apart by what the system told before one of them was opened, or that a text that was asked for was written.
+    ensures words { words.now ≢ [] → result ≡ 0 → ((request : Request) × NoFileMeets (H.tells rt.now) request × IsRequestDone H (R.remaining (device_of input.old)) request H.File.contents W.contents output.old output.new) ⊎ ((text : List ℕ) × Appends (W.contents (device_of output.old)) (W.contents (device_of output.new)) text) }
+    // And 1 says that some command of that kind is refused, or that two of its files are one and nothing was done, or such a text was not written whole, or nothing was done.
+    ensures not_done { words.now ≢ [] → result ≡ 1 → ((request : Request) × NoFileMeets (H.tells rt.now) request × IsRequestRefused H (R.remaining (device_of input.old)) request H.File.contents W.contents output.old output.new) ⊎ ((request : Request) × (met : List ℕ) × IsMet (H.tells rt.now) request met × (output.new ≡ output.old)) ⊎ ((text : List ℕ) × (is_faulted output.new ≡ true) × AppendsPrefix (W.contents (device_of output.old)) (W.contents (device_of output.new)) text) ⊎ (output.new ≡ output.old) }
 {
     if words.is_empty() {
         return match check_self(rt.alloc(), input, output) {
@@ -67,7 +73,10 @@ pub fn main_words<
         };
     }
     match read_words(rt.alloc(), words) {
-        Ok(request) => run(rt, request, input, output, errors, is_terminal),
+        Ok(request) => match met_file(rt, &request) {
+            None => run(rt, request, input, output, errors, is_terminal),
+            Some(name) => refused(&SameFile(name), errors),
+        },
         Err(Refusal::Help(text)) => status_of(show(&text, output), errors),
         Err(Refusal::Wrong(text)) => {
             let _ = write_octets(errors, text.as_bytes());
@@ -82,6 +91,7 @@ fn run<
     'a,
     H: Files
         + Locks
+        + Standing
         + AllocGlobal
         + Clock
         + Eprint
@@ -90,7 +100,7 @@ fn run<
     W: Write,
     E: Write,
 >(
-    rt: &H,
+    rt: &'a H,
     request: Request<'a>,
     input: &mut Watched<R>,
     output: &mut Watched<W>,
@@ -104,7 +114,7 @@ fn run<
     let mut inputs = FilesAndInput::new(rt, input);
     match request {
         Request::Files(request) => status_of(
-            run_on_files(rt.alloc(), &mut inputs, &request, output),
+            run_on_files(rt.alloc(), &mut inputs, &request, output, errors),
             errors,
         ),
         Request::Rehearsal(request) => {

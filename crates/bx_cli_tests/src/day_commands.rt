@@ -3,7 +3,7 @@
 use crate::file_commands::Case;
 use crate::program::Answer::{Fails, Misused, Prints};
 
-pub(crate) static DAYS: [Case; 34] = [
+pub(crate) static DAYS: [Case; 36] = [
     (
         "day @one.txt @answer.csv --turns 98",
         Prints("1 carried 1 60\nmaintenance none\n"),
@@ -86,6 +86,8 @@ pub(crate) static DAYS: [Case; 34] = [
     ),
     ("far @answer.csv --socket @gone --records @day.csv", Misused),
     ("serve @one.txt --port 1 --socket @gone", Misused),
+    ("serve @one.txt --socket ", Misused),
+    ("far @answer.csv --socket ", Misused),
     ("day @one.txt @answer.csv --date 2026-01-05", Misused),
     ("day @four.txt @dance.csv", Fails("bx: S3 BadEntry 1\n")),
     ("day @short.txt @gone", Fails("bx: P1 BadLine 3\n")),

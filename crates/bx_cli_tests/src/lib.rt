@@ -26,6 +26,8 @@ mod files;
 #[cfg(test)]
 mod live_days;
 #[cfg(test)]
+mod notes;
+#[cfg(test)]
 mod plan_texts;
 #[cfg(test)]
 mod plan_writers;
@@ -39,6 +41,8 @@ mod quote_commands;
 mod records;
 #[cfg(test)]
 mod rehearsals;
+#[cfg(test)]
+mod same_files;
 #[cfg(test)]
 mod standard_input;
 #[cfg(test)]

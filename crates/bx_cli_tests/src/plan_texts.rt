@@ -1,10 +1,10 @@
 //! Planning from a text to a text, over readers and writers that fail at each place.
 
-use bx_base::ChannelSet;
+use bx_base::{ChannelSet, Plan};
 use bx_book::BookFault;
 use bx_calendar::Day;
 use bx_devices::{Failing, Watched};
-use bx_plan_run::{RunFault, plan_run};
+use bx_plan_commands::{RunFault, plan_run};
 use std::alloc::Global;
 use std::test::Fail;
 
@@ -32,6 +32,11 @@ type Devices = (u32, u32, usize);
 /// Devices that do not fail.
 static WHOLE: Devices = (1000, 1000, 1000);
 
+/// The total of a plan.
+fn total_of(planned: Result<Plan, RunFault>) -> Result<u64, RunFault> {
+    Ok(planned?.total)
+}
+
 /// The answer to a text on channel 1, and what was written.
 fn answer(alloc: Global, text: &str, devices: Devices) -> Option<(Result<u64, RunFault>, Vec<u8>)> {
     let (reads, writes, most) = devices;
@@ -39,7 +44,7 @@ fn answer(alloc: Global, text: &str, devices: Devices) -> Option<(Result<u64, Ru
     let channels = ChannelSet::from_numbers(&[1]).ok()?;
     let mut input = Watched::new(Failing::new(text.as_bytes(), reads, most));
     let mut output = Watched::new(Failing::new(Vec::new(alloc), writes, most));
-    let result = plan_run(alloc, &mut input, &mut output, &day, channels);
+    let result = total_of(plan_run(alloc, &mut input, &mut output, &day, channels));
     Some((result, output.into_inner().into_inner()))
 }
 
@@ -96,7 +101,7 @@ fn none_is_taken(alloc: Global) -> Option<bool> {
     let channels = ChannelSet::from_numbers(&[1]).ok()?;
     let mut output = Watched::new(Failing::new(Vec::new(alloc), 99, 0));
     let mut input = Watched::new(ONE.as_bytes());
-    let result = plan_run(alloc, &mut input, &mut output, &day, channels);
+    let result = total_of(plan_run(alloc, &mut input, &mut output, &day, channels));
     Some(result == Err(RunFault::WriteFailed) && output.faulted())
 }
 

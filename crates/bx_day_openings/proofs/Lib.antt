@@ -1,3 +1,5 @@
 pub mod LastTurns
 mod Scripts
 mod Recordings
+mod Texts
+pub mod ToldJournals

@@ -6,3 +6,9 @@ pub mod Inside
 pub mod Hours
 pub mod HoursInside
 pub mod Recording
+pub mod Tied
+pub mod TiedDays
+pub mod Answers
+pub mod Journals
+pub mod JournalRefusals
+pub mod Followed

@@ -10,6 +10,7 @@ ghost use Rattle.bx_day_openings.specs.OpeningRefusals.{IsNoFirst, IsNoFile};
 use crate::fault::DayCommandFault;
 use bx_calendar::Day;
 use bx_capture::{first_second, write_file_header};
+use bx_check_commands::tell_cause;
 use bx_devices::{Watched, WriteFailed};
 use bx_request::CaptureWords;
 use std::fs;
@@ -51,7 +52,7 @@ fn headed<F: Write + Drop>(file: F) -> Result<Watched<F>, WriteFailed>
 
 /// The file of a capture, with its header, where one is to be kept. `CannotWriteFile` where it cannot be created, or a write of
 /// the header failed.
-pub fn file_of<'a, H: Files>(
+pub fn file_of<'a, H: Files + Eprint>(
     rt: &H,
     capture: Option<CaptureWords<'a>>,
 ) -> Result<Option<Watched<H::File>>, DayCommandFault<'a>>
@@ -61,8 +62,12 @@ pub fn file_of<'a, H: Files>(
     let Some(CaptureWords { file: name, day: _ }) = capture else {
         return Ok(None);
     };
-    let Ok(file) = fs::create(rt, name) else {
-        return Err(DayCommandFault::CannotWriteFile(name));
+    let file = match fs::create(rt, name) {
+        Ok(file) => file,
+        Err(cause) => {
+            tell_cause(rt, &name, &cause);
+            return Err(DayCommandFault::CannotWriteFile(name));
+        }
     };
     match headed(file) {
         Ok(file) => Ok(Some(file)),

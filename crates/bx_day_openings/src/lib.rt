@@ -1,24 +1,32 @@
-//! What a command that runs a day opens: its far end, how long it is to run, the connection, the captured file and the moment that is shown.
+//! What a command that runs a day or tells of one opens: the plan, with the digest that ties a journal to it, the exchange and the far end at
+//! their openings, how long the day is, the journal, the connection, the captured file and the moment that is shown.
 #![tactic(auto)]
 
 mod capturing;
+mod causes;
 mod fault;
+mod following;
 mod hours;
 mod line;
 mod loopback;
 mod openings;
+mod plan_opening;
 mod progress;
 mod recording;
 mod sockets;
+mod tied;
 
 pub use capturing::{captured, file_of, first_of};
 pub use fault::DayCommandFault;
+pub use following::{follow_to_end, journal_read};
 pub use hours::{Hours, hours_of};
 pub use line::line_between;
 pub use loopback::{accepted, connected, connected_ends};
 pub use openings::{far_end_of, turns_of};
+pub use plan_opening::{Opening, tied_opening};
 pub use progress::Shown;
 pub use recording::{
     RecordsFile, clock_of, kept, record, records_clock_of, records_file_of, unrecorded,
 };
 pub use sockets::{accepted_at, connected_at};
+pub use tied::{TiedPlan, tied_named, tied_plan};

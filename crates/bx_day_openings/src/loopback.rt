@@ -3,8 +3,9 @@
 ghost use Rattle.std.specs.Prelude.{◌⊎◌, IfErr};
 ghost use Rattle.bx_day_openings.specs.OpeningRefusals.{IsUnheard, IsUnconnected};
 
+use crate::causes::{unconnected, unheard};
 use crate::fault::DayCommandFault;
-use std::net::{Ipv4Addr, Net, TcpListener, TcpStream};
+use std::net::{Ipv4Addr, Net, SocketAddrV4, TcpListener, TcpStream};
 
 /// A frame is sent as soon as it is written. A system that cannot is only slower.
 fn at_once(stream: TcpStream) -> TcpStream {
@@ -12,26 +13,35 @@ fn at_once(stream: TcpStream) -> TcpStream {
     stream
 }
 
+/// This port of 127.0.0.1.
+fn place(port: u16) -> SocketAddrV4 {
+    SocketAddrV4::new(Ipv4Addr::LOCALHOST, port)
+}
+
 /// A listener on the port, or on a free one where it is 0.
-fn listener<'a, H: Net<Listener = TcpListener, Stream = TcpStream>>(
+fn listener<'a, H: Net<Listener = TcpListener, Stream = TcpStream> + Eprint>(
     rt: &H,
     port: u16,
 ) -> Result<TcpListener, DayCommandFault<'a>>
     ensures { IfErr result IsUnheard }
 {
-    match TcpListener::bind(rt, (Ipv4Addr::LOCALHOST, port)) {
+    match TcpListener::bind(rt, place(port)) {
         Ok(listener) => Ok(listener),
-        Err(_) => Err(DayCommandFault::CannotListen),
+        Err(cause) => Err(unheard(rt, &place(port), &cause)),
     }
 }
 
-/// The next peer that connects.
-fn next_peer<'a>(listener: &TcpListener) -> Result<TcpStream, DayCommandFault<'a>>
+/// The next peer that connects to the port.
+fn next_peer<'a, H: Eprint>(
+    rt: &H,
+    listener: &TcpListener,
+    port: u16,
+) -> Result<TcpStream, DayCommandFault<'a>>
     ensures { IfErr result IsUnheard }
 {
     match listener.accept() {
         Ok((stream, _)) => Ok(at_once(stream)),
-        Err(_) => Err(DayCommandFault::CannotListen),
+        Err(cause) => Err(unheard(rt, &place(port), &cause)),
     }
 }
 
@@ -48,25 +58,25 @@ pub fn accepted<'a, H: Net<Listener = TcpListener, Stream = TcpStream> + Eprint>
     if is_said {
         let _ = eprintln!(rt; "listening on 127.0.0.1:{port}");
     }
-    next_peer(&listener)
+    next_peer(rt, &listener, port)
 }
 
 /// A connection to the port; `CannotConnect` where there is none.
-pub fn connected<'a, H: Net<Listener = TcpListener, Stream = TcpStream>>(
+pub fn connected<'a, H: Net<Listener = TcpListener, Stream = TcpStream> + Eprint>(
     rt: &H,
     port: u16,
 ) -> Result<TcpStream, DayCommandFault<'a>>
     ensures { IfErr result IsUnconnected }
 {
-    match TcpStream::connect(rt, (Ipv4Addr::LOCALHOST, port)) {
+    match TcpStream::connect(rt, place(port)) {
         Ok(stream) => Ok(at_once(stream)),
-        Err(_) => Err(DayCommandFault::CannotConnect),
+        Err(cause) => Err(unconnected(rt, &place(port), &cause)),
     }
 }
 
 /// Both ends of one connection on a free port. `CannotListen` where none can be listened on, or the second end not be accepted;
 /// `CannotConnect` where the first end cannot connect.
-pub fn connected_ends<'a, H: Net<Listener = TcpListener, Stream = TcpStream>>(
+pub fn connected_ends<'a, H: Net<Listener = TcpListener, Stream = TcpStream> + Eprint>(
     rt: &H,
 ) -> Result<(TcpStream, TcpStream), DayCommandFault<'a>>
     ensures { IfErr result (λ fault. IsUnheard fault ⊎ IsUnconnected fault) }
@@ -74,9 +84,9 @@ pub fn connected_ends<'a, H: Net<Listener = TcpListener, Stream = TcpStream>>(
     let listener = listener(rt, 0)?;
     let port = match listener.local_addr() {
         Ok(address) => address.port(),
-        Err(_) => return Err(DayCommandFault::CannotListen),
+        Err(cause) => return Err(unheard(rt, &place(0), &cause)),
     };
     let near = connected(rt, port)?;
-    let distant = next_peer(&listener)?;
+    let distant = next_peer(rt, &listener, port)?;
     Ok((near, distant))
 }

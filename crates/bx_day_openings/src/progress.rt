@@ -4,11 +4,11 @@ ghost use Rattle.std.specs.Prelude.{◌≡◌, ◌++◌, ◌∷◌, [], ℕ, Lis
 ghost use Rattle.std.specs.List.{flat_map};
 ghost use Rattle.bx_events.specs.Events.{Event, Tick, Receive};
 ghost use Rattle.bx_frames.specs.Frames.{frame_with, turn_frame};
-ghost use Rattle.bx_turns.specs.Courses.{reply_frame, reply_messages};
+ghost use Rattle.bx_frames.specs.Courses.{reply_frame, reply_messages};
 
 use arrayvec::ArrayVec;
+use bx_frames::{Course, End};
 use bx_q931::Octets;
-use bx_turns::{Course, End};
 use std::rt::Clock;
 use std::time::{Duration, Instant};
 

@@ -6,7 +6,7 @@ ghost use Rattle.bx_day_openings.specs.Recording.{IsClockOf, IsNoClock, IsRecord
 use crate::capturing::captured;
 use crate::fault::DayCommandFault;
 use bx_calendar::{Clock, DayFault};
-use bx_check_commands::CommandFault;
+use bx_check_commands::{CommandFault, tell_cause};
 use bx_day::Exchange;
 use bx_devices::Watched;
 use bx_records::{RecordsFault, write_records};
@@ -53,7 +53,7 @@ pub fn records_clock_of<'a>(
 }
 
 /// The file of the records of a day, made empty, where they are to be written; `CannotWriteFile` where it cannot be made.
-pub fn records_file_of<'a, H: Files>(
+pub fn records_file_of<'a, H: Files + Eprint>(
     rt: &H,
     records: Option<RecordsWords<'a>>,
     clock: Option<Clock>,
@@ -70,7 +70,10 @@ pub fn records_file_of<'a, H: Files>(
             clock,
             file: Watched::new(file),
         })),
-        Err(_) => Err(DayCommandFault::CannotWriteFile(name)),
+        Err(cause) => {
+            tell_cause(rt, &name, &cause);
+            Err(DayCommandFault::CannotWriteFile(name))
+        }
     }
 }
 

@@ -3,6 +3,7 @@
 ghost use Rattle.std.specs.Prelude.{IfErr};
 ghost use Rattle.bx_day_openings.specs.OpeningRefusals.{IsUnheard, IsUnconnected};
 
+use crate::causes::{unconnected, unheard};
 use crate::fault::DayCommandFault;
 use std::fs::Files;
 use std::io::{Error, ErrorKind};
@@ -40,24 +41,28 @@ pub fn accepted_at<'a, H: Files + Net + Eprint>(
 ) -> Result<UnixStream, DayCommandFault<'a>>
     ensures { IfErr result IsUnheard }
 {
-    let Ok(listener) = listener(rt, path) else {
-        return Err(DayCommandFault::CannotListen);
+    let listener = match listener(rt, path) {
+        Ok(listener) => listener,
+        Err(cause) => return Err(unheard(rt, &path, &cause)),
     };
     if is_said {
         let _ = eprintln!(rt; "listening on {path}");
     }
     match listener.accept() {
         Ok((stream, _)) => Ok(stream),
-        Err(_) => Err(DayCommandFault::CannotListen),
+        Err(cause) => Err(unheard(rt, &path, &cause)),
     }
 }
 
 /// A connection to the socket of this path; `CannotConnect` where there is none.
-pub fn connected_at<'a, H: Net>(rt: &H, path: &str) -> Result<UnixStream, DayCommandFault<'a>>
+pub fn connected_at<'a, H: Net + Eprint>(
+    rt: &H,
+    path: &str,
+) -> Result<UnixStream, DayCommandFault<'a>>
     ensures { IfErr result IsUnconnected }
 {
     match UnixStream::connect(rt, path) {
         Ok(stream) => Ok(stream),
-        Err(_) => Err(DayCommandFault::CannotConnect),
+        Err(cause) => Err(unconnected(rt, &path, &cause)),
     }
 }

@@ -4,7 +4,7 @@ use Rattle.std.specs.Prelude.{IfErr}
 use Rattle.bx_devices.specs.Watching.{device_of}
 use Rattle.bx_devices.specs.declared.watched.Watched.{Watched}
 use Rattle.bx_events.specs.Events.{Event}
-use Rattle.bx_turns.specs.Courses.{told}
+use Rattle.bx_frames.specs.Courses.{told}
 use Rattle.bx_capture.specs.Captures.{IsCaptured, Keeps, is_unfaulted}
 use Rattle.bx_far.specs.FarDay.{FarDay}
 use Rattle.bx_day_openings.specs.CaptureOpenings.{IsFileFor}

@@ -4,7 +4,7 @@ use Rattle.bx_devices.specs.declared.watched.Watched.{Watched}
 use Rattle.bx_far.specs.FarDay.{FarDay}
 use Rattle.bx_link.specs.Days.{RunsFarDay}
 use Rattle.bx_events.specs.Events.{Event}
-use Rattle.bx_turns.specs.Courses.{ticks_of}
+use Rattle.bx_frames.specs.Courses.{ticks_of}
 use Rattle.bx_frames.specs.declared.fault.LinkFault.{LinkFault}
 use Rattle.bx_day_openings.specs.Openings.{IsFarOpening}
 use Rattle.bx_far_commands.specs.Days.{IsFarRun}

@@ -12,7 +12,7 @@ use Rattle.bx_devices.specs.declared.watched.Watched.{Watched}
 use Rattle.bx_far_commands.specs.LineDays.{AreCaptured, IsFarLineDone, capture_of}
 use Rattle.bx_far_commands.specs.LineRefusals.{StopsFarLine, IsNoLine, IsFarLineRefusal}
 use Rattle.bx_frames.specs.declared.frame.Frame.TheVariants as frames
-use Rattle.bx_live.specs.Acts.{Act, Began, Dropped, Recorded, Synced, Wrote, Read, EndedDay}
+use Rattle.bx_live.specs.Acts.{Act, Began, Dropped, Recorded, Synced, Wrote, Read, Took, EndedDay}
 use Rattle.bx_live_parts.specs.Chains.{Chain, chain_first}
 use Rattle.bx_request.specs.declared.request.CaptureWords.{CaptureWords}
 use Rattle.bx_request.specs.declared.request.FarLineRequest.{FarLineRequest}
@@ -44,6 +44,9 @@ module _ {W F : Type 0} (contents : F → Option (List ℕ)) where
       let (mid, step, more) = chain_first (Captures contents) old new (Read room (Ok (frames.EndOfTurn said))) acts chain in none_captured acts mid new more (step.file ∙ none)
   none_captured (Read room (Ok frames.EndOfDay) ∷ acts) old new chain none = let (mid, step, more) = chain_first (Captures contents) old new (Read room (Ok frames.EndOfDay)) acts chain in none_captured acts mid new more (step.file ∙ none)
   none_captured (Read room (Err fault) ∷ acts) old new chain none = let (mid, step, more) = chain_first (Captures contents) old new (Read room (Err fault)) acts chain in none_captured acts mid new more (step.file ∙ none)
+  none_captured (Took (Some message) ∷ acts) old new chain none =
+      let (mid, step, more) = chain_first (Captures contents) old new (Took (Some message)) acts chain in none_captured acts mid new more (none_kept contents old.file mid.file _ none step.file)
+  none_captured (Took None ∷ acts) old new chain none = let (mid, step, more) = chain_first (Captures contents) old new (Took None) acts chain in none_captured acts mid new more (step.file ∙ none)
   none_captured (Began second begin ∷ acts) old new chain none = let (mid, step, more) = chain_first (Captures contents) old new (Began second begin) acts chain in none_captured acts mid new more (step.file ∙ none)
   none_captured (Dropped loss ∷ acts) old new chain none = let (mid, step, more) = chain_first (Captures contents) old new (Dropped loss) acts chain in none_captured acts mid new more (step.file ∙ none)
   none_captured (Recorded event done ∷ acts) old new chain none = let (mid, step, more) = chain_first (Captures contents) old new (Recorded event done) acts chain in none_captured acts mid new more (step.file ∙ none)

@@ -5,7 +5,7 @@ use Rattle.bx_devices.specs.Octets.{AppendsPrefix}
 use Rattle.bx_events.specs.Events.{Event}
 use Rattle.bx_far.specs.FarDay.{FarDay}
 use Rattle.bx_day_openings.specs.Openings.{IsFarOpening}
-use Rattle.bx_turns.specs.Courses.{after, told, ticks_of}
+use Rattle.bx_frames.specs.Courses.{after, told, ticks_of}
 use Rattle.bx_capture.specs.Captures.{packets_for}
 use Rattle.bx_far.specs.Course.{far_next, far_sent, far_due}
 use Rattle.bx_events.specs.declared.moment.TheConstants.{LAST_MOMENT}

@@ -11,10 +11,10 @@ use Rattle.bx_devices.specs.Octets.{AppendsPrefix}
 use Rattle.bx_devices.specs.declared.watched.Watched.{Watched}
 use Rattle.bx_events.specs.declared.moment.TheConstants.{LAST_MOMENT}
 use Rattle.bx_far.specs.FarDay.{FarDay}
-use Rattle.bx_far.specs.Course.{far_next}
+use Rattle.bx_far.specs.Course.{far_live_after}
 use Rattle.bx_far_commands.specs.Days.{ended_line}
 use Rattle.bx_far_commands.specs.declared.line_files.TheConstants.{WHOLE_DAY}
-use Rattle.bx_far_live.specs.Events.{far_events, all_taken}
+use Rattle.bx_far_live.specs.Events.{far_events}
 use Rattle.bx_far_live.specs.Runs.{Between, Done, IsFarRun}
 use Rattle.bx_journal.specs.Files.{holds_unknown, may_leave_any, no_moment, any_since}
 use Rattle.bx_journal.specs.declared.disk_files.SystemFile.{SystemFile}
@@ -29,7 +29,6 @@ use Rattle.bx_live_parts.specs.Chains.{Chain}
 use Rattle.bx_live_parts.specs.declared.schedule.Schedule.{Schedule}
 use Rattle.bx_request.specs.declared.request.CaptureWords.{CaptureWords}
 use Rattle.bx_request.specs.declared.request.FarLineRequest.{FarLineRequest}
-use Rattle.bx_turns.specs.Courses.{after}
 use Rattle.bx_world.specs.Captures.{Captures, first_second}
 use Rattle.bx_world.specs.declared.captured.CapturedWorld.{CapturedWorld}
 use Rattle.bx_world.specs.declared.telling.Telling.{Telling}
@@ -55,7 +54,7 @@ did_on old acts new = Unit {0}
 pub record IsFarRunIn {W : Type 0} (did : W → List Act → W → Type 0) (old : W) (acts : List Act) (new : W) (turns : ℕ) (from to : FarDay) : Type 0 where
   pub went : did old acts new
   pub run : IsFarRun (Between from) acts (Done to)
-  pub day : to ≡ after far_next (all_taken (far_events acts)) from
+  pub day : to ≡ far_live_after (far_events acts) from
   pub reached : ended acts ≡ false → to.moment ≡ max from.moment (min turns LAST_MOMENT)
 
 -- What was captured of these acts, where there is a file: behind each act it has taken the packets of what was written, and of the message that

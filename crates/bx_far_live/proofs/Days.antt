@@ -4,20 +4,19 @@ use Rattle.bx_events.specs.Events.{Receive}
 use Rattle.bx_frames.specs.declared.fault.LinkFault.{LinkFault}
 use Rattle.bx_frames.specs.declared.frame.Frame.{Frame}
 use Rattle.bx_frames.specs.declared.frame.Frame.TheVariants as frames
-use Rattle.bx_turns.specs.Courses.{after}
 use Rattle.bx_far.specs.FarDay.{FarDay}
-use Rattle.bx_far.specs.Course.{far_next, far_text}
+use Rattle.bx_far.specs.Course.{far_next, far_live_after, far_text}
 use Rattle.bx_live.specs.declared.world.Begin.{Begin}
 use Rattle.bx_live.specs.declared.world.Begin.TheVariants as begins
 use Rattle.bx_live.specs.declared.world.Loss.{Loss}
-use Rattle.bx_live.specs.Acts.{Act, Began, Dropped, Recorded, Synced, Wrote, Read, EndedDay}
-use Rattle.bx_far_live.specs.Events.{far_events, all_taken}
+use Rattle.bx_live.specs.Acts.{Act, Began, Dropped, Recorded, Synced, Wrote, Read, Took, EndedDay}
+use Rattle.bx_far_live.specs.Events.{far_events}
 use Rattle.bx_far_live.specs.Runs.{Place, Between, Owing, Hearing, Losing, IsDue, IsFarRun, next, day_at, owing}
 use Rattle.bx_far_live.proofs.Due.{by_due}
 
 -- the day after the events of acts
 abbrev pub far_after : List Act → FarDay → FarDay
-far_after acts d = after far_next (all_taken (far_events acts)) d
+far_after acts d = far_live_after (far_events acts) d
 
 -- ---- the day behind one act
 
@@ -66,6 +65,7 @@ more_taken (Read room (Ok (frames.Message octets))) acts d = refl
 more_taken (Read room (Ok (frames.EndOfTurn said))) acts d = refl
 more_taken (Read room (Ok frames.EndOfDay)) acts d = refl
 more_taken (Read room (Err fault)) acts d = refl
+more_taken (Took message) acts d = refl
 more_taken EndedDay acts d = refl
 
 pub run_day : (p q : Place) (acts : List Act) → IsFarRun p acts q → day_at q ≡ far_after acts (day_at p)

@@ -10,7 +10,7 @@ use Rattle.bx_far.specs.Course.{far_next, far_text}
 use Rattle.bx_live.specs.declared.world.Begin.{Begin}
 use Rattle.bx_live.specs.declared.world.Begin.TheVariants as begins
 use Rattle.bx_live.specs.declared.world.Loss.{Loss}
-use Rattle.bx_live.specs.Acts.{Act, Began, Dropped, Recorded, Synced, Wrote, Read, EndedDay}
+use Rattle.bx_live.specs.Acts.{Act, Began, Dropped, Recorded, Synced, Wrote, Read, Took, EndedDay}
 use Rattle.bx_far_live.specs.Events.{far_events}
 use Rattle.bx_far_live.specs.Runs.{Place, Between, Owing, Hearing, Losing, Ending, Done, IsDue, IsFarRun, next, day_at, owing}
 use Rattle.bx_far_live.specs.Written.{IsFarWrittenFor}
@@ -29,6 +29,7 @@ events_on (Read room (Ok (frames.Message octets)) ∷ xs) ys = ap (λ es. OnLink
 events_on (Read room (Ok (frames.EndOfTurn said)) ∷ xs) ys = events_on xs ys
 events_on (Read room (Ok frames.EndOfDay) ∷ xs) ys = events_on xs ys
 events_on (Read room (Err fault) ∷ xs) ys = events_on xs ys
+events_on (Took message ∷ xs) ys = events_on xs ys
 events_on (Dropped loss ∷ xs) ys = events_on xs ys
 events_on (Recorded event done ∷ xs) ys = events_on xs ys
 events_on (Synced done ∷ xs) ys = events_on xs ys

@@ -6,11 +6,11 @@ use Rattle.bx_frames.specs.declared.fault.LinkFault.{LinkFault}
 use Rattle.bx_frames.specs.declared.frame.Frame.{Frame}
 use Rattle.bx_frames.specs.declared.frame.Frame.TheVariants as frames
 use Rattle.bx_far.specs.FarDay.{FarDay}
-use Rattle.bx_far.specs.Course.{far_next, far_text}
+use Rattle.bx_far.specs.Course.{far_next, far_live_next, far_text}
 use Rattle.bx_live.specs.declared.world.Begin.{Begin}
 use Rattle.bx_live.specs.declared.world.Begin.TheVariants as begins
 use Rattle.bx_live.specs.declared.world.Loss.{Loss}
-use Rattle.bx_live.specs.Acts.{Act, Began, Dropped, Recorded, Synced, Wrote, Read, EndedDay}
+use Rattle.bx_live.specs.Acts.{Act, Began, Dropped, Recorded, Synced, Wrote, Read, Took, EndedDay}
 use Rattle.bx_live.specs.Written.{written, goes_well}
 use Rattle.bx_far_live.specs.Events.{far_events, told_on_link}
 use Rattle.bx_far_live.specs.Runs.{Place, Between, Owing, Hearing, Losing, IsDue, IsFarRun, next, day_at, owing}
@@ -20,7 +20,7 @@ use Rattle.bx_far_live.proofs.Days.{far_after, step_day}
 
 -- what is told for acts
 abbrev far_told : List Act → FarDay → List ℕ
-far_told acts d = told_on_link far_next far_text (far_events acts) d
+far_told acts d = told_on_link far_live_next far_text (far_events acts) d
 
 -- ---- one act, and more
 
@@ -32,6 +32,7 @@ more_written (Dropped loss) acts = refl
 more_written (Recorded event done) acts = refl
 more_written (Synced done) acts = refl
 more_written (Read room answer) acts = refl
+more_written (Took message) acts = refl
 more_written EndedDay acts = refl
 
 more_told : (act : Act) (acts : List Act) (d : FarDay) → far_told (act ∷ acts) d ≡ far_told (act ∷ []) d ++ far_told acts (far_after (act ∷ []) d)
@@ -43,6 +44,7 @@ more_told (Read room (Ok (frames.Message octets))) acts d = ap (λ xs. xs ++ far
 more_told (Read room (Ok (frames.EndOfTurn said))) acts d = refl
 more_told (Read room (Ok frames.EndOfDay)) acts d = refl
 more_told (Read room (Err fault)) acts d = refl
+more_told (Took message) acts d = refl
 more_told (Wrote octets done) acts d = refl
 more_told (Dropped loss) acts d = refl
 more_told (Recorded event done) acts d = refl
@@ -59,6 +61,7 @@ first_well (Wrote octets false) acts e = e
 first_well (Began second begin) acts e = refl
 first_well (Dropped loss) acts e = refl
 first_well (Read room answer) acts e = refl
+first_well (Took message) acts e = refl
 first_well EndedDay acts e = refl
 
 rest_well : (act : Act) (acts : List Act) → goes_well (act ∷ acts) ≡ true → goes_well acts ≡ true
@@ -71,6 +74,7 @@ rest_well (Wrote octets false) acts e = cc
 rest_well (Began second begin) acts e = e
 rest_well (Dropped loss) acts e = e
 rest_well (Read room answer) acts e = e
+rest_well (Took message) acts e = e
 rest_well EndedDay acts e = e
 
 -- ---- what is written, and what is owed behind it

@@ -14,16 +14,9 @@ far_events (Began second begins.Late ∷ acts) = WithoutLink ∷ far_events acts
 far_events (Read room (Ok (frames.Message octets)) ∷ acts) = OnLink (Receive octets.items) ∷ far_events acts
 far_events (act ∷ acts) = far_events acts
 
--- the events as a far end's day takes them: a second without a link is a tick; of what is sold it knows nothing
-abbrev pub all_taken : List LiveEvent → List Event
-all_taken [] = []
-all_taken (OnLink event ∷ events) = event ∷ all_taken events
-all_taken (WithoutLink ∷ events) = Tick ∷ all_taken events
-all_taken (Sold line ∷ events) = all_taken events
-
--- what is told of the events on a link; of seconds without one nothing is
-abbrev pub told_on_link : {D : Type 0} → (D → Event → D) → (D → Event → List ℕ) → List LiveEvent → D → List ℕ
+-- what is told of the events on a link; of seconds without one, and of what is sold, nothing is
+abbrev pub told_on_link : {D : Type 0} → (D → LiveEvent → D) → (D → Event → List ℕ) → List LiveEvent → D → List ℕ
 told_on_link next text [] d = []
-told_on_link next text (OnLink event ∷ events) d = text d event ++ told_on_link next text events (next d event)
-told_on_link next text (WithoutLink ∷ events) d = told_on_link next text events (next d Tick)
-told_on_link next text (Sold line ∷ events) d = told_on_link next text events d
+told_on_link next text (OnLink event ∷ events) d = text d event ++ told_on_link next text events (next d (OnLink event))
+told_on_link next text (WithoutLink ∷ events) d = told_on_link next text events (next d WithoutLink)
+told_on_link next text (Sold line ∷ events) d = told_on_link next text events (next d (Sold line))

@@ -5,7 +5,7 @@ use Rattle.bx_frames.specs.declared.fault.LinkFault.{LinkFault}
 use Rattle.bx_frames.specs.declared.fault.LinkFault.TheVariants.{WriteFailed, WrongMoment, UnknownKind}
 use Rattle.bx_frames.specs.declared.frame.Frame.{Frame}
 use Rattle.bx_frames.specs.declared.frame.Frame.TheVariants as frames
-use Rattle.bx_far.specs.FarDay.{FarDay}
+use Rattle.bx_far.specs.FarDay.{FarDay, far_without_link}
 use Rattle.bx_far.specs.Course.{far_next, far_text}
 use Rattle.bx_live.specs.declared.world.Begin.{Begin}
 use Rattle.bx_live.specs.declared.world.Begin.TheVariants as begins
@@ -52,11 +52,11 @@ abbrev pub owing : FarDay → ℕ → List ℕ → Place
 owing d room [] = Hearing d room
 owing d room (octet ∷ text) = Owing d room (octet ∷ text)
 
--- In each second that begins the far end ticks. With a link it is a turn of at most 64 messages; without one, what the tick sends is
--- lost, and so it is where the second has begun late, for which the link is dropped. Where no second begins any more, the day is over
+-- In each second that begins with a link the far end ticks: it is a turn of at most 64 messages. One without a link goes by as one, and so
+-- does one that has begun late, for which the link is dropped. Where no second begins any more, the day is over
 abbrev pub begun : FarDay → Begin → Place
-begun d begins.Late = Losing (far_next d Tick) losses.Late
-begun d begins.Alone = Between (far_next d Tick)
+begun d begins.Late = Losing (far_without_link d) losses.Late
+begun d begins.Alone = Between (far_without_link d)
 begun d begins.Joined = Owing (far_next d Tick) 64 (far_text d Tick)
 begun d begins.Ended = Ending d
 

@@ -1,11 +1,10 @@
 -- What is written to the exchange.
 use Rattle.std.specs.Prelude.{◌≡◌, ℕ, List, [], ◌∷◌, ◌++◌}
 use Rattle.bx_events.specs.Events.{Event, LiveEvent, OnLink}
-use Rattle.bx_turns.specs.Courses.{after}
 use Rattle.bx_far.specs.FarDay.{FarDay}
-use Rattle.bx_far.specs.Course.{far_next, far_text}
+use Rattle.bx_far.specs.Course.{far_live_after, far_text}
 use Rattle.bx_live.specs.Acts.{Act}
-use Rattle.bx_far_live.specs.Events.{far_events, all_taken}
+use Rattle.bx_far_live.specs.Events.{far_events}
 use Rattle.bx_far_live.specs.Runs.{Place, Between, Owing, Hearing, Losing, Ending, Done}
 
 -- octets that are written behind these acts: they are those of the last event that the acts tell, which came on a link, by the day as it was
@@ -14,7 +13,7 @@ pub record IsFarWrittenFor (d : FarDay) (acts : List Act) (octets : List ℕ) : 
   pub earlier : List LiveEvent
   pub event : Event
   pub last : far_events acts ≡ earlier ++ OnLink event ∷ []
-  pub text : octets ≡ far_text (after far_next (all_taken earlier) d) event
+  pub text : octets ≡ far_text (far_live_after earlier d) event
 
 -- what is still to be written
 abbrev pub owed_at : Place → List ℕ

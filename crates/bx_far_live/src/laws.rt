@@ -2,7 +2,7 @@
 
 ghost use Rattle.std.specs.Prelude.{◌≡◌, ◌++◌, ◌∷◌, ℕ, Bool, List, true};
 ghost use Rattle.bx_far.specs.FarDay.{FarDay};
-ghost use Rattle.bx_far.specs.Course.{far_next, far_text};
+ghost use Rattle.bx_far.specs.Course.{far_live_next, far_text};
 ghost use Rattle.bx_live.specs.Acts.{Act, Wrote};
 ghost use Rattle.bx_live.specs.Written.{written, goes_well};
 ghost use Rattle.bx_far_live.specs.Events.{far_events, told_on_link};
@@ -17,5 +17,5 @@ pub fn written_for_last()
 /// From one place of a run to another, where no write fails: what is written is just what the day's definition gives for the events that
 /// the acts tell, in order and once, but for what is still owed. In seconds without a link that is nothing.
 pub fn all_is_written()
-    ensures { (from to : Place) (acts : List Act) → IsFarRun from acts to → goes_well acts ≡ true → written acts ++ owed_at to ≡ owed_at from ++ told_on_link far_next far_text (far_events acts) (day_at from) }
+    ensures { (from to : Place) (acts : List Act) → IsFarRun from acts to → goes_well acts ≡ true → written acts ++ owed_at to ≡ owed_at from ++ told_on_link far_live_next far_text (far_events acts) (day_at from) }
 {}

@@ -2,10 +2,9 @@
 
 ghost use Rattle.std.specs.Prelude.{◌≡◌, ◌≤◌, min, max, false};
 ghost use Rattle.bx_events.specs.Events.{Tick};
-ghost use Rattle.bx_turns.specs.Courses.{after};
-ghost use Rattle.bx_far.specs.Course.{far_next, far_text};
+ghost use Rattle.bx_far.specs.Course.{far_next, far_live_after, far_text};
 ghost use Rattle.bx_live.specs.Acts.{ended};
-ghost use Rattle.bx_far_live.specs.Events.{far_events, all_taken};
+ghost use Rattle.bx_far_live.specs.Events.{far_events};
 ghost use Rattle.bx_far_live.specs.Runs.{Between, Owing, Done};
 ghost use Rattle.bx_far_live.specs.Running.{FarRuns};
 ghost use Rattle.bx_far_live.specs.Seconds.{behind_second, Rises, RisesBySecond, IsSaid};
@@ -17,13 +16,6 @@ use bx_events::LAST_MOMENT;
 use bx_far::Far;
 use bx_frames::LinkFault;
 use bx_live::{Begin, Loss, Second, World};
-
-/// The next second without a link. What is sent in it is lost.
-fn pass_without_link(far: &mut Far)
-    ensures day { far.new ≡ far_next far.old Tick }
-{
-    let _lost = far.tick();
-}
 
 /// Both halves of a turn.
 fn run_turn<W: World>(far: &mut Far, world: &mut W) -> Result<(), LinkFault>
@@ -45,7 +37,7 @@ fn pass_with_link<W: World>(far: &mut Far, world: &mut W)
     }
 }
 
-/// The next second, where one begins: it is waited for, and the far end ticks in it.
+/// The next second, where one begins: it is waited for, and the far end ticks in it if there is a link.
 fn run_second<W: World>(far: &mut Far, world: &mut W) -> Second
     ensures ran { FarRuns W.did world.old world.new (Between far.old) (behind_second far.new result) }
     ensures moment { RisesBySecond far.old far.new result }
@@ -57,12 +49,12 @@ fn run_second<W: World>(far: &mut Far, world: &mut W) -> Second
             Second::Passed
         }
         Begin::Alone => {
-            pass_without_link(far);
+            far.second_without_link();
             Second::Passed
         }
         Begin::Late => {
             world.drop_peer(Loss::Late);
-            pass_without_link(far);
+            far.second_without_link();
             Second::Passed
         }
         Begin::Ended => Second::Ended,
@@ -70,10 +62,10 @@ fn run_second<W: World>(far: &mut Far, world: &mut W) -> Second
 }
 
 /// Runs a far end's day up to a second of it, or to `LAST_MOMENT` where that is earlier, or until the world says that it is over. Each
-/// second is waited for, and in each the far end ticks. With a link, what it sends is written, and each message that comes is heard and
-/// answered before more is read; at a fault the link is dropped, and the day goes on. Without a link what it sends is lost.
+/// second is waited for. With a link the far end ticks in it, what it sends is written, and each message that comes is heard and
+/// answered before more is read; at a fault the link is dropped, and the day goes on. Without a link its timers stand still.
 pub fn run_far_live<W: World>(far: &mut Far, world: &mut W, last: u32)
-    ensures ran { (ran : FarRuns W.did world.old world.new (Between far.old) (Done far.new)) × (far.new ≡ after far_next (all_taken (far_events ran.acts)) far.old) × (ended ran.acts ≡ false → far.new.moment ≡ max far.old.moment (min last LAST_MOMENT)) }
+    ensures ran { (ran : FarRuns W.did world.old world.new (Between far.old) (Done far.new)) × (far.new ≡ far_live_after (far_events ran.acts) far.old) × (ended ran.acts ≡ false → far.new.moment ≡ max far.old.moment (min last LAST_MOMENT)) }
     ensures whole { far.new.moment ≤ max far.old.moment (min last LAST_MOMENT) }
 {
     let end = last.min(LAST_MOMENT);

@@ -8,10 +8,9 @@ ghost use Rattle.bx_far_live.specs.Running.{FarRuns};
 ghost use Rattle.bx_far_live.specs.Inside.{or_losing};
 
 use bx_far::Far;
-use bx_frames::LinkFault;
+use bx_frames::{End, LinkFault};
 use bx_live::World;
 use bx_q931::Octets;
-use bx_turns::End;
 
 /// The next second, and what is sent in it.
 pub(crate) fn open_turn<W: World>(far: &mut Far, world: &mut W) -> Result<(), LinkFault>

@@ -24,6 +24,9 @@ pub trait Disk {
     /// Whether a call has failed.
     ghost has_failed: { Self → Bool };
 
+    /// What it is written into has said that all of it outlasts a crash.
+    ghost has_synced: { Self → Type 0 };
+
     /// Writes behind what is there. Until a sync, a crash may leave any front of it, behind all that was there.
     fn append(&mut self, octets: &[u8]) -> Result<(), DiskFailed>
         ensures written { OnOk result ((text : List ℕ) → holds self.old text → holds self.new (text ++ octets.now)) }
@@ -42,6 +45,7 @@ pub trait Disk {
 
     /// After it a crash leaves what the disk holds.
     fn sync(&mut self) -> Result<(), DiskFailed>
+        ensures synced { OnOk result (has_synced self.new) }
         ensures durable { OnOk result ((text : List ℕ) → holds self.old text → Only text (may_leave self.new)) }
         ensures kept { (text : List ℕ) → holds self.old text → holds self.new text }
         ensures crash { (c : List ℕ) → may_leave self.new c → may_leave self.old c }

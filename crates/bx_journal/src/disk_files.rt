@@ -14,6 +14,8 @@ impl DiskFile for Vec<u8> {
 
     ghost is_told = { true };
 
+    ghost has_synced = { λ file. Unit {0} };
+
     ghost told = { λ file text e. refl };
 
     fn cut(&mut self, len: u64) -> io::Result<()> {
@@ -77,6 +79,8 @@ impl<F: Write + OpenFile> DiskFile for SystemFile<F> {
 
     ghost is_told = { false };
 
+    ghost has_synced = { λ file. Unit {0} };
+
     ghost told = { λ file text e. ap is_some e };
 
     fn cut(&mut self, len: u64) -> io::Result<()> {
@@ -90,9 +94,12 @@ impl<F: Write + OpenFile> DiskFile for SystemFile<F> {
 
 /// What is in the buffer is written at the next cut or sync, or where the file is let go.
 impl<F: DiskFile + Drop> DiskFile for BufWriter<F> {
+    ghost use Rattle.std.specs.Io.Buffered.{writer_inner};
     ghost use Rattle.bx_journal.specs.Files.{told_inside};
 
     ghost is_told = { F.is_told };
+
+    ghost has_synced = { λ file. F.has_synced (writer_inner file) };
 
     ghost told = { λ file text e. told_inside F.contents F.is_told F.told file text e };
 

@@ -12,6 +12,9 @@ pub trait DiskFile: Write {
     /// Whether it tells what it holds, as memory does and a file of the system does not.
     ghost is_told: { Bool };
 
+    /// It has said that what was written outlasts a crash.
+    ghost has_synced: { Self → Type 0 };
+
     /// Cuts what it holds to so many octets.
     fn cut(&mut self, len: u64) -> io::Result<()>
         ensures { OnOk result ((text : List ℕ) → Self.contents self.old ≡ Some text → len ≤ length text → Self.contents self.new ≡ Some (take len text)) };
@@ -19,7 +22,8 @@ pub trait DiskFile: Write {
     /// Brings what was written to where it outlasts a crash. No contract can say that it did: of a file of the system that is the
     /// system's word.
     fn sync(&mut self) -> io::Result<()>
-        ensures { (text : List ℕ) → Self.contents self.old ≡ Some text → Self.contents self.new ≡ Some text };
+        ensures kept { (text : List ℕ) → Self.contents self.old ≡ Some text → Self.contents self.new ≡ Some text }
+        ensures synced { OnOk result (has_synced self.new) };
 
     ghost told: { (file : Self) (text : List ℕ) → Self.Write.contents file ≡ Some text → is_told ≡ true };
 }
@@ -67,6 +71,8 @@ impl<F: DiskFile> Disk for FileDisk<F> {
     ghost left_since = { λ disk t c. F.is_told ≡ false };
 
     ghost has_failed = { λ disk. disk.has_failed };
+
+    ghost has_synced = { λ disk. F.has_synced disk.file };
 
     ghost counts_now = { λ disk t c le now. now };
 

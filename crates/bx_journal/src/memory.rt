@@ -95,6 +95,8 @@ impl Disk for MemoryDisk {
 
     ghost has_failed = { λ disk. disk.has_failed };
 
+    ghost has_synced = { λ disk. Unit {0} };
+
     ghost counts_now = { λ disk t c le now. inl now };
 
     ghost only_now = { λ disk c left. only_bytes disk.past.items disk.octets.items c left };

@@ -45,6 +45,8 @@ impl Disk for LosingDisk {
 
     ghost has_failed = { λ disk. disk.has_failed };
 
+    ghost has_synced = { λ disk. Unit {0} };
+
     ghost counts_now = { λ disk t c le now. now };
 
     ghost only_now = { λ disk c left. left };

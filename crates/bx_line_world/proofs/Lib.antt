@@ -1,2 +1,5 @@
 pub mod Stepping
 pub mod Never
+pub mod Seconds
+pub mod Joining
+pub mod NearEnd

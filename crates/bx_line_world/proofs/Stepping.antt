@@ -1,5 +1,5 @@
 -- Steps of a line, one after another.
-use Rattle.std.proofs.Common.{◌≡◌, ℕ, ◌+◌, ◌<◌, List, [], ◌∷◌, ◌++◌, length, take, get_or, map, refl, sym, ap, ◌∙◌, subst, true, false, Bool, arith, zero, suc, drop, Result, Ok, Err, IfOk}
+use Rattle.std.proofs.Common.{◌≡◌, ℕ, ◌+◌, ◌<◌, List, [], ◌∷◌, ◌++◌, length, take, get_or, map, refl, sym, ap, ◌∙◌, subst, true, false, not, Bool, inl, inr, Option, Some, None, is_some, arith, zero, suc, drop, Result, Ok, Err, IfOk}
 use Rattle.std.proofs.lemmas.List.{take_more, take-append-drop}
 use Rattle.arrayvec.specs.ArrayVec.{ArrayVec}
 use Rattle.bx_lapd.specs.declared.frame.Frame.{Frame}
@@ -9,17 +9,17 @@ use Rattle.bx_lapd.specs.Codec.{sent_octets}
 use Rattle.bx_lapd.specs.Endpoints.{PlainEndpoint}
 use Rattle.bx_live_parts.specs.Chains.{Chain, chain_more}
 use Rattle.bx_line_world.specs.Wires.{WireAct, Shown, Sent}
-use Rattle.bx_line_world.specs.Posts.{told_to, all_told_to}
+use Rattle.bx_line_world.specs.Posts.{told_to, all_told_to, is_lost}
 use Rattle.bx_line_world.specs.Lines.{LineEvent, Serves, IsTaken, passed_by, instant_in, time_at, step_of, asked_of, shown_by, passed_after, sent_as}
-use Rattle.bx_line_world.specs.Serving.{Slice, Sliced, Gives}
+use Rattle.bx_line_world.specs.Serving.{Slice, Sliced, Gives, Polls, Polled, has_come, ends_quiet}
 use Rattle.bx_frames.specs.declared.frame.Frame.{Frame as LinkFrame}
 use Rattle.bx_frames.specs.declared.frame.Frame.TheVariants as frames
 use Rattle.bx_frames.specs.Reading.{MayCome}
 use Rattle.bx_frames.specs.declared.frame.Receiver.TheVariants.{Exchange}
 use Rattle.bx_frames.specs.declared.fault.LinkFault.{LinkFault}
 use Rattle.bx_lapd.specs.Table.{takes}
-use Rattle.bx_line_world.specs.Days.{GivesAll, Reads, ReadsFor}
-use Rattle.bx_line_world.specs.Steps.{Looks, keeps, Carries, GivesWhere}
+use Rattle.bx_line_world.specs.Days.{GivesAll, TakesWaiting, Reads, ReadsFor}
+use Rattle.bx_line_world.specs.Steps.{Looks, keeps, Carries, GivesWhere, PolledBy, TakesFirst}
 use Rattle.bx_line_world.specs.declared.line.Line.{Line}
 use Rattle.bx_line_world.specs.declared.post.Post.{Post}
 
@@ -43,6 +43,24 @@ told_more p xs i x here is =
 pub kept_more : {W : Type 0} (a b : Line W) (p : Post) (xs : List Indication) (i : ℕ) (x : Indication) → i < length xs → x ≡ get_or xs i x → b ≡ keeps a (take i xs) → p ≡ told_to b.post x → record b { post = p } ≡ keeps a (take (i + 1) xs)
 kept_more {W} a b p xs i x here is so_far told =
     ap (λ (q : Post). record b { post = q }) told ∙ (ap (λ (y : Line W). record y { post = told_to y.post x }) so_far ∙ ap (λ (q : Post). record a { post = q }) (told_more a.post xs i x here (sym is)))
+
+pub lost_some : (o : Option LinkFault) → is_some o ≡ true → is_lost o ≡ true
+lost_some (Some fault) e = refl
+lost_some None e = cc
+
+pub lost_none : (o : Option LinkFault) → is_some o ≡ false → o ≡ None
+lost_none (Some fault) e = cc
+lost_none None e = refl
+
+-- the first message of those that wait
+pub taken_first : {W : Type 0} (left : ℕ) (polled : Line W) (m : Option (ArrayVec ℕ)) (p : Post) → polled.post.lost ≡ None → TakesFirst left polled.post m p → TakesWaiting left polled m (record polled { post = p })
+taken_first left polled (Some m) p whole (rest, are, fits, new) = (whole, rest, are, fits, ap (λ (x : Post). record polled { post = x }) new)
+taken_first left polled None p whole (none, same) = (inr none, ap (λ (x : Post). record polled { post = x }) same)
+
+quiet_behind : (xs : List LineEvent) (came : LineEvent) → has_come came ≡ false → ends_quiet (xs ++ came ∷ []) ≡ true
+quiet_behind [] came none = ap not none
+quiet_behind (x ∷ []) came none = ap not none
+quiet_behind (x ∷ y ∷ xs) came none = quiet_behind (y ∷ xs) came none
 
 module _ {W : Type 0} {did : W → List WireAct → W → Type 0} where
   module _ (more : (u v w : W) (xs ys : List WireAct) → did u xs v → did v ys w → did u (xs ++ ys) w) where
@@ -88,6 +106,24 @@ module _ {W : Type 0} {did : W → List WireAct → W → Type 0} where
     counted = length_behind s.waits came ∙ ap (λ m. m + 1) s.counted;
   }
 
+  pub none_polled : (a : Line W) → PolledBy did 0 a a
+  none_polled a = record { came = []; run = refl; counted = refl }
+
+  pub polled_more : {a b c : Line W} {n : ℕ} {came : LineEvent} → PolledBy did n a b → Polls did b came c → PolledBy did (n + 1) a c
+  polled_more {a} {b} {c} {n} {came} s one = record {
+    came = s.came ++ came ∷ [];
+    run = chain_more (Polls did) a b c s.came (came ∷ []) s.run one;
+    counted = length_behind s.came came ∙ ap (λ m. m + 1) s.counted;
+  }
+
+  -- and the last wait brought nothing
+  pub polled_out : {a b c : Line W} {n : ℕ} {came : LineEvent} → PolledBy did n a b → Polls did b came c → has_come came ≡ false → Polled did a c
+  polled_out {a} {b} {c} {n} {came} s one none = record {
+    came = s.came ++ came ∷ [];
+    run = chain_more (Polls did) a b c s.came (came ∷ []) s.run one;
+    over = inr (inl (quiet_behind s.came came none));
+  }
+
   pub given_more : (a : Line W) (xs : List (ArrayVec ℕ)) (i : ℕ) (x : ArrayVec ℕ) (b c : Line W) → i < length xs → get_or xs i x ≡ x → Chain (Gives did) a (take i xs) b → Gives did b x c → Chain (Gives did) a (take (i + 1) xs) c
   given_more a xs i x b c here is so_far one =
       let front : take (i + 1) xs ≡ take i xs ++ x ∷ [] = subst (λ y. take (i + 1) xs ≡ take i xs ++ y ∷ []) is (take_more xs i x here) in
@@ -97,9 +133,9 @@ module _ {W : Type 0} {did : W → List WireAct → W → Type 0} where
   one_given m true a b given = record { given = m ∷ []; rest = []; all = refl; run = given; whole = λ e. refl; refused = λ e. absurd (cc) }
   one_given m false a b (same, full) = record { given = []; rest = m ∷ []; all = refl; run = sym same; whole = λ e. absurd (cc); refused = λ e. subst (λ (x : Line W). takes x.end.link.state x.end.link ≡ false) (sym same) full }
 
-  pub reads_some : (room until second : ℕ) (answer : Result LinkFrame LinkFault) (a b : Line W) → ¬ (room ≡ 0) → Reads did until second answer a b → ReadsFor did room until second answer a b
-  reads_some zero until second answer a b some reads = absurd (some refl)
-  reads_some (suc room) until second answer a b some reads = reads
+  pub reads_some : (room until second left : ℕ) (answer : Result LinkFrame LinkFault) (a b : Line W) → ¬ (room ≡ 0) → Reads did until second left answer a b → ReadsFor did room until second left answer a b
+  reads_some zero until second left answer a b some reads = absurd (some refl)
+  reads_some (suc room) until second left answer a b some reads = reads
 
   pub refused_at : (a : Line W) (xs : List (ArrayVec ℕ)) (i : ℕ) (b c : Line W) → Chain (Gives did) a (take i xs) b → (c ≡ b) × (takes b.end.link.state b.end.link ≡ false) → GivesAll did xs false a c
   refused_at a xs i b c run (same, full) = record {
@@ -111,8 +147,8 @@ module _ {W : Type 0} {did : W → List WireAct → W → Type 0} where
     refused = λ e. subst (λ (x : Line W). takes x.end.link.state x.end.link ≡ false) (sym same) full;
   }
 
-  pub comes_by : (room until second : ℕ) (answer : Result LinkFrame LinkFault) (a b : Line W) → ¬ (room ≡ 0) → Reads did until second answer a b → IfOk answer (λ f. MayCome Exchange room f)
-  comes_by room until second (Ok (frames.Message m)) a b some reads = omega (arith, some)
-  comes_by room until second (Ok (frames.EndOfTurn said)) a b some reads = tt
-  comes_by room until second (Ok frames.EndOfDay) a b some reads = absurd reads.answers
-  comes_by room until second (Err fault) a b some reads = tt
+  pub comes_by : (room until second left : ℕ) (answer : Result LinkFrame LinkFault) (a b : Line W) → ¬ (room ≡ 0) → Reads did until second left answer a b → IfOk answer (λ f. MayCome Exchange room f)
+  comes_by room until second left (Ok (frames.Message m)) a b some reads = omega (arith, some)
+  comes_by room until second left (Ok (frames.EndOfTurn said)) a b some reads = tt
+  comes_by room until second left (Ok frames.EndOfDay) a b some reads = absurd reads.answers
+  comes_by room until second left (Err fault) a b some reads = tt

@@ -1,5 +1,5 @@
 -- A live day over a data link: what each act does to its link, its clock and its record.
-use Rattle.std.specs.Prelude.{◌≡◌, ◌⊎◌, ℕ, ◌+◌, ◌≤◌, ◌<◌, min, zero, ◌&&◌, not, Bool, true, false, List, [], ◌∷◌, ◌++◌, Some, None, Result, Ok, Err}
+use Rattle.std.specs.Prelude.{◌≡◌, ◌⊎◌, ℕ, ◌+◌, ◌-◌, length, ◌≤◌, ◌<◌, min, zero, ◌&&◌, not, Bool, true, false, List, [], ◌∷◌, ◌++◌, Option, Some, None, Result, Ok, Err}
 use Rattle.arrayvec.specs.ArrayVec.{ArrayVec}
 use Rattle.bx_frames.specs.Frames.{frames_of, turn_frame}
 use Rattle.bx_frames.specs.declared.fault.LinkFault.{LinkFault}
@@ -9,13 +9,13 @@ use Rattle.bx_lapd.specs.Links.{is_up}
 use Rattle.bx_lapd.specs.Table.{takes}
 use Rattle.bx_live.specs.declared.world.Begin.{Begin}
 use Rattle.bx_live.specs.declared.world.Begin.TheVariants.{Late, Alone, Joined, Ended}
-use Rattle.bx_live.specs.Acts.{Act, Began, Dropped, Recorded, Synced, Wrote, Read, EndedDay}
+use Rattle.bx_live.specs.Acts.{Act, Began, Dropped, Recorded, Synced, Wrote, Read, Took, EndedDay}
 use Rattle.bx_live_parts.specs.Chains.{Chain}
 use Rattle.bx_live_parts.specs.Records.{OnRecord}
 use Rattle.bx_live_parts.specs.Schedules.{instant_of}
 use Rattle.bx_line_world.specs.Wires.{WireAct}
-use Rattle.bx_line_world.specs.Posts.{with_messages, begun_by, dropped_by, is_lost}
-use Rattle.bx_line_world.specs.Serving.{Served, Asks, Gives, is_idle}
+use Rattle.bx_line_world.specs.Posts.{with_messages, begun_by, dropped_by, is_lost, IsNoneWithin}
+use Rattle.bx_line_world.specs.Serving.{Served, Polled, Asks, Gives, is_idle}
 use Rattle.bx_line_world.specs.declared.line.Line.{Line}
 use Rattle.bx_line_world.specs.declared.line_world.LineWorld.{LineWorld}
 
@@ -59,34 +59,75 @@ pub record Writes {W : Type 0} (did : W → List WireAct → W → Type 0) (octe
   pub gives : GivesAll did messages done old new
 
 -- what is answered behind a wait: a loss, else the first message, else the end of the turn, which this world makes itself
-abbrev pub Answers : {W : Type 0} → ℕ → Line W → Result Frame LinkFault → Line W → Type 0
-Answers second waited (Err fault) new = (waited.post.lost ≡ Some fault) × (new ≡ waited)
-Answers second waited (Ok (frames.Message m)) new = (waited.post.lost ≡ None) × (rest : List (ArrayVec ℕ)) × (waited.post.messages.items ≡ m ∷ rest) × (new ≡ record waited { post = with_messages waited.post rest })
-Answers second waited (Ok (frames.EndOfTurn said)) new = (waited.post.lost ≡ None) × (waited.post.messages.items ≡ []) × (said ≡ second) × (new ≡ waited)
-Answers second waited (Ok frames.EndOfDay) new = ⊥
+-- A message that has more octets than are left in the second waits for the next
+abbrev pub Answers : {W : Type 0} → ℕ → ℕ → Line W → Result Frame LinkFault → Line W → Type 0
+Answers second left waited (Err fault) new = (waited.post.lost ≡ Some fault) × (new ≡ waited)
+Answers second left waited (Ok (frames.Message m)) new = (waited.post.lost ≡ None) × (rest : List (ArrayVec ℕ)) × (waited.post.messages.items ≡ m ∷ rest) × (length m.items ≤ left) × (new ≡ record waited { post = with_messages waited.post rest })
+Answers second left waited (Ok (frames.EndOfTurn said)) new = (waited.post.lost ≡ None) × IsNoneWithin left waited.post × (said ≡ second) × (new ≡ waited)
+Answers second left waited (Ok frames.EndOfDay) new = ⊥
 
 -- the turn lasts until the next second begins
-pub record Reads {W : Type 0} (did : W → List WireAct → W → Type 0) (until second : ℕ) (answer : Result Frame LinkFault) (old new : Line W) : Type 0 where
+pub record Reads {W : Type 0} (did : W → List WireAct → W → Type 0) (until second left : ℕ) (answer : Result Frame LinkFault) (old new : Line W) : Type 0 where
   pub waited : Line W
   pub served : Served did until true old waited
-  pub answers : Answers second waited answer new
+  pub answers : Answers second left waited answer new
 
 -- where no message may come any more, the turn ends at once
-abbrev pub ReadsFor : {W : Type 0} → (W → List WireAct → W → Type 0) → ℕ → ℕ → ℕ → Result Frame LinkFault → Line W → Line W → Type 0
-ReadsFor did zero until second answer old new = (answer ≡ Ok (frames.EndOfTurn second)) × (new ≡ old)
-ReadsFor did room until second answer old new = Reads did until second answer old new
+abbrev pub ReadsFor : {W : Type 0} → (W → List WireAct → W → Type 0) → ℕ → ℕ → ℕ → ℕ → Result Frame LinkFault → Line W → Line W → Type 0
+ReadsFor did zero until second left answer old new = (answer ≡ Ok (frames.EndOfTurn second)) × (new ≡ old)
+ReadsFor did room until second left answer old new = Reads did until second left answer old new
+
+-- the first message, where nothing was lost and the second has octets left for it
+abbrev pub TakesWaiting : {W : Type 0} → ℕ → Line W → Option (ArrayVec ℕ) → Line W → Type 0
+TakesWaiting left polled (Some m) new = (polled.post.lost ≡ None) × (rest : List (ArrayVec ℕ)) × (polled.post.messages.items ≡ m ∷ rest) × (length m.items ≤ left) × (new ≡ record polled { post = with_messages polled.post rest })
+TakesWaiting left polled None new = ((is_lost polled.post.lost ≡ true) ⊎ IsNoneWithin left polled.post) × (new ≡ polled)
+
+-- what is there already is heard, up to a message
+pub record Takes {W : Type 0} (did : W → List WireAct → W → Type 0) (left : ℕ) (message : Option (ArrayVec ℕ)) (old new : Line W) : Type 0 where
+  pub polled : Line W
+  pub polls : Polled did old polled
+  pub takes : TakesWaiting left polled message new
+
+-- the octets of messages that a second takes at most: what a line of 64 kbit/s carries in it
+abbrev pub most_octets : ℕ
+most_octets = 8000
+
+-- the octets of a message that was read
+abbrev pub octets_in : Result Frame LinkFault → ℕ
+octets_in (Ok (frames.Message m)) = length m.items
+octets_in answer = 0
+
+abbrev pub octets_of : Option (ArrayVec ℕ) → ℕ
+octets_of (Some m) = length m.items
+octets_of None = 0
+
+-- what a second has taken, and which it is
+abbrev pub OnSecond : {W D : Type 0} → LineWorld W D → Act → LineWorld W D → Type 0
+OnSecond old (Began second begin) new = (new.second ≡ second) × (new.taken ≡ 0)
+OnSecond old (Read room answer) new = (new.second ≡ old.second) × (new.taken ≡ min (old.taken + octets_in answer) 4294967295)
+OnSecond old (Took message) new = (new.second ≡ old.second) × (new.taken ≡ min (old.taken + octets_of message) 4294967295)
+OnSecond old act new = (new.second ≡ old.second) × (new.taken ≡ old.taken)
 
 abbrev pub OnLine : {W D : Type 0} → (W → List WireAct → W → Type 0) → LineWorld W D → Act → LineWorld W D → Type 0
-OnLine did old (Began second begin) new = Begins did (instant_of old.schedule second) begin old.line new.line × (new.second ≡ second)
-OnLine did old (Dropped loss) new = (new.line ≡ record old.line { post = dropped_by old.line.post loss }) × (new.second ≡ old.second)
-OnLine did old (Wrote octets done) new = Writes did octets done old.line new.line × (new.second ≡ old.second)
-OnLine did old (Read room answer) new = ReadsFor did room (instant_of old.schedule (min (old.second + 1) 4294967295)) old.second answer old.line new.line × (new.second ≡ old.second)
-OnLine did old (Recorded event done) new = (new.line ≡ old.line) × (new.second ≡ old.second)
-OnLine did old (Synced done) new = (new.line ≡ old.line) × (new.second ≡ old.second)
-OnLine did old EndedDay new = (new.line ≡ old.line) × (new.second ≡ old.second)
+OnLine did old (Began second begin) new = Begins did (instant_of old.schedule second) begin old.line new.line
+OnLine did old (Dropped loss) new = (new.line ≡ record old.line { post = dropped_by old.line.post loss })
+OnLine did old (Wrote octets done) new = Writes did octets done old.line new.line
+OnLine did old (Read room answer) new = ReadsFor did room (instant_of old.schedule (min (old.second + 1) 4294967295)) old.second (most_octets - old.taken) answer old.line new.line
+OnLine did old (Took message) new = Takes did (most_octets - old.taken) message old.line new.line
+OnLine did old (Recorded event done) new = new.line ≡ old.line
+OnLine did old (Synced done) new = new.line ≡ old.line
+OnLine did old EndedDay new = new.line ≡ old.line
 
 -- one act
 pub record GoesByLine {W D : Type 0} (did : W → List WireAct → W → Type 0) (holds may_leave : D → List ℕ → Type 0) (moment : D → ℕ) (left_since : D → ℕ → List ℕ → Type 0) (old : LineWorld W D) (act : Act) (new : LineWorld W D) : Type 0 where
   pub recorded : OnRecord holds may_leave moment left_since old.record.disk act new.record.disk
   pub schedule : new.schedule ≡ old.schedule
   pub line : OnLine did old act new
+  pub second : OnSecond old act new
+
+-- the octets of the messages that were read
+abbrev pub octets_read : List Act → ℕ
+octets_read [] = 0
+octets_read (Read room answer ∷ acts) = octets_in answer + octets_read acts
+octets_read (Took message ∷ acts) = octets_of message + octets_read acts
+octets_read (act ∷ acts) = octets_read acts

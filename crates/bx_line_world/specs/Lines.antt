@@ -1,5 +1,5 @@
 -- A data link over its wire: what each event of it does.
-use Rattle.std.specs.Prelude.{◌≡◌, ℕ, ◌+◌, ◌-◌, ◌*◌, ◌/◌, min, max, Bool, true, List, [], ◌∷◌, ◌++◌, map, Option, Some, None}
+use Rattle.std.specs.Prelude.{◌≡◌, ℕ, ◌+◌, ◌-◌, ◌*◌, ◌/◌, ◌%◌, ◌==◌, ◌&&◌, min, max, Bool, true, false, List, [], ◌∷◌, ◌++◌, map, Option, Some, None}
 use Rattle.arrayvec.specs.ArrayVec.{ArrayVec}
 use Rattle.bx_lapd.specs.declared.frame.Frame.{Frame}
 use Rattle.bx_lapd.specs.Codec.{sent_octets}
@@ -7,7 +7,8 @@ use Rattle.bx_lapd.specs.Links.{Step, does}
 use Rattle.bx_lapd.specs.Table.{establish, takes, give, elapse, due_of}
 use Rattle.bx_lapd.specs.Endpoints.{hear_octets}
 use Rattle.bx_line_world.specs.Wires.{WireAct, Shown, Sent, Waited}
-use Rattle.bx_line_world.specs.Posts.{all_told_to}
+use Rattle.bx_line_world.specs.Posts.{all_told_to, is_full}
+use Rattle.bx_line_world.specs.declared.post.Post.{Post}
 use Rattle.bx_line_world.specs.declared.line.Line.{Line}
 
 -- what happens at a data link, and what the clock showed then
@@ -20,6 +21,8 @@ pub data LineEvent : Type 0 where
   Elapsed : (shown : ℕ) → LineEvent
   -- octets came while an instant was waited for
   Heard : (until : ℕ) (octets : List ℕ) (shown : ℕ) → LineEvent
+  -- octets of a message came so, for which there is no room
+  Passed : (until : ℕ) (octets : List ℕ) → LineEvent
   -- none came in a slice of such a wait
   Quiet : (until : ℕ) → LineEvent
 
@@ -53,6 +56,7 @@ step_of s (Asked shown) = establish s.end.link.state s.end.link (time_at s shown
 step_of s (Given m shown) = give s.end.link m (time_at s shown)
 step_of s (Elapsed shown) = elapse s.end.link (time_at s shown)
 step_of s (Heard until octets shown) = hear_octets s.end.network s.end.link octets (time_at s shown)
+step_of s (Passed until octets) = does s.end.link [] []
 step_of s (Quiet until) = does s.end.link [] []
 
 -- what the wire is asked first
@@ -61,6 +65,7 @@ asked_of s (Asked shown) = Shown shown ∷ []
 asked_of s (Given m shown) = Shown shown ∷ []
 asked_of s (Elapsed shown) = Shown shown ∷ []
 asked_of s (Heard until octets shown) = Waited (slice_of s until) (Some octets) ∷ Shown shown ∷ []
+asked_of s (Passed until octets) = Waited (slice_of s until) (Some octets) ∷ []
 asked_of s (Quiet until) = Waited (slice_of s until) None ∷ []
 
 abbrev pub sent_as : Bool → Frame → WireAct
@@ -75,6 +80,7 @@ shown_by before (Asked shown) = shown
 shown_by before (Given m shown) = shown
 shown_by before (Elapsed shown) = shown
 shown_by before (Heard until octets shown) = shown
+shown_by before (Passed until octets) = before
 shown_by before (Quiet until) = before
 
 abbrev pub passed_after : {W : Type 0} → Line W → LineEvent → ℕ
@@ -82,11 +88,24 @@ passed_after s (Asked shown) = passed_by s.passed s.shown shown
 passed_after s (Given m shown) = passed_by s.passed s.shown shown
 passed_after s (Elapsed shown) = passed_by s.passed s.shown shown
 passed_after s (Heard until octets shown) = passed_by s.passed s.shown shown
+passed_after s (Passed until octets) = s.passed
 passed_after s (Quiet until) = s.passed
 
--- a message is given only where the link takes it
+-- the octets of an I frame: the third of them is even
+abbrev pub is_information : List ℕ → Bool
+is_information (first ∷ second ∷ control ∷ rest) = control % 2 == 0
+is_information octets = false
+
+-- An I frame that comes while 64 messages wait is passed over, as if it was lost on the way: it is not acknowledged, and the other
+-- end's link sends it again.
+abbrev pub is_passed : Post → List ℕ → Bool
+is_passed p octets = is_full p && is_information octets
+
+-- a message is given only where the link takes it, and one that comes is heard where there is room for it
 abbrev pub IsTaken : {W : Type 0} → Line W → LineEvent → Type 0
 IsTaken s (Given m shown) = takes s.end.link.state s.end.link ≡ true
+IsTaken s (Heard until octets shown) = is_passed s.post octets ≡ false
+IsTaken s (Passed until octets) = is_passed s.post octets ≡ true
 IsTaken s event = Unit {0}
 
 -- an event has happened: just this went over the wire, and the link has taken just this step

@@ -1,5 +1,5 @@
 -- What a link has told, and the day has not heard.
-use Rattle.std.specs.Prelude.{ℕ, nat_lt, Bool, true, false, List, [], ◌∷◌, ◌++◌, length, Option, Some, None}
+use Rattle.std.specs.Prelude.{◌≡◌, ◌⊎◌, ◌<◌, ℕ, nat_lt, nat_le, Bool, true, false, List, [], ◌∷◌, ◌++◌, length, Option, Some, None}
 use Rattle.arrayvec.specs.ArrayVec.{ArrayVec}
 use Rattle.bx_frames.specs.declared.fault.LinkFault.{LinkFault}
 use Rattle.bx_frames.specs.declared.fault.LinkFault.TheVariants.{LinkReset, MoreThan64Messages}
@@ -51,9 +51,17 @@ abbrev pub dropped_by : Post → Loss → Post
 dropped_by p losses.Late = p
 dropped_by p (losses.Fault fault) = record p { here = false; lost = Some fault }
 
+-- no message is there; or the first has more octets than this
+abbrev pub IsNoneWithin : ℕ → Post → Type 0
+IsNoneWithin left p = (p.messages.items ≡ []) ⊎ ((m : ArrayVec ℕ) × (rest : List (ArrayVec ℕ)) × (p.messages.items ≡ m ∷ rest) × (left < length m.items))
+
 abbrev pub is_lost : Option LinkFault → Bool
 is_lost None = false
 is_lost (Some fault) = true
+
+-- no message more has room
+abbrev pub is_full : Post → Bool
+is_full p = nat_le 64 (length p.messages.items)
 
 abbrev pub is_any : List (ArrayVec ℕ) → Bool
 is_any [] = false

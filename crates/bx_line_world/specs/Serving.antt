@@ -1,12 +1,12 @@
 -- A data link that is served while an instant is waited for.
-use Rattle.std.specs.Prelude.{◌≡◌, ◌⊎◌, ℕ, nat_le, ◌&&◌, ◌||◌, not, Bool, true, false, List, length, is_some}
+use Rattle.std.specs.Prelude.{◌≡◌, ◌⊎◌, ℕ, nat_le, ◌&&◌, ◌||◌, not, Bool, true, false, List, [], ◌∷◌, length, is_some}
 use Rattle.arrayvec.specs.ArrayVec.{ArrayVec}
 use Rattle.bx_lapd.specs.Links.{Link, is_up}
 use Rattle.bx_lapd.specs.Table.{due_of}
 use Rattle.bx_live_parts.specs.Chains.{Chain}
 use Rattle.bx_line_world.specs.Wires.{WireAct}
 use Rattle.bx_line_world.specs.Posts.{is_lost, is_any}
-use Rattle.bx_line_world.specs.Lines.{LineEvent, Asked, Given, Elapsed, Heard, Quiet, Serves}
+use Rattle.bx_line_world.specs.Lines.{LineEvent, Asked, Given, Elapsed, Heard, Passed, Quiet, Serves}
 use Rattle.bx_line_world.specs.declared.line.Line.{Line}
 use Rattle.bx_line_world.specs.declared.post.Post.{Post}
 
@@ -20,6 +20,7 @@ is_over s until in_turn = nat_le until s.shown || (in_turn && has_news s.post)
 
 abbrev pub IsWait : ℕ → LineEvent → Type 0
 IsWait until (Heard end octets shown) = end ≡ until
+IsWait until (Passed end octets) = end ≡ until
 IsWait until (Quiet end) = end ≡ until
 IsWait until event = ⊥
 
@@ -31,6 +32,29 @@ pub record Slice {W : Type 0} (did : W → List WireAct → W → Type 0) (until
   pub goes_on : is_over between until in_turn ≡ false
   pub is_wait : IsWait until came
   pub waited : Serves did between came new
+
+-- a frame was heard that is there already, where there is no news: a wait that ends at once lasts the least slice
+pub record Polls {W : Type 0} (did : W → List WireAct → W → Type 0) (old : Line W) (came : LineEvent) (new : Line W) : Type 0 where
+  pub goes_on : has_news old.post ≡ false
+  pub is_wait : IsWait 0 came
+  pub waited : Serves did old came new
+
+abbrev pub has_come : LineEvent → Bool
+has_come (Heard until octets shown) = true
+has_come (Passed until octets) = true
+has_come event = false
+
+-- the last of these brought nothing
+abbrev pub ends_quiet : List LineEvent → Bool
+ends_quiet [] = false
+ends_quiet (came ∷ []) = not (has_come came)
+ends_quiet (came ∷ after ∷ more) = ends_quiet (after ∷ more)
+
+-- the frames that are there already were heard: until there is news, or none is there any more, or 64 were heard
+pub record Polled {W : Type 0} (did : W → List WireAct → W → Type 0) (old new : Line W) : Type 0 where
+  pub came : List LineEvent
+  pub run : Chain (Polls did) old came new
+  pub over : (has_news new.post ≡ true) ⊎ ((ends_quiet came ≡ true) ⊎ (length came ≡ 64))
 
 -- so many slices, one after another
 pub record Sliced {W : Type 0} (did : W → List WireAct → W → Type 0) (until : ℕ) (in_turn : Bool) (old new : Line W) (count : ℕ) : Type 0 where

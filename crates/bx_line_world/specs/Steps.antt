@@ -1,14 +1,15 @@
 -- Private: what the functions of a line promise one another.
-use Rattle.std.specs.Prelude.{◌≡◌, ℕ, Bool, true, false, List, [], ◌∷◌, map, Option, Some, None}
+use Rattle.std.specs.Prelude.{◌≡◌, ℕ, ◌≤◌, Bool, true, false, List, [], ◌∷◌, length, map, Option, Some, None}
 use Rattle.arrayvec.specs.ArrayVec.{ArrayVec}
 use Rattle.bx_lapd.specs.declared.frame.Frame.{Frame}
 use Rattle.bx_lapd.specs.declared.indication.Indication.{Indication}
 use Rattle.bx_lapd.specs.Links.{Did}
 use Rattle.bx_lapd.specs.Table.{takes}
 use Rattle.bx_line_world.specs.Wires.{WireAct, Shown}
-use Rattle.bx_line_world.specs.Posts.{all_told_to, with_messages}
+use Rattle.bx_line_world.specs.Posts.{all_told_to, with_messages, IsNoneWithin}
 use Rattle.bx_line_world.specs.Lines.{LineEvent, Elapsed, Serves, passed_by, sent_as}
-use Rattle.bx_line_world.specs.Serving.{Gives, IsWait, Slice, is_over}
+use Rattle.bx_line_world.specs.Serving.{Gives, IsWait, Slice, Polls, has_come, is_over}
+use Rattle.bx_live_parts.specs.Chains.{Chain}
 use Rattle.bx_line_world.specs.declared.line.Line.{Line}
 use Rattle.bx_line_world.specs.declared.post.Post.{Post}
 
@@ -38,16 +39,22 @@ abbrev pub GivesWhere : {W : Type 0} → (W → List WireAct → W → Type 0) �
 GivesWhere did message true old new = Gives did old message new
 GivesWhere did message false old new = (new ≡ old) × (takes old.end.link.state old.end.link ≡ false)
 
--- a frame was waited for
-abbrev pub Waits : {W : Type 0} → (W → List WireAct → W → Type 0) → ℕ → Line W → Line W → Type 0
-Waits did until old new = (came : LineEvent) × IsWait until came × Serves did old came new
+-- a frame was waited for, and came or did not
+abbrev pub Waits : {W : Type 0} → (W → List WireAct → W → Type 0) → ℕ → Bool → Line W → Line W → Type 0
+Waits did until has old new = (came : LineEvent) × IsWait until came × Serves did old came new × (has ≡ has_come came)
+
+-- so many frames that are there already were heard
+pub record PolledBy {W : Type 0} (did : W → List WireAct → W → Type 0) (count : ℕ) (old new : Line W) : Type 0 where
+  pub came : List LineEvent
+  pub run : Chain (Polls did) old came new
+  pub counted : length came ≡ count
 
 -- one look and one wait, or a look at which the wait is over
 abbrev pub GoesOn : {W : Type 0} → (W → List WireAct → W → Type 0) → ℕ → Bool → Bool → Line W → Line W → Type 0
 GoesOn did until in_turn true old new = (shown : ℕ) × Serves did old (Elapsed shown) new × (is_over new until in_turn ≡ true)
 GoesOn did until in_turn false old new = (came : LineEvent) × Slice did until in_turn old came new
 
--- the first message is taken, where one is there
-abbrev pub TakesFirst : Post → Option (ArrayVec ℕ) → Post → Type 0
-TakesFirst old None new = (old.messages.items ≡ []) × (new ≡ old)
-TakesFirst old (Some m) new = (rest : List (ArrayVec ℕ)) × (old.messages.items ≡ m ∷ rest) × (new ≡ with_messages old rest)
+-- the first message is taken, where one is there that has at most so many octets
+abbrev pub TakesFirst : ℕ → Post → Option (ArrayVec ℕ) → Post → Type 0
+TakesFirst left old None new = IsNoneWithin left old × (new ≡ old)
+TakesFirst left old (Some m) new = (rest : List (ArrayVec ℕ)) × (old.messages.items ≡ m ∷ rest) × (length m.items ≤ left) × (new ≡ with_messages old rest)

@@ -2,7 +2,7 @@
 
 ghost use Rattle.std.specs.Prelude.{◌≡◌, ◌∷◌, [], ℕ, ◌<◌, ◌^◌, is_ok};
 ghost use Rattle.bx_line_world.specs.Posts.{no_post};
-ghost use Rattle.bx_line_world.specs.Lines.{Elapsed, Serves, instant_in, slice_of, sent_as};
+ghost use Rattle.bx_line_world.specs.Lines.{Elapsed, Serves, instant_in, slice_of, sent_as, is_information, is_passed};
 ghost use Rattle.bx_line_world.specs.Serving.{Asks, is_idle, is_over};
 ghost use Rattle.bx_line_world.specs.Steps.{Looks, with_wire, Sends, keeps, Carries, GivesWhere, Waits};
 
@@ -83,6 +83,22 @@ impl<W> Line<W> {
         ensures { result ≡ is_idle self.now.end.link }
     {
         !self.end.is_up() && !self.end.due().is_some()
+    }
+}
+
+/// Whether these are the octets of an I frame.
+fn is_information(octets: &[u8]) -> bool
+    ensures { result ≡ is_information octets.now }
+{
+    octets.len() > 2 && octets[2] % 2 == 0
+}
+
+impl<W> Line<W> {
+    /// Whether octets that came are of a message for which there is no room.
+    fn passes_over(&self, octets: &[u8]) -> bool
+        ensures { result ≡ is_passed self.now.post octets.now }
+    {
+        self.post.is_full() && is_information(octets)
     }
 }
 
@@ -167,20 +183,22 @@ impl<W: Wire> Line<W> {
         self.carry_out(&done);
     }
 
-    /// Waits for a frame up to an instant, or a slice of that.
-    pub(crate) fn wait(&mut self, until: u128)
-        ensures { Waits W.did until self.old self.new }
+    /// Waits for a frame up to an instant, or a slice of that. Answers whether one came.
+    pub(crate) fn wait(&mut self, until: u128) -> bool
+        ensures { Waits W.did until result self.old self.new }
     {
         let slice = self.slice(until);
         let mut room = [0u8; 512];
-        match self.wire.receive(&mut room, slice) {
-            Some(count) => {
-                self.look();
-                let now = self.now();
-                let done = self.end.receive(&room[..count], now);
-                self.carry_out(&done);
-            }
-            None => {}
+        let Some(count) = self.wire.receive(&mut room, slice) else {
+            return false;
+        };
+        if self.passes_over(&room[..count]) {
+            return true;
         }
+        self.look();
+        let now = self.now();
+        let done = self.end.receive(&room[..count], now);
+        self.carry_out(&done);
+        true
     }
 }

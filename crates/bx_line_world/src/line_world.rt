@@ -1,7 +1,7 @@
 //! A live day over a data link: by the clock, towards whoever is at the other end of the wire.
 
-ghost use Rattle.std.specs.Prelude.{◌≡◌, is_ok};
-ghost use Rattle.bx_line_world.specs.Days.{IsBegun, Begins, GivesAll, Reads};
+ghost use Rattle.std.specs.Prelude.{◌≡◌, is_ok, Ok};
+ghost use Rattle.bx_line_world.specs.Days.{IsBegun, Begins, GivesAll, Takes, Reads, octets_in};
 
 use crate::line::Line;
 use crate::post::copied;
@@ -19,9 +19,23 @@ use bx_q931::Octets;
 pub struct LineWorld<W, D: Disk> {
     pub schedule: Schedule,
     pub line: Line<W>,
-    /// The second that began last.
+    /// The second that began last, and the octets of the messages that it has taken.
     pub second: u32,
+    pub taken: u32,
     pub record: Record<D>,
+}
+
+/// The octets of messages that a second takes at most: what a line of 64 kbit/s carries in it.
+const MOST_OCTETS: u32 = 8000;
+
+/// The octets of a message that was read.
+fn octets_in(frame: &Frame) -> u32
+    ensures { result ≡ octets_in (Ok frame.now) }
+{
+    match frame {
+        Frame::Message(message) => message.len() as u32,
+        Frame::EndOfTurn(_) | Frame::EndOfDay => 0,
+    }
 }
 
 impl<W, D: Disk> LineWorld<W, D> {
@@ -35,6 +49,7 @@ impl<W, D: Disk> LineWorld<W, D> {
             schedule,
             line,
             second: 0,
+            taken: 0,
             record: kept,
         }
     }
@@ -79,16 +94,27 @@ impl<W: Wire> Line<W> {
         Ok(())
     }
 
-    /// The next message of a turn that lasts until an instant, or its end.
-    fn next(&mut self, until: u128, second: u32) -> Result<Frame, LinkFault>
-        ensures { Reads W.did until second result self.old self.new }
+    /// The first message of those that are there already.
+    fn take_waiting(&mut self, left: u32) -> Option<Octets>
+        ensures { Takes W.did left result self.old self.new }
+    {
+        self.poll();
+        if self.post.lost.is_some() {
+            return None;
+        }
+        self.post.take_first(left)
+    }
+
+    /// The next message of a turn that lasts until an instant, or its end. One that has more octets than are left waits for the next turn.
+    fn next(&mut self, until: u128, second: u32, left: u32) -> Result<Frame, LinkFault>
+        ensures { Reads W.did until second left result self.old self.new }
     {
         self.serve(until, true);
         match self.post.lost {
             Some(fault) => return Err(fault),
             None => {}
         }
-        match self.post.take_first() {
+        match self.post.take_first(left) {
             Some(message) => Ok(Frame::Message(message)),
             None => Ok(Frame::EndOfTurn(second)),
         }
@@ -104,6 +130,7 @@ impl<W: Wire, D: Disk> World for LineWorld<W, D> {
 
     fn begin(&mut self, second: u32) -> Begin {
         self.second = second;
+        self.taken = 0;
         self.line.begin(self.schedule.instant(second))
     }
 
@@ -128,11 +155,21 @@ impl<W: Wire, D: Disk> World for LineWorld<W, D> {
     }
 
     fn read(&mut self, room: u32) -> Result<Frame, LinkFault> {
+        let left = MOST_OCTETS.saturating_sub(self.taken);
         if room == 0 {
             return Ok(Frame::EndOfTurn(self.second));
         }
         let until = self.schedule.instant(self.second.saturating_add(1));
-        self.line.next(until, self.second)
+        let frame = self.line.next(until, self.second, left)?;
+        self.taken = self.taken.saturating_add(octets_in(&frame));
+        Ok(frame)
+    }
+
+    fn take_waiting(&mut self) -> Option<Octets> {
+        let left = MOST_OCTETS.saturating_sub(self.taken);
+        let message = self.line.take_waiting(left)?;
+        self.taken = self.taken.saturating_add(message.len() as u32);
+        Some(message)
     }
 
     fn end_day(&mut self) {}

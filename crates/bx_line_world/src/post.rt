@@ -2,7 +2,7 @@
 
 ghost use Rattle.std.specs.Prelude.{◌≡◌};
 ghost use Rattle.bx_lapd.specs.declared.indication.Indication.TheVariants.{Delivered};
-ghost use Rattle.bx_line_world.specs.Posts.{no_post, told_to, reset, begun_by, dropped_by};
+ghost use Rattle.bx_line_world.specs.Posts.{no_post, is_full, told_to, reset, begun_by, dropped_by};
 ghost use Rattle.bx_line_world.specs.Serving.{has_news};
 ghost use Rattle.bx_line_world.specs.Steps.{TakesFirst};
 
@@ -114,13 +114,23 @@ impl Post {
         }
     }
 
-    /// The first message, which is taken.
-    pub(crate) fn take_first(&mut self) -> Option<Octets>
-        ensures { TakesFirst self.old result self.new }
+    /// The first message, which is taken where it has at most so many octets.
+    pub(crate) fn take_first(&mut self, left: u32) -> Option<Octets>
+        ensures { TakesFirst left self.old result self.new }
     {
         if self.messages.is_empty() {
             return None;
         }
+        if self.messages[0].len() > left as usize {
+            return None;
+        }
         Some(self.messages.remove(0))
+    }
+
+    /// Whether one more message may be put.
+    pub(crate) fn is_full(&self) -> bool
+        ensures { result ≡ is_full self.now }
+    {
+        self.messages.len() >= 64
     }
 }

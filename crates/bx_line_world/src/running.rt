@@ -1,7 +1,8 @@
 //! A live day over a data link, by the clock.
 
-ghost use Rattle.std.specs.Prelude.{◌≡◌, max, min, OnOk};
+ghost use Rattle.std.specs.Prelude.{◌≡◌, OnOk};
 ghost use Rattle.bx_live.specs.Acts.{recorded};
+ghost use Rattle.bx_live.specs.Held.{AreHeld, IsHeldOut};
 ghost use Rattle.bx_live.specs.Runs.{Between, Done};
 ghost use Rattle.bx_live.specs.Running.{Runs, or_over};
 ghost use Rattle.bx_live_parts.specs.Chains.{Chain};
@@ -11,19 +12,19 @@ ghost use Rattle.bx_line_world.specs.Days.{GoesByLine};
 use crate::line_world::LineWorld;
 use crate::wire::Wire;
 use bx_day::Exchange;
-use bx_events::LAST_MOMENT;
 use bx_journal::Disk;
-use bx_live::{CannotRecord, run_live};
+use bx_live::{CannotRecord, run_held};
 
-/// Runs the rest of a day over a data link, up to a second of it, or to `LAST_MOMENT` where that is earlier. It comes to that second,
-/// whatever the line does; only where an event cannot be put on record it is over before, with `CannotRecord`.
+/// Runs the rest of a day over a data link, up to a second of it, or to `LAST_MOMENT` where that is earlier, and behind that on while a
+/// call is up. It comes there whatever the line does: where it is done no call is up, or there are no more seconds. Only where an event
+/// cannot be put on record it is over before, with `CannotRecord`.
 pub fn run_by_line<W: Wire, D: Disk>(
     exchange: &mut Exchange,
     world: &mut LineWorld<W, D>,
     last: u32,
 ) -> Result<(), CannotRecord>
-    ensures ran { (ran : Runs (Chain (GoesByLine W.did D.holds D.may_leave D.moment D.left_since)) world.old world.new (Between exchange.old) (or_over (Done exchange.new) exchange.new result)) × (exchange.new ≡ live_day_after (recorded ran.acts) exchange.old) }
-    ensures whole { OnOk result (exchange.new.moment ≡ max exchange.old.moment (min last LAST_MOMENT)) }
+    ensures ran { (ran : Runs (Chain (GoesByLine W.did D.holds D.may_leave D.moment D.left_since)) world.old world.new (Between exchange.old) (or_over (Done exchange.new) exchange.new result)) × (exchange.new ≡ live_day_after (recorded ran.acts) exchange.old) × AreHeld last exchange.old ran.acts }
+    ensures whole { OnOk result (IsHeldOut last exchange.new) }
 {
-    run_live(exchange, world, last)
+    run_held(exchange, world, last)
 }

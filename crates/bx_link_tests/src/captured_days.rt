@@ -3,11 +3,11 @@
 use crate::captured_octets::packet;
 use bx_calls::CallState;
 use bx_capture::{Captured, Direction};
+use bx_cases::messages::{CONNECT_ACKNOWLEDGE, CONNECT_CHANNEL_1, SETUP};
 use bx_channels::Channel;
 use bx_devices::{Failing, Watched};
 use bx_link::{run_day, run_far_day};
 use bx_worked_days::{exchange, far_end};
-use bx_worked_messages::{CONNECT_ACKNOWLEDGE, CONNECT_CHANNEL_1, SETUP};
 use std::alloc::Global;
 
 /// CONNECT and the end of turn, as frames to the exchange.

@@ -2,9 +2,9 @@
 
 use arrayvec::ArrayVec;
 use bx_capture::{Direction, write_file_header, write_packet};
+use bx_cases::messages::CONNECT_ACKNOWLEDGE;
 use bx_devices::Watched;
 use bx_q931::Octets;
-use bx_worked_messages::CONNECT_ACKNOWLEDGE;
 use std::alloc::Global;
 
 /// What stands at the front of each capture file.

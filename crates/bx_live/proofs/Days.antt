@@ -1,23 +1,20 @@
 -- The day of a run is the one after the events that are on record.
-use Rattle.std.proofs.Common.{◌≡◌, ℕ, ◌==◌, List, [], ◌∷◌, ◌++◌, OnOk, refl, sym, ap, ◌∙◌, true, false, Bool, Result, Ok, Err, if◌then◌else◌}
+use Rattle.std.proofs.Common.{◌≡◌, ℕ, zero, suc, ◌==◌, Option, Some, None, List, [], ◌∷◌, ◌++◌, OnOk, refl, sym, ap, ◌∙◌, true, false, Bool, Result, Ok, Err, if◌then◌else◌}
 use Rattle.arrayvec.specs.ArrayVec.{ArrayVec}
 use Rattle.bx_frames.specs.declared.fault.LinkFault.{LinkFault}
 use Rattle.bx_frames.specs.declared.frame.Frame.{Frame}
 use Rattle.bx_frames.specs.declared.frame.Frame.TheVariants as frames
 use Rattle.bx_day.specs.Day.{Day}
 use Rattle.bx_day.specs.Course.{exchange_next, exchange_sent, exchange_text}
-use Rattle.bx_events.specs.Events.{LiveEvent, OnLink, WithoutLink, Sold}
+use Rattle.bx_events.specs.Events.{Receive, LiveEvent, OnLink, WithoutLink, Sold}
 use Rattle.bx_day.specs.Outages.{live_day_after}
 use Rattle.bx_live.specs.declared.world.Begin.{Begin}
 use Rattle.bx_live.specs.declared.world.Begin.TheVariants as begins
 use Rattle.bx_live.specs.declared.world.CannotRecord.{CannotRecord}
 use Rattle.bx_live.specs.declared.world.Loss.{Loss}
 use Rattle.bx_live.specs.declared.world.Loss.TheVariants as losses
-use Rattle.bx_live.specs.declared.running.Second.{Second}
-use Rattle.bx_live.specs.declared.running.Second.TheVariants as seconds
-use Rattle.bx_live.specs.Seconds.{IsSaid}
-use Rattle.bx_live.specs.Acts.{Act, Began, Dropped, Recorded, Synced, Wrote, Read, EndedDay, recorded, ended}
-use Rattle.bx_live.specs.Runs.{Place, Between, Recording, Owing, Losing, Over, Closing, Done, IsDue, IsRun, next, day_at, owing, begun, heard, lost}
+use Rattle.bx_live.specs.Acts.{Act, Began, Dropped, Recorded, Synced, Wrote, Read, Took, EndedDay, recorded, ended}
+use Rattle.bx_live.specs.Runs.{Place, Between, Recording, Receiving, Taking, Owing, Losing, Over, Closing, Done, IsDue, IsRun, next, day_at, owing, with_reply, replying, writing, begun, heard, lost}
 use Rattle.bx_live.specs.Running.{or_over}
 use Rattle.bx_live.proofs.Due.{by_due}
 
@@ -25,6 +22,15 @@ pub owing_day : (d : Day) (room : ℕ) (sent : List (ArrayVec ℕ)) (text : List
 owing_day d room [] [] = refl
 owing_day d room [] (octet ∷ text) = refl
 owing_day d room (message ∷ sent) text = refl
+
+replying_day : (d : Day) (owed : List (List ℕ)) (room : ℕ) → day_at (replying d owed room) ≡ d
+replying_day d [] room = refl
+replying_day d (text ∷ owed) zero = refl
+replying_day d (text ∷ owed) (suc room) = refl
+
+writing_day : (d : Day) (room : ℕ) (texts : List (List ℕ)) → day_at (writing d room texts) ≡ d
+writing_day d room [] = refl
+writing_day d room (text ∷ texts) = refl
 
 begun_day : (d : Day) (begin : Begin) → day_at (begun d begin) ≡ d
 begun_day d begins.Late = refl
@@ -56,13 +62,21 @@ recorded_day d room WithoutLink true = refl
 recorded_day d room (Sold line) true = refl
 recorded_day d room event false = refl
 
-synced_day : (d : Day) (room : ℕ) (text : List ℕ) (done : Bool) → Steps (Owing d room true text) (Synced done)
-synced_day d room text true = refl
-synced_day d room text false = refl
+received_day : (d : Day) (room : ℕ) (owed : List (List ℕ)) (octets : List ℕ) (done : Bool) → Steps (Receiving d room owed octets) (Recorded (OnLink (Receive octets)) done)
+received_day d room owed octets true = replying_day (exchange_next d (Receive octets)) (with_reply owed (exchange_text d (Receive octets))) room
+received_day d room owed octets false = refl
 
-wrote_day : (d : Day) (room : ℕ) (text : List ℕ) (done : Bool) → Steps (Owing d room false text) (Wrote text done)
-wrote_day d room text true = refl
-wrote_day d room text false = refl
+took_day : (d : Day) (room : ℕ) (owed : List (List ℕ)) (message : Option (ArrayVec ℕ)) → Steps (Taking d room owed) (Took message)
+took_day d room owed (Some message) = refl
+took_day d room owed None = refl
+
+synced_day : (d : Day) (room : ℕ) (texts : List (List ℕ)) (done : Bool) → Steps (Owing d room true texts) (Synced done)
+synced_day d room texts true = refl
+synced_day d room texts false = refl
+
+wrote_day : (d : Day) (room : ℕ) (text : List ℕ) (texts : List (List ℕ)) (done : Bool) → Steps (Owing d room false (text ∷ texts)) (Wrote text done)
+wrote_day d room text texts true = writing_day d room texts
+wrote_day d room text texts false = refl
 
 closed_day : (d : Day) (done : Bool) → Steps (Between d) (Synced done)
 closed_day d true = refl
@@ -73,7 +87,7 @@ ended_day d true = refl
 ended_day d false = refl
 
 pub step_day : (p : Place) (act : Act) → IsDue p act → Steps p act
-step_day = by_due Steps begun_day recorded_day synced_day wrote_day heard_day lost_day closed_day ended_day (λ d. refl)
+step_day = by_due Steps begun_day recorded_day received_day took_day synced_day wrote_day heard_day lost_day closed_day ended_day (λ d. refl)
 
 -- the recorded events of one act, and of more
 more_recorded : (act : Act) (acts : List Act) (d : Day) → live_day_after (recorded (act ∷ acts)) d ≡ live_day_after (recorded acts) (live_day_after (recorded (act ∷ [])) d)
@@ -84,6 +98,7 @@ more_recorded (Recorded event false) acts d = refl
 more_recorded (Synced done) acts d = refl
 more_recorded (Wrote octets done) acts d = refl
 more_recorded (Read room answer) acts d = refl
+more_recorded (Took message) acts d = refl
 more_recorded EndedDay acts d = refl
 
 pub run_day : (p q : Place) (acts : List Act) → IsRun p acts q → day_at q ≡ live_day_after (recorded acts) (day_at p)
@@ -104,6 +119,7 @@ ended_inside xs ys zs e = behind xs (ys ++ zs) (before ys zs e) where
   before (Synced done ∷ ys) zs e = before ys zs e
   before (Wrote octets done ∷ ys) zs e = before ys zs e
   before (Read room answer ∷ ys) zs e = before ys zs e
+  before (Took message ∷ ys) zs e = before ys zs e
   before (EndedDay ∷ ys) zs e = before ys zs e
 
   behind : (xs ys : List Act) → ended ys ≡ true → ended (xs ++ ys) ≡ true
@@ -117,6 +133,7 @@ ended_inside xs ys zs e = behind xs (ys ++ zs) (before ys zs e) where
   behind (Synced done ∷ xs) ys e = behind xs ys e
   behind (Wrote octets done ∷ xs) ys e = behind xs ys e
   behind (Read room answer ∷ xs) ys e = behind xs ys e
+  behind (Took message ∷ xs) ys e = behind xs ys e
   behind (EndedDay ∷ xs) ys e = behind xs ys e
 
 -- of any answer, what holds anyway
@@ -128,9 +145,3 @@ at_any (Err e) p = tt
 pub closed_day_is : (p : Place) (d : Day) (r : Result (Unit {0}) CannotRecord) (acts : List Act) → IsRun p acts (or_over (Done d) d r) → d ≡ live_day_after (recorded acts) (day_at p)
 closed_day_is p d (Ok done) acts goes = run_day p (Done d) acts goes
 closed_day_is p d (Err fault) acts goes = run_day p (Over d) acts goes
-
--- a second that has passed was not the end
-pub none_said : {W : Type 0} (did : W → List Act → W → Type 0) (old new : W) (d d1 : Day) (r : Result Second CannotRecord) → ¬ (r ≡ Ok seconds.Ended) → IsSaid did old new d d1 r
-none_said did old new d d1 (Ok seconds.Passed) no_end = tt
-none_said did old new d d1 (Ok seconds.Ended) no_end = absurd (no_end refl)
-none_said did old new d d1 (Err fault) no_end = tt

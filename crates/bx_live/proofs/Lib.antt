@@ -4,3 +4,5 @@ pub mod Days
 pub mod Onward
 pub mod Moments
 pub mod Told
+pub mod Replies
+pub mod HeldRuns

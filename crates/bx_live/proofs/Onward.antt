@@ -1,8 +1,8 @@
 -- Whatever is written belongs to the last event on record.
-use Rattle.std.proofs.Common.{◌≡◌, ◌⊎◌, inl, inr, ℕ, ◌+◌, List, [], ◌∷◌, ◌++◌, refl, sym, ap, ◌∙◌, subst, true, false, Bool, Result, Ok, Err, ◌==◌, if◌then◌else◌}
+use Rattle.std.proofs.Common.{◌≡◌, ◌⊎◌, inl, inr, ℕ, zero, suc, ◌+◌, Option, Some, None, List, [], ◌∷◌, ◌++◌, refl, sym, ap, ◌∙◌, subst, true, false, Bool, Result, Ok, Err, ◌==◌, if◌then◌else◌}
 use Rattle.std.proofs.lemmas.List.{append-nil, append_assoc}
 use Rattle.arrayvec.specs.ArrayVec.{ArrayVec}
-use Rattle.bx_events.specs.Events.{Event, LiveEvent, OnLink, WithoutLink, Sold}
+use Rattle.bx_events.specs.Events.{Event, Tick, Receive, LiveEvent, OnLink, WithoutLink, Sold}
 use Rattle.bx_frames.specs.declared.fault.LinkFault.{LinkFault}
 use Rattle.bx_frames.specs.declared.frame.Frame.{Frame}
 use Rattle.bx_frames.specs.declared.frame.Frame.TheVariants as frames
@@ -13,9 +13,9 @@ use Rattle.bx_live.specs.declared.world.Begin.{Begin}
 use Rattle.bx_live.specs.declared.world.Begin.TheVariants as begins
 use Rattle.bx_live.specs.declared.world.Loss.{Loss}
 use Rattle.bx_live.specs.declared.world.Loss.TheVariants as losses
-use Rattle.bx_live.specs.Acts.{Act, Began, Dropped, Recorded, Synced, Wrote, Read, EndedDay, recorded}
-use Rattle.bx_live.specs.Runs.{Place, Between, Recording, Owing, Hearing, Losing, Over, Closing, Ending, Done, IsDue, IsRun, next, day_at, owing, begun, heard, lost}
-use Rattle.bx_live.specs.Written.{Filed, filed, filed_by, IsWrittenFor}
+use Rattle.bx_live.specs.Acts.{Act, Began, Dropped, Recorded, Synced, Wrote, Read, Took, EndedDay, recorded}
+use Rattle.bx_live.specs.Runs.{Place, Between, Recording, Receiving, Taking, Owing, Hearing, Losing, Over, Closing, Ending, Done, IsDue, IsRun, next, day_at, owing, with_reply, replying, writing, begun, heard, lost}
+use Rattle.bx_live.specs.Written.{Filed, filed, filed_by, AreHeard, IsWrittenFor}
 use Rattle.bx_live.proofs.Due.{by_due}
 use Rattle.bx_live.proofs.Days.{step_day}
 
@@ -36,6 +36,7 @@ recorded_on (Recorded event false ∷ xs) ys = recorded_on xs ys
 recorded_on (Synced done ∷ xs) ys = recorded_on xs ys
 recorded_on (Wrote octets done ∷ xs) ys = recorded_on xs ys
 recorded_on (Read room answer ∷ xs) ys = recorded_on xs ys
+recorded_on (Took message ∷ xs) ys = recorded_on xs ys
 recorded_on (EndedDay ∷ xs) ys = recorded_on xs ys
 
 filed_on : (xs ys : List Act) (f : Filed) → filed_by (xs ++ ys) f ≡ filed_by ys (filed_by xs f)
@@ -48,6 +49,7 @@ filed_on (Synced true ∷ xs) ys f = filed_on xs ys (record { disk = f.disk ++ f
 filed_on (Synced false ∷ xs) ys f = filed_on xs ys f
 filed_on (Wrote octets done ∷ xs) ys f = filed_on xs ys f
 filed_on (Read room answer ∷ xs) ys f = filed_on xs ys f
+filed_on (Took message ∷ xs) ys f = filed_on xs ys f
 filed_on (EndedDay ∷ xs) ys f = filed_on xs ys f
 
 -- all that is on record is on the disk, or behind the last sync
@@ -63,6 +65,7 @@ all_filed (Synced true ∷ xs) f = all_filed xs (record { disk = f.disk ++ f.mor
 all_filed (Synced false ∷ xs) f = all_filed xs f
 all_filed (Wrote octets done ∷ xs) f = all_filed xs f
 all_filed (Read room answer ∷ xs) f = all_filed xs f
+all_filed (Took message ∷ xs) f = all_filed xs f
 all_filed (EndedDay ∷ xs) f = all_filed xs f
 
 pub filed_law : (acts : List Act) → (filed acts).disk ++ (filed acts).more ≡ recorded acts
@@ -73,12 +76,20 @@ filed_law acts = all_filed acts (record { disk = []; more = [] })
 record IsOwed (d : Day) (acts : List Act) (unsynced : Bool) (text : List ℕ) : Type 0 where
   earlier : List LiveEvent
   event : Event
-  on_record : recorded acts ≡ earlier ++ OnLink event ∷ []
+  later : List LiveEvent
+  on_record : recorded acts ≡ earlier ++ OnLink event ∷ later
+  heard : AreHeard later
   is_text : text ≡ exchange_text (live_day_after earlier d) event
   synced : (unsynced ≡ true) ⊎ ((exchange_sent (live_day_after earlier d) event ≡ []) ⊎ ((filed acts).more ≡ []))
 
+abbrev AreOwed : Day → List Act → Bool → List (List ℕ) → Type 0
+AreOwed d acts unsynced [] = Unit {0}
+AreOwed d acts unsynced (text ∷ texts) = IsOwed d acts unsynced text × AreOwed d acts unsynced texts
+
 abbrev Owes : Day → List Act → Place → Type 0
-Owes d acts (Owing day room unsynced text) = IsOwed d acts unsynced text
+Owes d acts (Receiving day room owed octets) = AreOwed d acts true owed
+Owes d acts (Taking day room owed) = AreOwed d acts true owed
+Owes d acts (Owing day room unsynced texts) = AreOwed d acts unsynced texts
 Owes d acts (Between day) = Unit {0}
 Owes d acts (Recording day room event) = Unit {0}
 Owes d acts (Hearing day room) = Unit {0}
@@ -92,12 +103,40 @@ record Stands (d : Day) (acts : List Act) (p : Place) : Type 0 where
   day : day_at p ≡ live_day_after (recorded acts) d
   owes : Owes d acts p
 
+heard_behind : (events : List LiveEvent) (octets : List ℕ) → AreHeard events → AreHeard (events ++ OnLink (Receive octets) ∷ [])
+heard_behind [] octets h = tt
+heard_behind (OnLink (Receive other) ∷ events) octets h = heard_behind events octets h
+heard_behind (OnLink Tick ∷ events) octets h = absurd h
+heard_behind (WithoutLink ∷ events) octets h = absurd h
+heard_behind (Sold line ∷ events) octets h = absurd h
+
+-- what is owed behind other acts
+owed_map : (d : Day) (acts after : List Act) (was is : Bool) → ((text : List ℕ) → IsOwed d acts was text → IsOwed d after is text) → (texts : List (List ℕ)) → AreOwed d acts was texts → AreOwed d after is texts
+owed_map d acts after was is f [] owed = tt
+owed_map d acts after was is f (text ∷ texts) (first, owed) = (f text first, owed_map d acts after was is f texts owed)
+
+owed_behind : (d : Day) (acts : List Act) (unsynced : Bool) (owed : List (List ℕ)) (text : List ℕ) → AreOwed d acts unsynced owed → (¬ (text ≡ []) → IsOwed d acts unsynced text) → AreOwed d acts unsynced (with_reply owed text)
+owed_behind d acts unsynced owed [] are one = are
+owed_behind d acts unsynced owed (octet ∷ text) are one = last owed are where
+  last : (owed : List (List ℕ)) → AreOwed d acts unsynced owed → AreOwed d acts unsynced (owed ++ (octet ∷ text) ∷ [])
+  last [] are = (one (λ e. cc), tt)
+  last (other ∷ owed) (first, are) = (first, last owed are)
+
 module _ (d : Day) (acts : List Act) where
+  replying_owes : (day : Day) (owed : List (List ℕ)) (room : ℕ) → AreOwed d acts true owed → Owes d acts (replying day owed room)
+  replying_owes day [] room owed = tt
+  replying_owes day (text ∷ owed) zero are = are
+  replying_owes day (text ∷ owed) (suc room) are = are
+
+  writing_owes : (day : Day) (room : ℕ) (texts : List (List ℕ)) → AreOwed d acts false texts → Owes d acts (writing day room texts)
+  writing_owes day room [] owed = tt
+  writing_owes day room (text ∷ texts) are = are
+
   owing_owes : (d1 : Day) (room : ℕ) (earlier : List LiveEvent) (event : Event) (sent : List (ArrayVec ℕ)) (text : List ℕ) → recorded acts ≡ earlier ++ OnLink event ∷ []
       → sent ≡ exchange_sent (live_day_after earlier d) event → text ≡ exchange_text (live_day_after earlier d) event → Owes d acts (owing d1 room sent text)
   owing_owes d1 room earlier event [] [] on messages octets = tt
-  owing_owes d1 room earlier event [] (octet ∷ text) on messages octets = record { earlier = earlier; event = event; on_record = on; is_text = octets; synced = inr (inl (sym messages)) }
-  owing_owes d1 room earlier event (message ∷ sent) text on messages octets = record { earlier = earlier; event = event; on_record = on; is_text = octets; synced = inl refl }
+  owing_owes d1 room earlier event [] (octet ∷ text) on messages octets = (record { earlier = earlier; event = event; later = []; on_record = on; heard = tt; is_text = octets; synced = inr (inl (sym messages)) }, tt)
+  owing_owes d1 room earlier event (message ∷ sent) text on messages octets = (record { earlier = earlier; event = event; later = []; on_record = on; heard = tt; is_text = octets; synced = inl refl }, tt)
 
   begun_owes : (day : Day) (begin : Begin) → Owes d acts (begun day begin)
   begun_owes day begins.Late = tt
@@ -135,20 +174,75 @@ module _ (d : Day) (acts : List Act) where
   owed_recorded day room (Sold line) true stands = tt
   owed_recorded day room event false stands = tt
 
-  owed_synced : (day : Day) (room : ℕ) (text : List ℕ) (done : Bool) → KeepsOwed (Owing day room true text) (Synced done)
-  owed_synced day room text true stands =
-      record {
-        earlier = stands.owes.earlier;
-        event = stands.owes.event;
-        on_record = recorded_on acts (Synced true ∷ []) ∙ (append-nil (recorded acts) ∙ stands.owes.on_record);
-        is_text = stands.owes.is_text;
-        synced = inr (inr (ap (λ (f : Filed). f.more) (filed_on acts (Synced true ∷ []) (record { disk = []; more = [] }))));
-      }
-  owed_synced day room text false stands = tt
+  owed_received : (day : Day) (room : ℕ) (owed : List (List ℕ)) (octets : List ℕ) (done : Bool) → KeepsOwed (Receiving day room owed octets) (Recorded (OnLink (Receive octets)) done)
+  owed_received day room owed octets true stands =
+      let e = Receive octets in
+      let act = Recorded (OnLink e) true in
+      let text = exchange_text day e in
+      let one : IsOwed d (behind_act act) true text = record {
+        earlier = recorded acts;
+        event = e;
+        later = [];
+        on_record = recorded_on acts (act ∷ []);
+        heard = tt;
+        is_text = ap (λ x. exchange_text x e) stands.day;
+        synced = inl refl;
+      } in
+      replying_owes d (behind_act act) (exchange_next day e) (with_reply owed text) room
+      (owed_behind d (behind_act act) true owed text (owed_map d acts (behind_act act) true true (λ t o. record {
+        earlier = o.earlier;
+        event = o.event;
+        later = o.later ++ OnLink e ∷ [];
+        on_record = recorded_on acts (act ∷ []) ∙ (ap (λ es. es ++ OnLink e ∷ []) o.on_record ∙ append_assoc o.earlier (OnLink o.event ∷ o.later) (OnLink e ∷ []));
+        heard = heard_behind o.later octets o.heard;
+        is_text = o.is_text;
+        synced = inl refl;
+      }) owed stands.owes) (λ some. one))
+  owed_received day room owed octets false stands = tt
 
-  owed_written : (day : Day) (room : ℕ) (text : List ℕ) (done : Bool) → KeepsOwed (Owing day room false text) (Wrote text done)
-  owed_written day room text true stands = tt
-  owed_written day room text false stands = tt
+  -- an act that puts nothing on record
+  quiet_owed : (act : Act) → recorded (act ∷ []) ≡ [] → (owed : List (List ℕ)) → AreOwed d acts true owed → AreOwed d (behind_act act) true owed
+  quiet_owed act none owed are = owed_map d acts (behind_act act) true true (λ t o. record {
+    earlier = o.earlier;
+    event = o.event;
+    later = o.later;
+    on_record = recorded_on acts (act ∷ []) ∙ (ap (λ es. recorded acts ++ es) none ∙ (append-nil (recorded acts) ∙ o.on_record));
+    heard = o.heard;
+    is_text = o.is_text;
+    synced = inl refl;
+  }) owed are
+
+  owed_took : (day : Day) (room : ℕ) (owed : List (List ℕ)) (message : Option (ArrayVec ℕ)) → KeepsOwed (Taking day room owed) (Took message)
+  owed_took day room owed (Some message) stands = quiet_owed (Took (Some message)) refl owed stands.owes
+  owed_took day room owed None stands = quiet_owed (Took None) refl owed stands.owes
+
+  owed_synced : (day : Day) (room : ℕ) (texts : List (List ℕ)) (done : Bool) → KeepsOwed (Owing day room true texts) (Synced done)
+  owed_synced day room texts true stands = owed_map d acts (behind_act (Synced true)) true false (λ t o. record {
+    earlier = o.earlier;
+    event = o.event;
+    later = o.later;
+    on_record = recorded_on acts (Synced true ∷ []) ∙ (append-nil (recorded acts) ∙ o.on_record);
+    heard = o.heard;
+    is_text = o.is_text;
+    synced = inr (inr (ap (λ (f : Filed). f.more) (filed_on acts (Synced true ∷ []) (record { disk = []; more = [] }))));
+  }) texts stands.owes
+  owed_synced day room texts false stands = tt
+
+  owed_written : (day : Day) (room : ℕ) (text : List ℕ) (texts : List (List ℕ)) (done : Bool) → KeepsOwed (Owing day room false (text ∷ texts)) (Wrote text done)
+  owed_written day room text texts true stands = writing_owes d (behind_act (Wrote text true)) day room texts (owed_map d acts (behind_act (Wrote text true)) false false (λ t o. record {
+    earlier = o.earlier;
+    event = o.event;
+    later = o.later;
+    on_record = recorded_on acts (Wrote text true ∷ []) ∙ (append-nil (recorded acts) ∙ o.on_record);
+    heard = o.heard;
+    is_text = o.is_text;
+    synced = still_synced o.synced;
+  }) texts stands.owes.1) where
+    still_synced : {A B : Type 0} → A ⊎ (B ⊎ ((filed acts).more ≡ [])) → A ⊎ (B ⊎ ((filed (behind_act (Wrote text true))).more ≡ []))
+    still_synced (inl a) = inl a
+    still_synced (inr (inl b)) = inr (inl b)
+    still_synced (inr (inr none)) = inr (inr (ap (λ (f : Filed). f.more) (filed_on acts (Wrote text true ∷ []) (record { disk = []; more = [] })) ∙ none))
+  owed_written day room text texts false stands = tt
 
   owed_closed : (day : Day) (done : Bool) → KeepsOwed (Between day) (Synced done)
   owed_closed day true stands = tt
@@ -160,7 +254,7 @@ module _ (d : Day) (acts : List Act) where
 
   keeps_owed : (p : Place) (act : Act) → IsDue p act → KeepsOwed p act
   keeps_owed = by_due KeepsOwed
-      (λ day begin stands. begun_owes d (behind_act (Began (day.moment + 1) begin)) day begin) owed_recorded owed_synced owed_written
+      (λ day begin stands. begun_owes d (behind_act (Began (day.moment + 1) begin)) day begin) owed_recorded owed_received owed_took owed_synced owed_written
       (λ day room answer stands. heard_owes d (behind_act (Read room answer)) day room answer) (λ day loss stands. lost_owes d (behind_act (Dropped loss)) day loss) owed_closed owed_ended (λ day stands. tt)
 
   stands_on : (p : Place) (act : Act) → IsDue p act → Stands d acts p → Stands d (behind_act act) (next p act)
@@ -170,17 +264,24 @@ module _ (d : Day) (acts : List Act) where
   }
 
   written_now : (p : Place) (octets : List ℕ) (done : Bool) → IsDue p (Wrote octets done) → Stands d acts p → IsWrittenFor d acts octets
-  written_now (Owing day room false text) octets done due stands = record {
-    earlier = stands.owes.earlier;
-    event = stands.owes.event;
-    on_record = stands.owes.on_record;
-    text = due ∙ stands.owes.is_text;
-    synced = not_unsynced stands.owes.synced;
-  } where
-    not_unsynced : {A : Type 0} → (false ≡ true) ⊎ A → A
-    not_unsynced (inl e) = cc
-    not_unsynced (inr a) = a
-  written_now (Owing day room true text) octets done due stands = absurd due
+  written_now (Owing day room false (text ∷ texts)) octets done due stands =
+      let o = stands.owes.0 in
+      record {
+        earlier = o.earlier;
+        event = o.event;
+        later = o.later;
+        on_record = o.on_record;
+        heard = o.heard;
+        text = due ∙ o.is_text;
+        synced = not_unsynced o.synced;
+      } where
+        not_unsynced : {A : Type 0} → (false ≡ true) ⊎ A → A
+        not_unsynced (inl e) = cc
+        not_unsynced (inr a) = a
+  written_now (Owing day room false []) octets done due stands = absurd due
+  written_now (Owing day room true texts) octets done due stands = absurd due
+  written_now (Receiving day room owed came) octets done due stands = absurd due
+  written_now (Taking day room owed) octets done due stands = absurd due
   written_now (Between day) octets done due stands = absurd due
   written_now (Recording day room event) octets done due stands = absurd due
   written_now (Hearing day room) octets done due stands = absurd due

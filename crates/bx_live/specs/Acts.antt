@@ -1,5 +1,6 @@
 -- What the world outside was asked, and what it answered.
-use Rattle.std.specs.Prelude.{ℕ, Bool, true, false, List, [], ◌∷◌, Result}
+use Rattle.std.specs.Prelude.{ℕ, Bool, true, false, List, [], ◌∷◌, Option, Result}
+use Rattle.arrayvec.specs.ArrayVec.{ArrayVec}
 use Rattle.bx_events.specs.Events.{LiveEvent}
 use Rattle.bx_frames.specs.declared.fault.LinkFault.{LinkFault}
 use Rattle.bx_frames.specs.declared.frame.Frame.{Frame}
@@ -20,6 +21,8 @@ pub data Act : Type 0 where
   Wrote : (octets : List ℕ) (done : Bool) → Act
   -- a frame of the peer was read, where so many messages might still come in the turn; or the first fault
   Read : (room : ℕ) (answer : Result Frame LinkFault) → Act
+  -- a message that is there already was taken, or none is there
+  Took : (message : Option (ArrayVec ℕ)) → Act
   -- the peer, if there was one, was told that the day is over
   EndedDay : Act
 
@@ -34,3 +37,9 @@ abbrev pub ended : List Act → Bool
 ended [] = false
 ended (Began second begins.Ended ∷ acts) = true
 ended (act ∷ acts) = ended acts
+
+-- whether no second begins in these acts
+abbrev pub begins_none : List Act → Bool
+begins_none [] = true
+begins_none (Began second begin ∷ acts) = false
+begins_none (act ∷ acts) = begins_none acts

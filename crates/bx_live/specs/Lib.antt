@@ -2,5 +2,6 @@ pub mod Acts
 pub mod Runs
 pub mod Running
 pub mod Seconds
+pub mod Held
 pub mod Written
 pub mod Inside

@@ -1,5 +1,5 @@
 -- A live run of a day: which acts come one after another.
-use Rattle.std.specs.Prelude.{◌≡◌, ℕ, ◌+◌, ◌-◌, ◌==◌, Bool, true, false, List, [], ◌∷◌, if◌then◌else◌, Result, Ok, Err}
+use Rattle.std.specs.Prelude.{◌≡◌, ℕ, zero, suc, ◌+◌, ◌-◌, ◌==◌, Bool, true, false, List, [], ◌∷◌, ◌++◌, if◌then◌else◌, Option, Some, None, Result, Ok, Err}
 use Rattle.arrayvec.specs.ArrayVec.{ArrayVec}
 use Rattle.bx_events.specs.Events.{Tick, Receive, LiveEvent, OnLink, WithoutLink, Sold}
 use Rattle.bx_frames.specs.declared.fault.LinkFault.{LinkFault}
@@ -13,7 +13,7 @@ use Rattle.bx_live.specs.declared.world.Begin.{Begin}
 use Rattle.bx_live.specs.declared.world.Begin.TheVariants as begins
 use Rattle.bx_live.specs.declared.world.Loss.{Loss}
 use Rattle.bx_live.specs.declared.world.Loss.TheVariants as losses
-use Rattle.bx_live.specs.Acts.{Act, Began, Dropped, Recorded, Synced, Wrote, Read, EndedDay}
+use Rattle.bx_live.specs.Acts.{Act, Began, Dropped, Recorded, Synced, Wrote, Read, Took, EndedDay}
 
 -- where a run stands, with the day as far as it has come
 pub data Place : Type 0 where
@@ -21,8 +21,12 @@ pub data Place : Type 0 where
   Between : (d : Day) → Place
   -- this event comes, and has to be put on record; then so many messages may come in the turn
   Recording : (d : Day) (room : ℕ) (event : LiveEvent) → Place
-  -- it has happened, and this is to be written for it; a sync comes first, or is not wanted
-  Owing : (d : Day) (room : ℕ) (unsynced : Bool) (text : List ℕ) → Place
+  -- these octets came, and have to be put on record; replies are owed for those that came before them
+  Receiving : (d : Day) (room : ℕ) (owed : List (List ℕ)) (octets : List ℕ) → Place
+  -- replies are owed, and before they are written what is there already is heard
+  Taking : (d : Day) (room : ℕ) (owed : List (List ℕ)) → Place
+  -- what was on record has happened, and these are to be written for it, one after another; a sync comes first, or is not wanted
+  Owing : (d : Day) (room : ℕ) (unsynced : Bool) (texts : List (List ℕ)) → Place
   -- the peer's turn
   Hearing : (d : Day) (room : ℕ) → Place
   -- the peer is to be dropped
@@ -40,7 +44,9 @@ pub data Place : Type 0 where
 abbrev pub day_at : Place → Day
 day_at (Between d) = d
 day_at (Recording d room event) = d
-day_at (Owing d room unsynced text) = d
+day_at (Receiving d room owed octets) = d
+day_at (Taking d room owed) = d
+day_at (Owing d room unsynced texts) = d
 day_at (Hearing d room) = d
 day_at (Losing d loss) = d
 day_at (Over d) = d
@@ -55,8 +61,10 @@ IsDue (Between d) (Synced done) = Unit {0}
 IsDue (Closing d) (Synced done) = Unit {0}
 IsDue (Ending d) EndedDay = Unit {0}
 IsDue (Recording d room event) (Recorded e done) = e ≡ event
-IsDue (Owing d room true text) (Synced done) = Unit {0}
-IsDue (Owing d room false text) (Wrote octets done) = octets ≡ text
+IsDue (Receiving d room owed octets) (Recorded e done) = e ≡ OnLink (Receive octets)
+IsDue (Taking d room owed) (Took message) = Unit {0}
+IsDue (Owing d room true texts) (Synced done) = Unit {0}
+IsDue (Owing d room false (text ∷ texts)) (Wrote octets done) = octets ≡ text
 IsDue (Hearing d room) (Read most answer) = most ≡ room
 IsDue (Losing d loss) (Dropped why) = why ≡ loss
 IsDue _ _ = ⊥
@@ -64,14 +72,39 @@ IsDue _ _ = ⊥
 -- what is written for an event: nothing, or octets; a sync comes first where messages are among them
 abbrev pub owing : Day → ℕ → List (ArrayVec ℕ) → List ℕ → Place
 owing d room [] [] = Hearing d room
-owing d room [] (octet ∷ text) = Owing d room false (octet ∷ text)
-owing d room (message ∷ sent) text = Owing d room true text
+owing d room [] (octet ∷ text) = Owing d room false ((octet ∷ text) ∷ [])
+owing d room (message ∷ sent) text = Owing d room true (text ∷ [])
 
 -- an event that is on record happens
 abbrev pub happened : Day → ℕ → LiveEvent → Place
 happened d room WithoutLink = Between (without_link d)
 happened d room (Sold line) = Between d
 happened d room (OnLink event) = owing (exchange_next d event) room (exchange_sent d event) (exchange_text d event)
+
+-- what is owed with the reply to one more message, where there is one
+abbrev pub with_reply : List (List ℕ) → List ℕ → List (List ℕ)
+with_reply owed [] = owed
+with_reply owed (octet ∷ text) = owed ++ (octet ∷ text) ∷ []
+
+-- Messages were heard. Where replies are owed for them, what is there already is heard first, as long as messages may come in the turn
+abbrev pub replying : Day → List (List ℕ) → ℕ → Place
+replying d [] room = Hearing d room
+replying d (text ∷ owed) zero = Owing d zero true (text ∷ owed)
+replying d (text ∷ owed) (suc room) = Taking d (suc room) (text ∷ owed)
+
+-- octets that came are on record, and happen
+abbrev pub received : Day → ℕ → List (List ℕ) → List ℕ → Place
+received d room owed octets = replying (exchange_next d (Receive octets)) (with_reply owed (exchange_text d (Receive octets))) room
+
+-- where nothing more is there, the replies are written, behind one sync
+abbrev pub taken : Day → ℕ → List (List ℕ) → Option (ArrayVec ℕ) → Place
+taken d room owed (Some message) = Receiving d (room - 1) owed message.items
+taken d room owed None = Owing d room true owed
+
+-- what is synced is written, one after another
+abbrev pub writing : Day → ℕ → List (List ℕ) → Place
+writing d room [] = Hearing d room
+writing d room (text ∷ texts) = Owing d room false (text ∷ texts)
 
 -- a second with a peer is a turn of at most 64 messages; any other is one without a link, in which there is no peer. Where no second
 -- begins any more, the day is closed
@@ -83,7 +116,7 @@ begun d begins.Ended = Closing d
 
 -- the peer's turn ends with its end of turn, which has the moment
 abbrev pub heard : Day → ℕ → Result Frame LinkFault → Place
-heard d room (Ok (frames.Message octets)) = Recording d (room - 1) (OnLink (Receive octets.items))
+heard d room (Ok (frames.Message octets)) = Receiving d (room - 1) [] octets.items
 heard d room (Ok (frames.EndOfTurn said)) = if said == d.moment then Between d else Losing d (losses.Fault WrongMoment)
 heard d room (Ok frames.EndOfDay) = Losing d (losses.Fault UnknownKind)
 heard d room (Err fault) = Losing d (losses.Fault fault)
@@ -100,8 +133,10 @@ next (Between d) (Synced done) = if done then Ending d else Over d
 next (Closing d) (Synced done) = if done then Ending d else Over d
 next (Ending d) EndedDay = Done d
 next (Recording d room event) (Recorded e done) = if done then happened d room event else Over d
-next (Owing d room true text) (Synced done) = if done then Owing d room false text else Over d
-next (Owing d room false text) (Wrote octets done) = if done then Hearing d room else Losing d (losses.Fault WriteFailed)
+next (Receiving d room owed octets) (Recorded e done) = if done then received d room owed octets else Over d
+next (Taking d room owed) (Took message) = taken d room owed message
+next (Owing d room true texts) (Synced done) = if done then Owing d room false texts else Over d
+next (Owing d room false (text ∷ texts)) (Wrote octets done) = if done then writing d room texts else Losing d (losses.Fault WriteFailed)
 next (Hearing d room) (Read most answer) = heard d room answer
 next (Losing d loss) (Dropped why) = lost d loss
 next place _ = place

@@ -1,10 +1,11 @@
 -- How a second of a run ends.
-use Rattle.std.specs.Prelude.{◌≡◌, ◌+◌, ◌<◌, true, List, Result, Ok, Err}
+use Rattle.std.specs.Prelude.{◌≡◌, ℕ, ◌+◌, ◌<◌, true, List, ◌∷◌, Result, Ok, Err}
 use Rattle.bx_day.specs.Day.{Day}
 use Rattle.bx_live.specs.declared.world.CannotRecord.{CannotRecord}
+use Rattle.bx_live.specs.declared.world.Begin.{Begin}
 use Rattle.bx_live.specs.declared.running.Second.{Second}
 use Rattle.bx_live.specs.declared.running.Second.TheVariants.{Passed, Ended}
-use Rattle.bx_live.specs.Acts.{Act, ended}
+use Rattle.bx_live.specs.Acts.{Act, Began, ended, begins_none}
 use Rattle.bx_live.specs.Running.{Runs}
 use Rattle.bx_live.specs.Runs.{Place, Between, Over, Closing}
 use Rattle.bx_events.specs.declared.moment.TheConstants.{LAST_MOMENT}
@@ -20,8 +21,15 @@ RisesBySecond d d1 (Ok Passed) = d.moment < LAST_MOMENT → d1.moment ≡ d.mome
 RisesBySecond d d1 (Ok Ended) = d1.moment ≡ d.moment
 RisesBySecond d d1 (Err _) = Unit {0}
 
--- that no second begins any more was said by the world
-abbrev pub IsSaid : {W : Type 0} → (W → List Act → W → Type 0) → W → W → Day → Day → Result Second CannotRecord → Type 0
-IsSaid did old new d d1 (Ok Ended) = (ran : Runs did old new (Between d) (Closing d1)) × (ended ran.acts ≡ true)
-IsSaid did old new d d1 (Ok Passed) = Unit {0}
-IsSaid did old new d d1 (Err fault) = Unit {0}
+-- the acts of one second: it begins, and no other does
+pub record IsOneSecond (moment : ℕ) (acts : List Act) : Type 0 where
+  pub begin : Begin
+  pub behind : List Act
+  pub are : acts ≡ Began (moment + 1) begin ∷ behind
+  pub one : begins_none behind ≡ true
+
+-- A second of a run was waited for, and the run has gone through it. That no second begins any more was said by the world
+pub record IsSecond {W : Type 0} (did : W → List Act → W → Type 0) (old new : W) (d d1 : Day) (result : Result Second CannotRecord) : Type 0 where
+  pub run : Runs did old new (Between d) (behind_second d1 result)
+  pub one : IsOneSecond d.moment run.acts
+  pub said : result ≡ Ok Ended → ended run.acts ≡ true

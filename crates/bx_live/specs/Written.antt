@@ -1,11 +1,12 @@
 -- What may be written to a peer.
 use Rattle.std.specs.Prelude.{◌≡◌, ◌⊎◌, ℕ, ◌&&◌, Bool, true, List, [], ◌∷◌, ◌++◌}
-use Rattle.bx_events.specs.Events.{Event, LiveEvent, OnLink, WithoutLink, Sold}
+use Rattle.std.specs.List.{concat}
+use Rattle.bx_events.specs.Events.{Event, Receive, LiveEvent, OnLink, WithoutLink, Sold}
 use Rattle.bx_day.specs.Day.{Day}
 use Rattle.bx_day.specs.Course.{exchange_sent, exchange_text}
 use Rattle.bx_day.specs.Outages.{live_happens, live_day_after}
 use Rattle.bx_live.specs.Acts.{Act, Recorded, Synced, Wrote, recorded}
-use Rattle.bx_live.specs.Runs.{Place, Between, Recording, Owing, Hearing, Losing, Over, Closing, Ending, Done}
+use Rattle.bx_live.specs.Runs.{Place, Between, Recording, Receiving, Taking, Owing, Hearing, Losing, Over, Closing, Ending, Done}
 
 -- the events that are on the disk, and those that were put on record behind the last sync
 pub record Filed : Type 0 where
@@ -21,12 +22,20 @@ filed_by (act ∷ acts) f = filed_by acts f
 abbrev pub filed : List Act → Filed
 filed acts = filed_by acts (record { disk = []; more = [] })
 
--- octets that are written behind these acts: they are those of the last event on record, by the day as it was before it, and
--- where messages are among them all that is on record is on the disk
+-- only messages that came
+abbrev pub AreHeard : List LiveEvent → Type 0
+AreHeard [] = Unit {0}
+AreHeard (OnLink (Receive octets) ∷ events) = AreHeard events
+AreHeard (event ∷ events) = ⊥
+
+-- octets that are written behind these acts: they are those of an event on record, by the day as it was before it. No second has begun
+-- since, and where messages are among them all that is on record is on the disk
 pub record IsWrittenFor (d : Day) (acts : List Act) (octets : List ℕ) : Type 0 where
   pub earlier : List LiveEvent
   pub event : Event
-  pub on_record : recorded acts ≡ earlier ++ OnLink event ∷ []
+  pub later : List LiveEvent
+  pub on_record : recorded acts ≡ earlier ++ OnLink event ∷ later
+  pub heard : AreHeard later
   pub text : octets ≡ exchange_text (live_day_after earlier d) event
   pub synced : (exchange_sent (live_day_after earlier d) event ≡ []) ⊎ ((filed acts).more ≡ [])
 
@@ -58,7 +67,9 @@ goes_well (act ∷ acts) = goes_well acts
 
 -- what is still to be written
 abbrev pub owed_at : Place → List ℕ
-owed_at (Owing d room unsynced text) = text
+owed_at (Receiving d room owed octets) = concat owed
+owed_at (Taking d room owed) = concat owed
+owed_at (Owing d room unsynced texts) = concat texts
 owed_at (Between d) = []
 owed_at (Recording d room event) = []
 owed_at (Hearing d room) = []

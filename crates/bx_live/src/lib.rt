@@ -2,10 +2,13 @@
 #![tactic(auto)]
 
 mod hearing;
+mod holding;
 pub mod laws;
+mod replying;
 mod running;
 mod turn;
 mod world;
 
+pub use holding::{has_call, run_held};
 pub use running::{Second, close_day, run_live, run_second};
 pub use world::{Begin, CannotRecord, Loss, World};

@@ -6,9 +6,9 @@ ghost use Rattle.bx_day.specs.Outages.{live_day_after};
 ghost use Rattle.bx_day.specs.Day.{Day};
 ghost use Rattle.bx_live.specs.Acts.{recorded, ended};
 ghost use Rattle.bx_live.specs.Runs.{Recording, Hearing, Between, Closing, Done, Losing};
-ghost use Rattle.bx_live.specs.Running.{Runs, or_over};
+ghost use Rattle.bx_live.specs.Running.{Runs, RunsInside, or_over};
 ghost use Rattle.bx_live.specs.declared.running.Second.TheVariants.{Ended};
-ghost use Rattle.bx_live.specs.Seconds.{behind_second, RisesBySecond, IsSaid};
+ghost use Rattle.bx_live.specs.Seconds.{behind_second, RisesBySecond, IsSecond};
 ghost use Rattle.bx_live.specs.Inside.{or_stopped, RisesByTurn};
 
 use crate::hearing::hear_turn;
@@ -31,7 +31,7 @@ fn pass_without_link<W: World>(
     exchange: &mut Exchange,
     world: &mut W,
 ) -> Result<Second, CannotRecord>
-    ensures ran { Runs W.did world.old world.new (Recording exchange.old 0 WithoutLink) (behind_second exchange.new result) }
+    ensures ran { RunsInside W.did world.old world.new (Recording exchange.old 0 WithoutLink) (behind_second exchange.new result) }
     ensures moment { RisesBySecond exchange.old exchange.new result }
     ensures passes { ¬ (result ≡ Ok Ended) }
 {
@@ -42,7 +42,7 @@ fn pass_without_link<W: World>(
 
 /// Both halves of a turn.
 fn run_turn<W: World>(exchange: &mut Exchange, world: &mut W) -> Result<(), Stop>
-    ensures ran { Runs W.did world.old world.new (Recording exchange.old 64 (OnLink Tick)) (or_stopped (Between exchange.new) exchange.new result) }
+    ensures ran { RunsInside W.did world.old world.new (Recording exchange.old 64 (OnLink Tick)) (or_stopped (Between exchange.new) exchange.new result) }
     ensures moment { RisesByTurn exchange.old exchange.new result }
 {
     open_turn(exchange, world)?;
@@ -51,7 +51,7 @@ fn run_turn<W: World>(exchange: &mut Exchange, world: &mut W) -> Result<(), Stop
 
 /// The next second with a peer. A fault of the link drops it.
 fn pass_with_peer<W: World>(exchange: &mut Exchange, world: &mut W) -> Result<Second, CannotRecord>
-    ensures ran { Runs W.did world.old world.new (Recording exchange.old 64 (OnLink Tick)) (behind_second exchange.new result) }
+    ensures ran { RunsInside W.did world.old world.new (Recording exchange.old 64 (OnLink Tick)) (behind_second exchange.new result) }
     ensures moment { RisesBySecond exchange.old exchange.new result }
     ensures passes { ¬ (result ≡ Ok Ended) }
 {
@@ -65,12 +65,11 @@ fn pass_with_peer<W: World>(exchange: &mut Exchange, world: &mut W) -> Result<Se
     }
 }
 
-/// The next second, where one begins: it is waited for, and what happens in it is on record before it happens, and on the disk before
-/// messages are written for it. At a fault of the link the peer is dropped. At `CannotRecord` nothing more is to be done.
+/// The next second, where one begins, and no other: it is waited for, and what happens in it is on record before it happens, and on the
+/// disk before messages are written for it. At a fault of the link the peer is dropped. At `CannotRecord` nothing more is to be done.
 pub fn run_second<W: World>(exchange: &mut Exchange, world: &mut W) -> Result<Second, CannotRecord>
-    ensures ran { Runs W.did world.old world.new (Between exchange.old) (behind_second exchange.new result) }
+    ensures ran { IsSecond W.did world.old world.new exchange.old exchange.new result }
     ensures moment { RisesBySecond exchange.old exchange.new result }
-    ensures said { IsSaid W.did world.old world.new exchange.old exchange.new result }
 {
     match world.begin(exchange.moment() + 1) {
         Begin::Joined => pass_with_peer(exchange, world),
@@ -85,8 +84,8 @@ pub fn run_second<W: World>(exchange: &mut Exchange, world: &mut W) -> Result<Se
 
 /// The end of a day: all of it is on the disk, then the peer is told.
 pub fn close_day<W: World>(world: &mut W) -> Result<(), CannotRecord>
-    ensures at_last { (d : Day) → Runs W.did world.old world.new (Between d) (or_over (Done d) d result) }
-    ensures at_ended { (d : Day) → Runs W.did world.old world.new (Closing d) (or_over (Done d) d result) }
+    ensures at_last { (d : Day) → RunsInside W.did world.old world.new (Between d) (or_over (Done d) d result) }
+    ensures at_ended { (d : Day) → RunsInside W.did world.old world.new (Closing d) (or_over (Done d) d result) }
 {
     world.sync()?;
     world.end_day();

@@ -1,20 +1,19 @@
-//! The exchange's half of a turn, and its answer to a message: recorded, happened, synced, written.
+//! The exchange's half of a turn: recorded, happened, synced, written.
 
-ghost use Rattle.std.specs.Prelude.{◌≡◌, ◌++◌, ℕ, false};
+ghost use Rattle.std.specs.Prelude.{◌≡◌, ◌++◌, ◌∷◌, [], ℕ, false};
 ghost use Rattle.bx_frames.specs.Frames.{frames_of, turn_frame};
 ghost use Rattle.bx_day.specs.Day.{Day};
-ghost use Rattle.bx_events.specs.Events.{Tick, Receive, OnLink};
+ghost use Rattle.bx_events.specs.Events.{Tick, OnLink};
 ghost use Rattle.bx_live.specs.Runs.{Recording, Hearing, Owing, owing};
-ghost use Rattle.bx_live.specs.Running.{Runs, or_over};
+ghost use Rattle.bx_live.specs.Running.{RunsInside, or_over};
 ghost use Rattle.bx_live.specs.Inside.{or_stopped, RisesByTurn};
 
 use crate::world::{CannotRecord, World};
 use bx_day::Exchange;
 use bx_devices::WriteFailed;
 use bx_events::{Event, LiveEvent};
-use bx_frames::LinkFault;
+use bx_frames::{End, LinkFault};
 use bx_q931::Octets;
-use bx_turns::End;
 
 /// Why a turn is over before its end.
 #[derive(Clone, Copy)]
@@ -48,7 +47,7 @@ impl From<WriteFailed> for Stop {
 
 /// What was recorded is on the disk before messages are written.
 fn sync_before<W: World>(world: &mut W, sent: &[Octets]) -> Result<(), CannotRecord>
-    ensures { (d : Day) (room moment : ℕ) → Runs W.did world.old world.new (owing d room sent.now (frames_of sent.now ++ turn_frame moment)) (or_over (Owing d room false (frames_of sent.now ++ turn_frame moment)) d result) }
+    ensures { (d : Day) (room moment : ℕ) → RunsInside W.did world.old world.new (owing d room sent.now (frames_of sent.now ++ turn_frame moment)) (or_over (Owing d room false ((frames_of sent.now ++ turn_frame moment) ∷ [])) d result) }
 {
     if sent.is_empty() {
         return Ok(());
@@ -58,7 +57,7 @@ fn sync_before<W: World>(world: &mut W, sent: &[Octets]) -> Result<(), CannotRec
 
 /// The next second, and what is sent in it.
 pub(crate) fn open_turn<W: World>(exchange: &mut Exchange, world: &mut W) -> Result<(), Stop>
-    ensures ran { Runs W.did world.old world.new (Recording exchange.old 64 (OnLink Tick)) (or_stopped (Hearing exchange.new 64) exchange.new result) }
+    ensures ran { RunsInside W.did world.old world.new (Recording exchange.old 64 (OnLink Tick)) (or_stopped (Hearing exchange.new 64) exchange.new result) }
     ensures moment { RisesByTurn exchange.old exchange.new result }
 {
     world.record(LiveEvent::OnLink(Event::Tick))?;
@@ -67,24 +66,4 @@ pub(crate) fn open_turn<W: World>(exchange: &mut Exchange, world: &mut W) -> Res
     sync_before(world, messages)?;
     world.write_turn(messages, exchange.moment())?;
     Ok(())
-}
-
-/// A message that came, and the reply to it.
-pub(crate) fn answer<W: World>(
-    exchange: &mut Exchange,
-    world: &mut W,
-    message: &Octets,
-) -> Result<(), Stop>
-    ensures ran { (room : ℕ) → Runs W.did world.old world.new (Recording exchange.old room (OnLink (Receive message.now.items))) (or_stopped (Hearing exchange.new room) exchange.new result) }
-    ensures moment { exchange.new.moment ≡ exchange.old.moment }
-{
-    world.record(LiveEvent::OnLink(Event::Receive(message.as_slice())))?;
-    match End::<Exchange>::hear(exchange, message) {
-        Some(reply) => {
-            world.sync()?;
-            world.write_message(&reply)?;
-            Ok(())
-        }
-        None => Ok(()),
-    }
 }

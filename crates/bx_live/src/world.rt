@@ -5,7 +5,7 @@ ghost use Rattle.bx_events.specs.Told.{live_event_of};
 ghost use Rattle.bx_frames.specs.Frames.{message_frame, turn_frame, frames_of};
 ghost use Rattle.bx_frames.specs.Reading.{MayCome};
 ghost use Rattle.bx_frames.specs.declared.frame.Receiver.TheVariants.{Exchange};
-ghost use Rattle.bx_live.specs.Acts.{Act, Began, Dropped, Recorded, Synced, Wrote, Read, EndedDay};
+ghost use Rattle.bx_live.specs.Acts.{Act, Began, Dropped, Recorded, Synced, Wrote, Read, Took, EndedDay};
 
 use bx_devices::WriteFailed;
 use bx_events::LiveEvent;
@@ -72,6 +72,11 @@ pub trait World {
     fn read(&mut self, room: u32) -> Result<Frame, LinkFault>
         ensures read { did self.old (Read room result ∷ []) self.new }
         ensures comes { IfOk result (λ f. MayCome Exchange room f) };
+
+    /// Takes a message that is there already, if there is one, and waits for none. It is asked for only where a reply is owed to a message
+    /// that was heard, and one more may come in this turn.
+    fn take_waiting(&mut self) -> Option<Octets>
+        ensures { did self.old (Took result ∷ []) self.new };
 
     /// Tells the peer, if there is one, that the day is over.
     fn end_day(&mut self)

@@ -1,6 +1,6 @@
 -- What a chain of acts is to a part of its world.
 use Rattle.std.proofs.Common.{◌≡◌, List, [], ◌∷◌, refl, sym, ap, subst, Option, Some, None, ℕ}
-use Rattle.bx_live.specs.Acts.{Act, Began, Dropped, Recorded, Synced, Wrote, Read, EndedDay}
+use Rattle.bx_live.specs.Acts.{Act, Began, Dropped, Recorded, Synced, Wrote, Read, Took, EndedDay}
 use Rattle.bx_live_parts.specs.Chains.{Chain, chain_one, chain_first}
 use Rattle.bx_live_parts.specs.Records.{OnRecord, OnDisk}
 
@@ -27,6 +27,7 @@ module _ {D : Type 0} (holds may_leave : D → List ℕ → Type 0) (moment : D 
   kept_by old (Dropped loss) o p = (old, sym p, refl)
   kept_by old (Wrote octets done) o p = (old, sym p, refl)
   kept_by old (Read room answer) o p = (old, sym p, refl)
+  kept_by old (Took message) o p = (old, sym p, refl)
   kept_by old EndedDay o p = (old, sym p, refl)
 
   pub kept_on : (first : D) (o : Option D) (acts : List Act) → Chain Kept (Some first) acts o → (last : D) × (o ≡ Some last) × Chain Step first acts last

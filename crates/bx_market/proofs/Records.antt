@@ -3,8 +3,8 @@ use Rattle.std.proofs.Common.{◌≡◌, inl, inr, Bool, true, false, List, [], 
 use Rattle.std.proofs.lemmas.List.{append-nil}
 use Rattle.bx_base.specs.Bookings.{Row}
 use Rattle.bx_events.specs.Events.{LiveEvent, OnLink, WithoutLink, Sold}
-use Rattle.bx_live.specs.Acts.{Act, Began, Dropped, Recorded, Synced, Wrote, Read, EndedDay, recorded}
-use Rattle.bx_live.specs.Runs.{Between, Recording, Owing, Hearing, Losing, Over, Closing, Ending, Done}
+use Rattle.bx_live.specs.Acts.{Act, Began, Dropped, Recorded, Synced, Wrote, Read, Took, EndedDay, recorded}
+use Rattle.bx_live.specs.Runs.{Between, Recording, Receiving, Taking, Owing, Hearing, Losing, Over, Closing, Ending, Done}
 use Rattle.bx_live.specs.Written.{Filed, filed, filed_by}
 use Rattle.bx_live.proofs.Onward.{recorded_on}
 use Rattle.bx_planfile.specs.OneBooking.{row_on}
@@ -25,6 +25,7 @@ filed_synced (Synced true ∷ xs) f = filed_synced xs (record { disk = f.disk ++
 filed_synced (Synced false ∷ xs) f = filed_synced xs f
 filed_synced (Wrote octets done ∷ xs) f = filed_synced xs f
 filed_synced (Read room answer ∷ xs) f = filed_synced xs f
+filed_synced (Took message ∷ xs) f = filed_synced xs f
 filed_synced (EndedDay ∷ xs) f = filed_synced xs f
 
 sold_on : (xs ys : List LiveEvent) → sold_in row_on (xs ++ ys) ≡ sold_in row_on xs ++ sold_in row_on ys
@@ -69,7 +70,9 @@ stands channels deals (Within p) to (Ran act) s (due, e) = named _ to _ e tt
 stands channels deals (Within (Between d)) to (Asked None) s e = named _ to (Within (Between d)) e tt
 stands channels deals (Within (Between d)) to (Asked (Some batch)) s e = named _ to (Filing d batch []) e (record { before = deals; since = []; are = refl; is = refl })
 stands channels deals (Within (Recording d room event)) to (Asked batch) s e = absurd e
-stands channels deals (Within (Owing d room unsynced text)) to (Asked batch) s e = absurd e
+stands channels deals (Within (Receiving d room owed octets)) to (Asked batch) s e = absurd e
+stands channels deals (Within (Taking d room owed)) to (Asked batch) s e = absurd e
+stands channels deals (Within (Owing d room unsynced texts)) to (Asked batch) s e = absurd e
 stands channels deals (Within (Hearing d room)) to (Asked batch) s e = absurd e
 stands channels deals (Within (Losing d loss)) to (Asked batch) s e = absurd e
 stands channels deals (Within (Over d)) to (Asked batch) s e = absurd e
@@ -90,6 +93,7 @@ stands channels deals (Filing d batch sold) to (Ran (Began second begin)) s e = 
 stands channels deals (Filing d batch sold) to (Ran (Dropped loss)) s e = absurd e
 stands channels deals (Filing d batch sold) to (Ran (Wrote octets done)) s e = absurd e
 stands channels deals (Filing d batch sold) to (Ran (Read room answer)) s e = absurd e
+stands channels deals (Filing d batch sold) to (Ran (Took message)) s e = absurd e
 stands channels deals (Filing d batch sold) to (Ran EndedDay) s e = absurd e
 stands channels deals (Filing d batch sold) to (Asked other) s e = absurd e
 stands channels deals (Filing d batch sold) to (Answered answers) s (none, are, e) = named _ to (Within (Between d)) e tt

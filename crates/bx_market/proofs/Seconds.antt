@@ -1,5 +1,5 @@
 -- A second with what was asked before it, and how a run ends.
-use Rattle.std.proofs.Common.{◌≡◌, ◌⊎◌, inl, inr, ℕ, ◌≤◌, max, min, Bool, true, false, true≢false, List, [], ◌++◌, Result, Ok, Err, sym, ap, ◌∙◌, subst, arith}
+use Rattle.std.proofs.Common.{◌≡◌, ◌⊎◌, inl, inr, ℕ, ◌≤◌, max, min, Bool, true, false, true≢false, List, [], ◌++◌, Result, Ok, Err, refl, sym, ap, ◌∙◌, subst, arith}
 use Rattle.std.proofs.lemmas.List.{append-nil}
 use Rattle.bx_day.specs.Day.{Day}
 use Rattle.bx_live.specs.declared.world.CannotRecord.{CannotRecord}
@@ -8,7 +8,7 @@ use Rattle.bx_live.specs.declared.running.Second.TheVariants.{Passed, Ended}
 use Rattle.bx_live.specs.Acts.{Act, ended}
 use Rattle.bx_live.specs.Runs.{Place, Between, Over, Done}
 use Rattle.bx_live.specs.Running.{Runs, or_over}
-use Rattle.bx_live.specs.Seconds.{behind_second, RisesBySecond, IsSaid}
+use Rattle.bx_live.specs.Seconds.{RisesBySecond, IsSecond}
 use Rattle.bx_live.proofs.Days.{ended_inside}
 use Rattle.bx_market.specs.Deals.{Deal, acts_of, all_ran}
 use Rattle.bx_market.specs.Stands.{Within, Deals}
@@ -28,12 +28,12 @@ ended_last xs ys e = subst (λ (l : List Deal). ended (acts_of (xs ++ l)) ≡ tr
 module _ {W : Type 0} {did : W → List Act → W → Type 0} {dealt : W → List Deal → W → Type 0} (channels : List Bool) (by : (v w : W) (acts : List Act) → did v acts w → dealt v (all_ran acts) w)
     (more : (u v w : W) (xs ys : List Deal) → dealt u xs v → dealt v ys w → dealt u (xs ++ ys) w) (u v w : W) where
   pub second_passes : (d d1 d2 : Day) (r : Result Second CannotRecord) → Deals dealt channels u v (Within (Between d)) (Within (Between d1)) → d1.moment ≡ d.moment
-      → Runs did v w (Between d1) (behind_second d2 r) → RisesBySecond d1 d2 r → IsSaid did v w d1 d2 r → PassesSecond dealt channels u w d d2 r
-  second_passes d d1 d2 (Ok Passed) before same ran rises said = (then_dealt more before (by_run channels by ran), λ lt. omega (arith, same, rises (omega (arith, same, lt))))
-  second_passes d d1 d2 (Ok Ended) before same ran rises (run, is) =
-      let after = by_run channels by run in
-      (then_dealt more before after, ended_last before.deals after.deals (ap ended (acts_all_ran run.acts) ∙ is), rises ∙ same)
-  second_passes d d1 d2 (Err fault) before same ran rises said = (d2, then_dealt more before (by_run channels by ran))
+      → IsSecond did v w d1 d2 r → RisesBySecond d1 d2 r → PassesSecond dealt channels u w d d2 r
+  second_passes d d1 d2 (Ok Passed) before same second rises = (then_dealt more before (by_run channels by second.run), λ lt. omega (arith, same, rises (omega (arith, same, lt))))
+  second_passes d d1 d2 (Ok Ended) before same second rises =
+      let after = by_run channels by second.run in
+      (then_dealt more before after, ended_last before.deals after.deals (ap ended (acts_all_ran second.run.acts) ∙ second.said refl), rises ∙ same)
+  second_passes d d1 d2 (Err fault) before same second rises = (d2, then_dealt more before (by_run channels by second.run))
 
   -- a run that is closed, or could not be
   pub closes : (d d1 : Day) (last : ℕ) (p : Place) (r : Result (Unit {0}) CannotRecord) (so_far : Deals dealt channels u v (Within (Between d)) (Within p)) (close : Runs did v w p (or_over (Done d1) d1 r))

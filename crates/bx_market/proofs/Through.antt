@@ -1,10 +1,10 @@
 -- The day of a run went through just the events and sales on record.
-use Rattle.std.proofs.Common.{◌≡◌, ℕ, ◌+◌, ◌==◌, Bool, true, false, List, [], ◌∷◌, ◌++◌, Some, None, Result, Ok, Err, if◌then◌else◌, refl, sym, ap, ◌∙◌, subst}
+use Rattle.std.proofs.Common.{◌≡◌, ℕ, zero, suc, Option, ◌+◌, ◌==◌, Bool, true, false, List, [], ◌∷◌, ◌++◌, Some, None, Result, Ok, Err, if◌then◌else◌, refl, sym, ap, ◌∙◌, subst}
 use Rattle.arrayvec.specs.ArrayVec.{ArrayVec}
 use Rattle.bx_day.specs.Day.{Day}
 use Rattle.bx_day.specs.Course.{exchange_next, exchange_sent, exchange_text}
 use Rattle.bx_day.specs.Outages.{live_happens}
-use Rattle.bx_events.specs.Events.{LiveEvent, OnLink, WithoutLink, Sold}
+use Rattle.bx_events.specs.Events.{Receive, LiveEvent, OnLink, WithoutLink, Sold}
 use Rattle.bx_frames.specs.declared.fault.LinkFault.{LinkFault}
 use Rattle.bx_frames.specs.declared.frame.Frame.{Frame}
 use Rattle.bx_frames.specs.declared.frame.Frame.TheVariants as frames
@@ -12,8 +12,8 @@ use Rattle.bx_live.specs.declared.world.Begin.{Begin}
 use Rattle.bx_live.specs.declared.world.Begin.TheVariants as begins
 use Rattle.bx_live.specs.declared.world.Loss.{Loss}
 use Rattle.bx_live.specs.declared.world.Loss.TheVariants as losses
-use Rattle.bx_live.specs.Acts.{Act, Began, Dropped, Recorded, Synced, Wrote, Read, EndedDay, recorded}
-use Rattle.bx_live.specs.Runs.{Place, Between, Recording, Owing, Hearing, Losing, Over, Closing, Ending, Done, IsDue, next, day_at, owing}
+use Rattle.bx_live.specs.Acts.{Act, Began, Dropped, Recorded, Synced, Wrote, Read, Took, EndedDay, recorded}
+use Rattle.bx_live.specs.Runs.{Place, Between, Recording, Receiving, Taking, Owing, Hearing, Losing, Over, Closing, Ending, Done, IsDue, next, day_at, owing, with_reply, replying, writing}
 use Rattle.bx_live.proofs.Due.{by_due}
 use Rattle.bx_live.proofs.Days.{step_day}
 use Rattle.bx_live.proofs.Onward.{recorded_on}
@@ -49,13 +49,30 @@ recorded_links d room WithoutLink true = tt
 recorded_links d room (Sold line) true = tt
 recorded_links d room event false = tt
 
-synced_links : (d : Day) (room : ℕ) (text : List ℕ) (done : Bool) → Links (Owing d room true text) (Synced done)
-synced_links d room text true = tt
-synced_links d room text false = tt
+replying_links : (d : Day) (owed : List (List ℕ)) (room : ℕ) → IsLinkPlace (replying d owed room)
+replying_links d [] room = tt
+replying_links d (text ∷ owed) zero = tt
+replying_links d (text ∷ owed) (suc room) = tt
 
-wrote_links : (d : Day) (room : ℕ) (text : List ℕ) (done : Bool) → Links (Owing d room false text) (Wrote text done)
-wrote_links d room text true = tt
-wrote_links d room text false = tt
+writing_links : (d : Day) (room : ℕ) (texts : List (List ℕ)) → IsLinkPlace (writing d room texts)
+writing_links d room [] = tt
+writing_links d room (text ∷ texts) = tt
+
+received_links : (d : Day) (room : ℕ) (owed : List (List ℕ)) (octets : List ℕ) (done : Bool) → Links (Receiving d room owed octets) (Recorded (OnLink (Receive octets)) done)
+received_links d room owed octets true = replying_links (exchange_next d (Receive octets)) (with_reply owed (exchange_text d (Receive octets))) room
+received_links d room owed octets false = tt
+
+took_links : (d : Day) (room : ℕ) (owed : List (List ℕ)) (message : Option (ArrayVec ℕ)) → Links (Taking d room owed) (Took message)
+took_links d room owed (Some message) = tt
+took_links d room owed None = tt
+
+synced_links : (d : Day) (room : ℕ) (texts : List (List ℕ)) (done : Bool) → Links (Owing d room true texts) (Synced done)
+synced_links d room texts true = tt
+synced_links d room texts false = tt
+
+wrote_links : (d : Day) (room : ℕ) (text : List ℕ) (texts : List (List ℕ)) (done : Bool) → Links (Owing d room false (text ∷ texts)) (Wrote text done)
+wrote_links d room text texts true = writing_links d room texts
+wrote_links d room text texts false = tt
 
 either_links : (b : Bool) (d : Day) (loss : Loss) → IsLinkPlace (if b then Between d else Losing d loss)
 either_links true d loss = tt
@@ -80,13 +97,16 @@ ended_links d true = tt
 ended_links d false = tt
 
 links : (p : Place) (act : Act) → IsDue p act → Links p act
-links = by_due Links begun_links recorded_links synced_links wrote_links heard_links lost_links closed_links ended_links (λ d. tt)
+links = by_due Links begun_links recorded_links received_links took_links synced_links wrote_links heard_links lost_links closed_links ended_links (λ d. tt)
 
 no_sale : (p : Place) (line : List ℕ) (done : Bool) → IsLinkPlace p → IsDue p (Recorded (Sold line) done) → ⊥
 no_sale (Recording d room event) line done link due = subst (λ (e : LiveEvent). IsLinkPlace (Recording d room e)) (sym due) link
 no_sale (Between d) line done link due = due
-no_sale (Owing d room true text) line done link due = due
-no_sale (Owing d room false text) line done link due = due
+no_sale (Receiving d room owed octets) line done link due = cc
+no_sale (Taking d room owed) line done link due = due
+no_sale (Owing d room true texts) line done link due = due
+no_sale (Owing d room false []) line done link due = due
+no_sale (Owing d room false (text ∷ texts)) line done link due = due
 no_sale (Hearing d room) line done link due = due
 no_sale (Losing d loss) line done link due = due
 no_sale (Over d) line done link due = due
@@ -110,6 +130,7 @@ module _ (channels : List Bool) where
   act_through p (Synced done) link due = step_day p (Synced done) due
   act_through p (Wrote octets done) link due = step_day p (Wrote octets done) due
   act_through p (Read room answer) link due = step_day p (Read room answer) due
+  act_through p (Took message) link due = step_day p (Took message) due
   act_through p EndedDay link due = step_day p EndedDay due
 
   abbrev pub IsLinkStand : Stand → Type 0
@@ -135,7 +156,9 @@ module _ (channels : List Bool) where
   keeps (Within (Between d)) to (Asked None) link e = quiet _ to (Within (Between d)) _ refl e tt refl
   keeps (Within (Between d)) to (Asked (Some batch)) link e = quiet _ to (Filing d batch []) _ refl e tt refl
   keeps (Within (Recording d room event)) to (Asked batch) link e = absurd e
-  keeps (Within (Owing d room unsynced text)) to (Asked batch) link e = absurd e
+  keeps (Within (Receiving d room owed octets)) to (Asked batch) link e = absurd e
+  keeps (Within (Taking d room owed)) to (Asked batch) link e = absurd e
+  keeps (Within (Owing d room unsynced texts)) to (Asked batch) link e = absurd e
   keeps (Within (Hearing d room)) to (Asked batch) link e = absurd e
   keeps (Within (Losing d loss)) to (Asked batch) link e = absurd e
   keeps (Within (Over d)) to (Asked batch) link e = absurd e
@@ -153,6 +176,7 @@ module _ (channels : List Bool) where
   keeps (Filing d batch sold) to (Ran (Dropped loss)) link e = absurd e
   keeps (Filing d batch sold) to (Ran (Wrote octets done)) link e = absurd e
   keeps (Filing d batch sold) to (Ran (Read room answer)) link e = absurd e
+  keeps (Filing d batch sold) to (Ran (Took message)) link e = absurd e
   keeps (Filing d batch sold) to (Ran EndedDay) link e = absurd e
   keeps (Filing d batch sold) to (Asked other) link e = absurd e
   keeps (Filing d batch sold) to (Answered answers) link (none, are, e) = quiet _ to (Within (Between d)) _ refl e tt refl

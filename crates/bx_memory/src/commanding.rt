@@ -5,7 +5,7 @@ use bx_book::StreamFault;
 use bx_check::check;
 use bx_check_commands::{CommandFault, check_against, check_self, decode};
 use bx_devices::Watched;
-use bx_plan_run::{CapacityFault, RunFault, capacity_run, plan_run};
+use bx_plan_commands::{CapacityFault, RunFault, capacity_run, plan_run};
 use bx_quote::{NoQuote, QuoteFault, write_explained, write_refused};
 use std::alloc::Global;
 

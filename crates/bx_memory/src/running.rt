@@ -6,7 +6,7 @@ use bx_check::check;
 use bx_day::Exchange;
 use bx_planner::next_gain;
 use bx_quote::{NoQuote, Quote, explain, quote};
-use bx_replay::{Event, replay};
+use bx_recovery::{Event, replay};
 use std::alloc::Global;
 
 fn threshold(given: Result<Quote, NoQuote>) -> Answer {

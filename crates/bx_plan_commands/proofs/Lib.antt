@@ -1,3 +1,5 @@
 pub mod CallTimes
 pub mod Fewer
 pub mod Refusals
+mod Readings
+mod NotedRows

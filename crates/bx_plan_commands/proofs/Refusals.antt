@@ -17,9 +17,9 @@ use Rattle.bx_plan_commands.specs.Inside.{told_of}
 use Rattle.bx_plan_commands.specs.Tables.{IsTableFault}
 use Rattle.bx_plan_commands.specs.declared.fault.FileFault.{FileFault}
 use Rattle.bx_plan_commands.specs.declared.fault.FileFault.TheVariants as files
-use Rattle.bx_plan_run.specs.Capacity.{IsCapacityRefusal}
-use Rattle.bx_plan_run.specs.declared.earning.CapacityFault.{CapacityFault}
-use Rattle.bx_plan_run.specs.declared.earning.CapacityFault.TheVariants.{Unread, WriteFailed, Memory}
+use Rattle.bx_plan_commands.specs.Capacity.{IsCapacityRefusal}
+use Rattle.bx_plan_commands.specs.declared.earning.CapacityFault.{CapacityFault}
+use Rattle.bx_plan_commands.specs.declared.earning.CapacityFault.TheVariants.{Unread, WriteFailed, Memory}
 
 pub without_more : {W : Type 0} (gives : List ℕ → Option (List ℕ) → Type 0) (date zone plan bookings : List ℕ) (contents : W → Option (List ℕ)) (output : Watched W) (fault : FileFault)
     → IsWithoutMore gives date zone plan bookings fault → IsNotAmended gives date zone plan bookings contents output output fault

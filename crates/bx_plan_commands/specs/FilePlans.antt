@@ -9,8 +9,9 @@ use Rattle.bx_calendar.specs.NamedDays.{IsDayOf}
 use Rattle.bx_book.specs.Rows.{span_of}
 use Rattle.bx_book.specs.Streams.{IsBookRead}
 use Rattle.bx_calendar.specs.declared.day.Day.{Day}
-use Rattle.bx_plan_run.specs.Amending.{IsAmended}
-use Rattle.bx_plan_run.specs.Planning.{IsRun}
+use Rattle.bx_plan_commands.specs.Amending.{IsAmended}
+use Rattle.bx_plan_commands.specs.Notes.{IsNoted}
+use Rattle.bx_plan_commands.specs.Planning.{IsRun}
 use Rattle.bx_check_commands.specs.Inputs.{IsReadOf, IsPlanOf}
 use Rattle.bx_check_commands.specs.Proved.{IsProvedAgainst, proved_line}
 use Rattle.bx_planner.specs.Amending.{amended}
@@ -35,8 +36,8 @@ pub record IsPlanned (gives : List ℕ → Option (List ℕ) → Type 0) (terms 
   pub named : AreTerms terms channels day
   pub input : Reading
   pub of_name : IsReadOf gives bookings input
-  pub total : ℕ
-  pub run : IsRun input output (span_of day) channels total
+  pub plan : Parts
+  pub run : IsRun input output (span_of day) channels plan
 
 -- the bookings and a plan were read, the plan is proved for just these bookings and the channels that the words name, and the
 -- line of its total was written
@@ -61,5 +62,14 @@ pub record IsHeld (gives : List ℕ → Option (List ℕ) → Type 0) (date zone
   pub earlier_of : IsPlanOf gives plan earlier
   pub more : List Row
   pub more_of : AreBookingsOf gives bookings day more
-  pub total : ℕ
-  pub planned : IsAmended (amended earlier.rows earlier.assigned more) earlier.channels output total
+  pub longer : Parts
+  pub planned : IsAmended (amended earlier.rows earlier.assigned more) earlier.channels output longer
+
+-- and what was written on standard error is the note on bookings of the same plan that no day carries, where there are some
+pub record IsPlanNoted (gives : List ℕ → Option (List ℕ) → Type 0) (terms : Terms) (bookings : List ℕ) (output errors : Writing) : Type 0 where
+  pub planned : IsPlanned gives terms bookings output
+  pub noted : IsNoted planned.plan errors
+
+pub record IsHeldNoted (gives : List ℕ → Option (List ℕ) → Type 0) (date zone plan bookings : List ℕ) (output errors : Writing) : Type 0 where
+  pub held : IsHeld gives date zone plan bookings output
+  pub noted : IsNoted held.longer errors

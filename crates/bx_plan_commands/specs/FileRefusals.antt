@@ -14,16 +14,16 @@ use Rattle.bx_book.specs.declared.stream.StreamFault.TheVariants as stream
 use Rattle.bx_plan_commands.specs.FilePlans.{AreTerms, AreBookingsOf}
 use Rattle.bx_plan_commands.specs.declared.fault.FileFault.{FileFault}
 use Rattle.bx_plan_commands.specs.declared.fault.FileFault.TheVariants as files
-use Rattle.bx_plan_run.specs.Amending.{IsAmendRefusal}
-use Rattle.bx_plan_run.specs.Planning.{IsRunRefusal}
+use Rattle.bx_plan_commands.specs.Amending.{IsAmendRefusal}
+use Rattle.bx_plan_commands.specs.Planning.{IsRunRefusal}
 use Rattle.bx_check_commands.specs.Inputs.{IsReadOf, IsPlanOf, IsNoPlanOf}
 use Rattle.bx_check_commands.specs.PlanFiles.{IsUnopened}
 use Rattle.bx_check_commands.specs.Refusals.{IsRefusalAgainst}
-use Rattle.bx_plan_run.specs.declared.amending.AmendFault.{AmendFault}
-use Rattle.bx_plan_run.specs.declared.amending.AmendFault.TheVariants as amend
+use Rattle.bx_plan_commands.specs.declared.amending.AmendFault.{AmendFault}
+use Rattle.bx_plan_commands.specs.declared.amending.AmendFault.TheVariants as amend
 use Rattle.bx_check_commands.specs.declared.fault.CommandFault.{CommandFault}
 use Rattle.bx_check_commands.specs.declared.fault.CommandFault.TheVariants.{CannotRead, Memory}
-use Rattle.bx_plan_run.specs.declared.planning.RunFault.{RunFault}
+use Rattle.bx_plan_commands.specs.declared.planning.RunFault.{RunFault}
 use Rattle.bx_planner.specs.Amending.{amended}
 use Rattle.bx_planner.specs.Musts.{IsTooManyMust}
 use Rattle.bx_planner.specs.declared.amending.NoAmendment.TheVariants.{TooMany, TooManyMust}

@@ -1,9 +1,9 @@
 -- What each command on files does, and why it is refused.
 use Rattle.std.specs.Prelude.{ℕ, List, Option}
-use Rattle.bx_devices.specs.Devices.{Writing}
+use Rattle.bx_devices.specs.Devices.{Writing, KeepsOutput}
 use Rattle.bx_devices.specs.declared.watched.Watched.{Watched}
 use Rattle.bx_plan_commands.specs.Answers.{IsExplained, IsQuoted}
-use Rattle.bx_plan_commands.specs.FilePlans.{IsPlanned, IsChecked, IsHeld}
+use Rattle.bx_plan_commands.specs.FilePlans.{IsPlanned, IsChecked, IsHeld, IsPlanNoted, IsHeldNoted}
 use Rattle.bx_plan_commands.specs.FileRefusals.{IsPlanRefusal, IsCheckRefusal, IsNotAmended}
 use Rattle.bx_plan_commands.specs.Pictures.{IsPictured, IsNotPictured}
 use Rattle.bx_plan_commands.specs.PlanRefusals.{IsNotExplained, IsNotQuoted}
@@ -21,6 +21,16 @@ IsDone gives (Capacity date zone bookings) output = IsTableWritten gives date.no
 IsDone gives (Explain plan row) output = IsExplained gives row plan.now output
 IsDone gives (Quote plan call) output = IsQuoted gives call plan.now output
 IsDone gives (Chart plan day) output = IsPictured gives day plan.now output
+
+-- and what on standard error: a note of `plan` and `amend`, and else nothing
+abbrev pub IsToldOf : (List ℕ → Option (List ℕ) → Type 0) → FileRequest → Writing → Writing → Type 0
+IsToldOf gives (Plan terms bookings) output errors = IsPlanNoted gives terms bookings.now output errors
+IsToldOf gives (Amend date zone plan bookings) output errors = IsHeldNoted gives date.now zone.now plan.now bookings.now output errors
+IsToldOf gives (Check terms bookings plan) output errors = KeepsOutput errors
+IsToldOf gives (Capacity date zone bookings) output errors = KeepsOutput errors
+IsToldOf gives (Explain plan row) output errors = KeepsOutput errors
+IsToldOf gives (Quote plan call) output errors = KeepsOutput errors
+IsToldOf gives (Chart plan day) output errors = KeepsOutput errors
 
 -- why it did not, and what it did to its output then
 abbrev pub IsRefused : {W : Type 0} → (List ℕ → Option (List ℕ) → Type 0) → FileRequest → (W → Option (List ℕ)) → Watched W → Watched W → FileFault → Type 0

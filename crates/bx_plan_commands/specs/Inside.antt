@@ -5,8 +5,8 @@ use Rattle.bx_book.specs.declared.stream.StreamFault.TheVariants as stream
 use Rattle.bx_check_commands.specs.declared.fault.CommandFault.TheVariants.{CannotRead, CannotWrite, Memory}
 use Rattle.bx_plan_commands.specs.declared.fault.FileFault.{FileFault}
 use Rattle.bx_plan_commands.specs.declared.fault.FileFault.TheVariants as files
-use Rattle.bx_plan_run.specs.declared.earning.CapacityFault.{CapacityFault}
-use Rattle.bx_plan_run.specs.declared.earning.CapacityFault.TheVariants as capacity
+use Rattle.bx_plan_commands.specs.declared.earning.CapacityFault.{CapacityFault}
+use Rattle.bx_plan_commands.specs.declared.earning.CapacityFault.TheVariants as capacity
 
 -- why what each count of channels would earn was not written, of an input of this name
 abbrev pub told_of : Bor (List ℕ) → CapacityFault → FileFault

@@ -7,3 +7,9 @@ pub mod Inside
 pub mod Answers
 pub mod FileRequests
 pub mod Tables
+pub mod Planning
+pub mod Notes
+pub mod Amending
+pub mod EarningLines
+pub mod Capacity
+pub mod Unplanned

@@ -12,8 +12,8 @@ use Rattle.bx_check_commands.specs.declared.fault.CommandFault.TheVariants.{Cann
 use Rattle.bx_plan_commands.specs.FileRefusals.{IsNoDay, IsSomeDay, IsFileFault}
 use Rattle.bx_plan_commands.specs.declared.fault.FileFault.{FileFault}
 use Rattle.bx_plan_commands.specs.declared.fault.FileFault.TheVariants as files
-use Rattle.bx_plan_run.specs.Capacity.{IsTabled, IsCapacityRefusal}
-use Rattle.bx_plan_run.specs.declared.earning.CapacityFault.TheVariants as capacity
+use Rattle.bx_plan_commands.specs.Capacity.{IsTabled, IsCapacityRefusal}
+use Rattle.bx_plan_commands.specs.declared.earning.CapacityFault.TheVariants as capacity
 
 -- the words name a day, an input of this name was read, and just the lines of its bookings were written
 pub record IsTableWritten (gives : List ℕ → Option (List ℕ) → Type 0) (date zone bookings : List ℕ) (output : Writing) : Type 0 where

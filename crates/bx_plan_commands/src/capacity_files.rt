@@ -7,10 +7,10 @@ ghost use Rattle.bx_plan_commands.specs.Tables.{IsTableRefusal, IsTableWritten};
 
 use crate::fault::FileFault;
 use crate::naming::day_of;
+use crate::{CapacityFault, capacity_run};
 use bx_book::StreamFault;
 use bx_check_commands::{CommandFault, Inputs};
 use bx_devices::Watched;
-use bx_plan_run::{CapacityFault, capacity_run};
 use std::alloc::Global;
 use std::io::Write;
 

@@ -1,11 +1,11 @@
 //! Why a command on files was refused.
 
+use crate::{AmendFault, RunFault};
 use bx_base::ChannelFault;
 use bx_book::BookFault;
 use bx_calendar::DayFault;
 use bx_chart::ChartFault;
 use bx_check_commands::CommandFault;
-use bx_plan_run::{AmendFault, RunFault};
 use bx_quote::QuoteFault;
 use thiserror::Error;
 

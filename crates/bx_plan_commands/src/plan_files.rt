@@ -1,31 +1,35 @@
 //! The commands that plan, check and amend.
 
-ghost use Rattle.std.specs.Prelude.{IfErr, OnOk};
+ghost use Rattle.std.specs.Prelude.{◌≡◌, IfErr, IsErr, OnOk};
 ghost use Rattle.bx_devices.specs.Devices.{writing_of};
-ghost use Rattle.bx_plan_commands.specs.FilePlans.{IsPlanned, IsChecked, IsHeld};
+ghost use Rattle.bx_plan_commands.specs.FilePlans.{IsPlanNoted, IsChecked, IsHeldNoted};
 ghost use Rattle.bx_plan_commands.specs.FileRefusals.{IsPlanRefusal, IsCheckRefusal, IsNotAmended};
 
 use crate::fault::FileFault;
 use crate::inputs::bookings_named;
 use crate::naming::{channels_and_day, day_of};
+use crate::noting::note_too_short;
+use crate::{plan_run, write_amended};
 use bx_check_commands::{Inputs, check_against, plan_named};
 use bx_devices::Watched;
-use bx_plan_run::{plan_run, write_amended};
 use bx_request::Terms;
 use std::alloc::Global;
 use std::io::Write;
 
-/// Writes the plan of the bookings of an input. At a refusal nothing was written, except that where the output failed a front of
+/// Writes the plan of the bookings of an input, and on standard error a note on the accepted ones that last one second, in second 0 or
+/// right behind another on their channel, where there are some. At a refusal nothing was written, except that where the output failed a front of
 /// a plan was. `Channels` and `Day` where the words name none, `Command` where the input cannot be opened, and `Run` where the
 /// planning run is refused.
-pub fn plan_file<'a, I: Inputs, W: Write>(
+pub fn plan_file<'a, I: Inputs, W: Write, E: Write>(
     alloc: Global,
     inputs: &mut I,
     terms: &Terms<'_>,
     bookings: &'a str,
     output: &mut Watched<W>,
+    errors: &mut Watched<E>,
 ) -> Result<(), FileFault<'a>>
-    ensures planned { OnOk result (IsPlanned (I.gives inputs.old) terms.now bookings.now (writing_of W.contents output.old output.new)) }
+    ensures planned { OnOk result (IsPlanNoted (I.gives inputs.old) terms.now bookings.now (writing_of W.contents output.old output.new) (writing_of E.contents errors.old errors.new)) }
+    ensures silent { IsErr result → errors.new ≡ errors.old }
     ensures refused { IfErr result (IsPlanRefusal (I.gives inputs.old) terms.now bookings.now W.contents output.old output.new) }
 {
     let (channels, day) = channels_and_day(terms)?;
@@ -34,7 +38,10 @@ pub fn plan_file<'a, I: Inputs, W: Write>(
         Err(fault) => return Err(FileFault::Command(fault)),
     };
     match plan_run(alloc, &mut input, output, &day, channels) {
-        Ok(_) => Ok(()),
+        Ok(plan) => {
+            note_too_short(&plan, errors);
+            Ok(())
+        }
         Err(fault) => Err(FileFault::Run(fault)),
     }
 }
@@ -65,19 +72,21 @@ pub fn check_file<'a, I: Inputs, W: Write>(
     }
 }
 
-/// Writes the plan that holds all that the plan of one input accepts, for its bookings and those of another. At a refusal
-/// nothing was written, except that where the output failed a front of such a plan was. `Day` where the words name none,
+/// Writes the plan that holds all that the plan of one input accepts, for its bookings and those of another, and on standard error
+/// the note of `plan_file`. At a refusal nothing was written, except that where the output failed a front of such a plan was. `Day` where the words name none,
 /// `Command` where there is no plan of the first input or the second is not read, `Book` where that has no booking text, and
 /// `Amend` where nothing was amended.
-pub fn amend_file<'a, I: Inputs, W: Write>(
+pub fn amend_file<'a, I: Inputs, W: Write, E: Write>(
     alloc: Global,
     inputs: &mut I,
     day: (&str, &str),
     plan: &'a str,
     bookings: &'a str,
     output: &mut Watched<W>,
+    errors: &mut Watched<E>,
 ) -> Result<(), FileFault<'a>>
-    ensures held { OnOk result (IsHeld (I.gives inputs.old) day.entry.0.now day.entry.1.now plan.now bookings.now (writing_of W.contents output.old output.new)) }
+    ensures held { OnOk result (IsHeldNoted (I.gives inputs.old) day.entry.0.now day.entry.1.now plan.now bookings.now (writing_of W.contents output.old output.new) (writing_of E.contents errors.old errors.new)) }
+    ensures silent { IsErr result → errors.new ≡ errors.old }
     ensures refused { IfErr result (IsNotAmended (I.gives inputs.old) day.entry.0.now day.entry.1.now plan.now bookings.now W.contents output.old output.new) }
 {
     let day = day_of(day.0, day.1)?;
@@ -87,7 +96,10 @@ pub fn amend_file<'a, I: Inputs, W: Write>(
     };
     let more = bookings_named(alloc, inputs, bookings, &day)?;
     match write_amended(alloc, &earlier, &more, output) {
-        Ok(_) => Ok(()),
+        Ok(amended) => {
+            note_too_short(&amended, errors);
+            Ok(())
+        }
         Err(fault) => Err(FileFault::Amend(fault)),
     }
 }

@@ -1,8 +1,8 @@
 //! What is asked of bookings and plans, done.
 
-ghost use Rattle.std.specs.Prelude.{IfErr, OnOk};
+ghost use Rattle.std.specs.Prelude.{◌≡◌, IfErr, IsErr, OnOk};
 ghost use Rattle.bx_devices.specs.Devices.{writing_of};
-ghost use Rattle.bx_plan_commands.specs.FileRequests.{IsDone, IsRefused};
+ghost use Rattle.bx_plan_commands.specs.FileRequests.{IsDone, IsToldOf, IsRefused};
 
 use crate::capacity_files::capacity_file;
 use crate::chart_files::chart_file;
@@ -15,19 +15,24 @@ use bx_request::FileRequest;
 use std::alloc::Global;
 use std::io::Write;
 
-/// Does one command on files. At a refusal nothing was written, except that where the output failed a front of what was to be
+/// Does one command on files. Only `plan` and `amend` may write a note on standard error. At a refusal nothing was written, except that where the output failed a front of what was to be
 /// written was. The faults are those of the command's own function.
-pub fn run_on_files<'a, I: Inputs, W: Write>(
+pub fn run_on_files<'a, I: Inputs, W: Write, E: Write>(
     alloc: Global,
     inputs: &mut I,
     request: &FileRequest<'a>,
     output: &mut Watched<W>,
+    errors: &mut Watched<E>,
 ) -> Result<(), FileFault<'a>>
     ensures done { OnOk result (IsDone (I.gives inputs.old) request.now (writing_of W.contents output.old output.new)) }
+    ensures told { OnOk result (IsToldOf (I.gives inputs.old) request.now (writing_of W.contents output.old output.new) (writing_of E.contents errors.old errors.new)) }
+    ensures silent { IsErr result → errors.new ≡ errors.old }
     ensures refused { IfErr result (IsRefused (I.gives inputs.old) request.now W.contents output.old output.new) }
 {
     match request {
-        FileRequest::Plan { terms, bookings } => plan_file(alloc, inputs, terms, bookings, output),
+        FileRequest::Plan { terms, bookings } => {
+            plan_file(alloc, inputs, terms, bookings, output, errors)
+        }
         FileRequest::Check {
             terms,
             bookings,
@@ -38,7 +43,7 @@ pub fn run_on_files<'a, I: Inputs, W: Write>(
             zone,
             plan,
             bookings,
-        } => amend_file(alloc, inputs, (date, zone), plan, bookings, output),
+        } => amend_file(alloc, inputs, (date, zone), plan, bookings, output, errors),
         FileRequest::Capacity {
             date,
             zone,

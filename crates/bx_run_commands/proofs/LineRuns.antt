@@ -1,28 +1,27 @@
 -- Runs over a data link, and journals that are ready to go on.
-use Rattle.std.proofs.Common.{◌≡◌, ◌∙◌, ℕ, max, min, Bool, false, true, is_some, List, Option, Some, None, Result, Ok, Err, OnOk, ap, refl, sym, subst}
+use Rattle.std.proofs.Common.{◌≡◌, ◌∙◌, ℕ, Bool, false, true, is_some, List, Option, Some, None, Result, Ok, Err, OnOk, ap, refl, sym, subst}
 use Rattle.std.specs.Borrow.{Bor}
 use Rattle.bx_day.specs.Day.{Day}
 use Rattle.bx_day_openings.specs.declared.fault.DayCommandFault.{DayCommandFault}
 use Rattle.bx_day.specs.Outages.{live_day_after}
 use Rattle.bx_events.specs.Events.{LiveEvent}
-use Rattle.bx_events.specs.declared.moment.TheConstants.{LAST_MOMENT}
 use Rattle.bx_journal.specs.Follows.{IsFollowed}
 use Rattle.bx_journal.specs.Heads.{wanted_of}
 use Rattle.bx_journal.specs.Reading.{journal_in}
 use Rattle.bx_journal.specs.Recording.{IsSettled}
-use Rattle.bx_journal.specs.declared.disk_files.SystemFile.{SystemFile}
 use Rattle.bx_journal.specs.declared.file.FileDisk.{FileDisk}
 use Rattle.bx_journal.specs.declared.fault.JournalFault.{JournalFault}
 use Rattle.bx_journal.specs.declared.head.Head.{Head}
 use Rattle.bx_journal.specs.declared.head.Wanted.{Wanted}
-use Rattle.bx_journal_openings.specs.Followed.{IsFollowedWhole}
-use Rattle.bx_journal_openings.specs.Journals.{IsJournal}
+use Rattle.bx_day_openings.specs.Followed.{IsFollowedWhole}
+use Rattle.bx_day_openings.specs.Journals.{IsJournal}
 use Rattle.bx_line_world.specs.Days.{GoesByLine}
 use Rattle.bx_line_world.specs.Posts.{no_post}
 use Rattle.bx_line_world.specs.Wires.{WireAct}
 use Rattle.bx_line_world.specs.declared.line_world.LineWorld.{LineWorld}
 use Rattle.bx_line_world.proofs.Never.{never_ends}
 use Rattle.bx_live.specs.Acts.{Act, recorded, ended}
+use Rattle.bx_live.specs.Held.{IsHeldOut, IsHeldRun}
 use Rattle.bx_live.specs.Runs.{Between, Done, Over, IsRun}
 use Rattle.bx_live.specs.Running.{Runs, or_over}
 use Rattle.bx_live.specs.declared.world.CannotRecord.{CannotRecord}
@@ -43,9 +42,9 @@ module _ {W D : Type 0} (did : W → List WireAct → W → Type 0) (holds may_l
   Goes = Chain (GoesByLine did holds may_leave moment left_since)
 
   pub by_line : (wire : W) (schedule : Schedule) (kept : Record D) (turns : ℕ) (from to : Day) (old new : LineWorld W D) (done : Result (Unit {0}) CannotRecord) → done ≡ Ok tt → old.line.wire ≡ wire → old.schedule ≡ schedule → old.record ≡ kept → old.line.end.network ≡ true → old.line.post ≡ no_post
-      → (ran : Runs Goes old new (Between from) (or_over (Done to) to done)) → to ≡ live_day_after (recorded ran.acts) from → OnOk done (ended ran.acts ≡ false → to.moment ≡ max from.moment (min turns LAST_MOMENT))
+      → (ran : Runs Goes old new (Between from) (or_over (Done to) to done)) → IsHeldRun turns from to ran.acts done
       → RunsByLine did holds may_leave moment left_since wire schedule kept turns from to
-  by_line wire schedule kept turns from to old new done is over scheduled by side nothing ran after reached = record {
+  by_line wire schedule kept turns from to old new done is over scheduled by side nothing ran held = record {
     acts = ran.acts;
     old = old;
     new = new;
@@ -56,8 +55,9 @@ module _ {W D : Type 0} (did : W → List WireAct → W → Type 0) (holds may_l
     nothing_told = nothing;
     went = ran.done;
     run = subst (λ (r : Result (Unit {0}) CannotRecord). IsRun (Between from) ran.acts (or_over (Done to) to r)) is ran.goes;
-    after = after;
-    reached = subst (λ (r : Result (Unit {0}) CannotRecord). OnOk r (ended ran.acts ≡ false → to.moment ≡ max from.moment (min turns LAST_MOMENT))) is reached (never_ends did holds may_leave moment left_since old new ran.acts ran.done);
+    after = held.after;
+    held = held.held;
+    out = subst (λ (r : Result (Unit {0}) CannotRecord). OnOk r (ended ran.acts ≡ false → IsHeldOut turns to)) is held.out (never_ends did holds may_leave moment left_since old new ran.acts ran.done);
   }
 
   -- a run that is over before its end has a journal
@@ -91,9 +91,9 @@ goes_on_by head wanted before opened day r v same is followed =
 pub followed_by : (head : Head) (wanted : Wanted) (faulted : Bool) (before after : Option (List ℕ)) (opened day : Day) (whole : Result ℕ JournalFault) → wanted ≡ wanted_of head → IsFollowed goes_on faulted before after wanted opened day whole → IsFollowedBy head before opened day whole
 followed_by head wanted faulted before after opened day whole same f = (faulted, after, subst (λ (w : Wanted). IsFollowed goes_on faulted before after w opened day whole) same f)
 
-pub kept_by : {F : Type 0} (head : Head) (before : Option (List ℕ)) (opened day : Day) (kept : Record (FileDisk (SystemFile F))) (o : Option (Bor (List ℕ))) (name : Bor (List ℕ)) → o ≡ Some name → IsKeptOn (λ file. None) false head before opened day kept → IsKeptBy head o opened day kept
+pub kept_by : {F : Type 0} (head : Head) (before : Option (List ℕ)) (opened day : Day) (kept : Record (FileDisk F)) (o : Option (Bor (List ℕ))) (name : Bor (List ℕ)) → o ≡ Some name → IsKeptOn (λ file. None) false head before opened day kept → IsKeptBy head o opened day kept
 kept_by {F = F} head before opened day kept o name is k = subst (λ (x : Option (Bor (List ℕ))). IsKeptBy {F = F} head x opened day kept) (sym is) (before, k)
 
-pub journal_kept_by : {F : Type 0} (head : Head) (opened day : Day) (kept : Record (FileDisk (SystemFile F))) (o : Option (Bor (List ℕ))) → IsKeptBy head o opened day kept → is_some kept.disk ≡ true → is_some o ≡ true
+pub journal_kept_by : {F : Type 0} (head : Head) (opened day : Day) (kept : Record (FileDisk F)) (o : Option (Bor (List ℕ))) → IsKeptBy head o opened day kept → is_some kept.disk ≡ true → is_some o ≡ true
 journal_kept_by head opened day kept (Some name) k there = refl
-journal_kept_by {F = F} head opened day kept None k there = subst (λ (x : Option (FileDisk (SystemFile F))). is_some x ≡ true) k there
+journal_kept_by {F = F} head opened day kept None k there = subst (λ (x : Option (FileDisk F)). is_some x ≡ true) k there

@@ -1,9 +1,9 @@
 -- What the journal of a rehearsal has behind the day.
-use Rattle.std.proofs.Common.{◌≡◌, ℕ, ◌+◌, ◌==◌, Bool, true, false, if◌then◌else◌, is_some, List, [], ◌∷◌, ◌++◌, Option, Some, None, Result, Ok, Err, refl, sym, subst}
+use Rattle.std.proofs.Common.{◌≡◌, ℕ, zero, suc, ◌+◌, ◌==◌, Bool, true, false, if◌then◌else◌, is_some, List, [], ◌∷◌, ◌++◌, Option, Some, None, Result, Ok, Err, refl, sym, subst}
 use Rattle.arrayvec.specs.ArrayVec.{ArrayVec}
 use Rattle.bx_day.specs.Day.{Day}
 use Rattle.bx_day.specs.Course.{exchange_next, exchange_sent, exchange_text}
-use Rattle.bx_events.specs.Events.{LiveEvent, OnLink, WithoutLink, Sold}
+use Rattle.bx_events.specs.Events.{Receive, LiveEvent, OnLink, WithoutLink, Sold}
 use Rattle.bx_frames.specs.declared.fault.LinkFault.{LinkFault}
 use Rattle.bx_frames.specs.declared.fault.LinkFault.TheVariants.{WrongMoment}
 use Rattle.bx_frames.specs.declared.frame.Frame.{Frame}
@@ -14,16 +14,17 @@ use Rattle.bx_journal.specs.declared.head.Head.{Head}
 use Rattle.bx_journal.specs.Recording.{IsSettled, IsPending}
 use Rattle.bx_journal.specs.Text.{journal_text}
 use Rattle.bx_journal.proofs.Recorded.{pending}
-use Rattle.bx_live.specs.Acts.{Act, Began, Dropped, Recorded, Synced, Wrote, Read, EndedDay, recorded}
+use Rattle.bx_live.specs.Acts.{Act, Began, Dropped, Recorded, Synced, Wrote, Read, Took, EndedDay, recorded}
 use Rattle.bx_live.specs.declared.world.Begin.{Begin}
 use Rattle.bx_live.specs.declared.world.Begin.TheVariants as begins
 use Rattle.bx_live.specs.declared.world.Loss.{Loss}
 use Rattle.bx_live.specs.declared.world.Loss.TheVariants as losses
-use Rattle.bx_live.specs.Runs.{Place, Between, Recording, Owing, Hearing, Losing, Over, Closing, Done, IsDue, IsRun, next, owing}
+use Rattle.bx_live.specs.Runs.{Place, Between, Recording, Receiving, Taking, Owing, Hearing, Losing, Over, Closing, Done, IsDue, IsRun, next, owing, with_reply, replying, writing}
 use Rattle.bx_live.specs.Written.{Filed, filed_by}
 use Rattle.bx_live.proofs.Due.{by_due}
 use Rattle.bx_live.proofs.Onward.{filed_law}
 use Rattle.bx_live_parts.specs.Chains.{Chain, chain_first}
+use Rattle.bx_world.proofs.Kept.{stops, stopped}
 use Rattle.bx_world.specs.Kept.{keeps_record}
 use Rattle.bx_live_parts.specs.Records.{OnRecord, OnDisk}
 use Rattle.bx_live_parts.proofs.Projections.{kept_on}
@@ -35,53 +36,22 @@ use Rattle.bx_run_commands.specs.declared.waiting.WaitingDisk.{WaitingDisk}
 
 -- ---- in a run that comes to its end nothing failed
 
-over_never : (d e : Day) (acts : List Act) → IsRun (Over d) acts (Done e) → ⊥
-over_never d e [] same = cc
-over_never d e (Began second begin ∷ acts) (due, goes) = absurd due
-over_never d e (Dropped loss ∷ acts) (due, goes) = absurd due
-over_never d e (Recorded event done ∷ acts) (due, goes) = absurd due
-over_never d e (Synced done ∷ acts) (due, goes) = absurd due
-over_never d e (Wrote octets done ∷ acts) (due, goes) = absurd due
-over_never d e (Read room answer ∷ acts) (due, goes) = absurd due
-over_never d e (EndedDay ∷ acts) (due, goes) = absurd due
-
--- a failed act leads to where nothing is due
-abbrev Stops : Place → Act → Type 0
-Stops p (Recorded event false) = (d : Day) × (next p (Recorded event false) ≡ Over d)
-Stops p (Synced false) = (d : Day) × (next p (Synced false) ≡ Over d)
-Stops p act = Unit {0}
-
-stops : (p : Place) (act : Act) → IsDue p act → Stops p act
-stops = by_due Stops (λ d begin. tt) stops_recorded stops_synced (λ d room text done. tt) (λ d room answer. tt) (λ d loss. tt) stops_closed stops_ended (λ d. tt) where
-  stops_recorded : (d : Day) (room : ℕ) (event : LiveEvent) (done : Bool) → Stops (Recording d room event) (Recorded event done)
-  stops_recorded d room event true = tt
-  stops_recorded d room event false = (d, refl)
-
-  stops_synced : (d : Day) (room : ℕ) (text : List ℕ) (done : Bool) → Stops (Owing d room true text) (Synced done)
-  stops_synced d room text true = tt
-  stops_synced d room text false = (d, refl)
-
-  stops_closed : (d : Day) (done : Bool) → Stops (Between d) (Synced done)
-  stops_closed d true = tt
-  stops_closed d false = (d, refl)
-
-  stops_ended : (d : Day) (done : Bool) → Stops (Closing d) (Synced done)
-  stops_ended d true = tt
-  stops_ended d false = (d, refl)
-
-stopped : (p : Place) (act : Act) (acts : List Act) (e d : Day) → next p act ≡ Over d → IsRun (next p act) acts (Done e) → ⊥
-stopped p act acts e d same goes = over_never d e acts (subst (λ (x : Place). IsRun x acts (Done e)) same goes)
+stopped_never : (p : Place) (act : Act) (acts : List Act) (e d : Day) → next p act ≡ Over d → IsRun (next p act) acts (Done e) → ⊥
+stopped_never p act acts e d same goes =
+    let at_end = subst (λ (xs : List Act). IsRun (Over d) xs (Done e)) (stopped p act acts (Done e) d same goes) (subst (λ (x : Place). IsRun x acts (Done e)) same goes) in
+    cc
 
 all_kept : (p : Place) (e : Day) (acts : List Act) → IsRun p acts (Done e) → keeps_record acts ≡ true
 all_kept p e [] same = refl
 all_kept p e (Recorded event true ∷ acts) (due, goes) = all_kept (next p (Recorded event true)) e acts goes
-all_kept p e (Recorded event false ∷ acts) (due, goes) = let s = stops p (Recorded event false) due in absurd (stopped p (Recorded event false) acts e s.0 s.1 goes)
+all_kept p e (Recorded event false ∷ acts) (due, goes) = let s = stops p (Recorded event false) due in absurd (stopped_never p (Recorded event false) acts e s.0 s.1 goes)
 all_kept p e (Synced true ∷ acts) (due, goes) = all_kept (next p (Synced true)) e acts goes
-all_kept p e (Synced false ∷ acts) (due, goes) = let s = stops p (Synced false) due in absurd (stopped p (Synced false) acts e s.0 s.1 goes)
+all_kept p e (Synced false ∷ acts) (due, goes) = let s = stops p (Synced false) due in absurd (stopped_never p (Synced false) acts e s.0 s.1 goes)
 all_kept p e (Began second begin ∷ acts) (due, goes) = all_kept (next p (Began second begin)) e acts goes
 all_kept p e (Dropped loss ∷ acts) (due, goes) = all_kept (next p (Dropped loss)) e acts goes
 all_kept p e (Wrote octets done ∷ acts) (due, goes) = all_kept (next p (Wrote octets done)) e acts goes
 all_kept p e (Read room answer ∷ acts) (due, goes) = all_kept (next p (Read room answer)) e acts goes
+all_kept p e (Took message ∷ acts) (due, goes) = all_kept (next p (Took message)) e acts goes
 all_kept p e (EndedDay ∷ acts) (due, goes) = all_kept (next p EndedDay) e acts goes
 
 -- ---- a run in which nothing failed is not over before its end
@@ -97,7 +67,7 @@ GoesOn p (Synced false) = Unit {0}
 GoesOn p act = IsOver (next p act) → ⊥
 
 goes_on : (p : Place) (act : Act) → IsDue p act → GoesOn p act
-goes_on = by_due GoesOn on_begun on_recorded on_synced on_written on_read on_lost on_closing on_closed (λ d over. over) where
+goes_on = by_due GoesOn on_begun on_recorded on_received on_took on_synced on_written on_read on_lost on_closing on_closed (λ d over. over) where
   on_begun : (d : Day) (begin : Begin) → GoesOn (Between d) (Began (d.moment + 1) begin)
   on_begun d begins.Late over = over
   on_begun d begins.Alone over = over
@@ -115,13 +85,30 @@ goes_on = by_due GoesOn on_begun on_recorded on_synced on_written on_read on_los
   on_recorded d room (Sold line) true = λ over. over
   on_recorded d room (OnLink event) true = owing_on (exchange_next d event) room (exchange_sent d event) (exchange_text d event)
 
-  on_synced : (d : Day) (room : ℕ) (text : List ℕ) (done : Bool) → GoesOn (Owing d room true text) (Synced done)
-  on_synced d room text true = λ over. over
-  on_synced d room text false = tt
+  replying_on : (d : Day) (owed : List (List ℕ)) (room : ℕ) → IsOver (replying d owed room) → ⊥
+  replying_on d [] room over = over
+  replying_on d (text ∷ owed) zero over = over
+  replying_on d (text ∷ owed) (suc room) over = over
 
-  on_written : (d : Day) (room : ℕ) (text : List ℕ) (done : Bool) → GoesOn (Owing d room false text) (Wrote text done)
-  on_written d room text true = λ over. over
-  on_written d room text false = λ over. over
+  writing_on : (d : Day) (room : ℕ) (texts : List (List ℕ)) → IsOver (writing d room texts) → ⊥
+  writing_on d room [] over = over
+  writing_on d room (text ∷ texts) over = over
+
+  on_received : (d : Day) (room : ℕ) (owed : List (List ℕ)) (octets : List ℕ) (done : Bool) → GoesOn (Receiving d room owed octets) (Recorded (OnLink (Receive octets)) done)
+  on_received d room owed octets true = replying_on (exchange_next d (Receive octets)) (with_reply owed (exchange_text d (Receive octets))) room
+  on_received d room owed octets false = tt
+
+  on_took : (d : Day) (room : ℕ) (owed : List (List ℕ)) (message : Option (ArrayVec ℕ)) → GoesOn (Taking d room owed) (Took message)
+  on_took d room owed (Some message) = λ over. over
+  on_took d room owed None = λ over. over
+
+  on_synced : (d : Day) (room : ℕ) (texts : List (List ℕ)) (done : Bool) → GoesOn (Owing d room true texts) (Synced done)
+  on_synced d room texts true = λ over. over
+  on_synced d room texts false = tt
+
+  on_written : (d : Day) (room : ℕ) (text : List ℕ) (texts : List (List ℕ)) (done : Bool) → GoesOn (Owing d room false (text ∷ texts)) (Wrote text done)
+  on_written d room text texts true = writing_on d room texts
+  on_written d room text texts false = λ over. over
 
   turn_on : (d : Day) (b : Bool) → IsOver (if b then Between d else Losing d (losses.Fault WrongMoment)) → ⊥
   turn_on d true over = over
@@ -155,6 +142,7 @@ over_of p e (Began second begin ∷ acts) kept (due, goes) = absurd (goes_on p (
 over_of p e (Dropped loss ∷ acts) kept (due, goes) = absurd (goes_on p (Dropped loss) due (over_of (next p (Dropped loss)) e acts kept goes))
 over_of p e (Wrote octets done ∷ acts) kept (due, goes) = absurd (goes_on p (Wrote octets done) due (over_of (next p (Wrote octets done)) e acts kept goes))
 over_of p e (Read room answer ∷ acts) kept (due, goes) = absurd (goes_on p (Read room answer) due (over_of (next p (Read room answer)) e acts kept goes))
+over_of p e (Took message ∷ acts) kept (due, goes) = absurd (goes_on p (Took message) due (over_of (next p (Took message)) e acts kept goes))
 over_of p e (EndedDay ∷ acts) kept (due, goes) = absurd (goes_on p EndedDay due (over_of (next p EndedDay) e acts kept goes))
 
 -- ---- what a disk holds behind acts, all of which went well
@@ -180,6 +168,7 @@ module _ {D : Type 0} (holds may_leave : D → List ℕ → Type 0) (moment : D 
   held_on (Dropped loss ∷ acts) f u v kept chain h = let (mid, same, more) = chain_first Step u v (Dropped loss) acts chain in held_on acts f mid v kept more (subst (λ (x : D). Holds f x) same h)
   held_on (Wrote octets done ∷ acts) f u v kept chain h = let (mid, same, more) = chain_first Step u v (Wrote octets done) acts chain in held_on acts f mid v kept more (subst (λ (x : D). Holds f x) same h)
   held_on (Read room answer ∷ acts) f u v kept chain h = let (mid, same, more) = chain_first Step u v (Read room answer) acts chain in held_on acts f mid v kept more (subst (λ (x : D). Holds f x) same h)
+  held_on (Took message ∷ acts) f u v kept chain h = let (mid, same, more) = chain_first Step u v (Took message) acts chain in held_on acts f mid v kept more (subst (λ (x : D). Holds f x) same h)
   held_on (EndedDay ∷ acts) f u v kept chain h = let (mid, same, more) = chain_first Step u v EndedDay acts chain in held_on acts f mid v kept more (subst (λ (x : D). Holds f x) same h)
 
   -- of a journal that had no event, and a run that came to its end

@@ -1,5 +1,5 @@
 -- What the world of a capture has taken of the acts of a run.
-use Rattle.std.proofs.Common.{◌≡◌, ℕ, ◌+◌, min, Bool, List, [], ◌∷◌, ◌++◌, Option, Ok, Err, refl, subst}
+use Rattle.std.proofs.Common.{◌≡◌, ℕ, ◌+◌, min, Bool, List, [], ◌∷◌, ◌++◌, Option, Some, None, Ok, Err, refl, subst}
 use Rattle.std.specs.List.{flat_map}
 use Rattle.bx_capture.specs.Captures.{packet_sent, Keeps, is_unfaulted}
 use Rattle.bx_capture.specs.Packets.{packet}
@@ -7,7 +7,7 @@ use Rattle.bx_capture.specs.Keeping.{keeps_nil, keeps_more}
 use Rattle.bx_capture.specs.declared.packet.Direction.TheVariants.{Received}
 use Rattle.bx_devices.specs.declared.watched.Watched.{Watched}
 use Rattle.bx_frames.specs.declared.frame.Frame.TheVariants as frames
-use Rattle.bx_live.specs.Acts.{Act, Began, Dropped, Recorded, Synced, Wrote, Read, EndedDay}
+use Rattle.bx_live.specs.Acts.{Act, Began, Dropped, Recorded, Synced, Wrote, Read, Took, EndedDay}
 use Rattle.bx_world.specs.Captures.{Captures}
 use Rattle.bx_live_parts.specs.Chains.{Chain, chain_first}
 use Rattle.bx_world.specs.declared.captured.CapturedWorld.{CapturedWorld}
@@ -64,6 +64,17 @@ module _ {W F : Type 0} (contents : F → Option (List ℕ)) where
       let (mid, step, more) = chain_first (Captures contents) old new (Read room (Ok frames.EndOfDay)) acts chain in still old mid acts new.file (Read room (Ok frames.EndOfDay)) step.file step.second step.first (λ first second packets p. p) (taken_on acts mid new more)
   taken_on (Read room (Err fault) ∷ acts) old new chain =
       let (mid, step, more) = chain_first (Captures contents) old new (Read room (Err fault)) acts chain in still old mid acts new.file (Read room (Err fault)) step.file step.second step.first (λ first second packets p. p) (taken_on acts mid new more)
+  taken_on (Took (Some message) ∷ acts) old new chain =
+      let (mid, step, more) = chain_first (Captures contents) old new (Took (Some message)) acts chain in
+      let taken = taken_on acts mid new more in
+      let here = packet (old.first + old.second) Received message.items in
+      record {
+        packets = here ++ taken.packets;
+        of_acts = (taken.packets, refl, subst (λ (n : ℕ). ArePackets n old.second acts taken.packets) step.first (subst (λ (n : ℕ). ArePackets mid.first n acts taken.packets) step.second taken.of_acts));
+        keeps = keeps_more contents old.file mid.file new.file here taken.packets step.file taken.keeps;
+      }
+  taken_on (Took None ∷ acts) old new chain =
+      let (mid, step, more) = chain_first (Captures contents) old new (Took None) acts chain in still old mid acts new.file (Took None) step.file step.second step.first (λ first second packets p. p) (taken_on acts mid new more)
   taken_on (Dropped loss ∷ acts) old new chain =
       let (mid, step, more) = chain_first (Captures contents) old new (Dropped loss) acts chain in still old mid acts new.file (Dropped loss) step.file step.second step.first (λ first second packets p. p) (taken_on acts mid new more)
   taken_on (Recorded event done ∷ acts) old new chain =

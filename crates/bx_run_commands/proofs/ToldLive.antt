@@ -8,14 +8,23 @@ use Rattle.bx_journal.specs.declared.head.Head.{Head}
 use Rattle.bx_request.specs.declared.request.LiveRequest.{LiveRequest}
 use Rattle.bx_run_commands.specs.Heads.{live_head}
 use Rattle.bx_run_commands.specs.LiveRefusals.{StopsLive, IsLiveRefusal}
+use Rattle.bx_run_commands.specs.OpeningFaults.{IsUnrecorded}
 use Rattle.bx_run_commands.specs.Resuming.{IsNoRecord}
 use Rattle.bx_run_commands.specs.declared.fault.LiveFault.{LiveFault}
-use Rattle.bx_run_commands.specs.declared.fault.LiveFault.TheVariants.{Day as OfDay}
+use Rattle.bx_run_commands.specs.declared.fault.LiveFault.TheVariants.{Day as OfDay, StillUp}
 use Rattle.bx_run_commands.proofs.Refused.{no_output}
 
 no_journal : (journal : Option (Bor (List ℕ))) (head : Head) → IsNoRecord journal head (OfDay (Command commands.CannotWrite)) → ⊥
 no_journal None head none = none
 no_journal (Some name) head none = none
+
+no_journal_still : (journal : Option (Bor (List ℕ))) (head : Head) → IsNoRecord journal head StillUp → ⊥
+no_journal_still None head none = none
+no_journal_still (Some name) head none = none
+
+recorded_still : (journal : Option (Bor (List ℕ))) → IsUnrecorded journal StillUp → ⊥
+recorded_still None none = none
+recorded_still (Some name) none = none
 
 module _ (request : LiveRequest) where
   writes : StopsLive request (OfDay (Command commands.CannotWrite)) → ⊥
@@ -26,6 +35,14 @@ module _ (request : LiveRequest) where
   writes (inr (inr (inr (at_hand, inl journal)))) = no_journal request.journal (live_head at_hand.digest at_hand.hours) journal
   writes (inr (inr (inr (at_hand, inr unrecorded)))) = no_output request.journal unrecorded
 
+  still : StopsLive request StillUp → ⊥
+  still (inl hours) = hours
+  still (inr (inl plan)) = plan
+  still (inr (inr (inl (at_hand, none)))) = none
+  still (inr (inr (inr (at_hand, inl journal)))) = no_journal_still request.journal (live_head at_hand.digest at_hand.hours) journal
+  still (inr (inr (inr (at_hand, inr unrecorded)))) = recorded_still request.journal unrecorded
+
   pub live_stopped : {F W : Type 0} (H : Type 0) (files : F → Option (List ℕ)) (contents : W → Option (List ℕ)) (output : Watched W) (fault : LiveFault) → StopsLive request fault → IsLiveRefusal H files request contents output output fault
   live_stopped H files contents output (OfDay (Command commands.CannotWrite)) stops = absurd (writes stops)
+  live_stopped H files contents output StillUp stops = absurd (still stops)
   live_stopped H files contents output fault stops = (stops, refl)

@@ -18,13 +18,13 @@ use Rattle.bx_run_commands.specs.RehearsalRefusals.{IsNoPeer, IsUnmet, StopsBehi
 use Rattle.bx_run_commands.specs.Telling.{IsToldWhole, IsNotToldWhole}
 use Rattle.bx_run_commands.specs.JournalDisks.{JournalDisk}
 use Rattle.bx_run_commands.specs.declared.fault.LiveFault.{LiveFault}
-use Rattle.bx_run_commands.specs.declared.fault.LiveFault.TheVariants.{Day as OfDay, CannotRecord, NotEmpty, InUse, NotAFile}
+use Rattle.bx_run_commands.specs.declared.fault.LiveFault.TheVariants.{Day as OfDay, CannotRecord, NotEmpty, InUse, NotAFile, StillUp}
 use Rattle.bx_run_commands.specs.declared.rehearsing.Rehearsed.{Rehearsed}
 use Rattle.bx_run_commands.specs.declared.telling.Ended.{Ended}
 use Rattle.bx_run_commands.proofs.Refused.{whole_run_kept, no_clock, no_output}
 
 whole_with : {F : Type 0} (files : F → Option (List ℕ)) (peer : Peer) (request : RehearsalRequest) (rehearsed : Rehearsed (JournalDisk F)) → RehearsalWith files peer request rehearsed → (rehearsed.is_whole ≡ true) ⊎ (request.sight.capture ≡ None) → rehearsed.is_whole ≡ true
-whole_with files (Script script) request rehearsed r all = let day = r.ran.2.4.2.day in whole_run_kept files request.sight.capture r.file _ _ rehearsed.is_whole r.file_opens day.captured all
+whole_with files (Script script) request rehearsed r all = let day = r.ran.2.ran.day in whole_run_kept files request.sight.capture r.file _ _ rehearsed.is_whole r.file_opens day.captured all
 whole_with files (At (Port port)) request rehearsed r all = let day = r.ran.2.1.day in whole_run_kept files request.sight.capture r.file _ _ rehearsed.is_whole r.file_opens day.captured all
 whole_with files (At (Socket path)) request rehearsed r all = let day = r.ran.2.1.day in whole_run_kept files request.sight.capture r.file _ _ rehearsed.is_whole r.file_opens day.captured all
 
@@ -53,6 +53,7 @@ module _ {F W : Type 0} (files : F → Option (List ℕ)) (request : RehearsalRe
   rehearsal_refused (NotEmpty name) cut = absurd cut
   rehearsal_refused (InUse name) cut = absurd cut
   rehearsal_refused (NotAFile name) cut = absurd cut
+  rehearsal_refused StillUp cut = absurd cut
 
 -- ---- a rehearsal that stopped did not fail by its output
 

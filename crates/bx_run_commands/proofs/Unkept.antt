@@ -1,6 +1,6 @@
 -- Without a journal nothing fails to be put on record.
 use Rattle.std.proofs.Common.{◌≡◌, ℕ, true, false, List, [], ◌∷◌, Option, Some, None, refl, sym, subst}
-use Rattle.bx_live.specs.Acts.{Act, Began, Dropped, Recorded, Synced, Wrote, Read, EndedDay}
+use Rattle.bx_live.specs.Acts.{Act, Began, Dropped, Recorded, Synced, Wrote, Read, Took, EndedDay}
 use Rattle.bx_live_parts.specs.Chains.{Chain, chain_first}
 use Rattle.bx_live_parts.specs.Records.{OnRecord}
 use Rattle.bx_world.specs.Kept.{keeps_record}
@@ -19,6 +19,7 @@ module _ {D : Type 0} (holds may_leave : D → List ℕ → Type 0) (moment : D 
   none_by (Dropped loss) o p = sym p
   none_by (Wrote octets done) o p = sym p
   none_by (Read room answer) o p = sym p
+  none_by (Took message) o p = sym p
   none_by EndedDay o p = sym p
 
   pub none_on : (acts : List Act) (o : Option D) → Chain Kept None acts o → o ≡ None
@@ -43,4 +44,5 @@ module _ {D : Type 0} (holds may_leave : D → List ℕ → Type 0) (moment : D 
         keeps_by (Dropped loss) mid p kept = kept
         keeps_by (Wrote octets done) mid p kept = kept
         keeps_by (Read room answer) mid p kept = kept
+        keeps_by (Took message) mid p kept = kept
         keeps_by EndedDay mid p kept = kept

@@ -1,21 +1,23 @@
 -- A live day of a plan, and what is told of it.
-use Rattle.std.specs.Prelude.{ℕ, List, Option}
+use Rattle.std.specs.Prelude.{◌≡◌, ℕ, true, false, List, Option}
 use Rattle.std.specs.Io.KnownBytes.{Appends}
 use Rattle.bx_day.specs.Day.{Day}
 use Rattle.bx_day.specs.Telling.{outcomes_text}
 use Rattle.bx_day_openings.specs.Hours.{AreHours}
 use Rattle.bx_day_openings.specs.declared.hours.Hours.{Hours}
 use Rattle.bx_devices.specs.Octets.{AppendsPrefix}
-use Rattle.bx_journal.specs.declared.disk_files.SystemFile.{SystemFile}
 use Rattle.bx_journal.specs.declared.file.FileDisk.{FileDisk}
-use Rattle.bx_journal_openings.specs.TiedDays.{IsTiedDay}
+use Rattle.bx_day_openings.specs.TiedDays.{IsTiedDay}
 use Rattle.bx_line_world.specs.declared.udp.UdpWire.{UdpWire}
 use Rattle.bx_line_world.specs.Wires.{WireAct}
+use Rattle.bx_live.specs.Held.{has_call}
+use Rattle.bx_events.specs.declared.moment.TheConstants.{LAST_MOMENT}
 use Rattle.bx_live_parts.specs.declared.record.Record.{Record}
 use Rattle.bx_request.specs.declared.request.LiveRequest.{LiveRequest}
 use Rattle.bx_run_commands.specs.Heads.{live_head}
 use Rattle.bx_journal.specs.Files.{holds_unknown, may_leave_any, no_moment, any_since}
 use Rattle.bx_run_commands.specs.LiveRuns.{RunsByLine}
+use Rattle.bx_run_commands.specs.declared.named_file.NamedFile.{NamedFile}
 use Rattle.bx_run_commands.specs.Resuming.{GoesOnBy, IsKeptBy}
 
 -- what is known of what a socket did: nothing
@@ -33,16 +35,25 @@ pub record IsLiveDay {F : Type 0} (H : Type 0) (files : F → Option (List ℕ))
   pub turns : ℕ
   pub opens : IsTiedDay request.turns opened digest turns
   pub resumed : Day
-  pub kept : Record (FileDisk (SystemFile F))
+  pub kept : Record (FileDisk (NamedFile H F))
   pub goes_on : GoesOnBy (live_head digest hours) request.journal opened resumed
   pub is_kept : IsKeptBy (live_head digest hours) request.journal opened resumed kept
   pub wire : UdpWire H
   pub ran : RunsByLine did_on holds_unknown may_leave_any no_moment any_since wire hours.schedule kept turns resumed day
 
--- what became of each booking of such a day was written
+-- what became of each booking of such a day was written, and no call is up
 pub record IsLiveTold {F : Type 0} (H : Type 0) (files : F → Option (List ℕ)) (request : LiveRequest) (before after : Option (List ℕ)) : Type 0 where
   pub day : Day
   pub live : IsLiveDay H files request day
+  pub clear : has_call day ≡ false
+  pub written : Appends before after (outcomes_text day)
+
+-- or it was written, and the day has no more seconds in which its calls can be cleared
+pub record IsLiveUp {F : Type 0} (H : Type 0) (files : F → Option (List ℕ)) (request : LiveRequest) (before after : Option (List ℕ)) : Type 0 where
+  pub day : Day
+  pub live : IsLiveDay H files request day
+  pub up : has_call day ≡ true
+  pub last : day.moment ≡ LAST_MOMENT
   pub written : Appends before after (outcomes_text day)
 
 -- or a front of it was

@@ -5,8 +5,8 @@ use Rattle.bx_day.specs.Day.{Day}
 use Rattle.bx_day_openings.specs.Hours.{AreHours}
 use Rattle.bx_day_openings.specs.declared.hours.Hours.{Hours}
 use Rattle.bx_journal.specs.declared.head.Head.{Head}
-use Rattle.bx_journal_openings.specs.TiedDays.{IsTiedDay}
-use Rattle.bx_journal_openings.specs.declared.opening.Opening.{Opening}
+use Rattle.bx_day_openings.specs.TiedDays.{IsTiedDay}
+use Rattle.bx_day_openings.specs.declared.plan_opening.Opening.{Opening}
 use Rattle.bx_request.specs.declared.request.LiveRequest.{LiveRequest}
 use Rattle.bx_run_commands.specs.LiveDays.{IsLiveDay}
 use Rattle.bx_run_commands.specs.OpeningFaults.{IsUnrecorded}

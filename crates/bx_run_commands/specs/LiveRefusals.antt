@@ -9,14 +9,14 @@ use Rattle.bx_day_openings.specs.declared.fault.DayCommandFault.TheVariants.{Com
 use Rattle.bx_day_openings.specs.declared.hours.Hours.{Hours}
 use Rattle.bx_devices.specs.Watching.{device_of, is_faulted}
 use Rattle.bx_devices.specs.declared.watched.Watched.{Watched}
-use Rattle.bx_journal_openings.specs.TiedDays.{IsTiedDay}
+use Rattle.bx_day_openings.specs.TiedDays.{IsTiedDay}
 use Rattle.bx_request.specs.declared.request.LiveRequest.{LiveRequest}
 use Rattle.bx_run_commands.specs.Heads.{live_head}
-use Rattle.bx_run_commands.specs.LiveDays.{IsLiveCut}
+use Rattle.bx_run_commands.specs.LiveDays.{IsLiveCut, IsLiveUp}
 use Rattle.bx_run_commands.specs.OpeningFaults.{OfOpening, IsUnrecorded}
 use Rattle.bx_run_commands.specs.Resuming.{IsNoRecord}
 use Rattle.bx_run_commands.specs.declared.fault.LiveFault.{LiveFault}
-use Rattle.bx_run_commands.specs.declared.fault.LiveFault.TheVariants.{Day as OfDay}
+use Rattle.bx_run_commands.specs.declared.fault.LiveFault.TheVariants.{Day as OfDay, StillUp}
 
 -- there is no socket at this end's port, or it may not speak to the other
 abbrev pub IsNoLine : DayCommandFault → Type 0
@@ -40,7 +40,9 @@ StopsLive request fault =
     ⊎ (IsAtHand request × OfOpening IsNoLine fault)
     ⊎ ((at_hand : IsAtHand request) × (IsNoRecord request.journal (live_head at_hand.digest at_hand.hours) fault ⊎ IsUnrecorded request.journal fault))
 
--- the output has failed, and a front of what was to be told was; or the day stopped, and the output is as it was
+-- the output has failed, and a front of what was to be told was; or all of it was told, and calls are up; or the day stopped, and the
+-- output is as it was
 abbrev pub IsLiveRefusal : {F W : Type 0} → Type 0 → (F → Option (List ℕ)) → LiveRequest → (W → Option (List ℕ)) → Watched W → Watched W → LiveFault → Type 0
 IsLiveRefusal H files request contents old new (OfDay (Command CannotWrite)) = (is_faulted new ≡ true) × IsLiveCut H files request (contents (device_of old)) (contents (device_of new))
+IsLiveRefusal H files request contents old new StillUp = IsLiveUp H files request (contents (device_of old)) (contents (device_of new))
 IsLiveRefusal H files request contents old new fault = StopsLive request fault × (new ≡ old)

@@ -1,20 +1,21 @@
 -- A day that was run by the clock, over a data link.
-use Rattle.std.specs.Prelude.{◌≡◌, ℕ, max, min, true, List}
+use Rattle.std.specs.Prelude.{◌≡◌, ℕ, true, List}
 use Rattle.bx_day.specs.Day.{Day}
 use Rattle.bx_day.specs.Outages.{live_day_after}
-use Rattle.bx_events.specs.declared.moment.TheConstants.{LAST_MOMENT}
 use Rattle.bx_line_world.specs.Days.{GoesByLine}
 use Rattle.bx_line_world.specs.Posts.{no_post}
 use Rattle.bx_line_world.specs.Wires.{WireAct}
 use Rattle.bx_line_world.specs.declared.line_world.LineWorld.{LineWorld}
 use Rattle.bx_live.specs.Acts.{Act, recorded}
+use Rattle.bx_live.specs.Held.{AreHeld, IsHeldOut}
 use Rattle.bx_live.specs.Runs.{Between, Done, IsRun}
 use Rattle.bx_live_parts.specs.Chains.{Chain}
 use Rattle.bx_live_parts.specs.declared.record.Record.{Record}
 use Rattle.bx_live_parts.specs.declared.schedule.Schedule.{Schedule}
 
 -- A world with the network's end of a data link over this wire, with this schedule and this record, has gone through the acts of a run of a day from
--- here to its end. The day is the one after just the events on record, and has come to its last second, whatever the line did.
+-- here to its end. The day is the one after just the events on record. It has come to its last second, whatever the line did, and has gone on behind it
+-- only while a call was up: no call is up at its end, or there are no more seconds.
 pub record RunsByLine {W D : Type 0} (did : W → List WireAct → W → Type 0) (holds may_leave : D → List ℕ → Type 0) (moment : D → ℕ) (left_since : D → ℕ → List ℕ → Type 0) (wire : W) (schedule : Schedule) (kept : Record D) (turns : ℕ) (from to : Day) : Type 0 where
   pub acts : List Act
   pub old : LineWorld W D
@@ -27,4 +28,5 @@ pub record RunsByLine {W D : Type 0} (did : W → List WireAct → W → Type 0)
   pub went : Chain (GoesByLine did holds may_leave moment left_since) old acts new
   pub run : IsRun (Between from) acts (Done to)
   pub after : to ≡ live_day_after (recorded acts) from
-  pub reached : to.moment ≡ max from.moment (min turns LAST_MOMENT)
+  pub held : AreHeld turns from acts
+  pub out : IsHeldOut turns to

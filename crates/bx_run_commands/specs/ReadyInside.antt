@@ -17,7 +17,7 @@ use Rattle.bx_run_commands.specs.declared.fault.LiveFault.{LiveFault}
 use Rattle.bx_run_commands.specs.declared.fault.LiveFault.TheVariants.{Day as OfDay}
 use Rattle.bx_journal.specs.declared.head.Head.{Head}
 use Rattle.bx_journal.specs.declared.head.JournalDay.TheVariants as days
-use Rattle.bx_journal_openings.specs.declared.opening.Opening.{Opening}
+use Rattle.bx_day_openings.specs.declared.plan_opening.Opening.{Opening}
 use Rattle.bx_run_commands.specs.declared.rehearsing.Opened.{Opened}
 use Rattle.bx_run_commands.specs.declared.rehearsing.Rehearsed.{Rehearsed}
 use Rattle.bx_run_commands.specs.declared.telling.Ended.{Ended}

@@ -12,7 +12,7 @@ use Rattle.bx_devices.specs.declared.watched.Watched.{Watched}
 use Rattle.bx_request.specs.declared.request.Peer.{Peer}
 use Rattle.bx_request.specs.declared.request.Peer.TheVariants.{Script, At}
 use Rattle.bx_request.specs.declared.request.RehearsalRequest.{RehearsalRequest}
-use Rattle.bx_journal_openings.specs.TiedDays.{IsTiedDay}
+use Rattle.bx_day_openings.specs.TiedDays.{IsTiedDay}
 use Rattle.bx_run_commands.specs.OpeningFaults.{OfOpening, IsUnrecorded}
 use Rattle.bx_run_commands.specs.NewJournals.{HasNoNewJournal}
 use Rattle.bx_run_commands.specs.RehearsedDays.{IsRehearsal, IsRehearsalTold, IsRehearsalCut}

@@ -1,20 +1,17 @@
 -- A day that was rehearsed, with or without a journal.
-use Rattle.std.specs.Prelude.{◌≡◌, ℕ, max, min, false, List, [], Option, Some, None}
+use Rattle.std.specs.Prelude.{◌≡◌, ℕ, max, min, Bool, List, [], Option, Some, None, Result}
 use Rattle.bx_day.specs.Outages.{live_day_after}
 use Rattle.bx_events.specs.Events.{LiveEvent}
 use Rattle.bx_devices.specs.declared.watched.Watched.{Watched}
-use Rattle.bx_far.specs.FarDay.{FarDay}
+use Rattle.bx_frames.specs.declared.fault.LinkFault.{LinkFault}
+use Rattle.bx_frames.specs.declared.frame.Frame.{Frame}
 use Rattle.bx_journal.specs.Heads.{IsDay}
 use Rattle.bx_journal.specs.declared.head.Head.{Head}
 use Rattle.bx_journal.specs.Recording.{IsSettled}
-use Rattle.bx_link.specs.Sessions.{is_far_over}
-use Rattle.bx_link.specs.declared.connection.Connection.{Connection}
 use Rattle.bx_live.specs.Acts.{Act, recorded}
 use Rattle.bx_live.specs.Runs.{Between, Done, IsRun}
-use Rattle.bx_world.specs.BothEnds.{GoesBoth}
 use Rattle.bx_live_parts.specs.Chains.{Chain}
 use Rattle.bx_world.specs.Rehearsals.{Rehearses}
-use Rattle.bx_world.specs.declared.both_ends.BothEnds.{BothEnds}
 use Rattle.bx_world.specs.declared.rehearsal.Rehearsal.{Rehearsal}
 use Rattle.bx_run_commands.specs.RunCaptures.{IsRunKept}
 use Rattle.bx_run_commands.specs.WaitingDisks.{waiting_holds, no_crash, no_moment, none_left, HasBegun}
@@ -38,30 +35,14 @@ pub record IsOnRecord {D F : Type 0} (holds may_leave : D → List ℕ → Type 
   pub journal : IsJournalOf holds may_leave opened.disk rehearsed.disk opened.head (recorded acts)
   pub captured : IsRunKept files file first acts rehearsed.is_whole
 
--- a world of both ends at their connections, with a journal that has begun, where one is kept, has gone through such acts
-pub record RehearsesBoth {R W S T D F : Type 0} (remaining : R → Option (List ℕ)) (contents : W → Option (List ℕ)) (far_remaining : S → Option (List ℕ)) (far_contents : T → Option (List ℕ)) (holds may_leave : D → List ℕ → Type 0) (files : F → Option (List ℕ)) (opened : Opened D) (far : FarDay) (near : Connection R W) (distant : Connection S T) (file : Option (Watched F)) (first : ℕ) (rehearsed : Rehearsed D) : Type 0 where
+-- a world of this peer, with a journal that has begun, where one is kept, has gone through such acts
+pub record RehearsesTowards {P D F : Type 0} (wrote : P → List ℕ → Bool → P → Type 0) (gave : P → ℕ → Result Frame LinkFault → P → Type 0) (parted : P → Option LinkFault → P → Type 0) (holds may_leave : D → List ℕ → Type 0) (files : F → Option (List ℕ)) (opened : Opened D) (peer : P) (file : Option (Watched F)) (first : ℕ) (rehearsed : Rehearsed D) : Type 0 where
   pub acts : List Act
-  pub old : BothEnds R W S T (WaitingDisk D)
-  pub new : BothEnds R W S T (WaitingDisk D)
-  pub near_is : old.near ≡ near
-  pub distant_is : old.distant.connection ≡ distant
-  pub far_is : old.distant.far ≡ far
-  pub fresh : is_far_over old.distant.session ≡ false
-  pub due : old.is_due ≡ false
+  pub old : Rehearsal P (WaitingDisk D)
+  pub new : Rehearsal P (WaitingDisk D)
+  pub peer_is : old.peer ≡ peer
   pub begun : HasBegun holds opened.head opened.disk old.record.disk
   pub unlost : old.lost ≡ None
-  pub went : Chain (GoesBoth remaining contents far_remaining far_contents (waiting_holds holds) no_crash no_moment none_left) old acts new
-  pub lost : new.lost ≡ rehearsed.lost
-  pub day : IsOnRecord holds may_leave files opened file first rehearsed acts
-
--- the same of a world of one peer at its connection
-pub record RehearsesTowards {R W D F : Type 0} (remaining : R → Option (List ℕ)) (contents : W → Option (List ℕ)) (holds may_leave : D → List ℕ → Type 0) (files : F → Option (List ℕ)) (opened : Opened D) (connection : Connection R W) (file : Option (Watched F)) (first : ℕ) (rehearsed : Rehearsed D) : Type 0 where
-  pub acts : List Act
-  pub old : Rehearsal R W (WaitingDisk D)
-  pub new : Rehearsal R W (WaitingDisk D)
-  pub connection_is : old.connection ≡ connection
-  pub begun : HasBegun holds opened.head opened.disk old.record.disk
-  pub unlost : old.lost ≡ None
-  pub went : Chain (Rehearses remaining contents (waiting_holds holds) no_crash no_moment none_left) old acts new
+  pub went : Chain (Rehearses wrote gave parted (waiting_holds holds) no_crash no_moment none_left) old acts new
   pub lost : new.lost ≡ rehearsed.lost
   pub day : IsOnRecord holds may_leave files opened file first rehearsed acts

@@ -20,8 +20,11 @@ use Rattle.bx_request.specs.declared.request.Place.TheVariants.{Port, Socket}
 use Rattle.bx_request.specs.declared.request.RehearsalRequest.{RehearsalRequest}
 use Rattle.bx_journal.specs.Files.{holds_unknown, may_leave_any}
 use Rattle.bx_journal.specs.declared.head.JournalDay.TheVariants as days
-use Rattle.bx_journal_openings.specs.TiedDays.{IsTiedDay}
-use Rattle.bx_run_commands.specs.Rehearsals.{RehearsesBoth, RehearsesTowards}
+use Rattle.bx_day_openings.specs.TiedDays.{IsTiedDay}
+use Rattle.bx_world.specs.BothEnds.{IsOpening, WroteNear, GaveBoth, PartedBoth}
+use Rattle.bx_world.specs.Peers.{WroteTo, GaveFrom, PartedFrom}
+use Rattle.bx_world.specs.declared.both_ends.BothEnds.{BothEnds}
+use Rattle.bx_run_commands.specs.Rehearsals.{RehearsesTowards}
 use Rattle.bx_run_commands.specs.JournalDisks.{JournalDisk}
 use Rattle.bx_run_commands.specs.declared.rehearsing.Opened.{Opened}
 use Rattle.bx_run_commands.specs.declared.rehearsing.Rehearsed.{Rehearsed}
@@ -34,14 +37,22 @@ Stream S = Connection (Bor S) (Bor S)
 abbrev pub Known : Type 0 → Type 0
 Known S = Bor S → Option (List ℕ)
 
--- a world of one peer has gone through the acts of a day, over a connection of such streams
+-- a world of a peer at such a stream has gone through the acts of a day
 abbrev pub RanOver : {F : Type 0} → Type 0 → (F → Option (List ℕ)) → Opened (JournalDisk F) → Option (Watched F) → ℕ → Rehearsed (JournalDisk F) → Type 0
-RanOver S files opened file first rehearsed = (remaining : Known S) × (contents : Known S) × ((connection : Stream S) × RehearsesTowards remaining contents holds_unknown may_leave_any files opened connection file first rehearsed)
+RanOver S files opened file first rehearsed =
+    (remaining : Known S) × (contents : Known S) × ((connection : Stream S) × RehearsesTowards (WroteTo contents) (GaveFrom remaining) (PartedFrom contents) holds_unknown may_leave_any files opened connection file first rehearsed)
 
--- the same of one of both ends, with this far end at its opening
-abbrev pub RanBoth : {F : Type 0} → Type 0 → (F → Option (List ℕ)) → FarDay → Opened (JournalDisk F) → Option (Watched F) → ℕ → Rehearsed (JournalDisk F) → Type 0
-RanBoth S files far opened file first rehearsed =
-    (remaining : Known S) × (contents : Known S) × (far_remaining : Known S) × (far_contents : Known S) × ((near : Stream S) × (distant : Stream S) × RehearsesBoth remaining contents far_remaining far_contents holds_unknown may_leave_any files opened far near distant file first rehearsed)
+-- a far end of the same process, at its opening, is that peer
+pub record RanBoth {F : Type 0} (S : Type 0) (files : F → Option (List ℕ)) (far : FarDay) (opened : Opened (JournalDisk F)) (file : Option (Watched F)) (first : ℕ) (rehearsed : Rehearsed (JournalDisk F)) : Type 0 where
+  pub remaining : Known S
+  pub contents : Known S
+  pub far_remaining : Known S
+  pub far_contents : Known S
+  pub near : Stream S
+  pub distant : Stream S
+  pub both : BothEnds (Bor S) (Bor S) (Bor S) (Bor S)
+  pub opens : IsOpening near far distant both
+  pub ran : RehearsesTowards (WroteNear contents) (GaveBoth remaining far_remaining far_contents) (PartedBoth contents far_remaining far_contents) holds_unknown may_leave_any files opened both file first rehearsed
 
 -- with the far end of a script, or towards a peer at a port or a socket
 abbrev pub RanWith : {F : Type 0} → (F → Option (List ℕ)) → Peer → Opened (JournalDisk F) → Option (Watched F) → ℕ → Rehearsed (JournalDisk F) → Type 0

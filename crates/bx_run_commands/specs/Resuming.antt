@@ -3,21 +3,20 @@ use Rattle.std.specs.Prelude.{◌≡◌, ℕ, Bool, false, List, Option, Some, N
 use Rattle.std.specs.Borrow.{Bor}
 use Rattle.bx_journal.specs.Files.{holds_in, may_leave_in}
 use Rattle.bx_journal.specs.Follows.{IsFollowed}
-use Rattle.bx_journal.specs.declared.disk_files.SystemFile.{SystemFile}
 use Rattle.bx_journal.specs.declared.fault.JournalFault.{JournalFault}
 use Rattle.bx_journal.specs.declared.file.FileDisk.{FileDisk}
 use Rattle.bx_live_parts.specs.declared.record.Record.{Record}
 use Rattle.bx_recovery.specs.Recovered.{goes_on}
 use Rattle.bx_run_commands.specs.Readying.{IsReady}
-use Rattle.bx_journal_openings.specs.Journals.{IsJournal}
-use Rattle.bx_journal_openings.specs.JournalRefusals.{HasNoJournal}
+use Rattle.bx_day_openings.specs.Journals.{IsJournal}
+use Rattle.bx_day_openings.specs.JournalRefusals.{HasNoJournal}
 use Rattle.bx_journal.specs.Heads.{wanted_of}
 use Rattle.bx_journal.specs.declared.head.Head.{Head}
 use Rattle.bx_day.specs.Day.{Day}
 use Rattle.bx_day.specs.Outages.{live_day_after}
 use Rattle.bx_events.specs.Events.{LiveEvent}
 use Rattle.bx_run_commands.specs.declared.fault.LiveFault.{LiveFault}
-use Rattle.bx_run_commands.specs.declared.fault.LiveFault.TheVariants.{Day as OfDay, CannotRecord, NotEmpty, InUse, NotAFile}
+use Rattle.bx_run_commands.specs.declared.fault.LiveFault.TheVariants.{Day as OfDay, CannotRecord, NotEmpty, InUse, NotAFile, StillUp}
 
 -- the day after just the events of a journal that was read
 pub record GoesOn (head : Head) (before : Option (List ℕ)) (opened day : Day) : Type 0 where
@@ -39,8 +38,8 @@ pub record IsKeptOn {F : Type 0} (contents : F → Option (List ℕ)) (is_told :
   pub is : kept.disk ≡ Some disk
   pub ready : IsReady (holds_in contents) (may_leave_in is_told) head whole left disk
 
--- the same of the journal in a file of the system, where there is one; else nothing is kept
-abbrev pub IsKeptBy : {F : Type 0} → Head → Option (Bor (List ℕ)) → Day → Day → Record (FileDisk (SystemFile F)) → Type 0
+-- the same of the journal in a file that tells nothing of what it holds, where there is one; else nothing is kept
+abbrev pub IsKeptBy : {F : Type 0} → Head → Option (Bor (List ℕ)) → Day → Day → Record (FileDisk F) → Type 0
 IsKeptBy head None opened day kept = kept.disk ≡ None
 IsKeptBy head (Some name) opened day kept = (before : Option (List ℕ)) × IsKeptOn (λ file. None) false head before opened day kept
 
@@ -56,6 +55,7 @@ IsNotResumed name head (CannotRecord n) = n.now ≡ name
 IsNotResumed name head (NotEmpty n) = ⊥
 IsNotResumed name head (InUse n) = ⊥
 IsNotResumed name head (NotAFile n) = ⊥
+IsNotResumed name head StillUp = ⊥
 
 -- or it is no plain file, or another program writes it
 abbrev pub IsNoRecord : Option (Bor (List ℕ)) → Head → LiveFault → Type 0

@@ -1,5 +1,5 @@
 -- What a capture has of a run: the messages that went over its link.
-use Rattle.std.specs.Prelude.{◌≡◌, ℕ, ◌+◌, min, Bool, List, [], ◌∷◌, ◌++◌, Option, Ok}
+use Rattle.std.specs.Prelude.{◌≡◌, ℕ, ◌+◌, min, Bool, List, [], ◌∷◌, ◌++◌, Option, Some, Ok}
 use Rattle.std.specs.List.{flat_map}
 use Rattle.arrayvec.specs.ArrayVec.{ArrayVec}
 use Rattle.bx_capture.specs.Captures.{packet_sent, Keeps, is_unfaulted}
@@ -7,11 +7,11 @@ use Rattle.bx_capture.specs.Packets.{packet}
 use Rattle.bx_capture.specs.declared.packet.Direction.TheVariants.{Received}
 use Rattle.bx_devices.specs.declared.watched.Watched.{Watched}
 use Rattle.bx_frames.specs.declared.frame.Frame.TheVariants as frames
-use Rattle.bx_live.specs.Acts.{Act, Began, Wrote, Read}
+use Rattle.bx_live.specs.Acts.{Act, Began, Wrote, Read, Took}
 use Rattle.bx_world.specs.Captures.{AreFramesOf}
 use Rattle.bx_events.specs.declared.moment.TheConstants.{LAST_MOMENT}
 
--- The packets of the messages of acts, one behind another: of those whose frames were written, and of each that was read. Each has
+-- The packets of the messages of acts, one behind another: of those whose frames were written, and of each that was read or taken. Each has
 -- the second that began last, behind the first second; this one did before the acts
 abbrev pub ArePackets : ℕ → ℕ → List Act → List ℕ → Type 0
 ArePackets first second [] packets = packets ≡ []
@@ -19,6 +19,7 @@ ArePackets first second (Began begun begin ∷ acts) packets = ArePackets first 
 ArePackets first second (Wrote octets done ∷ acts) packets =
     (messages : List (ArrayVec ℕ)) × AreFramesOf messages octets × ((more : List ℕ) × (packets ≡ flat_map (packet_sent (first + second)) messages ++ more) × ArePackets first second acts more)
 ArePackets first second (Read room (Ok (frames.Message message)) ∷ acts) packets = (more : List ℕ) × (packets ≡ packet (first + second) Received message.items ++ more) × ArePackets first second acts more
+ArePackets first second (Took (Some message) ∷ acts) packets = (more : List ℕ) × (packets ≡ packet (first + second) Received message.items ++ more) × ArePackets first second acts more
 ArePackets first second (act ∷ acts) packets = ArePackets first second acts packets
 
 -- where there is a file, it took just the packets of a run, and whether it took them all. A run begins between two seconds, so it

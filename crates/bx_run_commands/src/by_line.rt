@@ -4,31 +4,32 @@ ghost use Rattle.std.specs.Prelude.{◌≡◌, true, is_some, IfOk, OnErr};
 ghost use Rattle.bx_run_commands.specs.LiveRuns.{RunsByLine};
 
 use crate::resuming::Resumed;
-use bx_calendar::Clock as DayClock;
+use crate::running::clock_of;
 use bx_day::Exchange;
 use bx_journal::Disk;
 use bx_line_world::{Line, LineWorld, Wire};
-use bx_live::{CannotRecord, run_live};
+use bx_live::{CannotRecord, run_held};
 use bx_live_parts::Schedule;
 use bx_world::Telling;
 use std::rt::Clock;
 
-/// What is told of a live day while it runs: each fault with the time of day by this clock, and the moment, where it is shown.
+/// What is told of a live day while it runs: each fault with the time of day, where this date and this zone name one, and the moment,
+/// where it is shown.
 #[derive(Clone, Copy)]
-pub struct Told {
-    pub clock: Option<DayClock>,
+pub struct Told<'a> {
+    pub day: (&'a str, &'a str),
     pub is_shown: bool,
 }
 
-/// Runs the rest of a day up to a turn of it, by the clock, as the network's end of a data link over the wire. Answers the exchange at
-/// the end of the day. `CannotRecord` where an event cannot be put on record: nothing more is done then.
-pub fn run_by_clock<'h, H: Clock + Eprint, W: Wire + Drop, D: Disk + Drop>(
+/// Runs the rest of a day up to a turn of it, and behind that on while a call is up, by the clock, as the network's end of a data link
+/// over the wire. Answers the exchange at the end of the day. `CannotRecord` where an event cannot be put on record: nothing more is done then.
+pub fn run_by_clock<'a, 'h, H: Clock + Eprint, W: Wire + Drop, D: Disk + Drop>(
     rt: &'h H,
     resumed: Resumed<D>,
     wire: W,
     schedule: Schedule,
     turns: u32,
-    told: Told,
+    told: Told<'a>,
 ) -> Result<Exchange, CannotRecord>
     ensures failed { OnErr result (is_some resumed.record.disk ≡ true) }
     ensures ran { IfOk result (RunsByLine W.did D.holds D.may_leave D.moment D.left_since wire schedule resumed.record turns resumed.exchange) }
@@ -38,8 +39,8 @@ pub fn run_by_clock<'h, H: Clock + Eprint, W: Wire + Drop, D: Disk + Drop>(
         record,
     } = resumed;
     let world = LineWorld::new(schedule, Line::new(true, wire), record);
-    let mut telling = Telling::new(rt, world, told.clock, told.is_shown);
-    let done = run_live(&mut exchange, &mut telling, turns);
+    let mut telling = Telling::new(rt, world, clock_of(Some(told.day)), told.is_shown);
+    let done = run_held(&mut exchange, &mut telling, turns);
     telling.clear();
     done?;
     Ok(exchange)

@@ -24,6 +24,9 @@ pub enum LiveFault<'a> {
     /// The journal of this name cannot be opened to write it, or a write, a cut or a sync of it failed.
     #[error("J4 CannotRecord {0}")]
     CannotRecord(&'a str),
+    /// The day has no more seconds, and a call is up.
+    #[error("L10 StillUp")]
+    StillUp,
 }
 
 impl<'a> From<DayCommandFault<'a>> for LiveFault<'a> {

@@ -11,14 +11,14 @@ use crate::by_line::{Told, run_by_clock};
 use crate::fault::{LiveFault, unrecorded};
 use crate::locks::Locks;
 use crate::resuming::resume_named;
-use bx_calendar::Clock as DayClock;
+use crate::standing::Standing;
 use bx_check_commands::{CommandFault, Inputs};
 use bx_day::Exchange;
-use bx_day_openings::{DayCommandFault, Hours, hours_of, line_between};
+use bx_day_openings::{DayCommandFault, Hours, Opening, hours_of, line_between, tied_opening};
 use bx_devices::Watched;
 use bx_journal::{Head, JournalDay};
-use bx_journal_openings::{Opening, tied_opening};
 use bx_line_world::UdpWire;
+use bx_live::has_call;
 use bx_request::LiveRequest;
 use std::fs::Files;
 use std::io::Write;
@@ -26,16 +26,16 @@ use std::net::{Net, UdpSocket};
 use std::rt::Clock;
 
 /// What is told of a live day while it runs, its moment on a terminal alone.
-fn told_of(request: LiveRequest<'_>, is_terminal: bool) -> Told {
+fn told_of<'a>(request: LiveRequest<'a>, is_terminal: bool) -> Told<'a> {
     Told {
-        clock: DayClock::new(request.hours.date, request.hours.zone).ok(),
+        day: (request.hours.date, request.hours.zone),
         is_shown: is_terminal && !request.is_quiet,
     }
 }
 
 /// Runs an opened day over a socket, from where its journal has left it.
-fn run_on_socket<'a, H: Files + Locks + Clock + Eprint>(
-    rt: &H,
+fn run_on_socket<'a, H: Files + Locks + Standing + Clock + Eprint>(
+    rt: &'a H,
     request: LiveRequest<'a>,
     hours: Hours,
     opening: Opening,
@@ -57,9 +57,9 @@ fn run_on_socket<'a, H: Files + Locks + Clock + Eprint>(
             pace: hours.pace,
         },
     };
-    let resumed = resume_named(rt, request.journal, &head, exchange)?;
-    let wire = UdpWire::new(rt, socket);
     let told = told_of(request, is_terminal);
+    let resumed = resume_named(rt, request.journal, &head, exchange, told.is_shown)?;
+    let wire = UdpWire::new(rt, socket);
     match run_by_clock(rt, resumed, wire, hours.schedule, turns, told) {
         Ok(exchange) => Ok(exchange),
         Err(_) => Err(unrecorded(request.journal)),
@@ -67,8 +67,8 @@ fn run_on_socket<'a, H: Files + Locks + Clock + Eprint>(
 }
 
 /// The exchange at the end of a live day.
-fn run_live_day<'a, H: Files + Locks + AllocGlobal + Clock + Eprint + Net, I: Inputs>(
-    rt: &H,
+fn run_live_day<'a, H: Files + Locks + Standing + AllocGlobal + Clock + Eprint + Net, I: Inputs>(
+    rt: &'a H,
     inputs: &mut I,
     request: LiveRequest<'a>,
     is_terminal: bool,
@@ -92,14 +92,14 @@ fn run_live_day<'a, H: Files + Locks + AllocGlobal + Clock + Eprint + Net, I: In
 /// `LiveFault::Day`, as `Journal` (`BadLine`, `OtherPlan`, `OtherDay` or `OtherRules`) or `Command` (`CannotRead`), where it is none
 /// of this day, and `CannotRecord` where it cannot be made ready. `CannotRecord` is also answered where an event cannot be put on record.
 /// At each of these nothing was written. `LiveFault::Day`, as `Command` (`CannotWrite`), is the fault of the output, of which a front was
-/// written then.
+/// written then. `StillUp` where the day has no more seconds, and a call is up: all of it was written then.
 pub fn live_on_files<
     'a,
-    H: Files + Locks + AllocGlobal + Clock + Eprint + Net,
+    H: Files + Locks + Standing + AllocGlobal + Clock + Eprint + Net,
     I: Inputs,
     W: Write,
 >(
-    rt: &H,
+    rt: &'a H,
     inputs: &mut I,
     request: LiveRequest<'a>,
     output: &mut Watched<W>,
@@ -110,7 +110,11 @@ pub fn live_on_files<
 {
     let exchange = run_live_day(rt, inputs, request, is_terminal)?;
     match exchange.write_outcomes(output) {
-        Ok(()) => Ok(()),
-        Err(_) => Err(LiveFault::Day(DayCommandFault::Command(CommandFault::CannotWrite))),
+        Ok(()) => {}
+        Err(_) => return Err(LiveFault::Day(DayCommandFault::Command(CommandFault::CannotWrite))),
     }
+    if has_call(&exchange) {
+        return Err(LiveFault::StillUp);
+    }
+    Ok(())
 }

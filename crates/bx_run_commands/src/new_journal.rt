@@ -7,7 +7,7 @@ ghost use Rattle.bx_run_commands.specs.NewJournalsInside.{IsNotNew, IsNoNewJourn
 use crate::fault::LiveFault;
 use crate::folder::sync_entry;
 use crate::locks::Locks;
-use crate::resuming::journal_file;
+use crate::resuming::{journal_file, length_of};
 use bx_check_commands::CommandFault;
 use bx_day_openings::DayCommandFault;
 use bx_journal::{FileDisk, SystemFile};
@@ -48,15 +48,9 @@ fn journal_in<'a, F: Write + OpenFile + Drop>(
     }
 }
 
-/// How many octets a file has.
-fn length_of<F: OpenFile>(file: &F) -> io::Result<u64> {
-    let metadata = file.metadata()?;
-    Ok(metadata.len())
-}
-
 /// The journal in the file of this name, where one is named. It is made where it is not there; one that holds something is left as it
 /// is.
-pub(crate) fn new_journal<'a, H: Files + Locks>(
+pub(crate) fn new_journal<'a, H: Files + Locks + Eprint>(
     rt: &H,
     alloc: Global,
     name: Option<&'a str>,

@@ -4,7 +4,10 @@ ghost use Rattle.std.specs.Prelude.{◌≡◌, ◌≤◌, ◌&&◌, not, true, i
 ghost use Rattle.bx_day_openings.specs.CaptureOpenings.{IsFirstOf};
 ghost use Rattle.bx_day_openings.specs.Recording.{IsRecordsClock, IsRecordsFileFor, IsMade};
 ghost use Rattle.bx_devices.specs.Watching.{device_of};
-ghost use Rattle.bx_journal_openings.specs.TiedDays.{IsTiedDay};
+ghost use Rattle.bx_day_openings.specs.TiedDays.{IsTiedDay};
+ghost use Rattle.bx_journal.specs.Files.{holds_unknown, may_leave_any};
+ghost use Rattle.bx_run_commands.specs.OpeningFaults.{IsUnrecorded};
+ghost use Rattle.bx_run_commands.specs.Rehearsals.{RehearsesTowards};
 ghost use Rattle.bx_run_commands.specs.ReadyInside.{IsReadied, IsNotReadied, IsEnded, IsLostBy};
 ghost use Rattle.bx_run_commands.specs.RehearsedDays.{RehearsalWith, IsRehearsal, IsRehearsedDay, IsRehearsalTold};
 ghost use Rattle.bx_run_commands.specs.RehearsalRefusals.{IsUnseen, StopsAtPeer, StopsBehindPeer, StopsRehearsal, IsRehearsalRefusal};
@@ -12,20 +15,20 @@ ghost use Rattle.bx_run_commands.specs.RehearsalRefusals.{IsUnseen, StopsAtPeer,
 use crate::fault::{LiveFault, unrecorded};
 use crate::locks::Locks;
 use crate::new_journal::{JournalDisk, new_journal};
-use crate::rehearsing::{Opened, Rehearsed, rehearse_both, rehearse_towards};
+use crate::rehearsing::{Opened, Rehearsed, rehearse};
 use crate::running::View;
 use crate::telling::{Ended, tell};
 use bx_calendar::Clock as DayClock;
 use bx_check_commands::Inputs;
 use bx_day_openings::{
-    DayCommandFault, RecordsFile, accepted, accepted_at, connected_ends, far_end_of, file_of,
-    first_of, records_clock_of, records_file_of,
+    DayCommandFault, Opening, RecordsFile, accepted, accepted_at, connected_ends, far_end_of,
+    file_of, first_of, records_clock_of, records_file_of, tied_opening,
 };
 use bx_devices::Watched;
 use bx_journal::{Head, JournalDay};
-use bx_journal_openings::{Opening, tied_opening};
 use bx_link::Connection;
-use bx_request::{Peer, Place, RehearsalRequest};
+use bx_request::{Peer as Asked, Place, RehearsalRequest};
+use bx_world::{BothEnds, Peer};
 use std::fs::Files;
 use std::io::Write;
 use std::net::{Net, TcpListener, TcpStream};
@@ -50,7 +53,7 @@ struct Ready<'a, F: Write + Drop> {
 }
 
 /// Opens the journal of a day that is opened, where one is to be kept, and the files of its capture and its records.
-fn readied<'a, H: Files + Locks + AllocGlobal>(
+fn readied<'a, H: Files + Locks + AllocGlobal + Eprint>(
     rt: &H,
     request: RehearsalRequest<'a>,
     opening: Opening,
@@ -60,14 +63,8 @@ fn readied<'a, H: Files + Locks + AllocGlobal>(
     ensures refused { IfErr result (IsNotReadied H.File.contents request.entry) }
 {
     let disk = new_journal(rt, rt.alloc(), request.journal)?;
-    let file = match file_of(rt, request.sight.capture) {
-        Ok(file) => file,
-        Err(fault) => return Err(LiveFault::Day(fault)),
-    };
-    let records = match records_file_of(rt, request.records, seen.clock) {
-        Ok(records) => records,
-        Err(fault) => return Err(LiveFault::Day(fault)),
-    };
+    let file = file_of(rt, request.sight.capture)?;
+    let records = records_file_of(rt, request.records, seen.clock)?;
     let Opening {
         exchange,
         digest,
@@ -118,6 +115,25 @@ struct Run<'a, F: Write + Drop> {
     records: Option<RecordsFile<'a, F>>,
 }
 
+/// Rehearses a day towards a peer. What cannot be put on record is a fault of the journal that is named.
+fn rehearse_named<'a, 'h, H: Files + Clock + Eprint, P: Peer + Drop>(
+    rt: &'h H,
+    opened: Opened<JournalDisk<H::File>>,
+    peer: P,
+    view: View<'a, H::File>,
+    journal: Option<&'a str>,
+) -> Result<Rehearsed<JournalDisk<H::File>>, LiveFault<'a>>
+    requires limit { view.first ≤ 4294667295 }
+    requires kept { is_some opened.disk ≡ is_some journal }
+    ensures ran { IfOk result (RehearsesTowards P.wrote P.gave P.parted holds_unknown may_leave_any H.File.contents opened peer view.entry.file view.entry.first) }
+    ensures stopped { IfErr result (IsUnrecorded journal.entry) }
+{
+    match rehearse(rt, opened, peer, view) {
+        Ok(rehearsed) => Ok(rehearsed),
+        Err(_) => Err(unrecorded(journal)),
+    }
+}
+
 /// Rehearses an opened day with the far end of a script, over one TCP connection.
 fn rehearse_script<
     'a,
@@ -137,34 +153,25 @@ fn rehearse_script<
     seen: Seen,
 ) -> Result<Run<'a, H::File>, LiveFault<'a>>
     requires { seen.first ≤ 4294667295 }
-    ensures ran { IfOk result (λ run. IsFirstOf request.entry.sight.capture seen.first → IsTiedDay request.entry.turns opening.exchange opening.digest opening.turns → RehearsalWith H.File.contents (Peer.Script script.entry) request.entry run.rehearsed) }
+    ensures ran { IfOk result (λ run. IsFirstOf request.entry.sight.capture seen.first → IsTiedDay request.entry.turns opening.exchange opening.digest opening.turns → RehearsalWith H.File.contents (Asked.Script script.entry) request.entry run.rehearsed) }
     ensures records { IfOk result (λ run. IsRecordsFileFor request.entry.records seen.clock run.records) }
-    ensures stopped { IfErr result (λ fault. IsRecordsClock request.entry.records seen.clock → StopsAtPeer H.File.contents (Peer.Script script.entry) request.entry fault) }
+    ensures stopped { IfErr result (λ fault. IsRecordsClock request.entry.records seen.clock → StopsAtPeer H.File.contents (Asked.Script script.entry) request.entry fault) }
 {
-    let far = match far_end_of(rt.alloc(), inputs, script) {
-        Ok(far) => far,
-        Err(fault) => return Err(LiveFault::Day(fault)),
-    };
+    let far = far_end_of(rt.alloc(), inputs, script)?;
     let ready = readied(rt, request, opening, seen)?;
-    let (near, distant) = match connected_ends(rt) {
-        Ok(ends) => ends,
-        Err(fault) => return Err(LiveFault::Day(fault)),
-    };
+    let (near, distant) = connected_ends(rt)?;
     let Ready {
         opened,
         view,
         records,
     } = ready;
-    let near = connection(&near);
-    let distant = connection(&distant);
-    match rehearse_both(rt, opened, far, near, distant, view) {
-        Ok(rehearsed) => Ok(Run { rehearsed, records }),
-        Err(_) => Err(unrecorded(request.journal)),
-    }
+    let both = BothEnds::new(connection(&near), far, connection(&distant));
+    let rehearsed = rehearse_named(rt, opened, both, view, request.journal)?;
+    Ok(Run { rehearsed, records })
 }
 
-/// Rehearses an opened day towards the first peer that connects to a port.
-fn rehearse_at_port<
+/// Rehearses an opened day towards the first peer that connects to a port or a socket.
+fn rehearse_at<
     'a,
     H: Files
         + Locks
@@ -174,67 +181,33 @@ fn rehearse_at_port<
         + Net<Listener = TcpListener, Stream = TcpStream>,
 >(
     rt: &H,
-    port: u16,
+    place: Place<'a>,
     request: RehearsalRequest<'a>,
     opening: Opening,
     seen: Seen,
 ) -> Result<Run<'a, H::File>, LiveFault<'a>>
     requires { seen.first ≤ 4294667295 }
-    ensures ran { IfOk result (λ run. IsFirstOf request.entry.sight.capture seen.first → IsTiedDay request.entry.turns opening.exchange opening.digest opening.turns → RehearsalWith H.File.contents (Peer.At (Place.Port port)) request.entry run.rehearsed) }
+    ensures ran { IfOk result (λ run. IsFirstOf request.entry.sight.capture seen.first → IsTiedDay request.entry.turns opening.exchange opening.digest opening.turns → RehearsalWith H.File.contents (Asked.At place.entry) request.entry run.rehearsed) }
     ensures records { IfOk result (λ run. IsRecordsFileFor request.entry.records seen.clock run.records) }
-    ensures stopped { IfErr result (λ fault. IsRecordsClock request.entry.records seen.clock → StopsBehindPeer H.File.contents (Peer.At (Place.Port port)) request.entry fault) }
+    ensures stopped { IfErr result (λ fault. IsRecordsClock request.entry.records seen.clock → StopsBehindPeer H.File.contents (Asked.At place.entry) request.entry fault) }
 {
     let ready = readied(rt, request, opening, seen)?;
-    let peer = match accepted(rt, port, seen.is_shown) {
-        Ok(peer) => peer,
-        Err(fault) => return Err(LiveFault::Day(fault)),
-    };
     let Ready {
         opened,
         view,
         records,
     } = ready;
-    match rehearse_towards(rt, opened, connection(&peer), view) {
-        Ok(rehearsed) => Ok(Run { rehearsed, records }),
-        Err(_) => Err(unrecorded(request.journal)),
-    }
-}
-
-/// Rehearses an opened day towards the first peer that connects to a socket.
-fn rehearse_at_socket<
-    'a,
-    H: Files
-        + Locks
-        + AllocGlobal
-        + Clock
-        + Eprint
-        + Net<Listener = TcpListener, Stream = TcpStream>,
->(
-    rt: &H,
-    path: &'a str,
-    request: RehearsalRequest<'a>,
-    opening: Opening,
-    seen: Seen,
-) -> Result<Run<'a, H::File>, LiveFault<'a>>
-    requires { seen.first ≤ 4294667295 }
-    ensures ran { IfOk result (λ run. IsFirstOf request.entry.sight.capture seen.first → IsTiedDay request.entry.turns opening.exchange opening.digest opening.turns → RehearsalWith H.File.contents (Peer.At (Place.Socket path.entry)) request.entry run.rehearsed) }
-    ensures records { IfOk result (λ run. IsRecordsFileFor request.entry.records seen.clock run.records) }
-    ensures stopped { IfErr result (λ fault. IsRecordsClock request.entry.records seen.clock → StopsBehindPeer H.File.contents (Peer.At (Place.Socket path.entry)) request.entry fault) }
-{
-    let ready = readied(rt, request, opening, seen)?;
-    let peer = match accepted_at(rt, path, seen.is_shown) {
-        Ok(peer) => peer,
-        Err(fault) => return Err(LiveFault::Day(fault)),
+    let rehearsed = match place {
+        Place::Port(port) => {
+            let peer = accepted(rt, port, seen.is_shown)?;
+            rehearse_named(rt, opened, connection(&peer), view, request.journal)?
+        }
+        Place::Socket(path) => {
+            let peer = accepted_at(rt, path, seen.is_shown)?;
+            rehearse_named(rt, opened, socket_connection(&peer), view, request.journal)?
+        }
     };
-    let Ready {
-        opened,
-        view,
-        records,
-    } = ready;
-    match rehearse_towards(rt, opened, socket_connection(&peer), view) {
-        Ok(rehearsed) => Ok(Run { rehearsed, records }),
-        Err(_) => Err(unrecorded(request.journal)),
-    }
+    Ok(Run { rehearsed, records })
 }
 
 /// Rehearses an opened day with the peer that is asked for.
@@ -260,11 +233,8 @@ fn rehearse_with_peer<
     ensures stopped { IfErr result (λ fault. IsRecordsClock request.entry.records seen.clock → StopsAtPeer H.File.contents request.entry.peer request.entry fault) }
 {
     match request.peer {
-        Peer::Script(script) => rehearse_script(rt, inputs, script, request, opening, seen),
-        Peer::At(place) => match place {
-            Place::Port(port) => rehearse_at_port(rt, port, request, opening, seen),
-            Place::Socket(path) => rehearse_at_socket(rt, path, request, opening, seen),
-        },
+        Asked::Script(script) => rehearse_script(rt, inputs, script, request, opening, seen),
+        Asked::At(place) => rehearse_at(rt, place, request, opening, seen),
     }
 }
 
@@ -324,14 +294,8 @@ fn run_rehearsal<
     ensures records { IfOk result (λ ended. IsMade request.entry.records ended.records) }
     ensures stopped { IfErr result (StopsRehearsal H.File.contents request.entry) }
 {
-    let seen = match seen_of(request, is_terminal) {
-        Ok(seen) => seen,
-        Err(fault) => return Err(LiveFault::Day(fault)),
-    };
-    let opening = match tied_opening(rt.alloc(), inputs, request.plan, request.turns) {
-        Ok(opening) => opening,
-        Err(fault) => return Err(LiveFault::Day(fault)),
-    };
+    let seen = seen_of(request, is_terminal)?;
+    let opening = tied_opening(rt.alloc(), inputs, request.plan, request.turns)?;
     let run = rehearse_with_peer(rt, inputs, request, opening, seen)?;
     ended(run)
 }

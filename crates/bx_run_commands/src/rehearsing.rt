@@ -2,20 +2,18 @@
 
 ghost use Rattle.std.specs.Prelude.{◌≡◌, ◌≤◌, true, is_some, IfOk, OnErr};
 ghost use Rattle.bx_run_commands.specs.RehearsalsInside.{IsPutAway};
-ghost use Rattle.bx_run_commands.specs.Rehearsals.{RehearsesBoth, RehearsesTowards};
+ghost use Rattle.bx_run_commands.specs.Rehearsals.{RehearsesTowards};
 ghost use Rattle.bx_run_commands.specs.WaitingDisks.{HasBegun};
 
 use crate::running::{Ran, View, run_in};
 use crate::waiting::WaitingDisk;
 use bx_day::Exchange;
-use bx_far::Far;
 use bx_frames::LinkFault;
 use bx_journal::{Disk, Head, begin};
-use bx_link::{Connection, FarSession};
 use bx_live::CannotRecord;
 use bx_live_parts::Record;
-use bx_world::{BothEnds, FarEnd, Rehearsal};
-use std::io::{Read, Write};
+use bx_world::{Peer, Rehearsal};
+use std::io::Write;
 use std::rt::Clock;
 
 /// A day before its rehearsal: the exchange at its opening, what its journal is of, how many turns it is to have, and the disk on
@@ -73,31 +71,18 @@ fn put_away<D: Disk + Drop>(kept: Record<WaitingDisk<D>>) -> Result<Option<D>, C
     }
 }
 
-/// Rehearses a day with the far end of the same process, each at its end of a connection. Where a journal is kept, each event is on
-/// record before it happens, and all of it is on the disk at the end, also where a fault of the link has ended the day; where something
-/// cannot be put on record there, nothing more is done, and `CannotRecord` is answered. The first second of the view is at most
-/// 4,294,667,295.
-pub fn rehearse_both<
-    'a,
-    'h,
-    H: Clock + Eprint,
-    R: Read + Drop,
-    W: Write + Drop,
-    S: Read + Drop,
-    T: Write + Drop,
-    D: Disk + Drop,
-    F: Write + Drop,
->(
+/// Rehearses a day towards a peer. Where a journal is kept, each event is on record before it happens, and all of it is on the disk at
+/// the end, also where a fault of the link has ended the day; where something cannot be put on record there, nothing more is done, and
+/// `CannotRecord` is answered. The first second of the view is at most 4,294,667,295.
+pub fn rehearse<'a, 'h, H: Clock + Eprint, P: Peer + Drop, D: Disk + Drop, F: Write + Drop>(
     rt: &'h H,
     opened: Opened<D>,
-    far: Far,
-    near: Connection<R, W>,
-    distant: Connection<S, T>,
+    peer: P,
     view: View<'a, F>,
 ) -> Result<Rehearsed<D>, CannotRecord>
     requires { view.first ≤ 4294667295 }
     ensures failed { OnErr result (is_some opened.disk ≡ true) }
-    ensures ran { IfOk result (RehearsesBoth R.remaining W.contents S.remaining T.contents D.holds D.may_leave F.contents opened far near distant view.entry.file view.entry.first) }
+    ensures ran { IfOk result (RehearsesTowards P.wrote P.gave P.parted D.holds D.may_leave F.contents opened peer view.entry.file view.entry.first) }
 {
     let Opened {
         mut exchange,
@@ -106,14 +91,8 @@ pub fn rehearse_both<
         disk,
     } = opened;
     let kept = begun(disk, &head)?;
-    let both = BothEnds {
-        near,
-        distant: FarEnd {
-            far,
-            session: FarSession::new(),
-            connection: distant,
-        },
-        is_due: false,
+    let rehearsal = Rehearsal {
+        peer,
         record: kept,
         lost: None,
     };
@@ -121,63 +100,10 @@ pub fn rehearse_both<
         world,
         done,
         is_whole,
-    } = run_in(rt, &mut exchange, both, turns, view);
-    done?;
-    let BothEnds {
-        near: _,
-        distant: _,
-        is_due: _,
-        record: kept,
-        lost,
-    } = world;
-    let disk = put_away(kept)?;
-    Ok(Rehearsed {
-        exchange,
-        disk,
-        lost,
-        is_whole,
-    })
-}
-
-/// Rehearses a day towards one peer, in the same way, with the same fault. The first second of the view is at most 4,294,667,295.
-pub fn rehearse_towards<
-    'a,
-    'h,
-    H: Clock + Eprint,
-    R: Read + Drop,
-    W: Write + Drop,
-    D: Disk + Drop,
-    F: Write + Drop,
->(
-    rt: &'h H,
-    opened: Opened<D>,
-    connection: Connection<R, W>,
-    view: View<'a, F>,
-) -> Result<Rehearsed<D>, CannotRecord>
-    requires { view.first ≤ 4294667295 }
-    ensures failed { OnErr result (is_some opened.disk ≡ true) }
-    ensures ran { IfOk result (RehearsesTowards R.remaining W.contents D.holds D.may_leave F.contents opened connection view.entry.file view.entry.first) }
-{
-    let Opened {
-        mut exchange,
-        head,
-        turns,
-        disk,
-    } = opened;
-    let kept = begun(disk, &head)?;
-    let alone = Rehearsal {
-        connection,
-        record: kept,
-        lost: None,
-    };
-    let Ran {
-        world,
-        done,
-        is_whole,
-    } = run_in(rt, &mut exchange, alone, turns, view);
+    } = run_in(rt, &mut exchange, rehearsal, turns, view);
     done?;
     let Rehearsal {
-        connection: _,
+        peer: _,
         record: kept,
         lost,
     } = world;

@@ -1,9 +1,9 @@
 //! A day that goes on by its journal.
 
-ghost use Rattle.std.specs.Prelude.{IfOk, IfErr, OnOk};
+ghost use Rattle.std.specs.Prelude.{◌≡◌, IfOk, IfErr, OnOk};
 ghost use Rattle.bx_devices.specs.Watching.{device_of, is_faulted};
 ghost use Rattle.bx_journal.specs.Heads.{wanted_of};
-ghost use Rattle.bx_journal_openings.specs.JournalRefusals.{IsNoJournal};
+ghost use Rattle.bx_day_openings.specs.JournalRefusals.{IsNoJournal};
 ghost use Rattle.bx_run_commands.specs.Readying.{IsReady};
 ghost use Rattle.bx_run_commands.specs.NewJournalsInside.{IsUnopened};
 ghost use Rattle.bx_run_commands.specs.Resuming.{GoesOn, GoesOnBy, IsFollowedBy, IsKeptOn, IsKeptBy, IsNotResumed, IsNoRecord};
@@ -11,16 +11,17 @@ ghost use Rattle.bx_run_commands.specs.Resuming.{GoesOn, GoesOnBy, IsFollowedBy,
 use crate::fault::LiveFault;
 use crate::folder::sync_entry;
 use crate::locks::Locks;
+use crate::named_file::NamedFile;
+use crate::standing::Standing;
+use bx_check_commands::tell_cause;
 use bx_day::Exchange;
-use bx_day_openings::DayCommandFault;
+use bx_day_openings::{DayCommandFault, journal_read};
 use bx_devices::Watched;
-use bx_journal::{
-    Disk, DiskFailed, DiskFile, FileDisk, Head, JournalFault, SystemFile, begin, resume,
-};
-use bx_journal_openings::journal_read;
+use bx_journal::{Disk, DiskFailed, DiskFile, FileDisk, Head, JournalFault, begin, resume};
 use bx_live_parts::Record;
 use bx_recovery::recover_day;
 use std::fs::{File, Files, OpenFile};
+use std::io;
 use std::io::Read;
 
 /// An exchange whose day goes on, with what it puts on record.
@@ -102,42 +103,72 @@ pub fn resume_on<'a, F: Read + DiskFile + Drop>(
     }
 }
 
+/// `CannotRecord`, its cause told.
+pub(crate) fn unwritten<'a, H: Eprint>(rt: &H, name: &'a str, cause: &io::Error) -> LiveFault<'a>
+    ensures { result ≡ LiveFault.CannotRecord name.entry }
+{
+    tell_cause(rt, &name, cause);
+    LiveFault::CannotRecord(name)
+}
+
+/// How many octets a file has.
+pub(crate) fn length_of<F: OpenFile>(file: &F) -> io::Result<u64> {
+    let metadata = file.metadata()?;
+    Ok(metadata.len())
+}
+
+/// The same of the file of a journal; `CannotRecord` where the system does not tell that.
+fn measured<'a, H: Eprint, F: OpenFile>(
+    rt: &H,
+    name: &'a str,
+    file: &F,
+) -> Result<u64, LiveFault<'a>>
+    ensures { IfErr result (IsUnopened name.entry) }
+{
+    match length_of(file) {
+        Ok(length) => Ok(length),
+        Err(cause) => Err(unwritten(rt, name, &cause)),
+    }
+}
+
 /// The file of a journal, opened to write it, and made where it is not there. It is locked for as long as it is open. `CannotRecord`
 /// where it cannot be opened or locked, `NotAFile` where it is no plain file, `InUse` where another program holds it; nothing of it is
 /// read or changed then.
-pub(crate) fn journal_file<'a, H: Files + Locks>(
+pub(crate) fn journal_file<'a, H: Files + Locks + Eprint>(
     rt: &H,
     name: &'a str,
 ) -> Result<H::File, LiveFault<'a>>
     ensures { IfErr result (IsUnopened name.entry) }
 {
-    let Ok(file) = File::options()
+    let opened = File::options()
         .read(true)
         .append(true)
         .create(true)
-        .open(rt, name)
-    else {
-        return Err(LiveFault::CannotRecord(name));
+        .open(rt, name);
+    let file = match opened {
+        Ok(file) => file,
+        Err(cause) => return Err(unwritten(rt, name, &cause)),
     };
     match file.metadata() {
         Ok(metadata) if metadata.is_file() => {}
         Ok(_) => return Err(LiveFault::NotAFile(name)),
-        Err(_) => return Err(LiveFault::CannotRecord(name)),
+        Err(cause) => return Err(unwritten(rt, name, &cause)),
     }
     match rt.try_lock(&file) {
         Ok(true) => Ok(file),
         Ok(false) => Err(LiveFault::InUse(name)),
-        Err(_) => Err(LiveFault::CannotRecord(name)),
+        Err(cause) => Err(unwritten(rt, name, &cause)),
     }
 }
 
 /// The exchange after the events of the journal in the file of this name, if there is to be one. A file that is not there is made.
-pub(crate) fn resume_named<'a, H: Files + Locks>(
-    rt: &H,
+pub(crate) fn resume_named<'a, H: Files + Locks + Standing + Eprint>(
+    rt: &'a H,
     name: Option<&'a str>,
     head: &Head,
     exchange: Exchange,
-) -> Result<Resumed<FileDisk<SystemFile<H::File>>>, LiveFault<'a>>
+    is_shown: bool,
+) -> Result<Resumed<FileDisk<NamedFile<'a, H, H::File>>>, LiveFault<'a>>
     ensures resumed { IfOk result (λ resumed. GoesOnBy head.now name.entry exchange resumed.exchange) }
     ensures kept { IfOk result (λ resumed. IsKeptBy head.now name.entry exchange resumed.exchange resumed.record) }
     ensures refused { IfErr result (IsNoRecord name.entry head.now) }
@@ -150,5 +181,7 @@ pub(crate) fn resume_named<'a, H: Files + Locks>(
     };
     let file = journal_file(rt, name)?;
     sync_entry(rt, name);
-    resume_on(name, SystemFile::new(file), head, exchange)
+    let length = measured(rt, name, &file)?;
+    let file = NamedFile::new(rt, name, file, length, is_shown);
+    resume_on(name, file, head, exchange)
 }

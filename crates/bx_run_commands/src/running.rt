@@ -30,7 +30,7 @@ pub struct Ran<W> {
 }
 
 /// The clock of the day that is named, if it is one.
-fn clock_of(day: Option<(&str, &str)>) -> Option<DayClock> {
+pub(crate) fn clock_of(day: Option<(&str, &str)>) -> Option<DayClock> {
     let (date, zone) = day?;
     DayClock::new(date, zone).ok()
 }

@@ -44,6 +44,8 @@ impl<D: Disk> Disk for WaitingDisk<D> {
 
     ghost has_failed = { λ w. D.has_failed w.disk };
 
+    ghost has_synced = { λ disk. Unit {0} };
+
     ghost counts_now = { λ w t c le now. now };
 
     ghost only_now = { λ w c left. left };

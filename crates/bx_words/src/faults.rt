@@ -20,6 +20,7 @@ F2 CannotWrite        standard output failed
 F3 CannotListen       the port or the socket cannot be listened on, or the line's own port cannot be had
 F4 CannotConnect      nobody listens on the port or the socket, or the line's other port cannot be spoken to
 F5 CannotWrite NAME   the file of the capture or of the records cannot be created, or a write of it failed
+F6 SameFile NAME      the file is to be written, and is read too, or written twice; nothing was opened
 G1 ReadFailed         a read of the bookings failed
 G2 TooLong            the bookings have more than 4,194,304 octets
 G4 WriteFailed        standard output failed while the plan was written
@@ -52,7 +53,7 @@ S4 TooMany            the script has more than 4,000 rows
 J1 BadLine n          line n of the journal has another form than the line that stands in its place
 J2 OtherPlan          the journal is that of another plan
 J3 NotEmpty NAME      the file that is to take the journal of a new day holds something
-J4 CannotRecord NAME  the journal cannot be written
+J4 CannotRecord NAME  the journal cannot be written, or it was removed, renamed or cut while its day ran
 J5 OtherDay           the journal is that of another day: of another date, zone or pace, or of a rehearsal
 J6 InUse NAME         another program writes the journal
 J7 NotAFile NAME      what is to be the journal is no plain file
@@ -66,6 +67,7 @@ L6 MoreThan64Messages the link: more than 64 messages came in one turn
 L7 WrongMoment        the link: an end of turn has another moment
 L8 Closed             the link: the session was closed before
 L9 LinkReset          the link: the data link was released or established anew
+L10 StillUp           the live day has come to second 300,000, and a call is up
 N1 NotABChannel n     n is no B channel: 0, 16, or above 31
 N2 Repeated n         channel n stands twice
 H1 NotHex             the word is not pairs of hexadecimal digits

@@ -171,10 +171,14 @@ fn file_request<'a>(
 }
 
 /// The port or the socket, of which the command requires one.
-fn place_of<'a>(matches: &ArgMatches<'a>) -> Place<'a> {
+fn place_of<'a>(alloc: Global, matches: &ArgMatches<'a>) -> Result<Place<'a>, Refusal> {
     match matches.get_str("socket") {
-        Some(path) => Place::Socket(path),
-        None => Place::Port(port_of(matches)),
+        Some("") => Err(wrong(
+            alloc,
+            "invalid value '' for '--socket <PATH>': no path is empty",
+        )),
+        Some(path) => Ok(Place::Socket(path)),
+        None => Ok(Place::Port(port_of(matches))),
     }
 }
 
@@ -260,7 +264,7 @@ fn serve_request<'a>(alloc: Global, matches: &ArgMatches<'a>) -> Result<Request<
             "'--date <DATE>' stands only beside '--live', '--capture <FILE>' or '--records <FILE>'",
         ));
     }
-    let peer = Peer::At(place_of(matches));
+    let peer = Peer::At(place_of(alloc, matches)?);
     Ok(Request::Rehearsal(rehearsal_of(matches, peer)))
 }
 
@@ -293,7 +297,7 @@ fn far_request<'a>(alloc: Global, matches: &ArgMatches<'a>) -> Result<Request<'a
     }
     Ok(Request::Far(FarRequest {
         script: word(matches, "script"),
-        place: place_of(matches),
+        place: place_of(alloc, matches)?,
         sight: sight_of(matches),
     }))
 }

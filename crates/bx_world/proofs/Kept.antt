@@ -1,7 +1,7 @@
 -- What a crash leaves of a run over the disk of a journal.
 use Rattle.std.proofs.Common.{◌≡◌, inl, inr, ⊎_elim, ℕ, suc, ◌+◌, List, [], ◌∷◌, ◌++◌, length, take, refl, sym, ap, ◌∙◌, subst, true, false, Bool, Ok, arith, length-append}
 use Rattle.std.proofs.lemmas.List.{append-nil, append_assoc, take-append-le}
-use Rattle.bx_events.specs.Events.{LiveEvent}
+use Rattle.bx_events.specs.Events.{LiveEvent, OnLink, Receive}
 use Rattle.bx_day.specs.Day.{Day}
 use Rattle.bx_journal.specs.Disk.{LeavesOnly}
 use Rattle.bx_journal.specs.Recording.{IsSettled, IsPending, IsFront}
@@ -9,8 +9,8 @@ use Rattle.bx_journal.proofs.Fronts.{leaves_then}
 use Rattle.bx_journal.proofs.Moments.{started, weaker}
 use Rattle.bx_journal.proofs.Recorded.{pending}
 use Rattle.bx_journal.specs.declared.head.Head.{Head}
-use Rattle.bx_live.specs.Acts.{Act, Began, Dropped, Recorded, Synced, Wrote, Read, EndedDay, recorded}
-use Rattle.bx_live.specs.Runs.{Place, Between, Recording, Owing, Over, Closing, IsDue, IsRun, next}
+use Rattle.bx_live.specs.Acts.{Act, Began, Dropped, Recorded, Synced, Wrote, Read, Took, EndedDay, recorded}
+use Rattle.bx_live.specs.Runs.{Place, Between, Recording, Receiving, Taking, Owing, Over, Closing, IsDue, IsRun, next}
 use Rattle.bx_live.specs.Written.{Filed, filed, filed_by}
 use Rattle.bx_live.proofs.Due.{by_due}
 use Rattle.bx_live.proofs.Onward.{filed_law, written_law}
@@ -36,23 +36,28 @@ over_none d (Recorded event done ∷ acts) to (due, goes) = absurd due
 over_none d (Synced done ∷ acts) to (due, goes) = absurd due
 over_none d (Wrote octets done ∷ acts) to (due, goes) = absurd due
 over_none d (Read room answer ∷ acts) to (due, goes) = absurd due
+over_none d (Took message ∷ acts) to (due, goes) = absurd due
 over_none d (EndedDay ∷ acts) to (due, goes) = absurd due
 
 -- a failed act leads to where nothing is due
-abbrev Stops : Place → Act → Type 0
+abbrev pub Stops : Place → Act → Type 0
 Stops p (Recorded event false) = (d : Day) × (next p (Recorded event false) ≡ Over d)
 Stops p (Synced false) = (d : Day) × (next p (Synced false) ≡ Over d)
 Stops p act = Unit {0}
 
-stops : (p : Place) (act : Act) → IsDue p act → Stops p act
-stops = by_due Stops (λ d begin. tt) stops_recorded stops_synced (λ d room text done. tt) (λ d room answer. tt) (λ d loss. tt) stops_closed stops_ended (λ d. tt) where
+pub stops : (p : Place) (act : Act) → IsDue p act → Stops p act
+stops = by_due Stops (λ d begin. tt) stops_recorded stops_received (λ d room owed message. tt) stops_synced (λ d room text texts done. tt) (λ d room answer. tt) (λ d loss. tt) stops_closed stops_ended (λ d. tt) where
   stops_recorded : (d : Day) (room : ℕ) (event : LiveEvent) (done : Bool) → Stops (Recording d room event) (Recorded event done)
   stops_recorded d room event true = tt
   stops_recorded d room event false = (d, refl)
 
-  stops_synced : (d : Day) (room : ℕ) (text : List ℕ) (done : Bool) → Stops (Owing d room true text) (Synced done)
-  stops_synced d room text true = tt
-  stops_synced d room text false = (d, refl)
+  stops_received : (d : Day) (room : ℕ) (owed : List (List ℕ)) (octets : List ℕ) (done : Bool) → Stops (Receiving d room owed octets) (Recorded (OnLink (Receive octets)) done)
+  stops_received d room owed octets true = tt
+  stops_received d room owed octets false = (d, refl)
+
+  stops_synced : (d : Day) (room : ℕ) (texts : List (List ℕ)) (done : Bool) → Stops (Owing d room true texts) (Synced done)
+  stops_synced d room texts true = tt
+  stops_synced d room texts false = (d, refl)
 
   stops_closed : (d : Day) (done : Bool) → Stops (Between d) (Synced done)
   stops_closed d true = tt
@@ -62,7 +67,7 @@ stops = by_due Stops (λ d begin. tt) stops_recorded stops_synced (λ d room tex
   stops_ended d true = tt
   stops_ended d false = (d, refl)
 
-stopped : (p : Place) (act : Act) (acts : List Act) (to : Place) (d : Day) → next p act ≡ Over d → IsRun (next p act) acts to → acts ≡ []
+pub stopped : (p : Place) (act : Act) (acts : List Act) (to : Place) (d : Day) → next p act ≡ Over d → IsRun (next p act) acts to → acts ≡ []
 stopped p act acts to d e goes = over_none d acts to (subst (λ (x : Place). IsRun x acts to) e goes)
 
 last_fails : (p to : Place) (acts : List Act) → IsRun p acts to → LastFails acts
@@ -75,6 +80,7 @@ last_fails p to (Began second begin ∷ acts) (due, goes) = last_fails (next p (
 last_fails p to (Dropped loss ∷ acts) (due, goes) = last_fails (next p (Dropped loss)) to acts goes
 last_fails p to (Wrote octets done ∷ acts) (due, goes) = last_fails (next p (Wrote octets done)) to acts goes
 last_fails p to (Read room answer ∷ acts) (due, goes) = last_fails (next p (Read room answer)) to acts goes
+last_fails p to (Took message ∷ acts) (due, goes) = last_fails (next p (Took message)) to acts goes
 last_fails p to (EndedDay ∷ acts) (due, goes) = last_fails (next p EndedDay) to acts goes
 
 -- the same of what stands behind some acts
@@ -88,6 +94,7 @@ behind_fails (Began second begin ∷ before) behind fails kept = behind_fails be
 behind_fails (Dropped loss ∷ before) behind fails kept = behind_fails before behind fails kept
 behind_fails (Wrote octets done ∷ before) behind fails kept = behind_fails before behind fails kept
 behind_fails (Read room answer ∷ before) behind fails kept = behind_fails before behind fails kept
+behind_fails (Took message ∷ before) behind fails kept = behind_fails before behind fails kept
 behind_fails (EndedDay ∷ before) behind fails kept = behind_fails before behind fails kept
 
 not_none : {A : Type 0} (xs ys : List A) (y : A) → ¬ (xs ++ y ∷ ys ≡ [])
@@ -105,6 +112,7 @@ kept_before (Began second begin ∷ before) behind act fails = kept_before befor
 kept_before (Dropped loss ∷ before) behind act fails = kept_before before behind act fails
 kept_before (Wrote octets done ∷ before) behind act fails = kept_before before behind act fails
 kept_before (Read room answer ∷ before) behind act fails = kept_before before behind act fails
+kept_before (Took message ∷ before) behind act fails = kept_before before behind act fails
 kept_before (EndedDay ∷ before) behind act fails = kept_before before behind act fails
 
 -- a chain of acts, cut in two
@@ -162,6 +170,7 @@ module _ {D : Type 0} (holds may_leave : D → List ℕ → Type 0) (moment : D 
   held_on (Dropped loss ∷ acts) f u v kept chain h = let (mid, same, more) = chain_first Step u v (Dropped loss) acts chain in held_on acts f mid v kept more (subst (λ (x : D). Holds f x) same h)
   held_on (Wrote octets done ∷ acts) f u v kept chain h = let (mid, same, more) = chain_first Step u v (Wrote octets done) acts chain in held_on acts f mid v kept more (subst (λ (x : D). Holds f x) same h)
   held_on (Read room answer ∷ acts) f u v kept chain h = let (mid, same, more) = chain_first Step u v (Read room answer) acts chain in held_on acts f mid v kept more (subst (λ (x : D). Holds f x) same h)
+  held_on (Took message ∷ acts) f u v kept chain h = let (mid, same, more) = chain_first Step u v (Took message) acts chain in held_on acts f mid v kept more (subst (λ (x : D). Holds f x) same h)
   held_on (EndedDay ∷ acts) f u v kept chain h = let (mid, same, more) = chain_first Step u v EndedDay acts chain in held_on acts f mid v kept more (subst (λ (x : D). Holds f x) same h)
 
   abbrev Leaves : Filed → List Act → D → D → Type 0
@@ -201,6 +210,9 @@ module _ {D : Type 0} (holds may_leave : D → List ℕ → Type 0) (moment : D 
       subst (λ (x : D). Leaves f acts x v) (sym same) (leaves_on acts f mid v fails more (subst (λ (x : D). Holds f x) same h))
   leaves_on (Read room answer ∷ acts) f u v fails chain h =
       let (mid, same, more) = chain_first Step u v (Read room answer) acts chain in
+      subst (λ (x : D). Leaves f acts x v) (sym same) (leaves_on acts f mid v fails more (subst (λ (x : D). Holds f x) same h))
+  leaves_on (Took message ∷ acts) f u v fails chain h =
+      let (mid, same, more) = chain_first Step u v (Took message) acts chain in
       subst (λ (x : D). Leaves f acts x v) (sym same) (leaves_on acts f mid v fails more (subst (λ (x : D). Holds f x) same h))
   leaves_on (EndedDay ∷ acts) f u v fails chain h =
       let (mid, same, more) = chain_first Step u v EndedDay acts chain in

@@ -2,9 +2,9 @@
 use Rattle.std.proofs.Common.{◌≡◌, List, [], ◌∷◌, refl, sym, subst, false, Option, Some, None}
 use Rattle.bx_frames.specs.declared.fault.LinkFault.{LinkFault}
 use Rattle.bx_live.specs.declared.world.Begin.{Begin}
-use Rattle.bx_live.specs.Acts.{Act, Began, Dropped, Recorded, Synced, Wrote, Read, EndedDay, ended}
+use Rattle.bx_live.specs.Acts.{Act, Began, Dropped, Recorded, Synced, Wrote, Read, Took, EndedDay, ended}
 use Rattle.bx_live_parts.specs.Chains.{Chain, chain_first}
-use Rattle.bx_world.specs.Peers.{OnLost, fault_of}
+use Rattle.bx_world.specs.Rehearsals.{OnLost, fault_of}
 
 still : (was : LinkFault) (act : Act) (lost : Option LinkFault) → OnLost (Some was) act lost → (fault : LinkFault) × (lost ≡ Some fault)
 still was (Began second begin) lost p = (was, p.0)
@@ -13,6 +13,7 @@ still was (Recorded event done) lost p = (was, p)
 still was (Synced done) lost p = (was, p)
 still was (Wrote octets done) lost p = (was, p)
 still was (Read room answer) lost p = (was, p)
+still was (Took message) lost p = (was, p)
 still was EndedDay lost p = (was, p)
 
 stays_lost : (was : LinkFault) (lost : Option LinkFault) (acts : List Act) → Chain OnLost (Some was) acts lost → lost ≡ None → ⊥
@@ -38,5 +39,7 @@ none_ended None lost (Wrote octets done ∷ acts) chain none =
     let (mid, step, more) = chain_first OnLost None lost (Wrote octets done) acts chain in none_ended mid lost acts more none
 none_ended None lost (Read room answer ∷ acts) chain none =
     let (mid, step, more) = chain_first OnLost None lost (Read room answer) acts chain in none_ended mid lost acts more none
+none_ended None lost (Took message ∷ acts) chain none =
+    let (mid, step, more) = chain_first OnLost None lost (Took message) acts chain in none_ended mid lost acts more none
 none_ended None lost (EndedDay ∷ acts) chain none =
     let (mid, step, more) = chain_first OnLost None lost EndedDay acts chain in none_ended mid lost acts more none

@@ -1,5 +1,5 @@
 -- What a capture of a live day has of its acts.
-use Rattle.std.specs.Prelude.{◌≡◌, ◌⊎◌, ℕ, ◌+◌, min, List, [], ◌∷◌, ◌++◌, Option, Ok}
+use Rattle.std.specs.Prelude.{◌≡◌, ◌⊎◌, ℕ, ◌+◌, min, List, [], ◌∷◌, ◌++◌, Option, Some, Ok}
 use Rattle.std.specs.List.{flat_map}
 use Rattle.arrayvec.specs.ArrayVec.{ArrayVec}
 use Rattle.bx_capture.specs.Captures.{packet_sent, Keeps}
@@ -8,7 +8,7 @@ use Rattle.bx_capture.specs.declared.packet.Direction.TheVariants.{Received}
 use Rattle.bx_devices.specs.declared.watched.Watched.{Watched}
 use Rattle.bx_frames.specs.Frames.{frames_of, message_frame, turn_frame}
 use Rattle.bx_frames.specs.declared.frame.Frame.TheVariants as frames
-use Rattle.bx_live.specs.Acts.{Act, Began, Wrote, Read}
+use Rattle.bx_live.specs.Acts.{Act, Began, Wrote, Read, Took}
 use Rattle.bx_world.specs.declared.captured.CapturedWorld.{CapturedWorld}
 use Rattle.bx_events.specs.declared.moment.TheConstants.{LAST_MOMENT}
 
@@ -24,6 +24,7 @@ AreFramesOf messages octets = ((message : ArrayVec ℕ) × (messages ≡ message
 abbrev pub OnFile : {F : Type 0} → (F → Option (List ℕ)) → ℕ → Option (Watched F) → Act → Option (Watched F) → Type 0
 OnFile contents second old (Wrote octets done) new = (messages : List (ArrayVec ℕ)) × AreFramesOf messages octets × Keeps contents old new (flat_map (packet_sent second) messages)
 OnFile contents second old (Read room (Ok (frames.Message message))) new = Keeps contents old new (packet second Received message.items)
+OnFile contents second old (Took (Some message)) new = Keeps contents old new (packet second Received message.items)
 OnFile contents second old act new = new ≡ old
 
 -- the second of the day is the one that began last

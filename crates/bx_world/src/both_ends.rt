@@ -3,15 +3,11 @@
 ghost use Rattle.std.specs.Prelude.{◌≡◌};
 ghost use Rattle.bx_world.specs.BothEnds.{FarTurn};
 
-use crate::peer::{begins_by, fault_of, write_turn};
+use crate::peer::{Peer, write_turn};
 use bx_devices::WriteFailed;
-use bx_events::LiveEvent;
 use bx_far::Far;
 use bx_frames::{Frame, LinkFault, Receiver, read_frame, write_end_of_day, write_message};
-use bx_journal::Disk;
 use bx_link::{Connection, FarSession};
-use bx_live::{Begin, CannotRecord, Loss, World};
-use bx_live_parts::Record;
 use bx_q931::Octets;
 use std::io::{Read, Write};
 
@@ -37,41 +33,42 @@ impl<S: Read, T: Write> FarEnd<S, T> {
     }
 }
 
-/// A world whose one peer is the far end of the same process, which takes its turn once the exchange's half of it is written. There is no clock. A
-/// fault of the link ends the day.
+/// A peer that is the far end of the same process, which takes its turn once the exchange's half of it is written.
 #[derive(Drop)]
-pub struct BothEnds<R: Read, W: Write, S: Read, T: Write, D: Disk> {
+pub struct BothEnds<R: Read, W: Write, S: Read, T: Write> {
     pub near: Connection<R, W>,
     pub distant: FarEnd<S, T>,
     /// Whether the far end has not taken the turn that was opened.
-    pub is_due: bool,
-    pub record: Record<D>,
-    /// The fault that ended the day, where one did.
-    pub lost: Option<LinkFault>,
+    is_due: bool,
 }
 
-impl<R: Read, W: Write, S: Read, T: Write, D: Disk> World for BothEnds<R, W, S, T, D> {
-    ghost use Rattle.bx_live_parts.specs.Chains.{Chain, chain_more};
-    ghost use Rattle.bx_world.specs.BothEnds.{GoesBoth};
-    ghost use Rattle.std.proofs.Common.{refl};
+impl<R: Read, W: Write, S: Read, T: Write> BothEnds<R, W, S, T> {
+    ghost use Rattle.bx_world.specs.BothEnds.{IsOpening};
 
-    ghost did = { Chain (GoesBoth R.remaining W.contents S.remaining T.contents D.holds D.may_leave D.moment D.left_since) };
-
-    fn begin(&mut self, _second: u32) -> Begin {
-        begins_by(self.lost)
+    /// Both ends before the first turn.
+    pub fn new(near: Connection<R, W>, far: Far, distant: Connection<S, T>) -> Self
+        ensures { IsOpening near far distant result }
+    {
+        BothEnds {
+            near,
+            distant: FarEnd {
+                far,
+                session: FarSession::new(),
+                connection: distant,
+            },
+            is_due: false,
+        }
     }
+}
 
-    fn drop_peer(&mut self, loss: Loss) {
-        self.lost = Some(fault_of(loss));
-    }
+impl<R: Read, W: Write, S: Read, T: Write> Peer for BothEnds<R, W, S, T> {
+    ghost use Rattle.bx_world.specs.BothEnds.{WroteNear, GaveBoth, PartedBoth};
 
-    fn record(&mut self, event: LiveEvent<'_>) -> Result<(), CannotRecord> {
-        self.record.record(event)
-    }
+    ghost wrote = { WroteNear W.contents };
 
-    fn sync(&mut self) -> Result<(), CannotRecord> {
-        self.record.sync()
-    }
+    ghost gave = { GaveBoth R.remaining S.remaining T.contents };
+
+    ghost parted = { PartedBoth W.contents S.remaining T.contents };
 
     fn write_turn(&mut self, sent: &[Octets], moment: u32) -> Result<(), WriteFailed> {
         self.is_due = true;
@@ -94,22 +91,14 @@ impl<R: Read, W: Write, S: Read, T: Write, D: Disk> World for BothEnds<R, W, S, 
         read_frame(&mut self.near.reader, Receiver::Exchange, room)
     }
 
-    fn end_day(&mut self) {
-        if self.lost.is_some() {
-            return;
-        }
+    fn end_day(&mut self) -> Option<LinkFault> {
         if write_end_of_day(&mut self.near.writer).is_err() {
-            self.lost = Some(LinkFault::WriteFailed);
-            return;
+            return Some(LinkFault::WriteFailed);
         }
         match self.distant.take_turn() {
-            Ok(false) => {}
-            Ok(true) => self.lost = Some(LinkFault::Closed),
-            Err(fault) => self.lost = Some(fault),
+            Ok(false) => None,
+            Ok(true) => Some(LinkFault::Closed),
+            Err(fault) => Some(fault),
         }
     }
-
-    ghost did_nothing = { λ s. refl };
-
-    ghost did_more = { chain_more (GoesBoth R.remaining W.contents S.remaining T.contents D.holds D.may_leave D.moment D.left_since) };
 }

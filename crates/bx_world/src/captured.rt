@@ -120,6 +120,21 @@ impl<W: World, F: Write> World for CapturedWorld<W, F> {
         }
     }
 
+    fn take_waiting(&mut self) -> Option<Octets> {
+        match self.world.take_waiting() {
+            Some(message) => {
+                keep(
+                    &mut self.file,
+                    self.first + self.second,
+                    Direction::Received,
+                    &message,
+                );
+                Some(message)
+            }
+            None => None,
+        }
+    }
+
     fn end_day(&mut self) {
         self.world.end_day();
     }

@@ -13,12 +13,10 @@ ghost use Rattle.bx_live_parts.specs.Chains.{Chain};
 ghost use Rattle.bx_world.specs.Kept.{keeps_record, asked, Knows, IsSafe};
 ghost use Rattle.bx_live_parts.specs.Records.{OnDisk};
 ghost use Rattle.bx_world.specs.Rehearsals.{Rehearses};
-ghost use Rattle.bx_world.specs.BothEnds.{GoesBoth};
 ghost use Rattle.bx_world.specs.declared.rehearsal.Rehearsal.{Rehearsal as PlainRehearsal};
-ghost use Rattle.bx_world.specs.declared.both_ends.BothEnds.{BothEnds as PlainBothEnds};
 
+use crate::peer::Peer;
 use bx_journal::Disk;
-use std::io::{Read, Write};
 
 /// A run over the disk of a journal, cut at any moment of it or behind it. What a crash leaves has each event that was synced by any
 /// earlier moment, and a front of those behind; and whenever messages were written to a peer, a crash from then on leaves all that
@@ -31,13 +29,7 @@ pub fn nothing_is_lost<D: Disk>()
 {}
 
 /// Towards one peer: where it was not lost, each second began; and the disk of the journal has gone through the acts.
-pub fn of_rehearsal<R: Read, W: Write, D: Disk>()
-    ensures stays { (old new : PlainRehearsal R W D) (acts : List Act) → Chain (Rehearses R.remaining W.contents D.holds D.may_leave D.moment D.left_since) old acts new → new.lost ≡ None → ended acts ≡ false }
-    ensures kept { (old new : PlainRehearsal R W D) (acts : List Act) (first : D) → Chain (Rehearses R.remaining W.contents D.holds D.may_leave D.moment D.left_since) old acts new → old.record.disk ≡ Some first → (last : D) × (new.record.disk ≡ Some last) × Chain (OnDisk D.holds D.may_leave D.moment D.left_since) first acts last }
-{}
-
-/// The same of both ends in one process.
-pub fn of_both_ends<R: Read, W: Write, S: Read, T: Write, D: Disk>()
-    ensures stays { (old new : PlainBothEnds R W S T D) (acts : List Act) → Chain (GoesBoth R.remaining W.contents S.remaining T.contents D.holds D.may_leave D.moment D.left_since) old acts new → new.lost ≡ None → ended acts ≡ false }
-    ensures kept { (old new : PlainBothEnds R W S T D) (acts : List Act) (first : D) → Chain (GoesBoth R.remaining W.contents S.remaining T.contents D.holds D.may_leave D.moment D.left_since) old acts new → old.record.disk ≡ Some first → (last : D) × (new.record.disk ≡ Some last) × Chain (OnDisk D.holds D.may_leave D.moment D.left_since) first acts last }
+pub fn of_rehearsal<P: Peer, D: Disk>()
+    ensures stays { (old new : PlainRehearsal P D) (acts : List Act) → Chain (Rehearses P.wrote P.gave P.parted D.holds D.may_leave D.moment D.left_since) old acts new → new.lost ≡ None → ended acts ≡ false }
+    ensures kept { (old new : PlainRehearsal P D) (acts : List Act) (first : D) → Chain (Rehearses P.wrote P.gave P.parted D.holds D.may_leave D.moment D.left_since) old acts new → old.record.disk ≡ Some first → (last : D) × (new.record.disk ≡ Some last) × Chain (OnDisk D.holds D.may_leave D.moment D.left_since) first acts last }
 {}

@@ -1,4 +1,4 @@
-//! The worlds of a rehearsal, and what stands round a world: a capture, and what is told while its day runs.
+//! The world of a rehearsal towards its peer, and what stands round a world: a capture, and what is told while its day runs.
 #![tactic(auto)]
 
 mod both_ends;
@@ -10,5 +10,6 @@ mod telling;
 
 pub use both_ends::{BothEnds, FarEnd};
 pub use captured::CapturedWorld;
+pub use peer::Peer;
 pub use rehearsal::Rehearsal;
 pub use telling::Telling;

@@ -1,33 +1,52 @@
 //! A rehearsal of a day: towards one peer, and as fast as it goes.
 
 ghost use Rattle.std.specs.Prelude.{◌≡◌};
+ghost use Rattle.bx_world.specs.Rehearsals.{fault_of, begins_by};
 
-use crate::peer::{begins_by, fault_of, write_turn};
+use crate::peer::Peer;
 use bx_devices::WriteFailed;
 use bx_events::LiveEvent;
-use bx_frames::{Frame, LinkFault, Receiver, read_frame, write_end_of_day, write_message};
+use bx_frames::{Frame, LinkFault};
 use bx_journal::Disk;
-use bx_link::Connection;
 use bx_live::{Begin, CannotRecord, Loss, World};
 use bx_live_parts::Record;
 use bx_q931::Octets;
-use std::io::{Read, Write};
 
 /// A world of one peer and no clock. A fault of its link ends the day.
 #[derive(Drop)]
-pub struct Rehearsal<R: Read, W: Write, D: Disk> {
-    pub connection: Connection<R, W>,
+pub struct Rehearsal<P: Peer, D: Disk> {
+    pub peer: P,
     pub record: Record<D>,
     /// The fault that ended the day, where one did.
     pub lost: Option<LinkFault>,
 }
 
-impl<R: Read, W: Write, D: Disk> World for Rehearsal<R, W, D> {
+/// The fault by which a peer is lost that is dropped so.
+fn fault_of(loss: Loss) -> LinkFault
+    ensures { result ≡ fault_of loss }
+{
+    match loss {
+        Loss::Late => LinkFault::Closed,
+        Loss::Fault(fault) => fault,
+    }
+}
+
+/// How a second begins towards a single peer.
+fn begins_by(lost: Option<LinkFault>) -> Begin
+    ensures { result ≡ begins_by lost }
+{
+    match lost {
+        None => Begin::Joined,
+        Some(_) => Begin::Ended,
+    }
+}
+
+impl<P: Peer, D: Disk> World for Rehearsal<P, D> {
     ghost use Rattle.bx_live_parts.specs.Chains.{Chain, chain_more};
     ghost use Rattle.bx_world.specs.Rehearsals.{Rehearses};
     ghost use Rattle.std.proofs.Common.{refl};
 
-    ghost did = { Chain (Rehearses R.remaining W.contents D.holds D.may_leave D.moment D.left_since) };
+    ghost did = { Chain (Rehearses P.wrote P.gave P.parted D.holds D.may_leave D.moment D.left_since) };
 
     fn begin(&mut self, _second: u32) -> Begin {
         begins_by(self.lost)
@@ -46,27 +65,30 @@ impl<R: Read, W: Write, D: Disk> World for Rehearsal<R, W, D> {
     }
 
     fn write_turn(&mut self, sent: &[Octets], moment: u32) -> Result<(), WriteFailed> {
-        write_turn(&mut self.connection.writer, sent, moment)
+        self.peer.write_turn(sent, moment)
     }
 
     fn write_message(&mut self, message: &Octets) -> Result<(), WriteFailed> {
-        write_message(&mut self.connection.writer, message)
+        self.peer.write_message(message)
     }
 
     fn read(&mut self, room: u32) -> Result<Frame, LinkFault> {
-        read_frame(&mut self.connection.reader, Receiver::Exchange, room)
+        self.peer.read(room)
+    }
+
+    /// A rehearsal hears a message only where it waits for one, so each is answered before the next is read.
+    fn take_waiting(&mut self) -> Option<Octets> {
+        None
     }
 
     fn end_day(&mut self) {
         if self.lost.is_some() {
             return;
         }
-        if write_end_of_day(&mut self.connection.writer).is_err() {
-            self.lost = Some(LinkFault::WriteFailed);
-        }
+        self.lost = self.peer.end_day();
     }
 
     ghost did_nothing = { λ s. refl };
 
-    ghost did_more = { chain_more (Rehearses R.remaining W.contents D.holds D.may_leave D.moment D.left_since) };
+    ghost did_more = { chain_more (Rehearses P.wrote P.gave P.parted D.holds D.may_leave D.moment D.left_since) };
 }

@@ -198,6 +198,10 @@ impl<'a, W: World, H: Clock + Eprint> World for Telling<'a, W, H> {
         self.world.read(room)
     }
 
+    fn take_waiting(&mut self) -> Option<Octets> {
+        self.world.take_waiting()
+    }
+
     fn end_day(&mut self) {
         self.world.end_day();
         self.tell_late();

@@ -8,8 +8,8 @@ use Rattle.bx_journal.specs.Heads.{of_any_day}
 use Rattle.bx_journal.specs.declared.fault.JournalFault.TheVariants.{OtherDay}
 use Rattle.bx_journal.specs.declared.head.Wanted.{Wanted}
 use Rattle.bx_journal.proofs.AnyDay.{never_other_day}
-use Rattle.bx_journal_openings.specs.JournalRefusals.{IsNoJournal}
-use Rattle.bx_journal_openings.specs.Journals.{IsJournal}
+use Rattle.bx_day_openings.specs.JournalRefusals.{IsNoJournal}
+use Rattle.bx_day_openings.specs.Journals.{IsJournal}
 use Rattle.bx_audit.proofs.Audited.{kept_in}
 use Rattle.bx_audit.proofs.telling.audited_day.Goals as goal
 

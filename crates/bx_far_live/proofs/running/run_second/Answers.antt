@@ -1,10 +1,10 @@
 use Rattle.std.proofs.Common.{◌+◌, refl, sym, ap}
-use Rattle.bx_events.specs.Events.{Tick}
-use Rattle.bx_far.specs.Course.{far_next}
+use Rattle.bx_far.specs.FarDay.{far_without_link}
 use Rattle.bx_live.specs.declared.world.Begin.TheVariants as begins
 use Rattle.bx_live.specs.declared.world.Loss.TheVariants as losses
 use Rattle.bx_live.specs.Acts.{Began, Dropped}
 use Rattle.bx_far_live.specs.Runs.{Between, Losing}
+use Rattle.bx_far_live.proofs.Moments.{without_rises}
 use Rattle.bx_far_live.proofs.Steps.{one_done, then_done, at_place}
 use Rattle.bx_far_live.proofs.running.run_second.Goals as goal
 
@@ -18,15 +18,21 @@ pub returns-in-Alone-clause-ran : goal.returns-in-Alone-clause-ran
 returns-in-Alone-clause-ran g c =
     let d = c.args.far.now in
     let began = rw c.moment.ensures.value at c.in-Alone.ensures in
-    at_place (Between (far_next d Tick)) (Between c.pass_without_link.new.far) (ap Between (sym c.pass_without_link.ensures.day)) (one_done (Between d) (Began (d.moment + 1) begins.Alone) began refl)
+    at_place (Between (far_without_link d)) (Between c.second_without_link.new.self) (ap Between (sym c.second_without_link.ensures)) (one_done (Between d) (Began (d.moment + 1) begins.Alone) began refl)
 
 pub returns-in-Late-clause-ran : goal.returns-in-Late-clause-ran
 returns-in-Late-clause-ran g c =
     let d = c.args.far.now in
-    let d1 = far_next d Tick in
+    let d1 = far_without_link d in
     let began = rw c.moment.ensures.value at c.in-Late.ensures in
-    at_place (Between d1) (Between c.pass_without_link-in-Late.new.far) (ap Between (sym c.pass_without_link-in-Late.ensures.day))
+    at_place (Between d1) (Between c.second_without_link-in-Late.new.self) (ap Between (sym c.second_without_link-in-Late.ensures))
     (then_done g.met.W.World.did_more (one_done (Between d) (Began (d.moment + 1) begins.Late) began refl) (one_done (Losing d1 losses.Late) (Dropped losses.Late) c.drop_peer.ensures refl))
+
+pub returns-in-Alone-clause-moment : goal.returns-in-Alone-clause-moment
+returns-in-Alone-clause-moment g c = without_rises c.args.far.now c.second_without_link.new.self c.second_without_link.ensures
+
+pub returns-in-Late-clause-moment : goal.returns-in-Late-clause-moment
+returns-in-Late-clause-moment g c = without_rises c.args.far.now c.second_without_link-in-Late.new.self c.second_without_link-in-Late.ensures
 
 pub returns-in-Ended-clause-said : goal.returns-in-Ended-clause-said
 returns-in-Ended-clause-said g c =

@@ -1,6 +1,7 @@
 use Rattle.bx_live_parts.proofs.Projections.{kept_in}
 use Rattle.bx_line_world.specs.Days.{GoesByLine}
 use Rattle.bx_line_world.proofs.Never.{never_ends}
+use Rattle.bx_line_world.proofs.Seconds.{second_within}
 use Rattle.bx_line_world.proofs.laws.of_line.Goals as goal
 
 pub returns-clause-begins : goal.returns-clause-begins
@@ -11,3 +12,7 @@ pub returns-clause-kept : goal.returns-clause-kept
 returns-clause-kept g c = λ old new acts first chain is.
     kept_in g.D.Disk.holds g.D.Disk.may_leave g.D.Disk.moment g.D.Disk.left_since (GoesByLine g.W.Wire.did g.D.Disk.holds g.D.Disk.may_leave g.D.Disk.moment g.D.Disk.left_since) (λ w. w.record.disk)
     (λ s t act p. p.recorded) old new acts first chain is
+
+pub returns-clause-second : goal.returns-clause-second
+returns-clause-second g c = λ old new second begin acts chain none.
+    second_within g.W.Wire.did g.D.Disk.holds g.D.Disk.may_leave g.D.Disk.moment g.D.Disk.left_since old new second begin acts chain none

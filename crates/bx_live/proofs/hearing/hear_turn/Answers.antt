@@ -16,24 +16,24 @@ loop-octets-preserved g c =
     let l = c.loop-octets in
     let frame = rw c.in-Ok-Message.field-0-is at c.in-Ok-Message.ensures in
     record {
-      within = omega (arith, l.invariant.within);
-      moment = c.in_ok-answer-in-Ok-Message.ensures.moment ∙ l.invariant.moment;
+      within = omega (arith, l.invariant.within, c.in_ok-room-in-Ok-Message.ensures.fewer);
+      moment = c.in_ok-room-in-Ok-Message.ensures.moment ∙ l.invariant.moment;
       so_far = then_done g.met.W.World.did_more l.invariant.so_far
           (then_done g.met.W.World.did_more
-          (one_done (Hearing l.exchange l.room) (Read l.room (Ok (frames.Message c.in-Ok-Message.octets))) frame.read refl)
-          (c.in_ok-answer-in-Ok-Message.ensures.ran (l.room - 1)));
+          (one_done (Hearing l.exchange l.room) (Read l.room (Ok (frames.Message c.in-Ok-Message.octets))) refl frame.read refl)
+          (c.in_ok-room-in-Ok-Message.ensures.ran));
     }
 
-pub returns-in_err-answer-in-Ok-Message-clause-ran : goal.returns-in_err-answer-in-Ok-Message-clause-ran
-returns-in_err-answer-in-Ok-Message-clause-ran g c =
+pub returns-in_err-room-in-Ok-Message-clause-ran : goal.returns-in_err-room-in-Ok-Message-clause-ran
+returns-in_err-room-in-Ok-Message-clause-ran g c =
     let l = c.loop-octets in
     let p = err_from_is_err_and c.from_residual.result c.from_residual.ensures.1 in
     let frame = rw c.in-Ok-Message.field-0-is at c.in-Ok-Message.ensures in
     rw (p.1, p.2)
     (then_done g.met.W.World.did_more l.invariant.so_far
     (then_done g.met.W.World.did_more
-    (one_done (Hearing l.exchange l.room) (Read l.room (Ok (frames.Message c.in-Ok-Message.octets))) frame.read refl)
-    (c.in_err-answer-in-Ok-Message.ensures.ran (l.room - 1))))
+    (one_done (Hearing l.exchange l.room) (Read l.room (Ok (frames.Message c.in-Ok-Message.octets))) refl frame.read refl)
+    (c.in_err-room-in-Ok-Message.ensures.ran)))
 
 pub returns-then-said-moment-clause-ran : goal.returns-then-said-moment-clause-ran
 returns-then-said-moment-clause-ran g c =
@@ -42,7 +42,7 @@ returns-then-said-moment-clause-ran g c =
     let said = c.in-Ok-EndOfTurn.said in
     then_done g.met.W.World.did_more l.invariant.so_far
     (at_place (heard l.exchange l.room (Ok (frames.EndOfTurn said))) (Between l.exchange) (ended_right l.exchange l.room said (rw c.moment.ensures.value at c.if-said-moment.true))
-    (one_done (Hearing l.exchange l.room) (Read l.room (Ok (frames.EndOfTurn said))) frame.read refl))
+    (one_done (Hearing l.exchange l.room) (Read l.room (Ok (frames.EndOfTurn said))) refl frame.read refl))
 
 pub returns-else-said-moment-clause-ran : goal.returns-else-said-moment-clause-ran
 returns-else-said-moment-clause-ran g c =
@@ -51,10 +51,10 @@ returns-else-said-moment-clause-ran g c =
     let said = c.in-Ok-EndOfTurn.said in
     then_done g.met.W.World.did_more l.invariant.so_far
     (at_place (heard l.exchange l.room (Ok (frames.EndOfTurn said))) (Losing l.exchange (losses.Fault WrongMoment)) (ended_wrong l.exchange l.room said (rw c.moment.ensures.value at c.if-said-moment.false))
-    (one_done (Hearing l.exchange l.room) (Read l.room (Ok (frames.EndOfTurn said))) frame.read refl))
+    (one_done (Hearing l.exchange l.room) (Read l.room (Ok (frames.EndOfTurn said))) refl frame.read refl))
 
 pub returns-in-Err-clause-ran : goal.returns-in-Err-clause-ran
 returns-in-Err-clause-ran g c =
     let l = c.loop-octets in
     then_done g.met.W.World.did_more l.invariant.so_far
-    (one_done (Hearing l.exchange l.room) (Read l.room (Err c.in-Err.fault)) c.in-Err.ensures.read refl)
+    (one_done (Hearing l.exchange l.room) (Read l.room (Err c.in-Err.fault)) refl c.in-Err.ensures.read refl)

@@ -9,4 +9,4 @@ pub returns-in-Err-Link-clause-ran : goal.returns-in-Err-Link-clause-ran
 returns-in-Err-Link-clause-ran g c =
     let loss = losses.Fault c.in-Err-Link.fault in
     let ran = rw c.in-Err-Link.field-0-is at c.in-Err-Link.ensures.ran in
-    then_done g.met.W.World.did_more ran (one_done (Losing c.run_turn.new.exchange loss) (Dropped loss) c.drop_peer.ensures refl)
+    then_done g.met.W.World.did_more ran (one_done (Losing c.run_turn.new.exchange loss) (Dropped loss) refl c.drop_peer.ensures refl)

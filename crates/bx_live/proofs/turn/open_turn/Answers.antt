@@ -1,4 +1,4 @@
-use Rattle.std.proofs.Common.{◌++◌, refl, true, false}
+use Rattle.std.proofs.Common.{[], ◌∷◌, ◌++◌, refl, true, false}
 use Rattle.bx_events.specs.Events.{Tick}
 use Rattle.bx_frames.specs.Frames.{frames_of, turn_frame}
 use Rattle.bx_frames.specs.declared.fault.LinkFault.TheVariants.{WriteFailed}
@@ -34,7 +34,7 @@ returns-in_err-write_turn-clause-ran g c =
     at_place (Losing d1 (losses.Fault WriteFailed)) (or_stopped (Hearing d1 64) d1 r) (by_write (Hearing d1 64) d1 r c.from_residual-in_err-write_turn.ensures)
     (then_done g.met.W.World.did_more
     (on_record d d1 64 Tick sent text c.in_ok-record.ensures c.next_second-sent.ensures.day c.next_second-sent.ensures.sent c.next_second-sent.ensures.text)
-    (then_done g.met.W.World.did_more synced (one_done (Owing d1 64 false text) (Wrote text false) written refl)))
+    (then_done g.met.W.World.did_more synced (one_done (Owing d1 64 false (text ∷ [])) (Wrote text false) refl written refl)))
 
 pub returns-clause-ran : goal.returns-clause-ran
 returns-clause-ran g c =
@@ -46,4 +46,4 @@ returns-clause-ran g c =
     let written = rw (c.as_slice-messages.ensures.value, c.moment.ensures.value) at c.in_ok-write_turn.ensures in
     then_done g.met.W.World.did_more
     (on_record d d1 64 Tick sent text c.in_ok-record.ensures c.next_second-sent.ensures.day c.next_second-sent.ensures.sent c.next_second-sent.ensures.text)
-    (then_done g.met.W.World.did_more synced (one_done (Owing d1 64 false text) (Wrote text true) written refl))
+    (then_done g.met.W.World.did_more synced (one_done (Owing d1 64 false (text ∷ [])) (Wrote text true) refl written refl))

@@ -21,14 +21,17 @@ returns-in_err-more-clause-refused g c =
 
 pub returns-in-Ok-write_amended-clause-held : goal.returns-in-Ok-write_amended-clause-held
 returns-in-Ok-write_amended-clause-held g c = record {
-  day = c.in_ok-day.day;
-  day_of = c.in_ok-day.ensures.named;
-  earlier = parts_of c.in-Ok.earlier;
-  earlier_of = c.in-Ok.ensures.found;
-  more = c.in_ok-more.more;
-  more_of = bookings_before (g.I.Inputs.gives c.args.inputs.now) (g.I.Inputs.gives c.plan_named.new.inputs) c.in-Ok.ensures.no_more c.args.bookings.now c.in_ok-day.day c.in_ok-more.more c.in_ok-more.ensures.found;
-  total = c.in-Ok-write_amended.field-0;
-  planned = c.in-Ok-write_amended.ensures.amended;
+  held = record {
+    day = c.in_ok-day.day;
+    day_of = c.in_ok-day.ensures.named;
+    earlier = parts_of c.in-Ok.earlier;
+    earlier_of = c.in-Ok.ensures.found;
+    more = c.in_ok-more.more;
+    more_of = bookings_before (g.I.Inputs.gives c.args.inputs.now) (g.I.Inputs.gives c.plan_named.new.inputs) c.in-Ok.ensures.no_more c.args.bookings.now c.in_ok-day.day c.in_ok-more.more c.in_ok-more.ensures.found;
+    longer = parts_of c.in-Ok-write_amended.amended;
+    planned = c.in-Ok-write_amended.ensures.amended;
+  };
+  noted = c.note_too_short.ensures;
 }
 
 pub returns-clause-refused : goal.returns-clause-refused

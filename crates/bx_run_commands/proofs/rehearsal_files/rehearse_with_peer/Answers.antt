@@ -1,6 +1,5 @@
-use Rattle.std.proofs.Common.{◌∙◌, ap, inr, sym, subst}
+use Rattle.std.proofs.Common.{inr, sym, subst}
 use Rattle.bx_request.specs.declared.request.Peer.{Peer}
-use Rattle.bx_request.specs.declared.request.Peer.TheVariants.{At}
 use Rattle.bx_run_commands.specs.RehearsedDays.{RehearsalWith}
 use Rattle.bx_run_commands.specs.RehearsalRefusals.{StopsAtPeer}
 use Rattle.bx_run_commands.proofs.Runs.{if_ok, if_err}
@@ -14,18 +13,10 @@ pub returns-in-Script-clause-stopped : goal.returns-in-Script-clause-stopped
 returns-in-Script-clause-stopped g c =
     if_err c.rehearse_script.result _ _ (λ fault p clock. subst (λ (peer : Peer). StopsAtPeer g.H.File.Write.contents peer c.args.request fault) (sym c.in-Script.is) (p clock)) c.rehearse_script.ensures.stopped
 
-pub returns-in-Port-clause-ran : goal.returns-in-Port-clause-ran
-returns-in-Port-clause-ran g c =
-    if_ok c.rehearse_at_port.result _ _ (λ run p begins opens. subst (λ (peer : Peer). RehearsalWith g.H.File.Write.contents peer c.args.request run.rehearsed) (sym (c.in-At.is ∙ ap At c.in-Port.is)) (p begins opens)) c.rehearse_at_port.ensures.ran
+pub returns-in-At-clause-ran : goal.returns-in-At-clause-ran
+returns-in-At-clause-ran g c =
+    if_ok c.rehearse_at.result _ _ (λ run p begins opens. subst (λ (peer : Peer). RehearsalWith g.H.File.Write.contents peer c.args.request run.rehearsed) (sym c.in-At.is) (p begins opens)) c.rehearse_at.ensures.ran
 
-pub returns-in-Port-clause-stopped : goal.returns-in-Port-clause-stopped
-returns-in-Port-clause-stopped g c =
-    if_err c.rehearse_at_port.result _ _ (λ fault p clock. subst (λ (peer : Peer). StopsAtPeer g.H.File.Write.contents peer c.args.request fault) (sym (c.in-At.is ∙ ap At c.in-Port.is)) (inr (tt, p clock))) c.rehearse_at_port.ensures.stopped
-
-pub returns-in-Socket-clause-ran : goal.returns-in-Socket-clause-ran
-returns-in-Socket-clause-ran g c =
-    if_ok c.rehearse_at_socket.result _ _ (λ run p begins opens. subst (λ (peer : Peer). RehearsalWith g.H.File.Write.contents peer c.args.request run.rehearsed) (sym (c.in-At.is ∙ ap At c.in-Socket.is)) (p begins opens)) c.rehearse_at_socket.ensures.ran
-
-pub returns-in-Socket-clause-stopped : goal.returns-in-Socket-clause-stopped
-returns-in-Socket-clause-stopped g c =
-    if_err c.rehearse_at_socket.result _ _ (λ fault p clock. subst (λ (peer : Peer). StopsAtPeer g.H.File.Write.contents peer c.args.request fault) (sym (c.in-At.is ∙ ap At c.in-Socket.is)) (inr (tt, p clock))) c.rehearse_at_socket.ensures.stopped
+pub returns-in-At-clause-stopped : goal.returns-in-At-clause-stopped
+returns-in-At-clause-stopped g c =
+    if_err c.rehearse_at.result _ _ (λ fault p clock. subst (λ (peer : Peer). StopsAtPeer g.H.File.Write.contents peer c.args.request fault) (sym c.in-At.is) (inr (tt, p clock))) c.rehearse_at.ensures.stopped

@@ -1,7 +1,7 @@
 use Rattle.std.proofs.Common.{Err}
 use Rattle.std.proofs.lemmas.Result.{err_from_is_err_and}
 use Rattle.bx_devices.specs.Watching.{device_of, is_faulted}
-use Rattle.bx_journal_openings.proofs.ToldJournals.{not_followed, followed_whole}
+use Rattle.bx_day_openings.proofs.ToldJournals.{not_followed, followed_whole}
 use Rattle.bx_recovery.specs.Recovered.{goes_on}
 use Rattle.bx_run_commands.proofs.LineRuns.{goes_on_by, followed_by}
 use Rattle.bx_run_commands.proofs.resuming.replay.Goals as goal

@@ -3,13 +3,13 @@ use Rattle.bx_line_world.proofs.line.Line.serve_once.Goals as goal
 
 pub returns : goal.returns
 returns g c = (
-  c.wait.ensures.0,
+  c.wait-came.ensures.0,
   record {
     between = c.elapse.new.self;
     shown = c.elapse.ensures.0;
     looked = c.elapse.ensures.1;
     goes_on = sym c.is_over.ensures ∙ c.if-is_over.false;
-    is_wait = c.wait.ensures.1;
-    waited = c.wait.ensures.2;
+    is_wait = c.wait-came.ensures.1;
+    waited = c.wait-came.ensures.2;
   },
 )

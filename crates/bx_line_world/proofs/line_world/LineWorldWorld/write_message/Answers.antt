@@ -14,5 +14,6 @@ returns g c =
     record {
       recorded = refl;
       schedule = refl;
-      line = (record { messages = m ∷ []; text = inl (sym (append-nil (message_frame m.items))); gives = one_given m done o c.give.new.self gives }, refl);
+      line = record { messages = m ∷ []; text = inl (sym (append-nil (message_frame m.items))); gives = one_given m done o c.give.new.self gives };
+      second = (refl, refl);
     }

@@ -5,5 +5,6 @@ pub returns : goal.returns
 returns g c = record {
   recorded = refl;
   schedule = refl;
-  line = (record { messages = c.args.sent.now; text = inr (c.args._moment, refl); gives = c.give_all.ensures }, refl);
+  line = record { messages = c.args.sent.now; text = inr (c.args._moment, refl); gives = c.give_all.ensures };
+  second = (refl, refl);
 }

@@ -1,0 +1,16 @@
+use Rattle.std.proofs.Common.{Some, None}
+use Rattle.bx_cli.proofs.LeftFiles.{all_rest, any_rest}
+use Rattle.bx_cli.proofs.meetings.met_by.Goals as goal
+use Rattle.bx_cli.proofs.meetings.met_by.Goals.{in-Some+else-meets, in_default}
+
+pub loop-file-preserved : goal.loop-file-preserved
+loop-file-preserved g c = elim c.match-file.branch [
+  | in-Some+else-meets w ↦ (
+    λ all. c.loop-file.invariant.0 (all_rest (g.H.Locates.tells c.args.rt.now) c.args.name.now c.args.is_written c.args.files.now c.loop-file.file-index (Some w.in-Some.file) c.loop-file-test.true w.in-Some.is (w.meets.ensures.apart w.if-meets.false) all),
+    λ met m. c.loop-file.invariant.1 met (any_rest (g.H.Locates.tells c.args.rt.now) c.args.name.now c.args.is_written c.args.files.now c.loop-file.file-index (Some w.in-Some.file) c.loop-file-test.true w.in-Some.is met m),
+  )
+  | in_default w ↦ (
+    λ all. c.loop-file.invariant.0 (all_rest (g.H.Locates.tells c.args.rt.now) c.args.name.now c.args.is_written c.args.files.now c.loop-file.file-index None c.loop-file-test.true w.in_default.is tt all),
+    λ met m. c.loop-file.invariant.1 met (any_rest (g.H.Locates.tells c.args.rt.now) c.args.name.now c.args.is_written c.args.files.now c.loop-file.file-index None c.loop-file-test.true w.in_default.is met m),
+  )
+]

@@ -1,0 +1,142 @@
+//! The files that a command uses.
+
+ghost use Rattle.std.specs.Prelude.{◌≡◌};
+ghost use Rattle.bx_cli.specs.Uses.{capture_use, files_of, peer_use, read_use, records_use, uses_of, written_use};
+
+use bx_request::{CaptureWords, FileRequest, Peer, RecordsWords, Request};
+
+/// A file that a command reads or writes, by its name.
+#[derive(Clone, Copy)]
+pub struct FileUse<'a> {
+    pub name: &'a str,
+    pub is_written: bool,
+}
+
+/// One that is read.
+fn read<'a>(name: &'a str) -> Option<FileUse<'a>>
+    ensures { result ≡ read_use name.entry }
+{
+    Some(FileUse {
+        name,
+        is_written: false,
+    })
+}
+
+/// One that is written, where one is named.
+fn written<'a>(name: Option<&'a str>) -> Option<FileUse<'a>>
+    ensures { result ≡ written_use name.entry }
+{
+    match name {
+        Some(name) => Some(FileUse {
+            name,
+            is_written: true,
+        }),
+        None => None,
+    }
+}
+
+/// That of a capture, where one is to be kept.
+fn captured<'a>(capture: Option<CaptureWords<'a>>) -> Option<FileUse<'a>>
+    ensures { result ≡ capture_use capture.entry }
+{
+    match capture {
+        Some(CaptureWords { file, day: _ }) => written(Some(file)),
+        None => None,
+    }
+}
+
+/// That of the records of a day, where they are to be written.
+fn recorded<'a>(records: Option<RecordsWords<'a>>) -> Option<FileUse<'a>>
+    ensures { result ≡ records_use records.entry }
+{
+    match records {
+        Some(RecordsWords { file, day: _ }) => written(Some(file)),
+        None => None,
+    }
+}
+
+/// The script of a far end of the same process.
+fn scripted<'a>(peer: Peer<'a>) -> Option<FileUse<'a>>
+    ensures { result ≡ peer_use peer.entry }
+{
+    match peer {
+        Peer::Script(name) => read(name),
+        Peer::At(_) => None,
+    }
+}
+
+/// The files of a command on bookings and plans.
+fn on_files<'a>(request: &FileRequest<'a>) -> [Option<FileUse<'a>>; 5]
+    ensures { result ≡ files_of request.now }
+{
+    match request {
+        FileRequest::Plan { terms: _, bookings } => [read(bookings), None, None, None, None],
+        FileRequest::Check {
+            terms: _,
+            bookings,
+            plan,
+        } => [read(bookings), read(plan), None, None, None],
+        FileRequest::Amend {
+            date: _,
+            zone: _,
+            plan,
+            bookings,
+        } => [read(bookings), read(plan), None, None, None],
+        FileRequest::Capacity {
+            date: _,
+            zone: _,
+            bookings,
+        } => [read(bookings), None, None, None, None],
+        FileRequest::Explain { plan, row: _ } => [read(plan), None, None, None, None],
+        FileRequest::Quote { plan, call: _ } => [read(plan), None, None, None, None],
+        FileRequest::Chart { plan, day: _ } => [read(plan), None, None, None, None],
+    }
+}
+
+/// The files that the words of a command name, those that it reads before those that it writes.
+pub fn named_files<'a>(request: &Request<'a>) -> [Option<FileUse<'a>>; 5]
+    ensures { result ≡ uses_of request.now }
+{
+    match request {
+        Request::Files(request) => on_files(request),
+        Request::Rehearsal(request) => [
+            read(request.plan),
+            scripted(request.peer),
+            written(request.journal),
+            recorded(request.records),
+            captured(request.sight.capture),
+        ],
+        Request::Far(request) => [
+            read(request.script),
+            captured(request.sight.capture),
+            None,
+            None,
+            None,
+        ],
+        Request::FarLine(request) => [
+            read(request.script),
+            written(request.capture),
+            None,
+            None,
+            None,
+        ],
+        Request::Live(request) => [
+            read(request.plan),
+            written(request.journal),
+            None,
+            None,
+            None,
+        ],
+        Request::Audit(request) => [
+            read(request.plan),
+            read(request.journal),
+            captured(request.capture),
+            None,
+            None,
+        ],
+        Request::Records(request) => {
+            [read(request.plan), read(request.journal), None, None, None]
+        }
+        Request::Decode { octets: _ } => [None, None, None, None, None],
+    }
+}

@@ -1,0 +1,15 @@
+-- How a journal was followed.
+use Rattle.std.specs.Prelude.{ℕ, List, Option}
+use Rattle.bx_events.specs.Events.{LiveEvent}
+use Rattle.bx_journal.specs.declared.head.Wanted.{Wanted}
+use Rattle.bx_day_openings.specs.Journals.{IsJournal}
+
+-- all its events were followed
+pub record IsFollowedWhole {F : Type 0} (followed : F → List LiveEvent → F → Type 0) (wanted : Wanted) (before : Option (List ℕ)) (old new : F) : Type 0 where
+  pub events : List LiveEvent
+  pub journal : IsJournal wanted before events
+  pub all : followed old events new
+
+-- some were, in order, from the first on
+abbrev pub IsFollowedSoFar : {F : Type 0} → (F → List LiveEvent → F → Type 0) → F → F → Type 0
+IsFollowedSoFar followed old new = (events : List LiveEvent) × followed old events new

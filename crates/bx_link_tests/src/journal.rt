@@ -1,0 +1,75 @@
+//! A journal in memory.
+
+ghost use Rattle.std.specs.Prelude.{◌≡◌, ◌++◌, ◌∷◌, [], is_ok, IfSome};
+ghost use Rattle.bx_events.specs.Told.{live_event_of};
+ghost use Rattle.bx_live.specs.Acts.{Recorded, recorded};
+ghost use Rattle.bx_link_tests.specs.Marks.{event_in, events_in};
+
+use arrayvec::ArrayVec;
+use bx_events::{Event, LiveEvent};
+use bx_live::CannotRecord;
+use bx_q931::Octets;
+use std::alloc::Global;
+
+/// A line of the journal.
+#[derive(Drop)]
+pub enum Mark {
+    Tick,
+    Heard(Octets),
+    Down,
+    Bought(ArrayVec<u8, 120>),
+}
+
+/// Lines in memory, so many of them at most.
+#[derive(Drop)]
+pub struct Journal {
+    pub marks: Vec<Mark>,
+    pub room: u32,
+}
+
+/// The mark of an event. None has more octets than a message.
+fn mark_of(event: LiveEvent<'_>) -> Option<Mark>
+    ensures { IfSome result (λ mark. event_in mark ≡ live_event_of event.entry) }
+{
+    match event {
+        LiveEvent::OnLink(Event::Tick) => Some(Mark::Tick),
+        LiveEvent::WithoutLink => Some(Mark::Down),
+        LiveEvent::Sold(line) => match ArrayVec::try_from(line) {
+            Ok(line) => Some(Mark::Bought(line)),
+            Err(_) => None,
+        },
+        LiveEvent::OnLink(Event::Receive(octets)) => match ArrayVec::try_from(octets) {
+            Ok(octets) => Some(Mark::Heard(octets)),
+            Err(_) => None,
+        },
+    }
+}
+
+impl Journal {
+    /// A journal with room for so many lines.
+    pub fn new(alloc: Global, room: u32) -> Self {
+        Journal {
+            marks: Vec::new(alloc),
+            room,
+        }
+    }
+
+    /// Adds the line of an event.
+    pub fn add(&mut self, event: LiveEvent<'_>) -> Result<(), CannotRecord>
+        ensures { events_in self.new.marks.items ≡ events_in self.old.marks.items ++ recorded (Recorded (live_event_of event.entry) (is_ok result) ∷ []) }
+    {
+        if self.room == 0 {
+            return Err(CannotRecord);
+        }
+        let Some(mark) = mark_of(event) else {
+            return Err(CannotRecord);
+        };
+        match self.marks.push(mark) {
+            Ok(()) => {
+                self.room -= 1;
+                Ok(())
+            }
+            Err(_) => Err(CannotRecord),
+        }
+    }
+}

@@ -1,0 +1,68 @@
+//! A live day that is held open while a call is up.
+
+ghost use Rattle.std.specs.Prelude.{◌≡◌, ◌⊎◌, ◌≤◌, ◌<◌, true, false};
+ghost use Rattle.bx_day.specs.Day.{is_live};
+ghost use Rattle.bx_live.specs.Runs.{Between, Done};
+ghost use Rattle.bx_live.specs.Running.{Runs, or_over};
+ghost use Rattle.bx_live.specs.Held.{has_call, IsHeldRun};
+
+use crate::running::{Second, close_day, run_second};
+use crate::world::{CannotRecord, World};
+use bx_day::{Exchange, Standing};
+use bx_events::LAST_MOMENT;
+
+/// Whether a call of this booking is up.
+fn is_live(standing: Standing) -> bool
+    ensures { result ≡ is_live standing }
+{
+    match standing {
+        Standing::OnCall { .. } => true,
+        Standing::Refused
+        | Standing::Unoffered
+        | Standing::Carried { .. }
+        | Standing::Unanswered
+        | Standing::Missed => false,
+    }
+}
+
+/// Whether a call of some booking is up: it was offered or has come, and is not cleared.
+pub fn has_call(exchange: &Exchange) -> bool
+    ensures { result ≡ has_call exchange.now }
+{
+    for entry in exchange.entries() {
+        if is_live(entry.standing) {
+            return true;
+        }
+    }
+    false
+}
+
+/// Whether one more second is to begin.
+fn goes_on(exchange: &Exchange, last: u32) -> bool
+    ensures on { result ≡ true → (exchange.now.moment < last) ⊎ (has_call exchange.now ≡ true) }
+    ensures over { result ≡ false → (last ≤ exchange.now.moment) × (has_call exchange.now ≡ false) }
+{
+    exchange.moment() < last || has_call(exchange)
+}
+
+/// Runs the day as `run_live` does, and behind its last second on while a call is up, so that each call that is begun is cleared and
+/// can be billed: until none is up, or up to `LAST_MOMENT`, or until the world says that the day is over. No second begins behind
+/// the last one but for a call that is up. At its end all of it is on the disk. At `CannotRecord` nothing more is done.
+pub fn run_held<W: World>(
+    exchange: &mut Exchange,
+    world: &mut W,
+    last: u32,
+) -> Result<(), CannotRecord>
+    ensures { (ran : Runs W.did world.old world.new (Between exchange.old) (or_over (Done exchange.new) exchange.new result)) × IsHeldRun last exchange.old exchange.new ran.acts result }
+{
+    for _second in exchange.moment()..LAST_MOMENT {
+        if !goes_on(exchange, last) {
+            return close_day(world);
+        }
+        match run_second(exchange, world)? {
+            Second::Passed => {}
+            Second::Ended => return close_day(world),
+        }
+    }
+    close_day(world)
+}
