@@ -40,7 +40,8 @@ def write_plan(rows, path, *words):
     with open(f"{path}.csv", "w", encoding="ascii") as file:
         file.write("\n".join(rows) + "\n")
     with open(path, "w", encoding="ascii") as file:
-        subprocess.run([BX, "plan", "--date", "2026-01-05", *words, f"{path}.csv"], stdout=file, check=True)
+        command = [BX, "plan", "--date", "2026-01-05", *words, f"{path}.csv"]
+        subprocess.run(command, stdout=file, stderr=subprocess.DEVNULL, check=True)
     return path
 
 

@@ -194,7 +194,8 @@ fn days_that_have_gone_by(rt: HostRuntime) -> Result<(), Fail> {
     Ok(())
 }
 
-/// A journal that a crash has torn goes on behind its whole lines.
+/// A journal that a crash has torn goes on behind its whole lines. A call that is up where no link comes any more holds the day open, up to
+/// its last second.
 #[test]
 fn torn_journals(rt: HostRuntime) -> Result<(), Fail> {
     let folder = folder(&rt)?;
@@ -203,10 +204,10 @@ fn torn_journals(rt: HostRuntime) -> Result<(), Fail> {
     let path = placed(rt.alloc(), "@torn.journal", &folder)?;
     let text = format!(in rt.alloc(); "{HEAD}tick\nheard 0")?;
     fs::write(&rt, path.as_str(), text.as_str())?;
-    let told = (0, "1 live\nmaintenance none\n", "");
+    let told = (1, "1 live\nmaintenance none\n", "bx: L10 StillUp\n");
     assert!(rt; does(&rt, &folder, words, told)?, "torn behind a second");
     assert!(rt;
-        holds(&rt, &folder, "@torn.journal", "tick\n", 97)?,
+        holds(&rt, &folder, "@torn.journal", "tick\n", 299_999)?,
         "its front stays"
     );
     fs::write(&rt, path.as_str(), HEAD.get(..40).unwrap_or(""))?;
