@@ -12,7 +12,8 @@ use std::alloc::Global;
 
 /// What a best plan of these bookings earns on these channels. None where too many have to be held, or memory ran out.
 pub fn best_total(alloc: Global, bookings: &Bookings, channels: ChannelSet) -> Option<u64>
-    ensures { IfSome result (IsBest bookings.now channels) }
+    ensures best { IfSome result (IsBest bookings.now channels) }
+    ensures earned { IfSome result (λ total. (set : ℕ → Bool) × IsLawful bookings.now channels set × (total ≡ pay_of bookings.now set)) }
 {
     match plan(alloc, bookings, channels) {
         Ok(plan) => Some(plan.total),
