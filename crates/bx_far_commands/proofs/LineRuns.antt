@@ -8,7 +8,7 @@ use Rattle.bx_devices.specs.declared.watched.Watched.{Watched}
 use Rattle.bx_far.specs.FarDay.{FarDay}
 use Rattle.bx_far_commands.specs.LineDays.{IsLineRun, IsFarLineDay, did_on, asked_turns, capture_of}
 use Rattle.bx_far_commands.specs.LineInside.{RunsSeen, RunsTo}
-use Rattle.bx_journal.specs.Files.{holds_unknown, may_leave_any, no_moment, any_since}
+use Rattle.bx_journal.specs.Files.{holds_unknown, may_leave_any, no_moment, any_since, has_failed_in}
 use Rattle.bx_journal.specs.declared.disk_files.SystemFile.{SystemFile}
 use Rattle.bx_journal.specs.declared.file.FileDisk.{FileDisk}
 use Rattle.bx_line_world.proofs.Never.{never_ends}
@@ -28,7 +28,7 @@ carried {W = W} did acts a b u v p q d = subst (λ (x : W). did x acts v) (sym p
 
 module _ {W F : Type 0} (did : W → List WireAct → W → Type 0) where
   abbrev pub Goes : LineWorld W (FileDisk (SystemFile F)) → List Act → LineWorld W (FileDisk (SystemFile F)) → Type 0
-  Goes = Chain (GoesByLine did holds_unknown may_leave_any no_moment any_since)
+  Goes = Chain (GoesByLine did holds_unknown may_leave_any no_moment any_since has_failed_in)
 
   pub to_moment : (H : Type 0) (contents : F → Option (List ℕ)) (wire : W) (schedule : Schedule) (turns : ℕ) (from to : FarDay) (file : Option (Watched F)) (first moment : ℕ) (is_whole : Bool) (old new : LineWorld W (FileDisk (SystemFile F))) → old.line.wire ≡ wire → old.schedule ≡ schedule → old.record.disk ≡ None → old.line.end.network ≡ false
       → old.line.post ≡ no_post → RunsSeen H Goes old new turns from to contents file first is_whole → moment ≡ to.moment → RunsTo H did contents wire schedule turns from file first moment is_whole
@@ -45,7 +45,7 @@ module _ {W F : Type 0} (did : W → List WireAct → W → Type 0) where
       nothing_told = nothing;
       run = seen.run;
       captured = seen.captured;
-      reached = seen.run.reached (never_ends did holds_unknown may_leave_any no_moment any_since old new seen.acts seen.run.went);
+      reached = seen.run.reached (never_ends did holds_unknown may_leave_any no_moment any_since has_failed_in old new seen.acts seen.run.went);
     };
     is_moment = at;
   }

@@ -16,7 +16,7 @@ use Rattle.bx_far_commands.specs.Days.{ended_line}
 use Rattle.bx_far_commands.specs.declared.line_files.TheConstants.{WHOLE_DAY}
 use Rattle.bx_far_live.specs.Events.{far_events}
 use Rattle.bx_far_live.specs.Runs.{Between, Done, IsFarRun}
-use Rattle.bx_journal.specs.Files.{holds_unknown, may_leave_any, no_moment, any_since}
+use Rattle.bx_journal.specs.Files.{holds_unknown, may_leave_any, no_moment, any_since, has_failed_in}
 use Rattle.bx_journal.specs.declared.disk_files.SystemFile.{SystemFile}
 use Rattle.bx_journal.specs.declared.file.FileDisk.{FileDisk}
 use Rattle.bx_line_world.specs.Days.{GoesByLine}
@@ -78,7 +78,7 @@ pub record IsLineRun {W F : Type 0} (H : Type 0) (did : W → List WireAct → W
   pub unrecorded : old.record.disk ≡ None
   pub side : old.line.end.network ≡ false
   pub nothing_told : old.line.post ≡ no_post
-  pub run : IsFarRunIn (Chain (GoesByLine did holds_unknown may_leave_any no_moment any_since)) old acts new turns from to
+  pub run : IsFarRunIn (Chain (GoesByLine did holds_unknown may_leave_any no_moment any_since has_failed_in)) old acts new turns from to
   pub captured : AreCaptured (Telling (LineWorld W (FileDisk (SystemFile F))) H) contents file first acts is_whole
   pub reached : to.moment ≡ max from.moment (min turns LAST_MOMENT)
 

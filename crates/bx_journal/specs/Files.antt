@@ -35,6 +35,10 @@ any_since disk t c = false ≡ false
 
 -- ---- a disk on a file
 
+-- a call of it has failed
+abbrev pub has_failed_in : {F : Type 0} → FileDisk F → Bool
+has_failed_in disk = disk.has_failed
+
 -- it holds what the file tells
 abbrev pub holds_in : {F : Type 0} → (F → Option (List ℕ)) → FileDisk F → List ℕ → Type 0
 holds_in contents disk text = contents disk.file ≡ Some text

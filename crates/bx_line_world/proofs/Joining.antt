@@ -269,10 +269,10 @@ module _ {W : Type 0} {did : W → List WireAct → W → Type 0} where
 
 -- ---- acts
 
-module _ {W D : Type 0} (did : W → List WireAct → W → Type 0) (holds may_leave : D → List ℕ → Type 0) (moment : D → ℕ) (left_since : D → ℕ → List ℕ → Type 0) (nothing : (w : W) → did w [] w)
+module _ {W D : Type 0} (did : W → List WireAct → W → Type 0) (holds may_leave : D → List ℕ → Type 0) (moment : D → ℕ) (left_since : D → ℕ → List ℕ → Type 0) (has_failed : D → Bool) (nothing : (w : W) → did w [] w)
     (more : (u v w : W) (xs ys : List WireAct) → did u xs v → did v ys w → did u (xs ++ ys) w) where
   abbrev Goes : LineWorld W D → Act → LineWorld W D → Type 0
-  Goes = GoesByLine did holds may_leave moment left_since
+  Goes = GoesByLine did holds may_leave moment left_since has_failed
 
   -- what an act gives and reads
   record WentBy (s t : LineWorld W D) (acts : List Act) : Type 0 where

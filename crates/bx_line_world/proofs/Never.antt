@@ -1,5 +1,5 @@
 -- A live day over a data link is never told that no second begins any more.
-use Rattle.std.proofs.Common.{◌≡◌, ℕ, List, [], ◌∷◌, refl, false, Result, Ok, Err, OnOk}
+use Rattle.std.proofs.Common.{◌≡◌, ℕ, List, [], ◌∷◌, refl, false, Result, Ok, Err, OnOk, Bool}
 use Rattle.bx_live.specs.declared.world.Begin.TheVariants.{Late, Alone, Joined, Ended}
 use Rattle.bx_live.specs.Acts.{Act, Began, Dropped, Recorded, Synced, Wrote, Read, Took, EndedDay, ended}
 use Rattle.bx_live_parts.specs.Chains.{Chain, chain_first}
@@ -7,9 +7,9 @@ use Rattle.bx_line_world.specs.Wires.{WireAct}
 use Rattle.bx_line_world.specs.Days.{GoesByLine}
 use Rattle.bx_line_world.specs.declared.line_world.LineWorld.{LineWorld}
 
-module _ {W D : Type 0} (did : W → List WireAct → W → Type 0) (holds may_leave : D → List ℕ → Type 0) (moment : D → ℕ) (left_since : D → ℕ → List ℕ → Type 0) where
+module _ {W D : Type 0} (did : W → List WireAct → W → Type 0) (holds may_leave : D → List ℕ → Type 0) (moment : D → ℕ) (left_since : D → ℕ → List ℕ → Type 0) (has_failed : D → Bool) where
   abbrev Goes : LineWorld W D → Act → LineWorld W D → Type 0
-  Goes = GoesByLine did holds may_leave moment left_since
+  Goes = GoesByLine did holds may_leave moment left_since has_failed
 
   pub never_ends : (first last : LineWorld W D) (acts : List Act) → Chain Goes first acts last → ended acts ≡ false
   never_ends first last [] chain = refl

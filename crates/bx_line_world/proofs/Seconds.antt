@@ -1,5 +1,5 @@
 -- In one second at most 8,000 octets of messages are read.
-use Rattle.std.proofs.Common.{◌≡◌, ℕ, zero, suc, ◌+◌, ◌≤◌, List, [], ◌∷◌, true, true≢false, sym, ap, arith, Option, Some, None, Result, Ok, Err}
+use Rattle.std.proofs.Common.{◌≡◌, ℕ, zero, suc, ◌+◌, ◌≤◌, List, [], ◌∷◌, true, true≢false, sym, ap, arith, Option, Some, None, Result, Ok, Err, Bool}
 use Rattle.arrayvec.specs.ArrayVec.{ArrayVec}
 use Rattle.bx_frames.specs.declared.fault.LinkFault.{LinkFault}
 use Rattle.bx_frames.specs.declared.frame.Frame.{Frame}
@@ -27,9 +27,9 @@ module _ {W : Type 0} (did : W → List WireAct → W → Type 0) where
   took_within left (Some m) a b takes = takes.takes.3
   took_within left None a b takes = omega arith
 
-module _ {W D : Type 0} (did : W → List WireAct → W → Type 0) (holds may_leave : D → List ℕ → Type 0) (moment : D → ℕ) (left_since : D → ℕ → List ℕ → Type 0) where
+module _ {W D : Type 0} (did : W → List WireAct → W → Type 0) (holds may_leave : D → List ℕ → Type 0) (moment : D → ℕ) (left_since : D → ℕ → List ℕ → Type 0) (has_failed : D → Bool) where
   abbrev Goes : LineWorld W D → Act → LineWorld W D → Type 0
-  Goes = GoesByLine did holds may_leave moment left_since
+  Goes = GoesByLine did holds may_leave moment left_since has_failed
 
   within_on : (acts : List Act) (s t : LineWorld W D) → Chain Goes s acts t → begins_none acts ≡ true → s.taken ≤ 8000 → s.taken + octets_read acts ≤ 8000
   within_on [] s t chain none few = omega (arith, few)

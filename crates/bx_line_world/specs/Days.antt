@@ -119,8 +119,8 @@ OnLine did old (Synced done) new = new.line ≡ old.line
 OnLine did old EndedDay new = new.line ≡ old.line
 
 -- one act
-pub record GoesByLine {W D : Type 0} (did : W → List WireAct → W → Type 0) (holds may_leave : D → List ℕ → Type 0) (moment : D → ℕ) (left_since : D → ℕ → List ℕ → Type 0) (old : LineWorld W D) (act : Act) (new : LineWorld W D) : Type 0 where
-  pub recorded : OnRecord holds may_leave moment left_since old.record.disk act new.record.disk
+pub record GoesByLine {W D : Type 0} (did : W → List WireAct → W → Type 0) (holds may_leave : D → List ℕ → Type 0) (moment : D → ℕ) (left_since : D → ℕ → List ℕ → Type 0) (has_failed : D → Bool) (old : LineWorld W D) (act : Act) (new : LineWorld W D) : Type 0 where
+  pub recorded : OnRecord holds may_leave moment left_since has_failed old.record.disk act new.record.disk
   pub schedule : new.schedule ≡ old.schedule
   pub line : OnLine did old act new
   pub second : OnSecond old act new

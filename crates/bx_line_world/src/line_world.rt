@@ -126,7 +126,7 @@ impl<W: Wire, D: Disk> World for LineWorld<W, D> {
     ghost use Rattle.bx_line_world.specs.Days.{GoesByLine};
     ghost use Rattle.std.proofs.Common.{refl};
 
-    ghost did = { Chain (GoesByLine W.did D.holds D.may_leave D.moment D.left_since) };
+    ghost did = { Chain (GoesByLine W.did D.holds D.may_leave D.moment D.left_since D.has_failed) };
 
     fn begin(&mut self, second: u32) -> Begin {
         self.second = second;
@@ -176,5 +176,5 @@ impl<W: Wire, D: Disk> World for LineWorld<W, D> {
 
     ghost did_nothing = { λ s. refl };
 
-    ghost did_more = { chain_more (GoesByLine W.did D.holds D.may_leave D.moment D.left_since) };
+    ghost did_more = { chain_more (GoesByLine W.did D.holds D.may_leave D.moment D.left_since D.has_failed) };
 }

@@ -23,7 +23,7 @@ pub fn run_by_line<W: Wire, D: Disk>(
     world: &mut LineWorld<W, D>,
     last: u32,
 ) -> Result<(), CannotRecord>
-    ensures ran { (ran : Runs (Chain (GoesByLine W.did D.holds D.may_leave D.moment D.left_since)) world.old world.new (Between exchange.old) (or_over (Done exchange.new) exchange.new result)) × (exchange.new ≡ live_day_after (recorded ran.acts) exchange.old) × AreHeld last exchange.old ran.acts }
+    ensures ran { (ran : Runs (Chain (GoesByLine W.did D.holds D.may_leave D.moment D.left_since D.has_failed)) world.old world.new (Between exchange.old) (or_over (Done exchange.new) exchange.new result)) × (exchange.new ≡ live_day_after (recorded ran.acts) exchange.old) × AreHeld last exchange.old ran.acts }
     ensures whole { OnOk result (IsHeldOut last exchange.new) }
 {
     run_held(exchange, world, last)

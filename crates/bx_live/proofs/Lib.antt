@@ -6,3 +6,4 @@ pub mod Moments
 pub mod Told
 pub mod Replies
 pub mod HeldRuns
+pub mod Syncs

@@ -4,4 +4,5 @@ pub mod Running
 pub mod Seconds
 pub mod Held
 pub mod Written
+pub mod Syncs
 pub mod Inside

@@ -1,9 +1,10 @@
 //! What holds of every live run.
 
-ghost use Rattle.std.specs.Prelude.{◌≡◌, ◌++◌, ◌∷◌, ℕ, Bool, List, true};
+ghost use Rattle.std.specs.Prelude.{◌≡◌, ◌≤◌, ◌+◌, ◌++◌, ◌∷◌, ℕ, Bool, List, true};
 ghost use Rattle.bx_day.specs.Day.{Day};
 ghost use Rattle.bx_live.specs.Acts.{Act, Wrote, recorded};
 ghost use Rattle.bx_live.specs.Runs.{Place, Between, IsRun, day_at};
+ghost use Rattle.bx_live.specs.Syncs.{syncs_in, waits_in};
 ghost use Rattle.bx_live.specs.Written.{IsWrittenFor, filed, written, goes_well, owed_at, live_told};
 
 /// Whatever is written to a peer is what the exchange sends for the last event on record; where messages are sent for it, all that
@@ -17,4 +18,10 @@ pub fn written_on_record()
 /// gives for the events on record, in order and once, but for what is still owed.
 pub fn all_is_written()
     ensures { (from to : Place) (acts : List Act) → IsRun from acts to → goes_well acts ≡ true → written acts ++ owed_at to ≡ owed_at from ++ live_told (recorded acts) (day_at from) }
+{}
+
+/// A run waits for the disk at most once for each second and each frame that it waited for, and once at its end: what was there already when
+/// something was heard is brought to the disk with it, however much that is.
+pub fn syncs_are_shared()
+    ensures { (d : Day) (acts : List Act) (to : Place) → IsRun (Between d) acts to → syncs_in acts ≤ 1 + waits_in acts }
 {}

@@ -1,5 +1,5 @@
 -- What a chain of acts is to a part of its world.
-use Rattle.std.proofs.Common.{◌≡◌, List, [], ◌∷◌, refl, sym, ap, subst, Option, Some, None, ℕ}
+use Rattle.std.proofs.Common.{◌≡◌, List, [], ◌∷◌, refl, sym, ap, subst, Option, Some, None, ℕ, Bool}
 use Rattle.bx_live.specs.Acts.{Act, Began, Dropped, Recorded, Synced, Wrote, Read, Took, EndedDay}
 use Rattle.bx_live_parts.specs.Chains.{Chain, chain_one, chain_first}
 use Rattle.bx_live_parts.specs.Records.{OnRecord, OnDisk}
@@ -11,12 +11,12 @@ chain_map step part f so s t (act ∷ after ∷ acts) (mid, p, more) = (f mid, s
 
 -- ---- a journal that is kept stays kept
 
-module _ {D : Type 0} (holds may_leave : D → List ℕ → Type 0) (moment : D → ℕ) (left_since : D → ℕ → List ℕ → Type 0) where
+module _ {D : Type 0} (holds may_leave : D → List ℕ → Type 0) (moment : D → ℕ) (left_since : D → ℕ → List ℕ → Type 0) (has_failed : D → Bool) where
   abbrev Kept : Option D → Act → Option D → Type 0
-  Kept = OnRecord holds may_leave moment left_since
+  Kept = OnRecord holds may_leave moment left_since has_failed
 
   abbrev Step : D → Act → D → Type 0
-  Step = OnDisk holds may_leave moment left_since
+  Step = OnDisk holds may_leave moment left_since has_failed
 
   kept_by : (old : D) (act : Act) (o : Option D) → Kept (Some old) act o → (new : D) × (o ≡ Some new) × Step old act new
   kept_by old (Recorded event done) (Some new) p = (new, refl, p)

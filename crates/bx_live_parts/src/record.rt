@@ -1,6 +1,6 @@
 //! What a live day puts on record.
 
-ghost use Rattle.std.specs.Prelude.{◌≡◌, ◌≤◌, true, length, is_ok, Some, None};
+ghost use Rattle.std.specs.Prelude.{◌≡◌, ◌≤◌, true, false, length, is_ok, Some, None};
 ghost use Rattle.bx_events.specs.Told.{live_event_of};
 ghost use Rattle.bx_journal.specs.Events.{IsMessage};
 ghost use Rattle.bx_live.specs.Acts.{Recorded, Synced};
@@ -18,7 +18,8 @@ pub struct Record<D: Disk> {
 
 /// Whether what came is no longer than the longest message, and what is sold is printable and no longer than its line may be.
 fn is_message(event: LiveEvent<'_>) -> bool
-    ensures { result ≡ true → IsMessage (live_event_of event.entry) }
+    ensures taken { result ≡ true → IsMessage (live_event_of event.entry) }
+    ensures refused { result ≡ false → IsMessage (live_event_of event.entry) → ⊥ }
 {
     match event {
         LiveEvent::OnLink(Event::Receive(octets)) => octets.len() <= 260,
@@ -29,7 +30,7 @@ fn is_message(event: LiveEvent<'_>) -> bool
 
 /// Writes the line of an event.
 fn write_line<D: Disk>(disk: &mut D, event: LiveEvent<'_>) -> Result<(), CannotRecord>
-    ensures { Writes D.holds D.may_leave D.moment D.left_since disk.old (live_event_of event.entry) (is_ok result) disk.new }
+    ensures { Writes D.holds D.may_leave D.moment D.left_since D.has_failed disk.old (live_event_of event.entry) (is_ok result) disk.new }
 {
     if !is_message(event) {
         return Err(CannotRecord);
@@ -42,7 +43,7 @@ fn write_line<D: Disk>(disk: &mut D, event: LiveEvent<'_>) -> Result<(), CannotR
 
 /// Brings what was written to the disk.
 fn bring_to_disk<D: Disk>(disk: &mut D) -> Result<(), CannotRecord>
-    ensures { Commits D.holds D.may_leave D.moment D.left_since disk.old (is_ok result) disk.new }
+    ensures { Commits D.holds D.may_leave D.moment D.left_since D.has_failed disk.old (is_ok result) disk.new }
 {
     match commit(disk) {
         Ok(()) => Ok(()),
@@ -54,7 +55,7 @@ impl<D: Disk> Record<D> {
     /// Puts an event on record, where a journal is kept. It need not be on the disk before the next sync. `CannotRecord` where what
     /// came has more than 260 octets, or the disk did not take the line.
     pub fn record(&mut self, event: LiveEvent<'_>) -> Result<(), CannotRecord>
-        ensures { OnRecord D.holds D.may_leave D.moment D.left_since self.old.disk (Recorded (live_event_of event.entry) (is_ok result)) self.new.disk }
+        ensures { OnRecord D.holds D.may_leave D.moment D.left_since D.has_failed self.old.disk (Recorded (live_event_of event.entry) (is_ok result)) self.new.disk }
     {
         match &mut self.disk {
             Some(disk) => write_line(disk, event),
@@ -64,7 +65,7 @@ impl<D: Disk> Record<D> {
 
     /// What was recorded is on the disk, where a journal is kept. `CannotRecord` where the disk did not do that.
     pub fn sync(&mut self) -> Result<(), CannotRecord>
-        ensures { OnRecord D.holds D.may_leave D.moment D.left_since self.old.disk (Synced (is_ok result)) self.new.disk }
+        ensures { OnRecord D.holds D.may_leave D.moment D.left_since D.has_failed self.old.disk (Synced (is_ok result)) self.new.disk }
     {
         match &mut self.disk {
             Some(disk) => bring_to_disk(disk),

@@ -2,9 +2,10 @@ mod Runs
 mod RunCaptured
 mod Refused
 mod Unkept
+mod Recorded
+mod Stopped
 mod LineRuns
 mod ToldLive
-mod Recorded
 mod RehearsalRuns
 mod RehearsedWith
 mod ToldRehearsals

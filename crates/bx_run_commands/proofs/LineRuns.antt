@@ -35,15 +35,16 @@ use Rattle.bx_run_commands.specs.Resuming.{GoesOn, IsFollowedBy, IsKeptOn, IsKep
 use Rattle.bx_run_commands.proofs.Recorded.{over_of}
 use Rattle.bx_run_commands.proofs.Unkept.{none_keeps}
 use Rattle.bx_run_commands.specs.Readying.{IsReady}
-use Rattle.bx_run_commands.specs.LiveRuns.{RunsByLine}
+use Rattle.bx_run_commands.specs.LiveRuns.{RunsByLine, StopsByLine}
+use Rattle.bx_run_commands.proofs.Stopped.{stopped_by}
 
-module _ {W D : Type 0} (did : W → List WireAct → W → Type 0) (holds may_leave : D → List ℕ → Type 0) (moment : D → ℕ) (left_since : D → ℕ → List ℕ → Type 0) where
+module _ {W D : Type 0} (did : W → List WireAct → W → Type 0) (holds may_leave : D → List ℕ → Type 0) (moment : D → ℕ) (left_since : D → ℕ → List ℕ → Type 0) (has_failed : D → Bool) where
   abbrev Goes : LineWorld W D → List Act → LineWorld W D → Type 0
-  Goes = Chain (GoesByLine did holds may_leave moment left_since)
+  Goes = Chain (GoesByLine did holds may_leave moment left_since has_failed)
 
   pub by_line : (wire : W) (schedule : Schedule) (kept : Record D) (turns : ℕ) (from to : Day) (old new : LineWorld W D) (done : Result (Unit {0}) CannotRecord) → done ≡ Ok tt → old.line.wire ≡ wire → old.schedule ≡ schedule → old.record ≡ kept → old.line.end.network ≡ true → old.line.post ≡ no_post
       → (ran : Runs Goes old new (Between from) (or_over (Done to) to done)) → IsHeldRun turns from to ran.acts done
-      → RunsByLine did holds may_leave moment left_since wire schedule kept turns from to
+      → RunsByLine did holds may_leave moment left_since has_failed wire schedule kept turns from to
   by_line wire schedule kept turns from to old new done is over scheduled by side nothing ran held = record {
     acts = ran.acts;
     old = old;
@@ -57,20 +58,42 @@ module _ {W D : Type 0} (did : W → List WireAct → W → Type 0) (holds may_l
     run = subst (λ (r : Result (Unit {0}) CannotRecord). IsRun (Between from) ran.acts (or_over (Done to) to r)) is ran.goes;
     after = held.after;
     held = held.held;
-    out = subst (λ (r : Result (Unit {0}) CannotRecord). OnOk r (ended ran.acts ≡ false → IsHeldOut turns to)) is held.out (never_ends did holds may_leave moment left_since old new ran.acts ran.done);
+    out = subst (λ (r : Result (Unit {0}) CannotRecord). OnOk r (ended ran.acts ≡ false → IsHeldOut turns to)) is held.out (never_ends did holds may_leave moment left_since has_failed old new ran.acts ran.done);
   }
 
   -- a run that is over before its end has a journal
   pub kept_on : (from to : Day) (kept : Record D) (old new : LineWorld W D) (acts : List Act) (o : Option D) → old.record ≡ kept → kept.disk ≡ o → Goes old acts new → IsRun (Between from) acts (Over to) → is_some o ≡ true
   kept_on from to kept old new acts (Some disk) by is chain run = refl
   kept_on from to kept old new acts None by is chain run =
-      let mapped = chain_map (GoesByLine did holds may_leave moment left_since) (OnRecord holds may_leave moment left_since) (λ w. w.record.disk) (λ s t act p. p.recorded) old new acts chain in
+      let mapped = chain_map (GoesByLine did holds may_leave moment left_since has_failed) (OnRecord holds may_leave moment left_since has_failed) (λ w. w.record.disk) (λ s t act p. p.recorded) old new acts chain in
       let start : old.record.disk ≡ None = ap (λ (r : Record D). r.disk) by ∙ is in
-      absurd (over_of (Between from) to acts (none_keeps holds may_leave moment left_since acts new.record.disk (subst (λ (x : Option D). Chain (OnRecord holds may_leave moment left_since) x acts new.record.disk) start mapped)) run)
+      absurd (over_of (Between from) to acts (none_keeps holds may_leave moment left_since has_failed acts new.record.disk (subst (λ (x : Option D). Chain (OnRecord holds may_leave moment left_since has_failed) x acts new.record.disk) start mapped)) run)
 
   pub failed_line : (from to : Day) (kept : Record D) (old new : LineWorld W D) (done : Result (Unit {0}) CannotRecord) (fault : CannotRecord) → done ≡ Err fault → old.record ≡ kept → Runs Goes old new (Between from) (or_over (Done to) to done) → is_some kept.disk ≡ true
   failed_line from to kept old new done fault is by ran =
       kept_on from to kept old new ran.acts kept.disk by refl ran.done (subst (λ (r : Result (Unit {0}) CannotRecord). IsRun (Between from) ran.acts (or_over (Done to) to r)) is ran.goes)
+
+  -- and its disk has failed
+  pub stopped_line : (wire : W) (schedule : Schedule) (kept : Record D) (from to : Day) (old new : LineWorld W D) (done : Result (Unit {0}) CannotRecord) (fault : CannotRecord) → done ≡ Err fault → old.line.wire ≡ wire → old.schedule ≡ schedule → old.record ≡ kept
+      → Runs Goes old new (Between from) (or_over (Done to) to done) → StopsByLine did holds may_leave moment left_since has_failed wire schedule kept from
+  stopped_line wire schedule kept from to old new done fault is over scheduled by ran =
+      let run = subst (λ (r : Result (Unit {0}) CannotRecord). IsRun (Between from) ran.acts (or_over (Done to) to r)) is ran.goes in
+      let stopped = stopped_by holds may_leave moment left_since has_failed (Between from) to ran.acts old.record.disk new.record.disk (λ none. none) run
+          (chain_map (GoesByLine did holds may_leave moment left_since has_failed) (OnRecord holds may_leave moment left_since has_failed) (λ w. w.record.disk) (λ s t act p. p.recorded) old new ran.acts ran.done) in
+      record {
+        acts = ran.acts;
+        old = old;
+        new = new;
+        over = over;
+        scheduled = scheduled;
+        kept_by = by;
+        went = ran.done;
+        to = to;
+        run = run;
+        disk = stopped.0;
+        disk_is = stopped.1;
+        cause = stopped.2;
+      }
 
 -- a journal that was read whole
 pub ready_on : {D : Type 0} (holds may_leave : D → List ℕ → Type 0) (head : Head) (whole : Result ℕ JournalFault) (old new : D) (w : ℕ) → whole ≡ Ok w

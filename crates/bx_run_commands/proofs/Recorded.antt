@@ -31,7 +31,7 @@ use Rattle.bx_live_parts.proofs.Projections.{kept_on}
 use Rattle.bx_run_commands.proofs.Unkept.{none_on, none_keeps}
 use Rattle.bx_run_commands.specs.Rehearsals.{IsJournalOf}
 use Rattle.bx_run_commands.specs.RehearsalsInside.{IsPutAway}
-use Rattle.bx_run_commands.specs.WaitingDisks.{waiting_holds, no_crash, no_moment, none_left, HasBegun}
+use Rattle.bx_run_commands.specs.WaitingDisks.{waiting_holds, no_crash, no_moment, none_left, waiting_failed, HasBegun}
 use Rattle.bx_run_commands.specs.declared.waiting.WaitingDisk.{WaitingDisk}
 
 -- ---- in a run that comes to its end nothing failed
@@ -56,17 +56,17 @@ all_kept p e (EndedDay ∷ acts) (due, goes) = all_kept (next p EndedDay) e acts
 
 -- ---- a run in which nothing failed is not over before its end
 
-abbrev IsOver : Place → Type 0
+abbrev pub IsOver : Place → Type 0
 IsOver (Over d) = Unit {0}
 IsOver _ = ⊥
 
 -- where an act goes well the run goes on
-abbrev GoesOn : Place → Act → Type 0
+abbrev pub GoesOn : Place → Act → Type 0
 GoesOn p (Recorded event false) = Unit {0}
 GoesOn p (Synced false) = Unit {0}
 GoesOn p act = IsOver (next p act) → ⊥
 
-goes_on : (p : Place) (act : Act) → IsDue p act → GoesOn p act
+pub goes_on : (p : Place) (act : Act) → IsDue p act → GoesOn p act
 goes_on = by_due GoesOn on_begun on_recorded on_received on_took on_synced on_written on_read on_lost on_closing on_closed (λ d over. over) where
   on_begun : (d : Day) (begin : Begin) → GoesOn (Between d) (Began (d.moment + 1) begin)
   on_begun d begins.Late over = over
@@ -147,9 +147,9 @@ over_of p e (EndedDay ∷ acts) kept (due, goes) = absurd (goes_on p EndedDay du
 
 -- ---- what a disk holds behind acts, all of which went well
 
-module _ {D : Type 0} (holds may_leave : D → List ℕ → Type 0) (moment : D → ℕ) (left_since : D → ℕ → List ℕ → Type 0) (head : Head) where
+module _ {D : Type 0} (holds may_leave : D → List ℕ → Type 0) (moment : D → ℕ) (left_since : D → ℕ → List ℕ → Type 0) (has_failed : D → Bool) (head : Head) where
   abbrev Step : D → Act → D → Type 0
-  Step = OnDisk holds may_leave moment left_since
+  Step = OnDisk holds may_leave moment left_since has_failed
 
   abbrev Holds : Filed → D → Type 0
   Holds f disk = IsPending holds may_leave disk head f.disk f.more
@@ -179,9 +179,9 @@ module _ {D : Type 0} (holds may_leave : D → List ℕ → Type 0) (moment : D 
 
 -- ---- a journal that waited, and is put away
 
-module _ {D : Type 0} (holds may_leave : D → List ℕ → Type 0) (head : Head) where
+module _ {D : Type 0} (holds may_leave : D → List ℕ → Type 0) (has_failed : D → Bool) (head : Head) where
   abbrev Kept : Option (WaitingDisk D) → Act → Option (WaitingDisk D) → Type 0
-  Kept = OnRecord (waiting_holds holds) no_crash no_moment none_left
+  Kept = OnRecord (waiting_holds holds) no_crash no_moment none_left (waiting_failed has_failed)
 
   put_away : (events : List LiveEvent) (disk : D) (w : WaitingDisk D) (o : Option (WaitingDisk D)) (closed : Option D) → o ≡ Some w → IsPutAway holds may_leave o closed → (IsDay head.day → holds disk [] → AreEvents events × waiting_holds holds w (journal_text head events))
       → IsJournalOf holds may_leave (Some disk) closed head events
@@ -194,11 +194,11 @@ module _ {D : Type 0} (holds may_leave : D → List ℕ → Type 0) (head : Head
   pub journal_kept : (disk closed : Option D) (o p : Option (WaitingDisk D)) (acts : List Act) (d e : Day) → HasBegun holds head disk o → IsPutAway holds may_leave p closed → Chain Kept o acts p → IsRun (Between d) acts (Done e)
       → IsJournalOf holds may_leave disk closed head (recorded acts)
   journal_kept None closed o p acts d e begun away chain run =
-      subst (λ (x : Option (WaitingDisk D)). IsPutAway holds may_leave x closed) (none_on (waiting_holds holds) no_crash no_moment none_left acts p (subst (λ (x : Option (WaitingDisk D)). Chain Kept x acts p) begun chain)) away
+      subst (λ (x : Option (WaitingDisk D)). IsPutAway holds may_leave x closed) (none_on (waiting_holds holds) no_crash no_moment none_left (waiting_failed has_failed) acts p (subst (λ (x : Option (WaitingDisk D)). Chain Kept x acts p) begun chain)) away
   journal_kept (Some disk) closed None p acts d e begun away chain run = absurd begun
   journal_kept (Some disk) closed (Some first) p acts d e begun away chain run =
-      let (last, is, onto) = kept_on (waiting_holds holds) no_crash no_moment none_left first p acts chain in
-      put_away (recorded acts) disk last p closed is away (λ dated empty. held_whole (waiting_holds holds) no_crash no_moment none_left head acts first last d e run onto (begun dated empty))
+      let (last, is, onto) = kept_on (waiting_holds holds) no_crash no_moment none_left (waiting_failed has_failed) first p acts chain in
+      put_away (recorded acts) disk last p closed is away (λ dated empty. held_whole (waiting_holds holds) no_crash no_moment none_left (waiting_failed has_failed) head acts first last d e run onto (begun dated empty))
 
   -- ---- what can't be put on record, or away, is kept
 
@@ -206,11 +206,11 @@ module _ {D : Type 0} (holds may_leave : D → List ℕ → Type 0) (head : Head
   pub stopped_kept : (disk : Option D) (o p : Option (WaitingDisk D)) (acts : List Act) (d e : Day) → HasBegun holds head disk o → Chain Kept o acts p → IsRun (Between d) acts (Over e) → is_some disk ≡ true
   stopped_kept (Some disk) o p acts d e begun chain run = refl
   stopped_kept None o p acts d e begun chain run =
-      absurd (over_of (Between d) e acts (none_keeps (waiting_holds holds) no_crash no_moment none_left acts p (subst (λ (x : Option (WaitingDisk D)). Chain Kept x acts p) begun chain)) run)
+      absurd (over_of (Between d) e acts (none_keeps (waiting_holds holds) no_crash no_moment none_left (waiting_failed has_failed) acts p (subst (λ (x : Option (WaitingDisk D)). Chain Kept x acts p) begun chain)) run)
 
   -- and so has one that is not put away
   pub unput_kept : (disk : Option D) (o p : Option (WaitingDisk D)) (acts : List Act) → HasBegun holds head disk o → Chain Kept o acts p → is_some p ≡ true → is_some disk ≡ true
   unput_kept (Some disk) o p acts begun chain there = refl
   unput_kept None o p acts begun chain there =
-      let none = none_on (waiting_holds holds) no_crash no_moment none_left acts p (subst (λ (x : Option (WaitingDisk D)). Chain Kept x acts p) begun chain) in
+      let none = none_on (waiting_holds holds) no_crash no_moment none_left (waiting_failed has_failed) acts p (subst (λ (x : Option (WaitingDisk D)). Chain Kept x acts p) begun chain) in
       subst (λ (x : Option (WaitingDisk D)). is_some x ≡ true) none there

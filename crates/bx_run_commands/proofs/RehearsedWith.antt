@@ -15,7 +15,7 @@ use Rattle.bx_request.specs.declared.request.Peer.TheVariants.{Script, At}
 use Rattle.bx_request.specs.declared.request.Place.TheVariants.{Port, Socket}
 use Rattle.bx_request.specs.declared.request.RehearsalRequest.{RehearsalRequest}
 use Rattle.bx_journal.specs.declared.head.Head.{Head}
-use Rattle.bx_journal.specs.Files.{holds_unknown, may_leave_any}
+use Rattle.bx_journal.specs.Files.{holds_unknown, may_leave_any, has_failed_in}
 use Rattle.bx_day_openings.specs.TiedDays.{IsTiedDay}
 use Rattle.bx_run_commands.specs.ReadyInside.{IsReadied}
 use Rattle.bx_run_commands.specs.RehearsedDays.{Known, Stream, RanWith, RehearsalWith}
@@ -48,12 +48,12 @@ module _ {F : Type 0} (files : F → Option (List ℕ)) (request : RehearsalRequ
   }
 
   pub with_script : (script : Bor (List ℕ)) (far : FarDay) → IsFarOpening far → (remaining contents far_remaining far_contents : Known TcpStream) {near distant : Stream TcpStream} {both : BothEnds (Bor TcpStream) (Bor TcpStream) (Bor TcpStream) (Bor TcpStream)} → IsOpening near far distant both
-      → RehearsesTowards (WroteNear contents) (GaveBoth remaining far_remaining far_contents) (PartedBoth contents far_remaining far_contents) holds_unknown may_leave_any files opened both file second rehearsed → RehearsalWith files (Script script) request rehearsed
+      → RehearsesTowards (WroteNear contents) (GaveBoth remaining far_remaining far_contents) (PartedBoth contents far_remaining far_contents) holds_unknown may_leave_any has_failed_in files opened both file second rehearsed → RehearsalWith files (Script script) request rehearsed
   with_script script far far_opens remaining contents far_remaining far_contents {near = near} {distant = distant} {both = both} opens_both ran =
       with_peer (Script script) (far, far_opens, record { remaining = remaining; contents = contents; far_remaining = far_remaining; far_contents = far_contents; near = near; distant = distant; both = both; opens = opens_both; ran = ran })
 
-  pub with_port : (port : ℕ) (remaining contents : Known TcpStream) {connection : Stream TcpStream} → RehearsesTowards (WroteTo contents) (GaveFrom remaining) (PartedFrom contents) holds_unknown may_leave_any files opened connection file second rehearsed → RehearsalWith files (At (Port port)) request rehearsed
+  pub with_port : (port : ℕ) (remaining contents : Known TcpStream) {connection : Stream TcpStream} → RehearsesTowards (WroteTo contents) (GaveFrom remaining) (PartedFrom contents) holds_unknown may_leave_any has_failed_in files opened connection file second rehearsed → RehearsalWith files (At (Port port)) request rehearsed
   with_port port remaining contents {connection = connection} ran = with_peer (At (Port port)) (remaining, contents, (connection, ran))
 
-  pub with_socket : (path : Bor (List ℕ)) (remaining contents : Known UnixStream) {connection : Stream UnixStream} → RehearsesTowards (WroteTo contents) (GaveFrom remaining) (PartedFrom contents) holds_unknown may_leave_any files opened connection file second rehearsed → RehearsalWith files (At (Socket path)) request rehearsed
+  pub with_socket : (path : Bor (List ℕ)) (remaining contents : Known UnixStream) {connection : Stream UnixStream} → RehearsesTowards (WroteTo contents) (GaveFrom remaining) (PartedFrom contents) holds_unknown may_leave_any has_failed_in files opened connection file second rehearsed → RehearsalWith files (At (Socket path)) request rehearsed
   with_socket path remaining contents {connection = connection} ran = with_peer (At (Socket path)) (remaining, contents, (connection, ran))

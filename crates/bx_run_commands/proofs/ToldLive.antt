@@ -26,23 +26,23 @@ recorded_still : (journal : Option (Bor (List ℕ))) → IsUnrecorded journal St
 recorded_still None none = none
 recorded_still (Some name) none = none
 
-module _ (request : LiveRequest) where
-  writes : StopsLive request (OfDay (Command commands.CannotWrite)) → ⊥
+module _ (H F : Type 0) (request : LiveRequest) where
+  writes : StopsLive H F request (OfDay (Command commands.CannotWrite)) → ⊥
   writes (inl hours) = hours
   writes (inr (inl plan)) = plan
   writes (inr (inr (inl (at_hand, inl unheard)))) = unheard
   writes (inr (inr (inl (at_hand, inr unconnected)))) = unconnected
   writes (inr (inr (inr (at_hand, inl journal)))) = no_journal request.journal (live_head at_hand.digest at_hand.hours) journal
-  writes (inr (inr (inr (at_hand, inr unrecorded)))) = no_output request.journal unrecorded
+  writes (inr (inr (inr (at_hand, inr (unrecorded, stopped))))) = no_output request.journal unrecorded
 
-  still : StopsLive request StillUp → ⊥
+  still : StopsLive H F request StillUp → ⊥
   still (inl hours) = hours
   still (inr (inl plan)) = plan
   still (inr (inr (inl (at_hand, none)))) = none
   still (inr (inr (inr (at_hand, inl journal)))) = no_journal_still request.journal (live_head at_hand.digest at_hand.hours) journal
-  still (inr (inr (inr (at_hand, inr unrecorded)))) = recorded_still request.journal unrecorded
+  still (inr (inr (inr (at_hand, inr (unrecorded, stopped))))) = recorded_still request.journal unrecorded
 
-  pub live_stopped : {F W : Type 0} (H : Type 0) (files : F → Option (List ℕ)) (contents : W → Option (List ℕ)) (output : Watched W) (fault : LiveFault) → StopsLive request fault → IsLiveRefusal H files request contents output output fault
-  live_stopped H files contents output (OfDay (Command commands.CannotWrite)) stops = absurd (writes stops)
-  live_stopped H files contents output StillUp stops = absurd (still stops)
-  live_stopped H files contents output fault stops = (stops, refl)
+  pub live_stopped : {W : Type 0} (files : F → Option (List ℕ)) (contents : W → Option (List ℕ)) (output : Watched W) (fault : LiveFault) → StopsLive H F request fault → IsLiveRefusal H files request contents output output fault
+  live_stopped files contents output (OfDay (Command commands.CannotWrite)) stops = absurd (writes stops)
+  live_stopped files contents output StillUp stops = absurd (still stops)
+  live_stopped files contents output fault stops = (stops, refl)

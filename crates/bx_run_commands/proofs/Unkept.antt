@@ -1,13 +1,13 @@
 -- Without a journal nothing fails to be put on record.
-use Rattle.std.proofs.Common.{◌≡◌, ℕ, true, false, List, [], ◌∷◌, Option, Some, None, refl, sym, subst}
+use Rattle.std.proofs.Common.{◌≡◌, ℕ, true, false, List, [], ◌∷◌, Option, Some, None, refl, sym, subst, Bool}
 use Rattle.bx_live.specs.Acts.{Act, Began, Dropped, Recorded, Synced, Wrote, Read, Took, EndedDay}
 use Rattle.bx_live_parts.specs.Chains.{Chain, chain_first}
 use Rattle.bx_live_parts.specs.Records.{OnRecord}
 use Rattle.bx_world.specs.Kept.{keeps_record}
 
-module _ {D : Type 0} (holds may_leave : D → List ℕ → Type 0) (moment : D → ℕ) (left_since : D → ℕ → List ℕ → Type 0) where
+module _ {D : Type 0} (holds may_leave : D → List ℕ → Type 0) (moment : D → ℕ) (left_since : D → ℕ → List ℕ → Type 0) (has_failed : D → Bool) where
   abbrev pub Kept : Option D → Act → Option D → Type 0
-  Kept = OnRecord holds may_leave moment left_since
+  Kept = OnRecord holds may_leave moment left_since has_failed
 
   -- without a journal there is none behind an act
   none_by : (act : Act) (o : Option D) → Kept None act o → o ≡ None

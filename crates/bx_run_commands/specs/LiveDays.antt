@@ -15,8 +15,8 @@ use Rattle.bx_events.specs.declared.moment.TheConstants.{LAST_MOMENT}
 use Rattle.bx_live_parts.specs.declared.record.Record.{Record}
 use Rattle.bx_request.specs.declared.request.LiveRequest.{LiveRequest}
 use Rattle.bx_run_commands.specs.Heads.{live_head}
-use Rattle.bx_journal.specs.Files.{holds_unknown, may_leave_any, no_moment, any_since}
-use Rattle.bx_run_commands.specs.LiveRuns.{RunsByLine}
+use Rattle.bx_journal.specs.Files.{holds_unknown, may_leave_any, no_moment, any_since, has_failed_in}
+use Rattle.bx_run_commands.specs.LiveRuns.{RunsByLine, StopsByLine}
 use Rattle.bx_run_commands.specs.declared.named_file.NamedFile.{NamedFile}
 use Rattle.bx_run_commands.specs.Resuming.{GoesOnBy, IsKeptBy}
 
@@ -39,7 +39,22 @@ pub record IsLiveDay {F : Type 0} (H : Type 0) (files : F → Option (List ℕ))
   pub goes_on : GoesOnBy (live_head digest hours) request.journal opened resumed
   pub is_kept : IsKeptBy (live_head digest hours) request.journal opened resumed kept
   pub wire : UdpWire H
-  pub ran : RunsByLine did_on holds_unknown may_leave_any no_moment any_since wire hours.schedule kept turns resumed day
+  pub ran : RunsByLine did_on holds_unknown may_leave_any no_moment any_since has_failed_in wire hours.schedule kept turns resumed day
+
+-- Or such a run was over before its end, and why: the disk of the journal has failed, or what came is no event of a journal.
+pub record IsLiveStopped (H F : Type 0) (request : LiveRequest) : Type 0 where
+  pub hours : Hours
+  pub are_hours : AreHours request.hours hours
+  pub opened : Day
+  pub digest : List ℕ
+  pub turns : ℕ
+  pub opens : IsTiedDay request.turns opened digest turns
+  pub resumed : Day
+  pub kept : Record (FileDisk (NamedFile H F))
+  pub goes_on : GoesOnBy (live_head digest hours) request.journal opened resumed
+  pub is_kept : IsKeptBy (live_head digest hours) request.journal opened resumed kept
+  pub wire : UdpWire H
+  pub stopped : StopsByLine did_on holds_unknown may_leave_any no_moment any_since has_failed_in wire hours.schedule kept resumed
 
 -- what became of each booking of such a day was written, and no call is up
 pub record IsLiveTold {F : Type 0} (H : Type 0) (files : F → Option (List ℕ)) (request : LiveRequest) (before after : Option (List ℕ)) : Type 0 where

@@ -12,7 +12,7 @@ use Rattle.bx_devices.specs.declared.watched.Watched.{Watched}
 use Rattle.bx_day_openings.specs.TiedDays.{IsTiedDay}
 use Rattle.bx_request.specs.declared.request.LiveRequest.{LiveRequest}
 use Rattle.bx_run_commands.specs.Heads.{live_head}
-use Rattle.bx_run_commands.specs.LiveDays.{IsLiveCut, IsLiveUp}
+use Rattle.bx_run_commands.specs.LiveDays.{IsLiveCut, IsLiveStopped, IsLiveUp}
 use Rattle.bx_run_commands.specs.OpeningFaults.{OfOpening, IsUnrecorded}
 use Rattle.bx_run_commands.specs.Resuming.{IsNoRecord}
 use Rattle.bx_run_commands.specs.declared.fault.LiveFault.{LiveFault}
@@ -32,17 +32,17 @@ pub record IsAtHand (request : LiveRequest) : Type 0 where
   pub opens : IsTiedDay request.turns opened digest turns
 
 -- Why it stops: what it needs is opened in this order, and what is tested first is answered. So a journal is not touched where the
--- line is in use.
-abbrev pub StopsLive : LiveRequest → LiveFault → Type 0
-StopsLive request fault =
+-- line is in use. Once it runs it stops only where its journal's disk has failed, or what came is no event of a journal.
+abbrev pub StopsLive : Type 0 → Type 0 → LiveRequest → LiveFault → Type 0
+StopsLive H F request fault =
     OfOpening (IsNoHours request.hours) fault
     ⊎ OfOpening (IsNoOpening request.plan.now) fault
     ⊎ (IsAtHand request × OfOpening IsNoLine fault)
-    ⊎ ((at_hand : IsAtHand request) × (IsNoRecord request.journal (live_head at_hand.digest at_hand.hours) fault ⊎ IsUnrecorded request.journal fault))
+    ⊎ ((at_hand : IsAtHand request) × (IsNoRecord request.journal (live_head at_hand.digest at_hand.hours) fault ⊎ (IsUnrecorded request.journal fault × IsLiveStopped H F request)))
 
 -- the output has failed, and a front of what was to be told was; or all of it was told, and calls are up; or the day stopped, and the
 -- output is as it was
 abbrev pub IsLiveRefusal : {F W : Type 0} → Type 0 → (F → Option (List ℕ)) → LiveRequest → (W → Option (List ℕ)) → Watched W → Watched W → LiveFault → Type 0
 IsLiveRefusal H files request contents old new (OfDay (Command CannotWrite)) = (is_faulted new ≡ true) × IsLiveCut H files request (contents (device_of old)) (contents (device_of new))
 IsLiveRefusal H files request contents old new StillUp = IsLiveUp H files request (contents (device_of old)) (contents (device_of new))
-IsLiveRefusal H files request contents old new fault = StopsLive request fault × (new ≡ old)
+IsLiveRefusal {F = F} H files request contents old new fault = StopsLive H F request fault × (new ≡ old)

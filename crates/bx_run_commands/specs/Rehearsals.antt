@@ -14,7 +14,7 @@ use Rattle.bx_live_parts.specs.Chains.{Chain}
 use Rattle.bx_world.specs.Rehearsals.{Rehearses}
 use Rattle.bx_world.specs.declared.rehearsal.Rehearsal.{Rehearsal}
 use Rattle.bx_run_commands.specs.RunCaptures.{IsRunKept}
-use Rattle.bx_run_commands.specs.WaitingDisks.{waiting_holds, no_crash, no_moment, none_left, HasBegun}
+use Rattle.bx_run_commands.specs.WaitingDisks.{waiting_holds, no_crash, no_moment, none_left, waiting_failed, HasBegun}
 use Rattle.bx_run_commands.specs.declared.rehearsing.Opened.{Opened}
 use Rattle.bx_run_commands.specs.declared.rehearsing.Rehearsed.{Rehearsed}
 use Rattle.bx_run_commands.specs.declared.waiting.WaitingDisk.{WaitingDisk}
@@ -36,13 +36,13 @@ pub record IsOnRecord {D F : Type 0} (holds may_leave : D → List ℕ → Type 
   pub captured : IsRunKept files file first acts rehearsed.is_whole
 
 -- a world of this peer, with a journal that has begun, where one is kept, has gone through such acts
-pub record RehearsesTowards {P D F : Type 0} (wrote : P → List ℕ → Bool → P → Type 0) (gave : P → ℕ → Result Frame LinkFault → P → Type 0) (parted : P → Option LinkFault → P → Type 0) (holds may_leave : D → List ℕ → Type 0) (files : F → Option (List ℕ)) (opened : Opened D) (peer : P) (file : Option (Watched F)) (first : ℕ) (rehearsed : Rehearsed D) : Type 0 where
+pub record RehearsesTowards {P D F : Type 0} (wrote : P → List ℕ → Bool → P → Type 0) (gave : P → ℕ → Result Frame LinkFault → P → Type 0) (parted : P → Option LinkFault → P → Type 0) (holds may_leave : D → List ℕ → Type 0) (has_failed : D → Bool) (files : F → Option (List ℕ)) (opened : Opened D) (peer : P) (file : Option (Watched F)) (first : ℕ) (rehearsed : Rehearsed D) : Type 0 where
   pub acts : List Act
   pub old : Rehearsal P (WaitingDisk D)
   pub new : Rehearsal P (WaitingDisk D)
   pub peer_is : old.peer ≡ peer
   pub begun : HasBegun holds opened.head opened.disk old.record.disk
   pub unlost : old.lost ≡ None
-  pub went : Chain (Rehearses wrote gave parted (waiting_holds holds) no_crash no_moment none_left) old acts new
+  pub went : Chain (Rehearses wrote gave parted (waiting_holds holds) no_crash no_moment none_left (waiting_failed has_failed)) old acts new
   pub lost : new.lost ≡ rehearsed.lost
   pub day : IsOnRecord holds may_leave files opened file first rehearsed acts

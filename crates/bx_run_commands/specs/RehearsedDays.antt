@@ -18,7 +18,7 @@ use Rattle.bx_request.specs.declared.request.Peer.{Peer}
 use Rattle.bx_request.specs.declared.request.Peer.TheVariants.{Script, At}
 use Rattle.bx_request.specs.declared.request.Place.TheVariants.{Port, Socket}
 use Rattle.bx_request.specs.declared.request.RehearsalRequest.{RehearsalRequest}
-use Rattle.bx_journal.specs.Files.{holds_unknown, may_leave_any}
+use Rattle.bx_journal.specs.Files.{holds_unknown, may_leave_any, has_failed_in}
 use Rattle.bx_journal.specs.declared.head.JournalDay.TheVariants as days
 use Rattle.bx_day_openings.specs.TiedDays.{IsTiedDay}
 use Rattle.bx_world.specs.BothEnds.{IsOpening, WroteNear, GaveBoth, PartedBoth}
@@ -40,7 +40,7 @@ Known S = Bor S → Option (List ℕ)
 -- a world of a peer at such a stream has gone through the acts of a day
 abbrev pub RanOver : {F : Type 0} → Type 0 → (F → Option (List ℕ)) → Opened (JournalDisk F) → Option (Watched F) → ℕ → Rehearsed (JournalDisk F) → Type 0
 RanOver S files opened file first rehearsed =
-    (remaining : Known S) × (contents : Known S) × ((connection : Stream S) × RehearsesTowards (WroteTo contents) (GaveFrom remaining) (PartedFrom contents) holds_unknown may_leave_any files opened connection file first rehearsed)
+    (remaining : Known S) × (contents : Known S) × ((connection : Stream S) × RehearsesTowards (WroteTo contents) (GaveFrom remaining) (PartedFrom contents) holds_unknown may_leave_any has_failed_in files opened connection file first rehearsed)
 
 -- a far end of the same process, at its opening, is that peer
 pub record RanBoth {F : Type 0} (S : Type 0) (files : F → Option (List ℕ)) (far : FarDay) (opened : Opened (JournalDisk F)) (file : Option (Watched F)) (first : ℕ) (rehearsed : Rehearsed (JournalDisk F)) : Type 0 where
@@ -52,7 +52,7 @@ pub record RanBoth {F : Type 0} (S : Type 0) (files : F → Option (List ℕ)) (
   pub distant : Stream S
   pub both : BothEnds (Bor S) (Bor S) (Bor S) (Bor S)
   pub opens : IsOpening near far distant both
-  pub ran : RehearsesTowards (WroteNear contents) (GaveBoth remaining far_remaining far_contents) (PartedBoth contents far_remaining far_contents) holds_unknown may_leave_any files opened both file first rehearsed
+  pub ran : RehearsesTowards (WroteNear contents) (GaveBoth remaining far_remaining far_contents) (PartedBoth contents far_remaining far_contents) holds_unknown may_leave_any has_failed_in files opened both file first rehearsed
 
 -- with the far end of a script, or towards a peer at a port or a socket
 abbrev pub RanWith : {F : Type 0} → (F → Option (List ℕ)) → Peer → Opened (JournalDisk F) → Option (Watched F) → ℕ → Rehearsed (JournalDisk F) → Type 0

@@ -1,5 +1,5 @@
 -- A disk that waits for its one sync: what it holds is known, and of a crash before that sync nothing is said.
-use Rattle.std.specs.Prelude.{◌≡◌, ℕ, List, [], Option, Some, None}
+use Rattle.std.specs.Prelude.{◌≡◌, ℕ, Bool, List, [], Option, Some, None}
 use Rattle.bx_journal.specs.Heads.{IsDay}
 use Rattle.bx_journal.specs.declared.head.Head.{Head}
 use Rattle.bx_journal.specs.Recording.{IsSettled}
@@ -17,6 +17,10 @@ no_moment w = 0
 
 abbrev pub none_left : {D : Type 0} → WaitingDisk D → ℕ → List ℕ → Type 0
 none_left w t c = ⊥
+
+-- it has failed where the disk inside has
+abbrev pub waiting_failed : {D : Type 0} → (D → Bool) → WaitingDisk D → Bool
+waiting_failed has_failed w = has_failed w.disk
 
 -- a journal of this head has begun on an empty disk, where one is kept, and has no event
 abbrev pub HasBegun : {D : Type 0} → (D → List ℕ → Type 0) → Head → Option D → Option (WaitingDisk D) → Type 0

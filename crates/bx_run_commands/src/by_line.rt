@@ -1,7 +1,7 @@
 //! The rest of a day, run by the clock over a data link.
 
 ghost use Rattle.std.specs.Prelude.{◌≡◌, true, is_some, IfOk, OnErr};
-ghost use Rattle.bx_run_commands.specs.LiveRuns.{RunsByLine};
+ghost use Rattle.bx_run_commands.specs.LiveRuns.{RunsByLine, StopsByLine};
 
 use crate::resuming::Resumed;
 use crate::running::clock_of;
@@ -22,7 +22,8 @@ pub struct Told<'a> {
 }
 
 /// Runs the rest of a day up to a turn of it, and behind that on while a call is up, by the clock, as the network's end of a data link
-/// over the wire. Answers the exchange at the end of the day. `CannotRecord` where an event cannot be put on record: nothing more is done then.
+/// over the wire. Answers the exchange at the end of the day. `CannotRecord` where an event cannot be put on record, since the journal's disk has
+/// failed: nothing more is done then.
 pub fn run_by_clock<'a, 'h, H: Clock + Eprint, W: Wire + Drop, D: Disk + Drop>(
     rt: &'h H,
     resumed: Resumed<D>,
@@ -32,7 +33,8 @@ pub fn run_by_clock<'a, 'h, H: Clock + Eprint, W: Wire + Drop, D: Disk + Drop>(
     told: Told<'a>,
 ) -> Result<Exchange, CannotRecord>
     ensures failed { OnErr result (is_some resumed.record.disk ≡ true) }
-    ensures ran { IfOk result (RunsByLine W.did D.holds D.may_leave D.moment D.left_since wire schedule resumed.record turns resumed.exchange) }
+    ensures stopped { OnErr result (StopsByLine W.did D.holds D.may_leave D.moment D.left_since D.has_failed wire schedule resumed.record resumed.exchange) }
+    ensures ran { IfOk result (RunsByLine W.did D.holds D.may_leave D.moment D.left_since D.has_failed wire schedule resumed.record turns resumed.exchange) }
 {
     let Resumed {
         mut exchange,

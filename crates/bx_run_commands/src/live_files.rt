@@ -2,9 +2,8 @@
 
 ghost use Rattle.std.specs.Prelude.{IfOk, IfErr, OnOk};
 ghost use Rattle.bx_devices.specs.Watching.{device_of};
-ghost use Rattle.bx_run_commands.specs.Heads.{live_head};
 ghost use Rattle.bx_run_commands.specs.LiveDays.{IsLiveDay, IsLiveTold};
-ghost use Rattle.bx_run_commands.specs.LiveInside.{IsLiveRun, StopsRecording};
+ghost use Rattle.bx_run_commands.specs.LiveInside.{IsLiveRun, StopsRun};
 ghost use Rattle.bx_run_commands.specs.LiveRefusals.{StopsLive, IsLiveRefusal};
 
 use crate::by_line::{Told, run_by_clock};
@@ -43,7 +42,7 @@ fn run_on_socket<'a, H: Files + Locks + Standing + Clock + Eprint>(
     is_terminal: bool,
 ) -> Result<Exchange, LiveFault<'a>>
     ensures ran { IfOk result (IsLiveRun H H.File.contents request.entry hours opening) }
-    ensures stopped { IfErr result (StopsRecording request.entry.journal (live_head opening.digest hours)) }
+    ensures stopped { IfErr result (StopsRun H H.File request.entry hours opening) }
 {
     let Opening {
         exchange,
@@ -74,7 +73,7 @@ fn run_live_day<'a, H: Files + Locks + Standing + AllocGlobal + Clock + Eprint +
     is_terminal: bool,
 ) -> Result<Exchange, LiveFault<'a>>
     ensures ran { IfOk result (IsLiveDay H H.File.contents request.entry) }
-    ensures stopped { IfErr result (StopsLive request.entry) }
+    ensures stopped { IfErr result (StopsLive H H.File request.entry) }
 {
     let hours = hours_of(request.hours)?;
     let opening = tied_opening(rt.alloc(), inputs, request.plan, request.turns)?;

@@ -5,7 +5,7 @@ ghost use Rattle.bx_day_openings.specs.CaptureOpenings.{IsFirstOf};
 ghost use Rattle.bx_day_openings.specs.Recording.{IsRecordsClock, IsRecordsFileFor, IsMade};
 ghost use Rattle.bx_devices.specs.Watching.{device_of};
 ghost use Rattle.bx_day_openings.specs.TiedDays.{IsTiedDay};
-ghost use Rattle.bx_journal.specs.Files.{holds_unknown, may_leave_any};
+ghost use Rattle.bx_journal.specs.Files.{holds_unknown, may_leave_any, has_failed_in};
 ghost use Rattle.bx_run_commands.specs.OpeningFaults.{IsUnrecorded};
 ghost use Rattle.bx_run_commands.specs.Rehearsals.{RehearsesTowards};
 ghost use Rattle.bx_run_commands.specs.ReadyInside.{IsReadied, IsNotReadied, IsEnded, IsLostBy};
@@ -125,7 +125,7 @@ fn rehearse_named<'a, 'h, H: Files + Clock + Eprint, P: Peer + Drop>(
 ) -> Result<Rehearsed<JournalDisk<H::File>>, LiveFault<'a>>
     requires limit { view.first ≤ 4294667295 }
     requires kept { is_some opened.disk ≡ is_some journal }
-    ensures ran { IfOk result (RehearsesTowards P.wrote P.gave P.parted holds_unknown may_leave_any H.File.contents opened peer view.entry.file view.entry.first) }
+    ensures ran { IfOk result (RehearsesTowards P.wrote P.gave P.parted holds_unknown may_leave_any has_failed_in H.File.contents opened peer view.entry.file view.entry.first) }
     ensures stopped { IfErr result (IsUnrecorded journal.entry) }
 {
     match rehearse(rt, opened, peer, view) {

@@ -96,7 +96,7 @@ room_for (suc room) text octets e = omega arith
 
 -- ---- a run, from a place of it
 
-module _ {R W S T D : Type 0} (remaining : R → Option (List ℕ)) (contents : W → Option (List ℕ)) (far_remaining : S → Option (List ℕ)) (far_contents : T → Option (List ℕ)) (holds may_leave : D → List ℕ → Type 0) (moment : D → ℕ) (left_since : D → ℕ → List ℕ → Type 0) where
+module _ {R W S T D : Type 0} (remaining : R → Option (List ℕ)) (contents : W → Option (List ℕ)) (far_remaining : S → Option (List ℕ)) (far_contents : T → Option (List ℕ)) (holds may_leave : D → List ℕ → Type 0) (moment : D → ℕ) (left_since : D → ℕ → List ℕ → Type 0) (has_failed : D → Bool) where
   abbrev Peer : Type 0
   Peer = BothEnds R W S T
 
@@ -104,7 +104,7 @@ module _ {R W S T D : Type 0} (remaining : R → Option (List ℕ)) (contents : 
   World = Rehearsal Peer D
 
   abbrev Goes : World → Act → World → Type 0
-  Goes = Rehearses (WroteNear contents) (GaveBoth remaining far_remaining far_contents) (PartedBoth contents far_remaining far_contents) holds may_leave moment left_since
+  Goes = Rehearses (WroteNear contents) (GaveBoth remaining far_remaining far_contents) (PartedBoth contents far_remaining far_contents) holds may_leave moment left_since has_failed
 
   -- a peer that was lost stays lost
   still : (was : LinkFault) (act : Act) (lost : Option LinkFault) → OnLost (Some was) act lost → (fault : LinkFault) × (lost ≡ Some fault)

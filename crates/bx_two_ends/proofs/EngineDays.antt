@@ -25,17 +25,17 @@ use Rattle.bx_two_ends.proofs.Engine as engine
 use Rattle.bx_two_ends.proofs.Joined.{Between as BetweenTurns, Crosses, ends_of, in_turns}
 use Rattle.bx_two_ends.proofs.JoinedDays.{opened_between, same_text}
 
-module _ {R W S T D : Type 0} (remaining : R → Option (List ℕ)) (contents : W → Option (List ℕ)) (far_remaining : S → Option (List ℕ)) (far_contents : T → Option (List ℕ)) (holds may_leave : D → List ℕ → Type 0) (moment : D → ℕ) (left_since : D → ℕ → List ℕ → Type 0)
+module _ {R W S T D : Type 0} (remaining : R → Option (List ℕ)) (contents : W → Option (List ℕ)) (far_remaining : S → Option (List ℕ)) (far_contents : T → Option (List ℕ)) (holds may_leave : D → List ℕ → Type 0) (moment : D → ℕ) (left_since : D → ℕ → List ℕ → Type 0) (has_failed : D → Bool)
     (rows : List Row) (channels : List Bool) (assigned : List (Option ℕ)) (script : List ScriptRow) (old new : Rehearsal (BothEnds R W S T) D) (reached : Day) (b : AreBookings rows) (set : IsChannelSet channels) (h : Carries rows channels (plans.is_accepted assigned) (plans.channel_at assigned)) (s : AreScriptRows script)
-    (j : IsEngineDay remaining contents far_remaining far_contents holds may_leave moment left_since rows assigned script old new reached) where
+    (j : IsEngineDay remaining contents far_remaining far_contents holds may_leave moment left_since has_failed rows assigned script old new reached) where
   abbrev Start : Day
   Start = opening rows assigned
 
   abbrev Far : FarDay
   Far = old.peer.distant.far
 
-  ran : engine.Ran remaining contents far_remaining far_contents holds may_leave moment left_since (λ n. talk_in n Start (j.joined.far_said ++ j.joined.behind)) Start reached 0 [] old.peer.near.writer new.peer.near.writer old.peer.distant new.peer.distant (j.joined.said ++ j.joined.far_behind)
-  ran = engine.ran remaining contents far_remaining far_contents holds may_leave moment left_since reached j.early j.acts (Between Start) old new (j.joined.far_said ++ j.joined.behind) (j.joined.said ++ j.joined.far_behind)
+  ran : engine.Ran remaining contents far_remaining far_contents holds may_leave moment left_since has_failed (λ n. talk_in n Start (j.joined.far_said ++ j.joined.behind)) Start reached 0 [] old.peer.near.writer new.peer.near.writer old.peer.distant new.peer.distant (j.joined.said ++ j.joined.far_behind)
+  ran = engine.ran remaining contents far_remaining far_contents holds may_leave moment left_since has_failed reached j.early j.acts (Between Start) old new (j.joined.far_said ++ j.joined.behind) (j.joined.said ++ j.joined.far_behind)
       (record { heard = j.joined.hears; far_heard = j.joined.far_hears; is_open = j.session }) j.chain j.lost tt j.run
 
   abbrev Told : List ℕ

@@ -45,11 +45,11 @@ pub record IsJoinedDay {R W S T : Type 0} (rows : List Row) (assigned : List (Op
 
 -- a day by the program's engine, `run_live` over a rehearsal towards `BothEnds`, with a journal or without: its acts take the world from the
 -- opening of both days to this day of the exchange, behind the end of the day, and the link was not lost
-pub record IsEngineDay {R W S T D : Type 0} (remaining : R → Option (List ℕ)) (contents : W → Option (List ℕ)) (far_remaining : S → Option (List ℕ)) (far_contents : T → Option (List ℕ)) (holds may_leave : D → List ℕ → Type 0) (moment : D → ℕ) (left_since : D → ℕ → List ℕ → Type 0)
+pub record IsEngineDay {R W S T D : Type 0} (remaining : R → Option (List ℕ)) (contents : W → Option (List ℕ)) (far_remaining : S → Option (List ℕ)) (far_contents : T → Option (List ℕ)) (holds may_leave : D → List ℕ → Type 0) (moment : D → ℕ) (left_since : D → ℕ → List ℕ → Type 0) (has_failed : D → Bool)
     (rows : List Row) (assigned : List (Option ℕ)) (script : List ScriptRow) (old new : Rehearsal (BothEnds R W S T) D) (reached : Day) : Type 0 where
   pub acts : List Act
   pub run : IsRun (Between (opening rows assigned)) acts (Done reached)
-  pub chain : Chain (Rehearses (WroteNear contents) (GaveBoth remaining far_remaining far_contents) (PartedBoth contents far_remaining far_contents) holds may_leave moment left_since) old acts new
+  pub chain : Chain (Rehearses (WroteNear contents) (GaveBoth remaining far_remaining far_contents) (PartedBoth contents far_remaining far_contents) holds may_leave moment left_since has_failed) old acts new
   pub lost : new.lost ≡ None
   pub far_opened : old.peer.distant.far ≡ far_opening script
   pub session : is_far_over old.peer.distant.session ≡ false

@@ -145,9 +145,9 @@ unsynced head earlier disk more xs c f = (
 known : (head : Head) (es more : List LiveEvent) (c : List ℕ) → IsFront head es more c → Knows head es c
 known head es more c f = (take f.0 more, f.2)
 
-module _ {D : Type 0} (holds may_leave : D → List ℕ → Type 0) (moment : D → ℕ) (left_since : D → ℕ → List ℕ → Type 0) (only_now : (disk : D) (c : List ℕ) → left_since disk (moment disk) c → may_leave disk c) (head : Head) (earlier : List LiveEvent) where
+module _ {D : Type 0} (holds may_leave : D → List ℕ → Type 0) (moment : D → ℕ) (left_since : D → ℕ → List ℕ → Type 0) (has_failed : D → Bool) (only_now : (disk : D) (c : List ℕ) → left_since disk (moment disk) c → may_leave disk c) (head : Head) (earlier : List LiveEvent) where
   abbrev Step : D → Act → D → Type 0
-  Step = OnDisk holds may_leave moment left_since
+  Step = OnDisk holds may_leave moment left_since has_failed
 
   -- what the disk holds, by what was filed behind the earlier events
   abbrev Holds : Filed → D → Type 0

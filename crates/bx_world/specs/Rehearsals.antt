@@ -37,7 +37,7 @@ OnLost (Some was) EndedDay lost = lost ≡ Some was
 OnLost was act lost = lost ≡ was
 
 -- one act of it
-pub record Rehearses {P D : Type 0} (wrote : P → List ℕ → Bool → P → Type 0) (gave : P → ℕ → Result Frame LinkFault → P → Type 0) (parted : P → Option LinkFault → P → Type 0) (holds may_leave : D → List ℕ → Type 0) (moment : D → ℕ) (left_since : D → ℕ → List ℕ → Type 0) (old : Rehearsal P D) (act : Act) (new : Rehearsal P D) : Type 0 where
-  pub recorded : OnRecord holds may_leave moment left_since old.record.disk act new.record.disk
+pub record Rehearses {P D : Type 0} (wrote : P → List ℕ → Bool → P → Type 0) (gave : P → ℕ → Result Frame LinkFault → P → Type 0) (parted : P → Option LinkFault → P → Type 0) (holds may_leave : D → List ℕ → Type 0) (moment : D → ℕ) (left_since : D → ℕ → List ℕ → Type 0) (has_failed : D → Bool) (old : Rehearsal P D) (act : Act) (new : Rehearsal P D) : Type 0 where
+  pub recorded : OnRecord holds may_leave moment left_since has_failed old.record.disk act new.record.disk
   pub peer : OnPeer wrote gave parted old.peer old.lost act new.peer new.lost
   pub lost : OnLost old.lost act new.lost

@@ -46,7 +46,7 @@ impl<P: Peer, D: Disk> World for Rehearsal<P, D> {
     ghost use Rattle.bx_world.specs.Rehearsals.{Rehearses};
     ghost use Rattle.std.proofs.Common.{refl};
 
-    ghost did = { Chain (Rehearses P.wrote P.gave P.parted D.holds D.may_leave D.moment D.left_since) };
+    ghost did = { Chain (Rehearses P.wrote P.gave P.parted D.holds D.may_leave D.moment D.left_since D.has_failed) };
 
     fn begin(&mut self, _second: u32) -> Begin {
         begins_by(self.lost)
@@ -90,5 +90,5 @@ impl<P: Peer, D: Disk> World for Rehearsal<P, D> {
 
     ghost did_nothing = { λ s. refl };
 
-    ghost did_more = { chain_more (Rehearses P.wrote P.gave P.parted D.holds D.may_leave D.moment D.left_since) };
+    ghost did_more = { chain_more (Rehearses P.wrote P.gave P.parted D.holds D.may_leave D.moment D.left_since D.has_failed) };
 }

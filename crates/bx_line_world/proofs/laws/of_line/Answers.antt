@@ -6,13 +6,13 @@ use Rattle.bx_line_world.proofs.laws.of_line.Goals as goal
 
 pub returns-clause-begins : goal.returns-clause-begins
 returns-clause-begins g c = λ old new acts chain.
-    never_ends g.W.Wire.did g.D.Disk.holds g.D.Disk.may_leave g.D.Disk.moment g.D.Disk.left_since old new acts chain
+    never_ends g.W.Wire.did g.D.Disk.holds g.D.Disk.may_leave g.D.Disk.moment g.D.Disk.left_since g.D.Disk.has_failed old new acts chain
 
 pub returns-clause-kept : goal.returns-clause-kept
 returns-clause-kept g c = λ old new acts first chain is.
-    kept_in g.D.Disk.holds g.D.Disk.may_leave g.D.Disk.moment g.D.Disk.left_since (GoesByLine g.W.Wire.did g.D.Disk.holds g.D.Disk.may_leave g.D.Disk.moment g.D.Disk.left_since) (λ w. w.record.disk)
+    kept_in g.D.Disk.holds g.D.Disk.may_leave g.D.Disk.moment g.D.Disk.left_since g.D.Disk.has_failed (GoesByLine g.W.Wire.did g.D.Disk.holds g.D.Disk.may_leave g.D.Disk.moment g.D.Disk.left_since g.D.Disk.has_failed) (λ w. w.record.disk)
     (λ s t act p. p.recorded) old new acts first chain is
 
 pub returns-clause-second : goal.returns-clause-second
 returns-clause-second g c = λ old new second begin acts chain none.
-    second_within g.W.Wire.did g.D.Disk.holds g.D.Disk.may_leave g.D.Disk.moment g.D.Disk.left_since old new second begin acts chain none
+    second_within g.W.Wire.did g.D.Disk.holds g.D.Disk.may_leave g.D.Disk.moment g.D.Disk.left_since g.D.Disk.has_failed old new second begin acts chain none

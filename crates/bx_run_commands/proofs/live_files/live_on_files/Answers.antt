@@ -6,4 +6,4 @@ pub returns-in_err-exchange-clause-refused : goal.returns-in_err-exchange-clause
 returns-in_err-exchange-clause-refused g c =
     let p = err_from_is_err_and c.from_residual.result c.from_residual.ensures.1 in
     rw (p.1, p.2)
-    (live_stopped c.args.request g.row.H.Denot g.H.File.Write.contents g.W.Write.contents c.args.output.now c.in_err-exchange.field-0.0 c.in_err-exchange.ensures.stopped)
+    (live_stopped g.row.H.Denot _ c.args.request g.H.File.Write.contents g.W.Write.contents c.args.output.now c.in_err-exchange.field-0.0 c.in_err-exchange.ensures.stopped)

@@ -13,4 +13,4 @@ returns-in_err-socket-clause-stopped g c =
 pub returns-clause-stopped : goal.returns-clause-stopped
 returns-clause-stopped g c =
     let there : IsAtHand c.args.request = record { hours = c.in_ok-hours.hours; are_hours = c.in_ok-hours.ensures.hours; opened = c.in_ok-opening.opening.exchange; digest = c.in_ok-opening.opening.digest; turns = c.in_ok-opening.opening.turns; opens = c.in_ok-opening.ensures.opened } in
-    if_err c.run_on_socket.result _ _ (λ fault why. inr (inr (inr (there, why)))) c.run_on_socket.ensures.stopped
+    if_err c.run_on_socket.result _ _ (λ fault why. inr (inr (inr (there, why c.in_ok-hours.ensures.hours c.in_ok-opening.ensures.opened)))) c.run_on_socket.ensures.stopped

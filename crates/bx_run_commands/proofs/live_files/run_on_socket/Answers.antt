@@ -1,3 +1,4 @@
+use Rattle.std.proofs.Common.{inr}
 use Rattle.bx_run_commands.specs.Heads.{live_head}
 use Rattle.bx_run_commands.proofs.LineRuns.{journal_kept_by}
 use Rattle.bx_run_commands.proofs.live_files.run_on_socket.Goals as goal
@@ -21,3 +22,19 @@ returns-in-Ok-clause-ran g c = λ hours opens. record {
   wire = c.new-wire.result;
   ran = c.in-Ok.ensures.ran;
 }
+
+pub returns-in-Err-clause-stopped : goal.returns-in-Err-clause-stopped
+returns-in-Err-clause-stopped g c = λ hours opens. inr (c.unrecorded.ensures, record {
+  hours = c.args.hours;
+  are_hours = hours;
+  opened = c.args.opening.exchange;
+  digest = c.args.opening.digest;
+  turns = c.args.opening.turns;
+  opens = opens;
+  resumed = c.in_ok-resumed.resumed.exchange;
+  kept = c.in_ok-resumed.resumed.record;
+  goes_on = c.in_ok-resumed.ensures.resumed;
+  is_kept = c.in_ok-resumed.ensures.kept;
+  wire = c.new-wire.result;
+  stopped = c.in-Err.ensures.stopped;
+})

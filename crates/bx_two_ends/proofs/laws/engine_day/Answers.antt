@@ -15,16 +15,16 @@ use Rattle.bx_two_ends.proofs.Paid.{carried_pay}
 use Rattle.bx_two_ends.proofs.laws.engine_day.Goals as goal
 
 pub returns-clause-in_turns : goal.returns-clause-in_turns
-returns-clause-in_turns g c rows channels assigned script old new reached b set h s j = engine_in_lockstep g.R.Read.remaining g.W.Write.contents g.S.Read.remaining g.T.Write.contents g.D.Disk.holds g.D.Disk.may_leave g.D.Disk.moment g.D.Disk.left_since rows channels assigned script old new reached b set h s j
+returns-clause-in_turns g c rows channels assigned script old new reached b set h s j = engine_in_lockstep g.R.Read.remaining g.W.Write.contents g.S.Read.remaining g.T.Write.contents g.D.Disk.holds g.D.Disk.may_leave g.D.Disk.moment g.D.Disk.left_since g.D.Disk.has_failed rows channels assigned script old new reached b set h s j
 
 pub returns-clause-carried : goal.returns-clause-carried
 returns-clause-carried g c rows channels assigned script i old new reached b set h s once j k =
-    let same = engine_in_lockstep g.R.Read.remaining g.W.Write.contents g.S.Read.remaining g.T.Write.contents g.D.Disk.holds g.D.Disk.may_leave g.D.Disk.moment g.D.Disk.left_since rows channels assigned script old new reached b set h s j in
+    let same = engine_in_lockstep g.R.Read.remaining g.W.Write.contents g.S.Read.remaining g.T.Write.contents g.D.Disk.holds g.D.Disk.may_leave g.D.Disk.moment g.D.Disk.left_since g.D.Disk.has_failed rows channels assigned script old new reached b set h s j in
     subst (λ (d : Day). IsCarriedBy ((row_at rows i).start + 1) (row_at rows i).end (standing_at d i)) (sym same) (answered_carries rows channels assigned script reached.moment b set h once (let e = j.early in omega (arith, e)) i k)
 
 pub returns-clause-paid : goal.returns-clause-paid
 returns-clause-paid g c rows channels assigned script old new reached b set h s once j all =
-    let same = engine_in_lockstep g.R.Read.remaining g.W.Write.contents g.S.Read.remaining g.T.Write.contents g.D.Disk.holds g.D.Disk.may_leave g.D.Disk.moment g.D.Disk.left_since rows channels assigned script old new reached b set h s j in
+    let same = engine_in_lockstep g.R.Read.remaining g.W.Write.contents g.S.Read.remaining g.T.Write.contents g.D.Disk.holds g.D.Disk.may_leave g.D.Disk.moment g.D.Disk.left_since g.D.Disk.has_failed rows channels assigned script old new reached b set h s j in
     let day : Day = live_day_after (events_of (turns_from reached.moment (ends_opening rows assigned script))) (opening rows assigned) in
     subst (λ (d : Day). pays_of is_carried d.entries ≡ pay_of rows (is_accepted assigned)) (sym same)
     (carried_pay rows assigned day (stays_plan rows channels assigned (events_of (turns_from reached.moment (ends_opening rows assigned script))) b h) (λ i lt on. (_, answered_carries rows channels assigned script reached.moment b set h once (let e = j.early in omega (arith, e)) i (all i lt on))))
