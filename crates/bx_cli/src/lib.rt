@@ -2,6 +2,7 @@
 #![tactic(auto)]
 
 mod locations;
+mod meanings;
 mod meetings;
 mod program;
 mod uses;

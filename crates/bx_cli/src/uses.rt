@@ -5,30 +5,44 @@ ghost use Rattle.bx_cli.specs.Uses.{capture_use, files_of, peer_use, read_use, r
 
 use bx_request::{CaptureWords, FileRequest, Peer, RecordsWords, Request};
 
+/// What a file of a command has.
+#[derive(Clone, Copy)]
+pub enum FileKind {
+    Bookings,
+    Plan,
+    Script,
+    Journal,
+    Records,
+    Capture,
+}
+
 /// A file that a command reads or writes, by its name.
 #[derive(Clone, Copy)]
 pub struct FileUse<'a> {
     pub name: &'a str,
+    pub kind: FileKind,
     pub is_written: bool,
 }
 
 /// One that is read.
-fn read<'a>(name: &'a str) -> Option<FileUse<'a>>
-    ensures { result ≡ read_use name.entry }
+fn read<'a>(kind: FileKind, name: &'a str) -> Option<FileUse<'a>>
+    ensures { result ≡ read_use kind name.entry }
 {
     Some(FileUse {
         name,
+        kind,
         is_written: false,
     })
 }
 
 /// One that is written, where one is named.
-fn written<'a>(name: Option<&'a str>) -> Option<FileUse<'a>>
-    ensures { result ≡ written_use name.entry }
+fn written<'a>(kind: FileKind, name: Option<&'a str>) -> Option<FileUse<'a>>
+    ensures { result ≡ written_use kind name.entry }
 {
     match name {
         Some(name) => Some(FileUse {
             name,
+            kind,
             is_written: true,
         }),
         None => None,
@@ -40,7 +54,7 @@ fn captured<'a>(capture: Option<CaptureWords<'a>>) -> Option<FileUse<'a>>
     ensures { result ≡ capture_use capture.entry }
 {
     match capture {
-        Some(CaptureWords { file, day: _ }) => written(Some(file)),
+        Some(CaptureWords { file, day: _ }) => written(FileKind::Capture, Some(file)),
         None => None,
     }
 }
@@ -50,7 +64,7 @@ fn recorded<'a>(records: Option<RecordsWords<'a>>) -> Option<FileUse<'a>>
     ensures { result ≡ records_use records.entry }
 {
     match records {
-        Some(RecordsWords { file, day: _ }) => written(Some(file)),
+        Some(RecordsWords { file, day: _ }) => written(FileKind::Records, Some(file)),
         None => None,
     }
 }
@@ -60,7 +74,7 @@ fn scripted<'a>(peer: Peer<'a>) -> Option<FileUse<'a>>
     ensures { result ≡ peer_use peer.entry }
 {
     match peer {
-        Peer::Script(name) => read(name),
+        Peer::Script(name) => read(FileKind::Script, name),
         Peer::At(_) => None,
     }
 }
@@ -70,26 +84,26 @@ fn on_files<'a>(request: &FileRequest<'a>) -> [Option<FileUse<'a>>; 5]
     ensures { result ≡ files_of request.now }
 {
     match request {
-        FileRequest::Plan { terms: _, bookings } => [read(bookings), None, None, None, None],
+        FileRequest::Plan { terms: _, bookings } => [read(FileKind::Bookings, bookings), None, None, None, None],
         FileRequest::Check {
             terms: _,
             bookings,
             plan,
-        } => [read(bookings), read(plan), None, None, None],
+        } => [read(FileKind::Bookings, bookings), read(FileKind::Plan, plan), None, None, None],
         FileRequest::Amend {
             date: _,
             zone: _,
             plan,
             bookings,
-        } => [read(bookings), read(plan), None, None, None],
+        } => [read(FileKind::Bookings, bookings), read(FileKind::Plan, plan), None, None, None],
         FileRequest::Capacity {
             date: _,
             zone: _,
             bookings,
-        } => [read(bookings), None, None, None, None],
-        FileRequest::Explain { plan, row: _ } => [read(plan), None, None, None, None],
-        FileRequest::Quote { plan, call: _ } => [read(plan), None, None, None, None],
-        FileRequest::Chart { plan, day: _ } => [read(plan), None, None, None, None],
+        } => [read(FileKind::Bookings, bookings), None, None, None, None],
+        FileRequest::Explain { plan, row: _ } => [read(FileKind::Plan, plan), None, None, None, None],
+        FileRequest::Quote { plan, call: _ } => [read(FileKind::Plan, plan), None, None, None, None],
+        FileRequest::Chart { plan, day: _ } => [read(FileKind::Plan, plan), None, None, None, None],
     }
 }
 
@@ -100,42 +114,42 @@ pub fn named_files<'a>(request: &Request<'a>) -> [Option<FileUse<'a>>; 5]
     match request {
         Request::Files(request) => on_files(request),
         Request::Rehearsal(request) => [
-            read(request.plan),
+            read(FileKind::Plan, request.plan),
             scripted(request.peer),
-            written(request.journal),
+            written(FileKind::Journal, request.journal),
             recorded(request.records),
             captured(request.sight.capture),
         ],
         Request::Far(request) => [
-            read(request.script),
+            read(FileKind::Script, request.script),
             captured(request.sight.capture),
             None,
             None,
             None,
         ],
         Request::FarLine(request) => [
-            read(request.script),
-            written(request.capture),
+            read(FileKind::Script, request.script),
+            written(FileKind::Capture, request.capture),
             None,
             None,
             None,
         ],
         Request::Live(request) => [
-            read(request.plan),
-            written(request.journal),
+            read(FileKind::Plan, request.plan),
+            written(FileKind::Journal, request.journal),
             None,
             None,
             None,
         ],
         Request::Audit(request) => [
-            read(request.plan),
-            read(request.journal),
+            read(FileKind::Plan, request.plan),
+            read(FileKind::Journal, request.journal),
             captured(request.capture),
             None,
             None,
         ],
         Request::Records(request) => {
-            [read(request.plan), read(request.journal), None, None, None]
+            [read(FileKind::Plan, request.plan), read(FileKind::Journal, request.journal), None, None, None]
         }
         Request::Decode { octets: _ } => [None, None, None, None, None],
     }

@@ -13,7 +13,9 @@ ghost use Rattle.bx_cli.specs.Statuses.{IsRequestDone, IsRequestRefused};
 ghost use Rattle.bx_request.specs.declared.request.Request.{Request};
 
 use crate::locations::Locates;
+use crate::meanings::explain_fault;
 use crate::meetings::{SameFile, met_file};
+use crate::uses::{FileKind, FileUse, named_files};
 use bx_audit::{audit_files, record_files};
 use bx_check_commands::{CommandFault, FilesAndInput, check_self, decode};
 use bx_devices::{Watched, write_octets};
@@ -22,11 +24,19 @@ use bx_plan_commands::run_on_files;
 use bx_request::Request;
 use bx_run_commands::{Locks, Standing, live_on_files, rehearse_on_files};
 use bx_words::{Refusal, read_words};
+use std::alloc::Global;
 use std::fmt::Display;
 use std::fs::Files;
 use std::io::{Read, Write};
 use std::net::{Net, TcpListener, TcpStream};
 use std::rt::Clock;
+
+/// The files that a command uses, and whether what is refused is told to a person too.
+#[derive(Clone, Copy)]
+struct Asked<'a> {
+    files: [Option<FileUse<'a>>; 5],
+    is_terminal: bool,
+}
 
 /// Does what the words behind the program's name ask for, and answers the status: 0 done, 1 refused, 2 wrong
 /// words. Without words it is `check_self`, whose refusal is printed behind `bx: ` as one line on standard error.
@@ -69,20 +79,22 @@ pub fn main_words<
     if words.is_empty() {
         return match check_self(rt.alloc(), input, output) {
             Ok(_) => 0,
-            Err(fault) => refused(&fault, errors),
+            Err(fault) => refused(rt.alloc(), &fault, plan_read(is_terminal), errors),
         };
     }
     match read_words(rt.alloc(), words) {
         Ok(request) => match met_file(rt, &request) {
             None => run(rt, request, input, output, errors, is_terminal),
-            Some(name) => refused(&SameFile(name), errors),
+            Some(name) => refused(rt.alloc(), &SameFile(name), nothing_read(is_terminal), errors),
         },
-        Err(Refusal::Help(text)) => status_of(show(&text, output), errors),
+        Err(Refusal::Help(text)) => {
+            status_of(rt.alloc(), show(&text, output), nothing_read(is_terminal), errors)
+        }
         Err(Refusal::Wrong(text)) => {
             let _ = write_octets(errors, text.as_bytes());
             2
         }
-        Err(Refusal::Memory) => refused(&CommandFault::Memory, errors),
+        Err(Refusal::Memory) => refused(rt.alloc(), &CommandFault::Memory, nothing_read(is_terminal), errors),
     }
 }
 
@@ -111,42 +123,59 @@ fn run<
     ensures done { result ≡ 0 → IsRequestDone H (R.remaining (device_of input.old)) request.entry H.File.contents W.contents output.old output.new }
     ensures refused { result ≢ 0 → IsRequestRefused H (R.remaining (device_of input.old)) request.entry H.File.contents W.contents output.old output.new }
 {
+    let alloc = rt.alloc();
+    let asked = Asked {
+        files: named_files(&request),
+        is_terminal,
+    };
     let mut inputs = FilesAndInput::new(rt, input);
     match request {
         Request::Files(request) => status_of(
-            run_on_files(rt.alloc(), &mut inputs, &request, output, errors),
+            alloc,
+            run_on_files(alloc, &mut inputs, &request, output, errors),
+            asked,
             errors,
         ),
         Request::Rehearsal(request) => {
             status_of(
+                alloc,
                 rehearse_on_files(rt, &mut inputs, request, output, is_terminal),
+                asked,
                 errors,
             )
         }
         Request::Far(request) => {
             status_of(
+                alloc,
                 far_on_files(rt, &mut inputs, request, output, is_terminal),
+                asked,
                 errors,
             )
         }
         Request::FarLine(request) => {
             status_of(
+                alloc,
                 far_by_line(rt, &mut inputs, request, output, is_terminal),
+                asked,
                 errors,
             )
         }
         Request::Live(request) => {
             status_of(
+                alloc,
                 live_on_files(rt, &mut inputs, request, output, is_terminal),
+                asked,
                 errors,
             )
         }
-        Request::Audit(request) => status_of(audit_files(rt, &mut inputs, request, output), errors),
+        Request::Audit(request) => status_of(alloc, audit_files(rt, &mut inputs, request, output), asked, errors),
         Request::Records(request) => status_of(
-            record_files(rt.alloc(), &mut inputs, request, output, errors),
+            alloc,
+            record_files(alloc, &mut inputs, request, output, errors),
+            asked,
             errors,
         ),
-        Request::Decode { octets } => status_of(decode(rt.alloc(), octets, output), errors),
+        Request::Decode { octets } => status_of(alloc, decode(alloc, octets, output), asked, errors),
     }
 }
 
@@ -162,21 +191,57 @@ fn show<'a, W: Write>(text: &str, output: &mut Watched<W>) -> Result<(), Command
     }
 }
 
+/// What is told of a plan that is read from standard input.
+fn plan_read(is_terminal: bool) -> Asked<'static> {
+    let plan = FileUse {
+        name: "-",
+        kind: FileKind::Plan,
+        is_written: false,
+    };
+    Asked {
+        files: [Some(plan), None, None, None, None],
+        is_terminal,
+    }
+}
+
+/// What is told where no file was read.
+fn nothing_read(is_terminal: bool) -> Asked<'static> {
+    Asked {
+        files: [None, None, None, None, None],
+        is_terminal,
+    }
+}
+
 /// The status of what was done, or of its refusal.
-fn status_of<F: Display + Copy, E: Write>(done: Result<(), F>, errors: &mut Watched<E>) -> u8
+fn status_of<F: Display + Copy, E: Write>(
+    alloc: Global,
+    done: Result<(), F>,
+    asked: Asked<'_>,
+    errors: &mut Watched<E>,
+) -> u8
     ensures done { (result ≡ 0) ↔ IsOk done }
     ensures refused { IsErr done → result ≡ 1 }
 {
     match done {
         Ok(()) => 0,
-        Err(fault) => refused(&fault, errors),
+        Err(fault) => refused(alloc, &fault, asked, errors),
     }
 }
 
-/// The status of a refusal, which is printed as one line.
-fn refused<F: Display, E: Write>(fault: &F, errors: &mut Watched<E>) -> u8
+/// The status of a refusal, which is printed as one line; on a terminal a second one says what it means.
+fn refused<F: Display, E: Write>(
+    alloc: Global,
+    fault: &F,
+    asked: Asked<'_>,
+    errors: &mut Watched<E>,
+) -> u8
     ensures { result ≡ 1 }
 {
     let _ = writeln!(errors, "bx: {fault}");
+    if asked.is_terminal
+        && let Ok(text) = format!(in alloc; "{fault}")
+    {
+        let _ = explain_fault(&text, &asked.files, errors);
+    }
     1
 }

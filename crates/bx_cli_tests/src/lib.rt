@@ -26,6 +26,8 @@ mod files;
 #[cfg(test)]
 mod live_days;
 #[cfg(test)]
+mod meanings;
+#[cfg(test)]
 mod notes;
 #[cfg(test)]
 mod plan_texts;

@@ -36,10 +36,22 @@ impl Answer {
 }
 
 pub(crate) fn run(rt: &HostRuntime, words: &[&str], text: &str) -> Done {
+    run_seen(rt, words, text, false)
+}
+
+/// The same, where standard error is a terminal.
+pub(crate) fn run_seen(rt: &HostRuntime, words: &[&str], text: &str, is_terminal: bool) -> Done {
     let mut input = Watched::new(text.as_bytes());
     let mut output = Watched::new(Vec::new(rt.alloc()));
     let mut errors = Watched::new(Vec::new(rt.alloc()));
-    let status = main_words(rt, words, &mut input, &mut output, &mut errors, false);
+    let status = main_words(
+        rt,
+        words,
+        &mut input,
+        &mut output,
+        &mut errors,
+        is_terminal,
+    );
     Done {
         status,
         output: output.into_inner(),

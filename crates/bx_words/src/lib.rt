@@ -8,4 +8,5 @@ mod faults;
 mod line_ports;
 mod reading;
 
+pub use faults::FAULTS;
 pub use reading::{Refusal, read_words};
