@@ -2,7 +2,7 @@
 -- row that fits counts. N3, N6, N9, N7, N10, N12 and N19 are OutgoingCallProceeding, CallPresent,
 -- IncomingCallProceeding, CallReceived, Active, DisconnectIndication and ReleaseRequest. Enquiring is N10 too, while the
 -- user is asked whether the call is still up.
-use Rattle.std.specs.Prelude.{◌≡◌, ◌≤◌, ℕ, ◌+◌, nat_le, Bool, true, false, not, ◌&&◌, ◌==◌, List, Option, Some, None, if◌then◌else◌}
+use Rattle.std.specs.Prelude.{◌≡◌, ◌≤◌, ℕ, ◌+◌, nat_le, Bool, true, false, not, ◌&&◌, ◌||◌, ◌==◌, List, Option, Some, None, if◌then◌else◌}
 use Rattle.bx_q931.specs.Outgoing.{Outgoing, plain}
 use Rattle.bx_q931.specs.declared.kind.Kind.{Kind}
 use Rattle.bx_q931.specs.declared.kind.Kind.TheVariants.{Alerting, CallProceeding, Progress, Setup, Connect, ConnectAcknowledge, Disconnect, Release, ReleaseComplete, Notify, StatusEnquiry, Information, Status, Other}
@@ -116,7 +116,25 @@ net_row c m t _ Information = net_same c None
 net_row c m t _ (Other octet) = net_same c (Some (net_status c 97))
 net_row c m t _ _ = net_same c (Some (net_status c 101))
 
--- any message of a call shows that it is up, where the user was asked (5.8.10)
+-- ---- a call that the user is asked for
+
+-- the call states of the user that fit N10: Active, and those that CONNECT ACKNOWLEDGE or CONNECT, if it is still on its way,
+-- takes there
+abbrev pub fits_active : NetOrigin → ℕ → Bool
+fits_active (Outward called) n = n == 10 || n == 8
+fits_active Inward n = n == 10 || (n == 3 || n == 1)
+
+-- a call state that can be read, is not Null, and does not fit
+abbrev pub reports_other : NetOrigin → Option ℕ → Bool
+reports_other o None = false
+reports_other o (Some n) = not (n == 0) && not (fits_active o n)
+
+-- the user was asked, and by STATUS reports such a state (5.8.11)
+abbrev pub net_is_contradicted : NetState → NetOrigin → Heard → Kind → Bool
+net_is_contradicted (Enquiring asked due) o m Status = reports_other o m.state
+net_is_contradicted _ o m _ = false
+
+-- any other message of the call shows that it is up (5.8.10)
 abbrev pub net_awake_state : NetState → NetState
 net_awake_state (Enquiring asked due) = Active
 net_awake_state state = state
@@ -124,8 +142,14 @@ net_awake_state state = state
 abbrev pub net_awake : PlainNetCall → PlainNetCall
 net_awake c = record c { state = net_awake_state c.state }
 
+-- a call in this state, whether the user was asked or not
+abbrev pub net_heard : PlainNetCall → Heard → ℕ → NetState → Kind → Transition PlainNetCall
+net_heard c m t s k =
+    if net_is_contradicted s c.origin m k then net_releases c false (Some 101) t
+    else net_row (record c { state = net_awake_state s }) m t (net_awake_state s) k
+
 abbrev pub net_message : PlainNetCall → Heard → ℕ → Transition PlainNetCall
-net_message c m t = net_row (net_awake c) m t (net_awake_state c.state) m.kind
+net_message c m t = net_heard c m t c.state m.kind
 
 -- ---- seconds: a tick to moment t
 

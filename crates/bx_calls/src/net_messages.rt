@@ -3,11 +3,13 @@
 ghost use Rattle.std.specs.Prelude.{◌≡◌, ◌≤◌};
 ghost use Rattle.bx_calls.specs.Expected.{IsProgress, net_released};
 ghost use Rattle.bx_calls.specs.Hearing.{heard_of};
-ghost use Rattle.bx_calls.specs.NetTable.{net_awake, net_row, net_message};
+ghost use Rattle.bx_calls.specs.NetTable.{fits_active, net_is_contradicted, net_awake, net_row, net_message};
 
+use crate::call_state::CallState;
 use crate::every_state::in_every_state;
 use crate::hearing::names_channel;
 use crate::net_call::NetCall;
+use crate::net_state::NetOrigin;
 use crate::net_state::NetState::{
     Active, CallPresent, CallReceived, DisconnectIndication, Enquiring, IncomingCallProceeding,
     ReleaseRequest,
@@ -22,12 +24,47 @@ use bx_q931::{Kind, Message, Out};
 
 impl NetCall {
     /// What the call does with a message of its reference at this moment, which is at most `LAST_MOMENT` (ITU-T Q.931, 5.1 to 5.3
-    /// and 5.8). It shows that the call is up, where the user was asked.
+    /// and 5.8). Where the user was asked it shows that the call is up; but a STATUS with a call state that does not fit N10 has the
+    /// call released, with cause 101 (5.8.11).
     pub fn on_message(self, message: &Message<'_>, moment: u32) -> Transition<NetCall>
         requires moment { moment ≤ LAST_MOMENT }
         ensures { result ≡ net_message self (heard_of message.now) moment }
     {
-        self.awake().on_heard(message, moment)
+        if self.is_contradicted(message) {
+            self.releases(false, Some(MESSAGE_NOT_COMPATIBLE), moment)
+        } else {
+            self.awake().on_heard(message, moment)
+        }
+    }
+
+    /// Whether the user was asked, and reports by STATUS a call state that does not fit N10.
+    fn is_contradicted(&self, message: &Message<'_>) -> bool
+        ensures { result ≡ net_is_contradicted self.now.state self.now.origin (heard_of message.now) message.now.kind }
+    {
+        match (self.state, message.kind()) {
+            (Enquiring { .. }, Kind::Status) => match message.state() {
+                Some(state) => state != CallState::Null.value() && !self.fits_active(state),
+                None => false,
+            },
+            _ => false,
+        }
+    }
+
+    /// Whether a call state of the user fits N10: Active, and Connect Request of a call that this side began, Outgoing Call
+    /// Proceeding and Call Initiated of one that the user began.
+    fn fits_active(&self, state: u8) -> bool
+        ensures { result ≡ fits_active self.now.origin state }
+    {
+        match self.origin {
+            NetOrigin::Outward { .. } => {
+                state == CallState::Active.value() || state == CallState::ConnectRequest.value()
+            }
+            NetOrigin::Inward => {
+                state == CallState::Active.value()
+                    || state == CallState::OutgoingCallProceeding.value()
+                    || state == CallState::CallInitiated.value()
+            }
+        }
     }
 
     /// The same call, asked no more.

@@ -1,5 +1,5 @@
 -- Clearing takes 38 seconds at most after the end of a booking, and for each second without a link that and T308: every event keeps that.
-use Rattle.std.proofs.Common.{◌≡◌, ℕ, ◌+◌, ◌*◌, ◌≤◌, ◌<◌, Bool, true, false, List, [], ◌∷◌, map, Option, Some, None, arith, refl, inl, inr, nat_le, nat_lt, if◌then◌else◌, Result, Ok, Err, ◌==◌}
+use Rattle.std.proofs.Common.{◌≡◌, ℕ, ◌+◌, ◌*◌, ◌≤◌, ◌<◌, Bool, true, false, List, [], ◌∷◌, map, Option, Some, None, arith, refl, subst, inl, inr, nat_le, nat_lt, if◌then◌else◌, Result, Ok, Err, ◌==◌}
 use Rattle.std.specs.List.{AllByRecursion, position}
 use Rattle.std.proofs.lemmas.Bool.{leb-false, le-leb, lt-ltb, and_from, cases_lt, false≢true}
 use Rattle.bx_q931.specs.Outgoing.{Outgoing}
@@ -18,11 +18,12 @@ use Rattle.bx_calls.specs.declared.transition.Next.TheVariants.{Live, Over, Brok
 use Rattle.bx_calls.specs.declared.transition.Transition.{Transition}
 use Rattle.bx_calls.specs.PlainCalls.{PlainNetCall}
 use Rattle.bx_calls.specs.declared.net_state.NetOrigin.{NetOrigin}
+use Rattle.bx_calls.specs.declared.net_state.Asked.{Asked}
 use Rattle.bx_calls.specs.declared.net_state.Asked.TheVariants.{NotYet, Once, Twice}
 use Rattle.bx_calls.specs.declared.net_state.NetState.{NetState}
 use Rattle.bx_calls.specs.declared.net_state.NetState.TheVariants.{OutgoingCallProceeding, CallPresent, IncomingCallProceeding, CallReceived, Active, Enquiring, DisconnectIndication, ReleaseRequest}
 use Rattle.bx_calls.specs.Hearing.{Heard, reports_null}
-use Rattle.bx_calls.specs.NetTable.{net_awake_state, net_row, net_second, net_unlinked}
+use Rattle.bx_calls.specs.NetTable.{net_awake_state, net_heard, net_releases, net_row, net_second, net_unlinked}
 use Rattle.bx_calls.specs.Said.{Said, said_of}
 use Rattle.bx_calls.specs.Sending.{Sent, Answered}
 use Rattle.bx_day.specs.Day.{Day, entry_at, is_free, opening, entry_of, entries_from, every_channel}
@@ -31,7 +32,7 @@ use Rattle.bx_day.specs.Ticks.{after_in, second_at, waits, unlinked_at}
 use Rattle.bx_day.specs.Receipts.{hears, takes_call, takes_or, takes_preferred, called_on, called, stray, received_at, opens, lowest_open, names, with_moved}
 use Rattle.bx_day.specs.Run.{receive_from, receive_read, happens}
 use Rattle.bx_day.specs.Outages.{without_link, live_happens, live_day_after, is_lost, lost_since}
-use Rattle.bx_day.specs.Invariant.{CallFits, EntryFits, DayFits}
+use Rattle.bx_day.specs.Invariant.{CallFits, EntryFits, DayFits, phase_of, PhaseFits}
 use Rattle.bx_day.specs.Clearing.{ClearsBy, StandingClears, EntryClears, DayClears}
 use Rattle.bx_day.specs.declared.entry.Activity.{Activity}
 use Rattle.bx_day.specs.declared.entry.Activity.TheVariants.{Never, Since, Was}
@@ -40,7 +41,7 @@ use Rattle.bx_day.specs.declared.entry.Moved.{Moved}
 use Rattle.bx_day.specs.declared.entry.Link.TheVariants.{Up, Down}
 use Rattle.bx_day.specs.declared.entry.Standing.{Standing}
 use Rattle.bx_day.specs.declared.entry.Standing.TheVariants.{Refused, Unoffered, OnCall, Carried, Unanswered, Missed}
-use Rattle.bx_day.proofs.Hear.{awake_fits}
+use Rattle.bx_day.proofs.Hear.{awake_fits, heard_by}
 use Rattle.bx_day.proofs.Second.{call_of}
 use Rattle.bx_day.proofs.Tick.{by_cases, with_standing, offers, all_weaker}
 use Rattle.bx_day.proofs.Receive.{all_at}
@@ -176,6 +177,14 @@ awake_clears m end t Active c = c
 awake_clears m end t (DisconnectIndication cause due) c = c
 awake_clears m end t (ReleaseRequest again cause due) c = c
 
+heard_clears : (n t : ℕ) (e : Entry) (r ch : ℕ) (o : NetOrigin) (a : Activity) (m : Heard) (s : NetState) (k : Kind) → CallFits t e (call_of r ch o s) a → (e.booking.end ≤ t → ClearsBy (e.booking.end + n) s) → StepClears n t e a (net_heard (call_of r ch o s) m t s k)
+heard_clears n t e r ch o a m s k h c = heard_by (StepClears n t e a) (call_of r ch o s) m t s k
+    (λ asked due is q. early_clears n t e a (net_releases (call_of r ch o s) false (Some 101) t) (runs_on asked due is))
+    (row_clears n t e r ch o a m (net_awake_state s) k (awake_fits t e r ch o s a h) (awake_clears (e.booking.end + n) e.booking.end t s c))
+  where
+    runs_on : (asked : Asked) (due : ℕ) → s ≡ Enquiring asked due → t < e.booking.end
+    runs_on asked due is = (subst (λ (x : NetState). PhaseFits t e.booking (phase_of x)) is h.phase).1
+
 -- ---- a booking
 
 waits_clears : (n t : ℕ) (e : Entry) (free : Bool) → StandingClears n t e.booking (waits e t free).standing
@@ -200,7 +209,7 @@ unlinked_clears_at n n' t e Unanswered more h k = tt
 unlinked_clears_at n n' t e Missed more h k = tt
 
 hears_clears : (n t : ℕ) (m : Said) (e : Entry) (s : Standing) → EntryFits t (with_standing e s) → StandingClears n t e.booking s → StandingClears n t e.booking (hears m t s).standing
-hears_clears n t m e (OnCall c a) h k = row_clears n t (with_standing e (OnCall c a)) c.reference c.channel c.origin a m.heard (net_awake_state c.state) m.heard.kind (awake_fits t (with_standing e (OnCall c a)) c.reference c.channel c.origin c.state a h) (awake_clears (e.booking.end + n) e.booking.end t c.state k)
+hears_clears n t m e (OnCall c a) h k = heard_clears n t (with_standing e (OnCall c a)) c.reference c.channel c.origin a m.heard c.state m.heard.kind h k
 hears_clears n t m e Refused h k = tt
 hears_clears n t m e Unoffered h k = tt
 hears_clears n t m e (Carried from until) h k = tt

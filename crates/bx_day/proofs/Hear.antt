@@ -1,5 +1,5 @@
 -- A message keeps what is true of one booking.
-use Rattle.std.proofs.Common.{◌≡◌, ℕ, ◌+◌, Bool, true, false, Option, Some, None, arith, refl}
+use Rattle.std.proofs.Common.{◌≡◌, ℕ, ◌+◌, Bool, true, false, Option, Some, None, arith, refl, ap}
 use Rattle.std.proofs.lemmas.Bool.{true≢false}
 use Rattle.bx_q931.specs.declared.kind.Kind.{Kind}
 use Rattle.bx_q931.specs.declared.kind.Kind.TheVariants.{Alerting, CallProceeding, Setup, Connect, ConnectAcknowledge, Disconnect, Release, ReleaseComplete, StatusEnquiry, Status}
@@ -7,14 +7,18 @@ use Rattle.bx_calls.specs.declared.net_state.NetOrigin.{NetOrigin}
 use Rattle.bx_calls.specs.declared.net_state.NetOrigin.TheVariants.{Outward, Inward}
 use Rattle.bx_calls.specs.declared.net_state.NetState.{NetState}
 use Rattle.bx_calls.specs.declared.net_state.NetState.TheVariants.{OutgoingCallProceeding, CallPresent, IncomingCallProceeding, CallReceived, Active, Enquiring, DisconnectIndication, ReleaseRequest}
+use Rattle.bx_calls.specs.declared.net_state.Asked.{Asked}
+use Rattle.bx_calls.specs.declared.transition.Transition.{Transition}
 use Rattle.bx_calls.specs.Hearing.{Heard, names_channel, reports_null}
-use Rattle.bx_calls.specs.NetTable.{net_awake_state, net_row}
+use Rattle.bx_calls.specs.NetTable.{net_awake_state, net_is_contradicted, net_releases, net_row, net_heard}
+use Rattle.bx_calls.specs.PlainCalls.{PlainNetCall}
 use Rattle.bx_day.specs.Moves.{over_at}
 use Rattle.bx_day.specs.declared.entry.Entry.{Entry}
 use Rattle.bx_day.specs.declared.entry.Activity.{Activity}
 use Rattle.bx_day.specs.Invariant.{CallFits, EntryFits}
 use Rattle.bx_day.proofs.ActivityLemmas.{ringing_kept, talking_kept, clearing_kept, ringing_clears, talking_clears, ringing_talks, ringing_over, talking_over, clearing_over}
 use Rattle.bx_day.proofs.Second.{call_of, StepFits, by_test, on_call, goes_on}
+use Rattle.bx_day.proofs.Tick.{by_cases}
 
 -- the call stays
 pub same_fits : (t : ℕ) (e : Entry) (r ch : ℕ) (o : NetOrigin) (s : NetState) (a : Activity) → CallFits t e (call_of r ch o s) a → EntryFits t (on_call t e a (call_of r ch o s))
@@ -84,3 +88,22 @@ row_fits t e r ch o a m (CallReceived due) Connect h = goes_on t t e r ch o (Cal
 row_fits t e r ch (Outward called) a m Active ConnectAcknowledge h = same_fits t e r ch (Outward called) Active a h
 row_fits t e r ch Inward a m Active ConnectAcknowledge h = same_fits t e r ch Inward Active a h
 row_fits t e r ch o a m s k h = same_fits t e r ch o s a h
+
+-- whether the user was asked or not: a call that is asked for is released by a report that does not fit, and any other message
+-- finds it Active
+pub heard_by : (P : Transition PlainNetCall → Type 0) (c : PlainNetCall) (m : Heard) (t : ℕ) (s : NetState) (k : Kind)
+    → ((asked : Asked) (due : ℕ) → s ≡ Enquiring asked due → net_is_contradicted s c.origin m k ≡ true → P (net_releases c false (Some 101) t))
+    → P (net_row (record c { state = net_awake_state s }) m t (net_awake_state s) k) → P (net_heard c m t s k)
+heard_by P c m t (Enquiring asked due) k f g = by_cases (net_is_contradicted (Enquiring asked due) c.origin m k) _ _ P (λ q. f asked due refl q) (λ _. g)
+heard_by P c m t OutgoingCallProceeding k f g = g
+heard_by P c m t (CallPresent again due) k f g = g
+heard_by P c m t (IncomingCallProceeding due) k f g = g
+heard_by P c m t (CallReceived due) k f g = g
+heard_by P c m t Active k f g = g
+heard_by P c m t (DisconnectIndication cause due) k f g = g
+heard_by P c m t (ReleaseRequest again cause due) k f g = g
+
+pub message_fits : (t : ℕ) (e : Entry) (r ch : ℕ) (o : NetOrigin) (a : Activity) (m : Heard) (s : NetState) (k : Kind) → CallFits t e (call_of r ch o s) a → StepFits t e a (net_heard (call_of r ch o s) m t s k)
+message_fits t e r ch o a m s k h = heard_by (StepFits t e a) (call_of r ch o s) m t s k
+    (λ asked due is q. release_fits t e r ch o s a (Some 101) (ap is_releasing is) h)
+    (row_fits t e r ch o a m (net_awake_state s) k (awake_fits t e r ch o s a h))

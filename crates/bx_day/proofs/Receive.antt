@@ -8,7 +8,6 @@ use Rattle.bx_q931.specs.declared.kind.Kind.TheVariants.{Setup}
 use Rattle.bx_q931.specs.declared.channel_field.ChannelField.{ChannelField}
 use Rattle.bx_q931.specs.declared.channel_field.ChannelField.TheVariants.{Absent, Named, AnyChannel, Unread}
 use Rattle.bx_base.specs.Bookings.{is_running}
-use Rattle.bx_calls.specs.NetTable.{net_awake_state}
 use Rattle.bx_calls.specs.Said.{Said}
 use Rattle.bx_day.specs.Day.{Day, is_live, is_held, is_free, is_unoffered, entry_at, no_entry, every_channel}
 use Rattle.bx_day.specs.Receipts.{is_open, opens, or_else, lowest_open, names, hears, takes_call, takes_or, takes_preferred, called_on, called, stray, received_at, receive}
@@ -17,7 +16,7 @@ use Rattle.bx_day.specs.declared.entry.Entry.{Entry}
 use Rattle.bx_day.specs.declared.entry.Standing.{Standing}
 use Rattle.bx_day.specs.declared.entry.Standing.TheVariants.{Refused, Unoffered, OnCall, Carried, Unanswered, Missed}
 use Rattle.bx_day.specs.Invariant.{EntryFits, Apart, Pairs, DayFits, is_refused}
-use Rattle.bx_day.proofs.Hear.{awake_fits, row_fits}
+use Rattle.bx_day.proofs.Hear.{message_fits}
 use Rattle.bx_day.proofs.Tick.{with_standing, by_cases, all_hold, Holding, free_held, runs_at}
 
 pub all_at : (P : Entry → Type 0) → P no_entry → (es : List Entry) (i : ℕ) → AllByRecursion P es → P (entry_at es i)
@@ -62,7 +61,7 @@ index_passes test es = at (position test es) refl
 pub hears_fits : (m : Said) (t : ℕ) (e : Entry) (s : Standing) → EntryFits t (with_standing e s) → EntryFits t (with_standing e (hears m t s).standing)
 hears_fits m t e Refused h = h
 hears_fits m t e Unoffered h = h
-hears_fits m t e (OnCall c a) h = row_fits t (with_standing e (OnCall c a)) c.reference c.channel c.origin a m.heard (net_awake_state c.state) m.heard.kind (awake_fits t (with_standing e (OnCall c a)) c.reference c.channel c.origin c.state a h)
+hears_fits m t e (OnCall c a) h = message_fits t (with_standing e (OnCall c a)) c.reference c.channel c.origin a m.heard c.state m.heard.kind h
 hears_fits m t e (Carried from until) h = h
 hears_fits m t e Unanswered h = h
 hears_fits m t e Missed h = h

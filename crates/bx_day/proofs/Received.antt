@@ -32,6 +32,7 @@ use Rattle.bx_day.specs.declared.entry.Standing.TheVariants.{Refused, Unoffered,
 use Rattle.bx_day.specs.Invariant.{StandingFits, EntryFits, OriginFits, DayFits, is_refused}
 use Rattle.bx_day.specs.Reading.{IsExchange, Seated}
 use Rattle.bx_day.specs.Calling.{awaits}
+use Rattle.bx_day.proofs.Hear.{heard_by}
 use Rattle.bx_day.proofs.Indices.{index_found, index_none, position_next}
 use Rattle.bx_day.proofs.Receive.{all_at, OpenAt, open_parts, open_index, open_lowest, open_or, takes_fits, received_fits, hears_refused}
 use Rattle.bx_day.proofs.Tick.{with_standing}
@@ -67,7 +68,7 @@ row_whole c m t a Inward Active ConnectAcknowledge e = rw e refl
 row_whole c m t a o s k e = refl
 
 pub hears_whole : (m : Said) (t : ℕ) (s : Standing) → (hears m t s).broken ≡ false
-hears_whole m t (OnCall c a) = row_whole (net_awake c) m.heard t a c.origin (net_awake_state c.state) m.heard.kind refl
+hears_whole m t (OnCall c a) = heard_by (Whole a t) c m.heard t c.state m.heard.kind (λ asked due is q. refl) (row_whole (net_awake c) m.heard t a c.origin (net_awake_state c.state) m.heard.kind refl)
 hears_whole m t Refused = refl
 hears_whole m t Unoffered = refl
 hears_whole m t (Carried from until) = refl

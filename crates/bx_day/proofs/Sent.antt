@@ -19,7 +19,7 @@ use Rattle.bx_calls.specs.declared.net_state.Asked.TheVariants.{NotYet, Once, Tw
 use Rattle.bx_calls.specs.declared.net_state.NetState.{NetState}
 use Rattle.bx_calls.specs.declared.net_state.NetState.TheVariants.{OutgoingCallProceeding, CallPresent, IncomingCallProceeding, CallReceived, Active, Enquiring, DisconnectIndication, ReleaseRequest}
 use Rattle.bx_calls.specs.Hearing.{Heard, names_channel, reports_null}
-use Rattle.bx_calls.specs.NetTable.{net_awake_state, net_row, net_message, net_second, net_releases, net_setup_again, proceeding_of}
+use Rattle.bx_calls.specs.NetTable.{net_awake_state, net_heard, net_row, net_message, net_second, net_releases, net_setup_again, proceeding_of}
 use Rattle.bx_calls.specs.Saying.{setup_of}
 use Rattle.bx_day.specs.Law.{OutFits, SentFits}
 use Rattle.bx_q931.specs.Messages.{PlainMessage, message_at}
@@ -47,6 +47,7 @@ use Rattle.bx_day.specs.declared.entry.Activity.{Activity}
 use Rattle.bx_day.specs.Invariant.{CallFits, OriginFits, EntryFits, DayFits, is_refused}
 use Rattle.bx_day.proofs.Second.{call_of}
 use Rattle.bx_day.proofs.Said.{OfSaid, all_over}
+use Rattle.bx_day.proofs.Hear.{heard_by}
 use Rattle.bx_day.proofs.Tick.{by_cases, with_standing, offers, offers_parts, all_weaker}
 use Rattle.bx_day.proofs.Receive.{all_at, OpenAt, Open, open_parts, open_index, open_lowest}
 use Rattle.bx_day.specs.declared.entry.Link.TheVariants.{Up}
@@ -149,6 +150,10 @@ row_plain r ch o t m s Information = tt
 row_plain r ch o t m s (Other octet) = refl
 row_plain r ch o t m s k = refl
 
+pub heard_plain : (r ch : ℕ) (o : NetOrigin) (t : ℕ) (m : Heard) (s : NetState) (k : Kind) → OfSaid Plain (net_heard (call_of r ch o s) m t s k).reply
+heard_plain r ch o t m s k = heard_by (λ (x : Transition PlainNetCall). OfSaid Plain x.reply) (call_of r ch o s) m t s k
+    (λ asked due is q. releases_plain (call_of r ch o s) false (Some 101) t) (row_plain r ch o t m (net_awake_state s) k)
+
 -- what a second makes a call say: SETUP again, of an outward call, or neither
 abbrev SecondFits : List Row → List (Option ℕ) → ℕ → ℕ → PlainNetCall → Type 0
 SecondFits rows assigned t end c = OfSaid (OutFits rows assigned t) (net_second c t end).reply
@@ -247,7 +252,7 @@ placed_at rows assigned es i h =
 hears_plain : (m : Said) (t : ℕ) (s : Standing) → OfSaid Plain (hears m t s).said
 hears_plain m t Refused = tt
 hears_plain m t Unoffered = tt
-hears_plain m t (OnCall c a) = follow_said Plain a t (net_message c m.heard t).reply (net_message c m.heard t).next (row_plain c.reference c.channel c.origin t m.heard (net_awake_state c.state) m.heard.kind)
+hears_plain m t (OnCall c a) = follow_said Plain a t (net_message c m.heard t).reply (net_message c m.heard t).next (heard_plain c.reference c.channel c.origin t m.heard c.state m.heard.kind)
 hears_plain m t (Carried from until) = tt
 hears_plain m t Unanswered = tt
 hears_plain m t Missed = tt

@@ -10,6 +10,9 @@ const SETUP: u8 = 0x05;
 /// Messages of calls, without elements.
 static KINDS: [u8; 8] = [SETUP, 0x01, 0x02, 0x07, 0x45, 0x4D, 0x5A, 0x75];
 
+/// Call states that STATUS reports.
+static STATES: [u8; 8] = [10, 8, 11, 19, 12, 3, 1, 0];
+
 /// Rows, for calls that the exchange began; the far end's calls take their references from these too.
 static REFERENCES: [u8; 8] = [1, 2, 3, 4, 5, 6, 1, 2];
 
@@ -69,6 +72,14 @@ impl Drawn {
         };
         let reference = REFERENCES[(self.below(8) & 7) as usize];
         [8, 2, flag, reference, kind, 4, 2, 0x88, 0x90]
+    }
+
+    /// STATUS with a call state, of a call with a low reference.
+    pub(crate) fn report(&mut self) -> [u8; 8] {
+        let flag = if self.below(4) > 0 { 0x80 } else { 0 };
+        let reference = REFERENCES[(self.below(8) & 7) as usize];
+        let state = STATES[(self.below(8) & 7) as usize];
+        [8, 2, flag, reference, 0x7D, 0x14, 1, state]
     }
 }
 

@@ -20,6 +20,8 @@ struct Seen {
     connect: bool,
     setup: bool,
     release: bool,
+    /// A call that was asked for was released by what was reported of it.
+    reported: bool,
 }
 
 const NOTHING: Seen = Seen {
@@ -28,6 +30,7 @@ const NOTHING: Seen = Seen {
     connect: false,
     setup: false,
     release: false,
+    reported: false,
 };
 
 const ALL: Seen = Seen {
@@ -36,6 +39,7 @@ const ALL: Seen = Seen {
     connect: true,
     setup: true,
     release: true,
+    reported: true,
 };
 
 impl Seen {
@@ -50,6 +54,20 @@ impl Seen {
             _ => {}
         }
     }
+
+    /// Looks at the state of a call before and behind a report.
+    fn hears(&mut self, before: u8, behind: u8) {
+        if (before, behind) == (10, 19) {
+            self.reported = true;
+        }
+    }
+}
+
+/// Brings the same octets to all three.
+fn hear(exchange: &mut Exchange, skipping: &mut Exchange, second: &mut Second, octets: &[u8]) {
+    exchange.receive(octets);
+    skipping.receive(octets);
+    second.hears(octets);
 }
 
 /// Lets so many seconds go by, and answers whether the exchanges agree behind each.
@@ -109,10 +127,13 @@ fn day_goes(alloc: Global, seed: u32, seen: &mut Seen) -> Option<bool> {
             seen.looks(before.0, states(&second).0);
             seen.looks(before.1, states(&second).1);
         }
+        let report = drawn.report();
+        let asked_for = states(&second);
+        hear(&mut exchange, &mut skipping, &mut second, &report);
+        seen.hears(asked_for.0, states(&second).0);
+        seen.hears(asked_for.1, states(&second).1);
         let octets = drawn.message();
-        exchange.receive(&octets);
-        skipping.receive(&octets);
-        second.hears(&octets);
+        hear(&mut exchange, &mut skipping, &mut second, &octets);
         same &= second.agrees(&exchange);
     }
     Some(same)

@@ -53,11 +53,41 @@ const FAR_STATUS_NULL: &[u8] = &[
     0x08, 0x02, 0x80, 0x01, 0x7D, 0x08, 0x02, 0x80, 0x9E, 0x14, 0x01, 0x00,
 ];
 
+/// U8, Connect Request.
+const FAR_STATUS_CONNECTING: &[u8] = &[
+    0x08, 0x02, 0x80, 0x01, 0x7D, 0x08, 0x02, 0x80, 0x9E, 0x14, 0x01, 0x08,
+];
+
+/// U11, Disconnect Request.
+const FAR_STATUS_DISCONNECTING: &[u8] = &[
+    0x08, 0x02, 0x80, 0x01, 0x7D, 0x08, 0x02, 0x80, 0x9E, 0x14, 0x01, 0x0B,
+];
+
+/// U19, Release Request.
+const FAR_STATUS_RELEASING: &[u8] = &[
+    0x08, 0x02, 0x80, 0x01, 0x7D, 0x08, 0x02, 0x80, 0x9E, 0x14, 0x01, 0x13,
+];
+
+const RELEASE_101: &[u8] = &[0x08, 0x02, 0x00, 0x01, 0x4D, 0x08, 0x02, 0x82, 0xE5];
+
+const STATUS_ENQUIRY_REFERENCE_7: &[u8] = &[0x08, 0x02, 0x80, 0x07, 0x75];
+
+/// U3, Outgoing Call Proceeding, and U8.
+const FAR_STATUS_PROCEEDING_REFERENCE_7: &[u8] = &[
+    0x08, 0x02, 0x00, 0x07, 0x7D, 0x08, 0x02, 0x80, 0x9E, 0x14, 0x01, 0x03,
+];
+
+const FAR_STATUS_CONNECTING_REFERENCE_7: &[u8] = &[
+    0x08, 0x02, 0x00, 0x07, 0x7D, 0x08, 0x02, 0x80, 0x9E, 0x14, 0x01, 0x08,
+];
+
+const RELEASE_101_REFERENCE_7: &[u8] = &[0x08, 0x02, 0x80, 0x07, 0x4D, 0x08, 0x02, 0x82, 0xE5];
+
 const DISCONNECT_41: &[u8] = &[0x08, 0x02, 0x00, 0x01, 0x45, 0x08, 0x02, 0x82, 0xA9];
 
 const DISCONNECT_102: &[u8] = &[0x08, 0x02, 0x00, 0x01, 0x45, 0x08, 0x02, 0x82, 0xE6];
 
-static WORKED: [Worked; 23] = [
+static WORKED: [Worked; 30] = [
     Worked {
         name: "a booking that starts without a link is offered in the first second with one",
         bookings: &[(10, 60, 1, false)],
@@ -373,6 +403,114 @@ static WORKED: [Worked; 23] = [
         ],
         outcomes: &[Outcome::Live],
         held: Some((1, CallState::DisconnectIndication)),
+        is_broken: false,
+    },
+    Worked {
+        name: "a call that the user is disconnecting is released, and billed no longer",
+        bookings: &[(0, 60, 1, false)],
+        steps: &[
+            Step::Linked(1, &[], &[SETUP]),
+            Step::Linked(1, CONNECT, &[CONNECT_ACKNOWLEDGE]),
+            Step::Without(20),
+            Step::Linked(21, &[], &[STATUS_ENQUIRY]),
+            Step::Linked(21, FAR_STATUS_DISCONNECTING, &[RELEASE_101]),
+            Step::Linked(21, FAR_RELEASE_COMPLETE, &[]),
+        ],
+        outcomes: &[Outcome::Carried { from: 1, until: 21 }],
+        held: None,
+        is_broken: false,
+    },
+    Worked {
+        name: "so is one that the user is releasing, whose RELEASE comes then",
+        bookings: &[(0, 60, 1, false)],
+        steps: &[
+            Step::Linked(1, &[], &[SETUP]),
+            Step::Linked(1, CONNECT, &[CONNECT_ACKNOWLEDGE]),
+            Step::Without(20),
+            Step::Linked(21, &[], &[STATUS_ENQUIRY]),
+            Step::Linked(21, FAR_STATUS_RELEASING, &[RELEASE_101]),
+            Step::Linked(21, FAR_RELEASE, &[]),
+        ],
+        outcomes: &[Outcome::Carried { from: 1, until: 21 }],
+        held: None,
+        is_broken: false,
+    },
+    Worked {
+        name: "where no answer to that comes its channel goes into maintenance 8 seconds later",
+        bookings: &[(0, 60, 1, false)],
+        steps: &[
+            Step::Linked(1, &[], &[SETUP]),
+            Step::Linked(1, CONNECT, &[CONNECT_ACKNOWLEDGE]),
+            Step::Without(20),
+            Step::Linked(21, &[], &[STATUS_ENQUIRY]),
+            Step::Linked(21, FAR_STATUS_RELEASING, &[RELEASE_101]),
+            Step::Linked(25, &[], &[RELEASE_101]),
+            Step::Linked(29, &[], &[]),
+        ],
+        outcomes: &[Outcome::Carried { from: 1, until: 21 }],
+        held: None,
+        is_broken: true,
+    },
+    Worked {
+        name: "a call whose CONNECT ACKNOWLEDGE may be on its way goes on",
+        bookings: &[(0, 60, 1, false)],
+        steps: &[
+            Step::Linked(1, &[], &[SETUP]),
+            Step::Linked(1, CONNECT, &[CONNECT_ACKNOWLEDGE]),
+            Step::Without(20),
+            Step::Linked(21, &[], &[STATUS_ENQUIRY]),
+            Step::Linked(21, FAR_STATUS_CONNECTING, &[]),
+            Step::Linked(60, &[], &[DISCONNECT_16]),
+        ],
+        outcomes: &[Outcome::Live],
+        held: Some((1, CallState::DisconnectIndication)),
+        is_broken: false,
+    },
+    Worked {
+        name: "behind the first answer a call is asked for no more",
+        bookings: &[(0, 60, 1, false)],
+        steps: &[
+            Step::Linked(1, &[], &[SETUP]),
+            Step::Linked(1, CONNECT, &[CONNECT_ACKNOWLEDGE]),
+            Step::Without(20),
+            Step::Linked(21, &[], &[STATUS_ENQUIRY]),
+            Step::Linked(21, FAR_STATUS_ACTIVE, &[]),
+            Step::Linked(21, FAR_STATUS_DISCONNECTING, &[]),
+            Step::Linked(60, &[], &[DISCONNECT_16]),
+        ],
+        outcomes: &[Outcome::Live],
+        held: Some((1, CallState::DisconnectIndication)),
+        is_broken: false,
+    },
+    Worked {
+        name: "an inward call whose CONNECT may be on its way goes on",
+        bookings: &[(0, 60, 1, true)],
+        steps: &[
+            Step::Linked(1, &[], &[]),
+            Step::Linked(1, SETUP_REFERENCE_7, &[PROCEEDING_REFERENCE_7]),
+            Step::Linked(2, &[], &[CONNECT_REFERENCE_7]),
+            Step::Without(20),
+            Step::Linked(21, &[], &[STATUS_ENQUIRY_REFERENCE_7]),
+            Step::Linked(21, FAR_STATUS_PROCEEDING_REFERENCE_7, &[]),
+            Step::Linked(60, &[], &[DISCONNECT_16_REFERENCE_7]),
+        ],
+        outcomes: &[Outcome::Live],
+        held: Some((1, CallState::DisconnectIndication)),
+        is_broken: false,
+    },
+    Worked {
+        name: "an inward call is in no state of the called side",
+        bookings: &[(0, 60, 1, true)],
+        steps: &[
+            Step::Linked(1, &[], &[]),
+            Step::Linked(1, SETUP_REFERENCE_7, &[PROCEEDING_REFERENCE_7]),
+            Step::Linked(2, &[], &[CONNECT_REFERENCE_7]),
+            Step::Without(20),
+            Step::Linked(21, &[], &[STATUS_ENQUIRY_REFERENCE_7]),
+            Step::Linked(21, FAR_STATUS_CONNECTING_REFERENCE_7, &[RELEASE_101_REFERENCE_7]),
+        ],
+        outcomes: &[Outcome::Live],
+        held: Some((1, CallState::ReleaseRequest)),
         is_broken: false,
     },
 ];

@@ -156,7 +156,23 @@ impl Booked {
         }
     }
 
+    /// Whether this tells of a call that is asked for a state in which it is not up, nor about to be.
+    fn is_given_up(&self, heard: &Heard<'_>) -> bool {
+        let asked = matches!(self.course, Course::Live(live) if live.asks > 0);
+        let other = match heard.state() {
+            None | Some(0 | 10) => false,
+            Some(1 | 3) => !self.row.3,
+            Some(8) => self.row.3,
+            Some(_) => true,
+        };
+        asked && heard.kind == 0x7D && other
+    }
+
     fn hears(&mut self, heard: &Heard<'_>, reference: u16, now: u32) {
+        if self.is_given_up(heard) {
+            self.goes_to(reference, 19, 4, now);
+            return;
+        }
         let call = Call {
             state: self.state(),
             channel: self.row.2,

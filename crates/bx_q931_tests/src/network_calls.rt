@@ -1,7 +1,7 @@
 //! Calls as the network sees them, begun by it and by the user.
 
-use crate::steps::{After, Row, net_goes};
-use bx_calls::{CallState, NetCall};
+use crate::steps::{After, Row, after_report, net_goes};
+use bx_calls::{CallState, NetCall, Next};
 use bx_cases::messages::{
     ALERTING_CHANNEL_1, CONNECT, CONNECT_ACKNOWLEDGE, CONNECT_CHANNEL_1, CONNECT_CHANNEL_2,
     DISCONNECT_16, FAR_DISCONNECT_16, FAR_RELEASE, FAR_STATUS_BARE, FAR_STATUS_NULL,
@@ -9,7 +9,7 @@ use bx_cases::messages::{
     SETUP, STATUS_101,
 };
 use bx_channels::{Channel, Number};
-use bx_q931::{Out, encode};
+use bx_q931::{Out, encode, read};
 use std::test::Fail;
 
 const PRESENT: After = After::Live(CallState::CallPresent);
@@ -114,6 +114,11 @@ static ANSWERED: [Row; 3] = [
     ),
 ];
 
+/// RELEASE with cause 101, of a call that the network began, and of one that the user began.
+const RELEASE_101: &[u8] = &[0x08, 0x02, 0x00, 0x01, 0x4D, 0x08, 0x02, 0x82, 0xE5];
+
+const ANSWERED_RELEASE_101: &[u8] = &[0x08, 0x02, 0x80, 0x01, 0x4D, 0x08, 0x02, 0x82, 0xE5];
+
 /// Whether the call is one that is offered at 100 on this channel.
 fn is_offered(call: &NetCall, setup: &Out, channel: Channel) -> bool {
     let is_named = call.reference() == 1 && !call.flag() && call.channel() == channel;
@@ -130,6 +135,54 @@ fn calls_that_the_network_begins(rt: HostRuntime) -> Result<(), Fail> {
     for (name, rows) in &OFFERED {
         assert!(rt; net_goes(call, 200, rows), "{name}");
     }
+    Ok(())
+}
+
+/// What becomes of an Active call that is asked for, where this call state is reported of it: it is over, goes on where the state is
+/// one of these, or is released so.
+fn goes_as_reported(call: NetCall, state: u8, fitting: &[u8], release: &[u8]) -> bool {
+    let flag = if call.flag() { 0x00 } else { 0x80 };
+    let octets = [0x08, 0x02, flag, 0x01, 0x7D, 0x14, 0x01, state];
+    let (sent, after): (&[u8], After) = if state == 0 {
+        (&[], After::Over)
+    } else if fitting.contains(&state) {
+        (&[], ACTIVE)
+    } else {
+        (release, RELEASED)
+    };
+    after_report(call, &octets, sent) == Some(after)
+}
+
+/// The first call state with which it does otherwise, of an Active call.
+fn first_odd_report(call: &NetCall, fitting: &[u8], release: &[u8]) -> Option<u8> {
+    for state in 0..64 {
+        if !goes_as_reported(*call, state, fitting, release) {
+            return Some(state);
+        }
+    }
+    None
+}
+
+/// The call as a message leaves it, at 100.
+fn behind(call: NetCall, octets: &[u8]) -> Option<NetCall> {
+    match call.on_message(&read(octets).ok()?, 100).next {
+        Next::Live(live) => Some(live),
+        _ => None,
+    }
+}
+
+#[test]
+fn call_states_that_are_reported(rt: HostRuntime) -> Result<(), Fail> {
+    let channel = Channel::new(1).ok_or("a channel")?;
+    let number = Number::new(b"1234").ok_or("a number")?;
+    let (offered, _) = NetCall::offered(1, channel, number, 100);
+    let active = behind(offered, CONNECT).ok_or("a call that is answered")?;
+    assert_eq!(rt; first_odd_report(&active, &[8, 10], RELEASE_101), None);
+    let (answered, _) = NetCall::answered(1, channel, 100);
+    let Next::Live(active) = answered.on_second(101, 200).next else {
+        return Err("a call that goes on".into());
+    };
+    assert_eq!(rt; first_odd_report(&active, &[1, 3, 10], ANSWERED_RELEASE_101), None);
     Ok(())
 }
 

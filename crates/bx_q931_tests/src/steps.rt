@@ -69,6 +69,22 @@ fn after_user_row(call: UserCall, row: &Row) -> Option<UserCall> {
     }
 }
 
+/// What is left of a call that is asked for behind a second without a link, and hears this; None where something else is sent.
+pub(crate) fn after_report(call: NetCall, octets: &[u8], sent: &[u8]) -> Option<After> {
+    let Next::Live(asked) = call.on_seconds_unlinked(1, 110, 200).next else {
+        return None;
+    };
+    let Transition { next, reply } = asked.on_message(&read(octets).ok()?, 111);
+    if !says(reply, sent) {
+        return None;
+    }
+    Some(match next {
+        Next::Live(live) => After::Live(live.state()),
+        Next::Over => After::Over,
+        Next::Broken => After::Broken,
+    })
+}
+
 /// Whether a call of the network whose booking ends so goes by these rows.
 pub(crate) fn net_goes(first: NetCall, end: u32, rows: &[Row]) -> bool {
     let mut call = first;

@@ -2,7 +2,7 @@
 use Rattle.std.proofs.Common.{◌≡◌, ℕ, ◌==◌, ◌&&◌, ◌||◌, not, Bool, true, false, List, [], ◌∷◌, Option, Some, None, refl, sym, subst, ap, ◌∙◌, inl, inr, ◌⊎◌, if◌then◌else◌}
 use Rattle.std.specs.Prelude.{Result, Ok, Err}
 use Rattle.std.specs.List.{position}
-use Rattle.std.proofs.lemmas.Bool.{false≢true, true≢false, false_from_ne_true}
+use Rattle.std.proofs.lemmas.Bool.{false≢true, true≢false, false_from_ne_true, or_parts}
 use Rattle.std.proofs.lemmas.List.Quantifiers.{position-Some}
 use Rattle.bx_q931.specs.Messages.{PlainMessage, message_at}
 use Rattle.bx_q931.specs.declared.fault.MessageFault.{MessageFault}
@@ -22,7 +22,7 @@ use Rattle.bx_calls.specs.declared.net_state.NetState.{NetState}
 use Rattle.bx_calls.specs.declared.net_state.NetState.TheVariants.{OutgoingCallProceeding, CallPresent, IncomingCallProceeding, CallReceived, Active, Enquiring, DisconnectIndication, ReleaseRequest}
 use Rattle.bx_calls.specs.declared.transition.Transition.{Transition}
 use Rattle.bx_base.specs.Bookings.{Row}
-use Rattle.bx_two_ends.specs.Answering.{said_by, said_read, said_in, tells, is_told, is_connect, is_release, clears_by, is_ringing_in, is_ringing, is_clearing, is_enquired, Spares, SparesAll, Answers}
+use Rattle.bx_two_ends.specs.Answering.{said_by, said_read, said_in, tells, is_told, is_connect, is_release, clears_by, is_ringing_in, is_ringing, is_clearing, is_enquired, contradicts, Spares, SparesAll, Answers}
 use Rattle.bx_two_ends.specs.Asking.{is_asked}
 use Rattle.bx_day.specs.Day.{Day, entry_at, is_live, no_entry}
 use Rattle.bx_two_ends.specs.Earning.{heard_in, is_settled, is_settled_in, is_going, IsAnswered}
@@ -40,6 +40,7 @@ use Rattle.bx_day.specs.declared.entry.Activity.TheVariants.{Never, Since, Was}
 use Rattle.bx_day.specs.Day.{is_unoffered}
 use Rattle.bx_day.specs.Invariant.{StandingFits}
 use Rattle.std.proofs.lemmas.List.{get_or-set_same}
+use Rattle.bx_day.proofs.Hear.{heard_by}
 use Rattle.bx_day.proofs.Once.{decide}
 use Rattle.bx_day.proofs.Receive.{open_parts, takes_fits}
 use Rattle.bx_two_ends.proofs.Naming.{IsNamedOnce, names_live, live_inside, named_found, set_at, once_heard, once_taken}
@@ -429,7 +430,9 @@ not_going false x = refl
 
 -- one that is settled
 up_hears : (t : ℕ) (e : Entry) (m : Said) (s : Standing) → StandingFits t e s → clears_by e.channel m.heard m.heard.kind ≡ false → is_up s ≡ true → is_up (hears m t s).standing ≡ true
-up_hears t e m (OnCall c a) fits spared h = up_row c.reference c.channel c.origin (net_awake_state c.state) a m.heard t m.heard.kind (awake_settled c.state c.origin h) (subst (λ ch. clears_by ch m.heard m.heard.kind ≡ false) (sym fits.channel) spared)
+up_hears t e m (OnCall c a) fits spared h = heard_by (λ (x : Transition PlainNetCall). is_up (follows a t x).standing ≡ true) c m.heard t c.state m.heard.kind
+    (λ asked due is q. absurd (false≢true (subst (λ (s : NetState). is_settled_in s c.origin ≡ true) is h)))
+    (up_row c.reference c.channel c.origin (net_awake_state c.state) a m.heard t m.heard.kind (awake_settled c.state c.origin h) (subst (λ ch. clears_by ch m.heard m.heard.kind ≡ false) (sym fits.channel) spared))
 up_hears t e m Refused fits spared h = absurd (false≢true h)
 up_hears t e m Unoffered fits spared h = absurd (false≢true h)
 up_hears t e m (Carried from until) fits spared h = absurd (false≢true h)
@@ -441,7 +444,9 @@ rings_hears : (t : ℕ) (e0 e : Entry) (m : Said) (octets : List ℕ) (rest : Li
 rings_hears t e0 e m octets rest (OnCall c a) fits is spared rings named told =
     let x = net_awake_state c.state in
     let p = ringing_going (OnCall (call_of c.reference c.channel c.origin x) a) (awake_ringing c.state rings) in
-    let g : GoesOn c.reference c.origin x m.heard.kind (hears m t (OnCall c a)).standing = going_row c.reference c.channel c.origin x a m.heard t m.heard.kind (not_going (net_is_clearing x) p.0) p.1 (subst (λ ch. clears_by ch m.heard m.heard.kind ≡ false) (sym fits.channel) spared) in
+    let g : GoesOn c.reference c.origin x m.heard.kind (hears m t (OnCall c a)).standing = heard_by (λ (y : Transition PlainNetCall). GoesOn c.reference c.origin x m.heard.kind (follows a t y).standing) c m.heard t c.state m.heard.kind
+        (λ asked due is q. absurd (false≢true (subst (λ (s : NetState). is_ringing_in s ≡ true) is rings)))
+        (going_row c.reference c.channel c.origin x a m.heard t m.heard.kind (not_going (net_is_clearing x) p.0) p.1 (subst (λ ch. clears_by ch m.heard m.heard.kind ≡ false) (sym fits.channel) spared)) in
     decide (is_ringing (hears m t (OnCall c a)).standing)
     (λ still. Rings still (λ x. names_same x c.reference c.origin (hears m t (OnCall c a)).standing g.same ∙ named x)
     (decide (is_connect m.heard.kind)
@@ -455,13 +460,15 @@ rings_hears t e0 e m octets rest Unanswered fits is spared rings named told = ab
 rings_hears t e0 e m octets rest Missed fits is spared rings named told = absurd (false≢true rings)
 
 -- one that is asked for
-asked_hears : (t : ℕ) (e : Entry) (m : Said) (s : Standing) → StandingFits t e s → clears_by e.channel m.heard m.heard.kind ≡ false → is_enquired s ≡ true → is_up (hears m t s).standing ≡ true
-asked_hears t e m (OnCall c a) fits spared h = asked_row c.reference c.channel c.origin c.state a m.heard t m.heard.kind h (subst (λ ch. clears_by ch m.heard m.heard.kind ≡ false) (sym fits.channel) spared)
-asked_hears t e m Refused fits spared h = absurd (false≢true h)
-asked_hears t e m Unoffered fits spared h = absurd (false≢true h)
-asked_hears t e m (Carried from until) fits spared h = absurd (false≢true h)
-asked_hears t e m Unanswered fits spared h = absurd (false≢true h)
-asked_hears t e m Missed fits spared h = absurd (false≢true h)
+asked_hears : (t : ℕ) (e : Entry) (m : Said) (s : Standing) → StandingFits t e s → clears_by e.channel m.heard m.heard.kind ≡ false → contradicts s m.heard ≡ false → is_enquired s ≡ true → is_up (hears m t s).standing ≡ true
+asked_hears t e m (OnCall c a) fits spared agrees h = heard_by (λ (x : Transition PlainNetCall). is_up (follows a t x).standing ≡ true) c m.heard t c.state m.heard.kind
+    (λ asked due is q. absurd (true≢false (sym q ∙ agrees)))
+    (asked_row c.reference c.channel c.origin c.state a m.heard t m.heard.kind h (subst (λ ch. clears_by ch m.heard m.heard.kind ≡ false) (sym fits.channel) spared))
+asked_hears t e m Refused fits spared agrees h = absurd (false≢true h)
+asked_hears t e m Unoffered fits spared agrees h = absurd (false≢true h)
+asked_hears t e m (Carried from until) fits spared agrees h = absurd (false≢true h)
+asked_hears t e m Unanswered fits spared agrees h = absurd (false≢true h)
+asked_hears t e m Missed fits spared agrees h = absurd (false≢true h)
 
 pub asked_going : (s : Standing) → is_enquired s ≡ true → is_going s ≡ true
 asked_going (OnCall c a) h = at c.state h
@@ -502,10 +509,17 @@ unsettled_from Missed p q = refl
 pub fits_now : (rows : List Row) (assigned : List (Option ℕ)) (t i : ℕ) (d : Day) → IsHearing rows assigned t d → StandingFits t (entry_at d.entries i) (standing_at d i)
 fits_now rows assigned t i d h = subst (λ n. StandingFits n (entry_at d.entries i) (standing_at d i)) h.turn.moment (fits_at d i h.turn.fits.day)
 
+spared_both : (d : Day) (octets : List ℕ) (i : ℕ) (m : Said) → Spares octets d → said_in octets ≡ Some m → is_going (standing_at d i) ≡ true → names m (entry_at d.entries i) ≡ true → (clears_by (entry_at d.entries i).channel m.heard m.heard.kind ≡ false) × (contradicts (standing_at d i) m.heard ≡ false)
+spared_both d octets i m spares is going named =
+    let test : Heard → Bool = λ x. clears_by (entry_at d.entries i).channel x x.kind || contradicts (standing_at d i) x in
+    or_parts (clears_by (entry_at d.entries i).channel m.heard m.heard.kind) (contradicts (standing_at d i) m.heard)
+    (and_rest (names m (entry_at d.entries i)) (test m.heard) false named (sym (ap (tells test (entry_at d.entries i)) is) ∙ spares i going))
+
 pub spared_now : (d : Day) (octets : List ℕ) (i : ℕ) (m : Said) → Spares octets d → said_in octets ≡ Some m → is_going (standing_at d i) ≡ true → names m (entry_at d.entries i) ≡ true → clears_by (entry_at d.entries i).channel m.heard m.heard.kind ≡ false
-spared_now d octets i m spares is going named =
-    let test : Heard → Bool = λ x. clears_by (entry_at d.entries i).channel x x.kind in
-    and_rest (names m (entry_at d.entries i)) (test m.heard) false named (sym (ap (tells test (entry_at d.entries i)) is) ∙ spares i going)
+spared_now d octets i m spares is going named = (spared_both d octets i m spares is going named).0
+
+pub spared_report : (d : Day) (octets : List ℕ) (i : ℕ) (m : Said) → Spares octets d → said_in octets ≡ Some m → is_going (standing_at d i) ≡ true → names m (entry_at d.entries i) ≡ true → contradicts (standing_at d i) m.heard ≡ false
+spared_report d octets i m spares is going named = (spared_both d octets i m spares is going named).1
 
 pub live_not_open : (d : Day) (e : Entry) → is_live e.standing ≡ true → is_open d e ≡ true → ⊥
 live_not_open d e live op = no (e.standing) live (is_open_unoffered d e op)
@@ -535,7 +549,7 @@ going_octets rows assigned t i e0 octets rest d h spares g = at (said_in octets)
         (λ here. subst (GoesOnTo e0 rest) (sym (heard_here rows assigned t d octets i m h is here)) (rings_hears t e0 e m octets rest e.standing (fits_now rows assigned t i d h) is (spared_now d octets i m spares is (ringing_going e.standing rings).0 here) rings named told))
         (λ other. heard_other (GoesOnTo e0 rest) d octets i m is other (Rings rings named (told_rest (λ x. is_connect x.kind) e0 octets rest (Some m) is (and_none (names m e0) (is_connect m.heard.kind) (sym (named m) ∙ other)) told)) (λ op. absurd (live_not_open d e (going_live e.standing (ringing_going e.standing rings).0) op)))
     at (Some m) is (Asked asked named told) = decide (names m e)
-        (λ here. subst (GoesOnTo e0 rest) (sym (heard_here rows assigned t d octets i m h is here)) (Settled (asked_hears t e m e.standing (fits_now rows assigned t i d h) (spared_now d octets i m spares is (asked_going e.standing asked) here) asked)))
+        (λ here. subst (GoesOnTo e0 rest) (sym (heard_here rows assigned t d octets i m h is here)) (Settled (asked_hears t e m e.standing (fits_now rows assigned t i d h) (spared_now d octets i m spares is (asked_going e.standing asked) here) (spared_report d octets i m spares is (asked_going e.standing asked) here) asked)))
         (λ other. heard_other (GoesOnTo e0 rest) d octets i m is other (Asked asked named (told_rest (λ x. true) e0 octets rest (Some m) is (and_none (names m e0) true (sym (named m) ∙ other)) told)) (λ op. absurd (live_not_open d e (going_live e.standing (asked_going e.standing asked)) op)))
 
 going_all : (rows : List Row) (assigned : List (Option ℕ)) (t i : ℕ) (e0 : Entry) (received : List (List ℕ)) (d : Day) → IsHearing rows assigned t d → SparesAll received d → GoesOnTo e0 received (entry_at d.entries i) → GoesOnTo e0 [] (entry_at (heard_in received d).entries i)
@@ -559,7 +573,9 @@ clearing_live Missed h = absurd (false≢true h)
 
 pub clears_hears : (t : ℕ) (e0 e : Entry) (m : Said) (octets : List ℕ) (rest : List (List ℕ)) (s : Standing) → said_in octets ≡ Some m → is_clearing s ≡ true → ((x : Said) → names_call x s ≡ names x e0) → is_told (λ x. is_release x.kind) e0 (octets ∷ rest) ≡ true → Passes e0 rest (with_standing e (hears m t s).standing)
 clears_hears t e0 e m octets rest (OnCall c a) is clearing named told =
-    let g : GetsCleared c.reference c.origin m.heard.kind (hears m t (OnCall c a)).standing = cleared_row c.reference c.channel c.origin (net_awake_state c.state) a m.heard t m.heard.kind (awake_clearing c.state clearing) in
+    let g : GetsCleared c.reference c.origin m.heard.kind (hears m t (OnCall c a)).standing = heard_by (λ (x : Transition PlainNetCall). GetsCleared c.reference c.origin m.heard.kind (follows a t x).standing) c m.heard t c.state m.heard.kind
+        (λ asked due is q. absurd (false≢true (subst (λ (s : NetState). net_is_clearing s ≡ true) is clearing)))
+        (cleared_row c.reference c.channel c.origin (net_awake_state c.state) a m.heard t m.heard.kind (awake_clearing c.state clearing)) in
     decide (is_live (hears m t (OnCall c a)).standing)
     (λ live. Clears (g.clearing live) (λ x. names_same x c.reference c.origin (hears m t (OnCall c a)).standing (g.same live) ∙ named x)
     (decide (is_release m.heard.kind)

@@ -1,5 +1,5 @@
 -- A call that is asked for in vain is not Active for long, and without an outage none is asked for.
-use Rattle.std.proofs.Common.{◌≡◌, ℕ, zero, suc, ◌+◌, ◌≤◌, ◌<◌, Bool, true, false, List, [], ◌∷◌, map, Option, Some, None, arith, refl, nat_le, Result, Ok, Err, ◌==◌}
+use Rattle.std.proofs.Common.{◌≡◌, ℕ, zero, suc, ◌+◌, ◌≤◌, ◌<◌, Bool, true, false, List, [], ◌∷◌, map, Option, Some, None, arith, refl, sym, ap, subst, ◌∙◌, not, ◌&&◌, nat_le, Result, Ok, Err, ◌==◌}
 use Rattle.std.specs.List.{AllByRecursion, position}
 use Rattle.std.proofs.lemmas.Bool.{leb-false, true≢false, false≢true}
 use Rattle.bx_q931.specs.Messages.{PlainMessage, message_at}
@@ -23,7 +23,7 @@ use Rattle.bx_calls.specs.declared.net_state.Asked.TheVariants.{NotYet, Once, Tw
 use Rattle.bx_calls.specs.declared.net_state.NetState.{NetState}
 use Rattle.bx_calls.specs.declared.net_state.NetState.TheVariants.{OutgoingCallProceeding, CallPresent, IncomingCallProceeding, CallReceived, Active, Enquiring, DisconnectIndication, ReleaseRequest}
 use Rattle.bx_calls.specs.Hearing.{Heard, names_channel, reports_null}
-use Rattle.bx_calls.specs.NetTable.{net_disconnects, net_is_clearing, net_awake_state, net_row, net_second, net_unlinked}
+use Rattle.bx_calls.specs.NetTable.{net_disconnects, net_is_clearing, net_awake_state, net_heard, net_message, fits_active, reports_other, net_row, net_second, net_unlinked}
 use Rattle.bx_calls.specs.Said.{Said, said_of}
 use Rattle.bx_calls.specs.Sending.{Sent, Answered}
 use Rattle.bx_day.specs.Day.{Day, entry_at, is_free, opening, entry_of, entries_from, every_channel}
@@ -39,6 +39,7 @@ use Rattle.bx_day.specs.declared.entry.Moved.{Moved}
 use Rattle.bx_day.specs.declared.entry.Link.TheVariants.{Up}
 use Rattle.bx_day.specs.declared.entry.Standing.{Standing}
 use Rattle.bx_day.specs.declared.entry.Standing.TheVariants.{Refused, Unoffered, OnCall, Carried, Unanswered, Missed}
+use Rattle.bx_day.proofs.Hear.{heard_by}
 use Rattle.bx_day.proofs.Second.{call_of}
 use Rattle.bx_day.proofs.Tick.{by_cases, with_standing, offers}
 use Rattle.bx_day.proofs.Law.{all_update}
@@ -143,6 +144,43 @@ lost_at c (ReleaseRequest again cause due) t end h = absurd (false≢true h)
 pub asked_in_vain : (c : PlainNetCall) (t end : ℕ) → is_active c.state ≡ true → is_up (call_after 9 t end (net_unlinked 1 c t end).next) ≡ false
 asked_in_vain c t end h = lost_at c c.state t end h
 
+-- ---- a report of a state that does not fit
+
+is_null : (b c : Bool) → (not b && not c) ≡ false → c ≡ false → b ≡ true
+is_null true c p q = refl
+is_null false true p q = absurd (true≢false q)
+is_null false false p q = absurd (true≢false p)
+
+report_ends : (c : PlainNetCall) (m : Heard) (t n : ℕ) (s : NetState) → is_asked s ≡ true → m.state ≡ Some n → fits_active c.origin n ≡ false → is_up (net_heard c m t s Status).next ≡ false
+report_ends c m t n (Enquiring asked due) a state unfit = by_cases (reports_other c.origin m.state) _ _ (λ (x : Transition PlainNetCall). is_up x.next ≡ false)
+    (λ _. refl)
+    (λ q. (let null : reports_null m.state ≡ true = ap reports_null state ∙ is_null (n == 0) (fits_active c.origin n) (sym (ap (reports_other c.origin) state) ∙ q) unfit in
+    by_cases (reports_null m.state) _ _ (λ (x : Transition PlainNetCall). is_up x.next ≡ false) (λ _. refl) (λ p. absurd (true≢false (sym null ∙ p)))))
+report_ends c m t n OutgoingCallProceeding a state unfit = absurd (false≢true a)
+report_ends c m t n (CallPresent again due) a state unfit = absurd (false≢true a)
+report_ends c m t n (IncomingCallProceeding due) a state unfit = absurd (false≢true a)
+report_ends c m t n (CallReceived due) a state unfit = absurd (false≢true a)
+report_ends c m t n Active a state unfit = absurd (false≢true a)
+report_ends c m t n (DisconnectIndication cause due) a state unfit = absurd (false≢true a)
+report_ends c m t n (ReleaseRequest again cause due) a state unfit = absurd (false≢true a)
+
+pub reported_down : (c : PlainNetCall) (m : Heard) (t n : ℕ) → is_asked c.state ≡ true → m.kind ≡ Status → m.state ≡ Some n → fits_active c.origin n ≡ false → is_up (net_message c m t).next ≡ false
+reported_down c m t n a kind state unfit = subst (λ (k : Kind). is_up (net_heard c m t c.state k).next ≡ false) (sym kind) (report_ends c m t n c.state a state unfit)
+
+-- a call that is not asked for does as the table of messages says
+pub unasked_row : (c : PlainNetCall) (m : Heard) (t : ℕ) → is_asked c.state ≡ false → net_message c m t ≡ net_row c m t c.state m.kind
+unasked_row c m t h = at c.state h
+  where
+    at : (s : NetState) → is_asked s ≡ false → net_heard c m t s m.kind ≡ net_row (record c { state = s }) m t s m.kind
+    at (Enquiring asked due) q = absurd (true≢false q)
+    at Active q = refl
+    at OutgoingCallProceeding q = refl
+    at (CallPresent again due) q = refl
+    at (IncomingCallProceeding due) q = refl
+    at (CallReceived due) q = refl
+    at (DisconnectIndication cause due) q = refl
+    at (ReleaseRequest again cause due) q = refl
+
 -- ---- no call is asked for without an outage
 
 abbrev StepUnasked : Activity → ℕ → Transition PlainNetCall → Type 0
@@ -195,17 +233,20 @@ awake_unasked (Enquiring asked due) = refl
 awake_unasked (DisconnectIndication cause due) = refl
 awake_unasked (ReleaseRequest again cause due) = refl
 
+heard_unasked : (c : PlainNetCall) (m : Heard) (t : ℕ) (a : Activity) → StepUnasked a t (net_message c m t)
+heard_unasked c m t a = heard_by (StepUnasked a t) c m t c.state m.kind (λ asked due is q. refl) (row_unasked c.reference c.channel c.origin t a m (net_awake_state c.state) m.kind (awake_unasked c.state))
+
 hears_unasked : (m : Said) (t : ℕ) (s : Standing) → StandingUnasked s → StandingUnasked (hears m t s).standing
-hears_unasked m t (OnCall c a) h = row_unasked c.reference c.channel c.origin t a m.heard (net_awake_state c.state) m.heard.kind (awake_unasked c.state)
+hears_unasked m t (OnCall c a) h = heard_unasked c m.heard t a
 hears_unasked m t Refused h = tt
 hears_unasked m t Unoffered h = tt
 hears_unasked m t (Carried from until) h = tt
 hears_unasked m t Unanswered h = tt
 hears_unasked m t Missed h = tt
 
--- and any message of a call wakes it
+-- and no call is asked for behind a message of it
 pub hears_awake : (m : Said) (t : ℕ) (s : Standing) → StandingUnasked (hears m t s).standing
-hears_awake m t (OnCall c a) = row_unasked c.reference c.channel c.origin t a m.heard (net_awake_state c.state) m.heard.kind (awake_unasked c.state)
+hears_awake m t (OnCall c a) = heard_unasked c m.heard t a
 hears_awake m t Refused = tt
 hears_awake m t Unoffered = tt
 hears_awake m t (Carried from until) = tt

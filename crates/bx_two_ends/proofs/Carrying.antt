@@ -1,5 +1,5 @@
 -- A booking's standing while it is carried: what a second and a message make of it.
-use Rattle.std.proofs.Common.{◌≡◌, ℕ, ◌≤◌, ◌<◌, Bool, true, false, Option, ◌&&◌, not, arith, refl, sym, ◌∙◌, nat_le, inl, inr, ◌⊎◌, if◌then◌else◌}
+use Rattle.std.proofs.Common.{◌≡◌, ℕ, ◌≤◌, ◌<◌, Bool, true, false, Option, ◌&&◌, not, arith, refl, sym, subst, ◌∙◌, nat_le, inl, inr, ◌⊎◌, if◌then◌else◌}
 use Rattle.std.proofs.lemmas.Bool.{leb-true, leb-false, true≢false, false≢true}
 use Rattle.bx_q931.specs.Outgoing.{Outgoing}
 use Rattle.bx_q931.specs.declared.kind.Kind.{Kind}
@@ -29,6 +29,7 @@ use Rattle.bx_day.specs.declared.entry.Entry.{Entry}
 use Rattle.bx_day.specs.declared.entry.Moved.{Moved}
 use Rattle.bx_day.specs.declared.entry.Standing.{Standing}
 use Rattle.bx_day.specs.declared.entry.Standing.TheVariants.{Refused, Unoffered, OnCall, Carried, Unanswered, Missed}
+use Rattle.bx_day.proofs.Hear.{heard_by}
 use Rattle.bx_day.proofs.Second.{call_of}
 use Rattle.bx_day.proofs.Tick.{by_cases, offers}
 
@@ -340,7 +341,9 @@ over_awake u end Active a h = h
 over_awake u end (Enquiring asked due) a h = absurd h
 
 pub over_hears : (u t end : ℕ) (m : Said) (s : Standing) → IsOver u end s → IsOver u end (hears m t s).standing
-over_hears u t end m (OnCall c a) h = over_row u t end c.reference c.channel c.origin m.heard (net_awake_state c.state) a m.heard.kind (over_awake u end c.state a h)
+over_hears u t end m (OnCall c a) h = heard_by (λ (x : Transition PlainNetCall). IsOver u end (follows a t x).standing) c m.heard t c.state m.heard.kind
+    (λ asked due is q. absurd (subst (λ (s : NetState). ClearsBy u end s a) is h))
+    (over_row u t end c.reference c.channel c.origin m.heard (net_awake_state c.state) a m.heard.kind (over_awake u end c.state a h))
 over_hears u t end m Refused h = absurd h
 over_hears u t end m Unoffered h = absurd h
 over_hears u t end m (Carried from until) h = h

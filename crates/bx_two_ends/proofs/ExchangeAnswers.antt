@@ -1,7 +1,7 @@
 -- The exchange in a turn: it hears what the far end has said, and answers.
-use Rattle.std.proofs.Common.{◌≡◌, ◌≢◌, ◌⊎◌, inl, inr, ℕ, zero, suc, ◌+◌, ◌<◌, ◌==◌, ◌&&◌, ◌%◌, slice_set, not, Bool, true, false, List, [], ◌∷◌, ◌++◌, length, map, Option, Some, None, refl, sym, ap, subst, ◌∙◌, arith, if◌then◌else◌}
+use Rattle.std.proofs.Common.{◌≡◌, ◌≢◌, ◌⊎◌, inl, inr, ℕ, zero, suc, ◌+◌, ◌<◌, ◌==◌, ◌&&◌, ◌||◌, ◌%◌, slice_set, not, Bool, true, false, List, [], ◌∷◌, ◌++◌, length, map, Option, Some, None, refl, sym, ap, subst, ◌∙◌, arith, if◌then◌else◌}
 use Rattle.std.specs.List.{AllByRecursion, list_any, position}
-use Rattle.std.proofs.lemmas.Bool.{false≢true, true≢false, and_from, and_parts, eq-eqb, eqb-true, or_left, cases_eq, false_from_ne_true}
+use Rattle.std.proofs.lemmas.Bool.{false≢true, true≢false, and_from, and_parts, eq-eqb, eqb-true, or_left, or_from, cases_eq, false_from_ne_true}
 use Rattle.std.proofs.lemmas.List.{append-nil, append_assoc}
 use Rattle.bx_base.specs.Bookings.{Row}
 use Rattle.bx_q931.specs.declared.kind.Kind.TheVariants.{Connect, ConnectAcknowledge, Release, ReleaseComplete, Status}
@@ -9,7 +9,7 @@ use Rattle.bx_q931.specs.Outgoing.{Outgoing, IsCallReference, out_octets, messag
 use Rattle.bx_q931.specs.Parts.{channel_part}
 use Rattle.bx_q931.proofs.PartsLemmas.{written_again, has_parts}
 use Rattle.bx_calls.specs.Hearing.{Heard, names_channel, reports_null}
-use Rattle.bx_calls.specs.NetTable.{net_row, net_message, net_awake_state, net_flag, net_is_clearing, net_says, net_same, net_to, net_status, net_releases}
+use Rattle.bx_calls.specs.NetTable.{net_row, net_message, net_heard, net_is_contradicted, net_awake_state, net_flag, net_is_clearing, net_says, net_same, net_to, net_status, net_releases}
 use Rattle.bx_calls.specs.PlainCalls.{PlainNetCall}
 use Rattle.bx_calls.specs.Said.{Said, said_of}
 use Rattle.bx_calls.specs.Sending.{Answered, unchanged, reply_list}
@@ -21,7 +21,7 @@ use Rattle.bx_calls.specs.declared.unknown_reference.Side.TheVariants.{Network}
 use Rattle.bx_calls.specs.declared.net_state.NetState.{NetState}
 use Rattle.bx_calls.specs.declared.net_state.NetState.TheVariants as net
 use Rattle.bx_calls.specs.declared.transition.Transition.{Transition}
-use Rattle.bx_two_ends.specs.Answering.{is_ringing, is_clearing, said_in, said_read, tells, clears_by, Spares, SparesAll}
+use Rattle.bx_two_ends.specs.Answering.{is_ringing, is_clearing, is_enquired, said_in, said_read, tells, clears_by, contradicts, Spares, SparesAll}
 use Rattle.bx_day.specs.Day.{Day, entry_at, is_live}
 use Rattle.bx_two_ends.specs.Earning.{heard_in, is_going}
 use Rattle.bx_day.specs.Invariant.{StandingFits}
@@ -35,6 +35,8 @@ use Rattle.bx_day.specs.declared.entry.Entry.{Entry}
 use Rattle.bx_day.specs.declared.entry.Moved.{Moved}
 use Rattle.bx_day.specs.declared.entry.Standing.{Standing}
 use Rattle.bx_day.specs.declared.entry.Standing.TheVariants.{Refused, Unoffered, OnCall, Carried, Unanswered, Missed}
+use Rattle.bx_two_ends.specs.Asking.{is_asked}
+use Rattle.bx_two_ends.proofs.Asking.{awake_unasked}
 use Rattle.bx_two_ends.proofs.Answering.{IsHearing, hears_next, is_up, going_live}
 use Rattle.bx_two_ends.proofs.Naming.{named_found, names_live, live_inside, set_at}
 use Rattle.bx_day.proofs.Once.{decide}
@@ -195,7 +197,17 @@ indicated_awake (net.ReleaseRequest again cause due) p = refl
 indicated_awake (net.Enquiring asked due) p = absurd p
 
 awake_row : (x : PlainNetCall) (h : Heard) (t : ℕ) → net_awake_state x.state ≡ x.state → net_message x h t ≡ net_row x h t x.state h.kind
-awake_row x h t is = ap (λ s. net_row (record x { state = s }) h t s h.kind) is
+awake_row x h t is = at x.state is
+  where
+    at : (s : NetState) → net_awake_state s ≡ s → net_heard x h t s h.kind ≡ net_row (record x { state = s }) h t s h.kind
+    at (net.Enquiring asked due) q = absurd (false≢true (ap is_asked q))
+    at net.Active q = refl
+    at net.OutgoingCallProceeding q = refl
+    at (net.CallPresent again due) q = refl
+    at (net.IncomingCallProceeding due) q = refl
+    at (net.CallReceived due) q = refl
+    at (net.DisconnectIndication cause due) q = refl
+    at (net.ReleaseRequest again cause due) q = refl
 
 connect_row : (x : PlainNetCall) (h : Heard) (t : ℕ) (s : NetState) → PresentIn s → names_channel h.channel x.channel ≡ true → net_row x h t s Connect ≡ net_to x (Some (net_says x ConnectAcknowledge)) net.Active
 connect_row x h t (net.CallPresent again due) p is = ap (λ b. if b then net_to x (Some (net_says x ConnectAcknowledge)) net.Active else net_releases x false (Some 6) t) is
@@ -448,17 +460,56 @@ indicated_not_going i (Carried from until) p g = p
 indicated_not_going i Unanswered p g = p
 indicated_not_going i Missed p g = p
 
+-- and it is not asked for
+pub outward_unasked : (P : NetState → Type 0) → ((n : NetState) → P n → net_awake_state n ≡ n) → (i : ℕ) (s : Standing) → OutwardIn P i s → is_enquired s ≡ false
+outward_unasked P w i (OnCall x a) p = sym (ap is_asked (w x.state p.0)) ∙ awake_unasked x.state
+outward_unasked P w i Refused p = absurd p
+outward_unasked P w i Unoffered p = absurd p
+outward_unasked P w i (Carried from until) p = absurd p
+outward_unasked P w i Unanswered p = absurd p
+outward_unasked P w i Missed p = absurd p
+
+live_unasked : (c : Day) (rest said : List Outgoing) (j : ℕ) (s : Standing) → AllKinds c → AtX c rest said j s → is_live s ≡ true → is_enquired s ≡ false
+live_unasked c rest said j s kinds h live = decide (is_live (standing_at c j))
+    (λ was. at (kinds j was))
+    (λ idle. absurd (true≢false (sym live ∙ h.idle idle)))
+  where
+    at : Kinds c j → is_enquired s ≡ false
+    at (Ringing r) = elim (h.ringing r) [ inl p ↦ outward_unasked PresentIn present_awake j s p.0 | inr p ↦ outward_unasked ActiveIn active_awake j s p.0 ]
+    at (Clearing r) = elim (h.clearing r) [ inl p ↦ outward_unasked IndicatedIn indicated_awake j s p.0 | inr p ↦ absurd (true≢false (sym live ∙ p.0)) ]
+    at (Settled u) = outward_unasked ActiveIn active_awake j s (h.settled u)
+
+agrees_unasked : (s : Standing) (m : Heard) → is_enquired s ≡ false → contradicts s m ≡ false
+agrees_unasked (OnCall x a) m h = at x.state h
+  where
+    at : (n : NetState) → is_asked n ≡ false → net_is_contradicted n x.origin m m.kind ≡ false
+    at (net.Enquiring asked due) q = absurd (true≢false q)
+    at net.Active q = refl
+    at net.OutgoingCallProceeding q = refl
+    at (net.CallPresent again due) q = refl
+    at (net.IncomingCallProceeding due) q = refl
+    at (net.CallReceived due) q = refl
+    at (net.DisconnectIndication cause due) q = refl
+    at (net.ReleaseRequest again cause due) q = refl
+agrees_unasked Refused m h = refl
+agrees_unasked Unoffered m h = refl
+agrees_unasked (Carried from until) m h = refl
+agrees_unasked Unanswered m h = refl
+agrees_unasked Missed m h = refl
+
 spares_x : (rows : List Row) (assigned : List (Option ℕ)) (c : Day) (t : ℕ) (o : Outgoing) (rest said : List Outgoing) (d : Day) → AllKinds c → FromFar c o → Hears rows assigned c t (o ∷ rest) said d → Spares (out_octets o) d
 spares_x rows assigned c t o rest said d kinds m h j going =
     ap (tells test (entry_at d.entries j)) (said_again o m.sendable) ∙ decide (names (said_from o) (entry_at d.entries j))
-    (λ named. ap (λ b. b && test (said_from o).heard) named ∙ at m.says (live_ref c (o ∷ rest) said j (said_from o) (standing_at d j) kinds (h.calls j) (going_live (standing_at d j) going) named))
+    (λ named. ap (λ b. b && test (said_from o).heard) named ∙ or_from (clears_by ch (said_from o).heard (said_from o).heard.kind) (contradicts (standing_at d j) (said_from o).heard)
+        (at m.says (live_ref c (o ∷ rest) said j (said_from o) (standing_at d j) kinds (h.calls j) (going_live (standing_at d j) going) named))
+        (agrees_unasked (standing_at d j) (said_from o).heard (live_unasked c (o ∷ rest) said j (standing_at d j) kinds (h.calls j) (going_live (standing_at d j) going))))
     (λ other. and_off (names (said_from o) (entry_at d.entries j)) (test (said_from o).heard) other)
   where
     ch : ℕ
     ch = (entry_at d.entries j).channel
 
     test : Heard → Bool
-    test x = clears_by (entry_at d.entries j).channel x x.kind
+    test x = clears_by (entry_at d.entries j).channel x x.kind || contradicts (standing_at d j) x
 
     same_index : (i : ℕ) → o.reference ≡ suc i → o.reference ≡ suc j → i ≡ j
     same_index i p q = (let r : suc i ≡ suc j = sym p ∙ q in omega (arith, r))

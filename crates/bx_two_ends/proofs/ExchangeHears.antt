@@ -15,7 +15,7 @@ use Rattle.bx_calls.specs.declared.transition.Next.{Next}
 use Rattle.bx_calls.specs.declared.transition.Next.TheVariants.{Live, Over, Broken}
 use Rattle.bx_calls.specs.declared.unknown_reference.Side.{Side}
 use Rattle.bx_calls.specs.PlainCalls.{PlainNetCall}
-use Rattle.bx_calls.specs.NetTable.{net_flag, net_awake_state, net_message}
+use Rattle.bx_calls.specs.NetTable.{net_flag, net_message}
 use Rattle.bx_calls.specs.UnknownTable.{unknown_row, unknown_status}
 use Rattle.bx_calls.specs.declared.unknown_reference.Side.TheVariants.{Network}
 use Rattle.bx_day.specs.declared.entry.Activity.{Activity}
@@ -33,10 +33,10 @@ use Rattle.bx_day.specs.Law.{standing_at}
 use Rattle.bx_day.proofs.Indices.{position_next}
 use Rattle.bx_day.proofs.Receive.{all_at, Passes, index_passes, OpenAt, open_parts, open_index, open_lowest}
 use Rattle.bx_day.proofs.Said.{OfSaid}
-use Rattle.bx_day.proofs.Sent.{row_plain, is_plain}
+use Rattle.bx_day.proofs.Sent.{heard_plain, is_plain}
 use Rattle.bx_day.proofs.Tick.{by_cases, with_standing}
 use Rattle.bx_two_ends.proofs.Delivery.{said_from}
-use Rattle.bx_two_ends.proofs.NetworkRows.{heard_goes, row_says, OfCall, Mild, clears_as}
+use Rattle.bx_two_ends.proofs.NetworkRows.{heard_goes, heard_says, OfCall, Mild, clears_as}
 use Rattle.bx_two_ends.proofs.History.{from_beginner, from_other, is_setup_kind, sets_up, clears, has_more, has_none, none_all, IsIn, beginner_parts, is_from_other, not_both, listed, said_map, said_both}
 use Rattle.bx_two_ends.proofs.Outward.{is_started, Seat, Seats, OutwardSent, OutwardSents, OutwardStanding, OutwardStandings}
 use Rattle.bx_two_ends.proofs.ExchangeTicks.{sents_grow, goes_outward, follow_calm, follow_started, outward_row}
@@ -182,8 +182,8 @@ heard_one assigned sent far_sent t i o e (OnCall c a) named seat fits outward is
     (λ x k q f. let g : net_flag c.origin ≡ false = sym k.1 ∙ f in let r : x.reference ≡ suc i = k.0 ∙ row g in
     (r, record { known = subst (λ n. list_any (sets_up n) sent ≡ true) (sym r) (outward g).known; other = not_setup x.kind q }))
     step.reply
-    (row_says c.reference c.channel c.origin t (said_from o).heard (net_awake_state c.state) o.kind)
-    (row_plain c.reference c.channel c.origin t (said_from o).heard (net_awake_state c.state) o.kind) in
+    (heard_says c.reference c.channel c.origin t (said_from o).heard c.state o.kind)
+    (heard_plain c.reference c.channel c.origin t (said_from o).heard c.state o.kind) in
     record {
       refused = λ _. refl;
       started = λ _. follow_started a t step.reply step.next;

@@ -8,7 +8,7 @@ use Rattle.bx_q931.specs.declared.channel_field.ChannelField.{ChannelField}
 use Rattle.bx_q931.specs.declared.channel_field.ChannelField.TheVariants.{Absent, Named, AnyChannel, Unread}
 use Rattle.bx_q931.specs.Outgoing.{Outgoing, IsCallReference}
 use Rattle.bx_calls.specs.PlainCalls.{PlainNetCall}
-use Rattle.bx_calls.specs.NetTable.{net_awake_state, net_second, net_message}
+use Rattle.bx_calls.specs.NetTable.{net_second, net_message}
 use Rattle.bx_calls.specs.declared.net_state.NetState.{NetState}
 use Rattle.bx_calls.specs.declared.transition.Transition.{Transition}
 use Rattle.bx_calls.specs.declared.transition.Next.{Next}
@@ -35,7 +35,7 @@ use Rattle.bx_two_ends.proofs.NetworkRows.{Goes, OnNext, second_goes, heard_goes
 use Rattle.bx_two_ends.proofs.Outward.{Seat, Seats}
 use Rattle.bx_two_ends.proofs.ExchangeTicks.{after_at, all_from, follow_said}
 use Rattle.bx_two_ends.proofs.ExchangeHears.{set_at}
-use Rattle.bx_two_ends.proofs.MessageLimits.{NumberOf, row_ok, second_ok, unknown_ok, refusal_ok, channel_ok, setup_ok}
+use Rattle.bx_two_ends.proofs.MessageLimits.{NumberOf, heard_ok, second_ok, unknown_ok, refusal_ok, channel_ok, setup_ok}
 use Rattle.bx_two_ends.specs.TwoEndsInward.{is_connect_kind}
 use Rattle.bx_day.specs.declared.entry.Link.TheVariants.{Up}
 
@@ -108,7 +108,7 @@ hears_ok : (o : Outgoing) (t : ℕ) (s : Standing) → StandingWithin s → Move
 hears_ok o t (OnCall c a) h =
     let step : Transition PlainNetCall = net_message c (said_from o).heard t in
     record {
-      said = follow_said Sendable a t step.reply step.next (row_ok c.reference c.channel c.origin t (said_from o).heard (net_awake_state c.state) o.kind h.reference);
+      said = follow_said Sendable a t step.reply step.next (heard_ok c.reference c.channel c.origin t (said_from o).heard c.state o.kind h.reference);
       standing = follow_within c c.state (is_connect_kind o.kind) a t step.reply step.reply step.next (heard_goes c.reference c.channel c.origin t (said_from o).heard c.state o.kind) h;
     }
 hears_ok o t Refused h = record { said = tt; standing = tt }

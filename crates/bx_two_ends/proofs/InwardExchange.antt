@@ -9,7 +9,7 @@ use Rattle.bx_q931.specs.declared.kind.Kind.TheVariants.{Setup}
 use Rattle.bx_q931.specs.Outgoing.{Outgoing}
 use Rattle.bx_q931.specs.Parts.{channel_part}
 use Rattle.bx_calls.specs.PlainCalls.{PlainNetCall}
-use Rattle.bx_calls.specs.NetTable.{net_flag, net_second, net_unlinked, net_awake_state, net_message}
+use Rattle.bx_calls.specs.NetTable.{net_flag, net_second, net_unlinked, net_message}
 use Rattle.bx_calls.specs.UnknownTable.{unknown_row, refusal_of}
 use Rattle.bx_calls.specs.declared.transition.Transition.{Transition}
 use Rattle.bx_calls.specs.declared.transition.Next.{Next}
@@ -37,7 +37,7 @@ use Rattle.bx_day.proofs.Said.{OfSaid, all_over}
 use Rattle.bx_day.proofs.Tick.{by_cases, offers, with_standing}
 use Rattle.bx_two_ends.specs.TwoEndsInward.{answered_as, exchange_holds, is_connect_kind}
 use Rattle.bx_two_ends.proofs.Delivery.{said_from}
-use Rattle.bx_two_ends.proofs.NetworkRows.{Speaks, second_speaks, unlinked_says, OfCall, row_says, clears_as}
+use Rattle.bx_two_ends.proofs.NetworkRows.{Speaks, second_speaks, unlinked_says, OfCall, heard_says, clears_as}
 use Rattle.bx_two_ends.proofs.History.{from_beginner, clears, IsIn, is_from_beginner, all_joined, all_map, said_map, listed, implied_false, or_first}
 use Rattle.bx_two_ends.proofs.ExchangeTicks.{all_from, follow_said}
 use Rattle.bx_two_ends.proofs.ExchangeHears.{Unknown, unknown_says}
@@ -345,7 +345,7 @@ heard_moves named next far_sent t o e (OnCall c a) named_by is_in h on =
     let p = and_parts (c.reference == o.reference) (bool_eq (net_flag c.origin) (not o.flag)) named_by in
     call_moves named next far_sent e.channel c a t (clears_as o.kind o.state) false step.reply step.next h on (net_heard_moves c.reference c.channel c.origin t (said_from o).heard c.state o.kind)
     (λ f k. is_in (clears c.reference) (and_from (from_beginner c.reference o) (clears_as o.kind o.state) (is_from_beginner c.reference o (sym (eqb-true c.reference o.reference p.0)) (flags_meet (net_flag c.origin) o.flag p.1 f)) k))
-    (row_says c.reference c.channel c.origin t (said_from o).heard (net_awake_state c.state) o.kind)
+    (heard_says c.reference c.channel c.origin t (said_from o).heard c.state o.kind)
 heard_moves named next far_sent t o e Refused named_by is_in h on = absurd (false≢true named_by)
 heard_moves named next far_sent t o e Unoffered named_by is_in h on = absurd (false≢true named_by)
 heard_moves named next far_sent t o e (Carried from until) named_by is_in h on = absurd (false≢true named_by)

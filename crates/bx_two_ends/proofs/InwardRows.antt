@@ -20,7 +20,7 @@ use Rattle.bx_calls.specs.declared.user_state.UserState.{UserState}
 use Rattle.bx_calls.specs.declared.user_state.UserState.TheVariants as user
 use Rattle.bx_calls.specs.Hearing.{Heard, names_channel, reports_null}
 use Rattle.bx_calls.specs.States.{state_value, user_state}
-use Rattle.bx_calls.specs.NetTable.{net_awake_state, net_row, net_second, net_timer, net_is_clearing, net_unlinked, net_later}
+use Rattle.bx_calls.specs.NetTable.{net_heard, net_is_contradicted, net_row, net_second, net_timer, net_is_clearing, net_unlinked, net_later}
 use Rattle.bx_calls.specs.UserTable.{user_row, user_second, user_flag, user_releases}
 use Rattle.bx_day.proofs.Said.{OfSaid}
 use Rattle.bx_day.proofs.Second.{call_of}
@@ -121,8 +121,10 @@ asked_moves r ch o asked due cleared (Live c) g = record { reference = g.referen
 asked_moves r ch o asked due cleared Over g = g
 asked_moves r ch o asked due cleared Broken g = g
 
-pub net_heard_moves : (r ch : ℕ) (o : NetOrigin) (t : ℕ) (m : Heard) (s : NetState) (k : Kind) → NetRowMoves r ch o s m k (net_row (call_of r ch o (net_awake_state s)) m t (net_awake_state s) k)
-net_heard_moves r ch o t m (net.Enquiring asked due) k = asked_moves r ch o asked due (clears_as k m.state) (net_row (call_of r ch o net.Active) m t net.Active k).next (net_row_moves r ch o t m net.Active k)
+pub net_heard_moves : (r ch : ℕ) (o : NetOrigin) (t : ℕ) (m : Heard) (s : NetState) (k : Kind) → NetRowMoves r ch o s m k (net_heard (call_of r ch o s) m t s k)
+net_heard_moves r ch o t m (net.Enquiring asked due) k = by_cases (net_is_contradicted (net.Enquiring asked due) o m k) _ _ (NetRowMoves r ch o (net.Enquiring asked due) m k)
+    (λ _. leads r ch o (net.Enquiring asked due) _ refl)
+    (λ _. asked_moves r ch o asked due (clears_as k m.state) (net_row (call_of r ch o net.Active) m t net.Active k).next (net_row_moves r ch o t m net.Active k))
 net_heard_moves r ch o t m net.OutgoingCallProceeding k = net_row_moves r ch o t m net.OutgoingCallProceeding k
 net_heard_moves r ch o t m (net.CallPresent again due) k = net_row_moves r ch o t m (net.CallPresent again due) k
 net_heard_moves r ch o t m (net.IncomingCallProceeding due) k = net_row_moves r ch o t m (net.IncomingCallProceeding due) k

@@ -43,7 +43,7 @@ use Rattle.bx_far.specs.declared.row.ScriptRow.{ScriptRow}
 use Rattle.bx_two_ends.specs.Lockstep.{Ends, far_heard, far_says, exchange_says, ends_after, turns_from, ends_opening, AnswersAtOnce}
 use Rattle.bx_two_ends.specs.TwoEnds.{AreOnTheirOwn}
 use Rattle.bx_two_ends.proofs.Delivery.{Sendable, said_from}
-use Rattle.bx_two_ends.proofs.ExchangeAnswers.{present_awake, active_awake, indicated_awake, Hears, Kinds, Ringing, Clearing, Settled, AllKinds, HeardAll, hears_all, said_again, names_outward}
+use Rattle.bx_two_ends.proofs.ExchangeAnswers.{present_awake, active_awake, indicated_awake, outward_unasked, Hears, Kinds, Ringing, Clearing, Settled, AllKinds, HeardAll, hears_all, said_again, names_outward}
 use Rattle.bx_two_ends.proofs.FarAnswered.{InT, AtT, AtQ, IsReport, FarTicks, far_ticks, acks_as, completes_as, q_all}
 use Rattle.bx_two_ends.proofs.FarCalled.{ToFar, FromFar, Reports, connects_as, releases_as, is_connect_of, is_release_of, ends_as, InS, AtS, s_all, ring_live, clear_live, ring_not_clear, ring_not_up, clear_not_up}
 use Rattle.bx_two_ends.proofs.FarCalls.{all_calls, first_found}
@@ -159,14 +159,6 @@ kind_of c i was (Rings p w) live = Ringing (present_rings i (standing_at c i) p)
 kind_of c i was (Ended p w) live = Clearing (indicated_clears i (standing_at c i) p).0
 
 -- none is asked for
-outward_unasked : (P : NetState → Type 0) → ((n : NetState) → P n → net_awake_state n ≡ n) → (i : ℕ) (s : Standing) → OutwardIn P i s → is_enquired s ≡ false
-outward_unasked P w i (OnCall x a) p = sym (ap is_asked (w x.state p.0)) ∙ awake_unasked x.state
-outward_unasked P w i Refused p = absurd p
-outward_unasked P w i Unoffered p = absurd p
-outward_unasked P w i (Carried from until) p = absurd p
-outward_unasked P w i Unanswered p = absurd p
-outward_unasked P w i Missed p = absurd p
-
 idle_unasked : (s : Standing) → is_live s ≡ false → is_enquired s ≡ false
 idle_unasked (OnCall x a) h = absurd (true≢false h)
 idle_unasked Refused h = refl

@@ -23,11 +23,12 @@ use Rattle.bx_calls.specs.declared.user_state.UserState.TheVariants as user
 use Rattle.bx_calls.specs.Hearing.{Heard, names_channel, reports_null}
 use Rattle.bx_calls.specs.Saying.{with_cause, with_kept_cause, with_channel, status_of, setup_of}
 use Rattle.bx_calls.specs.States.{state_value, net_state, user_state}
-use Rattle.bx_calls.specs.NetTable.{net_row, net_second, net_timer, net_is_clearing, net_setup_again}
+use Rattle.bx_calls.specs.NetTable.{net_awake_state, net_heard, net_row, net_second, net_timer, net_is_clearing, net_setup_again}
 use Rattle.bx_calls.specs.UserTable.{user_row, user_second, user_takes, user_answers, user_clears, user_setup_again}
 use Rattle.bx_calls.specs.UnknownTable.{unknown_row, unknown_status, location_of, refusal_of}
 use Rattle.bx_calls.specs.declared.unknown_reference.Side.{Side}
 use Rattle.bx_calls.specs.declared.unknown_reference.Side.TheVariants.{Network, User}
+use Rattle.bx_day.proofs.Hear.{heard_by}
 use Rattle.bx_day.proofs.Said.{OfSaid}
 use Rattle.bx_day.proofs.Second.{call_of}
 use Rattle.bx_two_ends.proofs.Delivery.{Sendable}
@@ -102,6 +103,9 @@ row_ok r ch o t m s Notify h = tt
 row_ok r ch o t m s Information h = tt
 row_ok r ch o t m s (Other octet) h = status_ok r _ 2 97 (net_state s) h two
 row_ok r ch o t m s k h = status_ok r _ 2 101 (net_state s) h two
+
+pub heard_ok : (r ch : ℕ) (o : NetOrigin) (t : ℕ) (m : Heard) (s : NetState) (k : Kind) → IsCallReference r → OfSaid Sendable (net_heard (call_of r ch o s) m t s k).reply
+heard_ok r ch o t m s k h = heard_by NetOk (call_of r ch o s) m t s k (λ asked due is q. cause_ok r _ Release 2 101 h tt two) (row_ok r ch o t m (net_awake_state s) k h)
 
 again_ok : (r ch : ℕ) (o : NetOrigin) (s : NetState) → IsCallReference r → IsChannel ch → NumberOf o → OfSaid Sendable (net_setup_again (call_of r ch o s) o)
 again_ok r ch (Outward called) s h c n = setup_ok r ch called h c n

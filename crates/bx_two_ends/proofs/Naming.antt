@@ -31,6 +31,7 @@ use Rattle.bx_day.specs.declared.entry.Link.TheVariants.{Up, Down}
 use Rattle.bx_day.specs.declared.entry.Moved.{Moved}
 use Rattle.bx_day.specs.declared.entry.Standing.{Standing}
 use Rattle.bx_day.specs.declared.entry.Standing.TheVariants.{Refused, Unoffered, OnCall, Carried, Unanswered, Missed}
+use Rattle.bx_day.proofs.Hear.{heard_by}
 use Rattle.bx_day.proofs.Indices.{position_next}
 use Rattle.bx_day.proofs.Law.{at_map_in}
 use Rattle.bx_day.proofs.Once.{decide}
@@ -159,7 +160,8 @@ row_keeps m x t r ch Inward Active a ConnectAcknowledge = λ h. h
 row_keeps m x t r ch o s a k = λ h. h
 
 pub hears_names : (m x : Said) (t : ℕ) (s : Standing) → names_call m (hears x t s).standing ≡ true → names_call m s ≡ true
-hears_names m x t (OnCall c a) h = row_keeps m x.heard t c.reference c.channel c.origin (net_awake_state c.state) a x.heard.kind h
+hears_names m x t (OnCall c a) h = heard_by (λ (y : Transition PlainNetCall). Keeps m c.reference c.origin (follows a t y).standing) c x.heard t c.state x.heard.kind
+    (λ asked due is q k. k) (row_keeps m x.heard t c.reference c.channel c.origin (net_awake_state c.state) a x.heard.kind) h
 hears_names m x t Refused h = h
 hears_names m x t Unoffered h = h
 hears_names m x t (Carried from until) h = h

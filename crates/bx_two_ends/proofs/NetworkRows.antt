@@ -15,9 +15,10 @@ use Rattle.bx_calls.specs.declared.net_state.NetState.{NetState}
 use Rattle.bx_calls.specs.declared.net_state.NetState.TheVariants.{OutgoingCallProceeding, CallPresent, IncomingCallProceeding, CallReceived, Active, Enquiring, DisconnectIndication, ReleaseRequest}
 use Rattle.bx_calls.specs.Hearing.{Heard, names_channel, reports_null}
 use Rattle.bx_calls.specs.States.{state_value, net_state}
-use Rattle.bx_calls.specs.NetTable.{net_awake_state, net_row, net_second, net_timer, net_flag, net_is_clearing, net_releases, net_unlinked, net_later}
+use Rattle.bx_calls.specs.NetTable.{net_awake_state, net_heard, net_is_contradicted, net_row, net_second, net_timer, net_flag, net_is_clearing, net_releases, net_unlinked, net_later}
 use Rattle.std.proofs.lemmas.Bool.{false≢true, or_left}
 use Rattle.bx_day.specs.Moves.{is_active}
+use Rattle.bx_day.proofs.Hear.{heard_by}
 use Rattle.bx_day.proofs.Said.{OfSaid}
 use Rattle.bx_day.proofs.Second.{call_of}
 use Rattle.bx_day.proofs.Tick.{by_cases}
@@ -149,10 +150,14 @@ asked_goes r ch o asked due k reply Over g = tt
 asked_goes r ch o asked due k reply Broken g = tt
 
 abbrev HeardGoes : ℕ → ℕ → NetOrigin → ℕ → Heard → NetState → Kind → Type 0
-HeardGoes r ch o t m s k = GoesOn r ch o s (is_connect_kind k) (net_row (call_of r ch o (net_awake_state s)) m t (net_awake_state s) k)
+HeardGoes r ch o t m s k = GoesOn r ch o s (is_connect_kind k) (net_heard (call_of r ch o s) m t s k)
 
 pub heard_goes : (r ch : ℕ) (o : NetOrigin) (t : ℕ) (m : Heard) (s : NetState) (k : Kind) → HeardGoes r ch o t m s k
-heard_goes r ch o t m (Enquiring asked due) k = let step : Transition PlainNetCall = net_row (call_of r ch o Active) m t Active k in asked_goes r ch o asked due (is_connect_kind k) step.reply step.next (row_goes r ch o t m Active k)
+heard_goes r ch o t m (Enquiring asked due) k =
+    let step : Transition PlainNetCall = net_row (call_of r ch o Active) m t Active k in
+    by_cases (net_is_contradicted (Enquiring asked due) o m k) _ _ (GoesOn r ch o (Enquiring asked due) (is_connect_kind k))
+    (λ _. clearing r ch o (Enquiring asked due) _ (is_connect_kind k) _ refl refl refl)
+    (λ _. asked_goes r ch o asked due (is_connect_kind k) step.reply step.next (row_goes r ch o t m Active k))
 heard_goes r ch o t m OutgoingCallProceeding k = row_goes r ch o t m OutgoingCallProceeding k
 heard_goes r ch o t m (CallPresent again due) k = row_goes r ch o t m (CallPresent again due) k
 heard_goes r ch o t m (IncomingCallProceeding due) k = row_goes r ch o t m (IncomingCallProceeding due) k
@@ -192,6 +197,9 @@ row_says r ch o t m s Notify = tt
 row_says r ch o t m s Information = tt
 row_says r ch o t m s (Other octet) = (refl, refl)
 row_says r ch o t m s k = (refl, refl)
+
+pub heard_says : (r ch : ℕ) (o : NetOrigin) (t : ℕ) (m : Heard) (s : NetState) (k : Kind) → OfSaid (OfCall r o) (net_heard (call_of r ch o s) m t s k).reply
+heard_says r ch o t m s k = heard_by (λ (x : Transition PlainNetCall). OfSaid (OfCall r o) x.reply) (call_of r ch o s) m t s k (λ asked due is q. (refl, refl)) (row_says r ch o t m (net_awake_state s) k)
 
 -- at a tick; a SETUP that goes again names the channel
 pub record Speaks (r ch : ℕ) (o : NetOrigin) (out : Outgoing) : Type 0 where

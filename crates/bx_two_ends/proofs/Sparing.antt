@@ -12,7 +12,7 @@ use Rattle.bx_calls.specs.declared.net_state.NetState.{NetState}
 use Rattle.bx_calls.specs.declared.net_state.NetState.TheVariants.{OutgoingCallProceeding, Enquiring}
 use Rattle.bx_calls.specs.declared.transition.Transition.{Transition}
 use Rattle.bx_base.specs.Bookings.{Row}
-use Rattle.bx_two_ends.specs.Answering.{said_in, is_told, is_release, clears_by, is_clearing, is_enquired, Spares, SparesAll, Clears}
+use Rattle.bx_two_ends.specs.Answering.{said_in, is_told, is_release, clears_by, is_clearing, is_enquired, contradicts, Spares, SparesAll, Clears}
 use Rattle.bx_two_ends.specs.Asking.{is_asked, StandingUnasked}
 use Rattle.bx_day.specs.Day.{Day, entry_at, is_live}
 use Rattle.bx_two_ends.specs.Earning.{heard_in, is_going, IsCleared}
@@ -26,10 +26,11 @@ use Rattle.bx_day.specs.declared.entry.Entry.{Entry}
 use Rattle.bx_day.specs.declared.entry.Standing.{Standing}
 use Rattle.bx_day.specs.declared.entry.Standing.TheVariants.{Refused, Unoffered, OnCall, Carried, Unanswered, Missed}
 use Rattle.bx_two_ends.proofs.Answering as answering
-use Rattle.bx_two_ends.proofs.Answering.{IsHearing, Passes, Idle, Called, is_up, awake_going, asked_going, going_row, heard_here, heard_other, heard_none, told_rest, and_none, fits_now, spared_now, live_not_open, going_live, up_going, not_going, hears_next, clears_hears, going_or}
+use Rattle.bx_two_ends.proofs.Answering.{IsHearing, Passes, Idle, Called, is_up, awake_going, asked_going, going_row, heard_here, heard_other, heard_none, told_rest, and_none, fits_now, spared_now, spared_report, live_not_open, going_live, up_going, not_going, hears_next, clears_hears, going_or}
 use Rattle.bx_two_ends.proofs.Asking.{awake_unasked, hears_awake}
 use Rattle.bx_two_ends.proofs.Carrying.{settled_unasked}
 use Rattle.bx_two_ends.proofs.Naming.{names_live}
+use Rattle.bx_day.proofs.Hear.{heard_by}
 use Rattle.bx_day.proofs.Once.{decide}
 use Rattle.bx_day.proofs.Second.{call_of}
 
@@ -51,13 +52,15 @@ call_row r ch o (Enquiring asked due) a m t k h n c = absurd (true≢false n)
 call_row r ch o OutgoingCallProceeding a m t k h n c = third_row r ch o a m t k c
 call_row r ch o s a m t k h n c = (going_row r ch o s a m t k h refl c).going
 
-going_hears : (t : ℕ) (e : Entry) (m : Said) (s : Standing) → StandingFits t e s → clears_by e.channel m.heard m.heard.kind ≡ false → is_going s ≡ true → is_going (hears m t s).standing ≡ true
-going_hears t e m (OnCall c a) fits spared h = call_row c.reference c.channel c.origin (net_awake_state c.state) a m.heard t m.heard.kind (awake_going c.state (not_going (net_is_clearing c.state) h)) (awake_unasked c.state) (subst (λ ch. clears_by ch m.heard m.heard.kind ≡ false) (sym fits.channel) spared)
-going_hears t e m Refused fits spared h = absurd (false≢true h)
-going_hears t e m Unoffered fits spared h = absurd (false≢true h)
-going_hears t e m (Carried from until) fits spared h = absurd (false≢true h)
-going_hears t e m Unanswered fits spared h = absurd (false≢true h)
-going_hears t e m Missed fits spared h = absurd (false≢true h)
+going_hears : (t : ℕ) (e : Entry) (m : Said) (s : Standing) → StandingFits t e s → clears_by e.channel m.heard m.heard.kind ≡ false → contradicts s m.heard ≡ false → is_going s ≡ true → is_going (hears m t s).standing ≡ true
+going_hears t e m (OnCall c a) fits spared agrees h = heard_by (λ (x : Transition PlainNetCall). is_going (follows a t x).standing ≡ true) c m.heard t c.state m.heard.kind
+    (λ asked due is q. absurd (true≢false (sym q ∙ agrees)))
+    (call_row c.reference c.channel c.origin (net_awake_state c.state) a m.heard t m.heard.kind (awake_going c.state (not_going (net_is_clearing c.state) h)) (awake_unasked c.state) (subst (λ ch. clears_by ch m.heard m.heard.kind ≡ false) (sym fits.channel) spared))
+going_hears t e m Refused fits spared agrees h = absurd (false≢true h)
+going_hears t e m Unoffered fits spared agrees h = absurd (false≢true h)
+going_hears t e m (Carried from until) fits spared agrees h = absurd (false≢true h)
+going_hears t e m Unanswered fits spared agrees h = absurd (false≢true h)
+going_hears t e m Missed fits spared agrees h = absurd (false≢true h)
 
 abbrev IsGoing : Entry → Type 0
 IsGoing e = is_going e.standing ≡ true
@@ -71,7 +74,7 @@ going_octets rows assigned t i octets d h spares g = at (said_in octets) refl
     at : (o : Option Said) → said_in octets ≡ o → IsGoing (entry_at (receive_octets d octets).day.entries i)
     at None is = heard_none IsGoing d octets i is g
     at (Some m) is = decide (names m e)
-        (λ here. subst IsGoing (sym (heard_here rows assigned t d octets i m h is here)) (going_hears t e m e.standing (fits_now rows assigned t i d h) (spared_now d octets i m spares is g here) g))
+        (λ here. subst IsGoing (sym (heard_here rows assigned t d octets i m h is here)) (going_hears t e m e.standing (fits_now rows assigned t i d h) (spared_now d octets i m spares is g here) (spared_report d octets i m spares is g here) g))
         (λ other. heard_other IsGoing d octets i m is other g (λ op. absurd (live_not_open d e (going_live e.standing g) op)))
 
 going_all : (rows : List Row) (assigned : List (Option ℕ)) (t i : ℕ) (received : List (List ℕ)) (d : Day) → IsHearing rows assigned t d → SparesAll received d → IsGoing (entry_at d.entries i) → IsGoing (entry_at (heard_in received d).entries i)
@@ -128,10 +131,10 @@ goes_octets rows assigned t i e0 octets rest d h spares g = at (said_in octets) 
     at None is (Cleared clearing named told) = heard_none (GoesBy e0 rest) d octets i is (Cleared clearing named (told_rest (λ x. is_release x.kind) e0 octets rest None is refl told))
     at (Some m) is (None_on idle) = heard_other (GoesBy e0 rest) d octets i m is (false_from_ne_true (names m e) (λ named. true≢false (sym (names_live m e.standing named) ∙ idle))) (None_on idle) (λ op. Begun refl refl)
     at (Some m) is (Begun going awake) = decide (names m e)
-        (λ here. subst (GoesBy e0 rest) (sym (heard_here rows assigned t d octets i m h is here)) (Begun (going_hears t e m e.standing (fits_now rows assigned t i d h) (spared_now d octets i m spares is going here) going) (hears_awake m t e.standing)))
+        (λ here. subst (GoesBy e0 rest) (sym (heard_here rows assigned t d octets i m h is here)) (Begun (going_hears t e m e.standing (fits_now rows assigned t i d h) (spared_now d octets i m spares is going here) (spared_report d octets i m spares is going here) going) (hears_awake m t e.standing)))
         (λ other. heard_other (GoesBy e0 rest) d octets i m is other (Begun going awake) (λ op. absurd (live_not_open d e (going_live e.standing going) op)))
     at (Some m) is (Enquired asked named told) = decide (names m e)
-        (λ here. (let going = asked_going e.standing asked in subst (GoesBy e0 rest) (sym (heard_here rows assigned t d octets i m h is here)) (Begun (going_hears t e m e.standing (fits_now rows assigned t i d h) (spared_now d octets i m spares is going here) going) (hears_awake m t e.standing))))
+        (λ here. (let going = asked_going e.standing asked in subst (GoesBy e0 rest) (sym (heard_here rows assigned t d octets i m h is here)) (Begun (going_hears t e m e.standing (fits_now rows assigned t i d h) (spared_now d octets i m spares is going here) (spared_report d octets i m spares is going here) going) (hears_awake m t e.standing))))
         (λ other. heard_other (GoesBy e0 rest) d octets i m is other (Enquired asked named (told_rest (λ x. true) e0 octets rest (Some m) is (and_none (names m e0) true (sym (named m) ∙ other)) told)) (λ op. absurd (live_not_open d e (going_live e.standing (asked_going e.standing asked)) op)))
     at (Some m) is (Cleared clearing named told) = decide (names m e)
         (λ here. subst (GoesBy e0 rest) (sym (heard_here rows assigned t d octets i m h is here)) (by_passes e0 rest _ (clears_hears t e0 e m octets rest e.standing is clearing named told)))

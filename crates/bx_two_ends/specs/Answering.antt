@@ -1,7 +1,7 @@
 -- A far end that answers, by its messages: each SETUP that waits by CONNECT, each DISCONNECT and RELEASE that waits by RELEASE or
 -- RELEASE COMPLETE, each STATUS ENQUIRY behind an outage by any message of its call, all before the next tick; and it clears no
 -- other call. It may call as it likes.
-use Rattle.std.specs.Prelude.{◌≡◌, ℕ, ◌==◌, ◌&&◌, not, Bool, true, false, List, [], ◌∷◌, Option, Some, None, Result, Ok, Err, if◌then◌else◌}
+use Rattle.std.specs.Prelude.{◌≡◌, ℕ, ◌==◌, ◌&&◌, ◌||◌, not, Bool, true, false, List, [], ◌∷◌, Option, Some, None, Result, Ok, Err, if◌then◌else◌}
 use Rattle.std.specs.List.{list_any}
 use Rattle.bx_q931.specs.Messages.{PlainMessage, message_at}
 use Rattle.bx_q931.specs.declared.fault.MessageFault.{MessageFault}
@@ -10,7 +10,7 @@ use Rattle.bx_q931.specs.declared.kind.Kind.TheVariants.{Alerting, CallProceedin
 use Rattle.bx_q931.specs.declared.reference.Reference.{Reference}
 use Rattle.bx_q931.specs.declared.reference.Reference.TheVariants.{Dummy, Value}
 use Rattle.bx_calls.specs.Hearing.{Heard, names_channel, reports_null}
-use Rattle.bx_calls.specs.NetTable.{net_is_clearing}
+use Rattle.bx_calls.specs.NetTable.{net_is_clearing, net_is_contradicted}
 use Rattle.bx_calls.specs.Said.{Said, said_of}
 use Rattle.bx_calls.specs.declared.net_state.NetState.{NetState}
 use Rattle.bx_calls.specs.declared.net_state.NetState.TheVariants.{CallPresent, IncomingCallProceeding, CallReceived}
@@ -93,9 +93,14 @@ abbrev pub is_enquired : Standing → Bool
 is_enquired (OnCall call activity) = is_asked call.state
 is_enquired _ = false
 
+-- a report of a state that does not fit, where the call is asked for
+abbrev pub contradicts : Standing → Heard → Bool
+contradicts (OnCall call activity) m = net_is_contradicted call.state call.origin m m.kind
+contradicts _ m = false
+
 -- octets that clear no call which goes on
 abbrev pub Spares : List ℕ → Day → Type 0
-Spares octets d = (i : ℕ) → is_going (standing_at d i) ≡ true → tells (λ m. clears_by (entry_at d.entries i).channel m m.kind) (entry_at d.entries i) (said_in octets) ≡ false
+Spares octets d = (i : ℕ) → is_going (standing_at d i) ≡ true → tells (λ m. clears_by (entry_at d.entries i).channel m m.kind || contradicts (standing_at d i) m) (entry_at d.entries i) (said_in octets) ≡ false
 
 -- each of these, as they come
 abbrev pub SparesAll : List (List ℕ) → Day → Type 0

@@ -1,9 +1,10 @@
 //! What is planned is earned, where the far end answers.
 
-ghost use Rattle.std.specs.Prelude.{◌≡◌, ◌≤◌, ◌+◌, ◌++◌, ℕ, false, Bool, true, List, length, Option, map};
+ghost use Rattle.std.specs.Prelude.{◌≡◌, ◌≤◌, ◌+◌, ◌++◌, ℕ, false, Bool, true, List, length, Option, Some, map};
 ghost use Rattle.bx_base.specs.Bookings.{Row, row_at, AreBookings, Carries, pay_of};
 ghost use Rattle.bx_base.specs.Channels.{IsChannelSet};
 ghost use Rattle.bx_base.specs.Plans.{is_accepted, channel_at};
+ghost use Rattle.bx_q931.specs.declared.kind.Kind.TheVariants.{Status};
 ghost use Rattle.bx_day.specs.Day.{Day, opening};
 ghost use Rattle.bx_events.specs.Events.{Event, LiveEvent};
 ghost use Rattle.bx_day.specs.Run.{day_after};
@@ -13,17 +14,21 @@ ghost use Rattle.bx_two_ends.specs.Answering.{AnswersAll, ClearsAll};
 ghost use Rattle.bx_two_ends.specs.Earning.{LiveSecond, Linked, events_of, AreAnswered, AreCleared, HasSeconds, IsSettledDay, HasSecondsFrom, IsCalled, IsTalking, IsLongEnough, IsPunctual, IsCarriedBy, IsDayOf, HaveSeconds, AreLongEnough};
 ghost use Rattle.bx_channels.specs.Marks.{is_marked};
 ghost use Rattle.bx_events.specs.declared.moment.TheConstants.{LAST_MOMENT};
-ghost use Rattle.bx_two_ends.specs.Asking.{call_after, is_up, DayUnasked};
+ghost use Rattle.bx_two_ends.specs.Asking.{call_after, is_up, is_asked, DayUnasked};
 ghost use Rattle.bx_day.specs.Moves.{is_active};
 ghost use Rattle.bx_calls.specs.PlainCalls.{PlainNetCall};
-ghost use Rattle.bx_calls.specs.NetTable.{net_unlinked};
+ghost use Rattle.bx_calls.specs.Hearing.{Heard};
+ghost use Rattle.bx_calls.specs.NetTable.{fits_active, net_message, net_row, net_unlinked};
 ghost use Rattle.bx_records.specs.Totals as totals;
 ghost use Rattle.bx_records.specs.Totals.{pays_of};
 
 /// Where no message comes of a call that was Active in a second without a link, it is Active no more 9 seconds with a link
-/// later. And without such seconds no call is asked for.
+/// later. Where the far end reports a call state of it that does not fit N10, it is Active no more at once (`reported`). And without
+/// such seconds no call is asked for, and each message finds the table of messages alone (`unasked`).
 pub fn asked_for()
     ensures in_vain { (call : PlainNetCall) (t end : ℕ) → is_active call.state ≡ true → is_up (call_after 9 t end (net_unlinked 1 call t end).next) ≡ false }
+    ensures reported { (call : PlainNetCall) (m : Heard) (t state : ℕ) → is_asked call.state ≡ true → m.kind ≡ Status → m.state ≡ Some state → fits_active call.origin state ≡ false → is_up (net_message call m t).next ≡ false }
+    ensures unasked { (call : PlainNetCall) (m : Heard) (t : ℕ) → is_asked call.state ≡ false → net_message call m t ≡ net_row call m t call.state m.kind }
     ensures never { (rows : List Row) (assigned : List (Option ℕ)) (events : List Event) → DayUnasked (day_after events (opening rows assigned)) }
 {}
 

@@ -1,5 +1,8 @@
 use Rattle.std.proofs.Common.{rules}
 use Rattle.bx_calls.proofs.net_call.NetCall.on_message.Goals as goal
 
-pub returns : goal.returns
-returns c = search rules steps 60000
+pub returns-then-is_contradicted : goal.returns-then-is_contradicted
+returns-then-is_contradicted c = search rules steps 400000
+
+pub returns-else-is_contradicted : goal.returns-else-is_contradicted
+returns-else-is_contradicted c = search rules steps 400000
