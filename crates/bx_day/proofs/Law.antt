@@ -28,14 +28,14 @@ use Rattle.bx_day.specs.Ticks.{after_in, second_at, second_by, waits, tick, pass
 use Rattle.bx_day.specs.Receipts.{hears, takes_call, takes_or, takes_preferred, called_on, called, stray, received_at, receive, opens, lowest_open, names, with_moved}
 use Rattle.bx_calls.specs.Sending.{Sent, Answered}
 use Rattle.bx_events.specs.Events.{Event, Tick, Receive, LiveEvent, OnLink, WithoutLink, Sold}
-use Rattle.bx_day.specs.Outages.{without_link, live_happens, live_day_after}
+use Rattle.bx_day.specs.Outages.{Lost, without_link, live_happens, live_day_after}
 use Rattle.bx_day.specs.Run.{receive_from, receive_read, happens, day_after}
 use Rattle.bx_q931.specs.Messages.{PlainMessage, message_at}
 use Rattle.bx_q931.specs.declared.reference.Reference.{Reference}
 use Rattle.bx_q931.specs.declared.reference.Reference.TheVariants.{Dummy, Value}
 use Rattle.bx_q931.specs.declared.fault.MessageFault.{MessageFault}
 use Rattle.bx_day.specs.Invariant.{EntryFits, StandingFits, CallFits, Apart, Pairs, DayFits, is_refused, phase_of, PhaseFits, DueFits}
-use Rattle.bx_day.specs.Clearing.{ClearsBy, StandingClears, EntryClears, DayClears}
+use Rattle.bx_day.specs.Clearing.{added, ClearsBy, StandingClears, EntryClears, DayClears}
 use Rattle.bx_day.specs.Law.{OnLive, OnCarried, standing_at, IsOrderly}
 use Rattle.bx_day.proofs.Sent.{Placed}
 use Rattle.bx_day.proofs.Tick.{by_cases, unlinked, without_fits, with_standing, offers, tick_fits, follow_refused}
@@ -316,23 +316,23 @@ call_at : (d : Day) (i : ℕ) → DayFits d → (c : PlainNetCall) (a : Activity
 call_at d i h c a p = subst (StandingFits d.moment (entry_at d.entries i)) p (all_at (EntryFits d.moment) tt d.entries i h.each)
 
 -- 38 seconds with a link after the end no call is left
-late_none : (t n : ℕ) (b : Row) (s : NetState) → PhaseFits t b (phase_of s) → DueFits t s → (b.end ≤ t → ClearsBy (b.end + n) s) → b.end + 38 + n ≤ t → ⊥
-late_none t n b OutgoingCallProceeding p q c h = omega (arith, p.1, h)
-late_none t n b (CallPresent again due) p q c h = omega (arith, p.1, h)
-late_none t n b (IncomingCallProceeding due) p q c h = omega (arith, p.1, h)
-late_none t n b (CallReceived due) p q c h = omega (arith, p.1, h)
-late_none t n b Active p q c h = omega (arith, p.1, h)
-late_none t n b (Enquiring asked due) p q c h = omega (arith, p.1, h)
-late_none t n b (DisconnectIndication cause due) p q c h = omega (arith, q.0, c (omega (arith, h)), h)
-late_none t n b (ReleaseRequest false cause due) p q c h = omega (arith, q.0, c (omega (arith, h)), h)
-late_none t n b (ReleaseRequest true cause due) p q c h = omega (arith, q.0, c (omega (arith, h)), h)
+late_none : (t n : ℕ) (lasts : Bool) (b : Row) (s : NetState) → PhaseFits t b (phase_of s) → DueFits t s → (b.end ≤ t → ClearsBy lasts (b.end + n) s) → b.end + 38 + n ≤ t → ⊥
+late_none t n lasts b OutgoingCallProceeding p q c h = omega (arith, p.1, h)
+late_none t n lasts b (CallPresent again due) p q c h = omega (arith, p.1, h)
+late_none t n lasts b (IncomingCallProceeding due) p q c h = omega (arith, p.1, h)
+late_none t n lasts b (CallReceived due) p q c h = omega (arith, p.1, h)
+late_none t n lasts b Active p q c h = omega (arith, p.1, h)
+late_none t n lasts b (Enquiring asked due) p q c h = omega (arith, p.1, h)
+late_none t n lasts b (DisconnectIndication cause due) p q c h = omega (arith, q.0, c (omega (arith, h)), h)
+late_none t n lasts b (ReleaseRequest false cause due) p q c h = omega (arith, q.0, c (omega (arith, h)), h)
+late_none t n lasts b (ReleaseRequest true cause due) p q c h = omega (arith, q.0, (c (omega (arith, h))).1, h)
 
 -- no channel is held twice
 pub held_apart : (rows : List Row) (assigned : List (Option ℕ)) (d : Day) → RunFits rows assigned d → (i j : ℕ) → i < j → OnLive (standing_at d i) (λ call a. OnLive (standing_at d j) (λ other b. call.channel ≢ other.channel))
 held_apart rows assigned d h i j lt = on_live (standing_at d i) _ (λ c a p. on_live (standing_at d j) _ (λ c' a' p' same.
     (pairs_at d.entries i j lt h.day.pairs).live (ap is_live p) (ap is_live p') (sym (call_at d i h.day c a p).channel ∙ same ∙ (call_at d j h.day c' a' p').channel)))
 
-pub orderly : (rows : List Row) (assigned : List (Option ℕ)) (lost : ℕ → ℕ) (d : Day) → RunFits rows assigned d → DayClears (λ m. 5 * lost m) d → IsOrderly rows assigned lost d
+pub orderly : (rows : List Row) (assigned : List (Option ℕ)) (lost : ℕ → Lost) (d : Day) → RunFits rows assigned d → DayClears lost d → IsOrderly rows assigned lost d
 orderly rows assigned lost d h clears = record {
   planned = λ i lt. on_live (standing_at d i) _ (λ c a p. (
     not_refused (slice_index_or assigned i None) (sym (ap is_refused p) ∙ (h.framed.0 i lt).accepted),
@@ -343,8 +343,8 @@ orderly rows assigned lost d h clears = record {
   carried = λ i lt. on_carried (standing_at d i) _ (λ from until p. subst (λ b. (b.start ≤ from) × (from ≤ until) × (until ≤ b.end)) (h.framed.0 i lt).booking (subst (StandingFits d.moment (entry_at d.entries i)) p (all_at (EntryFits d.moment) tt d.entries i h.day.each)));
   cleared = λ i lt late.
       (let b : Row = (entry_at d.entries i).booking in
-      let over : b.end + 38 + 5 * lost b.end ≤ d.moment = subst (λ b. b.end + 38 + 5 * lost b.end ≤ d.moment) (sym (h.framed.0 i lt).booking) late in (
+      let over : b.end + 38 + added (lost b.end) ≤ d.moment = subst (λ (b : Row). b.end + 38 + added (lost b.end) ≤ d.moment) (sym (h.framed.0 i lt).booking) late in (
         (λ p. let early : d.moment < (entry_at d.entries i).booking.end = subst (StandingFits d.moment (entry_at d.entries i)) p (all_at (EntryFits d.moment) tt d.entries i h.day.each) in omega arith),
-        on_live (standing_at d i) _ (λ c a p. late_none d.moment (5 * lost b.end) b c.state (call_at d i h.day c a p).phase (call_at d i h.day c a p).due (subst (StandingClears (5 * lost b.end) d.moment b) p (all_at (EntryClears (λ m. 5 * lost m) d.moment) tt d.entries i clears)) over),
+        on_live (standing_at d i) _ (λ c a p. late_none d.moment (added (lost b.end)) (lost b.end).lasts b c.state (call_at d i h.day c a p).phase (call_at d i h.day c a p).due (subst (StandingClears (lost b.end) d.moment b) p (all_at (EntryClears lost d.moment) tt d.entries i clears)) over),
       ));
 }

@@ -14,7 +14,8 @@ use Rattle.bx_calls.specs.declared.net_state.NetOrigin.TheVariants.{Outward, Inw
 use Rattle.bx_calls.specs.declared.net_state.NetState.{NetState}
 use Rattle.bx_calls.specs.declared.net_state.NetState.TheVariants.{CallPresent, IncomingCallProceeding, CallReceived, Active, DisconnectIndication, ReleaseRequest}
 use Rattle.bx_calls.specs.Hearing.{Heard, names_channel, reports_null}
-use Rattle.bx_calls.specs.NetTable.{net_awake_state, net_awake, net_row, net_flag, net_answered}
+use Rattle.bx_calls.specs.Expected.{net_awake}
+use Rattle.bx_calls.specs.NetTable.{net_awake_state, net_row, net_flag, net_answered}
 use Rattle.bx_base.specs.Bookings.{is_running}
 use Rattle.bx_channels.specs.ChannelNumbers.{IsChannel}
 use Rattle.bx_calls.specs.Said.{Said}

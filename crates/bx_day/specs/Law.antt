@@ -8,6 +8,7 @@ use Rattle.bx_base.specs.Bookings.{Row, row_at, is_running}
 use Rattle.bx_base.specs.Plans.{is_accepted, channel_at}
 use Rattle.bx_day.specs.Day.{Day, entry_at}
 use Rattle.bx_day.specs.Moves.{is_active}
+use Rattle.bx_day.specs.Outages.{Lost}
 use Rattle.bx_calls.specs.Sending.{Sent}
 use Rattle.bx_day.specs.declared.entry.Standing.{Standing}
 use Rattle.bx_day.specs.declared.entry.Activity.{Activity}
@@ -25,9 +26,9 @@ OnCarried _ P = Unit {0}
 abbrev pub standing_at : Day → ℕ → Standing
 standing_at d i = (entry_at d.entries i).standing
 
--- a day of a plan, at any moment of it; rows are counted from 0, and lost says how many seconds without a link there were
--- from a moment on
-pub record IsOrderly (rows : List Row) (assigned : List (Option ℕ)) (lost : ℕ → ℕ) (d : Day) : Type 0 where
+-- a day of a plan, at any moment of it; rows are counted from 0, and lost says which seconds without a link there were from a
+-- moment on, and how many outages
+pub record IsOrderly (rows : List Row) (assigned : List (Option ℕ)) (lost : ℕ → Lost) (d : Day) : Type 0 where
   -- an offered or live booking is accepted, and its call is on the channel of the plan
   pub planned : (i : ℕ) → i < length rows → OnLive (standing_at d i) (λ call a. (is_accepted assigned i ≡ true) × (call.channel ≡ channel_at assigned i))
   -- no channel is held twice
@@ -35,8 +36,8 @@ pub record IsOrderly (rows : List Row) (assigned : List (Option ℕ)) (lost : �
   -- a call is Active only while its booking runs
   pub active : (i : ℕ) → i < length rows → OnLive (standing_at d i) (λ call a. is_active call.state ≡ true → is_running (row_at rows i) d.moment ≡ true)
   pub carried : (i : ℕ) → i < length rows → OnCarried (standing_at d i) (λ from until. ((row_at rows i).start ≤ from) × (from ≤ until) × (until ≤ (row_at rows i).end))
-  -- T305 and twice T308 with a link after its end a booking is over or missed, where each second without one may take T308 more
-  pub cleared : (i : ℕ) → i < length rows → (row_at rows i).end + clearing_time + (1 + t308) * lost (row_at rows i).end ≤ d.moment → (standing_at d i ≢ Unoffered) × OnLive (standing_at d i) (λ call a. ⊥)
+  -- T305 and twice T308 with a link after its end a booking is over or missed, where each outage may take T308 more
+  pub cleared : (i : ℕ) → i < length rows → (row_at rows i).end + clearing_time + ((lost (row_at rows i).end).seconds + t308 * (lost (row_at rows i).end).outages) ≤ d.moment → (standing_at d i ≢ Unoffered) × OnLive (standing_at d i) (λ call a. ⊥)
 
 -- a SETUP is sent for an accepted outward booking that runs, which its reference names, on its channel
 pub record SetupFits (rows : List Row) (assigned : List (Option ℕ)) (t : ℕ) (o : Outgoing) : Type 0 where

@@ -2,8 +2,8 @@
 -- timer runs, nothing is offered and nothing is sent. A booking that ends clears its call for the first tick with a
 -- link. And the days of an exchange that goes through such seconds between its turns on the link.
 -- That a booking is sold changes nothing of the day of the last plan, which has it from the morning on.
-use Rattle.std.specs.Prelude.{ℕ, ◌+◌, List, [], ◌∷◌, Bool, false, ◌&&◌, nat_le, nat_lt, if◌then◌else◌}
-use Rattle.bx_events.specs.Events.{LiveEvent, OnLink, WithoutLink, Sold}
+use Rattle.std.specs.Prelude.{ℕ, ◌+◌, List, [], ◌∷◌, Bool, true, false, ◌&&◌, nat_le, nat_lt, if◌then◌else◌}
+use Rattle.bx_events.specs.Events.{Tick, Receive, LiveEvent, OnLink, WithoutLink, Sold}
 use Rattle.bx_calls.specs.Sending.{Sent}
 use Rattle.bx_day.specs.declared.entry.Link.TheVariants.{Down}
 use Rattle.bx_day.specs.Day.{Day}
@@ -23,13 +23,30 @@ abbrev pub live_day_after : List LiveEvent → Day → Day
 live_day_after [] d = d
 live_day_after (e ∷ es) d = live_day_after es (live_happens d e).day
 
--- whether an event is a second without a link from moment m on
-abbrev pub is_lost : ℕ → Day → LiveEvent → Bool
-is_lost m d (OnLink event) = false
-is_lost m d WithoutLink = nat_le m d.moment && nat_lt d.moment LAST_MOMENT
-is_lost m d (Sold booking) = false
+-- ---- the seconds without a link from a moment on, and the outages, which are runs of them: the seconds so far, the outages so far, and
+-- whether the last second was one of them
+pub record Lost : Type 0 where
+  pub seconds : ℕ
+  pub outages : ℕ
+  pub lasts : Bool
 
--- how many of these there are
-abbrev pub lost_since : ℕ → List LiveEvent → Day → ℕ
-lost_since m [] d = 0
-lost_since m (e ∷ es) d = (if is_lost m d e then 1 else 0) + lost_since m es (live_happens d e).day
+abbrev pub none_lost : Lost
+none_lost = record { seconds = 0; outages = 0; lasts = false }
+
+-- one more, which begins an outage where the second before it had a link
+abbrev pub one_more : Lost → Lost
+one_more x = record { seconds = x.seconds + 1; outages = if x.lasts then x.outages else x.outages + 1; lasts = true }
+
+-- by an event of this day, from moment m on; a tick ends an outage
+abbrev pub lost_by : ℕ → Day → LiveEvent → Lost → Lost
+lost_by m d (OnLink Tick) x = record x { lasts = false }
+lost_by m d (OnLink (Receive octets)) x = x
+lost_by m d WithoutLink x = if nat_le m d.moment && nat_lt d.moment LAST_MOMENT then one_more x else x
+lost_by m d (Sold booking) x = x
+
+abbrev pub lost_after : ℕ → List LiveEvent → Day → Lost → Lost
+lost_after m [] d x = x
+lost_after m (e ∷ es) d x = lost_after m es (live_happens d e).day (lost_by m d e x)
+
+abbrev pub lost_since : ℕ → List LiveEvent → Day → Lost
+lost_since m events d = lost_after m events d none_lost

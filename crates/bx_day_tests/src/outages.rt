@@ -87,7 +87,7 @@ const DISCONNECT_41: &[u8] = &[0x08, 0x02, 0x00, 0x01, 0x45, 0x08, 0x02, 0x82, 0
 
 const DISCONNECT_102: &[u8] = &[0x08, 0x02, 0x00, 0x01, 0x45, 0x08, 0x02, 0x82, 0xE6];
 
-static WORKED: [Worked; 30] = [
+static WORKED: [Worked; 32] = [
     Worked {
         name: "a booking that starts without a link is offered in the first second with one",
         bookings: &[(10, 60, 1, false)],
@@ -512,6 +512,48 @@ static WORKED: [Worked; 30] = [
         outcomes: &[Outcome::Live],
         held: Some((1, CallState::ReleaseRequest)),
         is_broken: false,
+    },
+    Worked {
+        name: "two outages of a second, each behind the last try, put it off by 5 seconds each",
+        bookings: &[(0, 60, 1, false)],
+        steps: &[
+            Step::Linked(1, &[], &[SETUP]),
+            Step::Linked(1, CONNECT, &[CONNECT_ACKNOWLEDGE]),
+            Step::Linked(60, &[], &[DISCONNECT_16]),
+            Step::Linked(90, &[], &[RELEASE_16]),
+            Step::Linked(94, &[], &[RELEASE_16]),
+            Step::Linked(97, &[], &[]),
+            Step::Without(98),
+            Step::Linked(99, &[], &[RELEASE_16]),
+            Step::Linked(102, &[], &[]),
+            Step::Without(103),
+            Step::Linked(104, &[], &[RELEASE_16]),
+            Step::Linked(107, &[], &[]),
+        ],
+        outcomes: &[Outcome::Live],
+        held: Some((1, CallState::ReleaseRequest)),
+        is_broken: false,
+    },
+    Worked {
+        name: "and no longer: 38 seconds, 2 without a link and T308 twice behind its end it is over",
+        bookings: &[(0, 60, 1, false)],
+        steps: &[
+            Step::Linked(1, &[], &[SETUP]),
+            Step::Linked(1, CONNECT, &[CONNECT_ACKNOWLEDGE]),
+            Step::Linked(60, &[], &[DISCONNECT_16]),
+            Step::Linked(90, &[], &[RELEASE_16]),
+            Step::Linked(94, &[], &[RELEASE_16]),
+            Step::Linked(97, &[], &[]),
+            Step::Without(98),
+            Step::Linked(99, &[], &[RELEASE_16]),
+            Step::Linked(102, &[], &[]),
+            Step::Without(103),
+            Step::Linked(104, &[], &[RELEASE_16]),
+            Step::Linked(108, &[], &[]),
+        ],
+        outcomes: &[Outcome::Carried { from: 1, until: 60 }],
+        held: None,
+        is_broken: true,
     },
 ];
 
