@@ -9,7 +9,7 @@ use Rattle.bx_calls.specs.declared.net_state.NetState.TheVariants as net
 use Rattle.bx_calls.specs.declared.user_state.UserState.{UserState}
 use Rattle.bx_calls.specs.declared.user_state.UserState.TheVariants as user
 use Rattle.bx_calls.specs.Hearing.{Heard, reports_null}
-use Rattle.bx_calls.specs.NetTable.{net_says}
+use Rattle.bx_calls.specs.NetTable.{net_awake_state, net_says}
 use Rattle.bx_calls.specs.PlainCalls.{PlainNetCall, PlainUserCall}
 use Rattle.bx_calls.specs.Steps.{goes_on, ends}
 use Rattle.bx_calls.specs.UserTable.{user_says}
@@ -31,6 +31,10 @@ net_released c _ = Some (net_says c ReleaseComplete)
 abbrev pub user_released : PlainUserCall → UserState → Option Outgoing
 user_released c (user.ReleaseRequest again cause due) = None
 user_released c _ = Some (user_says c ReleaseComplete)
+
+-- the call, asked no more
+abbrev pub net_awake : PlainNetCall → PlainNetCall
+net_awake c = record c { state = net_awake_state c.state }
 
 -- not one of the messages whose rows stand for every state
 abbrev pub IsProgress : Kind → Type 0

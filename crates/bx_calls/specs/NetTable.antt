@@ -139,9 +139,6 @@ abbrev pub net_awake_state : NetState → NetState
 net_awake_state (Enquiring asked due) = Active
 net_awake_state state = state
 
-abbrev pub net_awake : PlainNetCall → PlainNetCall
-net_awake c = record c { state = net_awake_state c.state }
-
 -- a call in this state, whether the user was asked or not
 abbrev pub net_heard : PlainNetCall → Heard → ℕ → NetState → Kind → Transition PlainNetCall
 net_heard c m t s k =

@@ -1,9 +1,9 @@
 //! What messages do to a call at the network side.
 
 ghost use Rattle.std.specs.Prelude.{◌≡◌, ◌≤◌};
-ghost use Rattle.bx_calls.specs.Expected.{IsProgress, net_released};
+ghost use Rattle.bx_calls.specs.Expected.{IsProgress, net_awake, net_released};
 ghost use Rattle.bx_calls.specs.Hearing.{heard_of};
-ghost use Rattle.bx_calls.specs.NetTable.{fits_active, net_is_contradicted, net_awake, net_row, net_message};
+ghost use Rattle.bx_calls.specs.NetTable.{fits_active, net_is_contradicted, net_row, net_message};
 
 use crate::call_state::CallState;
 use crate::every_state::in_every_state;
