@@ -7,9 +7,8 @@ use Rattle.bx_day.specs.Day.{Day, opening}
 use Rattle.bx_day.specs.Outages.{live_happens, live_day_after}
 use Rattle.bx_events.specs.Events.{LiveEvent, OnLink, WithoutLink, Sold}
 use Rattle.bx_sales.specs.Journal.{sold_in, RunsThrough}
-use Rattle.bx_sales.proofs.Journal.{told_by}
+use Rattle.bx_sales.proofs.Journal.{told_by, through_more}
 use Rattle.bx_planfile.specs.OneBooking.{row_on}
-use Rattle.bx_market.proofs.Through.{through_more}
 
 -- the events before that are no sales
 abbrev others : List LiveEvent → List LiveEvent
@@ -42,7 +41,7 @@ pub day_behind : (channels : List Bool) (rows : List Row) (accepted : List Bool)
 day_behind channels rows accepted assigned earlier events d d1 count bookings carries first is through last fit =
     let all = others earlier ++ events in
     let a = opening rows assigned in
-    let run = through_more channels (others earlier) events a d d1 (subst (λ (x : Day). RunsThrough channels row_on (others earlier) a x) (sym is) (through_others channels earlier a)) through in
+    let run = through_more channels row_on (others earlier) events a d d1 (subst (λ (x : Day). RunsThrough channels row_on (others earlier) a x) (sym is) (through_others channels earlier a)) through in
     let same : sold_in row_on all ≡ sold_in row_on events = others_sell earlier events in
     let fits = subst (λ (l : List Row). IsFirstFit (rows ++ l) channels (accepted ++ map (λ (row : Row). true) l) last) (sym same) fit in
     let told = told_by channels row_on rows accepted assigned all d1 count bookings carries first run last fits in

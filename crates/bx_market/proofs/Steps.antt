@@ -21,7 +21,7 @@ acts_all_ran (act ∷ acts) = ap (λ (l : List Act). act ∷ l) (acts_all_ran ac
 pub acts_more : (xs ys : List Deal) → acts_of (xs ++ ys) ≡ acts_of xs ++ acts_of ys
 acts_more [] ys = refl
 acts_more (Ran act ∷ xs) ys = ap (λ (l : List Act). act ∷ l) (acts_more xs ys)
-acts_more (Asked batch ∷ xs) ys = acts_more xs ys
+acts_more (Asked shown batch ∷ xs) ys = acts_more xs ys
 acts_more (Answered answers ∷ xs) ys = acts_more xs ys
 
 module _ {W : Type 0} {dealt : W → List Deal → W → Type 0} {channels : List Bool} where

@@ -19,6 +19,7 @@ use Rattle.bx_live.proofs.Days.{step_day}
 use Rattle.bx_live.proofs.Onward.{recorded_on}
 use Rattle.bx_planfile.specs.OneBooking.{row_on}
 use Rattle.bx_sales.specs.Journal.{RunsThrough}
+use Rattle.bx_sales.proofs.Journal.{through_more}
 use Rattle.bx_market.specs.Deals.{Deal, Ran, Asked, Answered, acts_of}
 use Rattle.bx_market.specs.Stands.{Stand, Within, Filing, Telling, Goes, IsMarketRun, stand_day}
 use Rattle.bx_market.proofs.Steps.{acts_more}
@@ -153,18 +154,18 @@ module _ (channels : List Bool) where
     links = subst IsLinkStand (sym e) (links p act due);
     through = subst (λ (s : Stand). Through (recorded (act ∷ [])) (day_at p) (stand_day s)) (sym e) (act_through p act link due);
   }
-  keeps (Within (Between d)) to (Asked None) link e = quiet _ to (Within (Between d)) _ refl e tt refl
-  keeps (Within (Between d)) to (Asked (Some batch)) link e = quiet _ to (Filing d batch []) _ refl e tt refl
-  keeps (Within (Recording d room event)) to (Asked batch) link e = absurd e
-  keeps (Within (Receiving d room owed octets)) to (Asked batch) link e = absurd e
-  keeps (Within (Taking d room owed)) to (Asked batch) link e = absurd e
-  keeps (Within (Owing d room unsynced texts)) to (Asked batch) link e = absurd e
-  keeps (Within (Hearing d room)) to (Asked batch) link e = absurd e
-  keeps (Within (Losing d loss)) to (Asked batch) link e = absurd e
-  keeps (Within (Over d)) to (Asked batch) link e = absurd e
-  keeps (Within (Closing d)) to (Asked batch) link e = absurd e
-  keeps (Within (Ending d)) to (Asked batch) link e = absurd e
-  keeps (Within (Done d)) to (Asked batch) link e = absurd e
+  keeps (Within (Between d)) to (Asked shown None) link (at, e) = quiet _ to (Within (Between d)) _ refl e tt refl
+  keeps (Within (Between d)) to (Asked shown (Some batch)) link (at, e) = quiet _ to (Filing d batch []) _ refl e tt refl
+  keeps (Within (Recording d room event)) to (Asked shown batch) link e = absurd e
+  keeps (Within (Receiving d room owed octets)) to (Asked shown batch) link e = absurd e
+  keeps (Within (Taking d room owed)) to (Asked shown batch) link e = absurd e
+  keeps (Within (Owing d room unsynced texts)) to (Asked shown batch) link e = absurd e
+  keeps (Within (Hearing d room)) to (Asked shown batch) link e = absurd e
+  keeps (Within (Losing d loss)) to (Asked shown batch) link e = absurd e
+  keeps (Within (Over d)) to (Asked shown batch) link e = absurd e
+  keeps (Within (Closing d)) to (Asked shown batch) link e = absurd e
+  keeps (Within (Ending d)) to (Asked shown batch) link e = absurd e
+  keeps (Within (Done d)) to (Asked shown batch) link e = absurd e
   keeps (Within p) to (Answered answers) link e = absurd e
   keeps (Filing d batch sold) to (Ran (Recorded (Sold line) true)) link (d1, is, e) = record { links = subst IsLinkStand (sym e) tt; through = (d1, is, ap stand_day e) }
   keeps (Filing d batch sold) to (Ran (Recorded (Sold line) false)) link e = quiet _ to (Within (Over d)) _ refl e tt refl
@@ -178,19 +179,13 @@ module _ (channels : List Bool) where
   keeps (Filing d batch sold) to (Ran (Read room answer)) link e = absurd e
   keeps (Filing d batch sold) to (Ran (Took message)) link e = absurd e
   keeps (Filing d batch sold) to (Ran EndedDay) link e = absurd e
-  keeps (Filing d batch sold) to (Asked other) link e = absurd e
+  keeps (Filing d batch sold) to (Asked shown other) link e = absurd e
   keeps (Filing d batch sold) to (Answered answers) link (none, are, e) = quiet _ to (Within (Between d)) _ refl e tt refl
   keeps (Telling d batch sold) to (Ran act) link e = absurd e
-  keeps (Telling d batch sold) to (Asked other) link e = absurd e
+  keeps (Telling d batch sold) to (Asked shown other) link e = absurd e
   keeps (Telling d batch sold) to (Answered answers) link (are, e) = quiet _ to (Within (Between d)) _ refl e tt refl
 
   -- ---- all deals
-
-  pub through_more : (xs ys : List LiveEvent) (a b c : Day) → Through xs a b → Through ys b c → Through (xs ++ ys) a c
-  through_more [] ys a b c e more = subst (λ (d : Day). Through ys d c) e more
-  through_more (Sold line ∷ xs) ys a b c (sold, is, rest) more = (sold, is, through_more xs ys sold b c rest more)
-  through_more (OnLink event ∷ xs) ys a b c rest more = through_more xs ys (live_happens a (OnLink event)).day b c rest more
-  through_more (WithoutLink ∷ xs) ys a b c rest more = through_more xs ys (live_happens a WithoutLink).day b c rest more
 
   first_recorded : (deal : Deal) (deals : List Deal) → recorded (acts_of (deal ∷ deals)) ≡ recorded (acts_of (deal ∷ [])) ++ recorded (acts_of deals)
   first_recorded deal deals = ap recorded (acts_more (deal ∷ []) deals) ∙ recorded_on (acts_of (deal ∷ [])) (acts_of deals)
@@ -200,4 +195,4 @@ module _ (channels : List Bool) where
   run_through from to (deal ∷ deals) link (mid, goes, rest) =
       let k = keeps from mid deal link goes in
       subst (λ (es : List LiveEvent). Through es (stand_day from) (stand_day to)) (sym (first_recorded deal deals))
-      (through_more (recorded (acts_of (deal ∷ []))) (recorded (acts_of deals)) (stand_day from) (stand_day mid) (stand_day to) k.through (run_through mid to deals k.links rest))
+      (through_more channels row_on (recorded (acts_of (deal ∷ []))) (recorded (acts_of deals)) (stand_day from) (stand_day mid) (stand_day to) k.through (run_through mid to deals k.links rest))

@@ -38,11 +38,11 @@ abbrev pub asked : Day → Option (List Row) → Stand
 asked d None = Within (Between d)
 asked d (Some batch) = Filing d batch []
 
--- A deal leads from one stand to another. Between two seconds the market is asked. Each booking that is sold is put on record, one sync
+-- A deal leads from one stand to another. Between two seconds the market is shown the day so far, and asked. Each booking that is sold is put on record, one sync
 -- follows, and only then the customer is answered; where nothing is sold, no sync is wanted.
 abbrev pub Goes : List Bool → Stand → Deal → Stand → Type 0
 Goes channels (Within p) (Ran act) to = IsDue p act × (to ≡ Within (next p act))
-Goes channels (Within (Between d)) (Asked batch) to = to ≡ asked d batch
+Goes channels (Within (Between d)) (Asked shown batch) to = (shown ≡ d) × (to ≡ asked d batch)
 Goes channels (Filing d batch sold) (Ran (Recorded (Sold line) done)) to = Filed channels d batch sold (row_on line) done to
 Goes channels (Filing d batch sold) (Ran (Synced done)) to = to ≡ synced d batch sold done
 Goes channels (Filing d batch sold) (Answered answers) to = (sold ≡ []) × (sold_of batch answers ≡ []) × (to ≡ Within (Between d))

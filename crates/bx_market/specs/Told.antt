@@ -18,10 +18,11 @@ use Rattle.bx_market.specs.Stands.{Stand, Within, IsMarketRun, stand_day}
 -- what a customer is told behind these deals is on record: since the batch was asked for, just those of its bookings were recorded as
 -- sold that are answered as accepted; where there are such, all that is on record is on the disk
 pub record IsToldOnRecord (deals : List Deal) (answers : List Answer) : Type 0 where
+  pub shown : Day
   pub batch : List Row
   pub before : List Deal
   pub since : List Deal
-  pub are : deals ≡ before ++ Asked (Some batch) ∷ since
+  pub are : deals ≡ before ++ Asked shown (Some batch) ∷ since
   pub sold : sold_in row_on (recorded (acts_of since)) ≡ sold_of batch answers
   pub on_disk : (sold_of batch answers ≡ []) ⊎ ((filed (acts_of deals)).more ≡ [])
 

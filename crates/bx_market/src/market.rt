@@ -5,6 +5,7 @@ ghost use Rattle.bx_live.specs.Acts.{Act};
 ghost use Rattle.bx_market.specs.Deals.{Deal, Asked, Answered, all_ran};
 
 use bx_base::Bookings;
+use bx_day::Exchange;
 use bx_live::World;
 use bx_sales::NoSale;
 
@@ -26,9 +27,10 @@ impl Default for Answer {
 pub trait Market: World {
     ghost dealt: { Self → List Deal → Self → Type 0 };
 
-    /// The next batch that a customer asks for, if one waits. It does not wait for one.
-    fn ask(&mut self) -> Option<Bookings>
-        ensures { dealt self.old (Asked result ∷ []) self.new };
+    /// The next batch that a customer asks for, if one waits. It does not wait for one. It is shown the exchange between two seconds, so that
+    /// those who only ask how the day stands are answered of it.
+    fn ask(&mut self, exchange: &Exchange) -> Option<Bookings>
+        ensures { dealt self.old (Asked exchange.now result ∷ []) self.new };
 
     /// Tells the customer of the last batch which of its bookings are accepted, in the order of its rows.
     fn answer(&mut self, answers: &[Answer])

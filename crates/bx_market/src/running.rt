@@ -17,7 +17,7 @@ use std::alloc::Global;
 /// The most batches that are taken between two seconds.
 const MAX_BATCHES: u32 = 64;
 
-/// Asks the market once, and sells what fits of its batch.
+/// Shows the market the exchange and asks it once, and sells what fits of its batch.
 fn ask_once<W: Market>(
     alloc: Global,
     exchange: &mut Exchange,
@@ -27,7 +27,7 @@ fn ask_once<W: Market>(
     ensures sold { OrOver W.dealt channels world.old world.new (Within (Between exchange.old)) (Within (Between exchange.new)) result }
     ensures moment { OnOk result (exchange.new.moment ≡ exchange.old.moment) }
 {
-    match world.ask() {
+    match world.ask(exchange) {
         Some(batch) => {
             offer_all(alloc, exchange, world, channels, &batch)?;
             Ok(true)
@@ -69,7 +69,7 @@ fn market_second<W: Market>(
 }
 
 /// Runs the day up to a second of it, or to `LAST_MOMENT` where that is earlier, or until the world says that it is over. Before each
-/// second the market is asked for batches of bookings, at most 64 times: of each batch what fits is sold, row by row, put on record,
+/// second the market is shown the exchange and asked for batches of bookings, at most 64 times: of each batch what fits is sold, row by row, put on record,
 /// brought to the disk by one sync, and only then answered. So the day is the one of the last plan over the events on record
 /// (`laws::day_of_the_last_plan`). At `CannotRecord` nothing more is done, and nothing is answered: the exchange is to be dropped, and the
 /// day that is on record is read again.

@@ -12,15 +12,15 @@ returns-in_err-offer_all-in-Some-clause-sold g c =
     let d = c.args.exchange.now in
     let batch = c.in-Some.batch in
     let bad = c.in_err-offer_all-in-Some.ensures.sold in
-    rw p.1 (bad.0, then_dealt g.met.W.Market.dealt_more (one_dealt (Within (Between d)) (Filing d batch []) (Asked (Some batch)) c.in-Some.ensures refl) bad.1)
+    rw p.1 (bad.0, then_dealt g.met.W.Market.dealt_more (one_dealt (Within (Between d)) (Filing d batch []) (Asked d (Some batch)) c.in-Some.ensures (refl, refl)) bad.1)
 
 pub returns-in_ok-offer_all-in-Some-clause-sold : goal.returns-in_ok-offer_all-in-Some-clause-sold
 returns-in_ok-offer_all-in-Some-clause-sold g c =
     let d = c.args.exchange.now in
     let batch = c.in-Some.batch in
-    then_dealt g.met.W.Market.dealt_more (one_dealt (Within (Between d)) (Filing d batch []) (Asked (Some batch)) c.in-Some.ensures refl) c.in_ok-offer_all-in-Some.ensures.sold
+    then_dealt g.met.W.Market.dealt_more (one_dealt (Within (Between d)) (Filing d batch []) (Asked d (Some batch)) c.in-Some.ensures (refl, refl)) c.in_ok-offer_all-in-Some.ensures.sold
 
 pub returns-in-None-clause-sold : goal.returns-in-None-clause-sold
 returns-in-None-clause-sold g c =
     let d = c.args.exchange.now in
-    one_dealt (Within (Between d)) (Within (Between d)) (Asked None) c.in-None.ensures refl
+    one_dealt (Within (Between d)) (Within (Between d)) (Asked d None) c.in-None.ensures (refl, refl)
