@@ -1,0 +1,20 @@
+-- The fields of an answer, and its head by what is written of it.
+use Rattle.std.proofs.Common.{◌≡◌, subst, sym, ap, ◌∙◌, refl, ℕ, List, [], ◌∷◌}
+use Rattle.http1.specs.declared.head.Header as Sent
+use Rattle.http1.specs.Fields.{Header}
+use Rattle.http1.specs.Head.{header_parts, pairs}
+
+cons_is : {A : Type 0} (x y : A) (xs ys : List A) → x ≡ y → xs ≡ ys → (x ∷ xs) ≡ (y ∷ ys)
+cons_is x y xs ys e f = ap (λ z. z ∷ xs) e ∙ ap (λ zs. y ∷ zs) f
+
+pub five_fields : (a b c d e : Sent.Header) (pa pb pc pd pe : Header) → header_parts a ≡ pa → header_parts b ≡ pb → header_parts c ≡ pc → header_parts d ≡ pd → header_parts e ≡ pe
+    → pairs (a ∷ b ∷ c ∷ d ∷ e ∷ []) ≡ (pa ∷ pb ∷ pc ∷ pd ∷ pe ∷ [])
+five_fields a b c d e pa pb pc pd pe ia ib ic id4 ie = cons_is _ _ _ _ ia (cons_is _ _ _ _ ib (cons_is _ _ _ _ ic (cons_is _ _ _ _ id4 (cons_is _ _ _ _ ie refl))))
+
+pub six_fields : (a b c d e f : Sent.Header) (pa pb pc pd pe pf : Header) → header_parts a ≡ pa → header_parts b ≡ pb → header_parts c ≡ pc → header_parts d ≡ pd → header_parts e ≡ pe → header_parts f ≡ pf
+    → pairs (a ∷ b ∷ c ∷ d ∷ e ∷ f ∷ []) ≡ (pa ∷ pb ∷ pc ∷ pd ∷ pe ∷ pf ∷ [])
+six_fields a b c d e f pa pb pc pd pe pf ia ib ic id4 ie ig = cons_is _ _ _ _ ia (cons_is _ _ _ _ ib (cons_is _ _ _ _ ic (cons_is _ _ _ _ id4 (cons_is _ _ _ _ ie (cons_is _ _ _ _ ig refl)))))
+
+-- what holds by these parts of a head holds by equal ones
+pub head_told : (P : ℕ → List ℕ → List Header → Type 0) (code code' : ℕ) (reason reason' : List ℕ) (fields fields' : List Header) → code ≡ code' → reason ≡ reason' → fields ≡ fields' → P code reason fields → P code' reason' fields'
+head_told P code code' reason reason' fields fields' ec er ef p = subst (λ (c : ℕ). P c reason' fields') ec (subst (λ (r : List ℕ). P code r fields') er (subst (λ (fs : List Header). P code reason fs) ef p))

@@ -1,0 +1,93 @@
+-- A client's connection: what is let through, and what is kept of it.
+use Rattle.std.specs.Prelude.{◌≡◌, ◌⊎◌, ℕ, ◌≤◌, ◌-◌, ◌==◌, ◌&&◌, ◌||◌, not, if◌then◌else◌, Bool, true, false, List, [], ◌∷◌, ◌++◌, length, map, drop, codes, Option, Some, None, Result, Ok, Err}
+use Rattle.httparse.specs.Grammar.{RequestHead, print_request}
+use Rattle.httparse.specs.Spans.{IsRequestAt}
+use Rattle.httparse.specs.declared.spans.HeaderSpan.{HeaderSpan}
+use Rattle.httparse.specs.declared.spans.RequestSpans.{RequestSpans}
+use Rattle.http1.specs.declared.framing.Framing.{Framing}
+use Rattle.http1.specs.Message.{AcceptsRequest}
+use Rattle.bx_office.specs.Gate.{query_in}
+use Rattle.bx_office.specs.Heads.{IsVerdict}
+use Rattle.bx_office.specs.declared.client.Client.{Client}
+use Rattle.bx_office.specs.declared.client.Stage.{Stage}
+use Rattle.bx_office.specs.declared.client.Stage.TheVariants.{Head, Body, Refused, Asked, Last}
+use Rattle.bx_office.specs.declared.gate.Place.{Place}
+use Rattle.bx_office.specs.declared.gate.Refusal.{Refusal}
+use Rattle.bx_office.specs.declared.gate.Route.{Route}
+
+-- a request was let through: its head stood in front of what came, and the gate let it through
+pub record IsAdmitted (old new : Client) (route : Route) : Type 0 where
+  pub head : RequestHead
+  pub framing : Framing
+  pub accepts : AcceptsRequest old.server.limits old.unread.items head framing new.unread.items
+  pub verdict : IsVerdict old.place head (Ok route)
+  pub query : new.query.items ≡ query_in head.target
+  pub body : new.body.items ≡ []
+
+-- a piece of its body was read, or none
+pub record IsReadOn (old new : Client) (route : Route) : Type 0 where
+  pub before : old.stage ≡ Body route
+  pub query : new.query.items ≡ old.query.items
+  pub piece : List ℕ
+  pub body : new.body.items ≡ old.body.items ++ piece
+
+-- the body of the request of this route is due behind a step
+abbrev pub IsDueBehind : Client → Client → Stage → Type 0
+IsDueBehind old new (Body route) = IsAdmitted old new route ⊎ IsReadOn old new route
+IsDueBehind old new (Asked route) = (old.stage ≡ Asked route) ⊎ ((old.stage ≡ Body route) × (new.query.items ≡ old.query.items) × (new.body.items ≡ old.body.items))
+IsDueBehind old new _ = Unit {0}
+
+-- ---- what each function of it does
+
+-- nothing more is done for the client
+pub record IsLeft (c : Client) : Type 0 where
+  pub stage : c.stage ≡ Last
+  pub out : c.out.items ≡ []
+
+abbrev pub is_last : Stage → Bool
+is_last Last = true
+is_last _ = false
+
+abbrev pub is_over : Client → Bool
+is_over c = is_last c.stage && (length c.out.items == 0)
+
+-- a whole request waits for its answer, or nothing more is read
+abbrev pub is_held : Stage → Bool
+is_held (Asked route) = true
+is_held Last = true
+is_held _ = false
+
+abbrev pub is_reading : Client → Bool
+is_reading c = (length c.out.items == 0) && not (is_held c.stage)
+
+abbrev pub room_of : Client → ℕ
+room_of c = if c.has_ended || not (is_reading c) then 0 else 16384 - length c.unread.items
+
+-- octets were taken, and nothing else has changed
+pub record IsTaken (octets : List ℕ) (old new : Client) : Type 0 where
+  pub unread : new.unread.items ≡ old.unread.items ++ octets
+  pub stage : new.stage ≡ old.stage
+  pub place : new.place ≡ old.place
+  pub server : new.server ≡ old.server
+  pub query : new.query ≡ old.query
+  pub body : new.body ≡ old.body
+  pub out : new.out ≡ old.out
+
+-- behind an answer the next head is due, or nothing more is read
+abbrev pub IsNext : Stage → Type 0
+IsNext Head = Unit {0}
+IsNext Last = Unit {0}
+IsNext _ = ⊥
+
+-- no request that was let through is due
+abbrev pub IsUndue : Stage → Type 0
+IsUndue (Body route) = ⊥
+IsUndue (Asked route) = ⊥
+IsUndue _ = Unit {0}
+
+-- a head was let through
+pub record IsBegun (place : Place) (input : List ℕ) (spans : List HeaderSpan) (r : RequestSpans) (route : Route) (new : Client) : Type 0 where
+  pub verdict : (h : RequestHead) → IsRequestAt input spans r h → IsVerdict place h (Ok route)
+  pub query : (h : RequestHead) → IsRequestAt input spans r h → new.query.items ≡ query_in h.target
+  pub unread : new.unread.items ≡ drop r.len input
+  pub body : new.body.items ≡ []

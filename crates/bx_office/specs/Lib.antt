@@ -1,0 +1,4 @@
+pub mod Gate
+pub mod Heads
+pub mod Replies
+pub mod Clients
