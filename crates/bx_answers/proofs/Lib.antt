@@ -1,0 +1,4 @@
+pub mod Built
+pub mod CallTimes
+pub mod Counted
+pub mod Pieces

@@ -1,0 +1,19 @@
+use Rattle.std.proofs.Common.{◌≡◌, ap, ◌∙◌, subst, List}
+use Rattle.bx_base.specs.Bookings.{Row}
+use Rattle.bx_base.specs.PlanParts.{parts_of}
+use Rattle.bx_planner.proofs.Proved.{proved_plan}
+use Rattle.bx_planner.specs.Proved.{IsProved}
+use Rattle.bx_answers.specs.Answers.{promised, IsPromisedPlan}
+use Rattle.bx_answers.proofs.promised.promised_plan.Goals as goal
+
+pub returns-in-Ok-plan : goal.returns-in-Ok-plan
+returns-in-Ok-plan c =
+    let e = c.in-Ok-plan.ensures in
+    let plan = c.in-Ok-plan.plan in
+    let rows : c.in-Ok.rows ≡ promised c.args.exchange.now.entries = c.in-Ok.ensures ∙ ap promised c.entries.ensures in
+    let made : IsPromisedPlan c.args.exchange.now.entries c.args.channels (parts_of plan) = record {
+      proved = subst (λ (rs : List Row). IsProved rs c.args.channels (parts_of plan)) rows (proved_plan c.in-Ok.rows c.args.channels (parts_of plan) e.bookings e.channels e.carried e.lawful e.total e.prices e.best e.least);
+      limits = e.limits;
+      rows = e.bookings ∙ rows;
+    } in
+    made

@@ -1,0 +1,39 @@
+-- What is answered of the day that runs.
+use Rattle.std.specs.Prelude.{◌≡◌, Bool, true, false, List, map, Option, if◌then◌else◌, ℕ}
+use Rattle.bx_base.specs.Bookings.{Row}
+use Rattle.bx_base.specs.PlanParts.{Parts, IsPlan}
+use Rattle.bx_calendar.specs.declared.clock.Clock.{Clock}
+use Rattle.bx_day.specs.Invariant.{is_refused}
+use Rattle.bx_day.specs.declared.entry.Entry.{Entry}
+use Rattle.bx_planfile.specs.Text.{plan_text}
+use Rattle.bx_planfile.specs.declared.version.Version.TheVariants.{Three}
+use Rattle.bx_planner.specs.Proved.{IsProved}
+use Rattle.bx_records.specs.Writing.{IsBeyond}
+use Rattle.bx_answers.specs.declared.fault.NoAnswer.{NoAnswer}
+use Rattle.bx_answers.specs.declared.fault.NoAnswer.TheVariants.{OutOfRange, Memory}
+
+-- ---- the last plan
+
+-- a booking that is promised is one that each plan has to hold
+abbrev pub promised_row : Entry → Row
+promised_row e = if is_refused e.standing then e.booking else record (e.booking) { must = true }
+
+abbrev pub promised : List Entry → List Row
+promised entries = map promised_row entries
+
+-- a best plan of the bookings of the day that holds all that is promised, with the least prices that prove it
+pub record IsPromisedPlan (entries : List Entry) (channels : List Bool) (plan : Parts) : Type 0 where
+  pub proved : IsProved (promised entries) channels plan
+  pub limits : IsPlan plan
+  pub rows : plan.rows ≡ promised entries
+
+-- the text is that of such a plan
+abbrev pub IsPlanText : List Entry → List Bool → List ℕ → Type 0
+IsPlanText entries channels text = (plan : Parts) × IsPromisedPlan entries channels plan × (text ≡ plan_text Three plan)
+
+-- ---- the records
+
+abbrev pub IsNoRecords : Option Clock → NoAnswer → Type 0
+IsNoRecords clock OutOfRange = IsBeyond clock
+IsNoRecords clock Memory = Unit {0}
+IsNoRecords clock _ = ⊥

@@ -1,0 +1,5 @@
+pub mod Answers
+pub mod Metrics
+pub mod Quotes
+pub mod Sold
+pub mod Tallies

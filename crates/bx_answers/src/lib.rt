@@ -1,0 +1,17 @@
+//! What the office in front of a live day answers: texts of the day, a pure function each of the exchange.
+#![tactic(auto)]
+
+mod fault;
+mod metrics;
+mod promised;
+mod quoting;
+mod sold;
+mod tallies;
+mod texts;
+
+pub use fault::NoAnswer;
+pub use metrics::{Figures, metrics_text};
+pub use promised::{plan_text, promised_plan};
+pub use quoting::{call_of, quote_text};
+pub use sold::sold_text;
+pub use texts::{outcomes_text, records_text};
