@@ -23,8 +23,9 @@ abbrev pub live_day_after : List LiveEvent → Day → Day
 live_day_after [] d = d
 live_day_after (e ∷ es) d = live_day_after es (live_happens d e).day
 
--- ---- the seconds without a link from a moment on, and the outages, which are runs of them: the seconds so far, the outages so far, and
--- whether the last second was one of them
+-- ---- what a day lost of its link
+
+-- the seconds without a link so far, the outages so far, which are runs of such seconds, and whether the last second was one
 pub record Lost : Type 0 where
   pub seconds : ℕ
   pub outages : ℕ
