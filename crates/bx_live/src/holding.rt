@@ -37,8 +37,8 @@ pub fn has_call(exchange: &Exchange) -> bool
     false
 }
 
-/// Whether one more second is to begin.
-fn goes_on(exchange: &Exchange, last: u32) -> bool
+/// Whether one more second of a day that is held open is to begin: the last one that was asked for has not come, or a call is up.
+pub fn goes_on(exchange: &Exchange, last: u32) -> bool
     ensures on { result ≡ true → (exchange.now.moment < last) ⊎ (has_call exchange.now ≡ true) }
     ensures over { result ≡ false → (last ≤ exchange.now.moment) × (has_call exchange.now ≡ false) }
 {

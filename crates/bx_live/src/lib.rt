@@ -9,6 +9,6 @@ mod running;
 mod turn;
 mod world;
 
-pub use holding::{has_call, run_held};
+pub use holding::{goes_on, has_call, run_held};
 pub use running::{Second, close_day, run_live, run_second};
 pub use world::{Begin, CannotRecord, Loss, World};

@@ -12,9 +12,9 @@ use Rattle.bx_sales.specs.declared.selling.NoSale.{NoSale}
 use Rattle.bx_market.specs.declared.market.Answer.{Answer}
 use Rattle.bx_market.specs.declared.market.Answer.TheVariants.{Accepted, Refused}
 use Rattle.bx_market.specs.Deals.{Deal, all_ran, sold_of}
-use Rattle.bx_market.specs.Stands.{Stand, Within, Filing, Deals}
-use Rattle.bx_market.specs.Offers.{IsOffered, OrOver}
-use Rattle.bx_market.proofs.Steps.{one_ran, none_ran, then_dealt, at_stand}
+use Rattle.bx_market.specs.Stands.{Stand, Within, Filing}
+use Rattle.bx_market.specs.Offers.{Asks, IsOffered, OrOver}
+use Rattle.bx_market.proofs.Steps.{one_inside, none_asked, then_asked, at_stand}
 
 -- ---- what is sold of a batch
 
@@ -43,22 +43,22 @@ none_more batch answers (Refused why) other none = sold_same batch answers why �
 
 module _ {W : Type 0} {did : W → List Act → W → Type 0} {dealt : W → List Deal → W → Type 0} (channels : List Bool) (by : (v w : W) (acts : List Act) → did v acts w → dealt v (all_ran acts) w) (u v : W) (d d1 : Day) (batch sold : List Row) where
   pub sold_on_record : (row : Row) (line : List ℕ) → did u (Recorded (Sold line) true ∷ []) v → line ≡ booking_text row → booking_on (booking_text row) ≡ Some row → IsSold channels row d d1
-      → Deals dealt channels u v (Filing d batch sold) (Filing d1 batch (sold ++ row ∷ []))
+      → Asks dealt channels u v (Filing d batch sold) (Filing d1 batch (sold ++ row ∷ []))
   sold_on_record row line done text again is =
       let same : row ≡ row_on line = sym (ap row_on text ∙ ap row_or_none again) in
-      one_ran channels by (Filing d batch sold) (Filing d1 batch (sold ++ row ∷ [])) (Recorded (Sold line) true) done
-      (d1, subst (λ (r : Row). IsSold channels r d d1) same is, ap (λ (r : Row). Filing d1 batch (sold ++ r ∷ [])) same)
+      one_inside channels by (Filing d batch sold) (Filing d1 batch (sold ++ row ∷ [])) (Recorded (Sold line) true) done
+      (d1, subst (λ (r : Row). IsSold channels r d d1) same is, ap (λ (r : Row). Filing d1 batch (sold ++ r ∷ [])) same) refl
 
-  pub not_on_record : (line : List ℕ) → did u (Recorded (Sold line) false ∷ []) v → Deals dealt channels u v (Filing d batch sold) (Within (Over d))
-  not_on_record line done = one_ran channels by (Filing d batch sold) (Within (Over d)) (Recorded (Sold line) false) done refl
+  pub not_on_record : (line : List ℕ) → did u (Recorded (Sold line) false ∷ []) v → Asks dealt channels u v (Filing d batch sold) (Within (Over d))
+  not_on_record line done = one_inside channels by (Filing d batch sold) (Within (Over d)) (Recorded (Sold line) false) done refl refl
 
 module _ {W : Type 0} {did : W → List Act → W → Type 0} {dealt : W → List Deal → W → Type 0} (channels : List Bool) (by : (v w : W) (acts : List Act) → did v acts w → dealt v (all_ran acts) w) (none : (w : W) → did w [] w) where
-  pub not_sold : (u : W) (d d1 : Day) (batch sold : List Row) → d1 ≡ d → Deals dealt channels u u (Filing d batch sold) (Filing d1 batch sold) × (d1 ≡ d)
-  not_sold u d d1 batch sold same = (at_stand (Filing d batch sold) (Filing d1 batch sold) (ap (λ (x : Day). Filing x batch sold) (sym same)) (none_ran channels by none u (Filing d batch sold)), same)
+  pub not_sold : (u : W) (d d1 : Day) (batch sold : List Row) → d1 ≡ d → Asks dealt channels u u (Filing d batch sold) (Filing d1 batch sold) × (d1 ≡ d)
+  not_sold u d d1 batch sold same = (at_stand (Filing d batch sold) (Filing d1 batch sold) (ap (λ (x : Day). Filing x batch sold) (sym same)) (none_asked channels by none u (Filing d batch sold)), same)
 
 module _ {W : Type 0} {dealt : W → List Deal → W → Type 0} (channels : List Bool) (u v : W) (d d1 : Day) (batch : List Row) (answers : List Answer) where
   pub offered_more : (a : Answer) (index : ℕ) (row : Row) → IsOffered dealt channels u v batch (sold_of batch answers) row d d1 (Ok a) → row ≡ row_at batch index → length answers ≡ index → index < length batch
-      → Deals dealt channels u v (Filing d batch (sold_of batch answers)) (Filing d1 batch (sold_of batch (answers ++ a ∷ [])))
+      → Asks dealt channels u v (Filing d batch (sold_of batch answers)) (Filing d1 batch (sold_of batch (answers ++ a ∷ [])))
   offered_more Accepted index row run is len lt =
       let same : row ≡ row_at batch (length answers) = is ∙ ap (row_at batch) (sym len) in
       let all : sold_of batch answers ++ row ∷ [] ≡ sold_of batch (answers ++ Accepted ∷ []) = ap (λ (r : Row). sold_of batch answers ++ r ∷ []) same ∙ sym (sold_more batch answers (omega (arith, len, lt))) in
@@ -68,6 +68,6 @@ module _ {W : Type 0} {dealt : W → List Deal → W → Type 0} (channels : Lis
 
 -- a run that goes on well, or does not
 pub or_more : {W A : Type 0} {dealt : W → List Deal → W → Type 0} (channels : List Bool) (more : (u v w : W) (xs ys : List Deal) → dealt u xs v → dealt v ys w → dealt u (xs ++ ys) w) (u v w : W) (p q s : Stand) (r : Result A CannotRecord)
-    → Deals dealt channels u v p q → OrOver dealt channels v w q s r → OrOver dealt channels u w p s r
-or_more channels more u v w p q s (Ok a) run on = then_dealt more run on
-or_more channels more u v w p q s (Err fault) run (over, on) = (over, then_dealt more run on)
+    → Asks dealt channels u v p q → OrOver dealt channels v w q s r → OrOver dealt channels u w p s r
+or_more channels more u v w p q s (Ok a) run on = then_asked more run on
+or_more channels more u v w p q s (Err fault) run (over, on) = (over, then_asked more run on)

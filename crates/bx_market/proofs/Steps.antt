@@ -1,9 +1,10 @@
 -- Runs with sales, one behind another.
-use Rattle.std.proofs.Common.{◌≡◌, Bool, List, [], ◌∷◌, ◌++◌, refl, sym, ap, subst}
-use Rattle.bx_live.specs.Acts.{Act}
+use Rattle.std.proofs.Common.{◌≡◌, Bool, true, false, List, [], ◌∷◌, ◌++◌, refl, sym, ap, ◌∙◌, subst}
+use Rattle.bx_live.specs.Acts.{Act, Began, Dropped, Recorded, Synced, Wrote, Read, Took, EndedDay, begins_none}
 use Rattle.bx_live.specs.Runs.{Place, IsRun, next}
 use Rattle.bx_live.specs.Running.{Runs}
 use Rattle.bx_market.specs.Deals.{Deal, Ran, Asked, Answered, acts_of, all_ran}
+use Rattle.bx_market.specs.Offers.{Asks}
 use Rattle.bx_market.specs.Stands.{Stand, Within, Goes, IsMarketRun, Deals}
 
 pub run_more : (channels : List Bool) (p q r : Stand) (xs ys : List Deal) → IsMarketRun channels p xs q → IsMarketRun channels q ys r → IsMarketRun channels p (xs ++ ys) r
@@ -42,6 +43,42 @@ module _ {W : Type 0} {did : W → List Act → W → Type 0} {dealt : W → Lis
   abbrev pub none_ran : ((w : W) → did w [] w) → (w : W) (p : Stand) → Deals dealt channels w w p p
   none_ran none w p = record { deals = []; done = by w w [] (none w); goes = refl }
 
--- a run to a stand is one to another name of it
-pub at_stand : {W : Type 0} {dealt : W → List Deal → W → Type 0} {channels : List Bool} {u v : W} {p : Stand} (q r : Stand) → q ≡ r → Deals dealt channels u v p q → Deals dealt channels u v p r
-at_stand {W} {dealt} {channels} {u} {v} {p} q r e run = subst (λ (x : Stand). Deals dealt channels u v p x) e run
+-- ---- the same where no second begins
+
+pub inside_more : (xs ys : List Act) → begins_none xs ≡ true → begins_none ys ≡ true → begins_none (xs ++ ys) ≡ true
+inside_more [] ys e more = more
+inside_more (Began second begin ∷ xs) ys e more = cc
+inside_more (Dropped loss ∷ xs) ys e more = inside_more xs ys e more
+inside_more (Recorded event done ∷ xs) ys e more = inside_more xs ys e more
+inside_more (Synced done ∷ xs) ys e more = inside_more xs ys e more
+inside_more (Wrote octets done ∷ xs) ys e more = inside_more xs ys e more
+inside_more (Read room answer ∷ xs) ys e more = inside_more xs ys e more
+inside_more (Took message ∷ xs) ys e more = inside_more xs ys e more
+inside_more (EndedDay ∷ xs) ys e more = inside_more xs ys e more
+
+module _ {W : Type 0} {dealt : W → List Deal → W → Type 0} {channels : List Bool} where
+  abbrev pub one_asked : {u v : W} (p q : Stand) (deal : Deal) → dealt u (deal ∷ []) v → Goes channels p deal q → begins_none (acts_of (deal ∷ [])) ≡ true → Asks dealt channels u v p q
+  one_asked p q deal done goes inside = record { deals = deal ∷ []; done = done; goes = (q, goes, refl); inside = inside }
+
+  abbrev pub as_deals : {u v : W} {p q : Stand} → Asks dealt channels u v p q → Deals dealt channels u v p q
+  as_deals asks = record { deals = asks.deals; done = asks.done; goes = asks.goes }
+
+  module _ (more : (u v w : W) (xs ys : List Deal) → dealt u xs v → dealt v ys w → dealt u (xs ++ ys) w) where
+    abbrev pub then_asked : {u v w : W} {p q r : Stand} → Asks dealt channels u v p q → Asks dealt channels v w q r → Asks dealt channels u w p r
+    then_asked {u} {v} {w} {p} {q} {r} a b = record {
+      deals = a.deals ++ b.deals;
+      done = more u v w a.deals b.deals a.done b.done;
+      goes = run_more channels p q r a.deals b.deals a.goes b.goes;
+      inside = ap begins_none (acts_more a.deals b.deals) ∙ inside_more (acts_of a.deals) (acts_of b.deals) a.inside b.inside;
+    }
+
+module _ {W : Type 0} {did : W → List Act → W → Type 0} {dealt : W → List Deal → W → Type 0} (channels : List Bool) (by : (v w : W) (acts : List Act) → did v acts w → dealt v (all_ran acts) w) where
+  abbrev pub one_inside : {u v : W} (p q : Stand) (act : Act) → did u (act ∷ []) v → Goes channels p (Ran act) q → begins_none (act ∷ []) ≡ true → Asks dealt channels u v p q
+  one_inside {u} {v} p q act done goes inside = record { deals = Ran act ∷ []; done = by u v (act ∷ []) done; goes = (q, goes, refl); inside = inside }
+
+  abbrev pub none_asked : ((w : W) → did w [] w) → (w : W) (p : Stand) → Asks dealt channels w w p p
+  none_asked none w p = record { deals = []; done = by w w [] (none w); goes = refl; inside = refl }
+
+-- asks to a stand are asks to another name of it
+pub at_stand : {W : Type 0} {dealt : W → List Deal → W → Type 0} {channels : List Bool} {u v : W} {p : Stand} (q r : Stand) → q ≡ r → Asks dealt channels u v p q → Asks dealt channels u v p r
+at_stand {W} {dealt} {channels} {u} {v} {p} q r e run = subst (λ (x : Stand). Asks dealt channels u v p x) e run

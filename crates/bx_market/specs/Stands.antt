@@ -1,9 +1,11 @@
 -- A live run with sales: which acts come one after another.
-use Rattle.std.specs.Prelude.{◌≡◌, Bool, true, false, List, [], ◌∷◌, ◌++◌, Option, Some, None}
+use Rattle.std.specs.Prelude.{◌≡◌, ℕ, ◌≤◌, ◌<◌, Bool, true, false, List, [], ◌∷◌, ◌++◌, Option, Some, None}
 use Rattle.bx_base.specs.Bookings.{Row}
 use Rattle.bx_day.specs.Day.{Day}
 use Rattle.bx_events.specs.Events.{Sold}
-use Rattle.bx_live.specs.Acts.{Recorded, Synced}
+use Rattle.bx_events.specs.declared.moment.TheConstants.{LAST_MOMENT}
+use Rattle.bx_live.specs.Acts.{Began, Recorded, Synced}
+use Rattle.bx_live.specs.Held.{has_call}
 use Rattle.bx_live.specs.Runs.{Place, Between, Over, IsDue, next, day_at}
 use Rattle.bx_planfile.specs.OneBooking.{row_on}
 use Rattle.bx_sales.specs.Selling.{IsSold}
@@ -53,6 +55,16 @@ Goes _ _ _ _ = ⊥
 abbrev pub IsMarketRun : List Bool → Stand → List Deal → Stand → Type 0
 IsMarketRun channels from [] to = from ≡ to
 IsMarketRun channels from (deal ∷ deals) to = (mid : Stand) × Goes channels from deal mid × IsMarketRun channels mid deals to
+
+-- no second begins behind `LAST_MOMENT`, and behind the last one that was asked for one begins only while a call is up, by the day as it is then
+abbrev pub IsHeldAt : ℕ → Deal → Stand → Type 0
+IsHeldAt last (Ran (Began second begin)) (Within (Between d)) = (second ≤ LAST_MOMENT) × (last < second → has_call d ≡ true)
+IsHeldAt last deal stand = Unit {0}
+
+-- the deals of a run that is held open
+abbrev pub IsHeldMarketRun : List Bool → ℕ → Stand → List Deal → Stand → Type 0
+IsHeldMarketRun channels last from [] to = from ≡ to
+IsHeldMarketRun channels last from (deal ∷ deals) to = (mid : Stand) × Goes channels from deal mid × IsHeldAt last deal from × IsHeldMarketRun channels last mid deals to
 
 -- the world has gone through the deals of a run
 pub record Deals {W : Type 0} (dealt : W → List Deal → W → Type 0) (channels : List Bool) (old new : W) (from to : Stand) : Type 0 where

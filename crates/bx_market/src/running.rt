@@ -3,7 +3,7 @@
 ghost use Rattle.std.specs.Prelude.{◌≡◌, OnOk};
 ghost use Rattle.bx_live.specs.Runs.{Between};
 ghost use Rattle.bx_market.specs.Stands.{Within};
-ghost use Rattle.bx_market.specs.Offers.{OrOver, PassesSecond};
+ghost use Rattle.bx_market.specs.Offers.{OrOver};
 ghost use Rattle.bx_market.specs.SaleRuns.{IsSaleRun};
 
 use crate::market::Market;
@@ -11,7 +11,7 @@ use crate::offering::offer_all;
 use bx_base::ChannelSet;
 use bx_day::Exchange;
 use bx_events::LAST_MOMENT;
-use bx_live::{CannotRecord, Second, close_day, run_second};
+use bx_live::{CannotRecord, Second, close_day, goes_on, run_second};
 use std::alloc::Global;
 
 /// The most batches that are taken between two seconds.
@@ -55,24 +55,11 @@ fn ask_all<W: Market>(
     Ok(())
 }
 
-/// What is asked before a second, and the second.
-fn market_second<W: Market>(
-    alloc: Global,
-    exchange: &mut Exchange,
-    world: &mut W,
-    channels: ChannelSet,
-) -> Result<Second, CannotRecord>
-    ensures { PassesSecond W.dealt channels world.old world.new exchange.old exchange.new result }
-{
-    ask_all(alloc, exchange, world, channels)?;
-    run_second(exchange, world)
-}
-
-/// Runs the day up to a second of it, or to `LAST_MOMENT` where that is earlier, or until the world says that it is over. Before each
-/// second the market is shown the exchange and asked for batches of bookings, at most 64 times: of each batch what fits is sold, row by row, put on record,
-/// brought to the disk by one sync, and only then answered. So the day is the one of the last plan over the events on record
-/// (`laws::day_of_the_last_plan`). At `CannotRecord` nothing more is done, and nothing is answered: the exchange is to be dropped, and the
-/// day that is on record is read again.
+/// Runs the day up to a second of it, and behind that on while a call is up, so that each call that is begun is cleared and can be billed: until none is up,
+/// or up to `LAST_MOMENT`, or until the world says that it is over. Before each second the market is shown the exchange and asked for batches of bookings, at
+/// most 64 times: of each batch what fits is sold, row by row, put on record, brought to the disk by one sync, and only then answered. So the day is the one of
+/// the last plan over the events on record (`laws::day_of_the_last_plan`). At `CannotRecord` nothing more is done, and nothing is answered: the exchange is to
+/// be dropped, and the day that is on record is read again.
 pub fn run_market<W: Market>(
     alloc: Global,
     exchange: &mut Exchange,
@@ -82,9 +69,12 @@ pub fn run_market<W: Market>(
 ) -> Result<(), CannotRecord>
     ensures { IsSaleRun W.dealt channels world.old world.new exchange.old exchange.new last result }
 {
-    let end = last.min(LAST_MOMENT);
-    for _second in exchange.moment()..end {
-        match market_second(alloc, exchange, world, channels)? {
+    for _second in exchange.moment()..LAST_MOMENT {
+        ask_all(alloc, exchange, world, channels)?;
+        if !goes_on(exchange, last) {
+            return close_day(world);
+        }
+        match run_second(exchange, world)? {
             Second::Passed => {}
             Second::Ended => return close_day(world),
         }

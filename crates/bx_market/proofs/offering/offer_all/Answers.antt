@@ -5,7 +5,7 @@ use Rattle.bx_market.specs.declared.market.Answer.{Answer}
 use Rattle.bx_market.specs.Deals.{sold_of}
 use Rattle.bx_market.specs.Offers.{OrOver}
 use Rattle.bx_market.specs.Stands.{Within, Filing}
-use Rattle.bx_market.proofs.Steps.{none_ran, then_dealt, at_stand}
+use Rattle.bx_market.proofs.Steps.{none_asked, then_asked, at_stand}
 use Rattle.bx_market.proofs.Batches.{sold_none, none_more, offered_more, or_more}
 use Rattle.bx_market.proofs.offering.offer_all.Goals as goal
 
@@ -17,7 +17,7 @@ loop-index-init g c =
     let none : sold_of b c.new-answers.result.items ≡ [] = ap (sold_of b) e ∙ sold_none b in
     record {
       len = ap length e;
-      run = at_stand (Filing d b []) (Filing d b (sold_of b c.new-answers.result.items)) (ap (Filing d b) (sym none)) (none_ran c.args.channels g.met.W.Market.dealt_by g.met.W.World.did_nothing c.args.world.now (Filing d b []));
+      run = at_stand (Filing d b []) (Filing d b (sold_of b c.new-answers.result.items)) (ap (Filing d b) (sym none)) (none_asked c.args.channels g.met.W.Market.dealt_by g.met.W.World.did_nothing c.args.world.now (Filing d b []));
       moment = refl;
       none = λ x. none;
     }
@@ -27,7 +27,7 @@ returns-in_err-answered-clause-sold g c =
     let p = err_from_is_err_and c.from_residual.result c.from_residual.ensures.1 in
     let b = c.args.batch.now in
     let bad = c.in_err-answered.ensures.offered b (sold_of b c.loop-index.answers.items) in
-    rw p.1 (bad.0, then_dealt g.met.W.Market.dealt_more c.loop-index.invariant.run bad.1)
+    rw p.1 (bad.0, then_asked g.met.W.Market.dealt_more c.loop-index.invariant.run bad.1)
 
 pub loop-index-preserved : goal.loop-index-preserved
 loop-index-preserved g c =
@@ -41,7 +41,7 @@ loop-index-preserved g c =
     record {
       len = omega (arith, c.push.ensures.len, l.invariant.len);
       run = at_stand (Filing d1 b (sold_of b (items ++ a ∷ []))) (Filing d1 b (sold_of b c.push.new.self.items)) (ap (λ (xs : List Answer). Filing d1 b (sold_of b xs)) (sym c.push.ensures.items))
-          (then_dealt g.met.W.Market.dealt_more l.invariant.run run);
+          (then_asked g.met.W.Market.dealt_more l.invariant.run run);
       moment = c.in_ok-answered.ensures.moment ∙ l.invariant.moment;
       none = λ e. let h = c.is_sold_now-is_any_sold.ensures e in ap (sold_of b) c.push.ensures.items ∙ none_more b items a h.1 (l.invariant.none h.0);
     }

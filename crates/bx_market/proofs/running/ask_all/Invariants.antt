@@ -1,10 +1,11 @@
 use Rattle.std.proofs.Common.{◌≡◌}
 use Rattle.bx_live.specs.Runs.{Between}
-use Rattle.bx_market.specs.Stands.{Within, Deals}
+use Rattle.bx_market.specs.Stands.{Within}
+use Rattle.bx_market.specs.Offers.{Asks}
 use Rattle.bx_market.proofs.running.ask_all.Given as goal
 
 abbrev pub invariant-loop-batch : goal.invariant-loop-batch
 invariant-loop-batch g l = record {
-  run : Deals g.W.Market.dealt l.fn.channels l.fn.world l.world (Within (Between l.fn.exchange)) (Within (Between l.exchange));
+  run : Asks g.W.Market.dealt l.fn.channels l.fn.world l.world (Within (Between l.fn.exchange)) (Within (Between l.exchange));
   moment : l.exchange.moment ≡ l.fn.exchange.moment;
 }

@@ -3,7 +3,7 @@ use Rattle.std.proofs.lemmas.Result.{err_from_is_err_and}
 use Rattle.bx_live.specs.Runs.{Between}
 use Rattle.bx_market.specs.Deals.{Asked}
 use Rattle.bx_market.specs.Stands.{Within, Filing}
-use Rattle.bx_market.proofs.Steps.{one_dealt, then_dealt}
+use Rattle.bx_market.proofs.Steps.{one_asked, then_asked}
 use Rattle.bx_market.proofs.running.ask_once.Goals as goal
 
 pub returns-in_err-offer_all-in-Some-clause-sold : goal.returns-in_err-offer_all-in-Some-clause-sold
@@ -12,15 +12,15 @@ returns-in_err-offer_all-in-Some-clause-sold g c =
     let d = c.args.exchange.now in
     let batch = c.in-Some.batch in
     let bad = c.in_err-offer_all-in-Some.ensures.sold in
-    rw p.1 (bad.0, then_dealt g.met.W.Market.dealt_more (one_dealt (Within (Between d)) (Filing d batch []) (Asked d (Some batch)) c.in-Some.ensures (refl, refl)) bad.1)
+    rw p.1 (bad.0, then_asked g.met.W.Market.dealt_more (one_asked (Within (Between d)) (Filing d batch []) (Asked d (Some batch)) c.in-Some.ensures (refl, refl) refl) bad.1)
 
 pub returns-in_ok-offer_all-in-Some-clause-sold : goal.returns-in_ok-offer_all-in-Some-clause-sold
 returns-in_ok-offer_all-in-Some-clause-sold g c =
     let d = c.args.exchange.now in
     let batch = c.in-Some.batch in
-    then_dealt g.met.W.Market.dealt_more (one_dealt (Within (Between d)) (Filing d batch []) (Asked d (Some batch)) c.in-Some.ensures (refl, refl)) c.in_ok-offer_all-in-Some.ensures.sold
+    then_asked g.met.W.Market.dealt_more (one_asked (Within (Between d)) (Filing d batch []) (Asked d (Some batch)) c.in-Some.ensures (refl, refl) refl) c.in_ok-offer_all-in-Some.ensures.sold
 
 pub returns-in-None-clause-sold : goal.returns-in-None-clause-sold
 returns-in-None-clause-sold g c =
     let d = c.args.exchange.now in
-    one_dealt (Within (Between d)) (Within (Between d)) (Asked d None) c.in-None.ensures (refl, refl)
+    one_asked (Within (Between d)) (Within (Between d)) (Asked d None) c.in-None.ensures (refl, refl) refl
