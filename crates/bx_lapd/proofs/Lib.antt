@@ -10,3 +10,4 @@ pub mod Sinks
 pub mod Lines
 pub mod ReadBack
 pub mod Bounds
+pub mod Anew

@@ -73,7 +73,7 @@ ok_near w (Asks now) u v o = absurd (asks_down w.near now w.near.state u v)
 ok_near w (Releases now) u v o = absurd (releases_down w.near now w.near.state u v)
 
 -- the same, seen from the other end
-ok_swapped : (w : World) → WorldOk w → WorldOk (swapped w)
+pub ok_swapped : (w : World) → WorldOk w → WorldOk (swapped w)
 ok_swapped w o =
     let n = o.n in
     record {
@@ -132,7 +132,7 @@ first_valid g d k e l p forth (Numbered kind command poll nr ∷ fs) n j t =
     joint_valid g d k e l p forth (Numbered kind command poll nr ∷ fs) n nr j t (record { c = o.0; is = o.1; above = o.2; behind = (o.0, o.1, omega arith, o.3) })
 first_valid g d k e l p forth (Plain kind poll ∷ fs) n j t = absurd j.out.confirms
 
-in_order_of : (w : World) → WorldOk w → IsInOrder w
+pub in_order_of : (w : World) → WorldOk w → IsInOrder w
 in_order_of w o =
     let f = o.joint.out in
     let n = o.n in

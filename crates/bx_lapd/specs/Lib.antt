@@ -7,4 +7,5 @@ pub mod World
 pub mod Law
 pub mod Bounds
 pub mod Once
+pub mod Anew
 pub mod ReadBack

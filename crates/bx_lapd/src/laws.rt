@@ -1,5 +1,6 @@
 //! What holds of the two ends of a link over every list of events.
 
+ghost use Rattle.bx_lapd.specs.Anew.{Anew, SameLinks};
 ghost use Rattle.bx_lapd.specs.Bounds.{Within};
 ghost use Rattle.bx_lapd.specs.Law.{InOrder};
 ghost use Rattle.bx_lapd.specs.Once.{Once};
@@ -9,6 +10,14 @@ ghost use Rattle.bx_lapd.specs.ReadBack.{ReadsBack};
 /// as it stays up.
 pub fn in_order()
     ensures { InOrder }
+{}
+
+/// Between two establishments a link skips nothing either, over any number of them, where layer 3 releases no link and T200 of an establishment
+/// is due only once its SABME and the answer to that have come or were lost, as on a line whose round trip is below T200. To count from the
+/// last establishment on changes nothing of the ends, or of the frames on the way (`links`).
+pub fn in_order_anew()
+    ensures order { Anew }
+    ensures links { SameLinks }
 {}
 
 /// Every call keeps a link within its limits, whatever the peer sends: at most 7 I frames outstanding, at most 32 messages kept, numbers
