@@ -87,7 +87,7 @@ const DISCONNECT_41: &[u8] = &[0x08, 0x02, 0x00, 0x01, 0x45, 0x08, 0x02, 0x82, 0
 
 const DISCONNECT_102: &[u8] = &[0x08, 0x02, 0x00, 0x01, 0x45, 0x08, 0x02, 0x82, 0xE6];
 
-static WORKED: [Worked; 32] = [
+static WORKED: [Worked; 23] = [
     Worked {
         name: "a booking that starts without a link is offered in the first second with one",
         bookings: &[(10, 60, 1, false)],
@@ -405,6 +405,10 @@ static WORKED: [Worked; 32] = [
         held: Some((1, CallState::DisconnectIndication)),
         is_broken: false,
     },
+];
+
+/// Calls that are asked for and reported of, and clearing that is put off.
+static REPORTED: [Worked; 9] = [
     Worked {
         name: "a call that the user is disconnecting is released, and billed no longer",
         bookings: &[(0, 60, 1, false)],
@@ -609,6 +613,18 @@ fn day_goes(alloc: Global, worked: &Worked, at_once: bool) -> Option<bool> {
 #[test]
 fn worked_outages(rt: HostRuntime) {
     for worked in &WORKED {
+        let name = worked.name;
+        assert!(rt; day_goes(rt.alloc(), worked, false) == Some(true), "{name}");
+        assert!(rt;
+            day_goes(rt.alloc(), worked, true) == Some(true),
+            "at once: {name}"
+        );
+    }
+}
+
+#[test]
+fn reported_calls(rt: HostRuntime) {
+    for worked in &REPORTED {
         let name = worked.name;
         assert!(rt; day_goes(rt.alloc(), worked, false) == Some(true), "{name}");
         assert!(rt;
