@@ -6,7 +6,6 @@ use Rattle.bx_colour.specs.Colouring.{IsFirstFit}
 use Rattle.bx_day.specs.Day.{Day, opening}
 use Rattle.bx_day.specs.Outages.{live_happens, live_day_after}
 use Rattle.bx_events.specs.Events.{LiveEvent, OnLink, WithoutLink, Sold}
-use Rattle.bx_sales.specs.Selling.{IsSold}
 use Rattle.bx_sales.specs.Sold.{Item, Happened, Bought, events_in, bought_in, GoesThrough}
 use Rattle.bx_sales.specs.Journal.{sold_in, RunsThrough}
 use Rattle.bx_sales.proofs.Told.{told}

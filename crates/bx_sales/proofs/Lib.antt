@@ -3,3 +3,5 @@ mod Told
 pub mod Journal
 mod ExtendedBy
 mod Sales
+pub mod Fitting
+pub mod Rows

@@ -17,11 +17,11 @@ use Rattle.bx_events.specs.Events.{LiveEvent}
 use Rattle.bx_sales.specs.Selling.{rows_of, marks_of, rows_with, marks_with}
 use Rattle.bx_sales.specs.Sold.{Item, Happened, Bought, events_in, bought_in, GoesThrough}
 
-nothing_more : {X : Type 0} (xs : List X) → xs ++ [] ≡ xs
+pub nothing_more : {X : Type 0} (xs : List X) → xs ++ [] ≡ xs
 nothing_more [] = refl
 nothing_more (x ∷ xs) = ap (λ ys. x ∷ ys) (nothing_more xs)
 
-twice_not : (b : Bool) → not (not b) ≡ b
+pub twice_not : (b : Bool) → not (not b) ≡ b
 twice_not true = refl
 twice_not false = refl
 
@@ -39,7 +39,7 @@ same_rows [] (r ∷ rows) count same = absurd (omega (arith, count))
 same_rows (e ∷ es) [] count same = absurd (omega (arith, count))
 same_rows (e ∷ es) (r ∷ rows) count same = ap₂ (λ z zs. z ∷ zs) (same 0 (omega arith)) (same_rows es rows (omega (arith, count)) (λ i lt. same (suc i) (omega (arith, lt))))
 
-same_marks : (es : List Entry) (marks : List Bool) → length es ≡ length marks → ((i : ℕ) → i < length marks → not (is_refused (entry_at es i).standing) ≡ is_in marks i) → map (λ (e : Entry). not (is_refused e.standing)) es ≡ marks
+pub same_marks : (es : List Entry) (marks : List Bool) → length es ≡ length marks → ((i : ℕ) → i < length marks → not (is_refused (entry_at es i).standing) ≡ is_in marks i) → map (λ (e : Entry). not (is_refused e.standing)) es ≡ marks
 same_marks [] [] count same = refl
 same_marks [] (m ∷ marks) count same = absurd (omega (arith, count))
 same_marks (e ∷ es) [] count same = absurd (omega (arith, count))
@@ -61,7 +61,7 @@ once rows channels accepted assigned last first second = same_channels assigned 
 
 -- ---- the day has its plan
 
-rows_now : (rows : List Row) (channels : List Bool) (assigned : List (Option ℕ)) (events : List LiveEvent) → AreBookings rows → Carries rows channels (is_accepted assigned) (channel_at assigned) → rows_of (live_day_after events (opening rows assigned)) ≡ rows
+pub rows_now : (rows : List Row) (channels : List Bool) (assigned : List (Option ℕ)) (events : List LiveEvent) → AreBookings rows → Carries rows channels (is_accepted assigned) (channel_at assigned) → rows_of (live_day_after events (opening rows assigned)) ≡ rows
 rows_now rows channels assigned events bookings carries = same_rows (live_day_after events (opening rows assigned)).entries rows (size rows channels assigned events bookings carries) (λ i lt. (frame_at rows channels assigned events bookings carries i lt).booking)
 
 marks_now : (rows : List Row) (channels accepted : List Bool) (assigned : List (Option ℕ)) (events : List LiveEvent) → length accepted ≡ length rows → AreBookings rows → Carries rows channels (is_accepted assigned) (channel_at assigned) → IsFirstFit rows channels accepted assigned → marks_of (live_day_after events (opening rows assigned)) ≡ accepted

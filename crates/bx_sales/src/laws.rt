@@ -9,7 +9,7 @@ ghost use Rattle.bx_events.specs.Events.{LiveEvent};
 ghost use Rattle.bx_day.specs.Outages.{live_day_after, live_happens};
 ghost use Rattle.bx_day.specs.Extended.{extended, IsExtendedBy};
 ghost use Rattle.bx_sales.specs.Sales.{Step, sold_day_after, events_of_steps, last_rows, last_assigned, AreSales};
-ghost use Rattle.bx_sales.specs.Journal.{IsToldByJournal};
+ghost use Rattle.bx_sales.specs.Journal.{IsToldByJournal, AreRowsSold};
 ghost use Rattle.bx_sales.specs.Sold.{IsFirstFitSold, IsToldByRecord};
 
 /// The record tells the day: where the plan of the morning is first fit, a day that went through events and sales, in whatever order,
@@ -26,6 +26,12 @@ pub fn first_fit_is_sold()
 /// A journal that has sales among its events tells the last plan, and the day: it is that of the last plan by just these events.
 pub fn told_by_journal()
     ensures { IsToldByJournal }
+{}
+
+/// A day that went through a journal from the opening of a plan that is carried has the bookings of that plan, and behind them those that were
+/// sold, accepted; its channels carry what it has accepted. So the last plan is read off the day.
+pub fn rows_of_a_sold_day()
+    ensures { AreRowsSold }
 {}
 
 /// Where a plan extends another from moment m, their days agree up to there. After every list of events behind which the moment is
