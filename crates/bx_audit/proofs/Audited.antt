@@ -1,21 +1,117 @@
 -- What a file has of the events that were followed, and what is told of it.
-use Rattle.std.proofs.Common.{◌≡◌, ℕ, List, [], ◌∷◌, Option, subst}
+use Rattle.std.proofs.Common.{◌≡◌, ℕ, Bool, true, is_some, List, [], ◌∷◌, ◌++◌, Option, Some, None, Result, Ok, Err, OnOk, refl, sym, ◌∙◌, subst}
+use Rattle.bx_base.specs.PlanParts.{parts_of}
+use Rattle.bx_day_openings.specs.Followed.{IsFollowedWhole}
+use Rattle.bx_day_openings.specs.Tied.{IsTied}
+use Rattle.bx_day_openings.specs.TiedDays.{IsTiedOpening, IsOpened}
+use Rattle.bx_day_openings.specs.declared.fault.DayCommandFault.{DayCommandFault}
+use Rattle.bx_day_openings.specs.declared.plan_opening.DayOpening.{DayOpening}
+use Rattle.bx_day_openings.specs.declared.tied.TiedPlan.{TiedPlan}
 use Rattle.bx_devices.specs.declared.watched.Watched.{Watched}
-use Rattle.bx_events.specs.Events.{Event, LiveEvent, OnLink}
+use Rattle.bx_journal.specs.Follows.{IsFollowed}
+use Rattle.bx_journal.specs.Heads.{of_any_day}
+use Rattle.bx_journal.specs.declared.fault.JournalFault.{JournalFault}
+use Rattle.bx_journal.specs.declared.fault.JournalFault.TheVariants.{BadLine, OtherPlan, OtherDay, OtherRules, NotBegun, ReadFailed}
+use Rattle.bx_journal.specs.declared.head.Wanted.{Wanted}
+use Rattle.bx_audit.specs.Audits.{IsAudited, IsKeptSoFar}
+use Rattle.bx_events.specs.Events.{Event, LiveEvent, OnLink, WithoutLink, Sold}
 use Rattle.bx_capture.specs.Captures.{packets_for, Keeps, IsCaptured}
+use Rattle.bx_capture.specs.Keeping.{keeps_nil}
 use Rattle.bx_day.specs.Day.{Day}
 use Rattle.bx_day.specs.Course.{exchange_next, exchange_sent}
-use Rattle.bx_audit.specs.Followed.{IsLiveCaptured}
-use Rattle.bx_audit.specs.LiveCaptures.{live_packets}
+use Rattle.bx_day.specs.Outages.{live_happens}
+use Rattle.bx_planfile.specs.OneBooking.{row_on}
+use Rattle.bx_sales.specs.Selling.{IsSold}
+use Rattle.bx_restart.specs.Going.{IsStopped, GoesFrom}
+use Rattle.bx_restart.specs.Sales.{IsBadSale}
+use Rattle.bx_restart.specs.Selling.{day_goes}
+use Rattle.bx_restart.specs.declared.reselling.SaleFault.{SaleFault}
+use Rattle.bx_audit.specs.Followed.{IsLiveCaptured, Taken, IsTaken, IsRecaptured, taken_of}
+use Rattle.bx_audit.specs.LiveCaptures.{live_packets_for, CapturesThrough}
 
 -- an event on the link
 pub captured_on_link : {W : Type 0} {contents : W → Option (List ℕ)} {first first' : ℕ} {file file' : Option (Watched W)} {d d' : Day} (e : Event)
     → IsCaptured exchange_next (packets_for exchange_next exchange_sent (λ (x : Day). x.moment) (λ (x : Day). x.moment)) contents first first' file file' d d' (e ∷ []) → IsLiveCaptured contents first first' file file' d d' (OnLink e ∷ [])
 captured_on_link e p = record { day = p.day; stays = p.stays; kept = p.kept }
 
--- of the day and the file as they were at the beginning
-pub kept_in : {W : Type 0} {contents : W → Option (List ℕ)} {first n m : ℕ} {file opened closed : Option (Watched W)} {d d0 d1 : Day} (events : List LiveEvent) → n ≡ first → opened ≡ file → d0 ≡ d
-    → IsLiveCaptured contents n m opened closed d0 d1 events → Keeps contents file closed (live_packets first events d)
-kept_in {W = W} {contents = contents} {first = first} {n = n} {file = file} {opened = opened} {closed = closed} {d = d} {d0 = d0} events at same is p =
-    subst (λ (x : Day). Keeps contents file closed (live_packets first events x)) is
-    (subst (λ (k : ℕ). Keeps contents file closed (live_packets k events d0)) at (subst (λ (o : Option (Watched W)). Keeps contents o closed (live_packets n events d0)) same p.kept))
+module _ {W : Type 0} (contents : W → Option (List ℕ)) (cs cs' : List Bool) (s s' : Option SaleFault) (a b : Taken W) (same : cs' ≡ cs) where
+  taken_as : (events : List LiveEvent) → s ≡ None → GoesFrom (IsTaken contents cs) (λ (t : Taken W). t.day) cs None a events b s' → IsRecaptured contents cs cs' s s' a events b
+  taken_as events none goes = (same, subst (λ (x : Option SaleFault). GoesFrom (IsTaken contents cs) (λ (t : Taken W). t.day) cs x a events b s') (sym none) goes)
+
+  went : (events : List LiveEvent) → s ≡ None → s' ≡ s → IsTaken contents cs a events b → IsRecaptured contents cs cs' s s' a events b
+  went events none still goes = taken_as events none (subst (λ (x : Option SaleFault). GoesFrom (IsTaken contents cs) (λ (t : Taken W). t.day) cs None a events b x) (sym (still ∙ none)) goes)
+
+  pub on_link : (e : Event) → s ≡ None → s' ≡ s → IsLiveCaptured contents a.first b.first a.file b.file a.day b.day (OnLink e ∷ []) → IsRecaptured contents cs cs' s s' a (OnLink e ∷ []) b
+  on_link e none still p = went (OnLink e ∷ []) none still (record { stays = p.stays; octets = live_packets_for a.first a.day (OnLink e) ++ []; through = ([], refl, (p.day, refl)); kept = p.kept })
+
+  pub without_link : s ≡ None → s' ≡ s → b.day ≡ (live_happens a.day WithoutLink).day → b.file ≡ a.file → b.first ≡ a.first → IsRecaptured contents cs cs' s s' a (WithoutLink ∷ []) b
+  without_link none still day file first = went (WithoutLink ∷ []) none still (record { stays = first; octets = []; through = (day, refl); kept = subst (λ (f : Option (Watched W)). Keeps contents a.file f []) (sym file) (keeps_nil contents a.file) })
+
+  pub sold_again : (line : List ℕ) → s ≡ None → s' ≡ s → IsSold cs (row_on line) a.day b.day → b.file ≡ a.file → b.first ≡ a.first → IsRecaptured contents cs cs' s s' a (Sold line ∷ []) b
+  sold_again line none still is file first =
+      went (Sold line ∷ []) none still (record { stays = first; octets = []; through = (b.day, is, (refl, refl)); kept = subst (λ (f : Option (Watched W)). Keeps contents a.file f []) (sym file) (keeps_nil contents a.file) })
+
+  pub not_sold : (line : List ℕ) (fault : SaleFault) → s ≡ None → s' ≡ Some fault → b.day ≡ a.day → b.file ≡ a.file → b.first ≡ a.first → IsBadSale cs line a.day fault → IsRecaptured contents cs cs' s s' a (Sold line ∷ []) b
+  not_sold line fault none is day file first why = taken_as (Sold line ∷ []) none (subst (λ (x : Option SaleFault). GoesFrom (IsTaken contents cs) (λ (t : Taken W). t.day) cs None a (Sold line ∷ []) b x) (sym is) (record {
+    sale = record { before = []; line = line; behind = []; are = refl };
+    went = record { stays = first; octets = []; through = (day, refl); kept = subst (λ (f : Option (Watched W)). Keeps contents a.file f []) (sym file) (keeps_nil contents a.file) };
+    why = subst (λ (d : Day). IsBadSale cs line d fault) (sym day) why;
+  }))
+
+pub stays_if : {W : Type 0} (contents : W → Option (List ℕ)) (cs : List Bool) (s : Option SaleFault) (a : Taken W) (events : List LiveEvent) → is_some s ≡ true → IsRecaptured contents cs cs s s a events a
+stays_if contents cs None a events is = cc
+stays_if contents cs (Some fault) a events is = (refl, (refl, refl))
+
+-- ---- what was captured, without its packets
+
+pub through_of : (channels : List Bool) (first : ℕ) (events : List LiveEvent) (d d1 : Day) (octets : List ℕ) → CapturesThrough channels first events d d1 octets → day_goes channels d events d1
+through_of channels first [] d d1 octets h = h.0
+through_of channels first (Sold line ∷ events) d d1 octets (sold, is, rest) = (sold, is, through_of channels first events sold d1 octets rest)
+through_of channels first (OnLink event ∷ events) d d1 octets (more, are, rest) = through_of channels first events (live_happens d (OnLink event)).day d1 more rest
+through_of channels first (WithoutLink ∷ events) d d1 octets rest = through_of channels first events (live_happens d WithoutLink).day d1 octets rest
+
+-- from the day and the file as they were at the beginning
+module _ {W : Type 0} (contents : W → Option (List ℕ)) (channels cs cs' : List Bool) (s s' : Option SaleFault) (a b : Taken W) (first : ℕ) (file : Option (Watched W)) (opened : Day) (on_channels : cs ≡ channels) (fresh : s ≡ None) (opens : a ≡ taken_of opened file first) (events : List LiveEvent) (h : IsRecaptured contents cs cs' s s' a events b) where
+  from_start : GoesFrom (IsTaken contents channels) (λ (t : Taken W). t.day) channels None (taken_of opened file first) events b s'
+  from_start =
+      subst (λ (t : Taken W). GoesFrom (IsTaken contents channels) (λ (u : Taken W). u.day) channels None t events b s') opens
+      (subst (λ (x : List Bool). GoesFrom (IsTaken contents x) (λ (t : Taken W). t.day) x None a events b s') on_channels
+      (subst (λ (x : Option SaleFault). GoesFrom (IsTaken contents cs) (λ (t : Taken W). t.day) cs x a events b s') fresh h.1))
+
+  pub taken_whole : s' ≡ None → IsTaken contents channels (taken_of opened file first) events b
+  taken_whole whole = subst (λ (x : Option SaleFault). GoesFrom (IsTaken contents channels) (λ (t : Taken W). t.day) channels None (taken_of opened file first) events b x) whole from_start
+
+  pub taken_to : (fault : SaleFault) → s' ≡ Some fault → IsStopped (IsTaken contents channels) (λ (t : Taken W). t.day) channels (taken_of opened file first) events b fault
+  taken_to fault is = subst (λ (x : Option SaleFault). GoesFrom (IsTaken contents channels) (λ (t : Taken W). t.day) channels None (taken_of opened file first) events b x) is from_start
+
+  pub stopped_day : (fault : SaleFault) → s' ≡ Some fault → IsStopped (day_goes channels) (λ (d : Day). d) channels opened events b.day fault
+  stopped_day fault is = let t = taken_to fault is in record { sale = t.sale; went = through_of channels first t.sale.before opened b.day t.went.octets t.went.through; why = t.why }
+
+-- ---- the opening of a plan
+
+pub opens_with : (tied : TiedPlan) (o : DayOpening) → IsTied None (parts_of tied.plan) tied.digest → IsOpened tied o → IsTiedOpening o.exchange o.channels o.digest
+opens_with tied o is opened = record { plan = parts_of tied.plan; tied = subst (λ (d : List ℕ). IsTied None (parts_of tied.plan) d) (sym opened.digest) is; opens = opened.opens; in_service = opened.in_service }
+
+-- ---- what was followed to its end, or to a fault
+
+pub audited : {W : Type 0} (contents : W → Option (List ℕ)) (plan : List ℕ) (channels : List Bool) (before : Option (List ℕ)) (file : Option (Watched W)) (first : ℕ) (opened : Day) (b : Taken W) (r : Result (Unit {0}) DayCommandFault) (v : Unit {0}) → r ≡ Ok v
+    → OnOk r (IsFollowedWhole (IsTaken contents channels) (of_any_day plan) before (taken_of opened file first) b) → IsAudited plan channels before contents file b.file first opened b.day
+audited contents plan channels before file first opened b r v is followed =
+    let f = subst (λ (x : Result (Unit {0}) DayCommandFault). OnOk x (IsFollowedWhole (IsTaken contents channels) (of_any_day plan) before (taken_of opened file first) b)) is followed in
+    record { events = f.events; journal = f.journal; octets = f.all.octets; through = f.all.through; kept = f.all.kept }
+
+pub kept_so_far : {W : Type 0} (contents : W → Option (List ℕ)) (channels : List Bool) (file : Option (Watched W)) (first : ℕ) (opened : Day) (events : List LiveEvent) (b : Taken W) → IsTaken contents channels (taken_of opened file first) events b → IsKeptSoFar contents channels file b.file first opened
+kept_so_far contents channels file first opened events b t = record { events = events; day = b.day; octets = t.octets; through = t.through; kept = t.kept }
+
+pub same_taken : {W : Type 0} (d d1 : Day) (f f1 : Option (Watched W)) (n n1 : ℕ) → d ≡ d1 → f ≡ f1 → n ≡ n1 → taken_of d f n ≡ taken_of d1 f1 n1
+same_taken d d1 f f1 n n1 p q r = cc
+
+-- some events were followed, whatever came of it
+pub followed_some : {F : Type 0} (followed : F → List LiveEvent → F → Type 0) (faulted : Bool) (before after : Option (List ℕ)) (wanted : Wanted) (f g : F) (result : Result ℕ JournalFault) → IsFollowed followed faulted before after wanted f g result → (events : List LiveEvent) × followed f events g
+followed_some followed faulted before after wanted f g (Ok n) r = (r.events, r.followed_all)
+followed_some followed faulted before after wanted f g (Err (BadLine n)) r = (r.events, r.followed_all)
+followed_some followed faulted before after wanted f g (Err OtherPlan) r = (r.events, r.followed_all)
+followed_some followed faulted before after wanted f g (Err OtherDay) r = (r.events, r.followed_all)
+followed_some followed faulted before after wanted f g (Err OtherRules) r = (r.events, r.followed_all)
+followed_some followed faulted before after wanted f g (Err NotBegun) r = ([], r.followed_none)
+followed_some followed faulted before after wanted f g (Err ReadFailed) r = (r.events, r.followed_all)

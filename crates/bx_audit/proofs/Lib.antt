@@ -1,2 +1,4 @@
 mod Audited
 mod OnItsDay
+mod SoldDays
+mod BestBehind

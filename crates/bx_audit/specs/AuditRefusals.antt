@@ -1,5 +1,5 @@
 -- Why nothing is told of a day by its journal, and what was written then.
-use Rattle.std.specs.Prelude.{◌≡◌, ◌⊎◌, ℕ, true, false, List, Option, None}
+use Rattle.std.specs.Prelude.{◌≡◌, ◌⊎◌, ℕ, Bool, true, false, List, Option, None}
 use Rattle.bx_check_commands.specs.declared.fault.CommandFault.TheVariants.{CannotWrite}
 use Rattle.bx_day.specs.Day.{Day}
 use Rattle.bx_day_openings.specs.AtHand.{HasFirst}
@@ -8,16 +8,15 @@ use Rattle.bx_day_openings.specs.declared.fault.DayCommandFault.{DayCommandFault
 use Rattle.bx_day_openings.specs.declared.fault.DayCommandFault.TheVariants.{Command}
 use Rattle.bx_devices.specs.Watching.{device_of, is_faulted}
 use Rattle.bx_devices.specs.declared.watched.Watched.{Watched}
-use Rattle.bx_events.specs.Events.{LiveEvent}
 use Rattle.bx_journal.specs.Heads.{of_any_day}
 use Rattle.bx_request.specs.declared.request.AuditRequest.{AuditRequest}
-use Rattle.bx_audit.specs.Audits.{IsTiedOpening, IsAuditTold, IsAuditCut}
-use Rattle.bx_day_openings.specs.Journals.{IsJournal}
-use Rattle.bx_day_openings.specs.JournalRefusals.{HasNoJournal}
+use Rattle.bx_audit.specs.Audits.{IsAuditTold, IsAuditCut}
+use Rattle.bx_day_openings.specs.Replays.{IsDayThrough, HasNoReplay}
+use Rattle.bx_day_openings.specs.TiedDays.{IsTiedOpening}
 
--- the journal of a plan that is proved, in a file
+-- the journal of a plan that is proved, in a file, whose sales are right
 abbrev pub HasJournal : Type 0
-HasJournal = (opened : Day) × (digest : List ℕ) × IsTiedOpening opened digest × ((events : List LiveEvent) × IsJournal (of_any_day digest) None events)
+HasJournal = (opened : Day) × (channels : List Bool) × (digest : List ℕ) × IsTiedOpening opened channels digest × ((day : Day) × IsDayThrough channels (of_any_day digest) None opened day)
 
 -- why an audit stops before anything is told: what it needs is opened in this order, and what is tested first is answered; where
 -- there is to be a capture, the journal is read through before the file of that is made
@@ -25,7 +24,7 @@ abbrev pub StopsAudit : {F : Type 0} → (F → Option (List ℕ)) → AuditRequ
 StopsAudit files request fault =
     IsNoFirst request.capture fault
     ⊎ (HasFirst request.capture × IsNoOpening request.plan.now fault)
-    ⊎ (HasFirst request.capture × ((opened : Day) × (digest : List ℕ) × IsTiedOpening opened digest × HasNoJournal request.journal.now (of_any_day digest) fault))
+    ⊎ (HasFirst request.capture × ((opened : Day) × (channels : List Bool) × (digest : List ℕ) × IsTiedOpening opened channels digest × HasNoReplay request.journal.now (of_any_day digest) channels opened fault))
     ⊎ (HasFirst request.capture × HasJournal × IsNoFile request.capture fault)
 
 -- the output has failed, and a front of what was to be told was; or the audit stopped, and the output is as it was; or all was

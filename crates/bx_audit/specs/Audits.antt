@@ -1,45 +1,39 @@
 -- What is told of a day by its journal.
 use Rattle.std.specs.Prelude.{◌≡◌, ℕ, Bool, List, Option, None}
 use Rattle.std.specs.Io.KnownBytes.{Appends}
-use Rattle.bx_base.specs.PlanParts.{Parts}
 use Rattle.bx_devices.specs.declared.watched.Watched.{Watched}
 use Rattle.bx_devices.specs.Octets.{AppendsPrefix}
 use Rattle.bx_capture.specs.Captures.{Keeps, is_unfaulted}
-use Rattle.bx_day.specs.Day.{Day, opening}
-use Rattle.bx_day.specs.Outages.{live_day_after}
+use Rattle.bx_day.specs.Day.{Day}
 use Rattle.bx_day.specs.Telling.{outcomes_text}
 use Rattle.bx_day_openings.specs.CaptureOpenings.{IsFirstOf, IsFileFor}
 use Rattle.bx_events.specs.Events.{LiveEvent}
 use Rattle.bx_journal.specs.Heads.{of_any_day}
-use Rattle.bx_day_openings.specs.Tied.{IsTied}
+use Rattle.bx_day_openings.specs.TiedDays.{IsTiedOpening}
 use Rattle.bx_request.specs.declared.request.CaptureWords.{CaptureWords}
-use Rattle.bx_audit.specs.LiveCaptures.{live_packets}
+use Rattle.bx_audit.specs.LiveCaptures.{CapturesThrough}
 use Rattle.bx_day_openings.specs.Journals.{IsJournal}
 
--- the day after just the events of a journal, and the file took the packets of its messages
-pub record IsAudited {F : Type 0} (plan : List ℕ) (before : Option (List ℕ)) (contents : F → Option (List ℕ)) (file closed : Option (Watched F)) (first : ℕ) (opened day : Day) : Type 0 where
+-- the day after just the events and sales of a journal, and the file took the packets of its messages
+pub record IsAudited {F : Type 0} (plan : List ℕ) (channels : List Bool) (before : Option (List ℕ)) (contents : F → Option (List ℕ)) (file closed : Option (Watched F)) (first : ℕ) (opened day : Day) : Type 0 where
   pub events : List LiveEvent
   pub journal : IsJournal (of_any_day plan) before events
-  pub after : day ≡ live_day_after events opened
-  pub kept : Keeps contents file closed (live_packets first events opened)
-
--- the opening day of a plan that is proved, and the digest of the text of this plan
-pub record IsTiedOpening (opened : Day) (digest : List ℕ) : Type 0 where
-  pub plan : Parts
-  pub tied : IsTied None plan digest
-  pub opens : opened ≡ opening plan.rows plan.assigned
+  pub octets : List ℕ
+  pub through : CapturesThrough channels first events opened day octets
+  pub kept : Keeps contents file closed octets
 
 -- a journal of the day of a plan was followed, and captured as the words say, and this is whether all of it was captured
 pub record IsDayAudited {F : Type 0} (contents : F → Option (List ℕ)) (capture : Option CaptureWords) (day : Day) (is_whole : Bool) : Type 0 where
   pub opened : Day
+  pub channels : List Bool
   pub digest : List ℕ
-  pub opens : IsTiedOpening opened digest
+  pub opens : IsTiedOpening opened channels digest
   pub first : ℕ
   pub begins : IsFirstOf capture first
   pub file : Option (Watched F)
   pub file_opens : IsFileFor contents capture file
   pub closed : Option (Watched F)
-  pub audited : IsAudited digest None contents file closed first opened day
+  pub audited : IsAudited digest channels None contents file closed first opened day
   pub whole : is_whole ≡ is_unfaulted closed
 
 -- what became of each booking by a journal was written
@@ -55,6 +49,10 @@ pub record IsAuditCut {F : Type 0} (contents : F → Option (List ℕ)) (capture
   pub audit : IsDayAudited contents capture day is_whole
   pub written : AppendsPrefix before after (outcomes_text day)
 
--- the file took the packets of some events, from the first on
-abbrev pub IsKeptSoFar : {F : Type 0} → (F → Option (List ℕ)) → Option (Watched F) → Option (Watched F) → ℕ → Day → Type 0
-IsKeptSoFar contents file closed first opened = (events : List LiveEvent) × Keeps contents file closed (live_packets first events opened)
+-- the file took the packets of some events and sales, from the first on
+pub record IsKeptSoFar {F : Type 0} (contents : F → Option (List ℕ)) (channels : List Bool) (file closed : Option (Watched F)) (first : ℕ) (opened : Day) : Type 0 where
+  pub events : List LiveEvent
+  pub day : Day
+  pub octets : List ℕ
+  pub through : CapturesThrough channels first events opened day octets
+  pub kept : Keeps contents file closed octets

@@ -1,14 +1,36 @@
 -- Private: how a journal was followed.
-use Rattle.std.specs.Prelude.{◌≡◌, ℕ, List, Option}
+use Rattle.std.specs.Prelude.{◌≡◌, ℕ, Bool, List, Option}
 use Rattle.bx_capture.specs.Captures.{Keeps}
 use Rattle.bx_day.specs.Day.{Day}
 use Rattle.bx_day.specs.Outages.{live_day_after}
 use Rattle.bx_devices.specs.declared.watched.Watched.{Watched}
 use Rattle.bx_events.specs.Events.{LiveEvent}
-use Rattle.bx_audit.specs.LiveCaptures.{live_packets}
+use Rattle.bx_restart.specs.Going.{GoesFrom}
+use Rattle.bx_restart.specs.declared.reselling.SaleFault.{SaleFault}
+use Rattle.bx_audit.specs.LiveCaptures.{live_packets, CapturesThrough}
 
 -- the day went on by these events, and the file took the packets of each, which count from the same first second
 pub record IsLiveCaptured {W : Type 0} (contents : W → Option (List ℕ)) (first first' : ℕ) (file file' : Option (Watched W)) (d d' : Day) (events : List LiveEvent) : Type 0 where
   pub day : d' ≡ live_day_after events d
   pub stays : first' ≡ first
   pub kept : Keeps contents file file' (live_packets first events d)
+
+-- a day, the file of its capture, and the first second of that
+pub record Taken (W : Type 0) : Type 0 where
+  pub day : Day
+  pub file : Option (Watched W)
+  pub first : ℕ
+
+abbrev pub taken_of : {W : Type 0} → Day → Option (Watched W) → ℕ → Taken W
+taken_of day file first = record { day = day; file = file; first = first }
+
+-- the day went through these events and sales, and the file took the packets of each
+pub record IsTaken {W : Type 0} (contents : W → Option (List ℕ)) (channels : List Bool) (old : Taken W) (events : List LiveEvent) (new : Taken W) : Type 0 where
+  pub stays : new.first ≡ old.first
+  pub octets : List ℕ
+  pub through : CapturesThrough channels old.first events old.day new.day octets
+  pub kept : Keeps contents old.file new.file octets
+
+-- up to the first sale that is none
+abbrev pub IsRecaptured : {W : Type 0} → (W → Option (List ℕ)) → List Bool → List Bool → Option SaleFault → Option SaleFault → Taken W → List LiveEvent → Taken W → Type 0
+IsRecaptured contents channels channels' sale sale' old events new = (channels' ≡ channels) × GoesFrom (IsTaken contents channels) (λ t. t.day) channels sale old events new sale'

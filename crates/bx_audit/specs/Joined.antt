@@ -1,32 +1,38 @@
--- Private: days one behind another, with what was captured of them.
-use Rattle.std.proofs.Common.{◌≡◌, ℕ, List, [], ◌∷◌, ◌++◌, refl, sym, ap, ◌∙◌, subst, append_assoc, Option}
-use Rattle.bx_devices.specs.declared.watched.Watched.{Watched}
-use Rattle.bx_events.specs.Events.{LiveEvent}
-use Rattle.bx_capture.specs.Captures.{Keeps}
+-- Private: events and sales one behind another, with what was captured of them.
+use Rattle.std.proofs.Common.{ℕ, Bool, List, [], ◌∷◌, ◌++◌, refl, sym, ap, ◌∙◌, subst, append_assoc, Option}
+use Rattle.bx_events.specs.Events.{LiveEvent, OnLink, WithoutLink, Sold}
 use Rattle.bx_capture.specs.Keeping.{keeps_nil, keeps_more}
 use Rattle.bx_day.specs.Day.{Day}
-use Rattle.bx_day.specs.Outages.{live_happens, live_day_after}
-use Rattle.bx_recovery.specs.Days.{days_join}
-use Rattle.bx_audit.specs.Followed.{IsLiveCaptured}
-use Rattle.bx_audit.specs.LiveCaptures.{live_packets, live_packets_for}
+use Rattle.bx_day.specs.Outages.{live_happens}
+use Rattle.bx_restart.specs.Going.{GoesFrom}
+use Rattle.bx_restart.specs.Joined.{goes_nothing, goes_more}
+use Rattle.bx_restart.specs.declared.reselling.SaleFault.{SaleFault}
+use Rattle.bx_audit.specs.Followed.{Taken, IsTaken, IsRecaptured}
+use Rattle.bx_audit.specs.LiveCaptures.{live_packets_for, CapturesThrough}
 
-pub packets_on : (first : ℕ) (xs ys : List LiveEvent) (d : Day) → live_packets first (xs ++ ys) d ≡ live_packets first xs d ++ live_packets first ys (live_day_after xs d)
-packets_on first [] ys d = refl
-packets_on first (x ∷ xs) ys d =
-    ap (λ (l : List ℕ). live_packets_for first d x ++ l) (packets_on first xs ys (live_happens d x).day)
-    ∙ sym (append_assoc (live_packets_for first d x) (live_packets first xs (live_happens d x).day) (live_packets first ys (live_day_after xs (live_happens d x).day)))
+captures_more : (channels : List Bool) (first : ℕ) (xs ys : List LiveEvent) (a b c : Day) (os ps : List ℕ) → CapturesThrough channels first xs a b os → CapturesThrough channels first ys b c ps → CapturesThrough channels first (xs ++ ys) a c (os ++ ps)
+captures_more channels first [] ys a b c os ps (same, none) more = subst (λ (l : List ℕ). CapturesThrough channels first ys a c (l ++ ps)) (sym none) (subst (λ (d : Day). CapturesThrough channels first ys d c ps) same more)
+captures_more channels first (Sold line ∷ xs) ys a b c os ps (sold, is, rest) more = (sold, is, captures_more channels first xs ys sold b c os ps rest more)
+captures_more channels first (OnLink event ∷ xs) ys a b c os ps (later, are, rest) more =
+    (later ++ ps, ap (λ (l : List ℕ). l ++ ps) are ∙ append_assoc (live_packets_for first a (OnLink event)) later ps, captures_more channels first xs ys (live_happens a (OnLink event)).day b c later ps rest more)
+captures_more channels first (WithoutLink ∷ xs) ys a b c os ps rest more = captures_more channels first xs ys (live_happens a WithoutLink).day b c os ps rest more
 
-module _ {W : Type 0} {contents : W → Option (List ℕ)} where
-  pub followed_nothing : {first : ℕ} {file : Option (Watched W)} {d : Day} → IsLiveCaptured contents first first file file d d []
-  followed_nothing {file = file} = record { day = refl; stays = refl; kept = keeps_nil contents file }
+module _ {W : Type 0} (contents : W → Option (List ℕ)) where
+  nothing_taken : (channels : List Bool) (a : Taken W) → IsTaken contents channels a [] a
+  nothing_taken channels a = record { stays = refl; octets = []; through = (refl, refl); kept = keeps_nil contents a.file }
 
-  pub followed_on : {first first1 first2 : ℕ} {file file1 file2 : Option (Watched W)} {d d1 d2 : Day} (xs ys : List LiveEvent) → IsLiveCaptured contents first first1 file file1 d d1 xs
-      → IsLiveCaptured contents first1 first2 file1 file2 d1 d2 ys → IsLiveCaptured contents first first2 file file2 d d2 (xs ++ ys)
-  followed_on {first = first} {file = file} {file1 = file1} {file2 = file2} {d = d} {d1 = d1} {d2 = d2} xs ys p q =
-      let later : Keeps contents file1 file2 (live_packets first ys d1) = subst (λ (n : ℕ). Keeps contents file1 file2 (live_packets n ys d1)) p.stays q.kept in
-      record {
-        day = days_join xs ys d d1 d2 p.day q.day;
-        stays = q.stays ∙ p.stays;
-        kept = subst (Keeps contents file file2) (ap (λ (x : Day). live_packets first xs d ++ live_packets first ys x) p.day ∙ sym (packets_on first xs ys d))
-            (keeps_more contents file file1 file2 (live_packets first xs d) (live_packets first ys d1) p.kept later);
-      }
+  taken_more : (channels : List Bool) (a b c : Taken W) (xs ys : List LiveEvent) → IsTaken contents channels a xs b → IsTaken contents channels b ys c → IsTaken contents channels a (xs ++ ys) c
+  taken_more channels a b c xs ys p q = record {
+    stays = q.stays ∙ p.stays;
+    octets = p.octets ++ q.octets;
+    through = captures_more channels a.first xs ys a.day b.day c.day p.octets q.octets p.through (subst (λ (n : ℕ). CapturesThrough channels n ys b.day c.day q.octets) p.stays q.through);
+    kept = keeps_more contents a.file b.file c.file p.octets q.octets p.kept q.kept;
+  }
+
+  pub followed_nothing : (channels : List Bool) (sale : Option SaleFault) (a : Taken W) → IsRecaptured contents channels channels sale sale a [] a
+  followed_nothing channels sale a = (refl, goes_nothing (IsTaken contents channels) (λ (t : Taken W). t.day) channels (nothing_taken channels) sale a)
+
+  pub followed_on : (cs cs1 cs2 : List Bool) (s s1 s2 : Option SaleFault) (a b c : Taken W) (xs ys : List LiveEvent) → IsRecaptured contents cs cs1 s s1 a xs b → IsRecaptured contents cs1 cs2 s1 s2 b ys c → IsRecaptured contents cs cs2 s s2 a (xs ++ ys) c
+  followed_on cs cs1 cs2 s s1 s2 a b c xs ys (same, p) (again, q) =
+      let on = subst (λ (x : List Bool). GoesFrom (IsTaken contents x) (λ (t : Taken W). t.day) x s1 b ys c s2) same q in
+      (again ∙ same, goes_more (IsTaken contents cs) (λ (t : Taken W). t.day) cs (taken_more cs) a b c xs ys s s1 s2 p on)

@@ -5,3 +5,6 @@ pub mod Audits
 pub mod AuditRefusals
 pub mod Recorded
 pub mod Unrecorded
+pub mod PlansOfDays
+pub mod LastPlans
+pub mod Unsold

@@ -1,10 +1,12 @@
 -- What a capture has of the events of a live day.
-use Rattle.std.specs.Prelude.{ℕ, List, [], ◌∷◌, ◌++◌}
+use Rattle.std.specs.Prelude.{◌≡◌, ℕ, Bool, List, [], ◌∷◌, ◌++◌}
 use Rattle.bx_events.specs.Events.{LiveEvent, OnLink, WithoutLink, Sold}
 use Rattle.bx_capture.specs.Captures.{packets_for}
 use Rattle.bx_day.specs.Day.{Day}
 use Rattle.bx_day.specs.Course.{exchange_next, exchange_sent}
 use Rattle.bx_day.specs.Outages.{live_happens}
+use Rattle.bx_planfile.specs.OneBooking.{row_on}
+use Rattle.bx_sales.specs.Selling.{IsSold}
 
 -- the packets of an event, where moments count from the first second: those of an event on the link are as a capture has them,
 -- and in a second without a link, or where a booking is sold, nothing is sent or heard
@@ -17,3 +19,10 @@ live_packets_for first d (Sold line) = []
 abbrev pub live_packets : ℕ → List LiveEvent → Day → List ℕ
 live_packets first [] d = []
 live_packets first (e ∷ es) d = live_packets_for first d e ++ live_packets first es (live_happens d e).day
+
+-- a day that goes through events and sales, with the packets of each
+abbrev pub CapturesThrough : List Bool → ℕ → List LiveEvent → Day → Day → List ℕ → Type 0
+CapturesThrough channels first [] old new octets = (new ≡ old) × (octets ≡ [])
+CapturesThrough channels first (Sold line ∷ events) old new octets = (sold : Day) × IsSold channels (row_on line) old sold × CapturesThrough channels first events sold new octets
+CapturesThrough channels first (OnLink event ∷ events) old new octets = (more : List ℕ) × (octets ≡ live_packets_for first old (OnLink event) ++ more) × CapturesThrough channels first events (live_happens old (OnLink event)).day new more
+CapturesThrough channels first (WithoutLink ∷ events) old new octets = CapturesThrough channels first events (live_happens old WithoutLink).day new octets

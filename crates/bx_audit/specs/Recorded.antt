@@ -1,42 +1,32 @@
 -- The records of a day that are written by its journal.
 use Rattle.std.specs.Prelude.{◌≡◌, ◌⊎◌, ℕ, Bool, true, false, List, Option}
 use Rattle.std.specs.Io.KnownBytes.{Appends}
-use Rattle.bx_base.specs.PlanParts.{Parts}
 use Rattle.bx_calendar.specs.declared.clock.Clock.{Clock}
-use Rattle.bx_day.specs.Day.{Day, opening}
-use Rattle.bx_day.specs.Outages.{live_day_after}
+use Rattle.bx_day.specs.Day.{Day}
 use Rattle.bx_day.specs.declared.entry.Entry.{Entry}
 use Rattle.bx_day_openings.specs.Recording.{IsClockOf}
 use Rattle.bx_devices.specs.Devices.{Writing, KeepsOutput}
 use Rattle.bx_devices.specs.Octets.{AppendsPrefix}
-use Rattle.bx_events.specs.Events.{LiveEvent}
 use Rattle.bx_journal.specs.Heads.{of_any_day}
-use Rattle.bx_day_openings.specs.Tied.{IsTiedOf}
+use Rattle.bx_day_openings.specs.Replays.{IsDayThrough}
+use Rattle.bx_day_openings.specs.TiedDays.{IsOpeningOf}
 use Rattle.bx_records.specs.Totals.{totals_text}
 use Rattle.bx_records.specs.Writing.{IsRecorded}
 use Rattle.bx_request.specs.declared.request.RecordsRequest.{RecordsRequest}
-use Rattle.bx_day_openings.specs.Journals.{IsJournal}
 
--- the opening day of the plan that the input of this name gave, and the digest of the text of this plan
-pub record IsOpeningOf (gives : List ℕ → Option (List ℕ) → Type 0) (name : List ℕ) (opened : Day) (digest : List ℕ) : Type 0 where
-  pub plan : Parts
-  pub tied : IsTiedOf gives name plan digest
-  pub opens : opened ≡ opening plan.rows plan.assigned
-
--- the day of that plan, after just the events of the journal that another input gave
-pub record IsDayTold (gives : List ℕ → Option (List ℕ) → Type 0) (plan journal : List ℕ) (day : Day) : Type 0 where
+-- the day of that plan, after just the events and sales of the journal that another input gave
+pub record IsDayTold (gives : List ℕ → Option (List ℕ) → Type 0) (plan journal : List ℕ) (channels : List Bool) (day : Day) : Type 0 where
   pub opened : Day
   pub digest : List ℕ
-  pub opens : IsOpeningOf gives plan opened digest
+  pub opens : IsOpeningOf gives plan opened channels digest
   pub before : Option (List ℕ)
   pub given : gives journal before
-  pub events : List LiveEvent
-  pub on_record : IsJournal (of_any_day digest) before events
-  pub after : day ≡ live_day_after events opened
+  pub through : IsDayThrough channels (of_any_day digest) before opened day
 
 -- the records of this day were written, with the clock that the words name
 pub record IsDayRecorded (gives : List ℕ → Option (List ℕ) → Type 0) (request : RecordsRequest) (day : Day) (output : Writing) : Type 0 where
-  pub told : IsDayTold gives request.plan.now request.journal.now day
+  pub channels : List Bool
+  pub told : IsDayTold gives request.plan.now request.journal.now channels day
   pub clock : Option Clock
   pub clock_of : IsClockOf request.day clock
   pub written : IsRecorded clock day.entries output

@@ -1,68 +1,53 @@
 //! The command that tells a day by its journal.
 
-ghost use Rattle.std.specs.Prelude.{◌≡◌, true, List, ℕ, Option, None, IfOk, IfErr, OnOk};
+ghost use Rattle.std.specs.Prelude.{true, None, IfOk, IfErr, OnOk};
 ghost use Rattle.bx_devices.specs.Watching.{device_of};
-ghost use Rattle.bx_events.specs.Events.{LiveEvent};
-ghost use Rattle.bx_day_openings.specs.OpeningRefusals.{IsNoOpening};
+ghost use Rattle.bx_day.specs.Day.{Day};
+ghost use Rattle.bx_day_openings.specs.Replays.{IsDayThrough, HasNoReplay};
 ghost use Rattle.bx_journal.specs.Heads.{of_any_day};
-ghost use Rattle.bx_day_openings.specs.JournalRefusals.{HasNoJournal};
 ghost use Rattle.bx_audit.specs.AuditRefusals.{StopsAudit, IsAuditRefusal};
-ghost use Rattle.bx_audit.specs.Audits.{IsTiedOpening, IsDayAudited, IsAuditTold};
-ghost use Rattle.bx_day_openings.specs.Journals.{IsJournal};
-ghost use Rattle.bx_audit.specs.Recorded.{IsOpeningOf};
+ghost use Rattle.bx_audit.specs.Audits.{IsDayAudited, IsAuditTold};
 
-use crate::following::Reader;
 use crate::telling::audited_day;
 use bx_capture::is_whole;
 use bx_check_commands::{CommandFault, Inputs, open};
 use bx_day::Exchange;
-use bx_day_openings::{DayCommandFault, captured, file_of, first_of, follow_to_end, tied_named};
+use bx_day_openings::{
+    DayCommandFault, DayOpening, captured, file_of, first_of, opening_of, replay_journal,
+    tied_named,
+};
 use bx_devices::Watched;
 use bx_journal::Wanted;
 use bx_request::AuditRequest;
-use std::alloc::Global;
 use std::fs::Files;
 use std::io::Write;
 
-/// The exchange at the opening of the day of the plan of an input, and the digest of that plan.
-pub(crate) fn opened_by<'a, I: Inputs>(
-    alloc: Global,
-    inputs: &mut I,
-    name: &'a str,
-) -> Result<(Exchange, [u8; 32]), DayCommandFault<'a>>
-    ensures opened { IfOk result (λ opened. IsTiedOpening opened.0 opened.1) }
-    ensures given { IfOk result (λ opened. IsOpeningOf (I.gives inputs.old) name.now opened.0 opened.1) }
-    ensures refused { IfErr result (IsNoOpening name.now) }
-    ensures no_more { (other : List ℕ) (text : Option (List ℕ)) → I.gives inputs.new other text → I.gives inputs.old other text }
-{
-    let tied = match tied_named(alloc, inputs, name) {
-        Ok(tied) => tied,
-        Err(fault) => return Err(DayCommandFault::Command(fault)),
-    };
-    match Exchange::new(alloc, &tied.plan) {
-        Ok(exchange) => Ok((exchange, tied.digest)),
-        Err(_) => Err(DayCommandFault::Command(CommandFault::Memory)),
-    }
-}
-
 /// Reads the journal in a file through, so that a fault of it is told before the file of a capture is made anew.
-fn read_through<'a, H: Files + Eprint>(
+fn read_through<'a, H: Files + AllocGlobal + Eprint>(
     rt: &H,
     name: &'a str,
-    plan: &[u8; 32],
+    opening: DayOpening,
 ) -> Result<(), DayCommandFault<'a>>
-    ensures read { OnOk result ((events : List LiveEvent) × IsJournal (of_any_day plan.now) None events) }
-    ensures refused { IfErr result (HasNoJournal name.now (of_any_day plan.now)) }
+    ensures read { OnOk result ((day : Day) × IsDayThrough opening.channels (of_any_day opening.digest) None opening.exchange day) }
+    ensures refused { IfErr result (HasNoReplay name.now (of_any_day opening.digest) opening.channels opening.exchange) }
 {
     let mut journal = match open(rt, name) {
         Ok(journal) => journal,
         Err(fault) => return Err(DayCommandFault::Command(fault)),
     };
-    let wanted = Wanted::of_any_day(plan);
-    follow_to_end(name, &mut journal, &wanted, &mut Reader)
+    let DayOpening {
+        exchange,
+        channels,
+        digest,
+    } = opening;
+    let wanted = Wanted::of_any_day(&digest);
+    match replay_journal(rt.alloc(), name, &mut journal, &wanted, channels, exchange) {
+        Ok(_) => Ok(()),
+        Err(fault) => Err(fault),
+    }
 }
 
-/// The exchange after the events of the journal in a file, and whether all that was to be captured of its day was.
+/// The exchange after the events and sales of the journal in a file, and whether all that was to be captured of its day was.
 fn audited_in<'a, H: Files + AllocGlobal + Eprint, I: Inputs>(
     rt: &H,
     inputs: &mut I,
@@ -72,18 +57,23 @@ fn audited_in<'a, H: Files + AllocGlobal + Eprint, I: Inputs>(
     ensures stopped { IfErr result (StopsAudit H.File.contents request.entry) }
 {
     let first = first_of(request.capture)?;
-    let (exchange, digest) = opened_by(rt.alloc(), inputs, request.plan)?;
-    read_through(rt, request.journal, &digest)?;
+    let tied = match tied_named(rt.alloc(), inputs, request.plan) {
+        Ok(tied) => tied,
+        Err(fault) => return Err(DayCommandFault::Command(fault)),
+    };
+    let opening = opening_of(rt.alloc(), &tied)?;
+    read_through(rt, request.journal, opening)?;
     let mut file = file_of(rt, request.capture)?;
     let mut journal = match open(rt, request.journal) {
         Ok(journal) => journal,
         Err(fault) => return Err(DayCommandFault::Command(fault)),
     };
+    let opening = opening_of(rt.alloc(), &tied)?;
     let exchange = audited_day(
+        rt.alloc(),
         request.journal,
         &mut journal,
-        &digest,
-        exchange,
+        opening,
         &mut file,
         first,
     )?;
@@ -96,7 +86,7 @@ fn audited_in<'a, H: Files + AllocGlobal + Eprint, I: Inputs>(
 /// the output failed a front of what was to be told was.
 ///
 /// What is needed is opened in this order, and the first fault of it is answered: `Day` or `Capture` for the date and the zone of
-/// the capture; `Command` for the plan; `Command`, as `CannotRead`, or `Journal`, as `BadLine`, `OtherPlan` or `OtherRules`, for the
+/// the capture; `Command` for the plan; `Command`, as `CannotRead`, `Journal`, as `BadLine`, `OtherPlan` or `OtherRules`, or `Sale` for the
 /// journal; `CannotWriteFile` for the file of the capture. `Command`, as `CannotWrite`, is the fault of the output, and
 /// `CannotWriteFile` that of a capture that was not written whole.
 pub fn audit_files<'a, H: Files + AllocGlobal + Eprint, I: Inputs, W: Write>(

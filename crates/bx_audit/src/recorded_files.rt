@@ -2,11 +2,10 @@
 
 ghost use Rattle.std.specs.Prelude.{IfOk, IfErr, OnOk};
 ghost use Rattle.bx_devices.specs.Devices.{writing_of};
-ghost use Rattle.bx_audit.specs.Recorded.{IsDayTold, IsTotalsTold, AreRecordsTold};
-ghost use Rattle.bx_audit.specs.Unrecorded.{IsUntold, IsRecordsCommandRefusal};
+ghost use Rattle.bx_audit.specs.Recorded.{IsTotalsTold, AreRecordsTold};
+ghost use Rattle.bx_audit.specs.Unrecorded.{IsRecordsCommandRefusal};
 
-use crate::audited_files::opened_by;
-use crate::telling::audited_day;
+use crate::told_days::told_by;
 use bx_check_commands::{CommandFault, Inputs};
 use bx_day::Exchange;
 use bx_day_openings::{DayCommandFault, clock_of, unrecorded};
@@ -15,25 +14,6 @@ use bx_records::{write_records, write_totals};
 use bx_request::RecordsRequest;
 use std::alloc::Global;
 use std::io::Write;
-
-/// The exchange after just the events of the journal of one input, from the opening of the day of the plan of another on.
-fn told_by<'a, I: Inputs>(
-    alloc: Global,
-    inputs: &mut I,
-    plan: &'a str,
-    journal: &'a str,
-) -> Result<Exchange, DayCommandFault<'a>>
-    ensures told { IfOk result (IsDayTold (I.gives inputs.old) plan.now journal.now) }
-    ensures untold { IfErr result (IsUntold (I.gives inputs.old) plan.now journal.now) }
-{
-    let (exchange, digest) = opened_by(alloc, inputs, plan)?;
-    let mut input = match inputs.open(journal) {
-        Ok(input) => input,
-        Err(fault) => return Err(DayCommandFault::Command(fault)),
-    };
-    let mut no_file: Option<Watched<Vec<u8>>> = None;
-    audited_day(journal, &mut input, &digest, exchange, &mut no_file, 0)
-}
 
 /// Tells the totals, where they are to be told. What becomes of them changes nothing.
 fn tell_totals<E: Write>(exchange: &Exchange, is_quiet: bool, errors: &mut Watched<E>)
@@ -49,7 +29,7 @@ fn tell_totals<E: Write>(exchange: &Exchange, is_quiet: bool, errors: &mut Watch
 /// except that where the output failed a front of the records was.
 ///
 /// What is needed is opened in this order, and the first fault of it is answered: `Day` for the date and the zone; `Command` for
-/// the plan; `Command`, as `CannotRead`, or `Journal`, as `BadLine`, `OtherPlan` or `OtherRules`, for the journal. Then `Day`, as
+/// the plan; `Command`, as `CannotRead`, `Journal`, as `BadLine`, `OtherPlan` or `OtherRules`, or `Sale` for the journal. Then `Day`, as
 /// `OutOfRange`, where a moment lies behind the last that can be named; `Command`, as `Memory`, where a growth was refused, and as
 /// `CannotWrite`, where the output failed.
 pub fn record_files<'a, I: Inputs, W: Write, E: Write>(
@@ -63,10 +43,10 @@ pub fn record_files<'a, I: Inputs, W: Write, E: Write>(
     ensures refused { IfErr result (IsRecordsCommandRefusal (I.gives inputs.old) request.entry W.contents output.old output.new) }
 {
     let clock = clock_of(request.day)?;
-    let exchange = told_by(alloc, inputs, request.plan, request.journal)?;
-    match write_records(alloc, &exchange, clock, output) {
+    let day = told_by(alloc, inputs, request.plan, request.journal)?;
+    match write_records(alloc, &day.exchange, clock, output) {
         Ok(()) => {
-            tell_totals(&exchange, request.is_quiet, errors);
+            tell_totals(&day.exchange, request.is_quiet, errors);
             Ok(())
         }
         Err(fault) => Err(unrecorded(fault, DayCommandFault::Command(CommandFault::CannotWrite))),

@@ -3,49 +3,64 @@
 ghost use Rattle.std.specs.Prelude.{◌≤◌, IfOk, IfErr, IsErrOf};
 ghost use Rattle.bx_devices.specs.Watching.{device_of, is_faulted};
 ghost use Rattle.bx_journal.specs.Heads.{of_any_day};
-ghost use Rattle.bx_day_openings.specs.JournalRefusals.{IsNoJournal};
+ghost use Rattle.bx_day_openings.specs.Replays.{IsNoReplay};
 ghost use Rattle.bx_audit.specs.Audits.{IsAudited, IsKeptSoFar};
 
 use crate::following::Recaptured;
 use bx_capture::Captured;
 use bx_day::Exchange;
-use bx_day_openings::{DayCommandFault, follow_to_end};
+use bx_day_openings::{DayCommandFault, DayOpening, journal_read};
 use bx_devices::Watched;
-use bx_journal::{JournalFault, Wanted};
+use bx_journal::{JournalFault, Wanted, read_journal};
+use std::alloc::Global;
 use std::io::{Read, Write};
 
-/// The exchange after just the events of a journal of this name, where it stands at the opening of the plan whose digest this is.
+/// The exchange after just the events and sales of a journal of this name, from the opening of the day of its plan on.
 /// A journal that was not begun has no event. Where there is a file, it takes the packets of what was sent and heard, as it took
 /// them on the day of the journal; moment 0 is the first second, which is at most 4,294,667,295. The journal is read in pieces,
 /// so it may be of any length.
 ///
-/// `Journal`, as `BadLine`, `OtherPlan` or `OtherRules`, where what was read is no journal of the plan, of whatever day; `Command`, as
-/// `CannotRead` of that name, where a read failed.
+/// `Sale` where a sale that stands in it is none of its day; else `Journal`, as `BadLine`, `OtherPlan` or `OtherRules`, where what was read is no
+/// journal of the plan, of whatever day, or `Command`, as `CannotRead` of that name, where a read failed.
 pub fn audited_day<'a, R: Read, W: Write + Drop>(
+    alloc: Global,
     name: &'a str,
     journal: &mut Watched<R>,
-    plan: &[u8; 32],
-    exchange: Exchange,
+    opening: DayOpening,
     file: &mut Option<Watched<W>>,
     first: u32,
 ) -> Result<Exchange, DayCommandFault<'a>>
     requires { first ≤ 4294667295 }
-    ensures audited { IfOk result (IsAudited plan.now (R.remaining (device_of journal.old)) W.contents file.old file.new first exchange) }
-    ensures refused { IfErr result (IsNoJournal name.now (of_any_day plan.now) (R.remaining (device_of journal.old)) (R.remaining (device_of journal.new)) (is_faulted journal.new)) }
+    ensures audited { IfOk result (IsAudited opening.digest opening.channels (R.remaining (device_of journal.old)) W.contents file.old file.new first opening.exchange) }
+    ensures refused { IfErr result (IsNoReplay name.now (of_any_day opening.digest) opening.channels opening.exchange (R.remaining (device_of journal.old)) (R.remaining (device_of journal.new)) (is_faulted journal.new)) }
     // No day is wanted, so none is another one.
     ensures any_day { IsErrOf result (DayCommandFault.Journal JournalFault.OtherDay) → ⊥ }
-    ensures kept { IfErr result (λ fault. IsKeptSoFar W.contents file.old file.new first exchange) }
+    ensures kept { IfErr result (λ fault. IsKeptSoFar W.contents opening.channels file.old file.new first opening.exchange) }
 {
+    let DayOpening {
+        exchange,
+        channels,
+        digest,
+    } = opening;
     let captured = Captured::new(exchange, file.take(), first);
-    let mut recaptured = Recaptured { captured };
-    let wanted = Wanted::of_any_day(plan);
-    let done = follow_to_end(name, journal, &wanted, &mut recaptured);
+    let mut recaptured = Recaptured {
+        alloc,
+        channels,
+        captured,
+        sale: None,
+    };
+    let wanted = Wanted::of_any_day(&digest);
+    let whole = read_journal(journal, &wanted, &mut recaptured);
+    let Recaptured { captured, sale, .. } = recaptured;
     let Captured {
         end,
         file: kept,
         first: _,
-    } = recaptured.captured;
+    } = captured;
     *file = kept;
-    done?;
+    if let Some(fault) = sale {
+        return Err(DayCommandFault::Sale(fault));
+    }
+    journal_read(name, whole)?;
     Ok(end)
 }

@@ -4,6 +4,8 @@ use Rattle.std.proofs.lemmas.Bool.{false≢true}
 use Rattle.std.specs.Prelude.{IsOk, OnOk, IfErr}
 use Rattle.bx_audit.specs.Recorded.{AreRecordsWritten, AreRecordsTold, IsDayRecorded}
 use Rattle.bx_audit.specs.Unrecorded.{IsRecordsCommandRefusal}
+use Rattle.bx_audit.specs.LastPlans.{IsSoldTold}
+use Rattle.bx_audit.specs.Unsold.{IsSoldRefusal}
 use Rattle.bx_check_commands.specs.Inputs.{GivesOnce, GivesStandard}
 use Rattle.bx_day_openings.specs.declared.fault.DayCommandFault.{DayCommandFault}
 use Rattle.bx_devices.specs.Devices.{Writing}
@@ -12,6 +14,7 @@ use Rattle.bx_plan_commands.specs.FileRequests as plans
 use Rattle.bx_plan_commands.specs.declared.fault.FileFault.{FileFault}
 use Rattle.bx_request.specs.declared.request.FileRequest.{FileRequest}
 use Rattle.bx_request.specs.declared.request.RecordsRequest.{RecordsRequest}
+use Rattle.bx_request.specs.declared.request.SoldRequest.{SoldRequest}
 
 -- what a command promises at its status
 
@@ -42,3 +45,13 @@ pub are_unrecorded : {X T W : Type 0} (remaining : X → Option (List ℕ)) (o :
     → IfErr r (IsRecordsCommandRefusal (λ name text. name ≡ codes "-" → GivesOnce remaining o text) request contents old new) → status ≢ 0 → (fault : DayCommandFault) × IsRecordsCommandRefusal (GivesStandard (remaining x)) request contents old new fault
 are_unrecorded remaining o x request contents old new (Ok value) status is (there, back) why some = absurd (some (back refl))
 are_unrecorded {X = X} remaining o x request contents old new (Err fault) status is both why some = (fault, subst (λ (p : Option X). IsRecordsCommandRefusal (λ name text. name ≡ codes "-" → GivesOnce remaining p text) request contents old new fault) is why)
+
+pub is_sold : {X T : Type 0} (remaining : X → Option (List ℕ)) (o : Option X) (x : X) (request : SoldRequest) (output : Writing) (r : Result T DayCommandFault) (status : ℕ) → o ≡ Some x → (status ≡ 0) ↔ IsOk r
+    → OnOk r (IsSoldTold (λ name text. name ≡ codes "-" → GivesOnce remaining o text) request output) → status ≡ 0 → IsSoldTold (GivesStandard (remaining x)) request output
+is_sold {X = X} remaining o x request output (Ok value) status is both what zero = subst (λ (p : Option X). IsSoldTold (λ name text. name ≡ codes "-" → GivesOnce remaining p text) request output) is what
+is_sold remaining o x request output (Err fault) status is (there, back) what zero = absurd (false≢true (there zero))
+
+pub is_unsold : {X T W : Type 0} (remaining : X → Option (List ℕ)) (o : Option X) (x : X) (request : SoldRequest) (contents : W → Option (List ℕ)) (old new : Watched W) (r : Result T DayCommandFault) (status : ℕ) → o ≡ Some x → (status ≡ 0) ↔ IsOk r
+    → IfErr r (IsSoldRefusal (λ name text. name ≡ codes "-" → GivesOnce remaining o text) request contents old new) → status ≢ 0 → (fault : DayCommandFault) × IsSoldRefusal (GivesStandard (remaining x)) request contents old new fault
+is_unsold remaining o x request contents old new (Ok value) status is (there, back) why some = absurd (some (back refl))
+is_unsold {X = X} remaining o x request contents old new (Err fault) status is both why some = (fault, subst (λ (p : Option X). IsSoldRefusal (λ name text. name ≡ codes "-" → GivesOnce remaining p text) request contents old new fault) is why)

@@ -151,6 +151,7 @@ pub fn named_files<'a>(request: &Request<'a>) -> [Option<FileUse<'a>>; 5]
         Request::Records(request) => {
             [read(FileKind::Plan, request.plan), read(FileKind::Journal, request.journal), None, None, None]
         }
+        Request::Sold(request) => [read(request.plan), read(request.journal), None, None, None],
         Request::Decode { octets: _ } => [None, None, None, None, None],
     }
 }

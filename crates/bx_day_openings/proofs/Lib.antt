@@ -3,3 +3,4 @@ mod Scripts
 mod Recordings
 mod Texts
 pub mod ToldJournals
+pub mod Replays

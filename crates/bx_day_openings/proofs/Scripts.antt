@@ -24,6 +24,7 @@ no_far_end name input (faults.Command (Message fault)) why = absurd why
 no_far_end name input (faults.Day fault) why = absurd why
 no_far_end name input (faults.Capture fault) why = absurd why
 no_far_end name input (faults.Journal fault) why = absurd why
+no_far_end name input (faults.Sale fault) why = absurd why
 no_far_end name input faults.CannotListen why = absurd why
 no_far_end name input faults.CannotConnect why = absurd why
 no_far_end name input (faults.CannotWriteFile n) why = absurd why

@@ -12,3 +12,4 @@ pub mod Answers
 pub mod Journals
 pub mod JournalRefusals
 pub mod Followed
+pub mod Replays

@@ -6,6 +6,7 @@ use bx_check_commands::CommandFault;
 use bx_far::ScriptFault;
 use bx_frames::LinkFault;
 use bx_journal::JournalFault;
+use bx_restart::SaleFault;
 use thiserror::Error;
 
 /// The refusal of a command that runs a day, or tells one from its journal.
@@ -26,6 +27,9 @@ pub enum DayCommandFault<'a> {
     /// What was read is no journal of the plan.
     #[error("{0}")]
     Journal(JournalFault),
+    /// The journal has a sale that is none of its day.
+    #[error("{0}")]
+    Sale(SaleFault),
     /// The port or the socket cannot be listened on, or no peer can be accepted.
     #[error("F3 CannotListen")]
     CannotListen,

@@ -13,6 +13,7 @@ mod openings;
 mod plan_opening;
 mod progress;
 mod recording;
+mod replaying;
 mod sockets;
 mod tied;
 
@@ -23,10 +24,11 @@ pub use hours::{Hours, hours_of};
 pub use line::line_between;
 pub use loopback::{accepted, connected, connected_ends};
 pub use openings::{far_end_of, turns_of};
-pub use plan_opening::{Opening, tied_opening};
+pub use plan_opening::{DayOpening, Opening, day_opening, opening_of, tied_opening};
 pub use progress::Shown;
 pub use recording::{
     RecordsFile, clock_of, kept, record, records_clock_of, records_file_of, unrecorded,
 };
+pub use replaying::{Replayed, day_turns, replay_journal};
 pub use sockets::{accepted_at, connected_at};
 pub use tied::{TiedPlan, tied_named, tied_plan};

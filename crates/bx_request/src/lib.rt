@@ -6,5 +6,5 @@ mod request;
 pub use request::{
     AuditRequest, Call, CaptureWords, DayHours, FarLineRequest, FarRequest, FileRequest, LinePorts,
     LiveRequest, Peer, Place, RecordsRequest, RecordsWords, RehearsalRequest, Request, Sight,
-    Terms,
+    SoldRequest, Terms,
 };

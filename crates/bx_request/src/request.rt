@@ -185,6 +185,13 @@ pub struct RecordsRequest<'a> {
     pub is_quiet: bool,
 }
 
+/// The last plan of a day that is to be written by its journal.
+#[derive(Clone, Copy)]
+pub struct SoldRequest<'a> {
+    pub plan: &'a str,
+    pub journal: &'a str,
+}
+
 /// One command, with its words.
 #[derive(Drop)]
 pub enum Request<'a> {
@@ -195,6 +202,7 @@ pub enum Request<'a> {
     Live(LiveRequest<'a>),
     Audit(AuditRequest<'a>),
     Records(RecordsRequest<'a>),
+    Sold(SoldRequest<'a>),
     /// Print what a message says.
     Decode { octets: &'a str },
 }

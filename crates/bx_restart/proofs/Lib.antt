@@ -1,3 +1,1 @@
-pub mod Collected
-pub mod Moments
-pub mod Known
+mod Sold

@@ -1,66 +1,50 @@
--- Private: what was collected of a journal.
-use Rattle.std.specs.Prelude.{◌≡◌, ◌⊎◌, ◌<◌, ◌≤◌, ◌+◌, ℕ, nat_le, List, [], ◌∷◌, ◌++◌, length, if◌then◌else◌}
-use Rattle.bx_base.specs.declared.bookings.TheConstants.{MAX_BOOKINGS}
-use Rattle.bx_events.specs.Events.{Tick, Receive, LiveEvent, OnLink, WithoutLink, Sold}
-use Rattle.bx_events.specs.declared.moment.TheConstants.{LAST_MOMENT}
+-- Events and sales one behind another.
+use Rattle.std.specs.Prelude.{Bool, List, [], ◌∷◌, ◌++◌, Option, Some, None}
+use Rattle.std.proofs.Common.{refl, sym, ap, ◌∙◌, subst, append_assoc}
+use Rattle.bx_day.specs.Day.{Day}
+use Rattle.bx_events.specs.Events.{LiveEvent, Sold}
 use Rattle.bx_planfile.specs.OneBooking.{row_on}
-use Rattle.bx_sales.specs.Journal.{sold_in}
-use Rattle.bx_restart.specs.declared.collecting.Collecting.{Collecting}
-use Rattle.bx_restart.specs.declared.collecting.Sales.{Sales}
-use Rattle.bx_restart.specs.declared.collecting.Sales.TheVariants.{Whole, NoBooking, Late, TooMany, NoMemory}
-use Rattle.bx_restart.specs.Restarts.{SaleIn, TellsNone, all_true}
+use Rattle.bx_sales.proofs.Journal.{through_more}
+use Rattle.bx_restart.specs.declared.reselling.SaleFault.{SaleFault}
+use Rattle.bx_restart.specs.declared.selling.Selling.{Selling}
+use Rattle.bx_restart.specs.Sales.{SaleIn}
+use Rattle.bx_restart.specs.Going.{IsStopped, Goes, GoesFrom}
+use Rattle.bx_restart.specs.Selling.{day_goes, IsAfter}
 
--- the moment behind a second, with a link or without
-abbrev pub next_moment : ℕ → ℕ
-next_moment m = if nat_le LAST_MOMENT m then m else m + 1
+module _ {S : Type 0} (goes : S → List LiveEvent → S → Type 0) (day : S → Day) (channels : List Bool) where
+  pub goes_nothing : ((s : S) → goes s [] s) → (sale : Option SaleFault) (s : S) → GoesFrom goes day channels sale s [] s sale
+  goes_nothing none None s = none s
+  goes_nothing none (Some fault) s = (refl, refl)
 
-abbrev pub moment_by : ℕ → LiveEvent → ℕ
-moment_by m (OnLink Tick) = next_moment m
-moment_by m (OnLink (Receive octets)) = m
-moment_by m WithoutLink = next_moment m
-moment_by m (Sold line) = m
+  module _ (more : (s t u : S) (xs ys : List LiveEvent) → goes s xs t → goes t ys u → goes s (xs ++ ys) u) where
+    later_stop : (s t u : S) (xs ys : List LiveEvent) (fault : SaleFault) → goes s xs t → IsStopped goes day channels t ys u fault → IsStopped goes day channels s (xs ++ ys) u fault
+    later_stop s t u xs ys fault went stop = record {
+      sale = record { before = xs ++ stop.sale.before; line = stop.sale.line; behind = stop.sale.behind; are = ap (λ (l : List LiveEvent). xs ++ l) stop.sale.are ∙ sym (append_assoc xs stop.sale.before (Sold stop.sale.line ∷ stop.sale.behind)) };
+      went = more s t u xs stop.sale.before went stop.went;
+      why = stop.why;
+    }
 
-abbrev pub moment_after : ℕ → List LiveEvent → ℕ
-moment_after m [] = m
-moment_after m (event ∷ events) = moment_after (moment_by m event) events
+    from_here : (s t u : S) (xs ys : List LiveEvent) (a b : Option SaleFault) → Goes goes day channels s xs t a → GoesFrom goes day channels a t ys u b → Goes goes day channels s (xs ++ ys) u b
+    from_here s t u xs ys None None went next = more s t u xs ys went next
+    from_here s t u xs ys None (Some fault) went next = later_stop s t u xs ys fault went next
+    from_here s t u xs ys (Some fault) b stop (same, still) =
+        subst (λ (x : Option SaleFault). Goes goes day channels s (xs ++ ys) u x) (sym still)
+        (subst (λ (x : S). IsStopped goes day channels s (xs ++ ys) x fault) (sym same) (record {
+          sale = record { before = stop.sale.before; line = stop.sale.line; behind = stop.sale.behind ++ ys; are = ap (λ (l : List LiveEvent). l ++ ys) stop.sale.are ∙ append_assoc stop.sale.before (Sold stop.sale.line ∷ stop.sale.behind) ys };
+          went = stop.went;
+          why = stop.why;
+        }))
 
--- a sale whose booking has started where its line stands
-abbrev pub IsLateAt : {events : List LiveEvent} → ℕ → SaleIn events → Type 0
-IsLateAt m sale = (row_on sale.line).start ≤ moment_after m sale.before
+    pub goes_more : (s t u : S) (xs ys : List LiveEvent) (a b c : Option SaleFault) → GoesFrom goes day channels a s xs t b → GoesFrom goes day channels b t ys u c → GoesFrom goes day channels a s (xs ++ ys) u c
+    goes_more s t u xs ys None b c p q = from_here s t u xs ys b c p q
+    goes_more s t u xs ys (Some fault) b c (same, still) q = then_stopped (subst (λ (x : Option SaleFault). GoesFrom goes day channels x t ys u c) still q) where
+      then_stopped : GoesFrom goes day channels (Some fault) t ys u c → GoesFrom goes day channels (Some fault) s (xs ++ ys) u c
+      then_stopped (on, again) = (on ∙ same, again)
 
-abbrev pub IsInTime : ℕ → LiveEvent → Type 0
-IsInTime m (OnLink event) = Unit {0}
-IsInTime m WithoutLink = Unit {0}
-IsInTime m (Sold line) = m < (row_on line).start
+pub after_nothing : (a : Selling) → IsAfter a [] a
+after_nothing a = (refl, goes_nothing (day_goes a.channels) (λ (d : Day). d) a.channels (λ d. refl) a.sale a.exchange)
 
--- each sale is of a booking that starts later
-abbrev pub AreInTime : ℕ → List LiveEvent → Type 0
-AreInTime m [] = Unit {0}
-AreInTime m (event ∷ events) = IsInTime m event × AreInTime (moment_by m event) events
-
--- what was sold stands behind the rows
-pub record AreCollected (old : Collecting) (events : List LiveEvent) (new : Collecting) : Type 0 where
-  pub whole : old.sales ≡ Whole
-  pub rows : new.rows ≡ old.rows ++ sold_in row_on events
-  pub marked : new.marks.items ≡ old.marks.items ++ all_true (sold_in row_on events)
-  pub in_time : AreInTime old.moment events
-
--- behind some of them there are more bookings than a day has
-pub record AreTooMany (old : Collecting) (events : List LiveEvent) : Type 0 where
-  pub whole : old.sales ≡ Whole
-  pub front : List LiveEvent
-  pub rest : List LiveEvent
-  pub are : events ≡ front ++ rest
-  pub many : MAX_BOOKINGS < length (old.rows ++ sold_in row_on front)
-
--- all was collected; or something was wrong before, or is in these events
-abbrev pub IsFound : Collecting → List LiveEvent → Collecting → Sales → Type 0
-IsFound old events new Whole = AreCollected old events new
-IsFound old events new NoBooking = (old.sales ≡ NoBooking) ⊎ ((sale : SaleIn events) × TellsNone sale)
-IsFound old events new Late = (old.sales ≡ Late) ⊎ ((sale : SaleIn events) × IsLateAt old.moment sale)
-IsFound old events new TooMany = (old.sales ≡ TooMany) ⊎ AreTooMany old events
-IsFound old events new NoMemory = Unit {0}
-
-pub record HasCollected (old : Collecting) (events : List LiveEvent) (new : Collecting) : Type 0 where
-  pub moment : new.moment ≡ moment_after old.moment events
-  pub found : IsFound old events new new.sales
+pub after_more : (a b c : Selling) (xs ys : List LiveEvent) → IsAfter a xs b → IsAfter b ys c → IsAfter a (xs ++ ys) c
+after_more a b c xs ys (same, p) (again, q) =
+    let on = subst (λ (cs : List Bool). GoesFrom (day_goes cs) (λ (d : Day). d) cs b.sale b.exchange ys c.exchange c.sale) same q in
+    (again ∙ same, goes_more (day_goes a.channels) (λ (d : Day). d) a.channels (λ d e f us vs p q. through_more a.channels row_on us vs d e f p q) a.exchange b.exchange c.exchange xs ys a.sale b.sale c.sale p on)

@@ -1,4 +1,4 @@
-pub mod Restarts
+pub mod Sales
+pub mod Going
+pub mod Selling
 pub mod Joined
-pub mod Joining
-pub mod Inside

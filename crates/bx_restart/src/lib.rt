@@ -1,7 +1,8 @@
-//! A live day with sales, from its journal: read twice, first its sales and then its events.
+//! A live day with sales, from its journal: its events happen, and what was sold is sold again, as they are read.
 #![tactic(auto)]
 
-mod collecting;
-mod restarting;
+mod reselling;
+mod selling;
 
-pub use restarting::{RestartFault, Restarted, restart};
+pub use reselling::{SaleFault, resell};
+pub use selling::Selling;

@@ -30,8 +30,8 @@ use Rattle.bx_live_parts.specs.Records.{OnRecord}
 use Rattle.bx_live_parts.proofs.Projections.{chain_map}
 use Rattle.bx_live_parts.specs.declared.record.Record.{Record}
 use Rattle.bx_live_parts.specs.declared.schedule.Schedule.{Schedule}
-use Rattle.bx_recovery.specs.Recovered.{goes_on}
-use Rattle.bx_run_commands.specs.Resuming.{GoesOn, IsFollowedBy, IsKeptOn, IsKeptBy}
+use Rattle.bx_restart.specs.Selling.{day_goes}
+use Rattle.bx_run_commands.specs.Resuming.{IsFollowedBy, IsKeptOn, IsKeptBy}
 use Rattle.bx_run_commands.proofs.Recorded.{over_of}
 use Rattle.bx_run_commands.proofs.Unkept.{none_keeps}
 use Rattle.bx_run_commands.specs.Readying.{IsReady}
@@ -103,20 +103,14 @@ ready_on holds may_leave head whole old new w is resumed = record {
   begun = λ text fault same held. absurd cc;
 }
 
--- the day after a journal that was followed whole
-pub goes_on_by : (head : Head) (wanted : Wanted) (before : Option (List ℕ)) (opened day : Day) (r : Result (Unit {0}) DayCommandFault) (v : Unit {0}) → wanted ≡ wanted_of head → r ≡ Ok v → OnOk r (IsFollowedWhole goes_on wanted before opened day) → GoesOn head before opened day
-goes_on_by head wanted before opened day r v same is followed =
-    let f = subst (λ (x : Result (Unit {0}) DayCommandFault). OnOk x (IsFollowedWhole goes_on wanted before opened day)) is followed in
-    record { events = f.events; journal = subst (λ (w : Wanted). IsJournal w before f.events) same f.journal; after = f.all }
-
 -- ---- how a journal was followed, and on what its record is kept
 
-pub followed_by : (head : Head) (wanted : Wanted) (faulted : Bool) (before after : Option (List ℕ)) (opened day : Day) (whole : Result ℕ JournalFault) → wanted ≡ wanted_of head → IsFollowed goes_on faulted before after wanted opened day whole → IsFollowedBy head before opened day whole
-followed_by head wanted faulted before after opened day whole same f = (faulted, after, subst (λ (w : Wanted). IsFollowed goes_on faulted before after w opened day whole) same f)
+pub followed_by : (head : Head) (channels : List Bool) (wanted : Wanted) (faulted : Bool) (before after : Option (List ℕ)) (opened day : Day) (whole : Result ℕ JournalFault) → wanted ≡ wanted_of head → IsFollowed (day_goes channels) faulted before after wanted opened day whole → IsFollowedBy head channels before opened day whole
+followed_by head channels wanted faulted before after opened day whole same f = (faulted, after, subst (λ (w : Wanted). IsFollowed (day_goes channels) faulted before after w opened day whole) same f)
 
-pub kept_by : {F : Type 0} (head : Head) (before : Option (List ℕ)) (opened day : Day) (kept : Record (FileDisk F)) (o : Option (Bor (List ℕ))) (name : Bor (List ℕ)) → o ≡ Some name → IsKeptOn (λ file. None) false head before opened day kept → IsKeptBy head o opened day kept
-kept_by {F = F} head before opened day kept o name is k = subst (λ (x : Option (Bor (List ℕ))). IsKeptBy {F = F} head x opened day kept) (sym is) (before, k)
+pub kept_by : {F : Type 0} (head : Head) (channels : List Bool) (before : Option (List ℕ)) (opened day : Day) (kept : Record (FileDisk F)) (o : Option (Bor (List ℕ))) (name : Bor (List ℕ)) → o ≡ Some name → IsKeptOn (λ file. None) false head channels before opened day kept → IsKeptBy head channels o opened day kept
+kept_by {F = F} head channels before opened day kept o name is k = subst (λ (x : Option (Bor (List ℕ))). IsKeptBy {F = F} head channels x opened day kept) (sym is) (before, k)
 
-pub journal_kept_by : {F : Type 0} (head : Head) (opened day : Day) (kept : Record (FileDisk F)) (o : Option (Bor (List ℕ))) → IsKeptBy head o opened day kept → is_some kept.disk ≡ true → is_some o ≡ true
-journal_kept_by head opened day kept (Some name) k there = refl
-journal_kept_by {F = F} head opened day kept None k there = subst (λ (x : Option (FileDisk F)). is_some x ≡ true) k there
+pub journal_kept_by : {F : Type 0} (head : Head) (channels : List Bool) (opened day : Day) (kept : Record (FileDisk F)) (o : Option (Bor (List ℕ))) → IsKeptBy head channels o opened day kept → is_some kept.disk ≡ true → is_some o ≡ true
+journal_kept_by head channels opened day kept (Some name) k there = refl
+journal_kept_by {F = F} head channels opened day kept None k there = subst (λ (x : Option (FileDisk F)). is_some x ≡ true) k there

@@ -1,7 +1,8 @@
 -- A live day that stopped did not fail by its output.
-use Rattle.std.proofs.Common.{ℕ, List, Option, Some, None, inl, inr, refl}
+use Rattle.std.proofs.Common.{ℕ, Bool, List, Option, Some, None, inl, inr, refl}
 use Rattle.std.specs.Borrow.{Bor}
 use Rattle.bx_check_commands.specs.declared.fault.CommandFault.TheVariants as commands
+use Rattle.bx_day.specs.Day.{Day}
 use Rattle.bx_day_openings.specs.declared.fault.DayCommandFault.TheVariants.{Command}
 use Rattle.bx_devices.specs.declared.watched.Watched.{Watched}
 use Rattle.bx_journal.specs.declared.head.Head.{Head}
@@ -14,13 +15,13 @@ use Rattle.bx_run_commands.specs.declared.fault.LiveFault.{LiveFault}
 use Rattle.bx_run_commands.specs.declared.fault.LiveFault.TheVariants.{Day as OfDay, StillUp}
 use Rattle.bx_run_commands.proofs.Refused.{no_output}
 
-no_journal : (journal : Option (Bor (List ℕ))) (head : Head) → IsNoRecord journal head (OfDay (Command commands.CannotWrite)) → ⊥
-no_journal None head none = none
-no_journal (Some name) head none = none
+no_journal : (journal : Option (Bor (List ℕ))) (head : Head) (channels : List Bool) (opened : Day) → IsNoRecord journal head channels opened (OfDay (Command commands.CannotWrite)) → ⊥
+no_journal None head channels opened none = none
+no_journal (Some name) head channels opened none = none
 
-no_journal_still : (journal : Option (Bor (List ℕ))) (head : Head) → IsNoRecord journal head StillUp → ⊥
-no_journal_still None head none = none
-no_journal_still (Some name) head none = none
+no_journal_still : (journal : Option (Bor (List ℕ))) (head : Head) (channels : List Bool) (opened : Day) → IsNoRecord journal head channels opened StillUp → ⊥
+no_journal_still None head channels opened none = none
+no_journal_still (Some name) head channels opened none = none
 
 recorded_still : (journal : Option (Bor (List ℕ))) → IsUnrecorded journal StillUp → ⊥
 recorded_still None none = none
@@ -32,14 +33,14 @@ module _ (H F : Type 0) (request : LiveRequest) where
   writes (inr (inl plan)) = plan
   writes (inr (inr (inl (at_hand, inl unheard)))) = unheard
   writes (inr (inr (inl (at_hand, inr unconnected)))) = unconnected
-  writes (inr (inr (inr (at_hand, inl journal)))) = no_journal request.journal (live_head at_hand.digest at_hand.hours) journal
+  writes (inr (inr (inr (at_hand, inl journal)))) = no_journal request.journal (live_head at_hand.digest at_hand.hours) at_hand.channels at_hand.opened journal
   writes (inr (inr (inr (at_hand, inr (unrecorded, stopped))))) = no_output request.journal unrecorded
 
   still : StopsLive H F request StillUp → ⊥
   still (inl hours) = hours
   still (inr (inl plan)) = plan
   still (inr (inr (inl (at_hand, none)))) = none
-  still (inr (inr (inr (at_hand, inl journal)))) = no_journal_still request.journal (live_head at_hand.digest at_hand.hours) journal
+  still (inr (inr (inr (at_hand, inl journal)))) = no_journal_still request.journal (live_head at_hand.digest at_hand.hours) at_hand.channels at_hand.opened journal
   still (inr (inr (inr (at_hand, inr (unrecorded, stopped))))) = recorded_still request.journal unrecorded
 
   pub live_stopped : {W : Type 0} (files : F → Option (List ℕ)) (contents : W → Option (List ℕ)) (output : Watched W) (fault : LiveFault) → StopsLive H F request fault → IsLiveRefusal H files request contents output output fault

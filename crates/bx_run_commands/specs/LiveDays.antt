@@ -1,5 +1,5 @@
 -- A live day of a plan, and what is told of it.
-use Rattle.std.specs.Prelude.{◌≡◌, ℕ, true, false, List, Option}
+use Rattle.std.specs.Prelude.{◌≡◌, ℕ, Bool, true, false, List, Option}
 use Rattle.std.specs.Io.KnownBytes.{Appends}
 use Rattle.bx_day.specs.Day.{Day}
 use Rattle.bx_day.specs.Telling.{outcomes_text}
@@ -7,13 +7,14 @@ use Rattle.bx_day_openings.specs.Hours.{AreHours}
 use Rattle.bx_day_openings.specs.declared.hours.Hours.{Hours}
 use Rattle.bx_devices.specs.Octets.{AppendsPrefix}
 use Rattle.bx_journal.specs.declared.file.FileDisk.{FileDisk}
-use Rattle.bx_day_openings.specs.TiedDays.{IsTiedDay}
+use Rattle.bx_day_openings.specs.Openings.{AreDayTurns}
 use Rattle.bx_line_world.specs.declared.udp.UdpWire.{UdpWire}
 use Rattle.bx_line_world.specs.Wires.{WireAct}
 use Rattle.bx_live.specs.Held.{has_call}
 use Rattle.bx_events.specs.declared.moment.TheConstants.{LAST_MOMENT}
 use Rattle.bx_live_parts.specs.declared.record.Record.{Record}
 use Rattle.bx_request.specs.declared.request.LiveRequest.{LiveRequest}
+use Rattle.bx_run_commands.specs.FirstFits.{IsFirstFitOpening}
 use Rattle.bx_run_commands.specs.Heads.{live_head}
 use Rattle.bx_journal.specs.Files.{holds_unknown, may_leave_any, no_moment, any_since, has_failed_in}
 use Rattle.bx_run_commands.specs.LiveRuns.{RunsByLine, StopsByLine}
@@ -24,20 +25,22 @@ use Rattle.bx_run_commands.specs.Resuming.{GoesOnBy, IsKeptBy}
 abbrev pub did_on : {H : Type 0} → UdpWire H → List WireAct → UdpWire H → Type 0
 did_on old acts new = Unit {0}
 
--- The day of a plan that is proved, after the events of its journal, and then those of a live run to the turn that was asked for, or
--- that its accepted bookings need. Where there is a journal it was that of this plan on this day, all of it was read, and what
+-- The day of a plan that is proved and first fit, after the events and sales of its journal, and then those of a live run to the turn that was asked for, or
+-- that its accepted bookings need by then. Where there is a journal it was that of this plan on this day, all of it was read, and what
 -- happens is put on record in just this journal; the run goes by the hours of the words.
 pub record IsLiveDay {F : Type 0} (H : Type 0) (files : F → Option (List ℕ)) (request : LiveRequest) (day : Day) : Type 0 where
   pub hours : Hours
   pub are_hours : AreHours request.hours hours
   pub opened : Day
+  pub channels : List Bool
   pub digest : List ℕ
-  pub turns : ℕ
-  pub opens : IsTiedDay request.turns opened digest turns
+  pub opens : IsFirstFitOpening opened channels digest
   pub resumed : Day
   pub kept : Record (FileDisk (NamedFile H F))
-  pub goes_on : GoesOnBy (live_head digest hours) request.journal opened resumed
-  pub is_kept : IsKeptBy (live_head digest hours) request.journal opened resumed kept
+  pub goes_on : GoesOnBy (live_head digest hours) channels request.journal opened resumed
+  pub is_kept : IsKeptBy (live_head digest hours) channels request.journal opened resumed kept
+  pub turns : ℕ
+  pub are_turns : AreDayTurns request.turns resumed.entries turns
   pub wire : UdpWire H
   pub ran : RunsByLine did_on holds_unknown may_leave_any no_moment any_since has_failed_in wire hours.schedule kept turns resumed day
 
@@ -46,13 +49,13 @@ pub record IsLiveStopped (H F : Type 0) (request : LiveRequest) : Type 0 where
   pub hours : Hours
   pub are_hours : AreHours request.hours hours
   pub opened : Day
+  pub channels : List Bool
   pub digest : List ℕ
-  pub turns : ℕ
-  pub opens : IsTiedDay request.turns opened digest turns
+  pub opens : IsFirstFitOpening opened channels digest
   pub resumed : Day
   pub kept : Record (FileDisk (NamedFile H F))
-  pub goes_on : GoesOnBy (live_head digest hours) request.journal opened resumed
-  pub is_kept : IsKeptBy (live_head digest hours) request.journal opened resumed kept
+  pub goes_on : GoesOnBy (live_head digest hours) channels request.journal opened resumed
+  pub is_kept : IsKeptBy (live_head digest hours) channels request.journal opened resumed kept
   pub wire : UdpWire H
   pub stopped : StopsByLine did_on holds_unknown may_leave_any no_moment any_since has_failed_in wire hours.schedule kept resumed
 

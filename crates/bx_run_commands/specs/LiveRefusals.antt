@@ -1,16 +1,16 @@
 -- Why a live day is refused, and what was written then.
-use Rattle.std.specs.Prelude.{◌≡◌, ◌⊎◌, ℕ, true, List, Option}
+use Rattle.std.specs.Prelude.{◌≡◌, ◌⊎◌, ℕ, Bool, true, List, Option}
 use Rattle.bx_check_commands.specs.declared.fault.CommandFault.TheVariants.{CannotWrite}
 use Rattle.bx_day.specs.Day.{Day}
 use Rattle.bx_day_openings.specs.Hours.{AreHours, IsNoHours}
-use Rattle.bx_day_openings.specs.OpeningRefusals.{IsNoOpening, IsUnheard, IsUnconnected}
+use Rattle.bx_day_openings.specs.OpeningRefusals.{IsUnheard, IsUnconnected}
 use Rattle.bx_day_openings.specs.declared.fault.DayCommandFault.{DayCommandFault}
 use Rattle.bx_day_openings.specs.declared.fault.DayCommandFault.TheVariants.{Command}
 use Rattle.bx_day_openings.specs.declared.hours.Hours.{Hours}
 use Rattle.bx_devices.specs.Watching.{device_of, is_faulted}
 use Rattle.bx_devices.specs.declared.watched.Watched.{Watched}
-use Rattle.bx_day_openings.specs.TiedDays.{IsTiedDay}
 use Rattle.bx_request.specs.declared.request.LiveRequest.{LiveRequest}
+use Rattle.bx_run_commands.specs.FirstFits.{IsFirstFitOpening, IsNoFirstFitOpening}
 use Rattle.bx_run_commands.specs.Heads.{live_head}
 use Rattle.bx_run_commands.specs.LiveDays.{IsLiveCut, IsLiveStopped, IsLiveUp}
 use Rattle.bx_run_commands.specs.OpeningFaults.{OfOpening, IsUnrecorded}
@@ -22,23 +22,23 @@ use Rattle.bx_run_commands.specs.declared.fault.LiveFault.TheVariants.{Day as Of
 abbrev pub IsNoLine : DayCommandFault → Type 0
 IsNoLine fault = IsUnheard fault ⊎ IsUnconnected fault
 
--- a plan was read and proved, and the day's hours are those of the words
+-- a plan was read, proved and found to be first fit, and the day's hours are those of the words
 pub record IsAtHand (request : LiveRequest) : Type 0 where
   pub hours : Hours
   pub are_hours : AreHours request.hours hours
   pub opened : Day
+  pub channels : List Bool
   pub digest : List ℕ
-  pub turns : ℕ
-  pub opens : IsTiedDay request.turns opened digest turns
+  pub opens : IsFirstFitOpening opened channels digest
 
 -- Why it stops: what it needs is opened in this order, and what is tested first is answered. So a journal is not touched where the
 -- line is in use. Once it runs it stops only where its journal's disk has failed, or what came is no event of a journal.
 abbrev pub StopsLive : Type 0 → Type 0 → LiveRequest → LiveFault → Type 0
 StopsLive H F request fault =
     OfOpening (IsNoHours request.hours) fault
-    ⊎ OfOpening (IsNoOpening request.plan.now) fault
+    ⊎ IsNoFirstFitOpening request.plan.now fault
     ⊎ (IsAtHand request × OfOpening IsNoLine fault)
-    ⊎ ((at_hand : IsAtHand request) × (IsNoRecord request.journal (live_head at_hand.digest at_hand.hours) fault ⊎ (IsUnrecorded request.journal fault × IsLiveStopped H F request)))
+    ⊎ ((at_hand : IsAtHand request) × (IsNoRecord request.journal (live_head at_hand.digest at_hand.hours) at_hand.channels at_hand.opened fault ⊎ (IsUnrecorded request.journal fault × IsLiveStopped H F request)))
 
 -- the output has failed, and a front of what was to be told was; or all of it was told, and calls are up; or the day stopped, and the
 -- output is as it was

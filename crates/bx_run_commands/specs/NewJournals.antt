@@ -4,7 +4,7 @@ use Rattle.std.specs.Borrow.{Bor}
 use Rattle.bx_check_commands.specs.declared.fault.CommandFault.TheVariants.{Memory}
 use Rattle.bx_day_openings.specs.declared.fault.DayCommandFault.TheVariants.{Command}
 use Rattle.bx_run_commands.specs.declared.fault.LiveFault.{LiveFault}
-use Rattle.bx_run_commands.specs.declared.fault.LiveFault.TheVariants.{Day as OfDay, CannotRecord, NotEmpty, InUse, NotAFile, StillUp}
+use Rattle.bx_run_commands.specs.declared.fault.LiveFault.TheVariants.{Day as OfDay, NotFirstFit, CannotRecord, NotEmpty, InUse, NotAFile, StillUp}
 
 -- the file of this name is not opened, or there is no new journal in it
 abbrev pub HasNoNewJournal : Option (Bor (List ℕ)) → LiveFault → Type 0
@@ -16,3 +16,4 @@ HasNoNewJournal (Some name) (InUse named) = named.now ≡ name.now
 HasNoNewJournal (Some name) (NotAFile named) = named.now ≡ name.now
 HasNoNewJournal (Some name) (CannotRecord named) = named.now ≡ name.now
 HasNoNewJournal (Some name) StillUp = ⊥
+HasNoNewJournal (Some name) NotFirstFit = ⊥

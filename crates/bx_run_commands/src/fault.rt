@@ -12,6 +12,9 @@ pub enum LiveFault<'a> {
     /// What is needed was not opened, or the day was not told.
     #[error("{0}")]
     Day(DayCommandFault<'a>),
+    /// The plan of a live day is not first fit: a booking that is sold might take the channel of a call that is up.
+    #[error("D1 NotFirstFit")]
+    NotFirstFit,
     /// The journal of this name, which is to be a new one, is there and not empty.
     #[error("J3 NotEmpty {0}")]
     NotEmpty(&'a str),

@@ -2,6 +2,7 @@
 
 ghost use Rattle.std.specs.Prelude.{IfOk, IfErr, OnOk};
 ghost use Rattle.bx_devices.specs.Watching.{device_of};
+ghost use Rattle.bx_run_commands.specs.FirstFits.{IsFirstFitOpening, IsNoFirstFitOpening};
 ghost use Rattle.bx_run_commands.specs.LiveDays.{IsLiveDay, IsLiveTold};
 ghost use Rattle.bx_run_commands.specs.LiveInside.{IsLiveRun, StopsRun};
 ghost use Rattle.bx_run_commands.specs.LiveRefusals.{StopsLive, IsLiveRefusal};
@@ -13,12 +14,16 @@ use crate::resuming::resume_named;
 use crate::standing::Standing;
 use bx_check_commands::{CommandFault, Inputs};
 use bx_day::Exchange;
-use bx_day_openings::{DayCommandFault, Hours, Opening, hours_of, line_between, tied_opening};
+use bx_day_openings::{
+    DayCommandFault, DayOpening, Hours, day_turns, hours_of, line_between, opening_of, tied_named,
+};
 use bx_devices::Watched;
 use bx_journal::{Head, JournalDay};
 use bx_line_world::UdpWire;
 use bx_live::has_call;
 use bx_request::LiveRequest;
+use bx_sales::is_first_fit;
+use std::alloc::Global;
 use std::fs::Files;
 use std::io::Write;
 use std::net::{Net, UdpSocket};
@@ -32,23 +37,44 @@ fn told_of<'a>(request: LiveRequest<'a>, is_terminal: bool) -> Told<'a> {
     }
 }
 
+/// The opening of a live day of the plan of an input. `LiveFault::Day`, as `Command`, where there is no plan that is proved; `NotFirstFit`
+/// where its channels are not those of first fit.
+fn live_opening<'a, I: Inputs>(
+    alloc: Global,
+    inputs: &mut I,
+    name: &'a str,
+) -> Result<DayOpening, LiveFault<'a>>
+    ensures opened { IfOk result (λ o. IsFirstFitOpening o.exchange o.channels o.digest) }
+    ensures refused { IfErr result (IsNoFirstFitOpening name.now) }
+{
+    let tied = match tied_named(alloc, inputs, name) {
+        Ok(tied) => tied,
+        Err(fault) => return Err(LiveFault::Day(DayCommandFault::Command(fault))),
+    };
+    match is_first_fit(alloc, &tied.plan) {
+        Ok(true) => {}
+        Ok(false) => return Err(LiveFault::NotFirstFit),
+        Err(_) => return Err(LiveFault::Day(DayCommandFault::Command(CommandFault::Memory))),
+    }
+    match opening_of(alloc, &tied) {
+        Ok(opening) => Ok(opening),
+        Err(fault) => Err(LiveFault::Day(fault)),
+    }
+}
+
 /// Runs an opened day over a socket, from where its journal has left it.
-fn run_on_socket<'a, H: Files + Locks + Standing + Clock + Eprint>(
+fn run_on_socket<'a, H: Files + Locks + Standing + AllocGlobal + Clock + Eprint>(
     rt: &'a H,
     request: LiveRequest<'a>,
     hours: Hours,
-    opening: Opening,
+    opening: DayOpening,
     socket: UdpSocket,
     is_terminal: bool,
 ) -> Result<Exchange, LiveFault<'a>>
     ensures ran { IfOk result (IsLiveRun H H.File.contents request.entry hours opening) }
     ensures stopped { IfErr result (StopsRun H H.File request.entry hours opening) }
 {
-    let Opening {
-        exchange,
-        digest,
-        turns,
-    } = opening;
+    let digest = opening.digest;
     let head = Head {
         plan: digest,
         day: JournalDay::Live {
@@ -57,7 +83,8 @@ fn run_on_socket<'a, H: Files + Locks + Standing + Clock + Eprint>(
         },
     };
     let told = told_of(request, is_terminal);
-    let resumed = resume_named(rt, request.journal, &head, exchange, told.is_shown)?;
+    let resumed = resume_named(rt, request.journal, &head, opening, told.is_shown)?;
+    let turns = day_turns(&resumed.exchange, request.turns);
     let wire = UdpWire::new(rt, socket);
     match run_by_clock(rt, resumed, wire, hours.schedule, turns, told) {
         Ok(exchange) => Ok(exchange),
@@ -76,7 +103,7 @@ fn run_live_day<'a, H: Files + Locks + Standing + AllocGlobal + Clock + Eprint +
     ensures stopped { IfErr result (StopsLive H H.File request.entry) }
 {
     let hours = hours_of(request.hours)?;
-    let opening = tied_opening(rt.alloc(), inputs, request.plan, request.turns)?;
+    let opening = live_opening(rt.alloc(), inputs, request.plan)?;
     let socket = line_between(rt, request.line)?;
     run_on_socket(rt, request, hours, opening, socket, is_terminal)
 }
@@ -86,9 +113,10 @@ fn run_live_day<'a, H: Files + Locks + Standing + AllocGlobal + Clock + Eprint +
 /// became of each booking. What a capture and records are made of stands in the journal.
 ///
 /// What the day needs is opened in this order, and the first fault of it is answered: `Day` or `Capture` for the date and the zone;
-/// `Command` for the plan; `CannotListen` or `CannotConnect` for the line, all of these as `LiveFault::Day`; for the journal
+/// `Command` for the plan, and `LiveFault::NotFirstFit` where its channels are not those of first fit; `CannotListen` or `CannotConnect` for the line, all
+/// others of these as `LiveFault::Day`; for the journal
 /// `CannotRecord` where it cannot be opened, `NotAFile` where it is no plain file, `InUse` where another program writes it,
-/// `LiveFault::Day`, as `Journal` (`BadLine`, `OtherPlan`, `OtherDay` or `OtherRules`) or `Command` (`CannotRead`), where it is none
+/// `LiveFault::Day`, as `Sale`, `Journal` (`BadLine`, `OtherPlan`, `OtherDay` or `OtherRules`) or `Command` (`CannotRead`), where it is none
 /// of this day, and `CannotRecord` where it cannot be made ready. `CannotRecord` is also answered where an event cannot be put on record.
 /// At each of these nothing was written. `LiveFault::Day`, as `Command` (`CannotWrite`), is the fault of the output, of which a front was
 /// written then. `StillUp` where the day has no more seconds, and a call is up: all of it was written then.

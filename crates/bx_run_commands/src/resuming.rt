@@ -1,12 +1,9 @@
 //! A day that goes on by its journal.
 
 ghost use Rattle.std.specs.Prelude.{◌≡◌, IfOk, IfErr, OnOk};
-ghost use Rattle.bx_devices.specs.Watching.{device_of, is_faulted};
-ghost use Rattle.bx_journal.specs.Heads.{wanted_of};
-ghost use Rattle.bx_day_openings.specs.JournalRefusals.{IsNoJournal};
 ghost use Rattle.bx_run_commands.specs.Readying.{IsReady};
 ghost use Rattle.bx_run_commands.specs.NewJournalsInside.{IsUnopened};
-ghost use Rattle.bx_run_commands.specs.Resuming.{GoesOn, GoesOnBy, IsFollowedBy, IsKeptOn, IsKeptBy, IsNotResumed, IsNoRecord};
+ghost use Rattle.bx_run_commands.specs.Resuming.{GoesOn, GoesOnBy, IsKeptOn, IsKeptBy, IsNotResumed, IsNoRecord};
 
 use crate::fault::LiveFault;
 use crate::folder::sync_entry;
@@ -15,11 +12,11 @@ use crate::named_file::NamedFile;
 use crate::standing::Standing;
 use bx_check_commands::tell_cause;
 use bx_day::Exchange;
-use bx_day_openings::{DayCommandFault, journal_read};
+use bx_day_openings::{DayOpening, replay_journal};
 use bx_devices::Watched;
 use bx_journal::{Disk, DiskFailed, DiskFile, FileDisk, Head, JournalFault, begin, resume};
 use bx_live_parts::Record;
-use bx_recovery::recover_day;
+use std::alloc::Global;
 use std::fs::{File, Files, OpenFile};
 use std::io;
 use std::io::Read;
@@ -29,13 +26,6 @@ use std::io::Read;
 pub struct Resumed<D: Disk> {
     pub exchange: Exchange,
     pub record: Record<D>,
-}
-
-/// An exchange after the events of its journal, and how that was read.
-#[derive(Drop)]
-struct Replayed {
-    exchange: Exchange,
-    whole: Result<u64, JournalFault>,
 }
 
 /// Makes a journal that was read so ready to go on: what is torn is cut off, and one that was not begun begins.
@@ -55,41 +45,29 @@ fn make_ready<D: Disk>(
     }
 }
 
-/// Lets the events of a journal of this name happen to the exchange.
-fn replay<'a, R: Read>(
-    name: &'a str,
-    journal: &mut Watched<R>,
-    head: &Head,
-    exchange: Exchange,
-) -> Result<Replayed, DayCommandFault<'a>>
-    ensures replayed { IfOk result (λ replayed. GoesOn head.now (R.remaining (device_of journal.old)) exchange replayed.exchange) }
-    ensures followed { IfOk result (λ replayed. IsFollowedBy head.now (R.remaining (device_of journal.old)) exchange replayed.exchange replayed.whole) }
-    ensures refused { IfErr result (IsNoJournal name.now (wanted_of head.now) (R.remaining (device_of journal.old)) (R.remaining (device_of journal.new)) (is_faulted journal.new)) }
-{
-    let recovered = recover_day(journal, &head.wanted(), exchange);
-    journal_read(name, recovered.whole)?;
-    Ok(Replayed {
-        exchange: recovered.exchange,
-        whole: recovered.whole,
-    })
-}
-
-/// Lets the events happen to the exchange that the journal in a file of this name has on record, and makes it ready for those
-/// that come. A journal that was not begun has none, and begins. `LiveFault::Day` where it is not read to its end: as `Journal`,
+/// Lets the events happen to the exchange that the journal in a file of this name has on record, sells again what it says was sold, and makes it ready for
+/// what comes. A journal that was not begun has none, and begins. `LiveFault::Day` where it is not read to its end: as `Sale`, as `Journal`,
 /// as `BadLine`, `OtherPlan`, `OtherDay` or `OtherRules`, or as `Command`, as `CannotRead`; `CannotRecord` where it cannot be made ready.
 pub fn resume_on<'a, F: Read + DiskFile + Drop>(
+    alloc: Global,
     name: &'a str,
     file: F,
     head: &Head,
-    exchange: Exchange,
+    opening: DayOpening,
 ) -> Result<Resumed<FileDisk<F>>, LiveFault<'a>>
-    ensures resumed { IfOk result (λ resumed. GoesOn head.now (F.remaining file) exchange resumed.exchange) }
+    ensures resumed { IfOk result (λ resumed. GoesOn head.now opening.channels (F.remaining file) opening.exchange resumed.exchange) }
     // What happens from then on goes on record behind what was read.
-    ensures kept { IfOk result (λ resumed. IsKeptOn F.contents F.is_told head.now (F.remaining file) exchange resumed.exchange resumed.record) }
-    ensures refused { IfErr result (IsNotResumed name.now head.now) }
+    ensures kept { IfOk result (λ resumed. IsKeptOn F.contents F.is_told head.now opening.channels (F.remaining file) opening.exchange resumed.exchange resumed.record) }
+    ensures refused { IfErr result (IsNotResumed name.now head.now opening.channels opening.exchange) }
 {
     let mut journal = Watched::new(file);
-    let replayed = match replay(name, &mut journal, head, exchange) {
+    let DayOpening {
+        exchange,
+        channels,
+        ..
+    } = opening;
+    let wanted = head.wanted();
+    let replayed = match replay_journal(alloc, name, &mut journal, &wanted, channels, exchange) {
         Ok(replayed) => replayed,
         Err(fault) => return Err(LiveFault::Day(fault)),
     };
@@ -161,19 +139,20 @@ pub(crate) fn journal_file<'a, H: Files + Locks + Eprint>(
     }
 }
 
-/// The exchange after the events of the journal in the file of this name, if there is to be one. A file that is not there is made.
-pub(crate) fn resume_named<'a, H: Files + Locks + Standing + Eprint>(
+/// The exchange after the events and sales of the journal in the file of this name, if there is to be one. A file that is not there is made.
+pub(crate) fn resume_named<'a, H: Files + Locks + Standing + AllocGlobal + Eprint>(
     rt: &'a H,
     name: Option<&'a str>,
     head: &Head,
-    exchange: Exchange,
+    opening: DayOpening,
     is_shown: bool,
 ) -> Result<Resumed<FileDisk<NamedFile<'a, H, H::File>>>, LiveFault<'a>>
-    ensures resumed { IfOk result (λ resumed. GoesOnBy head.now name.entry exchange resumed.exchange) }
-    ensures kept { IfOk result (λ resumed. IsKeptBy head.now name.entry exchange resumed.exchange resumed.record) }
-    ensures refused { IfErr result (IsNoRecord name.entry head.now) }
+    ensures resumed { IfOk result (λ resumed. GoesOnBy head.now opening.channels name.entry opening.exchange resumed.exchange) }
+    ensures kept { IfOk result (λ resumed. IsKeptBy head.now opening.channels name.entry opening.exchange resumed.exchange resumed.record) }
+    ensures refused { IfErr result (IsNoRecord name.entry head.now opening.channels opening.exchange) }
 {
     let Some(name) = name else {
+        let DayOpening { exchange, .. } = opening;
         return Ok(Resumed {
             exchange,
             record: Record { disk: None },
@@ -183,5 +162,5 @@ pub(crate) fn resume_named<'a, H: Files + Locks + Standing + Eprint>(
     sync_entry(rt, name);
     let length = measured(rt, name, &file)?;
     let file = NamedFile::new(rt, name, file, length, is_shown);
-    resume_on(name, file, head, exchange)
+    resume_on(rt.alloc(), name, file, head, opening)
 }

@@ -35,6 +35,7 @@ const AFTER: &str = "Examples:
   bx far script.csv --line 9932:9931 --date 2026-03-29 --zone CET-1CEST,M3.5.0,M10.5.0/3
   bx audit plan.txt day.journal
   bx records plan.txt day.journal --date 2026-03-29 --zone CET-1CEST,M3.5.0,M10.5.0/3 > records.csv
+  bx sold plan.txt day.journal > last.txt
   bx decode 080280015A08028091
 
 Status: 0 done, 1 refused (one line on standard error says why; `bx help faults` says what each means), 2 wrong words.";
@@ -86,7 +87,7 @@ static PLAN_COMMANDS: [Words; 7] = [
 ];
 
 /// Those on days and their messages.
-static DAY_COMMANDS: [Words; 6] = [
+static DAY_COMMANDS: [Words; 7] = [
     Words {
         name: "day",
         about: "Run both ends of a proved plan's day over one TCP connection to 127.0.0.1, and print what became of each booking; may run long",
@@ -137,6 +138,11 @@ static DAY_COMMANDS: [Words; 6] = [
         name: "records",
         about: "Print the records of a proved plan's day by its journal, as CSV for bills and spreadsheets, and their totals",
         arguments: &[PLAN, RECORDED_JOURNAL, RECORDED_DAY, DAY_ZONE, NO_TOTALS],
+    },
+    Words {
+        name: "sold",
+        about: "Print the last plan of a proved plan's day by its journal: its bookings, and behind them those that were sold while it ran",
+        arguments: &[PLAN, RECORDED_JOURNAL],
     },
     Words {
         name: "decode",

@@ -15,6 +15,7 @@ C5 WrongTotal         the total of the plan is not what its accepted rows pay
 C6 PricesOutOfOrder   the moments of the prices do not rise
 C7 NotProved bound    the prices set this bound, above the total: they do not prove the plan best
 C8 MustLeftOut b      row b must be held, and is not accepted
+D1 NotFirstFit        the channels of the plan are not those of first fit, so a live day of it could not be sold on
 F1 CannotRead NAME    the file cannot be opened or read, or has more than 4,194,304 octets
 F2 CannotWrite        standard output failed
 F3 CannotListen       the port or the socket cannot be listened on, or the line's own port cannot be had
@@ -58,6 +59,11 @@ J5 OtherDay           the journal is that of another day: of another date, zone 
 J6 InUse NAME         another program writes the journal
 J7 NotAFile NAME      what is to be the journal is no plain file
 J8 OtherRules         the journal was written by other rules than those of this program
+J9 BadSale            a line of the journal says that something was sold, and tells no booking
+J10 LateSale          the journal says that a booking was sold which had started by then
+J11 TooMany           the journal says that a booking was sold when the day had 4,000
+J12 NotCarried        the journal says that a booking was sold which does not fit beside what was promised
+J13 OtherChannels     the journal says that a booking was sold by which one that had started would have changed its channel
 L1 ReadFailed         the link: a read failed
 L2 WriteFailed        the link: a write failed
 L3 EndedInFrame       the link: it ended inside a frame, or before the end of a turn

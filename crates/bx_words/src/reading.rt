@@ -7,7 +7,7 @@ use crate::line_ports::ports_in;
 use bx_request::{
     AuditRequest, Call, CaptureWords, DayHours, FarLineRequest, FarRequest, FileRequest, LinePorts,
     LiveRequest, Peer, Place, RecordsRequest, RecordsWords, RehearsalRequest, Request, Sight,
-    Terms,
+    SoldRequest, Terms,
 };
 use clap::error::ErrorKind;
 use clap::{ArgMatches, Error};
@@ -321,6 +321,14 @@ fn records_request<'a>(matches: &ArgMatches<'a>) -> RecordsRequest<'a> {
     }
 }
 
+/// The last plan that these words want of a day by its journal.
+fn sold_request<'a>(matches: &ArgMatches<'a>) -> SoldRequest<'a> {
+    SoldRequest {
+        plan: word(matches, "plan"),
+        journal: word(matches, "journal"),
+    }
+}
+
 /// The command on a plan's day that has this name and these words, where it is one.
 fn request_for_day<'a>(
     alloc: Global,
@@ -333,6 +341,7 @@ fn request_for_day<'a>(
         "far" => Ok(Some(far_request(alloc, matches)?)),
         "audit" => Ok(Some(Request::Audit(audit_request(matches)))),
         "records" => Ok(Some(Request::Records(records_request(matches)))),
+        "sold" => Ok(Some(Request::Sold(sold_request(matches)))),
         _ => Ok(None),
     }
 }

@@ -1,11 +1,13 @@
 use Rattle.std.proofs.Common.{◌≡◌, ℕ, ◌+◌, max, length, subst, sym, arith}
 use Rattle.std.proofs.lemmas.Grind.{common_steps}
+use Rattle.bx_base.specs.Bookings.{row_at}
+use Rattle.bx_base.specs.Plans.{is_accepted}
 use Rattle.bx_day_openings.specs.Openings.{IsLastOf}
 use Rattle.bx_day_openings.proofs.LastTurns.{none_yet, next_row}
 use Rattle.bx_day_openings.proofs.openings.turns_of.Goals as goal
 
 pub loop-index-init : goal.loop-index-init
-loop-index-init c = record { limit = omega arith; last = none_yet c.args.plan.now.bookings c.args.plan.now.assigned.items }
+loop-index-init c = record { limit = omega arith; last = none_yet (is_accepted c.args.plan.now.assigned.items) (λ (i : ℕ). (row_at c.args.plan.now.bookings i).end) }
 
 pub loop-index-preserved : goal.loop-index-preserved
 loop-index-preserved c =
@@ -15,7 +17,7 @@ loop-index-preserved c =
     record {
       limit = omega (arith, greater, l.invariant.limit, c.over_from.ensures.limit);
       last = subst (λ (n : ℕ). IsLastOf c.args.plan.now.bookings c.args.plan.now.assigned.items (l.index + 1) n) (sym greater)
-          (next_row c.args.plan.now.bookings c.args.plan.now.assigned.items l.index l.turns over l.invariant.last l.invariant.limit.0 c.over_from.ensures.over);
+          (next_row (is_accepted c.args.plan.now.assigned.items) (λ (i : ℕ). (row_at c.args.plan.now.bookings i).end) l.index l.turns over l.invariant.last l.invariant.limit.0 c.over_from.ensures.over);
     }
 
 pub returns : goal.returns

@@ -7,10 +7,10 @@ use Rattle.bx_run_commands.proofs.live_files.run_live_day.Goals as goal
 pub returns-in_err-socket-clause-stopped : goal.returns-in_err-socket-clause-stopped
 returns-in_err-socket-clause-stopped g c =
     let p = err_from_is_err_and c.from_residual-in_err-socket.result c.from_residual-in_err-socket.ensures.1 in
-    let there : IsAtHand c.args.request = record { hours = c.in_ok-hours.hours; are_hours = c.in_ok-hours.ensures.hours; opened = c.in_ok-opening.opening.exchange; digest = c.in_ok-opening.opening.digest; turns = c.in_ok-opening.opening.turns; opens = c.in_ok-opening.ensures.opened } in
+    let there : IsAtHand c.args.request = record { hours = c.in_ok-hours.hours; are_hours = c.in_ok-hours.ensures.hours; opened = c.in_ok-opening.opening.exchange; channels = c.in_ok-opening.opening.channels; digest = c.in_ok-opening.opening.digest; opens = c.in_ok-opening.ensures.opened } in
     rw (p.1, p.2) (inr (inr (inl (there, c.in_err-socket.ensures))))
 
 pub returns-clause-stopped : goal.returns-clause-stopped
 returns-clause-stopped g c =
-    let there : IsAtHand c.args.request = record { hours = c.in_ok-hours.hours; are_hours = c.in_ok-hours.ensures.hours; opened = c.in_ok-opening.opening.exchange; digest = c.in_ok-opening.opening.digest; turns = c.in_ok-opening.opening.turns; opens = c.in_ok-opening.ensures.opened } in
+    let there : IsAtHand c.args.request = record { hours = c.in_ok-hours.hours; are_hours = c.in_ok-hours.ensures.hours; opened = c.in_ok-opening.opening.exchange; channels = c.in_ok-opening.opening.channels; digest = c.in_ok-opening.opening.digest; opens = c.in_ok-opening.ensures.opened } in
     if_err c.run_on_socket.result _ _ (λ fault why. inr (inr (inr (there, why c.in_ok-hours.ensures.hours c.in_ok-opening.ensures.opened)))) c.run_on_socket.ensures.stopped

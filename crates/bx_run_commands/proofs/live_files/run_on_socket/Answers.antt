@@ -5,20 +5,22 @@ use Rattle.bx_run_commands.proofs.live_files.run_on_socket.Goals as goal
 
 pub unrecorded-requires : goal.unrecorded-requires
 unrecorded-requires g c =
-    journal_kept_by (live_head c.args.opening.digest c.args.hours) c.args.opening.exchange c.in_ok-resumed.resumed.exchange c.in_ok-resumed.resumed.record c.args.request.journal c.in_ok-resumed.ensures.kept c.in-Err.ensures.failed
+    journal_kept_by (live_head c.args.opening.digest c.args.hours) c.args.opening.channels c.args.opening.exchange c.in_ok-resumed.resumed.exchange c.in_ok-resumed.resumed.record c.args.request.journal c.in_ok-resumed.ensures.kept c.in-Err.ensures.failed
 
 pub returns-in-Ok-clause-ran : goal.returns-in-Ok-clause-ran
 returns-in-Ok-clause-ran g c = λ hours opens. record {
   hours = c.args.hours;
   are_hours = hours;
   opened = c.args.opening.exchange;
+  channels = c.args.opening.channels;
   digest = c.args.opening.digest;
-  turns = c.args.opening.turns;
   opens = opens;
   resumed = c.in_ok-resumed.resumed.exchange;
   kept = c.in_ok-resumed.resumed.record;
   goes_on = c.in_ok-resumed.ensures.resumed;
   is_kept = c.in_ok-resumed.ensures.kept;
+  turns = c.day_turns-turns.result;
+  are_turns = c.day_turns-turns.ensures;
   wire = c.new-wire.result;
   ran = c.in-Ok.ensures.ran;
 }
@@ -28,8 +30,8 @@ returns-in-Err-clause-stopped g c = λ hours opens. inr (c.unrecorded.ensures, r
   hours = c.args.hours;
   are_hours = hours;
   opened = c.args.opening.exchange;
+  channels = c.args.opening.channels;
   digest = c.args.opening.digest;
-  turns = c.args.opening.turns;
   opens = opens;
   resumed = c.in_ok-resumed.resumed.exchange;
   kept = c.in_ok-resumed.resumed.record;

@@ -1,0 +1,48 @@
+//! A day that is told by its journal.
+
+ghost use Rattle.std.specs.Prelude.{IfOk, IfErr};
+ghost use Rattle.bx_audit.specs.Recorded.{IsDayTold};
+ghost use Rattle.bx_audit.specs.Unrecorded.{IsUntold};
+
+use bx_base::ChannelSet;
+use bx_check_commands::Inputs;
+use bx_day::Exchange;
+use bx_day_openings::{DayCommandFault, DayOpening, day_opening, replay_journal};
+use bx_journal::Wanted;
+use std::alloc::Global;
+
+/// An exchange after its journal, and the channels in service.
+#[derive(Drop)]
+pub(crate) struct ToldDay {
+    pub(crate) exchange: Exchange,
+    pub(crate) channels: ChannelSet,
+}
+
+/// The exchange after just the events and sales of the journal of one input, from the opening of the day of the plan of another on.
+pub(crate) fn told_by<'a, I: Inputs>(
+    alloc: Global,
+    inputs: &mut I,
+    plan: &'a str,
+    journal: &'a str,
+) -> Result<ToldDay, DayCommandFault<'a>>
+    ensures told { IfOk result (λ told. IsDayTold (I.gives inputs.old) plan.now journal.now told.channels told.exchange) }
+    ensures untold { IfErr result (IsUntold (I.gives inputs.old) plan.now journal.now) }
+{
+    let DayOpening {
+        exchange,
+        channels,
+        digest,
+    } = day_opening(alloc, inputs, plan)?;
+    let mut input = match inputs.open(journal) {
+        Ok(input) => input,
+        Err(fault) => return Err(DayCommandFault::Command(fault)),
+    };
+    let wanted = Wanted::of_any_day(&digest);
+    match replay_journal(alloc, journal, &mut input, &wanted, channels, exchange) {
+        Ok(replayed) => Ok(ToldDay {
+            exchange: replayed.exchange,
+            channels,
+        }),
+        Err(fault) => Err(fault),
+    }
+}
