@@ -46,6 +46,8 @@ mod rehearsals;
 #[cfg(test)]
 mod same_files;
 #[cfg(test)]
+mod sold_days;
+#[cfg(test)]
 mod standard_input;
 #[cfg(test)]
 mod worked_texts;

@@ -168,13 +168,18 @@ fn holds(
     let Some(rest) = octets.strip_prefix(HEAD.as_bytes()) else {
         return Ok(false);
     };
-    let Some(rest) = rest.strip_prefix(text.as_bytes()) else {
-        return Ok(false);
-    };
-    Ok(
-        rest.len() == down.saturating_mul(5)
-            && rest.chunks(5).all(|line| line == b"down\n".as_slice()),
-    )
+    Ok(ends_with(rest, text.as_bytes(), down))
+}
+
+/// Whether octets are this text, and behind it so many seconds without a link.
+pub(crate) fn ends_with(octets: &[u8], text: &[u8], down: usize) -> bool {
+    match octets.strip_prefix(text) {
+        Some(rest) => {
+            rest.len() == down.saturating_mul(5)
+                && rest.chunks(5).all(|line| line == b"down\n".as_slice())
+        }
+        None => false,
+    }
 }
 
 #[test]

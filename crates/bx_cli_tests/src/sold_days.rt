@@ -1,0 +1,177 @@
+//! Days on which bookings were sold, by journals that were written by hand: told, billed, printed, and gone on with.
+
+use crate::file_commands::{Case, first_wrong};
+use crate::files::{folder, placed};
+use crate::live_days::ends_with;
+use crate::program::Answer::{Fails, Misused, Prints};
+use std::fs;
+use std::test::Fail;
+
+/// A plan of another hand, which is proved and not first fit; and journals of it and of the plan in `two.txt`.
+static FILES: [(&str, &str); 11] = [
+    (
+        "hand.txt",
+        "bx-plan 3\nchannels 1 2\nbookings 1\n0 60 5 1234 2 free out\nprices 0\ntotal 5\nend\n",
+    ),
+    (
+        "sold.journal",
+        "bx-journal 2 rules 1\nplan 7c35ee9492f27e9c9fec6d438270c41290c5bc10066cef31da15ea69a39e4bae\nday live 1577836800 1\ntick\nheard 0802800107\nsold 30 50 6 5678 - free out\nsold 60 90 2 99 - must out\ntick\ntick\ntick\ntick\ntick\ntick\ntick\ntick\ntick\ntick\ntick\ntick\ntick\ntick\ntick\ntick\ntick\ntick\ntick\ntick\ntick\ntick\ntick\ntick\ntick\ntick\ntick\ntick\ntick\nheard 0802800407\n",
+    ),
+    ("front.journal", FRONT),
+    (
+        "unsold.journal",
+        "bx-journal 2 rules 1\nplan 7c35ee9492f27e9c9fec6d438270c41290c5bc10066cef31da15ea69a39e4bae\nday live 1577836800 1\ntick\n",
+    ),
+    (
+        "bad.journal",
+        "bx-journal 2 rules 1\nplan 7c35ee9492f27e9c9fec6d438270c41290c5bc10066cef31da15ea69a39e4bae\nday live 1577836800 1\ntick\nsold nonsense\nbroken\n",
+    ),
+    (
+        "given.journal",
+        "bx-journal 2 rules 1\nplan 7c35ee9492f27e9c9fec6d438270c41290c5bc10066cef31da15ea69a39e4bae\nday live 1577836800 1\nsold 30 50 6 5678 2 free out\n",
+    ),
+    (
+        "broken.journal",
+        "bx-journal 2 rules 1\nplan 7c35ee9492f27e9c9fec6d438270c41290c5bc10066cef31da15ea69a39e4bae\nday live 1577836800 1\ntick\nbroken\nsold nonsense\n",
+    ),
+    (
+        "late.journal",
+        "bx-journal 2 rules 1\nplan 7c35ee9492f27e9c9fec6d438270c41290c5bc10066cef31da15ea69a39e4bae\nday live 1577836800 1\ntick\nsold 1 60 7 5678 - free out\n",
+    ),
+    (
+        "full.journal",
+        "bx-journal 2 rules 1\nplan 7c35ee9492f27e9c9fec6d438270c41290c5bc10066cef31da15ea69a39e4bae\nday live 1577836800 1\ntick\nsold 19 21 7 5678 - free out\n",
+    ),
+    (
+        "hand.journal",
+        "bx-journal 2 rules 1\nplan 0ff099e32eb798fba570fdff4d9ec7fe7ce093238c3b5f4a4285f72034822534\nday live 1577836800 1\ntick\nsold 60 90 7 5678 - free out\n",
+    ),
+    ("same.journal", SAME),
+];
+
+/// The journal in `front.journal`, and that in `same.journal`.
+const FRONT: &str =
+    "bx-journal 2 rules 1\nplan 7c35ee9492f27e9c9fec6d438270c41290c5bc10066cef31da15ea69a39e4bae\nday live 1577836800 1\ndown\nsold 30 50 6 5678 - free out\nsold 60 90 2 99 - must out\n";
+
+const SAME: &str =
+    "bx-journal 2 rules 1\nplan 0ff099e32eb798fba570fdff4d9ec7fe7ce093238c3b5f4a4285f72034822534\nday live 1577836800 1\ntick\n";
+
+/// What the journals tell of their days.
+static CASES: [Case; 21] = [
+    (
+        "audit @two.txt @sold.journal",
+        Prints("1 live\n2 missed\n3 refused\n4 live\n5 waiting\nmaintenance none\n"),
+    ),
+    (
+        "records @two.txt @sold.journal --quiet",
+        Prints(
+            "row,direction,number,channel,start,end,pay,outcome,from,until,seconds\n1,out,1234,1,0,60,5,live,1,,\n2,in,1234,2,10,20,4,missed,,,\n3,out,77,,15,20,1,refused,,,\n4,out,5678,2,30,50,6,live,30,,\n5,out,99,1,60,90,2,waiting,,,\n",
+        ),
+    ),
+    (
+        "sold @two.txt @sold.journal",
+        Prints(
+            "bx-plan 3\nchannels 1 2\nbookings 5\n0 60 5 1234 1 free out\n10 20 4 1234 2 free in\n15 20 1 77 - free out\n30 50 6 5678 2 free out\n60 90 2 99 1 must out\nprices 1\n15 1\ntotal 17\nend\n",
+        ),
+    ),
+    (
+        "audit @two.txt @sold.journal --capture @sold.pcap",
+        Prints("1 live\n2 missed\n3 refused\n4 live\n5 waiting\nmaintenance none\n"),
+    ),
+    (
+        "sold @two.txt @unsold.journal",
+        Prints(
+            "bx-plan 3\nchannels 1 2\nbookings 3\n0 60 5 1234 1 free out\n10 20 4 1234 2 free in\n15 20 1 77 - free out\nprices 1\n15 1\ntotal 9\nend\n",
+        ),
+    ),
+    ("sold @one.txt @none.txt", Fails("bx: J1 BadLine 1\n")),
+    (
+        "audit @hand.txt @same.journal",
+        Prints("1 live\nmaintenance none\n"),
+    ),
+    ("audit @two.txt @bad.journal", Fails("bx: J9 BadSale\n")),
+    ("audit @two.txt @given.journal", Fails("bx: J9 BadSale\n")),
+    ("records @two.txt @bad.journal", Fails("bx: J9 BadSale\n")),
+    ("sold @two.txt @bad.journal", Fails("bx: J9 BadSale\n")),
+    (
+        "audit @two.txt @bad.journal --capture @gone/day.pcap",
+        Fails("bx: J9 BadSale\n"),
+    ),
+    (
+        "audit @two.txt @broken.journal",
+        Fails("bx: J1 BadLine 5\n"),
+    ),
+    ("audit @two.txt @late.journal", Fails("bx: J10 LateSale\n")),
+    (
+        "audit @two.txt @full.journal",
+        Fails("bx: J12 NotCarried\n"),
+    ),
+    (
+        "audit @hand.txt @hand.journal",
+        Fails("bx: J13 OtherChannels\n"),
+    ),
+    ("sold @one.txt @sold.journal", Fails("bx: J2 OtherPlan\n")),
+    ("sold @two.txt @gone", Fails("bx: F1 CannotRead @gone\n")),
+    ("sold @unproved.txt @gone", Fails("bx: C7 NotProved 5\n")),
+    ("sold @two.txt", Misused),
+    ("sold @two.txt @sold.journal --date 2026-01-05", Misused),
+];
+
+/// A day that goes on behind what was sold, until its last booking is over; and days that do not go on.
+static LIVE: [Case; 7] = [
+    (
+        "serve @two.txt --live --line 19809:19810 --date 2020-01-01 --journal @front.journal",
+        Prints("1 missed\n2 missed\n3 refused\n4 missed\n5 missed\nmaintenance none\n"),
+    ),
+    (
+        "audit @two.txt @front.journal",
+        Prints("1 missed\n2 missed\n3 refused\n4 missed\n5 missed\nmaintenance none\n"),
+    ),
+    (
+        "sold @two.txt @front.journal",
+        Prints(
+            "bx-plan 3\nchannels 1 2\nbookings 5\n0 60 5 1234 1 free out\n10 20 4 1234 2 free in\n15 20 1 77 - free out\n30 50 6 5678 2 free out\n60 90 2 99 1 must out\nprices 1\n15 1\ntotal 17\nend\n",
+        ),
+    ),
+    (
+        "serve @two.txt --live --line 19809:19810 --date 2020-01-01 --journal @bad.journal",
+        Fails("bx: J9 BadSale\n"),
+    ),
+    (
+        "serve @two.txt --live --line 19809:19810 --date 2020-01-01 --journal @late.journal",
+        Fails("bx: J10 LateSale\n"),
+    ),
+    (
+        "serve @hand.txt --live --line 19809:19810 --date 2020-01-01 --journal @same.journal",
+        Fails("bx: D1 NotFirstFit\n"),
+    ),
+    (
+        "serve @hand.txt --live --line 19809:19810 --date 2020-01-01",
+        Fails("bx: D1 NotFirstFit\n"),
+    ),
+];
+
+#[test]
+fn days_with_sales(rt: HostRuntime) -> Result<(), Fail> {
+    let folder = folder(&rt)?;
+    for (name, text) in &FILES {
+        let path = format!(in rt.alloc(); "{folder}/{name}")?;
+        fs::write(&rt, path.as_str(), *text)?;
+    }
+    assert_eq!(rt; first_wrong(&rt, &folder, &CASES)?, None);
+    assert_eq!(rt; first_wrong(&rt, &folder, &LIVE)?, None);
+    let path = placed(rt.alloc(), "@front.journal", &folder)?;
+    let octets = fs::read(&rt, path.as_str())?;
+    assert!(rt;
+        ends_with(&octets, FRONT.as_bytes(), 127),
+        "each second up to the last"
+    );
+    let path = placed(rt.alloc(), "@same.journal", &folder)?;
+    let octets = fs::read(&rt, path.as_str())?;
+    assert!(rt;
+        octets.as_slice() == SAME.as_bytes(),
+        "its journal is left as it was"
+    );
+    fs::remove_dir_all(&rt, folder.as_str())?;
+    Ok(())
+}
