@@ -3,7 +3,7 @@ _bx() {
     local word=${COMP_WORDS[COMP_CWORD]} before=${COMP_WORDS[COMP_CWORD-1]} options=
     COMPREPLY=()
     if [ "$COMP_CWORD" = 1 ]; then
-        COMPREPLY=($(compgen -W "plan check amend capacity explain quote chart day serve far audit records decode help --help --version" -- "$word"))
+        COMPREPLY=($(compgen -W "plan check amend capacity explain quote chart day serve far audit records sold decode help --help --version" -- "$word"))
         return
     fi
     case ${COMP_WORDS[1]} in
@@ -19,8 +19,9 @@ _bx() {
         far) options="--port --socket --line --date --zone --pace --turns --capture --quiet --help" ;;
         audit) options="--capture --date --zone --help" ;;
         records) options="--date --zone --quiet --help" ;;
+        sold) options="--help" ;;
         decode) options="--help" ;;
-        help) COMPREPLY=($(compgen -W "plan check amend capacity explain quote chart day serve far audit records decode faults" -- "$word")); return ;;
+        help) COMPREPLY=($(compgen -W "plan check amend capacity explain quote chart day serve far audit records sold decode faults" -- "$word")); return ;;
     esac
     case $before in
         --channels | --date | --line | --pace | --port | --turns | --zone) return ;;

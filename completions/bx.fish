@@ -11,6 +11,7 @@ complete -c bx -n __fish_use_subcommand -f -a serve -d 'Run the exchange\'s end 
 complete -c bx -n __fish_use_subcommand -f -a far -d 'Run the far end of a day by a script, towards an exchange that serves, or by the clock over a data link'
 complete -c bx -n __fish_use_subcommand -f -a audit -d 'Print what became of each booking of a proved plan by the journal of its day, and capture that day afterwards'
 complete -c bx -n __fish_use_subcommand -f -a records -d 'Print the records of a proved plan\'s day by its journal, as CSV for bills and spreadsheets, and their totals'
+complete -c bx -n __fish_use_subcommand -f -a sold -d 'Print the last plan of a proved plan\'s day by its journal'
 complete -c bx -n __fish_use_subcommand -f -a decode -d 'Print the type, the reference and the elements of a Q.931 message'
 complete -c bx -n __fish_use_subcommand -f -a help -d 'Print help for a command'
 complete -c bx -n '__fish_seen_subcommand_from plan' -l date -x -d 'The day of the bookings, as YYYY-MM-DD'
@@ -62,4 +63,4 @@ complete -c bx -n '__fish_seen_subcommand_from audit' -l zone -x -d 'The zone of
 complete -c bx -n '__fish_seen_subcommand_from records' -l date -x -d 'The day, as YYYY-MM-DD'
 complete -c bx -n '__fish_seen_subcommand_from records' -l zone -x -d 'The zone of its midnights, as a POSIX rule like CET-1CEST,M3.5.0,M10.5.0/3'
 complete -c bx -n '__fish_seen_subcommand_from records' -l quiet -d 'Print no totals, which else stand on standard error'
-complete -c bx -n '__fish_seen_subcommand_from help' -f -a 'plan check amend capacity explain quote chart day serve far audit records decode faults'
+complete -c bx -n '__fish_seen_subcommand_from help' -f -a 'plan check amend capacity explain quote chart day serve far audit records sold decode faults'
