@@ -1,0 +1,160 @@
+//! A client at the door.
+
+use crate::stream::{Came, Stream};
+use bx_office::{Client, Place, Stage, page};
+use std::alloc::Global;
+
+/// How long a request takes at most, and how long the next one is waited for: 10 seconds, in nanoseconds.
+const PATIENCE: u128 = 10_000_000_000;
+
+/// How often is read and written at a time, at most, and how many things are read of what came.
+const TURNS: u32 = 64;
+
+const STEPS: u32 = 4096;
+
+/// A client with its socket.
+#[derive(Drop)]
+pub struct Guest {
+    number: u64,
+    stream: Stream,
+    client: Client,
+    /// When it came, or was answered last, in nanoseconds.
+    since: u128,
+    /// Nothing more is sent: what still comes is thrown away, so that the answer is not lost with it.
+    is_shut: bool,
+    is_gone: bool,
+}
+
+impl Guest {
+    /// A client that came now.
+    pub fn new(alloc: Global, place: Place, number: u64, stream: Stream, now: u128) -> Guest {
+        Guest {
+            number,
+            stream,
+            client: Client::new(alloc, place),
+            since: now,
+            is_shut: false,
+            is_gone: false,
+        }
+    }
+
+    /// Which one it is.
+    pub fn number(&self) -> u64 {
+        self.number
+    }
+
+    /// Whether the socket can be closed.
+    pub fn is_gone(&self) -> bool {
+        self.is_gone
+    }
+
+    /// The client.
+    pub fn client(&self) -> &Client {
+        &self.client
+    }
+
+    /// The client, to be answered.
+    pub fn client_mut(&mut self) -> &mut Client {
+        &mut self.client
+    }
+
+    /// Reads once. Answers whether something came.
+    fn read(&mut self) -> bool {
+        let mut room = [0u8; 4096];
+        let most = self.client.room().min(room.len());
+        if most == 0 {
+            return false;
+        }
+        match self.stream.receive(&mut room[..most]) {
+            Came::Nothing => false,
+            Came::Octets(count) => {
+                self.client.take(&room[..count]);
+                true
+            }
+            Came::End => {
+                self.client.end();
+                true
+            }
+        }
+    }
+
+    /// Reads on in what came, and answers what needs nothing of the day.
+    fn advance(&mut self) {
+        for _step in 0..STEPS {
+            if !self.client.step() {
+                break;
+            }
+        }
+        if let Stage::Asked(route) = self.client.stage()
+            && let Some(reply) = page(route)
+        {
+            self.client.answer(reply);
+        }
+    }
+
+    /// Writes once. Answers whether something went.
+    fn write(&mut self, now: u128) -> bool {
+        if self.client.pending().is_empty() {
+            return false;
+        }
+        match self.stream.send(self.client.pending()) {
+            Came::Nothing => false,
+            Came::Octets(count) => {
+                self.client.sent(count);
+                if self.client.pending().is_empty() {
+                    self.since = now;
+                }
+                true
+            }
+            Came::End => {
+                self.is_gone = true;
+                false
+            }
+        }
+    }
+
+    /// Throws away what still comes behind the last answer. Answers whether something came.
+    fn drain(&mut self) -> bool {
+        if !self.is_shut {
+            self.stream.shut();
+            self.is_shut = true;
+        }
+        let mut room = [0u8; 4096];
+        match self.stream.receive(&mut room) {
+            Came::Nothing => false,
+            Came::Octets(_) => true,
+            Came::End => {
+                self.is_gone = true;
+                false
+            }
+        }
+    }
+
+    /// Moves once what is ready.
+    fn turn(&mut self, now: u128) -> bool {
+        if self.client.is_over() {
+            return self.drain();
+        }
+        let has_read = self.read();
+        self.advance();
+        let has_written = self.write(now);
+        has_read || has_written
+    }
+
+    /// Whether its time is over. A request that waits for its answer has time.
+    fn is_late(&self, now: u128) -> bool {
+        !matches!(self.client.stage(), Stage::Asked(_)) && now.saturating_sub(self.since) > PATIENCE
+    }
+
+    /// Moves what is ready, and never waits.
+    pub fn attend(&mut self, now: u128) {
+        if self.is_late(now) {
+            self.is_gone = true;
+        }
+        for _turn in 0..TURNS {
+            if self.is_gone || !self.turn(now) {
+                return;
+            }
+        }
+    }
+}

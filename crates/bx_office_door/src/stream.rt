@@ -1,0 +1,114 @@
+//! Sockets that never wait.
+
+ghost use Rattle.std.specs.Prelude.{◌≤◌, ℕ, IfOk, length};
+ghost use Rattle.bx_office_door.specs.Streams.{IsCome};
+
+use std::fs::Files;
+use std::io::{ErrorKind, Read, Write};
+use std::net::{Net, Shutdown, TcpListener, TcpStream};
+use std::os::unix::net::{UnixListener, UnixStream};
+use std::{fs, io};
+
+/// What a socket has.
+#[derive(Clone, Copy, Debug, PartialEq, Eq)]
+pub enum Came {
+    /// Nothing yet.
+    Nothing,
+    /// So many octets.
+    Octets(usize),
+    /// Nothing more: the other side has ended, or the socket failed.
+    End,
+}
+
+/// A connection that never waits.
+#[derive(Drop)]
+pub enum Stream {
+    Port(TcpStream),
+    Path(UnixStream),
+}
+
+/// What a read or a write came to.
+fn came_of(done: io::Result<usize>) -> Came
+    ensures { (most : ℕ) → IfOk done (λ count. count ≤ most) → IsCome result most }
+{
+    match done {
+        Ok(0) => Came::End,
+        Ok(count) => Came::Octets(count),
+        Err(fault) => match fault.kind() {
+            ErrorKind::WouldBlock | ErrorKind::Interrupted => Came::Nothing,
+            _ => Came::End,
+        },
+    }
+}
+
+impl Stream {
+    /// Reads what is there.
+    pub fn receive(&mut self, room: &mut [u8]) -> Came
+        ensures { IsCome result (length room.new) }
+    {
+        match self {
+            Stream::Port(stream) => came_of(stream.read(room)),
+            Stream::Path(stream) => came_of(stream.read(room)),
+        }
+    }
+
+    /// Writes what there is room for.
+    pub fn send(&mut self, octets: &[u8]) -> Came
+        ensures { IsCome result (length octets.now) }
+    {
+        match self {
+            Stream::Port(stream) => came_of(stream.write(octets)),
+            Stream::Path(stream) => came_of(stream.write(octets)),
+        }
+    }
+
+    /// Says that nothing more is written.
+    pub fn shut(&self) {
+        let _ = match self {
+            Stream::Port(stream) => stream.shutdown(Shutdown::Write),
+            Stream::Path(stream) => stream.shutdown(Shutdown::Write),
+        };
+    }
+}
+
+/// A listener that never waits.
+#[derive(Drop)]
+pub enum Listening {
+    Port(TcpListener),
+    Path(UnixListener),
+}
+
+impl Listening {
+    /// Listens at a port of the loopback interface. The port 0 is one that the system chooses.
+    pub fn at_port<H: Net<Listener = TcpListener, Stream = TcpStream>>(
+        rt: &H,
+        port: u16,
+    ) -> io::Result<Listening> {
+        let listener = TcpListener::bind(rt, ("127.0.0.1", port))?;
+        listener.set_nonblocking(true)?;
+        Ok(Listening::Port(listener))
+    }
+
+    /// Listens at a path, where nothing stands yet.
+    pub fn at_path<H: Files + Net>(rt: &H, path: &str) -> io::Result<Listening> {
+        let listener = UnixListener::bind(rt, path)?;
+        listener.set_nonblocking(true)?;
+        Ok(Listening::Path(listener))
+    }
+
+    /// The next client, where one waits.
+    pub fn accept(&self) -> Option<Stream> {
+        match self {
+            Listening::Port(listener) => {
+                let (stream, _) = listener.accept().ok()?;
+                stream.set_nonblocking(true).ok()?;
+                Some(Stream::Port(stream))
+            }
+            Listening::Path(listener) => {
+                let (stream, _) = listener.accept().ok()?;
+                stream.set_nonblocking(true).ok()?;
+                Some(Stream::Path(stream))
+            }
+        }
+    }
+}

@@ -1,0 +1,64 @@
+//! A wire with the door beside it.
+
+ghost use Rattle.std.specs.Prelude.{◌≡◌, ◌≤◌, ◌∷◌, [], ℕ, List, Option, IfSome, length};
+ghost use Rattle.bx_line_world.specs.Wires.{WireAct, Waited, came_in};
+ghost use Rattle.bx_office_door.specs.Sliced.{DidInside, did_inside_nothing, did_inside_more};
+
+use crate::door::Door;
+use bx_line_world::Wire;
+
+/// The longest wait for a frame before the door is looked at again, in nanoseconds.
+const SLICE: u64 = 10_000_000;
+
+/// A wire, and a door that is attended while a frame is waited for.
+#[derive(Drop)]
+pub struct OfficeWire<W> {
+    pub wire: W,
+    pub door: Door,
+    /// What the clock showed last.
+    pub shown: u128,
+}
+
+impl<W> OfficeWire<W> {
+    /// The wire, with this door beside it.
+    pub fn new(wire: W, door: Door) -> OfficeWire<W>
+        ensures { result.wire ≡ wire }
+    {
+        OfficeWire {
+            wire,
+            door,
+            shown: 0,
+        }
+    }
+}
+
+impl<W: Wire> Wire for OfficeWire<W> {
+    ghost did = { λ s acts t. DidInside W.did s.wire acts t.wire };
+
+    fn shown(&mut self) -> u128 {
+        self.shown = self.wire.shown();
+        self.shown
+    }
+
+    fn send(&mut self, octets: &[u8]) {
+        self.wire.send(octets);
+    }
+
+    /// Waits in slices of at most 10 milliseconds, and attends the door before each.
+    fn receive(&mut self, room: &mut [u8], wait: u64) -> Option<usize> {
+        let mut left = wait;
+        while left > SLICE {
+            self.door.attend(self.shown);
+            match self.wire.receive(room, SLICE) {
+                Some(count) => return Some(count),
+                None => left -= SLICE,
+            }
+        }
+        self.door.attend(self.shown);
+        self.wire.receive(room, left)
+    }
+
+    ghost did_nothing = { λ s. did_inside_nothing W.did s.wire (W.did_nothing s.wire) };
+
+    ghost did_more = { λ s t u xs ys p q. did_inside_more W.did W.did_more s.wire t.wire u.wire xs ys p q };
+}
