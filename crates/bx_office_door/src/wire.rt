@@ -6,22 +6,23 @@ ghost use Rattle.bx_office_door.specs.Sliced.{DidInside, did_inside_nothing, did
 
 use crate::door::Door;
 use bx_line_world::Wire;
+use std::cell::RefCell;
 
 /// The longest wait for a frame before the door is looked at again, in nanoseconds.
 const SLICE: u64 = 10_000_000;
 
 /// A wire, and a door that is attended while a frame is waited for.
 #[derive(Drop)]
-pub struct OfficeWire<W> {
+pub struct OfficeWire<'a, W> {
     pub wire: W,
-    pub door: Door,
+    door: &'a RefCell<Door>,
     /// What the clock showed last.
-    pub shown: u128,
+    shown: u128,
 }
 
-impl<W> OfficeWire<W> {
-    /// The wire, with this door beside it.
-    pub fn new(wire: W, door: Door) -> OfficeWire<W>
+impl<'a, W> OfficeWire<'a, W> {
+    /// The wire, with this door beside it. Whoever answers at the door has it too, so it stands in a cell.
+    pub fn new(wire: W, door: &'a RefCell<Door>) -> Self
         ensures { result.wire ≡ wire }
     {
         OfficeWire {
@@ -32,7 +33,16 @@ impl<W> OfficeWire<W> {
     }
 }
 
-impl<W: Wire> Wire for OfficeWire<W> {
+impl<W> OfficeWire<'_, W> {
+    /// Moves what is ready at the door.
+    fn attend(&self) {
+        if let Ok(mut door) = self.door.try_borrow_mut() {
+            door.attend(self.shown);
+        }
+    }
+}
+
+impl<'a, W: Wire> Wire for OfficeWire<'a, W> {
     ghost did = { λ s acts t. DidInside W.did s.wire acts t.wire };
 
     fn shown(&mut self) -> u128 {
@@ -48,13 +58,13 @@ impl<W: Wire> Wire for OfficeWire<W> {
     fn receive(&mut self, room: &mut [u8], wait: u64) -> Option<usize> {
         let mut left = wait;
         while left > SLICE {
-            self.door.attend(self.shown);
+            self.attend();
             match self.wire.receive(room, SLICE) {
                 Some(count) => return Some(count),
                 None => left -= SLICE,
             }
         }
-        self.door.attend(self.shown);
+        self.attend();
         self.wire.receive(room, left)
     }
 
