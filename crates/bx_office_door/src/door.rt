@@ -91,7 +91,7 @@ impl Door {
         for index in 0..self.guests.len() {
             if self.guests[index].number() == number {
                 let mut guest = self.guests.remove(index);
-                guest.client_mut().answer(reply);
+                guest.answer(reply);
                 let _ = self.guests.push(guest);
                 return;
             }

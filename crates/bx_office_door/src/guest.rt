@@ -1,7 +1,7 @@
 //! A client at the door.
 
 use crate::stream::{Came, Stream};
-use bx_office::{Client, Place, Stage, page};
+use bx_office::{Client, Place, Reply, Stage, page};
 use std::alloc::Global;
 
 /// How long a request takes at most, and how long the next one is waited for: 10 seconds, in nanoseconds.
@@ -18,8 +18,8 @@ pub struct Guest {
     number: u64,
     stream: Stream,
     client: Client,
-    /// When it came, or was answered last, in nanoseconds.
-    since: u128,
+    /// When it came, or was sent its last answer, in nanoseconds; not known yet where it was just answered.
+    since: Option<u128>,
     /// Nothing more is sent: what still comes is thrown away, so that the answer is not lost with it.
     is_shut: bool,
     is_gone: bool,
@@ -32,7 +32,7 @@ impl Guest {
             number,
             stream,
             client: Client::new(alloc, place),
-            since: now,
+            since: Some(now),
             is_shut: false,
             is_gone: false,
         }
@@ -53,9 +53,10 @@ impl Guest {
         &self.client
     }
 
-    /// The client, to be answered.
-    pub fn client_mut(&mut self) -> &mut Client {
-        &mut self.client
+    /// Answers its request. However long that has waited, there is time to send the answer.
+    pub fn answer(&mut self, reply: Reply<'_>) {
+        self.client.answer(reply);
+        self.since = None;
     }
 
     /// Reads once. Answers whether something came.
@@ -102,7 +103,7 @@ impl Guest {
             Came::Octets(count) => {
                 self.client.sent(count);
                 if self.client.pending().is_empty() {
-                    self.since = now;
+                    self.since = Some(now);
                 }
                 true
             }
@@ -143,13 +144,22 @@ impl Guest {
 
     /// Whether its time is over. A request that waits for its answer has time.
     fn is_late(&self, now: u128) -> bool {
-        !matches!(self.client.stage(), Stage::Asked(_)) && now.saturating_sub(self.since) > PATIENCE
+        match self.since {
+            Some(since) => {
+                !matches!(self.client.stage(), Stage::Asked(_))
+                    && now.saturating_sub(since) > PATIENCE
+            }
+            None => false,
+        }
     }
 
     /// Moves what is ready, and never waits.
     pub fn attend(&mut self, now: u128) {
         if self.is_late(now) {
             self.is_gone = true;
+        }
+        if self.since.is_none() {
+            self.since = Some(now);
         }
         for _turn in 0..TURNS {
             if self.is_gone || !self.turn(now) {

@@ -1,0 +1,169 @@
+//! Clients at the door, over sockets of this machine and in one thread. The clock is what a test says.
+
+use bx_office::{Allowed, Kind, Place, Reply, Route, Status};
+use bx_office_door::{Door, Listening};
+use std::alloc::Global;
+use std::io;
+use std::io::{Read, Write};
+use std::net::{Net, TcpListener, TcpStream};
+use std::test::Fail;
+use std::time::Duration;
+
+/// A second, in nanoseconds.
+const SECOND: u128 = 1_000_000_000;
+
+/// A door at a port that the system has chosen, and the port.
+fn opened<H: Net<Listener = TcpListener, Stream = TcpStream>>(
+    rt: &H,
+    alloc: Global,
+) -> io::Result<(Door, u16)> {
+    let listener = TcpListener::bind(rt, "127.0.0.1:0")?;
+    listener.set_nonblocking(true)?;
+    let port = listener.local_addr()?.port();
+    let door = Door::new(alloc, Place::Port(port), Listening::Port(listener));
+    Ok((door, port))
+}
+
+/// A client that has sent this.
+fn client<H: Net<Listener = TcpListener, Stream = TcpStream>>(
+    rt: &H,
+    port: u16,
+    sent: &[u8],
+) -> io::Result<TcpStream> {
+    let mut stream = TcpStream::connect(rt, ("127.0.0.1", port))?;
+    stream.set_read_timeout(Some(Duration::from_millis(100)))?;
+    stream.write_all(sent)?;
+    Ok(stream)
+}
+
+/// A request for this path of a door at this port.
+fn request(alloc: Global, path: &str, port: u16) -> Result<Vec<u8>, Fail> {
+    let text = format!(in alloc; "GET {path} HTTP/1.1\r\nHost: localhost:{port}\r\n\r\n")?;
+    let mut octets = Vec::new(alloc);
+    octets.extend_from_slice(text.as_bytes())?;
+    Ok(octets)
+}
+
+/// Attends the door until the client has something or its end: whether what it has begins so. Where it is the end, it begins with nothing.
+fn begins(door: &mut Door, stream: &mut TcpStream, now: u128, front: &[u8]) -> bool {
+    let mut room = [0u8; 4096];
+    for _turn in 0..50u32 {
+        door.attend(now);
+        match stream.read(&mut room) {
+            Ok(count) => return count >= front.len() && &room[..front.len()] == front,
+            Err(_) => {}
+        }
+    }
+    false
+}
+
+/// Attends the door until somebody asks: what is asked for, which is answered.
+fn asks(door: &mut Door, now: u128) -> Option<Route> {
+    for _turn in 0..1000u32 {
+        door.attend(now);
+        if let Some((number, route)) = door.asked() {
+            door.answer(
+                number,
+                Reply {
+                    status: Status::Fine,
+                    kind: Kind::Text,
+                    allowed: Allowed::Unsaid,
+                    body: b"a plan\n",
+                },
+            );
+            return Some(route);
+        }
+    }
+    None
+}
+
+#[test]
+fn the_page_needs_nothing_of_the_day(rt: HostRuntime) -> Result<(), Fail> {
+    let (mut door, port) = opened(&rt, rt.alloc())?;
+    let sent = request(rt.alloc(), "/", port)?;
+    let mut stream = client(&rt, port, &sent)?;
+    assert!(rt;
+        begins(
+            &mut door,
+            &mut stream,
+            0,
+            b"HTTP/1.1 200 OK\r\ncontent-type: text/html"
+        ),
+        "the page"
+    );
+    Ok(())
+}
+
+#[test]
+fn a_request_waits_for_its_answer(rt: HostRuntime) -> Result<(), Fail> {
+    let (mut door, port) = opened(&rt, rt.alloc())?;
+    let sent = request(rt.alloc(), "/plan", port)?;
+    let mut stream = client(&rt, port, &sent)?;
+    assert!(rt; asks(&mut door, 0) == Some(Route::Plan), "asked");
+    assert!(rt;
+        begins(
+            &mut door,
+            &mut stream,
+            20 * SECOND,
+            b"HTTP/1.1 200 OK\r\ncontent-type: text/plain"
+        ),
+        "answered"
+    );
+    Ok(())
+}
+
+#[test]
+fn a_slow_client_is_sent_away(rt: HostRuntime) -> Result<(), Fail> {
+    let (mut door, port) = opened(&rt, rt.alloc())?;
+    let mut slow = client(&rt, port, b"GET /plan HTTP/1.1\r\n")?;
+    for _turn in 0..100u32 {
+        door.attend(0);
+    }
+    let sent = request(rt.alloc(), "/", port)?;
+    let mut quick = client(&rt, port, &sent)?;
+    assert!(rt;
+        begins(&mut door, &mut quick, 10 * SECOND, b"HTTP/1.1 200 OK"),
+        "beside it"
+    );
+    assert!(rt; begins(&mut door, &mut slow, 11 * SECOND, b""), "sent away");
+    Ok(())
+}
+
+#[test]
+fn a_foreign_page_is_refused(rt: HostRuntime) -> Result<(), Fail> {
+    let (mut door, port) = opened(&rt, rt.alloc())?;
+    let mut stream = client(
+        &rt,
+        port,
+        b"GET /plan HTTP/1.1\r\nHost: example.org\r\n\r\n",
+    )?;
+    assert!(rt;
+        begins(&mut door, &mut stream, 0, b"HTTP/1.1 403 Forbidden\r\n"),
+        "refused"
+    );
+    assert!(rt; door.asked().is_none(), "nothing is asked");
+    Ok(())
+}
+
+#[test]
+fn the_seventeenth_waits(rt: HostRuntime) -> Result<(), Fail> {
+    let (mut door, port) = opened(&rt, rt.alloc())?;
+    let mut silent = Vec::new(rt.alloc());
+    for _client in 0..16u32 {
+        silent.push(client(&rt, port, b"")?)?;
+    }
+    for _turn in 0..100u32 {
+        door.attend(0);
+    }
+    let sent = request(rt.alloc(), "/", port)?;
+    let mut last = client(&rt, port, &sent)?;
+    assert!(rt;
+        !begins(&mut door, &mut last, 0, b"HTTP/1.1 200 OK"),
+        "it waits"
+    );
+    assert!(rt;
+        begins(&mut door, &mut last, 11 * SECOND, b"HTTP/1.1 200 OK"),
+        "they are sent away"
+    );
+    Ok(())
+}
