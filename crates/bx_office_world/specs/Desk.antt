@@ -1,0 +1,32 @@
+-- What stands at each path now.
+use Rattle.std.specs.Prelude.{◌≡◌, ℕ, List, []}
+use Rattle.bx_answers.specs.Answers.{IsPlanText}
+use Rattle.bx_answers.specs.Metrics.{metrics_text}
+use Rattle.bx_answers.specs.Quotes.{IsCallOf, IsQuoteText}
+use Rattle.bx_answers.specs.declared.metrics.Figures.{Figures}
+use Rattle.bx_base.specs.Bookings.{Row}
+use Rattle.bx_book.specs.Rows.{span_of}
+use Rattle.bx_day.specs.Day.{Day}
+use Rattle.bx_day.specs.Telling.{outcomes_text}
+use Rattle.bx_day.specs.declared.entry.Entry.{Entry}
+use Rattle.bx_office.specs.declared.gate.Route.{Route}
+use Rattle.bx_office.specs.declared.gate.Route.TheVariants as routes
+use Rattle.bx_office.specs.declared.reply.Kind.{Kind}
+use Rattle.bx_office.specs.declared.reply.Kind.TheVariants as kinds
+use Rattle.bx_records.specs.Records.{IsRecordsText}
+use Rattle.bx_office_world.specs.declared.desk.Opened.{Opened}
+
+-- the quote of the call that a query asks for
+pub record IsQuoted (opened : Opened) (query : List ℕ) (entries : List Entry) (text : List ℕ) : Type 0 where
+  pub call : Row
+  pub is : IsCallOf query (span_of opened.day) call
+  pub quoted : IsQuoteText entries opened.channels call text
+
+-- each path has just what its command says of the day as it stands
+abbrev pub IsWritten : Opened → Day → Figures → List ℕ → Route → Kind → List ℕ → Type 0
+IsWritten opened d figures query routes.Plan kind text = (kind ≡ kinds.Text) × IsPlanText d.entries opened.channels text
+IsWritten opened d figures query routes.Outcomes kind text = (kind ≡ kinds.Text) × (text ≡ outcomes_text d)
+IsWritten opened d figures query routes.Records kind text = (kind ≡ kinds.Csv) × IsRecordsText opened.clock d.entries text
+IsWritten opened d figures query routes.Quote kind text = (kind ≡ kinds.Text) × IsQuoted opened query d.entries text
+IsWritten opened d figures query routes.Metrics kind text = (kind ≡ kinds.Metrics) × (text ≡ metrics_text d figures)
+IsWritten opened d figures query _ kind text = (kind ≡ kinds.Text) × (text ≡ [])

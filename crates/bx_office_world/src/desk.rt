@@ -1,0 +1,75 @@
+//! What is answered at the office.
+
+ghost use Rattle.std.specs.Prelude.{◌≡◌, Ok, IfOk};
+ghost use Rattle.bx_office_world.specs.Desk.{IsQuoted, IsWritten};
+
+use bx_answers::{
+    Figures, NoAnswer, call_of, metrics_text, outcomes_text, plan_text, quote_text, records_text,
+};
+use bx_base::ChannelSet;
+use bx_calendar::{Clock, Day};
+use bx_day::Exchange;
+use bx_office::{Kind, Route};
+use std::alloc::Global;
+
+/// What the office was opened with: the channels in service, the day, and the clock of its zone for records.
+#[derive(Clone, Copy)]
+pub struct Opened {
+    pub channels: ChannelSet,
+    pub day: Day,
+    pub clock: Option<Clock>,
+}
+
+/// A text, and what it is.
+#[derive(Drop)]
+pub struct Written {
+    pub kind: Kind,
+    pub text: Vec<u8>,
+}
+
+/// A text of this kind, where there is one.
+fn of_kind(kind: Kind, text: Result<Vec<u8>, NoAnswer>) -> Result<Written, NoAnswer>
+    ensures { IfOk result (λ w. (w.kind ≡ kind) × (text ≡ Ok w.text)) }
+{
+    match text {
+        Ok(text) => Ok(Written { kind, text }),
+        Err(why) => Err(why),
+    }
+}
+
+/// What a call would have to pay.
+fn quoted(
+    alloc: Global,
+    opened: &Opened,
+    exchange: &Exchange,
+    query: &[u8],
+) -> Result<Vec<u8>, NoAnswer>
+    ensures { IfOk result (λ text. IsQuoted opened.now query.now exchange.now.entries text.items) }
+{
+    let call = call_of(alloc, query, &opened.day)?;
+    match quote_text(alloc, exchange, opened.channels, &call) {
+        Ok(text) => Ok(text),
+        Err(why) => Err(why),
+    }
+}
+
+/// What stands at a path now. Of a path that is not asked for so nothing.
+pub fn answer_of(
+    alloc: Global,
+    opened: &Opened,
+    exchange: &Exchange,
+    figures: Figures,
+    route: Route,
+    query: &[u8],
+) -> Result<Written, NoAnswer>
+    ensures { IfOk result (λ w. IsWritten opened.now exchange.now figures query.now route w.kind w.text.items) }
+{
+    match route {
+        Route::Plan => of_kind(Kind::Text, plan_text(alloc, exchange, opened.channels)),
+        Route::Outcomes => of_kind(Kind::Text, outcomes_text(alloc, exchange)),
+        Route::Records => of_kind(Kind::Csv, records_text(alloc, exchange, opened.clock)),
+        Route::Quote => of_kind(Kind::Text, quoted(alloc, opened, exchange, query)),
+        Route::Metrics => of_kind(Kind::Metrics, metrics_text(alloc, exchange, figures)),
+        _ => of_kind(Kind::Text, Ok(Vec::new(alloc))),
+    }
+}

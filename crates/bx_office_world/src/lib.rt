@@ -1,0 +1,8 @@
+//! A live day with a booking office in front of it.
+#![tactic(auto)]
+
+mod desk;
+mod world;
+
+pub use desk::{Opened, Written, answer_of};
+pub use world::OfficeWorld;
