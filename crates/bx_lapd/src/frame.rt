@@ -1,5 +1,9 @@
 //! Frames between the two ends of a link with SAPI 0 and TEI 0.
 
+ghost use Rattle.std.specs.Prelude.{◌≡◌, false};
+ghost use Rattle.bx_lapd.specs.declared.frame.Frame.TheVariants.{Plain};
+ghost use Rattle.bx_lapd.specs.declared.words.Unnumbered.TheVariants.{Ui};
+
 use crate::words::{Supervisory, Unnumbered};
 use bx_q931::Octets;
 
@@ -30,7 +34,9 @@ pub enum Frame {
 
 impl Default for Frame {
     /// UI, which stands in places of no frame.
-    fn default() -> Frame {
+    fn default() -> Frame
+        ensures { result ≡ Plain Ui false }
+    {
         Frame::Plain {
             kind: Unnumbered::Ui,
             poll: false,

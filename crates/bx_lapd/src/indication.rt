@@ -1,5 +1,8 @@
 //! What a link tells layer 3 and layer management.
 
+ghost use Rattle.std.specs.Prelude.{◌≡◌};
+ghost use Rattle.bx_lapd.specs.declared.indication.Indication.TheVariants.{LinkReleased};
+
 use crate::words::ErrorCode;
 use bx_q931::Octets;
 
@@ -18,7 +21,9 @@ pub enum Indication {
 
 impl Default for Indication {
     /// It stands in places of no indication.
-    fn default() -> Indication {
+    fn default() -> Indication
+        ensures { result ≡ LinkReleased }
+    {
         Indication::LinkReleased
     }
 }
