@@ -3,7 +3,7 @@ use Rattle.std.proofs.Common.{◌≡◌, sym, subst, ◌+◌, ◌≤◌, ℕ, Bo
 use Rattle.std.proofs.lemmas.List.{drop_all}
 use Rattle.bx_day.specs.declared.entry.Entry.{Entry}
 use Rattle.bx_day.specs.declared.entry.Standing.{Standing}
-use Rattle.bx_answers.specs.Tallies.{IsTallyOf, IsTallySoFar}
+use Rattle.bx_answers.specs.Inside.{IsTallyOf, IsTallySoFar}
 use Rattle.bx_records.specs.Totals.{how_many, pays_of}
 use Rattle.bx_answers.specs.declared.tallies.Tally.{Tally}
 

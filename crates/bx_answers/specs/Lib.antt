@@ -3,3 +3,4 @@ pub mod Metrics
 pub mod Quotes
 pub mod Sold
 pub mod Tallies
+pub mod Inside

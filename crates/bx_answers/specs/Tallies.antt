@@ -1,13 +1,9 @@
 -- Bookings of a day by what has become of them.
-use Rattle.std.specs.Prelude.{◌≡◌, ℕ, ◌+◌, ◌*◌, ◌≤◌, Bool, true, false, List, drop}
-use Rattle.bx_base.specs.declared.booking.TheConstants.{MAX_PAY}
-use Rattle.bx_day.specs.declared.entry.Entry.{Entry}
+use Rattle.std.specs.Prelude.{Bool, true, false}
 use Rattle.bx_day.specs.declared.entry.Standing.{Standing}
 use Rattle.bx_day.specs.declared.entry.Standing.TheVariants as standings
-use Rattle.bx_records.specs.Totals.{how_many, pays_of}
 use Rattle.bx_answers.specs.declared.tallies.Became.{Became}
 use Rattle.bx_answers.specs.declared.tallies.Became.TheVariants.{Refused, Waiting, Live, Carried, Unanswered, Missed}
-use Rattle.bx_answers.specs.declared.tallies.Tally.{Tally}
 
 abbrev pub is_such : Became → Standing → Bool
 is_such Refused standings.Refused = true
@@ -17,15 +13,3 @@ is_such Carried (standings.Carried from until) = true
 is_such Unanswered standings.Unanswered = true
 is_such Missed standings.Missed = true
 is_such _ _ = false
-
--- all such bookings are counted
-pub record IsTallyOf (test : Standing → Bool) (entries : List Entry) (tally : Tally) : Type 0 where
-  pub count : tally.count ≡ how_many test entries
-  pub pay : tally.pay ≡ pays_of test entries
-
--- those among the first k are
-pub record IsTallySoFar (test : Standing → Bool) (entries : List Entry) (k : ℕ) (tally : Tally) : Type 0 where
-  pub count : tally.count + how_many test (drop k entries) ≡ how_many test entries
-  pub pay : tally.pay + pays_of test (drop k entries) ≡ pays_of test entries
-  pub few : tally.count ≤ k
-  pub limit : tally.pay ≤ k * MAX_PAY

@@ -4,7 +4,8 @@ ghost use Rattle.std.specs.Prelude.{◌≡◌, ◌+◌, ◌<◌, ◌≤◌, leng
 ghost use Rattle.bx_base.specs.declared.bookings.TheConstants.{MAX_BOOKINGS};
 ghost use Rattle.bx_base.specs.declared.booking.TheConstants.{MAX_PAY};
 ghost use Rattle.bx_base.specs.declared.plan.TheConstants.{MAX_TOTAL};
-ghost use Rattle.bx_answers.specs.Tallies.{is_such, IsTallyOf};
+ghost use Rattle.bx_answers.specs.Inside.{IsTallyOf};
+ghost use Rattle.bx_answers.specs.Tallies.{is_such};
 
 use bx_day::{Entry, Standing};
 

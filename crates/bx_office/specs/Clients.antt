@@ -78,16 +78,3 @@ abbrev pub IsNext : Stage → Type 0
 IsNext Head = Unit {0}
 IsNext Last = Unit {0}
 IsNext _ = ⊥
-
--- no request that was let through is due
-abbrev pub IsUndue : Stage → Type 0
-IsUndue (Body route) = ⊥
-IsUndue (Asked route) = ⊥
-IsUndue _ = Unit {0}
-
--- a head was let through
-pub record IsBegun (place : Place) (input : List ℕ) (spans : List HeaderSpan) (r : RequestSpans) (route : Route) (new : Client) : Type 0 where
-  pub verdict : (h : RequestHead) → IsRequestAt input spans r h → IsVerdict place h (Ok route)
-  pub query : (h : RequestHead) → IsRequestAt input spans r h → new.query.items ≡ query_in h.target
-  pub unread : new.unread.items ≡ drop r.len input
-  pub body : new.body.items ≡ []

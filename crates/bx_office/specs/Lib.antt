@@ -2,3 +2,4 @@ pub mod Gate
 pub mod Heads
 pub mod Replies
 pub mod Clients
+pub mod Inside

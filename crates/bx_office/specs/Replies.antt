@@ -80,6 +80,3 @@ after_body false s body = with_writing s (after_data (writing s) (length body))
 abbrev pub reply_text : Bool → Server → Reply → Bool → List ℕ
 reply_text is_head s reply is_last = head_text s reply is_last ++ body_text is_head (after_head s reply is_last) reply.body.now
     ++ finish_text (writing (after_body is_head (after_head s reply is_last) reply.body.now)) []
-
-abbrev pub after_reply : Bool → Server → Reply → Bool → Server
-after_reply is_head s reply is_last = after_end (after_body is_head (after_head s reply is_last) reply.body.now)

@@ -59,7 +59,8 @@ impl Client {
     ghost use Rattle.bx_office.specs.Heads.{IsVerdict};
     ghost use Rattle.httparse.specs.Grammar.{RequestHead};
     ghost use Rattle.httparse.specs.Spans.{IsRequestWithin, IsRequestAt};
-    ghost use Rattle.bx_office.specs.Clients.{IsDueBehind, IsLeft, IsTaken, IsUndue, IsBegun, IsNext, is_over, is_reading, room_of};
+    ghost use Rattle.bx_office.specs.Inside.{IsUndue, IsBegun};
+    ghost use Rattle.bx_office.specs.Clients.{IsDueBehind, IsLeft, IsTaken, IsNext, is_over, is_reading, room_of};
     ghost use Rattle.bx_office.specs.Replies.{reply_text};
 
     /// A client that has sent nothing yet. Takes no memory.

@@ -2,7 +2,8 @@
 
 ghost use Rattle.std.specs.Prelude.{◌≡◌, ◌++◌, OnOk};
 ghost use Rattle.http1.specs.Head.{header_parts};
-ghost use Rattle.bx_office.specs.Replies.{code_of, reason_of, type_of, allowed_of, head_text, after_head, body_text, after_body, reply_text, after_reply};
+ghost use Rattle.bx_office.specs.Replies.{code_of, reason_of, type_of, allowed_of, head_text, after_head, body_text, after_body, reply_text};
+ghost use Rattle.bx_office.specs.Inside.{after_reply};
 
 use bytes::BytesMut;
 use http1::{BodySize, Header, Server, WriteError};

@@ -1,2 +1,3 @@
 pub mod Sliced
 pub mod Streams
+pub mod Inside

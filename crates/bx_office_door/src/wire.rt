@@ -2,7 +2,8 @@
 
 ghost use Rattle.std.specs.Prelude.{◌≡◌, ◌≤◌, ◌∷◌, [], ℕ, List, Option, IfSome, length};
 ghost use Rattle.bx_line_world.specs.Wires.{WireAct, Waited, came_in};
-ghost use Rattle.bx_office_door.specs.Sliced.{DidInside, did_inside_nothing, did_inside_more};
+ghost use Rattle.bx_office_door.specs.Inside.{did_inside_nothing, did_inside_more};
+ghost use Rattle.bx_office_door.specs.Sliced.{DidInside};
 
 use crate::door::Door;
 use bx_line_world::Wire;

@@ -1,14 +1,14 @@
--- What lies between two states of a world with an office: just the acts of the world inside.
+-- Private: what lies between two states of a world with an office: just the acts of the world inside.
 use Rattle.std.specs.Prelude.{◌≡◌, List, [], ◌∷◌, ◌++◌}
 use Rattle.std.proofs.Common.{refl, sym, subst, ap}
 use Rattle.bx_live.specs.Acts.{Act}
 use Rattle.bx_market.specs.Deals.{Deal, Ran, Asked, Answered, acts_of, all_ran}
 
-pub acts_ran : (acts : List Act) → acts_of (all_ran acts) ≡ acts
+acts_ran : (acts : List Act) → acts_of (all_ran acts) ≡ acts
 acts_ran [] = refl
 acts_ran (act ∷ acts) = ap (λ (xs : List Act). act ∷ xs) (acts_ran acts)
 
-pub acts_more : (xs ys : List Deal) → acts_of (xs ++ ys) ≡ acts_of xs ++ acts_of ys
+acts_more : (xs ys : List Deal) → acts_of (xs ++ ys) ≡ acts_of xs ++ acts_of ys
 acts_more [] ys = refl
 acts_more (Ran act ∷ xs) ys = ap (λ (zs : List Act). act ∷ zs) (acts_more xs ys)
 acts_more (Asked day batch ∷ xs) ys = acts_more xs ys
