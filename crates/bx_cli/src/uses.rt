@@ -84,25 +84,55 @@ fn on_files<'a>(request: &FileRequest<'a>) -> [Option<FileUse<'a>>; 5]
     ensures { result ≡ files_of request.now }
 {
     match request {
-        FileRequest::Plan { terms: _, bookings } => [read(FileKind::Bookings, bookings), None, None, None, None],
+        FileRequest::Plan { terms: _, bookings } => [
+            read(FileKind::Bookings, bookings),
+            None,
+            None,
+            None,
+            None,
+        ],
         FileRequest::Check {
             terms: _,
             bookings,
             plan,
-        } => [read(FileKind::Bookings, bookings), read(FileKind::Plan, plan), None, None, None],
+        } => [
+            read(FileKind::Bookings, bookings),
+            read(FileKind::Plan, plan),
+            None,
+            None,
+            None,
+        ],
         FileRequest::Amend {
             date: _,
             zone: _,
             plan,
             bookings,
-        } => [read(FileKind::Bookings, bookings), read(FileKind::Plan, plan), None, None, None],
+        } => [
+            read(FileKind::Bookings, bookings),
+            read(FileKind::Plan, plan),
+            None,
+            None,
+            None,
+        ],
         FileRequest::Capacity {
             date: _,
             zone: _,
             bookings,
         } => [read(FileKind::Bookings, bookings), None, None, None, None],
-        FileRequest::Explain { plan, row: _ } => [read(FileKind::Plan, plan), None, None, None, None],
-        FileRequest::Quote { plan, call: _ } => [read(FileKind::Plan, plan), None, None, None, None],
+        FileRequest::Explain { plan, row: _ } => [
+            read(FileKind::Plan, plan),
+            None,
+            None,
+            None,
+            None,
+        ],
+        FileRequest::Quote { plan, call: _ } => [
+            read(FileKind::Plan, plan),
+            None,
+            None,
+            None,
+            None,
+        ],
         FileRequest::Chart { plan, day: _ } => [read(FileKind::Plan, plan), None, None, None, None],
     }
 }
@@ -149,7 +179,13 @@ pub fn named_files<'a>(request: &Request<'a>) -> [Option<FileUse<'a>>; 5]
             None,
         ],
         Request::Records(request) => {
-            [read(FileKind::Plan, request.plan), read(FileKind::Journal, request.journal), None, None, None]
+            [
+                read(FileKind::Plan, request.plan),
+                read(FileKind::Journal, request.journal),
+                None,
+                None,
+                None,
+            ]
         }
         Request::Sold(request) => [read(request.plan), read(request.journal), None, None, None],
         Request::Decode { octets: _ } => [None, None, None, None, None],

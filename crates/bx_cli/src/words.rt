@@ -85,16 +85,31 @@ pub fn main_words<
     match read_words(rt.alloc(), words) {
         Ok(request) => match met_file(rt, &request) {
             None => run(rt, request, input, output, errors, is_terminal),
-            Some(name) => refused(rt.alloc(), &SameFile(name), nothing_read(is_terminal), errors),
+            Some(name) => refused(
+                rt.alloc(),
+                &SameFile(name),
+                nothing_read(is_terminal),
+                errors,
+            ),
         },
         Err(Refusal::Help(text)) => {
-            status_of(rt.alloc(), show(&text, output), nothing_read(is_terminal), errors)
+            status_of(
+                rt.alloc(),
+                show(&text, output),
+                nothing_read(is_terminal),
+                errors,
+            )
         }
         Err(Refusal::Wrong(text)) => {
             let _ = write_octets(errors, text.as_bytes());
             2
         }
-        Err(Refusal::Memory) => refused(rt.alloc(), &CommandFault::Memory, nothing_read(is_terminal), errors),
+        Err(Refusal::Memory) => refused(
+            rt.alloc(),
+            &CommandFault::Memory,
+            nothing_read(is_terminal),
+            errors,
+        ),
     }
 }
 
@@ -168,7 +183,12 @@ fn run<
                 errors,
             )
         }
-        Request::Audit(request) => status_of(alloc, audit_files(rt, &mut inputs, request, output), asked, errors),
+        Request::Audit(request) => status_of(
+            alloc,
+            audit_files(rt, &mut inputs, request, output),
+            asked,
+            errors,
+        ),
         Request::Records(request) => status_of(
             alloc,
             record_files(alloc, &mut inputs, request, output, errors),
@@ -181,7 +201,12 @@ fn run<
             asked,
             errors,
         ),
-        Request::Decode { octets } => status_of(alloc, decode(alloc, octets, output), asked, errors),
+        Request::Decode { octets } => status_of(
+            alloc,
+            decode(alloc, octets, output),
+            asked,
+            errors,
+        ),
     }
 }
 

@@ -44,14 +44,7 @@ pub(crate) fn run_seen(rt: &HostRuntime, words: &[&str], text: &str, is_terminal
     let mut input = Watched::new(text.as_bytes());
     let mut output = Watched::new(Vec::new(rt.alloc()));
     let mut errors = Watched::new(Vec::new(rt.alloc()));
-    let status = main_words(
-        rt,
-        words,
-        &mut input,
-        &mut output,
-        &mut errors,
-        is_terminal,
-    );
+    let status = main_words(rt, words, &mut input, &mut output, &mut errors, is_terminal);
     Done {
         status,
         output: output.into_inner(),

@@ -511,7 +511,11 @@ static REPORTED: [Worked; 9] = [
             Step::Linked(2, &[], &[CONNECT_REFERENCE_7]),
             Step::Without(20),
             Step::Linked(21, &[], &[STATUS_ENQUIRY_REFERENCE_7]),
-            Step::Linked(21, FAR_STATUS_CONNECTING_REFERENCE_7, &[RELEASE_101_REFERENCE_7]),
+            Step::Linked(
+                21,
+                FAR_STATUS_CONNECTING_REFERENCE_7,
+                &[RELEASE_101_REFERENCE_7],
+            ),
         ],
         outcomes: &[Outcome::Live],
         held: Some((1, CallState::ReleaseRequest)),

@@ -4,7 +4,7 @@
 -- answers go out. So where the answer is on the way nothing else is in the other direction (`alone`), and where its sender is up, what it has
 -- sent behind it is what it sends to an end that has just begun (`waits`). Both ends are up without an attempt of either: then both
 -- directions are as over one establishment.
-use Rattle.std.proofs.Common.{◌≡◌, ◌∙◌, ℕ, ◌+◌, ◌-◌, ◌%◌, ◌≤◌, ◌<◌, ◌&&◌, ◌||◌, ◌==◌, not, take, drop, Bool, true, false, List, [], ◌∷◌, ◌++◌, refl, sym, ap, subst, inl, inr, append_assoc, append-nil, nat_lt, arith, if◌then◌else◌}
+use Rattle.std.proofs.Common.{◌≡◌, ◌∙◌, ℕ, ◌+◌, ◌-◌, ◌%◌, ◌≤◌, ◌&&◌, ◌||◌, ◌==◌, not, take, drop, Bool, true, false, List, [], ◌∷◌, ◌++◌, refl, sym, ap, subst, inl, inr, append_assoc, append-nil, nat_lt, arith, if◌then◌else◌}
 use Rattle.std.specs.List.{AllByRecursion}
 use Rattle.std.proofs.lemmas.Bool.{false≢true, true≢false, cases_lt}
 use Rattle.arrayvec.specs.ArrayVec.{ArrayVec}
@@ -14,21 +14,20 @@ use Rattle.bx_lapd.specs.declared.words.Timer.TheVariants.{Stopped, T200}
 use Rattle.bx_lapd.specs.declared.words.ErrorCode.TheVariants.{EnquiryUnanswered, SabmeUnanswered}
 use Rattle.bx_lapd.specs.declared.words.Supervisory.{Supervisory}
 use Rattle.bx_lapd.specs.declared.words.Supervisory.TheVariants.{ReceiveReady, ReceiveNotReady, Reject}
-use Rattle.bx_lapd.specs.declared.words.Unnumbered.{Unnumbered}
 use Rattle.bx_lapd.specs.declared.words.Unnumbered.TheVariants as u
 use Rattle.bx_lapd.specs.declared.frame.Frame.{Frame}
 use Rattle.bx_lapd.specs.declared.frame.Frame.TheVariants.{Information, Numbered, Plain}
 use Rattle.bx_lapd.specs.declared.indication.Indication.{Indication}
 use Rattle.bx_lapd.specs.declared.indication.Indication.TheVariants.{LinkReleased, Delivered, LinkError}
 use Rattle.bx_lapd.specs.Links.{Link, Step, does, follows, is_valid, outstanding, numbered, establishing, begun, assigned, discarded, acknowledged, is_established, is_recovering, is_up, sendable, acknowledges, flushes, flush}
-use Rattle.bx_lapd.specs.Table.{establish, release, takes, give, is_due, enquires, expires, elapse, established_anew, hear_sabme, confirmed, hear_ua, answers, took, rejects, hear_message, timed, settled, hear_number, hear_information, is_not_ready, guided, recovered, hear_supervised, unasked, hear_numbered, heard, hear}
+use Rattle.bx_lapd.specs.Table.{establish, release, takes, give, is_due, enquires, expires, elapse, established_anew, hear_sabme, confirmed, hear_ua, answers, took, rejects, hear_message, timed, settled, hear_number, hear_information, is_not_ready, hear_supervised, unasked, hear_numbered, heard, hear}
 use Rattle.bx_lapd.specs.World.{World, EndEvent, Gives, Hears, Loses, Elapses, Asks, Releases, WorldEvent, AtNear, AtFar, messages_of, becomes, comes, lost, at_near, swapped, world_happens, world_after}
-use Rattle.bx_lapd.specs.Anew.{is_begun_by_sabme, is_begun_by_ua, begins_by, begins, renewed, near_since, since_happens, since_after, is_sabme, is_ua, frames_of, IsTimely, IsTimelyIn, AreTimely, IsSameLink, SameLinks, AreIdle, Anew}
-use Rattle.bx_lapd.proofs.Media.{Comes, Confirms}
+use Rattle.bx_lapd.specs.Anew.{is_begun_by_sabme, is_begun_by_ua, begins_by, begins, renewed, near_since, since_happens, since_after, is_sabme, is_ua, frames_of, IsTimely, IsTimelyIn, AreTimely, SameLinks, AreIdle, Anew}
+use Rattle.bx_lapd.proofs.Media.{Confirms}
 use Rattle.bx_lapd.proofs.Flow.{Flow}
 use Rattle.bx_lapd.proofs.Sinks.{deaf_give, deaf_elapse}
 use Rattle.bx_lapd.proofs.Worlds.{WorldOk, ok_swapped, in_order_of}
-use Rattle.bx_lapd.proofs.Steps.{Marks, Joint, Mid, KeptTight, joint_loses, mid_flush, kept_give, kept_hear, kept_elapse}
+use Rattle.bx_lapd.proofs.Steps.{Marks, Joint, KeptTight, joint_loses, mid_flush, kept_give, kept_hear, kept_elapse}
 
 -- ---- frames by what they are
 
@@ -562,8 +561,8 @@ met x p now k e fs w =
     let none : m.dd ≡ [] = m.dd_is ∙ ap messages_of (flush_told b now) in (
       f.0,
       subst (λ g. Joint g [] k e (flush now b).link p (flush now b).frames fs f.0) (sym (flush_queue b now))
-      (subst (λ ys. Joint x.queue ys k e (flush now b).link p (flush now b).frames fs f.0) none
-      (subst (λ xs. Joint x.queue m.dd k e (flush now b).link p xs fs f.0) m.ff_is m.joint)),
+          (subst (λ ys. Joint x.queue ys k e (flush now b).link p (flush now b).frames fs f.0) none
+          (subst (λ xs. Joint x.queue m.dd k e (flush now b).link p xs fs f.0) m.ff_is m.joint)),
       f.2,
     )
 

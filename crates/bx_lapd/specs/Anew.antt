@@ -9,15 +9,15 @@
 -- first, sets back one end alone.
 use Rattle.std.specs.Prelude.{◌≡◌, ℕ, ◌+◌, Bool, true, false, List, [], ◌∷◌, if◌then◌else◌}
 use Rattle.bx_lapd.specs.declared.words.LinkState.{LinkState}
-use Rattle.bx_lapd.specs.declared.words.LinkState.TheVariants.{Assigned, AwaitingEstablishment, AwaitingRelease, Established, TimerRecovery}
+use Rattle.bx_lapd.specs.declared.words.LinkState.TheVariants.{AwaitingEstablishment, AwaitingRelease}
 use Rattle.bx_lapd.specs.declared.words.Unnumbered.TheVariants as u
 use Rattle.bx_lapd.specs.declared.frame.Frame.{Frame}
-use Rattle.bx_lapd.specs.declared.frame.Frame.TheVariants.{Information, Numbered, Plain}
+use Rattle.bx_lapd.specs.declared.frame.Frame.TheVariants.{Plain}
 use Rattle.bx_lapd.specs.Links.{is_up}
 use Rattle.bx_lapd.specs.Table.{is_due}
 use Rattle.bx_lapd.specs.Law.{IsInOrder}
 use Rattle.bx_lapd.specs.Once.{AreUnlinked}
-use Rattle.bx_lapd.specs.World.{World, EndEvent, Gives, Hears, Loses, Elapses, Asks, Releases, WorldEvent, AtNear, AtFar, at_near, swapped, world_after}
+use Rattle.bx_lapd.specs.World.{World, EndEvent, Hears, Elapses, Releases, WorldEvent, AtNear, AtFar, at_near, swapped, world_after}
 
 -- ---- from the last establishment on
 

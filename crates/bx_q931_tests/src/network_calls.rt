@@ -182,7 +182,10 @@ fn call_states_that_are_reported(rt: HostRuntime) -> Result<(), Fail> {
     let Next::Live(active) = answered.on_second(101, 200).next else {
         return Err("a call that goes on".into());
     };
-    assert_eq!(rt; first_odd_report(&active, &[1, 3, 10], ANSWERED_RELEASE_101), None);
+    assert_eq!(rt;
+        first_odd_report(&active, &[1, 3, 10], ANSWERED_RELEASE_101),
+        None
+    );
     Ok(())
 }
 

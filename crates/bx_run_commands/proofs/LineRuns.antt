@@ -79,7 +79,7 @@ module _ {W D : Type 0} (did : W → List WireAct → W → Type 0) (holds may_l
   stopped_line wire schedule kept from to old new done fault is over scheduled by ran =
       let run = subst (λ (r : Result (Unit {0}) CannotRecord). IsRun (Between from) ran.acts (or_over (Done to) to r)) is ran.goes in
       let stopped = stopped_by holds may_leave moment left_since has_failed (Between from) to ran.acts old.record.disk new.record.disk (λ none. none) run
-          (chain_map (GoesByLine did holds may_leave moment left_since has_failed) (OnRecord holds may_leave moment left_since has_failed) (λ w. w.record.disk) (λ s t act p. p.recorded) old new ran.acts ran.done) in
+      (chain_map (GoesByLine did holds may_leave moment left_since has_failed) (OnRecord holds may_leave moment left_since has_failed) (λ w. w.record.disk) (λ s t act p. p.recorded) old new ran.acts ran.done) in
       record {
         acts = ran.acts;
         old = old;

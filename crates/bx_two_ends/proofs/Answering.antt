@@ -445,8 +445,8 @@ rings_hears t e0 e m octets rest (OnCall c a) fits is spared rings named told =
     let x = net_awake_state c.state in
     let p = ringing_going (OnCall (call_of c.reference c.channel c.origin x) a) (awake_ringing c.state rings) in
     let g : GoesOn c.reference c.origin x m.heard.kind (hears m t (OnCall c a)).standing = heard_by (λ (y : Transition PlainNetCall). GoesOn c.reference c.origin x m.heard.kind (follows a t y).standing) c m.heard t c.state m.heard.kind
-        (λ asked due is q. absurd (false≢true (subst (λ (s : NetState). is_ringing_in s ≡ true) is rings)))
-        (going_row c.reference c.channel c.origin x a m.heard t m.heard.kind (not_going (net_is_clearing x) p.0) p.1 (subst (λ ch. clears_by ch m.heard m.heard.kind ≡ false) (sym fits.channel) spared)) in
+    (λ asked due is q. absurd (false≢true (subst (λ (s : NetState). is_ringing_in s ≡ true) is rings)))
+    (going_row c.reference c.channel c.origin x a m.heard t m.heard.kind (not_going (net_is_clearing x) p.0) p.1 (subst (λ ch. clears_by ch m.heard m.heard.kind ≡ false) (sym fits.channel) spared)) in
     decide (is_ringing (hears m t (OnCall c a)).standing)
     (λ still. Rings still (λ x. names_same x c.reference c.origin (hears m t (OnCall c a)).standing g.same ∙ named x)
     (decide (is_connect m.heard.kind)
@@ -574,8 +574,8 @@ clearing_live Missed h = absurd (false≢true h)
 pub clears_hears : (t : ℕ) (e0 e : Entry) (m : Said) (octets : List ℕ) (rest : List (List ℕ)) (s : Standing) → said_in octets ≡ Some m → is_clearing s ≡ true → ((x : Said) → names_call x s ≡ names x e0) → is_told (λ x. is_release x.kind) e0 (octets ∷ rest) ≡ true → Passes e0 rest (with_standing e (hears m t s).standing)
 clears_hears t e0 e m octets rest (OnCall c a) is clearing named told =
     let g : GetsCleared c.reference c.origin m.heard.kind (hears m t (OnCall c a)).standing = heard_by (λ (x : Transition PlainNetCall). GetsCleared c.reference c.origin m.heard.kind (follows a t x).standing) c m.heard t c.state m.heard.kind
-        (λ asked due is q. absurd (false≢true (subst (λ (s : NetState). net_is_clearing s ≡ true) is clearing)))
-        (cleared_row c.reference c.channel c.origin (net_awake_state c.state) a m.heard t m.heard.kind (awake_clearing c.state clearing)) in
+    (λ asked due is q. absurd (false≢true (subst (λ (s : NetState). net_is_clearing s ≡ true) is clearing)))
+    (cleared_row c.reference c.channel c.origin (net_awake_state c.state) a m.heard t m.heard.kind (awake_clearing c.state clearing)) in
     decide (is_live (hears m t (OnCall c a)).standing)
     (λ live. Clears (g.clearing live) (λ x. names_same x c.reference c.origin (hears m t (OnCall c a)).standing (g.same live) ∙ named x)
     (decide (is_release m.heard.kind)

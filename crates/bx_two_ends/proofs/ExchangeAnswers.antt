@@ -501,8 +501,8 @@ spares_x : (rows : List Row) (assigned : List (Option ℕ)) (c : Day) (t : ℕ) 
 spares_x rows assigned c t o rest said d kinds m h j going =
     ap (tells test (entry_at d.entries j)) (said_again o m.sendable) ∙ decide (names (said_from o) (entry_at d.entries j))
     (λ named. ap (λ b. b && test (said_from o).heard) named ∙ or_from (clears_by ch (said_from o).heard (said_from o).heard.kind) (contradicts (standing_at d j) (said_from o).heard)
-        (at m.says (live_ref c (o ∷ rest) said j (said_from o) (standing_at d j) kinds (h.calls j) (going_live (standing_at d j) going) named))
-        (agrees_unasked (standing_at d j) (said_from o).heard (live_unasked c (o ∷ rest) said j (standing_at d j) kinds (h.calls j) (going_live (standing_at d j) going))))
+    (at m.says (live_ref c (o ∷ rest) said j (said_from o) (standing_at d j) kinds (h.calls j) (going_live (standing_at d j) going) named))
+    (agrees_unasked (standing_at d j) (said_from o).heard (live_unasked c (o ∷ rest) said j (standing_at d j) kinds (h.calls j) (going_live (standing_at d j) going))))
     (λ other. and_off (names (said_from o) (entry_at d.entries j)) (test (said_from o).heard) other)
   where
     ch : ℕ

@@ -10,7 +10,7 @@ use Rattle.bx_q931.specs.declared.kind.Kind.{Kind}
 use Rattle.bx_q931.specs.declared.kind.Kind.TheVariants.{Connect, Release, Status}
 use Rattle.bx_q931.specs.Outgoing.{Outgoing, out_octets}
 use Rattle.bx_calls.specs.Hearing.{Heard, reports_null}
-use Rattle.bx_calls.specs.NetTable.{net_awake_state, net_is_clearing}
+use Rattle.bx_calls.specs.NetTable.{net_is_clearing}
 use Rattle.bx_calls.specs.PlainCalls.{PlainUserCall}
 use Rattle.bx_calls.specs.Sending.{Sent}
 use Rattle.bx_calls.specs.declared.net_state.NetOrigin.{NetOrigin}
@@ -18,7 +18,6 @@ use Rattle.bx_calls.specs.declared.net_state.NetState.{NetState}
 use Rattle.bx_calls.specs.declared.net_state.NetState.TheVariants as net
 use Rattle.bx_calls.specs.declared.user_state.UserState.{UserState}
 use Rattle.bx_two_ends.specs.Answering.{is_ringing_in, is_ringing, is_clearing, is_enquired, said_in, tells, is_told, is_connect, is_release, Answers, EachHeard, AnswersAll}
-use Rattle.bx_two_ends.specs.Asking.{is_asked}
 use Rattle.bx_day.specs.Day.{Day, opening, entry_at, entries_from, is_live}
 use Rattle.bx_two_ends.specs.Earning.{heard_in, is_settled_in, IsAnswered}
 use Rattle.bx_day.specs.Law.{standing_at}
@@ -29,7 +28,6 @@ use Rattle.bx_day.specs.declared.entry.Entry.{Entry}
 use Rattle.bx_day.specs.declared.entry.Link.TheVariants.{Up}
 use Rattle.bx_day.specs.declared.entry.Standing.{Standing}
 use Rattle.bx_day.specs.declared.entry.Standing.TheVariants.{Refused, Unoffered, OnCall, Carried, Unanswered, Missed}
-use Rattle.bx_two_ends.proofs.Asking.{awake_unasked}
 use Rattle.bx_two_ends.proofs.Answering.{IsHearing, is_up, is_third, is_third_call, turn_answered}
 use Rattle.bx_two_ends.proofs.AnsweringDays.{idle_at}
 use Rattle.bx_two_ends.proofs.Calm.{IsCalm, called_turn, calm_linked, answered_cleared}

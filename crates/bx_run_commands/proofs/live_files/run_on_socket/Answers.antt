@@ -26,17 +26,20 @@ returns-in-Ok-clause-ran g c = λ hours opens. record {
 }
 
 pub returns-in-Err-clause-stopped : goal.returns-in-Err-clause-stopped
-returns-in-Err-clause-stopped g c = λ hours opens. inr (c.unrecorded.ensures, record {
-  hours = c.args.hours;
-  are_hours = hours;
-  opened = c.args.opening.exchange;
-  channels = c.args.opening.channels;
-  digest = c.args.opening.digest;
-  opens = opens;
-  resumed = c.in_ok-resumed.resumed.exchange;
-  kept = c.in_ok-resumed.resumed.record;
-  goes_on = c.in_ok-resumed.ensures.resumed;
-  is_kept = c.in_ok-resumed.ensures.kept;
-  wire = c.new-wire.result;
-  stopped = c.in-Err.ensures.stopped;
-})
+returns-in-Err-clause-stopped g c = λ hours opens. inr (
+  c.unrecorded.ensures,
+  record {
+    hours = c.args.hours;
+    are_hours = hours;
+    opened = c.args.opening.exchange;
+    channels = c.args.opening.channels;
+    digest = c.args.opening.digest;
+    opens = opens;
+    resumed = c.in_ok-resumed.resumed.exchange;
+    kept = c.in_ok-resumed.resumed.record;
+    goes_on = c.in_ok-resumed.ensures.resumed;
+    is_kept = c.in_ok-resumed.ensures.kept;
+    wire = c.new-wire.result;
+    stopped = c.in-Err.ensures.stopped;
+  },
+)
