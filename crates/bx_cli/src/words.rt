@@ -76,40 +76,25 @@ pub fn main_words<
     // And 1 says that some command of that kind is refused, or that two of its files are one and nothing was done, or such a text was not written whole, or nothing was done.
     ensures not_done { words.now ≢ [] → result ≡ 1 → ((request : Request) × NoFileMeets (H.tells rt.now) request × IsRequestRefused H (R.remaining (device_of input.old)) request H.File.contents W.contents output.old output.new) ⊎ ((request : Request) × (met : List ℕ) × IsMet (H.tells rt.now) request met × (output.new ≡ output.old)) ⊎ ((text : List ℕ) × (is_faulted output.new ≡ true) × AppendsPrefix (W.contents (device_of output.old)) (W.contents (device_of output.new)) text) ⊎ (output.new ≡ output.old) }
 {
+    let alloc = rt.alloc();
+    let unread = nothing_read(is_terminal);
     if words.is_empty() {
-        return match check_self(rt.alloc(), input, output) {
+        return match check_self(alloc, input, output) {
             Ok(_) => 0,
-            Err(fault) => refused(rt.alloc(), &fault, plan_read(is_terminal), errors),
+            Err(fault) => refused(alloc, &fault, plan_read(is_terminal), errors),
         };
     }
-    match read_words(rt.alloc(), words) {
+    match read_words(alloc, words) {
         Ok(request) => match met_file(rt, &request) {
             None => run(rt, request, input, output, errors, is_terminal),
-            Some(name) => refused(
-                rt.alloc(),
-                &SameFile(name),
-                nothing_read(is_terminal),
-                errors,
-            ),
+            Some(name) => refused(alloc, &SameFile(name), unread, errors),
         },
-        Err(Refusal::Help(text)) => {
-            status_of(
-                rt.alloc(),
-                show(&text, output),
-                nothing_read(is_terminal),
-                errors,
-            )
-        }
+        Err(Refusal::Help(text)) => status_of(alloc, show(&text, output), unread, errors),
         Err(Refusal::Wrong(text)) => {
             let _ = write_octets(errors, text.as_bytes());
             2
         }
-        Err(Refusal::Memory) => refused(
-            rt.alloc(),
-            &CommandFault::Memory,
-            nothing_read(is_terminal),
-            errors,
-        ),
+        Err(Refusal::Memory) => refused(alloc, &CommandFault::Memory, unread, errors),
     }
 }
 
