@@ -4,7 +4,7 @@
 mod request;
 
 pub use request::{
-    AuditRequest, Call, CaptureWords, DayHours, FarLineRequest, FarRequest, FileRequest, LinePorts,
-    LiveRequest, Peer, Place, RecordsRequest, RecordsWords, RehearsalRequest, Request, Sight,
-    SoldRequest, Terms,
+    AuditRequest, Call, CaptureWords, DayChartRequest, DayHours, FarLineRequest, FarRequest,
+    FileRequest, LinePorts, LiveRequest, Peer, Place, RecordsRequest, RecordsWords,
+    RehearsalRequest, Request, Sight, SoldRequest, Terms,
 };

@@ -85,7 +85,7 @@ pub enum FileRequest<'a> {
     },
 }
 
-/// Where an exchange listens, or a far end connects.
+/// Where an exchange or its booking office listens, or a far end connects.
 #[derive(Clone, Copy)]
 pub enum Place<'a> {
     /// A TCP port of 127.0.0.1.
@@ -162,6 +162,8 @@ pub struct LiveRequest<'a> {
     pub hours: DayHours<'a>,
     /// The file of its journal, where one is kept.
     pub journal: Option<&'a str>,
+    /// Where its booking office listens, where there is one. Nothing is sold off the record, so there is one only beside a journal.
+    pub office: Option<Place<'a>>,
     pub turns: Option<u32>,
     pub is_quiet: bool,
 }
@@ -192,6 +194,15 @@ pub struct SoldRequest<'a> {
     pub journal: &'a str,
 }
 
+/// A day that is to be drawn as a picture by its journal.
+#[derive(Clone, Copy)]
+pub struct DayChartRequest<'a> {
+    pub plan: &'a str,
+    pub journal: &'a str,
+    /// The date and the zone of the day, where the picture is as long as it and shows its clock.
+    pub day: Option<(&'a str, &'a str)>,
+}
+
 /// One command, with its words.
 #[derive(Drop)]
 pub enum Request<'a> {
@@ -203,6 +214,7 @@ pub enum Request<'a> {
     Audit(AuditRequest<'a>),
     Records(RecordsRequest<'a>),
     Sold(SoldRequest<'a>),
+    DayChart(DayChartRequest<'a>),
     /// Print what a message says.
     Decode { octets: &'a str },
 }
