@@ -4,3 +4,10 @@ pub mod Batches
 pub mod Seconds
 pub mod Records
 pub mod LastPlan
+mod Totals
+mod Eligible
+mod Promised
+mod Chosen
+mod Settled
+mod Best
+mod Hindered

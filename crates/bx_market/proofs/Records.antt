@@ -36,42 +36,40 @@ sold_on (OnLink event ∷ xs) ys = sold_on xs ys
 sold_on (WithoutLink ∷ xs) ys = sold_on xs ys
 
 -- the bookings that were sold since a batch was asked for
-pub record AreSold (deals : List Deal) (batch sold : List Row) : Type 0 where
-  shown : Day
-  before : List Deal
-  since : List Deal
-  are : deals ≡ before ++ Asked shown (Some batch) ∷ since
-  is : sold_in row_on (recorded (acts_of since)) ≡ sold
+pub record AreSold (deals : List Deal) (shown : Day) (batch sold : List Row) : Type 0 where
+  pub before : List Deal
+  pub since : List Deal
+  pub are : deals ≡ before ++ Asked shown (Some batch) ∷ since
+  pub is : sold_in row_on (recorded (acts_of since)) ≡ sold
 
 -- one deal more
-sold_behind : (deals : List Deal) (batch sold : List Row) (act : Act) → AreSold deals batch sold → AreSold (deals ++ Ran act ∷ []) batch (sold ++ sold_in row_on (recorded (act ∷ [])))
-sold_behind deals batch sold act s = record {
-  shown = s.shown;
+sold_behind : (deals : List Deal) (shown : Day) (batch sold : List Row) (act : Act) → AreSold deals shown batch sold → AreSold (deals ++ Ran act ∷ []) shown batch (sold ++ sold_in row_on (recorded (act ∷ [])))
+sold_behind deals shown batch sold act s = record {
   before = s.before;
   since = s.since ++ Ran act ∷ [];
-  are = ap (λ (l : List Deal). l ++ Ran act ∷ []) s.are ∙ append_assoc s.before (Asked s.shown (Some batch) ∷ s.since) (Ran act ∷ []);
+  are = ap (λ (l : List Deal). l ++ Ran act ∷ []) s.are ∙ append_assoc s.before (Asked shown (Some batch) ∷ s.since) (Ran act ∷ []);
   is = ap (λ (l : List Act). sold_in row_on (recorded l)) (acts_more s.since (Ran act ∷ []))
       ∙ (ap (sold_in row_on) (recorded_on (acts_of s.since) (act ∷ []))
       ∙ (sold_on (recorded (acts_of s.since)) (recorded (act ∷ []))
       ∙ ap (λ (l : List Row). l ++ sold_in row_on (recorded (act ∷ []))) s.is));
 }
 
-pub record AreTold (deals : List Deal) (batch sold : List Row) : Type 0 where
-  sold_since : AreSold deals batch sold
-  on_disk : (filed (acts_of deals)).more ≡ []
+pub record AreSynced (deals : List Deal) (shown : Day) (batch sold : List Row) : Type 0 where
+  pub sold_since : AreSold deals shown batch sold
+  pub on_disk : (filed (acts_of deals)).more ≡ []
 
 abbrev pub Stands : List Deal → Stand → Type 0
 Stands deals (Within p) = Unit {0}
-Stands deals (Filing d batch sold) = AreSold deals batch sold
-Stands deals (Telling d batch sold) = AreTold deals batch sold
+Stands deals (Filing shown d batch sold) = AreSold deals shown batch sold
+Stands deals (Telling shown d batch sold) = AreSynced deals shown batch sold
 
 named : (deals : List Deal) (to other : Stand) → to ≡ other → Stands deals other → Stands deals to
 named deals to other e s = subst (Stands deals) (sym e) s
 
-stands : (channels : List Bool) (deals : List Deal) (from to : Stand) (deal : Deal) → Stands deals from → Goes channels from deal to → Stands (deals ++ deal ∷ []) to
+pub stands : (channels : List Bool) (deals : List Deal) (from to : Stand) (deal : Deal) → Stands deals from → Goes channels from deal to → Stands (deals ++ deal ∷ []) to
 stands channels deals (Within p) to (Ran act) s (due, e) = named _ to _ e tt
 stands channels deals (Within (Between d)) to (Asked shown None) s (at, e) = named _ to (Within (Between d)) e tt
-stands channels deals (Within (Between d)) to (Asked shown (Some batch)) s (at, e) = named _ to (Filing d batch []) e (record { shown = shown; before = deals; since = []; are = refl; is = refl })
+stands channels deals (Within (Between d)) to (Asked shown (Some batch)) s (at, e) = named _ to (Filing d d batch []) e (record { before = deals; since = []; are = ap (λ (x : Day). deals ++ Asked x (Some batch) ∷ []) at; is = refl })
 stands channels deals (Within (Recording d room event)) to (Asked shown batch) s e = absurd e
 stands channels deals (Within (Receiving d room owed octets)) to (Asked shown batch) s e = absurd e
 stands channels deals (Within (Taking d room owed)) to (Asked shown batch) s e = absurd e
@@ -83,32 +81,32 @@ stands channels deals (Within (Closing d)) to (Asked shown batch) s e = absurd e
 stands channels deals (Within (Ending d)) to (Asked shown batch) s e = absurd e
 stands channels deals (Within (Done d)) to (Asked shown batch) s e = absurd e
 stands channels deals (Within p) to (Answered answers) s e = absurd e
-stands channels deals (Filing d batch sold) to (Ran (Recorded (Sold line) true)) s (d1, is, e) = named _ to (Filing d1 batch (sold ++ row_on line ∷ [])) e (sold_behind deals batch sold (Recorded (Sold line) true) s)
-stands channels deals (Filing d batch sold) to (Ran (Recorded (Sold line) false)) s e = named _ to (Within (Over d)) e tt
-stands channels deals (Filing d batch sold) to (Ran (Recorded (OnLink event) done)) s e = absurd e
-stands channels deals (Filing d batch sold) to (Ran (Recorded WithoutLink done)) s e = absurd e
-stands channels deals (Filing d batch sold) to (Ran (Synced true)) s e = named _ to (Telling d batch sold) e (record {
-  sold_since = subst (AreSold (deals ++ Ran (Synced true) ∷ []) batch) (append-nil sold) (sold_behind deals batch sold (Synced true) s);
+stands channels deals (Filing shown d batch sold) to (Ran (Recorded (Sold line) true)) s (d1, is, e) = named _ to (Filing shown d1 batch (sold ++ row_on line ∷ [])) e (sold_behind deals shown batch sold (Recorded (Sold line) true) s)
+stands channels deals (Filing shown d batch sold) to (Ran (Recorded (Sold line) false)) s e = named _ to (Within (Over d)) e tt
+stands channels deals (Filing shown d batch sold) to (Ran (Recorded (OnLink event) done)) s e = absurd e
+stands channels deals (Filing shown d batch sold) to (Ran (Recorded WithoutLink done)) s e = absurd e
+stands channels deals (Filing shown d batch sold) to (Ran (Synced true)) s e = named _ to (Telling shown d batch sold) e (record {
+  sold_since = subst (AreSold (deals ++ Ran (Synced true) ∷ []) shown batch) (append-nil sold) (sold_behind deals shown batch sold (Synced true) s);
   on_disk = ap (λ (l : List Act). (filed l).more) (acts_more deals (Ran (Synced true) ∷ [])) ∙ filed_synced (acts_of deals) _;
 })
-stands channels deals (Filing d batch sold) to (Ran (Synced false)) s e = named _ to (Within (Over d)) e tt
-stands channels deals (Filing d batch sold) to (Ran (Began second begin)) s e = absurd e
-stands channels deals (Filing d batch sold) to (Ran (Dropped loss)) s e = absurd e
-stands channels deals (Filing d batch sold) to (Ran (Wrote octets done)) s e = absurd e
-stands channels deals (Filing d batch sold) to (Ran (Read room answer)) s e = absurd e
-stands channels deals (Filing d batch sold) to (Ran (Took message)) s e = absurd e
-stands channels deals (Filing d batch sold) to (Ran EndedDay) s e = absurd e
-stands channels deals (Filing d batch sold) to (Asked shown other) s e = absurd e
-stands channels deals (Filing d batch sold) to (Answered answers) s (none, are, e) = named _ to (Within (Between d)) e tt
-stands channels deals (Telling d batch sold) to (Ran act) s e = absurd e
-stands channels deals (Telling d batch sold) to (Asked shown other) s e = absurd e
-stands channels deals (Telling d batch sold) to (Answered answers) s (are, e) = named _ to (Within (Between d)) e tt
+stands channels deals (Filing shown d batch sold) to (Ran (Synced false)) s e = named _ to (Within (Over d)) e tt
+stands channels deals (Filing shown d batch sold) to (Ran (Began second begin)) s e = absurd e
+stands channels deals (Filing shown d batch sold) to (Ran (Dropped loss)) s e = absurd e
+stands channels deals (Filing shown d batch sold) to (Ran (Wrote octets done)) s e = absurd e
+stands channels deals (Filing shown d batch sold) to (Ran (Read room answer)) s e = absurd e
+stands channels deals (Filing shown d batch sold) to (Ran (Took message)) s e = absurd e
+stands channels deals (Filing shown d batch sold) to (Ran EndedDay) s e = absurd e
+stands channels deals (Filing shown d batch sold) to (Asked day other) s e = absurd e
+stands channels deals (Filing shown d batch sold) to (Answered answers) s (none, are, told, e) = named _ to (Within (Between d)) e tt
+stands channels deals (Telling shown d batch sold) to (Ran act) s e = absurd e
+stands channels deals (Telling shown d batch sold) to (Asked day other) s e = absurd e
+stands channels deals (Telling shown d batch sold) to (Answered answers) s (are, told, e) = named _ to (Within (Between d)) e tt
 
 told_at : (channels : List Bool) (deals : List Deal) (from to : Stand) (answers : List Answer) → Stands deals from → Goes channels from (Answered answers) to → IsToldOnRecord deals answers
 told_at channels deals (Within p) to answers s e = absurd e
-told_at channels deals (Filing d batch sold) to answers s (none, are, e) = record { shown = s.shown; batch = batch; before = s.before; since = s.since; are = s.are; sold = s.is ∙ (none ∙ sym are); on_disk = inl are }
-told_at channels deals (Telling d batch sold) to answers s (are, e) =
-    record { shown = s.sold_since.shown; batch = batch; before = s.sold_since.before; since = s.sold_since.since; are = s.sold_since.are; sold = s.sold_since.is ∙ sym are; on_disk = inr s.on_disk }
+told_at channels deals (Filing shown d batch sold) to answers s (none, are, told, e) = record { shown = shown; batch = batch; before = s.before; since = s.since; are = s.are; sold = s.is ∙ (none ∙ sym are); on_disk = inl are }
+told_at channels deals (Telling shown d batch sold) to answers s (are, told, e) =
+    record { shown = shown; batch = batch; before = s.sold_since.before; since = s.sold_since.since; are = s.sold_since.are; sold = s.sold_since.is ∙ sym are; on_disk = inr s.on_disk }
 
 pub told_on_record : (channels : List Bool) (done before behind : List Deal) (answers : List Answer) (from to : Stand) → Stands done from → IsMarketRun channels from (before ++ Answered answers ∷ behind) to → IsToldOnRecord (done ++ before) answers
 told_on_record channels done [] behind answers from to s (mid, goes, rest) = subst (λ (l : List Deal). IsToldOnRecord l answers) (sym (append-nil done)) (told_at channels done from mid answers s goes)

@@ -1,5 +1,5 @@
 -- Runs with sales, one behind another.
-use Rattle.std.proofs.Common.{◌≡◌, Bool, true, false, List, [], ◌∷◌, ◌++◌, refl, sym, ap, ◌∙◌, subst}
+use Rattle.std.proofs.Common.{◌≡◌, Bool, true, List, [], ◌∷◌, ◌++◌, refl, sym, ap, ◌∙◌, subst}
 use Rattle.bx_live.specs.Acts.{Act, Began, Dropped, Recorded, Synced, Wrote, Read, Took, EndedDay, begins_none}
 use Rattle.bx_live.specs.Runs.{Place, IsRun, next}
 use Rattle.bx_live.specs.Running.{Runs}

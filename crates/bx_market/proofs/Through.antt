@@ -3,7 +3,6 @@ use Rattle.std.proofs.Common.{◌≡◌, ℕ, zero, suc, Option, ◌+◌, ◌==�
 use Rattle.arrayvec.specs.ArrayVec.{ArrayVec}
 use Rattle.bx_day.specs.Day.{Day}
 use Rattle.bx_day.specs.Course.{exchange_next, exchange_sent, exchange_text}
-use Rattle.bx_day.specs.Outages.{live_happens}
 use Rattle.bx_events.specs.Events.{Receive, LiveEvent, OnLink, WithoutLink, Sold}
 use Rattle.bx_frames.specs.declared.fault.LinkFault.{LinkFault}
 use Rattle.bx_frames.specs.declared.frame.Frame.{Frame}
@@ -136,8 +135,8 @@ module _ (channels : List Bool) where
 
   abbrev pub IsLinkStand : Stand → Type 0
   IsLinkStand (Within p) = IsLinkPlace p
-  IsLinkStand (Filing d batch sold) = Unit {0}
-  IsLinkStand (Telling d batch sold) = Unit {0}
+  IsLinkStand (Filing shown d batch sold) = Unit {0}
+  IsLinkStand (Telling shown d batch sold) = Unit {0}
 
   record Keeps (from : Stand) (deal : Deal) (to : Stand) : Type 0 where
     links : IsLinkStand to
@@ -155,7 +154,7 @@ module _ (channels : List Bool) where
     through = subst (λ (s : Stand). Through (recorded (act ∷ [])) (day_at p) (stand_day s)) (sym e) (act_through p act link due);
   }
   keeps (Within (Between d)) to (Asked shown None) link (at, e) = quiet _ to (Within (Between d)) _ refl e tt refl
-  keeps (Within (Between d)) to (Asked shown (Some batch)) link (at, e) = quiet _ to (Filing d batch []) _ refl e tt refl
+  keeps (Within (Between d)) to (Asked shown (Some batch)) link (at, e) = quiet _ to (Filing d d batch []) _ refl e tt refl
   keeps (Within (Recording d room event)) to (Asked shown batch) link e = absurd e
   keeps (Within (Receiving d room owed octets)) to (Asked shown batch) link e = absurd e
   keeps (Within (Taking d room owed)) to (Asked shown batch) link e = absurd e
@@ -167,23 +166,23 @@ module _ (channels : List Bool) where
   keeps (Within (Ending d)) to (Asked shown batch) link e = absurd e
   keeps (Within (Done d)) to (Asked shown batch) link e = absurd e
   keeps (Within p) to (Answered answers) link e = absurd e
-  keeps (Filing d batch sold) to (Ran (Recorded (Sold line) true)) link (d1, is, e) = record { links = subst IsLinkStand (sym e) tt; through = (d1, is, ap stand_day e) }
-  keeps (Filing d batch sold) to (Ran (Recorded (Sold line) false)) link e = quiet _ to (Within (Over d)) _ refl e tt refl
-  keeps (Filing d batch sold) to (Ran (Recorded (OnLink event) done)) link e = absurd e
-  keeps (Filing d batch sold) to (Ran (Recorded WithoutLink done)) link e = absurd e
-  keeps (Filing d batch sold) to (Ran (Synced true)) link e = quiet _ to (Telling d batch sold) _ refl e tt refl
-  keeps (Filing d batch sold) to (Ran (Synced false)) link e = quiet _ to (Within (Over d)) _ refl e tt refl
-  keeps (Filing d batch sold) to (Ran (Began second begin)) link e = absurd e
-  keeps (Filing d batch sold) to (Ran (Dropped loss)) link e = absurd e
-  keeps (Filing d batch sold) to (Ran (Wrote octets done)) link e = absurd e
-  keeps (Filing d batch sold) to (Ran (Read room answer)) link e = absurd e
-  keeps (Filing d batch sold) to (Ran (Took message)) link e = absurd e
-  keeps (Filing d batch sold) to (Ran EndedDay) link e = absurd e
-  keeps (Filing d batch sold) to (Asked shown other) link e = absurd e
-  keeps (Filing d batch sold) to (Answered answers) link (none, are, e) = quiet _ to (Within (Between d)) _ refl e tt refl
-  keeps (Telling d batch sold) to (Ran act) link e = absurd e
-  keeps (Telling d batch sold) to (Asked shown other) link e = absurd e
-  keeps (Telling d batch sold) to (Answered answers) link (are, e) = quiet _ to (Within (Between d)) _ refl e tt refl
+  keeps (Filing shown d batch sold) to (Ran (Recorded (Sold line) true)) link (d1, is, e) = record { links = subst IsLinkStand (sym e) tt; through = (d1, is, ap stand_day e) }
+  keeps (Filing shown d batch sold) to (Ran (Recorded (Sold line) false)) link e = quiet _ to (Within (Over d)) _ refl e tt refl
+  keeps (Filing shown d batch sold) to (Ran (Recorded (OnLink event) done)) link e = absurd e
+  keeps (Filing shown d batch sold) to (Ran (Recorded WithoutLink done)) link e = absurd e
+  keeps (Filing shown d batch sold) to (Ran (Synced true)) link e = quiet _ to (Telling shown d batch sold) _ refl e tt refl
+  keeps (Filing shown d batch sold) to (Ran (Synced false)) link e = quiet _ to (Within (Over d)) _ refl e tt refl
+  keeps (Filing shown d batch sold) to (Ran (Began second begin)) link e = absurd e
+  keeps (Filing shown d batch sold) to (Ran (Dropped loss)) link e = absurd e
+  keeps (Filing shown d batch sold) to (Ran (Wrote octets done)) link e = absurd e
+  keeps (Filing shown d batch sold) to (Ran (Read room answer)) link e = absurd e
+  keeps (Filing shown d batch sold) to (Ran (Took message)) link e = absurd e
+  keeps (Filing shown d batch sold) to (Ran EndedDay) link e = absurd e
+  keeps (Filing shown d batch sold) to (Asked day other) link e = absurd e
+  keeps (Filing shown d batch sold) to (Answered answers) link (none, are, told, e) = quiet _ to (Within (Between d)) _ refl e tt refl
+  keeps (Telling shown d batch sold) to (Ran act) link e = absurd e
+  keeps (Telling shown d batch sold) to (Asked day other) link e = absurd e
+  keeps (Telling shown d batch sold) to (Answered answers) link (are, told, e) = quiet _ to (Within (Between d)) _ refl e tt refl
 
   -- ---- all deals
 

@@ -1,4 +1,7 @@
 pub mod Deals
+pub mod Choices
+pub mod Answers
+pub mod Choosing
 pub mod Stands
 pub mod SaleRuns
 pub mod Told

@@ -1,10 +1,15 @@
 -- Private: how a batch ends.
-use Rattle.std.specs.Prelude.{◌≡◌, Bool, true, List, [], ◌∷◌, ◌++◌, Result, Ok, Err}
+use Rattle.std.specs.Prelude.{◌≡◌, ◌≤◌, ℕ, Bool, true, List, [], ◌∷◌, ◌++◌, length, nat_le, Result, Ok, Err, if◌then◌else◌}
 use Rattle.bx_base.specs.Bookings.{Row}
+use Rattle.bx_base.specs.declared.bookings.TheConstants.{MAX_BOOKINGS}
+use Rattle.bx_colour.specs.Colouring.{FitsChannels}
 use Rattle.bx_day.specs.Day.{Day}
 use Rattle.bx_live.specs.declared.world.CannotRecord.{CannotRecord}
 use Rattle.bx_live.specs.Acts.{begins_none}
 use Rattle.bx_live.specs.Runs.{Over}
+use Rattle.bx_sales.specs.Selling.{rows_with, marks_with, IsSold, IsOtherPlan}
+use Rattle.bx_sales.specs.declared.selling.NoSale.{NoSale}
+use Rattle.bx_sales.specs.declared.selling.NoSale.TheVariants.{Late, Full, NoChannel, OtherChannels, Memory}
 use Rattle.bx_market.specs.declared.market.Answer.{Answer}
 use Rattle.bx_market.specs.declared.market.Answer.TheVariants.{Accepted, Refused}
 use Rattle.bx_market.specs.Deals.{Deal, acts_of}
@@ -24,7 +29,21 @@ module _ {W : Type 0} (dealt : W → List Deal → W → Type 0) (channels : Lis
   OrOver from to (Err fault) = (d : Day) × Asks dealt channels old new from (Within (Over d))
 
   -- a booking of a batch was offered: it is sold and on record, or refused, and nothing changed
-  abbrev pub IsOffered : List Row → List Row → Row → Day → Day → Result Answer CannotRecord → Type 0
-  IsOffered batch sold row d d1 (Ok Accepted) = Asks dealt channels old new (Filing d batch sold) (Filing d1 batch (sold ++ row ∷ []))
-  IsOffered batch sold row d d1 (Ok (Refused why)) = Asks dealt channels old new (Filing d batch sold) (Filing d1 batch sold) × (d1 ≡ d)
-  IsOffered batch sold row d d1 (Err fault) = (over : Day) × Asks dealt channels old new (Filing d batch sold) (Within (Over over))
+  abbrev pub IsOffered : Day → List Row → List Row → Row → Day → Day → Result Answer CannotRecord → Type 0
+  IsOffered shown batch sold row d d1 (Ok Accepted) = Asks dealt channels old new (Filing shown d batch sold) (Filing shown d1 batch (sold ++ row ∷ []))
+  IsOffered shown batch sold row d d1 (Ok (Refused why)) = Asks dealt channels old new (Filing shown d batch sold) (Filing shown d1 batch sold) × (d1 ≡ d)
+  IsOffered shown batch sold row d d1 (Err fault) = (over : Day) × Asks dealt channels old new (Filing shown d batch sold) (Within (Over over))
+
+-- what has become of a booking that was offered: it is sold; or why it is not
+abbrev pub IsSettled : List Bool → Row → Day → Day → Result Answer CannotRecord → Type 0
+IsSettled channels row d d1 (Ok Accepted) = IsSold channels row d d1
+IsSettled channels row d d1 (Ok (Refused Late)) = row.start ≤ d.moment
+IsSettled channels row d d1 (Ok (Refused Full)) = MAX_BOOKINGS ≤ length d.entries
+IsSettled channels row d d1 (Ok (Refused NoChannel)) = ¬ FitsChannels (rows_with d row) (marks_with d) channels
+IsSettled channels row d d1 (Ok (Refused OtherChannels)) = IsOtherPlan channels row d
+IsSettled channels row d d1 (Ok (Refused Memory)) = Unit {0}
+IsSettled channels row d d1 (Err fault) = Unit {0}
+
+-- why a booking is not chosen, where it is eligible or not
+abbrev pub why_not : ℕ → Row → Bool → NoSale
+why_not moment row eligible = if nat_le row.start moment then Late else (if eligible then NoChannel else Full)

@@ -9,46 +9,47 @@ use Rattle.bx_live.specs.Held.{has_call}
 use Rattle.bx_live.specs.Runs.{Place, Between, Over, IsDue, next, day_at}
 use Rattle.bx_planfile.specs.OneBooking.{row_on}
 use Rattle.bx_sales.specs.Selling.{IsSold}
+use Rattle.bx_market.specs.Answers.{AreTold}
 use Rattle.bx_market.specs.Deals.{Deal, Ran, Asked, Answered, sold_of}
 
 -- where a run stands
 pub data Stand : Type 0 where
   -- in the run by the clock, at this place
   Within : (p : Place) → Stand
-  -- a batch was asked for, and these of it are sold so far, each on record
-  Filing : (d : Day) (batch sold : List Row) → Stand
+  -- a batch was asked for where the day was shown, and these of it are sold so far, each on record
+  Filing : (shown d : Day) (batch sold : List Row) → Stand
   -- what is sold of the batch is on the disk
-  Telling : (d : Day) (batch sold : List Row) → Stand
+  Telling : (shown d : Day) (batch sold : List Row) → Stand
 
 -- the day as far as its events and sales are on record
 abbrev pub stand_day : Stand → Day
 stand_day (Within p) = day_at p
-stand_day (Filing d batch sold) = d
-stand_day (Telling d batch sold) = d
+stand_day (Filing shown d batch sold) = d
+stand_day (Telling shown d batch sold) = d
 
 -- one booking more is sold and on record; or it could not be put on record, and nothing more is done
-abbrev pub Filed : List Bool → Day → List Row → List Row → Row → Bool → Stand → Type 0
-Filed channels d batch sold row true to = (d1 : Day) × IsSold channels row d d1 × (to ≡ Filing d1 batch (sold ++ row ∷ []))
-Filed channels d batch sold row false to = to ≡ Within (Over d)
+abbrev pub Filed : List Bool → Day → Day → List Row → List Row → Row → Bool → Stand → Type 0
+Filed channels shown d batch sold row true to = (d1 : Day) × IsSold channels row d d1 × (to ≡ Filing shown d1 batch (sold ++ row ∷ []))
+Filed channels shown d batch sold row false to = to ≡ Within (Over d)
 
 -- all that is sold of the batch is on the disk; or it may not be, and nothing more is done
-abbrev pub synced : Day → List Row → List Row → Bool → Stand
-synced d batch sold true = Telling d batch sold
-synced d batch sold false = Within (Over d)
+abbrev pub synced : Day → Day → List Row → List Row → Bool → Stand
+synced shown d batch sold true = Telling shown d batch sold
+synced shown d batch sold false = Within (Over d)
 
 abbrev pub asked : Day → Option (List Row) → Stand
 asked d None = Within (Between d)
-asked d (Some batch) = Filing d batch []
+asked d (Some batch) = Filing d d batch []
 
 -- A deal leads from one stand to another. Between two seconds the market is shown the day so far, and asked. Each booking that is sold is put on record, one sync
--- follows, and only then the customer is answered; where nothing is sold, no sync is wanted.
+-- follows, and only then the customer is answered, of the best choice among the batch; where nothing is sold, no sync is wanted.
 abbrev pub Goes : List Bool → Stand → Deal → Stand → Type 0
 Goes channels (Within p) (Ran act) to = IsDue p act × (to ≡ Within (next p act))
 Goes channels (Within (Between d)) (Asked shown batch) to = (shown ≡ d) × (to ≡ asked d batch)
-Goes channels (Filing d batch sold) (Ran (Recorded (Sold line) done)) to = Filed channels d batch sold (row_on line) done to
-Goes channels (Filing d batch sold) (Ran (Synced done)) to = to ≡ synced d batch sold done
-Goes channels (Filing d batch sold) (Answered answers) to = (sold ≡ []) × (sold_of batch answers ≡ []) × (to ≡ Within (Between d))
-Goes channels (Telling d batch sold) (Answered answers) to = (sold_of batch answers ≡ sold) × (to ≡ Within (Between d))
+Goes channels (Filing shown d batch sold) (Ran (Recorded (Sold line) done)) to = Filed channels shown d batch sold (row_on line) done to
+Goes channels (Filing shown d batch sold) (Ran (Synced done)) to = to ≡ synced shown d batch sold done
+Goes channels (Filing shown d batch sold) (Answered answers) to = (sold ≡ []) × (sold_of batch answers ≡ []) × AreTold channels shown batch answers × (to ≡ Within (Between d))
+Goes channels (Telling shown d batch sold) (Answered answers) to = (sold_of batch answers ≡ sold) × AreTold channels shown batch answers × (to ≡ Within (Between d))
 Goes _ _ _ _ = ⊥
 
 -- the deals of a run from one stand to another

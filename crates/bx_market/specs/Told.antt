@@ -1,5 +1,5 @@
--- What holds of every run with sales: nothing is sold off the record, and the day is that of the last plan.
-use Rattle.std.specs.Prelude.{◌≡◌, ◌⊎◌, ℕ, Bool, true, List, [], ◌∷◌, ◌++◌, map, length, Option, Some}
+-- What holds of every run with sales: nothing is sold off the record, of each batch the best choice is sold, and the day is that of the last plan.
+use Rattle.std.specs.Prelude.{◌≡◌, ◌⊎◌, ◌<◌, ℕ, Bool, true, false, List, [], ◌∷◌, ◌++◌, map, length, Option, Some}
 use Rattle.bx_base.specs.Bookings.{Row, AreBookings, Carries}
 use Rattle.bx_base.specs.Plans.{is_accepted, channel_at}
 use Rattle.bx_colour.specs.Colouring.{IsFirstFit}
@@ -11,7 +11,12 @@ use Rattle.bx_live.specs.Written.{filed}
 use Rattle.bx_live.specs.Runs.{Between}
 use Rattle.bx_planfile.specs.OneBooking.{row_on}
 use Rattle.bx_sales.specs.Journal.{sold_in}
+use Rattle.bx_sales.specs.Sold.{IsFirstFitDay}
+use Rattle.bx_sales.specs.declared.selling.NoSale.TheVariants.{Memory, OtherChannels}
 use Rattle.bx_market.specs.declared.market.Answer.{Answer}
+use Rattle.bx_market.specs.declared.market.Answer.TheVariants.{Accepted, Refused}
+use Rattle.bx_market.specs.Answers.{answer_at, AreTold}
+use Rattle.bx_market.specs.Choices.{IsBestChoice}
 use Rattle.bx_market.specs.Deals.{Deal, Asked, Answered, acts_of, sold_of}
 use Rattle.bx_market.specs.Stands.{Stand, Within, IsMarketRun, stand_day}
 
@@ -26,9 +31,38 @@ pub record IsToldOnRecord (deals : List Deal) (answers : List Answer) : Type 0 w
   pub sold : sold_in row_on (recorded (acts_of since)) ≡ sold_of batch answers
   pub on_disk : (sold_of batch answers ≡ []) ⊎ ((filed (acts_of deals)).more ≡ [])
 
+-- whether a booking is told as accepted
+abbrev pub is_sold : Answer → Bool
+is_sold Accepted = true
+is_sold (Refused why) = false
+
+-- no growth was refused, and the channels of the day were those of first fit
+abbrev pub IsUnhindered : Answer → Type 0
+IsUnhindered answer = ¬ (answer ≡ Refused Memory) × ¬ (answer ≡ Refused OtherChannels)
+
+-- what a customer is told behind these deals is the best choice of the batch, beside all that was promised when it was asked for: no other choice that keeps
+-- those promises pays more than what is accepted. Where a growth was refused some are told so
+pub record IsToldOfBest (channels : List Bool) (deals : List Deal) (answers : List Answer) : Type 0 where
+  pub shown : Day
+  pub batch : List Row
+  pub before : List Deal
+  pub since : List Deal
+  pub are : deals ≡ before ++ Asked shown (Some batch) ∷ since
+  pub told : AreTold channels shown batch answers
+  pub best : ((i : ℕ) → i < length batch → IsUnhindered (answer_at answers i)) → IsBestChoice channels shown batch (map is_sold answers)
+
+abbrev pub IsBestOfEachBatch : Type 0
+IsBestOfEachBatch = (channels : List Bool) (d : Day) (before behind : List Deal) (answers : List Answer) (to : Stand) →
+    IsMarketRun channels (Within (Between d)) (before ++ Answered answers ∷ behind) to → IsToldOfBest channels before answers
+
 abbrev pub IsNothingOffRecord : Type 0
 IsNothingOffRecord = (channels : List Bool) (d : Day) (before behind : List Deal) (answers : List Answer) (to : Stand) →
     IsMarketRun channels (Within (Between d)) (before ++ Answered answers ∷ behind) to → IsToldOnRecord before answers
+
+-- where the day at which a run begins is that of a first-fit plan, no customer is told of other channels
+abbrev pub IsNeverOfOtherChannels : Type 0
+IsNeverOfOtherChannels = (channels : List Bool) (d : Day) (before behind : List Deal) (answers : List Answer) (to : Stand) →
+    IsFirstFitDay channels d → IsMarketRun channels (Within (Between d)) (before ++ Answered answers ∷ behind) to → (i : ℕ) → i < length answers → ¬ (answer_at answers i ≡ Refused OtherChannels)
 
 -- A run that goes on from the day of a plan: the rows of that plan, with all that is sold behind them, coloured once, have the day by the
 -- events before and those on record. It may have gone on with a journal, whose sales the plan has among its rows.

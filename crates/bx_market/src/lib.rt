@@ -1,6 +1,7 @@
 //! A live run with sales: between two seconds customers ask for bookings, and what is sold is on record before they are told.
 #![tactic(auto)]
 
+mod choosing;
 pub mod laws;
 mod market;
 mod offering;

@@ -1,13 +1,16 @@
 //! A batch of bookings that a customer asks for.
 
-ghost use Rattle.std.specs.Prelude.{◌≡◌, [], List, Bool, false, OnOk};
+ghost use Rattle.std.specs.Prelude.{◌≡◌, ◌≤◌, ◌<◌, [], List, Bool, true, false, length, Ok, OnOk};
 ghost use Rattle.bx_base.specs.Bookings.{Row};
 ghost use Rattle.bx_live.specs.Runs.{Between};
 ghost use Rattle.bx_day.specs.Day.{Day};
+ghost use Rattle.bx_market.specs.Answers.{AreTold};
+ghost use Rattle.bx_market.specs.Choices.{eligible_marks, IsBestChoice};
 ghost use Rattle.bx_market.specs.Deals.{sold_of};
 ghost use Rattle.bx_market.specs.Stands.{Within, Filing};
-ghost use Rattle.bx_market.specs.Offers.{IsOffered, OrOver};
+ghost use Rattle.bx_market.specs.Offers.{Asks, IsOffered, IsSettled, OrOver, why_not};
 
+use crate::choosing::{Choice, choose};
 use crate::market::{Answer, Market};
 use arrayvec::ArrayVec;
 use bx_base::{Booking, Bookings, ChannelSet};
@@ -15,8 +18,8 @@ use bx_day::Exchange;
 use bx_events::LiveEvent;
 use bx_live::CannotRecord;
 use bx_planfile::spell_booking;
-use bx_sales::sell;
-use std::alloc::Global;
+use bx_sales::{NoSale, sell};
+use std::alloc::{AllocError, Global};
 
 /// Sells one booking of a batch, where it fits beside all that is promised, and puts it on record.
 fn offer<W: Market>(
@@ -26,8 +29,9 @@ fn offer<W: Market>(
     channels: ChannelSet,
     booking: Booking,
 ) -> Result<Answer, CannotRecord>
-    ensures offered { (batch sold : List Row) → IsOffered W.dealt channels world.old world.new batch sold booking exchange.old exchange.new result }
+    ensures offered { (shown : Day) (batch sold : List Row) → IsOffered W.dealt channels world.old world.new shown batch sold booking exchange.old exchange.new result }
     ensures moment { exchange.new.moment ≡ exchange.old.moment }
+    ensures settled { IsSettled channels booking exchange.old exchange.new result }
 {
     match sell(alloc, exchange, channels, &booking) {
         Ok(()) => {
@@ -37,6 +41,41 @@ fn offer<W: Market>(
         }
         Err(why) => Ok(Answer::Refused(why)),
     }
+}
+
+/// Why a booking of a batch is not chosen.
+fn why_not(moment: u32, booking: Booking, is_eligible: bool) -> NoSale
+    ensures { result ≡ why_not moment booking is_eligible }
+{
+    if booking.start() <= moment {
+        NoSale::Late
+    } else if is_eligible {
+        NoSale::NoChannel
+    } else {
+        NoSale::Full
+    }
+}
+
+/// Sells a booking that is chosen; of another one it is said why it is not.
+fn settle<W: Market>(
+    alloc: Global,
+    exchange: &mut Exchange,
+    world: &mut W,
+    channels: ChannelSet,
+    booking: Booking,
+    is_eligible: bool,
+    is_chosen: bool,
+) -> Result<Answer, CannotRecord>
+    ensures offered { (shown : Day) (batch sold : List Row) → IsOffered W.dealt channels world.old world.new shown batch sold booking exchange.old exchange.new result }
+    ensures moment { exchange.new.moment ≡ exchange.old.moment }
+    ensures chosen { is_chosen ≡ true → IsSettled channels booking exchange.old exchange.new result }
+    ensures left_out { is_chosen ≡ false → result ≡ Ok (Answer.Refused (why_not exchange.old.moment booking is_eligible)) }
+{
+    if is_chosen {
+        return offer(alloc, exchange, world, channels, booking);
+    }
+    let why = why_not(exchange.moment(), booking, is_eligible);
+    Ok(Answer::Refused(why))
 }
 
 /// Whether something was sold before, or is now.
@@ -51,7 +90,7 @@ fn is_sold_now(was: bool, answer: Answer) -> bool
 
 /// Tells the customer. Where something is sold, it is on the disk by then.
 fn tell<W: Market>(world: &mut W, answers: &[Answer], is_any_sold: bool) -> Result<(), CannotRecord>
-    ensures { (channels : List Bool) (d : Day) (batch : List Row) → (is_any_sold ≡ false → sold_of batch answers.now ≡ []) → OrOver W.dealt channels world.old world.new (Filing d batch (sold_of batch answers.now)) (Within (Between d)) result }
+    ensures { (channels : List Bool) (shown d : Day) (batch : List Row) → AreTold channels shown batch answers.now → (is_any_sold ≡ false → sold_of batch answers.now ≡ []) → OrOver W.dealt channels world.old world.new (Filing shown d batch (sold_of batch answers.now)) (Within (Between d)) result }
 {
     if !is_any_sold {
         world.answer(answers);
@@ -62,7 +101,64 @@ fn tell<W: Market>(world: &mut W, answers: &[Answer], is_any_sold: bool) -> Resu
     Ok(())
 }
 
-/// Sells what fits of a batch, in the order of its rows; what is sold is on the disk before the customer is answered.
+/// Sells the bookings that are chosen, in the order of the rows; what is sold is on the disk before the customer is answered.
+fn sell_chosen<W: Market>(
+    alloc: Global,
+    exchange: &mut Exchange,
+    world: &mut W,
+    channels: ChannelSet,
+    batch: &Bookings,
+    choice: &Choice,
+) -> Result<(), CannotRecord>
+    requires eligible { choice.now.eligible.items ≡ eligible_marks exchange.old.moment (length exchange.old.entries) batch.now }
+    requires best { IsBestChoice channels exchange.old batch.now choice.now.chosen.items }
+    ensures sold { OrOver W.dealt channels world.old world.new (Filing exchange.old exchange.old batch.now []) (Within (Between exchange.new)) result }
+    ensures moment { OnOk result (exchange.new.moment ≡ exchange.old.moment) }
+{
+    let mut answers = ArrayVec::<Answer, 4000>::new();
+    let mut is_any_sold = false;
+    for index in 0..batch.len() {
+        let answered = settle(
+            alloc,
+            exchange,
+            world,
+            channels,
+            batch.nth(index),
+            choice.is_eligible(index),
+            choice.is_chosen(index),
+        )?;
+        is_any_sold = is_sold_now(is_any_sold, answered);
+        answers.push(answered);
+    }
+    tell(world, &answers, is_any_sold)
+}
+
+/// What is told of a booking where a growth was refused before anything was chosen.
+fn unchosen(moment: u32, booking: Booking) -> Answer
+    ensures late { booking.start ≤ moment → result ≡ Answer.Refused NoSale.Late }
+    ensures memory { moment < booking.start → result ≡ Answer.Refused NoSale.Memory }
+{
+    if booking.start() <= moment {
+        Answer::Refused(NoSale::Late)
+    } else {
+        Answer::Refused(NoSale::Memory)
+    }
+}
+
+/// Tells the customer that a growth was refused before anything was chosen.
+fn tell_of_memory<W: Market>(world: &mut W, exchange: &Exchange, batch: &Bookings)
+    ensures { (channels : List Bool) → Asks W.dealt channels world.old world.new (Filing exchange.now exchange.now batch.now []) (Within (Between exchange.now)) }
+{
+    let moment = exchange.moment();
+    let mut answers = ArrayVec::<Answer, 4000>::new();
+    for index in 0..batch.len() {
+        answers.push(unchosen(moment, batch.nth(index)));
+    }
+    world.answer(&answers);
+}
+
+/// Sells the best choice among the bookings of a batch, in the order of the rows; what is sold is on the disk before the customer is
+/// answered.
 pub(crate) fn offer_all<W: Market>(
     alloc: Global,
     exchange: &mut Exchange,
@@ -70,15 +166,14 @@ pub(crate) fn offer_all<W: Market>(
     channels: ChannelSet,
     batch: &Bookings,
 ) -> Result<(), CannotRecord>
-    ensures sold { OrOver W.dealt channels world.old world.new (Filing exchange.old batch.now []) (Within (Between exchange.new)) result }
+    ensures sold { OrOver W.dealt channels world.old world.new (Filing exchange.old exchange.old batch.now []) (Within (Between exchange.new)) result }
     ensures moment { OnOk result (exchange.new.moment ≡ exchange.old.moment) }
 {
-    let mut answers = ArrayVec::<Answer, 4000>::new();
-    let mut is_any_sold = false;
-    for index in 0..batch.len() {
-        let answered = offer(alloc, exchange, world, channels, batch.nth(index))?;
-        is_any_sold = is_sold_now(is_any_sold, answered);
-        answers.push(answered);
+    match choose(alloc, exchange, channels, batch) {
+        Ok(choice) => sell_chosen(alloc, exchange, world, channels, batch, &choice),
+        Err(AllocError) => {
+            tell_of_memory(world, exchange, batch);
+            Ok(())
+        }
     }
-    tell(world, &answers, is_any_sold)
 }

@@ -6,11 +6,15 @@ use Rattle.bx_base.specs.Extending.{IsSameBooking}
 use Rattle.bx_base.specs.Plans.{is_accepted, channel_at}
 use Rattle.bx_colour.specs.Colouring.{IsFirstFit, is_in}
 use Rattle.bx_colour.proofs.FirstFitStays.{extends}
-use Rattle.bx_day.specs.Day.{opening}
-use Rattle.bx_day.specs.Extended.{IsExtendedBy}
-use Rattle.bx_day.specs.Outages.{live_day_after}
-use Rattle.bx_sales.proofs.ExtendedBy.{to_tested}
+use Rattle.bx_day.specs.Day.{Day, opening}
+use Rattle.bx_day.specs.Extended.{extended, IsExtendedBy}
+use Rattle.bx_day.specs.Outages.{live_happens, live_day_after}
+use Rattle.bx_sales.proofs.ExtendedBy.{to_tested, goes_on}
+use Rattle.bx_sales.proofs.Sales.{one_more}
+use Rattle.bx_sales.proofs.Told.{rows_now, marks_now}
 use Rattle.bx_events.specs.Events.{LiveEvent}
+use Rattle.bx_sales.specs.Selling.{rows_of, marks_of, rows_with, marks_with, IsSold, IsOtherPlan}
+use Rattle.bx_sales.specs.Sold.{IsFirstFitDay}
 
 module _ (rows : List Row) (row : Row) where
   same_row : (i : ℕ) → i < length rows → IsSameBooking (row_at rows i) (row_at (rows ++ row ∷ []) i)
@@ -36,3 +40,52 @@ goes_on_with channels rows accepted assigned events row last count bookings carr
       marks = λ i lt early. marks i lt;
       later = new_row rows row;
     }) marks)
+
+-- ---- the day of a first-fit plan stays one
+
+pub still_first_fit : (channels : List Bool) (d : Day) (event : LiveEvent) → IsFirstFitDay channels d → IsFirstFitDay channels (live_happens d event).day
+still_first_fit channels d event f = record {
+  rows = f.rows;
+  accepted = f.accepted;
+  assigned = f.assigned;
+  events = f.events ++ event ∷ [];
+  count = f.count;
+  bookings = f.bookings;
+  carried = f.carried;
+  first_fit = f.first_fit;
+  day = ap (λ (x : Day). (live_happens x event).day) f.day ∙ one_more f.events event (opening f.rows f.assigned);
+}
+
+module _ (channels : List Bool) (row : Row) (d : Day) (f : IsFirstFitDay channels d) where
+  rows_are : rows_with d row ≡ f.rows ++ row ∷ []
+  rows_are = ap (λ rs. rs ++ row ∷ []) (ap rows_of f.day ∙ rows_now f.rows channels f.assigned f.events f.bookings f.carried)
+
+  marks_are : marks_with d ≡ f.accepted ++ true ∷ []
+  marks_are = ap (λ ms. ms ++ true ∷ []) (ap marks_of f.day ∙ marks_now f.rows channels f.accepted f.assigned f.events f.count f.bookings f.carried f.first_fit)
+
+  fit_there : (assigned : List (Option ℕ)) → IsFirstFit (rows_with d row) channels (marks_with d) assigned → IsFirstFit (f.rows ++ row ∷ []) channels (f.accepted ++ true ∷ []) assigned
+  fit_there assigned fit = subst (λ ms. IsFirstFit (f.rows ++ row ∷ []) channels ms assigned) marks_are (subst (λ rs. IsFirstFit rs channels (marks_with d) assigned) rows_are fit)
+
+  pub first_fit_sold : (d1 : Day) → IsSold channels row d d1 → IsFirstFitDay channels d1
+  first_fit_sold d1 s =
+      let more = f.rows ++ row ∷ [] in
+      let bookings = subst AreBookings rows_are s.sale.bookings in
+      let tested = subst (λ rs. IsExtendedBy d rs s.assigned) rows_are s.sale.extended_by in
+      record {
+        rows = more;
+        accepted = f.accepted ++ true ∷ [];
+        assigned = s.assigned;
+        events = f.events;
+        count = (let a = length-append f.accepted (true ∷ []) in let b = length-append f.rows (row ∷ []) in omega (arith, a, b, f.count));
+        bookings = bookings;
+        carried = subst (λ rs. Carries rs channels (is_accepted s.assigned) (channel_at s.assigned)) rows_are s.sale.carried;
+        first_fit = fit_there s.assigned s.first_fit;
+        day = s.day ∙ (ap (λ rs. extended rs s.assigned d) rows_are ∙ (ap (extended more s.assigned) f.day
+            ∙ sym (goes_on f.rows channels f.assigned f.events f.bookings f.carried more s.assigned bookings (subst (λ (x : Day). IsExtendedBy x more s.assigned) f.day tested))));
+      }
+
+  pub no_other_plan : d.moment < row.start → ¬ IsOtherPlan channels row d
+  no_other_plan later other =
+      let early : (live_day_after f.events (opening f.rows f.assigned)).moment < row.start = subst (λ (x : Day). x.moment < row.start) f.day later in
+      let on = goes_on_with channels f.rows f.accepted f.assigned f.events row other.assigned f.count f.bookings f.carried f.first_fit (fit_there other.assigned other.first_fit) early in
+      other.not_extended (subst (λ rs. IsExtendedBy d rs other.assigned) (sym rows_are) (subst (λ (x : Day). IsExtendedBy x (f.rows ++ row ∷ []) other.assigned) (sym f.day) on))

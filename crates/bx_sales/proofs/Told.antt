@@ -64,7 +64,7 @@ once rows channels accepted assigned last first second = same_channels assigned 
 pub rows_now : (rows : List Row) (channels : List Bool) (assigned : List (Option ℕ)) (events : List LiveEvent) → AreBookings rows → Carries rows channels (is_accepted assigned) (channel_at assigned) → rows_of (live_day_after events (opening rows assigned)) ≡ rows
 rows_now rows channels assigned events bookings carries = same_rows (live_day_after events (opening rows assigned)).entries rows (size rows channels assigned events bookings carries) (λ i lt. (frame_at rows channels assigned events bookings carries i lt).booking)
 
-marks_now : (rows : List Row) (channels accepted : List Bool) (assigned : List (Option ℕ)) (events : List LiveEvent) → length accepted ≡ length rows → AreBookings rows → Carries rows channels (is_accepted assigned) (channel_at assigned) → IsFirstFit rows channels accepted assigned → marks_of (live_day_after events (opening rows assigned)) ≡ accepted
+pub marks_now : (rows : List Row) (channels accepted : List Bool) (assigned : List (Option ℕ)) (events : List LiveEvent) → length accepted ≡ length rows → AreBookings rows → Carries rows channels (is_accepted assigned) (channel_at assigned) → IsFirstFit rows channels accepted assigned → marks_of (live_day_after events (opening rows assigned)) ≡ accepted
 marks_now rows channels accepted assigned events count bookings carries first = same_marks (live_day_after events (opening rows assigned)).entries accepted (size rows channels assigned events bookings carries ∙ sym count) (λ i inside.
     let lt : i < length rows = omega (arith, inside, count) in
     ap not (frame_at rows channels assigned events bookings carries i lt).accepted ∙ twice_not (is_accepted assigned i) ∙ marked rows channels accepted assigned i (is_in accepted i) first refl lt)

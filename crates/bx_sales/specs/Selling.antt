@@ -3,7 +3,7 @@ use Rattle.std.specs.Prelude.{◌≡◌, not, Bool, true, List, [], ◌∷◌, �
 use Rattle.bx_base.specs.Bookings.{Row}
 use Rattle.bx_colour.specs.Colouring.{IsFirstFit}
 use Rattle.bx_day.specs.Day.{Day}
-use Rattle.bx_day.specs.Extended.{extended}
+use Rattle.bx_day.specs.Extended.{extended, IsExtendedBy}
 use Rattle.bx_day.specs.Invariant.{is_refused}
 use Rattle.bx_sales.specs.Sales.{IsSale}
 use Rattle.bx_day.specs.declared.entry.Entry.{Entry}
@@ -29,3 +29,9 @@ pub record IsSold (channels : List Bool) (row : Row) (old new : Day) : Type 0 wh
   pub first_fit : IsFirstFit (rows_with old row) channels (marks_with old) assigned
   pub sale : IsSale channels old (rows_with old row) assigned
   pub day : new ≡ extended (rows_with old row) assigned old
+
+-- the first-fit plan with this booking behind all others is none that the day goes on with: one that has started would get another channel
+pub record IsOtherPlan (channels : List Bool) (row : Row) (d : Day) : Type 0 where
+  pub assigned : List (Option ℕ)
+  pub first_fit : IsFirstFit (rows_with d row) channels (marks_with d) assigned
+  pub not_extended : ¬ IsExtendedBy d (rows_with d row) assigned

@@ -10,7 +10,7 @@ ghost use Rattle.bx_day.specs.Outages.{live_day_after, live_happens};
 ghost use Rattle.bx_day.specs.Extended.{extended, IsExtendedBy};
 ghost use Rattle.bx_sales.specs.Sales.{Step, sold_day_after, events_of_steps, last_rows, last_assigned, AreSales};
 ghost use Rattle.bx_sales.specs.Journal.{IsToldByJournal, AreRowsSold};
-ghost use Rattle.bx_sales.specs.Sold.{IsFirstFitSold, IsToldByRecord};
+ghost use Rattle.bx_sales.specs.Sold.{IsFirstFitSold, IsToldByRecord, StaysFirstFit};
 
 /// The record tells the day: where the plan of the morning is first fit, a day that went through events and sales, in whatever order,
 /// is the day of one plan over these events alone: of the morning's bookings with all that was sold behind them, coloured once.
@@ -21,6 +21,11 @@ pub fn told_by_record()
 /// A day whose plan is first fit is never refused as `OtherChannels`: the plan with one booking more is one that it goes on with.
 pub fn first_fit_is_sold()
     ensures { IsFirstFitSold }
+{}
+
+/// The day of a first-fit plan stays one, by what happens and by what is sold: so no booking is ever refused on it as `OtherChannels`.
+pub fn first_fit_stays()
+    ensures { StaysFirstFit }
 {}
 
 /// A journal that has sales among its events tells the last plan, and the day: it is that of the last plan by just these events.

@@ -4,7 +4,7 @@ ghost use Rattle.std.specs.Prelude.{◌≡◌, ◌≤◌, ◌<◌, ◌↔◌, �
 ghost use Rattle.bx_base.specs.declared.bookings.TheConstants.{MAX_BOOKINGS};
 ghost use Rattle.bx_colour.specs.Colouring.{FitsChannels, IsFirstFit};
 ghost use Rattle.bx_day.specs.Extended.{IsExtendedBy};
-ghost use Rattle.bx_sales.specs.Selling.{rows_with, marks_with, IsSold};
+ghost use Rattle.bx_sales.specs.Selling.{rows_of, marks_of, rows_with, marks_with, IsSold, IsOtherPlan};
 
 use crate::listing::{marks_with, rows_with};
 use bx_base::{AddFault, Booking, ChannelSet, Plan};
@@ -42,10 +42,12 @@ pub fn sell(
     booking: &Booking,
 ) -> Result<(), NoSale>
     ensures sold { OnOk result (IsSold channels booking.now exchange.old exchange.new) }
+    ensures behind { OnOk result ((rows_of exchange.new ≡ rows_with exchange.old booking.now) × (marks_of exchange.new ≡ marks_with exchange.old)) }
     ensures kept { OnErr result (exchange.new ≡ exchange.old) }
     ensures late { (result ≡ Err NoSale.Late) ↔ (booking.now.start ≤ exchange.old.moment) }
     ensures full { result ≡ Err NoSale.Full → MAX_BOOKINGS ≤ length exchange.old.entries }
     ensures other { result ≡ Err NoSale.OtherChannels → (assigned : List (Option ℕ)) → IsFirstFit (rows_with exchange.old booking.now) channels (marks_with exchange.old) assigned → ¬ IsExtendedBy exchange.old (rows_with exchange.old booking.now) assigned }
+    ensures other_plan { result ≡ Err NoSale.OtherChannels → IsOtherPlan channels booking.now exchange.old }
     ensures no_channel { result ≡ Err NoSale.NoChannel → ¬ FitsChannels (rows_with exchange.old booking.now) (marks_with exchange.old) channels }
     ensures fitting { OnOk result (FitsChannels (rows_with exchange.old booking.now) (marks_with exchange.old) channels) }
 {

@@ -12,13 +12,13 @@ returns-in_err-offer_all-in-Some-clause-sold g c =
     let d = c.args.exchange.now in
     let batch = c.in-Some.batch in
     let bad = c.in_err-offer_all-in-Some.ensures.sold in
-    rw p.1 (bad.0, then_asked g.met.W.Market.dealt_more (one_asked (Within (Between d)) (Filing d batch []) (Asked d (Some batch)) c.in-Some.ensures (refl, refl) refl) bad.1)
+    rw p.1 (bad.0, then_asked g.met.W.Market.dealt_more (one_asked (Within (Between d)) (Filing d d batch []) (Asked d (Some batch)) c.in-Some.ensures (refl, refl) refl) bad.1)
 
 pub returns-in_ok-offer_all-in-Some-clause-sold : goal.returns-in_ok-offer_all-in-Some-clause-sold
 returns-in_ok-offer_all-in-Some-clause-sold g c =
     let d = c.args.exchange.now in
     let batch = c.in-Some.batch in
-    then_asked g.met.W.Market.dealt_more (one_asked (Within (Between d)) (Filing d batch []) (Asked d (Some batch)) c.in-Some.ensures (refl, refl) refl) c.in_ok-offer_all-in-Some.ensures.sold
+    then_asked g.met.W.Market.dealt_more (one_asked (Within (Between d)) (Filing d d batch []) (Asked d (Some batch)) c.in-Some.ensures (refl, refl) refl) c.in_ok-offer_all-in-Some.ensures.sold
 
 pub returns-in-None-clause-sold : goal.returns-in-None-clause-sold
 returns-in-None-clause-sold g c =

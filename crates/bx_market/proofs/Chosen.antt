@@ -1,0 +1,170 @@
+-- A choice is best: what runs of it and what it pays is what the plan has beside all that is promised, so another choice that paid more would be
+-- a better plan.
+use Rattle.std.proofs.Common.{◌≡◌, ℕ, zero, suc, ◌+◌, ◌<◌, ◌≤◌, ◌&&◌, Bool, true, false, true≢false, cond, List, [], ◌∷◌, ◌++◌, length, Option, None, is_some, not, refl, sym, subst, ap, ap₂, ◌∙◌, arith}
+use Rattle.std.proofs.lemmas.Bool.{and_parts, false≢true}
+use Rattle.std.proofs.lemmas.List.{get_or_past, get_or_append_left, length-append, length-map}
+use Rattle.bx_base.specs.Bookings.{Row, row_at, no_row, is_running, AreBookings, Carries, IsLawful, pay_of}
+use Rattle.bx_base.specs.Channels.{count_of}
+use Rattle.bx_base.specs.Plans.{is_accepted}
+use Rattle.bx_base.proofs.Duality.{running-le-count}
+use Rattle.bx_base.proofs.SumLemmas.{sum_below-same, sum_below-le}
+use Rattle.bx_colour.specs.Colouring.{is_in, FitsChannels}
+use Rattle.bx_day.specs.Day.{Day}
+use Rattle.bx_day.specs.Invariant.{is_refused}
+use Rattle.bx_day.specs.declared.entry.Entry.{Entry}
+use Rattle.bx_planner.specs.Choices.{IsBest}
+use Rattle.bx_planner.specs.Musts.{IsTooManyMust}
+use Rattle.bx_planner.specs.Tight.{runs_at}
+use Rattle.bx_planner.proofs.Rooms.{carried_from_room}
+use Rattle.bx_sales.specs.Selling.{rows_of, marks_of}
+use Rattle.bx_market.specs.Choices.{eligible_marks, IsChoice, IsBestChoice}
+use Rattle.bx_market.specs.Choosing.{promised, free_row, free_rows, chosen_marks}
+use Rattle.bx_market.proofs.Totals.{total, marked, all_of, pays, runs, marked-total, total-append, marked-append, running_marked, running_total}
+use Rattle.bx_market.proofs.Eligible.{eligible_count, chosen_count, chosen_eligible, chosen_total, picked, picked_total, free_rows_free}
+use Rattle.bx_market.proofs.Promised.{promised_total, promised_must, must_in}
+
+pub all_in : (rows : List Row) (i : ℕ) → i < length rows → is_in (all_of rows) i ≡ true
+all_in [] i lt = absurd (omega (arith, lt))
+all_in (row ∷ rows) zero lt = refl
+all_in (row ∷ rows) (suc i) lt = all_in rows i (omega (arith, lt))
+
+pub all_count : (rows : List Row) → length (all_of rows) ≡ length rows
+all_count rows = length-map rows (λ (row : Row). true)
+
+-- one mark for each booking of the day
+pub marks_count : (d : Day) → length (marks_of d) ≡ length (rows_of d)
+marks_count d = length-map d.entries (λ (e : Entry). not (is_refused e.standing)) ∙ sym (length-map d.entries (λ (e : Entry). e.booking))
+
+no_channel : (parts : List Bool) (place i : ℕ) → is_in (chosen_marks parts [] place) i ≡ true → ⊥
+no_channel [] place i h = true≢false (sym h ∙ get_or_past [] i false (omega arith))
+no_channel (o ∷ parts) place zero h = let p = and_parts o (is_accepted [] place) h in true≢false (sym p.1 ∙ none_at place) where
+  none_at : (k : ℕ) → is_accepted [] k ≡ false
+  none_at k = ap (is_some {T = ℕ}) (get_or_past [] k None (omega arith))
+no_channel (o ∷ parts) place (suc i) h = no_channel parts (cond o (place + 1) place) i h
+
+less_or_same : (a b r : Bool) → (a ≡ true → b ≡ true) → cond {A = ℕ} (a && r) 1 0 ≤ cond (b && r) 1 0
+less_or_same false b r h = omega arith
+less_or_same true true r h = omega arith
+less_or_same true false r h = absurd (false≢true (h refl))
+
+module _ (channels : List Bool) (d : Day) (batch : List Row) where
+  abbrev parts : List Bool
+  parts = eligible_marks d.moment (length d.entries) batch
+
+  abbrev kept : List Row
+  kept = promised d.entries
+
+  abbrev asked : List Row
+  asked = free_rows batch parts
+
+  abbrev plan_rows : List Row
+  plan_rows = kept ++ asked
+
+  eligible_each : length parts ≡ length batch
+  eligible_each = eligible_count d.moment (length d.entries) batch
+
+  -- what is promised, and a choice
+  beside : (f : Row → ℕ) → ((row : Row) → f (record row { must = true }) ≡ f row) → (marks : List Bool) → total f (rows_of d ++ batch) (marks_of d ++ marks) ≡ total f kept (all_of kept) + total f batch marks
+  beside f same marks = total-append f (rows_of d) batch (marks_of d) marks (marks_count d) ∙ ap (λ (n : ℕ). n + total f batch marks) (sym (promised_total f same d.entries))
+
+  module _ (other : List Bool) (choice : IsChoice channels d batch other) where
+    abbrev other_marks : List Bool
+    other_marks = all_of kept ++ picked parts other
+
+    other_in_plan : (f : Row → ℕ) → ((row : Row) → f (free_row row) ≡ f row) → marked f plan_rows (is_in other_marks) ≡ total f kept (all_of kept) + total f batch other
+    other_in_plan f same =
+        marked-total f plan_rows other_marks ∙ total-append f kept asked (all_of kept) (picked parts other) (all_count kept)
+        ∙ ap (λ (n : ℕ). total f kept (all_of kept) + n) (picked_total f same batch parts other eligible_each choice.one_each choice.eligible)
+
+    other_room : (t : ℕ) → runs_at plan_rows (is_in other_marks) t ≤ count_of channels
+    other_room t =
+        let same = running_marked plan_rows (is_in other_marks) t ∙ other_in_plan (runs t) (λ row. refl) ∙ sym (beside (runs t) (λ row. refl) other) ∙ sym (running_total (rows_of d ++ batch) (marks_of d ++ other) t) in
+        let most = choice.fits.enough t in
+        omega (arith, same, most)
+
+    other_musts : (i : ℕ) → i < length plan_rows → (row_at plan_rows i).must ≡ true → is_in other_marks i ≡ true
+    other_musts i lt must = must_in kept asked (picked parts other) (free_rows_free batch parts) i lt must
+
+    other_lawful : AreBookings plan_rows → IsLawful plan_rows channels (is_in other_marks)
+    other_lawful bookings = record {
+      carried = carried_from_room plan_rows channels (is_in other_marks) (λ i lt. (bookings.each i lt).in_order) other_room 200000 (λ i lt. let a = (bookings.each i lt).in_order in let b = (bookings.each i lt).in_day in omega (arith, a, b));
+      has_musts = other_musts;
+    }
+
+    -- where what is promised is not carried
+    none_fits : (t : ℕ) → IsTooManyMust plan_rows channels t → ⊥
+    none_fits t many =
+        let le = sum_below-le (length plan_rows) (λ i. cond ((row_at plan_rows i).must && is_running (row_at plan_rows i) t) 1 0) (λ i. cond (is_in other_marks i && is_running (row_at plan_rows i) t) 1 0) (λ i lt. less_or_same (row_at plan_rows i).must (is_in other_marks i) (is_running (row_at plan_rows i) t) (other_musts i lt)) in
+        let room = other_room t in
+        let here = many.here in
+        omega (arith, le, room, here)
+
+  module _ (assigned : List (Option ℕ)) where
+    abbrev chosen : List Bool
+    chosen = chosen_marks parts assigned (length kept)
+
+    chosen_each : length chosen ≡ length batch
+    chosen_each = chosen_count parts assigned (length kept) ∙ eligible_each
+
+    module _ (lawful : IsLawful plan_rows channels (is_accepted assigned)) where
+      kept_all : (i : ℕ) → i < length kept → is_accepted assigned i ≡ true
+      kept_all i lt = lawful.has_musts i (let n = length-append kept asked in omega (arith, n, lt)) (ap (λ (r : Row). r.must) (get_or_append_left kept asked no_row i lt) ∙ promised_must d.entries i lt)
+
+      chosen_in_plan : (f : Row → ℕ) → ((row : Row) → f (free_row row) ≡ f row) → marked f plan_rows (is_accepted assigned) ≡ total f kept (all_of kept) + total f batch chosen
+      chosen_in_plan f same =
+          let both = marked-append f kept asked (is_accepted assigned) in
+          let all = sum_below-same (length kept) (λ i. cond (is_accepted assigned i) (f (row_at kept i)) 0) (λ i. cond (is_in (all_of kept) i) (f (row_at kept i)) 0) (λ i lt. ap (λ (b : Bool). cond b (f (row_at kept i)) 0) (kept_all i lt ∙ sym (all_in kept i lt))) in
+          let count = marked-total f kept (all_of kept) in
+          let rest = chosen_total f same batch parts assigned (length kept) eligible_each in
+          omega (arith, both, all, count, rest)
+
+      chosen_fits : (assignment : ℕ → ℕ) → Carries plan_rows channels (is_accepted assigned) assignment → FitsChannels (rows_of d ++ batch) (marks_of d ++ chosen) channels
+      chosen_fits assignment carries = record {
+        one_each = (let a = length-append (marks_of d) chosen in let b = length-append (rows_of d) batch in omega (arith, a, b, chosen_each, marks_count d));
+        enough = λ t.
+            let same = running_total (rows_of d ++ batch) (marks_of d ++ chosen) t ∙ beside (runs t) (λ row. refl) chosen ∙ sym (chosen_in_plan (runs t) (λ row. refl)) ∙ sym (running_marked plan_rows (is_accepted assigned) t) in
+            let most = running-le-count plan_rows channels (is_accepted assigned) assignment carries t in
+            omega (arith, same, most);
+      }
+
+      pub chosen_best : AreBookings plan_rows → (most : ℕ) → most ≡ pay_of plan_rows (is_accepted assigned) → IsBest plan_rows channels most → IsBestChoice channels d batch chosen
+      chosen_best bookings most paid best = record {
+        one_each = chosen_each;
+        eligible = chosen_eligible parts assigned (length kept);
+        fits = λ i h. chosen_fits lawful.carried.0 lawful.carried.1;
+        best = λ other choice.
+            let le = best (is_in (other_marks other choice)) (other_lawful other choice bookings) in
+            let theirs : pay_of plan_rows (is_in (other_marks other choice)) ≡ total pays kept (all_of kept) + total pays batch other = other_in_plan other choice pays (λ row. refl) in
+            let ours : pay_of plan_rows (is_accepted assigned) ≡ total pays kept (all_of kept) + total pays batch chosen = chosen_in_plan pays (λ row. refl) in
+            let a : pay_of batch (is_in other) ≡ total pays batch other = marked-total pays batch other in
+            let b : pay_of batch (is_in chosen) ≡ total pays batch chosen = marked-total pays batch chosen in
+            omega (arith, le, theirs, ours, a, b, paid);
+      }
+
+  -- where what is promised is not carried, nothing is chosen
+  pub none_best : (t place : ℕ) → IsTooManyMust plan_rows channels t → IsBestChoice channels d batch (chosen_marks parts [] place)
+  none_best t place many = record {
+    one_each = chosen_count parts [] place ∙ eligible_each;
+    eligible = chosen_eligible parts [] place;
+    fits = λ i h. absurd (no_channel parts place i h);
+    best = λ other choice. absurd (none_fits other choice t many);
+  }
+
+  -- the same of what was found one by one
+  module _ (parts_found chosen_found : List Bool) (rows_first rows : List Row) (place : ℕ) (assigned : List (Option ℕ)) (parts_are : parts_found ≡ parts) (first_are : rows_first ≡ kept) (rows_are : rows ≡ rows_first ++ free_rows batch parts_found) (place_is : place ≡ length rows_first) (chosen_are : chosen_found ≡ chosen_marks parts_found assigned place) where
+    same_rows : rows ≡ plan_rows
+    same_rows = rows_are ∙ ap₂ (λ (a : List Row) (p : List Bool). a ++ free_rows batch p) first_are parts_are
+
+    same_chosen : chosen_found ≡ chosen_marks parts assigned (length kept)
+    same_chosen = chosen_are ∙ ap₂ (λ (p : List Bool) (k : ℕ). chosen_marks p assigned k) parts_are (place_is ∙ ap length first_are)
+
+    pub found_best : AreBookings rows → (most : ℕ) → IsLawful rows channels (is_accepted assigned) → most ≡ pay_of rows (is_accepted assigned) → IsBest rows channels most → IsBestChoice channels d batch chosen_found
+    found_best bookings most lawful paid best =
+        subst (IsBestChoice channels d batch) (sym same_chosen)
+        (chosen_best assigned (subst (λ (rs : List Row). IsLawful rs channels (is_accepted assigned)) same_rows lawful) (subst AreBookings same_rows bookings) most
+        (paid ∙ ap (λ (rs : List Row). pay_of rs (is_accepted assigned)) same_rows) (subst (λ (rs : List Row). IsBest rs channels most) same_rows best))
+
+    pub found_none : assigned ≡ [] → (t : ℕ) → IsTooManyMust rows channels t → IsBestChoice channels d batch chosen_found
+    found_none none t many =
+        subst (IsBestChoice channels d batch) (sym (same_chosen ∙ ap (λ (a : List (Option ℕ)). chosen_marks parts a (length kept)) none))
+        (none_best t (length kept) (subst (λ (rs : List Row). IsTooManyMust rs channels t) same_rows many))

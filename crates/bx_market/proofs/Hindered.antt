@@ -1,0 +1,91 @@
+-- On a day of a first-fit plan no booking that is chosen is refused for other channels.
+use Rattle.std.proofs.Common.{◌≡◌, ℕ, ◌<◌, ◌≤◌, Bool, true, false, List, [], ◌∷◌, ◌++◌, map, length, Some, refl, sym, ap, subst, ◌∙◌, arith, ◌⊎◌, inl, inr}
+use Rattle.std.proofs.lemmas.Bool.{cases_lt}
+use Rattle.bx_base.specs.Bookings.{Row, row_at}
+use Rattle.bx_colour.specs.Colouring.{is_in}
+use Rattle.bx_day.specs.Day.{Day}
+use Rattle.bx_events.specs.Events.{LiveEvent, OnLink, WithoutLink, Sold}
+use Rattle.bx_live.specs.Acts.{recorded}
+use Rattle.bx_live.specs.Runs.{Between, Recording, Receiving, Taking, Owing, Hearing, Losing, Over, Closing, Ending, Done}
+use Rattle.bx_planfile.specs.OneBooking.{row_on}
+use Rattle.bx_sales.specs.Journal.{RunsThrough}
+use Rattle.bx_sales.specs.Sold.{IsFirstFitDay, Bought, GoesThrough}
+use Rattle.bx_sales.specs.declared.selling.NoSale.TheVariants.{OtherChannels}
+use Rattle.bx_sales.proofs.FirstFit.{still_first_fit, first_fit_sold, no_other_plan}
+use Rattle.bx_market.specs.declared.market.Answer.{Answer}
+use Rattle.bx_market.specs.declared.market.Answer.TheVariants.{Refused}
+use Rattle.bx_market.specs.Answers.{answer_at, IsToldOf, HasOtherChannels, AreTold}
+use Rattle.bx_market.specs.Deals.{Deal, Asked, Answered, acts_of}
+use Rattle.bx_market.specs.Stands.{Stand, Within, Filing, Telling, Goes, IsMarketRun, stand_day}
+use Rattle.bx_market.proofs.Eligible.{eligible_later}
+use Rattle.bx_market.proofs.Best.{told_of_best}
+use Rattle.bx_market.proofs.Through.{run_through}
+
+-- a run of deals one behind another
+record Split (channels : List Bool) (p r : Stand) (xs ys : List Deal) : Type 0 where
+  at : Stand
+  before : IsMarketRun channels p xs at
+  behind : IsMarketRun channels at ys r
+
+run_split : (channels : List Bool) (p r : Stand) (xs ys : List Deal) → IsMarketRun channels p (xs ++ ys) r → Split channels p r xs ys
+run_split channels p r [] ys run = record { at = p; before = refl; behind = run }
+run_split channels p r (x ∷ xs) ys (mid, goes, rest) = let s = run_split channels mid r xs ys rest in record { at = s.at; before = (mid, goes, s.before); behind = s.behind }
+
+first_fit_through : (channels : List Bool) (events : List LiveEvent) (d d1 : Day) → IsFirstFitDay channels d → RunsThrough channels row_on events d d1 → IsFirstFitDay channels d1
+first_fit_through channels [] d d1 first same = subst (IsFirstFitDay channels) (sym same) first
+first_fit_through channels (Sold line ∷ events) d d1 first (next, is, rest) = first_fit_through channels events next d1 (first_fit_sold channels (row_on line) d first next is) rest
+first_fit_through channels (OnLink event ∷ events) d d1 first rest = first_fit_through channels events _ d1 (still_first_fit channels d (OnLink event) first) rest
+first_fit_through channels (WithoutLink ∷ events) d d1 first rest = first_fit_through channels events _ d1 (still_first_fit channels d WithoutLink first) rest
+
+first_fit_bought : (channels : List Bool) (rows : List Row) (d d1 : Day) → IsFirstFitDay channels d → GoesThrough channels (map Bought rows) d d1 → IsFirstFitDay channels d1
+first_fit_bought channels [] d d1 first same = subst (IsFirstFitDay channels) (sym same) first
+first_fit_bought channels (row ∷ rows) d d1 first (next, is, rest) = first_fit_bought channels rows next d1 (first_fit_sold channels row d first next is) rest
+
+moment_bought : (channels : List Bool) (rows : List Row) (d d1 : Day) → GoesThrough channels (map Bought rows) d d1 → d1.moment ≡ d.moment
+moment_bought channels [] d d1 same = ap (λ (x : Day). x.moment) same
+moment_bought channels (row ∷ rows) d d1 (next, is, rest) = moment_bought channels rows next d1 rest ∙ ap (λ (x : Day). x.moment) is.day
+
+module _ (channels : List Bool) (d : Day) (batch : List Row) (first : IsFirstFitDay channels d) where
+  none_has : (row : Row) → d.moment < row.start → HasOtherChannels channels d row → ⊥
+  none_has row later h = no_other_plan channels row h.now (first_fit_bought channels h.sold d h.now first h.went) (let same = moment_bought channels h.sold d h.now h.went in omega (arith, later, same)) h.other
+
+  not_of_choice : (chosen : List Bool) (i : ℕ) (b : Bool) (a : Answer) → (b ≡ true → d.moment < (row_at batch i).start) → IsToldOf channels d batch chosen i b a → a ≡ Refused OtherChannels → ⊥
+  not_of_choice chosen i true a later told e = none_has (row_at batch i) (later refl) (subst (IsToldOf channels d batch chosen i true) e told)
+  not_of_choice chosen i false a later told e = subst (IsToldOf channels d batch chosen i false) e told
+
+  not_told : (answers : List Answer) (i : ℕ) → i < length answers → AreTold channels d batch answers → answer_at answers i ≡ Refused OtherChannels → ⊥
+  not_told answers i lt (inl told) e = not_of_choice told.chosen i (is_in told.chosen i) (answer_at answers i) (λ h. eligible_later d.moment (length d.entries) batch i (told.best.eligible i h)) (told.each i (omega (arith, lt, told.one_each))) e
+  not_told answers i lt (inr told) e = by_order (cases_lt d.moment (row_at batch i).start) where
+    by_order : (d.moment < (row_at batch i).start) ⊎ ((row_at batch i).start ≤ d.moment) → ⊥
+    by_order (inl later) = let is = told.memory i (omega (arith, lt, told.one_each)) later in cc
+    by_order (inr late) = let is = told.late i (omega (arith, lt, told.one_each)) late in cc
+
+at_asked : (channels : List Bool) (shown : Day) (batch : List Row) (q r : Stand) → IsFirstFitDay channels (stand_day q) → Goes channels q (Asked shown (Some batch)) r → IsFirstFitDay channels shown
+at_asked channels shown batch (Within (Between e)) r there (same, is) = subst (IsFirstFitDay channels) (sym same) there
+at_asked channels shown batch (Within (Recording e room event)) r there goes = absurd goes
+at_asked channels shown batch (Within (Receiving e room owed octets)) r there goes = absurd goes
+at_asked channels shown batch (Within (Taking e room owed)) r there goes = absurd goes
+at_asked channels shown batch (Within (Owing e room unsynced texts)) r there goes = absurd goes
+at_asked channels shown batch (Within (Hearing e room)) r there goes = absurd goes
+at_asked channels shown batch (Within (Losing e loss)) r there goes = absurd goes
+at_asked channels shown batch (Within (Over e)) r there goes = absurd goes
+at_asked channels shown batch (Within (Closing e)) r there goes = absurd goes
+at_asked channels shown batch (Within (Ending e)) r there goes = absurd goes
+at_asked channels shown batch (Within (Done e)) r there goes = absurd goes
+at_asked channels shown batch (Filing asked e wanted sold) r there goes = absurd goes
+at_asked channels shown batch (Telling asked e wanted sold) r there goes = absurd goes
+
+-- the day that was shown where a batch was asked for
+shown_first_fit : (channels : List Bool) (d shown : Day) (batch : List Row) (before since : List Deal) (to : Stand) → IsFirstFitDay channels d → IsMarketRun channels (Within (Between d)) (before ++ Asked shown (Some batch) ∷ since) to → IsFirstFitDay channels shown
+shown_first_fit channels d shown batch before since to first run =
+    let s = run_split channels (Within (Between d)) to before (Asked shown (Some batch) ∷ since) run in
+    let there = first_fit_through channels (recorded (acts_of before)) d (stand_day s.at) first (run_through channels (Within (Between d)) s.at before tt s.before) in
+    let behind = s.behind in
+    at_asked channels shown batch s.at behind.0 there behind.1
+
+pub never_other : (channels : List Bool) (before behind : List Deal) (answers : List Answer) (d : Day) (to : Stand) → IsFirstFitDay channels d → IsMarketRun channels (Within (Between d)) (before ++ Answered answers ∷ behind) to → (i : ℕ) → i < length answers → answer_at answers i ≡ Refused OtherChannels → ⊥
+never_other channels before behind answers d to first run i lt e =
+    let told = told_of_best channels [] before behind answers (Within (Between d)) to tt run in
+    let prefix = run_split channels (Within (Between d)) to before (Answered answers ∷ behind) run in
+    let first_there = shown_first_fit channels d told.shown told.batch told.before told.since prefix.at first (subst (λ (l : List Deal). IsMarketRun channels (Within (Between d)) l prefix.at) told.are prefix.before) in
+    not_told channels told.shown told.batch first_there answers i lt told.told e

@@ -1,0 +1,229 @@
+-- A booking of a batch that is chosen can be sold behind those before it: all of them are carried together, and the day has a place for each.
+use Rattle.std.proofs.Common.{◌≡◌, ℕ, suc, ◌+◌, ◌-◌, ◌<◌, ◌≤◌, Bool, true, false, true≢false, cond, leb, List, [], ◌∷◌, ◌++◌, map, length, Result, Ok, refl, sym, ap, ap₂, ◌∙◌, subst, arith, append_assoc, ◌⊎◌, inl, inr}
+use Rattle.std.proofs.lemmas.Bool.{cases_lt, leb-true, false_from_ne_true}
+use Rattle.std.proofs.lemmas.List.{append-nil, length-append, length-map, get_or_append_left, get_or-append_right, map-append}
+use Rattle.bx_base.specs.Bookings.{Row, row_at, AreBookings}
+use Rattle.bx_base.specs.Sums.{sum_below}
+use Rattle.bx_base.proofs.SumLemmas.{sum_below-le, sum_below-more, sum_below-next}
+use Rattle.bx_colour.specs.Colouring.{is_in, running_at, FitsChannels}
+use Rattle.bx_day.specs.Day.{Day}
+use Rattle.bx_day.specs.declared.entry.Entry.{Entry}
+use Rattle.bx_live.specs.declared.world.CannotRecord.{CannotRecord}
+use Rattle.bx_planner.proofs.AllMusts.{short_sum}
+use Rattle.bx_sales.specs.Selling.{rows_of, marks_of, rows_with, marks_with, IsSold}
+use Rattle.bx_sales.specs.Sold.{Bought, GoesThrough}
+use Rattle.bx_sales.proofs.OneMore.{rows_sold_with, marks_sold_with}
+use Rattle.bx_sales.specs.declared.selling.NoSale.TheVariants.{Late, Full, NoChannel, OtherChannels, Memory}
+use Rattle.bx_market.specs.declared.market.Answer.{Answer}
+use Rattle.bx_market.specs.declared.market.Answer.TheVariants.{Accepted, Refused}
+use Rattle.bx_market.specs.Answers.{answer_at, IsToldOf, AreTold}
+use Rattle.bx_market.specs.Choices.{eligible_marks, is_eligible, IsBestChoice, HasNoRoom}
+use Rattle.bx_market.specs.Deals.{Deal, sold_of}
+use Rattle.bx_market.specs.Offers.{IsOffered, IsSettled, why_not}
+use Rattle.bx_market.proofs.Batches.{sold_none, sold_more, sold_same}
+use Rattle.bx_market.proofs.Totals.{total, all_of, runs, one, sum_below-first, marked-total, total-append, running_total}
+use Rattle.bx_market.proofs.Eligible.{eligible_later, eligible_places}
+use Rattle.bx_market.proofs.Chosen.{all_count, marks_count}
+
+abbrev as_result : Answer → Result Answer CannotRecord
+as_result a = Ok a
+
+-- ---- what is sold is among what is chosen
+
+pub sold_upto : (f : Row → ℕ) (batch : List Row) (answers : List Answer) (set : ℕ → Bool) → ((i : ℕ) → i < length answers → answer_at answers i ≡ Accepted → set i ≡ true) → total f (sold_of batch answers) (all_of (sold_of batch answers)) ≤ sum_below (length answers) (λ i. cond (set i) (f (row_at batch i)) 0)
+sold_upto f [] answers set each = omega arith
+sold_upto f (row ∷ batch) [] set each = omega arith
+sold_upto f (row ∷ batch) (Accepted ∷ answers) set each =
+    let rest = sold_upto f batch answers (λ i. set (suc i)) (λ i lt. each (suc i) (omega (arith, lt))) in
+    let peeled : sum_below (suc (length answers)) (λ i. cond (set i) (f (row_at (row ∷ batch) i)) 0) ≡ cond (set 0) (f row) 0 + sum_below (length answers) (λ i. cond (set (suc i)) (f (row_at batch i)) 0) = sum_below-first (length answers) (λ i. cond (set i) (f (row_at (row ∷ batch) i)) 0) in
+    let here : cond (set 0) (f row) 0 ≡ f row = ap (λ (b : Bool). cond b (f row) 0) (each 0 (omega arith) refl) in
+    omega (arith, rest, peeled, here)
+sold_upto f (row ∷ batch) (Refused why ∷ answers) set each =
+    let rest = sold_upto f batch answers (λ i. set (suc i)) (λ i lt. each (suc i) (omega (arith, lt))) in
+    let peeled : sum_below (suc (length answers)) (λ i. cond (set i) (f (row_at (row ∷ batch) i)) 0) ≡ cond (set 0) (f row) 0 + sum_below (length answers) (λ i. cond (set (suc i)) (f (row_at batch i)) 0) = sum_below-first (length answers) (λ i. cond (set i) (f (row_at (row ∷ batch) i)) 0) in
+    omega (arith, rest, peeled)
+
+ones : (rows : List Row) → total one rows (all_of rows) ≡ length rows
+ones [] = refl
+ones (row ∷ rows) = let rest = ones rows in omega (arith, rest)
+
+-- ---- no room beside a best choice
+
+pays_more : (a b : Bool) (pay : ℕ) → (a ≡ true → b ≡ true) → cond a pay 0 ≤ cond b pay 0
+pays_more true true pay h = omega arith
+pays_more true false pay h = absurd (true≢false (sym (h refl)))
+pays_more false b pay h = omega arith
+
+pays_one_more : (a b : Bool) (pay : ℕ) → a ≡ false → b ≡ true → 1 ≤ pay → cond a pay 0 + 1 ≤ cond b pay 0
+pays_one_more false true pay h k paid = omega (arith, paid)
+pays_one_more true b pay h k paid = absurd (true≢false h)
+pays_one_more false false pay h k paid = absurd (true≢false (sym k))
+
+-- the day where the first of the batch are settled
+pub record AreSettled (channels : List Bool) (d : Day) (batch : List Row) (chosen : List Bool) (d1 : Day) (answers : List Answer) : Type 0 where
+  pub rows : rows_of d1 ≡ rows_of d ++ sold_of batch answers
+  pub marks : marks_of d1 ≡ marks_of d ++ all_of (sold_of batch answers)
+  pub moment : d1.moment ≡ d.moment
+  pub went : GoesThrough channels (map Bought (sold_of batch answers)) d d1
+  pub each : (i : ℕ) → i < length answers → IsToldOf channels d batch chosen i (is_in chosen i) (answer_at answers i)
+
+-- one sale behind others
+one_more_sold : (channels : List Bool) (rows : List Row) (row : Row) (d d1 d2 : Day) → GoesThrough channels (map Bought rows) d d1 → IsSold channels row d1 d2 → GoesThrough channels (map Bought (rows ++ row ∷ [])) d d2
+one_more_sold channels [] row d d1 d2 same s = (d2, subst (λ (x : Day). IsSold channels row x d2) same s, refl)
+one_more_sold channels (r ∷ rows) row d d1 d2 (next, first, rest) s = (next, first, one_more_sold channels rows row next d1 d2 rest s)
+
+-- nothing is settled yet
+pub none_settled : (channels : List Bool) (d : Day) (batch : List Row) (chosen : List Bool) (answers : List Answer) → answers ≡ [] → AreSettled channels d batch chosen d answers
+none_settled channels d batch chosen answers none =
+    let sold : sold_of batch answers ≡ [] = ap (sold_of batch) none ∙ sold_none batch in record {
+      rows = sym (ap (λ (rs : List Row). rows_of d ++ rs) sold ∙ append-nil (rows_of d));
+      marks = sym (ap (λ (rs : List Row). marks_of d ++ all_of rs) sold ∙ append-nil (marks_of d));
+      moment = refl;
+      went = subst (λ (rs : List Row). GoesThrough channels (map Bought rs) d d) (sym sold) refl;
+      each = λ i lt. let n = ap length none in absurd (omega (arith, lt, n));
+    }
+
+module _ (channels : List Bool) (d : Day) (batch : List Row) (chosen : List Bool) (best : IsBestChoice channels d batch chosen) where
+  no_room : AreBookings batch → (i : ℕ) → i < length batch → is_in chosen i ≡ false → HasNoRoom channels d batch chosen i
+  no_room bookings i lt out other choice has = false_from_ne_true (is_in other i) (λ in_it.
+      let most = best.best other choice in
+      let more = short_sum (length batch) (λ k. cond (is_in chosen k) (row_at batch k).pay 0) (λ k. cond (is_in other k) (row_at batch k).pay 0) i 1
+      (λ k inside. pays_more (is_in chosen k) (is_in other k) (row_at batch k).pay (has k)) lt
+      (pays_one_more (is_in chosen i) (is_in other i) (row_at batch i).pay out in_it (bookings.each i lt).paid) in
+      omega (arith, most, more))
+
+  accepted_chosen : (i : ℕ) (b : Bool) (a : Answer) → IsToldOf channels d batch chosen i b a → a ≡ Accepted → b ≡ true
+  accepted_chosen i true a told e = refl
+  accepted_chosen i false Accepted told e = absurd told
+  accepted_chosen i false (Refused why) told e = cc
+
+  module _ (d1 : Day) (answers : List Answer) (settled : AreSettled channels d batch chosen d1 answers) (i : ℕ) (at : length answers ≡ i) (lt : i < length batch) where
+    abbrev sold : List Row
+    sold = sold_of batch answers
+
+    sold_before : (f : Row → ℕ) → total f sold (all_of sold) ≤ sum_below i (λ k. cond (is_in chosen k) (f (row_at batch k)) 0)
+    sold_before f =
+        let upto = sold_upto f batch answers (is_in chosen) (λ k inside told. accepted_chosen k (is_in chosen k) (answer_at answers k) (settled.each k inside) told) in
+        subst (λ (n : ℕ). total f sold (all_of sold) ≤ sum_below n (λ k. cond (is_in chosen k) (f (row_at batch k)) 0)) at upto
+
+    module _ (in_choice : is_in chosen i ≡ true) where
+      with_this : (f : Row → ℕ) → total f sold (all_of sold) + f (row_at batch i) ≤ total f batch chosen
+      with_this f =
+          let before = sold_before f in
+          let next = sum_below-next i (λ k. cond (is_in chosen k) (f (row_at batch k)) 0) in
+          let here : cond (is_in chosen i) (f (row_at batch i)) 0 ≡ f (row_at batch i) = ap (λ (b : Bool). cond b (f (row_at batch i)) 0) in_choice in
+          let all = sum_below-more (i + 1) (length batch) (λ k. cond (is_in chosen k) (f (row_at batch k)) 0) (omega (arith, lt)) in
+          let sum : sum_below (length batch) (λ k. cond (is_in chosen k) (f (row_at batch k)) 0) ≡ total f batch chosen = marked-total f batch chosen in
+          omega (arith, before, next, here, all, sum)
+
+      -- it fits
+      next_fits : FitsChannels (rows_with d1 (row_at batch i)) (marks_with d1) channels
+      next_fits =
+          let row = row_at batch i in
+          let count = best.fits i in_choice in record {
+            one_each = (let a = length-append (marks_of d1) (true ∷ []) in let b = length-append (rows_of d1) (row ∷ []) in omega (arith, a, b, marks_count d1));
+            enough = λ t.
+                let f = runs t in
+                let counts = all_count sold in
+                let lengths : length (marks_of d ++ all_of sold) ≡ length (rows_of d ++ sold) = (let a = length-append (marks_of d) (all_of sold) in let b = length-append (rows_of d) sold in omega (arith, a, b, counts, marks_count d)) in
+                let rows : running_at (rows_with d1 row) (marks_with d1) t ≡ total f (rows_with d1 row) (marks_with d1) = running_total (rows_with d1 row) (marks_with d1) t in
+                let same : total f (rows_with d1 row) (marks_with d1) ≡ total f ((rows_of d ++ sold) ++ row ∷ []) ((marks_of d ++ all_of sold) ++ true ∷ []) = ap₂ (λ (rs : List Row) (ms : List Bool). total f (rs ++ row ∷ []) (ms ++ true ∷ [])) settled.rows settled.marks in
+                let last = total-append f (rows_of d ++ sold) (row ∷ []) (marks_of d ++ all_of sold) (true ∷ []) lengths in
+                let inner = total-append f (rows_of d) sold (marks_of d) (all_of sold) (marks_count d) in
+                let outer : running_at (rows_of d ++ batch) (marks_of d ++ chosen) t ≡ total f (rows_of d) (marks_of d) + total f batch chosen = running_total (rows_of d ++ batch) (marks_of d ++ chosen) t ∙ total-append f (rows_of d) batch (marks_of d) chosen (marks_count d) in
+                let most = count.enough t in
+                let all = with_this f in
+                omega (arith, rows, same, last, inner, outer, most, all);
+          }
+
+      -- and has a place
+      next_has_place : length d1.entries < 4000
+      next_has_place =
+          let places = eligible_places d.moment (length d.entries) batch i (best.eligible i in_choice) in
+          let few = sum_below-le i (λ k. cond (is_in chosen k) 1 0) (λ k. cond (is_in (eligible_marks d.moment (length d.entries) batch) k) 1 0) (λ k inside. pays_more (is_in chosen k) (is_in (eligible_marks d.moment (length d.entries) batch) k) 1 (best.eligible k)) in
+          let before = sold_before one in
+          let count = ones sold in
+          let now : length d1.entries ≡ length (rows_of d1) = sym (length-map d1.entries (λ (e : Entry). e.booking)) in
+          let was : length d.entries ≡ length (rows_of d) = sym (length-map d.entries (λ (e : Entry). e.booking)) in
+          let rows = ap length settled.rows in
+          let sum = length-append (rows_of d) sold in
+          omega (arith, places, few, before, count, now, was, rows, sum)
+
+      told_chosen : (d2 : Day) (a : Answer) → IsSettled channels (row_at batch i) d1 d2 (Ok a) → IsToldOf channels d batch chosen i true a
+      told_chosen d2 Accepted s = tt
+      told_chosen d2 (Refused Late) s = let later = eligible_later d.moment (length d.entries) batch i (best.eligible i in_choice) in absurd (omega (arith, s, later, settled.moment))
+      told_chosen d2 (Refused Full) s = absurd (omega (arith, s, next_has_place))
+      told_chosen d2 (Refused NoChannel) s = absurd (s next_fits)
+      told_chosen d2 (Refused OtherChannels) s = record { sold = sold; now = d1; went = settled.went; other = s }
+      told_chosen d2 (Refused Memory) s = tt
+
+    told_left_out : AreBookings batch → (is_in chosen i ≡ false) → (late eligible : Bool) → leb (row_at batch i).start d1.moment ≡ late → is_eligible d batch i ≡ eligible → IsToldOf channels d batch chosen i false (Refused (cond late Late (cond eligible NoChannel Full)))
+    told_left_out bookings out true eligible late e = (let le = leb-true (row_at batch i).start d1.moment late in omega (arith, le, settled.moment))
+    told_left_out bookings out false true late e = (e, no_room bookings i lt out)
+    told_left_out bookings out false false late e = (before late, e) where
+      before : leb (row_at batch i).start d1.moment ≡ false → d.moment < (row_at batch i).start
+      before h = grind (arith, h, settled.moment)
+
+    pub told_next : AreBookings batch → (d2 : Day) (a : Answer) (b : Bool) → is_in chosen i ≡ b → (b ≡ true → IsSettled channels (row_at batch i) d1 d2 (Ok a)) → (b ≡ false → as_result a ≡ as_result (Refused (why_not d1.moment (row_at batch i) (is_eligible d batch i)))) → IsToldOf channels d batch chosen i b a
+    told_next bookings d2 a true e chosen_so left_out = told_chosen e d2 a (chosen_so refl)
+    told_next bookings d2 a false e chosen_so left_out =
+        let is : a ≡ Refused (why_not d1.moment (row_at batch i) (is_eligible d batch i)) = cc (left_out refl) in
+        subst (λ (x : Answer). IsToldOf channels d batch chosen i false x) (sym is) (told_left_out bookings e (leb (row_at batch i).start d1.moment) (is_eligible d batch i) refl refl)
+
+    -- the day behind this booking
+    abbrev pub IsBehind : Day → Answer → Type 0
+    IsBehind d2 Accepted = IsSold channels (row_at batch i) d1 d2
+    IsBehind d2 (Refused why) = d2 ≡ d1
+
+    rows_next : (d2 : Day) (a : Answer) → IsBehind d2 a → rows_of d2 ≡ rows_of d ++ sold_of batch (answers ++ a ∷ [])
+    rows_next d2 Accepted s =
+        let more = sold_more batch answers (omega (arith, at, lt)) ∙ ap (λ (k : ℕ). sold ++ row_at batch k ∷ []) at in
+        rows_sold_with channels (row_at batch i) d1 d2 s ∙ (ap (λ (rs : List Row). rs ++ row_at batch i ∷ []) settled.rows ∙ (append_assoc (rows_of d) sold (row_at batch i ∷ []) ∙ ap (λ (rs : List Row). rows_of d ++ rs) (sym more)))
+    rows_next d2 (Refused why) s = ap rows_of s ∙ (settled.rows ∙ ap (λ (rs : List Row). rows_of d ++ rs) (sym (sold_same batch answers why)))
+
+    marks_next : (d2 : Day) (a : Answer) → IsBehind d2 a → marks_of d2 ≡ marks_of d ++ all_of (sold_of batch (answers ++ a ∷ []))
+    marks_next d2 Accepted s =
+        let more = sold_more batch answers (omega (arith, at, lt)) ∙ ap (λ (k : ℕ). sold ++ row_at batch k ∷ []) at in
+        marks_sold_with channels (row_at batch i) d1 d2 s ∙ (ap (λ (ms : List Bool). ms ++ true ∷ []) settled.marks ∙ (append_assoc (marks_of d) (all_of sold) (true ∷ []) ∙ ap (λ (ms : List Bool). marks_of d ++ ms) (sym (ap all_of more ∙ map-append (λ (row : Row). true) sold (row_at batch i ∷ [])))))
+    marks_next d2 (Refused why) s = ap marks_of s ∙ (settled.marks ∙ ap (λ (rs : List Row). marks_of d ++ all_of rs) (sym (sold_same batch answers why)))
+
+    went_next : (d2 : Day) (a : Answer) → IsBehind d2 a → GoesThrough channels (map Bought (sold_of batch (answers ++ a ∷ []))) d d2
+    went_next d2 Accepted s =
+        let more = sold_more batch answers (omega (arith, at, lt)) ∙ ap (λ (k : ℕ). sold ++ row_at batch k ∷ []) at in
+        subst (λ (rs : List Row). GoesThrough channels (map Bought rs) d d2) (sym more) (one_more_sold channels sold (row_at batch i) d d1 d2 settled.went s)
+    went_next d2 (Refused why) s = subst (λ (x : Day). GoesThrough channels (map Bought (sold_of batch (answers ++ Refused why ∷ []))) d x) (sym s) (subst (λ (rs : List Row). GoesThrough channels (map Bought rs) d d1) (sym (sold_same batch answers why)) settled.went)
+
+    pub settled_next : (d2 : Day) (a : Answer) → d2.moment ≡ d1.moment → IsToldOf channels d batch chosen i (is_in chosen i) a → IsBehind d2 a → AreSettled channels d batch chosen d2 (answers ++ a ∷ [])
+    settled_next d2 a moment told behind = record {
+      rows = rows_next d2 a behind;
+      marks = marks_next d2 a behind;
+      moment = moment ∙ settled.moment;
+      went = went_next d2 a behind;
+      each = λ k inside. each k inside (cases_lt k i);
+    } where
+      each : (k : ℕ) → k < length (answers ++ a ∷ []) → (k < i) ⊎ (i ≤ k) → IsToldOf channels d batch chosen k (is_in chosen k) (answer_at (answers ++ a ∷ []) k)
+      each k inside (inl before) = subst (IsToldOf channels d batch chosen k (is_in chosen k)) (sym (get_or_append_left answers (a ∷ []) (Refused Memory) k (omega (arith, before, at)))) (settled.each k (omega (arith, before, at)))
+      each k inside (inr behind_it) =
+          let n = length-append answers (a ∷ []) in
+          let here : i ≡ k = omega (arith, inside, n, behind_it, at) in
+          let is : answer_at (answers ++ a ∷ []) i ≡ a = get_or-append_right answers (a ∷ []) i i (Refused Memory) at (omega arith) ∙ (let z : i - i ≡ 0 = omega arith in ap (answer_at (a ∷ [])) z) in
+          subst (λ (j : ℕ). IsToldOf channels d batch chosen j (is_in chosen j) (answer_at (answers ++ a ∷ []) j)) here (subst (IsToldOf channels d batch chosen i (is_in chosen i)) (sym is) told)
+
+    -- so it is, by what is known of the booking
+    pub behind_of : {W : Type 0} (dealt : W → List Deal → W → Type 0) (u v : W) (d2 : Day) (a : Answer) (b : Bool) → IsToldOf channels d batch chosen i b a → (b ≡ true → IsSettled channels (row_at batch i) d1 d2 (Ok a)) → IsOffered dealt channels u v d batch sold (row_at batch i) d1 d2 (Ok a) → IsBehind d2 a
+    behind_of dealt u v d2 Accepted true told settled_so offered = settled_so refl
+    behind_of dealt u v d2 Accepted false told settled_so offered = absurd told
+    behind_of dealt u v d2 (Refused why) b told settled_so offered = offered.1
+
+    -- one booking more is settled
+    pub step : AreBookings batch → {W : Type 0} (dealt : W → List Deal → W → Type 0) (u v : W) (d2 : Day) (a : Answer) (row : Row) (eligible is_chosen : Bool) → row ≡ row_at batch i → eligible ≡ is_eligible d batch i → is_chosen ≡ is_in chosen i → d2.moment ≡ d1.moment
+        → IsOffered dealt channels u v d batch (sold_of batch answers) row d1 d2 (Ok a) → (is_chosen ≡ true → IsSettled channels row d1 d2 (Ok a)) → (is_chosen ≡ false → as_result a ≡ as_result (Refused (why_not d1.moment row eligible))) → AreSettled channels d batch chosen d2 (answers ++ a ∷ [])
+    step bookings dealt u v d2 a row eligible is_chosen row_is eligible_is chosen_is moment offered settled_so left_out =
+        let so : is_in chosen i ≡ true → IsSettled channels (row_at batch i) d1 d2 (Ok a) = λ h. subst (λ (r : Row). IsSettled channels r d1 d2 (Ok a)) row_is (settled_so (chosen_is ∙ h)) in
+        let left : is_in chosen i ≡ false → as_result a ≡ as_result (Refused (why_not d1.moment (row_at batch i) (is_eligible d batch i))) = λ h. left_out (chosen_is ∙ h) ∙ ap₂ (λ (r : Row) (e : Bool). as_result (Refused (why_not d1.moment r e))) row_is eligible_is in
+        let told = told_next bookings d2 a (is_in chosen i) refl so left in
+        settled_next d2 a moment told (behind_of dealt u v d2 a (is_in chosen i) told so (subst (λ (r : Row). IsOffered dealt channels u v d batch (sold_of batch answers) r d1 d2 (Ok a)) row_is offered))
+
+  -- all are settled
+  pub all_told : (d1 : Day) (answers : List Answer) → AreSettled channels d batch chosen d1 answers → length answers ≡ length batch → AreTold channels d batch answers
+  all_told d1 answers settled count = inl (record { chosen = chosen; best = best; one_each = count; each = λ i lt. settled.each i (omega (arith, count, lt)) })

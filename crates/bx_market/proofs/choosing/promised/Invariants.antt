@@ -1,0 +1,6 @@
+use Rattle.std.proofs.Common.{◌≡◌, ◌++◌, drop}
+use Rattle.bx_market.specs.Choosing.{promised}
+use Rattle.bx_market.proofs.choosing.promised.Given as goal
+
+abbrev pub invariant-loop-entry : goal.invariant-loop-entry
+invariant-loop-entry l = l.rows ++ promised (drop l.entry-index l.entries) ≡ promised l.entries

@@ -1,0 +1,32 @@
+-- The choice among the bookings of a batch, beside all that is promised.
+use Rattle.std.specs.Prelude.{◌≡◌, ◌≤◌, ◌+◌, ◌&&◌, ℕ, Bool, true, false, List, [], ◌∷◌, ◌++◌, length, nat_lt, if◌then◌else◌}
+use Rattle.bx_base.specs.Bookings.{Row, pay_of}
+use Rattle.bx_base.specs.declared.bookings.TheConstants.{MAX_BOOKINGS}
+use Rattle.bx_colour.specs.Colouring.{FitsChannels, is_in}
+use Rattle.bx_day.specs.Day.{Day}
+use Rattle.bx_sales.specs.Selling.{rows_of, marks_of}
+
+-- which bookings of a batch are eligible, on a day that has so many by now: each that starts later, while the day has a place for it
+abbrev pub eligible_marks : ℕ → ℕ → List Row → List Bool
+eligible_marks moment count [] = []
+eligible_marks moment count (row ∷ rows) = (nat_lt moment row.start && nat_lt count MAX_BOOKINGS) ∷ eligible_marks moment (if nat_lt moment row.start && nat_lt count MAX_BOOKINGS then count + 1 else count) rows
+
+abbrev pub is_eligible : Day → List Row → ℕ → Bool
+is_eligible d batch i = is_in (eligible_marks d.moment (length d.entries) batch) i
+
+-- some of these, which the channels carry beside all that is promised: at no moment more run of both than there are channels
+pub record IsChoice (channels : List Bool) (d : Day) (batch : List Row) (chosen : List Bool) : Type 0 where
+  pub one_each : length chosen ≡ length batch
+  pub eligible : (i : ℕ) → is_in chosen i ≡ true → is_eligible d batch i ≡ true
+  pub fits : FitsChannels (rows_of d ++ batch) (marks_of d ++ chosen) channels
+
+-- the choice that pays most; where the channels do not even carry what is promised, nothing is chosen
+pub record IsBestChoice (channels : List Bool) (d : Day) (batch : List Row) (chosen : List Bool) : Type 0 where
+  pub one_each : length chosen ≡ length batch
+  pub eligible : (i : ℕ) → is_in chosen i ≡ true → is_eligible d batch i ≡ true
+  pub fits : (i : ℕ) → is_in chosen i ≡ true → FitsChannels (rows_of d ++ batch) (marks_of d ++ chosen) channels
+  pub best : (other : List Bool) → IsChoice channels d batch other → pay_of batch (is_in other) ≤ pay_of batch (is_in chosen)
+
+-- the booking has no room beside these: each choice that has all of them leaves it out
+abbrev pub HasNoRoom : List Bool → Day → List Row → List Bool → ℕ → Type 0
+HasNoRoom channels d batch chosen i = (other : List Bool) → IsChoice channels d batch other → ((j : ℕ) → is_in chosen j ≡ true → is_in other j ≡ true) → is_in other i ≡ false
