@@ -6,3 +6,4 @@ mod Sales
 pub mod Fitting
 pub mod Rows
 pub mod OneMore
+mod FreeChannels

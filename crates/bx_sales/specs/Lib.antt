@@ -2,3 +2,4 @@ pub mod Selling
 pub mod Sold
 pub mod Journal
 pub mod Sales
+pub mod FreeChannels

@@ -2,6 +2,7 @@
 #![tactic(auto)]
 
 mod first_fit;
+mod free_channel;
 pub mod laws;
 mod listing;
 mod selling;

@@ -37,7 +37,7 @@ pub(crate) fn marks_with(alloc: Global, entries: &[Entry]) -> Result<Vec<bool>, 
     Ok(marks)
 }
 
-fn is_accepted(standing: Standing) -> bool
+pub(crate) fn is_accepted(standing: Standing) -> bool
     ensures { result ≡ not (is_refused standing) }
 {
     match standing {

@@ -6,9 +6,10 @@ ghost use Rattle.bx_colour.specs.Colouring.{FitsChannels, IsFirstFit};
 ghost use Rattle.bx_day.specs.Extended.{IsExtendedBy};
 ghost use Rattle.bx_sales.specs.Selling.{rows_of, marks_of, rows_with, marks_with, IsSold, IsOtherPlan};
 
+use crate::free_channel::fits_with;
 use crate::listing::{marks_with, rows_with};
 use bx_base::{AddFault, Booking, ChannelSet, Plan};
-use bx_colour::{colour, fits};
+use bx_colour::colour;
 use bx_day::{Exchange, NoExtension};
 use std::alloc::Global;
 use thiserror::Error;
@@ -64,7 +65,7 @@ pub fn sell(
     let Ok(marks) = marks_with(alloc, exchange.entries()) else {
         return Err(NoSale::Memory);
     };
-    if !fits(&bookings, &marks, channels) {
+    if !fits_with(exchange.entries(), booking, &bookings, &marks, channels) {
         return Err(NoSale::NoChannel);
     }
     let Ok(assigned) = colour(alloc, &bookings, &marks, channels) else {

@@ -43,7 +43,7 @@ returns-in-Ok-extend-clause-fitting c =
     let row = c.args.booking.now in
     let rows_are = c.in-Ok.ensures.rows ∙ ap (λ (es : List Entry). map (λ (e : Entry). e.booking) es ++ row ∷ []) c.entries.ensures in
     let marks_are = c.deref.ensures.value ∙ c.in-Ok-marks_with.ensures ∙ ap (λ (es : List Entry). map (λ (e : Entry). not (is_refused e.standing)) es ++ true ∷ []) c.entries-2.ensures in
-    subst (λ rs. FitsChannels rs (marks_with d) c.args.channels) rows_are (subst (λ ms. FitsChannels c.in-Ok.bookings ms c.args.channels) marks_are (c.fits.ensures.0 c.if-not-fits.false))
+    subst (λ rs. FitsChannels rs (marks_with d) c.args.channels) rows_are (subst (λ ms. FitsChannels c.in-Ok.bookings ms c.args.channels) marks_are (c.fits_with.ensures.0 c.if-not-fits_with.false))
 
 pub returns-in-Err-OtherPlan-clause-other : goal.returns-in-Err-OtherPlan-clause-other
 returns-in-Err-OtherPlan-clause-other c = λ is assigned fit tested.
