@@ -1,14 +1,14 @@
 -- A choice is best: what runs of it and what it pays is what the plan has beside all that is promised, so another choice that paid more would be
 -- a better plan.
-use Rattle.std.proofs.Common.{◌≡◌, ℕ, zero, suc, ◌+◌, ◌<◌, ◌≤◌, ◌&&◌, Bool, true, false, true≢false, cond, List, [], ◌∷◌, ◌++◌, length, Option, None, is_some, not, refl, sym, subst, ap, ap₂, ◌∙◌, arith}
+use Rattle.std.proofs.Common.{◌≡◌, ℕ, zero, suc, ◌+◌, ◌<◌, ◌≤◌, ◌&&◌, Bool, true, false, true≢false, cond, List, [], ◌∷◌, ◌++◌, replicate, length, Option, None, is_some, not, refl, sym, subst, ap, ap₂, ◌∙◌, arith}
 use Rattle.std.proofs.lemmas.Bool.{and_parts, false≢true}
-use Rattle.std.proofs.lemmas.List.{get_or_past, get_or_append_left, length-append, length-map}
+use Rattle.std.proofs.lemmas.List.{get_or_past, get_or_append_left, length-append, length-map, map-append}
 use Rattle.bx_base.specs.Bookings.{Row, row_at, no_row, is_running, AreBookings, Carries, IsLawful, pay_of}
 use Rattle.bx_base.specs.Channels.{count_of}
 use Rattle.bx_base.specs.Plans.{is_accepted}
 use Rattle.bx_base.proofs.Duality.{running-le-count}
 use Rattle.bx_base.proofs.SumLemmas.{sum_below-same, sum_below-le}
-use Rattle.bx_colour.specs.Colouring.{is_in, FitsChannels}
+use Rattle.bx_colour.specs.Colouring.{is_in, running_at, FitsChannels}
 use Rattle.bx_day.specs.Day.{Day}
 use Rattle.bx_day.specs.Invariant.{is_refused}
 use Rattle.bx_day.specs.declared.entry.Entry.{Entry}
@@ -19,8 +19,8 @@ use Rattle.bx_planner.proofs.Rooms.{carried_from_room}
 use Rattle.bx_sales.specs.Selling.{rows_of, marks_of}
 use Rattle.bx_market.specs.Choices.{eligible_marks, IsChoice, IsBestChoice}
 use Rattle.bx_market.specs.Choosing.{promised, free_row, free_rows, chosen_marks}
-use Rattle.bx_market.proofs.Totals.{total, marked, all_of, pays, runs, marked-total, total-append, marked-append, running_marked, running_total}
-use Rattle.bx_market.proofs.Eligible.{eligible_count, chosen_count, chosen_eligible, chosen_total, picked, picked_total, free_rows_free}
+use Rattle.bx_market.proofs.Totals.{all_marks, pays_more, total, marked, all_of, pays, runs, marked-total, total-append, marked-append, running_marked, running_total}
+use Rattle.bx_market.proofs.Eligible.{all_free_total, eligible_count, chosen_count, chosen_eligible, chosen_total, picked, picked_total, free_rows_free}
 use Rattle.bx_market.proofs.Promised.{promised_total, promised_must, must_in}
 
 pub all_in : (rows : List Row) (i : ℕ) → i < length rows → is_in (all_of rows) i ≡ true
@@ -150,6 +150,25 @@ module _ (channels : List Bool) (d : Day) (batch : List Row) where
     best = λ other choice. absurd (none_fits other choice t many);
   }
 
+  -- where all of them fit, they are the best choice
+  all_best : FitsChannels plan_rows (replicate (length plan_rows) true) channels → IsBestChoice channels d batch parts
+  all_best fit = record {
+    one_each = eligible_each;
+    eligible = λ i h. h;
+    fits = λ i h. record {
+      one_each = (let a = length-append (marks_of d) parts in let b = length-append (rows_of d) batch in omega (arith, a, b, eligible_each, marks_count d));
+      enough = λ t.
+          let f = runs t in
+          let ours : running_at (rows_of d ++ batch) (marks_of d ++ parts) t ≡ total f kept (all_of kept) + total f batch parts = running_total (rows_of d ++ batch) (marks_of d ++ parts) t ∙ beside f (λ row. refl) parts in
+          let all : running_at plan_rows (replicate (length plan_rows) true) t ≡ total f plan_rows (all_of plan_rows) = ap (λ (ms : List Bool). running_at plan_rows ms t) (all_marks plan_rows) ∙ running_total plan_rows (all_of plan_rows) t in
+          let split : total f plan_rows (all_of plan_rows) ≡ total f kept (all_of kept) + total f asked (all_of asked) = ap (total f plan_rows) (map-append (λ (row : Row). true) kept asked) ∙ total-append f kept asked (all_of kept) (all_of asked) (all_count kept) in
+          let free = all_free_total f (λ row. refl) batch parts eligible_each in
+          let most = fit.enough t in
+          omega (arith, ours, all, split, free, most);
+    };
+    best = λ other choice. sum_below-le (length batch) (λ i. cond (is_in other i) (row_at batch i).pay 0) (λ i. cond (is_in parts i) (row_at batch i).pay 0) (λ i lt. pays_more (is_in other i) (is_in parts i) (row_at batch i).pay (choice.eligible i));
+  }
+
   -- the same of what was found one by one
   module _ (parts_found chosen_found : List Bool) (rows_first rows : List Row) (place : ℕ) (assigned : List (Option ℕ)) (parts_are : parts_found ≡ parts) (first_are : rows_first ≡ kept) (rows_are : rows ≡ rows_first ++ free_rows batch parts_found) (place_is : place ≡ length rows_first) (chosen_are : chosen_found ≡ chosen_marks parts_found assigned place) where
     same_rows : rows ≡ plan_rows
@@ -168,3 +187,8 @@ module _ (channels : List Bool) (d : Day) (batch : List Row) where
     found_none none t many =
         subst (IsBestChoice channels d batch) (sym (same_chosen ∙ ap (λ (a : List (Option ℕ)). chosen_marks parts a (length kept)) none))
         (none_best t (length kept) (subst (λ (rs : List Row). IsTooManyMust rs channels t) same_rows many))
+
+  pub found_all : (parts_found chosen_found : List Bool) (rows_first rows : List Row) → parts_found ≡ parts → rows_first ≡ kept → rows ≡ rows_first ++ free_rows batch parts_found → chosen_found ≡ parts_found → FitsChannels rows (replicate (length rows) true) channels → IsBestChoice channels d batch chosen_found
+  found_all parts_found chosen_found rows_first rows parts_are first_are rows_are chosen_are fit =
+      let same = rows_are ∙ ap₂ (λ (a : List Row) (p : List Bool). a ++ free_rows batch p) first_are parts_are in
+      subst (IsBestChoice channels d batch) (sym (chosen_are ∙ parts_are)) (all_best (subst (λ (rs : List Row). FitsChannels rs (replicate (length rs) true) channels) same fit))

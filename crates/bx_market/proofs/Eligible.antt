@@ -9,7 +9,7 @@ use Rattle.bx_base.proofs.SumLemmas.{sum_below-same}
 use Rattle.bx_colour.specs.Colouring.{is_in}
 use Rattle.bx_market.specs.Choices.{eligible_marks}
 use Rattle.bx_market.specs.Choosing.{free_row, free_rows, chosen_marks}
-use Rattle.bx_market.proofs.Totals.{total, marked, sum_below-first}
+use Rattle.bx_market.proofs.Totals.{all_of, total, marked, sum_below-first}
 
 pub eligible_count : (moment count : ℕ) (batch : List Row) → length (eligible_marks moment count batch) ≡ length batch
 eligible_count moment count [] = refl
@@ -98,6 +98,15 @@ module _ (f : Row → ℕ) (same : (row : Row) → f (free_row row) ≡ f row) w
   picked_total (row ∷ batch) (false ∷ eligible) (false ∷ marks) count many part =
       let rest = picked_total batch eligible marks (omega (arith, count)) (omega (arith, many)) (λ i h. part (suc i) h) in
       omega (arith, rest)
+
+module _ (f : Row → ℕ) (same : (row : Row) → f (free_row row) ≡ f row) where
+  -- all that take part
+  pub all_free_total : (batch : List Row) (eligible : List Bool) → length eligible ≡ length batch → total f (free_rows batch eligible) (all_of (free_rows batch eligible)) ≡ total f batch eligible
+  all_free_total [] [] count = refl
+  all_free_total [] (e ∷ eligible) count = absurd (omega (arith, count))
+  all_free_total (row ∷ batch) [] count = absurd (omega (arith, count))
+  all_free_total (row ∷ batch) (true ∷ eligible) count = let rest = all_free_total batch eligible (omega (arith, count)) in let here = same row in omega (arith, rest, here)
+  all_free_total (row ∷ batch) (false ∷ eligible) count = let rest = all_free_total batch eligible (omega (arith, count)) in omega (arith, rest)
 
 pub free_rows_free : (batch : List Row) (eligible : List Bool) (i : ℕ) → i < length (free_rows batch eligible) → (row_at (free_rows batch eligible) i).must ≡ false
 free_rows_free [] eligible i lt = absurd (omega (arith, lt))

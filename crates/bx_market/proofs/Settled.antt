@@ -21,7 +21,7 @@ use Rattle.bx_market.specs.Choices.{eligible_marks, is_eligible, IsBestChoice, H
 use Rattle.bx_market.specs.Deals.{Deal, sold_of}
 use Rattle.bx_market.specs.Offers.{IsOffered, IsSettled, why_not}
 use Rattle.bx_market.proofs.Batches.{sold_none, sold_more, sold_same}
-use Rattle.bx_market.proofs.Totals.{total, all_of, runs, one, sum_below-first, marked-total, total-append, running_total}
+use Rattle.bx_market.proofs.Totals.{pays_more, total, all_of, runs, one, sum_below-first, marked-total, total-append, running_total}
 use Rattle.bx_market.proofs.Eligible.{eligible_later, eligible_places}
 use Rattle.bx_market.proofs.Chosen.{all_count, marks_count}
 
@@ -48,11 +48,6 @@ ones [] = refl
 ones (row ∷ rows) = let rest = ones rows in omega (arith, rest)
 
 -- ---- no room beside a best choice
-
-pays_more : (a b : Bool) (pay : ℕ) → (a ≡ true → b ≡ true) → cond a pay 0 ≤ cond b pay 0
-pays_more true true pay h = omega arith
-pays_more true false pay h = absurd (true≢false (sym (h refl)))
-pays_more false b pay h = omega arith
 
 pays_one_more : (a b : Bool) (pay : ℕ) → a ≡ false → b ≡ true → 1 ≤ pay → cond a pay 0 + 1 ≤ cond b pay 0
 pays_one_more false true pay h k paid = omega (arith, paid)

@@ -1,5 +1,5 @@
 -- What the marked rows of a list come to, by whatever each comes to: what it pays, or whether it runs at a moment.
-use Rattle.std.proofs.Common.{◌≡◌, ℕ, zero, suc, ◌+◌, ◌&&◌, Bool, true, false, cond, List, [], ◌∷◌, ◌++◌, map, length, refl, ap, ◌∙◌, arith}
+use Rattle.std.proofs.Common.{◌≡◌, ℕ, zero, suc, ◌+◌, ◌≤◌, ◌&&◌, Bool, true, false, true≢false, cond, List, [], ◌∷◌, ◌++◌, map, replicate, length, refl, sym, ap, ◌∙◌, arith}
 use Rattle.std.proofs.lemmas.List.{get_or_past}
 use Rattle.bx_base.specs.Bookings.{Row, row_at, is_running}
 use Rattle.bx_base.specs.Sums.{sum_below}
@@ -68,3 +68,14 @@ running_marked rows set t = sum_below-same (length rows) (λ i. cond (set i && i
 
 pub running_total : (rows : List Row) (marks : List Bool) (t : ℕ) → running_at rows marks t ≡ total (runs t) rows marks
 running_total rows marks t = running_marked rows (is_in marks) t ∙ marked-total (runs t) rows marks
+
+-- each of them is marked
+pub all_marks : (rows : List Row) → replicate (length rows) true ≡ all_of rows
+all_marks [] = refl
+all_marks (row ∷ rows) = ap (λ (ms : List Bool). true ∷ ms) (all_marks rows)
+
+-- what is marked pays, and so does more
+pub pays_more : (a b : Bool) (pay : ℕ) → (a ≡ true → b ≡ true) → cond a pay 0 ≤ cond b pay 0
+pays_more true true pay h = omega arith
+pays_more true false pay h = absurd (true≢false (sym (h refl)))
+pays_more false b pay h = omega arith

@@ -1,15 +1,16 @@
 //! The choice among the bookings of a batch.
 
-ghost use Rattle.std.specs.Prelude.{◌≡◌, ◌≤◌, ◌<◌, ◌++◌, ◌∷◌, [], not, length, IfOk, OnOk};
+ghost use Rattle.std.specs.Prelude.{◌≡◌, ◌≤◌, ◌<◌, ◌++◌, ◌∷◌, [], not, true, replicate, length, IfOk, OnOk};
 ghost use Rattle.bx_base.specs.Plans.{is_accepted};
 ghost use Rattle.bx_base.specs.declared.bookings.TheConstants.{MAX_BOOKINGS};
-ghost use Rattle.bx_colour.specs.Colouring.{is_in};
+ghost use Rattle.bx_colour.specs.Colouring.{is_in, FitsChannels};
 ghost use Rattle.bx_day.specs.Invariant.{is_refused};
 ghost use Rattle.bx_market.specs.Choices.{eligible_marks, IsBestChoice};
 ghost use Rattle.bx_market.specs.Choosing.{promised, free_row, free_rows, chosen_marks};
 
 use bx_base::{Booking, Bookings, ChannelSet, MAX_BOOKINGS};
 use bx_channels::Channel;
+use bx_colour::fits;
 use bx_day::{Entry, Exchange, Standing};
 use bx_planner::{NoPlan, plan};
 use std::alloc::{AllocError, Global};
@@ -145,8 +146,17 @@ fn chosen_marks(
     Ok(chosen)
 }
 
-/// The best choice among the bookings of a batch beside all that is promised: by a plan in which each of those has to be held, and those
-/// of the batch are free. Where the channels do not carry what is promised, nothing is chosen. `AllocError` where a growth is refused.
+/// Whether all of these bookings fit on the channels.
+fn all_fit(alloc: Global, rows: &Bookings, channels: ChannelSet) -> Result<bool, AllocError>
+    ensures { IfOk result (λ b. b ≡ true → FitsChannels rows.now (replicate (length rows.now) true) channels) }
+{
+    let marks = vec![in alloc; true; rows.len() as usize]?;
+    Ok(fits(rows, &marks, channels))
+}
+
+/// The best choice among the bookings of a batch beside all that is promised. Where all that are eligible fit, these; else by a plan in which each
+/// promised booking has to be held, and those of the batch are free. Where the channels do not carry what is promised, nothing is chosen.
+/// `AllocError` where a growth is refused.
 pub(crate) fn choose(
     alloc: Global,
     exchange: &Exchange,
@@ -162,6 +172,10 @@ pub(crate) fn choose(
     let mut rows = promised(alloc, exchange.entries())?;
     let place = rows.len() as usize;
     add_free(&mut rows, batch, &eligible)?;
+    if all_fit(alloc, &rows, channels)? {
+        let chosen = eligible.clone()?;
+        return Ok(Choice { eligible, chosen });
+    }
     let chosen = match plan(alloc, &rows, channels) {
         Ok(best) => chosen_marks(alloc, &eligible, &best.assigned, place)?,
         Err(NoPlan::TooManyMust(_)) => chosen_marks(alloc, &eligible, &[], place)?,
