@@ -4,6 +4,8 @@
 #[cfg(test)]
 mod agreement;
 #[cfg(test)]
+mod batches;
+#[cfg(test)]
 mod booked_days;
 #[cfg(test)]
 mod days_of_messages;
@@ -35,6 +37,8 @@ mod hostile_far_end;
 mod hostile_messages;
 #[cfg(test)]
 mod hostile_octets;
+#[cfg(test)]
+mod market_world;
 #[cfg(test)]
 mod one_booking;
 #[cfg(test)]

@@ -1,0 +1,97 @@
+//! A world in which one customer asks for one batch of bookings, and no second begins.
+
+use arrayvec::ArrayVec;
+use bx_base::Bookings;
+use bx_day::Exchange;
+use bx_devices::WriteFailed;
+use bx_events::LiveEvent;
+use bx_frames::{Frame, LinkFault};
+use bx_live::{Begin, CannotRecord, Loss, World};
+use bx_market::{Answer, Market};
+use bx_q931::Octets;
+
+/// What a customer has seen of a batch.
+#[derive(Drop)]
+pub struct MarketWorld {
+    batch: Option<Bookings>,
+    /// How many sales were put on record, and how many of them were on the disk when the customer was told.
+    pub recorded: usize,
+    pub synced: usize,
+    pub told: ArrayVec<Answer, 8>,
+}
+
+impl MarketWorld {
+    /// A world whose customer asks for these.
+    pub fn new(batch: Bookings) -> Self {
+        MarketWorld {
+            batch: Some(batch),
+            recorded: 0,
+            synced: 0,
+            told: ArrayVec::new(),
+        }
+    }
+}
+
+impl World for MarketWorld {
+    ghost did = { λ s acts t. Unit {0} };
+
+    fn begin(&mut self, _second: u32) -> Begin {
+        Begin::Ended
+    }
+
+    fn drop_peer(&mut self, _loss: Loss) {}
+
+    fn record(&mut self, event: LiveEvent<'_>) -> Result<(), CannotRecord> {
+        if let LiveEvent::Sold(_) = event {
+            self.recorded = self.recorded.saturating_add(1);
+        }
+        Ok(())
+    }
+
+    fn sync(&mut self) -> Result<(), CannotRecord> {
+        self.synced = self.recorded;
+        Ok(())
+    }
+
+    fn write_turn(&mut self, _sent: &[Octets], _moment: u32) -> Result<(), WriteFailed> {
+        Ok(())
+    }
+
+    fn write_message(&mut self, _message: &Octets) -> Result<(), WriteFailed> {
+        Ok(())
+    }
+
+    fn read(&mut self, _room: u32) -> Result<Frame, LinkFault> {
+        Err(LinkFault::UnknownKind)
+    }
+
+    fn take_waiting(&mut self) -> Option<Octets> {
+        None
+    }
+
+    fn end_day(&mut self) {}
+
+    ghost did_nothing = { λ s. tt };
+
+    ghost did_more = { λ s t u xs ys p q. tt };
+}
+
+impl Market for MarketWorld {
+    ghost dealt = { λ s deals t. Unit {0} };
+
+    fn ask(&mut self, _exchange: &Exchange) -> Option<Bookings> {
+        self.batch.take()
+    }
+
+    fn answer(&mut self, answers: &[Answer]) {
+        for answer in answers {
+            if !self.told.is_full() {
+                self.told.push(*answer);
+            }
+        }
+    }
+
+    ghost dealt_by = { λ s t acts p. tt };
+
+    ghost dealt_more = { λ s t u xs ys p q. tt };
+}
