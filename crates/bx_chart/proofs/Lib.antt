@@ -1,3 +1,4 @@
 pub mod Plains
 pub mod Clears
 pub mod Joined
+pub mod Lanes

@@ -44,21 +44,32 @@ abbrev pub second_at : Option Clock → ℕ → ℕ
 second_at None second = second
 second_at (Some day_clock) second = unwrap_or (second_shown_by day_clock second) second
 
+-- such a second as it is told
+abbrev pub time_of : Option Clock → ℕ → List ℕ
+time_of day_clock second = clock (second_at day_clock second)
+
 -- its start and its end
 abbrev pub times_of : Option Clock → Row → List ℕ
-times_of day_clock row = codes ", " ++ clock (second_at day_clock row.start) ++ codes " to " ++ clock (second_at day_clock row.end) ++ codes "</title>"
+times_of day_clock row = codes ", " ++ time_of day_clock row.start ++ codes " to " ++ time_of day_clock row.end
 
--- how wide and how high a bar is: a unit of its width is a second
+-- the upper left corner of a rectangle, and how wide and how high it is: a unit of its width is a second
+abbrev pub corner : ℕ → ℕ → List ℕ
+corner across down = codes "' x='" ++ decimal across ++ codes "' y='" ++ decimal down
+
+abbrev pub extent : ℕ → ℕ → List ℕ
+extent wide high = codes "' width='" ++ decimal wide ++ codes "' height='" ++ decimal high
+
+-- how wide and how high a bar is
 abbrev pub size_of : Row → List ℕ
-size_of row = codes "' width='" ++ decimal (row.end - row.start) ++ codes "' height='" ++ decimal (height_of row) ++ codes "'>"
+size_of row = extent (row.end - row.start) (height_of row) ++ codes "'>"
 
 -- where it begins
 abbrev pub place_of : Row → ℕ → List ℕ
-place_of row lane = (codes "<rect class='" ++ class_of row) ++ (codes "' x='" ++ decimal row.start ++ codes "' y='" ++ decimal (top_of row lane))
+place_of row lane = (codes "<rect class='" ++ class_of row) ++ corner row.start (top_of row lane)
 
 -- the bar of a booking
 abbrev pub bar_of : Option Clock → Row → ℕ → ℕ → List ℕ
-bar_of day_clock row lane name = place_of row lane ++ size_of row ++ words_of row name ++ times_of day_clock row ++ codes "</rect>\n"
+bar_of day_clock row lane name = place_of row lane ++ size_of row ++ words_of row name ++ times_of day_clock row ++ codes "</title></rect>\n"
 
 -- the bar of the booking at a place, or none where the plan refuses it
 abbrev pub bar_at : Parts → Option Clock → ℕ → List ℕ

@@ -10,7 +10,7 @@ use Rattle.bx_chart.specs.Hours.{Room, lanes_end, prices_top}
 
 -- how high the picture is
 abbrev pub height : Room → ℕ
-height room = prices_top room + 94
+height room = if room.has_bands then prices_top room + 94 else lanes_end room + 62
 
 -- how each kind of thing looks
 unfoldable pub style : List ℕ

@@ -1,5 +1,5 @@
 -- The hours of a picture: three lines and two names for each that is drawn.
-use Rattle.std.specs.Prelude.{ℕ, zero, suc, ◌+◌, ◌*◌, ◌/◌, ◌%◌, ◌==◌, max, Bool, List, [], ◌++◌, length, codes, decimal, Option, Some, None, unwrap_or, if◌then◌else◌}
+use Rattle.std.specs.Prelude.{ℕ, zero, suc, ◌+◌, ◌*◌, ◌/◌, ◌%◌, ◌==◌, max, Bool, true, false, List, [], ◌++◌, length, codes, decimal, Option, Some, None, unwrap_or, if◌then◌else◌}
 use Rattle.bx_base.specs.Bookings.{Row, row_at}
 use Rattle.bx_base.specs.Channels.{count_of}
 use Rattle.bx_base.specs.PlanParts.{Parts}
@@ -18,14 +18,19 @@ abbrev pub latest_below : List Row → ℕ → ℕ → ℕ
 latest_below rows seconds zero = seconds
 latest_below rows seconds (suc n) = max (latest_below rows seconds n) (row_at rows n).end
 
--- what a picture has room for: so many seconds, and so many lanes
+-- what a picture has room for: so many seconds, and so many lanes, and whether bands stand below these
 pub record Room : Type 0 where
   pub seconds : ℕ
   pub lanes : ℕ
+  pub has_bands : Bool
 
 -- the room of a plan: the whole day, up to its latest end, and a lane for each channel in service, one at least
 abbrev pub room_of : Parts → Option Clock → Room
-room_of plan clock = record { seconds = latest_below plan.rows (day_length clock) (length plan.rows); lanes = max 1 (count_of plan.channels) }
+room_of plan clock = record { seconds = latest_below plan.rows (day_length clock) (length plan.rows); lanes = max 1 (count_of plan.channels); has_bands = true }
+
+-- the room of a picture without bands
+abbrev pub bandless : List Bool → ℕ → Room
+bandless channels seconds = record { seconds = seconds; lanes = max 1 (count_of channels); has_bands = false }
 
 -- where the lanes end
 abbrev pub lanes_end : Room → ℕ
@@ -51,9 +56,13 @@ tenths n = decimal (n / 10) ++ codes "." ++ decimal (n % 10)
 unfoldable pub line : ℕ → ℕ → ℕ → List ℕ
 line place top end = codes "<path class='hour' d='M" ++ tenths place ++ (codes " " ++ decimal top) ++ (codes "V" ++ decimal end) ++ codes "'/>\n"
 
--- the lines of an hour, over the lanes and over each band
+-- the lines of an hour over the bands, if there are any
+unfoldable pub band_lines : Room → ℕ → List ℕ
+band_lines room place = if room.has_bands then line place (refused_top room) (refused_top room + 70) ++ line place (prices_top room) (prices_top room + 70) else []
+
+-- its lines, over the lanes and over each band
 unfoldable pub lines : Room → ℕ → List ℕ
-lines room place = line place 92 (lanes_end room) ++ line place (refused_top room) (refused_top room + 70) ++ line place (prices_top room) (prices_top room + 70)
+lines room place = line place 92 (lanes_end room) ++ band_lines room place
 
 -- an hour and a minute, as `7:00`
 abbrev pub shown_text : ℕ × ℕ → List ℕ

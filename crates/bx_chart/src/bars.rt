@@ -4,7 +4,7 @@ ghost use Rattle.std.specs.Prelude.{◌≡◌, ◌+◌, ◌<◌, ◌≤◌, ◌+
 ghost use Rattle.bx_base.specs.Bookings.{IsBooking};
 ghost use Rattle.bx_base.specs.Channels.{has_channel};
 ghost use Rattle.bx_base.specs.PlanParts.{parts_of};
-ghost use Rattle.bx_chart.specs.Bars.{lane_of, two_digits, clock, class_of, top_of, pay_of, words_of, second_at, times_of, size_of, place_of, bar_of, bars};
+ghost use Rattle.bx_chart.specs.Bars.{lane_of, two_digits, clock, class_of, corner, extent, height_of, time_of, top_of, pay_of, words_of, second_at, times_of, size_of, place_of, bar_of, bars};
 
 use crate::picture::Picture;
 use bx_base::{Booking, ChannelSet, Plan};
@@ -33,7 +33,7 @@ pub(crate) fn bars(alloc: Global, plan: &Plan, clock: Option<&Clock>) -> Result<
 }
 
 /// How many channels in service have a lower number.
-pub(crate) fn lane_of(channels: &ChannelSet, channel: Channel) -> u8
+pub fn lane_of(channels: &ChannelSet, channel: Channel) -> u8
     ensures value { result ≡ lane_of channels.now channel }
     ensures limit { result ≤ 31 }
 {
@@ -47,7 +47,7 @@ pub(crate) fn lane_of(channels: &ChannelSet, channel: Channel) -> u8
 }
 
 /// Whether the channel of this number is in service.
-pub(crate) fn is_in_service(channels: &ChannelSet, number: u8) -> bool
+pub fn is_in_service(channels: &ChannelSet, number: u8) -> bool
     ensures { result ≡ has_channel channels.now number }
 {
     // Read for the prover alone, which learns a limit from it.
@@ -73,7 +73,7 @@ fn add_bar(
     add_size(picture, booking)?;
     add_words(picture, booking, row)?;
     add_times(picture, clock, booking)?;
-    picture.add(b"</rect>\n")
+    picture.add(b"</title></rect>\n")
 }
 
 /// Adds where a bar begins.
@@ -86,16 +86,16 @@ fn add_place(picture: &mut Picture, booking: &Booking, lane: u8) -> Result<(), A
     add_corner(picture, booking.start(), top_of(booking, lane))
 }
 
-/// Adds the corner of a bar.
-fn add_corner(picture: &mut Picture, across: u32, down: u64) -> Result<(), AllocError>
-    ensures { OnOk result (picture.new.text.items ≡ picture.old.text.items ++ codes "' x='" ++ decimal across ++ codes "' y='" ++ decimal down) }
+/// Adds the corner of a rectangle.
+pub fn add_corner(picture: &mut Picture, across: u32, down: u64) -> Result<(), AllocError>
+    ensures { OnOk result (picture.new.text.items ≡ picture.old.text.items ++ corner across down) }
 {
     picture.add_number(b"' x='", u64::from(across))?;
     picture.add_number(b"' y='", down)
 }
 
 /// How far down a bar begins.
-fn top_of(booking: &Booking, lane: u8) -> u64
+pub fn top_of(booking: &Booking, lane: u8) -> u64
     requires { lane ≤ 31 }
     ensures { result ≡ top_of booking.now lane }
 {
@@ -111,15 +111,28 @@ fn top_of(booking: &Booking, lane: u8) -> u64
 fn add_size(picture: &mut Picture, booking: &Booking) -> Result<(), AllocError>
     ensures { OnOk result (picture.new.text.items ≡ picture.old.text.items ++ size_of booking.now) }
 {
-    let height = if booking.is_must() { 9 } else { 5 };
-    let seconds = booking.end() - booking.start();
-    picture.add_number(b"' width='", u64::from(seconds))?;
-    picture.add_number(b"' height='", height)?;
+    add_extent(picture, booking.end() - booking.start(), height_of(booking))?;
     picture.add(b"'>")
 }
 
+/// How high a bar is.
+pub fn height_of(booking: &Booking) -> u64
+    ensures value { result ≡ height_of booking.now }
+    ensures limit { result ≤ 9 }
+{
+    if booking.is_must() { 9 } else { 5 }
+}
+
+/// Adds how wide and how high a rectangle is.
+pub fn add_extent(picture: &mut Picture, wide: u32, high: u64) -> Result<(), AllocError>
+    ensures { OnOk result (picture.new.text.items ≡ picture.old.text.items ++ extent wide high) }
+{
+    picture.add_number(b"' width='", u64::from(wide))?;
+    picture.add_number(b"' height='", high)
+}
+
 /// How the bar of a booking looks.
-fn class_of(booking: &Booking) -> &'static [u8]
+pub fn class_of(booking: &Booking) -> &'static [u8]
     ensures { result.now ≡ class_of booking.now }
 {
     match (booking.is_must(), booking.is_inward()) {
@@ -131,7 +144,7 @@ fn class_of(booking: &Booking) -> &'static [u8]
 }
 
 /// Adds a booking in words.
-fn add_words(picture: &mut Picture, booking: &Booking, row: u16) -> Result<(), AllocError>
+pub fn add_words(picture: &mut Picture, booking: &Booking, row: u16) -> Result<(), AllocError>
     ensures { OnOk result (picture.new.text.items ≡ picture.old.text.items ++ words_of booking.now row) }
 {
     picture.add_number(b"<title>row ", u64::from(row))?;
@@ -156,7 +169,7 @@ fn add_digits(picture: &mut Picture, booking: &Booking) -> Result<(), AllocError
 }
 
 /// Adds its start and its end.
-fn add_times(
+pub fn add_times(
     picture: &mut Picture,
     clock: Option<&Clock>,
     booking: &Booking,
@@ -164,10 +177,16 @@ fn add_times(
     ensures { OnOk result (picture.new.text.items ≡ picture.old.text.items ++ times_of (option_copied clock.entry) booking.now) }
 {
     picture.add(b", ")?;
-    add_clock(picture, second_at(clock, booking.start()))?;
+    add_time(picture, clock, booking.start())?;
     picture.add(b" to ")?;
-    add_clock(picture, second_at(clock, booking.end()))?;
-    picture.add(b"</title>")
+    add_time(picture, clock, booking.end())
+}
+
+/// Adds a second behind the day's start, as the day's clock shows it.
+pub fn add_time(picture: &mut Picture, clock: Option<&Clock>, second: u32) -> Result<(), AllocError>
+    ensures { OnOk result (picture.new.text.items ≡ picture.old.text.items ++ time_of (option_copied clock.entry) second) }
+{
+    add_clock(picture, second_at(clock, second))
 }
 
 /// A second behind the day's start in seconds from midnight on, as the day's clock shows it.

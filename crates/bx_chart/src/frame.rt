@@ -9,7 +9,7 @@ ghost use Rattle.bx_chart.specs.Sheets.{room};
 use crate::bars::is_in_service;
 use crate::picture::Picture;
 use crate::sheet::{LANE, Sheet, TOP};
-use bx_base::Plan;
+use bx_base::{ChannelSet, Plan};
 use std::alloc::{AllocError, Global};
 
 /// How each kind of thing looks. The must bars are taller too, and the inward ones have a stripe: no two kinds differ in
@@ -68,7 +68,7 @@ fn open(picture: &mut Picture, height: u64) -> Result<(), AllocError>
 }
 
 /// Opens its element.
-fn open_sized(picture: &mut Picture, height: u64) -> Result<(), AllocError>
+pub fn open_sized(picture: &mut Picture, height: u64) -> Result<(), AllocError>
     ensures { OnOk result (picture.new.text.items ≡ picture.old.text.items ++ sized height) }
 {
     picture.add_number(
@@ -80,14 +80,14 @@ fn open_sized(picture: &mut Picture, height: u64) -> Result<(), AllocError>
 
 /// Adds how each kind of thing looks.
 #[tactic(auto, unfolding(crate::specs::Frames::style))]
-fn add_style(picture: &mut Picture) -> Result<(), AllocError>
+pub fn add_style(picture: &mut Picture) -> Result<(), AllocError>
     ensures { OnOk result (picture.new.text.items ≡ picture.old.text.items ++ style) }
 {
     picture.add(STYLE)
 }
 
 /// Adds the paper, so high.
-fn add_paper(picture: &mut Picture, height: u64) -> Result<(), AllocError>
+pub fn add_paper(picture: &mut Picture, height: u64) -> Result<(), AllocError>
     ensures { OnOk result (picture.new.text.items ≡ picture.old.text.items ++ paper height) }
 {
     picture.add_number(b"<rect width='1200' height='", height)?;
@@ -108,14 +108,14 @@ pub(crate) fn front(alloc: Global, plan: &Plan, sheet: &Sheet) -> Result<Picture
 {
     let mut picture = Picture::new(alloc);
     add_legend(&mut picture)?;
-    add_lanes(&mut picture, plan)?;
+    add_lanes(&mut picture, &plan.channels)?;
     open_day(&mut picture, sheet)?;
     Ok(picture)
 }
 
 /// Adds the samples of the legend.
 #[tactic(auto, unfolding(crate::specs::Frames::legend))]
-fn add_legend(picture: &mut Picture) -> Result<(), AllocError>
+pub fn add_legend(picture: &mut Picture) -> Result<(), AllocError>
     ensures { OnOk result (picture.new.text.items ≡ picture.old.text.items ++ legend) }
 {
     picture.add(LEGEND)
@@ -203,12 +203,12 @@ fn add_must(picture: &mut Picture, must: u64, refused: u64) -> Result<(), AllocE
 }
 
 /// Adds a lane for each channel in service, with its number.
-fn add_lanes(picture: &mut Picture, plan: &Plan) -> Result<(), AllocError>
-    ensures { OnOk result (picture.new.text.items ≡ picture.old.text.items ++ lanes_below (parts_of plan.now).channels 32) }
+pub fn add_lanes(picture: &mut Picture, channels: &ChannelSet) -> Result<(), AllocError>
+    ensures { OnOk result (picture.new.text.items ≡ picture.old.text.items ++ lanes_below channels.now 32) }
 {
     let mut top = TOP;
     for number in 0..32u8 {
-        if is_in_service(&plan.channels, number) {
+        if is_in_service(channels, number) {
             add_lane(picture, number, top)?;
             top += LANE;
         }
@@ -243,7 +243,7 @@ fn add_lane_name(picture: &mut Picture, down: u64, number: u64) -> Result<(), Al
 }
 
 /// Opens the part whose units are the seconds of the day and tenths of lanes.
-fn open_day(picture: &mut Picture, sheet: &Sheet) -> Result<(), AllocError>
+pub fn open_day(picture: &mut Picture, sheet: &Sheet) -> Result<(), AllocError>
     ensures { OnOk result (picture.new.text.items ≡ picture.old.text.items ++ opened_day (room sheet.now)) }
 {
     let lanes = u64::from(sheet.lanes);

@@ -1,7 +1,7 @@
 //! The hours of the day, as its clock shows them.
 
 ghost use Rattle.std.specs.Prelude.{◌≡◌, ◌+◌, ◌/◌, ◌++◌, OnOk, option_copied};
-ghost use Rattle.bx_chart.specs.Hours.{hour_part, hours_below, line, lines, name, shown_at, shown_text, tenths};
+ghost use Rattle.bx_chart.specs.Hours.{band_lines, hour_part, hours_below, line, lines, name, shown_at, shown_text, tenths};
 ghost use Rattle.bx_chart.specs.Sheets.{room};
 
 use crate::bars::add_two_digits;
@@ -12,7 +12,7 @@ use std::alloc::AllocError;
 
 /// Adds a line and its name for each hour from the day's start on, or for each second or third one of a long day. It is
 /// named by what the clock shows then, over gaps and folds; without a clock by how many hours it is from midnight.
-pub(crate) fn add_hours(
+pub fn add_hours(
     picture: &mut Picture,
     sheet: &Sheet,
     clock: Option<&Clock>,
@@ -64,6 +64,17 @@ fn add_lines(picture: &mut Picture, sheet: &Sheet, across: u64) -> Result<(), Al
     ensures { OnOk result (picture.new.text.items ≡ picture.old.text.items ++ lines (room sheet.now) across) }
 {
     add_line(picture, across, TOP, sheet.lanes_end())?;
+    add_band_lines(picture, sheet, across)
+}
+
+/// Adds its lines over the bands, if there are any.
+#[tactic(auto, unfolding(crate::specs::Hours::band_lines))]
+fn add_band_lines(picture: &mut Picture, sheet: &Sheet, across: u64) -> Result<(), AllocError>
+    ensures { OnOk result (picture.new.text.items ≡ picture.old.text.items ++ band_lines (room sheet.now) across) }
+{
+    if !sheet.has_bands {
+        return Ok(());
+    }
     add_line(
         picture,
         across,
@@ -118,7 +129,7 @@ fn add_shown(picture: &mut Picture, shown: (u8, u8)) -> Result<(), AllocError>
 }
 
 /// Adds so many tenths.
-pub(crate) fn add_tenths(picture: &mut Picture, count: u64) -> Result<(), AllocError>
+pub fn add_tenths(picture: &mut Picture, count: u64) -> Result<(), AllocError>
     ensures { OnOk result (picture.new.text.items ≡ picture.old.text.items ++ tenths count) }
 {
     picture.add_decimal(count / 10)?;

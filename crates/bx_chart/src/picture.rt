@@ -8,14 +8,14 @@ use std::alloc::{AllocError, Global};
 
 /// A piece of a picture: LF and printable ASCII, no other octet.
 #[derive(Drop)]
-pub(crate) struct Picture {
-    text: Vec<u8>,
+pub struct Picture {
+    pub text: Vec<u8>,
     ghost plain: { is_plain text.items ≡ true },
 }
 
 impl Picture {
     /// An empty piece.
-    pub(crate) fn new(alloc: Global) -> Picture
+    pub fn new(alloc: Global) -> Picture
         ensures { result.text.items ≡ [] }
     {
         Picture {
@@ -24,7 +24,7 @@ impl Picture {
     }
 
     /// The text of the piece.
-    pub(crate) fn text(&self) -> &[u8]
+    pub fn text(&self) -> &[u8]
         ensures value { result.now ≡ self.now.text.items }
         ensures plain { is_plain result.now ≡ true }
     {
@@ -32,7 +32,7 @@ impl Picture {
     }
 
     /// Adds octets.
-    pub(crate) fn add(&mut self, octets: &[u8]) -> Result<(), AllocError>
+    pub fn add(&mut self, octets: &[u8]) -> Result<(), AllocError>
         requires { is_plain octets.now ≡ true }
         ensures added { OnOk result (self.new.text.items ≡ self.old.text.items ++ octets.now) }
         ensures stays { OnErr result (self.new.text.items ≡ self.old.text.items) }
@@ -41,7 +41,7 @@ impl Picture {
     }
 
     /// Adds a decimal.
-    pub(crate) fn add_decimal(&mut self, number: u64) -> Result<(), AllocError>
+    pub fn add_decimal(&mut self, number: u64) -> Result<(), AllocError>
         ensures added { OnOk result (self.new.text.items ≡ self.old.text.items ++ decimal number) }
         ensures stays { OnErr result (self.new.text.items ≡ self.old.text.items) }
     {
@@ -49,7 +49,7 @@ impl Picture {
     }
 
     /// Adds words and a decimal.
-    pub(crate) fn add_number(&mut self, words: &[u8], number: u64) -> Result<(), AllocError>
+    pub fn add_number(&mut self, words: &[u8], number: u64) -> Result<(), AllocError>
         requires { is_plain words.now ≡ true }
         ensures { OnOk result (self.new.text.items ≡ self.old.text.items ++ words.now ++ decimal number) }
     {

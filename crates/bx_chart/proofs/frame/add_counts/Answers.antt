@@ -1,4 +1,4 @@
-use Rattle.std.proofs.Common.{◌≡◌, ◌++◌, ◌∙◌, ℕ, List, length, ap}
+use Rattle.std.proofs.Common.{◌++◌, ◌∙◌, ℕ, List, length, ap}
 use Rattle.bx_base.specs.Channels.{count_of}
 use Rattle.bx_base.specs.PlanParts.{parts_of}
 use Rattle.bx_chart.specs.Frames.{accepted_below, must_below, total_words}

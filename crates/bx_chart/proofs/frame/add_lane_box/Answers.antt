@@ -1,4 +1,3 @@
-use Rattle.std.proofs.Common.{◌≡◌, ◌++◌, ℕ, List}
 use Rattle.bx_chart.proofs.Joined.{on_ok, two, worded}
 use Rattle.bx_chart.proofs.frame.add_lane_box.Goals as goal
 

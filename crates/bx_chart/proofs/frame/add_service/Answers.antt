@@ -1,5 +1,4 @@
-use Rattle.std.proofs.Common.{◌≡◌, ◌++◌, ℕ, List}
-use Rattle.bx_chart.proofs.Joined.{on_ok, two, worded}
+use Rattle.bx_chart.proofs.Joined.{on_ok, worded}
 use Rattle.bx_chart.proofs.frame.add_service.Goals as goal
 
 pub returns : goal.returns

@@ -1,4 +1,4 @@
-use Rattle.std.proofs.Common.{◌≡◌, ap}
+use Rattle.std.proofs.Common.{ap}
 use Rattle.bx_base.specs.PlanParts.{parts_of}
 use Rattle.bx_chart.specs.Frames.{counts, height, opened, paper, style}
 use Rattle.bx_chart.specs.Sheets.{room}

@@ -1,4 +1,4 @@
-use Rattle.std.proofs.Common.{◌≡◌, ◌∙◌, ℕ, List, true, ap, subst}
+use Rattle.std.proofs.Common.{◌∙◌, ap}
 use Rattle.bx_chart.specs.Clear.{is_clear}
 use Rattle.bx_chart.proofs.Clears.{barless}
 use Rattle.bx_chart.proofs.barless.Barless.text.Goals as goal
