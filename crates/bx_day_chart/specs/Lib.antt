@@ -1,0 +1,11 @@
+pub mod Outages
+pub mod Sights
+pub mod Standings
+pub mod Counting
+pub mod Marks
+pub mod Calls
+pub mod Starts
+pub mod Maintenance
+pub mod Now
+pub mod Heads
+pub mod Charts
