@@ -2,3 +2,4 @@ mod Audited
 mod OnItsDay
 mod SoldDays
 mod BestBehind
+mod SeenDays

@@ -8,3 +8,10 @@ pub mod Unrecorded
 pub mod PlansOfDays
 pub mod LastPlans
 pub mod Unsold
+pub mod Noted
+pub mod Notings
+pub mod Chartings
+pub mod NotedOn
+pub mod Seen
+pub mod Charted
+pub mod Uncharted

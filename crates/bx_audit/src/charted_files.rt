@@ -1,0 +1,96 @@
+//! The command that draws a day by its journal.
+
+ghost use Rattle.std.specs.Prelude.{IfOk, IfErr, OnOk};
+ghost use Rattle.bx_devices.specs.Devices.{writing_of};
+ghost use Rattle.bx_day_chart.specs.Sights.{sight_of};
+ghost use Rattle.bx_audit.specs.Charted.{IsDayCharted, IsDaySeen};
+ghost use Rattle.bx_audit.specs.Uncharted.{IsDayChartCommandRefusal, IsUnseen};
+
+use crate::charting::seen_by;
+use bx_base::ChannelSet;
+use bx_chart::ChartFault;
+use bx_check_commands::{CommandFault, Inputs};
+use bx_day::Exchange;
+use bx_day_chart::{DaySight, is_over, write_day_chart};
+use bx_day_openings::{DayCommandFault, DayOpening, clock_of, day_opening};
+use bx_devices::Watched;
+use bx_journal::Wanted;
+use bx_request::DayChartRequest;
+use std::alloc::Global;
+use std::io::Write;
+
+/// A day that a picture is drawn of: its exchange, the channels in service, and what else a picture shows of it.
+#[derive(Drop)]
+struct SeenDay {
+    exchange: Exchange,
+    channels: ChannelSet,
+    sight: DaySight,
+}
+
+/// The day of the plan of one input after just the events and sales of the journal of another.
+fn day_seen<'a, I: Inputs>(
+    alloc: Global,
+    inputs: &mut I,
+    plan: &'a str,
+    journal: &'a str,
+) -> Result<SeenDay, DayCommandFault<'a>>
+    ensures seen { IfOk result (λ seen. IsDaySeen (I.gives inputs.old) plan.now journal.now seen.channels seen.exchange (sight_of seen.sight)) }
+    ensures unseen { IfErr result (IsUnseen (I.gives inputs.old) plan.now journal.now) }
+{
+    let DayOpening {
+        exchange,
+        channels,
+        digest,
+    } = day_opening(alloc, inputs, plan)?;
+    let mut input = match inputs.open(journal) {
+        Ok(input) => input,
+        Err(fault) => return Err(DayCommandFault::Command(fault)),
+    };
+    let wanted = Wanted::of_any_day(&digest);
+    match seen_by(alloc, journal, &mut input, &wanted, channels, exchange) {
+        Ok(seen) => {
+            let is_over = is_over(&seen.exchange);
+            let sight = DaySight {
+                outages: seen.outages,
+                is_over,
+            };
+            Ok(SeenDay {
+                exchange: seen.exchange,
+                channels,
+                sight,
+            })
+        }
+        Err(fault) => Err(fault),
+    }
+}
+
+/// Draws the day of the plan of one input as it went, by the journal of another: a day that has ended, or that is still running; a line stands at the moment to
+/// which it has come while a booking waits or is live. At a refusal nothing was written, except that where the output failed a front of the picture was.
+///
+/// What is needed is opened in this order, and the first fault of it is answered: `Day` for the date and the zone; `Command` for the plan; `Command`, as
+/// `CannotRead`, `Journal`, as `BadLine`, `OtherPlan` or `OtherRules`, or `Sale` for the journal. Then `Command`, as `Memory`, where a growth was refused, and
+/// as `CannotWrite`, where the output failed.
+pub fn chart_day_files<'a, I: Inputs, W: Write>(
+    alloc: Global,
+    inputs: &mut I,
+    request: DayChartRequest<'a>,
+    output: &mut Watched<W>,
+) -> Result<(), DayCommandFault<'a>>
+    ensures done { OnOk result (IsDayCharted (I.gives inputs.old) request.entry (writing_of W.contents output.old output.new)) }
+    ensures refused { IfErr result (IsDayChartCommandRefusal (I.gives inputs.old) request.entry W.contents output.old output.new) }
+{
+    let clock = clock_of(request.day)?;
+    let day = day_seen(alloc, inputs, request.plan, request.journal)?;
+    match write_day_chart(
+        alloc,
+        &day.exchange,
+        day.channels,
+        &day.sight,
+        clock.as_ref(),
+        output,
+    ) {
+        Ok(()) => Ok(()),
+        Err(ChartFault::Memory) => Err(DayCommandFault::Command(CommandFault::Memory)),
+        Err(ChartFault::WriteFailed) => Err(DayCommandFault::Command(CommandFault::CannotWrite)),
+    }
+}

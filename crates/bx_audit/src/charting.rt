@@ -1,0 +1,78 @@
+//! A day that is followed by its journal, with the seconds without a link.
+
+ghost use Rattle.std.specs.Prelude.{IfOk, IfErr};
+ghost use Rattle.bx_devices.specs.Watching.{device_of, is_faulted};
+ghost use Rattle.bx_audit.specs.Chartings.{IsNotSeen};
+ghost use Rattle.bx_audit.specs.Seen.{IsSeenThrough};
+
+use crate::noting::Noting;
+use bx_base::ChannelSet;
+use bx_check_commands::CommandFault;
+use bx_day::Exchange;
+use bx_day_chart::Outages;
+use bx_day_openings::{DayCommandFault, journal_read};
+use bx_devices::Watched;
+use bx_journal::{Follower, RecordedEvent, Wanted, read_journal};
+use bx_restart::Selling;
+use std::alloc::Global;
+use std::io::Read;
+
+/// An exchange that follows a journal, and the seconds without a link of that.
+#[derive(Drop)]
+struct Charting {
+    selling: Selling,
+    noting: Noting,
+}
+
+impl Follower for Charting {
+    ghost use Rattle.bx_audit.specs.Chartings.{HasFollowed};
+    ghost use Rattle.bx_audit.specs.NotedOn.{charted_nothing, charted_more};
+
+    ghost followed = { HasFollowed };
+
+    fn follow(&mut self, event: &RecordedEvent) {
+        self.selling.follow(event);
+        self.noting.follow(event);
+    }
+
+    ghost follows_none = { charted_nothing };
+
+    ghost follows_on = { charted_more };
+}
+
+/// An exchange after its journal, and the outages of its link.
+#[derive(Drop)]
+pub(crate) struct Seen {
+    pub(crate) exchange: Exchange,
+    pub(crate) outages: Outages,
+}
+
+/// The exchange after the events of a journal of this name, with the outages of its link; what it says was sold is sold again, on the channels in service. It is
+/// read once, in pieces. It is refused as `replay_journal` refuses it, or as `Command`, by `Memory`, where a growth was refused as an outage was noted.
+pub(crate) fn seen_by<'a, R: Read>(
+    alloc: Global,
+    name: &'a str,
+    journal: &mut Watched<R>,
+    wanted: &Wanted,
+    channels: ChannelSet,
+    exchange: Exchange,
+) -> Result<Seen, DayCommandFault<'a>>
+    ensures through { IfOk result (λ s. IsSeenThrough channels wanted.now (R.remaining (device_of journal.old)) exchange s.exchange s.outages.spans.items) }
+    ensures refused { IfErr result (IsNotSeen name.now wanted.now channels exchange (R.remaining (device_of journal.old)) (R.remaining (device_of journal.new)) (is_faulted journal.new)) }
+{
+    let mut charting = Charting {
+        selling: Selling::new(alloc, channels, exchange),
+        noting: Noting::new(alloc),
+    };
+    let whole = read_journal(journal, wanted, &mut charting);
+    let Charting { selling, noting } = charting;
+    let exchange = match selling.into_exchange() {
+        Ok(exchange) => exchange,
+        Err(fault) => return Err(DayCommandFault::Sale(fault)),
+    };
+    journal_read(name, whole)?;
+    match noting.into_outages() {
+        Ok(outages) => Ok(Seen { exchange, outages }),
+        Err(_) => Err(DayCommandFault::Command(CommandFault::Memory)),
+    }
+}

@@ -1,0 +1,81 @@
+//! The seconds without a link that a journal has, noted as they are read.
+
+ghost use Rattle.std.specs.Prelude.{◌≡◌, ◌∷◌, [], true, IfOk};
+ghost use Rattle.bx_journal.specs.Events.{recorded_event};
+ghost use Rattle.bx_audit.specs.Noted.{next_moment, noted_at};
+ghost use Rattle.bx_audit.specs.Notings.{IsFresh, IsNoted};
+
+use bx_day_chart::Outages;
+use bx_events::LAST_MOMENT;
+use bx_journal::RecordedEvent;
+use std::alloc::{AllocError, Global};
+
+/// The outages of a day so far, the moment to which it has come, and whether all were noted.
+#[derive(Drop)]
+pub(crate) struct Noting {
+    outages: Outages,
+    moment: u32,
+    is_whole: bool,
+}
+
+impl Noting {
+    /// Of a day that opens.
+    pub(crate) fn new(alloc: Global) -> Noting
+        ensures { IsFresh result }
+    {
+        Noting {
+            outages: Outages::new(alloc),
+            moment: 0,
+            is_whole: true,
+        }
+    }
+
+    /// A second goes by; a day has no more than 300,000.
+    fn pass(&mut self)
+        ensures { self.new ≡ record self.old { moment = next_moment self.old.moment } }
+    {
+        if self.moment < LAST_MOMENT {
+            self.moment += 1;
+        }
+    }
+
+    /// Notes the second that begins.
+    fn note(&mut self)
+        ensures outages { self.new.is_whole ≡ true → (self.old.is_whole ≡ true) × (self.new.outages.spans.items ≡ noted_at self.old.moment self.old.outages.spans.items) }
+        ensures moment { self.new.moment ≡ self.old.moment }
+    {
+        if self.moment < LAST_MOMENT && self.outages.note(self.moment).is_err() {
+            self.is_whole = false;
+        }
+    }
+
+    /// The next event happens.
+    pub(crate) fn follow(&mut self, event: &RecordedEvent)
+        ensures { IsNoted self.old (recorded_event event.now ∷ []) self.new }
+    {
+        match event {
+            RecordedEvent::Tick => self.pass(),
+            RecordedEvent::Down => {
+                self.note();
+                self.pass();
+            }
+            RecordedEvent::Heard(_) | RecordedEvent::Sold(_) => {}
+        }
+    }
+
+    /// The outages, or that a growth was refused as one was noted.
+    pub(crate) fn into_outages(self) -> Result<Outages, AllocError>
+        ensures { IfOk result (λ outages. (self.is_whole ≡ true) × (outages.spans.items ≡ self.outages.spans.items)) }
+    {
+        let Noting {
+            outages,
+            is_whole,
+            ..
+        } = self;
+        if is_whole {
+            Ok(outages)
+        } else {
+            Err(AllocError)
+        }
+    }
+}
