@@ -1,8 +1,12 @@
-//! Tests of days of a time zone, of bookings read from texts and readers, and of pictures.
+//! Tests of days of a time zone, of bookings read from texts and readers, and of pictures of plans and of days.
 #![tactic(auto)]
 
 #[cfg(test)]
 mod booking_texts;
+#[cfg(test)]
+mod day_pictures;
+#[cfg(test)]
+mod days_drawn;
 #[cfg(test)]
 mod days_of_zones;
 #[cfg(test)]
@@ -13,6 +17,8 @@ mod hour_names;
 mod pictures;
 #[cfg(test)]
 mod printed_faults;
+#[cfg(test)]
+mod small_day;
 #[cfg(test)]
 mod small_picture;
 #[cfg(test)]
