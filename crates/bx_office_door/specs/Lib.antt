@@ -1,3 +1,5 @@
 pub mod Sliced
 pub mod Streams
+pub mod Guests
+pub mod Doors
 pub mod Inside

@@ -1,6 +1,7 @@
 //! The door: a listener, and at most 16 clients.
 
-ghost use Rattle.std.specs.Prelude.{◌≤◌, vec_len};
+ghost use Rattle.std.specs.Prelude.{◌≡◌, ◌≤◌, true, vec_len};
+ghost use Rattle.bx_office_door.specs.Guests.{numbers_of, are_given};
 ghost use Rattle.bx_office_door.specs.declared.door.TheConstants.{MAX_GUESTS};
 
 use crate::guest::Guest;
@@ -11,7 +12,7 @@ use std::alloc::Global;
 /// The most clients at a time; others wait in the queue of the listener.
 const MAX_GUESTS: usize = 16;
 
-/// A listener with its clients. Nothing here ever waits.
+/// A listener with its clients, each of which has a number that no other one is ever given. Nothing here ever waits.
 #[derive(Drop)]
 pub struct Door {
     alloc: Global,
@@ -20,81 +21,151 @@ pub struct Door {
     guests: Vec<Guest>,
     /// How many were let in.
     count: u64,
+    /// How many requests were answered.
+    answers: u64,
+    /// What the clock showed last, in nanoseconds.
+    shown: u128,
     ghost few: { vec_len guests ≤ MAX_GUESTS },
+    ghost given: { are_given count (numbers_of guests.items) ≡ true },
 }
 
 impl Door {
+    ghost use Rattle.std.specs.Prelude.{◌++◌, ◌+◌, [], None, Some, MatchOption, filter, not, is_some, min, if◌then◌else◌};
+    ghost use Rattle.bx_office_door.specs.Guests.{first_asked, client_of, given_since, IsAnsweredThere, IsFirstOf};
+    ghost use Rattle.bx_office_door.specs.Doors.{guests_of, IsAttended};
+
     /// A door where nobody stands yet.
-    pub fn new(alloc: Global, place: Place, listening: Listening) -> Door {
+    pub fn new(alloc: Global, place: Place, listening: Listening) -> Door
+        ensures { guests_of result ≡ [] }
+    {
         Door {
             alloc,
             place,
             listening,
             guests: Vec::new(alloc),
             count: 0,
+            answers: 0,
+            shown: 0,
         }
     }
 
-    /// Lets in who waits, while there is room.
-    fn let_in(&mut self, now: u128) {
+    /// Lets in who waits, while there is room and there are numbers.
+    fn let_in(&mut self, now: u128)
+        ensures count { self.old.count ≤ self.new.count }
+        ensures numbers { numbers_of (guests_of self.new) ≡ numbers_of (guests_of self.old) ++ given_since self.old.count self.new.count }
+    {
         for _guest in 0..MAX_GUESTS {
             if self.guests.len() >= MAX_GUESTS {
                 return;
             }
+            let Some(number) = self.count.checked_add(1) else {
+                return;
+            };
             let Some(stream) = self.listening.accept() else {
                 return;
             };
-            self.count = self.count.saturating_add(1);
-            let guest = Guest::new(self.alloc, self.place, self.count, stream, now);
+            let guest = Guest::new(self.alloc, self.place, number, stream, now);
             if self.guests.push(guest).is_err() {
                 return;
             }
+            self.count = number;
+        }
+    }
+
+    /// Moves what is ready of each client.
+    fn go_on(&mut self, now: u128)
+        ensures count { self.new.count ≡ self.old.count }
+        ensures numbers { numbers_of (guests_of self.new) ≡ numbers_of (guests_of self.old) }
+    {
+        for index in 0..self.guests.len() {
+            self.guests[index].attend(now);
         }
     }
 
     /// Sends away who is gone.
-    fn let_out(&mut self) {
+    fn let_out(&mut self)
+        ensures count { self.new.count ≡ self.old.count }
+        ensures stay { guests_of self.new ≡ filter (λ guest. not guest.is_gone) (guests_of self.old) }
+    {
         self.guests.retain(|guest| !guest.is_gone());
     }
 
-    /// Moves what is ready, and never waits: `now` is what the clock shows, in nanoseconds.
-    pub fn attend(&mut self, now: u128) {
+    /// Moves what is ready, and never waits: `now` is what the clock shows, in nanoseconds. Who comes stands behind the others.
+    pub fn attend(&mut self, now: u128)
+        ensures { IsAttended self.old self.new }
+    {
+        self.shown = now;
         self.let_in(now);
-        for index in 0..self.guests.len() {
-            self.guests[index].attend(now);
-        }
+        self.go_on(now);
         self.let_out();
     }
 
+    /// What the clock showed when the door was attended last, in nanoseconds; 0 before.
+    pub fn shown(&self) -> u128
+        ensures { result ≡ self.now.shown }
+    {
+        self.shown
+    }
+
+    /// How many requests were answered here: those for the page and its parts, which need no answer of the day, are not among them.
+    pub fn answers(&self) -> u64
+        ensures { result ≡ self.now.answers }
+    {
+        self.answers
+    }
+
     /// The first client whose request waits for its answer: its number, and what it asks for.
-    pub fn asked(&self) -> Option<(u64, Route)> {
-        for index in 0..self.guests.len() {
-            if let Stage::Asked(route) = self.guests[index].client().stage() {
-                return Some((self.guests[index].number(), route));
+    pub fn asked(&self) -> Option<(u64, Route)>
+        ensures { result ≡ first_asked (guests_of self.now) }
+    {
+        for guest in &self.guests {
+            if let Stage::Asked(route) = guest.client().stage() {
+                return Some((guest.number(), route));
             }
         }
         None
     }
 
     /// The client of this number, where it is there.
-    pub fn client(&self, number: u64) -> Option<&Client> {
-        for index in 0..self.guests.len() {
-            if self.guests[index].number() == number {
-                return Some(self.guests[index].client());
+    pub fn client(&self, number: u64) -> Option<&Client>
+        ensures { MatchOption result (client_of number (guests_of self.now) ≡ None) (λ client. client_of number (guests_of self.now) ≡ Some client.now) }
+    {
+        for guest in &self.guests {
+            if guest.number() == number {
+                return Some(guest.client());
             }
         }
         None
     }
 
-    /// Answers the client of this number, where it is there. It stands behind the others then.
-    pub fn answer(&mut self, number: u64, reply: Reply<'_>) {
+    /// Where the client of this number stands.
+    fn place_of(&self, number: u64) -> Option<usize>
+        ensures { MatchOption result (client_of number (guests_of self.now) ≡ None) (IsFirstOf number (guests_of self.now)) }
+    {
         for index in 0..self.guests.len() {
             if self.guests[index].number() == number {
-                let mut guest = self.guests.remove(index);
-                guest.answer(reply);
-                let _ = self.guests.push(guest);
-                return;
+                return Some(index);
             }
+        }
+        None
+    }
+
+    /// Answers just the client of this number, where it is there. It stands behind the others then.
+    pub fn answer(&mut self, number: u64, reply: Reply<'_>)
+        ensures answered { IsAnsweredThere number reply.entry (guests_of self.old) (guests_of self.new) }
+        ensures answers { self.new.answers ≡ (if is_some (client_of number (guests_of self.old)) then min (self.old.answers + 1) 18446744073709551615 else self.old.answers) }
+        ensures count { self.new.count ≡ self.old.count }
+        ensures shown { self.new.shown ≡ self.old.shown }
+    {
+        let Some(index) = self.place_of(number) else {
+            return;
+        };
+        self.answers = self.answers.saturating_add(1);
+        let mut guest = self.guests.remove(index);
+        guest.answer(reply);
+        match self.guests.push(guest) {
+            Ok(()) => {}
+            Err(_) => unreachable!(),
         }
     }
 }

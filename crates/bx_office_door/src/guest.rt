@@ -1,5 +1,8 @@
 //! A client at the door.
 
+ghost use Rattle.std.specs.Prelude.{◌≡◌};
+ghost use Rattle.bx_office_door.specs.Guests.{IsTold};
+
 use crate::stream::{Came, Stream};
 use bx_office::{Client, Place, Reply, Stage, page};
 use std::alloc::Global;
@@ -27,7 +30,11 @@ pub struct Guest {
 
 impl Guest {
     /// A client that came now.
-    pub fn new(alloc: Global, place: Place, number: u64, stream: Stream, now: u128) -> Guest {
+    pub fn new(alloc: Global, place: Place, number: u64, stream: Stream, now: u128) -> Guest
+        ensures number { result.number ≡ number }
+        ensures place { result.client.place ≡ place }
+        ensures stage { result.client.stage ≡ Stage.Head }
+    {
         Guest {
             number,
             stream,
@@ -39,28 +46,38 @@ impl Guest {
     }
 
     /// Which one it is.
-    pub fn number(&self) -> u64 {
+    pub fn number(&self) -> u64
+        ensures { result ≡ self.now.number }
+    {
         self.number
     }
 
     /// Whether the socket can be closed.
-    pub fn is_gone(&self) -> bool {
+    pub fn is_gone(&self) -> bool
+        ensures { result ≡ self.now.is_gone }
+    {
         self.is_gone
     }
 
     /// The client.
-    pub fn client(&self) -> &Client {
+    pub fn client(&self) -> &Client
+        ensures { result.now ≡ self.now.client }
+    {
         &self.client
     }
 
     /// Answers its request. However long that has waited, there is time to send the answer.
-    pub fn answer(&mut self, reply: Reply<'_>) {
+    pub fn answer(&mut self, reply: Reply<'_>)
+        ensures { IsTold reply.entry self.old self.new }
+    {
         self.client.answer(reply);
         self.since = None;
     }
 
     /// Reads once. Answers whether something came.
-    fn read(&mut self) -> bool {
+    fn read(&mut self) -> bool
+        ensures { self.new.number ≡ self.old.number }
+    {
         let mut room = [0u8; 4096];
         let most = self.client.room().min(room.len());
         if most == 0 {
@@ -80,7 +97,9 @@ impl Guest {
     }
 
     /// Reads on in what came, and answers what needs nothing of the day.
-    fn advance(&mut self) {
+    fn advance(&mut self)
+        ensures { self.new.number ≡ self.old.number }
+    {
         for _step in 0..STEPS {
             if !self.client.step() {
                 break;
@@ -94,7 +113,9 @@ impl Guest {
     }
 
     /// Writes once. Answers whether something went.
-    fn write(&mut self, now: u128) -> bool {
+    fn write(&mut self, now: u128) -> bool
+        ensures { self.new.number ≡ self.old.number }
+    {
         if self.client.pending().is_empty() {
             return false;
         }
@@ -115,7 +136,9 @@ impl Guest {
     }
 
     /// Throws away what still comes behind the last answer. Answers whether something came.
-    fn drain(&mut self) -> bool {
+    fn drain(&mut self) -> bool
+        ensures { self.new.number ≡ self.old.number }
+    {
         if !self.is_shut {
             self.stream.shut();
             self.is_shut = true;
@@ -132,7 +155,9 @@ impl Guest {
     }
 
     /// Moves once what is ready.
-    fn turn(&mut self, now: u128) -> bool {
+    fn turn(&mut self, now: u128) -> bool
+        ensures { self.new.number ≡ self.old.number }
+    {
         if self.client.is_over() {
             return self.drain();
         }
@@ -154,7 +179,9 @@ impl Guest {
     }
 
     /// Moves what is ready, and never waits.
-    pub fn attend(&mut self, now: u128) {
+    pub fn attend(&mut self, now: u128)
+        ensures { self.new.number ≡ self.old.number }
+    {
         if self.is_late(now) {
             self.is_gone = true;
         }

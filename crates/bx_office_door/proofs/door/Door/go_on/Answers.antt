@@ -1,0 +1,15 @@
+use Rattle.std.proofs.Common.{◌≡◌, ap, ◌∙◌, ℕ, List, slice_set}
+use Rattle.bx_office_door.specs.declared.guest.Guest.{Guest}
+use Rattle.bx_office_door.specs.Guests.{numbers_of, are_given}
+use Rattle.bx_office_door.proofs.GivenNumbers.{numbers-set}
+use Rattle.bx_office_door.proofs.door.Door.go_on.Goals as goal
+
+pub invariant_of-self : goal.invariant_of-self
+invariant_of-self c =
+    let same = numbers-set c.loop-index.self.guests.items c.loop-index.index c.attend.new.self c.index_mut.result.now (c.attend.ensures ∙ ap (λ (g : Guest). g.number) c.index_mut.ensures.value) in
+    record { few = c.loop-index.self.few; given = ap (are_given c.loop-index.self.count) same ∙ c.loop-index.self.given }
+
+pub loop-index-preserved : goal.loop-index-preserved
+loop-index-preserved c =
+    let same = numbers-set c.loop-index.self.guests.items c.loop-index.index c.attend.new.self c.index_mut.result.now (c.attend.ensures ∙ ap (λ (g : Guest). g.number) c.index_mut.ensures.value) in
+    record { count = c.loop-index.invariant.count; many = c.loop-index.invariant.many; numbers = same ∙ c.loop-index.invariant.numbers }

@@ -1,0 +1,91 @@
+-- Who stands at the door: clients with their numbers, in their order.
+use Rattle.std.specs.Prelude.{◌≡◌, ◌⊎◌, ℕ, ◌+◌, ◌-◌, ◌==◌, ◌&&◌, ◌||◌, nat_le, not, if◌then◌else◌, Bool, true, false, List, [], ◌∷◌, ◌++◌, ◌<◌, length, take, map, slice_index_or, Option, Some, None}
+use Rattle.std.specs.List.{range_with_len}
+use Rattle.bx_office.specs.Clients.{IsLeft, IsNext}
+use Rattle.bx_office.specs.Replies.{reply_text}
+use Rattle.bx_office.specs.declared.client.Client.{Client}
+use Rattle.bx_office.specs.declared.client.Stage.{Stage}
+use Rattle.bx_office.specs.declared.client.Stage.TheVariants.{Asked}
+use Rattle.bx_office.specs.declared.gate.Route.{Route}
+use Rattle.bx_office.specs.declared.reply.Reply.{Reply}
+use Rattle.bx_office_door.specs.declared.guest.Guest.{Guest}
+
+-- ---- who is meant
+
+-- what a client waits for, where its request waits for its answer
+abbrev pub asked_at : Stage → Option Route
+asked_at (Asked route) = Some route
+asked_at _ = None
+
+abbrev pub asked_or : Option Route → ℕ → Option (ℕ × Route) → Option (ℕ × Route)
+asked_or (Some route) number later = Some (number, route)
+asked_or None number later = later
+
+-- the first client whose request waits: its number, and what it asks for
+abbrev pub first_asked : List Guest → Option (ℕ × Route)
+first_asked [] = None
+first_asked (g ∷ more) = asked_or (asked_at g.client.stage) g.number (first_asked more)
+
+-- the client of a number
+abbrev pub client_of : ℕ → List Guest → Option Client
+client_of number [] = None
+client_of number (g ∷ more) = if g.number == number then Some g.client else client_of number more
+
+-- the client at this index has the number, and none before it
+pub record IsFirstOf (number : ℕ) (guests : List Guest) (index : ℕ) : Type 0 where
+  pub inside : index < length guests
+  pub before : client_of number (take index guests) ≡ None
+  pub here : (other : Guest) → (slice_index_or guests index other).number ≡ number
+
+-- ---- who is answered
+
+-- what an answer makes of a client
+pub record IsReplied (reply : Reply) (old new : Client) : Type 0 where
+  pub said : IsLeft new ⊎ (new.out.items ≡ old.out.items ++ reply_text old.is_head old.server reply false)
+  pub next : IsNext new.stage
+  pub place : new.place ≡ old.place
+
+-- .. and of who stands at the door
+pub record IsTold (reply : Reply) (old new : Guest) : Type 0 where
+  pub number : new.number ≡ old.number
+  pub stream : new.stream ≡ old.stream
+  pub client : IsReplied reply old.client new.client
+
+-- just the client of this number is answered: it stands behind the others then, which are as they were
+pub record IsAnswered (number : ℕ) (reply : Reply) (old new : List Guest) : Type 0 where
+  pub before : List Guest
+  pub guest : Guest
+  pub behind : List Guest
+  pub told : Guest
+  pub stood : old ≡ before ++ guest ∷ behind
+  pub first : client_of number before ≡ None
+  pub named : guest.number ≡ number
+  pub is : IsTold reply guest told
+  pub stands : new ≡ before ++ behind ++ told ∷ []
+
+-- .. where it is there; else all stand as they stood
+abbrev pub IsAnsweredThere : ℕ → Reply → List Guest → List Guest → Type 0
+IsAnsweredThere number reply old new = ((client_of number old ≡ None) × (new ≡ old)) ⊎ IsAnswered number reply old new
+
+-- ---- which numbers are given
+
+abbrev pub numbers_of : List Guest → List ℕ
+numbers_of guests = map (λ g. g.number) guests
+
+abbrev pub is_among : ℕ → List ℕ → Bool
+is_among n [] = false
+is_among n (m ∷ more) = (m == n) || is_among n more
+
+-- each was given, and just once, where so many were
+abbrev pub are_given : ℕ → List ℕ → Bool
+are_given count [] = true
+are_given count (n ∷ more) = nat_le n count && (not (is_among n more) && are_given count more)
+
+-- the numbers that are given behind the first so many, up to another
+abbrev pub given_since : ℕ → ℕ → List ℕ
+given_since old new = range_with_len (old + 1) (new - old)
+
+-- some of these numbers, in their order
+abbrev pub IsThinned : List ℕ → List ℕ → Type 0
+IsThinned [] kept = kept ≡ []
+IsThinned (n ∷ more) kept = IsThinned more kept ⊎ ((rest : List ℕ) × (kept ≡ n ∷ rest) × IsThinned more rest)
