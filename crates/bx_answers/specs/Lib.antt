@@ -1,4 +1,5 @@
 pub mod Answers
+pub mod Maintenance
 pub mod Metrics
 pub mod Quotes
 pub mod Sold

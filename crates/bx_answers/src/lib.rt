@@ -2,6 +2,7 @@
 #![tactic(auto)]
 
 mod fault;
+mod maintenance;
 mod metrics;
 mod promised;
 mod quoting;

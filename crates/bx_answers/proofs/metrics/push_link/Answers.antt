@@ -1,10 +1,9 @@
 use Rattle.std.proofs.Common.{◌≡◌, ◌++◌, codes}
-use Rattle.bx_answers.specs.Metrics.{family_text, moment_head, bookings_text, pays_text, link_text}
+use Rattle.bx_answers.specs.Metrics.{family_text}
 use Rattle.bx_answers.proofs.Pieces.{joined, joined_on}
 use Rattle.bx_answers.proofs.metrics.push_link.Goals as goal
 
 pub returns : goal.returns
 returns c =
-    let e0 : c.push_family.new.text.items ≡ c.args.text.now.items ++ (family_text (codes "# TYPE bx_seconds_without_link counter\n# HELP bx_seconds_without_link Seconds that began without a link.\nbx_seconds_without_link_total ") c.args.figures.alone) = c.in_ok-push_family.ensures in
-    let e1 : c.push_family-2.new.text.items ≡ c.args.text.now.items ++ ((family_text (codes "# TYPE bx_seconds_without_link counter\n# HELP bx_seconds_without_link Seconds that began without a link.\nbx_seconds_without_link_total ") c.args.figures.alone) ++ (family_text (codes "# TYPE bx_late_seconds counter\n# HELP bx_late_seconds Seconds that began more than a second late.\nbx_late_seconds_total ") c.args.figures.late)) = joined c.args.text.now.items (c.push_family.new.text.items) (c.push_family-2.new.text.items) (family_text (codes "# TYPE bx_seconds_without_link counter\n# HELP bx_seconds_without_link Seconds that began without a link.\nbx_seconds_without_link_total ") c.args.figures.alone) (family_text (codes "# TYPE bx_late_seconds counter\n# HELP bx_late_seconds Seconds that began more than a second late.\nbx_late_seconds_total ") c.args.figures.late) e0 c.in_ok-push_family-2.ensures in
-    joined_on c.push.result c.args.text.now.items (c.push_family-2.new.text.items) (c.push.new.text.items) ((family_text (codes "# TYPE bx_seconds_without_link counter\n# HELP bx_seconds_without_link Seconds that began without a link.\nbx_seconds_without_link_total ") c.args.figures.alone) ++ (family_text (codes "# TYPE bx_late_seconds counter\n# HELP bx_late_seconds Seconds that began more than a second late.\nbx_late_seconds_total ") c.args.figures.late)) (codes "# EOF\n") e1 c.push.ensures
+    let e0 : c.push_family.new.text.items ≡ c.args.text.now.items ++ (family_text (codes "# TYPE bx_seconds_without_link gauge\n# HELP bx_seconds_without_link Seconds that began without a link.\nbx_seconds_without_link ") c.args.figures.now.alone) = c.in_ok-push_family.ensures in
+    joined_on c.push_family-2.result c.args.text.now.items c.push_family.new.text.items c.push_family-2.new.text.items (family_text (codes "# TYPE bx_seconds_without_link gauge\n# HELP bx_seconds_without_link Seconds that began without a link.\nbx_seconds_without_link ") c.args.figures.now.alone) (family_text (codes "# TYPE bx_late_seconds gauge\n# HELP bx_late_seconds Seconds that began more than a second late.\nbx_late_seconds ") c.args.figures.now.late) e0 c.push_family-2.ensures
