@@ -1,2 +1,4 @@
 pub mod Desk
+pub mod Serving
+pub mod Counting
 pub mod Dealt

@@ -58,11 +58,11 @@ pub fn answer_of(
     alloc: Global,
     opened: &Opened,
     exchange: &Exchange,
-    figures: Figures,
+    figures: &Figures,
     route: Route,
     query: &[u8],
 ) -> Result<Written, NoAnswer>
-    ensures { IfOk result (λ w. IsWritten opened.now exchange.now figures query.now route w.kind w.text.items) }
+    ensures { IfOk result (λ w. IsWritten opened.now exchange.now figures.now query.now route w.kind w.text.items) }
 {
     match route {
         Route::Plan => of_kind(Kind::Text, plan_text(alloc, exchange, opened.channels)),

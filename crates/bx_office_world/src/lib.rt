@@ -1,7 +1,9 @@
 //! A live day with a booking office in front of it.
 #![tactic(auto)]
 
+mod counting;
 mod desk;
+mod serving;
 mod world;
 
 pub use desk::{Opened, Written, answer_of};

@@ -1,0 +1,57 @@
+-- Who waits is answered, one after another.
+use Rattle.std.proofs.Common.{◌≡◌, refl, sym, subst, ap, ◌∙◌, inl, inr, ℕ, ◌+◌, ◌≤◌, List, [], ◌∷◌, ◌++◌, length, Some, None, arith, length-append}
+use Rattle.bx_base.specs.Bookings.{Row}
+use Rattle.bx_day.specs.Day.{Day}
+use Rattle.bx_office.specs.declared.gate.Route.{Route}
+use Rattle.bx_office.specs.declared.gate.Route.TheVariants as routes
+use Rattle.bx_office_door.specs.Guests.{first_asked}
+use Rattle.bx_office_door.specs.declared.guest.Guest.{Guest}
+use Rattle.bx_office_world.specs.Serving.{IsServed, IsTurn, AreServed, IsBatchRead, IsServing, IsBatchOf}
+use Rattle.bx_office_world.specs.declared.serving.Desk.{Desk}
+use Rattle.bx_office_world.specs.declared.serving.Selling.{Selling}
+
+served_more : (desk : Desk) (d : Day) (told : List (ℕ × Route)) (turn : ℕ × Route) (old mid new : List Guest) → AreServed desk d told old mid → first_asked mid ≡ Some turn → IsTurn desk d turn.0 turn.1 mid new → AreServed desk d (told ++ turn ∷ []) old new
+served_more desk d [] turn old mid new e f t = (subst (λ (gs : List Guest). first_asked gs ≡ Some turn) e f, new, subst (λ (gs : List Guest). IsTurn desk d turn.0 turn.1 gs new) e t, refl)
+served_more desk d (x ∷ told) turn old mid new p f t = (p.0, p.1, p.2, served_more desk d told turn p.1 mid new p.3 f t)
+
+-- so many were answered
+pub record SoFar (desk : Desk) (d : Day) (count : ℕ) (old new : List Guest) : Type 0 where
+  pub told : List (ℕ × Route)
+  pub many : length told ≡ count
+  pub served : AreServed desk d told old new
+
+pub none_yet : (desk : Desk) (d : Day) (gs : List Guest) → SoFar desk d 0 gs gs
+none_yet desk d gs = record { told = []; many = refl; served = refl }
+
+pub one_more : (desk : Desk) (d : Day) (count number : ℕ) (route : Route) (old mid new : List Guest) → SoFar desk d count old mid → first_asked mid ≡ Some (number, route) → IsTurn desk d number route mid new → SoFar desk d (count + 1) old new
+one_more desk d count number route old mid new s f t = record {
+  told = s.told ++ (number, route) ∷ [];
+  many = length-append s.told ((number, route) ∷ []) ∙ ap (λ (n : ℕ). n + 1) s.many;
+  served = served_more desk d s.told (number, route) old mid new s.served f t;
+}
+
+-- a request that asks for no bookings to be sold
+pub turn_of : (desk : Desk) (d : Day) (number : ℕ) (route : Route) (old new : List Guest) → (route ≡ routes.Bookings → ⊥) → IsServed desk d number route old new → IsTurn desk d number route old new
+turn_of desk d number routes.Bookings old new other s = absurd (other refl)
+turn_of desk d number route old new other s = s
+
+-- nobody waits any more, or enough were answered
+pub all_served : (desk : Desk) (d : Day) (count : ℕ) (old new : List Guest) → count ≤ 16 → SoFar desk d count old new → first_asked new ≡ None → IsServing desk d old new None
+all_served desk d count old new le s e = record { told = s.told; few = omega (arith, s.many); served = s.served; next = inl e }
+
+pub enough_served : (desk : Desk) (d : Day) (old new : List Guest) → SoFar desk d 16 old new → IsServing desk d old new None
+enough_served desk d old new s = record { told = s.told; few = omega (arith, s.many); served = s.served; next = inr s.many }
+
+-- the next batch is to be sold
+pub batch_next : (desk : Desk) (d : Day) (count : ℕ) (old mid new : List Guest) (selling : Selling) (batch : List Row) → count ≤ 16 → SoFar desk d count old mid → first_asked mid ≡ Some (selling.number, routes.Bookings) → selling.rows ≡ length d.entries
+    → new ≡ mid → IsBatchOf desk selling.number mid batch → IsServing desk d old new (Some (selling, batch))
+batch_next desk d count old mid new selling batch le s f rows same b = record {
+  told = s.told;
+  few = omega (arith, s.many);
+  served = subst (λ (gs : List Guest). AreServed desk d s.told old gs) (sym same) s.served;
+  next = (ap first_asked same ∙ f, rows, subst (λ (gs : List Guest). IsBatchOf desk selling.number gs batch) (sym same) b);
+}
+
+-- a request whose bookings have a fault
+pub turn_of_bookings : (desk : Desk) (d : Day) (number : ℕ) (route : Route) (old new : List Guest) → route ≡ routes.Bookings → IsBatchRead desk number old new None → IsTurn desk d number route old new
+turn_of_bookings desk d number route old new is b = subst (λ (r : Route). IsTurn desk d number r old new) (sym is) b

@@ -1,0 +1,5 @@
+use Rattle.bx_office_world.proofs.Turns.{SoFar}
+use Rattle.bx_office_world.proofs.serving.Desk.serve.Given as goal
+
+abbrev pub invariant-loop-answer : goal.invariant-loop-answer
+invariant-loop-answer l = SoFar l.self l.exchange l._answer l.fn.door.guests.items l.door.guests.items

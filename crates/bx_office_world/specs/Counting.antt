@@ -1,0 +1,50 @@
+-- What is counted while the day runs.
+use Rattle.std.specs.Prelude.{ℕ, ◌+◌, ◌-◌, ◌/◌, min, Bool, true, false, if◌then◌else◌, List, [], ◌∷◌, slice_set, slice_index, Option, Some, None, option_map, Result, Ok, Err}
+use Rattle.bx_answers.specs.declared.metrics.Figures.{Figures}
+use Rattle.bx_live.specs.declared.world.Begin.{Begin}
+use Rattle.bx_live.specs.declared.world.Begin.TheVariants as begins
+use Rattle.bx_market.specs.declared.market.Answer.{Answer}
+use Rattle.bx_market.specs.declared.market.Answer.TheVariants as answers
+use Rattle.bx_q931.specs.Messages.{PlainMessage, message_at}
+use Rattle.bx_q931.specs.Values.{cause_of}
+use Rattle.bx_q931.specs.declared.fault.MessageFault.{MessageFault}
+use Rattle.bx_q931.specs.declared.kind.Kind.{Kind}
+use Rattle.bx_q931.specs.declared.kind.Kind.TheVariants as kinds
+
+-- one more, up to the largest number of 64 bits
+abbrev pub one_more : ℕ → ℕ
+one_more n = min (n + 1) 18446744073709551615
+
+-- a second by how it begins
+abbrev pub begun : Begin → Figures → Figures
+begun begins.Alone f = record f { alone = one_more f.alone }
+begun begins.Late f = record f { late = one_more f.late }
+begun _ f = f
+
+-- a message that clears a call
+abbrev pub clears : Kind → Bool
+clears kinds.Disconnect = true
+clears kinds.Release = true
+clears kinds.ReleaseComplete = true
+clears _ = false
+
+abbrev pub cleared_by : Result PlainMessage MessageFault → Option ℕ
+cleared_by (Ok m) = if clears m.kind then cause_of m else None
+cleared_by (Err fault) = None
+
+abbrev pub cleared_in : List ℕ → Option ℕ
+cleared_in octets = cleared_by (message_at octets)
+
+abbrev pub cleared : Option ℕ → Figures → Figures
+cleared None f = f
+cleared (Some cause) f = record f { clearings = slice_set f.clearings cause (one_more (slice_index f.clearings cause)) }
+
+-- how many were sold, with those of a batch
+abbrev pub sold_in : ℕ → List Answer → ℕ
+sold_in sold [] = sold
+sold_in sold (answers.Accepted ∷ more) = sold_in (one_more sold) more
+sold_in sold (answers.Refused why ∷ more) = sold_in sold more
+
+-- whole seconds between two readings of a clock, in nanoseconds
+abbrev pub seconds_since : Option ℕ → ℕ → Option ℕ
+seconds_since first now = option_map (λ at. min ((now - at) / 1_000_000_000) 18446744073709551615) first

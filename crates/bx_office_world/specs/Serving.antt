@@ -1,0 +1,136 @@
+-- What each is told who waits at the door.
+use Rattle.std.specs.Prelude.{◌≡◌, ◌⊎◌, ℕ, ◌≤◌, Bool, true, false, List, [], ◌∷◌, take, length, codes, Option, Some, None}
+use Rattle.bx_answers.specs.Sold.{sold_text}
+use Rattle.bx_answers.specs.declared.fault.NoAnswer.{NoAnswer}
+use Rattle.bx_answers.specs.declared.fault.NoAnswer.TheVariants as no
+use Rattle.bx_base.specs.Bookings.{Row}
+use Rattle.bx_book.specs.Texts.{IsBook, IsBookFault}
+use Rattle.csv.specs.Reading.{strip_bom}
+use Rattle.bx_book.specs.Rows.{span_of}
+use Rattle.bx_book.specs.declared.fault.BookFault.{BookFault}
+use Rattle.bx_book.specs.declared.fault.BookFault.TheVariants as book
+use Rattle.bx_day.specs.Day.{Day}
+use Rattle.bx_market.specs.declared.market.Answer.{Answer}
+use Rattle.bx_office.specs.declared.client.Client.{Client}
+use Rattle.bx_office.specs.declared.gate.Route.{Route}
+use Rattle.bx_office.specs.declared.gate.Route.TheVariants as routes
+use Rattle.bx_office.specs.declared.reply.Allowed.TheVariants as methods
+use Rattle.bx_office.specs.declared.reply.Kind.TheVariants as kinds
+use Rattle.bx_office.specs.declared.reply.Reply.{Reply}
+use Rattle.bx_office.specs.declared.reply.Status.{Status}
+use Rattle.bx_office.specs.declared.reply.Status.TheVariants as statuses
+use Rattle.bx_office_door.specs.Guests.{client_of, first_asked, IsAnswered, IsAnsweredThere}
+use Rattle.bx_office_door.specs.declared.guest.Guest.{Guest}
+use Rattle.bx_office_world.specs.Desk.{IsWritten}
+use Rattle.bx_office_world.specs.declared.serving.Desk.{Desk}
+use Rattle.bx_office_world.specs.declared.serving.Selling.{Selling}
+use Rattle.bx_quote.specs.declared.answer.NoQuote.TheVariants as quotes
+
+-- ---- how answers begin
+
+abbrev pub status_of : NoAnswer → Status
+status_of (no.Book fault) = statuses.BadRequest
+status_of no.NoTimes = statuses.BadRequest
+status_of (no.Quote (quotes.NoChannel moment)) = statuses.Fine
+status_of (no.Quote quotes.TooMany) = statuses.Fine
+status_of _ = statuses.Unavailable
+
+abbrev pub book_status : BookFault → Status
+book_status book.Memory = statuses.Unavailable
+book_status _ = statuses.BadRequest
+
+-- a line of text, with this status
+pub record IsPlain (status : Status) (reply : Reply) : Type 0 where
+  pub begins : reply.status ≡ status
+  pub kind : reply.kind ≡ kinds.Text
+  pub allowed : reply.allowed ≡ methods.Unsaid
+
+-- the client of this number is told such a line, where it is there
+pub record IsRefusing (status : Status) (number : ℕ) (old new : List Guest) : Type 0 where
+  pub reply : Reply
+  pub is : IsPlain status reply
+  pub answered : IsAnsweredThere number reply old new
+
+-- ---- a request that asks for nothing to be sold
+
+abbrev pub is_late_for : Bool → Route → Bool
+is_late_for is_late routes.Health = is_late
+is_late_for is_late _ = false
+
+-- what stands at its path, by its query
+pub record IsShown (desk : Desk) (d : Day) (query : List ℕ) (route : Route) (reply : Reply) : Type 0 where
+  pub status : reply.status ≡ statuses.Fine
+  pub allowed : reply.allowed ≡ methods.Unsaid
+  pub written : IsWritten desk.opened.now d desk.figures query route reply.kind reply.body.now
+
+abbrev pub IsReplyTo : Bool → Desk → Day → List ℕ → Route → Reply → Type 0
+IsReplyTo true desk d query route reply = IsPlain statuses.Unavailable reply × (reply.body.now ≡ codes "late\n")
+IsReplyTo false desk d query route reply = IsShown desk d query route reply ⊎ ((why : NoAnswer) × IsPlain (status_of why) reply)
+
+-- just the client of this number is told it
+pub record IsServedThere (desk : Desk) (d : Day) (number : ℕ) (route : Route) (old new : List Guest) : Type 0 where
+  pub client : Client
+  pub there : client_of number old ≡ Some client
+  pub reply : Reply
+  pub said : IsReplyTo (is_late_for desk.is_late route) desk d client.query.items route reply
+  pub answered : IsAnswered number reply old new
+
+-- .. where it is there; else all stand as they stood
+abbrev pub IsServed : Desk → Day → ℕ → Route → List Guest → List Guest → Type 0
+IsServed desk d number route old new = ((client_of number old ≡ None) × (new ≡ old)) ⊎ IsServedThere desk d number route old new
+
+-- ---- a request that asks for bookings to be sold
+
+-- the batch is what the body of the client of this number says
+pub record IsBatchOf (desk : Desk) (number : ℕ) (guests : List Guest) (batch : List Row) : Type 0 where
+  pub client : Client
+  pub there : client_of number guests ≡ Some client
+  pub read : IsBook (strip_bom client.body.items) (span_of desk.opened.now.day) batch
+
+-- its body has a fault, and just this client is told so
+pub record IsFaulted (desk : Desk) (number : ℕ) (old new : List Guest) : Type 0 where
+  pub client : Client
+  pub there : client_of number old ≡ Some client
+  pub fault : BookFault
+  pub read : IsBookFault (strip_bom client.body.items) (span_of desk.opened.now.day) fault
+  pub reply : Reply
+  pub is : IsPlain (book_status fault) reply
+  pub answered : IsAnswered number reply old new
+
+abbrev pub IsBatchRead : Desk → ℕ → List Guest → List Guest → Option (List Row) → Type 0
+IsBatchRead desk number old new None = ((client_of number old ≡ None) × (new ≡ old)) ⊎ IsFaulted desk number old new
+IsBatchRead desk number old new (Some batch) = (new ≡ old) × IsBatchOf desk number old batch
+
+-- ---- who waits is answered, each in its turn
+
+abbrev pub IsTurn : Desk → Day → ℕ → Route → List Guest → List Guest → Type 0
+IsTurn desk d number routes.Bookings old new = IsBatchRead desk number old new None
+IsTurn desk d number route old new = IsServed desk d number route old new
+
+-- these were answered, each as the first whose request waited then, and nobody else
+abbrev pub AreServed : Desk → Day → List (ℕ × Route) → List Guest → List Guest → Type 0
+AreServed desk d [] old new = new ≡ old
+AreServed desk d (turn ∷ more) old new = (first_asked old ≡ Some turn) × (next : List Guest) × IsTurn desk d turn.0 turn.1 old next × AreServed desk d more next new
+
+-- the next batch is that of the first who waits then, which is kept with how many rows the plan has
+abbrev pub IsNextBatch : Desk → Day → List (ℕ × Route) → List Guest → Option (Selling × List Row) → Type 0
+IsNextBatch desk d told new None = (first_asked new ≡ None) ⊎ (length told ≡ 16)
+IsNextBatch desk d told new (Some next) = (first_asked new ≡ Some (next.0.number, routes.Bookings)) × (next.0.rows ≡ length d.entries) × IsBatchOf desk next.0.number new next.1
+
+pub record IsServing (desk : Desk) (d : Day) (old new : List Guest) (result : Option (Selling × List Row)) : Type 0 where
+  pub told : List (ℕ × Route)
+  pub few : length told ≤ 16
+  pub served : AreServed desk d told old new
+  pub next : IsNextBatch desk d told new result
+
+-- ---- what is sold
+
+abbrev pub IsSoldReply : Selling → List Answer → Reply → Type 0
+IsSoldReply selling answers reply = ((reply.status ≡ statuses.Fine) × (reply.kind ≡ kinds.Csv) × (reply.allowed ≡ methods.Unsaid) × (reply.body.now ≡ sold_text selling.rows (take 4000 answers)))
+    ⊎ (IsPlain statuses.Unavailable reply × (reply.body.now ≡ codes "Memory: what is sold stands in the plan\n"))
+
+-- just the customer of the batch is told it
+pub record IsToldSold (selling : Selling) (answers : List Answer) (old new : List Guest) : Type 0 where
+  pub reply : Reply
+  pub is : IsSoldReply selling answers reply
+  pub answered : IsAnsweredThere selling.number reply old new

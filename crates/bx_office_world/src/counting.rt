@@ -1,0 +1,67 @@
+//! What is counted while the day runs.
+
+ghost use Rattle.std.specs.Prelude.{◌≡◌, ◌-◌, ◌/◌, min, option_map};
+ghost use Rattle.bx_office_world.specs.Counting.{begun, cleared_in, cleared, sold_in, seconds_since};
+
+use bx_answers::Figures;
+use bx_live::Begin;
+use bx_market::Answer;
+use bx_q931::{Kind, read};
+
+/// A second, in nanoseconds.
+const SECOND: u128 = 1_000_000_000;
+
+/// Counts a second by how it begins.
+pub(crate) fn count_begin(figures: &mut Figures, begin: Begin)
+    ensures { figures.new ≡ begun begin figures.old }
+{
+    match begin {
+        Begin::Alone => figures.alone = figures.alone.saturating_add(1),
+        Begin::Late => figures.late = figures.late.saturating_add(1),
+        Begin::Joined | Begin::Ended => {}
+    }
+}
+
+/// The cause with which a message clears a call, where it does so with one (ITU-T Q.931, 5.3).
+fn cleared_in(octets: &[u8]) -> Option<u8>
+    ensures { result ≡ cleared_in octets.now }
+{
+    let Ok(message) = read(octets) else {
+        return None;
+    };
+    match message.kind() {
+        Kind::Disconnect | Kind::Release | Kind::ReleaseComplete => message.cause(),
+        _ => None,
+    }
+}
+
+/// Counts a message by the cause with which it clears a call.
+pub(crate) fn count_message(figures: &mut Figures, octets: &[u8])
+    ensures { figures.new ≡ cleared (cleared_in octets.now) figures.old }
+{
+    if let Some(cause) = cleared_in(octets)
+        && cause < 128
+    {
+        let count = &mut figures.clearings[cause as usize];
+        *count = count.saturating_add(1);
+    }
+}
+
+/// Counts what was sold of a batch.
+pub(crate) fn count_sold(figures: &mut Figures, answers: &[Answer])
+    ensures { figures.new ≡ record figures.old { sold = sold_in figures.old.sold answers.now } }
+{
+    for answer in answers {
+        if matches!(answer, Answer::Accepted) {
+            figures.sold = figures.sold.saturating_add(1);
+        }
+    }
+}
+
+/// How many whole seconds lie between two readings of a clock, in nanoseconds, where there is the first.
+pub(crate) fn seconds_since(first: Option<u128>, now: u128) -> Option<u64>
+    ensures { result ≡ seconds_since first now }
+{
+    let seconds = now.saturating_sub(first?) / SECOND;
+    Some(seconds.min(u64::MAX as u128) as u64)
+}

@@ -1,0 +1,172 @@
+//! Who waits at the door is answered.
+
+ghost use Rattle.std.specs.Prelude.{◌≡◌};
+ghost use Rattle.bx_office_door.specs.Doors.{guests_of};
+ghost use Rattle.bx_office_world.specs.Serving.{status_of, book_status, is_late_for, IsRefusing, IsServed, IsBatchRead, IsServing, IsToldSold};
+
+use crate::desk::{Opened, Written, answer_of};
+use bx_answers::{Figures, NoAnswer, sold_text};
+use bx_base::Bookings;
+use bx_book::{BookFault, read_bookings};
+use bx_day::Exchange;
+use bx_market::Answer;
+use bx_office::{Allowed, Kind, Reply, Route, Status};
+use bx_office_door::Door;
+use bx_quote::NoQuote;
+use std::alloc::Global;
+use std::fmt::Display;
+
+/// The most requests that are answered at a time.
+const MAX_ANSWERS: u32 = 16;
+
+/// A batch that is being sold: whose it is, and how many rows the plan has.
+#[derive(Clone, Copy)]
+pub(crate) struct Selling {
+    number: u64,
+    rows: u16,
+}
+
+/// What the office is at: what it was opened with, what was counted, and whether the last second began late.
+#[derive(Clone, Copy)]
+pub(crate) struct Desk<'a> {
+    pub(crate) opened: &'a Opened,
+    pub(crate) figures: Figures,
+    pub(crate) is_late: bool,
+}
+
+/// A reply of this kind.
+fn reply_of(status: Status, kind: Kind, body: &[u8]) -> Reply<'_>
+    ensures { (result.status ≡ status) × (result.kind ≡ kind) × (result.allowed ≡ Allowed.Unsaid) × (result.body.now ≡ body.now) }
+{
+    Reply {
+        status,
+        kind,
+        allowed: Allowed::Unsaid,
+        body,
+    }
+}
+
+/// How an answer that is none begins: a quote that there is not is one too.
+fn status_of(why: NoAnswer) -> Status
+    ensures { result ≡ status_of why }
+{
+    match why {
+        NoAnswer::Book(_) | NoAnswer::NoTimes => Status::BadRequest,
+        NoAnswer::Quote(NoQuote::NoChannel(_) | NoQuote::TooMany) => Status::Fine,
+        _ => Status::Unavailable,
+    }
+}
+
+/// How the answer to bookings begins that have a fault.
+fn book_status(fault: BookFault) -> Status
+    ensures { result ≡ book_status fault }
+{
+    match fault {
+        BookFault::Memory => Status::Unavailable,
+        _ => Status::BadRequest,
+    }
+}
+
+/// Answers the client of this number by why there is no answer, in one line.
+fn refuse<F: Display + Drop>(alloc: Global, door: &mut Door, number: u64, status: Status, why: F)
+    ensures { IsRefusing status number (guests_of door.old) (guests_of door.new) }
+{
+    match format!(in alloc; "{why}\n") {
+        Ok(line) => door.answer(number, reply_of(status, Kind::Text, line.as_bytes())),
+        Err(_) => door.answer(number, reply_of(status, Kind::Text, b"Memory\n")),
+    }
+}
+
+impl Desk<'_> {
+    /// Whether it is asked whether the day goes on, and it is late.
+    fn is_late_for(&self, route: Route) -> bool
+        ensures { result ≡ is_late_for self.now.is_late route }
+    {
+        match route {
+            Route::Health => self.is_late,
+            _ => false,
+        }
+    }
+
+    /// Answers a request that asks for nothing to be sold.
+    fn tell(&self, alloc: Global, door: &mut Door, exchange: &Exchange, number: u64, route: Route)
+        ensures { IsServed self.now exchange.now number route (guests_of door.old) (guests_of door.new) }
+    {
+        let Some(client) = door.client(number) else {
+            return;
+        };
+        if self.is_late_for(route) {
+            return door.answer(number, reply_of(Status::Unavailable, Kind::Text, b"late\n"));
+        }
+        match answer_of(
+            alloc,
+            self.opened,
+            exchange,
+            &self.figures,
+            route,
+            client.query(),
+        ) {
+            Ok(Written { kind, text }) => door.answer(number, reply_of(Status::Fine, kind, &text)),
+            Err(why) => refuse(alloc, door, number, status_of(why), why),
+        }
+    }
+
+    /// The bookings of a request. Where they have a fault, that is answered, and nothing is sold.
+    fn batch(&self, alloc: Global, door: &mut Door, number: u64) -> Option<Bookings>
+        ensures { IsBatchRead self.now number (guests_of door.old) (guests_of door.new) result }
+    {
+        let client = door.client(number)?;
+        match read_bookings(alloc, client.body(), &self.opened.day) {
+            Ok(batch) => Some(batch),
+            Err(fault) => {
+                refuse(alloc, door, number, book_status(fault), fault);
+                None
+            }
+        }
+    }
+
+    /// Answers who waits, each in its turn, up to the first that asks for bookings to be sold, or up to so many: whose they are, and
+    /// what they are.
+    pub(crate) fn serve(
+        &self,
+        alloc: Global,
+        door: &mut Door,
+        exchange: &Exchange,
+    ) -> Option<(Selling, Bookings)>
+        ensures { IsServing self.now exchange.now (guests_of door.old) (guests_of door.new) result }
+    {
+        // Read for the prover alone, which learns a limit from it.
+        let _moment = exchange.moment();
+        let rows = exchange.entries().len() as u16;
+        for _answer in 0..MAX_ANSWERS {
+            let (number, route) = door.asked()?;
+            match route {
+                Route::Bookings => {
+                    if let Some(batch) = self.batch(alloc, door, number) {
+                        return Some((Selling { number, rows }, batch));
+                    }
+                }
+                _ => self.tell(alloc, door, exchange, number, route),
+            }
+        }
+        None
+    }
+}
+
+/// Tells the customer of a batch what is sold of it.
+pub(crate) fn tell_sold(alloc: Global, door: &mut Door, selling: Selling, answers: &[Answer])
+    ensures { IsToldSold selling answers.now (guests_of door.old) (guests_of door.new) }
+{
+    let count = answers.len().min(4000);
+    match sold_text(alloc, selling.rows, &answers[..count]) {
+        Ok(text) => door.answer(selling.number, reply_of(Status::Fine, Kind::Csv, &text)),
+        Err(_) => door.answer(
+            selling.number,
+            reply_of(
+                Status::Unavailable,
+                Kind::Text,
+                b"Memory: what is sold stands in the plan\n",
+            ),
+        ),
+    }
+}
