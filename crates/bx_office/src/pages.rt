@@ -6,59 +6,186 @@ use crate::reply::{Allowed, Kind, Reply, Status};
 /// The page: figures, what a call would have to pay, and a form to book.
 const HOME: &str = "<!doctype html>
 <html lang=\"en\">
+<head>
 <meta charset=\"utf-8\">
-<meta name=\"viewport\" content=\"width=device-width\">
+<meta name=\"viewport\" content=\"width=device-width, initial-scale=1\">
 <title>Booking office</title>
 <link rel=\"stylesheet\" href=\"/office.css\">
 <script src=\"/office.js\" defer></script>
+</head>
+<body>
+<header>
 <h1>Booking office</h1>
-<p><a href=\"/plan\">plan</a> <a href=\"/outcomes\">outcomes</a> <a href=\"/records\">records</a> <a href=\"/metrics\">metrics</a></p>
-<h2>What a call would have to pay</h2>
-<form id=\"quote\">
-<label>Start <input name=\"start\" required></label>
-<label>End <input name=\"end\" required></label>
-<button>Ask</button>
+<p id=\"health\" role=\"status\">Asking the office ...</p>
+</header>
+<main>
+<section aria-labelledby=\"day-title\">
+<h2 id=\"day-title\">The day as it goes</h2>
+<div class=\"chart\"><img id=\"chart\" src=\"/chart.svg\" alt=\"Channels over the hours of the day: what is planned, carried and missed\"></div>
+<table>
+<caption>Bookings of the last plan</caption>
+<thead><tr><th scope=\"col\">What has become of them</th><th scope=\"col\">Bookings</th><th scope=\"col\">Their pay</th></tr></thead>
+<tbody id=\"outcomes\"></tbody>
+</table>
+<dl id=\"figures\"></dl>
+<p>As text: <a href=\"/plan\">the plan</a>, <a href=\"/outcomes\">the outcomes</a>, <a href=\"/records\">the call records</a>, <a href=\"/metrics\">the figures</a>.</p>
+</section>
+<section aria-labelledby=\"call-title\">
+<h2 id=\"call-title\">A call</h2>
+<form id=\"call\">
+<p><label for=\"start\">Start, by the clock of this device</label>
+<input id=\"start\" name=\"start\" type=\"datetime-local\" step=\"1\" required></p>
+<p><label for=\"end\">End</label>
+<input id=\"end\" name=\"end\" type=\"datetime-local\" step=\"1\" required></p>
+<p><label for=\"number\">Number to be called, 1 to 15 digits</label>
+<input id=\"number\" name=\"number\" inputmode=\"numeric\" pattern=\"[0-9]{1,15}\" maxlength=\"15\" autocomplete=\"off\"></p>
+<p><label for=\"pay\">Pay, 1 to 1000000000</label>
+<input id=\"pay\" name=\"pay\" inputmode=\"numeric\" pattern=\"[0-9]{1,10}\" maxlength=\"10\" autocomplete=\"off\"></p>
+<p><label for=\"direction\">Who calls</label>
+<select id=\"direction\" name=\"direction\"><option value=\"out\">the exchange</option><option value=\"in\">the far end</option></select></p>
+<p><button id=\"quote\" type=\"submit\" value=\"quote\">What would it have to pay?</button>
+<button id=\"book\" type=\"submit\" value=\"book\">Book it</button></p>
 </form>
-<pre id=\"price\"></pre>
-<h2>Book</h2>
-<form id=\"book\">
-<textarea name=\"bookings\" rows=\"6\" cols=\"80\">start,end,number,pay
-</textarea>
-<button>Book</button>
-</form>
-<pre id=\"answer\"></pre>
-<h2>The day so far</h2>
-<pre id=\"figures\"></pre>
+<p id=\"answer\" role=\"status\"></p>
+</section>
+</main>
+</body>
 </html>
 ";
 
 const SCRIPT: &str = "\"use strict\";
 const at = (id) => document.getElementById(id);
-const ask = async (id, path, options) => {
+const faults = {
+  B3: \"A time is no time.\",
+  B4: \"A time has a part of a second.\",
+  B5: \"A time lies outside this day.\",
+  B6: \"The end is not after the start.\",
+  B7: \"The number is not 1 to 15 digits.\",
+  B8: \"The pay is not 1 to 1000000000.\",
+  K1: \"The channels do not carry what is promised.\",
+  K2: \"The plan has 4000 bookings already.\",
+  Q1: \"At some moment of it other promises have all channels: no pay is enough.\",
+  Memory: \"The office has no memory left. Ask again.\",
+};
+const reasons = {
+  Late: \"it begins by now\",
+  Full: \"the plan has 4000 bookings already\",
+  NoChannel: \"at some moment of it no channel is left\",
+  OtherChannels: \"this day's plan does not let calls be added\",
+  Memory: \"the office has no memory left\",
+};
+const inWords = (text) => faults[text.split(\" \")[0].trim()] || text.trim();
+const ask = async (path, options) => {
+  const reply = await fetch(path, options);
+  return { isFine: reply.ok, text: await reply.text() };
+};
+const time = (id) => new Date(at(id).value).toISOString().replace(\".000Z\", \"Z\");
+
+const priced = (text) => {
+  const above = /^taken above (\\d+)$/m.exec(text);
+  return above ? `It is taken for more than ${above[1]}.` : inWords(text);
+};
+const sold = (text) => {
+  const fields = text.split(\"\\n\")[1].split(\",\");
+  return fields[1] === \"accepted\" ? `Booked: row ${fields[2]} of the plan.` : `Not booked: ${reasons[fields[3]] || fields[3]}.`;
+};
+const quote = async () => {
+  const query = new URLSearchParams({ start: time(\"start\"), end: time(\"end\") });
+  const reply = await ask(`/quote?${query}`);
+  return priced(reply.text);
+};
+const book = async () => {
+  const row = [time(\"start\"), time(\"end\"), at(\"number\").value, at(\"pay\").value, \"no\", at(\"direction\").value];
+  const reply = await ask(\"/bookings\", {
+    method: \"POST\",
+    headers: { \"Content-Type\": \"text/csv\" },
+    body: `start,end,number,pay,must,direction\\n${row.join(\",\")}\\n`,
+  });
+  return reply.isFine ? sold(reply.text) : inWords(reply.text);
+};
+
+at(\"call\").addEventListener(\"submit\", async (event) => {
+  event.preventDefault();
+  const isBooking = event.submitter !== null && event.submitter.value === \"book\";
+  at(\"answer\").textContent = \"Asking the office ...\";
   try {
-    const reply = await fetch(path, options);
-    at(id).textContent = await reply.text();
+    at(\"answer\").textContent = isBooking ? await book() : await quote();
   } catch (fault) {
-    at(id).textContent = \"The office does not answer.\";
+    at(\"answer\").textContent = \"The office does not answer.\";
+  }
+  show();
+});
+
+const samples = (text) => text.split(\"\\n\").map((line) => /^(\\w+)(?:\\{\\w+=\"(\\w+)\"\\})? (\\d+)$/.exec(line)).filter((found) => found !== null);
+const outcomes = { waiting: \"wait for their start\", live: \"are live\", carried: \"were carried\", unanswered: \"were not answered\", missed: \"were missed\", refused: \"are not in the plan\" };
+const figures = {
+  bx_moment_seconds: \"So much of the day is over\",
+  bx_channels_in_maintenance: \"Channels in maintenance\",
+  bx_seconds_without_link: \"Seconds without a link\",
+  bx_late_seconds: \"Seconds that began late\",
+  bx_bookings_sold: \"Bookings sold\",
+  bx_sync_age_seconds: \"Seconds since the journal was saved\",
+};
+const hours = (seconds) => [Math.floor(seconds / 3600), Math.floor(seconds / 60) % 60, seconds % 60].map((part) => String(part).padStart(2, \"0\")).join(\":\");
+const element = (name, text) => {
+  const made = document.createElement(name);
+  made.textContent = text;
+  return made;
+};
+const row = (words, cells) => {
+  const made = document.createElement(\"tr\");
+  const head = element(\"th\", words);
+  head.scope = \"row\";
+  made.append(head, ...cells.map((cell) => element(\"td\", cell)));
+  return made;
+};
+const tell = (text) => {
+  const all = samples(text);
+  const value = (name, label) => (all.find((found) => found[1] === name && found[2] === label) || [])[3];
+  at(\"outcomes\").replaceChildren(...Object.keys(outcomes).map((label) => row(outcomes[label], [value(\"bx_bookings\", label), value(\"bx_pay\", label)])));
+  const told = Object.keys(figures).filter((name) => value(name) !== undefined);
+  const causes = all.filter((found) => found[1] === \"bx_clearings_received\");
+  at(\"figures\").replaceChildren(
+    ...told.flatMap((name) => [element(\"dt\", figures[name]), element(\"dd\", name === \"bx_moment_seconds\" ? hours(Number(value(name))) : value(name))]),
+    ...causes.flatMap((found) => [element(\"dt\", `Cleared with cause ${found[2]}`), element(\"dd\", found[3])]),
+  );
+};
+const show = async () => {
+  try {
+    tell((await ask(\"/metrics\")).text);
+    const health = await ask(\"/healthz\");
+    at(\"health\").textContent = health.isFine ? \"The day goes on in time.\" : \"The last second began late.\";
+    at(\"chart\").src = `/chart.svg?${Date.now()}`;
+  } catch (fault) {
+    at(\"health\").textContent = \"The office does not answer.\";
   }
 };
-at(\"quote\").addEventListener(\"submit\", (event) => {
-  event.preventDefault();
-  ask(\"price\", \"/quote?\" + new URLSearchParams(new FormData(event.target)));
-});
-at(\"book\").addEventListener(\"submit\", (event) => {
-  event.preventDefault();
-  const body = new FormData(event.target).get(\"bookings\");
-  ask(\"answer\", \"/bookings\", { method: \"POST\", headers: { \"Content-Type\": \"text/csv\" }, body });
-});
-const figures = () => ask(\"figures\", \"/metrics\");
-figures();
-setInterval(figures, 10000);
+at(\"chart\").addEventListener(\"error\", () => { at(\"chart\").hidden = true; });
+at(\"chart\").addEventListener(\"load\", () => { at(\"chart\").hidden = false; });
+show();
+setInterval(show, 10000);
 ";
 
-const STYLE: &str = "body { font-family: sans-serif; margin: 2em auto; max-width: 50em; }
-label, button { display: block; margin: 0.5em 0; }
-pre { background: #eee; overflow: auto; padding: 0.5em; }
+const STYLE: &str =
+    "body { font-family: system-ui, sans-serif; line-height: 1.5; margin: 0 auto; max-width: 70rem; padding: 1rem; color: #111; background: #fff; }
+h1, h2 { line-height: 1.2; }
+main { display: grid; gap: 2rem; grid-template-columns: minmax(0, 1fr); }
+@media (min-width: 60rem) { main { grid-template-columns: minmax(0, 2fr) minmax(0, 1fr); } }
+.chart { overflow-x: auto; }
+.chart img { display: block; min-width: 40rem; width: 100%; }
+.chart img[hidden] { display: none; }
+table { border-collapse: collapse; margin: 1rem 0; width: 100%; }
+caption { text-align: left; font-weight: bold; }
+th, td { border-bottom: 1px solid #767676; padding: 0.25rem 0.5rem 0.25rem 0; text-align: left; font-weight: normal; }
+td, dd { font-variant-numeric: tabular-nums; }
+th:not(:first-child), td { text-align: right; }
+dl { display: grid; grid-template-columns: 1fr auto; gap: 0.25rem 1rem; }
+dd { margin: 0; text-align: right; }
+label { display: block; }
+input, select { box-sizing: border-box; font: inherit; padding: 0.5rem; width: 100%; border: 1px solid #595959; border-radius: 0.25rem; color: #111; background: #fff; }
+button { font: inherit; padding: 0.5rem 1rem; margin: 0 0.5rem 0.5rem 0; border: 2px solid #111; border-radius: 0.25rem; color: #111; background: #fff; }
+:focus-visible { outline: 3px solid #005fcc; outline-offset: 2px; }
+#answer:not(:empty) { border-left: 4px solid #111; padding-left: 0.75rem; }
 ";
 
 /// What stands at a path whatever the day is.
