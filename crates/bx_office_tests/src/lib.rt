@@ -2,8 +2,14 @@
 #![tactic(auto)]
 
 #[cfg(test)]
+mod answers;
+#[cfg(test)]
 mod doors;
 #[cfg(test)]
 mod exchanges;
 #[cfg(test)]
 mod gates;
+#[cfg(test)]
+mod offices;
+#[cfg(test)]
+mod quiet_world;

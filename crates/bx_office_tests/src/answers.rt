@@ -1,0 +1,369 @@
+//! What is answered of a day that runs, each text whole.
+
+use bx_answers::{
+    Figures, NoAnswer, call_of, metrics_text, outcomes_text, plan_text, quote_text, records_text,
+    sold_text,
+};
+use bx_base::ChannelSet;
+use bx_book::BookFault;
+use bx_calendar::Day;
+use bx_cases::messages::{
+    CONNECT, FAR_DISCONNECT_16, FAR_RELEASE_COMPLETE, FAR_RELEASE_COMPLETE_17,
+};
+use bx_day::Exchange;
+use bx_market::Answer;
+use bx_quote::NoQuote;
+use bx_sales::NoSale;
+use bx_worked_days::{Row, TICK, exchange_of, goes_through};
+use std::alloc::Global;
+
+/// One is called at once, one is refused, and one is called later.
+static ROWS: [Row; 3] = [(0, 60, 1, false), (30, 40, 0, false), (150, 160, 2, false)];
+
+/// A day: its name, what it goes through and how many seconds more, and what is told of it then.
+struct Case {
+    name: &'static str,
+    steps: &'static [&'static [u8]],
+    seconds: u32,
+    outcomes: &'static str,
+    records: &'static str,
+}
+
+static CASES: [Case; 5] = [
+    Case {
+        name: "at its opening",
+        steps: &[],
+        seconds: 0,
+        outcomes: "1 waiting\n2 refused\n3 waiting\nmaintenance none\n",
+        records: "row,direction,number,channel,start,end,pay,outcome,from,until,seconds\n1,out,1234,1,0,60,5,waiting,,,\n2,out,1234,,30,40,5,refused,,,\n3,out,1234,2,150,160,5,waiting,,,\n",
+    },
+    Case {
+        name: "a call is up",
+        steps: &[TICK, CONNECT],
+        seconds: 0,
+        outcomes: "1 live\n2 refused\n3 waiting\nmaintenance none\n",
+        records: "row,direction,number,channel,start,end,pay,outcome,from,until,seconds\n1,out,1234,1,0,60,5,live,1,,\n2,out,1234,,30,40,5,refused,,,\n3,out,1234,2,150,160,5,waiting,,,\n",
+    },
+    Case {
+        name: "a call was not answered",
+        steps: &[TICK, FAR_RELEASE_COMPLETE_17],
+        seconds: 0,
+        outcomes: "1 unanswered\n2 refused\n3 waiting\nmaintenance none\n",
+        records: "row,direction,number,channel,start,end,pay,outcome,from,until,seconds\n1,out,1234,1,0,60,5,unanswered,,,\n2,out,1234,,30,40,5,refused,,,\n3,out,1234,2,150,160,5,waiting,,,\n",
+    },
+    Case {
+        name: "a call was cleared by the far end",
+        steps: &[TICK, CONNECT, TICK, FAR_DISCONNECT_16, FAR_RELEASE_COMPLETE],
+        seconds: 0,
+        outcomes: "1 carried 1 2\n2 refused\n3 waiting\nmaintenance none\n",
+        records: "row,direction,number,channel,start,end,pay,outcome,from,until,seconds\n1,out,1234,1,0,60,5,carried,1,2,1\n2,out,1234,,30,40,5,refused,,,\n3,out,1234,2,150,160,5,waiting,,,\n",
+    },
+    Case {
+        name: "a channel is in maintenance",
+        steps: &[TICK, CONNECT],
+        seconds: 97,
+        outcomes: "1 carried 1 60\n2 refused\n3 waiting\nmaintenance 1\n",
+        records: "row,direction,number,channel,start,end,pay,outcome,from,until,seconds\n1,out,1234,1,0,60,5,carried,1,60,59\n2,out,1234,,30,40,5,refused,,,\n3,out,1234,2,150,160,5,waiting,,,\n",
+    },
+];
+
+/// The last plan of each of these days: what was promised is must, and what was refused has room now.
+const PLAN: &str =
+    "bx-plan 3\nchannels 1 2 3\nbookings 3\n0 60 5 1234 1 must out\n30 40 5 1234 2 free out\n150 160 5 1234 1 must out\nprices 0\ntotal 15\nend\n";
+
+/// The exchange of a case.
+fn exchange_at(alloc: Global, steps: &[&[u8]], seconds: u32) -> Option<Exchange> {
+    let mut exchange = exchange_of(alloc, &ROWS)?;
+    goes_through(&mut exchange, steps);
+    for _second in 0..seconds {
+        let _sent = exchange.tick();
+    }
+    Some(exchange)
+}
+
+/// Whether the texts of the day are these.
+fn are_told(alloc: Global, case: &Case) -> Option<bool> {
+    let exchange = exchange_at(alloc, case.steps, case.seconds)?;
+    let channels = ChannelSet::from_numbers(&[1, 2, 3]).ok()?;
+    let outcomes = outcomes_text(alloc, &exchange).ok()?;
+    let records = records_text(alloc, &exchange, None).ok()?;
+    let plan = plan_text(alloc, &exchange, channels).ok()?;
+    Some(
+        outcomes.as_slice() == case.outcomes.as_bytes()
+            && records.as_slice() == case.records.as_bytes()
+            && plan.as_slice() == PLAN.as_bytes(),
+    )
+}
+
+#[test]
+fn days_are_told(rt: HostRuntime) {
+    for case in &CASES {
+        assert!(rt; are_told(rt.alloc(), case) == Some(true), "{}", case.name);
+    }
+}
+
+/// The figures at the opening, before anything was counted.
+const FIRST: &str = "# TYPE bx_moment_seconds gauge
+# UNIT bx_moment_seconds seconds
+# HELP bx_moment_seconds Seconds of the day so far.
+bx_moment_seconds 0
+# TYPE bx_bookings gauge
+# HELP bx_bookings Bookings of the last plan, by what has become of them.
+bx_bookings{outcome=\"refused\"} 1
+bx_bookings{outcome=\"waiting\"} 2
+bx_bookings{outcome=\"live\"} 0
+bx_bookings{outcome=\"carried\"} 0
+bx_bookings{outcome=\"unanswered\"} 0
+bx_bookings{outcome=\"missed\"} 0
+# TYPE bx_pay gauge
+# HELP bx_pay What these bookings pay.
+bx_pay{outcome=\"refused\"} 5
+bx_pay{outcome=\"waiting\"} 10
+bx_pay{outcome=\"live\"} 0
+bx_pay{outcome=\"carried\"} 0
+bx_pay{outcome=\"unanswered\"} 0
+bx_pay{outcome=\"missed\"} 0
+# TYPE bx_channels_in_maintenance gauge
+# HELP bx_channels_in_maintenance Channels that have no call until the next day.
+bx_channels_in_maintenance 0
+# TYPE bx_seconds_without_link gauge
+# HELP bx_seconds_without_link Seconds that began without a link.
+bx_seconds_without_link 0
+# TYPE bx_late_seconds gauge
+# HELP bx_late_seconds Seconds that began more than a second late.
+bx_late_seconds 0
+# TYPE bx_clearings_received gauge
+# HELP bx_clearings_received Messages of the far end that clear a call, by their cause (ITU-T Q.850).
+# TYPE bx_answers gauge
+# HELP bx_answers Requests that were answered of the day.
+bx_answers 0
+# TYPE bx_bookings_sold gauge
+# HELP bx_bookings_sold Bookings that were sold.
+bx_bookings_sold 0
+# EOF
+";
+
+/// The figures of the day with a channel in maintenance, where much was counted.
+const LAST: &str = "# TYPE bx_moment_seconds gauge
+# UNIT bx_moment_seconds seconds
+# HELP bx_moment_seconds Seconds of the day so far.
+bx_moment_seconds 98
+# TYPE bx_bookings gauge
+# HELP bx_bookings Bookings of the last plan, by what has become of them.
+bx_bookings{outcome=\"refused\"} 1
+bx_bookings{outcome=\"waiting\"} 1
+bx_bookings{outcome=\"live\"} 0
+bx_bookings{outcome=\"carried\"} 1
+bx_bookings{outcome=\"unanswered\"} 0
+bx_bookings{outcome=\"missed\"} 0
+# TYPE bx_pay gauge
+# HELP bx_pay What these bookings pay.
+bx_pay{outcome=\"refused\"} 5
+bx_pay{outcome=\"waiting\"} 5
+bx_pay{outcome=\"live\"} 0
+bx_pay{outcome=\"carried\"} 5
+bx_pay{outcome=\"unanswered\"} 0
+bx_pay{outcome=\"missed\"} 0
+# TYPE bx_channels_in_maintenance gauge
+# HELP bx_channels_in_maintenance Channels that have no call until the next day.
+bx_channels_in_maintenance 1
+# TYPE bx_seconds_without_link gauge
+# HELP bx_seconds_without_link Seconds that began without a link.
+bx_seconds_without_link 12
+# TYPE bx_late_seconds gauge
+# HELP bx_late_seconds Seconds that began more than a second late.
+bx_late_seconds 1
+# TYPE bx_clearings_received gauge
+# HELP bx_clearings_received Messages of the far end that clear a call, by their cause (ITU-T Q.850).
+bx_clearings_received{cause=\"0\"} 18446744073709551615
+bx_clearings_received{cause=\"16\"} 210
+bx_clearings_received{cause=\"127\"} 1
+# TYPE bx_answers gauge
+# HELP bx_answers Requests that were answered of the day.
+bx_answers 7
+# TYPE bx_bookings_sold gauge
+# HELP bx_bookings_sold Bookings that were sold.
+bx_bookings_sold 2
+# TYPE bx_sync_age_seconds gauge
+# UNIT bx_sync_age_seconds seconds
+# HELP bx_sync_age_seconds Seconds since the journal was brought to the disk last.
+bx_sync_age_seconds 3
+# EOF
+";
+
+/// Figures of which much was counted.
+fn counted() -> Figures {
+    let mut figures = Figures::new();
+    figures.alone = 12;
+    figures.late = 1;
+    figures.answers = 7;
+    figures.sold = 2;
+    figures.since_sync = Some(3);
+    figures.clearings[0] = u64::MAX;
+    figures.clearings[16] = 210;
+    figures.clearings[127] = 1;
+    figures
+}
+
+#[test]
+fn figures_are_told(rt: HostRuntime) {
+    let alloc = rt.alloc();
+    let first = exchange_at(alloc, &[], 0).and_then(|x| metrics_text(
+        alloc,
+        &x,
+        &Figures::new(),
+    ).ok());
+    assert!(rt;
+        first.is_some_and(|text| text.as_slice() == FIRST.as_bytes()),
+        "first"
+    );
+    let last = exchange_at(alloc, &[TICK, CONNECT], 97).and_then(|x| metrics_text(
+        alloc,
+        &x,
+        &counted(),
+    ).ok());
+    assert!(rt;
+        last.is_some_and(|text| text.as_slice() == LAST.as_bytes()),
+        "last"
+    );
+}
+
+/// A question: its name, the query, the channels, and the answer.
+type Question = (
+    &'static str,
+    &'static str,
+    &'static [u8],
+    Result<&'static str, NoAnswer>,
+);
+
+const FREE: &str = "its seconds cost 0\ntaken above 0\ninstead of none\nbesides none\n";
+
+static QUESTIONS: [Question; 9] = [
+    (
+        "there is room",
+        "start=2026-01-05T00:00:10Z&end=2026-01-05T00:00:20Z",
+        &[1, 2, 3],
+        Ok(FREE),
+    ),
+    (
+        "as a form sends it",
+        "end=2026-01-05T01%3A00%3A20%2B01%3A00&start=2026-01-05T01%3a00%3a10%2b01%3a00",
+        &[1, 2, 3],
+        Ok(FREE),
+    ),
+    (
+        "the first of its fields counts",
+        "start=2026-01-05T00:00:10Z&start=x&end=2026-01-05T00:00:20Z&end=y",
+        &[1, 2, 3],
+        Ok(FREE),
+    ),
+    (
+        "the promised one has the channel",
+        "start=2026-01-05T00:00:10Z&end=2026-01-05T00:00:20Z",
+        &[1],
+        Err(NoAnswer::Quote(NoQuote::NoChannel(10))),
+    ),
+    (
+        "no end",
+        "start=2026-01-05T00:00:10Z",
+        &[1, 2, 3],
+        Err(NoAnswer::NoTimes),
+    ),
+    ("nothing", "", &[1, 2, 3], Err(NoAnswer::NoTimes)),
+    (
+        "no time",
+        "start=now&end=2026-01-05T00:00:20Z",
+        &[1, 2, 3],
+        Err(NoAnswer::Book(BookFault::NotATime(1))),
+    ),
+    (
+        "another day",
+        "start=2026-01-05T00:00:10Z&end=2026-01-06T00:00:20Z",
+        &[1, 2, 3],
+        Err(NoAnswer::Book(BookFault::OutsideDay(1))),
+    ),
+    (
+        "turned",
+        "start=2026-01-05T00:00:20Z&end=2026-01-05T00:00:20Z",
+        &[1, 2, 3],
+        Err(NoAnswer::Book(BookFault::EndNotAfterStart(1))),
+    ),
+];
+
+/// What is answered to a query at the opening of the day.
+fn quoted(alloc: Global, query: &str, numbers: &[u8]) -> Option<Result<Vec<u8>, NoAnswer>> {
+    let exchange = exchange_at(alloc, &[], 0)?;
+    let channels = ChannelSet::from_numbers(numbers).ok()?;
+    let day = Day::new("2026-01-05", "UTC0").ok()?;
+    let call = match call_of(alloc, query.as_bytes(), &day) {
+        Ok(call) => call,
+        Err(why) => return Some(Err(why)),
+    };
+    Some(quote_text(alloc, &exchange, channels, &call))
+}
+
+/// Whether a question has its answer.
+fn is_answered(alloc: Global, question: &Question) -> bool {
+    match (quoted(alloc, question.1, question.2), question.3) {
+        (Some(Ok(text)), Ok(expected)) => text.as_slice() == expected.as_bytes(),
+        (Some(Err(why)), Err(expected)) => why == expected,
+        _ => false,
+    }
+}
+
+#[test]
+fn questions_are_answered(rt: HostRuntime) {
+    for question in &QUESTIONS {
+        assert!(rt; is_answered(rt.alloc(), question), "{}", question.0);
+    }
+}
+
+/// A batch: its name, how many rows the plan had, what became of its bookings, and what the customer is told.
+type Batch = (&'static str, u16, &'static [Answer], &'static str);
+
+static BATCHES: [Batch; 4] = [
+    ("none", 3, &[], "row,answer,plan row,reason\n"),
+    (
+        "one",
+        0,
+        &[Answer::Accepted],
+        "row,answer,plan row,reason\n1,accepted,1,\n",
+    ),
+    (
+        "the last row of a plan",
+        3999,
+        &[Answer::Accepted, Answer::Refused(NoSale::Full)],
+        "row,answer,plan row,reason\n1,accepted,4000,\n2,refused,,Full\n",
+    ),
+    (
+        "some",
+        3,
+        &[
+            Answer::Refused(NoSale::Late),
+            Answer::Accepted,
+            Answer::Refused(NoSale::NoChannel),
+            Answer::Refused(NoSale::OtherChannels),
+            Answer::Accepted,
+            Answer::Refused(NoSale::Memory),
+        ],
+        "row,answer,plan row,reason\n1,refused,,Late\n2,accepted,4,\n3,refused,,NoChannel\n4,refused,,OtherChannels\n5,accepted,5,\n6,refused,,Memory\n",
+    ),
+];
+
+/// Whether a customer is told this.
+fn is_sold(alloc: Global, batch: &Batch) -> bool {
+    if batch.2.len() > 4000 {
+        return false;
+    }
+    match sold_text(alloc, batch.1, batch.2) {
+        Ok(text) => text.as_slice() == batch.3.as_bytes(),
+        Err(_) => false,
+    }
+}
+
+#[test]
+fn batches_are_told(rt: HostRuntime) {
+    for batch in &BATCHES {
+        assert!(rt; is_sold(rt.alloc(), batch), "{}", batch.0);
+    }
+}

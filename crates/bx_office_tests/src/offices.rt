@@ -1,0 +1,321 @@
+//! A live day with an office in front of it, over sockets of this machine and in one thread.
+
+use crate::quiet_world::QuietWorld;
+use bx_base::ChannelSet;
+use bx_calendar::Day;
+use bx_cases::messages::FAR_RELEASE_COMPLETE_17;
+use bx_live::Begin;
+use bx_market::run_market;
+use bx_office::Place;
+use bx_office_door::{Door, Listening};
+use bx_office_world::{OfficeWorld, Opened};
+use bx_worked_days::{Row, exchange_of};
+use std::alloc::Global;
+use std::cell::RefCell;
+use std::io;
+use std::io::{Read, Write};
+use std::net::{Net, TcpListener, TcpStream};
+use std::test::Fail;
+use std::time::Duration;
+
+/// One booking is promised on each of the channels 1 and 2.
+static ROWS: [Row; 2] = [(100, 200, 1, false), (100, 200, 2, false)];
+
+/// A door at a port that the system has chosen, and the port.
+fn opened<H: Net<Listener = TcpListener, Stream = TcpStream>>(
+    rt: &H,
+    alloc: Global,
+) -> io::Result<(RefCell<Door>, u16)> {
+    let listener = TcpListener::bind(rt, "127.0.0.1:0")?;
+    listener.set_nonblocking(true)?;
+    let port = listener.local_addr()?.port();
+    let door = Door::new(alloc, Place::Port(port), Listening::Port(listener));
+    Ok((RefCell::new(door), port))
+}
+
+/// A client that has sent a head with this line, these fields and this body.
+fn client<H: Net<Listener = TcpListener, Stream = TcpStream>>(
+    rt: &H,
+    alloc: Global,
+    port: u16,
+    line: &str,
+    rest: &str,
+) -> Result<TcpStream, Fail> {
+    let mut stream = TcpStream::connect(rt, ("127.0.0.1", port))?;
+    stream.set_read_timeout(Some(Duration::from_millis(100)))?;
+    let text = format!(in alloc; "{line} HTTP/1.1\r\nHost: localhost:{port}\r\n{rest}")?;
+    stream.write_all(text.as_bytes())?;
+    Ok(stream)
+}
+
+/// Whether a client gets an answer that begins and ends so.
+fn is_told_so(stream: &mut TcpStream, front: &str, back: &str) -> bool {
+    let mut room = [0u8; 4096];
+    match stream.read(&mut room) {
+        Ok(count) if count <= 4096 => {
+            let text = &room[..count];
+            text.starts_with(front.as_bytes()) && text.ends_with(back.as_bytes())
+        }
+        _ => false,
+    }
+}
+
+/// Whether a client gets just this.
+fn is_told(stream: &mut TcpStream, expected: &str) -> bool {
+    let mut room = [0u8; 4096];
+    match stream.read(&mut room) {
+        Ok(count) if count <= 4096 => &room[..count] == expected.as_bytes(),
+        _ => false,
+    }
+}
+
+/// Whether a client gets this somewhere.
+fn is_told_of(stream: &mut TcpStream, words: &str) -> bool {
+    let mut room = [0u8; 4096];
+    match stream.read(&mut room) {
+        Ok(count) if count <= 4096 => room[..count]
+            .windows(words.len().max(1))
+            .any(|part| part == words.as_bytes()),
+        _ => false,
+    }
+}
+
+/// Whether a client is sent away.
+fn is_sent_away(stream: &mut TcpStream) -> bool {
+    let mut room = [0u8; 16];
+    matches!(stream.read(&mut room), Ok(0))
+}
+
+/// What an office is opened with: channels 1, 2 and 3.
+fn with_three() -> Option<Opened> {
+    Some(Opened {
+        channels: ChannelSet::from_numbers(&[1, 2, 3]).ok()?,
+        day: Day::new("2026-01-05", "UTC0").ok()?,
+        clock: None,
+    })
+}
+
+/// How a day goes: for some seconds, each of which lasts so many for the clients, and how they begin; and what is heard once.
+#[derive(Clone, Copy)]
+struct Run {
+    seconds: u32,
+    pace: u32,
+    begin: Begin,
+    heard: Option<&'static [u8]>,
+}
+
+/// Four seconds without a link.
+const QUIET: Run = Run {
+    seconds: 4,
+    pace: 1,
+    begin: Begin::Alone,
+    heard: None,
+};
+
+/// What has become of a run: how many bookings the day has, and how many were sold on record and on the disk.
+type Ran = (usize, u32, u32);
+
+/// Runs a day with an office at this door.
+fn ran(alloc: Global, door: &RefCell<Door>, run: Run) -> Option<Ran> {
+    let opened = with_three()?;
+    let mut exchange = exchange_of(alloc, &ROWS)?;
+    let mut quiet = QuietWorld::new(door, run.pace);
+    quiet.begin = run.begin;
+    quiet.heard = run.heard;
+    let mut world = OfficeWorld::new(alloc, quiet, door, &opened);
+    run_market(
+        alloc,
+        &mut exchange,
+        &mut world,
+        opened.channels,
+        run.seconds,
+    )
+    .ok()?;
+    Some((
+        exchange.entries().len(),
+        world.world.sold,
+        world.world.synced,
+    ))
+}
+
+/// Two bookings for which there is one channel, and one that starts later.
+const BATCH: &str =
+    "Content-Type: text/csv\r\nContent-Length: 168\r\n\r\nstart,end,number,pay\n2026-01-05T00:01:40Z,2026-01-05T00:02:00Z,1234,5\n2026-01-05T00:01:40Z,2026-01-05T00:02:00Z,1234,5\n2026-01-05T00:10:00Z,2026-01-05T00:11:00Z,1234,5\n";
+
+/// The same from a page of another origin.
+const FOREIGN: &str =
+    "Origin: http://example.org\r\nContent-Type: text/csv\r\nContent-Length: 168\r\n\r\nstart,end,number,pay\n2026-01-05T00:01:40Z,2026-01-05T00:02:00Z,1234,5\n2026-01-05T00:01:40Z,2026-01-05T00:02:00Z,1234,5\n2026-01-05T00:10:00Z,2026-01-05T00:11:00Z,1234,5\n";
+
+/// What who sent them is told.
+const SOLD: &str =
+    "HTTP/1.1 200 OK\r\ncontent-type: text/csv; charset=utf-8\r\ncache-control: no-store\r\nx-content-type-options: nosniff\r\ncontent-security-policy: default-src 'none'; script-src 'self'; style-src 'self'; img-src 'self'; connect-src 'self'; base-uri 'none'; form-action 'none'; frame-ancestors 'none'\r\nvary: origin\r\ncontent-length: 76\r\n\r\nrow,answer,plan row,reason\n1,accepted,3,\n2,refused,,NoChannel\n3,accepted,4,\n";
+
+/// What who asks for the outcomes is told.
+const OUTCOMES: &str =
+    "HTTP/1.1 200 OK\r\ncontent-type: text/plain; charset=utf-8\r\ncache-control: no-store\r\nx-content-type-options: nosniff\r\ncontent-security-policy: default-src 'none'; script-src 'self'; style-src 'self'; img-src 'self'; connect-src 'self'; base-uri 'none'; form-action 'none'; frame-ancestors 'none'\r\nvary: origin\r\ncontent-length: 37\r\n\r\n1 waiting\n2 waiting\nmaintenance none\n";
+
+#[test]
+fn a_customer_is_sold_to_and_told(rt: HostRuntime) -> Result<(), Fail> {
+    let alloc = rt.alloc();
+    let (door, port) = opened(&rt, alloc)?;
+    let mut customer = client(&rt, alloc, port, "POST /bookings", BATCH)?;
+    assert!(rt; ran(alloc, &door, QUIET) == Some((4, 2, 2)), "sold");
+    assert!(rt; is_told(&mut customer, SOLD), "told");
+    Ok(())
+}
+
+#[test]
+fn who_left_is_told_by_nobody_else(rt: HostRuntime) -> Result<(), Fail> {
+    let alloc = rt.alloc();
+    let (door, port) = opened(&rt, alloc)?;
+    let customer = client(&rt, alloc, port, "POST /bookings", BATCH)?;
+    drop(customer);
+    let mut another = client(&rt, alloc, port, "GET /healthz", "\r\n")?;
+    assert!(rt; ran(alloc, &door, QUIET) == Some((4, 2, 2)), "sold");
+    assert!(rt;
+        is_told_so(
+            &mut another,
+            "HTTP/1.1 200 OK\r\ncontent-type: text/plain",
+            "\r\ncontent-length: 0\r\n\r\n"
+        ),
+        "told its own"
+    );
+    Ok(())
+}
+
+#[test]
+fn sixteen_are_told(rt: HostRuntime) -> Result<(), Fail> {
+    let alloc = rt.alloc();
+    let (door, port) = opened(&rt, alloc)?;
+    let mut clients = Vec::new(alloc);
+    for _client in 0..16u32 {
+        clients.push(client(&rt, alloc, port, "GET /outcomes", "\r\n")?)?;
+    }
+    assert!(rt;
+        ran(alloc, &door, QUIET) == Some((2, 0, 0)),
+        "nothing is sold"
+    );
+    let mut told = 0u32;
+    for stream in &mut clients {
+        if is_told(stream, OUTCOMES) && told < 16 {
+            told += 1;
+        }
+    }
+    assert!(rt; told == 16, "{told}");
+    Ok(())
+}
+
+#[test]
+fn a_slow_one_delays_nobody(rt: HostRuntime) -> Result<(), Fail> {
+    let alloc = rt.alloc();
+    let (door, port) = opened(&rt, alloc)?;
+    let mut slow = client(&rt, alloc, port, "GET /plan", "")?;
+    let mut quick = client(&rt, alloc, port, "GET /outcomes", "\r\n")?;
+    assert!(rt;
+        ran(alloc, &door, Run { pace: 11, ..QUIET }) == Some((2, 0, 0)),
+        "nothing is sold"
+    );
+    assert!(rt; is_told(&mut quick, OUTCOMES), "told");
+    assert!(rt; is_sent_away(&mut slow), "sent away");
+    Ok(())
+}
+
+#[test]
+fn a_hostile_page_buys_nothing(rt: HostRuntime) -> Result<(), Fail> {
+    let alloc = rt.alloc();
+    let (door, port) = opened(&rt, alloc)?;
+    let mut page = client(&rt, alloc, port, "POST /bookings", FOREIGN)?;
+    let mut noise = client(&rt, alloc, port, "start,end,number,pay", "\r\n")?;
+    assert!(rt;
+        ran(alloc, &door, QUIET) == Some((2, 0, 0)),
+        "nothing is sold"
+    );
+    assert!(rt;
+        is_told_so(
+            &mut page,
+            "HTTP/1.1 403 Forbidden\r\n",
+            "\r\n\r\nanother origin\n"
+        ),
+        "refused"
+    );
+    assert!(rt;
+        is_told_so(
+            &mut noise,
+            "HTTP/1.1 400 Bad Request\r\n",
+            "\r\n\r\nno request of HTTP/1.1\n"
+        ),
+        "no request"
+    );
+    Ok(())
+}
+
+#[test]
+fn faults_of_bookings_are_told(rt: HostRuntime) -> Result<(), Fail> {
+    let alloc = rt.alloc();
+    let (door, port) = opened(&rt, alloc)?;
+    let mut customer = client(
+        &rt,
+        alloc,
+        port,
+        "POST /bookings",
+        "Content-Type: text/csv\r\nContent-Length: 22\r\n\r\nstart,end,number,pay\nx",
+    )?;
+    assert!(rt;
+        ran(alloc, &door, QUIET) == Some((2, 0, 0)),
+        "nothing is sold"
+    );
+    assert!(rt;
+        is_told_so(
+            &mut customer,
+            "HTTP/1.1 400 Bad Request\r\n",
+            "\r\n\r\nB2 WrongColumns 1\n"
+        ),
+        "told"
+    );
+    Ok(())
+}
+
+#[test]
+fn a_late_second_is_told(rt: HostRuntime) -> Result<(), Fail> {
+    let alloc = rt.alloc();
+    let (door, port) = opened(&rt, alloc)?;
+    let mut asking = client(&rt, alloc, port, "GET /healthz", "\r\n")?;
+    let late = Run {
+        begin: Begin::Late,
+        ..QUIET
+    };
+    assert!(rt;
+        ran(alloc, &door, late) == Some((2, 0, 0)),
+        "nothing is sold"
+    );
+    assert!(rt;
+        is_told_so(
+            &mut asking,
+            "HTTP/1.1 503 Service Unavailable\r\n",
+            "\r\n\r\nlate\n"
+        ),
+        "late"
+    );
+    Ok(())
+}
+
+#[test]
+fn a_cause_is_counted(rt: HostRuntime) -> Result<(), Fail> {
+    let alloc = rt.alloc();
+    let (door, port) = opened(&rt, alloc)?;
+    let mut asking = client(&rt, alloc, port, "GET /metrics", "\r\n")?;
+    let joined = Run {
+        begin: Begin::Joined,
+        heard: Some(FAR_RELEASE_COMPLETE_17),
+        ..QUIET
+    };
+    assert!(rt;
+        ran(alloc, &door, joined) == Some((2, 0, 0)),
+        "nothing is sold"
+    );
+    assert!(rt;
+        is_told_of(&mut asking, "\nbx_clearings_received{cause=\"17\"} 1\n"),
+        "counted"
+    );
+    Ok(())
+}
