@@ -1,6 +1,7 @@
 //! What the office in front of a live day answers: texts of the day, a pure function each of the exchange.
 #![tactic(auto)]
 
+mod drawing;
 mod fault;
 mod maintenance;
 mod metrics;
@@ -10,6 +11,7 @@ mod sold;
 mod tallies;
 mod texts;
 
+pub use drawing::chart_text;
 pub use fault::NoAnswer;
 pub use metrics::{Figures, metrics_text};
 pub use promised::{plan_text, promised_plan};

@@ -6,7 +6,7 @@ use Rattle.std.specs.List.{prefix_len}
 use Rattle.bx_office.specs.declared.gate.Place.{Place}
 use Rattle.bx_office.specs.declared.gate.Place.TheVariants.{Port, Socket}
 use Rattle.bx_office.specs.declared.gate.Route.{Route}
-use Rattle.bx_office.specs.declared.gate.Route.TheVariants.{Home, Script, Style, Bookings, Quote, Plan, Outcomes, Records, Metrics, Health}
+use Rattle.bx_office.specs.declared.gate.Route.TheVariants.{Home, Script, Style, Bookings, Quote, Plan, Outcomes, Records, Chart, Metrics, Health}
 use Rattle.bx_office.specs.declared.gate.Refusal.{Refusal}
 use Rattle.bx_office.specs.declared.gate.Refusal.TheVariants.{OtherHost, OtherOrigin, NotFound, WrongMethod, NotCsv}
 
@@ -36,6 +36,7 @@ path_of Quote = codes "/quote"
 path_of Plan = codes "/plan"
 path_of Outcomes = codes "/outcomes"
 path_of Records = codes "/records"
+path_of Chart = codes "/chart.svg"
 path_of Metrics = codes "/metrics"
 path_of Health = codes "/healthz"
 

@@ -45,6 +45,7 @@ type_of Kinds.Csv = codes "text/csv; charset=utf-8"
 type_of Kinds.Html = codes "text/html; charset=utf-8"
 type_of Kinds.Script = codes "text/javascript; charset=utf-8"
 type_of Kinds.Style = codes "text/css; charset=utf-8"
+type_of Kinds.Picture = codes "image/svg+xml"
 type_of Kinds.Metrics = codes "application/openmetrics-text; version=1.0.0; charset=utf-8"
 
 -- nothing is loaded from elsewhere, and no page of another origin shows it

@@ -36,6 +36,8 @@ pub enum Route {
     Outcomes,
     /// `GET /records`: the call records.
     Records,
+    /// `GET /chart.svg`: the day as it goes, as a picture.
+    Chart,
     /// `GET /metrics`: figures, as OpenMetrics.
     Metrics,
     /// `GET /healthz`: whether the day goes on.
@@ -105,6 +107,8 @@ fn route_at(path: &[u8]) -> Option<Route>
         Some(Route::Outcomes)
     } else if is_word(path, "/records") {
         Some(Route::Records)
+    } else if is_word(path, "/chart.svg") {
+        Some(Route::Chart)
     } else if is_word(path, "/metrics") {
         Some(Route::Metrics)
     } else if is_word(path, "/healthz") {

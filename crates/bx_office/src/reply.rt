@@ -72,6 +72,7 @@ pub enum Kind {
     Html,
     Script,
     Style,
+    Picture,
     Metrics,
 }
 
@@ -86,6 +87,7 @@ impl Kind {
             Kind::Html => "text/html; charset=utf-8",
             Kind::Script => "text/javascript; charset=utf-8",
             Kind::Style => "text/css; charset=utf-8",
+            Kind::Picture => "image/svg+xml",
             Kind::Metrics => "application/openmetrics-text; version=1.0.0; charset=utf-8",
         }
     }

@@ -18,7 +18,7 @@ const PORT: Place = Place::Port(8080);
 
 const FOUND: Refusal = Refusal::NotFound;
 
-static CASES: [Case; 34] = [
+static CASES: [Case; 36] = [
     (
         "home",
         PORT,
@@ -68,6 +68,26 @@ static CASES: [Case; 34] = [
         "",
         "",
         Ok(Route::Records),
+    ),
+    (
+        "picture",
+        PORT,
+        "GET",
+        "/chart.svg?1",
+        "localhost:8080",
+        "",
+        "",
+        Ok(Route::Chart),
+    ),
+    (
+        "picture posted",
+        PORT,
+        "POST",
+        "/chart.svg",
+        "localhost:8080",
+        "",
+        "",
+        Err(Refusal::WrongMethod(Route::Chart)),
     ),
     (
         "metrics",

@@ -319,3 +319,23 @@ fn a_cause_is_counted(rt: HostRuntime) -> Result<(), Fail> {
     );
     Ok(())
 }
+
+#[test]
+fn a_picture_shows_where_there_was_no_link(rt: HostRuntime) -> Result<(), Fail> {
+    let alloc = rt.alloc();
+    let (door, port) = opened(&rt, alloc)?;
+    let mut asking = client(&rt, alloc, port, "GET /chart.svg", "\r\n")?;
+    assert!(rt;
+        ran(alloc, &door, QUIET) == Some((2, 0, 0)),
+        "nothing is sold"
+    );
+    assert!(rt;
+        is_told_so(
+            &mut asking,
+            "HTTP/1.1 200 OK\r\ncontent-type: image/svg+xml\r\n",
+            ""
+        ),
+        "a picture"
+    );
+    Ok(())
+}

@@ -3,6 +3,7 @@ use Rattle.std.proofs.Common.{◌≡◌, sym, subst, ap, ◌∙◌, ℕ, Bool, L
 use Rattle.std.proofs.lemmas.List.{take_min}
 use Rattle.bx_answers.specs.declared.metrics.Figures.{Figures}
 use Rattle.bx_day.specs.Day.{Day}
+use Rattle.bx_day_chart.specs.Sights.{Sight}
 use Rattle.bx_office.specs.declared.gate.Route.{Route}
 use Rattle.bx_office.specs.declared.reply.Allowed.TheVariants as methods
 use Rattle.bx_office.specs.declared.reply.Kind.{Kind}
@@ -21,9 +22,9 @@ pub replied : (b : Bool) (desk : Desk) (d : Day) (query : List ℕ) (route : Rou
 replied b desk d query route reply e p = subst (λ (v : Bool). IsReplyTo v desk d query route reply) (sym e) p
 
 -- what is written as it is sent
-pub written_as : (opened : Opened) (d : Day) (figures : Figures) (q q' : List ℕ) (route : Route) (k k' : Kind) (t t' : List ℕ) → q ≡ q' → k ≡ k' → t ≡ t' → IsWritten opened d figures q route k t → IsWritten opened d figures q' route k' t'
-written_as opened d figures q q' route k k' t t' eq ek et w =
-    subst (λ (x : List ℕ). IsWritten opened d figures q' route k' x) et (subst (λ (x : Kind). IsWritten opened d figures q' route x t) ek (subst (λ (x : List ℕ). IsWritten opened d figures x route k t) eq w))
+pub written_as : (opened : Opened) (d : Day) (figures : Figures) (sight : Sight) (q q' : List ℕ) (route : Route) (k k' : Kind) (t t' : List ℕ) → q ≡ q' → k ≡ k' → t ≡ t' → IsWritten opened d figures sight q route k t → IsWritten opened d figures sight q' route k' t'
+written_as opened d figures sight q q' route k k' t t' eq ek et w =
+    subst (λ (x : List ℕ). IsWritten opened d figures sight q' route k' x) et (subst (λ (x : Kind). IsWritten opened d figures sight q' route x t) ek (subst (λ (x : List ℕ). IsWritten opened d figures sight x route k t) eq w))
 
 -- the first of so many, or all
 pub most : {X : Type 0} (n : ℕ) (xs : List X) → take (min (length xs) n) xs ≡ take n xs

@@ -1,6 +1,8 @@
 -- What is counted while the day runs.
-use Rattle.std.specs.Prelude.{ℕ, ◌+◌, ◌-◌, ◌/◌, min, Bool, true, false, if◌then◌else◌, List, [], ◌∷◌, slice_set, slice_index, Option, Some, None, option_map, Result, Ok, Err}
+use Rattle.std.specs.Prelude.{◌≡◌, ◌⊎◌, ℕ, ◌+◌, ◌-◌, ◌/◌, min, Bool, true, false, if◌then◌else◌, List, [], ◌∷◌, slice_set, slice_index, Option, Some, None, option_map, Result, Ok, Err}
 use Rattle.bx_answers.specs.declared.metrics.Figures.{Figures}
+use Rattle.bx_day_chart.specs.Outages.{noted}
+use Rattle.bx_day_chart.specs.declared.outages.Outage.{Outage}
 use Rattle.bx_live.specs.declared.world.Begin.{Begin}
 use Rattle.bx_live.specs.declared.world.Begin.TheVariants as begins
 use Rattle.bx_market.specs.declared.market.Answer.{Answer}
@@ -20,6 +22,20 @@ abbrev pub begun : Begin → Figures → Figures
 begun begins.Alone f = record f { alone = one_more f.alone }
 begun begins.Late f = record f { late = one_more f.late }
 begun _ f = f
+
+abbrev pub is_late : Begin → Bool
+is_late begins.Late = true
+is_late _ = false
+
+abbrev pub is_without_link : Begin → Bool
+is_without_link begins.Alone = true
+is_without_link begins.Late = true
+is_without_link _ = false
+
+-- a second without a link is noted, or there was no memory for it; any other changes nothing
+abbrev pub IsNoted : Bool → ℕ → List Outage → List Outage → Type 0
+IsNoted true second old new = (new ≡ noted second old) ⊎ (new ≡ old)
+IsNoted false second old new = new ≡ old
 
 -- a message that clears a call
 abbrev pub clears : Kind → Bool

@@ -9,6 +9,8 @@ use Rattle.bx_book.specs.Rows.{span_of}
 use Rattle.bx_day.specs.Day.{Day}
 use Rattle.bx_day.specs.Telling.{outcomes_text}
 use Rattle.bx_day.specs.declared.entry.Entry.{Entry}
+use Rattle.bx_day_chart.specs.Charts.{IsDayChart}
+use Rattle.bx_day_chart.specs.Sights.{Sight}
 use Rattle.bx_office.specs.declared.gate.Route.{Route}
 use Rattle.bx_office.specs.declared.gate.Route.TheVariants as routes
 use Rattle.bx_office.specs.declared.reply.Kind.{Kind}
@@ -23,10 +25,11 @@ pub record IsQuoted (opened : Opened) (query : List ℕ) (entries : List Entry) 
   pub quoted : IsQuoteText entries opened.channels call text
 
 -- each path has just what its command says of the day as it stands
-abbrev pub IsWritten : Opened → Day → Figures → List ℕ → Route → Kind → List ℕ → Type 0
-IsWritten opened d figures query routes.Plan kind text = (kind ≡ kinds.Text) × IsPlanText d.entries opened.channels text
-IsWritten opened d figures query routes.Outcomes kind text = (kind ≡ kinds.Text) × (text ≡ outcomes_text d)
-IsWritten opened d figures query routes.Records kind text = (kind ≡ kinds.Csv) × IsRecordsText opened.clock d.entries text
-IsWritten opened d figures query routes.Quote kind text = (kind ≡ kinds.Text) × IsQuoted opened query d.entries text
-IsWritten opened d figures query routes.Metrics kind text = (kind ≡ kinds.Metrics) × (text ≡ metrics_text d figures)
-IsWritten opened d figures query _ kind text = (kind ≡ kinds.Text) × (text ≡ [])
+abbrev pub IsWritten : Opened → Day → Figures → Sight → List ℕ → Route → Kind → List ℕ → Type 0
+IsWritten opened d figures sight query routes.Plan kind text = (kind ≡ kinds.Text) × IsPlanText d.entries opened.channels text
+IsWritten opened d figures sight query routes.Outcomes kind text = (kind ≡ kinds.Text) × (text ≡ outcomes_text d)
+IsWritten opened d figures sight query routes.Records kind text = (kind ≡ kinds.Csv) × IsRecordsText opened.clock d.entries text
+IsWritten opened d figures sight query routes.Quote kind text = (kind ≡ kinds.Text) × IsQuoted opened query d.entries text
+IsWritten opened d figures sight query routes.Chart kind text = (kind ≡ kinds.Picture) × IsDayChart d opened.channels sight opened.clock text
+IsWritten opened d figures sight query routes.Metrics kind text = (kind ≡ kinds.Metrics) × (text ≡ metrics_text d figures)
+IsWritten opened d figures sight query _ kind text = (kind ≡ kinds.Text) × (text ≡ [])

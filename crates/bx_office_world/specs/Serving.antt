@@ -10,6 +10,7 @@ use Rattle.bx_book.specs.Rows.{span_of}
 use Rattle.bx_book.specs.declared.fault.BookFault.{BookFault}
 use Rattle.bx_book.specs.declared.fault.BookFault.TheVariants as book
 use Rattle.bx_day.specs.Day.{Day}
+use Rattle.bx_day_chart.specs.Sights.{sight_of}
 use Rattle.bx_market.specs.declared.market.Answer.{Answer}
 use Rattle.bx_office.specs.declared.client.Client.{Client}
 use Rattle.bx_office.specs.declared.gate.Route.{Route}
@@ -61,7 +62,7 @@ is_late_for is_late _ = false
 pub record IsShown (desk : Desk) (d : Day) (query : List ℕ) (route : Route) (reply : Reply) : Type 0 where
   pub status : reply.status ≡ statuses.Fine
   pub allowed : reply.allowed ≡ methods.Unsaid
-  pub written : IsWritten desk.opened.now d desk.figures query route reply.kind reply.body.now
+  pub written : IsWritten desk.opened.now d desk.figures (sight_of desk.sight) query route reply.kind reply.body.now
 
 abbrev pub IsReplyTo : Bool → Desk → Day → List ℕ → Route → Reply → Type 0
 IsReplyTo true desk d query route reply = IsPlain statuses.Unavailable reply × (reply.body.now ≡ codes "late\n")

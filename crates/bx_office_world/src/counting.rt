@@ -1,7 +1,7 @@
 //! What is counted while the day runs.
 
 ghost use Rattle.std.specs.Prelude.{◌≡◌, ◌-◌, ◌/◌, min, option_map};
-ghost use Rattle.bx_office_world.specs.Counting.{begun, cleared_in, cleared, sold_in, seconds_since};
+ghost use Rattle.bx_office_world.specs.Counting.{begun, is_late, is_without_link, cleared_in, cleared, sold_in, seconds_since};
 
 use bx_answers::Figures;
 use bx_live::Begin;
@@ -10,6 +10,26 @@ use bx_q931::{Kind, read};
 
 /// A second, in nanoseconds.
 const SECOND: u128 = 1_000_000_000;
+
+/// Whether a second begins late.
+pub(crate) fn is_late(begin: Begin) -> bool
+    ensures { result ≡ is_late begin }
+{
+    match begin {
+        Begin::Late => true,
+        Begin::Alone | Begin::Joined | Begin::Ended => false,
+    }
+}
+
+/// Whether a second goes by without a link.
+pub(crate) fn is_without_link(begin: Begin) -> bool
+    ensures { result ≡ is_without_link begin }
+{
+    match begin {
+        Begin::Alone | Begin::Late => true,
+        Begin::Joined | Begin::Ended => false,
+    }
+}
 
 /// Counts a second by how it begins.
 pub(crate) fn count_begin(figures: &mut Figures, begin: Begin)

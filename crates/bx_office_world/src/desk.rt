@@ -1,14 +1,18 @@
 //! What is answered at the office.
 
 ghost use Rattle.std.specs.Prelude.{◌≡◌, Ok, IfOk};
+ghost use Rattle.bx_day_chart.specs.Charts.{IsDayChart};
+ghost use Rattle.bx_day_chart.specs.Sights.{sight_of};
 ghost use Rattle.bx_office_world.specs.Desk.{IsQuoted, IsWritten};
 
 use bx_answers::{
-    Figures, NoAnswer, call_of, metrics_text, outcomes_text, plan_text, quote_text, records_text,
+    Figures, NoAnswer, call_of, chart_text, metrics_text, outcomes_text, plan_text, quote_text,
+    records_text,
 };
 use bx_base::ChannelSet;
 use bx_calendar::{Clock, Day};
 use bx_day::Exchange;
+use bx_day_chart::DaySight;
 use bx_office::{Kind, Route};
 use std::alloc::Global;
 
@@ -53,22 +57,40 @@ fn quoted(
     }
 }
 
+/// The day so far as a picture.
+fn drawn(
+    alloc: Global,
+    opened: &Opened,
+    exchange: &Exchange,
+    sight: &DaySight,
+) -> Result<Vec<u8>, NoAnswer>
+    ensures { IfOk result (λ text. IsDayChart exchange.now opened.now.channels (sight_of sight.now) opened.now.clock text.items) }
+{
+    let clock = opened.clock.as_ref();
+    match chart_text(alloc, exchange, opened.channels, sight, clock) {
+        Ok(text) => Ok(text),
+        Err(why) => Err(why),
+    }
+}
+
 /// What stands at a path now. Of a path that is not asked for so nothing.
 pub fn answer_of(
     alloc: Global,
     opened: &Opened,
     exchange: &Exchange,
     figures: &Figures,
+    sight: &DaySight,
     route: Route,
     query: &[u8],
 ) -> Result<Written, NoAnswer>
-    ensures { IfOk result (λ w. IsWritten opened.now exchange.now figures.now query.now route w.kind w.text.items) }
+    ensures { IfOk result (λ w. IsWritten opened.now exchange.now figures.now (sight_of sight.now) query.now route w.kind w.text.items) }
 {
     match route {
         Route::Plan => of_kind(Kind::Text, plan_text(alloc, exchange, opened.channels)),
         Route::Outcomes => of_kind(Kind::Text, outcomes_text(alloc, exchange)),
         Route::Records => of_kind(Kind::Csv, records_text(alloc, exchange, opened.clock)),
         Route::Quote => of_kind(Kind::Text, quoted(alloc, opened, exchange, query)),
+        Route::Chart => of_kind(Kind::Picture, drawn(alloc, opened, exchange, sight)),
         Route::Metrics => of_kind(Kind::Metrics, metrics_text(alloc, exchange, figures)),
         _ => of_kind(Kind::Text, Ok(Vec::new(alloc))),
     }

@@ -1,14 +1,18 @@
 //! Who waits at the door is answered.
 
-ghost use Rattle.std.specs.Prelude.{◌≡◌};
+ghost use Rattle.std.specs.Prelude.{◌≡◌, ◌-◌};
+ghost use Rattle.bx_office_world.specs.Counting.{begun, is_late, is_without_link, IsNoted};
 ghost use Rattle.bx_office_door.specs.Doors.{guests_of};
 ghost use Rattle.bx_office_world.specs.Serving.{status_of, book_status, is_late_for, IsRefusing, IsServed, IsBatchRead, IsServing, IsToldSold};
 
+use crate::counting::{count_begin, is_late, is_without_link};
 use crate::desk::{Opened, Written, answer_of};
 use bx_answers::{Figures, NoAnswer, sold_text};
 use bx_base::Bookings;
 use bx_book::{BookFault, read_bookings};
 use bx_day::Exchange;
+use bx_day_chart::DaySight;
+use bx_live::Begin;
 use bx_market::Answer;
 use bx_office::{Allowed, Kind, Reply, Route, Status};
 use bx_office_door::Door;
@@ -26,11 +30,12 @@ pub(crate) struct Selling {
     rows: u16,
 }
 
-/// What the office is at: what it was opened with, what was counted, and whether the last second began late.
-#[derive(Clone, Copy)]
+/// What the office is at: what it was opened with, what was counted, where there was no link, and whether the last second began late.
+#[derive(Drop)]
 pub(crate) struct Desk<'a> {
     pub(crate) opened: &'a Opened,
     pub(crate) figures: Figures,
+    pub(crate) sight: DaySight,
     pub(crate) is_late: bool,
 }
 
@@ -78,6 +83,21 @@ fn refuse<F: Display + Drop>(alloc: Global, door: &mut Door, number: u64, status
 }
 
 impl Desk<'_> {
+    /// Notes how a second begins, behind which the day has come to this moment.
+    pub(crate) fn note(&mut self, moment: u32, begin: Begin)
+        ensures figures { self.new.figures ≡ begun begin self.old.figures }
+        ensures late { self.new.is_late ≡ is_late begin }
+        ensures outages { IsNoted (is_without_link begin) (moment - 1) self.old.sight.outages.spans.items self.new.sight.outages.spans.items }
+        ensures opened { self.new.opened ≡ self.old.opened }
+    {
+        count_begin(&mut self.figures, begin);
+        self.is_late = is_late(begin);
+        if is_without_link(begin) {
+            // Where a growth is refused the picture lacks this second.
+            let _ = self.sight.outages.note(moment.saturating_sub(1));
+        }
+    }
+
     /// Whether it is asked whether the day goes on, and it is late.
     fn is_late_for(&self, route: Route) -> bool
         ensures { result ≡ is_late_for self.now.is_late route }
@@ -103,6 +123,7 @@ impl Desk<'_> {
             self.opened,
             exchange,
             &self.figures,
+            &self.sight,
             route,
             client.query(),
         ) {

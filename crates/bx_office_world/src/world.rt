@@ -2,12 +2,13 @@
 
 ghost use Rattle.std.specs.Prelude.{◌≡◌};
 
-use crate::counting::{count_begin, count_message, count_sold, seconds_since};
+use crate::counting::{count_message, count_sold, seconds_since};
 use crate::desk::Opened;
 use crate::serving::{Desk, Selling, tell_sold};
 use bx_answers::Figures;
 use bx_base::Bookings;
 use bx_day::Exchange;
+use bx_day_chart::{DaySight, Outages};
 use bx_devices::WriteFailed;
 use bx_events::LiveEvent;
 use bx_frames::{Frame, LinkFault};
@@ -38,6 +39,10 @@ impl<'a, W> OfficeWorld<'a, W> {
         let desk = Desk {
             opened,
             figures: Figures::new(),
+            sight: DaySight {
+                outages: Outages::new(alloc),
+                is_over: false,
+            },
             is_late: false,
         };
         OfficeWorld {
@@ -62,8 +67,7 @@ impl<'a, W: World> World for OfficeWorld<'a, W> {
 
     fn begin(&mut self, second: u32) -> Begin {
         let begin = self.world.begin(second);
-        count_begin(&mut self.desk.figures, begin);
-        self.desk.is_late = matches!(begin, Begin::Late);
+        self.desk.note(second, begin);
         begin
     }
 

@@ -1,4 +1,5 @@
 use Rattle.std.proofs.Common.{inl, inr, subst, sym, ◌∙◌, true, false}
+use Rattle.bx_day_chart.specs.Sights.{sight_of}
 use Rattle.bx_office.specs.declared.reply.Status.{Status}
 use Rattle.bx_office.specs.declared.reply.Status.TheVariants as statuses
 use Rattle.bx_office_door.proofs.Standing.{is_there}
@@ -25,7 +26,7 @@ returns-in-Ok c = inr (record {
       (inl (record {
         status = c.reply_of-in-Ok.ensures.0;
         allowed = c.reply_of-in-Ok.ensures.2;
-        written = written_as c.args.self.now.opened.now c.args.exchange.now c.args.self.now.figures _ _ c.args.route _ _ _ _ c.query.ensures (sym c.reply_of-in-Ok.ensures.1) (sym (c.reply_of-in-Ok.ensures.3 ∙ c.deref.ensures.value)) c.in-Ok.ensures;
+        written = written_as c.args.self.now.opened.now c.args.exchange.now c.args.self.now.figures (sight_of c.args.self.now.sight) _ _ c.args.route _ _ _ _ c.query.ensures (sym c.reply_of-in-Ok.ensures.1) (sym (c.reply_of-in-Ok.ensures.3 ∙ c.deref.ensures.value)) c.in-Ok.ensures;
       }));
   answered = is_there c.args.number c.reply_of-in-Ok.result _ _ c.in-Some.client.now c.in-Some.ensures c.answer-in-Ok.ensures.answered;
 })
