@@ -18,7 +18,9 @@ pub enum Answer {
 
 /// Nothing is accepted unasked.
 impl Default for Answer {
-    fn default() -> Self {
+    fn default() -> Self
+        ensures { result ≡ Answer.Refused NoSale.Memory }
+    {
         Answer::Refused(NoSale::Memory)
     }
 }
