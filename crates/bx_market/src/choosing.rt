@@ -1,6 +1,6 @@
 //! The choice among the bookings of a batch.
 
-ghost use Rattle.std.specs.Prelude.{◌≡◌, ◌≤◌, ◌<◌, ◌++◌, ◌∷◌, [], not, true, replicate, length, IfOk, OnOk};
+ghost use Rattle.std.specs.Prelude.{◌≡◌, ◌↔◌, IsTrue, ◌≤◌, ◌<◌, ◌++◌, ◌∷◌, [], not, true, replicate, length, IfOk, OnOk};
 ghost use Rattle.bx_base.specs.Plans.{is_accepted};
 ghost use Rattle.bx_base.specs.declared.bookings.TheConstants.{MAX_BOOKINGS};
 ghost use Rattle.bx_colour.specs.Colouring.{is_in, FitsChannels};
@@ -148,7 +148,7 @@ fn chosen_marks(
 
 /// Whether all of these bookings fit on the channels.
 fn all_fit(alloc: Global, rows: &Bookings, channels: ChannelSet) -> Result<bool, AllocError>
-    ensures { IfOk result (λ b. b ≡ true → FitsChannels rows.now (replicate (length rows.now) true) channels) }
+    ensures { IfOk result (λ b. IsTrue b ↔ FitsChannels rows.now (replicate (length rows.now) true) channels) }
 {
     let marks = vec![in alloc; true; rows.len() as usize]?;
     Ok(fits(rows, &marks, channels))

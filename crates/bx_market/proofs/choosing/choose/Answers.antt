@@ -58,4 +58,4 @@ returns-then-branch-clause-best c =
     let marks : parts ≡ eligible_marks d.moment (length d.entries) b = search rules in
     let first : c.in_ok-rows.rows ≡ promised d.entries = c.in_ok-rows.ensures ∙ ap promised c.entries-2.ensures in
     let rows : c.add_free.new.rows ≡ c.in_ok-rows.rows ++ free_rows b parts = c.in_ok-add_free.ensures ∙ ap (λ (l : List Bool). c.in_ok-rows.rows ++ free_rows b l) c.deref.ensures.value in
-    found_all c.args.channels d b parts c.in_ok-chosen.chosen.items c.in_ok-rows.rows c.add_free.new.rows marks first rows (each_same parts c.in_ok-chosen.chosen.items c.in_ok-chosen.ensures.cases.0) (c.in_ok-all_fit.ensures c.if-branch.true)
+    found_all c.args.channels d b parts c.in_ok-chosen.chosen.items c.in_ok-rows.rows c.add_free.new.rows marks first rows (each_same parts c.in_ok-chosen.chosen.items c.in_ok-chosen.ensures.cases.0) (c.in_ok-all_fit.ensures.0 c.if-branch.true)
