@@ -4,7 +4,9 @@ use Rattle.std.proofs.lemmas.Bool.{false≢true}
 use Rattle.std.specs.Prelude.{IsOk, OnOk, IfErr}
 use Rattle.bx_audit.specs.Recorded.{AreRecordsWritten, AreRecordsTold, IsDayRecorded}
 use Rattle.bx_audit.specs.Unrecorded.{IsRecordsCommandRefusal}
+use Rattle.bx_audit.specs.Charted.{IsDayCharted}
 use Rattle.bx_audit.specs.LastPlans.{IsSoldTold}
+use Rattle.bx_audit.specs.Uncharted.{IsDayChartCommandRefusal}
 use Rattle.bx_audit.specs.Unsold.{IsSoldRefusal}
 use Rattle.bx_check_commands.specs.Inputs.{GivesOnce, GivesStandard}
 use Rattle.bx_day_openings.specs.declared.fault.DayCommandFault.{DayCommandFault}
@@ -12,6 +14,7 @@ use Rattle.bx_devices.specs.Devices.{Writing}
 use Rattle.bx_devices.specs.declared.watched.Watched.{Watched}
 use Rattle.bx_plan_commands.specs.FileRequests as plans
 use Rattle.bx_plan_commands.specs.declared.fault.FileFault.{FileFault}
+use Rattle.bx_request.specs.declared.request.DayChartRequest.{DayChartRequest}
 use Rattle.bx_request.specs.declared.request.FileRequest.{FileRequest}
 use Rattle.bx_request.specs.declared.request.RecordsRequest.{RecordsRequest}
 use Rattle.bx_request.specs.declared.request.SoldRequest.{SoldRequest}
@@ -55,3 +58,13 @@ pub is_unsold : {X T W : Type 0} (remaining : X → Option (List ℕ)) (o : Opti
     → IfErr r (IsSoldRefusal (λ name text. name ≡ codes "-" → GivesOnce remaining o text) request contents old new) → status ≢ 0 → (fault : DayCommandFault) × IsSoldRefusal (GivesStandard (remaining x)) request contents old new fault
 is_unsold remaining o x request contents old new (Ok value) status is (there, back) why some = absurd (some (back refl))
 is_unsold {X = X} remaining o x request contents old new (Err fault) status is both why some = (fault, subst (λ (p : Option X). IsSoldRefusal (λ name text. name ≡ codes "-" → GivesOnce remaining p text) request contents old new fault) is why)
+
+pub is_charted : {X T : Type 0} (remaining : X → Option (List ℕ)) (o : Option X) (x : X) (request : DayChartRequest) (output : Writing) (r : Result T DayCommandFault) (status : ℕ) → o ≡ Some x → (status ≡ 0) ↔ IsOk r
+    → OnOk r (IsDayCharted (λ name text. name ≡ codes "-" → GivesOnce remaining o text) request output) → status ≡ 0 → IsDayCharted (GivesStandard (remaining x)) request output
+is_charted {X = X} remaining o x request output (Ok value) status is both what zero = subst (λ (p : Option X). IsDayCharted (λ name text. name ≡ codes "-" → GivesOnce remaining p text) request output) is what
+is_charted remaining o x request output (Err fault) status is (there, back) what zero = absurd (false≢true (there zero))
+
+pub is_uncharted : {X T W : Type 0} (remaining : X → Option (List ℕ)) (o : Option X) (x : X) (request : DayChartRequest) (contents : W → Option (List ℕ)) (old new : Watched W) (r : Result T DayCommandFault) (status : ℕ) → o ≡ Some x → (status ≡ 0) ↔ IsOk r
+    → IfErr r (IsDayChartCommandRefusal (λ name text. name ≡ codes "-" → GivesOnce remaining o text) request contents old new) → status ≢ 0 → (fault : DayCommandFault) × IsDayChartCommandRefusal (GivesStandard (remaining x)) request contents old new fault
+is_uncharted remaining o x request contents old new (Ok value) status is (there, back) why some = absurd (some (back refl))
+is_uncharted {X = X} remaining o x request contents old new (Err fault) status is both why some = (fault, subst (λ (p : Option X). IsDayChartCommandRefusal (λ name text. name ≡ codes "-" → GivesOnce remaining p text) request contents old new fault) is why)

@@ -7,7 +7,9 @@ use Rattle.bx_audit.specs.Audits.{IsAuditTold}
 use Rattle.bx_audit.specs.AuditRefusals.{IsAuditRefusal}
 use Rattle.bx_audit.specs.Recorded.{AreRecordsWritten}
 use Rattle.bx_audit.specs.Unrecorded.{IsRecordsCommandRefusal}
+use Rattle.bx_audit.specs.Charted.{IsDayCharted}
 use Rattle.bx_audit.specs.LastPlans.{IsSoldTold}
+use Rattle.bx_audit.specs.Uncharted.{IsDayChartCommandRefusal}
 use Rattle.bx_audit.specs.Unsold.{IsSoldRefusal}
 use Rattle.bx_check_commands.specs.Inputs.{GivesStandard}
 use Rattle.bx_check_commands.specs.Decoding.{IsDecoded, IsDecodeRefusal}
@@ -25,7 +27,7 @@ use Rattle.bx_run_commands.specs.declared.fault.LiveFault.{LiveFault}
 use Rattle.bx_plan_commands.specs.FileRequests as plans
 use Rattle.bx_plan_commands.specs.declared.fault.FileFault.{FileFault}
 use Rattle.bx_request.specs.declared.request.Request.{Request}
-use Rattle.bx_request.specs.declared.request.Request.TheVariants.{Files, Rehearsal, Far, FarLine, Live, Audit, Records, Sold, Decode}
+use Rattle.bx_request.specs.declared.request.Request.TheVariants.{Files, Rehearsal, Far, FarLine, Live, Audit, Records, Sold, DayChart, Decode}
 
 -- at 0: it is done by a program of such a host, where this was left on standard input
 abbrev pub IsRequestDone : {F W : Type 0} → Type 0 → Option (List ℕ) → Request → (F → Option (List ℕ)) → (W → Option (List ℕ)) → Watched W → Watched W → Type 0
@@ -37,6 +39,7 @@ IsRequestDone H left (Live request) files contents old new = IsLiveTold H files 
 IsRequestDone H left (Audit request) files contents old new = IsAuditTold files request.capture (contents (device_of old)) (contents (device_of new)) true
 IsRequestDone H left (Records request) files contents old new = AreRecordsWritten (GivesStandard left) request (writing_of contents old new)
 IsRequestDone H left (Sold request) files contents old new = IsSoldTold (GivesStandard left) request (writing_of contents old new)
+IsRequestDone H left (DayChart request) files contents old new = IsDayCharted (GivesStandard left) request (writing_of contents old new)
 IsRequestDone H left (Decode octets) files contents old new = IsDecoded octets.now (writing_of contents old new)
 
 -- else: it was refused, by a fault that says why
@@ -49,4 +52,5 @@ IsRequestRefused H left (Live request) files contents old new = (fault : LiveFau
 IsRequestRefused H left (Audit request) files contents old new = (fault : DayCommandFault) × IsAuditRefusal request files contents old new fault
 IsRequestRefused H left (Records request) files contents old new = (fault : DayCommandFault) × IsRecordsCommandRefusal (GivesStandard left) request contents old new fault
 IsRequestRefused H left (Sold request) files contents old new = (fault : DayCommandFault) × IsSoldRefusal (GivesStandard left) request contents old new fault
+IsRequestRefused H left (DayChart request) files contents old new = (fault : DayCommandFault) × IsDayChartCommandRefusal (GivesStandard left) request contents old new fault
 IsRequestRefused H left (Decode octets) files contents old new = (fault : CommandFault) × IsDecodeRefusal octets.now (writing_of contents old new) fault

@@ -11,7 +11,7 @@ use Rattle.bx_request.specs.declared.request.Peer.{Peer}
 use Rattle.bx_request.specs.declared.request.Peer.TheVariants.{Script, At}
 use Rattle.bx_request.specs.declared.request.RecordsWords.{RecordsWords}
 use Rattle.bx_request.specs.declared.request.Request.{Request}
-use Rattle.bx_request.specs.declared.request.Request.TheVariants.{Files, Rehearsal, Far, FarLine, Live, Audit, Records, Sold, Decode}
+use Rattle.bx_request.specs.declared.request.Request.TheVariants.{Files, Rehearsal, Far, FarLine, Live, Audit, Records, Sold, DayChart, Decode}
 
 abbrev pub read_use : FileKind → Bor (List ℕ) → Option FileUse
 read_use kind name = Some (record { name = name; kind = kind; is_written = false })
@@ -52,4 +52,5 @@ uses_of (Live request) = read_use kinds.Plan request.plan ∷ written_use kinds.
 uses_of (Audit request) = read_use kinds.Plan request.plan ∷ read_use kinds.Journal request.journal ∷ capture_use request.capture ∷ None ∷ None ∷ []
 uses_of (Records request) = read_use kinds.Plan request.plan ∷ read_use kinds.Journal request.journal ∷ None ∷ None ∷ None ∷ []
 uses_of (Sold request) = read_use kinds.Plan request.plan ∷ read_use kinds.Journal request.journal ∷ None ∷ None ∷ None ∷ []
+uses_of (DayChart request) = read_use kinds.Plan request.plan ∷ read_use kinds.Journal request.journal ∷ None ∷ None ∷ None ∷ []
 uses_of (Decode octets) = None ∷ None ∷ None ∷ None ∷ None ∷ []

@@ -194,6 +194,13 @@ pub fn named_files<'a>(request: &Request<'a>) -> [Option<FileUse<'a>>; 5]
             None,
             None,
         ],
+        Request::DayChart(request) => [
+            read(FileKind::Plan, request.plan),
+            read(FileKind::Journal, request.journal),
+            None,
+            None,
+            None,
+        ],
         Request::Decode { octets: _ } => [None, None, None, None, None],
     }
 }

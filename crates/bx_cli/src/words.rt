@@ -16,7 +16,7 @@ use crate::locations::Locates;
 use crate::meanings::explain_fault;
 use crate::meetings::{SameFile, met_file};
 use crate::uses::{FileKind, FileUse, named_files};
-use bx_audit::{audit_files, record_files, sold_files};
+use bx_audit::{audit_files, chart_day_files, record_files, sold_files};
 use bx_check_commands::{CommandFault, FilesAndInput, check_self, decode};
 use bx_devices::{Watched, write_octets};
 use bx_far_commands::{far_by_line, far_on_files};
@@ -183,6 +183,12 @@ fn run<
         Request::Sold(request) => status_of(
             alloc,
             sold_files(alloc, &mut inputs, request, output),
+            asked,
+            errors,
+        ),
+        Request::DayChart(request) => status_of(
+            alloc,
+            chart_day_files(alloc, &mut inputs, request, output),
             asked,
             errors,
         ),

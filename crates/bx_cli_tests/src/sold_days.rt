@@ -151,6 +151,79 @@ static LIVE: [Case; 7] = [
     ),
 ];
 
+/// Days with a booking office in front of them; and why others have none. The first three stand at one place one after another.
+static OFFICES: [Case; 11] = [
+    (
+        "serve @two.txt --live --line 19811:19812 --date 2020-01-01 --journal @office.journal --turns 130 --office @office.sock",
+        Prints("1 missed\n2 missed\n3 refused\nmaintenance none\n"),
+    ),
+    (
+        "serve @two.txt --live --line 19811:19812 --date 2020-01-01 --journal @office.journal --turns 131 --office @office.sock",
+        Prints("1 missed\n2 missed\n3 refused\nmaintenance none\n"),
+    ),
+    (
+        "serve @two.txt --live --line 19811:19812 --date 2020-01-01 --journal @late.journal --turns 130 --office @office.sock",
+        Fails("bx: J10 LateSale\n"),
+    ),
+    (
+        "serve @two.txt --live --line 19811:19812 --date 2020-01-01 --journal @new.journal --office @gone/office.sock",
+        Fails("bx: F3 CannotListen\n"),
+    ),
+    (
+        "serve @two.txt --live --line 19811:19812 --date 2020-01-01 --journal @new.journal --office @one.txt",
+        Fails("bx: F3 CannotListen\n"),
+    ),
+    (
+        "serve @hand.txt --live --line 19811:19812 --date 2020-01-01 --journal @new.journal --office @office.sock",
+        Fails("bx: D1 NotFirstFit\n"),
+    ),
+    (
+        "serve @two.txt --live --line 19811:19812 --date 2020-01-01 --office @office.sock",
+        Misused,
+    ),
+    (
+        "serve @two.txt --live --line 19811:19812 --date 2020-01-01 --journal @new.journal --office @office.sock --office-port 19813",
+        Misused,
+    ),
+    (
+        "serve @two.txt --live --line 19811:19812 --date 2020-01-01 --journal @new.journal --office-port 0",
+        Misused,
+    ),
+    (
+        "serve @two.txt --port 19811 --journal @new.journal --office @office.sock",
+        Misused,
+    ),
+    (
+        "day @two.txt @script.csv --journal @new.journal --office @office.sock",
+        Misused,
+    ),
+];
+
+/// Why a day is not drawn by its journal.
+static UNDRAWN: [Case; 6] = [
+    (
+        "chart @two.txt --journal @bad.journal",
+        Fails("bx: J9 BadSale\n"),
+    ),
+    (
+        "chart @one.txt --journal @sold.journal",
+        Fails("bx: J2 OtherPlan\n"),
+    ),
+    (
+        "chart @two.txt --journal @gone",
+        Fails("bx: F1 CannotRead @gone\n"),
+    ),
+    (
+        "chart @unproved.txt --journal @gone",
+        Fails("bx: C7 NotProved 5\n"),
+    ),
+    (
+        "chart @gone --journal @gone --date 2026-02-29",
+        Fails("bx: A1 BadDate\n"),
+    ),
+    ("chart @two.txt --journal", Misused),
+];
+
 #[test]
 fn days_with_sales(rt: HostRuntime) -> Result<(), Fail> {
     let folder = folder(&rt)?;
@@ -160,6 +233,8 @@ fn days_with_sales(rt: HostRuntime) -> Result<(), Fail> {
     }
     assert_eq!(rt; first_wrong(&rt, &folder, &CASES)?, None);
     assert_eq!(rt; first_wrong(&rt, &folder, &LIVE)?, None);
+    assert_eq!(rt; first_wrong(&rt, &folder, &OFFICES)?, None);
+    assert_eq!(rt; first_wrong(&rt, &folder, &UNDRAWN)?, None);
     let path = placed(rt.alloc(), "@front.journal", &folder)?;
     let octets = fs::read(&rt, path.as_str())?;
     assert!(rt;

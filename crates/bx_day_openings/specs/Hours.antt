@@ -1,6 +1,6 @@
 -- When a day is that goes by the clock.
 use Rattle.std.specs.Prelude.{◌≡◌, max, pos}
-use Rattle.bx_calendar.specs.DayParts.{start_of, length_of}
+use Rattle.bx_calendar.specs.DayParts.{start_of}
 use Rattle.bx_calendar.specs.NamedDays.{IsDayOf, IsDayFault}
 use Rattle.bx_calendar.specs.declared.day.Day.{Day}
 use Rattle.bx_capture.specs.Starts.{IsNameable}
@@ -10,14 +10,12 @@ use Rattle.bx_day_openings.specs.declared.hours.Hours.{Hours}
 use Rattle.bx_live_parts.specs.Schedules.{first_of, pace_of}
 use Rattle.bx_request.specs.declared.request.DayHours.{DayHours}
 
--- moment 0 is the midnight of the date in the zone, and so many seconds of the day, but at least one, go by in one of the clock; the
+-- the day is that of the date in the zone, moment 0 its midnight, and so many seconds of it, but at least one, go by in one of the clock; the
 -- schedule has just these
 pub record AreHours (words : DayHours) (hours : Hours) : Type 0 where
-  pub day : Day
-  pub is_day : IsDayOf words.date.now words.zone.now day
-  pub first : pos hours.first ≡ start_of day
+  pub is_day : IsDayOf words.date.now words.zone.now hours.day
+  pub first : pos hours.first ≡ start_of hours.day
   pub pace : hours.pace ≡ max words.pace 1
-  pub length : hours.length ≡ length_of day
   pub scheduled_first : first_of hours.schedule ≡ hours.first
   pub scheduled_pace : pace_of hours.schedule ≡ hours.pace
 

@@ -8,7 +8,7 @@ use std::fmt::Display;
 use std::io;
 
 /// `CannotListen`, its cause told.
-pub(crate) fn unheard<'a, H: Eprint, P: Display>(
+pub fn unheard<'a, H: Eprint, P: Display>(
     rt: &H,
     place: &P,
     cause: &io::Error,

@@ -18,8 +18,8 @@ pub struct Hours {
     pub first: u32,
     /// How many seconds of the day go by in one of the clock.
     pub pace: u32,
-    /// How many seconds the day has, 1 to 200,000.
-    pub length: u32,
+    /// The day itself.
+    pub day: Day,
 }
 
 /// The second of the clock at which a day begins.
@@ -51,6 +51,6 @@ pub fn hours_of<'a>(hours: DayHours<'a>) -> Result<Hours, DayCommandFault<'a>>
         schedule: Schedule::new(u64::from(first), pace),
         first,
         pace,
-        length: day.length(),
+        day,
     })
 }

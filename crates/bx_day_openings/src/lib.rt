@@ -18,17 +18,18 @@ mod sockets;
 mod tied;
 
 pub use capturing::{captured, file_of, first_of};
+pub use causes::unheard;
 pub use fault::DayCommandFault;
 pub use following::{follow_to_end, journal_read};
 pub use hours::{Hours, hours_of};
 pub use line::line_between;
 pub use loopback::{accepted, connected, connected_ends};
-pub use openings::{far_end_of, turns_of};
+pub use openings::{AFTER_THE_LAST, far_end_of, turns_of};
 pub use plan_opening::{DayOpening, Opening, day_opening, opening_of, tied_opening};
 pub use progress::Shown;
 pub use recording::{
     RecordsFile, clock_of, kept, record, records_clock_of, records_file_of, unrecorded,
 };
 pub use replaying::{Replayed, day_turns, replay_journal};
-pub use sockets::{accepted_at, connected_at};
+pub use sockets::{accepted_at, connected_at, listener_at};
 pub use tied::{TiedPlan, tied_named, tied_plan};

@@ -21,7 +21,7 @@ use std::alloc::Global;
 use std::io::Read;
 
 /// How many seconds a call can outlive its booking: T305, and T308 twice.
-pub(crate) const AFTER_THE_LAST: u32 = T305 + 2 * T308;
+pub const AFTER_THE_LAST: u32 = T305 + 2 * T308;
 
 /// The moment from which on the call of the booking at this place is over: 1 where it is not accepted.
 fn over_from(plan: &Plan, index: u16) -> u32

@@ -22,7 +22,7 @@ fn clear_away<H: Files + Net>(rt: &H, path: &str) -> io::Result<()> {
 }
 
 /// A listener on the socket of this path. A file of a socket on which nobody listens is replaced.
-fn listener<H: Files + Net>(rt: &H, path: &str) -> io::Result<UnixListener> {
+pub fn listener_at<H: Files + Net>(rt: &H, path: &str) -> io::Result<UnixListener> {
     match UnixListener::bind(rt, path) {
         Ok(listener) => Ok(listener),
         Err(_) => {
@@ -41,7 +41,7 @@ pub fn accepted_at<'a, H: Files + Net + Eprint>(
 ) -> Result<UnixStream, DayCommandFault<'a>>
     ensures { IfErr result IsUnheard }
 {
-    let listener = match listener(rt, path) {
+    let listener = match listener_at(rt, path) {
         Ok(listener) => listener,
         Err(cause) => return Err(unheard(rt, &path, &cause)),
     };

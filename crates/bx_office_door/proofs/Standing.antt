@@ -4,7 +4,8 @@ use Rattle.std.proofs.lemmas.Bool.Decides.{nat_tests}
 use Rattle.std.proofs.lemmas.List.{take_more, append_assoc, take-append-drop}
 use Rattle.bx_office.specs.declared.client.Client.{Client}
 use Rattle.bx_office.specs.declared.reply.Reply.{Reply}
-use Rattle.bx_office_door.specs.Guests.{client_of, numbers_of, are_given, IsFirstOf, IsTold, IsAnswered, IsAnsweredThere}
+use Rattle.bx_office_door.specs.Places.{IsFirstOf}
+use Rattle.bx_office_door.specs.Guests.{client_of, numbers_of, are_given, IsTold, IsAnswered, IsAnsweredThere}
 use Rattle.bx_office_door.specs.declared.guest.Guest.{Guest}
 use Rattle.bx_office_door.proofs.GivenNumbers.{guests_moved}
 

@@ -1,5 +1,5 @@
 -- Who stands at the door: clients with their numbers, in their order.
-use Rattle.std.specs.Prelude.{◌≡◌, ◌⊎◌, ℕ, ◌+◌, ◌-◌, ◌==◌, ◌&&◌, ◌||◌, nat_le, not, if◌then◌else◌, Bool, true, false, List, [], ◌∷◌, ◌++◌, ◌<◌, length, take, map, slice_index_or, Option, Some, None}
+use Rattle.std.specs.Prelude.{◌≡◌, ◌⊎◌, ℕ, ◌+◌, ◌-◌, ◌==◌, ◌&&◌, ◌||◌, nat_le, not, if◌then◌else◌, Bool, true, false, List, [], ◌∷◌, ◌++◌, map, Option, Some, None}
 use Rattle.std.specs.List.{range_with_len}
 use Rattle.bx_office.specs.Clients.{IsLeft, IsNext}
 use Rattle.bx_office.specs.Replies.{reply_text}
@@ -30,12 +30,6 @@ first_asked (g ∷ more) = asked_or (asked_at g.client.stage) g.number (first_as
 abbrev pub client_of : ℕ → List Guest → Option Client
 client_of number [] = None
 client_of number (g ∷ more) = if g.number == number then Some g.client else client_of number more
-
--- the client at this index has the number, and none before it
-pub record IsFirstOf (number : ℕ) (guests : List Guest) (index : ℕ) : Type 0 where
-  pub inside : index < length guests
-  pub before : client_of number (take index guests) ≡ None
-  pub here : (other : Guest) → (slice_index_or guests index other).number ≡ number
 
 -- ---- who is answered
 

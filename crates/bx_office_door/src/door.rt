@@ -31,7 +31,8 @@ pub struct Door {
 
 impl Door {
     ghost use Rattle.std.specs.Prelude.{◌++◌, ◌+◌, [], None, Some, MatchOption, filter, not, is_some, min, if◌then◌else◌};
-    ghost use Rattle.bx_office_door.specs.Guests.{first_asked, client_of, given_since, IsAnsweredThere, IsFirstOf};
+    ghost use Rattle.bx_office_door.specs.Guests.{first_asked, client_of, given_since, IsAnsweredThere};
+    ghost use Rattle.bx_office_door.specs.Places.{IsFirstOf};
     ghost use Rattle.bx_office_door.specs.Doors.{guests_of, IsAttended};
 
     /// A door where nobody stands yet.

@@ -8,22 +8,23 @@ ghost use Rattle.bx_office_door.specs.Sliced.{DidInside};
 use crate::door::Door;
 use bx_line_world::Wire;
 use std::cell::RefCell;
+use std::rc::Rc;
 
 /// The longest wait for a frame before the door is looked at again, in nanoseconds.
 const SLICE: u64 = 10_000_000;
 
 /// A wire, and a door that is attended while a frame is waited for.
 #[derive(Drop)]
-pub struct OfficeWire<'a, W> {
+pub struct OfficeWire<W> {
     pub wire: W,
-    door: &'a RefCell<Door>,
+    door: Rc<RefCell<Door>>,
     /// What the clock showed last.
     shown: u128,
 }
 
-impl<'a, W> OfficeWire<'a, W> {
-    /// The wire, with this door beside it. Whoever answers at the door has it too, so it stands in a cell.
-    pub fn new(wire: W, door: &'a RefCell<Door>) -> Self
+impl<W> OfficeWire<W> {
+    /// The wire, with this door beside it. Whoever answers at the door has it too, so it stands in a cell that both share.
+    pub fn new(wire: W, door: Rc<RefCell<Door>>) -> Self
         ensures { result.wire ≡ wire }
     {
         OfficeWire {
@@ -34,7 +35,7 @@ impl<'a, W> OfficeWire<'a, W> {
     }
 }
 
-impl<W> OfficeWire<'_, W> {
+impl<W> OfficeWire<W> {
     /// Moves what is ready at the door.
     fn attend(&self) {
         if let Ok(mut door) = self.door.try_borrow_mut() {
@@ -43,7 +44,7 @@ impl<W> OfficeWire<'_, W> {
     }
 }
 
-impl<'a, W: Wire> Wire for OfficeWire<'a, W> {
+impl<W: Wire> Wire for OfficeWire<W> {
     ghost did = { λ s acts t. DidInside W.did s.wire acts t.wire };
 
     fn shown(&mut self) -> u128 {

@@ -3,18 +3,19 @@
 use crate::quiet_world::QuietWorld;
 use bx_base::ChannelSet;
 use bx_calendar::Day;
-use bx_cases::messages::FAR_RELEASE_COMPLETE_17;
+use bx_day::Exchange;
 use bx_live::Begin;
 use bx_market::run_market;
 use bx_office::Place;
 use bx_office_door::{Door, Listening};
-use bx_office_world::{OfficeWorld, Opened};
+use bx_office_world::{Office, OfficeWorld, Opened};
 use bx_worked_days::{Row, exchange_of};
 use std::alloc::Global;
 use std::cell::RefCell;
 use std::io;
 use std::io::{Read, Write};
 use std::net::{Net, TcpListener, TcpStream};
+use std::rc::Rc;
 use std::test::Fail;
 use std::time::Duration;
 
@@ -25,12 +26,15 @@ static ROWS: [Row; 2] = [(100, 200, 1, false), (100, 200, 2, false)];
 fn opened<H: Net<Listener = TcpListener, Stream = TcpStream>>(
     rt: &H,
     alloc: Global,
-) -> io::Result<(RefCell<Door>, u16)> {
+) -> io::Result<(Rc<RefCell<Door>>, u16)> {
     let listener = TcpListener::bind(rt, "127.0.0.1:0")?;
     listener.set_nonblocking(true)?;
     let port = listener.local_addr()?.port();
     let door = Door::new(alloc, Place::Port(port), Listening::Port(listener));
-    Ok((RefCell::new(door), port))
+    match Rc::new(alloc, RefCell::new(door)) {
+        Ok(door) => Ok((door, port)),
+        Err(_) => Err(io::Error::from(io::ErrorKind::OutOfMemory)),
+    }
 }
 
 /// A client that has sent a head with this line, these fields and this body.
@@ -86,22 +90,13 @@ fn is_sent_away(stream: &mut TcpStream) -> bool {
     matches!(stream.read(&mut room), Ok(0))
 }
 
-/// What an office is opened with: channels 1, 2 and 3.
-fn with_three() -> Option<Opened> {
-    Some(Opened {
-        channels: ChannelSet::from_numbers(&[1, 2, 3]).ok()?,
-        day: Day::new("2026-01-05", "UTC0").ok()?,
-        clock: None,
-    })
-}
-
-/// How a day goes: for some seconds, each of which lasts so many for the clients, and how they begin; and what is heard once.
+/// How a day goes: for some seconds, each of which lasts so many for the clients, how they begin, and whether a call is cleared once by the far end.
 #[derive(Clone, Copy)]
 struct Run {
     seconds: u32,
     pace: u32,
     begin: Begin,
-    heard: Option<&'static [u8]>,
+    is_cleared: bool,
 }
 
 /// Four seconds without a link.
@@ -109,20 +104,27 @@ const QUIET: Run = Run {
     seconds: 4,
     pace: 1,
     begin: Begin::Alone,
-    heard: None,
+    is_cleared: false,
 };
 
 /// What has become of a run: how many bookings the day has, and how many were sold on record and on the disk.
 type Ran = (usize, u32, u32);
 
-/// Runs a day with an office at this door.
-fn ran(alloc: Global, door: &RefCell<Door>, run: Run) -> Option<Ran> {
-    let opened = with_three()?;
-    let mut exchange = exchange_of(alloc, &ROWS)?;
+/// Runs a day with an office at this door, which was opened with this.
+fn ran_with<'a>(
+    alloc: Global,
+    door: &'a Rc<RefCell<Door>>,
+    opened: &'a Opened,
+    mut exchange: Exchange,
+    run: Run,
+) -> Option<Ran> {
     let mut quiet = QuietWorld::new(door, run.pace);
     quiet.begin = run.begin;
-    quiet.heard = run.heard;
-    let mut world = OfficeWorld::new(alloc, quiet, door, &opened);
+    quiet.is_cleared = run.is_cleared;
+    let mut world = OfficeWorld {
+        world: quiet,
+        office: Office::new(alloc, door.clone().ok()?, opened),
+    };
     run_market(
         alloc,
         &mut exchange,
@@ -138,13 +140,24 @@ fn ran(alloc: Global, door: &RefCell<Door>, run: Run) -> Option<Ran> {
     ))
 }
 
-/// Two bookings for which there is one channel, and one that starts later.
+/// Runs a day on channels 1, 2 and 3 with an office at this door.
+fn ran(alloc: Global, door: &Rc<RefCell<Door>>, run: Run) -> Option<Ran> {
+    let opened = Opened {
+        channels: ChannelSet::from_numbers(&[1, 2, 3]).ok()?,
+        day: Day::new("2026-01-05", "UTC0").ok()?,
+        clock: None,
+    };
+    let exchange = exchange_of(alloc, &ROWS)?;
+    ran_with(alloc, door, &opened, exchange, run)
+}
+
+/// Two bookings for which there is one channel, of which the first pays more, and one that starts later.
 const BATCH: &str =
-    "Content-Type: text/csv\r\nContent-Length: 168\r\n\r\nstart,end,number,pay\n2026-01-05T00:01:40Z,2026-01-05T00:02:00Z,1234,5\n2026-01-05T00:01:40Z,2026-01-05T00:02:00Z,1234,5\n2026-01-05T00:10:00Z,2026-01-05T00:11:00Z,1234,5\n";
+    "Content-Type: text/csv\r\nContent-Length: 168\r\n\r\nstart,end,number,pay\n2026-01-05T00:01:40Z,2026-01-05T00:02:00Z,1234,9\n2026-01-05T00:01:40Z,2026-01-05T00:02:00Z,1234,5\n2026-01-05T00:10:00Z,2026-01-05T00:11:00Z,1234,5\n";
 
 /// The same from a page of another origin.
 const FOREIGN: &str =
-    "Origin: http://example.org\r\nContent-Type: text/csv\r\nContent-Length: 168\r\n\r\nstart,end,number,pay\n2026-01-05T00:01:40Z,2026-01-05T00:02:00Z,1234,5\n2026-01-05T00:01:40Z,2026-01-05T00:02:00Z,1234,5\n2026-01-05T00:10:00Z,2026-01-05T00:11:00Z,1234,5\n";
+    "Origin: http://example.org\r\nContent-Type: text/csv\r\nContent-Length: 168\r\n\r\nstart,end,number,pay\n2026-01-05T00:01:40Z,2026-01-05T00:02:00Z,1234,9\n2026-01-05T00:01:40Z,2026-01-05T00:02:00Z,1234,5\n2026-01-05T00:10:00Z,2026-01-05T00:11:00Z,1234,5\n";
 
 /// What who sent them is told.
 const SOLD: &str =
@@ -306,7 +319,7 @@ fn a_cause_is_counted(rt: HostRuntime) -> Result<(), Fail> {
     let mut asking = client(&rt, alloc, port, "GET /metrics", "\r\n")?;
     let joined = Run {
         begin: Begin::Joined,
-        heard: Some(FAR_RELEASE_COMPLETE_17),
+        is_cleared: true,
         ..QUIET
     };
     assert!(rt;
@@ -321,7 +334,7 @@ fn a_cause_is_counted(rt: HostRuntime) -> Result<(), Fail> {
 }
 
 #[test]
-fn a_picture_shows_where_there_was_no_link(rt: HostRuntime) -> Result<(), Fail> {
+fn a_picture_is_drawn(rt: HostRuntime) -> Result<(), Fail> {
     let alloc = rt.alloc();
     let (door, port) = opened(&rt, alloc)?;
     let mut asking = client(&rt, alloc, port, "GET /chart.svg", "\r\n")?;

@@ -1,5 +1,6 @@
 //! A world with no journal and no wire, which attends a door while it waits for a second, by a clock of its own.
 
+use bx_cases::messages::FAR_RELEASE_COMPLETE_17;
 use bx_devices::WriteFailed;
 use bx_events::LiveEvent;
 use bx_frames::{Frame, LinkFault};
@@ -20,8 +21,8 @@ pub struct QuietWorld<'a> {
     now: u128,
     /// How each second begins.
     pub begin: Begin,
-    /// What is read next, once.
-    pub heard: Option<&'static [u8]>,
+    /// Whether a call is cleared once by the far end, with cause 17.
+    pub is_cleared: bool,
     moment: u32,
     /// How many bookings were put on record.
     pub sold: u32,
@@ -37,7 +38,7 @@ impl<'a> QuietWorld<'a> {
             pace,
             now: 0,
             begin: Begin::Alone,
-            heard: None,
+            is_cleared: false,
             moment: 0,
             sold: 0,
             synced: 0,
@@ -90,11 +91,12 @@ impl<'a> World for QuietWorld<'a> {
         if room == 0 {
             return Ok(Frame::EndOfTurn(self.moment));
         }
-        let Some(octets) = self.heard.take() else {
+        if !self.is_cleared {
             return Ok(Frame::EndOfTurn(self.moment));
-        };
+        }
+        self.is_cleared = false;
         let mut message = Octets::new();
-        match message.try_extend_from_slice(octets) {
+        match message.try_extend_from_slice(FAR_RELEASE_COMPLETE_17) {
             Ok(()) => Ok(Frame::Message(message)),
             Err(_) => Err(LinkFault::BadLength),
         }

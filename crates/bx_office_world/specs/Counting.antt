@@ -1,4 +1,4 @@
--- What is counted while the day runs.
+-- Private: what is counted while the day runs.
 use Rattle.std.specs.Prelude.{◌≡◌, ◌⊎◌, ℕ, ◌+◌, ◌-◌, ◌/◌, min, Bool, true, false, if◌then◌else◌, List, [], ◌∷◌, slice_set, slice_index, Option, Some, None, option_map, Result, Ok, Err}
 use Rattle.bx_answers.specs.declared.metrics.Figures.{Figures}
 use Rattle.bx_day_chart.specs.Outages.{noted}

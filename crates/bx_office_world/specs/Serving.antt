@@ -1,4 +1,4 @@
--- What each is told who waits at the door.
+-- Private: what each is told who waits at the door.
 use Rattle.std.specs.Prelude.{◌≡◌, ◌⊎◌, ℕ, ◌≤◌, Bool, true, false, List, [], ◌∷◌, take, length, codes, Option, Some, None}
 use Rattle.bx_answers.specs.Sold.{sold_text}
 use Rattle.bx_answers.specs.declared.fault.NoAnswer.{NoAnswer}

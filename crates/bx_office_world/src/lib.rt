@@ -7,4 +7,4 @@ mod serving;
 mod world;
 
 pub use desk::{Opened, Written, answer_of};
-pub use world::OfficeWorld;
+pub use world::{Office, OfficeWorld};

@@ -18,24 +18,22 @@ use bx_office_door::Door;
 use bx_q931::Octets;
 use std::alloc::Global;
 use std::cell::RefCell;
+use std::rc::Rc;
 
-/// A world of a live day with a booking office in front of it. Whoever serves the world attends the door, as a wire does that has it too.
+/// A booking office: its door, what it was opened with, and what it is at.
 #[derive(Drop)]
-pub struct OfficeWorld<'a, W> {
-    pub world: W,
+pub struct Office<'a> {
     alloc: Global,
-    door: &'a RefCell<Door>,
+    door: Rc<RefCell<Door>>,
     desk: Desk<'a>,
     selling: Option<Selling>,
     /// What the clock showed when the journal was brought to the disk last, in nanoseconds.
     synced: Option<u128>,
 }
 
-impl<'a, W> OfficeWorld<'a, W> {
-    /// The world with an office that was opened with this, at this door.
-    pub fn new(alloc: Global, world: W, door: &'a RefCell<Door>, opened: &'a Opened) -> Self
-        ensures { result.world ≡ world }
-    {
+impl<'a> Office<'a> {
+    /// An office that was opened with this, at this door.
+    pub fn new(alloc: Global, door: Rc<RefCell<Door>>, opened: &'a Opened) -> Self {
         let desk = Desk {
             opened,
             figures: Figures::new(),
@@ -45,8 +43,7 @@ impl<'a, W> OfficeWorld<'a, W> {
             },
             is_late: false,
         };
-        OfficeWorld {
-            world,
+        Office {
             alloc,
             door,
             desk,
@@ -55,11 +52,31 @@ impl<'a, W> OfficeWorld<'a, W> {
         }
     }
 
-    /// What the clock of the door shows.
-    fn shown(&self) -> Option<u128> {
+    /// How many were answered at the door, and what its clock shows.
+    fn seen(&self) -> Option<(u64, u128)> {
         let door = self.door.try_borrow().ok()?;
-        Some(door.shown())
+        Some((door.answers(), door.shown()))
     }
+
+    /// Answers who waits, up to the first that asks for bookings to be sold: whose they are, and what they are.
+    fn serve(&self, exchange: &Exchange) -> Option<(Selling, Bookings)> {
+        let mut guard = self.door.try_borrow_mut().ok()?;
+        self.desk.serve(self.alloc, &mut guard, exchange)
+    }
+
+    /// Tells the customer of a batch what is sold of it.
+    fn tell_sold(&self, selling: Selling, answers: &[Answer]) {
+        if let Ok(mut guard) = self.door.try_borrow_mut() {
+            tell_sold(self.alloc, &mut guard, selling, answers);
+        }
+    }
+}
+
+/// A world of a live day with a booking office in front of it. Whoever serves the world attends the door, as a wire does that has it too.
+#[derive(Drop)]
+pub struct OfficeWorld<'a, W> {
+    pub world: W,
+    pub office: Office<'a>,
 }
 
 impl<'a, W: World> World for OfficeWorld<'a, W> {
@@ -67,7 +84,7 @@ impl<'a, W: World> World for OfficeWorld<'a, W> {
 
     fn begin(&mut self, second: u32) -> Begin {
         let begin = self.world.begin(second);
-        self.desk.note(second, begin);
+        self.office.desk.note(second, begin);
         begin
     }
 
@@ -81,7 +98,10 @@ impl<'a, W: World> World for OfficeWorld<'a, W> {
 
     fn sync(&mut self) -> Result<(), CannotRecord> {
         self.world.sync()?;
-        self.synced = self.shown();
+        self.office.synced = match self.office.seen() {
+            Some((_, shown)) => Some(shown),
+            None => None,
+        };
         Ok(())
     }
 
@@ -96,7 +116,7 @@ impl<'a, W: World> World for OfficeWorld<'a, W> {
     fn read(&mut self, room: u32) -> Result<Frame, LinkFault> {
         let frame = self.world.read(room);
         if let Ok(Frame::Message(message)) = &frame {
-            count_message(&mut self.desk.figures, message);
+            count_message(&mut self.office.desk.figures, message);
         }
         frame
     }
@@ -104,7 +124,7 @@ impl<'a, W: World> World for OfficeWorld<'a, W> {
     fn take_waiting(&mut self) -> Option<Octets> {
         let message = self.world.take_waiting();
         if let Some(message) = &message {
-            count_message(&mut self.desk.figures, message);
+            count_message(&mut self.office.desk.figures, message);
         }
         message
     }
@@ -125,23 +145,20 @@ impl<'a, W: World> Market for OfficeWorld<'a, W> {
     ghost dealt = { λ s deals t. W.did s.world (acts_of deals) t.world };
 
     fn ask(&mut self, exchange: &Exchange) -> Option<Bookings> {
-        let mut guard = self.door.try_borrow_mut().ok()?;
-        let door = &mut *guard;
-        self.desk.figures.answers = door.answers();
-        self.desk.figures.since_sync = seconds_since(self.synced, door.shown());
-        let (selling, batch) = self.desk.serve(self.alloc, door, exchange)?;
-        self.selling = Some(selling);
+        let (answers, shown) = self.office.seen()?;
+        self.office.desk.figures.answers = answers;
+        self.office.desk.figures.since_sync = seconds_since(self.office.synced, shown);
+        let (selling, batch) = self.office.serve(exchange)?;
+        self.office.selling = Some(selling);
         Some(batch)
     }
 
     fn answer(&mut self, answers: &[Answer]) {
-        let Some(selling) = self.selling.take() else {
+        let Some(selling) = self.office.selling.take() else {
             return;
         };
-        count_sold(&mut self.desk.figures, answers);
-        if let Ok(mut guard) = self.door.try_borrow_mut() {
-            tell_sold(self.alloc, &mut guard, selling, answers);
-        }
+        count_sold(&mut self.office.desk.figures, answers);
+        self.office.tell_sold(selling, answers);
     }
 
     ghost dealt_by = { λ s t acts p. dealt_so W.did s.world t.world acts p };

@@ -5,6 +5,8 @@ mod Unkept
 mod Recorded
 mod Stopped
 mod LineRuns
+mod SaleStops
+mod OpenOffices
 mod ToldLive
 mod RehearsalRuns
 mod RehearsedWith

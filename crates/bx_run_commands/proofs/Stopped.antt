@@ -15,11 +15,11 @@ module _ {D : Type 0} (holds may_leave : D → List ℕ → Type 0) (moment : D 
   abbrev Kept : Option D → Act → Option D → Type 0
   Kept = OnRecord holds may_leave moment left_since has_failed
 
-  abbrev Stopped : List Act → Option D → Type 0
+  abbrev pub Stopped : List Act → Option D → Type 0
   Stopped acts after = (disk : D) × (after ≡ Some disk) × ((has_failed disk ≡ true) ⊎ EndsWithNoEvent acts)
 
   -- the act that can't be done
-  refused : (event : LiveEvent) (o after : Option D) → Kept o (Recorded event false) after → Stopped (Recorded event false ∷ []) after
+  pub refused : (event : LiveEvent) (o after : Option D) → Kept o (Recorded event false) after → Stopped (Recorded event false ∷ []) after
   refused event (Some old) (Some disk) writes = (disk, refl, by_test (has_failed disk) writes.failed refl) where
     by_test : (b : Bool) → (false ≡ false → IsMessage event → has_failed disk ≡ true) → b ≡ has_failed disk → (has_failed disk ≡ true) ⊎ (IsMessage event → ⊥)
     by_test true failed same = inl (sym same)
@@ -28,7 +28,7 @@ module _ {D : Type 0} (holds may_leave : D → List ℕ → Type 0) (moment : D 
   refused event None (Some disk) writes = absurd writes
   refused event None None writes = absurd cc
 
-  unsynced : (o after : Option D) → Kept o (Synced false) after → Stopped (Synced false ∷ []) after
+  pub unsynced : (o after : Option D) → Kept o (Synced false) after → Stopped (Synced false ∷ []) after
   unsynced (Some old) (Some disk) commits = (disk, refl, inl (commits.failed refl))
   unsynced (Some old) None commits = absurd commits
   unsynced None (Some disk) commits = absurd commits

@@ -33,15 +33,17 @@ module _ (H F : Type 0) (request : LiveRequest) where
   writes (inr (inl plan)) = plan
   writes (inr (inr (inl (at_hand, inl unheard)))) = unheard
   writes (inr (inr (inl (at_hand, inr unconnected)))) = unconnected
-  writes (inr (inr (inr (at_hand, inl journal)))) = no_journal request.journal (live_head at_hand.digest at_hand.hours) at_hand.channels at_hand.opened journal
-  writes (inr (inr (inr (at_hand, inr (unrecorded, stopped))))) = no_output request.journal unrecorded
+  writes (inr (inr (inr (inl (at_hand, wanted, none))))) = none
+  writes (inr (inr (inr (inr (at_hand, inl journal))))) = no_journal request.journal (live_head at_hand.digest at_hand.hours) at_hand.channels at_hand.opened journal
+  writes (inr (inr (inr (inr (at_hand, inr (unrecorded, stopped)))))) = no_output request.journal unrecorded
 
   still : StopsLive H F request StillUp → ⊥
   still (inl hours) = hours
   still (inr (inl plan)) = plan
   still (inr (inr (inl (at_hand, none)))) = none
-  still (inr (inr (inr (at_hand, inl journal)))) = no_journal_still request.journal (live_head at_hand.digest at_hand.hours) at_hand.channels at_hand.opened journal
-  still (inr (inr (inr (at_hand, inr (unrecorded, stopped))))) = recorded_still request.journal unrecorded
+  still (inr (inr (inr (inl (at_hand, wanted, none))))) = none
+  still (inr (inr (inr (inr (at_hand, inl journal))))) = no_journal_still request.journal (live_head at_hand.digest at_hand.hours) at_hand.channels at_hand.opened journal
+  still (inr (inr (inr (inr (at_hand, inr (unrecorded, stopped)))))) = recorded_still request.journal unrecorded
 
   pub live_stopped : {W : Type 0} (files : F → Option (List ℕ)) (contents : W → Option (List ℕ)) (output : Watched W) (fault : LiveFault) → StopsLive H F request fault → IsLiveRefusal H files request contents output output fault
   live_stopped files contents output (OfDay (Command commands.CannotWrite)) stops = absurd (writes stops)

@@ -8,6 +8,7 @@ pub mod Telling
 pub mod Readying
 pub mod Resuming
 pub mod LiveRuns
+pub mod OfficeRuns
 pub mod FirstFits
 pub mod LiveDays
 pub mod LiveInside

@@ -1,7 +1,10 @@
 -- A live day of a plan, and what is told of it.
-use Rattle.std.specs.Prelude.{◌≡◌, ℕ, Bool, true, false, List, Option}
+use Rattle.std.specs.Prelude.{◌≡◌, ◌&&◌, ◌+◌, ℕ, max, Bool, true, false, List, Option, None, is_some}
 use Rattle.std.specs.Io.KnownBytes.{Appends}
+use Rattle.bx_calendar.specs.DayParts.{length_of}
+use Rattle.bx_calls.specs.Timers.{clearing_time}
 use Rattle.bx_day.specs.Day.{Day}
+use Rattle.bx_day.specs.declared.entry.Entry.{Entry}
 use Rattle.bx_day.specs.Telling.{outcomes_text}
 use Rattle.bx_day_openings.specs.Hours.{AreHours}
 use Rattle.bx_day_openings.specs.declared.hours.Hours.{Hours}
@@ -17,7 +20,7 @@ use Rattle.bx_request.specs.declared.request.LiveRequest.{LiveRequest}
 use Rattle.bx_run_commands.specs.FirstFits.{IsFirstFitOpening}
 use Rattle.bx_run_commands.specs.Heads.{live_head}
 use Rattle.bx_journal.specs.Files.{holds_unknown, may_leave_any, no_moment, any_since, has_failed_in}
-use Rattle.bx_run_commands.specs.LiveRuns.{RunsByLine, StopsByLine}
+use Rattle.bx_run_commands.specs.OfficeRuns.{RunsOn, StopsOn}
 use Rattle.bx_run_commands.specs.declared.named_file.NamedFile.{NamedFile}
 use Rattle.bx_run_commands.specs.Resuming.{GoesOnBy, IsKeptBy}
 
@@ -25,8 +28,18 @@ use Rattle.bx_run_commands.specs.Resuming.{GoesOnBy, IsKeptBy}
 abbrev pub did_on : {H : Type 0} → UdpWire H → List WireAct → UdpWire H → Type 0
 did_on old acts new = Unit {0}
 
--- The day of a plan that is proved and first fit, after the events and sales of its journal, and then those of a live run to the turn that was asked for, or
--- that its accepted bookings need by then. Where there is a journal it was that of this plan on this day, all of it was read, and what
+-- a booking office stands in front of the day that the words want: nothing is sold off the record, so there is none without a journal
+abbrev pub has_office : LiveRequest → Bool
+has_office request = is_some request.office && is_some request.journal
+
+-- How many seconds a live day has that goes on from here: as many as were asked for, or as its accepted bookings need. Where an office is open it is
+-- open all day: each booking of the day may still be sold, and has to be cleared.
+abbrev pub AreLiveTurns : Bool → Option ℕ → ℕ → List Entry → ℕ → Type 0
+AreLiveTurns true None length entries turns = (least : ℕ) × AreDayTurns None entries least × (turns ≡ max least (length + clearing_time))
+AreLiveTurns is_open asked length entries turns = AreDayTurns asked entries turns
+
+-- The day of a plan that is proved and first fit, after the events and sales of its journal, and then those of a live run, on which an office sells
+-- where there is one, to the turn that was asked for, or that its accepted bookings need by then. Where there is a journal it was that of this plan on this day, all of it was read, and what
 -- happens is put on record in just this journal; the run goes by the hours of the words.
 pub record IsLiveDay {F : Type 0} (H : Type 0) (files : F → Option (List ℕ)) (request : LiveRequest) (day : Day) : Type 0 where
   pub hours : Hours
@@ -40,9 +53,9 @@ pub record IsLiveDay {F : Type 0} (H : Type 0) (files : F → Option (List ℕ))
   pub goes_on : GoesOnBy (live_head digest hours) channels request.journal opened resumed
   pub is_kept : IsKeptBy (live_head digest hours) channels request.journal opened resumed kept
   pub turns : ℕ
-  pub are_turns : AreDayTurns request.turns resumed.entries turns
+  pub are_turns : AreLiveTurns (has_office request) request.turns (length_of hours.day) resumed.entries turns
   pub wire : UdpWire H
-  pub ran : RunsByLine did_on holds_unknown may_leave_any no_moment any_since has_failed_in wire hours.schedule kept turns resumed day
+  pub ran : RunsOn (has_office request) did_on holds_unknown may_leave_any no_moment any_since has_failed_in wire hours.schedule kept channels turns resumed day
 
 -- Or such a run was over before its end, and why: the disk of the journal has failed, or what came is no event of a journal.
 pub record IsLiveStopped (H F : Type 0) (request : LiveRequest) : Type 0 where
@@ -56,8 +69,9 @@ pub record IsLiveStopped (H F : Type 0) (request : LiveRequest) : Type 0 where
   pub kept : Record (FileDisk (NamedFile H F))
   pub goes_on : GoesOnBy (live_head digest hours) channels request.journal opened resumed
   pub is_kept : IsKeptBy (live_head digest hours) channels request.journal opened resumed kept
+  pub turns : ℕ
   pub wire : UdpWire H
-  pub stopped : StopsByLine did_on holds_unknown may_leave_any no_moment any_since has_failed_in wire hours.schedule kept resumed
+  pub stopped : StopsOn (has_office request) did_on holds_unknown may_leave_any no_moment any_since has_failed_in wire hours.schedule kept channels turns resumed
 
 -- what became of each booking of such a day was written, and no call is up
 pub record IsLiveTold {F : Type 0} (H : Type 0) (files : F → Option (List ℕ)) (request : LiveRequest) (before after : Option (List ℕ)) : Type 0 where

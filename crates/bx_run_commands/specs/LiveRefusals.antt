@@ -1,6 +1,6 @@
 -- Why a live day is refused, and what was written then.
 use Rattle.std.specs.Prelude.{◌≡◌, ◌⊎◌, ℕ, Bool, true, List, Option}
-use Rattle.bx_check_commands.specs.declared.fault.CommandFault.TheVariants.{CannotWrite}
+use Rattle.bx_check_commands.specs.declared.fault.CommandFault.TheVariants.{CannotWrite, Memory}
 use Rattle.bx_day.specs.Day.{Day}
 use Rattle.bx_day_openings.specs.Hours.{AreHours, IsNoHours}
 use Rattle.bx_day_openings.specs.OpeningRefusals.{IsUnheard, IsUnconnected}
@@ -12,7 +12,7 @@ use Rattle.bx_devices.specs.declared.watched.Watched.{Watched}
 use Rattle.bx_request.specs.declared.request.LiveRequest.{LiveRequest}
 use Rattle.bx_run_commands.specs.FirstFits.{IsFirstFitOpening, IsNoFirstFitOpening}
 use Rattle.bx_run_commands.specs.Heads.{live_head}
-use Rattle.bx_run_commands.specs.LiveDays.{IsLiveCut, IsLiveStopped, IsLiveUp}
+use Rattle.bx_run_commands.specs.LiveDays.{IsLiveCut, IsLiveStopped, IsLiveUp, has_office}
 use Rattle.bx_run_commands.specs.OpeningFaults.{OfOpening, IsUnrecorded}
 use Rattle.bx_run_commands.specs.Resuming.{IsNoRecord}
 use Rattle.bx_run_commands.specs.declared.fault.LiveFault.{LiveFault}
@@ -21,6 +21,11 @@ use Rattle.bx_run_commands.specs.declared.fault.LiveFault.TheVariants.{Day as Of
 -- there is no socket at this end's port, or it may not speak to the other
 abbrev pub IsNoLine : DayCommandFault → Type 0
 IsNoLine fault = IsUnheard fault ⊎ IsUnconnected fault
+
+-- nobody can be let in at the office, or a growth is refused
+abbrev pub IsNoOffice : DayCommandFault → Type 0
+IsNoOffice (Command Memory) = Unit {0}
+IsNoOffice fault = IsUnheard fault
 
 -- a plan was read, proved and found to be first fit, and the day's hours are those of the words
 pub record IsAtHand (request : LiveRequest) : Type 0 where
@@ -38,6 +43,7 @@ StopsLive H F request fault =
     OfOpening (IsNoHours request.hours) fault
     ⊎ IsNoFirstFitOpening request.plan.now fault
     ⊎ (IsAtHand request × OfOpening IsNoLine fault)
+    ⊎ (IsAtHand request × (has_office request ≡ true) × OfOpening IsNoOffice fault)
     ⊎ ((at_hand : IsAtHand request) × (IsNoRecord request.journal (live_head at_hand.digest at_hand.hours) at_hand.channels at_hand.opened fault ⊎ (IsUnrecorded request.journal fault × IsLiveStopped H F request)))
 
 -- the output has failed, and a front of what was to be told was; or all of it was told, and calls are up; or the day stopped, and the

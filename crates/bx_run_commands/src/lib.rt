@@ -2,12 +2,14 @@
 #![tactic(auto)]
 
 mod by_line;
+mod by_office;
 mod fault;
 mod folder;
 mod live_files;
 mod locks;
 mod named_file;
 mod new_journal;
+mod office;
 mod rehearsal_files;
 mod rehearsing;
 mod resuming;
@@ -17,6 +19,7 @@ mod telling;
 mod waiting;
 
 pub use by_line::{Told, run_by_clock};
+pub use by_office::{Premises, run_with_office};
 pub use fault::LiveFault;
 pub use live_files::live_on_files;
 pub use locks::Locks;

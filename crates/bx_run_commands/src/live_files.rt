@@ -1,32 +1,35 @@
 //! The command that runs a day by the clock, over a data link.
 
-ghost use Rattle.std.specs.Prelude.{IfOk, IfErr, OnOk};
+ghost use Rattle.std.specs.Prelude.{◌≡◌, true, is_some, IfOk, IfErr, OnOk, OnErr};
 ghost use Rattle.bx_devices.specs.Watching.{device_of};
 ghost use Rattle.bx_run_commands.specs.FirstFits.{IsFirstFitOpening, IsNoFirstFitOpening};
 ghost use Rattle.bx_run_commands.specs.LiveDays.{IsLiveDay, IsLiveTold};
-ghost use Rattle.bx_run_commands.specs.LiveInside.{IsLiveRun, StopsRun};
+ghost use Rattle.bx_run_commands.specs.LiveInside.{IsLiveRun, StopsRun, RunsWith, StopsWith};
 ghost use Rattle.bx_run_commands.specs.LiveRefusals.{StopsLive, IsLiveRefusal};
 
 use crate::by_line::{Told, run_by_clock};
+use crate::by_office::{Premises, run_with_office};
 use crate::fault::{LiveFault, unrecorded};
 use crate::locks::Locks;
-use crate::resuming::resume_named;
+use crate::office::{live_turns, premises_of};
+use crate::resuming::{Resumed, resume_named};
 use crate::standing::Standing;
 use bx_check_commands::{CommandFault, Inputs};
 use bx_day::Exchange;
 use bx_day_openings::{
-    DayCommandFault, DayOpening, Hours, day_turns, hours_of, line_between, opening_of, tied_named,
+    DayCommandFault, DayOpening, Hours, hours_of, line_between, opening_of, tied_named,
 };
 use bx_devices::Watched;
-use bx_journal::{Head, JournalDay};
-use bx_line_world::UdpWire;
-use bx_live::has_call;
+use bx_journal::{Disk, Head, JournalDay};
+use bx_line_world::{UdpWire, Wire};
+use bx_live::{CannotRecord, has_call};
+use bx_live_parts::Schedule;
 use bx_request::LiveRequest;
 use bx_sales::is_first_fit;
 use std::alloc::Global;
 use std::fs::Files;
 use std::io::Write;
-use std::net::{Net, UdpSocket};
+use std::net::{Net, TcpListener, TcpStream, UdpSocket};
 use std::rt::Clock;
 
 /// What is told of a live day while it runs, its moment on a terminal alone.
@@ -62,6 +65,26 @@ fn live_opening<'a, I: Inputs>(
     }
 }
 
+/// Runs the rest of a day over a wire, with an office in front of it where one is opened.
+fn run_rest<'a, 'h, H: Clock + Eprint + AllocGlobal, W: Wire + Drop, D: Disk + Drop>(
+    rt: &'h H,
+    resumed: Resumed<D>,
+    wire: W,
+    schedule: Schedule,
+    turns: u32,
+    told: Told<'a>,
+    premises: Option<Premises>,
+) -> Result<Exchange, CannotRecord>
+    ensures failed { OnErr result (is_some resumed.record.disk ≡ true) }
+    ensures stopped { OnErr result (StopsWith premises W.did D.holds D.may_leave D.moment D.left_since D.has_failed wire schedule resumed.record turns resumed.exchange) }
+    ensures ran { IfOk result (RunsWith premises W.did D.holds D.may_leave D.moment D.left_since D.has_failed wire schedule resumed.record turns resumed.exchange) }
+{
+    match premises {
+        None => run_by_clock(rt, resumed, wire, schedule, turns, told),
+        Some(premises) => run_with_office(rt, resumed, wire, schedule, turns, told, premises),
+    }
+}
+
 /// Runs an opened day over a socket, from where its journal has left it.
 fn run_on_socket<'a, H: Files + Locks + Standing + AllocGlobal + Clock + Eprint>(
     rt: &'a H,
@@ -69,10 +92,11 @@ fn run_on_socket<'a, H: Files + Locks + Standing + AllocGlobal + Clock + Eprint>
     hours: Hours,
     opening: DayOpening,
     socket: UdpSocket,
+    premises: Option<Premises>,
     is_terminal: bool,
 ) -> Result<Exchange, LiveFault<'a>>
-    ensures ran { IfOk result (IsLiveRun H H.File.contents request.entry hours opening) }
-    ensures stopped { IfErr result (StopsRun H H.File request.entry hours opening) }
+    ensures ran { IfOk result (IsLiveRun H H.File.contents request.entry hours opening premises) }
+    ensures stopped { IfErr result (StopsRun H H.File request.entry hours opening premises) }
 {
     let digest = opening.digest;
     let head = Head {
@@ -84,16 +108,27 @@ fn run_on_socket<'a, H: Files + Locks + Standing + AllocGlobal + Clock + Eprint>
     };
     let told = told_of(request, is_terminal);
     let resumed = resume_named(rt, request.journal, &head, opening, told.is_shown)?;
-    let turns = day_turns(&resumed.exchange, request.turns);
+    let is_open = premises.is_some();
+    let turns = live_turns(&resumed.exchange, &hours.day, request.turns, is_open);
     let wire = UdpWire::new(rt, socket);
-    match run_by_clock(rt, resumed, wire, hours.schedule, turns, told) {
+    match run_rest(rt, resumed, wire, hours.schedule, turns, told, premises) {
         Ok(exchange) => Ok(exchange),
         Err(_) => Err(unrecorded(request.journal)),
     }
 }
 
 /// The exchange at the end of a live day.
-fn run_live_day<'a, H: Files + Locks + Standing + AllocGlobal + Clock + Eprint + Net, I: Inputs>(
+fn run_live_day<
+    'a,
+    H: Files
+        + Locks
+        + Standing
+        + AllocGlobal
+        + Clock
+        + Eprint
+        + Net<Listener = TcpListener, Stream = TcpStream>,
+    I: Inputs,
+>(
     rt: &'a H,
     inputs: &mut I,
     request: LiveRequest<'a>,
@@ -105,15 +140,16 @@ fn run_live_day<'a, H: Files + Locks + Standing + AllocGlobal + Clock + Eprint +
     let hours = hours_of(request.hours)?;
     let opening = live_opening(rt.alloc(), inputs, request.plan)?;
     let socket = line_between(rt, request.line)?;
-    run_on_socket(rt, request, hours, opening, socket, is_terminal)
+    let premises = premises_of(rt, request, opening.channels, hours.day)?;
+    run_on_socket(rt, request, hours, opening, socket, premises, is_terminal)
 }
 
 /// Runs the exchange's end of the day of a plan by the clock, as the network's end of a data link over UDP, from where its journal has
-/// left it; tells each fault of the link and each late second on standard error, and its moment on a terminal alone; and writes what
+/// left it, with a booking office in front of it where one is asked for; tells each fault of the link and each late second on standard error, and its moment on a terminal alone; and writes what
 /// became of each booking. What a capture and records are made of stands in the journal.
 ///
 /// What the day needs is opened in this order, and the first fault of it is answered: `Day` or `Capture` for the date and the zone;
-/// `Command` for the plan, and `LiveFault::NotFirstFit` where its channels are not those of first fit; `CannotListen` or `CannotConnect` for the line, all
+/// `Command` for the plan, and `LiveFault::NotFirstFit` where its channels are not those of first fit; `CannotListen` or `CannotConnect` for the line, `CannotListen` for the office, all
 /// others of these as `LiveFault::Day`; for the journal
 /// `CannotRecord` where it cannot be opened, `NotAFile` where it is no plain file, `InUse` where another program writes it,
 /// `LiveFault::Day`, as `Sale`, `Journal` (`BadLine`, `OtherPlan`, `OtherDay` or `OtherRules`) or `Command` (`CannotRead`), where it is none
@@ -122,7 +158,13 @@ fn run_live_day<'a, H: Files + Locks + Standing + AllocGlobal + Clock + Eprint +
 /// written then. `StillUp` where the day has no more seconds, and a call is up: all of it was written then.
 pub fn live_on_files<
     'a,
-    H: Files + Locks + Standing + AllocGlobal + Clock + Eprint + Net,
+    H: Files
+        + Locks
+        + Standing
+        + AllocGlobal
+        + Clock
+        + Eprint
+        + Net<Listener = TcpListener, Stream = TcpStream>,
     I: Inputs,
     W: Write,
 >(

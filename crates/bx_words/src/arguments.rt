@@ -33,6 +33,10 @@ pub enum Form {
     FlagBeside(&'static str),
     /// An option for how many seconds of a day go by in one of the clock, 1 to 1,000, that stands only beside another.
     Pace(&'static str),
+    /// An option that stands only beside others.
+    BesideAll(&'static [&'static str]),
+    /// An option for a port that stands only beside others, and in place of another.
+    PortBeside(&'static [&'static str], &'static str),
 }
 
 /// An argument: its name, what stands for its value in the help, its form, and its help.
@@ -183,6 +187,27 @@ pub const KEPT_JOURNAL: Argument = Argument {
     help: "Put each event on record in this file before anything is sent for it: a new or empty one; a live day goes on from what stands there",
 };
 
+pub const OFFICE: Argument = Argument {
+    name: "office",
+    value: "PATH",
+    form: Form::BesideAll(&["live", "journal"]),
+    help: "The path of a Unix socket for a booking office over HTTP: quotes, sales and the state of a live day while it runs",
+};
+
+pub const OFFICE_PORT: Argument = Argument {
+    name: "office-port",
+    value: "P",
+    form: Form::PortBeside(&["live", "journal"], "office"),
+    help: "The TCP port on 127.0.0.1 for it, in place of a socket",
+};
+
+pub const DRAWN_JOURNAL: Argument = Argument {
+    name: "journal",
+    value: "FILE",
+    form: Form::Optional,
+    help: "The file of the journal of the plan's day, or - for standard input: draw the day as it went",
+};
+
 pub const RECORDS: Argument = Argument {
     name: "records",
     value: "FILE",
@@ -295,45 +320,63 @@ pub const DAY_ZONE: Argument = Argument {
     help: "The zone of its midnights, as a POSIX rule like CET-1CEST,M3.5.0,M10.5.0/3 [default: UTC0]",
 };
 
-/// The argument as `clap` knows it.
-pub(crate) fn arg_of<'a>(alloc: Global, argument: &Argument) -> Result<Arg<'a>, AllocError> {
-    let arg = Arg::new(alloc, argument.name).help(argument.help);
-    if let Form::Flag = argument.form {
-        return Ok(arg.long(argument.name).action(ArgAction::SetTrue));
-    }
-    if let Form::FlagBeside(other) = argument.form {
-        return arg
-            .long(argument.name)
-            .action(ArgAction::SetTrue)
-            .requires_arg(other);
-    }
-    let arg = arg.value_name(argument.value);
-    Ok(match argument.form {
-        Form::Place => arg.required(true),
-        Form::Number => arg.value_parser(value_parser!(u16)),
-        Form::Needed => arg.long(argument.name).required(true),
-        Form::Default(value) => arg.long(argument.name).default_value(value),
-        Form::Optional | Form::Flag | Form::FlagBeside(_) => arg.long(argument.name),
-        Form::Beside(other) => arg.long(argument.name).requires_arg(other)?,
-        Form::Seconds => arg
-            .long(argument.name)
-            .value_parser(value_parser!(u32).range(1..=300_000)),
-        Form::SecondsBeside(other) => arg
-            .long(argument.name)
-            .requires_arg(other)?
-            .value_parser(value_parser!(u32).range(1..=300_000)),
-        Form::Port => arg
-            .long(argument.name)
-            .required_unless_present_any(&["socket", "line"])?
-            .value_parser(value_parser!(u16).range(1..)),
-        Form::Socket => arg.long(argument.name).conflicts_with("port")?,
+/// An argument for a word, as `clap` knows it.
+fn word_of<'a>(arg: Arg<'a>, argument: &Argument) -> Result<Arg<'a>, AllocError> {
+    match argument.form {
+        Form::Place => Ok(arg.required(true)),
+        Form::Needed => Ok(arg.long(argument.name).required(true)),
+        Form::Default(value) => Ok(arg.long(argument.name).default_value(value)),
+        Form::Beside(other) => arg.long(argument.name).requires_arg(other),
+        Form::BesideAll(others) => arg.long(argument.name).requires_all(others),
+        Form::Socket => arg.long(argument.name).conflicts_with("port"),
         Form::Line(others) => arg
             .long(argument.name)
             .conflicts_with_all(&["port", "socket"])?
-            .requires_all(others)?,
+            .requires_all(others),
+        _ => Ok(arg.long(argument.name)),
+    }
+}
+
+/// An option for a port, as `clap` knows it.
+fn port_of<'a>(arg: Arg<'a>, argument: &Argument) -> Result<Arg<'a>, AllocError> {
+    let arg = arg
+        .long(argument.name)
+        .value_parser(value_parser!(u16).range(1..));
+    match argument.form {
+        Form::PortBeside(others, instead) => arg.requires_all(others)?.conflicts_with(instead),
+        _ => arg.required_unless_present_any(&["socket", "line"]),
+    }
+}
+
+/// An option for a number of seconds of a day, as `clap` knows it.
+fn seconds_of<'a>(arg: Arg<'a>, argument: &Argument) -> Result<Arg<'a>, AllocError> {
+    let arg = arg.long(argument.name);
+    match argument.form {
         Form::Pace(other) => arg
-            .long(argument.name)
-            .requires_arg(other)?
-            .value_parser(value_parser!(u32).range(1..=1_000)),
-    })
+            .value_parser(value_parser!(u32).range(1..=1_000))
+            .requires_arg(other),
+        Form::SecondsBeside(other) => arg
+            .value_parser(value_parser!(u32).range(1..=300_000))
+            .requires_arg(other),
+        _ => Ok(arg.value_parser(value_parser!(u32).range(1..=300_000))),
+    }
+}
+
+/// The argument as `clap` knows it.
+pub(crate) fn arg_of<'a>(alloc: Global, argument: &Argument) -> Result<Arg<'a>, AllocError> {
+    let arg = Arg::new(alloc, argument.name).help(argument.help);
+    let flag = ArgAction::SetTrue;
+    match argument.form {
+        Form::Flag => Ok(arg.long(argument.name).action(flag)),
+        Form::FlagBeside(other) => arg.long(argument.name).action(flag).requires_arg(other),
+        Form::Number => Ok(
+            arg.value_name(argument.value)
+                .value_parser(value_parser!(u16)),
+        ),
+        Form::Port | Form::PortBeside(..) => port_of(arg.value_name(argument.value), argument),
+        Form::Seconds | Form::SecondsBeside(_) | Form::Pace(_) => {
+            seconds_of(arg.value_name(argument.value), argument)
+        }
+        _ => word_of(arg.value_name(argument.value), argument),
+    }
 }

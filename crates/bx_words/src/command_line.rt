@@ -1,10 +1,11 @@
 //! The command line as `clap` knows it.
 
 use crate::arguments::{
-    Argument, BOOKINGS, CAPTURE, CAPTURED_DAY, CHANNELS, DATE, DAY, DAY_ZONE, END, FAR_DAY,
-    FAR_LINE, FAR_PACE, FAR_TURNS, INWARD, JOURNAL, KEPT_JOURNAL, LIVE, NEW_JOURNAL, NO_TOTALS,
-    OCTETS, PACE, PICTURED_DAY, PLAN, PORT, QUIET, RECORDED_DAY, RECORDED_JOURNAL, RECORDS, ROW,
-    SCRIPT, SEEN_DAY, SERVED_DAY, SERVED_LINE, SOCKET, START, TURNS, ZONE, arg_of,
+    Argument, BOOKINGS, CAPTURE, CAPTURED_DAY, CHANNELS, DATE, DAY, DAY_ZONE, DRAWN_JOURNAL, END,
+    FAR_DAY, FAR_LINE, FAR_PACE, FAR_TURNS, INWARD, JOURNAL, KEPT_JOURNAL, LIVE, NEW_JOURNAL,
+    NO_TOTALS, OCTETS, OFFICE, OFFICE_PORT, PACE, PICTURED_DAY, PLAN, PORT, QUIET, RECORDED_DAY,
+    RECORDED_JOURNAL, RECORDS, ROW, SCRIPT, SEEN_DAY, SERVED_DAY, SERVED_LINE, SOCKET, START,
+    TURNS, ZONE, arg_of,
 };
 use clap::Command;
 use std::alloc::{AllocError, Global};
@@ -31,11 +32,13 @@ const AFTER: &str = "Examples:
   bx day plan.txt script.csv --capture day.pcap
   bx serve plan.txt --port 9931
   bx serve plan.txt --live --line 9931:9932 --date 2026-03-29 --zone CET-1CEST,M3.5.0,M10.5.0/3 --journal day.journal
+  bx serve plan.txt --live --line 9931:9932 --date 2026-03-29 --zone CET-1CEST,M3.5.0,M10.5.0/3 --journal day.journal --office office.sock
   bx far script.csv --port 9931
   bx far script.csv --line 9932:9931 --date 2026-03-29 --zone CET-1CEST,M3.5.0,M10.5.0/3
   bx audit plan.txt day.journal
   bx records plan.txt day.journal --date 2026-03-29 --zone CET-1CEST,M3.5.0,M10.5.0/3 > records.csv
   bx sold plan.txt day.journal > last.txt
+  bx chart plan.txt --journal day.journal > day.svg
   bx decode 080280015A08028091
 
 Status: 0 done, 1 refused (one line on standard error says why; `bx help faults` says what each means), 2 wrong words.";
@@ -81,8 +84,8 @@ static PLAN_COMMANDS: [Words; 7] = [
     },
     Words {
         name: "chart",
-        about: "Print a proved plan as a picture in SVG: what each channel carries, what is refused, and the prices",
-        arguments: &[PLAN, PICTURED_DAY, DAY_ZONE],
+        about: "Print a proved plan as a picture in SVG: what each channel carries, what is refused, and the prices; or its day as it went, by its journal",
+        arguments: &[PLAN, DRAWN_JOURNAL, PICTURED_DAY, DAY_ZONE],
     },
 ];
 
@@ -115,6 +118,8 @@ static DAY_COMMANDS: [Words; 7] = [
             SERVED_DAY,
             DAY_ZONE,
             KEPT_JOURNAL,
+            OFFICE,
+            OFFICE_PORT,
             PACE,
             TURNS,
             RECORDS,

@@ -5,9 +5,9 @@ use crate::command_line::program_of_words;
 use crate::faults::FAULTS;
 use crate::line_ports::ports_in;
 use bx_request::{
-    AuditRequest, Call, CaptureWords, DayHours, FarLineRequest, FarRequest, FileRequest, LinePorts,
-    LiveRequest, Peer, Place, RecordsRequest, RecordsWords, RehearsalRequest, Request, Sight,
-    SoldRequest, Terms,
+    AuditRequest, Call, CaptureWords, DayChartRequest, DayHours, FarLineRequest, FarRequest,
+    FileRequest, LinePorts, LiveRequest, Peer, Place, RecordsRequest, RecordsWords,
+    RehearsalRequest, Request, Sight, SoldRequest, Terms,
 };
 use clap::error::ErrorKind;
 use clap::{ArgMatches, Error};
@@ -216,6 +216,21 @@ fn line_of(alloc: Global, text: &str) -> Result<LinePorts, Refusal> {
     }
 }
 
+/// Where the booking office is to listen that these words want, if they want one.
+fn office_of<'a>(alloc: Global, matches: &ArgMatches<'a>) -> Result<Option<Place<'a>>, Refusal> {
+    if let Some(port) = matches.get_one::<u16>("office-port") {
+        return Ok(Some(Place::Port(port)));
+    }
+    match matches.get_str("office") {
+        Some("") => Err(wrong(
+            alloc,
+            "invalid value '' for '--office <PATH>': no path is empty",
+        )),
+        Some(path) => Ok(Some(Place::Socket(path))),
+        None => Ok(None),
+    }
+}
+
 /// The day that these words want to be run by the clock.
 fn live_request<'a>(alloc: Global, matches: &ArgMatches<'a>) -> Result<LiveRequest<'a>, Refusal> {
     if matches.get_str("capture").is_some() || matches.get_str("records").is_some() {
@@ -229,6 +244,7 @@ fn live_request<'a>(alloc: Global, matches: &ArgMatches<'a>) -> Result<LiveReque
         line: line_of(alloc, word(matches, "line"))?,
         hours: hours_of(matches),
         journal: matches.get_str("journal"),
+        office: office_of(alloc, matches)?,
         turns: matches.get_one::<u32>("turns"),
         is_quiet: matches.get_flag("quiet"),
     })
@@ -329,6 +345,16 @@ fn sold_request<'a>(matches: &ArgMatches<'a>) -> SoldRequest<'a> {
     }
 }
 
+/// The picture that these words want of a day by its journal, where they name one.
+fn day_chart_request<'a>(matches: &ArgMatches<'a>) -> Option<Request<'a>> {
+    let journal = matches.get_str("journal")?;
+    Some(Request::DayChart(DayChartRequest {
+        plan: word(matches, "plan"),
+        journal,
+        day: day_of(matches),
+    }))
+}
+
 /// The command on a plan's day that has this name and these words, where it is one.
 fn request_for_day<'a>(
     alloc: Global,
@@ -342,6 +368,7 @@ fn request_for_day<'a>(
         "audit" => Ok(Some(Request::Audit(audit_request(matches)))),
         "records" => Ok(Some(Request::Records(records_request(matches)))),
         "sold" => Ok(Some(Request::Sold(sold_request(matches)))),
+        "chart" => Ok(day_chart_request(matches)),
         _ => Ok(None),
     }
 }

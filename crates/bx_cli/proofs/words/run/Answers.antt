@@ -2,7 +2,7 @@ use Rattle.std.proofs.Common.{subst, sym}
 use Rattle.bx_cli.specs.Statuses.{IsRequestDone, IsRequestRefused}
 use Rattle.bx_devices.specs.Devices.{writing_of}
 use Rattle.bx_devices.specs.Watching.{device_of}
-use Rattle.bx_cli.proofs.Standard.{done_at, refused_at, is_done, is_refused, are_recorded, are_unrecorded, is_sold, is_unsold}
+use Rattle.bx_cli.proofs.Standard.{done_at, refused_at, is_done, is_refused, are_recorded, are_unrecorded, is_sold, is_unsold, is_charted, is_uncharted}
 use Rattle.bx_request.specs.declared.request.Request.{Request}
 use Rattle.bx_cli.proofs.words.run.Goals as goal
 
@@ -95,3 +95,13 @@ pub returns-in-Sold-clause-refused : goal.returns-in-Sold-clause-refused
 returns-in-Sold-clause-refused g c some =
     subst (λ (r : Request). IsRequestRefused g.row.H.Denot (g.R.Read.remaining (device_of c.args.input.now)) r g.H.File.Write.contents g.W.Write.contents c.args.output.now c.sold_files.new.output) (sym c.in-Sold.is)
     (is_unsold _ _ _ c.in-Sold.request g.W.Write.contents c.args.output.now c.sold_files.new.output c.sold_files.result c.status_of-in-Sold.result c.new-inputs.ensures c.status_of-in-Sold.ensures.done c.sold_files.ensures.refused some)
+
+pub returns-in-DayChart-clause-done : goal.returns-in-DayChart-clause-done
+returns-in-DayChart-clause-done g c zero =
+    subst (λ (r : Request). IsRequestDone g.row.H.Denot (g.R.Read.remaining (device_of c.args.input.now)) r g.H.File.Write.contents g.W.Write.contents c.args.output.now c.chart_day_files.new.output) (sym c.in-DayChart.is)
+    (is_charted _ _ _ c.in-DayChart.request (writing_of g.W.Write.contents c.args.output.now c.chart_day_files.new.output) c.chart_day_files.result c.status_of-in-DayChart.result c.new-inputs.ensures c.status_of-in-DayChart.ensures.done c.chart_day_files.ensures.done zero)
+
+pub returns-in-DayChart-clause-refused : goal.returns-in-DayChart-clause-refused
+returns-in-DayChart-clause-refused g c some =
+    subst (λ (r : Request). IsRequestRefused g.row.H.Denot (g.R.Read.remaining (device_of c.args.input.now)) r g.H.File.Write.contents g.W.Write.contents c.args.output.now c.chart_day_files.new.output) (sym c.in-DayChart.is)
+    (is_uncharted _ _ _ c.in-DayChart.request g.W.Write.contents c.args.output.now c.chart_day_files.new.output c.chart_day_files.result c.status_of-in-DayChart.result c.new-inputs.ensures c.status_of-in-DayChart.ensures.done c.chart_day_files.ensures.refused some)

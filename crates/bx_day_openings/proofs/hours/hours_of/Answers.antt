@@ -20,11 +20,9 @@ returns-in_err-first-clause-refused c =
 
 pub returns-clause-hours : goal.returns-clause-hours
 returns-clause-hours c = record {
-  day = c.in-Ok.day;
   is_day = c.in-Ok.ensures.day;
   first = c.in_ok-first.ensures.first;
   pace = search (c.max-pace.ensures);
-  length = c.length.ensures.value;
   scheduled_first = search (c.new-2.ensures.first, c.from.ensures);
   scheduled_pace = c.new-2.ensures.pace;
 }

@@ -10,7 +10,13 @@ returns-in_err-socket-clause-stopped g c =
     let there : IsAtHand c.args.request = record { hours = c.in_ok-hours.hours; are_hours = c.in_ok-hours.ensures.hours; opened = c.in_ok-opening.opening.exchange; channels = c.in_ok-opening.opening.channels; digest = c.in_ok-opening.opening.digest; opens = c.in_ok-opening.ensures.opened } in
     rw (p.1, p.2) (inr (inr (inl (there, c.in_err-socket.ensures))))
 
+pub returns-in_err-premises-clause-stopped : goal.returns-in_err-premises-clause-stopped
+returns-in_err-premises-clause-stopped g c =
+    let p = err_from_is_err_and c.from_residual-in_err-premises.result c.from_residual-in_err-premises.ensures.1 in
+    let there : IsAtHand c.args.request = record { hours = c.in_ok-hours.hours; are_hours = c.in_ok-hours.ensures.hours; opened = c.in_ok-opening.opening.exchange; channels = c.in_ok-opening.opening.channels; digest = c.in_ok-opening.opening.digest; opens = c.in_ok-opening.ensures.opened } in
+    rw (p.1, p.2) (inr (inr (inr (inl (there, c.in_err-premises.ensures.wanted, c.in_err-premises.ensures.refused)))))
+
 pub returns-clause-stopped : goal.returns-clause-stopped
 returns-clause-stopped g c =
     let there : IsAtHand c.args.request = record { hours = c.in_ok-hours.hours; are_hours = c.in_ok-hours.ensures.hours; opened = c.in_ok-opening.opening.exchange; channels = c.in_ok-opening.opening.channels; digest = c.in_ok-opening.opening.digest; opens = c.in_ok-opening.ensures.opened } in
-    if_err c.run_on_socket.result _ _ (λ fault why. inr (inr (inr (there, why c.in_ok-hours.ensures.hours c.in_ok-opening.ensures.opened)))) c.run_on_socket.ensures.stopped
+    if_err c.run_on_socket.result _ _ (λ fault why. inr (inr (inr (inr (there, why c.in_ok-hours.ensures.hours c.in_ok-opening.ensures.opened c.in_ok-premises.ensures.opened))))) c.run_on_socket.ensures.stopped
