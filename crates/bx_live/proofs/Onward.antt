@@ -39,7 +39,7 @@ recorded_on (Read room answer ∷ xs) ys = recorded_on xs ys
 recorded_on (Took message ∷ xs) ys = recorded_on xs ys
 recorded_on (EndedDay ∷ xs) ys = recorded_on xs ys
 
-filed_on : (xs ys : List Act) (f : Filed) → filed_by (xs ++ ys) f ≡ filed_by ys (filed_by xs f)
+pub filed_on : (xs ys : List Act) (f : Filed) → filed_by (xs ++ ys) f ≡ filed_by ys (filed_by xs f)
 filed_on [] ys f = refl
 filed_on (Began second begin ∷ xs) ys f = filed_on xs ys f
 filed_on (Dropped loss ∷ xs) ys f = filed_on xs ys f

@@ -3,6 +3,7 @@ pub mod Through
 pub mod Batches
 pub mod Seconds
 pub mod Records
+mod WrittenEvents
 pub mod LastPlan
 mod Totals
 mod Eligible

@@ -96,10 +96,10 @@ ended_links : (d : Day) (done : Bool) → Links (Closing d) (Synced done)
 ended_links d true = tt
 ended_links d false = tt
 
-links : (p : Place) (act : Act) → IsDue p act → Links p act
+pub links : (p : Place) (act : Act) → IsDue p act → Links p act
 links = by_due Links begun_links recorded_links received_links took_links synced_links wrote_links heard_links lost_links closed_links ended_links (λ d. tt)
 
-no_sale : (p : Place) (line : List ℕ) (done : Bool) → IsLinkPlace p → IsDue p (Recorded (Sold line) done) → ⊥
+pub no_sale : (p : Place) (line : List ℕ) (done : Bool) → IsLinkPlace p → IsDue p (Recorded (Sold line) done) → ⊥
 no_sale (Recording d room event) line done link due = subst (λ (e : LiveEvent). IsLinkPlace (Recording d room e)) (sym due) link
 no_sale (Between d) line done link due = due
 no_sale (Receiving d room owed octets) line done link due = cc
@@ -138,9 +138,9 @@ module _ (channels : List Bool) where
   IsLinkStand (Filing shown d batch sold) = Unit {0}
   IsLinkStand (Telling shown d batch sold) = Unit {0}
 
-  record Keeps (from : Stand) (deal : Deal) (to : Stand) : Type 0 where
-    links : IsLinkStand to
-    through : Through (recorded (acts_of (deal ∷ []))) (stand_day from) (stand_day to)
+  pub record Keeps (from : Stand) (deal : Deal) (to : Stand) : Type 0 where
+    pub links : IsLinkStand to
+    pub through : Through (recorded (acts_of (deal ∷ []))) (stand_day from) (stand_day to)
 
   quiet : (from to named : Stand) (deal : Deal) → recorded (acts_of (deal ∷ [])) ≡ [] → to ≡ named → IsLinkStand named → stand_day named ≡ stand_day from → Keeps from deal to
   quiet from to named deal none e link same = record {
@@ -148,7 +148,7 @@ module _ (channels : List Bool) where
     through = subst (λ (es : List LiveEvent). Through es (stand_day from) (stand_day to)) (sym none) (ap stand_day e ∙ same);
   }
 
-  keeps : (from to : Stand) (deal : Deal) → IsLinkStand from → Goes channels from deal to → Keeps from deal to
+  pub keeps : (from to : Stand) (deal : Deal) → IsLinkStand from → Goes channels from deal to → Keeps from deal to
   keeps (Within p) to (Ran act) link (due, e) = record {
     links = subst IsLinkStand (sym e) (links p act due);
     through = subst (λ (s : Stand). Through (recorded (act ∷ [])) (day_at p) (stand_day s)) (sym e) (act_through p act link due);

@@ -3,21 +3,22 @@ use Rattle.std.specs.Prelude.{◌≡◌, ◌⊎◌, ◌<◌, ℕ, Bool, true, fa
 use Rattle.bx_base.specs.Bookings.{Row, AreBookings, Carries}
 use Rattle.bx_base.specs.Plans.{is_accepted, channel_at}
 use Rattle.bx_colour.specs.Colouring.{IsFirstFit}
+use Rattle.bx_day.specs.Course.{exchange_sent, exchange_text}
 use Rattle.bx_day.specs.Day.{Day, opening}
 use Rattle.bx_day.specs.Outages.{live_day_after}
-use Rattle.bx_events.specs.Events.{LiveEvent}
-use Rattle.bx_live.specs.Acts.{recorded}
-use Rattle.bx_live.specs.Written.{filed}
+use Rattle.bx_events.specs.Events.{Event, LiveEvent, OnLink}
+use Rattle.bx_live.specs.Acts.{Act, Wrote, recorded}
+use Rattle.bx_live.specs.Written.{filed, AreHeard}
 use Rattle.bx_live.specs.Runs.{Between}
 use Rattle.bx_planfile.specs.OneBooking.{row_on}
-use Rattle.bx_sales.specs.Journal.{sold_in}
+use Rattle.bx_sales.specs.Journal.{RunsThrough, sold_in}
 use Rattle.bx_sales.specs.Sold.{IsFirstFitDay}
 use Rattle.bx_sales.specs.declared.selling.NoSale.TheVariants.{Memory, OtherChannels}
 use Rattle.bx_market.specs.declared.market.Answer.{Answer}
 use Rattle.bx_market.specs.declared.market.Answer.TheVariants.{Accepted, Refused}
 use Rattle.bx_market.specs.Answers.{answer_at, AreTold}
 use Rattle.bx_market.specs.Choices.{IsBestChoice}
-use Rattle.bx_market.specs.Deals.{Deal, Asked, Answered, acts_of, sold_of}
+use Rattle.bx_market.specs.Deals.{Deal, Ran, Asked, Answered, acts_of, sold_of}
 use Rattle.bx_market.specs.Stands.{Stand, Within, IsMarketRun, stand_day}
 
 -- what a customer is told behind these deals is on record: since the batch was asked for, just those of its bookings were recorded as
@@ -73,3 +74,20 @@ IsDayOfTheLastPlan = (channels : List Bool) (rows : List Row) (accepted : List B
     (last : List (Option ℕ)) →
     IsFirstFit (rows ++ sold_in row_on (recorded (acts_of deals))) channels (accepted ++ map (λ (row : Row). true) (sold_in row_on (recorded (acts_of deals)))) last →
     stand_day to ≡ live_day_after (earlier ++ recorded (acts_of deals)) (opening (rows ++ sold_in row_on (recorded (acts_of deals))) last)
+
+-- Octets that are written after these acts: they are those of an event that is logged, on the day that went through what was logged before it. No second has
+-- begun and nothing was sold since, and where messages are among them all that is logged is on the disk
+pub record IsWrittenForEvent (channels : List Bool) (d : Day) (acts : List Act) (octets : List ℕ) : Type 0 where
+  pub earlier : List LiveEvent
+  pub event : Event
+  pub later : List LiveEvent
+  pub logged : recorded acts ≡ earlier ++ OnLink event ∷ later
+  pub day : Day
+  pub through : RunsThrough channels row_on earlier d day
+  pub heard : AreHeard later
+  pub text : octets ≡ exchange_text day event
+  pub synced : (exchange_sent day event ≡ []) ⊎ ((filed acts).more ≡ [])
+
+abbrev pub IsAllWrittenForEvents : Type 0
+IsAllWrittenForEvents = (channels : List Bool) (d : Day) (before after : List Deal) (octets : List ℕ) (done : Bool) (to : Stand) →
+    IsMarketRun channels (Within (Between d)) (before ++ Ran (Wrote octets done) ∷ after) to → IsWrittenForEvent channels d (acts_of before) octets

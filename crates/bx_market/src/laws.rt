@@ -1,6 +1,6 @@
 //! What holds of every run with sales.
 
-ghost use Rattle.bx_market.specs.Told.{IsNothingOffRecord, IsBestOfEachBatch, IsNeverOfOtherChannels, IsDayOfTheLastPlan};
+ghost use Rattle.bx_market.specs.Told.{IsNothingOffRecord, IsBestOfEachBatch, IsNeverOfOtherChannels, IsDayOfTheLastPlan, IsAllWrittenForEvents};
 
 /// Nothing is sold off the record: what a customer is told was put on record since the batch was asked for, neither more nor less,
 /// and is on the disk.
@@ -25,4 +25,11 @@ pub fn no_other_channels()
 /// rows by then.
 pub fn day_of_the_last_plan()
     ensures { IsDayOfTheLastPlan }
+{}
+
+/// Whatever is written to a peer is what the exchange sends for an event that is logged, on the day that went through just the events and
+/// sales that were logged before it. After it only messages that came are logged; where messages are sent for it, all that is logged is on
+/// the disk by then.
+pub fn written_on_record()
+    ensures { IsAllWrittenForEvents }
 {}

@@ -1,0 +1,231 @@
+-- Whatever is written in a run with sales belongs to an event that is logged.
+use Rattle.std.proofs.Common.{◌≡◌, ◌⊎◌, inl, inr, Bool, true, false, ℕ, List, [], ◌∷◌, ◌++◌, Some, None, refl, sym, ap, ◌∙◌, subst, append_assoc}
+use Rattle.std.proofs.lemmas.List.{append-nil}
+use Rattle.bx_day.specs.Day.{Day}
+use Rattle.bx_day.specs.Outages.{live_happens, live_day_after}
+use Rattle.bx_events.specs.Events.{LiveEvent, OnLink, WithoutLink, Sold}
+use Rattle.bx_live.specs.Acts.{Act, Began, Dropped, Recorded, Synced, Wrote, Read, Took, EndedDay, recorded}
+use Rattle.bx_live.specs.Runs.{Place, Between, Recording, Receiving, Taking, Owing, Hearing, Losing, Over, Closing, Ending, Done, IsDue, IsRun, next}
+use Rattle.bx_live.specs.Written.{Filed, filed, filed_by, IsWrittenFor}
+use Rattle.bx_live.proofs.Onward.{filed_on, recorded_on, written_law}
+use Rattle.bx_live.proofs.Steps as live
+use Rattle.bx_planfile.specs.OneBooking.{row_on}
+use Rattle.bx_sales.specs.Journal.{RunsThrough}
+use Rattle.bx_sales.proofs.Journal.{through_more}
+use Rattle.bx_market.specs.Deals.{Deal, Ran, Asked, Answered, acts_of}
+use Rattle.bx_market.specs.Stands.{Stand, Within, Filing, Telling, Goes, IsMarketRun, stand_day}
+use Rattle.bx_market.specs.Told.{IsWrittenForEvent}
+use Rattle.bx_market.proofs.Steps.{acts_more}
+use Rattle.bx_market.proofs.Through.{IsLinkPlace, IsLinkStand, Through, keeps, links, no_sale}
+
+-- ---- the run by the clock logs no sale
+
+abbrev AreUnsold : List LiveEvent → Type 0
+AreUnsold [] = Unit {0}
+AreUnsold (Sold line ∷ events) = ⊥
+AreUnsold (OnLink event ∷ events) = AreUnsold events
+AreUnsold (WithoutLink ∷ events) = AreUnsold events
+
+one_unsold : (p : Place) (act : Act) (acts : List Act) → IsLinkPlace p → IsDue p act → AreUnsold (recorded acts) → AreUnsold (recorded (act ∷ acts))
+one_unsold p (Recorded (Sold line) true) acts link due rest = no_sale p line true link due
+one_unsold p (Recorded (OnLink event) true) acts link due rest = rest
+one_unsold p (Recorded WithoutLink true) acts link due rest = rest
+one_unsold p (Recorded event false) acts link due rest = rest
+one_unsold p (Began second begin) acts link due rest = rest
+one_unsold p (Dropped loss) acts link due rest = rest
+one_unsold p (Synced done) acts link due rest = rest
+one_unsold p (Wrote octets done) acts link due rest = rest
+one_unsold p (Read room answer) acts link due rest = rest
+one_unsold p (Took message) acts link due rest = rest
+one_unsold p EndedDay acts link due rest = rest
+
+all_unsold : (p q : Place) (acts : List Act) → IsLinkPlace p → IsRun p acts q → AreUnsold (recorded acts)
+all_unsold p q [] link e = tt
+all_unsold p q (act ∷ acts) link (due, goes) = one_unsold p act acts link due (all_unsold (next p act) q acts (links p act due) goes)
+
+first_unsold : (xs ys : List LiveEvent) → AreUnsold (xs ++ ys) → AreUnsold xs
+first_unsold [] ys are = tt
+first_unsold (Sold line ∷ xs) ys are = are
+first_unsold (OnLink event ∷ xs) ys are = first_unsold xs ys are
+first_unsold (WithoutLink ∷ xs) ys are = first_unsold xs ys are
+
+-- so it goes through them as a day without sales does
+unsold_through : (channels : List Bool) (events : List LiveEvent) (d : Day) → AreUnsold events → RunsThrough channels row_on events d (live_day_after events d)
+unsold_through channels [] d are = refl
+unsold_through channels (Sold line ∷ events) d are = absurd are
+unsold_through channels (OnLink event ∷ events) d are = unsold_through channels events (live_happens d (OnLink event)).day are
+unsold_through channels (WithoutLink ∷ events) d are = unsold_through channels events (live_happens d WithoutLink).day are
+
+-- ---- what is on the disk after some acts, whatever was logged before them
+
+same_unsynced : (acts : List Act) (f g : Filed) → f.more ≡ g.more → (filed_by acts f).more ≡ (filed_by acts g).more
+same_unsynced [] f g e = e
+same_unsynced (Began second begin ∷ acts) f g e = same_unsynced acts f g e
+same_unsynced (Dropped loss ∷ acts) f g e = same_unsynced acts f g e
+same_unsynced (Recorded event true ∷ acts) f g e = same_unsynced acts (record { disk = f.disk; more = f.more ++ event ∷ [] }) (record { disk = g.disk; more = g.more ++ event ∷ [] }) (ap (λ (es : List LiveEvent). es ++ event ∷ []) e)
+same_unsynced (Recorded event false ∷ acts) f g e = same_unsynced acts f g e
+same_unsynced (Synced true ∷ acts) f g e = same_unsynced acts (record { disk = f.disk ++ f.more; more = [] }) (record { disk = g.disk ++ g.more; more = [] }) refl
+same_unsynced (Synced false ∷ acts) f g e = same_unsynced acts f g e
+same_unsynced (Wrote octets done ∷ acts) f g e = same_unsynced acts f g e
+same_unsynced (Read room answer ∷ acts) f g e = same_unsynced acts f g e
+same_unsynced (Took message ∷ acts) f g e = same_unsynced acts f g e
+same_unsynced (EndedDay ∷ acts) f g e = same_unsynced acts f g e
+
+-- where some events were logged that are on the disk, so is all that was logged before them
+all_on_disk : (acts : List Act) (f g : Filed) → ¬ (f.more ++ recorded acts ≡ []) → (filed_by acts f).more ≡ [] → (filed_by acts g).more ≡ []
+all_on_disk [] f g some none = absurd (some (append-nil f.more ∙ none))
+all_on_disk (Began second begin ∷ acts) f g some none = all_on_disk acts f g some none
+all_on_disk (Dropped loss ∷ acts) f g some none = all_on_disk acts f g some none
+all_on_disk (Recorded event true ∷ acts) f g some none =
+    all_on_disk acts (record { disk = f.disk; more = f.more ++ event ∷ [] }) (record { disk = g.disk; more = g.more ++ event ∷ [] })
+    (λ e. some (sym (append_assoc f.more (event ∷ []) (recorded acts)) ∙ e)) none
+all_on_disk (Recorded event false ∷ acts) f g some none = all_on_disk acts f g some none
+all_on_disk (Synced true ∷ acts) f g some none = same_unsynced acts (record { disk = g.disk ++ g.more; more = [] }) (record { disk = f.disk ++ f.more; more = [] }) refl ∙ none
+all_on_disk (Synced false ∷ acts) f g some none = all_on_disk acts f g some none
+all_on_disk (Wrote octets done ∷ acts) f g some none = all_on_disk acts f g some none
+all_on_disk (Read room answer ∷ acts) f g some none = all_on_disk acts f g some none
+all_on_disk (Took message ∷ acts) f g some none = all_on_disk acts f g some none
+all_on_disk (EndedDay ∷ acts) f g some none = all_on_disk acts f g some none
+
+some_logged : (xs ys : List LiveEvent) (event : LiveEvent) → ¬ (xs ++ event ∷ ys ≡ [])
+some_logged [] ys event = λ e. cc
+some_logged (x ∷ xs) ys event = λ e. cc
+
+-- ---- a run with sales
+
+abbrev nothing_filed : Filed
+nothing_filed = record { disk = []; more = [] }
+
+module _ (channels : List Bool) (d : Day) where
+  -- the run by the clock has come here since it stood between two seconds
+  record IsRunSince (acts : List Act) (p : Place) : Type 0 where
+    before : List Act
+    since : List Act
+    start : Day
+    are : acts ≡ before ++ since
+    through : Through channels (recorded before) d start
+    goes : IsRun (Between start) since p
+
+  -- nothing is written any more once something could not be logged
+  abbrev HasRunSince : List Act → Stand → Type 0
+  HasRunSince acts (Within p) = IsRunSince acts p ⊎ ((over : Day) × (p ≡ Over over))
+  HasRunSince acts (Filing shown day batch sold) = Unit {0}
+  HasRunSince acts (Telling shown day batch sold) = Unit {0}
+
+  record StandsThere (acts : List Act) (from : Stand) : Type 0 where
+    link : IsLinkStand channels from
+    through : Through channels (recorded acts) d (stand_day from)
+    since : HasRunSince acts from
+
+  named : (acts : List Act) (to other : Stand) → to ≡ other → HasRunSince acts other → HasRunSince acts to
+  named acts to other e s = subst (HasRunSince acts) (sym e) s
+
+  same_acts : (acts : List Act) (s : Stand) → HasRunSince acts s → HasRunSince (acts ++ []) s
+  same_acts acts s h = subst (λ (l : List Act). HasRunSince l s) (sym (append-nil acts)) h
+
+  -- it begins anew between two seconds
+  begins_anew : (acts : List Act) (day : Day) → Through channels (recorded acts) d day → IsRunSince (acts ++ []) (Between day)
+  begins_anew acts day through = record { before = acts; since = []; start = day; are = refl; through = through; goes = refl }
+
+  none_due : (p : Place) (act : Act) (over : Day) → p ≡ Over over → IsDue p act → ⊥
+  none_due p act over e due = subst (λ (x : Place). IsDue x act) e due
+
+  one_act : (acts : List Act) (p : Place) (act : Act) → HasRunSince acts (Within p) → IsDue p act → HasRunSince (acts ++ act ∷ []) (Within (next p act))
+  one_act acts p act (inr (over, e)) due = absurd (none_due p act over e due)
+  one_act acts p act (inl s) due = inl (record {
+    before = s.before;
+    since = s.since ++ act ∷ [];
+    start = s.start;
+    are = ap (λ (l : List Act). l ++ act ∷ []) s.are ∙ append_assoc s.before s.since (act ∷ []);
+    through = s.through;
+    goes = live.run_more (Between s.start) p (next p act) s.since (act ∷ []) s.goes (due, refl);
+  })
+
+  since_there : (acts : List Act) (from to : Stand) (deal : Deal) → StandsThere acts from → Goes channels from deal to → HasRunSince (acts ++ acts_of (deal ∷ [])) to
+  since_there acts (Within p) to (Ran act) s (due, e) = named _ to _ e (one_act acts p act s.since due)
+  since_there acts (Within (Between day)) to (Asked shown None) s (at, e) = named _ to (Within (Between day)) e (same_acts acts (Within (Between day)) s.since)
+  since_there acts (Within (Between day)) to (Asked shown (Some batch)) s (at, e) = named _ to (Filing day day batch []) e tt
+  since_there acts (Within (Recording day room event)) to (Asked shown batch) s e = absurd e
+  since_there acts (Within (Receiving day room owed octets)) to (Asked shown batch) s e = absurd e
+  since_there acts (Within (Taking day room owed)) to (Asked shown batch) s e = absurd e
+  since_there acts (Within (Owing day room unsynced texts)) to (Asked shown batch) s e = absurd e
+  since_there acts (Within (Hearing day room)) to (Asked shown batch) s e = absurd e
+  since_there acts (Within (Losing day loss)) to (Asked shown batch) s e = absurd e
+  since_there acts (Within (Over day)) to (Asked shown batch) s e = absurd e
+  since_there acts (Within (Closing day)) to (Asked shown batch) s e = absurd e
+  since_there acts (Within (Ending day)) to (Asked shown batch) s e = absurd e
+  since_there acts (Within (Done day)) to (Asked shown batch) s e = absurd e
+  since_there acts (Within p) to (Answered answers) s e = absurd e
+  since_there acts (Filing shown day batch sold) to (Ran (Recorded (Sold line) true)) s (d1, is, e) = named _ to (Filing shown d1 batch (sold ++ row_on line ∷ [])) e tt
+  since_there acts (Filing shown day batch sold) to (Ran (Recorded (Sold line) false)) s e = named _ to (Within (Over day)) e (inr (day, refl))
+  since_there acts (Filing shown day batch sold) to (Ran (Recorded (OnLink event) done)) s e = absurd e
+  since_there acts (Filing shown day batch sold) to (Ran (Recorded WithoutLink done)) s e = absurd e
+  since_there acts (Filing shown day batch sold) to (Ran (Synced true)) s e = named _ to (Telling shown day batch sold) e tt
+  since_there acts (Filing shown day batch sold) to (Ran (Synced false)) s e = named _ to (Within (Over day)) e (inr (day, refl))
+  since_there acts (Filing shown day batch sold) to (Ran (Began second begin)) s e = absurd e
+  since_there acts (Filing shown day batch sold) to (Ran (Dropped loss)) s e = absurd e
+  since_there acts (Filing shown day batch sold) to (Ran (Wrote octets done)) s e = absurd e
+  since_there acts (Filing shown day batch sold) to (Ran (Read room answer)) s e = absurd e
+  since_there acts (Filing shown day batch sold) to (Ran (Took message)) s e = absurd e
+  since_there acts (Filing shown day batch sold) to (Ran EndedDay) s e = absurd e
+  since_there acts (Filing shown day batch sold) to (Asked other asked) s e = absurd e
+  since_there acts (Filing shown day batch sold) to (Answered answers) s (none, are, told, e) = named _ to (Within (Between day)) e (inl (begins_anew acts day s.through))
+  since_there acts (Telling shown day batch sold) to (Ran act) s e = absurd e
+  since_there acts (Telling shown day batch sold) to (Asked other asked) s e = absurd e
+  since_there acts (Telling shown day batch sold) to (Answered answers) s (are, told, e) = named _ to (Within (Between day)) e (inl (begins_anew acts day s.through))
+
+  stands_there : (acts : List Act) (from to : Stand) (deal : Deal) → StandsThere acts from → Goes channels from deal to → StandsThere (acts ++ acts_of (deal ∷ [])) to
+  stands_there acts from to deal s goes =
+      let k = keeps channels from to deal s.link goes in
+      record {
+        link = k.links;
+        through = subst (λ (es : List LiveEvent). Through channels es d (stand_day to)) (sym (recorded_on acts (acts_of (deal ∷ []))))
+            (through_more channels row_on (recorded acts) (recorded (acts_of (deal ∷ []))) d (stand_day from) (stand_day to) s.through k.through);
+        since = since_there acts from to deal s goes;
+      }
+
+  -- ---- what is written
+
+  written_since : (acts : List Act) (p : Place) (octets : List ℕ) (s : IsRunSince acts p) → IsWrittenFor s.start s.since octets → IsWrittenForEvent channels d acts octets
+  written_since acts p octets s w =
+      let events : recorded acts ≡ recorded s.before ++ recorded s.since = ap recorded s.are ∙ recorded_on s.before s.since in
+      let unsold : AreUnsold w.earlier = first_unsold w.earlier (OnLink w.event ∷ w.later) (subst AreUnsold w.on_record (all_unsold (Between s.start) p s.since tt s.goes)) in
+      record {
+        earlier = recorded s.before ++ w.earlier;
+        event = w.event;
+        later = w.later;
+        logged = events ∙ (ap (λ (es : List LiveEvent). recorded s.before ++ es) w.on_record ∙ sym (append_assoc (recorded s.before) w.earlier (OnLink w.event ∷ w.later)));
+        day = live_day_after w.earlier s.start;
+        through = through_more channels row_on (recorded s.before) w.earlier d s.start (live_day_after w.earlier s.start) s.through (unsold_through channels w.earlier s.start unsold);
+        heard = w.heard;
+        text = w.text;
+        synced = on_disk w.synced;
+      } where
+        on_disk : {A : Type 0} → A ⊎ ((filed s.since).more ≡ []) → A ⊎ ((filed acts).more ≡ [])
+        on_disk (inl none) = inl none
+        on_disk (inr none) =
+            let some : ¬ (recorded s.since ≡ []) = λ e. some_logged w.earlier w.later (OnLink w.event) (sym w.on_record ∙ e) in
+            let rest = all_on_disk s.since nothing_filed (filed_by s.before nothing_filed) some none in
+            inr (ap (λ (l : List Act). (filed l).more) s.are ∙ (ap (λ (f : Filed). f.more) (filed_on s.before s.since nothing_filed) ∙ rest))
+
+  written_there : (acts : List Act) (from to : Stand) (octets : List ℕ) (done : Bool) → StandsThere acts from → Goes channels from (Ran (Wrote octets done)) to → IsWrittenForEvent channels d acts octets
+  written_there acts (Within p) to octets done s (due, e) = at_place s.since where
+    at_place : HasRunSince acts (Within p) → IsWrittenForEvent channels d acts octets
+    at_place (inr (over, is)) = absurd (none_due p (Wrote octets done) over is due)
+    at_place (inl r) =
+        let act = Wrote octets done in
+        written_since acts p octets r (written_law r.start r.since [] octets done (next p act) (live.run_more (Between r.start) p (next p act) r.since (act ∷ []) r.goes (due, refl)))
+  written_there acts (Filing shown day batch sold) to octets done s e = absurd e
+  written_there acts (Telling shown day batch sold) to octets done s e = absurd e
+
+  written_after : (acts : List Act) (before after : List Deal) (octets : List ℕ) (done : Bool) (from to : Stand) → StandsThere acts from → IsMarketRun channels from (before ++ Ran (Wrote octets done) ∷ after) to → IsWrittenForEvent channels d (acts ++ acts_of before) octets
+  written_after acts [] after octets done from to s (mid, goes, rest) = subst (λ (l : List Act). IsWrittenForEvent channels d l octets) (sym (append-nil acts)) (written_there acts from mid octets done s goes)
+  written_after acts (deal ∷ before) after octets done from to s (mid, goes, rest) =
+      let same : (acts ++ acts_of (deal ∷ [])) ++ acts_of before ≡ acts ++ acts_of (deal ∷ before) =
+      append_assoc acts (acts_of (deal ∷ [])) (acts_of before) ∙ ap (λ (l : List Act). acts ++ l) (sym (acts_more (deal ∷ []) before)) in
+      subst (λ (l : List Act). IsWrittenForEvent channels d l octets) same (written_after (acts ++ acts_of (deal ∷ [])) before after octets done mid to (stands_there acts from mid deal s goes) rest)
+
+pub written_in_run : (channels : List Bool) (d : Day) (before after : List Deal) (octets : List ℕ) (done : Bool) (to : Stand) → IsMarketRun channels (Within (Between d)) (before ++ Ran (Wrote octets done) ∷ after) to → IsWrittenForEvent channels d (acts_of before) octets
+written_in_run channels d before after octets done to run =
+    written_after channels d [] before after octets done (Within (Between d)) to
+    (record { link = tt; through = refl; since = inl (record { before = []; since = []; start = d; are = refl; through = refl; goes = refl }) }) run
