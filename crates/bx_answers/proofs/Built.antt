@@ -1,5 +1,5 @@
 -- The figures of a day, as they are built.
-use Rattle.std.proofs.Common.{◌≡◌, ap, ◌∙◌, ℕ, List, [], ◌++◌, Result, OnOk, subst}
+use Rattle.std.proofs.Common.{◌≡◌, ap, ◌∙◌, ℕ, List, ◌++◌, Result, OnOk}
 use Rattle.bx_day.specs.Day.{Day}
 use Rattle.bx_day.specs.declared.entry.Entry.{Entry}
 use Rattle.bx_answers.specs.Metrics.{family_text, moment_head, bookings_text, pays_text, maintenance_text, day_text}

@@ -1,5 +1,5 @@
 -- What is answered of the day that runs.
-use Rattle.std.specs.Prelude.{◌≡◌, Bool, true, false, List, map, Option, if◌then◌else◌, ℕ}
+use Rattle.std.specs.Prelude.{◌≡◌, Bool, true, List, map, Option, if◌then◌else◌, ℕ}
 use Rattle.bx_base.specs.Bookings.{Row}
 use Rattle.bx_base.specs.PlanParts.{Parts, IsPlan}
 use Rattle.bx_calendar.specs.declared.clock.Clock.{Clock}
@@ -7,10 +7,11 @@ use Rattle.bx_day.specs.Invariant.{is_refused}
 use Rattle.bx_day.specs.declared.entry.Entry.{Entry}
 use Rattle.bx_planfile.specs.Text.{plan_text}
 use Rattle.bx_planfile.specs.declared.version.Version.TheVariants.{Three}
+use Rattle.bx_planner.specs.Musts.{IsTooManyMust}
 use Rattle.bx_planner.specs.Proved.{IsProved}
 use Rattle.bx_records.specs.Writing.{IsBeyond}
 use Rattle.bx_answers.specs.declared.fault.NoAnswer.{NoAnswer}
-use Rattle.bx_answers.specs.declared.fault.NoAnswer.TheVariants.{OutOfRange, Memory}
+use Rattle.bx_answers.specs.declared.fault.NoAnswer.TheVariants.{OutOfRange, TooManyMust, Memory}
 
 -- ---- the last plan
 
@@ -26,6 +27,12 @@ pub record IsPromisedPlan (entries : List Entry) (channels : List Bool) (plan : 
   pub proved : IsProved (promised entries) channels plan
   pub limits : IsPlan plan
   pub rows : plan.rows ≡ promised entries
+
+-- why there is none: the channels do not carry all that is promised, or memory runs out
+abbrev pub IsNoPromisedPlan : List Entry → List Bool → NoAnswer → Type 0
+IsNoPromisedPlan entries channels (TooManyMust moment) = IsTooManyMust (promised entries) channels moment
+IsNoPromisedPlan entries channels Memory = Unit {0}
+IsNoPromisedPlan entries channels _ = ⊥
 
 -- the text is that of such a plan
 abbrev pub IsPlanText : List Entry → List Bool → List ℕ → Type 0

@@ -1,5 +1,5 @@
 -- What a call would have to pay.
-use Rattle.std.specs.Prelude.{◌≡◌, ◌⊎◌, ◌<◌, ◌≤◌, ℕ, Bool, false, List, [], ◌∷◌, length, codes, Option, Some, None, if◌then◌else◌}
+use Rattle.std.specs.Prelude.{◌≡◌, ◌⊎◌, ◌<◌, ◌≤◌, ℕ, Bool, List, [], ◌∷◌, length, codes, Option, Some, None, if◌then◌else◌}
 use Rattle.std.specs.Str.{bytes_eq}
 use Rattle.form_urlencoded.specs.Form as form
 use Rattle.bx_base.specs.Bookings.{Row}
@@ -7,11 +7,11 @@ use Rattle.bx_base.specs.PlanParts.{Parts}
 use Rattle.bx_book.specs.Rows.{Span, IsMomentOf, IsTimeFault}
 use Rattle.bx_day.specs.declared.entry.Entry.{Entry}
 use Rattle.bx_quote.specs.declared.answer.Quote.{Quote}
-use Rattle.bx_quote.specs.Quotes.{IsQuote, asked}
+use Rattle.bx_quote.specs.Quotes.{IsQuote, IsNoQuote, asked}
 use Rattle.bx_quote.specs.Texts.{quote_text}
-use Rattle.bx_answers.specs.Answers.{IsPromisedPlan}
+use Rattle.bx_answers.specs.Answers.{IsPromisedPlan, IsNoPromisedPlan}
 use Rattle.bx_answers.specs.declared.fault.NoAnswer.{NoAnswer}
-use Rattle.bx_answers.specs.declared.fault.NoAnswer.TheVariants.{NoTimes, Book, Memory}
+use Rattle.bx_answers.specs.declared.fault.NoAnswer.TheVariants.{NoTimes, Book, Quote as NoQuoteOf, Memory}
 use Rattle.bx_book.specs.declared.fault.BookFault.TheVariants.{EndNotAfterStart}
 
 -- the value of the first field of this name
@@ -60,3 +60,8 @@ pub record IsQuoteText (entries : List Entry) (channels : List Bool) (call : Row
   pub quote : Quote
   pub is : IsQuote (asked plan.rows call) plan (length plan.rows) quote
   pub are : text ≡ quote_text quote
+
+-- why it says nothing: there is no last plan, or no quote beside it
+abbrev pub IsNoQuoteText : List Entry → List Bool → Row → NoAnswer → Type 0
+IsNoQuoteText entries channels call (NoQuoteOf why) = (plan : Parts) × IsPromisedPlan entries channels plan × IsNoQuote plan call why
+IsNoQuoteText entries channels call why = IsNoPromisedPlan entries channels why

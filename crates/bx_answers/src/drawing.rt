@@ -1,6 +1,6 @@
 //! The day that runs, as a picture.
 
-ghost use Rattle.std.specs.Prelude.{IfOk, option_copied};
+ghost use Rattle.std.specs.Prelude.{◌≡◌, IfOk, IfErr, option_copied};
 ghost use Rattle.bx_day_chart.specs.Charts.{IsDayChart};
 ghost use Rattle.bx_day_chart.specs.Sights.{sight_of};
 
@@ -20,7 +20,8 @@ pub fn chart_text(
     sight: &DaySight,
     clock: Option<&Clock>,
 ) -> Result<Vec<u8>, NoAnswer>
-    ensures { IfOk result (λ text. IsDayChart exchange.now channels (sight_of sight.now) (option_copied clock.entry) text.items) }
+    ensures text { IfOk result (λ text. IsDayChart exchange.now channels (sight_of sight.now) (option_copied clock.entry) text.items) }
+    ensures none { IfErr result (λ why. why ≡ NoAnswer.Memory) }
 {
     let mut text = Watched::new(Vec::new(alloc));
     match write_day_chart(alloc, exchange, channels, sight, clock, &mut text) {

@@ -1,6 +1,6 @@
 //! The figures of the day that runs, as OpenMetrics.
 
-ghost use Rattle.std.specs.Prelude.{◌≡◌, ◌++◌, ◌≤◌, length, replicate, codes, IfOk, OnOk};
+ghost use Rattle.std.specs.Prelude.{◌≡◌, ◌++◌, ◌≤◌, length, replicate, codes, IfOk, IfErr, OnOk};
 ghost use Rattle.bx_base.specs.declared.bookings.TheConstants.{MAX_BOOKINGS};
 ghost use Rattle.bx_records.specs.Totals.{how_many, pays_of};
 ghost use Rattle.bx_answers.specs.Tallies.{is_such};
@@ -277,7 +277,8 @@ pub fn metrics_text(
     exchange: &Exchange,
     figures: &Figures,
 ) -> Result<Vec<u8>, NoAnswer>
-    ensures { IfOk result (λ text. text.items ≡ metrics_text exchange.now figures.now) }
+    ensures text { IfOk result (λ text. text.items ≡ metrics_text exchange.now figures.now) }
+    ensures none { IfErr result (λ why. why ≡ NoAnswer.Memory) }
 {
     match text_of(alloc, exchange, figures) {
         Ok(text) => Ok(text),

@@ -1,10 +1,10 @@
 //! The plan of all that is promised.
 
-ghost use Rattle.std.specs.Prelude.{◌≡◌, IfOk};
+ghost use Rattle.std.specs.Prelude.{◌≡◌, IfOk, IfErr};
 ghost use Rattle.bx_base.specs.PlanParts.{parts_of};
 ghost use Rattle.bx_day.specs.Invariant.{is_refused};
 ghost use Rattle.bx_planner.specs.Proved.{IsProved};
-ghost use Rattle.bx_answers.specs.Answers.{promised_row, promised, IsPromisedPlan, IsPlanText};
+ghost use Rattle.bx_answers.specs.Answers.{promised_row, promised, IsPromisedPlan, IsNoPromisedPlan, IsPlanText};
 
 use crate::fault::NoAnswer;
 use bx_base::{Booking, Bookings, ChannelSet, Plan};
@@ -46,7 +46,8 @@ pub fn promised_plan(
     exchange: &Exchange,
     channels: ChannelSet,
 ) -> Result<Plan, NoAnswer>
-    ensures { IfOk result (λ p. IsPromisedPlan exchange.now.entries channels (parts_of p)) }
+    ensures plan { IfOk result (λ p. IsPromisedPlan exchange.now.entries channels (parts_of p)) }
+    ensures none { IfErr result (IsNoPromisedPlan exchange.now.entries channels) }
 {
     let Ok(rows) = promised(alloc, exchange.entries()) else {
         return Err(NoAnswer::Memory);
@@ -64,7 +65,8 @@ pub fn plan_text(
     exchange: &Exchange,
     channels: ChannelSet,
 ) -> Result<Vec<u8>, NoAnswer>
-    ensures { IfOk result (λ text. IsPlanText exchange.now.entries channels text.items) }
+    ensures text { IfOk result (λ text. IsPlanText exchange.now.entries channels text.items) }
+    ensures none { IfErr result (IsNoPromisedPlan exchange.now.entries channels) }
 {
     let plan = promised_plan(alloc, exchange, channels)?;
     let mut text = Watched::new(Vec::new(alloc));

@@ -4,7 +4,7 @@ ghost use Rattle.std.specs.Prelude.{◌≡◌, ◌≤◌, List, length, ℕ, Opt
 ghost use Rattle.form_urlencoded.specs.Form as form;
 ghost use Rattle.bx_book.specs.Rows.{span_of};
 ghost use Rattle.bx_base.specs.PlanParts.{parts_of};
-ghost use Rattle.bx_answers.specs.Quotes.{first_value, IsSecondOf, IsNoSecond, IsCallOf, IsNoCall, IsQuoteText};
+ghost use Rattle.bx_answers.specs.Quotes.{first_value, IsSecondOf, IsNoSecond, IsCallOf, IsNoCall, IsQuoteText, IsNoQuoteText};
 
 use crate::fault::NoAnswer;
 use crate::promised::promised_plan;
@@ -75,7 +75,8 @@ pub fn quote_text(
     channels: ChannelSet,
     call: &Booking,
 ) -> Result<Vec<u8>, NoAnswer>
-    ensures { IfOk result (λ text. IsQuoteText exchange.now.entries channels call.now text.items) }
+    ensures text { IfOk result (λ text. IsQuoteText exchange.now.entries channels call.now text.items) }
+    ensures none { IfErr result (IsNoQuoteText exchange.now.entries channels call.now) }
 {
     let plan = promised_plan(alloc, exchange, channels)?;
     let mut text = Watched::new(Vec::new(alloc));

@@ -14,7 +14,8 @@ use std::alloc::Global;
 
 /// What has become of each booking so far, as the lines of outcomes of a day. `Memory` where a growth is refused.
 pub fn outcomes_text(alloc: Global, exchange: &Exchange) -> Result<Vec<u8>, NoAnswer>
-    ensures { IfOk result (λ text. text.items ≡ outcomes_text exchange.now) }
+    ensures text { IfOk result (λ text. text.items ≡ outcomes_text exchange.now) }
+    ensures none { IfErr result (λ why. why ≡ NoAnswer.Memory) }
 {
     let mut text = Watched::new(Vec::new(alloc));
     match exchange.write_outcomes(&mut text) {

@@ -1,8 +1,10 @@
 -- What stands at each path now.
-use Rattle.std.specs.Prelude.{◌≡◌, ℕ, List, []}
-use Rattle.bx_answers.specs.Answers.{IsPlanText}
+use Rattle.std.specs.Prelude.{◌≡◌, ◌⊎◌, ℕ, List, []}
+use Rattle.bx_answers.specs.Answers.{IsPlanText, IsNoPromisedPlan, IsNoRecords}
 use Rattle.bx_answers.specs.Metrics.{metrics_text}
-use Rattle.bx_answers.specs.Quotes.{IsCallOf, IsQuoteText}
+use Rattle.bx_answers.specs.Quotes.{IsCallOf, IsNoCall, IsQuoteText, IsNoQuoteText}
+use Rattle.bx_answers.specs.declared.fault.NoAnswer.{NoAnswer}
+use Rattle.bx_answers.specs.declared.fault.NoAnswer.TheVariants.{Memory}
 use Rattle.bx_answers.specs.declared.metrics.Figures.{Figures}
 use Rattle.bx_base.specs.Bookings.{Row}
 use Rattle.bx_book.specs.Rows.{span_of}
@@ -33,3 +35,17 @@ IsWritten opened d figures sight query routes.Quote kind text = (kind ≡ kinds.
 IsWritten opened d figures sight query routes.Chart kind text = (kind ≡ kinds.Picture) × IsDayChart d opened.channels sight opened.clock text
 IsWritten opened d figures sight query routes.Metrics kind text = (kind ≡ kinds.Metrics) × (text ≡ metrics_text d figures)
 IsWritten opened d figures sight query _ kind text = (kind ≡ kinds.Text) × (text ≡ [])
+
+-- why there is no quote: the query names no call, or there is none for the call that it names
+abbrev pub IsUnquoted : Opened → List ℕ → List Entry → NoAnswer → Type 0
+IsUnquoted opened query entries why = IsNoCall query (span_of opened.day) why ⊎ ((call : Row) × IsCallOf query (span_of opened.day) call × IsNoQuoteText entries opened.channels call why)
+
+-- why nothing stands at a path: just what its command is refused for, or memory runs out
+abbrev pub IsUnanswered : Opened → Day → List ℕ → Route → NoAnswer → Type 0
+IsUnanswered opened d query routes.Plan why = IsNoPromisedPlan d.entries opened.channels why
+IsUnanswered opened d query routes.Outcomes why = why ≡ Memory
+IsUnanswered opened d query routes.Records why = IsNoRecords opened.clock why
+IsUnanswered opened d query routes.Quote why = IsUnquoted opened query d.entries why
+IsUnanswered opened d query routes.Chart why = why ≡ Memory
+IsUnanswered opened d query routes.Metrics why = why ≡ Memory
+IsUnanswered opened d query _ why = ⊥

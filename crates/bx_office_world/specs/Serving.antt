@@ -22,7 +22,7 @@ use Rattle.bx_office.specs.declared.reply.Status.{Status}
 use Rattle.bx_office.specs.declared.reply.Status.TheVariants as statuses
 use Rattle.bx_office_door.specs.Guests.{client_of, first_asked, IsAnswered, IsAnsweredThere}
 use Rattle.bx_office_door.specs.declared.guest.Guest.{Guest}
-use Rattle.bx_office_world.specs.Desk.{IsWritten}
+use Rattle.bx_office_world.specs.Desk.{IsWritten, IsUnanswered}
 use Rattle.bx_office_world.specs.declared.serving.Desk.{Desk}
 use Rattle.bx_office_world.specs.declared.serving.Selling.{Selling}
 use Rattle.bx_quote.specs.declared.answer.NoQuote.TheVariants as quotes
@@ -66,7 +66,7 @@ pub record IsShown (desk : Desk) (d : Day) (query : List ℕ) (route : Route) (r
 
 abbrev pub IsReplyTo : Bool → Desk → Day → List ℕ → Route → Reply → Type 0
 IsReplyTo true desk d query route reply = IsPlain statuses.Unavailable reply × (reply.body.now ≡ codes "late\n")
-IsReplyTo false desk d query route reply = IsShown desk d query route reply ⊎ ((why : NoAnswer) × IsPlain (status_of why) reply)
+IsReplyTo false desk d query route reply = IsShown desk d query route reply ⊎ ((why : NoAnswer) × IsUnanswered desk.opened.now d query route why × IsPlain (status_of why) reply)
 
 -- just the client of this number is told it
 pub record IsServedThere (desk : Desk) (d : Day) (number : ℕ) (route : Route) (old new : List Guest) : Type 0 where

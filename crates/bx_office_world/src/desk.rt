@@ -1,9 +1,9 @@
 //! What is answered at the office.
 
-ghost use Rattle.std.specs.Prelude.{◌≡◌, Ok, IfOk};
+ghost use Rattle.std.specs.Prelude.{◌≡◌, Ok, Err, IfOk, IfErr};
 ghost use Rattle.bx_day_chart.specs.Charts.{IsDayChart};
 ghost use Rattle.bx_day_chart.specs.Sights.{sight_of};
-ghost use Rattle.bx_office_world.specs.Desk.{IsQuoted, IsWritten};
+ghost use Rattle.bx_office_world.specs.Desk.{IsQuoted, IsWritten, IsUnquoted, IsUnanswered};
 
 use bx_answers::{
     Figures, NoAnswer, call_of, chart_text, metrics_text, outcomes_text, plan_text, quote_text,
@@ -33,7 +33,8 @@ pub struct Written {
 
 /// A text of this kind, where there is one.
 fn of_kind(kind: Kind, text: Result<Vec<u8>, NoAnswer>) -> Result<Written, NoAnswer>
-    ensures { IfOk result (λ w. (w.kind ≡ kind) × (text ≡ Ok w.text)) }
+    ensures written { IfOk result (λ w. (w.kind ≡ kind) × (text ≡ Ok w.text)) }
+    ensures none { IfErr result (λ why. text ≡ Err why) }
 {
     match text {
         Ok(text) => Ok(Written { kind, text }),
@@ -48,7 +49,8 @@ fn quoted(
     exchange: &Exchange,
     query: &[u8],
 ) -> Result<Vec<u8>, NoAnswer>
-    ensures { IfOk result (λ text. IsQuoted opened.now query.now exchange.now.entries text.items) }
+    ensures text { IfOk result (λ text. IsQuoted opened.now query.now exchange.now.entries text.items) }
+    ensures none { IfErr result (IsUnquoted opened.now query.now exchange.now.entries) }
 {
     let call = call_of(alloc, query, &opened.day)?;
     match quote_text(alloc, exchange, opened.channels, &call) {
@@ -64,7 +66,8 @@ fn drawn(
     exchange: &Exchange,
     sight: &DaySight,
 ) -> Result<Vec<u8>, NoAnswer>
-    ensures { IfOk result (λ text. IsDayChart exchange.now opened.now.channels (sight_of sight.now) opened.now.clock text.items) }
+    ensures text { IfOk result (λ text. IsDayChart exchange.now opened.now.channels (sight_of sight.now) opened.now.clock text.items) }
+    ensures none { IfErr result (λ why. why ≡ NoAnswer.Memory) }
 {
     let clock = opened.clock.as_ref();
     match chart_text(alloc, exchange, opened.channels, sight, clock) {
@@ -73,7 +76,8 @@ fn drawn(
     }
 }
 
-/// What stands at a path now. Of a path that is not asked for so nothing.
+/// What stands at a path now, or why nothing does: what its command is refused for (`IsUnanswered`), or memory runs out. Of a path that is not
+/// asked for so nothing.
 pub fn answer_of(
     alloc: Global,
     opened: &Opened,
@@ -83,7 +87,8 @@ pub fn answer_of(
     route: Route,
     query: &[u8],
 ) -> Result<Written, NoAnswer>
-    ensures { IfOk result (λ w. IsWritten opened.now exchange.now figures.now (sight_of sight.now) query.now route w.kind w.text.items) }
+    ensures written { IfOk result (λ w. IsWritten opened.now exchange.now figures.now (sight_of sight.now) query.now route w.kind w.text.items) }
+    ensures none { IfErr result (IsUnanswered opened.now exchange.now query.now route) }
 {
     match route {
         Route::Plan => of_kind(Kind::Text, plan_text(alloc, exchange, opened.channels)),

@@ -1,4 +1,4 @@
-use Rattle.std.proofs.Common.{◌≡◌, refl, ap, ◌∙◌, List, ℕ, ◌++◌, codes}
+use Rattle.std.proofs.Common.{refl, ap, ◌∙◌, List, ℕ, ◌++◌}
 use Rattle.std.proofs.lemmas.List.{append_assoc}
 use Rattle.bx_answers.specs.Metrics.{clearing_lines}
 use Rattle.bx_answers.proofs.metrics.push_clearings.Goals as goal

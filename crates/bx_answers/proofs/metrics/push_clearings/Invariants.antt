@@ -1,4 +1,4 @@
-use Rattle.std.proofs.Common.{◌≡◌, ◌+◌, ◌++◌, drop, codes}
+use Rattle.std.proofs.Common.{◌≡◌, ◌++◌, drop}
 use Rattle.bx_answers.specs.Metrics.{clearing_lines, clearings_text}
 use Rattle.bx_answers.proofs.metrics.push_clearings.Given as goal
 

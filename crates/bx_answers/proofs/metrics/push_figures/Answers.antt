@@ -1,4 +1,4 @@
-use Rattle.std.proofs.Common.{◌≡◌, ◌++◌, codes}
+use Rattle.std.proofs.Common.{◌≡◌, ◌++◌}
 use Rattle.bx_answers.specs.Metrics.{link_text, clearings_text, office_text, sync_text}
 use Rattle.bx_answers.proofs.Pieces.{joined, joined_on}
 use Rattle.bx_answers.proofs.metrics.push_figures.Goals as goal

@@ -1,6 +1,6 @@
 use Rattle.std.proofs.Common.{◌≡◌, ◌++◌, codes}
 use Rattle.bx_answers.specs.Metrics.{family_text}
-use Rattle.bx_answers.proofs.Pieces.{joined, joined_on}
+use Rattle.bx_answers.proofs.Pieces.{joined_on}
 use Rattle.bx_answers.proofs.metrics.push_office.Goals as goal
 
 pub returns : goal.returns
