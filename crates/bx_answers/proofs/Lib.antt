@@ -1,4 +1,3 @@
 pub mod Built
 pub mod CallTimes
-pub mod Counted
 pub mod Pieces

@@ -4,4 +4,3 @@ pub mod Metrics
 pub mod Quotes
 pub mod Sold
 pub mod Tallies
-pub mod Inside

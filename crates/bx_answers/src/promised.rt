@@ -8,8 +8,9 @@ ghost use Rattle.bx_answers.specs.Answers.{promised_row, promised, IsPromisedPla
 
 use crate::fault::NoAnswer;
 use bx_base::{Booking, Bookings, ChannelSet, Plan};
-use bx_day::{Entry, Exchange, Standing};
+use bx_day::{Entry, Exchange};
 use bx_devices::Watched;
+use bx_market::is_promised;
 use bx_planfile::write_plan;
 use bx_planner::{NoPlan, plan};
 use std::alloc::{AllocError, Global};
@@ -18,9 +19,10 @@ use std::alloc::{AllocError, Global};
 fn promised_row(entry: &Entry) -> Booking
     ensures { result ≡ promised_row entry.now }
 {
-    match entry.standing {
-        Standing::Refused => entry.booking,
-        _ => entry.booking.as_must(),
+    if is_promised(entry.standing) {
+        entry.booking.as_must()
+    } else {
+        entry.booking
     }
 }
 

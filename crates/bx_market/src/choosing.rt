@@ -71,7 +71,8 @@ fn add(rows: &mut Bookings, booking: Booking) -> Result<(), AllocError>
     }
 }
 
-fn is_promised(standing: Standing) -> bool
+/// Whether a booking of which this has become is promised: each is but one that the plan refused.
+pub fn is_promised(standing: Standing) -> bool
     ensures { result ≡ not (is_refused standing) }
 {
     match standing {

@@ -7,5 +7,6 @@ mod market;
 mod offering;
 mod running;
 
+pub use choosing::is_promised;
 pub use market::{Answer, Market};
 pub use running::run_market;

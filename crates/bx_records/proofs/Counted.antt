@@ -5,7 +5,7 @@ use Rattle.bx_day.specs.declared.entry.Entry.{Entry}
 use Rattle.bx_day.specs.declared.entry.Standing.{Standing}
 use Rattle.bx_records.specs.Tallies.{IsTallyOf, IsTallySoFar}
 use Rattle.bx_records.specs.Totals.{how_many, pays_of}
-use Rattle.bx_records.specs.declared.totals.Tally.{Tally}
+use Rattle.bx_records.specs.declared.tallies.Tally.{Tally}
 
 at_most_one : (b : Bool) → (if b then 1 else 0) ≤ 1
 at_most_one true = omega arith

@@ -1,11 +1,10 @@
--- Private: totals while they are counted.
-use Rattle.std.specs.Prelude.{◌≡◌, ℕ, ◌+◌, ◌*◌, ◌≤◌, Bool, List, [], ◌∷◌, ◌++◌, drop, codes, decimal}
+-- Private: bookings while they are counted.
+use Rattle.std.specs.Prelude.{◌≡◌, ℕ, ◌+◌, ◌*◌, ◌≤◌, Bool, List, drop}
 use Rattle.bx_base.specs.declared.booking.TheConstants.{MAX_PAY}
 use Rattle.bx_day.specs.declared.entry.Entry.{Entry}
 use Rattle.bx_day.specs.declared.entry.Standing.{Standing}
 use Rattle.bx_records.specs.Totals.{how_many, pays_of}
-use Rattle.bx_records.specs.declared.totals.Tally.{Tally}
-use Rattle.bx_records.specs.declared.totals.Totals.{Totals}
+use Rattle.bx_records.specs.declared.tallies.Tally.{Tally}
 
 -- all such bookings are counted
 pub record IsTallyOf (test : Standing → Bool) (entries : List Entry) (tally : Tally) : Type 0 where
@@ -18,7 +17,3 @@ pub record IsTallySoFar (test : Standing → Bool) (entries : List Entry) (k : �
   pub pay : tally.pay + pays_of test (drop k entries) ≡ pays_of test entries
   pub few : tally.count ≤ k
   pub limit : tally.pay ≤ k * MAX_PAY
-
-abbrev pub totals_line : Totals → List ℕ
-totals_line t = codes "carried " ++ (decimal t.carried.count ++ 32 ∷ []) ++ codes "of " ++ (decimal t.accepted.count ++ 32 ∷ [])
-    ++ codes "accepted, paid " ++ (decimal t.carried.pay ++ 32 ∷ []) ++ codes "of " ++ (decimal t.accepted.pay ++ 10 ∷ [])

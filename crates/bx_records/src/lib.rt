@@ -4,9 +4,11 @@
 mod fault;
 mod lines;
 mod records;
+mod tallies;
 mod totals;
 mod writing;
 
 pub use fault::RecordsFault;
+pub use tallies::Tally;
 pub use totals::write_totals;
 pub use writing::write_records;

@@ -1,45 +1,20 @@
 //! How many of a day's calls were carried, and what they pay.
 
-ghost use Rattle.std.specs.Prelude.{◌≡◌, ◌+◌, ◌<◌, ◌≤◌, length, not, if◌then◌else◌, IsTrue, OnOk, OnErr};
+ghost use Rattle.std.specs.Prelude.{◌≡◌, ◌≤◌, length, not, IsTrue, OnOk, OnErr};
 ghost use Rattle.std.specs.Io.KnownBytes.{Appends};
-ghost use Rattle.bx_base.specs.declared.booking.TheConstants.{MAX_PAY};
 ghost use Rattle.bx_base.specs.declared.bookings.TheConstants.{MAX_BOOKINGS};
-ghost use Rattle.bx_base.specs.declared.plan.TheConstants.{MAX_TOTAL};
 ghost use Rattle.bx_day.specs.Invariant.{is_refused};
 ghost use Rattle.bx_devices.specs.Octets.{AppendsPrefix};
 ghost use Rattle.bx_devices.specs.Watching.{device_of, is_faulted};
 ghost use Rattle.bx_records.specs.Totals.{is_carried, is_accepted, totals_text};
-ghost use Rattle.bx_records.specs.Tallies.{IsTallyOf, totals_line};
+ghost use Rattle.bx_records.specs.Inside.{totals_line};
+ghost use Rattle.bx_records.specs.Tallies.{IsTallyOf};
 
+use crate::tallies::Tally;
 use bx_day::{Entry, Exchange, Standing};
 use bx_devices::{Watched, WriteFailed, write_octets};
 use bx_text::{Line, add, add_decimal, append};
 use std::io::Write;
-
-/// Bookings of a day: how many there are, and what they pay together.
-#[derive(Clone, Copy)]
-struct Tally {
-    count: u64,
-    pay: u64,
-}
-
-impl Tally {
-    const NONE: Tally = Tally { count: 0, pay: 0 };
-
-    /// Counts a booking, if it is one of them.
-    fn count(&mut self, entry: &Entry, is_one: bool)
-        requires count { self.old.count < MAX_BOOKINGS }
-        requires pay { self.old.pay ≤ MAX_TOTAL }
-        ensures count { self.new.count ≡ self.old.count + (if is_one then 1 else 0) }
-        ensures pay { self.new.pay ≡ self.old.pay + (if is_one then entry.now.booking.pay else 0) }
-        ensures limit { self.new.pay ≤ self.old.pay + MAX_PAY }
-    {
-        if is_one {
-            self.count += 1;
-            self.pay += entry.booking.pay();
-        }
-    }
-}
 
 /// The bookings that the plan accepts, and those of them whose calls were carried.
 #[derive(Clone, Copy)]

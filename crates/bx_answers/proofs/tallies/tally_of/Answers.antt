@@ -1,6 +1,6 @@
 use Rattle.std.proofs.Common.{arith}
 use Rattle.bx_answers.specs.Tallies.{is_such}
-use Rattle.bx_answers.proofs.Counted.{all_counted}
+use Rattle.bx_records.proofs.Counted.{all_counted}
 use Rattle.bx_answers.proofs.tallies.tally_of.Goals as goal
 
 pub returns : goal.returns

@@ -1,5 +1,5 @@
-use Rattle.bx_answers.specs.Inside.{IsTallySoFar}
 use Rattle.bx_answers.specs.Tallies.{is_such}
+use Rattle.bx_records.specs.Tallies.{IsTallySoFar}
 use Rattle.bx_answers.proofs.tallies.tally_of.Given as goal
 
 abbrev pub invariant-loop-entry : goal.invariant-loop-entry
