@@ -1,14 +1,16 @@
 //! Days on which bookings were sold, by journals that were written by hand: told, billed, printed, and gone on with.
 
 use crate::file_commands::{Case, first_wrong};
-use crate::files::{folder, placed};
+use crate::files::{folder, parted, placed};
 use crate::live_days::ends_with;
 use crate::program::Answer::{Fails, Misused, Prints};
+use crate::program::run;
+use std::alloc::{AllocError, Global};
 use std::fs;
 use std::test::Fail;
 
 /// A plan of another hand, which is proved and not first fit; and journals of it and of the plan in `two.txt`.
-static FILES: [(&str, &str); 11] = [
+static FILES: [(&str, &str); 13] = [
     (
         "hand.txt",
         "bx-plan 3\nchannels 1 2\nbookings 1\n0 60 5 1234 2 free out\nprices 0\ntotal 5\nend\n",
@@ -45,6 +47,14 @@ static FILES: [(&str, &str); 11] = [
     (
         "hand.journal",
         "bx-journal 2 rules 1\nplan 0ff099e32eb798fba570fdff4d9ec7fe7ce093238c3b5f4a4285f72034822534\nday live 1577836800 1\ntick\nsold 60 90 7 5678 - free out\n",
+    ),
+    (
+        "outage.journal",
+        "bx-journal 2 rules 1\nplan 7c35ee9492f27e9c9fec6d438270c41290c5bc10066cef31da15ea69a39e4bae\nday live 1577836800 1\ntick\nheard 0802800107\ntick\ndown\ndown\ndown\ntick\ntick\ndown\n",
+    ),
+    (
+        "empty.journal",
+        "bx-journal 2 rules 1\nplan f1c4bdbd2170909011bcbfb1e2a2796df8052fa76528b23fbd4c6ad235334272\nday live 1577836800 1\ntick\n",
     ),
     ("same.journal", SAME),
 ];
@@ -199,6 +209,63 @@ static OFFICES: [Case; 11] = [
     ),
 ];
 
+/// What is drawn of days by their journals: what the head of a picture says, the line at now, and all that stands in the part whose units are
+/// seconds. Bookings were sold on the first, the link was lost twice on the second, and the last one has no calls.
+static DRAWN: [(&str, &str); 3] = [
+    (
+        "chart @two.txt --journal @sold.journal",
+        "<text class='head' x='56' y='26'>Paid 0 of 17, as far as 0:00:30</text>\n<text x='56' y='46'>0 of 4 calls carried, 2 live, 1 waiting, 0 unanswered, 1 missed; outages of the link: 0</text>\n<g><title>row 1: 1234 pays 5, 0:00:00 to 0:01:00; live; carried from 0:00:01 until 0:00:30</title><rect class='free out planned live' x='0' y='3' width='60' height='5'/><rect class='free out carried' x='1' y='3' width='29' height='5'/></g>\n<g><title>row 2: 1234 pays 4, 0:00:10 to 0:00:20; missed</title><rect class='free in planned' x='10' y='13' width='10' height='5'/><path class='mark' d='M10 18L20 13'/></g>\n<g><title>row 4: 5678 pays 6, 0:00:30 to 0:00:50; live; carried from 0:00:30 until 0:00:30</title><rect class='free out planned live' x='30' y='13' width='20' height='5'/><rect class='free out carried' x='30' y='13' width='0' height='5'/></g>\n<g><title>row 5: 99 pays 2, 0:01:00 to 0:01:30; waiting</title><rect class='must out planned' x='60' y='1' width='30' height='9'/></g>\n<path class='now' d='M56.3 92V124'/>\n",
+    ),
+    (
+        "chart @two.txt --journal @outage.journal",
+        "<text class='head' x='56' y='26'>Paid 0 of 9, as far as 0:00:08</text>\n<text x='56' y='46'>0 of 2 calls carried, 1 live, 1 waiting, 0 unanswered, 0 missed; outages of the link: 2</text>\n<g><title>row 1: 1234 pays 5, 0:00:00 to 0:01:00; live; carried from 0:00:01 until 0:00:08</title><rect class='free out planned live' x='0' y='3' width='60' height='5'/><rect class='free out carried' x='1' y='3' width='7' height='5'/></g>\n<g><title>row 2: 1234 pays 4, 0:00:10 to 0:00:20; waiting</title><rect class='free in planned' x='10' y='13' width='10' height='5'/></g>\n<rect class='outage' x='2' y='0' width='3' height='20'><title>no link from 0:00:02 until 0:00:05</title></rect>\n<rect class='outage' x='7' y='0' width='1' height='20'><title>no link from 0:00:07 until 0:00:08</title></rect>\n<path class='now' d='M56.1 92V124'/>\n",
+    ),
+    (
+        "chart @none.txt --journal @empty.journal",
+        "<text class='head' x='56' y='26'>Paid 0 of 0</text>\n<text x='56' y='46'>0 of 0 calls carried, 0 live, 0 waiting, 0 unanswered, 0 missed; outages of the link: 0</text>\n",
+    ),
+];
+
+/// How that part begins, and how it ends.
+const PART: &[u8] = b"<svg x='56' y='92' ";
+
+const PART_END: &[u8] = b"</svg>";
+
+/// Whether a line of a picture is looked at outside of that part.
+fn is_told(line: &[u8]) -> bool {
+    line.starts_with(b"<text class='head' ")
+        || line.starts_with(b"<text x='56' ")
+        || line.starts_with(b"<path class='now' ")
+}
+
+/// These lines of a picture, and that part of it.
+fn pieces_of(alloc: Global, picture: &[u8]) -> Result<Vec<u8>, AllocError> {
+    let mut pieces = Vec::new(alloc);
+    let mut is_inside = false;
+    for line in picture.split(|octet| *octet == b'\n') {
+        let is_end = line == PART_END;
+        if is_inside && !is_end || is_told(line) {
+            pieces.extend_from_slice(line)?;
+            pieces.push(b'\n')?;
+        }
+        is_inside = !is_end && (is_inside || line.starts_with(PART));
+    }
+    Ok(pieces)
+}
+
+/// The first of these words for which another picture is drawn, or none.
+fn drawn_otherwise(rt: &HostRuntime, folder: &str) -> Result<Option<&'static str>, Fail> {
+    for (words, pieces) in &DRAWN {
+        let placed = placed(rt.alloc(), words, folder)?;
+        let done = run(rt, &parted(rt.alloc(), &placed)?, "");
+        let drawn = pieces_of(rt.alloc(), &done.output)?;
+        if done.status != 0 || drawn.as_slice() != pieces.as_bytes() {
+            return Ok(Some(*words));
+        }
+    }
+    Ok(None)
+}
+
 /// Why a day is not drawn by its journal.
 static UNDRAWN: [Case; 6] = [
     (
@@ -234,6 +301,7 @@ fn days_with_sales(rt: HostRuntime) -> Result<(), Fail> {
     assert_eq!(rt; first_wrong(&rt, &folder, &CASES)?, None);
     assert_eq!(rt; first_wrong(&rt, &folder, &LIVE)?, None);
     assert_eq!(rt; first_wrong(&rt, &folder, &OFFICES)?, None);
+    assert_eq!(rt; drawn_otherwise(&rt, &folder)?, None);
     assert_eq!(rt; first_wrong(&rt, &folder, &UNDRAWN)?, None);
     let path = placed(rt.alloc(), "@front.journal", &folder)?;
     let octets = fs::read(&rt, path.as_str())?;
