@@ -1,6 +1,6 @@
 //! A live day with a booking office in front of it.
 
-ghost use Rattle.std.specs.Prelude.{◌≡◌};
+ghost use Rattle.std.specs.Prelude.{◌≡◌, [], false, replicate};
 
 use crate::counting::{count_message, count_sold, seconds_since};
 use crate::desk::Opened;
@@ -32,8 +32,13 @@ pub struct Office<'a> {
 }
 
 impl<'a> Office<'a> {
-    /// An office that was opened with this, at this door.
-    pub fn new(alloc: Global, door: Rc<RefCell<Door>>, opened: &'a Opened) -> Self {
+    /// An office that was opened with this, at this door. Nothing was counted, and nobody was sold to.
+    pub fn new(alloc: Global, door: Rc<RefCell<Door>>, opened: &'a Opened) -> Self
+        ensures opened { result.desk.opened.now ≡ opened.now }
+        ensures figures { (result.desk.figures.answers ≡ 0) × (result.desk.figures.sold ≡ 0) × (result.desk.figures.alone ≡ 0) × (result.desk.figures.late ≡ 0) × (result.desk.figures.clearings ≡ replicate 128 0) }
+        ensures sight { (result.desk.sight.outages.spans.items ≡ []) × (result.desk.sight.is_over ≡ false) }
+        ensures idle { (result.desk.is_late ≡ false) × (result.selling ≡ None) × (result.synced ≡ None) }
+    {
         let desk = Desk {
             opened,
             figures: Figures::new(),
