@@ -118,7 +118,8 @@ impl Client {
     /// Takes octets that came, no more than there is room for. Where a growth is refused the client is given up.
     pub fn take(&mut self, octets: &[u8])
         requires { length octets.now ≤ room_of self.old }
-        ensures { IsLeft self.new ⊎ IsTaken octets.now self.old self.new }
+        ensures taken { IsLeft self.new ⊎ IsTaken octets.now self.old self.new }
+        ensures marks { (self.new.is_head ≡ self.old.is_head) × (self.new.has_ended ≡ self.old.has_ended) }
     {
         if self.unread.extend_from_slice(octets).is_err() {
             self.leave();
@@ -166,6 +167,7 @@ impl Client {
     pub fn leave(&mut self)
         ensures left { IsLeft self.new }
         ensures place { self.new.place ≡ self.old.place }
+        ensures marks { (self.new.is_head ≡ self.old.is_head) × (self.new.has_ended ≡ self.old.has_ended) }
     {
         self.out.clear();
         self.stage = Stage::Last;
@@ -333,6 +335,7 @@ impl Client {
         ensures said { IsLeft self.new ⊎ (self.new.out.items ≡ self.old.out.items ++ reply_text self.old.is_head self.old.server reply.entry false) }
         ensures next { IsNext self.new.stage }
         ensures place { self.new.place ≡ self.old.place }
+        ensures ended { self.new.has_ended ≡ self.old.has_ended }
     {
         self.send(reply, false);
     }
@@ -342,6 +345,7 @@ impl Client {
         ensures said { IsLeft self.new ⊎ (self.new.out.items ≡ self.old.out.items ++ reply_text self.old.is_head self.old.server reply.entry is_last) }
         ensures next { IsNext self.new.stage }
         ensures place { self.new.place ≡ self.old.place }
+        ensures ended { self.new.has_ended ≡ self.old.has_ended }
     {
         let is_head = self.is_head;
         if write_reply(&mut self.server, &mut self.out, reply, is_head, is_last).is_err() {
