@@ -7,25 +7,16 @@ use Rattle.bx_check_commands.specs.Inside.{IsFaulty, IsJudged}
 use Rattle.bx_check_commands.specs.Proved.{IsPlanRead}
 use Rattle.bx_check_commands.specs.Refusals.{IsUnproved, IsRefusal}
 use Rattle.bx_check_commands.specs.declared.fault.CommandFault.{CommandFault}
-use Rattle.bx_check_commands.specs.declared.fault.CommandFault.TheVariants.{CannotRead, CannotWrite, Plan, Check, NotHex, Message, Memory}
+use Rattle.bx_check_commands.specs.declared.fault.CommandFault.TheVariants.{CannotWrite, Check}
 
 pub unproved : (name : List ℕ) (input : Reading) (plan : Parts) → IsPlanRead input.before plan → (fault : CommandFault) → IsFaulty plan.rows plan.channels plan fault → IsUnproved name input fault
 unproved name input plan read (Check fault) found = record { plan = plan; read = read; outcome = found }
-unproved name input plan read (CannotRead n) found = absurd found
-unproved name input plan read CannotWrite found = absurd found
-unproved name input plan read (Plan fault) found = absurd found
-unproved name input plan read NotHex found = absurd found
-unproved name input plan read (Message fault) found = absurd found
-unproved name input plan read Memory found = absurd found
+unproved name input plan read fault found = absurd found
 
 judged : (input : Reading) (output : Writing) (plan : Parts) → IsPlanRead input.before plan → (fault : CommandFault) → IsJudged plan.rows plan.channels plan output fault → IsRefusal input output fault
 judged input output plan read (Check fault) found = (record { plan = plan; read = read; outcome = found.0 }, found.1)
 judged input output plan read CannotWrite found = (found.0, (found.1.0, record { plan = plan; read = read; proved = found.1.1 }, found.1.2))
-judged input output plan read (CannotRead n) found = absurd found
-judged input output plan read (Plan fault) found = absurd found
-judged input output plan read NotHex found = absurd found
-judged input output plan read (Message fault) found = absurd found
-judged input output plan read Memory found = absurd found
+judged input output plan read fault found = absurd found
 
 pub unjudged : {T : Type 0} (input : Reading) (output : Writing) (plan : Parts) → IsPlanRead input.before plan → (r : Result T CommandFault) → IfErr r (IsJudged plan.rows plan.channels plan output) → IfErr r (IsRefusal input output)
 unjudged input output plan read (Ok value) found = tt

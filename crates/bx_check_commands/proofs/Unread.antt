@@ -1,5 +1,5 @@
 -- What is told of a file without a plan, which does not tell its octets.
-use Rattle.std.proofs.Common.{ℕ, List, Option, None, Result, Ok, Err, inl, inr, ◌⊎◌}
+use Rattle.std.proofs.Common.{ℕ, List, Option, None, Result, Ok, Err, inl, inr}
 use Rattle.std.specs.Prelude.{IfErr}
 use Rattle.bx_devices.specs.Devices.{Reading}
 use Rattle.bx_planfile.specs.declared.fault.PlanTextFault.{PlanTextFault}
@@ -16,10 +16,7 @@ no_plan : (name : List ℕ) (input : Reading) (fault : CommandFault) → IsNoPla
 no_plan name input (CannotRead n) (same, why) = same
 no_plan name input (Plan fault) none = unread_text input.before fault none
 no_plan name input Memory why = tt
-no_plan name input CannotWrite why = absurd why
-no_plan name input (Check fault) why = absurd why
-no_plan name input NotHex why = absurd why
-no_plan name input (Message fault) why = absurd why
+no_plan name input fault why = absurd why
 
 no_proved_plan : (name : List ℕ) (input : Reading) (fault : CommandFault) → IsUnproved name input fault → HasNoProvedPlan name fault
 no_proved_plan name input (Check fault) found =
@@ -28,9 +25,7 @@ no_proved_plan name input (Check fault) found =
 no_proved_plan name input (CannotRead n) why = no_plan name input (CannotRead n) why
 no_proved_plan name input (Plan fault) why = no_plan name input (Plan fault) why
 no_proved_plan name input Memory why = tt
-no_proved_plan name input CannotWrite why = absurd why
-no_proved_plan name input NotHex why = absurd why
-no_proved_plan name input (Message fault) why = absurd why
+no_proved_plan name input fault why = absurd why
 
 pub none_proved : {T : Type 0} (name : List ℕ) (input : Reading) (r : Result T CommandFault) → IfErr r (IsUnproved name input) → IfErr r (HasNoProvedPlan name)
 none_proved name input (Ok value) why = tt

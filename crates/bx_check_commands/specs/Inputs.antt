@@ -4,7 +4,7 @@ use Rattle.std.specs.Io.KnownBytes.{IsAtEnd}
 use Rattle.bx_base.specs.PlanParts.{Parts}
 use Rattle.bx_devices.specs.Devices.{Reading}
 use Rattle.bx_check_commands.specs.PlanFiles.{IsUnopened}
-use Rattle.bx_check_commands.specs.Proved.{IsPlanRead}
+use Rattle.bx_check_commands.specs.Proved.{IsPlanRead, IsProvedFor}
 use Rattle.bx_check_commands.specs.Refusals.{IsNoPlan, IsUnproved}
 use Rattle.bx_check_commands.specs.declared.fault.CommandFault.{CommandFault}
 use Rattle.bx_check_commands.specs.declared.inputs.FilesAndInput.{FilesAndInput}
@@ -34,6 +34,12 @@ pub record IsPlanOf (gives : List ℕ → Option (List ℕ) → Type 0) (name : 
   pub of_name : IsReadOf gives name input
   pub read : IsPlanRead input.before plan
   pub ended : IsAtEnd input.after
+
+-- which is proved for its own bookings and channels
+pub record IsProvedOf (gives : List ℕ → Option (List ℕ) → Type 0) (name : List ℕ) (plan : Parts) : Type 0 where
+  pub plan_of : IsPlanOf gives name plan
+  pub total : ℕ
+  pub proved : IsProvedFor plan.rows plan.channels plan total
 
 -- it is not opened, or there is no plan of it
 abbrev pub IsNoPlanOf : (List ℕ → Option (List ℕ) → Type 0) → List ℕ → CommandFault → Type 0

@@ -3,9 +3,8 @@
 ghost use Rattle.std.specs.Prelude.{◌≡◌, ℕ, List, Option, Some, codes, false, IfOk, IfErr};
 ghost use Rattle.bx_devices.specs.Watching.{device_of, is_faulted, reads_of};
 ghost use Rattle.bx_base.specs.PlanParts.{parts_of};
-ghost use Rattle.bx_check_commands.specs.Inputs.{GivesOnce, IsPlanOf, IsNoPlanOf, IsNoProvedOf};
+ghost use Rattle.bx_check_commands.specs.Inputs.{GivesOnce, IsPlanOf, IsNoPlanOf, IsProvedOf, IsNoProvedOf};
 ghost use Rattle.bx_check_commands.specs.PlanFiles.{IsUnopened};
-ghost use Rattle.bx_check_commands.specs.Proved.{IsProvedFor};
 
 use crate::causes::tell_cause;
 use crate::checking::{plan_from, proved_plan};
@@ -100,8 +99,7 @@ pub fn proved_named<'a, I: Inputs>(
     inputs: &mut I,
     name: &'a str,
 ) -> Result<Plan, CommandFault<'a>>
-    ensures found { IfOk result (λ plan. IsPlanOf (I.gives inputs.old) name.now (parts_of plan)) }
-    ensures proved { IfOk result (λ plan. (total : ℕ) × IsProvedFor plan.bookings plan.channels (parts_of plan) total) }
+    ensures found { IfOk result (λ plan. IsProvedOf (I.gives inputs.old) name.now (parts_of plan)) }
     ensures none { IfErr result (IsNoProvedOf (I.gives inputs.old) name.now) }
     ensures no_more { (other : List ℕ) (text : Option (List ℕ)) → I.gives inputs.new other text → I.gives inputs.old other text }
 {

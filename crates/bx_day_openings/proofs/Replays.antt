@@ -105,16 +105,8 @@ goes_on channels wanted before opened at day r v is same followed =
 
 -- a fault of the journal's text
 pub no_replay : (name : List ℕ) (wanted : Wanted) (channels : List Bool) (opened : Day) (before after : Option (List ℕ)) (faulted : Bool) (fault : DayCommandFault) → IsNoJournal name wanted before after faulted fault → IsNoReplay name wanted channels opened before after faulted fault
-no_replay name wanted channels opened before after faulted (faults.Journal why) none = none
-no_replay name wanted channels opened before after faulted (faults.Command why) none = none
 no_replay name wanted channels opened before after faulted (faults.Sale why) none = absurd none
-no_replay name wanted channels opened before after faulted (faults.Script why) none = none
-no_replay name wanted channels opened before after faulted (faults.Day why) none = none
-no_replay name wanted channels opened before after faulted (faults.Capture why) none = none
-no_replay name wanted channels opened before after faulted faults.CannotListen none = none
-no_replay name wanted channels opened before after faulted faults.CannotConnect none = none
-no_replay name wanted channels opened before after faulted (faults.CannotWriteFile why) none = none
-no_replay name wanted channels opened before after faulted (faults.Link why) none = none
+no_replay name wanted channels opened before after faulted fault none = none
 
 pub if_ok : {A E : Type 0} (P Q : A → Type 0) (r : Result A E) → ((a : A) → P a → Q a) → IfOk r P → IfOk r Q
 if_ok P Q (Ok a) f p = f a p
@@ -138,28 +130,9 @@ of_file name wanted channels opened before after faulted (faults.Journal (BadLin
 of_file name wanted channels opened before after faulted (faults.Journal OtherPlan) none = untold wanted before OtherPlan none
 of_file name wanted channels opened before after faulted (faults.Journal OtherDay) none = untold wanted before OtherDay none
 of_file name wanted channels opened before after faulted (faults.Journal OtherRules) none = untold wanted before OtherRules none
-of_file name wanted channels opened before after faulted (faults.Journal NotBegun) none = absurd none
-of_file name wanted channels opened before after faulted (faults.Journal ReadFailed) none = absurd none
 of_file name wanted channels opened before after faulted (faults.Command (commands.CannotRead n)) (same, cut) = same
-of_file name wanted channels opened before after faulted (faults.Command commands.CannotWrite) none = absurd none
-of_file name wanted channels opened before after faulted (faults.Command (commands.Plan why)) none = absurd none
-of_file name wanted channels opened before after faulted (faults.Command (commands.Check why)) none = absurd none
-of_file name wanted channels opened before after faulted (faults.Command commands.NotHex) none = absurd none
-of_file name wanted channels opened before after faulted (faults.Command (commands.Message why)) none = absurd none
-of_file name wanted channels opened before after faulted (faults.Command commands.Memory) none = absurd none
-of_file name wanted channels opened before after faulted (faults.Script why) none = absurd none
-of_file name wanted channels opened before after faulted (faults.Day why) none = absurd none
-of_file name wanted channels opened before after faulted (faults.Capture why) none = absurd none
-of_file name wanted channels opened before after faulted faults.CannotListen none = absurd none
-of_file name wanted channels opened before after faulted faults.CannotConnect none = absurd none
-of_file name wanted channels opened before after faulted (faults.CannotWriteFile why) none = absurd none
-of_file name wanted channels opened before after faulted (faults.Link why) none = absurd none
+of_file name wanted channels opened before after faulted fault none = absurd none
 
 pub unopened : (name : List ℕ) (wanted : Wanted) (channels : List Bool) (opened : Day) (fault : CommandFault) → IsUnopened name fault → HasNoReplay name wanted channels opened (faults.Command fault)
 unopened name wanted channels opened (commands.CannotRead n) same = same
-unopened name wanted channels opened commands.CannotWrite none = absurd none
-unopened name wanted channels opened (commands.Plan why) none = absurd none
-unopened name wanted channels opened (commands.Check why) none = absurd none
-unopened name wanted channels opened commands.NotHex none = absurd none
-unopened name wanted channels opened (commands.Message why) none = absurd none
-unopened name wanted channels opened commands.Memory none = absurd none
+unopened name wanted channels opened fault none = absurd none

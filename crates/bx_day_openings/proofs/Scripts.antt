@@ -2,7 +2,7 @@
 use Rattle.std.proofs.Common.{ℕ, List, Option, None}
 use Rattle.bx_devices.specs.Devices.{Reading}
 use Rattle.bx_far.specs.declared.row.ScriptRow.{ScriptRow}
-use Rattle.bx_check_commands.specs.declared.fault.CommandFault.TheVariants.{CannotRead, CannotWrite, Plan, Check, NotHex, Message, Memory}
+use Rattle.bx_check_commands.specs.declared.fault.CommandFault.TheVariants.{CannotRead, Memory}
 use Rattle.bx_day_openings.specs.Openings.{IsScriptRead}
 use Rattle.bx_day_openings.specs.Inside.{IsNoScript}
 use Rattle.bx_day_openings.specs.OpeningRefusals.{IsNoFarEnd}
@@ -16,16 +16,4 @@ pub no_far_end : (name : List ℕ) (input : Reading) (fault : DayCommandFault) �
 no_far_end name input (faults.Command (CannotRead n)) (same, why) = same
 no_far_end name input (faults.Command Memory) why = tt
 no_far_end name input (faults.Script fault) (other, none) = (other, record { text = none.text; told = λ known is. cc; first = none.first })
-no_far_end name input (faults.Command CannotWrite) why = absurd why
-no_far_end name input (faults.Command (Plan fault)) why = absurd why
-no_far_end name input (faults.Command (Check fault)) why = absurd why
-no_far_end name input (faults.Command NotHex) why = absurd why
-no_far_end name input (faults.Command (Message fault)) why = absurd why
-no_far_end name input (faults.Day fault) why = absurd why
-no_far_end name input (faults.Capture fault) why = absurd why
-no_far_end name input (faults.Journal fault) why = absurd why
-no_far_end name input (faults.Sale fault) why = absurd why
-no_far_end name input faults.CannotListen why = absurd why
-no_far_end name input faults.CannotConnect why = absurd why
-no_far_end name input (faults.CannotWriteFile n) why = absurd why
-no_far_end name input (faults.Link fault) why = absurd why
+no_far_end name input fault why = absurd why

@@ -43,11 +43,7 @@ module _ {F : Type 0} (followed : F → List LiveEvent → F → Type 0) (faulte
       all = r.followed_all;
     }
     whole_if (Err NotBegun) r = record { events = []; journal = record { text = r.text; told = text_told before after r.text r.consumed r.at_end; are = inr (r.is, refl) }; all = r.followed_none }
-    whole_if (Err (BadLine n)) r = tt
-    whole_if (Err OtherPlan) r = tt
-    whole_if (Err OtherDay) r = tt
-    whole_if (Err OtherRules) r = tt
-    whole_if (Err ReadFailed) r = tt
+    whole_if whole r = tt
 
     refused_if : (whole : Result ℕ JournalFault) → IsFollowed followed faulted before after wanted f g whole → IfErr (told_of name whole) (IsNoJournal name.now wanted before after faulted)
     refused_if (Ok n) r = tt
@@ -61,11 +57,7 @@ module _ {F : Type 0} (followed : F → List LiveEvent → F → Type 0) (faulte
     so_far_if : (whole : Result ℕ JournalFault) → IsFollowed followed faulted before after wanted f g whole → IfErr (told_of name whole) (λ fault. IsFollowedSoFar followed f g)
     so_far_if (Ok n) r = tt
     so_far_if (Err NotBegun) r = tt
-    so_far_if (Err (BadLine n)) r = (r.events, r.followed_all)
-    so_far_if (Err OtherPlan) r = (r.events, r.followed_all)
-    so_far_if (Err OtherDay) r = (r.events, r.followed_all)
-    so_far_if (Err OtherRules) r = (r.events, r.followed_all)
-    so_far_if (Err ReadFailed) r = (r.events, r.followed_all)
+    so_far_if whole r = (r.events, r.followed_all)
 
     pub followed_whole : (whole : Result ℕ JournalFault) (result : Result (Unit {0}) DayCommandFault) → result ≡ told_of name whole → IsFollowed followed faulted before after wanted f g whole → OnOk result (IsFollowedWhole followed wanted before f g)
     followed_whole whole result same r = subst (λ (x : Result (Unit {0}) DayCommandFault). OnOk x (IsFollowedWhole followed wanted before f g)) (sym same) (whole_if whole r)

@@ -15,6 +15,7 @@ mod progress;
 mod recording;
 mod replaying;
 mod sockets;
+mod system;
 mod tied;
 
 pub use capturing::{captured, file_of, first_of};
@@ -32,4 +33,5 @@ pub use recording::{
 };
 pub use replaying::{Replayed, day_turns, replay_journal};
 pub use sockets::{accepted_at, connected_at, listener_at};
+pub use system::System;
 pub use tied::{TiedPlan, tied_named, tied_plan};
