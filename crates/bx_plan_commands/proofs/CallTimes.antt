@@ -14,11 +14,6 @@ no_times span call (EndNotAfterStart row) (inl p) = absurd p
 no_times span call (EndNotAfterStart row) (inr (start, starts, p)) = absurd p
 no_times span call fault p = p
 
-pub no_seconds : (call : Call) (fault : BookFault) → IsFirstOfBoth IsSecondOf IsSecondFault call fault → AreNoTimes IsSecondOf IsSecondFault call fault
-no_seconds call (EndNotAfterStart row) (inl p) = absurd p
-no_seconds call (EndNotAfterStart row) (inr (start, starts, p)) = absurd p
-no_seconds call fault p = p
-
 pub turned : {A : Type 0} (o : Option A) (date zone : A → List ℕ) (call : Call) (start end : ℕ)
     → MatchOption o (AreBoth IsSecondOf call start end) (λ words. (day : Day) × IsDayOf (date words) (zone words) day × AreBoth (IsMomentOf (span_of day)) call start end) → end ≤ start
     → MatchOption o (AreNoTimes IsSecondOf IsSecondFault call (EndNotAfterStart 1)) (λ words. (day : Day) × IsDayOf (date words) (zone words) day × AreNoTimes (IsMomentOf (span_of day)) (IsTimeFault (span_of day) 1) call (EndNotAfterStart 1))

@@ -23,7 +23,7 @@ use Rattle.bx_plan_commands.specs.declared.earning.CapacityFault.TheVariants.{Un
 
 pub without_more : {W : Type 0} (gives : List ℕ → Option (List ℕ) → Type 0) (date zone plan bookings : List ℕ) (contents : W → Option (List ℕ)) (output : Watched W) (fault : FileFault)
     → IsWithoutMore gives date zone plan bookings fault → IsNotAmended gives date zone plan bookings contents output output fault
-without_more gives date zone plan bookings contents output (files.Amend fault) w = none_amended w.none
+without_more gives date zone plan bookings contents output (files.Amend fault) w = none_amended w.1
   where
     none_amended : {A : Type 0} {B : A → Type 0} {C : Type 0} → ⊥ ⊎ ((input : A) × B input × ⊥) → C
     none_amended (inl p) = absurd p

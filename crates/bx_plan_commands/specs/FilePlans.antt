@@ -29,41 +29,53 @@ pub record AreBookingsOf (gives : List ℕ → Option (List ℕ) → Type 0) (na
   pub of_name : IsReadOf gives name input
   pub read : IsBookRead input (span_of day) rows
 
--- the bookings were read, and the text of a best plan of them on just the channels that the words name was written
-pub record IsPlanned (gives : List ℕ → Option (List ℕ) → Type 0) (terms : Terms) (bookings : List ℕ) (output : Writing) : Type 0 where
+-- the words name channels and a day, and an input of bookings was read from its beginning
+pub record IsInputFor (gives : List ℕ → Option (List ℕ) → Type 0) (terms : Terms) (bookings : List ℕ) : Type 0 where
   pub channels : List Bool
   pub day : Day
   pub named : AreTerms terms channels day
   pub input : Reading
   pub of_name : IsReadOf gives bookings input
-  pub plan : Parts
-  pub run : IsRun input output (span_of day) channels plan
 
--- the bookings and a plan were read, the plan is proved for just these bookings and the channels that the words name, and the
--- line of its total was written
-pub record IsChecked (gives : List ℕ → Option (List ℕ) → Type 0) (terms : Terms) (bookings plan : List ℕ) (output : Writing) : Type 0 where
+-- the bookings were read, and the text of a best plan of them on just the channels that the words name was written
+pub record IsPlanned (gives : List ℕ → Option (List ℕ) → Type 0) (terms : Terms) (bookings : List ℕ) (output : Writing) : Type 0 where
+  pub given : IsInputFor gives terms bookings
+  pub plan : Parts
+  pub run : IsRun given.input output (span_of given.day) given.channels plan
+
+-- what such an input gave to its end are bookings of that day
+pub record AreRowsFor (gives : List ℕ → Option (List ℕ) → Type 0) (terms : Terms) (bookings : List ℕ) : Type 0 where
   pub channels : List Bool
   pub day : Day
   pub named : AreTerms terms channels day
   pub rows : List Row
   pub rows_of : AreBookingsOf gives bookings day rows
+
+-- the bookings and a plan were read, the plan is proved for just these bookings and the channels that the words name, and the
+-- line of its total was written
+pub record IsChecked (gives : List ℕ → Option (List ℕ) → Type 0) (terms : Terms) (bookings plan : List ℕ) (output : Writing) : Type 0 where
+  pub given : AreRowsFor gives terms bookings
   pub input : Reading
   pub of_name : IsReadOf gives plan input
   pub total : ℕ
-  pub proved : IsProvedAgainst rows channels input.before total
+  pub proved : IsProvedAgainst given.rows given.channels input.before total
   pub written : Appends output.before output.after (proved_line total)
 
--- a plan and more bookings were read, and the text of a best plan was written that holds all that it accepts, for its bookings
--- and for these
-pub record IsHeld (gives : List ℕ → Option (List ℕ) → Type 0) (date zone plan bookings : List ℕ) (output : Writing) : Type 0 where
+-- the words name a day, and an input gave an earlier plan
+pub record IsEarlier (gives : List ℕ → Option (List ℕ) → Type 0) (date zone plan : List ℕ) : Type 0 where
   pub day : Day
   pub day_of : IsDayOf date zone day
   pub earlier : Parts
   pub earlier_of : IsPlanOf gives plan earlier
+
+-- a plan and more bookings were read, and the text of a best plan was written that holds all that it accepts, for its bookings
+-- and for these
+pub record IsHeld (gives : List ℕ → Option (List ℕ) → Type 0) (date zone plan bookings : List ℕ) (output : Writing) : Type 0 where
+  pub given : IsEarlier gives date zone plan
   pub more : List Row
-  pub more_of : AreBookingsOf gives bookings day more
+  pub more_of : AreBookingsOf gives bookings given.day more
   pub longer : Parts
-  pub planned : IsAmended (amended earlier.rows earlier.assigned more) earlier.channels output longer
+  pub planned : IsAmended (amended given.earlier.rows given.earlier.assigned more) given.earlier.channels output longer
 
 -- and what was written on standard error is the note on bookings of the same plan that no day carries, where there are some
 pub record IsPlanNoted (gives : List ℕ → Option (List ℕ) → Type 0) (terms : Terms) (bookings : List ℕ) (output errors : Writing) : Type 0 where

@@ -11,12 +11,12 @@ use Rattle.bx_book.specs.Rows.{Span, span_of}
 use Rattle.bx_book.specs.Streams.{IsStreamFault}
 use Rattle.bx_calendar.specs.declared.day.Day.{Day}
 use Rattle.bx_book.specs.declared.stream.StreamFault.TheVariants as stream
-use Rattle.bx_plan_commands.specs.FilePlans.{AreTerms, AreBookingsOf}
+use Rattle.bx_plan_commands.specs.FilePlans.{AreTerms, AreBookingsOf, AreRowsFor, IsEarlier, IsInputFor}
 use Rattle.bx_plan_commands.specs.declared.fault.FileFault.{FileFault}
 use Rattle.bx_plan_commands.specs.declared.fault.FileFault.TheVariants as files
 use Rattle.bx_plan_commands.specs.Amending.{IsAmendRefusal}
 use Rattle.bx_plan_commands.specs.Planning.{IsRunRefusal}
-use Rattle.bx_check_commands.specs.Inputs.{IsReadOf, IsPlanOf, IsNoPlanOf}
+use Rattle.bx_check_commands.specs.Inputs.{IsReadOf, IsNoPlanOf}
 use Rattle.bx_check_commands.specs.PlanFiles.{IsUnopened}
 use Rattle.bx_check_commands.specs.Refusals.{IsRefusalAgainst}
 use Rattle.bx_plan_commands.specs.declared.amending.AmendFault.{AmendFault}
@@ -62,13 +62,8 @@ HasNoBookings gives name day fault = IsFileFault (IsUnopened name) fault ⊎ ((i
 -- ---- plans
 
 -- an input of bookings was opened, and a run over it refused
-pub record IsUnplanned (gives : List ℕ → Option (List ℕ) → Type 0) (terms : Terms) (bookings : List ℕ) (output : Writing) (fault : RunFault) : Type 0 where
-  pub channels : List Bool
-  pub day : Day
-  pub named : AreTerms terms channels day
-  pub input : Reading
-  pub of_name : IsReadOf gives bookings input
-  pub refused : IsRunRefusal input output (span_of day) channels fault
+abbrev pub IsUnplanned : (List ℕ → Option (List ℕ) → Type 0) → Terms → List ℕ → Writing → RunFault → Type 0
+IsUnplanned gives terms bookings output fault = (given : IsInputFor gives terms bookings) × IsRunRefusal given.input output (span_of given.day) given.channels fault
 
 -- the words name channels and a day
 abbrev pub AreSomeTerms : Terms → Type 0
@@ -81,31 +76,19 @@ IsPlanRefusal gives terms bookings contents old new fault = (AreNoTerms terms fa
 -- ---- checks
 
 -- there are no bookings
-pub record IsWithoutBookings (gives : List ℕ → Option (List ℕ) → Type 0) (terms : Terms) (bookings : List ℕ) (fault : FileFault) : Type 0 where
-  pub channels : List Bool
-  pub day : Day
-  pub named : AreTerms terms channels day
-  pub none : HasNoBookings gives bookings day fault
+abbrev pub IsWithoutBookings : (List ℕ → Option (List ℕ) → Type 0) → Terms → List ℕ → FileFault → Type 0
+IsWithoutBookings gives terms bookings fault = (channels : List Bool) × (day : Day) × AreTerms terms channels day × HasNoBookings gives bookings day fault
 
 -- there are, and no input of the plan
-pub record IsWithoutPlan (gives : List ℕ → Option (List ℕ) → Type 0) (terms : Terms) (bookings plan : List ℕ) (fault : FileFault) : Type 0 where
-  pub channels : List Bool
-  pub day : Day
-  pub named : AreTerms terms channels day
-  pub rows : List Row
-  pub rows_of : AreBookingsOf gives bookings day rows
-  pub unopened : IsFileFault (IsUnopened plan) fault
+abbrev pub IsWithoutPlan : (List ℕ → Option (List ℕ) → Type 0) → Terms → List ℕ → List ℕ → FileFault → Type 0
+IsWithoutPlan gives terms bookings plan fault = AreRowsFor gives terms bookings × IsFileFault (IsUnopened plan) fault
 
 -- it was opened, and the check of what it gives refused
 pub record IsUnchecked (gives : List ℕ → Option (List ℕ) → Type 0) (terms : Terms) (bookings plan : List ℕ) (output : Writing) (fault : FileFault) : Type 0 where
-  pub channels : List Bool
-  pub day : Day
-  pub named : AreTerms terms channels day
-  pub rows : List Row
-  pub rows_of : AreBookingsOf gives bookings day rows
+  pub given : AreRowsFor gives terms bookings
   pub input : Reading
   pub of_name : IsReadOf gives plan input
-  pub refused : IsFileFault (IsRefusalAgainst rows channels plan input output) fault
+  pub refused : IsFileFault (IsRefusalAgainst given.rows given.channels plan input output) fault
 
 abbrev pub IsCheckRefusal : {W : Type 0} → (List ℕ → Option (List ℕ) → Type 0) → Terms → List ℕ → List ℕ → (W → Option (List ℕ)) → Watched W → Watched W → FileFault → Type 0
 IsCheckRefusal gives terms bookings plan contents old new fault =
@@ -121,26 +104,19 @@ pub record IsToldOf (earlier : Parts) (more : List Row) (fault : AmendFault) : T
 
 -- nothing was amended
 pub record IsUnamended (gives : List ℕ → Option (List ℕ) → Type 0) (date zone plan bookings : List ℕ) (output : Writing) (fault : AmendFault) : Type 0 where
-  pub day : Day
-  pub day_of : IsDayOf date zone day
-  pub earlier : Parts
-  pub earlier_of : IsPlanOf gives plan earlier
+  pub given : IsEarlier gives date zone plan
   pub more : List Row
-  pub more_of : AreBookingsOf gives bookings day more
-  pub refused : IsAmendRefusal (amended earlier.rows earlier.assigned more) earlier.channels output fault
-  pub told : IsToldOf earlier more fault
+  pub more_of : AreBookingsOf gives bookings given.day more
+  pub refused : IsAmendRefusal (amended given.earlier.rows given.earlier.assigned more) given.earlier.channels output fault
+  pub told : IsToldOf given.earlier more fault
 
 -- the words name a day
 abbrev pub IsSomeDay : List ℕ → List ℕ → Type 0
 IsSomeDay date zone = (day : Day) × IsDayOf date zone day
 
 -- the earlier plan was read, and no more bookings
-pub record IsWithoutMore (gives : List ℕ → Option (List ℕ) → Type 0) (date zone plan bookings : List ℕ) (fault : FileFault) : Type 0 where
-  pub day : Day
-  pub day_of : IsDayOf date zone day
-  pub earlier : Parts
-  pub earlier_of : IsPlanOf gives plan earlier
-  pub none : HasNoBookings gives bookings day fault
+abbrev pub IsWithoutMore : (List ℕ → Option (List ℕ) → Type 0) → List ℕ → List ℕ → List ℕ → List ℕ → FileFault → Type 0
+IsWithoutMore gives date zone plan bookings fault = (given : IsEarlier gives date zone plan) × HasNoBookings gives bookings given.day fault
 
 abbrev pub IsNotAmended : {W : Type 0} → (List ℕ → Option (List ℕ) → Type 0) → List ℕ → List ℕ → List ℕ → List ℕ → (W → Option (List ℕ)) → Watched W → Watched W → FileFault → Type 0
 IsNotAmended gives date zone plan bookings contents old new (files.Amend fault) = IsUnamended gives date zone plan bookings (writing_of contents old new) fault

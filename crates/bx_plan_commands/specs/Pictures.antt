@@ -14,8 +14,7 @@ use Rattle.bx_plan_commands.specs.declared.fault.FileFault.{FileFault}
 use Rattle.bx_plan_commands.specs.declared.fault.FileFault.TheVariants.{Chart}
 use Rattle.bx_planner.specs.Earnings.{IsEarning}
 use Rattle.bx_planner.specs.declared.earnings.Earning.TheVariants.{Most}
-use Rattle.bx_check_commands.specs.Inputs.{IsPlanOf, IsNoProvedOf}
-use Rattle.bx_check_commands.specs.Proved.{IsProvedFor}
+use Rattle.bx_check_commands.specs.Inputs.{IsPlanOf, IsProvedOf, IsNoProvedOf}
 use Rattle.bx_check_commands.specs.declared.fault.CommandFault.{CommandFault}
 use Rattle.bx_check_commands.specs.declared.fault.CommandFault.TheVariants.{Memory}
 
@@ -30,30 +29,23 @@ abbrev pub IsNoClock : Option (Bor (List ℕ) × Bor (List ℕ)) → FileFault �
 IsNoClock None fault = ⊥
 IsNoClock (Some (date, zone)) fault = IsNoDay date.now zone.now fault
 
--- a picture of the plan that an input of this name gave, which is proved for its own bookings and channels, was written, with what
--- one more channel would add to its total, and the hours of that clock
-pub record IsPictured (gives : List ℕ → Option (List ℕ) → Type 0) (day : Option (Bor (List ℕ) × Bor (List ℕ))) (name : List ℕ) (output : Writing) : Type 0 where
+-- the plan that an input of this name gave, which is proved for its own bookings and channels, what one more channel would add to its total, and that
+-- clock
+pub record IsDrawable (gives : List ℕ → Option (List ℕ) → Type 0) (day : Option (Bor (List ℕ) × Bor (List ℕ))) (name : List ℕ) : Type 0 where
   pub plan : Parts
-  pub plan_of : IsPlanOf gives name plan
-  pub total : ℕ
-  pub proved : IsProvedFor plan.rows plan.channels plan total
+  pub proved_of : IsProvedOf gives name plan
   pub gain : ℕ
   pub gain_of : IsEarning plan.rows (count_of plan.channels) (Most plan.total gain)
   pub clock : Option Clock
   pub clock_of : IsClockOf day clock
-  pub drawn : IsDrawn plan gain clock output
+
+-- a picture of such a plan was written, with that gain and the hours of that clock
+abbrev pub IsPictured : (List ℕ → Option (List ℕ) → Type 0) → Option (Bor (List ℕ) × Bor (List ℕ)) → List ℕ → Writing → Type 0
+IsPictured gives day name output = (sight : IsDrawable gives day name) × IsDrawn sight.plan sight.gain sight.clock output
 
 -- or it was not
-pub record IsUndrawn (gives : List ℕ → Option (List ℕ) → Type 0) (day : Option (Bor (List ℕ) × Bor (List ℕ))) (name : List ℕ) (output : Writing) (fault : ChartFault) : Type 0 where
-  pub plan : Parts
-  pub plan_of : IsPlanOf gives name plan
-  pub total : ℕ
-  pub proved : IsProvedFor plan.rows plan.channels plan total
-  pub gain : ℕ
-  pub gain_of : IsEarning plan.rows (count_of plan.channels) (Most plan.total gain)
-  pub clock : Option Clock
-  pub clock_of : IsClockOf day clock
-  pub refused : IsChartRefusal plan gain clock output fault
+abbrev pub IsUndrawn : (List ℕ → Option (List ℕ) → Type 0) → Option (Bor (List ℕ) × Bor (List ℕ)) → List ℕ → Writing → ChartFault → Type 0
+IsUndrawn gives day name output fault = (sight : IsDrawable gives day name) × IsChartRefusal sight.plan sight.gain sight.clock output fault
 
 -- the words name a clock, or none
 abbrev pub IsSomeClock : Option (Bor (List ℕ) × Bor (List ℕ)) → Type 0

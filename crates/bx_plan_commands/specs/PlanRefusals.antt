@@ -8,8 +8,7 @@ use Rattle.bx_plan_commands.specs.Calls.{IsCallOf, IsNoCall}
 use Rattle.bx_plan_commands.specs.FileRefusals.{IsFileFault}
 use Rattle.bx_plan_commands.specs.declared.fault.FileFault.{FileFault}
 use Rattle.bx_plan_commands.specs.declared.fault.FileFault.TheVariants as files
-use Rattle.bx_check_commands.specs.Inputs.{IsPlanOf, IsNoProvedOf}
-use Rattle.bx_check_commands.specs.Proved.{IsProvedFor}
+use Rattle.bx_check_commands.specs.Inputs.{IsProvedOf, IsNoProvedOf}
 use Rattle.bx_quote.specs.Writing.{IsQuoteRefusal, IsExplainRefusal, IsListRefusal}
 use Rattle.bx_quote.specs.declared.writing.QuoteFault.{QuoteFault}
 use Rattle.bx_request.specs.declared.request.Call.{Call}
@@ -22,12 +21,8 @@ IsUntold None plan output fault = IsListRefusal plan output fault
 IsUntold (Some row) plan output fault = IsExplainRefusal plan row output fault
 
 -- so it is with the plan that an input of this name gave, which is proved for its own bookings and channels
-pub record IsUnexplained (gives : List ℕ → Option (List ℕ) → Type 0) (row : Option ℕ) (name : List ℕ) (output : Writing) (fault : QuoteFault) : Type 0 where
-  pub plan : Parts
-  pub plan_of : IsPlanOf gives name plan
-  pub total : ℕ
-  pub proved : IsProvedFor plan.rows plan.channels plan total
-  pub untold : IsUntold row plan output fault
+abbrev pub IsUnexplained : (List ℕ → Option (List ℕ) → Type 0) → Option ℕ → List ℕ → Writing → QuoteFault → Type 0
+IsUnexplained gives row name output fault = (plan : Parts) × IsProvedOf gives name plan × IsUntold row plan output fault
 
 abbrev pub IsNotExplained : {W : Type 0} → (List ℕ → Option (List ℕ) → Type 0) → Option ℕ → List ℕ → (W → Option (List ℕ)) → Watched W → Watched W → FileFault → Type 0
 IsNotExplained gives row name contents old new (files.Quote fault) = IsUnexplained gives row name (writing_of contents old new) fault
@@ -38,9 +33,7 @@ IsNotExplained gives row name contents old new fault = IsFileFault (IsNoProvedOf
 -- no quote of the call was written beside such a plan
 pub record IsUnquoted (gives : List ℕ → Option (List ℕ) → Type 0) (call : Call) (name : List ℕ) (output : Writing) (fault : QuoteFault) : Type 0 where
   pub plan : Parts
-  pub plan_of : IsPlanOf gives name plan
-  pub total : ℕ
-  pub proved : IsProvedFor plan.rows plan.channels plan total
+  pub proved_of : IsProvedOf gives name plan
   pub booking : Row
   pub call_of : IsCallOf call booking
   pub refused : IsQuoteRefusal plan booking output fault

@@ -15,13 +15,16 @@ use Rattle.bx_plan_commands.specs.declared.fault.FileFault.TheVariants as files
 use Rattle.bx_plan_commands.specs.Capacity.{IsTabled, IsCapacityRefusal}
 use Rattle.bx_plan_commands.specs.declared.earning.CapacityFault.TheVariants as capacity
 
--- the words name a day, an input of this name was read, and just the lines of its bookings were written
-pub record IsTableWritten (gives : List ℕ → Option (List ℕ) → Type 0) (date zone bookings : List ℕ) (output : Writing) : Type 0 where
+-- the words name a day, and an input of this name was read from its beginning
+pub record IsInputOn (gives : List ℕ → Option (List ℕ) → Type 0) (date zone bookings : List ℕ) : Type 0 where
   pub day : Day
   pub day_of : IsDayOf date zone day
   pub input : Reading
   pub of_name : IsReadOf gives bookings input
-  pub tabled : IsTabled input output (span_of day)
+
+-- and just the lines of its bookings were written
+abbrev pub IsTableWritten : (List ℕ → Option (List ℕ) → Type 0) → List ℕ → List ℕ → List ℕ → Writing → Type 0
+IsTableWritten gives date zone bookings output = (given : IsInputOn gives date zone bookings) × IsTabled given.input output (span_of given.day)
 
 -- the faults of the run, as this command tells them of an input of this name
 abbrev pub IsTableFault : List ℕ → Reading → Writing → Span → FileFault → Type 0
@@ -33,12 +36,8 @@ IsTableFault name input output span (files.Command Memory) = IsCapacityRefusal i
 IsTableFault name input output span _ = ⊥
 
 -- an input was opened, and the run over it refused
-pub record IsUntabled (gives : List ℕ → Option (List ℕ) → Type 0) (date zone bookings : List ℕ) (output : Writing) (fault : FileFault) : Type 0 where
-  pub day : Day
-  pub day_of : IsDayOf date zone day
-  pub input : Reading
-  pub of_name : IsReadOf gives bookings input
-  pub refused : IsTableFault bookings input output (span_of day) fault
+abbrev pub IsUntabled : (List ℕ → Option (List ℕ) → Type 0) → List ℕ → List ℕ → List ℕ → Writing → FileFault → Type 0
+IsUntabled gives date zone bookings output fault = (given : IsInputOn gives date zone bookings) × IsTableFault bookings given.input output (span_of given.day) fault
 
 abbrev pub IsTableRefusal : {W : Type 0} → (List ℕ → Option (List ℕ) → Type 0) → List ℕ → List ℕ → List ℕ → (W → Option (List ℕ)) → Watched W → Watched W → FileFault → Type 0
 IsTableRefusal gives date zone bookings contents old new fault =

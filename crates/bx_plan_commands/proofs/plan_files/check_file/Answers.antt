@@ -8,25 +8,13 @@ pub returns-in_err-rows-clause-refused : goal.returns-in_err-rows-clause-refused
 returns-in_err-rows-clause-refused g c =
     let p = err_from_is_err_and c.from_residual-in_err-rows.result c.from_residual-in_err-rows.ensures.1 in
     rw (p.1, p.2) (inl (
-      inr (inl (record {
-        channels = c.in_ok-channels.channels;
-        day = c.in_ok-channels.day;
-        named = c.in_ok-channels.ensures.named;
-        none = c.in_err-rows.ensures.none;
-      })),
+      inr (inl (c.in_ok-channels.channels, c.in_ok-channels.day, c.in_ok-channels.ensures.named, c.in_err-rows.ensures.none)),
       refl {a = c.args.output.now},
     ))
 
 pub returns-in-Err-clause-refused : goal.returns-in-Err-clause-refused
 returns-in-Err-clause-refused g c = inl (
-  inr (inr (record {
-    channels = c.in_ok-channels.channels;
-    day = c.in_ok-channels.day;
-    named = c.in_ok-channels.ensures.named;
-    rows = c.in_ok-rows.rows;
-    rows_of = c.in_ok-rows.ensures.found;
-    unopened = c.in-Err.ensures.unopened;
-  })),
+  inr (inr (record { channels = c.in_ok-channels.channels; day = c.in_ok-channels.day; named = c.in_ok-channels.ensures.named; rows = c.in_ok-rows.rows; rows_of = c.in_ok-rows.ensures.found }, c.in-Err.ensures.unopened)),
   refl,
 )
 
@@ -34,11 +22,7 @@ pub returns-in-Ok-check_against-clause-checked : goal.returns-in-Ok-check_agains
 returns-in-Ok-check_against-clause-checked g c =
     let input = reading_of g.I.Reader.Read.remaining c.in-Ok.input c.check_against.new.input in
     record {
-      channels = c.in_ok-channels.channels;
-      day = c.in_ok-channels.day;
-      named = c.in_ok-channels.ensures.named;
-      rows = c.in_ok-rows.rows;
-      rows_of = c.in_ok-rows.ensures.found;
+      given = record { channels = c.in_ok-channels.channels; day = c.in_ok-channels.day; named = c.in_ok-channels.ensures.named; rows = c.in_ok-rows.rows; rows_of = c.in_ok-rows.ensures.found };
       input = input;
       of_name = read_before (g.I.Inputs.gives c.args.inputs.now) (g.I.Inputs.gives c.bookings_named.new.inputs) c.in_ok-rows.ensures.no_more c.args.plan.now input
           (record { given = c.in-Ok.ensures.opened; unfaulted = c.in-Ok.ensures.unfaulted; unread = c.in-Ok.ensures.unread });
@@ -51,11 +35,7 @@ pub returns-clause-refused : goal.returns-clause-refused
 returns-clause-refused g c =
     let input = reading_of g.I.Reader.Read.remaining c.in-Ok.input c.check_against.new.input in
     inr (record {
-      channels = c.in_ok-channels.channels;
-      day = c.in_ok-channels.day;
-      named = c.in_ok-channels.ensures.named;
-      rows = c.in_ok-rows.rows;
-      rows_of = c.in_ok-rows.ensures.found;
+      given = record { channels = c.in_ok-channels.channels; day = c.in_ok-channels.day; named = c.in_ok-channels.ensures.named; rows = c.in_ok-rows.rows; rows_of = c.in_ok-rows.ensures.found };
       input = input;
       of_name = read_before (g.I.Inputs.gives c.args.inputs.now) (g.I.Inputs.gives c.bookings_named.new.inputs) c.in_ok-rows.ensures.no_more c.args.plan.now input
           (record { given = c.in-Ok.ensures.opened; unfaulted = c.in-Ok.ensures.unfaulted; unread = c.in-Ok.ensures.unread });

@@ -9,11 +9,13 @@ returns-in-Err-clause-refused g c = (inr ((c.in_ok-channels.channels, c.in_ok-ch
 pub returns-in-Ok-plan_run-clause-planned : goal.returns-in-Ok-plan_run-clause-planned
 returns-in-Ok-plan_run-clause-planned g c = record {
   planned = record {
-    channels = c.in_ok-channels.channels;
-    day = c.in_ok-channels.day;
-    named = c.in_ok-channels.ensures.named;
-    input = reading_of g.I.Reader.Read.remaining c.in-Ok.input c.plan_run.new.input;
-    of_name = record { given = c.in-Ok.ensures.opened; unfaulted = c.in-Ok.ensures.unfaulted; unread = c.in-Ok.ensures.unread };
+    given = record {
+      channels = c.in_ok-channels.channels;
+      day = c.in_ok-channels.day;
+      named = c.in_ok-channels.ensures.named;
+      input = reading_of g.I.Reader.Read.remaining c.in-Ok.input c.plan_run.new.input;
+      of_name = record { given = c.in-Ok.ensures.opened; unfaulted = c.in-Ok.ensures.unfaulted; unread = c.in-Ok.ensures.unread };
+    };
     plan = parts_of c.in-Ok-plan_run.plan;
     run = c.in-Ok-plan_run.ensures.planned;
   };
@@ -21,11 +23,7 @@ returns-in-Ok-plan_run-clause-planned g c = record {
 }
 
 pub returns-clause-refused : goal.returns-clause-refused
-returns-clause-refused g c = record {
-  channels = c.in_ok-channels.channels;
-  day = c.in_ok-channels.day;
-  named = c.in_ok-channels.ensures.named;
-  input = reading_of g.I.Reader.Read.remaining c.in-Ok.input c.plan_run.new.input;
-  of_name = record { given = c.in-Ok.ensures.opened; unfaulted = c.in-Ok.ensures.unfaulted; unread = c.in-Ok.ensures.unread };
-  refused = c.in-Err-plan_run.ensures.refused;
-}
+returns-clause-refused g c = (
+  record { channels = c.in_ok-channels.channels; day = c.in_ok-channels.day; named = c.in_ok-channels.ensures.named; input = reading_of g.I.Reader.Read.remaining c.in-Ok.input c.plan_run.new.input; of_name = record { given = c.in-Ok.ensures.opened; unfaulted = c.in-Ok.ensures.unfaulted; unread = c.in-Ok.ensures.unread } },
+  c.in-Err-plan_run.ensures.refused,
+)

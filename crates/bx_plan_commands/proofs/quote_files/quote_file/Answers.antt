@@ -5,9 +5,7 @@ use Rattle.bx_plan_commands.proofs.quote_files.quote_file.Goals as goal
 pub returns-in-Ok-write_quote-clause-quoted : goal.returns-in-Ok-write_quote-clause-quoted
 returns-in-Ok-write_quote-clause-quoted g c = record {
   plan = parts_of c.in-Ok.plan;
-  plan_of = c.in-Ok.ensures.found;
-  total = c.in-Ok.ensures.proved.0;
-  proved = c.in-Ok.ensures.proved.1;
+  proved_of = c.in-Ok.ensures.found;
   booking = c.in_ok-booking.booking;
   call_of = c.in_ok-booking.ensures.booking;
   told = search rules steps 1000000;
@@ -16,9 +14,7 @@ returns-in-Ok-write_quote-clause-quoted g c = record {
 pub returns-clause-refused : goal.returns-clause-refused
 returns-clause-refused g c = record {
   plan = parts_of c.in-Ok.plan;
-  plan_of = c.in-Ok.ensures.found;
-  total = c.in-Ok.ensures.proved.0;
-  proved = c.in-Ok.ensures.proved.1;
+  proved_of = c.in-Ok.ensures.found;
   booking = c.in_ok-booking.booking;
   call_of = c.in_ok-booking.ensures.booking;
   refused = search rules steps 1000000;
