@@ -11,7 +11,7 @@ use Rattle.bx_devices.specs.declared.watched.Watched.{Watched}
 use Rattle.bx_journal.specs.Follows.{IsFollowed}
 use Rattle.bx_journal.specs.Heads.{of_any_day}
 use Rattle.bx_journal.specs.declared.fault.JournalFault.{JournalFault}
-use Rattle.bx_journal.specs.declared.fault.JournalFault.TheVariants.{BadLine, OtherPlan, OtherDay, OtherRules, NotBegun, ReadFailed}
+use Rattle.bx_journal.specs.declared.fault.JournalFault.TheVariants.{NotBegun}
 use Rattle.bx_journal.specs.declared.head.Wanted.{Wanted}
 use Rattle.bx_audit.specs.Audits.{IsAudited, IsKeptSoFar}
 use Rattle.bx_events.specs.Events.{Event, LiveEvent, OnLink, WithoutLink, Sold}
@@ -108,10 +108,5 @@ same_taken d d1 f f1 n n1 p q r = cc
 
 -- some events were followed, whatever came of it
 pub followed_some : {F : Type 0} (followed : F → List LiveEvent → F → Type 0) (faulted : Bool) (before after : Option (List ℕ)) (wanted : Wanted) (f g : F) (result : Result ℕ JournalFault) → IsFollowed followed faulted before after wanted f g result → (events : List LiveEvent) × followed f events g
-followed_some followed faulted before after wanted f g (Ok n) r = (r.events, r.followed_all)
-followed_some followed faulted before after wanted f g (Err (BadLine n)) r = (r.events, r.followed_all)
-followed_some followed faulted before after wanted f g (Err OtherPlan) r = (r.events, r.followed_all)
-followed_some followed faulted before after wanted f g (Err OtherDay) r = (r.events, r.followed_all)
-followed_some followed faulted before after wanted f g (Err OtherRules) r = (r.events, r.followed_all)
 followed_some followed faulted before after wanted f g (Err NotBegun) r = ([], r.followed_none)
-followed_some followed faulted before after wanted f g (Err ReadFailed) r = (r.events, r.followed_all)
+followed_some followed faulted before after wanted f g result r = (r.events, r.followed_all)

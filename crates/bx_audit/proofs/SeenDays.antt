@@ -41,19 +41,6 @@ module _ (channels : List Bool) (wanted : Wanted) (before : Option (List ℕ)) (
 
 -- a fault of the journal's text
 pub not_seen : (name : List ℕ) (wanted : Wanted) (channels : List Bool) (opened : Day) (before after : Option (List ℕ)) (faulted : Bool) (fault : DayCommandFault) → IsNoJournal name wanted before after faulted fault → IsNotSeen name wanted channels opened before after faulted fault
-not_seen name wanted channels opened before after faulted (faults.Journal why) none = none
-not_seen name wanted channels opened before after faulted (faults.Command (commands.CannotRead n)) none = none
-not_seen name wanted channels opened before after faulted (faults.Command commands.CannotWrite) none = none
-not_seen name wanted channels opened before after faulted (faults.Command (commands.Plan why)) none = none
-not_seen name wanted channels opened before after faulted (faults.Command (commands.Check why)) none = none
-not_seen name wanted channels opened before after faulted (faults.Command commands.NotHex) none = none
-not_seen name wanted channels opened before after faulted (faults.Command (commands.Message why)) none = none
 not_seen name wanted channels opened before after faulted (faults.Command commands.Memory) none = tt
 not_seen name wanted channels opened before after faulted (faults.Sale why) none = absurd none
-not_seen name wanted channels opened before after faulted (faults.Script why) none = none
-not_seen name wanted channels opened before after faulted (faults.Day why) none = none
-not_seen name wanted channels opened before after faulted (faults.Capture why) none = none
-not_seen name wanted channels opened before after faulted faults.CannotListen none = none
-not_seen name wanted channels opened before after faulted faults.CannotConnect none = none
-not_seen name wanted channels opened before after faulted (faults.CannotWriteFile why) none = none
-not_seen name wanted channels opened before after faulted (faults.Link why) none = none
+not_seen name wanted channels opened before after faulted fault none = none

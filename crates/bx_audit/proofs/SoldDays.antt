@@ -60,6 +60,26 @@ module _ (gives : List ℕ → Option (List ℕ) → Type 0) (plan journal : Lis
       let here = (subst (λ (rs : List Row). IsTooManyMust rs channels t) h.rows_are many).here in
       absurd (omega (arith, few, here))
 
+  -- as many marks as bookings
+  marked : length (marks_of day) ≡ length (rows_of day)
+  marked = length-map day.entries (λ (e : Entry). not (is_refused e.standing)) ∙ sym (length-map day.entries (λ (e : Entry). e.booking))
+
+  proved_of : (last : Parts) → IsPlanOfDay day channels last → IsOutcome last.rows last.channels last (Ok last.total)
+  proved_of last p =
+      let h = has_rows in
+      let all = morning.rows ++ sold in
+      let count = told.opens.tied.2.limits.one_each in
+      let accepted : map is_some last.assigned ≡ map is_some morning.assigned ++ map (λ (row : Row). true) sold = first_fit_marks (rows_of day) channels (marks_of day) last.assigned marked p.first_fit ∙ h.marks_are in
+      let carries = subst (λ (rs : List Row). Carries rs channels (is_accepted last.assigned) (channel_at last.assigned)) h.rows_are p.carried in
+      let prices = subst (λ (rs : List Row). ArePrices rs channels last.prices last.total) h.rows_are p.priced in
+      let still = still_lawful morning.rows sold channels morning.assigned count lawful best last.assigned accepted carries in
+      let most = still_best morning.rows sold channels morning.assigned count lawful best last.assigned accepted prices.set prices.lawful in
+      let least = prices.best (is_accepted last.assigned) still in
+      let paid : last.total ≡ pay_of all (is_accepted last.assigned) = omega (arith, most, least, prices.paid) in
+      let outcome = plan_is_proved all channels last.assigned last.prices last.total carries still paid prices.proves in
+      subst (λ (rs : List Row). IsOutcome rs last.channels (planned rs last.channels last.assigned last.prices last.total) (Ok last.total)) (sym (p.rows_are ∙ h.rows_are))
+      (subst (λ (cs : List Bool). IsOutcome all cs (planned all cs last.assigned last.prices last.total) (Ok last.total)) (sym p.in_service) outcome)
+
   pub last_of : (last : Parts) → IsPlanOfDay day channels last → IsLastPlan gives plan journal last
   last_of last p =
       let h = has_rows in
@@ -76,24 +96,6 @@ module _ (gives : List ℕ → Option (List ℕ) → Type 0) (plan journal : Lis
         first_fit = subst (λ (rs : List Row). IsFirstFit rs last.channels (map is_some morning.assigned ++ map (λ (row : Row). true) sold) last.assigned) (sym p.rows_are)
             (subst (λ (ms : List Bool). IsFirstFit (rows_of day) last.channels ms last.assigned) h.marks_are
             (subst (λ (cs : List Bool). IsFirstFit (rows_of day) cs (marks_of day) last.assigned) (sym p.in_service) p.first_fit));
+        total = last.total;
+        proved = proved_of last p;
       }
-
-  -- as many marks as bookings
-  marked : length (marks_of day) ≡ length (rows_of day)
-  marked = length-map day.entries (λ (e : Entry). not (is_refused e.standing)) ∙ sym (length-map day.entries (λ (e : Entry). e.booking))
-
-  pub proved_of : (last : Parts) → IsPlanOfDay day channels last → IsOutcome last.rows last.channels last (Ok last.total)
-  proved_of last p =
-      let h = has_rows in
-      let all = morning.rows ++ sold in
-      let count = told.opens.tied.2.limits.one_each in
-      let accepted : map is_some last.assigned ≡ map is_some morning.assigned ++ map (λ (row : Row). true) sold = first_fit_marks (rows_of day) channels (marks_of day) last.assigned marked p.first_fit ∙ h.marks_are in
-      let carries = subst (λ (rs : List Row). Carries rs channels (is_accepted last.assigned) (channel_at last.assigned)) h.rows_are p.carried in
-      let prices = subst (λ (rs : List Row). ArePrices rs channels last.prices last.total) h.rows_are p.priced in
-      let still = still_lawful morning.rows sold channels morning.assigned count lawful best last.assigned accepted carries in
-      let most = still_best morning.rows sold channels morning.assigned count lawful best last.assigned accepted prices.set prices.lawful in
-      let least = prices.best (is_accepted last.assigned) still in
-      let paid : last.total ≡ pay_of all (is_accepted last.assigned) = omega (arith, most, least, prices.paid) in
-      let outcome = plan_is_proved all channels last.assigned last.prices last.total carries still paid prices.proves in
-      subst (λ (rs : List Row). IsOutcome rs last.channels (planned rs last.channels last.assigned last.prices last.total) (Ok last.total)) (sym (p.rows_are ∙ h.rows_are))
-      (subst (λ (cs : List Bool). IsOutcome all cs (planned all cs last.assigned last.prices last.total) (Ok last.total)) (sym p.in_service) outcome)

@@ -17,7 +17,7 @@ use Rattle.bx_request.specs.declared.request.SoldRequest.{SoldRequest}
 use Rattle.bx_sales.specs.Journal.{sold_in}
 
 -- The plan of the morning that one input gave, which is proved, with what the journal that another one gave says was sold: the bookings of the morning, and
--- behind them those that were sold; accepted is what the morning accepted, and each that was sold. The channels are those of first fit.
+-- behind them those that were sold; accepted is what the morning accepted, and each that was sold. The channels are those of first fit, and its prices prove it.
 pub record IsLastPlan (gives : List ℕ → Option (List ℕ) → Type 0) (plan journal : List ℕ) (last : Parts) : Type 0 where
   pub morning : Parts
   pub digest : List ℕ
@@ -29,12 +29,12 @@ pub record IsLastPlan (gives : List ℕ → Option (List ℕ) → Type 0) (plan 
   pub rows_are : last.rows ≡ morning.rows ++ sold_in row_on events
   pub in_service : last.channels ≡ morning.channels
   pub first_fit : IsFirstFit last.rows last.channels (map is_some morning.assigned ++ map (λ (row : Row). true) (sold_in row_on events)) last.assigned
+  pub total : ℕ
+  pub proved : IsOutcome last.rows last.channels last (Ok total)
 
--- the text of such a plan was written, which its prices prove
+-- the text of such a plan was written
 pub record IsSoldTold (gives : List ℕ → Option (List ℕ) → Type 0) (request : SoldRequest) (output : Writing) : Type 0 where
   pub last : Parts
   pub is : IsLastPlan gives request.plan.now request.journal.now last
-  pub total : ℕ
-  pub proved : IsOutcome last.rows last.channels last (Ok total)
   pub limits : IsPlan last
   pub written : Appends output.before output.after (plan_text Three last)

@@ -1,7 +1,6 @@
 -- Why the last plan of a day is not written, and what was written then.
-use Rattle.std.specs.Prelude.{◌≡◌, ℕ, true, List, Option, Ok}
+use Rattle.std.specs.Prelude.{◌≡◌, ℕ, true, List, Option}
 use Rattle.bx_base.specs.PlanParts.{Parts}
-use Rattle.bx_check.specs.Check.{IsOutcome}
 use Rattle.bx_check_commands.specs.declared.fault.CommandFault.TheVariants.{CannotWrite, Memory}
 use Rattle.bx_day_openings.specs.declared.fault.DayCommandFault.{DayCommandFault}
 use Rattle.bx_day_openings.specs.declared.fault.DayCommandFault.TheVariants.{Command}
@@ -18,8 +17,6 @@ use Rattle.bx_audit.specs.Unrecorded.{IsUntold}
 pub record IsSoldCut (gives : List ℕ → Option (List ℕ) → Type 0) (request : SoldRequest) (output : Writing) : Type 0 where
   pub last : Parts
   pub is : IsLastPlan gives request.plan.now request.journal.now last
-  pub total : ℕ
-  pub proved : IsOutcome last.rows last.channels last (Ok total)
   pub faulted : output.is_faulted ≡ true
   pub written : AppendsPrefix output.before output.after (plan_text Three last)
 

@@ -12,7 +12,7 @@ use bx_chart::ChartFault;
 use bx_check_commands::{CommandFault, Inputs};
 use bx_day::Exchange;
 use bx_day_chart::{DaySight, is_over, write_day_chart};
-use bx_day_openings::{DayCommandFault, DayOpening, clock_of, day_opening};
+use bx_day_openings::{DayCommandFault, clock_of, day_opening};
 use bx_devices::Watched;
 use bx_journal::Wanted;
 use bx_request::DayChartRequest;
@@ -37,17 +37,14 @@ fn day_seen<'a, I: Inputs>(
     ensures seen { IfOk result (λ seen. IsDaySeen (I.gives inputs.old) plan.now journal.now seen.channels seen.exchange (sight_of seen.sight)) }
     ensures unseen { IfErr result (IsUnseen (I.gives inputs.old) plan.now journal.now) }
 {
-    let DayOpening {
-        exchange,
-        channels,
-        digest,
-    } = day_opening(alloc, inputs, plan)?;
+    let day = day_opening(alloc, inputs, plan)?;
     let mut input = match inputs.open(journal) {
         Ok(input) => input,
         Err(fault) => return Err(DayCommandFault::Command(fault)),
     };
-    let wanted = Wanted::of_any_day(&digest);
-    match seen_by(alloc, journal, &mut input, &wanted, channels, exchange) {
+    let wanted = Wanted::of_any_day(&day.digest);
+    let channels = day.channels;
+    match seen_by(alloc, journal, &mut input, &wanted, channels, day.exchange) {
         Ok(seen) => {
             let is_over = is_over(&seen.exchange);
             let sight = DaySight {

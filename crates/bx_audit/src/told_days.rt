@@ -7,7 +7,7 @@ ghost use Rattle.bx_audit.specs.Unrecorded.{IsUntold};
 use bx_base::ChannelSet;
 use bx_check_commands::Inputs;
 use bx_day::Exchange;
-use bx_day_openings::{DayCommandFault, DayOpening, day_opening, replay_journal};
+use bx_day_openings::{DayCommandFault, day_opening, replay_journal};
 use bx_journal::Wanted;
 use std::alloc::Global;
 
@@ -28,17 +28,14 @@ pub(crate) fn told_by<'a, I: Inputs>(
     ensures told { IfOk result (λ told. IsDayTold (I.gives inputs.old) plan.now journal.now told.channels told.exchange) }
     ensures untold { IfErr result (IsUntold (I.gives inputs.old) plan.now journal.now) }
 {
-    let DayOpening {
-        exchange,
-        channels,
-        digest,
-    } = day_opening(alloc, inputs, plan)?;
+    let day = day_opening(alloc, inputs, plan)?;
     let mut input = match inputs.open(journal) {
         Ok(input) => input,
         Err(fault) => return Err(DayCommandFault::Command(fault)),
     };
-    let wanted = Wanted::of_any_day(&digest);
-    match replay_journal(alloc, journal, &mut input, &wanted, channels, exchange) {
+    let wanted = Wanted::of_any_day(&day.digest);
+    let channels = day.channels;
+    match replay_journal(alloc, journal, &mut input, &wanted, channels, day.exchange) {
         Ok(replayed) => Ok(ToldDay {
             exchange: replayed.exchange,
             channels,

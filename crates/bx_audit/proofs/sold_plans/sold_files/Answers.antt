@@ -1,5 +1,5 @@
 use Rattle.bx_base.specs.PlanParts.{parts_of}
-use Rattle.bx_audit.proofs.SoldDays.{day_fits, day_room, last_of, proved_of}
+use Rattle.bx_audit.proofs.SoldDays.{day_fits, day_room, last_of}
 use Rattle.bx_audit.proofs.sold_plans.sold_files.Goals as goal
 
 pub last_plan-requires-clause-fits : goal.last_plan-requires-clause-fits
@@ -13,31 +13,17 @@ last_plan-requires-clause-room g c t many =
     day_room (g.I.Inputs.gives c.args.inputs.now) c.args.request.plan.now c.args.request.journal.now day.channels day.exchange c.in_ok-day.ensures.told t many
 
 pub returns-in-Ok-write_plan-clause-done : goal.returns-in-Ok-write_plan-clause-done
-returns-in-Ok-write_plan-clause-done g c =
-    let day = c.in_ok-day.day in
-    let of_day = c.in-Ok.ensures in
-    let gives = g.I.Inputs.gives c.args.inputs.now in
-    let last = parts_of c.in-Ok.last in
-    record {
-      last = last;
-      is = last_of gives c.args.request.plan.now c.args.request.journal.now day.channels day.exchange c.in_ok-day.ensures.told last of_day;
-      total = last.total;
-      proved = proved_of gives c.args.request.plan.now c.args.request.journal.now day.channels day.exchange c.in_ok-day.ensures.told last of_day;
-      limits = c.in-Ok-write_plan.ensures.limits;
-      written = c.in-Ok-write_plan.ensures.ok;
-    }
+returns-in-Ok-write_plan-clause-done g c = record {
+  last = parts_of c.in-Ok.last;
+  is = last_of (g.I.Inputs.gives c.args.inputs.now) c.args.request.plan.now c.args.request.journal.now c.in_ok-day.day.channels c.in_ok-day.day.exchange c.in_ok-day.ensures.told (parts_of c.in-Ok.last) c.in-Ok.ensures;
+  limits = c.in-Ok-write_plan.ensures.limits;
+  written = c.in-Ok-write_plan.ensures.ok;
+}
 
 pub returns-clause-refused : goal.returns-clause-refused
-returns-clause-refused g c =
-    let day = c.in_ok-day.day in
-    let of_day = c.in-Ok.ensures in
-    let gives = g.I.Inputs.gives c.args.inputs.now in
-    let last = parts_of c.in-Ok.last in
-    record {
-      last = last;
-      is = last_of gives c.args.request.plan.now c.args.request.journal.now day.channels day.exchange c.in_ok-day.ensures.told last of_day;
-      total = last.total;
-      proved = proved_of gives c.args.request.plan.now c.args.request.journal.now day.channels day.exchange c.in_ok-day.ensures.told last of_day;
-      faulted = c.in-Err.ensures.err;
-      written = c.in-Err.ensures.prefix;
-    }
+returns-clause-refused g c = record {
+  last = parts_of c.in-Ok.last;
+  is = last_of (g.I.Inputs.gives c.args.inputs.now) c.args.request.plan.now c.args.request.journal.now c.in_ok-day.day.channels c.in_ok-day.day.exchange c.in_ok-day.ensures.told (parts_of c.in-Ok.last) c.in-Ok.ensures;
+  faulted = c.in-Err.ensures.err;
+  written = c.in-Err.ensures.prefix;
+}
