@@ -9,7 +9,7 @@ use Rattle.bx_far.specs.Course.{far_next, far_live_after, far_text}
 use Rattle.bx_live.specs.declared.world.Begin.{Begin}
 use Rattle.bx_live.specs.declared.world.Begin.TheVariants as begins
 use Rattle.bx_live.specs.declared.world.Loss.{Loss}
-use Rattle.bx_live.specs.Acts.{Act, Began, Dropped, Recorded, Synced, Wrote, Read, Took, EndedDay}
+use Rattle.bx_live.specs.Acts.{Act, Began, Wrote, Read}
 use Rattle.bx_far_live.specs.Events.{far_events}
 use Rattle.bx_far_live.specs.Runs.{Place, Between, Owing, Hearing, Losing, IsDue, IsFarRun, next, day_at, owing}
 use Rattle.bx_far_live.proofs.Due.{by_due}
@@ -25,9 +25,7 @@ Steps p act = day_at (next p act) ≡ far_after (act ∷ []) (day_at p)
 
 begun_day : (d : FarDay) (begin : Begin) → Steps (Between d) (Began (d.moment + 1) begin)
 begun_day d begins.Late = refl
-begun_day d begins.Alone = refl
-begun_day d begins.Joined = refl
-begun_day d begins.Ended = refl
+begun_day d begin = refl
 
 wrote_day : (d : FarDay) (room : ℕ) (text : List ℕ) (done : Bool) → Steps (Owing d room text) (Wrote text done)
 wrote_day d room text true = refl
@@ -54,19 +52,8 @@ step_day = by_due Steps begun_day wrote_day heard_day (λ d loss. refl) (λ d. r
 
 pub more_taken : (act : Act) (acts : List Act) (d : FarDay) → far_after (act ∷ acts) d ≡ far_after acts (far_after (act ∷ []) d)
 more_taken (Began second begins.Late) acts d = refl
-more_taken (Began second begins.Alone) acts d = refl
-more_taken (Began second begins.Joined) acts d = refl
-more_taken (Began second begins.Ended) acts d = refl
-more_taken (Dropped loss) acts d = refl
-more_taken (Recorded event done) acts d = refl
-more_taken (Synced done) acts d = refl
-more_taken (Wrote octets done) acts d = refl
-more_taken (Read room (Ok (frames.Message octets))) acts d = refl
-more_taken (Read room (Ok (frames.EndOfTurn said))) acts d = refl
 more_taken (Read room (Ok frames.EndOfDay)) acts d = refl
-more_taken (Read room (Err fault)) acts d = refl
-more_taken (Took message) acts d = refl
-more_taken EndedDay acts d = refl
+more_taken act acts d = refl
 
 pub run_day : (p q : Place) (acts : List Act) → IsFarRun p acts q → day_at q ≡ far_after acts (day_at p)
 run_day p q [] e = ap day_at (sym e)

@@ -5,8 +5,8 @@ use Rattle.bx_frames.specs.declared.frame.Frame.{Frame}
 use Rattle.bx_far.specs.FarDay.{FarDay}
 use Rattle.bx_live.specs.declared.world.Begin.{Begin}
 use Rattle.bx_live.specs.declared.world.Loss.{Loss}
-use Rattle.bx_live.specs.Acts.{Act, Began, Dropped, Recorded, Synced, Wrote, Read, Took, EndedDay}
-use Rattle.bx_far_live.specs.Runs.{Place, Between, Owing, Hearing, Losing, Ending, Done, IsDue}
+use Rattle.bx_live.specs.Acts.{Act, Began, Dropped, Wrote, Read, EndedDay}
+use Rattle.bx_far_live.specs.Runs.{Place, Between, Owing, Hearing, Losing, Ending, IsDue}
 
 module _ (P : Place → Act → Type 0)
     (began : (d : FarDay) (begin : Begin) → P (Between d) (Began (d.moment + 1) begin))
@@ -17,50 +17,9 @@ module _ (P : Place → Act → Type 0)
     (ended : (d : FarDay) → P (Ending d) EndedDay) where
   pub by_due : (p : Place) (act : Act) → IsDue p act → P p act
   by_due (Between d) (Began second begin) due = subst (λ x. P (Between d) (Began x begin)) (sym due) (began d begin)
-  by_due (Between d) (Dropped why) due = absurd due
-  by_due (Between d) (Recorded e done) due = absurd due
-  by_due (Between d) (Synced done) due = absurd due
-  by_due (Between d) (Wrote octets done) due = absurd due
-  by_due (Between d) (Read most answer) due = absurd due
-  by_due (Between d) (Took message) due = absurd due
   by_due (Between d) EndedDay due = closing d
-  by_due (Owing d room text) (Began second begin) due = absurd due
-  by_due (Owing d room text) (Dropped why) due = absurd due
-  by_due (Owing d room text) (Recorded e done) due = absurd due
-  by_due (Owing d room text) (Synced done) due = absurd due
   by_due (Owing d room text) (Wrote octets done) due = subst (λ x. P (Owing d room text) (Wrote x done)) (sym due) (writing d room text done)
-  by_due (Owing d room text) (Read most answer) due = absurd due
-  by_due (Owing d room text) (Took message) due = absurd due
-  by_due (Owing d room text) EndedDay due = absurd due
-  by_due (Hearing d room) (Began second begin) due = absurd due
-  by_due (Hearing d room) (Dropped why) due = absurd due
-  by_due (Hearing d room) (Recorded e done) due = absurd due
-  by_due (Hearing d room) (Synced done) due = absurd due
-  by_due (Hearing d room) (Wrote octets done) due = absurd due
   by_due (Hearing d room) (Read most answer) due = subst (λ x. P (Hearing d room) (Read x answer)) (sym due) (reading d room answer)
-  by_due (Hearing d room) (Took message) due = absurd due
-  by_due (Hearing d room) EndedDay due = absurd due
-  by_due (Losing d loss) (Began second begin) due = absurd due
   by_due (Losing d loss) (Dropped why) due = subst (λ x. P (Losing d loss) (Dropped x)) (sym due) (losing d loss)
-  by_due (Losing d loss) (Recorded e done) due = absurd due
-  by_due (Losing d loss) (Synced done) due = absurd due
-  by_due (Losing d loss) (Wrote octets done) due = absurd due
-  by_due (Losing d loss) (Read most answer) due = absurd due
-  by_due (Losing d loss) (Took message) due = absurd due
-  by_due (Losing d loss) EndedDay due = absurd due
-  by_due (Ending d) (Began second begin) due = absurd due
-  by_due (Ending d) (Dropped why) due = absurd due
-  by_due (Ending d) (Recorded e done) due = absurd due
-  by_due (Ending d) (Synced done) due = absurd due
-  by_due (Ending d) (Wrote octets done) due = absurd due
-  by_due (Ending d) (Read most answer) due = absurd due
-  by_due (Ending d) (Took message) due = absurd due
   by_due (Ending d) EndedDay due = ended d
-  by_due (Done d) (Began second begin) due = absurd due
-  by_due (Done d) (Dropped why) due = absurd due
-  by_due (Done d) (Recorded e done) due = absurd due
-  by_due (Done d) (Synced done) due = absurd due
-  by_due (Done d) (Wrote octets done) due = absurd due
-  by_due (Done d) (Read most answer) due = absurd due
-  by_due (Done d) (Took message) due = absurd due
-  by_due (Done d) EndedDay due = absurd due
+  by_due p act due = absurd due

@@ -10,9 +10,9 @@ use Rattle.bx_far.specs.Course.{far_next, far_text}
 use Rattle.bx_live.specs.declared.world.Begin.{Begin}
 use Rattle.bx_live.specs.declared.world.Begin.TheVariants as begins
 use Rattle.bx_live.specs.declared.world.Loss.{Loss}
-use Rattle.bx_live.specs.Acts.{Act, Began, Dropped, Recorded, Synced, Wrote, Read, Took, EndedDay}
+use Rattle.bx_live.specs.Acts.{Act, Began, Wrote, Read}
 use Rattle.bx_far_live.specs.Events.{far_events}
-use Rattle.bx_far_live.specs.Runs.{Place, Between, Owing, Hearing, Losing, Ending, Done, IsDue, IsFarRun, next, day_at, owing}
+use Rattle.bx_far_live.specs.Runs.{Place, Between, Owing, Hearing, Losing, IsDue, IsFarRun, next, day_at, owing}
 use Rattle.bx_far_live.specs.Written.{IsFarWrittenFor}
 use Rattle.bx_far_live.proofs.Due.{by_due}
 use Rattle.bx_far_live.proofs.Days.{far_after, more_taken, step_day}
@@ -24,17 +24,8 @@ events_on [] ys = refl
 events_on (Began second begins.Joined ∷ xs) ys = ap (λ es. OnLink Tick ∷ es) (events_on xs ys)
 events_on (Began second begins.Alone ∷ xs) ys = ap (λ es. WithoutLink ∷ es) (events_on xs ys)
 events_on (Began second begins.Late ∷ xs) ys = ap (λ es. WithoutLink ∷ es) (events_on xs ys)
-events_on (Began second begins.Ended ∷ xs) ys = events_on xs ys
 events_on (Read room (Ok (frames.Message octets)) ∷ xs) ys = ap (λ es. OnLink (Receive octets.items) ∷ es) (events_on xs ys)
-events_on (Read room (Ok (frames.EndOfTurn said)) ∷ xs) ys = events_on xs ys
-events_on (Read room (Ok frames.EndOfDay) ∷ xs) ys = events_on xs ys
-events_on (Read room (Err fault) ∷ xs) ys = events_on xs ys
-events_on (Took message ∷ xs) ys = events_on xs ys
-events_on (Dropped loss ∷ xs) ys = events_on xs ys
-events_on (Recorded event done ∷ xs) ys = events_on xs ys
-events_on (Synced done ∷ xs) ys = events_on xs ys
-events_on (Wrote octets done ∷ xs) ys = events_on xs ys
-events_on (EndedDay ∷ xs) ys = events_on xs ys
+events_on (act ∷ xs) ys = events_on xs ys
 
 after_on : (xs : List Act) (act : Act) (d : FarDay) → far_after (xs ++ act ∷ []) d ≡ far_after (act ∷ []) (far_after xs d)
 after_on [] act d = refl
@@ -44,11 +35,7 @@ after_on (x ∷ xs) act d = more_taken x (xs ++ act ∷ []) d ∙ (after_on xs a
 
 abbrev Owes : FarDay → List Act → Place → Type 0
 Owes d acts (Owing day room text) = IsFarWrittenFor d acts text
-Owes d acts (Between day) = Unit {0}
-Owes d acts (Hearing day room) = Unit {0}
-Owes d acts (Losing day loss) = Unit {0}
-Owes d acts (Ending day) = Unit {0}
-Owes d acts (Done day) = Unit {0}
+Owes d acts point = Unit {0}
 
 record Stands (d : FarDay) (acts : List Act) (p : Place) : Type 0 where
   day : day_at p ≡ far_after acts d
@@ -72,9 +59,7 @@ module _ (d : FarDay) (acts : List Act) where
 
   owed_begun : (day : FarDay) (begin : Begin) → KeepsOwed (Between day) (Began (day.moment + 1) begin)
   owed_begun day begins.Joined stands = told_now (Between day) (Began (day.moment + 1) begins.Joined) Tick refl stands
-  owed_begun day begins.Alone stands = tt
-  owed_begun day begins.Late stands = tt
-  owed_begun day begins.Ended stands = tt
+  owed_begun day begin stands = tt
 
   owed_wrote : (day : FarDay) (room : ℕ) (text : List ℕ) (done : Bool) → KeepsOwed (Owing day room text) (Wrote text done)
   owed_wrote day room text true stands = tt
@@ -107,11 +92,7 @@ module _ (d : FarDay) (acts : List Act) where
 
   written_now : (p : Place) (octets : List ℕ) (done : Bool) → IsDue p (Wrote octets done) → Stands d acts p → IsFarWrittenFor d acts octets
   written_now (Owing day room text) octets done due stands = subst (IsFarWrittenFor d acts) (sym due) stands.owes
-  written_now (Between day) octets done due stands = absurd due
-  written_now (Hearing day room) octets done due stands = absurd due
-  written_now (Losing day loss) octets done due stands = absurd due
-  written_now (Ending day) octets done due stands = absurd due
-  written_now (Done day) octets done due stands = absurd due
+  written_now p octets done due stands = absurd due
 
 written_behind : (d : FarDay) (acts : List Act) (p : Place) → Stands d acts p → (before behind : List Act) (octets : List ℕ) (done : Bool) (to : Place) → IsFarRun p (before ++ Wrote octets done ∷ behind) to → IsFarWrittenFor d (acts ++ before) octets
 written_behind d acts p stands [] behind octets done to (due, goes) = subst (λ xs. IsFarWrittenFor d xs octets) (sym (append-nil acts)) (written_now d acts p octets done due stands)

@@ -2,6 +2,8 @@
 use Rattle.std.proofs.Common.{◌≡◌, ℕ, List, [], ◌∷◌, ◌++◌, refl, sym, ap, ◌∙◌, subst, true, false, Bool, Ok, ◌==◌, if◌then◌else◌, arith}
 use Rattle.std.proofs.lemmas.Bool.Decides.{nat_tests}
 use Rattle.arrayvec.specs.ArrayVec.{ArrayVec}
+use Rattle.bx_events.specs.Events.{Event}
+use Rattle.bx_far.specs.Course.{far_next, far_text}
 use Rattle.bx_far.specs.FarDay.{FarDay}
 use Rattle.bx_frames.specs.Frames.{frames_of, turn_frame}
 use Rattle.bx_frames.specs.declared.fault.LinkFault.TheVariants.{WrongMoment}
@@ -50,21 +52,18 @@ module _ {W : Type 0} {did : W → List Act → W → Type 0} where
 pub owing_same : (d d1 : FarDay) (room : ℕ) (text text1 : List ℕ) → d ≡ d1 → text ≡ text1 → Owing d room text ≡ Owing d1 room text1
 owing_same d d1 room text text1 day octets = ap (λ x. Owing x room text) day ∙ ap (λ x. Owing d1 room x) octets
 
-pub owed_same : (d d1 : FarDay) (room : ℕ) (text text1 : List ℕ) → d ≡ d1 → text ≡ text1 → owing d room text ≡ owing d1 room text1
-owed_same d d1 room text text1 day octets = ap (λ x. owing x room text) day ∙ ap (λ x. owing d1 room x) octets
+-- a run from there
+pub owed_after : {W : Type 0} {did : W → List Act → W → Type 0} {u v : W} {p : Place} (d d1 : FarDay) (event : Event) (room : ℕ) (text : List ℕ) → d1 ≡ far_next d event → text ≡ far_text d event → FarRuns did u v (owing d1 room text) p → FarRuns did u v (owing (far_next d event) room (far_text d event)) p
+owed_after d d1 event room text day octets run =
+    from_place (owing d1 room text) (owing (far_next d event) room (far_text d event)) (ap (λ x. owing x room text) day ∙ ap (λ x. owing (far_next d event) room x) octets) run
 
 -- ---- an end of turn
 
-chosen : (b : Bool) (p q : Place) → b ≡ true → (if b then p else q) ≡ p
-chosen true p q e = refl
-chosen false p q e = cc
-
-not_chosen : (b : Bool) (p q : Place) → b ≡ false → (if b then p else q) ≡ q
-not_chosen true p q e = cc
-not_chosen false p q e = refl
+abbrev ended_as : FarDay → Bool → Place
+ended_as d right = if right then Between d else Losing d (losses.Fault WrongMoment)
 
 pub ended_right : (d : FarDay) (room said : ℕ) → said ≡ d.moment → heard d room (Ok (frames.EndOfTurn said)) ≡ Between d
-ended_right d room said e = chosen (said == d.moment) (Between d) (Losing d (losses.Fault WrongMoment)) (grind (arith, nat_tests, e))
+ended_right d room said e = let right : (said == d.moment) ≡ true = grind (arith, nat_tests, e) in ap (ended_as d) right
 
 pub ended_wrong : (d : FarDay) (room said : ℕ) → ¬ (said ≡ d.moment) → heard d room (Ok (frames.EndOfTurn said)) ≡ Losing d (losses.Fault WrongMoment)
-ended_wrong d room said e = not_chosen (said == d.moment) (Between d) (Losing d (losses.Fault WrongMoment)) (grind (arith, nat_tests, e))
+ended_wrong d room said e = let wrong : (said == d.moment) ≡ false = grind (arith, nat_tests, e) in ap (ended_as d) wrong

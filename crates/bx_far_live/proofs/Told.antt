@@ -10,7 +10,7 @@ use Rattle.bx_far.specs.Course.{far_next, far_live_next, far_text}
 use Rattle.bx_live.specs.declared.world.Begin.{Begin}
 use Rattle.bx_live.specs.declared.world.Begin.TheVariants as begins
 use Rattle.bx_live.specs.declared.world.Loss.{Loss}
-use Rattle.bx_live.specs.Acts.{Act, Began, Dropped, Recorded, Synced, Wrote, Read, Took, EndedDay}
+use Rattle.bx_live.specs.Acts.{Act, Began, Recorded, Synced, Wrote, Read}
 use Rattle.bx_live.specs.Written.{written, goes_well}
 use Rattle.bx_far_live.specs.Events.{far_events, told_on_link}
 use Rattle.bx_far_live.specs.Runs.{Place, Between, Owing, Hearing, Losing, IsDue, IsFarRun, next, day_at, owing}
@@ -26,56 +26,24 @@ far_told acts d = told_on_link far_live_next far_text (far_events acts) d
 
 more_written : (act : Act) (acts : List Act) → written (act ∷ acts) ≡ written (act ∷ []) ++ written acts
 more_written (Wrote octets true) acts = ap (λ xs. xs ++ written acts) (sym (append-nil octets))
-more_written (Wrote octets false) acts = refl
-more_written (Began second begin) acts = refl
-more_written (Dropped loss) acts = refl
-more_written (Recorded event done) acts = refl
-more_written (Synced done) acts = refl
-more_written (Read room answer) acts = refl
-more_written (Took message) acts = refl
-more_written EndedDay acts = refl
+more_written act acts = refl
 
 more_told : (act : Act) (acts : List Act) (d : FarDay) → far_told (act ∷ acts) d ≡ far_told (act ∷ []) d ++ far_told acts (far_after (act ∷ []) d)
 more_told (Began second begins.Joined) acts d = ap (λ xs. xs ++ far_told acts (far_next d Tick)) (sym (append-nil (far_text d Tick)))
-more_told (Began second begins.Alone) acts d = refl
-more_told (Began second begins.Late) acts d = refl
-more_told (Began second begins.Ended) acts d = refl
 more_told (Read room (Ok (frames.Message octets))) acts d = ap (λ xs. xs ++ far_told acts (far_next d (Receive octets.items))) (sym (append-nil (far_text d (Receive octets.items))))
-more_told (Read room (Ok (frames.EndOfTurn said))) acts d = refl
-more_told (Read room (Ok frames.EndOfDay)) acts d = refl
-more_told (Read room (Err fault)) acts d = refl
-more_told (Took message) acts d = refl
-more_told (Wrote octets done) acts d = refl
-more_told (Dropped loss) acts d = refl
-more_told (Recorded event done) acts d = refl
-more_told (Synced done) acts d = refl
-more_told EndedDay acts d = refl
+more_told act acts d = refl
 
 first_well : (act : Act) (acts : List Act) → goes_well (act ∷ acts) ≡ true → goes_well (act ∷ []) ≡ true
-first_well (Recorded event true) acts e = refl
 first_well (Recorded event false) acts e = e
-first_well (Synced true) acts e = refl
 first_well (Synced false) acts e = e
-first_well (Wrote octets true) acts e = refl
 first_well (Wrote octets false) acts e = e
-first_well (Began second begin) acts e = refl
-first_well (Dropped loss) acts e = refl
-first_well (Read room answer) acts e = refl
-first_well (Took message) acts e = refl
-first_well EndedDay acts e = refl
+first_well act acts e = refl
 
 rest_well : (act : Act) (acts : List Act) → goes_well (act ∷ acts) ≡ true → goes_well acts ≡ true
-rest_well (Recorded event true) acts e = e
 rest_well (Recorded event false) acts e = cc
-rest_well (Synced true) acts e = e
 rest_well (Synced false) acts e = cc
-rest_well (Wrote octets true) acts e = e
 rest_well (Wrote octets false) acts e = cc
-rest_well (Began second begin) acts e = e
-rest_well (Dropped loss) acts e = e
-rest_well (Read room answer) acts e = e
-rest_well (Took message) acts e = e
-rest_well EndedDay acts e = e
+rest_well act acts e = e
 
 -- ---- what is written, and what is owed behind it
 
@@ -84,9 +52,7 @@ Tells p act = goes_well (act ∷ []) ≡ true → written (act ∷ []) ++ owed_a
 
 tells_begun : (d : FarDay) (begin : Begin) → Tells (Between d) (Began (d.moment + 1) begin)
 tells_begun d begins.Joined well = sym (append-nil (far_text d Tick))
-tells_begun d begins.Alone well = refl
-tells_begun d begins.Late well = refl
-tells_begun d begins.Ended well = refl
+tells_begun d begin well = refl
 
 tells_wrote : (d : FarDay) (room : ℕ) (text : List ℕ) (done : Bool) → Tells (Owing d room text) (Wrote text done)
 tells_wrote d room text true well = append-nil (text ++ [])
