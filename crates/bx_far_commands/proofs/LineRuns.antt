@@ -1,5 +1,5 @@
 -- Runs over a data link.
-use Rattle.std.proofs.Common.{◌≡◌, ℕ, max, min, Bool, false, List, Option, None, ap, sym, subst, arith}
+use Rattle.std.proofs.Common.{◌≡◌, ℕ, max, min, Bool, false, List, Option, None, ap, subst, arith}
 use Rattle.bx_day_openings.specs.CaptureOpenings.{IsFileFor}
 use Rattle.bx_day_openings.specs.Hours.{AreHours}
 use Rattle.bx_day_openings.specs.Openings.{IsFarOpening}
@@ -21,10 +21,6 @@ use Rattle.bx_live.specs.Acts.{Act}
 use Rattle.bx_live_parts.specs.Chains.{Chain}
 use Rattle.bx_live_parts.specs.declared.schedule.Schedule.{Schedule}
 use Rattle.bx_request.specs.declared.request.FarLineRequest.{FarLineRequest}
-
--- what a world has gone through, from where it began to where it is
-pub carried : {W : Type 0} (did : W → List Act → W → Type 0) (acts : List Act) (a b u v : W) → u ≡ a → b ≡ v → did a acts b → did u acts v
-carried {W = W} did acts a b u v p q d = subst (λ (x : W). did x acts v) (sym p) (subst (λ (y : W). did a acts y) q d)
 
 module _ {W F : Type 0} (did : W → List WireAct → W → Type 0) where
   abbrev pub Goes : LineWorld W (FileDisk (SystemFile F)) → List Act → LineWorld W (FileDisk (SystemFile F)) → Type 0

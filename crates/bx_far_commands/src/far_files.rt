@@ -12,14 +12,11 @@ ghost use Rattle.bx_far_commands.specs.Kept.{IsFarCaptured};
 use crate::running::run_connected;
 use bx_capture::is_whole;
 use bx_check_commands::{CommandFault, Inputs};
-use bx_day_openings::{DayCommandFault, captured, far_end_of, file_of, first_of};
+use bx_day_openings::{DayCommandFault, System, captured, far_end_of, file_of, first_of};
 use bx_devices::{Watched, WriteFailed, write_octets};
 use bx_request::{FarRequest, Sight};
 use bx_text::named_line;
-use std::fs::Files;
 use std::io::Write;
-use std::net::{Net, TcpListener, TcpStream};
-use std::rt::Clock;
 
 /// Writes `ended at `, the moment and LF. `WriteFailed` where a write failed, or took nothing: then the output is faulted, and a
 /// front of the line was written.
@@ -32,11 +29,7 @@ pub fn write_ended<W: Write>(output: &mut Watched<W>, moment: u32) -> Result<(),
 }
 
 /// The moment at which the day of a script ended, and whether all that was to be captured was.
-fn run_script<
-    'a,
-    H: Files + AllocGlobal + Clock + Eprint + Net<Listener = TcpListener, Stream = TcpStream>,
-    I: Inputs,
->(
+fn run_script<'a, H: System, I: Inputs>(
     rt: &H,
     inputs: &mut I,
     request: FarRequest<'a>,
@@ -59,12 +52,7 @@ fn run_script<
 
 /// Runs the far end of a day by a script, and writes the moment at which the day ended. Answers whether all that was to be captured
 /// was.
-fn far_files<
-    'a,
-    H: Files + AllocGlobal + Clock + Eprint + Net<Listener = TcpListener, Stream = TcpStream>,
-    I: Inputs,
-    W: Write,
->(
+fn far_files<'a, H: System, I: Inputs, W: Write>(
     rt: &H,
     inputs: &mut I,
     request: FarRequest<'a>,
@@ -97,12 +85,7 @@ fn is_shown(sight: Sight<'_>, is_terminal: bool) -> bool
 /// zone of the capture; `Command` or `Script` for the script; `CannotWriteFile` for the file of the capture; `CannotConnect` for the
 /// connection. `Link` is the fault of a session that ended before its day; `Command`, as `CannotWrite`, that of the output; and
 /// `CannotWriteFile` that of a capture that was not written whole.
-pub fn far_on_files<
-    'a,
-    H: Files + AllocGlobal + Clock + Eprint + Net<Listener = TcpListener, Stream = TcpStream>,
-    I: Inputs,
-    W: Write,
->(
+pub fn far_on_files<'a, H: System, I: Inputs, W: Write>(
     rt: &H,
     inputs: &mut I,
     request: FarRequest<'a>,

@@ -6,14 +6,13 @@ ghost use Rattle.bx_day_openings.specs.Openings.{IsFarOpening};
 ghost use Rattle.bx_far_commands.specs.Kept.{IsFarKept, IsFarKeptSoFar};
 
 use bx_capture::Captured;
-use bx_day_openings::{DayCommandFault, Shown, connected, connected_at};
+use bx_day_openings::{DayCommandFault, Shown, System, connected, connected_at};
 use bx_devices::Watched;
 use bx_far::Far;
 use bx_frames::End;
 use bx_link::run_far_day;
 use bx_request::Place;
 use std::io::{Read, Write};
-use std::net::{Net, TcpListener, TcpStream};
 use std::rt::Clock;
 
 /// The end behind its day, and the file of its capture.
@@ -59,11 +58,7 @@ fn run_with_exchange<'a, H: Clock + Eprint, R: Read + Drop, S: Write + Drop, W: 
 
 /// The moment at which the day of a far end ended, which was run towards the exchange that serves at the place. What is to be
 /// captured of it goes into the file; moment 0 is the first second.
-pub(crate) fn run_connected<
-    'a,
-    H: Clock + Eprint + Net<Listener = TcpListener, Stream = TcpStream>,
-    W: Write + Drop,
->(
+pub(crate) fn run_connected<'a, H: System, W: Write + Drop>(
     rt: &H,
     place: Place<'a>,
     far: Far,

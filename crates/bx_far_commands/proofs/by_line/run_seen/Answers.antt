@@ -1,5 +1,4 @@
-use Rattle.std.proofs.Common.{◌≡◌}
-use Rattle.bx_far_commands.proofs.LineRuns.{carried}
+use Rattle.std.proofs.Common.{◌≡◌, subst₂, sym}
 use Rattle.bx_far_commands.proofs.by_line.run_seen.Goals as goal
 
 pub returns : goal.returns
@@ -11,7 +10,7 @@ returns g c =
     record {
       acts = ran.acts;
       run = record {
-        went = carried g.W.World.did ran.acts c.new-world.result.world.world c.run_far_live.new.world.world.world c.args.world c.into_world.result first last ran.done.0;
+        went = subst₂ (λ (u v : g.row.W.Denot). g.W.World.did u ran.acts v) (sym first) last ran.done.0;
         run = ran.goes;
         day = whole.1;
         reached = whole.2;
