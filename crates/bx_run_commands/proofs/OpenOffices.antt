@@ -1,14 +1,17 @@
 -- Whether an office is open, and what the rest of a day is then.
-use Rattle.std.proofs.Common.{◌≡◌, ◌⊎◌, inl, inr, ℕ, Bool, true, false, List, Option, Some, None, is_some, refl, sym, subst}
-use Rattle.std.specs.Borrow.{Bor}
+use Rattle.std.proofs.Common.{◌≡◌, ◌⊎◌, inl, inr, ℕ, Bool, true, false, List, Option, Some, None, is_some, sym, subst}
 use Rattle.bx_day.specs.Day.{Day}
+use Rattle.bx_day_openings.specs.Hours.{AreHours}
+use Rattle.bx_day_openings.specs.declared.hours.Hours.{Hours}
+use Rattle.bx_day_openings.specs.declared.plan_opening.DayOpening.{DayOpening}
 use Rattle.bx_events.specs.declared.moment.TheConstants.{LAST_MOMENT}
 use Rattle.bx_live.specs.Held.{has_call, IsHeldOut}
 use Rattle.bx_request.specs.declared.request.LiveRequest.{LiveRequest}
-use Rattle.bx_run_commands.specs.LiveDays.{IsLiveDay, has_office}
+use Rattle.bx_run_commands.specs.LiveDays.{IsAtHand, IsLiveDay, has_office}
 use Rattle.bx_line_world.specs.Wires.{WireAct}
 use Rattle.bx_live_parts.specs.declared.record.Record.{Record}
 use Rattle.bx_live_parts.specs.declared.schedule.Schedule.{Schedule}
+use Rattle.bx_run_commands.specs.FirstFits.{IsFirstFitOpening}
 use Rattle.bx_run_commands.specs.LiveInside.{IsOpenAt, RunsWith, StopsWith}
 use Rattle.bx_run_commands.specs.OfficeRuns.{RunsOn, StopsOn, SellsByLine, StopsSelling}
 use Rattle.bx_run_commands.specs.declared.by_office.Premises.{Premises}
@@ -36,6 +39,10 @@ module _ {W D : Type 0} (did : W → List WireAct → W → Type 0) (holds may_l
   held_out false channels to ran = ran.out
   held_out true channels to ran = ran.out
 
+-- what a live day goes on from
+abbrev pub at_hand_of : (request : LiveRequest) (hours : Hours) (opening : DayOpening) → AreHours request.hours hours → IsFirstFitOpening opening.exchange opening.channels opening.digest → IsAtHand request
+at_hand_of request hours opening are_hours opens = record { hours = hours; are_hours = are_hours; opened = opening.exchange; channels = opening.channels; digest = opening.digest; opens = opens }
+
 -- a day that is over while a call is up has no more seconds
 no_more : (turns : ℕ) (d : Day) → IsHeldOut turns d → has_call d ≡ true → d.moment ≡ LAST_MOMENT
 no_more turns d out up = by_clear out.clear where
@@ -44,4 +51,4 @@ no_more turns d out up = by_clear out.clear where
   by_clear (inr last) = last
 
 pub last_of : {F : Type 0} (H : Type 0) (files : F → Option (List ℕ)) (request : LiveRequest) (day : Day) → IsLiveDay H files request day → has_call day ≡ true → day.moment ≡ LAST_MOMENT
-last_of H files request day live up = no_more live.turns day (held_out _ _ _ _ _ _ live.wire live.hours.schedule live.kept live.turns live.resumed (has_office request) live.channels day live.ran) up
+last_of H files request day live up = no_more live.turns day (held_out _ _ _ _ _ _ live.wire live.going.at_hand.hours.schedule live.going.kept live.turns live.going.resumed (has_office request) live.going.at_hand.channels day live.ran) up

@@ -1,5 +1,5 @@
 -- What the journal of a rehearsal has behind the day.
-use Rattle.std.proofs.Common.{◌≡◌, ℕ, zero, suc, ◌+◌, ◌==◌, Bool, true, false, if◌then◌else◌, is_some, List, [], ◌∷◌, ◌++◌, Option, Some, None, Result, Ok, Err, refl, sym, subst}
+use Rattle.std.proofs.Common.{◌≡◌, ℕ, zero, suc, ◌+◌, ◌==◌, Bool, true, false, if◌then◌else◌, is_some, List, [], ◌∷◌, ◌++◌, Option, Some, None, Result, Ok, refl, sym, subst}
 use Rattle.arrayvec.specs.ArrayVec.{ArrayVec}
 use Rattle.bx_day.specs.Day.{Day}
 use Rattle.bx_day.specs.Course.{exchange_next, exchange_sent, exchange_text}
@@ -70,14 +70,11 @@ pub goes_on : (p : Place) (act : Act) → IsDue p act → GoesOn p act
 goes_on = by_due GoesOn on_begun on_recorded on_received on_took on_synced on_written on_read on_lost on_closing on_closed (λ d over. over) where
   on_begun : (d : Day) (begin : Begin) → GoesOn (Between d) (Began (d.moment + 1) begin)
   on_begun d begins.Late over = over
-  on_begun d begins.Alone over = over
-  on_begun d begins.Joined over = over
-  on_begun d begins.Ended over = over
+  on_begun d begin over = over
 
   owing_on : (d : Day) (room : ℕ) (sent : List (ArrayVec ℕ)) (text : List ℕ) → IsOver (owing d room sent text) → ⊥
   owing_on d room [] [] over = over
-  owing_on d room [] (octet ∷ text) over = over
-  owing_on d room (message ∷ sent) text over = over
+  owing_on d room sent text over = over
 
   on_recorded : (d : Day) (room : ℕ) (event : LiveEvent) (done : Bool) → GoesOn (Recording d room event) (Recorded event done)
   on_recorded d room event false = tt
@@ -115,10 +112,8 @@ goes_on = by_due GoesOn on_begun on_recorded on_received on_took on_synced on_wr
   turn_on d false over = over
 
   on_read : (d : Day) (room : ℕ) (answer : Result Frame LinkFault) → GoesOn (Hearing d room) (Read room answer)
-  on_read d room (Ok (frames.Message octets)) = λ over. over
   on_read d room (Ok (frames.EndOfTurn said)) = turn_on d (said == d.moment)
-  on_read d room (Ok frames.EndOfDay) = λ over. over
-  on_read d room (Err fault) = λ over. over
+  on_read d room answer = λ over. over
 
   on_lost : (d : Day) (loss : Loss) → GoesOn (Losing d loss) (Dropped loss)
   on_lost d losses.Late = λ over. over

@@ -13,7 +13,7 @@ use Rattle.bx_devices.specs.Devices.{Writing}
 use Rattle.bx_devices.specs.declared.watched.Watched.{Watched}
 use Rattle.bx_live.specs.Acts.{Act}
 use Rattle.bx_records.specs.declared.fault.RecordsFault.{RecordsFault}
-use Rattle.bx_records.specs.declared.fault.RecordsFault.TheVariants.{OutOfRange, WriteFailed, Memory}
+use Rattle.bx_records.specs.declared.fault.RecordsFault.TheVariants.{OutOfRange}
 use Rattle.bx_request.specs.declared.request.CaptureWords.{CaptureWords}
 use Rattle.bx_request.specs.declared.request.RecordsWords.{RecordsWords}
 use Rattle.bx_run_commands.specs.OpeningFaults.{IsUnrecorded}
@@ -39,8 +39,7 @@ whole_run_kept files capture file first acts is_whole opens kept (inr none) =
 
 not_output : (name : _) (cause : RecordsFault) → Command CannotWrite ≡ answer_for (CannotWriteFile name) cause → ⊥
 not_output name OutOfRange same = cc
-not_output name WriteFailed same = cc
-not_output name Memory same = cc
+not_output name cause same = cc
 
 no_cut : {F : Type 0} (files : F → Option (List ℕ)) (entries : List Entry) (records : Option (RecordsFile F)) → IsRecording files entries records (Err (Command CannotWrite)) → ⊥
 no_cut files entries None unrecorded = unrecorded

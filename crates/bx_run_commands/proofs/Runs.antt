@@ -1,5 +1,5 @@
 -- Runs over worlds.
-use Rattle.std.proofs.Common.{◌≡◌, ℕ, max, min, Bool, false, List, Option, Result, Ok, Err, OnOk, IfOk, IfErr, sym, subst}
+use Rattle.std.proofs.Common.{◌≡◌, ℕ, max, min, Bool, false, List, Option, Result, Ok, Err, OnOk, IfOk, IfErr, subst}
 use Rattle.bx_day.specs.Day.{Day}
 use Rattle.bx_devices.specs.declared.watched.Watched.{Watched}
 use Rattle.bx_live.specs.Acts.{Act, ended}
@@ -8,10 +8,6 @@ use Rattle.bx_live.specs.Runs.{Between, Done, IsRun}
 use Rattle.bx_live.specs.declared.world.CannotRecord.{CannotRecord}
 use Rattle.bx_run_commands.specs.WholeRuns.{IsWholeRun}
 use Rattle.bx_run_commands.specs.Runs.{RunsIn}
-
--- what a world has gone through, from where it began to where it is
-pub carried : {W : Type 0} (did : W → List Act → W → Type 0) (acts : List Act) (a b u v : W) → u ≡ a → b ≡ v → did a acts b → did u acts v
-carried {W = W} did acts a b u v p q d = subst (λ (x : W). did x acts v) (sym p) (subst (λ (y : W). did a acts y) q d)
 
 pub on_ok : {T E A B : Type 0} (r : Result T E) → (A → B) → OnOk r A → OnOk r B
 on_ok (Ok v) f p = f p

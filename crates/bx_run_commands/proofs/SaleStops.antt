@@ -1,16 +1,15 @@
 -- Why a run with sales is over before its end.
-use Rattle.std.proofs.Common.{◌≡◌, ◌⊎◌, ℕ, Bool, true, false, List, [], ◌∷◌, ◌++◌, Option, Some, None, Result, Ok, Err, OnOk, IfOk, inl, inr, refl, sym, subst, ap, is_some, ◌∙◌}
+use Rattle.std.proofs.Common.{◌≡◌, ℕ, Bool, true, false, List, [], ◌∷◌, Option, Some, None, Result, Ok, Err, refl, sym, subst, ap, is_some, ◌∙◌}
 use Rattle.bx_base.specs.Bookings.{Row}
 use Rattle.bx_day.specs.Day.{Day}
-use Rattle.bx_events.specs.Events.{LiveEvent, Sold, OnLink, WithoutLink}
-use Rattle.bx_journal.specs.Events.{IsMessage}
+use Rattle.bx_events.specs.Events.{Sold, OnLink, WithoutLink}
 use Rattle.bx_line_world.proofs.Never.{never_ends}
 use Rattle.bx_line_world.specs.Days.{GoesByLine}
 use Rattle.bx_line_world.specs.Posts.{no_post}
 use Rattle.bx_line_world.specs.Wires.{WireAct}
 use Rattle.bx_line_world.specs.declared.line_world.LineWorld.{LineWorld}
 use Rattle.bx_live.specs.Acts.{Act, Began, Dropped, Recorded, Synced, Wrote, Read, Took, EndedDay}
-use Rattle.bx_live.specs.Runs.{Place, Between, Recording, Receiving, Taking, Owing, Hearing, Losing, Over, Closing, Ending, Done, IsDue, IsRun, next}
+use Rattle.bx_live.specs.Runs.{Place, Between, Over, next}
 use Rattle.bx_live.specs.declared.world.CannotRecord.{CannotRecord}
 use Rattle.bx_live_parts.proofs.Projections.{chain_map}
 use Rattle.bx_live_parts.specs.Chains.{Chain, chain_first}
@@ -26,7 +25,6 @@ use Rattle.bx_world.proofs.Kept.{Stops, stops}
 use Rattle.bx_run_commands.proofs.Recorded.{IsOver, GoesOn, goes_on}
 use Rattle.bx_run_commands.proofs.Stopped.{Stopped, refused, unsynced}
 use Rattle.bx_run_commands.proofs.Unkept.{none_on}
-use Rattle.bx_run_commands.specs.LiveRuns.{EndsWithNoEvent}
 use Rattle.bx_run_commands.specs.OfficeRuns.{did_at_door, deals_by_line, SellsByLine, StopsSelling}
 
 -- nothing more is done there
@@ -48,108 +46,46 @@ GoesOnAt act to = IsOverAt to → ⊥
 -- in the run by the clock
 fails_within : (p : Place) (act : Act) (to : Stand) → Stops p act → to ≡ Within (next p act) → Fails act to
 fails_within p (Recorded event false) to (d, over) same = (d, same ∙ ap Within over)
-fails_within p (Recorded event true) to stops same = tt
 fails_within p (Synced false) to (d, over) same = (d, same ∙ ap Within over)
-fails_within p (Synced true) to stops same = tt
-fails_within p (Began second begin) to stops same = tt
-fails_within p (Dropped loss) to stops same = tt
-fails_within p (Wrote octets done) to stops same = tt
-fails_within p (Read room answer) to stops same = tt
-fails_within p (Took message) to stops same = tt
-fails_within p EndedDay to stops same = tt
+fails_within p act to stops same = tt
 
 on_within : (p : Place) (act : Act) (to : Stand) → GoesOn p act → to ≡ Within (next p act) → GoesOnAt act to
 on_within p (Recorded event false) to on same = tt
-on_within p (Recorded event true) to on same = λ over. on (subst IsOverAt same over)
 on_within p (Synced false) to on same = tt
-on_within p (Synced true) to on same = λ over. on (subst IsOverAt same over)
-on_within p (Began second begin) to on same = λ over. on (subst IsOverAt same over)
-on_within p (Dropped loss) to on same = λ over. on (subst IsOverAt same over)
-on_within p (Wrote octets done) to on same = λ over. on (subst IsOverAt same over)
-on_within p (Read room answer) to on same = λ over. on (subst IsOverAt same over)
-on_within p (Took message) to on same = λ over. on (subst IsOverAt same over)
-on_within p EndedDay to on same = λ over. on (subst IsOverAt same over)
+on_within p act to on same = λ over. on (subst IsOverAt same over)
 
 module _ (channels : List Bool) where
   -- where a run is over no deal is due
   over_none : (d : Day) (deals : List Deal) (to : Stand) → IsMarketRun channels (Within (Over d)) deals to → acts_of deals ≡ []
   over_none d [] to same = refl
-  over_none d (Ran (Began second begin) ∷ deals) to (mid, (due, same), rest) = absurd due
-  over_none d (Ran (Dropped loss) ∷ deals) to (mid, (due, same), rest) = absurd due
-  over_none d (Ran (Recorded event done) ∷ deals) to (mid, (due, same), rest) = absurd due
-  over_none d (Ran (Synced done) ∷ deals) to (mid, (due, same), rest) = absurd due
-  over_none d (Ran (Wrote octets done) ∷ deals) to (mid, (due, same), rest) = absurd due
-  over_none d (Ran (Read room answer) ∷ deals) to (mid, (due, same), rest) = absurd due
-  over_none d (Ran (Took message) ∷ deals) to (mid, (due, same), rest) = absurd due
-  over_none d (Ran EndedDay ∷ deals) to (mid, (due, same), rest) = absurd due
   over_none d (Asked shown batch ∷ deals) to (mid, goes, rest) = absurd goes
   over_none d (Answered answers ∷ deals) to (mid, goes, rest) = absurd goes
+  over_none d (act ∷ deals) to (mid, (due, same), rest) = absurd due
 
   -- what cannot be put on record, or on the disk, is the last act
   fails_at : (p : Stand) (act : Act) (to : Stand) → Goes channels p (Ran act) to → Fails act to
   fails_at (Within p) act to (due, same) = fails_within p act to (stops p act due) same
-  fails_at (Filing shown d batch sold) (Recorded (Sold line) true) to goes = tt
   fails_at (Filing shown d batch sold) (Recorded (Sold line) false) to goes = (d, goes)
   fails_at (Filing shown d batch sold) (Recorded (OnLink event) done) to goes = absurd goes
   fails_at (Filing shown d batch sold) (Recorded WithoutLink done) to goes = absurd goes
-  fails_at (Filing shown d batch sold) (Synced true) to goes = tt
   fails_at (Filing shown d batch sold) (Synced false) to goes = (d, goes)
-  fails_at (Filing shown d batch sold) (Began second begin) to goes = tt
-  fails_at (Filing shown d batch sold) (Dropped loss) to goes = tt
-  fails_at (Filing shown d batch sold) (Wrote octets done) to goes = tt
-  fails_at (Filing shown d batch sold) (Read room answer) to goes = tt
-  fails_at (Filing shown d batch sold) (Took message) to goes = tt
-  fails_at (Filing shown d batch sold) EndedDay to goes = tt
-  fails_at (Telling shown d batch sold) (Recorded event true) to goes = tt
   fails_at (Telling shown d batch sold) (Recorded event false) to goes = absurd goes
-  fails_at (Telling shown d batch sold) (Synced true) to goes = tt
   fails_at (Telling shown d batch sold) (Synced false) to goes = absurd goes
-  fails_at (Telling shown d batch sold) (Began second begin) to goes = tt
-  fails_at (Telling shown d batch sold) (Dropped loss) to goes = tt
-  fails_at (Telling shown d batch sold) (Wrote octets done) to goes = tt
-  fails_at (Telling shown d batch sold) (Read room answer) to goes = tt
-  fails_at (Telling shown d batch sold) (Took message) to goes = tt
-  fails_at (Telling shown d batch sold) EndedDay to goes = tt
+  fails_at p act to goes = tt
 
   -- behind any other the run goes on
   goes_on_at : (p : Stand) (act : Act) (to : Stand) → Goes channels p (Ran act) to → GoesOnAt act to
   goes_on_at (Within p) act to (due, same) = on_within p act to (goes_on p act due) same
   goes_on_at (Filing shown d batch sold) (Recorded (Sold line) true) to (d1, is, same) = λ over. subst IsOverAt same over
   goes_on_at (Filing shown d batch sold) (Recorded (Sold line) false) to goes = tt
-  goes_on_at (Filing shown d batch sold) (Recorded (OnLink event) done) to goes = absurd goes
-  goes_on_at (Filing shown d batch sold) (Recorded WithoutLink done) to goes = absurd goes
   goes_on_at (Filing shown d batch sold) (Synced true) to goes = λ over. subst IsOverAt goes over
   goes_on_at (Filing shown d batch sold) (Synced false) to goes = tt
-  goes_on_at (Filing shown d batch sold) (Began second begin) to goes = absurd goes
-  goes_on_at (Filing shown d batch sold) (Dropped loss) to goes = absurd goes
-  goes_on_at (Filing shown d batch sold) (Wrote octets done) to goes = absurd goes
-  goes_on_at (Filing shown d batch sold) (Read room answer) to goes = absurd goes
-  goes_on_at (Filing shown d batch sold) (Took message) to goes = absurd goes
-  goes_on_at (Filing shown d batch sold) EndedDay to goes = absurd goes
-  goes_on_at (Telling shown d batch sold) (Recorded event done) to goes = absurd goes
-  goes_on_at (Telling shown d batch sold) (Synced done) to goes = absurd goes
-  goes_on_at (Telling shown d batch sold) (Began second begin) to goes = absurd goes
-  goes_on_at (Telling shown d batch sold) (Dropped loss) to goes = absurd goes
-  goes_on_at (Telling shown d batch sold) (Wrote octets done) to goes = absurd goes
-  goes_on_at (Telling shown d batch sold) (Read room answer) to goes = absurd goes
-  goes_on_at (Telling shown d batch sold) (Took message) to goes = absurd goes
-  goes_on_at (Telling shown d batch sold) EndedDay to goes = absurd goes
+  goes_on_at p act to goes = absurd goes
 
   asked_on : (p : Stand) (shown : Day) (batch : Option (List Row)) (to : Stand) → Goes channels p (Asked shown batch) to → IsOverAt to → ⊥
   asked_on (Within (Between d)) shown None to (is, same) over = subst IsOverAt same over
   asked_on (Within (Between d)) shown (Some batch) to (is, same) over = subst IsOverAt same over
-  asked_on (Within (Recording d room event)) shown batch to goes over = goes
-  asked_on (Within (Receiving d room owed octets)) shown batch to goes over = goes
-  asked_on (Within (Taking d room owed)) shown batch to goes over = goes
-  asked_on (Within (Owing d room unsynced texts)) shown batch to goes over = goes
-  asked_on (Within (Hearing d room)) shown batch to goes over = goes
-  asked_on (Within (Losing d loss)) shown batch to goes over = goes
-  asked_on (Within (Over d)) shown batch to goes over = goes
-  asked_on (Within (Closing d)) shown batch to goes over = goes
-  asked_on (Within (Ending d)) shown batch to goes over = goes
-  asked_on (Within (Done d)) shown batch to goes over = goes
-  asked_on (Filing at d rows sold) shown batch to goes over = goes
-  asked_on (Telling at d rows sold) shown batch to goes over = goes
+  asked_on p shown batch to goes over = goes
 
   answered_on : (p : Stand) (answers : List Answer) (to : Stand) → Goes channels p (Answered answers) to → IsOverAt to → ⊥
   answered_on (Within p) answers to goes over = goes

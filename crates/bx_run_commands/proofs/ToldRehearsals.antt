@@ -18,7 +18,7 @@ use Rattle.bx_run_commands.specs.RehearsalRefusals.{IsNoPeer, IsUnmet, StopsBehi
 use Rattle.bx_run_commands.specs.Telling.{IsToldWhole, IsNotToldWhole}
 use Rattle.bx_run_commands.specs.JournalDisks.{JournalDisk}
 use Rattle.bx_run_commands.specs.declared.fault.LiveFault.{LiveFault}
-use Rattle.bx_run_commands.specs.declared.fault.LiveFault.TheVariants.{Day as OfDay, NotFirstFit, CannotRecord, NotEmpty, InUse, NotAFile, StillUp}
+use Rattle.bx_run_commands.specs.declared.fault.LiveFault.TheVariants.{Day as OfDay}
 use Rattle.bx_run_commands.specs.declared.rehearsing.Rehearsed.{Rehearsed}
 use Rattle.bx_run_commands.specs.declared.telling.Ended.{Ended}
 use Rattle.bx_run_commands.proofs.Refused.{whole_run_kept, no_clock, no_output}
@@ -49,12 +49,7 @@ module _ {F W : Type 0} (files : F → Option (List ℕ)) (request : RehearsalRe
     told = record { day = ended.exchange; ran = ran; written = cut.told.written; records = record { file = ended.records; made = made; ends = cut.told.records } };
     unkept = cut.unkept;
   })
-  rehearsal_refused (CannotRecord name) cut = absurd cut
-  rehearsal_refused (NotEmpty name) cut = absurd cut
-  rehearsal_refused (InUse name) cut = absurd cut
-  rehearsal_refused (NotAFile name) cut = absurd cut
-  rehearsal_refused StillUp cut = absurd cut
-  rehearsal_refused NotFirstFit cut = absurd cut
+  rehearsal_refused fault cut = absurd cut
 
 -- ---- a rehearsal that stopped did not fail by its output
 

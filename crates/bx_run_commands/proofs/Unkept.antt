@@ -1,6 +1,6 @@
 -- Without a journal nothing fails to be put on record.
 use Rattle.std.proofs.Common.{◌≡◌, ℕ, true, false, List, [], ◌∷◌, Option, Some, None, refl, sym, subst, Bool}
-use Rattle.bx_live.specs.Acts.{Act, Began, Dropped, Recorded, Synced, Wrote, Read, Took, EndedDay}
+use Rattle.bx_live.specs.Acts.{Act, Recorded, Synced}
 use Rattle.bx_live_parts.specs.Chains.{Chain, chain_first}
 use Rattle.bx_live_parts.specs.Records.{OnRecord}
 use Rattle.bx_world.specs.Kept.{keeps_record}
@@ -15,12 +15,7 @@ module _ {D : Type 0} (holds may_leave : D → List ℕ → Type 0) (moment : D 
   none_by (Recorded event done) (Some w) p = absurd p
   none_by (Synced done) None p = refl
   none_by (Synced done) (Some w) p = absurd p
-  none_by (Began second begin) o p = sym p
-  none_by (Dropped loss) o p = sym p
-  none_by (Wrote octets done) o p = sym p
-  none_by (Read room answer) o p = sym p
-  none_by (Took message) o p = sym p
-  none_by EndedDay o p = sym p
+  none_by act o p = sym p
 
   pub none_on : (acts : List Act) (o : Option D) → Chain Kept None acts o → o ≡ None
   none_on [] o e = sym e
@@ -34,15 +29,8 @@ module _ {D : Type 0} (holds may_leave : D → List ℕ → Type 0) (moment : D 
       let (mid, step, more) = chain_first Kept None o act acts chain in
       keeps_by act mid step (none_keeps acts o (subst (λ (x : Option D). Chain Kept x acts o) (none_by act mid step) more)) where
         keeps_by : (act : Act) (mid : Option D) → Kept None act mid → keeps_record acts ≡ true → keeps_record (act ∷ acts) ≡ true
-        keeps_by (Recorded event true) mid p kept = kept
         keeps_by (Recorded event false) None p kept = cc
         keeps_by (Recorded event false) (Some w) p kept = absurd p
-        keeps_by (Synced true) mid p kept = kept
         keeps_by (Synced false) None p kept = cc
         keeps_by (Synced false) (Some w) p kept = absurd p
-        keeps_by (Began second begin) mid p kept = kept
-        keeps_by (Dropped loss) mid p kept = kept
-        keeps_by (Wrote octets done) mid p kept = kept
-        keeps_by (Read room answer) mid p kept = kept
-        keeps_by (Took message) mid p kept = kept
-        keeps_by EndedDay mid p kept = kept
+        keeps_by act mid p kept = kept

@@ -38,40 +38,39 @@ abbrev pub AreLiveTurns : Bool → Option ℕ → ℕ → List Entry → ℕ →
 AreLiveTurns true None length entries turns = (least : ℕ) × AreDayTurns None entries least × (turns ≡ max least (length + clearing_time))
 AreLiveTurns is_open asked length entries turns = AreDayTurns asked entries turns
 
--- The day of a plan that is proved and first fit, after the events and sales of its journal, and then those of a live run, on which an office sells
--- where there is one, to the turn that was asked for, or that its accepted bookings need by then. Where there is a journal it was that of this plan on this day, all of it was read, and what
--- happens is put on record in just this journal; the run goes by the hours of the words.
-pub record IsLiveDay {F : Type 0} (H : Type 0) (files : F → Option (List ℕ)) (request : LiveRequest) (day : Day) : Type 0 where
+-- a plan was read, proved and found to be first fit, and the day's hours are those of the words
+pub record IsAtHand (request : LiveRequest) : Type 0 where
   pub hours : Hours
   pub are_hours : AreHours request.hours hours
   pub opened : Day
   pub channels : List Bool
   pub digest : List ℕ
   pub opens : IsFirstFitOpening opened channels digest
+
+-- The day of such a plan after the events and sales of its journal. Where there is a journal it was that of this plan on this day, all of it was read, and
+-- what happens is put on record in just this journal.
+pub record IsGoingOn (H F : Type 0) (request : LiveRequest) : Type 0 where
+  pub at_hand : IsAtHand request
   pub resumed : Day
   pub kept : Record (FileDisk (NamedFile H F))
-  pub goes_on : GoesOnBy (live_head digest hours) channels request.journal opened resumed
-  pub is_kept : IsKeptBy (live_head digest hours) channels request.journal opened resumed kept
+  pub goes_on : GoesOnBy (live_head at_hand.digest at_hand.hours) at_hand.channels request.journal at_hand.opened resumed
+  pub is_kept : IsKeptBy (live_head at_hand.digest at_hand.hours) at_hand.channels request.journal at_hand.opened resumed kept
+
+-- That day after a live run too, on which an office sells where there is one, to the turn that was asked for, or that its accepted bookings need by then;
+-- the run goes by the hours of the words.
+pub record IsLiveDay {F : Type 0} (H : Type 0) (files : F → Option (List ℕ)) (request : LiveRequest) (day : Day) : Type 0 where
+  pub going : IsGoingOn H F request
   pub turns : ℕ
-  pub are_turns : AreLiveTurns (has_office request) request.turns (length_of hours.day) resumed.entries turns
+  pub are_turns : AreLiveTurns (has_office request) request.turns (length_of going.at_hand.hours.day) going.resumed.entries turns
   pub wire : UdpWire H
-  pub ran : RunsOn (has_office request) did_on holds_unknown may_leave_any no_moment any_since has_failed_in wire hours.schedule kept channels turns resumed day
+  pub ran : RunsOn (has_office request) did_on holds_unknown may_leave_any no_moment any_since has_failed_in wire going.at_hand.hours.schedule going.kept going.at_hand.channels turns going.resumed day
 
 -- Or such a run was over before its end, and why: the disk of the journal has failed, or what came is no event of a journal.
 pub record IsLiveStopped (H F : Type 0) (request : LiveRequest) : Type 0 where
-  pub hours : Hours
-  pub are_hours : AreHours request.hours hours
-  pub opened : Day
-  pub channels : List Bool
-  pub digest : List ℕ
-  pub opens : IsFirstFitOpening opened channels digest
-  pub resumed : Day
-  pub kept : Record (FileDisk (NamedFile H F))
-  pub goes_on : GoesOnBy (live_head digest hours) channels request.journal opened resumed
-  pub is_kept : IsKeptBy (live_head digest hours) channels request.journal opened resumed kept
+  pub going : IsGoingOn H F request
   pub turns : ℕ
   pub wire : UdpWire H
-  pub stopped : StopsOn (has_office request) did_on holds_unknown may_leave_any no_moment any_since has_failed_in wire hours.schedule kept channels turns resumed
+  pub stopped : StopsOn (has_office request) did_on holds_unknown may_leave_any no_moment any_since has_failed_in wire going.at_hand.hours.schedule going.kept going.at_hand.channels turns going.resumed
 
 -- what became of each booking of such a day was written, and no call is up
 pub record IsLiveTold {F : Type 0} (H : Type 0) (files : F → Option (List ℕ)) (request : LiveRequest) (before after : Option (List ℕ)) : Type 0 where

@@ -1,18 +1,16 @@
 -- Why a live day is refused, and what was written then.
-use Rattle.std.specs.Prelude.{◌≡◌, ◌⊎◌, ℕ, Bool, true, List, Option}
+use Rattle.std.specs.Prelude.{◌≡◌, ◌⊎◌, ℕ, true, List, Option}
 use Rattle.bx_check_commands.specs.declared.fault.CommandFault.TheVariants.{CannotWrite, Memory}
-use Rattle.bx_day.specs.Day.{Day}
-use Rattle.bx_day_openings.specs.Hours.{AreHours, IsNoHours}
+use Rattle.bx_day_openings.specs.Hours.{IsNoHours}
 use Rattle.bx_day_openings.specs.OpeningRefusals.{IsUnheard, IsUnconnected}
 use Rattle.bx_day_openings.specs.declared.fault.DayCommandFault.{DayCommandFault}
 use Rattle.bx_day_openings.specs.declared.fault.DayCommandFault.TheVariants.{Command}
-use Rattle.bx_day_openings.specs.declared.hours.Hours.{Hours}
 use Rattle.bx_devices.specs.Watching.{device_of, is_faulted}
 use Rattle.bx_devices.specs.declared.watched.Watched.{Watched}
 use Rattle.bx_request.specs.declared.request.LiveRequest.{LiveRequest}
-use Rattle.bx_run_commands.specs.FirstFits.{IsFirstFitOpening, IsNoFirstFitOpening}
+use Rattle.bx_run_commands.specs.FirstFits.{IsNoFirstFitOpening}
 use Rattle.bx_run_commands.specs.Heads.{live_head}
-use Rattle.bx_run_commands.specs.LiveDays.{IsLiveCut, IsLiveStopped, IsLiveUp, has_office}
+use Rattle.bx_run_commands.specs.LiveDays.{IsAtHand, IsLiveCut, IsLiveStopped, IsLiveUp, has_office}
 use Rattle.bx_run_commands.specs.OpeningFaults.{OfOpening, IsUnrecorded}
 use Rattle.bx_run_commands.specs.Resuming.{IsNoRecord}
 use Rattle.bx_run_commands.specs.declared.fault.LiveFault.{LiveFault}
@@ -26,15 +24,6 @@ IsNoLine fault = IsUnheard fault ⊎ IsUnconnected fault
 abbrev pub IsNoOffice : DayCommandFault → Type 0
 IsNoOffice (Command Memory) = Unit {0}
 IsNoOffice fault = IsUnheard fault
-
--- a plan was read, proved and found to be first fit, and the day's hours are those of the words
-pub record IsAtHand (request : LiveRequest) : Type 0 where
-  pub hours : Hours
-  pub are_hours : AreHours request.hours hours
-  pub opened : Day
-  pub channels : List Bool
-  pub digest : List ℕ
-  pub opens : IsFirstFitOpening opened channels digest
 
 -- Why it stops: what it needs is opened in this order, and what is tested first is answered. So a journal is not touched where the
 -- line is in use. Once it runs it stops only where its journal's disk has failed, or what came is no event of a journal.

@@ -10,10 +10,9 @@ ghost use Rattle.bx_run_commands.specs.LiveRefusals.{StopsLive, IsLiveRefusal};
 use crate::by_line::{Told, run_by_clock};
 use crate::by_office::{Premises, run_with_office};
 use crate::fault::{LiveFault, unrecorded};
-use crate::locks::Locks;
+use crate::host::Host;
 use crate::office::{live_turns, premises_of};
 use crate::resuming::{Resumed, resume_named};
-use crate::standing::Standing;
 use bx_check_commands::{CommandFault, Inputs};
 use bx_day::Exchange;
 use bx_day_openings::{
@@ -27,9 +26,8 @@ use bx_live_parts::Schedule;
 use bx_request::LiveRequest;
 use bx_sales::is_first_fit;
 use std::alloc::Global;
-use std::fs::Files;
 use std::io::Write;
-use std::net::{Net, TcpListener, TcpStream, UdpSocket};
+use std::net::UdpSocket;
 use std::rt::Clock;
 
 /// What is told of a live day while it runs, its moment on a terminal alone.
@@ -86,7 +84,7 @@ fn run_rest<'a, 'h, H: Clock + Eprint + AllocGlobal, W: Wire + Drop, D: Disk + D
 }
 
 /// Runs an opened day over a socket, from where its journal has left it.
-fn run_on_socket<'a, H: Files + Locks + Standing + AllocGlobal + Clock + Eprint>(
+fn run_on_socket<'a, H: Host>(
     rt: &'a H,
     request: LiveRequest<'a>,
     hours: Hours,
@@ -118,17 +116,7 @@ fn run_on_socket<'a, H: Files + Locks + Standing + AllocGlobal + Clock + Eprint>
 }
 
 /// The exchange at the end of a live day.
-fn run_live_day<
-    'a,
-    H: Files
-        + Locks
-        + Standing
-        + AllocGlobal
-        + Clock
-        + Eprint
-        + Net<Listener = TcpListener, Stream = TcpStream>,
-    I: Inputs,
->(
+fn run_live_day<'a, H: Host, I: Inputs>(
     rt: &'a H,
     inputs: &mut I,
     request: LiveRequest<'a>,
@@ -156,18 +144,7 @@ fn run_live_day<
 /// of this day, and `CannotRecord` where it cannot be made ready. `CannotRecord` is also answered where an event cannot be put on record.
 /// At each of these nothing was written. `LiveFault::Day`, as `Command` (`CannotWrite`), is the fault of the output, of which a front was
 /// written then. `StillUp` where the day has no more seconds, and a call is up: all of it was written then.
-pub fn live_on_files<
-    'a,
-    H: Files
-        + Locks
-        + Standing
-        + AllocGlobal
-        + Clock
-        + Eprint
-        + Net<Listener = TcpListener, Stream = TcpStream>,
-    I: Inputs,
-    W: Write,
->(
+pub fn live_on_files<'a, H: Host, I: Inputs, W: Write>(
     rt: &'a H,
     inputs: &mut I,
     request: LiveRequest<'a>,

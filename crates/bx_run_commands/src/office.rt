@@ -12,22 +12,18 @@ use bx_base::ChannelSet;
 use bx_calendar::Day;
 use bx_check_commands::CommandFault;
 use bx_day::Exchange;
-use bx_day_openings::{AFTER_THE_LAST, DayCommandFault, day_turns, listener_at, unheard};
+use bx_day_openings::{AFTER_THE_LAST, DayCommandFault, System, day_turns, listener_at, unheard};
 use bx_office::Place as DoorPlace;
 use bx_office_door::{Door, Listening};
 use bx_request::{LiveRequest, Place};
 use std::alloc::{AllocError, Global};
 use std::cell::RefCell;
-use std::fs::Files;
 use std::io;
-use std::net::{Ipv4Addr, Net, SocketAddrV4, TcpListener, TcpStream};
+use std::net::{Ipv4Addr, SocketAddrV4};
 use std::rc::Rc;
 
 /// A listener at a place, which never waits. A file of a socket on which nobody listens is replaced.
-fn listening<H: Files + Net<Listener = TcpListener, Stream = TcpStream>>(
-    rt: &H,
-    place: Place<'_>,
-) -> io::Result<Listening> {
+fn listening<H: System>(rt: &H, place: Place<'_>) -> io::Result<Listening> {
     match place {
         Place::Port(port) => Listening::at_port(rt, port),
         Place::Socket(path) => {
@@ -39,10 +35,7 @@ fn listening<H: Files + Net<Listener = TcpListener, Stream = TcpStream>>(
 }
 
 /// A door at a place. `CannotListen` where nobody can be let in there.
-fn door_at<'a, H: Files + AllocGlobal + Eprint + Net<Listener = TcpListener, Stream = TcpStream>>(
-    rt: &H,
-    place: Place<'a>,
-) -> Result<Door, DayCommandFault<'a>>
+fn door_at<'a, H: System>(rt: &H, place: Place<'a>) -> Result<Door, DayCommandFault<'a>>
     ensures { IfErr result IsUnheard }
 {
     match (listening(rt, place), place) {
@@ -83,10 +76,7 @@ fn premises_at(
 
 /// What the office that the words want is opened with, where they want one. Without a journal there is none: nothing is sold off the record. `CannotListen`
 /// where nobody can be let in there, `Command`, as `Memory`, where a growth is refused.
-pub(crate) fn premises_of<
-    'a,
-    H: Files + AllocGlobal + Eprint + Net<Listener = TcpListener, Stream = TcpStream>,
->(
+pub(crate) fn premises_of<'a, H: System>(
     rt: &H,
     request: LiveRequest<'a>,
     channels: ChannelSet,

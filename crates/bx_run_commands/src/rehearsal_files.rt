@@ -13,12 +13,12 @@ ghost use Rattle.bx_run_commands.specs.RehearsedDays.{RehearsalWith, IsRehearsal
 ghost use Rattle.bx_run_commands.specs.RehearsalRefusals.{IsUnseen, StopsAtPeer, StopsBehindPeer, StopsRehearsal, IsRehearsalRefusal};
 
 use crate::fault::{LiveFault, unrecorded};
-use crate::locks::Locks;
+use crate::host::Host;
 use crate::new_journal::{JournalDisk, new_journal};
 use crate::rehearsing::{Opened, Rehearsed, rehearse};
 use crate::running::View;
 use crate::telling::{Ended, tell};
-use bx_calendar::Clock as DayClock;
+use bx_calendar::Clock;
 use bx_check_commands::Inputs;
 use bx_day_openings::{
     DayCommandFault, Opening, RecordsFile, accepted, accepted_at, connected_ends, far_end_of,
@@ -29,18 +29,14 @@ use bx_journal::{Head, JournalDay};
 use bx_link::Connection;
 use bx_request::{Peer as Asked, Place, RehearsalRequest};
 use bx_world::{BothEnds, Peer};
-use std::fs::Files;
-use std::io::Write;
-use std::net::{Net, TcpListener, TcpStream};
-use std::os::unix::net::UnixStream;
-use std::rt::Clock;
+use std::io::{Read, Write};
 
 /// What the words of a rehearsal say of its time and of what is seen: the second that moment 0 has in a capture, the clock of the
 /// records, and whether the moment is shown.
 #[derive(Clone, Copy)]
 struct Seen {
     first: u32,
-    clock: Option<DayClock>,
+    clock: Option<Clock>,
     is_shown: bool,
 }
 
@@ -53,7 +49,7 @@ struct Ready<'a, F: Write + Drop> {
 }
 
 /// Opens the journal of a day that is opened, where one is to be kept, and the files of its capture and its records.
-fn readied<'a, H: Files + Locks + AllocGlobal + Eprint>(
+fn readied<'a, H: Host>(
     rt: &H,
     request: RehearsalRequest<'a>,
     opening: Opening,
@@ -92,19 +88,11 @@ fn readied<'a, H: Files + Locks + AllocGlobal + Eprint>(
     })
 }
 
-/// The two directions of a TCP stream.
-fn connection<'a>(stream: &'a TcpStream) -> Connection<&'a TcpStream, &'a TcpStream> {
+/// The two directions of a stream.
+fn connection<R: Read, W: Write>(reader: R, writer: W) -> Connection<R, W> {
     Connection {
-        reader: Watched::new(stream),
-        writer: Watched::new(stream),
-    }
-}
-
-/// The two directions of a Unix stream.
-fn socket_connection<'a>(stream: &'a UnixStream) -> Connection<&'a UnixStream, &'a UnixStream> {
-    Connection {
-        reader: Watched::new(stream),
-        writer: Watched::new(stream),
+        reader: Watched::new(reader),
+        writer: Watched::new(writer),
     }
 }
 
@@ -116,7 +104,7 @@ struct Run<'a, F: Write + Drop> {
 }
 
 /// Rehearses a day towards a peer. What cannot be put on record is a fault of the journal that is named.
-fn rehearse_named<'a, 'h, H: Files + Clock + Eprint, P: Peer + Drop>(
+fn rehearse_named<'a, 'h, H: Host, P: Peer + Drop>(
     rt: &'h H,
     opened: Opened<JournalDisk<H::File>>,
     peer: P,
@@ -135,16 +123,7 @@ fn rehearse_named<'a, 'h, H: Files + Clock + Eprint, P: Peer + Drop>(
 }
 
 /// Rehearses an opened day with the far end of a script, over one TCP connection.
-fn rehearse_script<
-    'a,
-    H: Files
-        + Locks
-        + AllocGlobal
-        + Clock
-        + Eprint
-        + Net<Listener = TcpListener, Stream = TcpStream>,
-    I: Inputs,
->(
+fn rehearse_script<'a, H: Host, I: Inputs>(
     rt: &H,
     inputs: &mut I,
     script: &'a str,
@@ -165,21 +144,17 @@ fn rehearse_script<
         view,
         records,
     } = ready;
-    let both = BothEnds::new(connection(&near), far, connection(&distant));
+    let both = BothEnds::new(
+        connection(&near, &near),
+        far,
+        connection(&distant, &distant),
+    );
     let rehearsed = rehearse_named(rt, opened, both, view, request.journal)?;
     Ok(Run { rehearsed, records })
 }
 
 /// Rehearses an opened day towards the first peer that connects to a port or a socket.
-fn rehearse_at<
-    'a,
-    H: Files
-        + Locks
-        + AllocGlobal
-        + Clock
-        + Eprint
-        + Net<Listener = TcpListener, Stream = TcpStream>,
->(
+fn rehearse_at<'a, H: Host>(
     rt: &H,
     place: Place<'a>,
     request: RehearsalRequest<'a>,
@@ -200,27 +175,18 @@ fn rehearse_at<
     let rehearsed = match place {
         Place::Port(port) => {
             let peer = accepted(rt, port, seen.is_shown)?;
-            rehearse_named(rt, opened, connection(&peer), view, request.journal)?
+            rehearse_named(rt, opened, connection(&peer, &peer), view, request.journal)?
         }
         Place::Socket(path) => {
             let peer = accepted_at(rt, path, seen.is_shown)?;
-            rehearse_named(rt, opened, socket_connection(&peer), view, request.journal)?
+            rehearse_named(rt, opened, connection(&peer, &peer), view, request.journal)?
         }
     };
     Ok(Run { rehearsed, records })
 }
 
 /// Rehearses an opened day with the peer that is asked for.
-fn rehearse_with_peer<
-    'a,
-    H: Files
-        + Locks
-        + AllocGlobal
-        + Clock
-        + Eprint
-        + Net<Listener = TcpListener, Stream = TcpStream>,
-    I: Inputs,
->(
+fn rehearse_with_peer<'a, H: Host, I: Inputs>(
     rt: &H,
     inputs: &mut I,
     request: RehearsalRequest<'a>,
@@ -275,16 +241,7 @@ fn seen_of<'a>(
 }
 
 /// The exchange at the end of a day that was rehearsed, with the file that was made for its records.
-fn run_rehearsal<
-    'a,
-    H: Files
-        + Locks
-        + AllocGlobal
-        + Clock
-        + Eprint
-        + Net<Listener = TcpListener, Stream = TcpStream>,
-    I: Inputs,
->(
+fn run_rehearsal<'a, H: Host, I: Inputs>(
     rt: &H,
     inputs: &mut I,
     request: RehearsalRequest<'a>,
@@ -314,17 +271,7 @@ fn run_rehearsal<
 /// connection. `CannotRecord` is also answered where an event cannot be put on record, and `Link` is the fault of the link that
 /// ended the day. At the end `Command`, as `CannotWrite`, is the fault of the output; `CannotWriteFile` that of the capture; and
 /// `CannotWriteFile`, `Day`, as `OutOfRange`, or `Command`, as `Memory`, that of the records.
-pub fn rehearse_on_files<
-    'a,
-    H: Files
-        + Locks
-        + AllocGlobal
-        + Clock
-        + Eprint
-        + Net<Listener = TcpListener, Stream = TcpStream>,
-    I: Inputs,
-    W: Write,
->(
+pub fn rehearse_on_files<'a, H: Host, I: Inputs, W: Write>(
     rt: &H,
     inputs: &mut I,
     request: RehearsalRequest<'a>,

@@ -1,10 +1,9 @@
 use Rattle.std.proofs.Common.{inr}
 use Rattle.bx_run_commands.specs.Heads.{live_head}
-use Rattle.bx_day_openings.specs.declared.hours.Hours.{Hours}
 use Rattle.bx_journal.specs.Files.{holds_unknown, may_leave_any, no_moment, any_since, has_failed_in}
-use Rattle.bx_run_commands.specs.LiveDays.{did_on, has_office, AreLiveTurns}
+use Rattle.bx_run_commands.specs.LiveDays.{did_on, has_office}
 use Rattle.bx_run_commands.proofs.LineRuns.{journal_kept_by}
-use Rattle.bx_run_commands.proofs.OpenOffices.{is_open_at, runs_on, stops_on}
+use Rattle.bx_run_commands.proofs.OpenOffices.{at_hand_of, is_open_at, runs_on, stops_on}
 use Rattle.bx_run_commands.proofs.live_files.run_on_socket.Goals as goal
 
 pub unrecorded-requires : goal.unrecorded-requires
@@ -13,16 +12,7 @@ unrecorded-requires g c =
 
 pub returns-in-Ok-clause-ran : goal.returns-in-Ok-clause-ran
 returns-in-Ok-clause-ran g c = λ hours opens at. record {
-  hours = c.args.hours;
-  are_hours = hours;
-  opened = c.args.opening.exchange;
-  channels = c.args.opening.channels;
-  digest = c.args.opening.digest;
-  opens = opens;
-  resumed = c.in_ok-resumed.resumed.exchange;
-  kept = c.in_ok-resumed.resumed.record;
-  goes_on = c.in_ok-resumed.ensures.resumed;
-  is_kept = c.in_ok-resumed.ensures.kept;
+  going = record { at_hand = at_hand_of c.args.request c.args.hours c.args.opening hours opens; resumed = c.in_ok-resumed.resumed.exchange; kept = c.in_ok-resumed.resumed.record; goes_on = c.in_ok-resumed.ensures.resumed; is_kept = c.in_ok-resumed.ensures.kept };
   turns = c.live_turns-turns.result;
   are_turns = rw (← is_open_at (has_office c.args.request) c.args.opening.channels c.args.premises at) (rw (← c.is_some-is_open.ensures) c.live_turns-turns.ensures);
   wire = c.new-wire.result;
@@ -33,16 +23,7 @@ pub returns-in-Err-clause-stopped : goal.returns-in-Err-clause-stopped
 returns-in-Err-clause-stopped g c = λ hours opens at. inr (
   c.unrecorded.ensures,
   record {
-    hours = c.args.hours;
-    are_hours = hours;
-    opened = c.args.opening.exchange;
-    channels = c.args.opening.channels;
-    digest = c.args.opening.digest;
-    opens = opens;
-    resumed = c.in_ok-resumed.resumed.exchange;
-    kept = c.in_ok-resumed.resumed.record;
-    goes_on = c.in_ok-resumed.ensures.resumed;
-    is_kept = c.in_ok-resumed.ensures.kept;
+    going = record { at_hand = at_hand_of c.args.request c.args.hours c.args.opening hours opens; resumed = c.in_ok-resumed.resumed.exchange; kept = c.in_ok-resumed.resumed.record; goes_on = c.in_ok-resumed.ensures.resumed; is_kept = c.in_ok-resumed.ensures.kept };
     turns = c.live_turns-turns.result;
     wire = c.new-wire.result;
     stopped = stops_on did_on holds_unknown may_leave_any no_moment any_since has_failed_in c.new-wire.result c.args.hours.schedule c.in_ok-resumed.resumed.record c.live_turns-turns.result c.in_ok-resumed.resumed.exchange (has_office c.args.request) c.args.opening.channels c.args.premises at c.in-Err.ensures.stopped;
