@@ -1,6 +1,6 @@
 //! The files that a command uses.
 
-ghost use Rattle.std.specs.Prelude.{◌≡◌};
+ghost use Rattle.std.specs.Prelude.{◌≡◌, ◌∷◌, [], None};
 ghost use Rattle.bx_cli.specs.Uses.{capture_use, files_of, peer_use, read_use, records_use, uses_of, written_use};
 
 use bx_request::{CaptureWords, FileRequest, Peer, RecordsWords, Request};
@@ -54,7 +54,7 @@ fn captured<'a>(capture: Option<CaptureWords<'a>>) -> Option<FileUse<'a>>
     ensures { result ≡ capture_use capture.entry }
 {
     match capture {
-        Some(CaptureWords { file, day: _ }) => written(FileKind::Capture, Some(file)),
+        Some(CaptureWords { file, .. }) => written(FileKind::Capture, Some(file)),
         None => None,
     }
 }
@@ -64,7 +64,7 @@ fn recorded<'a>(records: Option<RecordsWords<'a>>) -> Option<FileUse<'a>>
     ensures { result ≡ records_use records.entry }
 {
     match records {
-        Some(RecordsWords { file, day: _ }) => written(FileKind::Records, Some(file)),
+        Some(RecordsWords { file, .. }) => written(FileKind::Records, Some(file)),
         None => None,
     }
 }
@@ -79,61 +79,49 @@ fn scripted<'a>(peer: Peer<'a>) -> Option<FileUse<'a>>
     }
 }
 
+/// Where a command uses one file.
+fn one<'a>(first: Option<FileUse<'a>>) -> [Option<FileUse<'a>>; 5]
+    ensures { result ≡ first.entry ∷ None ∷ None ∷ None ∷ None ∷ [] }
+{
+    [first, None, None, None, None]
+}
+
+/// Where it uses two.
+fn two<'a>(first: Option<FileUse<'a>>, second: Option<FileUse<'a>>) -> [Option<FileUse<'a>>; 5]
+    ensures { result ≡ first.entry ∷ second.entry ∷ None ∷ None ∷ None ∷ [] }
+{
+    [first, second, None, None, None]
+}
+
+/// Where it tells of a day by its journal.
+fn told<'a>(plan: &'a str, journal: &'a str) -> [Option<FileUse<'a>>; 5]
+    ensures { result ≡ read_use FileKind.Plan plan.entry ∷ read_use FileKind.Journal journal.entry ∷ None ∷ None ∷ None ∷ [] }
+{
+    two(read(FileKind::Plan, plan), read(FileKind::Journal, journal))
+}
+
 /// The files of a command on bookings and plans.
 fn on_files<'a>(request: &FileRequest<'a>) -> [Option<FileUse<'a>>; 5]
     ensures { result ≡ files_of request.now }
 {
     match request {
-        FileRequest::Plan { terms: _, bookings } => [
-            read(FileKind::Bookings, bookings),
-            None,
-            None,
-            None,
-            None,
-        ],
-        FileRequest::Check {
-            terms: _,
-            bookings,
-            plan,
-        } => [
-            read(FileKind::Bookings, bookings),
-            read(FileKind::Plan, plan),
-            None,
-            None,
-            None,
-        ],
-        FileRequest::Amend {
-            date: _,
-            zone: _,
-            plan,
-            bookings,
-        } => [
-            read(FileKind::Bookings, bookings),
-            read(FileKind::Plan, plan),
-            None,
-            None,
-            None,
-        ],
-        FileRequest::Capacity {
-            date: _,
-            zone: _,
-            bookings,
-        } => [read(FileKind::Bookings, bookings), None, None, None, None],
-        FileRequest::Explain { plan, row: _ } => [
-            read(FileKind::Plan, plan),
-            None,
-            None,
-            None,
-            None,
-        ],
-        FileRequest::Quote { plan, call: _ } => [
-            read(FileKind::Plan, plan),
-            None,
-            None,
-            None,
-            None,
-        ],
-        FileRequest::Chart { plan, day: _ } => [read(FileKind::Plan, plan), None, None, None, None],
+        FileRequest::Plan { bookings, .. } => one(read(FileKind::Bookings, bookings)),
+        FileRequest::Check { bookings, plan, .. } => {
+            two(
+                read(FileKind::Bookings, bookings),
+                read(FileKind::Plan, plan),
+            )
+        }
+        FileRequest::Amend { plan, bookings, .. } => {
+            two(
+                read(FileKind::Bookings, bookings),
+                read(FileKind::Plan, plan),
+            )
+        }
+        FileRequest::Capacity { bookings, .. } => one(read(FileKind::Bookings, bookings)),
+        FileRequest::Explain { plan, .. } => one(read(FileKind::Plan, plan)),
+        FileRequest::Quote { plan, .. } => one(read(FileKind::Plan, plan)),
+        FileRequest::Chart { plan, .. } => one(read(FileKind::Plan, plan)),
     }
 }
 
@@ -150,27 +138,20 @@ pub fn named_files<'a>(request: &Request<'a>) -> [Option<FileUse<'a>>; 5]
             recorded(request.records),
             captured(request.sight.capture),
         ],
-        Request::Far(request) => [
-            read(FileKind::Script, request.script),
-            captured(request.sight.capture),
-            None,
-            None,
-            None,
-        ],
-        Request::FarLine(request) => [
+        Request::Far(request) => {
+            two(
+                read(FileKind::Script, request.script),
+                captured(request.sight.capture),
+            )
+        }
+        Request::FarLine(request) => two(
             read(FileKind::Script, request.script),
             written(FileKind::Capture, request.capture),
-            None,
-            None,
-            None,
-        ],
-        Request::Live(request) => [
+        ),
+        Request::Live(request) => two(
             read(FileKind::Plan, request.plan),
             written(FileKind::Journal, request.journal),
-            None,
-            None,
-            None,
-        ],
+        ),
         Request::Audit(request) => [
             read(FileKind::Plan, request.plan),
             read(FileKind::Journal, request.journal),
@@ -178,29 +159,9 @@ pub fn named_files<'a>(request: &Request<'a>) -> [Option<FileUse<'a>>; 5]
             None,
             None,
         ],
-        Request::Records(request) => {
-            [
-                read(FileKind::Plan, request.plan),
-                read(FileKind::Journal, request.journal),
-                None,
-                None,
-                None,
-            ]
-        }
-        Request::Sold(request) => [
-            read(FileKind::Plan, request.plan),
-            read(FileKind::Journal, request.journal),
-            None,
-            None,
-            None,
-        ],
-        Request::DayChart(request) => [
-            read(FileKind::Plan, request.plan),
-            read(FileKind::Journal, request.journal),
-            None,
-            None,
-            None,
-        ],
+        Request::Records(request) => told(request.plan, request.journal),
+        Request::Sold(request) => told(request.plan, request.journal),
+        Request::DayChart(request) => told(request.plan, request.journal),
         Request::Decode { octets: _ } => [None, None, None, None, None],
     }
 }

@@ -22,7 +22,7 @@ use bx_devices::{Watched, write_octets};
 use bx_far_commands::{far_by_line, far_on_files};
 use bx_plan_commands::run_on_files;
 use bx_request::Request;
-use bx_run_commands::{Locks, Standing, live_on_files, rehearse_on_files};
+use bx_run_commands::{Host, Locks, Standing, live_on_files, rehearse_on_files};
 use bx_words::{Refusal, read_words};
 use std::alloc::Global;
 use std::fmt::Display;
@@ -99,19 +99,7 @@ pub fn main_words<
 }
 
 /// Does one command, and answers its status.
-fn run<
-    'a,
-    H: Files
-        + Locks
-        + Standing
-        + AllocGlobal
-        + Clock
-        + Eprint
-        + Net<Listener = TcpListener, Stream = TcpStream>,
-    R: Read,
-    W: Write,
-    E: Write,
->(
+fn run<'a, H: Host, R: Read, W: Write, E: Write>(
     rt: &'a H,
     request: Request<'a>,
     input: &mut Watched<R>,
@@ -130,74 +118,46 @@ fn run<
     };
     let mut inputs = FilesAndInput::new(rt, input);
     match request {
-        Request::Files(request) => status_of(
-            alloc,
-            run_on_files(alloc, &mut inputs, &request, output, errors),
-            asked,
-            errors,
-        ),
+        Request::Files(request) => {
+            let done = run_on_files(alloc, &mut inputs, &request, output, errors);
+            status_of(alloc, done, asked, errors)
+        }
         Request::Rehearsal(request) => {
-            status_of(
-                alloc,
-                rehearse_on_files(rt, &mut inputs, request, output, is_terminal),
-                asked,
-                errors,
-            )
+            let done = rehearse_on_files(rt, &mut inputs, request, output, is_terminal);
+            status_of(alloc, done, asked, errors)
         }
         Request::Far(request) => {
-            status_of(
-                alloc,
-                far_on_files(rt, &mut inputs, request, output, is_terminal),
-                asked,
-                errors,
-            )
+            let done = far_on_files(rt, &mut inputs, request, output, is_terminal);
+            status_of(alloc, done, asked, errors)
         }
         Request::FarLine(request) => {
-            status_of(
-                alloc,
-                far_by_line(rt, &mut inputs, request, output, is_terminal),
-                asked,
-                errors,
-            )
+            let done = far_by_line(rt, &mut inputs, request, output, is_terminal);
+            status_of(alloc, done, asked, errors)
         }
         Request::Live(request) => {
-            status_of(
-                alloc,
-                live_on_files(rt, &mut inputs, request, output, is_terminal),
-                asked,
-                errors,
-            )
+            let done = live_on_files(rt, &mut inputs, request, output, is_terminal);
+            status_of(alloc, done, asked, errors)
         }
-        Request::Audit(request) => status_of(
-            alloc,
-            audit_files(rt, &mut inputs, request, output),
-            asked,
-            errors,
-        ),
-        Request::Records(request) => status_of(
-            alloc,
-            record_files(alloc, &mut inputs, request, output, errors),
-            asked,
-            errors,
-        ),
-        Request::Sold(request) => status_of(
-            alloc,
-            sold_files(alloc, &mut inputs, request, output),
-            asked,
-            errors,
-        ),
-        Request::DayChart(request) => status_of(
-            alloc,
-            chart_day_files(alloc, &mut inputs, request, output),
-            asked,
-            errors,
-        ),
-        Request::Decode { octets } => status_of(
-            alloc,
-            decode(alloc, octets, output),
-            asked,
-            errors,
-        ),
+        Request::Audit(request) => {
+            let done = audit_files(rt, &mut inputs, request, output);
+            status_of(alloc, done, asked, errors)
+        }
+        Request::Records(request) => {
+            let done = record_files(alloc, &mut inputs, request, output, errors);
+            status_of(alloc, done, asked, errors)
+        }
+        Request::Sold(request) => {
+            let done = sold_files(alloc, &mut inputs, request, output);
+            status_of(alloc, done, asked, errors)
+        }
+        Request::DayChart(request) => {
+            let done = chart_day_files(alloc, &mut inputs, request, output);
+            status_of(alloc, done, asked, errors)
+        }
+        Request::Decode { octets } => {
+            let done = decode(alloc, octets, output);
+            status_of(alloc, done, asked, errors)
+        }
     }
 }
 
