@@ -38,12 +38,9 @@ returns-clause-whole g c =
     omega (arith, l.invariant.moment, l.invariant.reached, c.min-end.ensures)
 
 pub loop-second-init : goal.loop-second-init
-loop-second-init g c = record {
-  moment = sym c.moment-second.ensures.value;
-  within = omega (arith, c.min-end.ensures);
-  reached = omega (arith, c.moment-second.ensures.value);
-  so_far = none_done g.met.W.World.did_nothing c.args.world.now (Between c.args.far.now);
-}
+loop-second-init g c =
+    let so_far = none_done g.met.W.World.did_nothing c.args.world.now (Between c.args.far.now) in
+    record { moment = sym c.moment-second.ensures.value; within = omega (arith, c.min-end.ensures); reached = omega (arith, c.moment-second.ensures.value); so_far = so_far }
 
 pub loop-second-preserved : goal.loop-second-preserved
 loop-second-preserved g c =
