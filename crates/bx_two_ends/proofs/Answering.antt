@@ -34,9 +34,9 @@ use Rattle.bx_day.specs.Run.{receive_from, receive_read, receive_octets}
 use Rattle.bx_day.specs.declared.entry.Activity.{Activity}
 use Rattle.bx_day.specs.declared.entry.Entry.{Entry}
 use Rattle.bx_day.specs.declared.entry.Standing.{Standing}
-use Rattle.bx_day.specs.declared.entry.Standing.TheVariants.{Refused, Unoffered, OnCall, Carried, Unanswered, Missed}
+use Rattle.bx_day.specs.declared.entry.Standing.TheVariants.{Refused, OnCall}
 use Rattle.bx_day.specs.Moves.{over_at}
-use Rattle.bx_day.specs.declared.entry.Activity.TheVariants.{Never, Since, Was}
+use Rattle.bx_day.specs.declared.entry.Activity.TheVariants.{Never}
 use Rattle.bx_day.specs.Day.{is_unoffered}
 use Rattle.bx_day.specs.Invariant.{StandingFits}
 use Rattle.std.proofs.lemmas.List.{get_or-set_same}
@@ -137,8 +137,7 @@ record GetsCleared (r : ℕ) (o : NetOrigin) (k : Kind) (after : Standing) : Typ
 
 over_idle : (a : Activity) (t : ℕ) → is_live (over_at a t) ≡ false
 over_idle Never t = refl
-over_idle (Since from) t = refl
-over_idle (Was from until) t = refl
+over_idle a t = refl
 
 ends_row : (r : ℕ) (o : NetOrigin) (k : Kind) (a : Activity) (t : ℕ) → GetsCleared r o k (over_at a t)
 ends_row r o k a t = record {
@@ -163,17 +162,11 @@ cleared_row r ch o Active a m t k h = absurd (false≢true h)
 cleared_row r ch o (Enquiring asked due) a m t k h = absurd (false≢true h)
 cleared_row r ch o (DisconnectIndication cause due) a m t ReleaseComplete h = ends_row r o _ a t
 cleared_row r ch o (DisconnectIndication cause due) a m t Release h = ends_row r o _ a t
-cleared_row r ch o (DisconnectIndication cause due) a m t StatusEnquiry h = stays_row r ch o _ _ _ refl refl
 cleared_row r ch o (DisconnectIndication cause due) a m t Status h = cleared_if (reports_null m.state) r o _ a t _ _ (ends_row r o _ a t) (stays_row r ch o _ _ _ refl refl)
-cleared_row r ch o (DisconnectIndication cause due) a m t Setup h = stays_row r ch o _ _ _ refl refl
-cleared_row r ch o (DisconnectIndication cause due) a m t Disconnect h = stays_row r ch o _ _ _ refl refl
-cleared_row r ch o (DisconnectIndication cause due) a m t k h = stays_row r ch o _ _ _ refl refl
 cleared_row r ch o (ReleaseRequest again cause due) a m t ReleaseComplete h = ends_row r o _ a t
 cleared_row r ch o (ReleaseRequest again cause due) a m t Release h = ends_row r o _ a t
-cleared_row r ch o (ReleaseRequest again cause due) a m t StatusEnquiry h = stays_row r ch o _ _ _ refl refl
 cleared_row r ch o (ReleaseRequest again cause due) a m t Status h = cleared_if (reports_null m.state) r o _ a t _ _ (ends_row r o _ a t) (stays_row r ch o _ _ _ refl refl)
-cleared_row r ch o (ReleaseRequest again cause due) a m t Setup h = stays_row r ch o _ _ _ refl refl
-cleared_row r ch o (ReleaseRequest again cause due) a m t k h = stays_row r ch o _ _ _ refl refl
+cleared_row r ch o s a m t k h = stays_row r ch o _ _ _ refl refl
 
 -- ---- a call that is settled stays so
 
@@ -207,54 +200,24 @@ up_row r ch Inward OutgoingCallProceeding a m t k h c = refl
 -- ---- a message wakes a call that is asked for
 
 awake_settled : (s : NetState) (o : NetOrigin) → is_settled_in s o ≡ true → is_settled_in (net_awake_state s) o ≡ true
-awake_settled OutgoingCallProceeding o h = h
-awake_settled (CallPresent again due) o h = h
-awake_settled (IncomingCallProceeding due) o h = h
-awake_settled (CallReceived due) o h = h
-awake_settled Active o h = h
-awake_settled (DisconnectIndication cause due) o h = h
-awake_settled (ReleaseRequest again cause due) o h = h
 awake_settled (Enquiring asked due) o h = absurd (false≢true h)
+awake_settled s o h = h
 
 awake_ringing : (s : NetState) → is_ringing_in s ≡ true → is_ringing_in (net_awake_state s) ≡ true
-awake_ringing OutgoingCallProceeding h = h
-awake_ringing (CallPresent again due) h = h
-awake_ringing (IncomingCallProceeding due) h = h
-awake_ringing (CallReceived due) h = h
-awake_ringing Active h = h
-awake_ringing (DisconnectIndication cause due) h = h
-awake_ringing (ReleaseRequest again cause due) h = h
 awake_ringing (Enquiring asked due) h = absurd (false≢true h)
+awake_ringing s h = h
 
 awake_clearing : (s : NetState) → net_is_clearing s ≡ true → net_is_clearing (net_awake_state s) ≡ true
-awake_clearing OutgoingCallProceeding h = h
-awake_clearing (CallPresent again due) h = h
-awake_clearing (IncomingCallProceeding due) h = h
-awake_clearing (CallReceived due) h = h
-awake_clearing Active h = h
-awake_clearing (DisconnectIndication cause due) h = h
-awake_clearing (ReleaseRequest again cause due) h = h
 awake_clearing (Enquiring asked due) h = absurd (false≢true h)
+awake_clearing s h = h
 
 pub awake_going : (s : NetState) → net_is_clearing s ≡ false → net_is_clearing (net_awake_state s) ≡ false
-awake_going OutgoingCallProceeding h = h
-awake_going (CallPresent again due) h = h
-awake_going (IncomingCallProceeding due) h = h
-awake_going (CallReceived due) h = h
-awake_going Active h = h
-awake_going (DisconnectIndication cause due) h = h
-awake_going (ReleaseRequest again cause due) h = h
 awake_going (Enquiring asked due) h = refl
+awake_going s h = h
 
 asked_row : (r ch : ℕ) (o : NetOrigin) (s : NetState) (a : Activity) (m : Heard) (t : ℕ) (k : Kind) → is_asked s ≡ true → clears_by ch m k ≡ false → is_up (follows a t (net_row (call_of r ch o (net_awake_state s)) m t (net_awake_state s) k)).standing ≡ true
 asked_row r ch o (Enquiring asked due) a m t k h c = up_row r ch o Active a m t k refl c
-asked_row r ch o OutgoingCallProceeding a m t k h c = absurd (false≢true h)
-asked_row r ch o (CallPresent again due) a m t k h c = absurd (false≢true h)
-asked_row r ch o (IncomingCallProceeding due) a m t k h c = absurd (false≢true h)
-asked_row r ch o (CallReceived due) a m t k h c = absurd (false≢true h)
-asked_row r ch o Active a m t k h c = absurd (false≢true h)
-asked_row r ch o (DisconnectIndication cause due) a m t k h c = absurd (false≢true h)
-asked_row r ch o (ReleaseRequest again cause due) a m t k h c = absurd (false≢true h)
+asked_row r ch o s a m t k h c = absurd (false≢true h)
 
 -- ---- octets as what is said
 
@@ -348,11 +311,7 @@ both x x' y y' p q = ap (λ b. b && y) p ∙ ap (λ b. x' && b) q
 
 names_same : (m : Said) (r : ℕ) (o : NetOrigin) (s : Standing) → IsSameCall r o s → names_call m s ≡ ((r == m.reference) && bool_eq (net_flag o) (not m.flag))
 names_same m r o (OnCall c a) h = both (c.reference == m.reference) (r == m.reference) (bool_eq (net_flag c.origin) (not m.flag)) (bool_eq (net_flag o) (not m.flag)) (ap (λ x. x == m.reference) h.0) (ap (λ x. bool_eq (net_flag x) (not m.flag)) h.1)
-names_same m r o Refused h = absurd h
-names_same m r o Unoffered h = absurd h
-names_same m r o (Carried from until) h = absurd h
-names_same m r o Unanswered h = absurd h
-names_same m r o Missed h = absurd h
+names_same m r o s h = absurd h
 
 -- ---- a call that goes on, message by message
 
@@ -374,11 +333,7 @@ settled_of (OnCall c a) g r n = at c.state c.origin g r n
     at (CallReceived due) o p q z = absurd (true≢false q)
     at (DisconnectIndication cause due) o p q z = absurd (false≢true p)
     at (ReleaseRequest again cause due) o p q z = absurd (false≢true p)
-settled_of Refused g r n = absurd (false≢true g)
-settled_of Unoffered g r n = absurd (false≢true g)
-settled_of (Carried from until) g r n = absurd (false≢true g)
-settled_of Unanswered g r n = absurd (false≢true g)
-settled_of Missed g r n = absurd (false≢true g)
+settled_of s g r n = absurd (false≢true g)
 
 pub up_going : (s : Standing) → is_up s ≡ true → is_going s ≡ true
 up_going (OnCall c a) h = at c.state c.origin h
@@ -392,11 +347,7 @@ up_going (OnCall c a) h = at c.state c.origin h
     at (CallReceived due) o p = refl
     at (DisconnectIndication cause due) o p = absurd (false≢true p)
     at (ReleaseRequest again cause due) o p = absurd (false≢true p)
-up_going Refused h = absurd (false≢true h)
-up_going Unoffered h = absurd (false≢true h)
-up_going (Carried from until) h = absurd (false≢true h)
-up_going Unanswered h = absurd (false≢true h)
-up_going Missed h = absurd (false≢true h)
+up_going s h = absurd (false≢true h)
 
 pub ringing_going : (s : Standing) → is_ringing s ≡ true → (is_going s ≡ true) × (is_unsettled_call s ≡ false)
 ringing_going (OnCall c a) h = at c.state h
@@ -410,19 +361,11 @@ ringing_going (OnCall c a) h = at c.state h
     at OutgoingCallProceeding p = absurd (false≢true p)
     at (DisconnectIndication cause due) p = absurd (false≢true p)
     at (ReleaseRequest again cause due) p = absurd (false≢true p)
-ringing_going Refused h = absurd (false≢true h)
-ringing_going Unoffered h = absurd (false≢true h)
-ringing_going (Carried from until) h = absurd (false≢true h)
-ringing_going Unanswered h = absurd (false≢true h)
-ringing_going Missed h = absurd (false≢true h)
+ringing_going s h = absurd (false≢true h)
 
 pub going_live : (s : Standing) → is_going s ≡ true → is_live s ≡ true
 going_live (OnCall c a) h = refl
-going_live Refused h = absurd (false≢true h)
-going_live Unoffered h = absurd (false≢true h)
-going_live (Carried from until) h = absurd (false≢true h)
-going_live Unanswered h = absurd (false≢true h)
-going_live Missed h = absurd (false≢true h)
+going_live s h = absurd (false≢true h)
 
 pub not_going : (b : Bool) → not b ≡ true → b ≡ false
 not_going true x = absurd (false≢true x)
@@ -433,11 +376,7 @@ up_hears : (t : ℕ) (e : Entry) (m : Said) (s : Standing) → StandingFits t e 
 up_hears t e m (OnCall c a) fits spared h = heard_by (λ (x : Transition PlainNetCall). is_up (follows a t x).standing ≡ true) c m.heard t c.state m.heard.kind
     (λ asked due is q. absurd (false≢true (subst (λ (s : NetState). is_settled_in s c.origin ≡ true) is h)))
     (up_row c.reference c.channel c.origin (net_awake_state c.state) a m.heard t m.heard.kind (awake_settled c.state c.origin h) (subst (λ ch. clears_by ch m.heard m.heard.kind ≡ false) (sym fits.channel) spared))
-up_hears t e m Refused fits spared h = absurd (false≢true h)
-up_hears t e m Unoffered fits spared h = absurd (false≢true h)
-up_hears t e m (Carried from until) fits spared h = absurd (false≢true h)
-up_hears t e m Unanswered fits spared h = absurd (false≢true h)
-up_hears t e m Missed fits spared h = absurd (false≢true h)
+up_hears t e m s fits spared h = absurd (false≢true h)
 
 -- one that rings
 rings_hears : (t : ℕ) (e0 e : Entry) (m : Said) (octets : List ℕ) (rest : List (List ℕ)) (s : Standing) → StandingFits t e s → said_in octets ≡ Some m → clears_by e.channel m.heard m.heard.kind ≡ false → is_ringing s ≡ true → ((x : Said) → names_call x s ≡ names x e0) → is_told (λ x. is_connect x.kind) e0 (octets ∷ rest) ≡ true → GoesOnTo e0 rest (with_standing e (hears m t s).standing)
@@ -454,21 +393,14 @@ rings_hears t e0 e m octets rest (OnCall c a) fits is spared rings named told =
     (λ other. told_rest (λ x. is_connect x.kind) e0 octets rest (Some m) is (none_and (names m e0) (is_connect m.heard.kind) other) told)))
     (λ quiet. Settled (settled_of (hears m t (OnCall c a)).standing g.going quiet g.third))
 rings_hears t e0 e m octets rest Refused fits is spared rings named told = absurd (false≢true rings)
-rings_hears t e0 e m octets rest Unoffered fits is spared rings named told = absurd (false≢true rings)
-rings_hears t e0 e m octets rest (Carried from until) fits is spared rings named told = absurd (false≢true rings)
-rings_hears t e0 e m octets rest Unanswered fits is spared rings named told = absurd (false≢true rings)
-rings_hears t e0 e m octets rest Missed fits is spared rings named told = absurd (false≢true rings)
+rings_hears t e0 e m octets rest s fits is spared rings named told = absurd (false≢true rings)
 
 -- one that is asked for
 asked_hears : (t : ℕ) (e : Entry) (m : Said) (s : Standing) → StandingFits t e s → clears_by e.channel m.heard m.heard.kind ≡ false → contradicts s m.heard ≡ false → is_enquired s ≡ true → is_up (hears m t s).standing ≡ true
 asked_hears t e m (OnCall c a) fits spared agrees h = heard_by (λ (x : Transition PlainNetCall). is_up (follows a t x).standing ≡ true) c m.heard t c.state m.heard.kind
     (λ asked due is q. absurd (true≢false (sym q ∙ agrees)))
     (asked_row c.reference c.channel c.origin c.state a m.heard t m.heard.kind h (subst (λ ch. clears_by ch m.heard m.heard.kind ≡ false) (sym fits.channel) spared))
-asked_hears t e m Refused fits spared agrees h = absurd (false≢true h)
-asked_hears t e m Unoffered fits spared agrees h = absurd (false≢true h)
-asked_hears t e m (Carried from until) fits spared agrees h = absurd (false≢true h)
-asked_hears t e m Unanswered fits spared agrees h = absurd (false≢true h)
-asked_hears t e m Missed fits spared agrees h = absurd (false≢true h)
+asked_hears t e m s fits spared agrees h = absurd (false≢true h)
 
 pub asked_going : (s : Standing) → is_enquired s ≡ true → is_going s ≡ true
 asked_going (OnCall c a) h = at c.state h
@@ -482,11 +414,7 @@ asked_going (OnCall c a) h = at c.state h
     at Active p = refl
     at (DisconnectIndication cause due) p = absurd (false≢true p)
     at (ReleaseRequest again cause due) p = absurd (false≢true p)
-asked_going Refused h = absurd (false≢true h)
-asked_going Unoffered h = absurd (false≢true h)
-asked_going (Carried from until) h = absurd (false≢true h)
-asked_going Unanswered h = absurd (false≢true h)
-asked_going Missed h = absurd (false≢true h)
+asked_going s h = absurd (false≢true h)
 
 unsettled_from : (s : Standing) → is_third_call s ≡ false → is_enquired s ≡ false → is_unsettled_call s ≡ false
 unsettled_from (OnCall c a) p q = at c.state p q
@@ -500,11 +428,7 @@ unsettled_from (OnCall c a) p q = at c.state p q
     at Active p q = refl
     at (DisconnectIndication cause due) p q = refl
     at (ReleaseRequest again cause due) p q = refl
-unsettled_from Refused p q = refl
-unsettled_from Unoffered p q = refl
-unsettled_from (Carried from until) p q = refl
-unsettled_from Unanswered p q = refl
-unsettled_from Missed p q = refl
+unsettled_from s p q = refl
 
 pub fits_now : (rows : List Row) (assigned : List (Option ℕ)) (t i : ℕ) (d : Day) → IsHearing rows assigned t d → StandingFits t (entry_at d.entries i) (standing_at d i)
 fits_now rows assigned t i d h = subst (λ n. StandingFits n (entry_at d.entries i) (standing_at d i)) h.turn.moment (fits_at d i h.turn.fits.day)
@@ -526,11 +450,7 @@ live_not_open d e live op = no (e.standing) live (is_open_unoffered d e op)
   where
     no : (s : Standing) → is_live s ≡ true → is_unoffered s ≡ true → ⊥
     no (OnCall c a) l u = false≢true u
-    no Refused l u = false≢true l
-    no Unoffered l u = false≢true l
-    no (Carried from until) l u = false≢true l
-    no Unanswered l u = false≢true l
-    no Missed l u = false≢true l
+    no s l u = false≢true l
 
 going_octets : (rows : List Row) (assigned : List (Option ℕ)) (t i : ℕ) (e0 : Entry) (octets : List ℕ) (rest : List (List ℕ)) (d : Day) → IsHearing rows assigned t d → Spares octets d → GoesOnTo e0 (octets ∷ rest) (entry_at d.entries i) → GoesOnTo e0 rest (entry_at (receive_octets d octets).day.entries i)
 going_octets rows assigned t i e0 octets rest d h spares g = at (said_in octets) refl g
@@ -565,11 +485,7 @@ pub data Passes (e0 : Entry) (rest : List (List ℕ)) (e : Entry) : Type 0 where
 
 clearing_live : (s : Standing) → is_clearing s ≡ true → is_live s ≡ true
 clearing_live (OnCall c a) h = refl
-clearing_live Refused h = absurd (false≢true h)
-clearing_live Unoffered h = absurd (false≢true h)
-clearing_live (Carried from until) h = absurd (false≢true h)
-clearing_live Unanswered h = absurd (false≢true h)
-clearing_live Missed h = absurd (false≢true h)
+clearing_live s h = absurd (false≢true h)
 
 pub clears_hears : (t : ℕ) (e0 e : Entry) (m : Said) (octets : List ℕ) (rest : List (List ℕ)) (s : Standing) → said_in octets ≡ Some m → is_clearing s ≡ true → ((x : Said) → names_call x s ≡ names x e0) → is_told (λ x. is_release x.kind) e0 (octets ∷ rest) ≡ true → Passes e0 rest (with_standing e (hears m t s).standing)
 clears_hears t e0 e m octets rest (OnCall c a) is clearing named told =
@@ -583,10 +499,7 @@ clears_hears t e0 e m octets rest (OnCall c a) is clearing named told =
     (λ other. told_rest (λ x. is_release x.kind) e0 octets rest (Some m) is (none_and (names m e0) (is_release m.heard.kind) other) told)))
     (λ over. Idle over)
 clears_hears t e0 e m octets rest Refused is clearing named told = absurd (false≢true clearing)
-clears_hears t e0 e m octets rest Unoffered is clearing named told = absurd (false≢true clearing)
-clears_hears t e0 e m octets rest (Carried from until) is clearing named told = absurd (false≢true clearing)
-clears_hears t e0 e m octets rest Unanswered is clearing named told = absurd (false≢true clearing)
-clears_hears t e0 e m octets rest Missed is clearing named told = absurd (false≢true clearing)
+clears_hears t e0 e m octets rest s is clearing named told = absurd (false≢true clearing)
 
 pub passing_octets : (rows : List Row) (assigned : List (Option ℕ)) (t i : ℕ) (e0 : Entry) (octets : List ℕ) (rest : List (List ℕ)) (d : Day) → IsHearing rows assigned t d → Spares octets d → Passes e0 (octets ∷ rest) (entry_at d.entries i) → Passes e0 rest (entry_at (receive_octets d octets).day.entries i)
 passing_octets rows assigned t i e0 octets rest d h spares g = at (said_in octets) refl g
@@ -614,19 +527,11 @@ passing_all rows assigned t i e0 (octets ∷ rest) d h spares g = passing_all ro
 
 up_settled : (s : Standing) → is_up s ≡ true → OnLive s (λ c a. is_settled c ≡ true)
 up_settled (OnCall c a) h = h
-up_settled Refused h = tt
-up_settled Unoffered h = tt
-up_settled (Carried from until) h = tt
-up_settled Unanswered h = tt
-up_settled Missed h = tt
+up_settled s h = tt
 
 idle_settled : (s : Standing) → is_live s ≡ false → OnLive s (λ c a. is_settled c ≡ true)
 idle_settled (OnCall c a) h = absurd (true≢false h)
-idle_settled Refused h = tt
-idle_settled Unoffered h = tt
-idle_settled (Carried from until) h = tt
-idle_settled Unanswered h = tt
-idle_settled Missed h = tt
+idle_settled s h = tt
 
 pub going_or : (s : Standing) → is_going s ≡ false → (is_live s ≡ false) ⊎ (is_clearing s ≡ true)
 going_or (OnCall c a) g = inr (at (net_is_clearing c.state) g)
@@ -634,11 +539,7 @@ going_or (OnCall c a) g = inr (at (net_is_clearing c.state) g)
     at : (b : Bool) → not b ≡ false → b ≡ true
     at true x = refl
     at false x = absurd (true≢false x)
-going_or Refused g = inl refl
-going_or Unoffered g = inl refl
-going_or (Carried from until) g = inl refl
-going_or Unanswered g = inl refl
-going_or Missed g = inl refl
+going_or s g = inl refl
 
 -- what a turn leaves of each booking
 record IsLeft (called left : Day) (i : ℕ) : Type 0 where

@@ -20,13 +20,13 @@ use Rattle.bx_day.specs.Outages.{without_link}
 use Rattle.bx_day.specs.Reading.{IsExchange}
 use Rattle.bx_day.specs.Ticks.{second_at, waits, passed_in}
 use Rattle.bx_day.specs.declared.entry.Activity.{Activity}
-use Rattle.bx_day.specs.declared.entry.Activity.TheVariants.{Never, Since, Was}
+use Rattle.bx_day.specs.declared.entry.Activity.TheVariants.{Never}
 use Rattle.bx_day.specs.Moves.{over_at}
 use Rattle.bx_day.specs.declared.entry.Entry.{Entry}
 use Rattle.bx_day.specs.declared.entry.Link.TheVariants.{Up, Down}
 use Rattle.bx_day.specs.declared.entry.Moved.{Moved}
 use Rattle.bx_day.specs.declared.entry.Standing.{Standing}
-use Rattle.bx_day.specs.declared.entry.Standing.TheVariants.{Refused, Unoffered, OnCall, Carried, Unanswered, Missed}
+use Rattle.bx_day.specs.declared.entry.Standing.TheVariants.{Unoffered, OnCall}
 use Rattle.bx_two_ends.proofs.Answering.{is_third_call, IsHearing, turn_answered, all_heard}
 use Rattle.bx_two_ends.proofs.Naming.{IsNamedOnce, names_live, once_second}
 use Rattle.bx_two_ends.proofs.Calm.{IsCalm, called_turn, calm_linked, calm_unlinked, without_is, after_standing, day_linked, linked_turn, answered_cleared}
@@ -48,8 +48,7 @@ by_step false a t x y f g = g
 
 over_other : (a : Activity) (t : ℕ) → IsOther (over_at a t)
 over_other Never t = refl
-over_other (Since from) t = refl
-over_other (Was from until) t = refl
+over_other a t = refl
 
 other_second : (t end r ch : ℕ) (o : NetOrigin) (s : NetState) (a : Activity) → IsOther (follows a t (net_second (call_of r ch o s) t end)).standing
 other_second t end r ch o OutgoingCallProceeding a = by_step (nat_le end t) a t _ _ refl refl
@@ -71,10 +70,7 @@ other_waits e t free = by_cases (offers e t free) _ _ (λ (m : Moved). IsOther m
 other_tick : (t : ℕ) (e : Entry) (free : Bool) (s : Standing) → IsOther (second_at e t free s).standing
 other_tick t e free (OnCall c a) = other_second t e.booking.end c.reference c.channel c.origin c.state a
 other_tick t e free Unoffered = other_waits e t free
-other_tick t e free Refused = refl
-other_tick t e free (Carried from until) = refl
-other_tick t e free Unanswered = refl
-other_tick t e free Missed = refl
+other_tick t e free s = refl
 
 -- ---- all seconds
 

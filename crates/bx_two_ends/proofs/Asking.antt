@@ -33,12 +33,12 @@ use Rattle.bx_day.specs.Receipts.{hears, takes_call, takes_or, takes_preferred, 
 use Rattle.bx_day.specs.Run.{receive_from, receive_read, happens, day_after}
 use Rattle.bx_two_ends.specs.Asking.{next_second, call_after, is_up, is_asked, StandingUnasked, EntryUnasked, DayUnasked}
 use Rattle.bx_day.specs.declared.entry.Activity.{Activity}
-use Rattle.bx_day.specs.declared.entry.Activity.TheVariants.{Never, Since, Was}
+use Rattle.bx_day.specs.declared.entry.Activity.TheVariants.{Never}
 use Rattle.bx_day.specs.declared.entry.Entry.{Entry}
 use Rattle.bx_day.specs.declared.entry.Moved.{Moved}
 use Rattle.bx_day.specs.declared.entry.Link.TheVariants.{Up}
 use Rattle.bx_day.specs.declared.entry.Standing.{Standing}
-use Rattle.bx_day.specs.declared.entry.Standing.TheVariants.{Refused, Unoffered, OnCall, Carried, Unanswered, Missed}
+use Rattle.bx_day.specs.declared.entry.Standing.TheVariants.{Unoffered, OnCall}
 use Rattle.bx_day.proofs.Hear.{heard_by}
 use Rattle.bx_day.proofs.Second.{call_of}
 use Rattle.bx_day.proofs.Tick.{by_cases, with_standing, offers}
@@ -70,14 +70,9 @@ cleared_next t end Over h = refl
 cleared_next t end Broken h = refl
 
 clearing_calm : (s : NetState) → net_is_clearing s ≡ true → is_active s ≡ false
-clearing_calm (DisconnectIndication cause due) h = refl
-clearing_calm (ReleaseRequest again cause due) h = refl
-clearing_calm OutgoingCallProceeding h = refl
-clearing_calm (CallPresent again due) h = refl
-clearing_calm (IncomingCallProceeding due) h = refl
-clearing_calm (CallReceived due) h = refl
 clearing_calm Active h = absurd (false≢true h)
 clearing_calm (Enquiring asked due) h = absurd (false≢true h)
+clearing_calm s h = refl
 
 not_up : (x : Next PlainNetCall) → is_cleared x ≡ true → is_up x ≡ false
 not_up (Live c) h = clearing_calm c.state h
@@ -104,8 +99,7 @@ IsDown n t end step = is_up (call_after n t end step.next) ≡ false
 
 asked_after : (n t end : ℕ) (c : PlainNetCall) (asked : Asked) (due : ℕ) → t < due → given_up asked due ≤ t + n → is_up (call_after n t end (Live (asked_as c asked due))) ≡ false
 asked_after zero t end c NotYet due waits fit = absurd (omega (arith, waits, fit))
-asked_after zero t end c Once due waits fit = absurd (omega (arith, waits, fit))
-asked_after zero t end c Twice due waits fit = absurd (omega (arith, waits, fit))
+asked_after zero t end c asked due waits fit = absurd (omega (arith, waits, fit))
 asked_after (suc n) t end c NotYet due waits fit =
     by_cases (nat_le end (t + 1)) _ _ (IsDown n (t + 1) end)
     (λ _. cleared_after n (t + 1) end (net_disconnects (asked_as c NotYet due) 16 (t + 1)).next refl)
@@ -156,13 +150,7 @@ report_ends c m t n (Enquiring asked due) a state unfit = by_cases (reports_othe
     (λ _. refl)
     (λ q. (let null : reports_null m.state ≡ true = ap reports_null state ∙ is_null (n == 0) (fits_active c.origin n) (sym (ap (reports_other c.origin) state) ∙ q) unfit in
     by_cases (reports_null m.state) _ _ (λ (x : Transition PlainNetCall). is_up x.next ≡ false) (λ _. refl) (λ p. absurd (true≢false (sym null ∙ p)))))
-report_ends c m t n OutgoingCallProceeding a state unfit = absurd (false≢true a)
-report_ends c m t n (CallPresent again due) a state unfit = absurd (false≢true a)
-report_ends c m t n (IncomingCallProceeding due) a state unfit = absurd (false≢true a)
-report_ends c m t n (CallReceived due) a state unfit = absurd (false≢true a)
-report_ends c m t n Active a state unfit = absurd (false≢true a)
-report_ends c m t n (DisconnectIndication cause due) a state unfit = absurd (false≢true a)
-report_ends c m t n (ReleaseRequest again cause due) a state unfit = absurd (false≢true a)
+report_ends c m t n s a state unfit = absurd (false≢true a)
 
 pub reported_down : (c : PlainNetCall) (m : Heard) (t n : ℕ) → is_asked c.state ≡ true → m.kind ≡ Status → m.state ≡ Some n → fits_active c.origin n ≡ false → is_up (net_message c m t).next ≡ false
 reported_down c m t n a kind state unfit = subst (λ (k : Kind). is_up (net_heard c m t c.state k).next ≡ false) (sym kind) (report_ends c m t n c.state a state unfit)
@@ -188,8 +176,7 @@ StepUnasked a t step = StandingUnasked (follows a t step).standing
 
 over_unasked : (a : Activity) (t : ℕ) → StandingUnasked (over_at a t)
 over_unasked Never t = tt
-over_unasked (Since from) t = tt
-over_unasked (Was from until) t = tt
+over_unasked a t = tt
 
 second_unasked : (c : PlainNetCall) (s : NetState) (a : Activity) (t end : ℕ) → is_asked s ≡ false → StepUnasked a t (net_second (record c { state = s }) t end)
 second_unasked c OutgoingCallProceeding a t end h = by_cases (nat_le end t) _ _ (StepUnasked a t) (λ _. refl) (λ _. refl)
@@ -225,33 +212,19 @@ row_unasked r ch o t a m s k h = h
 
 pub awake_unasked : (s : NetState) → is_asked (net_awake_state s) ≡ false
 awake_unasked OutgoingCallProceeding = refl
-awake_unasked (CallPresent again due) = refl
-awake_unasked (IncomingCallProceeding due) = refl
-awake_unasked (CallReceived due) = refl
-awake_unasked Active = refl
-awake_unasked (Enquiring asked due) = refl
-awake_unasked (DisconnectIndication cause due) = refl
-awake_unasked (ReleaseRequest again cause due) = refl
+awake_unasked s = refl
 
 heard_unasked : (c : PlainNetCall) (m : Heard) (t : ℕ) (a : Activity) → StepUnasked a t (net_message c m t)
 heard_unasked c m t a = heard_by (StepUnasked a t) c m t c.state m.kind (λ asked due is q. refl) (row_unasked c.reference c.channel c.origin t a m (net_awake_state c.state) m.kind (awake_unasked c.state))
 
 hears_unasked : (m : Said) (t : ℕ) (s : Standing) → StandingUnasked s → StandingUnasked (hears m t s).standing
 hears_unasked m t (OnCall c a) h = heard_unasked c m.heard t a
-hears_unasked m t Refused h = tt
-hears_unasked m t Unoffered h = tt
-hears_unasked m t (Carried from until) h = tt
-hears_unasked m t Unanswered h = tt
-hears_unasked m t Missed h = tt
+hears_unasked m t s h = tt
 
 -- and no call is asked for behind a message of it
 pub hears_awake : (m : Said) (t : ℕ) (s : Standing) → StandingUnasked (hears m t s).standing
 hears_awake m t (OnCall c a) = heard_unasked c m.heard t a
-hears_awake m t Refused = tt
-hears_awake m t Unoffered = tt
-hears_awake m t (Carried from until) = tt
-hears_awake m t Unanswered = tt
-hears_awake m t Missed = tt
+hears_awake m t s = tt
 
 waits_unasked : (t : ℕ) (e : Entry) (free : Bool) → StandingUnasked (waits e t free).standing
 waits_unasked t e free =
@@ -261,10 +234,7 @@ waits_unasked t e free =
 tick_unasked : (t : ℕ) (e : Entry) (free : Bool) (s : Standing) → StandingUnasked s → StandingUnasked (second_at e t free s).standing
 tick_unasked t e free (OnCall c a) h = second_unasked c c.state a t e.booking.end h
 tick_unasked t e free Unoffered h = waits_unasked t e free
-tick_unasked t e free Refused h = tt
-tick_unasked t e free (Carried from until) h = tt
-tick_unasked t e free Unanswered h = tt
-tick_unasked t e free Missed h = tt
+tick_unasked t e free s h = tt
 
 up_unasked : (d : Day) (es : List Entry) → AllByRecursion EntryUnasked es → AllByRecursion EntryUnasked (map (after_in Up d) es)
 up_unasked d [] h = tt

@@ -21,7 +21,7 @@ use Rattle.bx_day.specs.declared.entry.Entry.{Entry}
 use Rattle.bx_day.specs.declared.entry.Link.{Link}
 use Rattle.bx_day.specs.declared.entry.Link.TheVariants.{Up, Down}
 use Rattle.bx_day.specs.declared.entry.Standing.{Standing}
-use Rattle.bx_day.specs.declared.entry.Standing.TheVariants.{Unoffered, OnCall, Refused, Carried, Unanswered, Missed}
+use Rattle.bx_day.specs.declared.entry.Standing.TheVariants.{Unoffered, OnCall}
 use Rattle.bx_two_ends.proofs.Carrying.{IsUp, IsOver, IsKept, IsQuietCall, up_going, up_tick, end_tick, over_tick, waits_offered, waits_stays, up_unlinked, end_unlinked, over_unlinked, up_kept, over_cleared, carried_over, carried_unlinked, whole_tick, whole_unlinked, quiet_unlinked, cleared_quiet, settled_going, settled_unasked, active_up, IsBegun, begun_tick, begun_unlinked, begun_or_up}
 use Rattle.bx_day.proofs.Law.{RunFits, at_map_in, happens_fits, without_run}
 use Rattle.bx_day.proofs.Passing.{tick_is, map_size}
@@ -41,19 +41,11 @@ cleared_at d i h = on_live_at (standing_at d i) (λ call a. net_is_clearing call
 -- where each SETUP is answered too
 pub settled_cleared : (s : Standing) → OnLive s (λ call a. is_settled call ≡ true) → OnLive s (λ call a. net_is_clearing call.state ≡ false)
 settled_cleared (OnCall c a) h = settled_going c h
-settled_cleared Refused h = tt
-settled_cleared Unoffered h = tt
-settled_cleared (Carried from until) h = tt
-settled_cleared Unanswered h = tt
-settled_cleared Missed h = tt
+settled_cleared s h = tt
 
 pub settled_awake : (s : Standing) → OnLive s (λ call a. is_settled call ≡ true) → StandingUnasked s
 settled_awake (OnCall c a) h = settled_unasked c h
-settled_awake Refused h = tt
-settled_awake Unoffered h = tt
-settled_awake (Carried from until) h = tt
-settled_awake Unanswered h = tt
-settled_awake Missed h = tt
+settled_awake s h = tt
 
 pub answered_cleared : (called left : Day) → IsAnswered called left → IsCleared called left
 answered_cleared called left h = record { cleared = λ i. settled_cleared (standing_at left i) (h.settled i); awake = λ i. settled_awake (standing_at left i) (h.settled i); kept = h.kept }

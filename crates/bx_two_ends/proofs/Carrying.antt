@@ -3,14 +3,14 @@ use Rattle.std.proofs.Common.{◌≡◌, ℕ, ◌≤◌, ◌<◌, Bool, true, fa
 use Rattle.std.proofs.lemmas.Bool.{leb-true, leb-false, true≢false, false≢true}
 use Rattle.bx_q931.specs.Outgoing.{Outgoing}
 use Rattle.bx_q931.specs.declared.kind.Kind.{Kind}
-use Rattle.bx_q931.specs.declared.kind.Kind.TheVariants.{Setup, Disconnect, Release, ReleaseComplete, StatusEnquiry, Status}
+use Rattle.bx_q931.specs.declared.kind.Kind.TheVariants.{Status}
 use Rattle.bx_calls.specs.declared.transition.Transition.{Transition}
 use Rattle.bx_calls.specs.declared.transition.Next.{Next}
 use Rattle.bx_calls.specs.declared.transition.Next.TheVariants.{Live, Over, Broken}
 use Rattle.bx_calls.specs.PlainCalls.{PlainNetCall}
 use Rattle.bx_calls.specs.declared.net_state.Asked.TheVariants.{NotYet, Once, Twice}
 use Rattle.bx_calls.specs.declared.net_state.NetOrigin.{NetOrigin}
-use Rattle.bx_calls.specs.declared.net_state.NetOrigin.TheVariants.{Outward, Inward}
+use Rattle.bx_calls.specs.declared.net_state.NetOrigin.TheVariants.{Inward}
 use Rattle.bx_calls.specs.declared.net_state.NetState.{NetState}
 use Rattle.bx_calls.specs.declared.net_state.NetState.TheVariants.{OutgoingCallProceeding, CallPresent, IncomingCallProceeding, CallReceived, Active, Enquiring, DisconnectIndication, ReleaseRequest}
 use Rattle.bx_calls.specs.Hearing.{Heard, reports_null}
@@ -28,7 +28,7 @@ use Rattle.bx_day.specs.declared.entry.Activity.TheVariants.{Never, Since, Was}
 use Rattle.bx_day.specs.declared.entry.Entry.{Entry}
 use Rattle.bx_day.specs.declared.entry.Moved.{Moved}
 use Rattle.bx_day.specs.declared.entry.Standing.{Standing}
-use Rattle.bx_day.specs.declared.entry.Standing.TheVariants.{Refused, Unoffered, OnCall, Carried, Unanswered, Missed}
+use Rattle.bx_day.specs.declared.entry.Standing.TheVariants.{Unoffered, OnCall, Carried}
 use Rattle.bx_day.proofs.Hear.{heard_by}
 use Rattle.bx_day.proofs.Second.{call_of}
 use Rattle.bx_day.proofs.Tick.{by_cases, offers}
@@ -82,72 +82,34 @@ IsQuietCall _ = Unit {0}
 
 up_second : (u t end r ch : ℕ) (o : NetOrigin) (s : NetState) (a : Activity) → TalksBy u s a → is_pressed s ≡ false → t < end → IsUp u (follows a t (net_second (call_of r ch o s) t end)).standing
 up_second u t end r ch o Active (Since from) h q lt = by_step (nat_le end t) (IsUp u) (Since from) t _ _ (λ ended. let le : end ≤ t = leb-true end t ended in absurd (omega (arith, le, lt))) (λ _. h)
-up_second u t end r ch o Active Never h q lt = absurd h
-up_second u t end r ch o Active (Was from until) h q lt = absurd h
 up_second u t end r ch o (Enquiring NotYet due) (Since from) h q lt = by_step (nat_le end t) (IsUp u) (Since from) t _ _ (λ ended. let le : end ≤ t = leb-true end t ended in absurd (omega (arith, le, lt))) (λ _. by_step (nat_le due t) (IsUp u) (Since from) t _ _ (λ _. h) (λ _. h))
 up_second u t end r ch o (Enquiring Once due) (Since from) h q lt = absurd (true≢false q)
 up_second u t end r ch o (Enquiring Twice due) (Since from) h q lt = absurd (true≢false q)
-up_second u t end r ch o (Enquiring asked due) Never h q lt = absurd h
-up_second u t end r ch o (Enquiring asked due) (Was from until) h q lt = absurd h
-up_second u t end r ch o OutgoingCallProceeding a h q lt = absurd h
-up_second u t end r ch o (CallPresent again due) a h q lt = absurd h
-up_second u t end r ch o (IncomingCallProceeding due) a h q lt = absurd h
-up_second u t end r ch o (CallReceived due) a h q lt = absurd h
-up_second u t end r ch o (DisconnectIndication cause due) a h q lt = absurd h
-up_second u t end r ch o (ReleaseRequest again cause due) a h q lt = absurd h
+up_second u t end r ch o s a h q lt = absurd h
 
 end_second : (u t end r ch : ℕ) (o : NetOrigin) (s : NetState) (a : Activity) → TalksBy u s a → t ≡ end → IsOver u end (follows a t (net_second (call_of r ch o s) t end)).standing
 end_second u t end r ch o Active (Since from) h is = by_step (nat_le end t) (IsOver u end) (Since from) t _ _ (λ _. (h, is)) (λ runs. let lt : t < end = leb-false end t runs in absurd (omega (arith, is, lt)))
-end_second u t end r ch o Active Never h is = absurd h
-end_second u t end r ch o Active (Was from until) h is = absurd h
 end_second u t end r ch o (Enquiring asked due) (Since from) h is = by_step (nat_le end t) (IsOver u end) (Since from) t _ _ (λ _. (h, is)) (λ runs. let lt : t < end = leb-false end t runs in absurd (omega (arith, is, lt)))
-end_second u t end r ch o (Enquiring asked due) Never h is = absurd h
-end_second u t end r ch o (Enquiring asked due) (Was from until) h is = absurd h
-end_second u t end r ch o OutgoingCallProceeding a h is = absurd h
-end_second u t end r ch o (CallPresent again due) a h is = absurd h
-end_second u t end r ch o (IncomingCallProceeding due) a h is = absurd h
-end_second u t end r ch o (CallReceived due) a h is = absurd h
-end_second u t end r ch o (DisconnectIndication cause due) a h is = absurd h
-end_second u t end r ch o (ReleaseRequest again cause due) a h is = absurd h
+end_second u t end r ch o s a h is = absurd h
 
 over_second : (u t end r ch : ℕ) (o : NetOrigin) (s : NetState) (a : Activity) → ClearsBy u end s a → IsOver u end (follows a t (net_second (call_of r ch o s) t end)).standing
 over_second u t end r ch o (DisconnectIndication cause due) (Was from until) h = by_step (nat_le due t) (IsOver u end) (Was from until) t _ _ (λ _. h) (λ _. h)
-over_second u t end r ch o (DisconnectIndication cause due) Never h = absurd h
-over_second u t end r ch o (DisconnectIndication cause due) (Since from) h = absurd h
 over_second u t end r ch o (ReleaseRequest false cause due) (Was from until) h = by_step (nat_le due t) (IsOver u end) (Was from until) t _ _ (λ _. h) (λ _. h)
 over_second u t end r ch o (ReleaseRequest true cause due) (Was from until) h = by_step (nat_le due t) (IsOver u end) (Was from until) t _ _ (λ _. h) (λ _. h)
-over_second u t end r ch o (ReleaseRequest again cause due) Never h = absurd h
-over_second u t end r ch o (ReleaseRequest again cause due) (Since from) h = absurd h
-over_second u t end r ch o OutgoingCallProceeding a h = absurd h
-over_second u t end r ch o (CallPresent again due) a h = absurd h
-over_second u t end r ch o (IncomingCallProceeding due) a h = absurd h
-over_second u t end r ch o (CallReceived due) a h = absurd h
-over_second u t end r ch o Active a h = absurd h
-over_second u t end r ch o (Enquiring asked due) a h = absurd h
+over_second u t end r ch o s a h = absurd h
 
 pub up_tick : (u t : ℕ) (e : Entry) (free : Bool) (s : Standing) → IsUp u s → IsQuietCall s → t < e.booking.end → IsUp u (second_at e t free s).standing
 up_tick u t e free (OnCall c a) h q lt = up_second u t e.booking.end c.reference c.channel c.origin c.state a h q lt
-up_tick u t e free Refused h q lt = absurd h
-up_tick u t e free Unoffered h q lt = absurd h
-up_tick u t e free (Carried from until) h q lt = absurd h
-up_tick u t e free Unanswered h q lt = absurd h
-up_tick u t e free Missed h q lt = absurd h
+up_tick u t e free s h q lt = absurd h
 
 pub end_tick : (u t : ℕ) (e : Entry) (free : Bool) (s : Standing) → IsUp u s → t ≡ e.booking.end → IsOver u e.booking.end (second_at e t free s).standing
 end_tick u t e free (OnCall c a) h is = end_second u t e.booking.end c.reference c.channel c.origin c.state a h is
-end_tick u t e free Refused h is = absurd h
-end_tick u t e free Unoffered h is = absurd h
-end_tick u t e free (Carried from until) h is = absurd h
-end_tick u t e free Unanswered h is = absurd h
-end_tick u t e free Missed h is = absurd h
+end_tick u t e free s h is = absurd h
 
 pub over_tick : (u t : ℕ) (e : Entry) (free : Bool) (s : Standing) → IsOver u e.booking.end s → IsOver u e.booking.end (second_at e t free s).standing
 over_tick u t e free (OnCall c a) h = over_second u t e.booking.end c.reference c.channel c.origin c.state a h
-over_tick u t e free Refused h = absurd h
-over_tick u t e free Unoffered h = absurd h
 over_tick u t e free (Carried from until) h = h
-over_tick u t e free Unanswered h = absurd h
-over_tick u t e free Missed h = absurd h
+over_tick u t e free s h = absurd h
 
 -- a booking that waits is offered where it can be, and waits on else
 pub waits_offered : (t : ℕ) (e : Entry) (free : Bool) → offers e t free ≡ true → is_going (waits e t free).standing ≡ true
@@ -161,89 +123,42 @@ waits_stays t e free stays lt = by_cases (offers e t free) _ _ (λ (m : Moved). 
 
 up_still : (u t end r ch : ℕ) (o : NetOrigin) (s : NetState) (a : Activity) → TalksBy u s a → t < end → IsUp u (follows a t (net_unlinked 1 (call_of r ch o s) t end)).standing
 up_still u t end r ch o Active (Since from) h lt = by_step (nat_le end t) (IsUp u) (Since from) t _ _ (λ ended. let le : end ≤ t = leb-true end t ended in absurd (omega (arith, le, lt))) (λ _. h)
-up_still u t end r ch o Active Never h lt = absurd h
-up_still u t end r ch o Active (Was from until) h lt = absurd h
 up_still u t end r ch o (Enquiring asked due) (Since from) h lt = by_step (nat_le end t) (IsUp u) (Since from) t _ _ (λ ended. let le : end ≤ t = leb-true end t ended in absurd (omega (arith, le, lt))) (λ _. h)
-up_still u t end r ch o (Enquiring asked due) Never h lt = absurd h
-up_still u t end r ch o (Enquiring asked due) (Was from until) h lt = absurd h
-up_still u t end r ch o OutgoingCallProceeding a h lt = absurd h
-up_still u t end r ch o (CallPresent again due) a h lt = absurd h
-up_still u t end r ch o (IncomingCallProceeding due) a h lt = absurd h
-up_still u t end r ch o (CallReceived due) a h lt = absurd h
-up_still u t end r ch o (DisconnectIndication cause due) a h lt = absurd h
-up_still u t end r ch o (ReleaseRequest again cause due) a h lt = absurd h
+up_still u t end r ch o s a h lt = absurd h
 
 end_still : (u t end r ch : ℕ) (o : NetOrigin) (s : NetState) (a : Activity) → TalksBy u s a → t ≡ end → IsOver u end (follows a t (net_unlinked 1 (call_of r ch o s) t end)).standing
 end_still u t end r ch o Active (Since from) h is = by_step (nat_le end t) (IsOver u end) (Since from) t _ _ (λ _. (h, is)) (λ runs. let lt : t < end = leb-false end t runs in absurd (omega (arith, is, lt)))
-end_still u t end r ch o Active Never h is = absurd h
-end_still u t end r ch o Active (Was from until) h is = absurd h
 end_still u t end r ch o (Enquiring asked due) (Since from) h is = by_step (nat_le end t) (IsOver u end) (Since from) t _ _ (λ _. (h, is)) (λ runs. let lt : t < end = leb-false end t runs in absurd (omega (arith, is, lt)))
-end_still u t end r ch o (Enquiring asked due) Never h is = absurd h
-end_still u t end r ch o (Enquiring asked due) (Was from until) h is = absurd h
-end_still u t end r ch o OutgoingCallProceeding a h is = absurd h
-end_still u t end r ch o (CallPresent again due) a h is = absurd h
-end_still u t end r ch o (IncomingCallProceeding due) a h is = absurd h
-end_still u t end r ch o (CallReceived due) a h is = absurd h
-end_still u t end r ch o (DisconnectIndication cause due) a h is = absurd h
-end_still u t end r ch o (ReleaseRequest again cause due) a h is = absurd h
+end_still u t end r ch o s a h is = absurd h
 
 over_still : (u t end r ch : ℕ) (o : NetOrigin) (s : NetState) (a : Activity) → ClearsBy u end s a → IsOver u end (follows a t (net_unlinked 1 (call_of r ch o s) t end)).standing
 over_still u t end r ch o (DisconnectIndication cause due) (Was from until) h = h
-over_still u t end r ch o (DisconnectIndication cause due) Never h = absurd h
-over_still u t end r ch o (DisconnectIndication cause due) (Since from) h = absurd h
 over_still u t end r ch o (ReleaseRequest again cause due) (Was from until) h = h
-over_still u t end r ch o (ReleaseRequest again cause due) Never h = absurd h
-over_still u t end r ch o (ReleaseRequest again cause due) (Since from) h = absurd h
-over_still u t end r ch o OutgoingCallProceeding a h = absurd h
-over_still u t end r ch o (CallPresent again due) a h = absurd h
-over_still u t end r ch o (IncomingCallProceeding due) a h = absurd h
-over_still u t end r ch o (CallReceived due) a h = absurd h
-over_still u t end r ch o Active a h = absurd h
-over_still u t end r ch o (Enquiring asked due) a h = absurd h
+over_still u t end r ch o s a h = absurd h
 
 pub up_unlinked : (u t : ℕ) (e : Entry) (s : Standing) → IsUp u s → t < e.booking.end → IsUp u (unlinked_at e t s).standing
 up_unlinked u t e (OnCall c a) h lt = up_still u t e.booking.end c.reference c.channel c.origin c.state a h lt
-up_unlinked u t e Refused h lt = absurd h
-up_unlinked u t e Unoffered h lt = absurd h
-up_unlinked u t e (Carried from until) h lt = absurd h
-up_unlinked u t e Unanswered h lt = absurd h
-up_unlinked u t e Missed h lt = absurd h
+up_unlinked u t e s h lt = absurd h
 
 pub end_unlinked : (u t : ℕ) (e : Entry) (s : Standing) → IsUp u s → t ≡ e.booking.end → IsOver u e.booking.end (unlinked_at e t s).standing
 end_unlinked u t e (OnCall c a) h is = end_still u t e.booking.end c.reference c.channel c.origin c.state a h is
-end_unlinked u t e Refused h is = absurd h
-end_unlinked u t e Unoffered h is = absurd h
-end_unlinked u t e (Carried from until) h is = absurd h
-end_unlinked u t e Unanswered h is = absurd h
-end_unlinked u t e Missed h is = absurd h
+end_unlinked u t e s h is = absurd h
 
 pub over_unlinked : (u t : ℕ) (e : Entry) (s : Standing) → IsOver u e.booking.end s → IsOver u e.booking.end (unlinked_at e t s).standing
 over_unlinked u t e (OnCall c a) h = over_still u t e.booking.end c.reference c.channel c.origin c.state a h
-over_unlinked u t e Refused h = absurd h
-over_unlinked u t e Unoffered h = absurd h
 over_unlinked u t e (Carried from until) h = h
-over_unlinked u t e Unanswered h = absurd h
-over_unlinked u t e Missed h = absurd h
+over_unlinked u t e s h = absurd h
 
 -- ---- Active is not being cleared
 
 talks_going : (u : ℕ) (s : NetState) (a : Activity) → TalksBy u s a → not (net_is_clearing s) ≡ true
 talks_going u Active a up = refl
 talks_going u (Enquiring asked due) a up = refl
-talks_going u OutgoingCallProceeding a up = absurd up
-talks_going u (CallPresent again due) a up = absurd up
-talks_going u (IncomingCallProceeding due) a up = absurd up
-talks_going u (CallReceived due) a up = absurd up
-talks_going u (DisconnectIndication cause due) a up = absurd up
-talks_going u (ReleaseRequest again cause due) a up = absurd up
+talks_going u s a up = absurd up
 
 pub up_going : (u : ℕ) (s : Standing) → IsUp u s → is_going s ≡ true
 up_going u (OnCall c a) up = talks_going u c.state a up
-up_going u Refused up = absurd up
-up_going u Unoffered up = absurd up
-up_going u (Carried from until) up = absurd up
-up_going u Unanswered up = absurd up
-up_going u Missed up = absurd up
+up_going u s up = absurd up
 
 -- ---- a message
 
@@ -266,8 +181,7 @@ kept_after u t (Was from until) b h = tt
 
 kept_over : (u t : ℕ) (a : Activity) → IsKept u (over_at a t)
 kept_over u t Never = tt
-kept_over u t (Since from) = tt
-kept_over u t (Was from until) = tt
+kept_over u t a = tt
 
 kept_follow : (u t : ℕ) (a : Activity) (said : Option Outgoing) (n : Next PlainNetCall) → KeptBy u a → IsKept u (follow a t said n).standing
 kept_follow u t a said (Live c) h = kept_after u t a (is_active c.state) h
@@ -276,49 +190,21 @@ kept_follow u t a said Broken h = kept_over u t a
 
 pub kept_hears : (u t : ℕ) (m : Said) (s : Standing) → IsKept u s → IsKept u (hears m t s).standing
 kept_hears u t m (OnCall c a) h = kept_follow u t a (net_message c m.heard t).reply (net_message c m.heard t).next h
-kept_hears u t m Refused h = h
-kept_hears u t m Unoffered h = h
-kept_hears u t m (Carried from until) h = h
-kept_hears u t m Unanswered h = h
-kept_hears u t m Missed h = h
+kept_hears u t m s h = h
 
 talks_kept : (u : ℕ) (s : NetState) (a : Activity) → TalksBy u s a → KeptBy u a
 talks_kept u Active (Since from) h = h
-talks_kept u Active Never h = absurd h
-talks_kept u Active (Was from until) h = absurd h
 talks_kept u (Enquiring asked due) (Since from) h = h
-talks_kept u (Enquiring asked due) Never h = absurd h
-talks_kept u (Enquiring asked due) (Was from until) h = absurd h
-talks_kept u OutgoingCallProceeding a h = absurd h
-talks_kept u (CallPresent again due) a h = absurd h
-talks_kept u (IncomingCallProceeding due) a h = absurd h
-talks_kept u (CallReceived due) a h = absurd h
-talks_kept u (DisconnectIndication cause due) a h = absurd h
-talks_kept u (ReleaseRequest again cause due) a h = absurd h
+talks_kept u s a h = absurd h
 
 pub up_kept : (u : ℕ) (s : Standing) → IsUp u s → IsKept u s
 up_kept u (OnCall c a) h = talks_kept u c.state a h
-up_kept u Refused h = absurd h
-up_kept u Unoffered h = absurd h
-up_kept u (Carried from until) h = absurd h
-up_kept u Unanswered h = absurd h
-up_kept u Missed h = absurd h
+up_kept u s h = absurd h
 
 -- a call that is being cleared stays so, or is over
 over_row : (u t end r ch : ℕ) (o : NetOrigin) (m : Heard) (s : NetState) (a : Activity) (k : Kind) → ClearsBy u end s a → IsOver u end (follows a t (net_row (call_of r ch o s) m t s k)).standing
-over_row u t end r ch o m (DisconnectIndication cause due) (Was from until) ReleaseComplete h = h
-over_row u t end r ch o m (DisconnectIndication cause due) (Was from until) StatusEnquiry h = h
 over_row u t end r ch o m (DisconnectIndication cause due) (Was from until) Status h = by_step (reports_null m.state) (IsOver u end) (Was from until) t _ _ (λ _. h) (λ _. h)
-over_row u t end r ch o m (DisconnectIndication cause due) (Was from until) Setup h = h
-over_row u t end r ch o m (DisconnectIndication cause due) (Was from until) Release h = h
-over_row u t end r ch o m (DisconnectIndication cause due) (Was from until) Disconnect h = h
-over_row u t end r ch o m (DisconnectIndication cause due) (Was from until) k h = h
-over_row u t end r ch o m (ReleaseRequest again cause due) (Was from until) ReleaseComplete h = h
-over_row u t end r ch o m (ReleaseRequest again cause due) (Was from until) StatusEnquiry h = h
 over_row u t end r ch o m (ReleaseRequest again cause due) (Was from until) Status h = by_step (reports_null m.state) (IsOver u end) (Was from until) t _ _ (λ _. h) (λ _. h)
-over_row u t end r ch o m (ReleaseRequest again cause due) (Was from until) Setup h = h
-over_row u t end r ch o m (ReleaseRequest again cause due) (Was from until) Release h = h
-over_row u t end r ch o m (ReleaseRequest again cause due) (Was from until) k h = h
 over_row u t end r ch o m (DisconnectIndication cause due) Never k h = absurd h
 over_row u t end r ch o m (DisconnectIndication cause due) (Since from) k h = absurd h
 over_row u t end r ch o m (ReleaseRequest again cause due) Never k h = absurd h
@@ -329,26 +215,18 @@ over_row u t end r ch o m (IncomingCallProceeding due) a k h = absurd h
 over_row u t end r ch o m (CallReceived due) a k h = absurd h
 over_row u t end r ch o m Active a k h = absurd h
 over_row u t end r ch o m (Enquiring asked due) a k h = absurd h
+over_row u t end r ch o m s (Was from until) k h = h
 
 over_awake : (u end : ℕ) (s : NetState) (a : Activity) → ClearsBy u end s a → ClearsBy u end (net_awake_state s) a
-over_awake u end (DisconnectIndication cause due) a h = h
-over_awake u end (ReleaseRequest again cause due) a h = h
-over_awake u end OutgoingCallProceeding a h = h
-over_awake u end (CallPresent again due) a h = h
-over_awake u end (IncomingCallProceeding due) a h = h
-over_awake u end (CallReceived due) a h = h
-over_awake u end Active a h = h
 over_awake u end (Enquiring asked due) a h = absurd h
+over_awake u end s a h = h
 
 pub over_hears : (u t end : ℕ) (m : Said) (s : Standing) → IsOver u end s → IsOver u end (hears m t s).standing
 over_hears u t end m (OnCall c a) h = heard_by (λ (x : Transition PlainNetCall). IsOver u end (follows a t x).standing) c m.heard t c.state m.heard.kind
     (λ asked due is q. absurd (subst (λ (s : NetState). ClearsBy u end s a) is h))
     (over_row u t end c.reference c.channel c.origin m.heard (net_awake_state c.state) a m.heard.kind (over_awake u end c.state a h))
-over_hears u t end m Refused h = absurd h
-over_hears u t end m Unoffered h = absurd h
 over_hears u t end m (Carried from until) h = h
-over_hears u t end m Unanswered h = absurd h
-over_hears u t end m Missed h = absurd h
+over_hears u t end m s h = absurd h
 
 -- ---- a call that is settled
 
@@ -356,14 +234,8 @@ settled_at : (u t : ℕ) (e : Entry) (r ch : ℕ) (o : NetOrigin) (s : NetState)
 settled_at u t e r ch o Active (Since from) h is out le = omega (arith, le, h.activity.1)
 settled_at u t e r ch o Active Never h is out le = absurd h.activity
 settled_at u t e r ch o Active (Was from until) h is out le = absurd h.activity
-settled_at u t e r ch o (Enquiring asked due) a h is out le = absurd (false≢true is)
 settled_at u t e r ch Inward OutgoingCallProceeding a h is out le = absurd (true≢false (sym h.origin ∙ out))
-settled_at u t e r ch (Outward called) OutgoingCallProceeding a h is out le = absurd (false≢true is)
-settled_at u t e r ch o (CallPresent again due) a h is out le = absurd (false≢true is)
-settled_at u t e r ch o (IncomingCallProceeding due) a h is out le = absurd (false≢true is)
-settled_at u t e r ch o (CallReceived due) a h is out le = absurd (false≢true is)
-settled_at u t e r ch o (DisconnectIndication cause due) a h is out le = absurd (false≢true is)
-settled_at u t e r ch o (ReleaseRequest again cause due) a h is out le = absurd (false≢true is)
+settled_at u t e r ch o s a h is out le = absurd (false≢true is)
 
 -- an outward call that is settled is Active, since this moment or before
 pub settled_up : (u t : ℕ) (e : Entry) (c : PlainNetCall) (a : Activity) → CallFits t e c a → is_settled c ≡ true → e.booking.inward ≡ false → t ≤ u → IsUp u (OnCall c a)
@@ -373,62 +245,38 @@ settled_up u t e c a h is out le = settled_at u t e c.reference c.channel c.orig
 going_at : (u t : ℕ) (e : Entry) (r ch : ℕ) (o : NetOrigin) (s : NetState) (a : Activity) → CallFits t e (call_of r ch o s) a → net_is_clearing s ≡ false → KeptBy u a → TalksBy u s a
 going_at u t e r ch o Active (Since from) h is kept = kept
 going_at u t e r ch o Active Never h is kept = absurd kept
-going_at u t e r ch o Active (Was from until) h is kept = absurd h.activity
 going_at u t e r ch o (Enquiring asked due) (Since from) h is kept = kept
-going_at u t e r ch o (Enquiring asked due) (Was from until) h is kept = absurd h.activity
 going_at u t e r ch o s Never h is kept = absurd kept
-going_at u t e r ch o OutgoingCallProceeding (Since from) h is kept = absurd h.activity
-going_at u t e r ch o OutgoingCallProceeding (Was from until) h is kept = absurd h.activity
-going_at u t e r ch o (CallPresent again due) (Since from) h is kept = absurd h.activity
-going_at u t e r ch o (CallPresent again due) (Was from until) h is kept = absurd h.activity
-going_at u t e r ch o (IncomingCallProceeding due) (Since from) h is kept = absurd h.activity
-going_at u t e r ch o (IncomingCallProceeding due) (Was from until) h is kept = absurd h.activity
-going_at u t e r ch o (CallReceived due) (Since from) h is kept = absurd h.activity
-going_at u t e r ch o (CallReceived due) (Was from until) h is kept = absurd h.activity
 going_at u t e r ch o (DisconnectIndication cause due) (Since from) h is kept = absurd (true≢false is)
 going_at u t e r ch o (DisconnectIndication cause due) (Was from until) h is kept = absurd (true≢false is)
 going_at u t e r ch o (ReleaseRequest again cause due) (Since from) h is kept = absurd (true≢false is)
 going_at u t e r ch o (ReleaseRequest again cause due) (Was from until) h is kept = absurd (true≢false is)
+going_at u t e r ch o s a h is kept = absurd h.activity
 
 pub going_up : (u t : ℕ) (e : Entry) (c : PlainNetCall) (a : Activity) → CallFits t e c a → net_is_clearing c.state ≡ false → IsKept u (OnCall c a) → IsUp u (OnCall c a)
 going_up u t e c a h is kept = going_at u t e c.reference c.channel c.origin c.state a h is kept
 
 runs_at_state : (t : ℕ) (e : Entry) (r ch : ℕ) (o : NetOrigin) (s : NetState) (a : Activity) → CallFits t e (call_of r ch o s) a → net_is_clearing s ≡ false → (e.booking.start ≤ t) × (t < e.booking.end)
-runs_at_state t e r ch o Active a h is = h.phase
-runs_at_state t e r ch o (Enquiring asked due) a h is = h.phase
-runs_at_state t e r ch o OutgoingCallProceeding a h is = h.phase
-runs_at_state t e r ch o (CallPresent again due) a h is = h.phase
-runs_at_state t e r ch o (IncomingCallProceeding due) a h is = h.phase
-runs_at_state t e r ch o (CallReceived due) a h is = h.phase
 runs_at_state t e r ch o (DisconnectIndication cause due) a h is = absurd (true≢false is)
 runs_at_state t e r ch o (ReleaseRequest again cause due) a h is = absurd (true≢false is)
+runs_at_state t e r ch o s a h is = h.phase
 
 -- its booking runs
 pub going_runs : (t : ℕ) (e : Entry) (c : PlainNetCall) (a : Activity) → CallFits t e c a → net_is_clearing c.state ≡ false → (e.booking.start ≤ t) × (t < e.booking.end)
 going_runs t e c a h is = runs_at_state t e c.reference c.channel c.origin c.state a h is
 
 settled_going_in : (r ch : ℕ) (o : NetOrigin) (s : NetState) → is_settled (call_of r ch o s) ≡ true → net_is_clearing s ≡ false
-settled_going_in r ch o Active is = refl
 settled_going_in r ch o (Enquiring asked due) is = absurd (false≢true is)
-settled_going_in r ch o OutgoingCallProceeding is = refl
-settled_going_in r ch o (CallPresent again due) is = refl
-settled_going_in r ch o (IncomingCallProceeding due) is = refl
-settled_going_in r ch o (CallReceived due) is = refl
 settled_going_in r ch o (DisconnectIndication cause due) is = absurd (false≢true is)
 settled_going_in r ch o (ReleaseRequest again cause due) is = absurd (false≢true is)
+settled_going_in r ch o s is = refl
 
 pub settled_going : (c : PlainNetCall) → is_settled c ≡ true → net_is_clearing c.state ≡ false
 settled_going c is = settled_going_in c.reference c.channel c.origin c.state is
 
 settled_unasked_in : (r ch : ℕ) (o : NetOrigin) (s : NetState) → is_settled (call_of r ch o s) ≡ true → is_asked s ≡ false
-settled_unasked_in r ch o Active is = refl
-settled_unasked_in r ch o OutgoingCallProceeding is = refl
-settled_unasked_in r ch o (CallPresent again due) is = refl
-settled_unasked_in r ch o (IncomingCallProceeding due) is = refl
-settled_unasked_in r ch o (CallReceived due) is = refl
-settled_unasked_in r ch o (DisconnectIndication cause due) is = refl
-settled_unasked_in r ch o (ReleaseRequest again cause due) is = refl
 settled_unasked_in r ch o (Enquiring asked due) is = absurd (false≢true is)
+settled_unasked_in r ch o s is = refl
 
 pub settled_unasked : (c : PlainNetCall) → is_settled c ≡ true → is_asked c.state ≡ false
 settled_unasked c is = settled_unasked_in c.reference c.channel c.origin c.state is
@@ -436,46 +284,26 @@ settled_unasked c is = settled_unasked_in c.reference c.channel c.origin c.state
 not_cleared : (u end : ℕ) (s : NetState) (a : Activity) → ClearsBy u end s a → net_is_clearing s ≡ false → ⊥
 not_cleared u end (DisconnectIndication cause due) a h is = true≢false is
 not_cleared u end (ReleaseRequest again cause due) a h is = true≢false is
-not_cleared u end OutgoingCallProceeding a h is = h
-not_cleared u end (CallPresent again due) a h is = h
-not_cleared u end (IncomingCallProceeding due) a h is = h
-not_cleared u end (CallReceived due) a h is = h
-not_cleared u end Active a h is = h
-not_cleared u end (Enquiring asked due) a h is = h
+not_cleared u end s a h is = h
 
 -- a call that was being cleared, and is no more, is over
 pub over_cleared : (u end : ℕ) (s : Standing) → IsOver u end s → ((c : PlainNetCall) (a : Activity) → s ≡ OnCall c a → net_is_clearing c.state ≡ false) → IsCarriedBy u end s
 over_cleared u end (OnCall c a) h f = absurd (not_cleared u end c.state a h (f c a refl))
 over_cleared u end (Carried from until) h f = h
-over_cleared u end Refused h f = absurd h
-over_cleared u end Unoffered h f = absurd h
-over_cleared u end Unanswered h f = absurd h
-over_cleared u end Missed h f = absurd h
+over_cleared u end s h f = absurd h
 
 pub carried_over : (u end : ℕ) (s : Standing) → IsCarriedBy u end s → IsOver u end s
 carried_over u end (Carried from until) h = h
-carried_over u end (OnCall c a) h = absurd h
-carried_over u end Refused h = absurd h
-carried_over u end Unoffered h = absurd h
-carried_over u end Unanswered h = absurd h
-carried_over u end Missed h = absurd h
+carried_over u end s h = absurd h
 
 -- what is carried stays so
 pub carried_tick : (u t : ℕ) (e : Entry) (free : Bool) (s : Standing) → IsCarriedBy u e.booking.end s → IsCarriedBy u e.booking.end (second_at e t free s).standing
 carried_tick u t e free (Carried from until) h = h
-carried_tick u t e free (OnCall c a) h = absurd h
-carried_tick u t e free Refused h = absurd h
-carried_tick u t e free Unoffered h = absurd h
-carried_tick u t e free Unanswered h = absurd h
-carried_tick u t e free Missed h = absurd h
+carried_tick u t e free s h = absurd h
 
 pub carried_unlinked : (u t : ℕ) (e : Entry) (s : Standing) → IsCarriedBy u e.booking.end s → IsCarriedBy u e.booking.end (unlinked_at e t s).standing
 carried_unlinked u t e (Carried from until) h = h
-carried_unlinked u t e (OnCall c a) h = absurd h
-carried_unlinked u t e Refused h = absurd h
-carried_unlinked u t e Unoffered h = absurd h
-carried_unlinked u t e Unanswered h = absurd h
-carried_unlinked u t e Missed h = absurd h
+carried_unlinked u t e s h = absurd h
 
 -- ---- no RELEASE waits between two turns, so no channel breaks
 
@@ -502,28 +330,17 @@ whole_waits e t free = by_cases (offers e t free) _ _ (λ (m : Moved). m.broken 
 pub whole_tick : (t : ℕ) (e : Entry) (free : Bool) (s : Standing) → IsQuietCall s → (second_at e t free s).broken ≡ false
 whole_tick t e free (OnCall c a) h = whole_second t e.booking.end c.reference c.channel c.origin c.state a h
 whole_tick t e free Unoffered h = whole_waits e t free
-whole_tick t e free Refused h = refl
-whole_tick t e free (Carried from until) h = refl
-whole_tick t e free Unanswered h = refl
-whole_tick t e free Missed h = refl
+whole_tick t e free s h = refl
 
 pub whole_unlinked : (t : ℕ) (e : Entry) (s : Standing) → (unlinked_at e t s).broken ≡ false
 whole_unlinked t e (OnCall c a) = whole_step (not (net_is_clearing c.state) && nat_le e.booking.end t) a t _ _ refl refl
 whole_unlinked t e Unoffered = whole_waits e t false
-whole_unlinked t e Refused = refl
-whole_unlinked t e (Carried from until) = refl
-whole_unlinked t e Unanswered = refl
-whole_unlinked t e Missed = refl
+whole_unlinked t e s = refl
 
 quiet_still : (t end r ch : ℕ) (o : NetOrigin) (s : NetState) (a : Activity) → is_pressed s ≡ false → IsQuietCall (follows a t (net_unlinked 1 (call_of r ch o s) t end)).standing
-quiet_still t end r ch o OutgoingCallProceeding a h = by_step (nat_le end t) IsQuietCall a t _ _ (λ _. refl) (λ _. refl)
-quiet_still t end r ch o (CallPresent again due) a h = by_step (nat_le end t) IsQuietCall a t _ _ (λ _. refl) (λ _. refl)
-quiet_still t end r ch o (IncomingCallProceeding due) a h = by_step (nat_le end t) IsQuietCall a t _ _ (λ _. refl) (λ _. refl)
-quiet_still t end r ch o (CallReceived due) a h = by_step (nat_le end t) IsQuietCall a t _ _ (λ _. refl) (λ _. refl)
-quiet_still t end r ch o Active a h = by_step (nat_le end t) IsQuietCall a t _ _ (λ _. refl) (λ _. refl)
-quiet_still t end r ch o (Enquiring asked due) a h = by_step (nat_le end t) IsQuietCall a t _ _ (λ _. refl) (λ _. refl)
 quiet_still t end r ch o (DisconnectIndication cause due) a h = refl
 quiet_still t end r ch o (ReleaseRequest again cause due) a h = absurd (true≢false h)
+quiet_still t end r ch o s a h = by_step (nat_le end t) IsQuietCall a t _ _ (λ _. refl) (λ _. refl)
 
 quiet_waits : (e : Entry) (t : ℕ) → IsQuietCall (waits e t false).standing
 quiet_waits e t = by_cases (offers e t false) _ _ (λ (m : Moved). IsQuietCall m.standing) (λ _. refl) (λ _. by_cases (nat_le e.booking.end t) _ _ (λ (m : Moved). IsQuietCall m.standing) (λ _. tt) (λ _. tt))
@@ -531,28 +348,16 @@ quiet_waits e t = by_cases (offers e t false) _ _ (λ (m : Moved). IsQuietCall m
 pub quiet_unlinked : (t : ℕ) (e : Entry) (s : Standing) → IsQuietCall s → IsQuietCall (unlinked_at e t s).standing
 quiet_unlinked t e (OnCall c a) h = quiet_still t e.booking.end c.reference c.channel c.origin c.state a h
 quiet_unlinked t e Unoffered h = quiet_waits e t
-quiet_unlinked t e Refused h = tt
-quiet_unlinked t e (Carried from until) h = tt
-quiet_unlinked t e Unanswered h = tt
-quiet_unlinked t e Missed h = tt
+quiet_unlinked t e s h = tt
 
 quiet_at : (s : NetState) → net_is_clearing s ≡ false → is_asked s ≡ false → is_pressed s ≡ false
 quiet_at (ReleaseRequest again cause due) is un = is
-quiet_at OutgoingCallProceeding is un = refl
-quiet_at (CallPresent again due) is un = refl
-quiet_at (IncomingCallProceeding due) is un = refl
-quiet_at (CallReceived due) is un = refl
-quiet_at Active is un = refl
 quiet_at (Enquiring asked due) is un = absurd (true≢false un)
-quiet_at (DisconnectIndication cause due) is un = refl
+quiet_at s is un = refl
 
 pub cleared_quiet : (s : Standing) → ((c : PlainNetCall) (a : Activity) → s ≡ OnCall c a → net_is_clearing c.state ≡ false) → StandingUnasked s → IsQuietCall s
 cleared_quiet (OnCall c a) f un = quiet_at c.state (f c a refl) un
-cleared_quiet Unoffered f un = tt
-cleared_quiet Refused f un = tt
-cleared_quiet (Carried from until) f un = tt
-cleared_quiet Unanswered f un = tt
-cleared_quiet Missed f un = tt
+cleared_quiet s f un = tt
 
 -- ---- a call that the far end began
 
@@ -571,66 +376,33 @@ IsBegun _ = ⊥
 
 begun_second : (u t end r ch : ℕ) (o : NetOrigin) (s : NetState) (a : Activity) → BegunIn s a → t < end → t ≤ u → IsUp u (follows a t (net_second (call_of r ch o s) t end)).standing
 begun_second u t end r ch o OutgoingCallProceeding Never h lt le = by_step (nat_le end t) (IsUp u) Never t _ _ (λ ended. let late : end ≤ t = leb-true end t ended in absurd (omega (arith, late, lt))) (λ _. le)
-begun_second u t end r ch o OutgoingCallProceeding (Since from) h lt le = absurd h
-begun_second u t end r ch o OutgoingCallProceeding (Was from until) h lt le = absurd h
-begun_second u t end r ch o (CallPresent again due) a h lt le = absurd h
-begun_second u t end r ch o (IncomingCallProceeding due) a h lt le = absurd h
-begun_second u t end r ch o (CallReceived due) a h lt le = absurd h
-begun_second u t end r ch o Active a h lt le = absurd h
-begun_second u t end r ch o (Enquiring asked due) a h lt le = absurd h
-begun_second u t end r ch o (DisconnectIndication cause due) a h lt le = absurd h
-begun_second u t end r ch o (ReleaseRequest again cause due) a h lt le = absurd h
+begun_second u t end r ch o s a h lt le = absurd h
 
 -- a tick connects it
 pub begun_tick : (u t : ℕ) (e : Entry) (free : Bool) (s : Standing) → IsBegun s → t < e.booking.end → t ≤ u → IsUp u (second_at e t free s).standing
 begun_tick u t e free (OnCall c a) h lt le = begun_second u t e.booking.end c.reference c.channel c.origin c.state a h lt le
-begun_tick u t e free Refused h lt le = absurd h
-begun_tick u t e free Unoffered h lt le = absurd h
-begun_tick u t e free (Carried from until) h lt le = absurd h
-begun_tick u t e free Unanswered h lt le = absurd h
-begun_tick u t e free Missed h lt le = absurd h
+begun_tick u t e free s h lt le = absurd h
 
 begun_still : (t end r ch : ℕ) (o : NetOrigin) (s : NetState) (a : Activity) → BegunIn s a → t < end → IsBegun (follows a t (net_unlinked 1 (call_of r ch o s) t end)).standing
 begun_still t end r ch o OutgoingCallProceeding Never h lt = by_step (nat_le end t) IsBegun Never t _ _ (λ ended. let late : end ≤ t = leb-true end t ended in absurd (omega (arith, late, lt))) (λ _. tt)
-begun_still t end r ch o OutgoingCallProceeding (Since from) h lt = absurd h
-begun_still t end r ch o OutgoingCallProceeding (Was from until) h lt = absurd h
-begun_still t end r ch o (CallPresent again due) a h lt = absurd h
-begun_still t end r ch o (IncomingCallProceeding due) a h lt = absurd h
-begun_still t end r ch o (CallReceived due) a h lt = absurd h
-begun_still t end r ch o Active a h lt = absurd h
-begun_still t end r ch o (Enquiring asked due) a h lt = absurd h
-begun_still t end r ch o (DisconnectIndication cause due) a h lt = absurd h
-begun_still t end r ch o (ReleaseRequest again cause due) a h lt = absurd h
+begun_still t end r ch o s a h lt = absurd h
 
 pub begun_unlinked : (t : ℕ) (e : Entry) (s : Standing) → IsBegun s → t < e.booking.end → IsBegun (unlinked_at e t s).standing
 begun_unlinked t e (OnCall c a) h lt = begun_still t e.booking.end c.reference c.channel c.origin c.state a h lt
-begun_unlinked t e Refused h lt = absurd h
-begun_unlinked t e Unoffered h lt = absurd h
-begun_unlinked t e (Carried from until) h lt = absurd h
-begun_unlinked t e Unanswered h lt = absurd h
-begun_unlinked t e Missed h lt = absurd h
+begun_unlinked t e s h lt = absurd h
 
 begun_or_up_at : (u t : ℕ) (e : Entry) (r ch : ℕ) (o : NetOrigin) (s : NetState) (a : Activity) → CallFits t e (call_of r ch o s) a → is_settled (call_of r ch o s) ≡ true → t ≤ u → BegunIn s a ⊎ TalksBy u s a
 begun_or_up_at u t e r ch o Active (Since from) h is le = inr (omega (arith, le, h.activity.1))
 begun_or_up_at u t e r ch o Active Never h is le = absurd h.activity
 begun_or_up_at u t e r ch o Active (Was from until) h is le = absurd h.activity
-begun_or_up_at u t e r ch o (Enquiring asked due) a h is le = absurd (false≢true is)
 begun_or_up_at u t e r ch o OutgoingCallProceeding Never h is le = inl tt
 begun_or_up_at u t e r ch o OutgoingCallProceeding (Since from) h is le = absurd h.activity
 begun_or_up_at u t e r ch o OutgoingCallProceeding (Was from until) h is le = absurd h.activity
-begun_or_up_at u t e r ch o (CallPresent again due) a h is le = absurd (false≢true is)
-begun_or_up_at u t e r ch o (IncomingCallProceeding due) a h is le = absurd (false≢true is)
-begun_or_up_at u t e r ch o (CallReceived due) a h is le = absurd (false≢true is)
-begun_or_up_at u t e r ch o (DisconnectIndication cause due) a h is le = absurd (false≢true is)
-begun_or_up_at u t e r ch o (ReleaseRequest again cause due) a h is le = absurd (false≢true is)
+begun_or_up_at u t e r ch o s a h is le = absurd (false≢true is)
 
 pub begun_or_up : (u t : ℕ) (e : Entry) (s : Standing) → StandingFits t e s → is_live s ≡ true → ((c : PlainNetCall) (a : Activity) → s ≡ OnCall c a → is_settled c ≡ true) → t ≤ u → IsBegun s ⊎ IsUp u s
 begun_or_up u t e (OnCall c a) fits live f le = begun_or_up_at u t e c.reference c.channel c.origin c.state a fits (f c a refl) le
-begun_or_up u t e Refused fits live f le = absurd (false≢true live)
-begun_or_up u t e Unoffered fits live f le = absurd (false≢true live)
-begun_or_up u t e (Carried from until) fits live f le = absurd (false≢true live)
-begun_or_up u t e Unanswered fits live f le = absurd (false≢true live)
-begun_or_up u t e Missed fits live f le = absurd (false≢true live)
+begun_or_up u t e s fits live f le = absurd (false≢true live)
 
 active_at : (u t : ℕ) (e : Entry) (r ch : ℕ) (o : NetOrigin) (s : NetState) (a : Activity) → CallFits t e (call_of r ch o s) a → is_active s ≡ true → t ≤ u → TalksBy u s a
 active_at u t e r ch o Active (Since from) h is le = omega (arith, le, h.activity.1)
@@ -639,17 +411,8 @@ active_at u t e r ch o Active (Was from until) h is le = absurd h.activity
 active_at u t e r ch o (Enquiring asked due) (Since from) h is le = omega (arith, le, h.activity.1)
 active_at u t e r ch o (Enquiring asked due) Never h is le = absurd h.activity
 active_at u t e r ch o (Enquiring asked due) (Was from until) h is le = absurd h.activity
-active_at u t e r ch o OutgoingCallProceeding a h is le = absurd (false≢true is)
-active_at u t e r ch o (CallPresent again due) a h is le = absurd (false≢true is)
-active_at u t e r ch o (IncomingCallProceeding due) a h is le = absurd (false≢true is)
-active_at u t e r ch o (CallReceived due) a h is le = absurd (false≢true is)
-active_at u t e r ch o (DisconnectIndication cause due) a h is le = absurd (false≢true is)
-active_at u t e r ch o (ReleaseRequest again cause due) a h is le = absurd (false≢true is)
+active_at u t e r ch o s a h is le = absurd (false≢true is)
 
 pub active_up : (u t : ℕ) (e : Entry) (s : Standing) → StandingFits t e s → is_live s ≡ true → ((c : PlainNetCall) (a : Activity) → s ≡ OnCall c a → is_active c.state ≡ true) → t ≤ u → IsUp u s
 active_up u t e (OnCall c a) fits live f le = active_at u t e c.reference c.channel c.origin c.state a fits (f c a refl) le
-active_up u t e Refused fits live f le = absurd (false≢true live)
-active_up u t e Unoffered fits live f le = absurd (false≢true live)
-active_up u t e (Carried from until) fits live f le = absurd (false≢true live)
-active_up u t e Unanswered fits live f le = absurd (false≢true live)
-active_up u t e Missed fits live f le = absurd (false≢true live)
+active_up u t e s fits live f le = absurd (false≢true live)

@@ -8,12 +8,12 @@ use Rattle.bx_calls.specs.PlainCalls.{PlainNetCall}
 use Rattle.bx_calls.specs.NetTable.{net_flag, net_is_clearing}
 use Rattle.bx_calls.specs.UserTable.{user_flag}
 use Rattle.bx_calls.specs.declared.net_state.NetState.{NetState}
-use Rattle.bx_calls.specs.declared.net_state.NetState.TheVariants.{OutgoingCallProceeding, CallPresent, IncomingCallProceeding, CallReceived, Active, Enquiring, DisconnectIndication, ReleaseRequest}
+use Rattle.bx_calls.specs.declared.net_state.NetState.TheVariants.{Active, DisconnectIndication, ReleaseRequest}
 use Rattle.bx_calls.specs.declared.user_state.UserState.{UserState}
 use Rattle.bx_calls.specs.declared.user_state.UserState.TheVariants as user
 use Rattle.bx_day.specs.declared.entry.Activity.{Activity}
 use Rattle.bx_day.specs.declared.entry.Standing.{Standing}
-use Rattle.bx_day.specs.declared.entry.Standing.TheVariants.{Refused, Unoffered, OnCall, Carried, Unanswered, Missed}
+use Rattle.bx_day.specs.declared.entry.Standing.TheVariants.{OnCall}
 use Rattle.bx_channels.specs.Marks.{is_marked}
 use Rattle.bx_day.specs.Day.{entry_at}
 use Rattle.bx_day.specs.Moves.{is_active}
@@ -31,11 +31,7 @@ use Rattle.bx_two_ends.specs.TwoEndsInward.{connects, is_connect_kind}
 
 on_live : (s : Standing) (P : PlainNetCall → Activity → Type 0) → ((c : PlainNetCall) (a : Activity) → s ≡ OnCall c a → P c a) → OnLive s P
 on_live (OnCall c a) P f = f c a refl
-on_live Refused P f = tt
-on_live Unoffered P f = tt
-on_live (Carried from until) P f = tt
-on_live Unanswered P f = tt
-on_live Missed P f = tt
+on_live s P f = tt
 
 abbrev IsHeld : World → ℕ → ℕ → Type 0
 IsHeld w r ch = (far_holds w.far.calls r ch ≡ true) ⊎ (is_marked w.far.maintenance ch ≡ true)
@@ -46,14 +42,9 @@ from_kept assigned w r (Maintained h) calm = inr h
 from_kept assigned w r (Cleared h) calm = absurd (true≢false (sym h ∙ calm))
 
 active_calm : (s : NetState) → is_active s ≡ true → net_is_clearing s ≡ false
-active_calm OutgoingCallProceeding h = refl
-active_calm (CallPresent again due) h = refl
-active_calm (IncomingCallProceeding due) h = refl
-active_calm (CallReceived due) h = refl
-active_calm Active h = refl
-active_calm (Enquiring asked due) h = refl
 active_calm (DisconnectIndication cause due) h = absurd (false≢true h)
 active_calm (ReleaseRequest again cause due) h = absurd (false≢true h)
+active_calm s h = refl
 
 held : (rows : List Row) (assigned : List (Option ℕ)) (w : World) (i : ℕ) → KeepsOutward rows assigned w → (c : PlainNetCall) (a : Activity) → standing_at w.exchange i ≡ OnCall c a → net_flag c.origin ≡ false → is_active c.state ≡ true → IsHeld w (i + 1) c.channel
 held rows assigned w i k c a at outward active =
@@ -77,14 +68,7 @@ held rows assigned w i k c a at outward active =
 
 pub talks : (s : UserState) → IsUserActive s → is_talking s ≡ true
 talks (user.Active since) h = refl
-talks (user.CallInitiated again due) h = absurd h
-talks (user.OutgoingCallProceeding due) h = absurd h
-talks user.CallPresent h = absurd h
-talks user.CallReceived h = absurd h
-talks (user.ConnectRequest due) h = absurd h
-talks user.IncomingCallProceeding h = absurd h
-talks (user.DisconnectRequest cause due) h = absurd h
-talks (user.ReleaseRequest again cause due) h = absurd h
+talks s h = absurd h
 
 pub says_two_ends : (rows : List Row) (assigned : List (Option ℕ)) (w : World) → KeepsOutward rows assigned w → IsTwoEnds rows w
 says_two_ends rows assigned w k = record {

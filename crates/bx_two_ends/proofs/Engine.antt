@@ -59,8 +59,7 @@ onward_first n d octets talk = go talk.ending refl
     go : (x : Result Bool LinkFault) → talk.ending ≡ x → follow_by x (with_events (Receive octets ∷ []) talk) (λ events. talk_in n (after exchange_next events d)) (with_events (Receive octets ∷ []) talk)
         ≡ with_events (Receive octets ∷ []) (follow_by x talk (λ events. talk_in n (after exchange_next events (exchange_next d (Receive octets)))) talk)
     go (Ok true) q = refl
-    go (Ok false) q = refl
-    go (Err fault) q = refl
+    go x q = refl
 
 -- a message comes only where there is room for one
 no_room : (text : List ℕ) (octets : ArrayVec ℕ) → Ok (frames.Message octets) ≡ (frame_in Exchange 0 text).answer → ⊥
@@ -110,12 +109,7 @@ module _ {R W S T D : Type 0} (remaining : R → Option (List ℕ)) (contents : 
   still : (was : LinkFault) (act : Act) (lost : Option LinkFault) → OnLost (Some was) act lost → (fault : LinkFault) × (lost ≡ Some fault)
   still was (Began second begin) lost p = (was, p.0)
   still was (Dropped loss) lost p = (_, p)
-  still was (Recorded event done) lost p = (was, p)
-  still was (Synced done) lost p = (was, p)
-  still was (Wrote octets done) lost p = (was, p)
-  still was (Read room answer) lost p = (was, p)
-  still was (Took message) lost p = (was, p)
-  still was EndedDay lost p = (was, p)
+  still was act lost p = (was, p)
 
   stays_lost : (acts : List Act) (s new : World) (was : LinkFault) → s.lost ≡ Some was → Chain Goes s acts new → new.lost ≡ None → ⊥
   stays_lost [] s new was is same none = let both : s.lost ≡ new.lost = ap (λ (w : World). w.lost) same in cc
@@ -136,13 +130,7 @@ module _ {R W S T D : Type 0} (remaining : R → Option (List ℕ)) (contents : 
   losing_never (Dropped why ∷ acts) d d' loss s new run chain none =
       let step = chain_first Goes s new (Dropped why) acts chain in
       stays_lost acts step.0 new _ step.1.lost step.2 none
-  losing_never (Began second begin ∷ acts) d d' loss s new run chain none = run.0
-  losing_never (Recorded event done ∷ acts) d d' loss s new run chain none = run.0
-  losing_never (Synced done ∷ acts) d d' loss s new run chain none = run.0
-  losing_never (Wrote octets done ∷ acts) d d' loss s new run chain none = run.0
-  losing_never (Read room answer ∷ acts) d d' loss s new run chain none = run.0
-  losing_never (Took message ∷ acts) d d' loss s new run chain none = run.0
-  losing_never (EndedDay ∷ acts) d d' loss s new run chain none = run.0
+  losing_never (act ∷ acts) d d' loss s new run chain none = run.0
 
   over_never : (acts : List Act) (d d' : Day) → IsRun (Over d) acts (Done d') → ⊥
   over_never [] d d' run = cc

@@ -7,7 +7,7 @@ use Rattle.bx_q931.specs.Outgoing.{Outgoing, out_octets}
 use Rattle.bx_calls.specs.PlainCalls.{PlainUserCall}
 use Rattle.bx_calls.specs.UserTable.{user_flag}
 use Rattle.bx_day.specs.declared.entry.Standing.{Standing}
-use Rattle.bx_day.specs.declared.entry.Standing.TheVariants.{Refused, Unoffered, OnCall, Carried, Unanswered, Missed}
+use Rattle.bx_day.specs.declared.entry.Standing.TheVariants.{OnCall}
 use Rattle.bx_day.specs.Day.{Day}
 use Rattle.bx_day.specs.Ticks.{tick, ticked, passed_in}
 use Rattle.bx_day.specs.Receipts.{receive}
@@ -60,12 +60,8 @@ exchange_step rows assigned w d more k run seats sents standings = record {
 -- ---- and what the far end does the exchange
 
 standing_hears : (r : ℕ) (sent far_sent more : List Outgoing) (s : Standing) → OutwardStanding r sent far_sent s → OutwardStanding r sent (far_sent ++ more) s
-standing_hears r sent far_sent more Refused h = tt
-standing_hears r sent far_sent more Unoffered h = tt
 standing_hears r sent far_sent more (OnCall c a) h = λ f. record { known = (h f).known; calm = (h f).calm; active = λ q. has_more (connects r) far_sent more ((h f).active q); proceeding = (h f).proceeding }
-standing_hears r sent far_sent more (Carried from until) h = tt
-standing_hears r sent far_sent more Unanswered h = tt
-standing_hears r sent far_sent more Missed h = tt
+standing_hears r sent far_sent more s h = tt
 
 far_step : (rows : List Row) (assigned : List (Option ℕ)) (w : World) (f : FarDay) (more : List Outgoing) → KeepsOutward rows assigned w → OutwardReplies assigned w.sent f (w.far_sent ++ more) → OfferedCalls assigned w.sent f.calls → AreOnTheirOwn f.calls → length f.maintenance ≡ 32
     → AllByRecursion (λ (c : PlainUserCall). IsChannel c.channel) f.calls → AllByRecursion IsScriptRow f.script → KeepsOutward rows assigned (far_becomes w f more)

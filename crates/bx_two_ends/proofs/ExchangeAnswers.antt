@@ -30,11 +30,11 @@ use Rattle.bx_day.specs.Moves.{follows, activity_after, is_active, over_at}
 use Rattle.bx_day.specs.Receipts.{names, names_call, hears, received_at, stray, with_moved}
 use Rattle.bx_day.specs.Run.{receive_octets}
 use Rattle.bx_day.specs.declared.entry.Activity.{Activity}
-use Rattle.bx_day.specs.declared.entry.Activity.TheVariants.{Never, Since, Was}
+use Rattle.bx_day.specs.declared.entry.Activity.TheVariants.{Never}
 use Rattle.bx_day.specs.declared.entry.Entry.{Entry}
 use Rattle.bx_day.specs.declared.entry.Moved.{Moved}
 use Rattle.bx_day.specs.declared.entry.Standing.{Standing}
-use Rattle.bx_day.specs.declared.entry.Standing.TheVariants.{Refused, Unoffered, OnCall, Carried, Unanswered, Missed}
+use Rattle.bx_day.specs.declared.entry.Standing.TheVariants.{Refused, OnCall}
 use Rattle.bx_two_ends.specs.Asking.{is_asked}
 use Rattle.bx_two_ends.proofs.Asking.{awake_unasked}
 use Rattle.bx_two_ends.proofs.Answering.{IsHearing, hears_next, is_up, going_live}
@@ -88,11 +88,7 @@ said_again o h =
 -- a live outward call is named by its reference
 pub names_outward : (P : NetState → Type 0) (i : ℕ) (m : Said) (s : Standing) → OutwardIn P i s → m.reference ≡ suc i → m.flag ≡ true → names_call m s ≡ true
 names_outward P i m (OnCall c a) h ref flag = and_from (c.reference == m.reference) (bool_eq (net_flag c.origin) (not m.flag)) (eq-eqb c.reference m.reference (h.1.0 ∙ sym ref)) (ap (λ b. bool_eq b (not m.flag)) h.1.1 ∙ ap (λ b. bool_eq false (not b)) flag)
-names_outward P i m Refused h ref flag = absurd h
-names_outward P i m Unoffered h ref flag = absurd h
-names_outward P i m (Carried from until) h ref flag = absurd h
-names_outward P i m Unanswered h ref flag = absurd h
-names_outward P i m Missed h ref flag = absurd h
+names_outward P i m s h ref flag = absurd h
 
 -- what is left of hearing one
 abbrev HeardX : List Row → List (Option ℕ) → Day → ℕ → List Outgoing → List Outgoing → Answered Day → Type 0
@@ -153,48 +149,25 @@ AllKinds c = (i : ℕ) → is_live (standing_at c i) ≡ true → Kinds c i
 
 over_gone : (a : Activity) (t : ℕ) → is_live (over_at a t) ≡ false
 over_gone Never t = refl
-over_gone (Since from) t = refl
-over_gone (Was from until) t = refl
+over_gone a t = refl
 
 on_call : (P : NetState → Type 0) (i : ℕ) (Goal : Standing → Type 0) (s : Standing) → OutwardIn P i s → ((x : PlainNetCall) (a : Activity) → OutwardIn P i (OnCall x a) → Goal (OnCall x a)) → Goal s
 on_call P i Goal (OnCall x a) h f = f x a h
-on_call P i Goal Refused h f = absurd h
-on_call P i Goal Unoffered h f = absurd h
-on_call P i Goal (Carried from until) h f = absurd h
-on_call P i Goal Unanswered h f = absurd h
-on_call P i Goal Missed h f = absurd h
+on_call P i Goal s h f = absurd h
 
 -- ---- rows of the table: none of these is asked for
 
 pub present_awake : (s : NetState) → PresentIn s → net_awake_state s ≡ s
-present_awake net.OutgoingCallProceeding p = refl
-present_awake (net.CallPresent again due) p = refl
-present_awake (net.IncomingCallProceeding due) p = refl
-present_awake (net.CallReceived due) p = refl
-present_awake net.Active p = refl
-present_awake (net.DisconnectIndication cause due) p = refl
-present_awake (net.ReleaseRequest again cause due) p = refl
 present_awake (net.Enquiring asked due) p = absurd p
+present_awake s p = refl
 
 pub active_awake : (s : NetState) → ActiveIn s → net_awake_state s ≡ s
-active_awake net.OutgoingCallProceeding p = refl
-active_awake (net.CallPresent again due) p = refl
-active_awake (net.IncomingCallProceeding due) p = refl
-active_awake (net.CallReceived due) p = refl
-active_awake net.Active p = refl
-active_awake (net.DisconnectIndication cause due) p = refl
-active_awake (net.ReleaseRequest again cause due) p = refl
 active_awake (net.Enquiring asked due) p = absurd p
+active_awake s p = refl
 
 pub indicated_awake : (s : NetState) → IndicatedIn s → net_awake_state s ≡ s
-indicated_awake net.OutgoingCallProceeding p = refl
-indicated_awake (net.CallPresent again due) p = refl
-indicated_awake (net.IncomingCallProceeding due) p = refl
-indicated_awake (net.CallReceived due) p = refl
-indicated_awake net.Active p = refl
-indicated_awake (net.DisconnectIndication cause due) p = refl
-indicated_awake (net.ReleaseRequest again cause due) p = refl
 indicated_awake (net.Enquiring asked due) p = absurd p
+indicated_awake s p = refl
 
 awake_row : (x : PlainNetCall) (h : Heard) (t : ℕ) → net_awake_state x.state ≡ x.state → net_message x h t ≡ net_row x h t x.state h.kind
 awake_row x h t is = at x.state is
@@ -211,46 +184,22 @@ awake_row x h t is = at x.state is
 
 connect_row : (x : PlainNetCall) (h : Heard) (t : ℕ) (s : NetState) → PresentIn s → names_channel h.channel x.channel ≡ true → net_row x h t s Connect ≡ net_to x (Some (net_says x ConnectAcknowledge)) net.Active
 connect_row x h t (net.CallPresent again due) p is = ap (λ b. if b then net_to x (Some (net_says x ConnectAcknowledge)) net.Active else net_releases x false (Some 6) t) is
-connect_row x h t net.Active p is = absurd p
-connect_row x h t (net.Enquiring asked due) p is = absurd p
-connect_row x h t net.OutgoingCallProceeding p is = absurd p
-connect_row x h t (net.IncomingCallProceeding due) p is = absurd p
-connect_row x h t (net.CallReceived due) p is = absurd p
-connect_row x h t (net.DisconnectIndication cause due) p is = absurd p
-connect_row x h t (net.ReleaseRequest again cause due) p is = absurd p
+connect_row x h t s p is = absurd p
 
 again_row : (x : PlainNetCall) (h : Heard) (t : ℕ) (s : NetState) → ActiveIn s → net_row x h t s Connect ≡ net_same x (Some (net_status x 101))
 again_row x h t net.Active p = refl
-again_row x h t (net.Enquiring asked due) p = absurd p
-again_row x h t (net.CallPresent again due) p = absurd p
-again_row x h t net.OutgoingCallProceeding p = absurd p
-again_row x h t (net.IncomingCallProceeding due) p = absurd p
-again_row x h t (net.CallReceived due) p = absurd p
-again_row x h t (net.DisconnectIndication cause due) p = absurd p
-again_row x h t (net.ReleaseRequest again cause due) p = absurd p
+again_row x h t s p = absurd p
 
 release_row : (x : PlainNetCall) (h : Heard) (t : ℕ) (s : NetState) → IndicatedIn s → net_row x h t s Release ≡ ends (Some (net_says x ReleaseComplete))
 release_row x h t (net.DisconnectIndication cause due) p = refl
-release_row x h t net.Active p = absurd p
-release_row x h t (net.Enquiring asked due) p = absurd p
-release_row x h t (net.CallPresent again due) p = absurd p
-release_row x h t net.OutgoingCallProceeding p = absurd p
-release_row x h t (net.IncomingCallProceeding due) p = absurd p
-release_row x h t (net.CallReceived due) p = absurd p
-release_row x h t (net.ReleaseRequest again cause due) p = absurd p
+release_row x h t s p = absurd p
 
 report_row : (x : PlainNetCall) (h : Heard) (t : ℕ) (s : NetState) → reports_null h.state ≡ false → net_row x h t s Status ≡ net_same x None
 report_row x h t s is = ap (λ b. if b then ends None else net_same x None) is
 
 active_not_null : (s : NetState) → ActiveIn s → reports_null (Some (state_value (net_state s) % 64)) ≡ false
 active_not_null net.Active p = refl
-active_not_null (net.Enquiring asked due) p = absurd p
-active_not_null (net.CallPresent again due) p = absurd p
-active_not_null net.OutgoingCallProceeding p = absurd p
-active_not_null (net.IncomingCallProceeding due) p = absurd p
-active_not_null (net.CallReceived due) p = absurd p
-active_not_null (net.DisconnectIndication cause due) p = absurd p
-active_not_null (net.ReleaseRequest again cause due) p = absurd p
+active_not_null s p = absurd p
 
 plain_ok : (r : ℕ) (f : Bool) → IsCallReference r → Sendable (plain r f ReleaseComplete)
 plain_ok r f h = record { out = record { reference = h; kind = tt; cause = tt; state = tt }; channel = tt; called = tt }
@@ -293,10 +242,7 @@ connect_present c i o rest said d r ok ref kind channel same fits p = go (standi
           (record { sendable = ack_ok x.reference (net_flag x.origin) (subst IsCallReference (ref ∙ sym q.1.0) ok.out.reference); flag = q.1.1; says = Acks i r q.1.0 refl }, tt),
         )
     go Refused f q = absurd q
-    go Unoffered f q = absurd q
-    go (Carried from until) f q = absurd q
-    go Unanswered f q = absurd q
-    go Missed f q = absurd q
+    go s f q = absurd q
 
 connect_again : (c : Day) (i t : ℕ) (o : Outgoing) (rest said : List Outgoing) (s : Standing) → is_ringing (standing_at c i) ≡ true → Sendable o → o.reference ≡ suc i → o.kind ≡ Connect → OutwardIn ActiveIn i s → list_any (acks_as (suc i)) said ≡ true → Leaves c i rest said (said_from o) t s
 connect_again c i t o rest said s r ok ref kind p acked = on_call ActiveIn i (Leaves c i rest said (said_from o) t) s p (λ x a q.
@@ -337,10 +283,7 @@ report_live P w c i t o rest said (OnCall x a) kind state p f =
     let row : net_message x h t ≡ net_same x None = awake_row x h t (w x.state p.0) ∙ ap (net_row x h t x.state) kind ∙ report_row x h t x.state state in
     subst (LeavesBy c i rest said a t) (sym row) (f x a refl, tt)
 report_live P w c i t o rest said Refused kind state p f = absurd p
-report_live P w c i t o rest said Unoffered kind state p f = absurd p
-report_live P w c i t o rest said (Carried from until) kind state p f = absurd p
-report_live P w c i t o rest said Unanswered kind state p f = absurd p
-report_live P w c i t o rest said Missed kind state p f = absurd p
+report_live P w c i t o rest said s kind state p f = absurd p
 
 same_call : (P : NetState → Type 0) (i t : ℕ) (s : Standing) (x : PlainNetCall) (a : Activity) → OutwardIn P i s → s ≡ OnCall x a → OutwardIn P i (OnCall x (activity_after a (is_active x.state) t))
 same_call P i t s x a p is = subst (OutwardIn P i) is p
@@ -349,11 +292,7 @@ same_call P i t s x a p is = subst (OutwardIn P i) is p
 
 up_is_live : (s : Standing) → is_up s ≡ true → is_live s ≡ true
 up_is_live (OnCall x a) h = refl
-up_is_live Refused h = absurd (false≢true h)
-up_is_live Unoffered h = absurd (false≢true h)
-up_is_live (Carried from until) h = absurd (false≢true h)
-up_is_live Unanswered h = absurd (false≢true h)
-up_is_live Missed h = absurd (false≢true h)
+up_is_live s h = absurd (false≢true h)
 
 fits_here : (rows : List Row) (assigned : List (Option ℕ)) (t i : ℕ) (d : Day) → IsHearing rows assigned t d → StandingFits d.moment (entry_at d.entries i) (standing_at d i)
 fits_here rows assigned t i d h = fits_at d i h.turn.fits.day
@@ -425,11 +364,7 @@ x_step rows assigned c t o rest said d kinds m h = at m.says
 
 named_ref : (P : NetState → Type 0) (j : ℕ) (m : Said) (s : Standing) → OutwardIn P j s → names_call m s ≡ true → m.reference ≡ suc j
 named_ref P j m (OnCall x a) p h = sym (eqb-true x.reference m.reference (and_parts (x.reference == m.reference) (bool_eq (net_flag x.origin) (not m.flag)) h).0) ∙ p.1.0
-named_ref P j m Refused p h = absurd p
-named_ref P j m Unoffered p h = absurd p
-named_ref P j m (Carried from until) p h = absurd p
-named_ref P j m Unanswered p h = absurd p
-named_ref P j m Missed p h = absurd p
+named_ref P j m s p h = absurd p
 
 -- a message that names a live booking has its reference
 live_ref : (c : Day) (rest said : List Outgoing) (j : ℕ) (m : Said) (s : Standing) → AllKinds c → AtX c rest said j s → is_live s ≡ true → names_call m s ≡ true → m.reference ≡ suc j
@@ -454,20 +389,12 @@ indicated_not_going i (OnCall x a) p g = at x.state p.0 g
     at (net.IncomingCallProceeding due) q k = q
     at (net.CallReceived due) q k = q
     at (net.ReleaseRequest again cause due) q k = q
-indicated_not_going i Refused p g = p
-indicated_not_going i Unoffered p g = p
-indicated_not_going i (Carried from until) p g = p
-indicated_not_going i Unanswered p g = p
-indicated_not_going i Missed p g = p
+indicated_not_going i s p g = p
 
 -- and it is not asked for
 pub outward_unasked : (P : NetState → Type 0) → ((n : NetState) → P n → net_awake_state n ≡ n) → (i : ℕ) (s : Standing) → OutwardIn P i s → is_enquired s ≡ false
 outward_unasked P w i (OnCall x a) p = sym (ap is_asked (w x.state p.0)) ∙ awake_unasked x.state
-outward_unasked P w i Refused p = absurd p
-outward_unasked P w i Unoffered p = absurd p
-outward_unasked P w i (Carried from until) p = absurd p
-outward_unasked P w i Unanswered p = absurd p
-outward_unasked P w i Missed p = absurd p
+outward_unasked P w i s p = absurd p
 
 live_unasked : (c : Day) (rest said : List Outgoing) (j : ℕ) (s : Standing) → AllKinds c → AtX c rest said j s → is_live s ≡ true → is_enquired s ≡ false
 live_unasked c rest said j s kinds h live = decide (is_live (standing_at c j))
@@ -491,11 +418,7 @@ agrees_unasked (OnCall x a) m h = at x.state h
     at (net.CallReceived due) q = refl
     at (net.DisconnectIndication cause due) q = refl
     at (net.ReleaseRequest again cause due) q = refl
-agrees_unasked Refused m h = refl
-agrees_unasked Unoffered m h = refl
-agrees_unasked (Carried from until) m h = refl
-agrees_unasked Unanswered m h = refl
-agrees_unasked Missed m h = refl
+agrees_unasked s m h = refl
 
 spares_x : (rows : List Row) (assigned : List (Option ℕ)) (c : Day) (t : ℕ) (o : Outgoing) (rest said : List Outgoing) (d : Day) → AllKinds c → FromFar c o → Hears rows assigned c t (o ∷ rest) said d → Spares (out_octets o) d
 spares_x rows assigned c t o rest said d kinds m h j going =

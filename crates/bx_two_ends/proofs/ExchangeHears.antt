@@ -12,7 +12,7 @@ use Rattle.bx_calls.specs.Said.{Said}
 use Rattle.bx_calls.specs.Hearing.{Heard}
 use Rattle.bx_calls.specs.declared.transition.Transition.{Transition}
 use Rattle.bx_calls.specs.declared.transition.Next.{Next}
-use Rattle.bx_calls.specs.declared.transition.Next.TheVariants.{Live, Over, Broken}
+use Rattle.bx_calls.specs.declared.transition.Next.TheVariants.{Live}
 use Rattle.bx_calls.specs.declared.unknown_reference.Side.{Side}
 use Rattle.bx_calls.specs.PlainCalls.{PlainNetCall}
 use Rattle.bx_calls.specs.NetTable.{net_flag, net_message}
@@ -22,7 +22,7 @@ use Rattle.bx_day.specs.declared.entry.Activity.{Activity}
 use Rattle.bx_day.specs.declared.entry.Entry.{Entry}
 use Rattle.bx_day.specs.declared.entry.Moved.{Moved}
 use Rattle.bx_day.specs.declared.entry.Standing.{Standing}
-use Rattle.bx_day.specs.declared.entry.Standing.TheVariants.{Refused, Unoffered, OnCall, Carried, Unanswered, Missed}
+use Rattle.bx_day.specs.declared.entry.Standing.TheVariants.{Refused, OnCall}
 use Rattle.bx_calls.specs.Shared.{bool_eq}
 use Rattle.bx_day.specs.Day.{Day, entry_at, no_entry, every_channel}
 use Rattle.bx_day.specs.Receipts.{names, names_call, hears, takes_call, takes_or, takes_preferred, called_on, called, stray, received_at, receive, with_moved, opens, lowest_open}
@@ -54,17 +54,13 @@ IsOutwardCall (OnCall call activity) = net_flag call.origin ≡ false
 IsOutwardCall _ = ⊥
 
 pub standing_grows : (r : ℕ) (sent more far_sent : List Outgoing) (s : Standing) → OutwardStanding r sent far_sent s → (IsOutwardCall s → list_any (clears r) more ≡ false) → OutwardStanding r (sent ++ more) far_sent s
-standing_grows r sent more far_sent Refused h calm = tt
-standing_grows r sent more far_sent Unoffered h calm = tt
 standing_grows r sent more far_sent (OnCall c a) h calm = λ f. record {
   known = has_more (sets_up r) sent more (h f).known;
   calm = λ q. has_none (clears r) sent more ((h f).calm q) (calm f);
   active = (h f).active;
   proceeding = (h f).proceeding;
 }
-standing_grows r sent more far_sent (Carried from until) h calm = tt
-standing_grows r sent more far_sent Unanswered h calm = tt
-standing_grows r sent more far_sent Missed h calm = tt
+standing_grows r sent more far_sent s h calm = tt
 
 -- a reply that is no SETUP, and is of a call of which a SETUP was sent
 pub record Known (sent : List Outgoing) (o : Outgoing) : Type 0 where
@@ -106,11 +102,9 @@ same_suc : (x y : ℕ) → suc x ≡ suc y → x ≡ y
 same_suc x y h = omega (arith, h)
 
 pub set_at : (P : Entry → Type 0) (es : List Entry) (i k : ℕ) (y : Entry) → (k ≡ i → P y) → P (entry_at es k) → P (entry_at (slice_set es i y) k)
-set_at P [] i k y f p = p
 set_at P (e ∷ es) zero zero y f p = f refl
-set_at P (e ∷ es) zero (suc k) y f p = p
-set_at P (e ∷ es) (suc i) zero y f p = p
 set_at P (e ∷ es) (suc i) (suc k) y f p = set_at P es i k y (λ q. f (ap suc q)) p
+set_at P es i k y f p = p
 
 pub record OneMoved (sent far_sent : List Outgoing) (i : ℕ) (s : Standing) (m : Moved) : Type 0 where
   pub refused : is_refused m.standing ≡ false → is_refused s ≡ false
@@ -169,8 +163,7 @@ not_setup k h = refl
 
 follow_eq : (a : Activity) (t : ℕ) (said : Option Outgoing) (n : Next PlainNetCall) → (follow a t said n).said ≡ said
 follow_eq a t said (Live c) = refl
-follow_eq a t said Over = refl
-follow_eq a t said Broken = refl
+follow_eq a t said n = refl
 
 heard_one : (assigned : List (Option ℕ)) (sent far_sent : List Outgoing) (t i : ℕ) (o : Outgoing) (e : Entry) (s : Standing) → names_call (said_from o) s ≡ true → (is_refused s ≡ false → Seat assigned i e) → EntryFits t (with_standing e s) → OutwardStanding (suc i) sent far_sent s → IsIn far_sent o
     → OneMoved sent far_sent i s (hears (said_from o) t s)
@@ -196,10 +189,7 @@ heard_one assigned sent far_sent t i o e (OnCall c a) named seat fits outward is
           (follow_calm c.reference c.channel c.origin c.state (is_connect_kind o.kind) a t step.reply step.reply step.next (heard_goes c.reference c.channel c.origin t (said_from o).heard c.state o.kind) q))));
     }
 heard_one assigned sent far_sent t i o e Refused named seat fits outward is_in = absurd (false≢true named)
-heard_one assigned sent far_sent t i o e Unoffered named seat fits outward is_in = absurd (false≢true named)
-heard_one assigned sent far_sent t i o e (Carried from until) named seat fits outward is_in = absurd (false≢true named)
-heard_one assigned sent far_sent t i o e Unanswered named seat fits outward is_in = absurd (false≢true named)
-heard_one assigned sent far_sent t i o e Missed named seat fits outward is_in = absurd (false≢true named)
+heard_one assigned sent far_sent t i o e s named seat fits outward is_in = absurd (false≢true named)
 
 -- ---- a message that names no live booking
 
@@ -245,10 +235,7 @@ outward_named assigned t i m e (OnCall c a) live seat fits r f =
     meet false false p q = absurd (false≢true q)
     meet true b p q = absurd (true≢false p)
 outward_named assigned t i m e Refused live seat fits r f = absurd live
-outward_named assigned t i m e Unoffered live seat fits r f = absurd live
-outward_named assigned t i m e (Carried from until) live seat fits r f = absurd live
-outward_named assigned t i m e Unanswered live seat fits r f = absurd live
-outward_named assigned t i m e Missed live seat fits r f = absurd live
+outward_named assigned t i m e s live seat fits r f = absurd live
 
 -- what is needed of the world
 pub record Before (assigned : List (Option ℕ)) (sent far_sent : List Outgoing) (d : Day) : Type 0 where

@@ -15,11 +15,11 @@ use Rattle.bx_calls.specs.declared.transition.Next.{Next}
 use Rattle.bx_calls.specs.declared.transition.Next.TheVariants.{Live, Over, Broken}
 use Rattle.bx_calls.specs.declared.unknown_reference.Side.TheVariants.{Network}
 use Rattle.bx_day.specs.declared.entry.Activity.{Activity}
-use Rattle.bx_day.specs.declared.entry.Activity.TheVariants.{Never, Since, Was}
+use Rattle.bx_day.specs.declared.entry.Activity.TheVariants.{Never}
 use Rattle.bx_day.specs.declared.entry.Entry.{Entry}
 use Rattle.bx_day.specs.declared.entry.Moved.{Moved}
 use Rattle.bx_day.specs.declared.entry.Standing.{Standing}
-use Rattle.bx_day.specs.declared.entry.Standing.TheVariants.{Refused, Unoffered, OnCall, Carried, Unanswered, Missed}
+use Rattle.bx_day.specs.declared.entry.Standing.TheVariants.{Refused, Unoffered, OnCall}
 use Rattle.bx_day.specs.Day.{Day, entry_at, is_free, every_channel}
 use Rattle.bx_day.specs.Ticks.{second_at, waits, tick, second_in}
 use Rattle.bx_day.specs.Receipts.{names, hears, takes_call, takes_or, takes_preferred, called_on, called, stray, received_at, receive, with_moved, opens, lowest_open}
@@ -50,8 +50,7 @@ StandingWithin _ = Unit {0}
 
 over_within : (a : Activity) (t : ℕ) → StandingWithin (over_at a t)
 over_within Never t = tt
-over_within (Since from) t = tt
-over_within (Was from until) t = tt
+over_within a t = tt
 
 pub follow_within : (c : PlainNetCall) (s : NetState) (k : Bool) (a : Activity) (t : ℕ) (reply said : Option Outgoing) (n : Next PlainNetCall) → OnNext (Goes c.reference c.channel c.origin s k reply) n → CallWithin c → StandingWithin (follow a t said n).standing
 follow_within c s k a t reply said (Live c') g h = record { reference = subst IsCallReference (sym g.reference) h.reference; channel = subst IsChannel (sym g.channel) h.channel; number = subst NumberOf (sym g.origin) h.number }
@@ -71,7 +70,6 @@ waits_within assigned i t e free s = by_cases (offers e t free) _ _ MovedOk
     (λ _. by_cases (nat_le e.booking.end t) _ _ MovedOk (λ _. record { said = tt; standing = tt }) (λ _. record { said = tt; standing = tt }))
 
 pub second_within : (assigned : List (Option ℕ)) (i t : ℕ) (e : Entry) (free : Bool) (s : Standing) → (is_refused s ≡ false → Seat assigned i e) → StandingWithin s → MovedOk (second_at e t free s)
-second_within assigned i t e free Refused seat h = record { said = tt; standing = tt }
 second_within assigned i t e free Unoffered seat h = waits_within assigned i t e free (seat refl)
 second_within assigned i t e free (OnCall c a) seat h =
     let step : Transition PlainNetCall = net_second c t e.booking.end in
@@ -79,9 +77,7 @@ second_within assigned i t e free (OnCall c a) seat h =
       said = follow_said Sendable a t step.reply step.next (second_ok c.reference c.channel c.origin t e.booking.end c.state h.reference h.channel h.number);
       standing = follow_within c c.state false a t step.reply step.reply step.next (second_goes c.reference c.channel c.origin t e.booking.end c.state) h;
     }
-second_within assigned i t e free (Carried from until) seat h = record { said = tt; standing = tt }
-second_within assigned i t e free Unanswered seat h = record { said = tt; standing = tt }
-second_within assigned i t e free Missed seat h = record { said = tt; standing = tt }
+second_within assigned i t e free s seat h = record { said = tt; standing = tt }
 
 abbrev pub ExchangeWithin : Day → Type 0
 ExchangeWithin d = (i : ℕ) → StandingWithin (standing_at d i)
@@ -112,10 +108,7 @@ hears_ok o t (OnCall c a) h =
       standing = follow_within c c.state (is_connect_kind o.kind) a t step.reply step.reply step.next (heard_goes c.reference c.channel c.origin t (said_from o).heard c.state o.kind) h;
     }
 hears_ok o t Refused h = record { said = tt; standing = tt }
-hears_ok o t Unoffered h = record { said = tt; standing = tt }
-hears_ok o t (Carried from until) h = record { said = tt; standing = tt }
-hears_ok o t Unanswered h = record { said = tt; standing = tt }
-hears_ok o t Missed h = record { said = tt; standing = tt }
+hears_ok o t s h = record { said = tt; standing = tt }
 
 takes_ok : (assigned : List (Option ℕ)) (d : Day) (o : Outgoing) (cause : ℕ) (x : Option ℕ) → Seats assigned d.entries → ExchangeWithin d → IsCallReference o.reference → OpenAt d x → AnswerOk (takes_or d (said_from o) cause x)
 takes_ok assigned d o cause None seats h r opened = record { reply = refusal_ok Network o.reference cause r; lims = h }

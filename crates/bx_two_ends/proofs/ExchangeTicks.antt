@@ -18,7 +18,7 @@ use Rattle.bx_calls.specs.declared.net_state.NetOrigin.TheVariants.{Outward, Inw
 use Rattle.bx_calls.specs.declared.net_state.NetState.{NetState}
 use Rattle.bx_calls.specs.NetTable.{net_flag, net_is_clearing, net_second}
 use Rattle.bx_day.specs.declared.entry.Activity.{Activity}
-use Rattle.bx_day.specs.declared.entry.Activity.TheVariants.{Never, Since, Was}
+use Rattle.bx_day.specs.declared.entry.Activity.TheVariants.{Never}
 use Rattle.bx_day.specs.declared.entry.Entry.{Entry}
 use Rattle.bx_day.specs.declared.entry.Moved.{Moved}
 use Rattle.bx_day.specs.declared.entry.Standing.{Standing}
@@ -50,13 +50,11 @@ pub record TickSays (assigned : List (Option ℕ)) (sent : List Outgoing) (i : �
 
 over_started : (a : Activity) (t : ℕ) → is_started (over_at a t) ≡ true
 over_started Never t = refl
-over_started (Since from) t = refl
-over_started (Was from until) t = refl
+over_started a t = refl
 
 over_calm : (a : Activity) (t : ℕ) → is_calm (over_at a t) ≡ false
 over_calm Never t = refl
-over_calm (Since from) t = refl
-over_calm (Was from until) t = refl
+over_calm a t = refl
 
 pub follow_started : (a : Activity) (t : ℕ) (said : Option Outgoing) (n : Next PlainNetCall) → is_started (follow a t said n).standing ≡ true
 follow_started a t said (Live c) = refl
@@ -71,8 +69,7 @@ follow_calm r ch o s k a t reply said Broken g h = absurd (true≢false (sym h �
 
 pub follow_said : (P : Outgoing → Type 0) (a : Activity) (t : ℕ) (said : Option Outgoing) (n : Next PlainNetCall) → OfSaid P said → OfSaid P (follow a t said n).said
 follow_said P a t said (Live c) h = h
-follow_said P a t said Over h = h
-follow_said P a t said Broken h = h
+follow_said P a t said n h = h
 
 pub under_said : (A : Type 0) (P : Outgoing → Type 0) (said : Option Outgoing) → (A → OfSaid P said) → OfSaid (λ o. A → P o) said
 under_said A P None f = tt
@@ -160,9 +157,7 @@ pub second_started : (e : Entry) (t : ℕ) (free : Bool) (s : Standing) → is_s
 second_started e t free (OnCall c a) h = follow_started a t (net_second c t e.booking.end).reply (net_second c t e.booking.end).next
 second_started e t free (Carried from until) h = h
 second_started e t free Unanswered h = h
-second_started e t free Refused h = absurd (false≢true h)
-second_started e t free Unoffered h = absurd (false≢true h)
-second_started e t free Missed h = absurd (false≢true h)
+second_started e t free s h = absurd (false≢true h)
 
 tick_started : (d : Day) (i : ℕ) → is_started (standing_at d i) ≡ true → is_started (standing_at (ticked d).day i) ≡ true
 tick_started d i h = subst (λ s. is_started s ≡ true) (sym (after_at d i)) (second_started (entry_at d.entries i) (d.moment + 1) (is_free d (entry_at d.entries i).channel) (entry_at d.entries i).standing h)
@@ -286,8 +281,7 @@ is_sent d i on = some_in (ticked d).sent (second_in Up d (entry_at d.entries i))
 
 over_outward : (r : ℕ) (sent far_sent : List Outgoing) (a : Activity) (t : ℕ) → OutwardStanding r sent far_sent (over_at a t)
 over_outward r sent far_sent Never t = tt
-over_outward r sent far_sent (Since from) t = tt
-over_outward r sent far_sent (Was from until) t = tt
+over_outward r sent far_sent a t = tt
 
 -- a call that goes on; k says whether a CONNECT came
 pub goes_outward : (i : ℕ) (sent more far_sent : List Outgoing) (s : PlainNetCall) (k : Bool) (a : Activity) (t : ℕ) (reply said : Option Outgoing) (n : Next PlainNetCall) → OnNext (Goes s.reference s.channel s.origin s.state k reply) n → OutwardStanding (suc i) sent far_sent (OnCall s a)
@@ -325,25 +319,18 @@ waits_outward assigned i t sent more far_sent e free seat clean =
     (λ _. by_cases (nat_le e.booking.end t) _ _ (OutwardAfter i sent more far_sent) (λ _ said calm. tt) (λ _ said calm. tt))
 
 entry_outward : (assigned : List (Option ℕ)) (i t : ℕ) (sent more far_sent : List Outgoing) (e : Entry) (free : Bool) (s : Standing) → (is_refused s ≡ false → Seat assigned i e) → (is_started s ≡ false → list_any (clears (suc i)) sent ≡ false) → OutwardStanding (suc i) sent far_sent s → OutwardAfter i sent more far_sent (second_at e t free s)
-entry_outward assigned i t sent more far_sent e free Refused seat clean outward said calm = tt
 entry_outward assigned i t sent more far_sent e free Unoffered seat clean outward said calm = waits_outward assigned i t sent more far_sent e free (seat refl) (clean refl) said calm
 entry_outward assigned i t sent more far_sent e free (OnCall c a) seat clean outward said calm =
     let step : Transition PlainNetCall = net_second c t e.booking.end in
     goes_outward i sent more far_sent c false a t step.reply step.reply step.next (second_goes c.reference c.channel c.origin t e.booking.end c.state) outward (λ _ k. absurd (false≢true k)) (λ q _. calm q)
-entry_outward assigned i t sent more far_sent e free (Carried from until) seat clean outward said calm = tt
-entry_outward assigned i t sent more far_sent e free Unanswered seat clean outward said calm = tt
-entry_outward assigned i t sent more far_sent e free Missed seat clean outward said calm = tt
+entry_outward assigned i t sent more far_sent e free s seat clean outward said calm = tt
 
 seat_channel : (assigned : List (Option ℕ)) (d : Day) (i : ℕ) → Seats assigned d.entries → OfSaid (IsIn (ticked d).sent) (second_in Up d (entry_at d.entries i)).said
 seat_channel assigned d i seats = decide (is_refused (entry_at d.entries i).standing) refl
   where
     silent : (e : Entry) (t : ℕ) (free : Bool) (s : Standing) → is_refused s ≡ true → OfSaid (IsIn (ticked d).sent) (second_at e t free s).said
     silent e t free Refused q = tt
-    silent e t free Unoffered q = absurd (false≢true q)
-    silent e t free (OnCall c a) q = absurd (false≢true q)
-    silent e t free (Carried from until) q = absurd (false≢true q)
-    silent e t free Unanswered q = absurd (false≢true q)
-    silent e t free Missed q = absurd (false≢true q)
+    silent e t free s q = absurd (false≢true q)
 
     decide : (b : Bool) → is_refused (entry_at d.entries i).standing ≡ b → OfSaid (IsIn (ticked d).sent) (second_in Up d (entry_at d.entries i)).said
     decide true q = silent (entry_at d.entries i) (d.moment + 1) (is_free d (entry_at d.entries i).channel) (entry_at d.entries i).standing q

@@ -15,11 +15,11 @@ use Rattle.bx_calls.specs.UserTable.{user_flag, user_row, user_second, user_seco
 use Rattle.bx_calls.specs.Steps.{ends, breaks}
 use Rattle.bx_calls.specs.declared.transition.Next.TheVariants.{Live}
 use Rattle.bx_calls.specs.declared.transition.Transition.{Transition}
-use Rattle.bx_calls.specs.declared.user_state.Policy.TheVariants.{Answer, Busy, Silent, Alert, Proceed, Clear}
+use Rattle.bx_calls.specs.declared.user_state.Policy.TheVariants.{Answer}
 use Rattle.bx_calls.specs.declared.user_state.UserOrigin.{UserOrigin}
-use Rattle.bx_calls.specs.declared.user_state.UserOrigin.TheVariants.{Offered, Calling}
+use Rattle.bx_calls.specs.declared.user_state.UserOrigin.TheVariants.{Offered}
 use Rattle.bx_calls.specs.declared.user_state.UserState.{UserState}
-use Rattle.bx_calls.specs.declared.user_state.UserState.TheVariants.{CallInitiated, OutgoingCallProceeding, CallPresent, CallReceived, ConnectRequest, IncomingCallProceeding, Active, DisconnectRequest, ReleaseRequest}
+use Rattle.bx_calls.specs.declared.user_state.UserState.TheVariants.{CallPresent, CallReceived, ConnectRequest, Active, ReleaseRequest}
 use Rattle.bx_two_ends.specs.Answering.{is_ringing, is_clearing}
 use Rattle.bx_day.specs.Day.{Day, is_live}
 use Rattle.bx_day.specs.Law.{standing_at}
@@ -57,43 +57,19 @@ pub record AtT (c : Day) (j : ℕ) (v : Option PlainUserCall) : Type 0 where
 
 takes_it : (x : PlainUserCall) (t : ℕ) (o : UserOrigin) → IsAnswering o → user_takes x t o ≡ user_connects x (user_says_channel x Connect) t
 takes_it x t (Offered (Answer n) at) h = ap (λ b. if b then user_connects x (user_says_channel x Connect) t else user_to x (Some (user_says_channel x Alerting)) CallReceived) (eq-eqb n 0 h)
-takes_it x t (Offered Busy at) h = absurd h
-takes_it x t (Offered Silent at) h = absurd h
-takes_it x t (Offered Alert at) h = absurd h
-takes_it x t (Offered Proceed at) h = absurd h
-takes_it x t (Offered (Clear n) at) h = absurd h
-takes_it x t (Calling called) h = absurd h
+takes_it x t o h = absurd h
 
 clears_not : (x : PlainUserCall) (t since : ℕ) (o : UserOrigin) → IsAnswering o → user_clears x t since o ≡ user_same x None
 clears_not x t since (Offered (Answer n) at) h = refl
-clears_not x t since (Offered Busy at) h = absurd h
-clears_not x t since (Offered Silent at) h = absurd h
-clears_not x t since (Offered Alert at) h = absurd h
-clears_not x t since (Offered Proceed at) h = absurd h
-clears_not x t since (Offered (Clear n) at) h = absurd h
-clears_not x t since (Calling called) h = absurd h
+clears_not x t since o h = absurd h
 
 second6 : (x : PlainUserCall) (t : ℕ) (s : UserState) → In6 s → IsAnswering x.origin → user_second_row x t s ≡ user_connects x (user_says_channel x Connect) t
 second6 x t CallPresent h a = takes_it x t x.origin a
-second6 x t CallReceived h a = absurd h
-second6 x t (ConnectRequest due) h a = absurd h
-second6 x t IncomingCallProceeding h a = absurd h
-second6 x t (Active since) h a = absurd h
-second6 x t (CallInitiated again due) h a = absurd h
-second6 x t (OutgoingCallProceeding due) h a = absurd h
-second6 x t (DisconnectRequest cause due) h a = absurd h
-second6 x t (ReleaseRequest again cause due) h a = absurd h
+second6 x t s h a = absurd h
 
 second10 : (x : PlainUserCall) (t : ℕ) (s : UserState) → In10 s → IsAnswering x.origin → user_second_row x t s ≡ user_same x None
 second10 x t (Active since) h a = clears_not x t since x.origin a
-second10 x t CallPresent h a = absurd h
-second10 x t CallReceived h a = absurd h
-second10 x t (ConnectRequest due) h a = absurd h
-second10 x t IncomingCallProceeding h a = absurd h
-second10 x t (CallInitiated again due) h a = absurd h
-second10 x t (OutgoingCallProceeding due) h a = absurd h
-second10 x t (DisconnectRequest cause due) h a = absurd h
-second10 x t (ReleaseRequest again cause due) h a = absurd h
+second10 x t s h a = absurd h
 
 not_late : (t due : ℕ) → t < due → nat_le due t ≡ false
 not_late t due lt = false_from_ne_true (nat_le due t) (λ h. let le : due ≤ t = leb-true due t h in omega (arith, le, lt))
@@ -101,25 +77,11 @@ not_late t due lt = false_from_ne_true (nat_le due t) (λ h. let le : due ≤ t 
 second19 : (x : PlainUserCall) (m t : ℕ) (s : UserState) → In19 m s → t ≡ m + 1 → user_second_row x t s ≡ user_same x None
 second19 x m t (ReleaseRequest false cause due) h is = ap (λ b. if b then user_releases x true cause t else user_same x None) (not_late t due (omega (arith, h, is)))
 second19 x m t (ReleaseRequest true cause due) h is = ap (λ b. if b then breaks else user_same x None) (not_late t due (omega (arith, h, is)))
-second19 x m t CallPresent h is = absurd h
-second19 x m t CallReceived h is = absurd h
-second19 x m t (ConnectRequest due) h is = absurd h
-second19 x m t IncomingCallProceeding h is = absurd h
-second19 x m t (Active since) h is = absurd h
-second19 x m t (CallInitiated again due) h is = absurd h
-second19 x m t (OutgoingCallProceeding due) h is = absurd h
-second19 x m t (DisconnectRequest cause due) h is = absurd h
+second19 x m t s h is = absurd h
 
 still19 : (m : ℕ) (s : UserState) → In19 m s → Is19 s
 still19 m (ReleaseRequest again cause due) h = tt
-still19 m CallPresent h = absurd h
-still19 m CallReceived h = absurd h
-still19 m (ConnectRequest due) h = absurd h
-still19 m IncomingCallProceeding h = absurd h
-still19 m (Active since) h = absurd h
-still19 m (CallInitiated again due) h = absurd h
-still19 m (OutgoingCallProceeding due) h = absurd h
-still19 m (DisconnectRequest cause due) h = absurd h
+still19 m s h = absurd h
 
 -- the call with CONNECT sent
 abbrev connected : PlainUserCall → ℕ → PlainUserCall
@@ -268,36 +230,15 @@ rest_stays c i j o rest v ref ne h = record {
 
 ack8 : (x : PlainUserCall) (m : Heard) (t : ℕ) (s : UserState) → In8 s → user_row x m t s ConnectAcknowledge ≡ user_to x None (Active t)
 ack8 x m t (ConnectRequest due) h = refl
-ack8 x m t CallPresent h = absurd h
-ack8 x m t CallReceived h = absurd h
-ack8 x m t IncomingCallProceeding h = absurd h
-ack8 x m t (Active since) h = absurd h
-ack8 x m t (CallInitiated again due) h = absurd h
-ack8 x m t (OutgoingCallProceeding due) h = absurd h
-ack8 x m t (DisconnectRequest cause due) h = absurd h
-ack8 x m t (ReleaseRequest again cause due) h = absurd h
+ack8 x m t s h = absurd h
 
 ack10 : (x : PlainUserCall) (m : Heard) (t : ℕ) (s : UserState) → In10 s → user_row x m t s ConnectAcknowledge ≡ user_same x (Some (user_status x 101))
 ack10 x m t (Active since) h = refl
-ack10 x m t CallPresent h = absurd h
-ack10 x m t CallReceived h = absurd h
-ack10 x m t (ConnectRequest due) h = absurd h
-ack10 x m t IncomingCallProceeding h = absurd h
-ack10 x m t (CallInitiated again due) h = absurd h
-ack10 x m t (OutgoingCallProceeding due) h = absurd h
-ack10 x m t (DisconnectRequest cause due) h = absurd h
-ack10 x m t (ReleaseRequest again cause due) h = absurd h
+ack10 x m t s h = absurd h
 
 not_null : (s : UserState) → In10 s → reports_null (Some (state_value (user_state s) % 64)) ≡ false
 not_null (Active since) h = refl
-not_null CallPresent h = absurd h
-not_null CallReceived h = absurd h
-not_null (ConnectRequest due) h = absurd h
-not_null IncomingCallProceeding h = absurd h
-not_null (CallInitiated again due) h = absurd h
-not_null (OutgoingCallProceeding due) h = absurd h
-not_null (DisconnectRequest cause due) h = absurd h
-not_null (ReleaseRequest again cause due) h = absurd h
+not_null s h = absurd h
 
 status_row : (x : PlainUserCall) (m : Heard) (t : ℕ) (s : UserState) → reports_null m.state ≡ false → user_row x m t s Status ≡ user_same x None
 status_row x m t s is = ap (λ b. if b then ends None else user_same x None) is

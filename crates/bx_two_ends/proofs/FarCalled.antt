@@ -19,7 +19,7 @@ use Rattle.bx_calls.specs.declared.user_state.Policy.TheVariants.{Answer}
 use Rattle.bx_calls.specs.declared.user_state.UserOrigin.{UserOrigin}
 use Rattle.bx_calls.specs.declared.user_state.UserOrigin.TheVariants.{Offered, Calling}
 use Rattle.bx_calls.specs.declared.user_state.UserState.{UserState}
-use Rattle.bx_calls.specs.declared.user_state.UserState.TheVariants.{CallInitiated, OutgoingCallProceeding, CallPresent, CallReceived, ConnectRequest, IncomingCallProceeding, Active, DisconnectRequest, ReleaseRequest}
+use Rattle.bx_calls.specs.declared.user_state.UserState.TheVariants.{OutgoingCallProceeding, CallPresent, CallReceived, IncomingCallProceeding, Active, ReleaseRequest}
 use Rattle.bx_calls.specs.NetTable.{net_is_clearing}
 use Rattle.bx_calls.specs.declared.net_state.NetOrigin.{NetOrigin}
 use Rattle.bx_calls.specs.declared.net_state.NetState.{NetState}
@@ -27,7 +27,7 @@ use Rattle.bx_calls.specs.declared.net_state.NetState.TheVariants as net
 use Rattle.bx_two_ends.specs.Answering.{is_ringing_in, is_ringing, is_clearing}
 use Rattle.bx_two_ends.specs.Earning.{is_settled_in}
 use Rattle.bx_day.specs.declared.entry.Standing.{Standing}
-use Rattle.bx_day.specs.declared.entry.Standing.TheVariants.{Refused, Unoffered, OnCall, Carried, Unanswered, Missed}
+use Rattle.bx_day.specs.declared.entry.Standing.TheVariants.{OnCall}
 use Rattle.std.proofs.lemmas.List.{append-nil, append_assoc}
 use Rattle.bx_day.specs.Day.{Day, is_live}
 use Rattle.bx_day.specs.Law.{standing_at}
@@ -128,29 +128,16 @@ ring_not_clear (OnCall call a) r h = at call.state r h
     at (net.Enquiring asked due) p q = false≢true p
     at (net.DisconnectIndication cause due) p q = false≢true p
     at (net.ReleaseRequest again cause due) p q = false≢true p
-ring_not_clear Refused r h = false≢true r
-ring_not_clear Unoffered r h = false≢true r
-ring_not_clear (Carried from until) r h = false≢true r
-ring_not_clear Unanswered r h = false≢true r
-ring_not_clear Missed r h = false≢true r
+ring_not_clear s r h = false≢true r
 
 up_alone : (s : Standing) → is_up s ≡ true → (is_ringing s ≡ false) × (is_clearing s ≡ false)
 up_alone (OnCall call a) u = at call.state call.origin u
   where
     at : (x : NetState) (o : NetOrigin) → is_settled_in x o ≡ true → (is_ringing_in x ≡ false) × (net_is_clearing x ≡ false)
     at net.Active o p = (refl, refl)
-    at (net.Enquiring asked due) o p = absurd (false≢true p)
     at net.OutgoingCallProceeding o p = (refl, refl)
-    at (net.CallPresent again due) o p = absurd (false≢true p)
-    at (net.IncomingCallProceeding due) o p = absurd (false≢true p)
-    at (net.CallReceived due) o p = absurd (false≢true p)
-    at (net.DisconnectIndication cause due) o p = absurd (false≢true p)
-    at (net.ReleaseRequest again cause due) o p = absurd (false≢true p)
-up_alone Refused u = absurd (false≢true u)
-up_alone Unoffered u = absurd (false≢true u)
-up_alone (Carried from until) u = absurd (false≢true u)
-up_alone Unanswered u = absurd (false≢true u)
-up_alone Missed u = absurd (false≢true u)
+    at x o p = absurd (false≢true p)
+up_alone s u = absurd (false≢true u)
 
 pub ring_not_up : (s : Standing) → is_ringing s ≡ true → is_up s ≡ true → ⊥
 ring_not_up s r u = true≢false (sym r ∙ (up_alone s u).0)
@@ -160,19 +147,11 @@ clear_not_up s r u = true≢false (sym r ∙ (up_alone s u).1)
 
 pub ring_live : (s : Standing) → is_ringing s ≡ true → is_live s ≡ true
 ring_live (OnCall call a) r = refl
-ring_live Refused r = absurd (false≢true r)
-ring_live Unoffered r = absurd (false≢true r)
-ring_live (Carried from until) r = absurd (false≢true r)
-ring_live Unanswered r = absurd (false≢true r)
-ring_live Missed r = absurd (false≢true r)
+ring_live s r = absurd (false≢true r)
 
 pub clear_live : (s : Standing) → is_clearing s ≡ true → is_live s ≡ true
 clear_live (OnCall call a) r = refl
-clear_live Refused r = absurd (false≢true r)
-clear_live Unoffered r = absurd (false≢true r)
-clear_live (Carried from until) r = absurd (false≢true r)
-clear_live Unanswered r = absurd (false≢true r)
-clear_live Missed r = absurd (false≢true r)
+clear_live s r = absurd (false≢true r)
 
 pub at_once : (script : List ScriptRow) (called : Option (List ℕ)) → AnswersAtOnce script → policy_of script called ≡ Answer 0
 at_once [] called h = refl
@@ -197,25 +176,11 @@ same_is E j s h = h
 
 disc_row : (x : PlainUserCall) (m : Heard) (t : ℕ) (s : UserState) → In10 s → user_row x m t s Disconnect ≡ user_releases x false None t
 disc_row x m t (Active since) h = refl
-disc_row x m t CallPresent h = absurd h
-disc_row x m t CallReceived h = absurd h
-disc_row x m t (ConnectRequest due) h = absurd h
-disc_row x m t IncomingCallProceeding h = absurd h
-disc_row x m t (CallInitiated again due) h = absurd h
-disc_row x m t (OutgoingCallProceeding due) h = absurd h
-disc_row x m t (DisconnectRequest cause due) h = absurd h
-disc_row x m t (ReleaseRequest again cause due) h = absurd h
+disc_row x m t s h = absurd h
 
 pub disc_again : (x : PlainUserCall) (m : Heard) (t u : ℕ) (s : UserState) → In19 u s → user_row x m t s Disconnect ≡ user_same x None
 disc_again x m t u (ReleaseRequest again cause due) h = refl
-disc_again x m t u (Active since) h = absurd h
-disc_again x m t u CallPresent h = absurd h
-disc_again x m t u CallReceived h = absurd h
-disc_again x m t u (ConnectRequest due) h = absurd h
-disc_again x m t u IncomingCallProceeding h = absurd h
-disc_again x m t u (CallInitiated again due) h = absurd h
-disc_again x m t u (OutgoingCallProceeding due) h = absurd h
-disc_again x m t u (DisconnectRequest cause due) h = absurd h
+disc_again x m t u s h = absurd h
 
 pub answering_flag : (o : UserOrigin) → IsAnswering o → user_flag o ≡ true
 answering_flag (Offered policy at) h = refl

@@ -94,11 +94,9 @@ taken_keeps assigned sent far_sent f r policy b known on free =
 -- ---- a live call hears a message
 
 pub set_stays : (ms : List Bool) (c k : ℕ) → is_marked ms k ≡ true → is_marked (slice_set ms c true) k ≡ true
-set_stays [] c k h = h
 set_stays (m ∷ ms) zero zero h = refl
-set_stays (m ∷ ms) zero (suc k) h = h
-set_stays (m ∷ ms) (suc c) zero h = h
 set_stays (m ∷ ms) (suc c) (suc k) h = set_stays ms c k h
+set_stays ms c k h = h
 
 pub set_now : (ms : List Bool) (c : ℕ) → c < length ms → is_marked (slice_set ms c true) c ≡ true
 set_now [] c lt = absurd (omega (arith, lt))

@@ -28,10 +28,7 @@ same_by p t a b c d e (user.OutgoingCallProceeding due) = b due _
 same_by p t a b c d e (user.ConnectRequest due) = c due _
 same_by p t a b c d e (user.DisconnectRequest cause due) = d cause due _
 same_by p t a b c d e (user.ReleaseRequest again cause due) = e again false cause due _
-same_by p t a b c d e user.CallPresent = refl
-same_by p t a b c d e user.CallReceived = refl
-same_by p t a b c d e user.IncomingCallProceeding = refl
-same_by p t a b c d e (user.Active since) = refl
+same_by p t a b c d e s = refl
 
 talking_later : (t : ℕ) (s : UserState) → is_talking (user_later t s) ≡ is_talking s
 talking_later t s = same_by is_talking t (λ a d l. refl) (λ d l. refl) (λ d l. refl) (λ c d l. refl) (λ w a c d l. refl) s

@@ -8,7 +8,7 @@ use Rattle.bx_day.specs.Day.{Day, opening, is_held, is_unoffered}
 use Rattle.bx_day.specs.Law.{standing_at}
 use Rattle.bx_day.specs.Outages.{live_day_after}
 use Rattle.bx_day.specs.declared.entry.Standing.{Standing}
-use Rattle.bx_day.specs.declared.entry.Standing.TheVariants.{Refused, Unoffered, OnCall, Carried, Unanswered, Missed}
+use Rattle.bx_day.specs.declared.entry.Standing.TheVariants.{Unoffered}
 use Rattle.bx_day.proofs.Law.{live_run, opening_fits, opening_framed, opening_placed}
 use Rattle.bx_day.proofs.OpeningDay.{opening_size}
 use Rattle.bx_day.proofs.Tick.{runs_at}
@@ -28,11 +28,7 @@ link_behind (s ∷ ss) m t h = at (t == m + 1) refl (link_behind ss (m + 1) t)
 
 waits_is : (s : Standing) → is_unoffered s ≡ true → s ≡ Unoffered
 waits_is Unoffered h = refl
-waits_is Refused h = absurd (false≢true h)
-waits_is (OnCall c a) h = absurd (false≢true h)
-waits_is (Carried from until) h = absurd (false≢true h)
-waits_is Unanswered h = absurd (false≢true h)
-waits_is Missed h = absurd (false≢true h)
+waits_is s h = absurd (false≢true h)
 
 module _ (rows : List Row) (channels : List Bool) (assigned : List (Option ℕ)) (events : List LiveEvent) (seconds : List LiveSecond) (i cleared offered ended : ℕ) (b : AreBookings rows) (h : Carries rows channels (is_accepted assigned) (channel_at assigned)) where
   abbrev D : Day

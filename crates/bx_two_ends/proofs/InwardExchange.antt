@@ -16,7 +16,7 @@ use Rattle.bx_calls.specs.declared.transition.Next.{Next}
 use Rattle.bx_calls.specs.declared.transition.Next.TheVariants.{Live, Over, Broken}
 use Rattle.bx_calls.specs.declared.unknown_reference.Side.TheVariants.{Network}
 use Rattle.bx_day.specs.declared.entry.Activity.{Activity}
-use Rattle.bx_day.specs.declared.entry.Activity.TheVariants.{Never, Since, Was}
+use Rattle.bx_day.specs.declared.entry.Activity.TheVariants.{Never}
 use Rattle.bx_day.specs.declared.entry.Entry.{Entry}
 use Rattle.bx_day.specs.declared.entry.Moved.{Moved}
 use Rattle.bx_day.specs.declared.entry.Link.{Link}
@@ -77,8 +77,7 @@ pub record StandingMoves (named : ℕ → ℕ) (next : ℕ) (far_sent : List Out
 
 over_taken : (named : ℕ → ℕ) (next : ℕ) (a : Activity) (t : ℕ) → TakenStanding named next (over_at a t)
 over_taken named next Never t = tt
-over_taken named next (Since from) t = tt
-over_taken named next (Was from until) t = tt
+over_taken named next a t = tt
 
 taken_after : (named : ℕ → ℕ) (next : ℕ) (c : PlainNetCall) (a : Activity) (t : ℕ) (cleared ticks : Bool) (reply : Option Outgoing) (n : Next PlainNetCall) → TakenStanding named next (OnCall c a) → NetMoves c.reference c.channel c.origin c.state cleared ticks n → TakenStanding named next (follow a t reply n).standing
 taken_after named next c a t cleared ticks reply (Live c') h g = λ f.
@@ -136,15 +135,12 @@ waits_moves named next far_sent e t free =
     (λ _. by_cases (nat_le e.booking.end t) _ _ M (λ _. record { taken = tt; said = tt; kept = λ r h. absurd (false≢true h) }) (λ _. record { taken = tt; said = tt; kept = λ r h. absurd (false≢true h) }))
 
 second_moved : (named : ℕ → ℕ) (next : ℕ) (far_sent : List Outgoing) (e : Entry) (t : ℕ) (free : Bool) (s : Standing) → TakenStanding named next s → PlacedAt e s → StandingMoves named next far_sent e.channel s (second_at e t free s)
-second_moved named next far_sent e t free Refused h on = record { taken = tt; said = tt; kept = λ r k. absurd (false≢true k) }
 second_moved named next far_sent e t free Unoffered h on = waits_moves named next far_sent e t free
 second_moved named next far_sent e t free (OnCall c a) h on =
     let step : Transition PlainNetCall = net_second c t e.booking.end in
     call_moves named next far_sent e.channel c a t false true step.reply step.next h on (net_second_moves c.reference c.channel c.origin t e.booking.end c.state) (λ _ k. absurd (false≢true k))
     (said_map (Speaks c.reference c.channel c.origin) (OfCall c.reference c.origin) (λ o s. (s.reference, s.flag)) step.reply (second_speaks c.reference c.channel c.origin t e.booking.end c.state))
-second_moved named next far_sent e t free (Carried from until) h on = record { taken = tt; said = tt; kept = λ r k. absurd (false≢true k) }
-second_moved named next far_sent e t free Unanswered h on = record { taken = tt; said = tt; kept = λ r k. absurd (false≢true k) }
-second_moved named next far_sent e t free Missed h on = record { taken = tt; said = tt; kept = λ r k. absurd (false≢true k) }
+second_moved named next far_sent e t free s h on = record { taken = tt; said = tt; kept = λ r k. absurd (false≢true k) }
 
 -- the booking of an index is among all
 any_entry : (p : Entry → Bool) (es : List Entry) (i : ℕ) → p (entry_at [] i) ≡ false → p (entry_at es i) ≡ true → list_any p es ≡ true
@@ -195,11 +191,7 @@ breaks_at link named next sent far_sent d b i accepted broken =
 
 live_accepted : (r ch : ℕ) (s : Standing) → answered_as r ch s ≡ true → is_refused s ≡ false
 live_accepted r ch (OnCall c a) h = refl
-live_accepted r ch Refused h = absurd (false≢true h)
-live_accepted r ch Unoffered h = absurd (false≢true h)
-live_accepted r ch (Carried from until) h = absurd (false≢true h)
-live_accepted r ch Unanswered h = absurd (false≢true h)
-live_accepted r ch Missed h = absurd (false≢true h)
+live_accepted r ch s h = absurd (false≢true h)
 
 -- what is held stays, or goes into maintenance, or was cleared
 tick_held : (link : Link) (named : ℕ → ℕ) (next : ℕ) (far_sent : List Outgoing) (d : Day) (r : ℕ) (es : List Entry) → AllByRecursion (Moves link named next far_sent d) es → AllByRecursion (Breaks link d) es → exchange_holds es r (named r) ≡ true
@@ -347,18 +339,11 @@ heard_moves named next far_sent t o e (OnCall c a) named_by is_in h on =
     (λ f k. is_in (clears c.reference) (and_from (from_beginner c.reference o) (clears_as o.kind o.state) (is_from_beginner c.reference o (sym (eqb-true c.reference o.reference p.0)) (flags_meet (net_flag c.origin) o.flag p.1 f)) k))
     (heard_says c.reference c.channel c.origin t (said_from o).heard c.state o.kind)
 heard_moves named next far_sent t o e Refused named_by is_in h on = absurd (false≢true named_by)
-heard_moves named next far_sent t o e Unoffered named_by is_in h on = absurd (false≢true named_by)
-heard_moves named next far_sent t o e (Carried from until) named_by is_in h on = absurd (false≢true named_by)
-heard_moves named next far_sent t o e Unanswered named_by is_in h on = absurd (false≢true named_by)
-heard_moves named next far_sent t o e Missed named_by is_in h on = absurd (false≢true named_by)
+heard_moves named next far_sent t o e s named_by is_in h on = absurd (false≢true named_by)
 
 named_accepted : (o : Outgoing) (s : Standing) → names_call (said_from o) s ≡ true → is_refused s ≡ false
 named_accepted o (OnCall c a) h = refl
-named_accepted o Refused h = absurd (false≢true h)
-named_accepted o Unoffered h = absurd (false≢true h)
-named_accepted o (Carried from until) h = absurd (false≢true h)
-named_accepted o Unanswered h = absurd (false≢true h)
-named_accepted o Missed h = absurd (false≢true h)
+named_accepted o s h = absurd (false≢true h)
 
 -- an answer that changes nothing, and is no CONNECT
 abbrev Plain : ℕ → Outgoing → Type 0
@@ -377,11 +362,7 @@ Takes named next sent far_sent x = TakenAfter named next sent far_sent (reply_li
 
 unoffered_free : (r ch : ℕ) (s : Standing) → is_unoffered s ≡ true → answered_as r ch s ≡ true → ⊥
 unoffered_free r ch Unoffered h k = false≢true k
-unoffered_free r ch (OnCall c a) h k = false≢true h
-unoffered_free r ch Refused h k = false≢true h
-unoffered_free r ch (Carried from until) h k = false≢true h
-unoffered_free r ch Unanswered h k = false≢true h
-unoffered_free r ch Missed h k = false≢true h
+unoffered_free r ch s h k = false≢true h
 
 -- a SETUP for the channel of its reference alone
 called_takes : (named : ℕ → ℕ) (next : ℕ) (sent far_sent : List Outgoing) (d : Day) (o : Outgoing) (x : Option ℕ) → TakenBefore named next sent far_sent d → o.reference < next → Passes (opens d (named o.reference)) d.entries x → Takes named next sent far_sent (takes_or d (said_from o) 44 x)

@@ -12,7 +12,7 @@ use Rattle.bx_calls.specs.declared.user_state.UserState.{UserState}
 use Rattle.bx_calls.specs.declared.user_state.UserState.TheVariants as user
 use Rattle.bx_day.specs.declared.entry.Entry.{Entry}
 use Rattle.bx_day.specs.declared.entry.Standing.{Standing}
-use Rattle.bx_day.specs.declared.entry.Standing.TheVariants.{Refused, Unoffered, OnCall, Carried, Unanswered, Missed}
+use Rattle.bx_day.specs.declared.entry.Standing.TheVariants.{OnCall}
 use Rattle.bx_channels.specs.Marks.{is_marked}
 use Rattle.bx_day.specs.Day.{Day, entries_from, entry_at}
 use Rattle.bx_day.specs.Ticks.{ticked, passed_in}
@@ -67,12 +67,8 @@ kept_named before named far_sent more d r q (Maintained h) = Maintained (subst (
 kept_named before named far_sent more d r q (Cleared h) = Cleared (has_more (clears r) far_sent more h)
 
 taken_named : (before named : ℕ → ℕ) (next later : ℕ) → ((r : ℕ) → r < next → named r ≡ before r) → next ≤ later → (s : Standing) → TakenStanding before next s → TakenStanding named later s
-taken_named before named next later agrees grown Refused h = tt
-taken_named before named next later agrees grown Unoffered h = tt
 taken_named before named next later agrees grown (OnCall c a) h = λ f. let old = h f in record { given = less c.reference next later old.given grown; channel = old.channel ∙ sym (agrees c.reference old.given); taken = old.taken }
-taken_named before named next later agrees grown (Carried from until) h = tt
-taken_named before named next later agrees grown Unanswered h = tt
-taken_named before named next later agrees grown Missed h = tt
+taken_named before named next later agrees grown s h = tt
 
 entries_named : (before named : ℕ → ℕ) (next later : ℕ) → ((r : ℕ) → r < next → named r ≡ before r) → next ≤ later → (es : List Entry) → TakenEntries before next es → TakenEntries named later es
 entries_named before named next later agrees grown [] h = tt
@@ -92,12 +88,8 @@ far_inward w f more k named agrees grown sents calls = record {
 -- ---- each event
 
 placed_at : (t : ℕ) (e : Entry) (s : Standing) → StandingFits t e s → PlacedAt e s
-placed_at t e Refused h = tt
-placed_at t e Unoffered h = tt
 placed_at t e (OnCall c a) h = h.channel
-placed_at t e (Carried from until) h = tt
-placed_at t e Unanswered h = tt
-placed_at t e Missed h = tt
+placed_at t e s h = tt
 
 before : (rows : List Row) (assigned : List (Option ℕ)) (w : World) → KeepsOutward rows assigned w → (k : KeepsInward w) → TakenBefore k.named w.far.next w.sent w.far_sent w.exchange
 before rows assigned w o k = record {
@@ -177,15 +169,9 @@ after_inward rows assigned (e ∷ es) w o k l = after_inward rows assigned es (w
 -- ---- the law
 
 active_calm : (s : UserState) → IsUserActive s → is_user_clearing s ≡ false
-active_calm (user.Active since) h = refl
-active_calm (user.CallInitiated again due) h = refl
-active_calm (user.OutgoingCallProceeding due) h = refl
-active_calm user.CallPresent h = refl
-active_calm user.CallReceived h = refl
-active_calm (user.ConnectRequest due) h = refl
-active_calm user.IncomingCallProceeding h = refl
 active_calm (user.DisconnectRequest cause due) h = absurd h
 active_calm (user.ReleaseRequest again cause due) h = absurd h
+active_calm s h = refl
 
 abbrev HeldInward : World → ℕ → ℕ → Type 0
 HeldInward w r c = (exchange_holds w.exchange.entries r c ≡ true) ⊎ (is_marked w.exchange.maintenance c ≡ true)

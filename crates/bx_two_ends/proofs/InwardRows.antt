@@ -165,14 +165,7 @@ OwnMovesBy r ch o s connected step = OwnMoves r ch o s connected step.reply step
 
 live_user : (s : UserState) → (state_value (user_state s) % 64 == 0) ≡ false
 live_user (user.CallInitiated again due) = refl
-live_user (user.OutgoingCallProceeding due) = refl
-live_user user.CallPresent = refl
-live_user user.CallReceived = refl
-live_user (user.ConnectRequest due) = refl
-live_user user.IncomingCallProceeding = refl
-live_user (user.Active since) = refl
-live_user (user.DisconnectRequest cause due) = refl
-live_user (user.ReleaseRequest again cause due) = refl
+live_user s = refl
 
 same : (r ch : ℕ) (o : UserOrigin) (s : UserState) (connected : Bool) (reply : Option Outgoing) → OfSaid Mild reply → OwnGoes r ch o s connected reply (user_call_of r ch o s)
 same r ch o s connected reply h = record { reference = refl; channel = refl; origin = refl; mild = λ c. (c, h); active = λ a. or_left (is_talking s) (connected || is_answering s) a; answering = λ a. a }
@@ -260,14 +253,11 @@ own_row_says r ch o t m s (Other octet) = other r ch o _ refl refl refl
 own_row_says r ch o t m s k = other r ch o _ refl refl refl
 
 pub own_second_says : (r ch : ℕ) (called : List ℕ) (t : ℕ) (s : UserState) → OwnSays r ch (Calling called) (user_second (user_call_of r ch (Calling called) s) t)
-own_second_says r ch called t user.CallPresent = tt
-own_second_says r ch called t user.CallReceived = tt
 own_second_says r ch called t (user.ConnectRequest due) = by_cases (nat_le due t) _ _ (OwnSays r ch (Calling called)) (λ _. other r ch (Calling called) _ refl refl refl) (λ _. tt)
-own_second_says r ch called t (user.Active since) = tt
-own_second_says r ch called t user.IncomingCallProceeding = tt
 own_second_says r ch called t (user.CallInitiated false due) = by_cases (nat_le due t) _ _ (OwnSays r ch (Calling called)) (λ _. record { reference = refl; flag = refl; setup = λ _. refl }) (λ _. tt)
 own_second_says r ch called t (user.CallInitiated true due) = by_cases (nat_le due t) _ _ (OwnSays r ch (Calling called)) (λ _. other r ch (Calling called) _ refl refl refl) (λ _. tt)
 own_second_says r ch called t (user.OutgoingCallProceeding due) = by_cases (nat_le due t) _ _ (OwnSays r ch (Calling called)) (λ _. other r ch (Calling called) _ refl refl refl) (λ _. tt)
 own_second_says r ch called t (user.DisconnectRequest cause due) = by_cases (nat_le due t) _ _ (OwnSays r ch (Calling called)) (λ _. other r ch (Calling called) _ refl refl refl) (λ _. tt)
 own_second_says r ch called t (user.ReleaseRequest false cause due) = by_cases (nat_le due t) _ _ (OwnSays r ch (Calling called)) (λ _. releases r ch (Calling called) (user.ReleaseRequest false cause due) true cause t) (λ _. tt)
 own_second_says r ch called t (user.ReleaseRequest true cause due) = by_cases (nat_le due t) _ _ (OwnSays r ch (Calling called)) (λ _. tt) (λ _. tt)
+own_second_says r ch called t s = tt

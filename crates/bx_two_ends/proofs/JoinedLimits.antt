@@ -3,7 +3,7 @@ use Rattle.std.proofs.Common.{◌≡◌, ℕ, Bool, true, false, List, [], ◌�
 use Rattle.std.specs.List.{AllByRecursion}
 use Rattle.bx_q931.specs.Outgoing.{Outgoing, out_octets}
 use Rattle.bx_q931.specs.declared.channel_field.ChannelField.{ChannelField}
-use Rattle.bx_q931.specs.declared.channel_field.ChannelField.TheVariants.{Absent, Named, AnyChannel, Unread}
+use Rattle.bx_q931.specs.declared.channel_field.ChannelField.TheVariants.{Named}
 use Rattle.bx_q931.specs.declared.kind.Kind.{Kind}
 use Rattle.bx_q931.specs.declared.kind.Kind.TheVariants as kinds
 use Rattle.bx_calls.specs.PlainCalls.{PlainUserCall}
@@ -18,7 +18,7 @@ use Rattle.bx_day.specs.Receipts.{hears, takes_call, with_moved}
 use Rattle.bx_day.specs.Run.{receive_octets}
 use Rattle.bx_day.specs.declared.entry.Moved.{Moved}
 use Rattle.bx_day.specs.declared.entry.Standing.{Standing}
-use Rattle.bx_day.specs.declared.entry.Standing.TheVariants.{Refused, Unoffered, OnCall, Carried, Unanswered, Missed}
+use Rattle.bx_day.specs.declared.entry.Standing.TheVariants.{Refused}
 use Rattle.bx_day.proofs.Receive.{open_parts}
 use Rattle.bx_day.proofs.Tick.{with_standing}
 use Rattle.bx_far.specs.FarDay.{FarDay, far_refuses, far_takes, far_called_on, far_called, far_stray, far_received_by, far_receive, is_taken, first_call, far_names}
@@ -55,10 +55,8 @@ module _ (f : FarDay) (m : Said) (called : Option (List ℕ)) where
   named_stays c false = takes_stays c (policy_of f.script called)
 
   called_on_stays : (field : ChannelField) → Stays f (far_called_on f m called field).day
-  called_on_stays Absent = as_it_was f
-  called_on_stays AnyChannel = as_it_was f
-  called_on_stays Unread = as_it_was f
   called_on_stays (Named c exclusive) = named_stays c (is_taken f c)
+  called_on_stays field = as_it_was f
 
   called_stays : (cause : Option ℕ) → Stays f (far_called f m called cause).day
   called_stays (Some cause) = as_it_was f
@@ -108,11 +106,7 @@ far_hears (o ∷ os) f s h =
 
 refused_before : (s : Said) (t : ℕ) (st : Standing) → is_refused (hears s t st).standing ≡ false → is_refused st ≡ false
 refused_before s t Refused q = q
-refused_before s t Unoffered q = refl
-refused_before s t (OnCall call activity) q = refl
-refused_before s t (Carried from until) q = refl
-refused_before s t Unanswered q = refl
-refused_before s t Missed q = refl
+refused_before s t st q = refl
 
 module _ (assigned : List (Option ℕ)) (d : Day) where
   moved_seats : (i : ℕ) (m : Moved) → (is_refused m.standing ≡ false → is_refused (standing_at d i) ≡ false) → Seats assigned d.entries → Seats assigned (with_moved d i m).day.entries

@@ -27,7 +27,7 @@ use Rattle.bx_day.specs.Ticks.{tick, ticked, passed_in}
 use Rattle.bx_day.specs.declared.entry.Entry.{Entry}
 use Rattle.bx_day.specs.declared.entry.Link.TheVariants.{Up}
 use Rattle.bx_day.specs.declared.entry.Standing.{Standing}
-use Rattle.bx_day.specs.declared.entry.Standing.TheVariants.{Refused, Unoffered, OnCall, Carried, Unanswered, Missed}
+use Rattle.bx_day.specs.declared.entry.Standing.TheVariants.{OnCall}
 use Rattle.bx_two_ends.proofs.Answering.{IsHearing, is_up, is_third, is_third_call, turn_answered}
 use Rattle.bx_two_ends.proofs.AnsweringDays.{idle_at}
 use Rattle.bx_two_ends.proofs.Calm.{IsCalm, called_turn, calm_linked, answered_cleared}
@@ -82,11 +82,7 @@ pub record Meets (rows : List Row) (assigned : List (Option ℕ)) (d : Day) (f :
 
 outward_live : (P : NetState → Type 0) (i : ℕ) (s : Standing) → OutwardIn P i s → is_live s ≡ true
 outward_live P i (OnCall x a) p = refl
-outward_live P i Refused p = absurd p
-outward_live P i Unoffered p = absurd p
-outward_live P i (Carried from until) p = absurd p
-outward_live P i Unanswered p = absurd p
-outward_live P i Missed p = absurd p
+outward_live P i s p = absurd p
 
 active_up : (i : ℕ) (s : Standing) → OutwardIn ActiveIn i s → (is_up s ≡ true) × (is_third_call s ≡ false)
 active_up i (OnCall x a) p = at x.state x.origin p.0
@@ -100,11 +96,7 @@ active_up i (OnCall x a) p = at x.state x.origin p.0
     at (net.CallReceived due) o q = absurd q
     at (net.DisconnectIndication cause due) o q = absurd q
     at (net.ReleaseRequest again cause due) o q = absurd q
-active_up i Refused p = absurd p
-active_up i Unoffered p = absurd p
-active_up i (Carried from until) p = absurd p
-active_up i Unanswered p = absurd p
-active_up i Missed p = absurd p
+active_up i s p = absurd p
 
 present_rings : (i : ℕ) (s : Standing) → OutwardIn PresentIn i s → (is_ringing s ≡ true) × (is_third_call s ≡ false)
 present_rings i (OnCall x a) p = at x.state p.0
@@ -118,11 +110,7 @@ present_rings i (OnCall x a) p = at x.state p.0
     at (net.CallReceived due) q = absurd q
     at (net.DisconnectIndication cause due) q = absurd q
     at (net.ReleaseRequest again cause due) q = absurd q
-present_rings i Refused p = absurd p
-present_rings i Unoffered p = absurd p
-present_rings i (Carried from until) p = absurd p
-present_rings i Unanswered p = absurd p
-present_rings i Missed p = absurd p
+present_rings i s p = absurd p
 
 indicated_clears : (i : ℕ) (s : Standing) → OutwardIn IndicatedIn i s → (is_clearing s ≡ true) × (is_third_call s ≡ false)
 indicated_clears i (OnCall x a) p = at x.state p.0
@@ -136,19 +124,11 @@ indicated_clears i (OnCall x a) p = at x.state p.0
     at (net.CallReceived due) q = absurd q
     at (net.CallPresent again due) q = absurd q
     at (net.ReleaseRequest again cause due) q = absurd q
-indicated_clears i Refused p = absurd p
-indicated_clears i Unoffered p = absurd p
-indicated_clears i (Carried from until) p = absurd p
-indicated_clears i Unanswered p = absurd p
-indicated_clears i Missed p = absurd p
+indicated_clears i s p = absurd p
 
 idle_third : (s : Standing) → is_live s ≡ false → is_third_call s ≡ false
 idle_third (OnCall x a) h = absurd (true≢false h)
-idle_third Refused h = refl
-idle_third Unoffered h = refl
-idle_third (Carried from until) h = refl
-idle_third Unanswered h = refl
-idle_third Missed h = refl
+idle_third s h = refl
 
 kind_of : (c : Day) (i : ℕ) (was : Bool) → StandsAt i was (standing_at c i) → is_live (standing_at c i) ≡ true → Kinds c i
 kind_of c i was (Idle idle w) live = absurd (true≢false (sym live ∙ idle))
@@ -159,11 +139,7 @@ kind_of c i was (Ended p w) live = Clearing (indicated_clears i (standing_at c i
 -- none is asked for
 idle_unasked : (s : Standing) → is_live s ≡ false → is_enquired s ≡ false
 idle_unasked (OnCall x a) h = absurd (true≢false h)
-idle_unasked Refused h = refl
-idle_unasked Unoffered h = refl
-idle_unasked (Carried from until) h = refl
-idle_unasked Unanswered h = refl
-idle_unasked Missed h = refl
+idle_unasked s h = refl
 
 unasked_of : (i : ℕ) (was : Bool) (s : Standing) → StandsAt i was s → is_enquired s ≡ false
 unasked_of i was s (Idle idle w) = idle_unasked s idle
@@ -197,11 +173,7 @@ old_clears i was s (Ended p w) r = (w, p)
 
 up_live : (s : Standing) → is_up s ≡ true → is_live s ≡ true
 up_live (OnCall x a) u = refl
-up_live Refused u = absurd (false≢true u)
-up_live Unoffered u = absurd (false≢true u)
-up_live (Carried from until) u = absurd (false≢true u)
-up_live Unanswered u = absurd (false≢true u)
-up_live Missed u = absurd (false≢true u)
+up_live s u = absurd (false≢true u)
 
 old_talks : (i : ℕ) (was : Bool) (s : Standing) → StandsAt i was s → is_up s ≡ true → (was ≡ true) × OutwardIn ActiveIn i s
 old_talks i was s (Idle idle w) u = absurd (true≢false (sym (up_live s u) ∙ idle))

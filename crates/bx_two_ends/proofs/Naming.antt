@@ -24,13 +24,13 @@ use Rattle.bx_day.specs.Reading.{IsExchange}
 use Rattle.bx_day.specs.Receipts.{names, names_call, hears, takes_call, with_moved}
 use Rattle.bx_day.specs.Ticks.{second_by, waits, passed_in}
 use Rattle.bx_day.specs.declared.entry.Activity.{Activity}
-use Rattle.bx_day.specs.declared.entry.Activity.TheVariants.{Never, Since, Was}
+use Rattle.bx_day.specs.declared.entry.Activity.TheVariants.{Never}
 use Rattle.bx_day.specs.declared.entry.Entry.{Entry}
 use Rattle.bx_day.specs.declared.entry.Link.{Link}
 use Rattle.bx_day.specs.declared.entry.Link.TheVariants.{Up, Down}
 use Rattle.bx_day.specs.declared.entry.Moved.{Moved}
 use Rattle.bx_day.specs.declared.entry.Standing.{Standing}
-use Rattle.bx_day.specs.declared.entry.Standing.TheVariants.{Refused, Unoffered, OnCall, Carried, Unanswered, Missed}
+use Rattle.bx_day.specs.declared.entry.Standing.TheVariants.{Refused, Unoffered, OnCall}
 use Rattle.bx_day.proofs.Hear.{heard_by}
 use Rattle.bx_day.proofs.Indices.{position_next}
 use Rattle.bx_day.proofs.Law.{at_map_in}
@@ -43,11 +43,7 @@ use Rattle.bx_day.proofs.Tick.{by_cases, offers, with_standing}
 
 pub names_live : (m : Said) (s : Standing) → names_call m s ≡ true → is_live s ≡ true
 names_live m (OnCall c a) h = refl
-names_live m Refused h = absurd (false≢true h)
-names_live m Unoffered h = absurd (false≢true h)
-names_live m (Carried from until) h = absurd (false≢true h)
-names_live m Unanswered h = absurd (false≢true h)
-names_live m Missed h = absurd (false≢true h)
+names_live m s h = absurd (false≢true h)
 
 pub live_inside : (es : List Entry) (i : ℕ) → is_live (entry_at es i).standing ≡ true → i < length es
 live_inside [] i h = absurd (false≢true h)
@@ -112,8 +108,7 @@ by_step false m r o a t x y f g = g
 
 over_keeps : (m : Said) (r : ℕ) (o : NetOrigin) (a : Activity) (t : ℕ) → Keeps m r o (over_at a t)
 over_keeps m r o Never t h = absurd (false≢true h)
-over_keeps m r o (Since from) t h = absurd (false≢true h)
-over_keeps m r o (Was from until) t h = absurd (false≢true h)
+over_keeps m r o a t h = absurd (false≢true h)
 
 second_keeps : (m : Said) (t end r ch : ℕ) (o : NetOrigin) (s : NetState) (a : Activity) → Keeps m r o (follows a t (net_second (call_of r ch o s) t end)).standing
 second_keeps m t end r ch o OutgoingCallProceeding a = by_step (nat_le end t) m r o a t _ _ (λ h. h) (λ h. h)
@@ -130,14 +125,9 @@ second_keeps m t end r ch o (ReleaseRequest false cause due) a = by_step (nat_le
 second_keeps m t end r ch o (ReleaseRequest true cause due) a = by_step (nat_le due t) m r o a t _ _ (over_keeps m r o a t) (λ h. h)
 
 still_keeps : (m : Said) (t end r ch : ℕ) (o : NetOrigin) (s : NetState) (a : Activity) → Keeps m r o (follows a t (net_unlinked 1 (call_of r ch o s) t end)).standing
-still_keeps m t end r ch o OutgoingCallProceeding a = by_step (nat_le end t) m r o a t _ _ (λ h. h) (λ h. h)
-still_keeps m t end r ch o (CallPresent again due) a = by_step (nat_le end t) m r o a t _ _ (λ h. h) (λ h. h)
-still_keeps m t end r ch o (IncomingCallProceeding due) a = by_step (nat_le end t) m r o a t _ _ (λ h. h) (λ h. h)
-still_keeps m t end r ch o (CallReceived due) a = by_step (nat_le end t) m r o a t _ _ (λ h. h) (λ h. h)
-still_keeps m t end r ch o Active a = by_step (nat_le end t) m r o a t _ _ (λ h. h) (λ h. h)
-still_keeps m t end r ch o (Enquiring asked due) a = by_step (nat_le end t) m r o a t _ _ (λ h. h) (λ h. h)
 still_keeps m t end r ch o (DisconnectIndication cause due) a = λ h. h
 still_keeps m t end r ch o (ReleaseRequest again cause due) a = λ h. h
+still_keeps m t end r ch o s a = by_step (nat_le end t) m r o a t _ _ (λ h. h) (λ h. h)
 
 row_keeps : (m : Said) (x : Heard) (t r ch : ℕ) (o : NetOrigin) (s : NetState) (a : Activity) (k : Kind) → Keeps m r o (follows a t (net_row (call_of r ch o s) x t s k)).standing
 row_keeps m x t r ch o s a ReleaseComplete = over_keeps m r o a t
@@ -162,11 +152,7 @@ row_keeps m x t r ch o s a k = λ h. h
 pub hears_names : (m x : Said) (t : ℕ) (s : Standing) → names_call m (hears x t s).standing ≡ true → names_call m s ≡ true
 hears_names m x t (OnCall c a) h = heard_by (λ (y : Transition PlainNetCall). Keeps m c.reference c.origin (follows a t y).standing) c x.heard t c.state x.heard.kind
     (λ asked due is q k. k) (row_keeps m x.heard t c.reference c.channel c.origin (net_awake_state c.state) a x.heard.kind) h
-hears_names m x t Refused h = h
-hears_names m x t Unoffered h = h
-hears_names m x t (Carried from until) h = h
-hears_names m x t Unanswered h = h
-hears_names m x t Missed h = h
+hears_names m x t s h = h
 
 flag_false : (x : Bool) (f : Bool) → f ≡ false → (x && bool_eq false (not f)) ≡ false
 flag_false true f is = ap (λ b. bool_eq false (not b)) is
@@ -180,14 +166,7 @@ second_names Up m e t free (OnCall c a) flag h = second_keeps m t e.booking.end 
 second_names Down m e t free (OnCall c a) flag h = still_keeps m t e.booking.end c.reference c.channel c.origin c.state a h
 second_names Up m e t free Unoffered flag h = absurd (true≢false (sym h ∙ waits_names m e t free flag))
 second_names Down m e t free Unoffered flag h = absurd (true≢false (sym h ∙ waits_names m e t false flag))
-second_names Up m e t free Refused flag h = h
-second_names Down m e t free Refused flag h = h
-second_names Up m e t free (Carried from until) flag h = h
-second_names Down m e t free (Carried from until) flag h = h
-second_names Up m e t free Unanswered flag h = h
-second_names Down m e t free Unanswered flag h = h
-second_names Up m e t free Missed flag h = h
-second_names Down m e t free Missed flag h = h
+second_names link m e t free s flag h = h
 
 -- a second keeps that each is named once
 pub once_second : (link : Link) (d : Day) → IsNamedOnce d → IsNamedOnce (passed_in link d).day
@@ -200,11 +179,9 @@ once_second link d once m i j flag hi hj = once m i j flag (was i hi) (was j hj)
 
 -- what stands at an index behind a change at another, or at the same one
 pub set_at : (P : Entry → Type 0) (es : List Entry) (k i : ℕ) (y : Entry) → (k ≡ i → i < length es → P y) → P (entry_at es i) → P (entry_at (slice_set es k y) i)
-set_at P [] k i y f p = p
 set_at P (e ∷ es) zero zero y f p = f refl (omega arith)
-set_at P (e ∷ es) zero (suc i) y f p = p
-set_at P (e ∷ es) (suc k) zero y f p = p
 set_at P (e ∷ es) (suc k) (suc i) y f p = set_at P es k i y (λ is lt. f (ap suc is) (omega (arith, lt))) p
+set_at P es k i y f p = p
 
 -- a call that heard it
 pub once_heard : (d : Day) (x : Said) (k : ℕ) → IsNamedOnce d → IsNamedOnce (with_moved d k (hears x d.moment (entry_at d.entries k).standing)).day
@@ -236,10 +213,7 @@ once_taken d x k bare none once m i j flag hi hj = join (which i hi) (which j hj
             let p = and_parts (c.reference == m.reference) (bool_eq (net_flag c.origin) (not m.flag)) q in
             and_from (c.reference == x.reference) (bool_eq (net_flag c.origin) (not x.flag)) (eq-eqb c.reference x.reference (eqb-true c.reference m.reference p.0 ∙ sym (eqb-true x.reference m.reference same))) (ap (λ f. bool_eq (net_flag c.origin) (not f)) (bare ∙ sym flag) ∙ p.1)
         renamed Refused q = absurd (false≢true q)
-        renamed Unoffered q = absurd (false≢true q)
-        renamed (Carried from until) q = absurd (false≢true q)
-        renamed Unanswered q = absurd (false≢true q)
-        renamed Missed q = absurd (false≢true q)
+        renamed s q = absurd (false≢true q)
 
     join : (names m (entry_at d.entries i) ≡ true) ⊎ ((k ≡ i) × ((x.reference == m.reference) ≡ true)) → (names m (entry_at d.entries j) ≡ true) ⊎ ((k ≡ j) × ((x.reference == m.reference) ≡ true)) → i ≡ j
     join (inl a) (inl b) = once m i j flag a b

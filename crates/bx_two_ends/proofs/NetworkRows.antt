@@ -59,13 +59,7 @@ GoesOn r ch o s k step = OnNext (Goes r ch o s k step.reply) step.next
 -- no live state is Null
 pub live_state : (s : NetState) → (state_value (net_state s) % 64 == 0) ≡ false
 live_state OutgoingCallProceeding = refl
-live_state (CallPresent again due) = refl
-live_state (IncomingCallProceeding due) = refl
-live_state (CallReceived due) = refl
-live_state Active = refl
-live_state (Enquiring asked due) = refl
-live_state (DisconnectIndication cause due) = refl
-live_state (ReleaseRequest again cause due) = refl
+live_state s = refl
 
 -- the same, with a mild reply
 same : (r ch : ℕ) (o : NetOrigin) (s : NetState) (k : Bool) (reply : Option Outgoing) → OfSaid Mild reply → Goes r ch o s k reply (call_of r ch o s)

@@ -15,15 +15,13 @@ use Rattle.bx_two_ends.specs.Scripts.{AreScriptRows}
 use Rattle.bx_two_ends.proofs.Outward.{Seats, OutwardStanding, KeepsOutward}
 
 seated : (k : ℕ) (rows : List Row) (assigned : List (Option ℕ)) (i n : ℕ) → k + i ≡ n → is_refused (entry_at (entries_from k rows assigned) i).standing ≡ false → (i < length rows) × ((entry_at (entries_from k rows assigned) i).row ≡ n)
-seated k [] assigned i n q h = absurd (true≢false h)
-seated k (b ∷ bs) [] zero n q h = absurd (true≢false h)
 seated k (b ∷ bs) [] (suc i) n q h = let r = seated (k + 1) bs [] i n (omega (arith, q)) h in (omega (arith, r.0), r.1)
-seated k (b ∷ bs) (None ∷ as') zero n q h = absurd (true≢false h)
 seated k (b ∷ bs) (Some c ∷ as') zero n q h = (omega arith, same k n q)
   where
     same : (x y : ℕ) → x + 0 ≡ y → x ≡ y
     same x y e = omega (arith, e)
 seated k (b ∷ bs) (a ∷ as') (suc i) n q h = let r = seated (k + 1) bs as' i n (omega (arith, q)) h in (omega (arith, r.0), r.1)
+seated k rows assigned i n q h = absurd (true≢false h)
 
 not_back : (b : Bool) → false ≡ not b → b ≡ true
 not_back true h = refl

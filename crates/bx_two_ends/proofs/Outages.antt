@@ -9,7 +9,7 @@ use Rattle.bx_day.specs.declared.entry.Entry.{Entry}
 use Rattle.bx_day.specs.declared.entry.Link.TheVariants.{Down}
 use Rattle.bx_day.specs.declared.entry.Moved.{Moved}
 use Rattle.bx_day.specs.declared.entry.Standing.{Standing}
-use Rattle.bx_day.specs.declared.entry.Standing.TheVariants.{Refused, Unoffered, OnCall, Carried, Unanswered, Missed}
+use Rattle.bx_day.specs.declared.entry.Standing.TheVariants.{Refused, Unoffered, OnCall}
 use Rattle.bx_day.specs.Day.{Day, entry_at, is_free}
 use Rattle.bx_day.specs.Invariant.{is_refused}
 use Rattle.bx_day.specs.Law.{standing_at}
@@ -53,9 +53,7 @@ alone_outward i t sent far_sent e Unoffered h =
 alone_outward i t sent far_sent e (OnCall c a) h =
     let step : Transition PlainNetCall = net_unlinked 1 c t e.booking.end in
     goes_outward i sent [] far_sent c false a t step.reply step.reply step.next (unlinked_goes c.reference c.channel c.origin t e.booking.end c.state) h (λ _ k. absurd (false≢true k)) (λ _ _. refl)
-alone_outward i t sent far_sent e (Carried from until) h = tt
-alone_outward i t sent far_sent e Unanswered h = tt
-alone_outward i t sent far_sent e Missed h = tt
+alone_outward i t sent far_sent e s h = tt
 
 pub without_standings : (sent far_sent : List Outgoing) (d : Day) → OutwardStandings sent far_sent d → OutwardStandings (sent ++ []) far_sent (passed_in Down d).day
 without_standings sent far_sent d h = each_after (λ i s. OutwardStanding (suc i) (sent ++ []) far_sent s) d

@@ -10,7 +10,7 @@ use Rattle.bx_day.specs.Invariant.{is_refused}
 use Rattle.bx_day.specs.Law.{standing_at}
 use Rattle.bx_day.specs.declared.entry.Entry.{Entry}
 use Rattle.bx_day.specs.declared.entry.Standing.{Standing}
-use Rattle.bx_day.specs.declared.entry.Standing.TheVariants.{Refused, Unoffered, OnCall, Carried, Unanswered, Missed}
+use Rattle.bx_day.specs.declared.entry.Standing.TheVariants.{Refused, Carried}
 use Rattle.bx_records.specs.Totals.{is_accepted, is_carried, pays_of}
 
 -- the pay of a place
@@ -46,19 +46,11 @@ accepted_pay rows assigned d h =
 
 carried_is : (u end : ℕ) (s : Standing) → IsCarriedBy u end s → is_carried s ≡ true
 carried_is u end (Carried from until) h = refl
-carried_is u end Refused h = absurd h
-carried_is u end Unoffered h = absurd h
-carried_is u end (OnCall c a) h = absurd h
-carried_is u end Unanswered h = absurd h
-carried_is u end Missed h = absurd h
+carried_is u end s h = absurd h
 
 refused_none : (s : Standing) → is_refused s ≡ true → is_carried s ≡ false
 refused_none Refused h = refl
-refused_none Unoffered h = absurd (false≢true h)
-refused_none (OnCall c a) h = absurd (false≢true h)
-refused_none (Carried from until) h = absurd (false≢true h)
-refused_none Unanswered h = absurd (false≢true h)
-refused_none Missed h = absurd (false≢true h)
+refused_none s h = absurd (false≢true h)
 
 -- each accepted booking was carried by some moment
 abbrev pub AllCarried : List Row → List (Option ℕ) → Day → Type 0

@@ -24,7 +24,7 @@ use Rattle.bx_day.specs.Run.{receive_octets}
 use Rattle.bx_day.specs.declared.entry.Activity.{Activity}
 use Rattle.bx_day.specs.declared.entry.Entry.{Entry}
 use Rattle.bx_day.specs.declared.entry.Standing.{Standing}
-use Rattle.bx_day.specs.declared.entry.Standing.TheVariants.{Refused, Unoffered, OnCall, Carried, Unanswered, Missed}
+use Rattle.bx_day.specs.declared.entry.Standing.TheVariants.{OnCall}
 use Rattle.bx_two_ends.proofs.Answering as answering
 use Rattle.bx_two_ends.proofs.Answering.{IsHearing, Passes, Idle, Called, is_up, awake_going, asked_going, going_row, heard_here, heard_other, heard_none, told_rest, and_none, fits_now, spared_now, spared_report, live_not_open, going_live, up_going, not_going, hears_next, clears_hears, going_or}
 use Rattle.bx_two_ends.proofs.Asking.{awake_unasked, hears_awake}
@@ -56,11 +56,7 @@ going_hears : (t : ℕ) (e : Entry) (m : Said) (s : Standing) → StandingFits t
 going_hears t e m (OnCall c a) fits spared agrees h = heard_by (λ (x : Transition PlainNetCall). is_going (follows a t x).standing ≡ true) c m.heard t c.state m.heard.kind
     (λ asked due is q. absurd (true≢false (sym q ∙ agrees)))
     (call_row c.reference c.channel c.origin (net_awake_state c.state) a m.heard t m.heard.kind (awake_going c.state (not_going (net_is_clearing c.state) h)) (awake_unasked c.state) (subst (λ ch. clears_by ch m.heard m.heard.kind ≡ false) (sym fits.channel) spared))
-going_hears t e m Refused fits spared agrees h = absurd (false≢true h)
-going_hears t e m Unoffered fits spared agrees h = absurd (false≢true h)
-going_hears t e m (Carried from until) fits spared agrees h = absurd (false≢true h)
-going_hears t e m Unanswered fits spared agrees h = absurd (false≢true h)
-going_hears t e m Missed fits spared agrees h = absurd (false≢true h)
+going_hears t e m s fits spared agrees h = absurd (false≢true h)
 
 abbrev IsGoing : Entry → Type 0
 IsGoing e = is_going e.standing ≡ true
@@ -91,27 +87,15 @@ data GoesBy (e0 : Entry) (rest : List (List ℕ)) (e : Entry) : Type 0 where
 
 up_unasked : (s : Standing) → is_up s ≡ true → StandingUnasked s
 up_unasked (OnCall c a) h = settled_unasked c h
-up_unasked Refused h = tt
-up_unasked Unoffered h = tt
-up_unasked (Carried from until) h = tt
-up_unasked Unanswered h = tt
-up_unasked Missed h = tt
+up_unasked s h = tt
 
 unasked_from : (s : Standing) → is_enquired s ≡ false → StandingUnasked s
 unasked_from (OnCall c a) h = h
-unasked_from Refused h = tt
-unasked_from Unoffered h = tt
-unasked_from (Carried from until) h = tt
-unasked_from Unanswered h = tt
-unasked_from Missed h = tt
+unasked_from s h = tt
 
 idle_unasked : (s : Standing) → is_live s ≡ false → StandingUnasked s
 idle_unasked (OnCall c a) h = absurd (true≢false h)
-idle_unasked Refused h = tt
-idle_unasked Unoffered h = tt
-idle_unasked (Carried from until) h = tt
-idle_unasked Unanswered h = tt
-idle_unasked Missed h = tt
+idle_unasked s h = tt
 
 by_passes : (e0 : Entry) (rest : List (List ℕ)) (e : Entry) → Passes e0 rest e → GoesBy e0 rest e
 by_passes e0 rest e (Idle idle) = None_on idle
@@ -148,19 +132,11 @@ goes_all rows assigned t i e0 (octets ∷ rest) d h spares g = goes_all rows ass
 
 idle_cleared : (s : Standing) → is_live s ≡ false → OnLive s (λ c a. net_is_clearing c.state ≡ false)
 idle_cleared (OnCall c a) h = absurd (true≢false h)
-idle_cleared Refused h = tt
-idle_cleared Unoffered h = tt
-idle_cleared (Carried from until) h = tt
-idle_cleared Unanswered h = tt
-idle_cleared Missed h = tt
+idle_cleared s h = tt
 
 going_cleared : (s : Standing) → is_going s ≡ true → OnLive s (λ c a. net_is_clearing c.state ≡ false)
 going_cleared (OnCall c a) h = not_going (net_is_clearing c.state) h
-going_cleared Refused h = tt
-going_cleared Unoffered h = tt
-going_cleared (Carried from until) h = tt
-going_cleared Unanswered h = tt
-going_cleared Missed h = tt
+going_cleared s h = tt
 
 cleared_at : (e0 e : Entry) → GoesBy e0 [] e → OnLive e.standing (λ c a. net_is_clearing c.state ≡ false)
 cleared_at e0 e (None_on idle) = idle_cleared e.standing idle

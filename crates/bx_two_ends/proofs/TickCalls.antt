@@ -27,7 +27,7 @@ use Rattle.bx_day.specs.declared.entry.Entry.{Entry}
 use Rattle.bx_day.specs.declared.entry.Link.TheVariants.{Up}
 use Rattle.bx_day.specs.declared.entry.Moved.{Moved}
 use Rattle.bx_day.specs.declared.entry.Standing.{Standing}
-use Rattle.bx_day.specs.declared.entry.Standing.TheVariants.{Refused, Unoffered, OnCall, Carried, Unanswered, Missed}
+use Rattle.bx_day.specs.declared.entry.Standing.TheVariants.{Refused, Unoffered, OnCall}
 use Rattle.bx_day.proofs.Law.{RunFits, at_map_in}
 use Rattle.bx_day.proofs.LiveTurns.{live_once}
 use Rattle.bx_two_ends.proofs.Naming.{live_inside}
@@ -141,10 +141,7 @@ talking_moves i t e c a k talks fits = at c.state c.origin talks.0 talks.1.1
 pub booking_moves : (i t : ℕ) (e : Entry) (free : Bool) (s : Standing) → (is_refused s ≡ false → Booked i e) → StandingFits t e s → (is_live s ≡ true → OutwardIn ActiveIn i s) → MovesAt e.channel i (is_live s) (second_at e (t + 1) free s)
 booking_moves i t e free (OnCall c a) k fits talks = talking_moves i t e c a (k refl) (talks refl) fits
 booking_moves i t e free Unoffered k fits talks = waits_moves i (t + 1) e free (k refl).row (k refl).reference (k refl).channel (k refl).number
-booking_moves i t e free Refused k fits talks = record { said = tt; sets = λ q. absurd (false≢true q); ends = λ q. absurd (false≢true q); stands = Idle refl refl }
-booking_moves i t e free (Carried from until) k fits talks = record { said = tt; sets = λ q. absurd (false≢true q); ends = λ q. absurd (false≢true q); stands = Idle refl refl }
-booking_moves i t e free Unanswered k fits talks = record { said = tt; sets = λ q. absurd (false≢true q); ends = λ q. absurd (false≢true q); stands = Idle refl refl }
-booking_moves i t e free Missed k fits talks = record { said = tt; sets = λ q. absurd (false≢true q); ends = λ q. absurd (false≢true q); stands = Idle refl refl }
+booking_moves i t e free s k fits talks = record { said = tt; sets = λ q. absurd (false≢true q); ends = λ q. absurd (false≢true q); stands = Idle refl refl }
 
 -- ---- a day
 
@@ -201,12 +198,8 @@ in_sent p xs None h k = absurd k
 in_sent p xs (Some o) h k = h p k
 
 live_accepted : (s : Standing) → is_live s ≡ true → is_refused s ≡ false
-live_accepted (OnCall c a) h = refl
 live_accepted Refused h = absurd (false≢true h)
-live_accepted Unoffered h = refl
-live_accepted (Carried from until) h = refl
-live_accepted Unanswered h = refl
-live_accepted Missed h = refl
+live_accepted s h = refl
 
 booked_live : (rows : List Row) (assigned : List (Option ℕ)) (d : Day) (i : ℕ) → Talking rows assigned d → is_live (standing_at (passed_in Up d).day i) ≡ true → Booked i (entry_at d.entries i)
 booked_live rows assigned d i h live = booked_at rows assigned d i h (second_refused (d.moment + 1) (is_free d (entry_at d.entries i).channel) (entry_at d.entries i) (standing_at d i) (live_accepted (second_in Up d (entry_at d.entries i)).standing (sym (ap is_live (same_standing d i)) ∙ live)))

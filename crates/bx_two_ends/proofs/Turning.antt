@@ -29,7 +29,7 @@ use Rattle.bx_day.specs.declared.entry.Activity.{Activity}
 use Rattle.bx_day.specs.declared.entry.Entry.{Entry}
 use Rattle.bx_day.specs.declared.entry.Moved.{Moved}
 use Rattle.bx_day.specs.declared.entry.Standing.{Standing}
-use Rattle.bx_day.specs.declared.entry.Standing.TheVariants.{Refused, Unoffered, OnCall, Carried, Unanswered, Missed}
+use Rattle.bx_day.specs.declared.entry.Standing.TheVariants.{Refused, Unoffered, OnCall}
 use Rattle.bx_two_ends.proofs.Carrying.{IsUp, IsOver, IsKept, kept_hears, over_hears, settled_up, going_up, going_runs}
 use Rattle.bx_day.proofs.Law.{RunFits, happens_fits}
 use Rattle.bx_day.proofs.Receive.{all_at, OpenAt, open_parts, open_index, open_lowest}
@@ -78,11 +78,9 @@ pub octets_day : (Q : Day → Type 0) (d : Day) (octets : List ℕ) → Q d → 
 octets_day Q d octets q f g = read_day Q d (message_at octets) q f g
 
 pub at_set : (P : Entry → Type 0) (es : List Entry) (i k : ℕ) (y : Entry) → (P (entry_at es i) → P y) → P (entry_at es k) → P (entry_at (slice_set es i y) k)
-at_set P [] i k y f p = p
 at_set P (e ∷ es) zero zero y f p = f p
-at_set P (e ∷ es) zero (suc k) y f p = p
-at_set P (e ∷ es) (suc i) zero y f p = p
 at_set P (e ∷ es) (suc i) (suc k) y f p = at_set P es i k y f p
+at_set P es i k y f p = p
 
 -- ---- a turn: the day behind some messages
 
@@ -135,19 +133,11 @@ is_open_unoffered d e op =
 
 kept_offered : (u : ℕ) (s : Standing) → is_unoffered s ≡ true → IsKept u s → ⊥
 kept_offered u Unoffered h k = k
-kept_offered u Refused h k = false≢true h
-kept_offered u (OnCall c a) h k = false≢true h
-kept_offered u (Carried from until) h k = false≢true h
-kept_offered u Unanswered h k = false≢true h
-kept_offered u Missed h k = false≢true h
+kept_offered u s h k = false≢true h
 
 over_offered : (u end : ℕ) (s : Standing) → is_unoffered s ≡ true → IsOver u end s → ⊥
 over_offered u end Unoffered h k = k
-over_offered u end Refused h k = false≢true h
-over_offered u end (OnCall c a) h k = false≢true h
-over_offered u end (Carried from until) h k = false≢true h
-over_offered u end Unanswered h k = false≢true h
-over_offered u end Missed h k = false≢true h
+over_offered u end s h k = false≢true h
 
 pub heard_kept : (u t i : ℕ) (received : List (List ℕ)) (d : Day) → d.moment ≡ t → IsKept u (standing_at d i) → IsKept u (standing_at (heard_in received d) i)
 heard_kept u t i received d at h = heard_entry (λ e. IsKept u e.standing) t i (λ s e k. kept_hears u t s e.standing k) (λ s x e op k. absurd (kept_offered u e.standing (is_open_unoffered x e op) k)) received d at h
@@ -170,35 +160,19 @@ on_live_at s P h c a is = subst (λ x. OnLive x P) is h
 -- an outward call that is settled, one that was Active, and one that goes on
 pub up_of : (t u : ℕ) (e : Entry) (s : Standing) → StandingFits t e s → is_live s ≡ true → OnLive s (λ c a. is_settled c ≡ true) → e.booking.inward ≡ false → t ≤ u → IsUp u s
 up_of t u e (OnCall c a) fits live ok out le = settled_up u t e c a fits ok out le
-up_of t u e Refused fits live ok out le = absurd (false≢true live)
-up_of t u e Unoffered fits live ok out le = absurd (false≢true live)
-up_of t u e (Carried from until) fits live ok out le = absurd (false≢true live)
-up_of t u e Unanswered fits live ok out le = absurd (false≢true live)
-up_of t u e Missed fits live ok out le = absurd (false≢true live)
+up_of t u e s fits live ok out le = absurd (false≢true live)
 
 pub keeps_of : (t u : ℕ) (e : Entry) (s : Standing) → StandingFits t e s → is_live s ≡ true → OnLive s (λ c a. net_is_clearing c.state ≡ false) → IsKept u s → IsUp u s
 keeps_of t u e (OnCall c a) fits live ok kept = going_up u t e c a fits ok kept
-keeps_of t u e Refused fits live ok kept = absurd (false≢true live)
-keeps_of t u e Unoffered fits live ok kept = absurd (false≢true live)
-keeps_of t u e (Carried from until) fits live ok kept = absurd (false≢true live)
-keeps_of t u e Unanswered fits live ok kept = absurd (false≢true live)
-keeps_of t u e Missed fits live ok kept = absurd (false≢true live)
+keeps_of t u e s fits live ok kept = absurd (false≢true live)
 
 pub runs_of : (t : ℕ) (e : Entry) (s : Standing) → StandingFits t e s → is_live s ≡ true → OnLive s (λ c a. net_is_clearing c.state ≡ false) → is_running e.booking t ≡ true
 runs_of t e (OnCall c a) fits live ok = let p = going_runs t e c a fits ok in and_from (nat_le e.booking.start t) (nat_lt t e.booking.end) (le-leb e.booking.start t p.0) (lt-ltb t e.booking.end p.1)
-runs_of t e Refused fits live ok = absurd (false≢true live)
-runs_of t e Unoffered fits live ok = absurd (false≢true live)
-runs_of t e (Carried from until) fits live ok = absurd (false≢true live)
-runs_of t e Unanswered fits live ok = absurd (false≢true live)
-runs_of t e Missed fits live ok = absurd (false≢true live)
+runs_of t e s fits live ok = absurd (false≢true live)
 
 live_refused : (s : Standing) → is_live s ≡ true → is_refused s ≡ false
-live_refused (OnCall c a) h = refl
 live_refused Refused h = absurd (false≢true h)
-live_refused Unoffered h = refl
-live_refused (Carried from until) h = refl
-live_refused Unanswered h = refl
-live_refused Missed h = refl
+live_refused s h = refl
 
 pub some_of : (a : Option ℕ) → false ≡ not (is_some a) → is_some a ≡ true
 some_of None h = absurd (false≢true h)
