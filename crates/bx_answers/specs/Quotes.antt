@@ -40,7 +40,7 @@ pub record IsCallOf (query : List ℕ) (span : Span) (call : Row) : Type 0 where
   pub end : IsSecondOf query (codes "end") span call.end
   pub turned : call.start < call.end
 
--- both times are there, and the end is not behind the start
+-- both times are there, and the end is not after the start
 pub record IsTurned (query : List ℕ) (span : Span) : Type 0 where
   pub start : ℕ
   pub end : ℕ

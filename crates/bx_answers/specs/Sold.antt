@@ -12,7 +12,7 @@ reason_of reasons.NoChannel = codes "NoChannel"
 reason_of reasons.OtherChannels = codes "OtherChannels"
 reason_of reasons.Memory = codes "Memory"
 
--- what stands behind the row of the batch: an accepted booking has a row of the plan
+-- what stands after the row of the batch: an accepted booking has a row of the plan
 abbrev pub answer_fields : Answer → ℕ → List ℕ
 answer_fields answers.Accepted place = codes ",accepted," ++ decimal place ++ codes ",\n"
 answer_fields (answers.Refused why) place = codes ",refused,," ++ reason_of why ++ codes "\n"
@@ -29,6 +29,6 @@ abbrev pub sold_lines : ℕ → ℕ → List Answer → List ℕ
 sold_lines row place [] = []
 sold_lines row place (answer ∷ more) = answer_line row answer place ++ sold_lines (row + 1) (if is_accepted answer then place + 1 else place) more
 
--- behind so many rows of the plan
+-- after so many rows of the plan
 abbrev pub sold_text : ℕ → List Answer → List ℕ
 sold_text rows told = codes "row,answer,plan row,reason\n" ++ sold_lines 1 (rows + 1) told

@@ -12,7 +12,7 @@ use bx_day_chart::{DaySight, write_day_chart};
 use bx_devices::Watched;
 use std::alloc::Global;
 
-/// The day so far as a picture, as `bx_day_chart` draws it. `Memory` where a growth is refused.
+/// The day so far as a picture, as `bx_day_chart` draws it. `Memory` where memory runs out.
 pub fn chart_text(
     alloc: Global,
     exchange: &Exchange,

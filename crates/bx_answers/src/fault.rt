@@ -22,7 +22,7 @@ pub enum NoAnswer {
     /// There is no quote.
     #[error("{0}")]
     Quote(NoQuote),
-    /// A growth was refused.
+    /// Memory ran out.
     #[error("Memory")]
     Memory,
 }

@@ -1,4 +1,4 @@
-//! What the office in front of a live day answers: texts of the day, a pure function each of the exchange.
+//! What the office of a live day answers: texts of the day, a pure function each of the exchange.
 #![tactic(auto)]
 
 mod drawing;

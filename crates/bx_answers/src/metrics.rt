@@ -271,7 +271,7 @@ fn text_of(alloc: Global, exchange: &Exchange, figures: &Figures) -> Result<Vec<
 }
 
 /// The figures of the day so far, as OpenMetrics: the moment; of the bookings of the last plan how many there are and what they pay, by what has
-/// become of them; the channels in maintenance; and what the world has counted. `Memory` where a growth is refused.
+/// become of them; the channels in maintenance; and what the world has counted. `Memory` where memory runs out.
 pub fn metrics_text(
     alloc: Global,
     exchange: &Exchange,

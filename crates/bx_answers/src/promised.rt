@@ -42,7 +42,7 @@ fn promised(alloc: Global, entries: &[Entry]) -> Result<Bookings, AllocError>
 
 /// The last plan: a best one of the bookings of the day that holds all that is promised, with its prices. It names its own bookings, of
 /// which the promised ones are must, as the plan of `bx amend` does. `TooManyMust` where the channels do not carry what is promised, `Memory` where
-/// a growth is refused.
+/// memory runs out.
 pub fn promised_plan(
     alloc: Global,
     exchange: &Exchange,

@@ -48,7 +48,7 @@ fn second_of(alloc: Global, query: &[u8], name: &[u8], day: &Day) -> Result<u32,
 }
 
 /// The call that a query asks for, by its fields `start` and `end`: times of the day, as in row 1 of a text of bookings. Its number and its pay do not
-/// count. `NoTimes` where it has one of them not, `Book` where they name no call, `Memory` where a growth is refused.
+/// count. `NoTimes` where it has one of them not, `Book` where they name no call, `Memory` where memory runs out.
 pub fn call_of(alloc: Global, query: &[u8], day: &Day) -> Result<Booking, NoAnswer>
     ensures call { IfOk result (IsCallOf query.now (span_of day.now)) }
     ensures none { IfErr result (IsNoCall query.now (span_of day.now)) }

@@ -50,8 +50,8 @@ fn is_accepted(answer: Answer) -> bool
     }
 }
 
-/// What a customer is told of a batch, as CSV: a header, and a line for each of its bookings. Behind so many rows of the plan stand the
-/// accepted ones, in their order. `AllocError` where a growth is refused.
+/// What a customer is told of a batch, as CSV: a header, and a line for each of its bookings. After so many rows of the plan stand the
+/// accepted ones, in their order. `AllocError` where memory runs out.
 pub fn sold_text(alloc: Global, rows: u16, answers: &[Answer]) -> Result<Vec<u8>, AllocError>
     requires { length answers.now ≤ 4000 }
     ensures { IfOk result (λ text. text.items ≡ sold_text rows answers.now) }

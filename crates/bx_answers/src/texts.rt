@@ -12,7 +12,7 @@ use bx_devices::Watched;
 use bx_records::{RecordsFault, write_records};
 use std::alloc::Global;
 
-/// What has become of each booking so far, as the lines of outcomes of a day. `Memory` where a growth is refused.
+/// What has become of each booking so far, as the lines of outcomes of a day. `Memory` where memory runs out.
 pub fn outcomes_text(alloc: Global, exchange: &Exchange) -> Result<Vec<u8>, NoAnswer>
     ensures text { IfOk result (λ text. text.items ≡ outcomes_text exchange.now) }
     ensures none { IfErr result (λ why. why ≡ NoAnswer.Memory) }
@@ -24,8 +24,8 @@ pub fn outcomes_text(alloc: Global, exchange: &Exchange) -> Result<Vec<u8>, NoAn
     }
 }
 
-/// The call records so far, as `bx records` writes them. `OutOfRange` where the clock cannot tell a time, `Memory` where a growth is
-/// refused.
+/// The call records so far, as `bx records` writes them. `OutOfRange` where the clock cannot tell a time, `Memory` where memory runs
+/// out.
 pub fn records_text(
     alloc: Global,
     exchange: &Exchange,

@@ -53,7 +53,7 @@ module _ {W : Type 0} (contents : W → Option (List ℕ)) (cs cs' : List Bool) 
 
   pub not_sold : (line : List ℕ) (fault : SaleFault) → s ≡ None → s' ≡ Some fault → b.day ≡ a.day → b.file ≡ a.file → b.first ≡ a.first → IsBadSale cs line a.day fault → IsRecaptured contents cs cs' s s' a (Sold line ∷ []) b
   not_sold line fault none is day file first why = taken_as (Sold line ∷ []) none (subst (λ (x : Option SaleFault). GoesFrom (IsTaken contents cs) (λ (t : Taken W). t.day) cs None a (Sold line ∷ []) b x) (sym is) (record {
-    sale = record { before = []; line = line; behind = []; are = refl };
+    sale = record { before = []; line = line; following = []; are = refl };
     went = record { stays = first; octets = []; through = (day, refl); kept = subst (λ (f : Option (Watched W)). Keeps contents a.file f []) (sym file) (keeps_nil contents a.file) };
     why = subst (λ (d : Day). IsBadSale cs line d fault) (sym day) why;
   }))

@@ -1,5 +1,5 @@
 mod Audited
 mod OnItsDay
 mod SoldDays
-mod BestBehind
+mod BestAfter
 mod SeenDays

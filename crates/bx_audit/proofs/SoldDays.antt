@@ -19,7 +19,7 @@ use Rattle.bx_sales.specs.Journal.{sold_in, HasSoldRows}
 use Rattle.bx_sales.specs.Selling.{rows_of, marks_of}
 use Rattle.bx_sales.proofs.Fitting.{fitting}
 use Rattle.bx_sales.proofs.Rows.{rows_sold, first_fit_marks}
-use Rattle.bx_audit.proofs.BestBehind.{still_lawful, still_best}
+use Rattle.bx_audit.proofs.BestAfter.{still_lawful, still_best}
 use Rattle.bx_audit.specs.LastPlans.{IsLastPlan}
 use Rattle.bx_audit.specs.PlansOfDays.{ArePrices, IsPlanOfDay}
 use Rattle.bx_audit.specs.Recorded.{IsDayTold}

@@ -27,7 +27,7 @@ StopsAudit files request fault =
     ⊎ (HasFirst request.capture × ((opened : Day) × (channels : List Bool) × (digest : List ℕ) × IsTiedOpening opened channels digest × HasNoReplay request.journal.now (of_any_day digest) channels opened fault))
     ⊎ (HasFirst request.capture × HasJournal × IsNoFile request.capture fault)
 
--- the output has failed, and a front of what was to be told was; or the audit stopped, and the output is as it was; or all was
+-- the output has failed, and a prefix of what was to be told was; or the audit stopped, and the output is as it was; or all was
 -- told, and the file of its capture was not written whole
 abbrev pub IsAuditRefusal : {F W : Type 0} → AuditRequest → (F → Option (List ℕ)) → (W → Option (List ℕ)) → Watched W → Watched W → DayCommandFault → Type 0
 IsAuditRefusal request files contents old new (Command CannotWrite) = (is_faulted new ≡ true) × IsAuditCut files request.capture (contents (device_of old)) (contents (device_of new))

@@ -42,7 +42,7 @@ pub record IsAuditTold {F : Type 0} (contents : F → Option (List ℕ)) (captur
   pub audit : IsDayAudited contents capture day is_whole
   pub written : Appends before after (outcomes_text day)
 
--- or a front of it
+-- or a prefix of it
 pub record IsAuditCut {F : Type 0} (contents : F → Option (List ℕ)) (capture : Option CaptureWords) (before after : Option (List ℕ)) : Type 0 where
   pub day : Day
   pub is_whole : Bool

@@ -1,4 +1,4 @@
--- Private: events and sales one behind another, with what was captured of them.
+-- Private: events and sales one after another, with what was captured of them.
 use Rattle.std.proofs.Common.{ℕ, Bool, List, [], ◌∷◌, ◌++◌, refl, sym, ap, ◌∙◌, subst, append_assoc, Option}
 use Rattle.bx_events.specs.Events.{LiveEvent, OnLink, WithoutLink, Sold}
 use Rattle.bx_capture.specs.Keeping.{keeps_nil, keeps_more}

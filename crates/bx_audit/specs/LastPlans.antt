@@ -17,7 +17,7 @@ use Rattle.bx_request.specs.declared.request.SoldRequest.{SoldRequest}
 use Rattle.bx_sales.specs.Journal.{sold_in}
 
 -- The plan of the morning that one input gave, which is proved, with what the journal that another one gave says was sold: the bookings of the morning, and
--- behind them those that were sold; accepted is what the morning accepted, and each that was sold. The channels are those of first fit, and its prices prove it.
+-- after them those that were sold; accepted is what the morning accepted, and each that was sold. The channels are those of first fit, and its prices prove it.
 pub record IsLastPlan (gives : List ℕ → Option (List ℕ) → Type 0) (plan journal : List ℕ) (last : Parts) : Type 0 where
   pub morning : Parts
   pub digest : List ℕ

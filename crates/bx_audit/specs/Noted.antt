@@ -1,11 +1,11 @@
--- The outages of the link in the day of a journal: the seconds without a link, by the events that are on record.
+-- The outages of the link in the day of a journal: the seconds without a link, by the events that are logged.
 use Rattle.std.specs.Prelude.{ℕ, ◌+◌, List, [], ◌∷◌, nat_lt, if◌then◌else◌}
 use Rattle.bx_day_chart.specs.Outages.{noted}
 use Rattle.bx_day_chart.specs.declared.outages.Outage.{Outage}
 use Rattle.bx_events.specs.Events.{Tick, Receive, LiveEvent, OnLink, WithoutLink, Sold}
 use Rattle.bx_events.specs.declared.moment.TheConstants.{LAST_MOMENT}
 
--- the moment behind this one; a day has no more than 300,000
+-- the moment after this one; a day has no more than 300,000
 abbrev pub next_moment : ℕ → ℕ
 next_moment m = if nat_lt m LAST_MOMENT then m + 1 else m
 

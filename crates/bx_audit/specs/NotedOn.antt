@@ -1,4 +1,4 @@
--- Private: outages that are noted, and days that are followed with them, one behind another.
+-- Private: outages that are noted, and days that are followed with them, one after another.
 use Rattle.std.proofs.Common.{◌≡◌, ◌∙◌, ℕ, List, [], ◌∷◌, ◌++◌, refl, ap, ap₂, sym}
 use Rattle.bx_day_chart.specs.declared.outages.Outage.{Outage}
 use Rattle.bx_events.specs.Events.{Tick, Receive, LiveEvent, OnLink, WithoutLink, Sold}

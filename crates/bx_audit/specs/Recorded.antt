@@ -31,7 +31,7 @@ pub record IsDayRecorded (gives : List ℕ → Option (List ℕ) → Type 0) (re
   pub clock_of : IsClockOf request.day clock
   pub written : IsRecorded clock day.entries output
 
--- the line of their totals was written, or a front of it where that failed; where it is to be quiet, nothing was
+-- the line of their totals was written, or a prefix of it where that failed; where it is to be quiet, nothing was
 abbrev pub IsTotalsTold : Bool → List Entry → Writing → Type 0
 IsTotalsTold true entries errors = KeepsOutput errors
 IsTotalsTold false entries errors = Appends errors.before errors.after (totals_text entries) ⊎ ((errors.is_faulted ≡ true) × AppendsPrefix errors.before errors.after (totals_text entries))

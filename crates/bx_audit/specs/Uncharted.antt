@@ -14,7 +14,7 @@ use Rattle.bx_request.specs.declared.request.DayChartRequest.{DayChartRequest}
 use Rattle.bx_audit.specs.Charted.{IsDaySeen}
 use Rattle.bx_audit.specs.Unrecorded.{IsUntold}
 
--- the day is not told, or a growth was refused
+-- the day is not told, or memory ran out
 abbrev pub IsUnseen : (List ℕ → Option (List ℕ) → Type 0) → List ℕ → List ℕ → DayCommandFault → Type 0
 IsUnseen gives plan journal (Command Memory) = Unit {0}
 IsUnseen gives plan journal fault = IsUntold gives plan journal fault
@@ -23,7 +23,7 @@ IsUnseen gives plan journal fault = IsUntold gives plan journal fault
 abbrev pub StopsChart : (List ℕ → Option (List ℕ) → Type 0) → DayChartRequest → DayCommandFault → Type 0
 StopsChart gives request fault = IsNoClock request.day fault ⊎ (((clock : Option Clock) × IsClockOf request.day clock) × IsUnseen gives request.plan.now request.journal.now fault)
 
--- a front of the picture of such a day was written, and the output failed
+-- a prefix of the picture of such a day was written, and the output failed
 pub record IsChartCut (gives : List ℕ → Option (List ℕ) → Type 0) (request : DayChartRequest) (output : Writing) : Type 0 where
   pub day : Day
   pub channels : List Bool
@@ -34,7 +34,7 @@ pub record IsChartCut (gives : List ℕ → Option (List ℕ) → Type 0) (reque
   pub faulted : output.is_faulted ≡ true
   pub cut : IsDayCut day channels sight clock output
 
--- nothing was written, or a front of it where the output failed
+-- nothing was written, or a prefix of it where the output failed
 abbrev pub IsDayChartCommandRefusal : {W : Type 0} → (List ℕ → Option (List ℕ) → Type 0) → DayChartRequest → (W → Option (List ℕ)) → Watched W → Watched W → DayCommandFault → Type 0
 IsDayChartCommandRefusal gives request contents old new (Command CannotWrite) = IsChartCut gives request (writing_of contents old new)
 IsDayChartCommandRefusal gives request contents old new (Command Memory) = KeepsOutput (writing_of contents old new)

@@ -48,6 +48,6 @@ pub record IsUnrecorded (gives : List ℕ → Option (List ℕ) → Type 0) (req
   pub answered : fault ≡ answer_for (Command CannotWrite) cause
   pub refused : IsRecordsRefusal clock day.entries output cause
 
--- the output is as it was before, or records were refused behind a front of them
+-- the output is as it was before, or records were refused after a prefix of them
 abbrev pub IsRecordsCommandRefusal : {W : Type 0} → (List ℕ → Option (List ℕ) → Type 0) → RecordsRequest → (W → Option (List ℕ)) → Watched W → Watched W → DayCommandFault → Type 0
 IsRecordsCommandRefusal gives request contents old new fault = (StopsRecords gives request fault × (new ≡ old)) ⊎ IsUnrecorded gives request (writing_of contents old new) fault

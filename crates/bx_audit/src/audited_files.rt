@@ -82,8 +82,8 @@ fn audited_in<'a, H: Files + AllocGlobal + Eprint, I: Inputs>(
 
 /// Writes what became of each booking of the plan of an input by the journal in a file, a line for each, as the day itself tells
 /// them: of a day that has ended, or that is still running. A capture of that day is made afterwards, where one is asked for. One
-/// that was not written whole is a refusal, behind all that was told; at any other refusal nothing was written, except that where
-/// the output failed a front of what was to be told was.
+/// that was not written whole is a refusal, after all that was told; at any other refusal nothing was written, except that where
+/// the output failed a prefix of what was to be told was.
 ///
 /// What is needed is opened in this order, and the first fault of it is answered: `Day` or `Capture` for the date and the zone of
 /// the capture; `Command` for the plan; `Command`, as `CannotRead`, `Journal`, as `BadLine`, `OtherPlan` or `OtherRules`, or `Sale` for the

@@ -62,10 +62,10 @@ fn day_seen<'a, I: Inputs>(
 }
 
 /// Draws the day of the plan of one input as it went, by the journal of another: a day that has ended, or that is still running; a line stands at the moment to
-/// which it has come while a booking waits or is live. At a refusal nothing was written, except that where the output failed a front of the picture was.
+/// which it has come while a booking waits or is live. At a refusal nothing was written, except that where the output failed a prefix of the picture was.
 ///
 /// What is needed is opened in this order, and the first fault of it is answered: `Day` for the date and the zone; `Command` for the plan; `Command`, as
-/// `CannotRead`, `Journal`, as `BadLine`, `OtherPlan` or `OtherRules`, or `Sale` for the journal. Then `Command`, as `Memory`, where a growth was refused, and
+/// `CannotRead`, `Journal`, as `BadLine`, `OtherPlan` or `OtherRules`, or `Sale` for the journal. Then `Command`, as `Memory`, where memory ran out, and
 /// as `CannotWrite`, where the output failed.
 pub fn chart_day_files<'a, I: Inputs, W: Write>(
     alloc: Global,

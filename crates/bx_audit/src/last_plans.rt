@@ -67,7 +67,7 @@ fn prices_of(
 }
 
 /// The last plan of a day: its bookings, with the channels of first fit for those that it has accepted, and the prices of a best plan of them. At no moment
-/// may more of them run, or have to be held, than there are channels. `AllocError` where a growth is refused.
+/// may more of them run, or have to be held, than there are channels. `AllocError` where memory runs out.
 pub(crate) fn last_plan(
     alloc: Global,
     exchange: &Exchange,

@@ -63,7 +63,7 @@ impl Noting {
         }
     }
 
-    /// The outages, or that a growth was refused as one was noted.
+    /// The outages, or that memory ran out as one was noted.
     pub(crate) fn into_outages(self) -> Result<Outages, AllocError>
         ensures { IfOk result (λ outages. (self.is_whole ≡ true) × (outages.spans.items ≡ self.outages.spans.items)) }
     {

@@ -26,11 +26,11 @@ fn tell_totals<E: Write>(exchange: &Exchange, is_quiet: bool, errors: &mut Watch
 
 /// Writes the records of the day of the plan of one input, by the journal of another: of a day that has ended, or that is still
 /// running. Their totals are told on standard error in one line, except where it is to be quiet. At a refusal nothing was written,
-/// except that where the output failed a front of the records was.
+/// except that where the output failed a prefix of the records was.
 ///
 /// What is needed is opened in this order, and the first fault of it is answered: `Day` for the date and the zone; `Command` for
 /// the plan; `Command`, as `CannotRead`, `Journal`, as `BadLine`, `OtherPlan` or `OtherRules`, or `Sale` for the journal. Then `Day`, as
-/// `OutOfRange`, where a moment lies behind the last that can be named; `Command`, as `Memory`, where a growth was refused, and as
+/// `OutOfRange`, where a moment lies after the last that can be named; `Command`, as `Memory`, where memory ran out, and as
 /// `CannotWrite`, where the output failed.
 pub fn record_files<'a, I: Inputs, W: Write, E: Write>(
     alloc: Global,

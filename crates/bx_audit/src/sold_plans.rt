@@ -16,11 +16,11 @@ use std::alloc::Global;
 use std::io::Write;
 
 /// Writes the text of the last plan of a day, by the plan of its morning and by its journal: of a day that has ended, or that is still running. It has the
-/// bookings of the morning, and behind them those that the journal says were sold, as accepted; the channels are those of first fit, and prices prove it. At
-/// a refusal nothing was written, except that where the output failed a front of the text was.
+/// bookings of the morning, and after them those that the journal says were sold, as accepted; the channels are those of first fit, and prices prove it. At
+/// a refusal nothing was written, except that where the output failed a prefix of the text was.
 ///
 /// What is needed is opened in this order, and the first fault of it is answered: `Command` for the plan; `Command`, as `CannotRead`, `Journal`, as
-/// `BadLine`, `OtherPlan` or `OtherRules`, or `Sale` for the journal. Then `Command`, as `Memory` where a growth was refused, and as
+/// `BadLine`, `OtherPlan` or `OtherRules`, or `Sale` for the journal. Then `Command`, as `Memory` where memory ran out, and as
 /// `CannotWrite` where the output failed.
 pub fn sold_files<'a, I: Inputs, W: Write>(
     alloc: Global,

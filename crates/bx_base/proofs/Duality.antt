@@ -128,7 +128,7 @@ one_loss prices row true h false e = rw e (omega arith)
 one_loss prices row false h true e = cc (h e)
 one_loss prices row false h false e = rw e (omega arith)
 
--- where some set is lawful, the must rows of a front cost no more than all channels at all prices
+-- where some set is lawful, the must rows of a prefix cost no more than all channels at all prices
 pub losses-le : (rows : List Row) (channels : List Bool) (prices : List Charge) (set : ℕ → Bool) → IsLawful rows channels set → (m : ℕ) → m ≤ length rows → sum_below m (λ i. loss_of prices (row_at rows i)) ≤ count_of channels * sum_of_prices prices
 losses-le rows channels prices set lawful m h =
     let n = length rows in

@@ -1,4 +1,4 @@
--- A plan that goes on from another: bookings that were asked for later, and start later, stand behind those of the plan before.
+-- A plan that goes on from another: bookings that were asked for later, and start later, stand after those of the plan before.
 use Rattle.std.specs.Prelude.{◌≡◌, ℕ, ◌<◌, ◌≤◌, List, length, Option, None, slice_index_or}
 use Rattle.bx_base.specs.Bookings.{Row, row_at}
 use Rattle.bx_base.specs.Plans.{is_accepted}

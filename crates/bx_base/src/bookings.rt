@@ -24,7 +24,7 @@ pub enum AddFault {
     /// There are 4,000 already.
     #[error("Full")]
     Full,
-    /// A growth was refused.
+    /// Memory ran out.
     #[error("Memory")]
     Memory,
 }
@@ -51,7 +51,7 @@ impl Bookings {
     }
 
     /// Adds a booking as the last row. A fault changes nothing: `Full`, which is tested first, where there are 4,000 already, and
-    /// `Memory` where a growth is refused.
+    /// `Memory` where memory runs out.
     pub fn push(&mut self, booking: Booking) -> Result<(), AddFault>
         ensures ok { OnOk result (self.new ≡ self.old ++ booking ∷ []) }
         ensures err { OnErr result (self.new ≡ self.old) }
@@ -107,7 +107,7 @@ impl Bookings {
         self.rows == other.rows
     }
 
-    /// The same bookings again. `AllocError` where a growth is refused.
+    /// The same bookings again. `AllocError` where memory runs out.
     pub fn copy(&self) -> Result<Bookings, AllocError>
         ensures { IfOk result (λ b. b ≡ self.now) }
     {

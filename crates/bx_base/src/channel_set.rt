@@ -33,7 +33,7 @@ pub enum ChannelFault {
     /// This number names no B channel.
     #[error("N1 NotABChannel {0}")]
     NotABChannel(u8),
-    /// This number stands in front of it too.
+    /// This number stands before it too.
     #[error("N2 Repeated {0}")]
     Repeated(u8),
 }

@@ -3,7 +3,7 @@ use Rattle.std.proofs.Common.{◌≡◌, ◌≢◌, ◌∙◌, ◌⊎◌, inl, i
 use Rattle.std.proofs.lemmas.List.{take-append-drop, length-take-le}
 use Rattle.std.proofs.lemmas.Bool.Decides.{nat_tests}
 use Rattle.csv.specs.Reading.{strip_bom}
-use Rattle.bx_devices.specs.Octets.{ReadsAll, ReadsFront, ReadsWithin, RunsOutOfReads}
+use Rattle.bx_devices.specs.Octets.{ReadsAll, ReadsPrefix, ReadsWithin, RunsOutOfReads}
 use Rattle.bx_devices.specs.Watching.{device_of, is_faulted, reads_of}
 use Rattle.bx_devices.specs.declared.watched.Watched.{Watched}
 use Rattle.bx_base.specs.Bookings.{Row}
@@ -22,9 +22,9 @@ zeros : (n : ℕ) → (bs : List ℕ) × (length bs ≡ n)
 zeros zero = ([], refl)
 zeros (suc n) = let rest = zeros n in (0 ∷ rest.0, ap suc rest.1)
 
-front : (before after : Option (List ℕ)) (n : ℕ) → HasPassed before n after → ReadsFront before after n
-front None after n passed = let bs = zeros n in (bs.0, bs.1, tt)
-front (Some text) after n passed =
+prefix : (before after : Option (List ℕ)) (n : ℕ) → HasPassed before n after → ReadsPrefix before after n
+prefix None after n passed = let bs = zeros n in (bs.0, bs.1, tt)
+prefix (Some text) after n passed =
     let left = passed text refl in
     (take n text, length-take-le n text left.0, rw left.1 (sym (take-append-drop n text)))
 
@@ -43,7 +43,7 @@ whole before after octets text passed none few known =
     (rw (known, after_is) (sym (append-nil text), refl), omega (arith, size, length-drop octets text))
 
 within : (before after : Option (List ℕ)) (n most : ℕ) → HasPassed before n after → n ≤ most → ReadsWithin before after most
-within before after n most passed few = (n, few, front before after n passed)
+within before after n most passed few = (n, few, prefix before after n passed)
 
 module _ {R : Type 0} (rem : R → Option (List ℕ)) (old new : Watched R) (span : Span) (octets : ℕ) (passed : HasPassed (rem (device_of old)) octets (rem (device_of new))) where
   -- with no end and no failed read, each read that was passed on gave an octet
@@ -51,13 +51,13 @@ module _ {R : Type 0} (rem : R → Option (List ℕ)) (old new : Watched R) (spa
       → reads_of new ≤ reads_of old + (octets + reads_of_none has_ended (is_faulted new)) → RunsOutOfReads (rem (device_of old)) (rem (device_of new)) (reads_of old)
   vain has_ended sound goes few most each =
       let each_gave : reads_of new ≤ reads_of old + (octets + 0) = rw (goes, sound) at each in
-      (octets, few, front (rem (device_of old)) (rem (device_of new)) octets passed, omega (arith, most, each_gave))
+      (octets, few, prefix (rem (device_of old)) (rem (device_of new)) octets passed, omega (arith, most, each_gave))
 
   pub short : (has_ended : Bool) → reads_of new ≤ reads_of old + (octets + reads_of_none has_ended (is_faulted new))
       → (fault : StreamFault) → IsMeterFault (is_faulted new) has_ended octets (reads_of new) fault → IsStreamFault (reading_of rem old new) span fault
   short has_ended each stream.ReadFailed (inl h) = inl h
   short has_ended each stream.ReadFailed (inr h) = inr (vain has_ended h.0 h.1 h.2 h.3 each)
-  short has_ended each stream.TooLong h = (h.0, rw h.1 at (front (rem (device_of old)) (rem (device_of new)) octets passed))
+  short has_ended each stream.TooLong h = (h.0, rw h.1 at (prefix (rem (device_of old)) (rem (device_of new)) octets passed))
   short has_ended each (stream.Book e) h = absurd h
   short has_ended each stream.Memory h = absurd h
 

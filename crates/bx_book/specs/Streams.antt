@@ -2,7 +2,7 @@
 use Rattle.std.specs.Prelude.{◌≡◌, ◌⊎◌, ◌≤◌, ℕ, true, false, List, Some, length}
 use Rattle.csv.specs.Reading.{strip_bom}
 use Rattle.bx_devices.specs.Devices.{Reading}
-use Rattle.bx_devices.specs.Octets.{ReadsAll, ReadsFront, ReadsWithin, RunsOutOfReads}
+use Rattle.bx_devices.specs.Octets.{ReadsAll, ReadsPrefix, ReadsWithin, RunsOutOfReads}
 use Rattle.bx_base.specs.Bookings.{Row}
 use Rattle.bx_book.specs.Rows.{Span}
 use Rattle.bx_book.specs.Texts.{IsBook, IsBookFault}
@@ -23,7 +23,7 @@ IsBookRead reading span bookings = (reading.is_faulted ≡ false)
 -- what each fault says of the reader, and of the text that was read to its end
 abbrev pub IsStreamFault : Reading → Span → StreamFault → Type 0
 IsStreamFault reading span stream.ReadFailed = (reading.is_faulted ≡ true) ⊎ RunsOutOfReads reading.before reading.after reading.reads_before
-IsStreamFault reading span stream.TooLong = (reading.is_faulted ≡ false) × ReadsFront reading.before reading.after 4_194_305
+IsStreamFault reading span stream.TooLong = (reading.is_faulted ≡ false) × ReadsPrefix reading.before reading.after 4_194_305
 IsStreamFault reading span (stream.Book f.Memory) = ⊥
 IsStreamFault reading span (stream.Book e) = (reading.is_faulted ≡ false)
     × ((text : List ℕ) → reading.before ≡ Some text → IsWhole reading text × IsBookFault (strip_bom text) span e)

@@ -39,7 +39,7 @@ pub enum BookFault {
     /// The direction is neither `out` nor `in`.
     #[error("B11 BadDirection {0}")]
     BadDirection(u16),
-    /// A growth was refused.
+    /// Memory ran out.
     #[error("Memory")]
     Memory,
 }

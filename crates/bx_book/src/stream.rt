@@ -34,7 +34,7 @@ pub enum StreamFault {
     /// The text was read to its end, and has this first fault.
     #[error("{0}")]
     Book(BookFault),
-    /// A growth was refused.
+    /// Memory ran out.
     #[error("Memory")]
     Memory,
 }
@@ -122,7 +122,7 @@ fn read_metered<'a, R: Read, O: Origin>(
 }
 
 /// Reads a reader to its end, record by record, as `read_bookings` reads the octets: at most 4,194,304 octets in at
-/// most 8,388,608 reads. After a fault of the text it reads on to the end, and at a refused growth it stops. The faults are those
+/// most 8,388,608 reads. After a fault of the text it reads on to the end, and where memory runs out it stops. The faults are those
 /// of `StreamFault`.
 pub fn read_bookings_from<R: Read>(
     alloc: Global,

@@ -169,7 +169,7 @@ fn days(rt: HostRuntime) {
     }
 }
 
-/// What answers STATUS ENQUIRY, which is sent behind an outage.
+/// What answers STATUS ENQUIRY, which is sent after an outage.
 const FAR_STATUS_ACTIVE: &[u8] = &[
     0x08, 0x02, 0x80, 0x01, 0x7D, 0x08, 0x02, 0x80, 0x9E, 0x14, 0x01, 0x0A,
 ];

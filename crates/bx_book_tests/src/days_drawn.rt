@@ -31,7 +31,7 @@ fn lose(exchange: &mut Exchange, outages: &mut Outages, moment: u32) -> Option<(
     Some(())
 }
 
-/// The day of these bookings behind these steps, and its outages.
+/// The day of these bookings after these steps, and its outages.
 pub(crate) fn day_of(
     alloc: Global,
     bookings: &[Row],

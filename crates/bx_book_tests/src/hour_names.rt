@@ -11,7 +11,7 @@ const EUROPE: &str = "CET-1CEST,M3.5.0,M10.5.0/3";
 const LORD_HOWE: &str = "<+1030>-10:30<+11>-11,M10.1.0,M4.1.0";
 
 /// Days of a zone, what the clock shows at each hour from one midnight to the next, and from when to when it shows the accepted
-/// calls to last: from 28,800 to 32,400 seconds behind midnight, and from 30,600 to 35,100.
+/// calls to last: from 28,800 to 32,400 seconds after midnight, and from 30,600 to 35,100.
 static DAYS: [(&str, &str, &str, &str); 4] = [
     (
         "2026-01-05",
@@ -39,7 +39,7 @@ static DAYS: [(&str, &str, &str, &str); 4] = [
     ),
 ];
 
-/// What stands round a piece of a line: at the line's start, right before the piece, and behind it up to the line's end.
+/// What stands round a piece of a line: at the line's start, right before the piece, and after it up to the line's end.
 type Marks = (&'static [u8], &'static [u8], &'static [u8]);
 
 const ABOVE: Marks = (b"<text class='small middle' x='", b"' y='87'>", b"</text>");

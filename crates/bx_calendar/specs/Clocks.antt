@@ -42,7 +42,7 @@ pub record Shows (zone : TimeZone) (second : ℤ) (hour minute : ℕ) : Type 0 w
 abbrev pub whole_minutes : ℤ → ℤ
 whole_minutes seconds = seconds -ℤ int_rem seconds (pos 60)
 
--- the time of a clock so many seconds behind the day's start, with the offset that its zone has then, in whole minutes
+-- the time of a clock so many seconds after the day's start, with the offset that its zone has then, in whole minutes
 pub record IsLocalTime (c : Clock) (moment : ℕ) (text : List ℕ) : Type 0 where
   pub at : DateTime
   pub offset : Offset
@@ -58,7 +58,7 @@ shown_second zone second = unsigned_abs (int_rem_euclid (second +ℤ offset_at z
 abbrev pub is_instant : ℤ → Bool
 is_instant second = int_le (neg_ℤ (pos 377_705_023_201)) second && int_le second (pos 253_402_207_200)
 
--- the hour and the minute that a clock shows so many seconds behind its day's start, or none outside that range
+-- the hour and the minute that a clock shows so many seconds after its day's start, or none outside that range
 unfoldable pub shown_by : Clock → ℕ → Option (ℕ × ℕ)
 shown_by c moment = let second = clock_start c +ℤ pos moment in
     let shown = shown_second (clock_zone c) second in

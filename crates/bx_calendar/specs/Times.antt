@@ -5,7 +5,7 @@ use Rattle.std.specs.Char.{is_ascii_digit}
 use Rattle.bx_calendar.specs.Places.{octet_at, two_at, is_below}
 use Rattle.bx_calendar.specs.Dates.{StartsWithDate, day_number}
 
--- `Thh:mm:ss` behind the ten octets of a date
+-- `Thh:mm:ss` after the ten octets of a date
 pub record HasClock (octets : List ℕ) : Type 0 where
   pub start : octet_at octets 10 ≡ 84
   pub hour : is_below octets 11 24 ≡ true
@@ -18,7 +18,7 @@ pub record HasClock (octets : List ℕ) : Type 0 where
 abbrev pub clock_seconds : List ℕ → ℕ
 clock_seconds octets = two_at octets 11 * 3600 + two_at octets 14 * 60 + two_at octets 17
 
--- what stands behind the seconds
+-- what stands after the seconds
 abbrev pub after_seconds : List ℕ → List ℕ
 after_seconds octets = drop 19 octets
 
@@ -29,7 +29,7 @@ is_no_digit octet = not (is_ascii_digit octet)
 abbrev pub digits_in : List ℕ → ℕ
 digits_in octets = unwrap_or (position is_no_digit octets) (length octets)
 
--- how many octets a dot and the digits behind it take: none where there is no dot
+-- how many octets a dot and the digits after it take: none where there is no dot
 abbrev pub fraction_size : List ℕ → ℕ
 fraction_size rest = if octet_at rest 0 == 46 then 1 + digits_in (drop 1 rest) else 0
 
@@ -44,7 +44,7 @@ is_zero octet = octet == 48
 abbrev pub is_whole : List ℕ → Bool
 is_whole rest = list_all is_zero (drop 1 (take (fraction_size rest) rest))
 
--- what stands behind the fraction
+-- what stands after the fraction
 abbrev pub zone_of : List ℕ → List ℕ
 zone_of rest = drop (fraction_size rest) rest
 
@@ -65,7 +65,7 @@ abbrev pub offset_seconds : List ℕ → ℤ
 offset_seconds zone =
     if is_utc zone then pos 0 else (if octet_at zone 0 == 45 then neg_ℤ (pos (offset_size zone)) else pos (offset_size zone))
 
--- what may stand behind the seconds
+-- what may stand after the seconds
 pub record IsTail (rest : List ℕ) : Type 0 where
   pub fraction : IsFractionSize (fraction_size rest)
   pub zone : (is_utc (zone_of rest) || is_signed (zone_of rest)) ≡ true

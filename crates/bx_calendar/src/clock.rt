@@ -44,7 +44,7 @@ impl Clock {
         &self.day
     }
 
-    /// The hour and the minute that the clock shows so many seconds behind the day's start; none where that is outside
+    /// The hour and the minute that the clock shows so many seconds after the day's start; none where that is outside
     /// the range of `jiff`.
     pub fn shown(&self, moment: u32) -> Option<(u8, u8)>
         ensures some { IfSome result (λ shown. Shows (clock_zone self.now) (clock_start self.now +ℤ pos moment) shown.0 shown.1) }
@@ -55,7 +55,7 @@ impl Clock {
         Some((shown.hour().unsigned_abs(), shown.minute().unsigned_abs()))
     }
 
-    /// How many seconds from midnight on the clock shows so many seconds behind the day's start, below 86,400; none where that
+    /// How many seconds from midnight on the clock shows so many seconds after the day's start, below 86,400; none where that
     /// is outside the range of `jiff`.
     pub fn second_shown(&self, moment: u32) -> Option<u32>
         ensures value { result ≡ second_shown_by self.now moment }
@@ -67,7 +67,7 @@ impl Clock {
         Some(minutes * 60 + u32::from(shown.second().unsigned_abs()))
     }
 
-    /// What the clock shows so many seconds behind the day's start, as `2026-03-30T12:00:00+02:00`; none where that is outside
+    /// What the clock shows so many seconds after the day's start, as `2026-03-30T12:00:00+02:00`; none where that is outside
     /// the range of `jiff`.
     pub fn local_time(&self, moment: u32) -> Option<ArrayString<38>>
         ensures some { IfSome result (λ text. IsLocalTime self.now moment text.bytes) }
@@ -77,7 +77,7 @@ impl Clock {
         Some(at.display_with_offset(in_minutes(self.zone.to_offset(at))))
     }
 
-    /// The instant so many seconds behind the day's start.
+    /// The instant so many seconds after the day's start.
     fn instant(&self, moment: u32) -> Option<Timestamp>
         ensures some { IfSome result (λ at. at.nanosecond ≡ (clock_start self.now +ℤ pos moment) *ℤ pos 1_000_000_000) }
         ensures none { IfNone result (¬ IsTimestampNanos ((clock_start self.now +ℤ pos moment) *ℤ pos 1_000_000_000)) }

@@ -23,7 +23,7 @@ fn first_second(day: Date) -> i64
     day.duration_since(date(1970, 1, 1)).as_secs()
 }
 
-/// The seconds that the clock `Thh:mm:ss` behind a date shows.
+/// The seconds that the clock `Thh:mm:ss` after a date shows.
 fn clock(octets: &[u8]) -> Option<u32>
     ensures { MatchOption result (¬ HasClock octets.now) (λ n. HasClock octets.now × (n ≡ clock_seconds octets.now) × (n < 86400)) }
 {
@@ -55,7 +55,7 @@ fn digits_in(octets: &[u8]) -> usize
     digits_end(octets).unwrap_or(octets.len())
 }
 
-/// How many octets a dot and the digits behind it take: none where there is no dot.
+/// How many octets a dot and the digits after it take: none where there is no dot.
 fn fraction_size(rest: &[u8]) -> usize
     ensures value { result ≡ fraction_size rest.now }
     ensures within { result ≤ length rest.now }
@@ -122,9 +122,9 @@ fn second_of(day: i64, clock: u32, offset: i64) -> i64
     day + i64::from(clock) - offset
 }
 
-/// The seconds by which the clock is ahead of UTC, where what stands behind its seconds is nothing or a fraction,
+/// The seconds by which the clock is ahead of UTC, where what stands after its seconds is nothing or a fraction,
 /// and then `Z` or an offset.
-fn offset_behind(rest: &[u8]) -> Option<i64>
+fn offset_after(rest: &[u8]) -> Option<i64>
     ensures { MatchOption result (¬ IsTail rest.now) (λ n. IsTail rest.now × (n ≡ offset_seconds (zone_of rest.now)) × (neg_ℤ (pos 90_000) ≤ℤ n) × (n ≤ℤ pos 90_000)) }
 {
     let size = fraction_size(rest);
@@ -145,7 +145,7 @@ pub fn instant_at(octets: &[u8]) -> Option<Instant>
     let day = first_second(first_date(octets)?);
     let clock = clock(octets)?;
     let rest = after(octets, 19);
-    let offset = offset_behind(rest)?;
+    let offset = offset_after(rest)?;
     Some(Instant {
         second: second_of(day, clock, offset),
         is_whole: is_whole(rest),

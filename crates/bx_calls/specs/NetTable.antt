@@ -190,7 +190,7 @@ net_due (ReleaseRequest again cause due) = Some due
 
 -- ---- n seconds without a link to the user, of which the last comes to moment t
 
--- the state behind one such second or more: the timers of calls that are set up stand still. In the next second with a
+-- the state after one such second or more: the timers of calls that are set up stand still. In the next second with a
 -- link the user is asked whether a call in N10 is still up (5.8.9, 5.8.10), and a call that is being cleared says RELEASE;
 -- one that had said it is given up T308 later.
 abbrev pub net_lost : ℕ → ℕ → NetState → NetState

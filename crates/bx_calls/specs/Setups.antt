@@ -4,7 +4,7 @@ use Rattle.std.specs.Prelude.{ℕ, ◌==◌, ◌&&◌, List, [], ◌∷◌, Opti
 use Rattle.bx_q931.specs.Messages.{PlainMessage}
 use Rattle.bx_q931.specs.Values.{first_of}
 
--- unrestricted digital information; circuit mode, 64 kbit/s (profile: octets behind them are not looked at)
+-- unrestricted digital information; circuit mode, 64 kbit/s (profile: octets after them are not looked at)
 abbrev pub bearer_fault_in : Option (List ℕ) → Option ℕ
 bearer_fault_in None = Some 96
 bearer_fault_in (Some []) = Some 88

@@ -6,7 +6,7 @@ use Rattle.bx_q931.specs.Outgoing.{Outgoing}
 abbrev pub no_channel : List Bool
 no_channel = replicate 32 false
 
--- what is sent, in front of the rest
+-- what is sent, before the rest
 abbrev pub cons_some : Option Outgoing → List Outgoing → List Outgoing
 cons_some None rest = rest
 cons_some (Some o) rest = o ∷ rest

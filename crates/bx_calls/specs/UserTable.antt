@@ -120,12 +120,12 @@ user_takes c t (Offered Alert at) = user_to c (Some (user_says_channel c Alertin
 user_takes c t (Offered Proceed at) = user_to c (Some (user_says_channel c CallProceeding)) IncomingCallProceeding
 user_takes c t _ = user_same c None
 
--- U7, n seconds behind the first tick to a call that was offered at this moment
+-- U7, n seconds after the first tick to a call that was offered at this moment
 abbrev pub user_answers : PlainUserCall → ℕ → UserOrigin → Transition PlainUserCall
 user_answers c t (Offered (Answer n) at) = if nat_le (at + 1 + n) t then user_connects c (user_says c Connect) t else user_same c None
 user_answers c t _ = user_same c None
 
--- U10, n seconds behind the moment at which it became Active, and not in that same second
+-- U10, n seconds after the moment at which it became Active, and not in that same second
 abbrev pub user_clears : PlainUserCall → ℕ → ℕ → UserOrigin → Transition PlainUserCall
 user_clears c t since (Offered (Clear n) at) = if nat_le (since + max n 1) t then user_disconnects c 16 t else user_same c None
 user_clears c t since _ = user_same c None

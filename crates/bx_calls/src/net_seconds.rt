@@ -28,7 +28,7 @@ impl NetCall {
     /// What the call does in so many seconds without a link to the user, of which the last comes to this moment: its
     /// timer stands still while it is set up. In the next second with a link the user is asked whether a call in N10 is
     /// still up, and RELEASE is due for one that is being cleared; so it is where the booking ends by then. A timer that
-    /// would be due behind the last moment of a `u32` is due at that. The moment is at most `LAST_MOMENT`.
+    /// would be due after the last moment of a `u32` is due at that. The moment is at most `LAST_MOMENT`.
     pub fn on_seconds_unlinked(self, seconds: u32, moment: u32, end: u32) -> Transition<NetCall>
         requires moment { moment ≤ LAST_MOMENT }
         ensures { (latest : ℕ) → IsDueBy latest self.state → latest + seconds ≤ 4294967295 → result ≡ net_unlinked seconds self moment end }
@@ -47,7 +47,7 @@ impl NetCall {
         requires moment { moment ≤ LAST_MOMENT }
         ensures { (latest : ℕ) → IsDueBy latest self.state → latest + seconds ≤ 4294967295 → result ≡ net_to self None (net_later seconds moment self.state) }
     {
-        let state = behind(self.state, seconds, moment);
+        let state = following(self.state, seconds, moment);
         self.goes(None, state)
     }
 
@@ -132,8 +132,8 @@ impl NetCall {
     }
 }
 
-/// The state behind so many seconds without a link, of which the last comes to this moment.
-fn behind(state: NetState, seconds: u32, moment: u32) -> NetState
+/// The state after so many seconds without a link, of which the last comes to this moment.
+fn following(state: NetState, seconds: u32, moment: u32) -> NetState
     requires { moment ≤ LAST_MOMENT }
     ensures { (latest : ℕ) → IsDueBy latest state → latest + seconds ≤ 4294967295 → result ≡ net_later seconds moment state }
 {

@@ -52,14 +52,14 @@ impl UserCall {
         }
     }
 
-    /// What the call is behind a second without a link to the network, which comes to this moment: nothing is said in it, and its
+    /// What the call is after a second without a link to the network, which comes to this moment: nothing is said in it, and its
     /// timer stands still while it is set up. In the next second with a link RELEASE is due for one that is being cleared. A
-    /// timer that would be due behind the last moment of a `u32` is due at that. The moment is at most `LAST_MOMENT`.
+    /// timer that would be due after the last moment of a `u32` is due at that. The moment is at most `LAST_MOMENT`.
     pub fn on_second_unlinked(self, moment: u32) -> UserCall
         requires moment { moment ≤ LAST_MOMENT }
         ensures { result ≡ user_unlinked moment self }
     {
-        let state = behind(self.state, moment);
+        let state = following(self.state, moment);
         UserCall { state, ..self }
     }
 
@@ -89,7 +89,7 @@ impl UserCall {
         }
     }
 
-    /// U7: n seconds behind the first tick, which is one second behind the SETUP.
+    /// U7: n seconds after the first tick, which is one second after the SETUP.
     fn answers(self, moment: u32) -> Transition<UserCall>
         requires moment { moment ≤ LAST_MOMENT }
         ensures { result ≡ user_answers self moment self.origin }
@@ -131,8 +131,8 @@ impl UserCall {
     }
 }
 
-/// The state behind a second without a link to this moment.
-fn behind(state: UserState, moment: u32) -> UserState
+/// The state after a second without a link to this moment.
+fn following(state: UserState, moment: u32) -> UserState
     requires moment { moment ≤ LAST_MOMENT }
     ensures { result ≡ user_later moment state }
 {

@@ -5,7 +5,7 @@ use bx_channels::Number;
 /// What the user does with a call that it is offered.
 #[derive(Clone, Copy, Debug, PartialEq, Eq)]
 pub enum Policy {
-    /// It is answered n seconds after the first tick to it: at once for 0, else behind ALERTING.
+    /// It is answered n seconds after the first tick to it: at once for 0, else after ALERTING.
     Answer(u32),
     /// It is refused, the user being busy.
     Busy,

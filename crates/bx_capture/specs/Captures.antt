@@ -22,7 +22,7 @@ abbrev pub packets_for : {D : Type 0} → (D → Event → D) → (D → Event �
 packets_for next sent moment turn first d Tick = flat_map (packet_sent (first + moment (next d Tick))) (sent d Tick)
 packets_for next sent moment turn first d (Receive octets) = packet (first + turn d) Received octets ++ flat_map (packet_sent (first + turn d)) (sent d (Receive octets))
 
--- the file took these packets; or a write of them failed, and it took a front of them. Behind a write that failed nothing is
+-- the file took these packets; or a write of them failed, and it took a prefix of them. After a write that failed nothing is
 -- written
 pub record IsKept {W : Type 0} (contents : W → Option (List ℕ)) (w w' : Watched W) (packets : List ℕ) : Type 0 where
   pub whole : is_faulted w' ≡ false → Appends (contents (device_of w)) (contents (device_of w')) packets

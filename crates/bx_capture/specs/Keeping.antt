@@ -1,4 +1,4 @@
--- What a file has kept, and what it keeps behind that.
+-- What a file has kept, and what it keeps after that.
 use Rattle.std.proofs.Common.{◌≡◌, ℕ, Bool, true, false, List, [], ◌++◌, refl, sym, ap, ◌∙◌, subst, true≢false, Option, Some, None}
 use Rattle.std.proofs.Math.Nat.{le_refl}
 use Rattle.std.proofs.KnownBytes.{Appends-nil, Appends-trans}

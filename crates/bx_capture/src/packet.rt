@@ -22,8 +22,8 @@ pub enum Direction {
 /// How many octets the tags of a packet have.
 const TAGS: u32 = 20;
 
-/// Writes what stands at the front of a capture file. `WriteFailed` where a write failed, or took nothing: then the writer is
-/// faulted, and a front of it was written.
+/// Writes what stands at the start of a capture file. `WriteFailed` where a write failed, or took nothing: then the writer is
+/// faulted, and a prefix of it was written.
 pub fn write_file_header<W: Write>(file: &mut Watched<W>) -> Result<(), WriteFailed>
     ensures { Writes W.contents file.old file.new result file_header }
 {
@@ -56,7 +56,7 @@ fn tags(direction: Direction) -> [u8; 20]
     ]
 }
 
-/// Puts octets behind those of a packet.
+/// Puts octets after those of a packet.
 fn add(packet: &mut ArrayVec<u8, 296>, octets: &[u8])
     requires { array_vec_len packet.old + length octets.now ≤ 296 }
     ensures { packet.new.items ≡ packet.old.items ++ octets.now }
@@ -84,7 +84,7 @@ fn packet_octets(second: u32, direction: Direction, message: &Octets) -> ArrayVe
 }
 
 /// Writes the packet of a message at this second, in one write where the writer takes it whole. `WriteFailed` where a write
-/// failed, or took nothing: then the writer is faulted, and a front of the packet was written.
+/// failed, or took nothing: then the writer is faulted, and a prefix of the packet was written.
 pub fn write_packet<W: Write>(
     file: &mut Watched<W>,
     second: u32,

@@ -7,11 +7,11 @@ ghost use Rattle.bx_capture.specs.Starts.{IsNameable};
 use crate::fault::BeyondCapture;
 use bx_calendar::Day;
 
-/// The last second from which a packet can name each of the 300,000 seconds behind it.
+/// The last second from which a packet can name each of the 300,000 seconds after it.
 const LAST_START: i64 = 4_294_667_295;
 
 /// The second at which the day begins, counted from 1970-01-01T00:00:00Z, where packets can name each second from it to
-/// 300,000 behind it; else `BeyondCapture`.
+/// 300,000 after it; else `BeyondCapture`.
 pub fn first_second(day: &Day) -> Result<u32, BeyondCapture>
     ensures first { IfOk result (λ s. (pos s ≡ start_of day.now) × (s ≤ 4294667295)) }
     ensures refused { IsErr result → ¬ IsNameable (start_of day.now) }

@@ -3,7 +3,7 @@ use Rattle.std.proofs.Common.{sym}
 use Rattle.bx_channels.specs.declared.number.Number.TheInside.{Inside}
 use Rattle.bx_channels.specs.Numbers.{IsNumber, padded}
 
--- the digits, and zeros behind them
+-- the digits, and zeros after them
 pub record IsNumberInside (a : Inside) : Type 0 where
   pub number : IsNumber (take a.count a.digits)
   pub zeros : a.digits ≡ padded (take a.count a.digits)

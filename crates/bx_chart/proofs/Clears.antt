@@ -21,7 +21,7 @@ second_of : (a b : Bool) → (a && b) ≡ true → b ≡ true
 second_of true b h = h
 second_of false b h = absurd (false≢true h)
 
--- what stands behind an octet, with more behind it
+-- what stands after an octet, with more after it
 fine_append : (a b : List ℕ) → is_fine a ≡ true → is_fine (a ++ b) ≡ true
 fine_append [] b h = absurd (false≢true h)
 fine_append (o ∷ []) b h = absurd (false≢true h)
@@ -69,22 +69,22 @@ and_false : (a : Bool) → (a && false) ≡ false
 and_false true = refl
 and_false false = refl
 
-untitled_behind : (os : List ℕ) → is_fine os ≡ true → begins (codes "title>row ") os ≡ false
-untitled_behind [] h = refl
-untitled_behind (a ∷ []) h = and_false (116 == a)
-untitled_behind (a ∷ b ∷ os) h = no_ti (33 == a) (116 == a) (105 == b) (begins (codes "tle>row ") os) h
+untitled_after : (os : List ℕ) → is_fine os ≡ true → begins (codes "title>row ") os ≡ false
+untitled_after [] h = refl
+untitled_after (a ∷ []) h = and_false (116 == a)
+untitled_after (a ∷ b ∷ os) h = no_ti (33 == a) (116 == a) (105 == b) (begins (codes "tle>row ") os) h
 
-uncommented_behind : (os : List ℕ) → is_fine os ≡ true → begins (codes "!") os ≡ false
-uncommented_behind [] h = refl
-uncommented_behind (a ∷ []) h = absurd (false≢true h)
-uncommented_behind (a ∷ b ∷ os) h = no_bang (33 == a) ((116 == a) && (105 == b)) h
+uncommented_after : (os : List ℕ) → is_fine os ≡ true → begins (codes "!") os ≡ false
+uncommented_after [] h = refl
+uncommented_after (a ∷ []) h = absurd (false≢true h)
+uncommented_after (a ∷ b ∷ os) h = no_bang (33 == a) ((116 == a) && (105 == b)) h
 
 untitled_here : (g : Bool) (os : List ℕ) → (not g || is_fine os) ≡ true → (g && begins (codes "title>row ") os) ≡ false
-untitled_here true os h = untitled_behind os h
+untitled_here true os h = untitled_after os h
 untitled_here false os h = refl
 
 uncommented_here : (g : Bool) (os : List ℕ) → (not g || is_fine os) ≡ true → (g && begins (codes "!") os) ≡ false
-uncommented_here true os h = uncommented_behind os h
+uncommented_here true os h = uncommented_after os h
 uncommented_here false os h = refl
 
 untitled : (text : List ℕ) → is_clear text ≡ true → holds (codes "<title>row ") text ≡ false

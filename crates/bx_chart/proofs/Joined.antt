@@ -1,4 +1,4 @@
--- A picture, piece behind piece.
+-- A picture, piece after piece.
 use Rattle.std.proofs.Common.{◌≡◌, ℕ, List, ◌++◌, Result, Ok, Err, OnOk, ◌∙◌, ap, append_assoc, []}
 use Rattle.bx_chart.specs.Frames.{row_words, service_words}
 
@@ -10,7 +10,7 @@ pub on_ok : {T E A B : Type 0} (r : Result T E) → (A → B) → OnOk r A → O
 on_ok (Ok x) f a = f a
 on_ok (Err e) f a = tt
 
--- one piece behind another
+-- one piece after another
 pub two : (old a b first second : List ℕ) → first ≡ old ++ a → second ≡ first ++ b → second ≡ old ++ (a ++ b)
 two old a b first second p q = q ∙ ap (λ (t : List ℕ). t ++ b) p ∙ append_assoc old a b
 
@@ -26,6 +26,6 @@ headed t0 t1 t2 t3 t4 o p o' p' style counts e0 e1 e2 e3 e4 e5 e6 = cc
 pub counted : (total : List ℕ) (a a' r r' m m' s s' : ℕ) → a ≡ a' → r ≡ r' → m ≡ m' → s ≡ s' → (total ++ row_words a r m) ++ service_words s ≡ (total ++ row_words a' r' m') ++ service_words s'
 counted total a a' r r' m m' s s' e1 e2 e3 e4 = cc
 
--- three texts that are added one behind the other to none
+-- three texts that are added one after the other to none
 pub fronted : (t0 t1 t2 t3 a b d : List ℕ) → t0 ≡ [] → t1 ≡ t0 ++ a → t2 ≡ t1 ++ b → t3 ≡ t2 ++ d → t3 ≡ a ++ b ++ d
 fronted t0 t1 t2 t3 a b d e0 e1 e2 e3 = cc

@@ -1,4 +1,4 @@
--- Lanes, one behind another.
+-- Lanes, one after another.
 use Rattle.std.proofs.Common.{◌≡◌, ◌∙◌, ◌+◌, ◌*◌, ℕ, suc, Bool, true, false, List, [], ◌++◌, ap, sym, append_assoc, append-nil, if◌then◌else◌, arith}
 use Rattle.bx_base.specs.Channels.{has_channel}
 use Rattle.bx_base.proofs.SumLemmas.{sum_below-next}

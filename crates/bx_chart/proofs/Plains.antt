@@ -25,7 +25,7 @@ pub plain_append : (a b : List ℕ) → is_plain a ≡ true → is_plain b ≡ t
 plain_append [] b h k = k
 plain_append (o ∷ os) b h k = both (is_plain_octet o) (is_plain (os ++ b)) (first_of (is_plain_octet o) (is_plain os) h) (plain_append os b (second_of (is_plain_octet o) (is_plain os) h) k)
 
--- a piece behind another, or what was there
+-- a piece after another, or what was there
 pub plain_joined : (done : Bool) (a b : List ℕ) → is_plain a ≡ true → is_plain b ≡ true → is_plain (if done then a ++ b else a) ≡ true
 plain_joined true a b h k = plain_append a b h k
 plain_joined false a b h k = h

@@ -39,7 +39,7 @@ pay_of row = row.number ++ codes " pays " ++ decimal row.pay
 abbrev pub words_of : Row → ℕ → List ℕ
 words_of row name = (codes "<title>row " ++ decimal name ++ codes ": ") ++ pay_of row
 
--- a second behind the day's start in seconds from midnight: as the day's clock shows it, or without one, or out of its range, the same
+-- a second after the day's start in seconds from midnight: as the day's clock shows it, or without one, or out of its range, the same
 abbrev pub second_at : Option Clock → ℕ → ℕ
 second_at None second = second
 second_at (Some day_clock) second = unwrap_or (second_shown_by day_clock second) second

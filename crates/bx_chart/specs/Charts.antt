@@ -14,7 +14,7 @@ use Rattle.bx_chart.specs.declared.writing.ChartFault.{ChartFault}
 use Rattle.bx_chart.specs.declared.writing.ChartFault.TheVariants as fault
 
 -- a picture: LF and printable ASCII, with the total and the counts, what one more channel would add, a lane for each channel in
--- service, the bars of all that the plan accepts in the order of the rows, and no bar behind them; and the hours at its end
+-- service, the bars of all that the plan accepts in the order of the rows, and no bar after them; and the hours at its end
 pub record IsChart (plan : Parts) (gain : ℕ) (clock : Option Clock) (text : List ℕ) : Type 0 where
   pub plain : is_plain text ≡ true
   pub between : List ℕ

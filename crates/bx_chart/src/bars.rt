@@ -182,14 +182,14 @@ pub fn add_times(
     add_time(picture, clock, booking.end())
 }
 
-/// Adds a second behind the day's start, as the day's clock shows it.
+/// Adds a second after the day's start, as the day's clock shows it.
 pub fn add_time(picture: &mut Picture, clock: Option<&Clock>, second: u32) -> Result<(), AllocError>
     ensures { OnOk result (picture.new.text.items ≡ picture.old.text.items ++ time_of (option_copied clock.entry) second) }
 {
     add_clock(picture, second_at(clock, second))
 }
 
-/// A second behind the day's start in seconds from midnight on, as the day's clock shows it.
+/// A second after the day's start in seconds from midnight on, as the day's clock shows it.
 fn second_at(clock: Option<&Clock>, second: u32) -> u32
     ensures { result ≡ second_at (option_copied clock.entry) second }
 {

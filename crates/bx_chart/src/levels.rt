@@ -22,8 +22,8 @@ fn changes_of(alloc: Global, plan: &Plan) -> Result<Vec<(u32, bool)>, AllocError
     Ok(changes)
 }
 
-/// How many run behind a change.
-fn level_behind(level: u64, rises: bool) -> u64 {
+/// How many run after a change.
+fn level_after(level: u64, rises: bool) -> u64 {
     if rises {
         level.saturating_add(1)
     } else {
@@ -36,7 +36,7 @@ fn most_of(changes: &[(u32, bool)]) -> u64 {
     let mut level = 0;
     let mut most = 0;
     for (_, rises) in changes {
-        level = level_behind(level, *rises);
+        level = level_after(level, *rises);
         if most < level {
             most = level;
         }
@@ -62,7 +62,7 @@ pub(crate) fn add_refused(
     piece.add_number(b"<path class='refused' d='M0 ", most)?;
     let mut level = 0;
     for (moment, rises) in &changes {
-        level = level_behind(level, *rises);
+        level = level_after(level, *rises);
         piece.add_number(b"H", u64::from(*moment))?;
         piece.add_number(b"V", most.saturating_sub(level))?;
     }

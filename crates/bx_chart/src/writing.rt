@@ -24,7 +24,7 @@ use thiserror::Error;
 /// Why a picture was not written.
 #[derive(Clone, Copy, Debug, PartialEq, Eq, Error)]
 pub enum ChartFault {
-    /// A growth was refused: nothing was written.
+    /// Memory ran out: nothing was written.
     #[error("Memory")]
     Memory,
     /// A write failed, or took none of what it was given: a front of the picture was written.
@@ -68,7 +68,7 @@ fn chart(
 }
 
 /// Writes a picture of a plan, in SVG 1.1: of the day of a clock with the hours that it shows, or of 86,400 seconds with the
-/// hours from midnight on. It says of this gain that one more channel would add it. `Memory` where a growth is refused, before
+/// hours from midnight on. It says of this gain that one more channel would add it. `Memory` where memory runs out, before
 /// anything is written; `WriteFailed` where a write fails, or takes none of what it was given.
 pub fn write_chart<W: Write>(
     alloc: Global,

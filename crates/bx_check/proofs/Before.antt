@@ -1,4 +1,4 @@
--- What prices come to before a moment: by the fronts of their list, and between the start and the end of a row.
+-- What prices come to before a moment: by the prefixes of their list, and between the start and the end of a row.
 use Rattle.std.proofs.Common.{zero, suc, ◌≡◌, ℕ, ◌+◌, ◌<◌, ◌≤◌, cond, ◌&&◌, leb, ltb, List, [], ◌∷◌, length, map, get_or, take, refl, sym, ◌∙◌, ap, arith, inl, inr}
 use Rattle.std.specs.List.{sum_by}
 use Rattle.std.proofs.lemmas.Bool.{cases_lt}
@@ -38,13 +38,13 @@ none t m a h = grind (arith, nat_tests)
 
 -- where just the first n prices stand before a moment, they come to the sum of the first n
 pub before_first : (prices : List Charge) (t n : ℕ) → n ≤ length prices → ((k : ℕ) → k < n → (price_at prices k).moment < t) → ((k : ℕ) → n ≤ k → k < length prices → t ≤ (price_at prices k).moment) → sum_before prices t ≡ sum_of_prices (take n prices)
-before_first [] t zero h before behind = refl
-before_first [] t (suc n) h before behind = absurd (omega arith)
-before_first (p ∷ ps) t zero h before behind =
-    let rest = before_first ps t zero (omega arith) (λ k b. absurd (omega (arith, b))) (λ k a b. behind (suc k) (omega arith) (omega (arith, b))) in
-    omega (arith, rest, none t p.moment p.amount (behind zero (omega arith) (omega arith)), sum_by-cons (λ q. cond (ltb q.moment t) q.amount 0) p ps)
-before_first (p ∷ ps) t (suc n) h before behind =
-    let rest = before_first ps t n (omega arith) (λ k b. before (suc k) (omega (arith, b))) (λ k a b. behind (suc k) (omega (arith, a)) (omega (arith, b))) in
+before_first [] t zero h before following = refl
+before_first [] t (suc n) h before following = absurd (omega arith)
+before_first (p ∷ ps) t zero h before following =
+    let rest = before_first ps t zero (omega arith) (λ k b. absurd (omega (arith, b))) (λ k a b. following (suc k) (omega arith) (omega (arith, b))) in
+    omega (arith, rest, none t p.moment p.amount (following zero (omega arith) (omega arith)), sum_by-cons (λ q. cond (ltb q.moment t) q.amount 0) p ps)
+before_first (p ∷ ps) t (suc n) h before following =
+    let rest = before_first ps t n (omega arith) (λ k b. before (suc k) (omega (arith, b))) (λ k a b. following (suc k) (omega (arith, a)) (omega (arith, b))) in
     omega (arith, rest, kept t p.moment p.amount (before zero (omega arith)), sum_by-cons (λ q. cond (ltb q.moment t) q.amount 0) p ps, sum_by-cons (λ (q : Charge). q.amount) p (take n ps))
 
 -- all prices up to one that stands before a moment do
@@ -56,8 +56,8 @@ before_middle prices rising m t b h k a =
     ]
 
 -- all prices from one on that does not are not before it
-pub behind_middle : (prices : List Charge) → IsRising prices → (m t : ℕ) → t ≤ (price_at prices m).moment → (k : ℕ) → m ≤ k → k < length prices → t ≤ (price_at prices k).moment
-behind_middle prices rising m t h k a b =
+pub after_middle : (prices : List Charge) → IsRising prices → (m t : ℕ) → t ≤ (price_at prices m).moment → (k : ℕ) → m ≤ k → k < length prices → t ≤ (price_at prices k).moment
+after_middle prices rising m t h k a b =
     elim (cases_lt m k) [
       | inl x ↦ omega (arith, h, rises prices rising m k x b)
       | inr x ↦ (let e : k ≡ m = omega arith in rw e h)
@@ -67,10 +67,10 @@ behind_middle prices rising m t h k a b =
 pub record IsCountBefore (prices : List Charge) (t n : ℕ) : Type 0 where
   pub limit : n ≤ length prices
   pub before : (k : ℕ) → k < n → (price_at prices k).moment < t
-  pub behind : (k : ℕ) → n ≤ k → k < length prices → t ≤ (price_at prices k).moment
+  pub following : (k : ℕ) → n ≤ k → k < length prices → t ≤ (price_at prices k).moment
 
 sum_at : (prices : List Charge) (sums own : List ℕ) (t n : ℕ) → AreSums prices sums → own ≡ sums → IsCountBefore prices t n → get_or own n 0 ≡ sum_before prices t
-sum_at prices sums own t n are e c = rw e (are.each n c.limit ∙ sym (before_first prices t n c.limit c.before c.behind))
+sum_at prices sums own t n are e c = rw e (are.each n c.limit ∙ sym (before_first prices t n c.limit c.before c.following))
 
 -- what a row costs is what the sums differ by
 pub cost_from : (prices : List Charge) (row : Row) (sums first last : List ℕ) (start end s e : ℕ) → AreSums prices sums → first ≡ sums → last ≡ sums → start ≡ row.start → end ≡ row.end → row.start < row.end → IsCountBefore prices start s → IsCountBefore prices end e → cost_of prices row + get_or first s 0 ≡ get_or last e 0

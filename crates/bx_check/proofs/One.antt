@@ -113,17 +113,17 @@ module _ (rows : List Row) (channels : List Bool) (plan : Parts) where
   stopped (Err (NotProved bound)) h next = h.4 (let whole = h.3 ∙ next.3 in omega (arith, ints, whole))
   stopped (Ok total) h next = next
 
-  -- an answer does not stand behind another
-  not_behind : (r s : Result ℕ CheckFault) → IsOutcome rows channels plan r → IsOutcome rows channels plan s → tests r < tests s → ⊥
-  not_behind r s h k less =
+  -- an answer does not stand after another
+  not_after : (r s : Result ℕ CheckFault) → IsOutcome rows channels plan r → IsOutcome rows channels plan s → tests r < tests s → ⊥
+  not_after r s h k less =
       let d = tests s - suc (tests r) in
       stopped r h (earlier (suc (tests r)) d (tests s) (omega arith) (passed s k))
 
   same_tests : (r s : Result ℕ CheckFault) → IsOutcome rows channels plan r → IsOutcome rows channels plan s → tests r ≡ tests s
   same_tests r s h k = elim (cases_order (tests r) (tests s)) [
     | inl e ↦ e
-    | inr (inl less) ↦ absurd (not_behind r s h k less)
-    | inr (inr more) ↦ absurd (not_behind s r k h more)
+    | inr (inl less) ↦ absurd (not_after r s h k less)
+    | inr (inr more) ↦ absurd (not_after s r k h more)
   ]
 
   -- what the numbers of an answer are, by how many tests were passed

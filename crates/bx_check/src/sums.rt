@@ -1,4 +1,4 @@
-//! What a booking costs, by the sums of the fronts of the price list.
+//! What a booking costs, by the sums of the prefixes of the price list.
 
 ghost use Rattle.std.specs.Prelude.{◌≡◌, ◌≤◌, ◌<◌, ℕ, length, map};
 ghost use Rattle.std.specs.List.Sorted.{IsStrictlyIncreasing};
@@ -12,7 +12,7 @@ use bx_base::{Booking, Price};
 /// What the first 0, 1, .. prices of a list come to. It stands on the stack, since a check takes no memory.
 pub type Sums = ArrayVec<u64, 8001>;
 
-/// The sums of the fronts of the list. There have to be at most 8,000 prices.
+/// The sums of the prefixes of the list. There have to be at most 8,000 prices.
 pub fn sums_of(prices: &[Price]) -> Sums
     requires { length prices.now ≤ MAX_PRICES }
     ensures { AreSums prices.now result.items }
@@ -32,7 +32,7 @@ fn count_before(prices: &[Price], moment: u32) -> usize
     requires { IsStrictlyIncreasing (map (λ p. p.moment) prices.now) }
     ensures limit { result ≤ length prices.now }
     ensures before { (k : ℕ) → k < result → (price_at prices.now k).moment < moment }
-    ensures behind { (k : ℕ) → result ≤ k → k < length prices.now → moment ≤ (price_at prices.now k).moment }
+    ensures following { (k : ℕ) → result ≤ k → k < length prices.now → moment ≤ (price_at prices.now k).moment }
 {
     let mut low = 0;
     let mut high = prices.len();
@@ -48,7 +48,7 @@ fn count_before(prices: &[Price], moment: u32) -> usize
     low
 }
 
-/// What the booking costs at these prices, whose moments rise strictly, and of whose list these are the sums of the fronts. Two
+/// What the booking costs at these prices, whose moments rise strictly, and of whose list these are the sums of the prefixes. Two
 /// searches by halving.
 pub fn cost(booking: &Booking, prices: &[Price], sums: &Sums) -> u64
     requires rising { IsStrictlyIncreasing (map (λ p. p.moment) prices.now) }

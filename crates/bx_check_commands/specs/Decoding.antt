@@ -20,13 +20,13 @@ pub record IsDecoded (text : List ℕ) (output : Writing) : Type 0 where
   pub text_of : IsHexMessage text message
   pub written : Appends output.before output.after (message_lines message)
 
--- a front of these lines was written
+-- a prefix of these lines was written
 pub record IsCutDecoded (text : List ℕ) (output : Writing) : Type 0 where
   pub message : PlainMessage
   pub text_of : IsHexMessage text message
   pub written : AppendsPrefix output.before output.after (message_lines message)
 
--- a refusal: the text is no hexadecimal, its octets are no message, the output failed, or a growth was refused
+-- a refusal: the text is no hexadecimal, its octets are no message, the output failed, or memory ran out
 abbrev pub IsDecodeRefusal : List ℕ → Writing → CommandFault → Type 0
 IsDecodeRefusal text output NotHex = ((e : FromHexError) × (decode_of text ≡ Err e)) × KeepsOutput output
 IsDecodeRefusal text output (Message fault) = ((octets : List ℕ) × (decode_of text ≡ Ok octets) × (message_at octets ≡ Err fault)) × KeepsOutput output

@@ -9,7 +9,7 @@ abbrev pub IsUnopened : List ℕ → CommandFault → Type 0
 IsUnopened name (CannotRead n) = n.now ≡ name
 IsUnopened name _ = ⊥
 
--- a file of this name is not read, or holds a text that is no plan's, with just this first fault, or a growth is refused
+-- a file of this name is not read, or holds a text that is no plan's, with just this first fault, or memory runs out
 abbrev pub HasNoPlan : List ℕ → CommandFault → Type 0
 HasNoPlan name (CannotRead n) = n.now ≡ name
 HasNoPlan name (Plan fault) = IsNoPlanText None fault

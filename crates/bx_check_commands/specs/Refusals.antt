@@ -2,7 +2,7 @@
 use Rattle.std.specs.Prelude.{◌≡◌, ℕ, true, Bool, List, Option, Some, Err, codes, ◌⊎◌}
 use Rattle.bx_base.specs.Bookings.{Row}
 use Rattle.bx_devices.specs.Devices.{Reading, Writing, KeepsOutput}
-use Rattle.bx_devices.specs.Octets.{AppendsPrefix, ReadsFront, ReadsWithin, RunsOutOfReads}
+use Rattle.bx_devices.specs.Octets.{AppendsPrefix, ReadsPrefix, ReadsWithin, RunsOutOfReads}
 use Rattle.bx_base.specs.PlanParts.{Parts}
 use Rattle.bx_planfile.specs.Reading.{read_all}
 use Rattle.bx_planfile.specs.declared.fault.PlanTextFault.{PlanTextFault}
@@ -15,9 +15,9 @@ use Rattle.bx_check_commands.specs.declared.fault.CommandFault.TheVariants.{Cann
 -- an input of this name was not read to its end: it failed, or 8,388,608 reads did not reach the end though each gave an
 -- octet, or it is too long
 abbrev pub IsUnread : List ℕ → Reading → List ℕ → Type 0
-IsUnread name input said = (said ≡ name) × ((input.is_faulted ≡ true) ⊎ RunsOutOfReads input.before input.after input.reads_before ⊎ ReadsFront input.before input.after 4194305)
+IsUnread name input said = (said ≡ name) × ((input.is_faulted ≡ true) ⊎ RunsOutOfReads input.before input.after input.reads_before ⊎ ReadsPrefix input.before input.after 4194305)
 
--- a growth was refused while an input was read or its plan built: no read had failed, and no octet too many had come
+-- memory ran out while an input was read or its plan built: no read had failed, and no octet too many had come
 abbrev pub IsRefusedGrowth : Reading → Type 0
 IsRefusedGrowth input = (input.is_faulted ≡ input.was_faulted) × ReadsWithin input.before input.after 4194304
 
@@ -51,7 +51,7 @@ pub record IsFaultyAgainst (rows : List Row) (channels : List Bool) (before : Op
   pub read : IsPlanRead before plan
   pub outcome : IsOutcome rows channels plan (Err fault)
 
--- a refusal says what went wrong, and that nothing was written, or a front of what was to be written
+-- a refusal says what went wrong, and that nothing was written, or a prefix of what was to be written
 abbrev pub IsRefusal : Reading → Writing → CommandFault → Type 0
 IsRefusal input output CannotWrite = (output.is_faulted ≡ true) × ((total : ℕ) × IsProvedText input.before total × AppendsPrefix output.before output.after (proved_line total))
 IsRefusal input output fault = IsUnproved (codes "-") input fault × KeepsOutput output

@@ -3,7 +3,7 @@
 use std::fmt::Display;
 use std::io;
 
-/// Says so on standard error, with what it was asked about, in a line of its own in front of that of the fault.
+/// Says so on standard error, with what it was asked about, in a line of its own before that of the fault.
 pub fn tell_cause<H: Eprint, A: Display>(rt: &H, about: &A, cause: &io::Error) {
     let _ = eprintln!(rt; "cause: {about}: {cause}");
 }

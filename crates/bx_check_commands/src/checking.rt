@@ -20,7 +20,7 @@ use std::alloc::Global;
 use std::io::{Read, Write};
 
 /// The plan whose text is read to the end of an input of this name. It need not be proved. `CannotRead` with the name where the
-/// input fails, does not end, or is too long; `Plan` where what was read is no plan text; `Memory` where a growth is refused.
+/// input fails, does not end, or is too long; `Plan` where what was read is no plan text; `Memory` where memory runs out.
 pub fn plan_from<'a, R: Read>(
     alloc: Global,
     name: &'a str,
@@ -104,7 +104,7 @@ fn judge<'a, W: Write>(
 
 /// Reads a plan text to the end of the input, checks the plan against the bookings and channels that it states
 /// itself, and writes `proved `, the total and LF. Answers the total. At a refusal nothing was written, except that
-/// where the output failed a front of that line was. The faults of `proved_plan`, with the name `-`, and then `CannotWrite`.
+/// where the output failed a prefix of that line was. The faults of `proved_plan`, with the name `-`, and then `CannotWrite`.
 pub fn check_self<'a, R: Read, W: Write>(
     alloc: Global,
     input: &mut Watched<R>,

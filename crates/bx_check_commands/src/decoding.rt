@@ -27,9 +27,9 @@ fn octets_of<'a>(alloc: Global, text: &str) -> Result<Vec<u8>, CommandFault<'a>>
 }
 
 /// Writes the lines of the message whose octets the text has in hexadecimal: its type, its reference, and its elements
-/// in order, each with its codeset. At a refusal nothing was written, except that where the output failed a front of
+/// in order, each with its codeset. At a refusal nothing was written, except that where the output failed a prefix of
 /// the lines was. `NotHex` where the text is not pairs of hexadecimal digits, `Message` where the octets are no message,
-/// `CannotWrite` where the output fails, `Memory` where a growth is refused.
+/// `CannotWrite` where the output fails, `Memory` where memory runs out.
 pub fn decode<'a, W: Write>(
     alloc: Global,
     text: &str,

@@ -27,7 +27,7 @@ pub enum CommandFault<'a> {
     /// The octets are no message.
     #[error("{0}")]
     Message(MessageFault),
-    /// A growth was refused.
+    /// Memory ran out.
     #[error("Memory")]
     Memory,
 }

@@ -44,7 +44,7 @@ MeetsAny tells name is_written [] met = ⊥
 MeetsAny tells name is_written (None ∷ rest) met = MeetsAny tells name is_written rest met
 MeetsAny tells name is_written (Some other ∷ rest) met = (Meets tells name is_written other × (met ≡ other.name.now)) ⊎ MeetsAny tells name is_written rest met
 
--- one of these meets one behind it, which has this name
+-- one of these meets one after it, which has this name
 abbrev pub HaveMet : (List ℕ → Option Location → Type 0) → List (Option FileUse) → List ℕ → Type 0
 HaveMet tells [] met = ⊥
 HaveMet tells (None ∷ rest) met = HaveMet tells rest met

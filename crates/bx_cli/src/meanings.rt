@@ -9,7 +9,7 @@ use std::io::Write;
 /// Where the meaning begins in a row of the list of faults.
 const MEANING: usize = 22;
 
-/// The names of a fault's values in the list of faults, behind its code and its name, and its meaning; none where it is not there.
+/// The names of a fault's values in the list of faults, after its code and its name, and its meaning; none where it is not there.
 fn listed(code: &str) -> Option<(&'static str, &'static str)> {
     for row in FAULTS.lines() {
         if let Some((head, meaning)) = row.split_at_checked(MEANING)
@@ -70,7 +70,7 @@ fn file_of<'a>(code: &str, files: &[Option<FileUse<'a>>]) -> Option<&'a str> {
     None
 }
 
-/// The line in which a row of bookings or of a script stands: rows are counted behind the header.
+/// The line in which a row of bookings or of a script stands: rows are counted after the header.
 fn line_of(code: &str, values: &str) -> Option<u32> {
     if !code.starts_with('B') && !code.starts_with('S') {
         return None;

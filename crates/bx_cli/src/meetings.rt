@@ -55,7 +55,7 @@ fn met_by<'a, H: Locates>(
     None
 }
 
-/// The first of these files that one in front of it meets.
+/// The first of these files that one before it meets.
 fn met_among<'a, H: Locates>(rt: &H, files: &[Option<FileUse<'a>>]) -> Option<&'a str>
     ensures met { IfSome result (λ met. HaveMet (H.tells rt.now) files.now met.now) }
     ensures apart { result ≡ None → AreApart (H.tells rt.now) files.now }

@@ -38,8 +38,8 @@ struct Asked<'a> {
     is_terminal: bool,
 }
 
-/// Does what the words behind the program's name ask for, and answers the status: 0 done, 1 refused, 2 wrong
-/// words. Without words it is `check_self`, whose refusal is printed behind `bx: ` as one line on standard error.
+/// Does what the words after the program's name ask for, and answers the status: 0 done, 1 refused, 2 wrong
+/// words. Without words it is `check_self`, whose refusal is printed after `bx: ` as one line on standard error.
 /// A failing standard error changes no status. A command of which a file would be written that it names twice is refused by `SameFile` before
 /// anything is opened. While a day runs its moment is shown on standard error, where that is a
 /// terminal.

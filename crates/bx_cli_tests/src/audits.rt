@@ -26,7 +26,7 @@ static JOURNALS: [(&str, &str); 9] = [
         "late.journal",
         "bx-journal 1\nplan 2115e49ff6c2d6cbbe45cbc298589d645d156451f70f44ccb653b62c10c98e95\ndown\ntick\n",
     ),
-    // An outage behind which the far end answers, and one behind which no word comes.
+    // An outage after which the far end answers, and one after which no word comes.
     (
         "asked.journal",
         "bx-journal 1\nplan 2115e49ff6c2d6cbbe45cbc298589d645d156451f70f44ccb653b62c10c98e95\ntick\nheard 0802800107\ndown\ntick\nheard 080280017D0802809E14010A\ntick\ntick\ntick\ntick\ntick\ntick\ntick\ntick\ntick\nheard 080280014D\n",
@@ -115,17 +115,17 @@ struct Packet<'a> {
     moment: u32,
     came: bool,
     message: &'a [u8],
-    behind: &'a [u8],
+    following: &'a [u8],
 }
 
-/// The packet at the front.
+/// The packet at the start.
 fn first_packet(octets: &[u8]) -> Option<Packet<'_>> {
     let length = u16::from_be_bytes([*octets.get(10)?, *octets.get(11)?]) as usize;
     Some(Packet {
         moment: u16::from_be_bytes([*octets.get(2)?, *octets.get(3)?]) as u32,
         came: *octets.get(31)? == 1,
         message: octets.get(36..)?.get(..length.saturating_sub(20))?,
-        behind: octets.get(16..)?.get(length..)?,
+        following: octets.get(16..)?.get(length..)?,
     })
 }
 
@@ -167,7 +167,7 @@ fn journal_by(
         if packet.came {
             put_heard(&mut journal, packet.message)?;
         }
-        rest = packet.behind;
+        rest = packet.following;
     }
     put_ticks(&mut journal, turns.saturating_sub(moment))?;
     Ok(journal)

@@ -3,7 +3,7 @@
 use crate::file_commands::{Case, first_wrong};
 use crate::files::{folder, placed};
 use crate::program::Answer::{Fails, Misused, Prints};
-use crate::program::is_front_written;
+use crate::program::is_prefix_written;
 use std::fs;
 use std::test::Fail;
 
@@ -91,7 +91,7 @@ fn what_channels_would_earn(rt: HostRuntime) -> Result<(), Fail> {
     let words = ["capacity", "--date", "2026-01-05", bookings.as_str()];
     for taken in TAKEN {
         assert!(rt;
-            is_front_written(&rt, &words, ONE_BOOKING, taken),
+            is_prefix_written(&rt, &words, ONE_BOOKING, taken),
             "{taken}"
         );
     }

@@ -7,8 +7,8 @@ use std::test::Fail;
 /// The seconds of the messages of a captured day of one call: its set-up in the first second, and its end in the last.
 static SECONDS: [u32; 6] = [1, 1, 1, 60, 60, 60];
 
-/// What stands behind the packet at the front, where that has this second.
-fn behind(octets: &[u8], second: u32) -> Option<&[u8]> {
+/// What stands after the packet at the start, where that has this second.
+fn following(octets: &[u8], second: u32) -> Option<&[u8]> {
     if octets.get(..4)? != second.to_be_bytes().as_slice() {
         return None;
     }
@@ -16,11 +16,11 @@ fn behind(octets: &[u8], second: u32) -> Option<&[u8]> {
     octets.get(16..)?.get(length as usize..)
 }
 
-/// Whether a capture has packets just at these seconds behind the first.
+/// Whether a capture has packets just at these seconds after the first.
 fn has_seconds(octets: &[u8], first: u32) -> bool {
     let mut rest = octets.get(24..).unwrap_or(octets);
     for second in &SECONDS {
-        match behind(rest, first.wrapping_add(*second)) {
+        match following(rest, first.wrapping_add(*second)) {
             Some(left) => rest = left,
             None => return false,
         }
@@ -28,7 +28,7 @@ fn has_seconds(octets: &[u8], first: u32) -> bool {
     rest.is_empty()
 }
 
-/// Whether the words are done, and keep a capture with packets behind this second.
+/// Whether the words are done, and keep a capture with packets after this second.
 fn keeps(rt: &HostRuntime, folder: &str, words: &str, first: u32) -> Result<bool, Fail> {
     let done = (0, "1 carried 1 60\nmaintenance none\n", "");
     if !does(rt, folder, words, done)? {

@@ -37,7 +37,7 @@ fn readers_that_fail(rt: HostRuntime) -> Result<(), Fail> {
     Ok(())
 }
 
-/// Whether a writer that fails after so many writes of an octet is reported, and has that front of the line.
+/// Whether a writer that fails after so many writes of an octet is reported, and has that prefix of the line.
 fn writes(alloc: Global, calls: u32) -> bool {
     let mut input = Watched::new(ONE.as_bytes());
     let mut output = Watched::new(Failing::new(Vec::new(alloc), calls, 1));
@@ -48,8 +48,8 @@ fn writes(alloc: Global, calls: u32) -> bool {
         Err(CommandFault::CannotWrite)
     };
     let written = output.into_inner().into_inner();
-    let is_front = written.len() == calls as usize && b"proved 5\n".starts_with(&written);
-    done == expected && is_front
+    let is_prefix = written.len() == calls as usize && b"proved 5\n".starts_with(&written);
+    done == expected && is_prefix
 }
 
 #[test]
@@ -66,9 +66,9 @@ fn decodes(alloc: Global, calls: u32, most: usize) -> bool {
     let mut output = Watched::new(Failing::new(Vec::new(alloc), calls, most));
     let done = decode(alloc, "080280015A08028091", &mut output);
     let written = output.into_inner().into_inner();
-    let is_front = written.len() == (calls as usize).saturating_mul(most)
+    let is_prefix = written.len() == (calls as usize).saturating_mul(most)
         && LINES.as_bytes().starts_with(&written);
-    is_front && done.is_ok() == (written.len() == LINES.len())
+    is_prefix && done.is_ok() == (written.len() == LINES.len())
 }
 
 #[test]
@@ -102,8 +102,8 @@ fn against(alloc: Global, devices: (u32, u32, usize)) -> Option<(bool, usize)> {
         Ok(5)
     };
     let written = output.into_inner().into_inner();
-    let is_front = b"proved 5\n".starts_with(&written);
-    Some((done == expected && is_front, written.len()))
+    let is_prefix = b"proved 5\n".starts_with(&written);
+    Some((done == expected && is_prefix, written.len()))
 }
 
 #[test]

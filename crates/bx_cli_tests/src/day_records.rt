@@ -1,7 +1,7 @@
 //! Records that days of files write at their end.
 
 use crate::files::{does, parted, placed};
-use crate::program::{Expected, is_front_written};
+use crate::program::{Expected, is_prefix_written};
 use crate::records::folder_of_records;
 use std::fs;
 use std::test::Fail;
@@ -106,7 +106,7 @@ fn records_of_days_with_failing_outputs(rt: HostRuntime) -> Result<(), Fail> {
         "row,direction,number,channel,start,end,pay,outcome,from,until,seconds\n1,out,1234,1,0,60,5,carried,1,60,59\n";
     for taken in TAKEN {
         assert!(rt;
-            is_front_written(&rt, &parts, text, taken),
+            is_prefix_written(&rt, &parts, text, taken),
             "output {taken}"
         );
         assert!(rt; holds(&rt, &folder, records)?, "records {taken}");

@@ -155,7 +155,7 @@ static WRONG: [Case; 20] = [
 const HEAD: &str =
     "bx-journal 2 rules 1\nplan 2115e49ff6c2d6cbbe45cbc298589d645d156451f70f44ccb653b62c10c98e95\nday live 1577836800 1\n";
 
-/// Whether the journal of this name has the head, and behind it this text and so many seconds without a link.
+/// Whether the journal of this name has the head, and after it this text and so many seconds without a link.
 fn holds(
     rt: &HostRuntime,
     folder: &str,
@@ -171,7 +171,7 @@ fn holds(
     Ok(ends_with(rest, text.as_bytes(), down))
 }
 
-/// Whether octets are this text, and behind it so many seconds without a link.
+/// Whether octets are this text, and after it so many seconds without a link.
 pub(crate) fn ends_with(octets: &[u8], text: &[u8], down: usize) -> bool {
     match octets.strip_prefix(text) {
         Some(rest) => {
@@ -199,7 +199,7 @@ fn days_that_have_gone_by(rt: HostRuntime) -> Result<(), Fail> {
     Ok(())
 }
 
-/// A journal that a crash has torn goes on behind its whole lines. A call that is up where no link comes any more holds the day open, up to
+/// A journal that a crash has torn goes on after its whole lines. A call that is up where no link comes any more holds the day open, up to
 /// its last second.
 #[test]
 fn torn_journals(rt: HostRuntime) -> Result<(), Fail> {

@@ -17,7 +17,7 @@ static CASES: [Case; 9] = [
     (
         &["plan", "--date", "2026-01-05", "--channels", "1", "-"],
         "start\n",
-        "bx: B1 BadHeader\nstandard input: the first record of the bookings is none of the headers\n",
+        "bx: B1 BadHeader\nstandard input: the first line of the bookings is none of the headers\n",
     ),
     (
         &["explain", "-"],

@@ -58,8 +58,8 @@ fn is_answered(
 ) -> bool {
     match answer(alloc, text, devices) {
         Some((result, octets)) => {
-            let is_front = octets.len() == written && PLAN.as_bytes().starts_with(&octets);
-            is_front && result == expected
+            let is_prefix = octets.len() == written && PLAN.as_bytes().starts_with(&octets);
+            is_prefix && result == expected
         }
         None => false,
     }

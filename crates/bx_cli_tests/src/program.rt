@@ -63,9 +63,9 @@ pub(crate) fn is_done(done: &Done, expected: Expected<'_>) -> bool {
     is_told && done.status == status && done.output.as_slice() == output.as_bytes()
 }
 
-/// Whether an output that takes so many octets, one at a time, has just that front of this text, and the failure is printed and
+/// Whether an output that takes so many octets, one at a time, has just that prefix of this text, and the failure is printed and
 /// answered where that is not all of it.
-pub(crate) fn is_front_written(rt: &HostRuntime, words: &[&str], text: &str, taken: u32) -> bool {
+pub(crate) fn is_prefix_written(rt: &HostRuntime, words: &[&str], text: &str, taken: u32) -> bool {
     let mut input = Watched::new(b"".as_slice());
     let mut output = Watched::new(Failing::new(Vec::new(rt.alloc()), taken, 1));
     let mut errors = Watched::new(Vec::new(rt.alloc()));
@@ -77,6 +77,6 @@ pub(crate) fn is_front_written(rt: &HostRuntime, words: &[&str], text: &str, tak
     } else {
         (1, "bx: F2 CannotWrite\n")
     };
-    let is_front = written.len() == length && text.as_bytes().starts_with(&written);
-    is_front && status == expected && errors.into_inner().as_slice() == said.as_bytes()
+    let is_prefix = written.len() == length && text.as_bytes().starts_with(&written);
+    is_prefix && status == expected && errors.into_inner().as_slice() == said.as_bytes()
 }

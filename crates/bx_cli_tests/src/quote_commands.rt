@@ -3,7 +3,7 @@
 use crate::file_commands::{Case, first_wrong};
 use crate::files::{folder, placed};
 use crate::program::Answer::{Fails, Misused, Prints};
-use crate::program::is_front_written;
+use crate::program::is_prefix_written;
 use std::fs;
 use std::test::Fail;
 
@@ -108,7 +108,7 @@ fn answers_for_what_is_refused(rt: HostRuntime) -> Result<(), Fail> {
     let plan = placed(rt.alloc(), "@trade.txt", &folder)?;
     let words = ["explain", plan.as_str(), "2"];
     for taken in 0..70u32 {
-        assert!(rt; is_front_written(&rt, &words, TEXT, taken), "{taken}");
+        assert!(rt; is_prefix_written(&rt, &words, TEXT, taken), "{taken}");
     }
     fs::remove_dir_all(&rt, folder.as_str())?;
     Ok(())

@@ -3,7 +3,7 @@
 use crate::file_commands::{Case, first_wrong};
 use crate::files::{folder, parted, placed};
 use crate::program::Answer::{Fails, Misused, Prints};
-use crate::program::{is_done, is_front_written, run};
+use crate::program::{is_done, is_prefix_written, run};
 use std::alloc::{AllocError, Global};
 use std::fs;
 use std::test::Fail;
@@ -340,7 +340,7 @@ fn inputs_and_outputs_of_records(rt: HostRuntime) -> Result<(), Fail> {
     let parts = parted(rt.alloc(), &words)?;
     for taken in TAKEN {
         assert!(rt;
-            is_front_written(&rt, &parts, text, taken),
+            is_prefix_written(&rt, &parts, text, taken),
             "output {taken}"
         );
     }

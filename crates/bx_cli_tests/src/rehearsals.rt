@@ -1,4 +1,4 @@
-//! Days that are rehearsed with what happens on record, through the program's words.
+//! Days that are rehearsed with what happens logged, through the program's words.
 
 use crate::file_commands::{Case, first_wrong};
 use crate::files::{does, folder, placed};

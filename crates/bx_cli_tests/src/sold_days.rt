@@ -19,7 +19,7 @@ static FILES: [(&str, &str); 13] = [
         "sold.journal",
         "bx-journal 2 rules 1\nplan 7c35ee9492f27e9c9fec6d438270c41290c5bc10066cef31da15ea69a39e4bae\nday live 1577836800 1\ntick\nheard 0802800107\nsold 30 50 6 5678 - free out\nsold 60 90 2 99 - must out\ntick\ntick\ntick\ntick\ntick\ntick\ntick\ntick\ntick\ntick\ntick\ntick\ntick\ntick\ntick\ntick\ntick\ntick\ntick\ntick\ntick\ntick\ntick\ntick\ntick\ntick\ntick\ntick\ntick\nheard 0802800407\n",
     ),
-    ("front.journal", FRONT),
+    ("front.journal", PREFIX),
     (
         "unsold.journal",
         "bx-journal 2 rules 1\nplan 7c35ee9492f27e9c9fec6d438270c41290c5bc10066cef31da15ea69a39e4bae\nday live 1577836800 1\ntick\n",
@@ -60,7 +60,7 @@ static FILES: [(&str, &str); 13] = [
 ];
 
 /// The journal in `front.journal`, and that in `same.journal`.
-const FRONT: &str =
+const PREFIX: &str =
     "bx-journal 2 rules 1\nplan 7c35ee9492f27e9c9fec6d438270c41290c5bc10066cef31da15ea69a39e4bae\nday live 1577836800 1\ndown\nsold 30 50 6 5678 - free out\nsold 60 90 2 99 - must out\n";
 
 const SAME: &str =
@@ -127,7 +127,7 @@ static CASES: [Case; 21] = [
     ("sold @two.txt @sold.journal --date 2026-01-05", Misused),
 ];
 
-/// A day that goes on behind what was sold, until its last booking is over; and days that do not go on.
+/// A day that goes on after what was sold, until its last booking is over; and days that do not go on.
 static LIVE: [Case; 7] = [
     (
         "serve @two.txt --live --line 19809:19810 --date 2020-01-01 --journal @front.journal",
@@ -161,7 +161,7 @@ static LIVE: [Case; 7] = [
     ),
 ];
 
-/// Days with a booking office in front of them; and why others have none. The first three stand at one place one after another.
+/// Days with a booking office beside them; and why others have none. The first three stand at one place one after another.
 static OFFICES: [Case; 11] = [
     (
         "serve @two.txt --live --line 19811:19812 --date 2020-01-01 --journal @office.journal --turns 130 --office @office.sock",
@@ -306,7 +306,7 @@ fn days_with_sales(rt: HostRuntime) -> Result<(), Fail> {
     let path = placed(rt.alloc(), "@front.journal", &folder)?;
     let octets = fs::read(&rt, path.as_str())?;
     assert!(rt;
-        ends_with(&octets, FRONT.as_bytes(), 127),
+        ends_with(&octets, PREFIX.as_bytes(), 127),
         "each second up to the last"
     );
     let path = placed(rt.alloc(), "@same.journal", &folder)?;

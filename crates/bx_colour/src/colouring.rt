@@ -14,7 +14,7 @@ use std::alloc::{AllocError, Global};
 /// In the order of (start, row) each accepted booking gets the lowest channel of the set that no earlier accepted booking has
 /// which overlaps it (M. C. Carlisle and E. L. Lloyd, On the k-coloring of intervals, 1995). There has to be one mark for each
 /// booking, and at no moment may more accepted bookings run than there are channels: `fits` says so. Time n log n in the
-/// bookings, memory linear. `AllocError` where a growth is refused.
+/// bookings, memory linear. `AllocError` where memory runs out.
 pub fn colour(
     alloc: Global,
     bookings: &Bookings,

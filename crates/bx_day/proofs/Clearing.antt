@@ -55,7 +55,7 @@ grows x = by_cases x.lasts _ _ (λ (n : ℕ). added x + 1 ≤ x.seconds + 1 + 4 
 begins : (x : Lost) → x.lasts ≡ false → added x + 5 ≤ added (one_more x)
 begins x first = by_cases x.lasts _ _ (λ (n : ℕ). added x + 5 ≤ x.seconds + 1 + 4 * n) (λ lasts. absurd (true≢false (sym lasts ∙ first))) (λ _. omega arith)
 
--- a link behind it
+-- a link after it
 linked_state : (lasts : Bool) (m : ℕ) (s : NetState) → ClearsBy lasts m s → ClearsBy false m s
 linked_state lasts m OutgoingCallProceeding h = tt
 linked_state lasts m (CallPresent again due) h = tt
@@ -134,7 +134,7 @@ second_clears x t e r ch o (ReleaseRequest false cause due) a h c =
 second_clears x t e r ch o (ReleaseRequest true cause due) a h c =
     clears_test (nat_le due (t + 1)) (linked x) (t + 1) e a _ _ (λ _. over_clears (linked x) (t + 1) (t + 1) e.booking a) (λ _ late. (refl, within t e.booking.end (added x) due 4 38 (λ over. (c over).1) h.due.1 (omega arith) late))
 
--- a second without a link: RELEASE is due in the next. Of those behind the end, what is added is one more, and T308 in the first of an
+-- a second without a link: RELEASE is due in the next. Of those after the end, what is added is one more, and T308 in the first of an
 -- outage
 still_clears_at : (t end n n' due room : ℕ) → (end ≤ t → n + 1 ≤ n') → (end ≤ t → due ≤ end + n + room) → t < due → 1 ≤ room → end ≤ t + 1 → t + 1 + 1 ≤ end + n' + room
 still_clears_at t end n n' due room more c waits some late = elim (cases_lt t end) [

@@ -173,7 +173,7 @@ quiet_booking d i quiet =
     absurd (omega (arith, rises, kept)))
     (λ later. let lt : d.moment + 1 < due_at d i = leb-false (due_at d i) (d.moment + 1) later in omega (arith, lt))
 
--- behind the quiet seconds a tick is not quiet
+-- after the quiet seconds a tick is not quiet
 pub not_quiet : (d : Day) (due k : ℕ) → IsDue d (length d.entries) due → due ≤ d.moment + k + 1 → IsQuietTick (later_by k d) → ⊥
 not_quiet d due k is le quiet =
     let early : d.moment + k < 300000 = quiet_early (later_by k d) quiet in

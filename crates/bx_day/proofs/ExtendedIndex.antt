@@ -145,7 +145,7 @@ fits_seat m t e n Missed h k = omega (arith, k, h.end)
 
 -- ---- the day
 
-module _ (d : Day) (rows : List Row) (channels : List Bool) (assigned : List (Option ℕ)) (live waiting behind : List (Option ℕ)) (bookings : AreBookings rows) (set : IsChannelSet channels) (carries : Carries rows channels (is_accepted assigned) (channel_at assigned)) (h : IsExchange d) (s : AreSlots d live waiting behind) (x : IsExtendedBy d rows assigned) where
+module _ (d : Day) (rows : List Row) (channels : List Bool) (assigned : List (Option ℕ)) (live waiting following : List (Option ℕ)) (bookings : AreBookings rows) (set : IsChannelSet channels) (carries : Carries rows channels (is_accepted assigned) (channel_at assigned)) (h : IsExchange d) (s : AreSlots d live waiting following) (x : IsExtendedBy d rows assigned) where
   abbrev news : List Entry
   news = entries_from 1 rows assigned
 
@@ -278,17 +278,17 @@ module _ (d : Day) (rows : List Row) (channels : List Bool) (assigned : List (Op
         ap (λ (e : Entry). is_unoffered e.standing) is ∙ waits_new (i + 1) (row_at rows i) (slice_index_or assigned i None) (ap (λ (e : Entry). is_refused e.standing) (sym is) ∙ accepted))
   ]
 
-  pub slots_extended : (heads behind' waiting' : List (Option ℕ)) → AreLinks all heads behind' → AreEarliest all (length all) waiting' → AreSlots (extended rows assigned d) live waiting' behind'
-  slots_extended heads behind' waiting' links anew = record {
+  pub slots_extended : (heads following' waiting' : List (Option ℕ)) → AreLinks all heads following' → AreEarliest all (length all) waiting' → AreSlots (extended rows assigned d) live waiting' following'
+  slots_extended heads following' waiting' links anew = record {
     live_size = s.live_size;
     waiting_size = anew.size;
-    behind_size = links.behind_size;
+    after_size = links.after_size;
     lives = λ c. record {
       there = λ i is. (let p = (s.lives c).there i is in (omega (arith, p.0, size, x.longer), ap (holds c) (old_at i p.0) ∙ holds_seat (d.moment + 1) c (entry_at d.entries i) (entry_at news i) (old_seat i p.0) ∙ p.1));
       each = λ i inside held. (let old = live_old i inside (holds_parts c (entry_at all i) held).0 in (s.lives c).each i old (sym (holds_seat (d.moment + 1) c (entry_at d.entries i) (entry_at news i) (old_seat i old)) ∙ ap (holds c) (sym (old_at i old)) ∙ held));
     };
     waits = λ c. earliest_waits all c (slot_at waiting' c) exchange_extended.day.pairs ordered_extended (anew.each c);
-    behinds = links.behinds;
+    followings = links.followings;
     ahead = ahead_at;
     ordered = ordered_extended;
   }

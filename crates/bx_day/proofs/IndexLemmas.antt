@@ -25,38 +25,38 @@ use Rattle.bx_day.proofs.Turns.{unoffered_accepted}
 use Rattle.bx_day.proofs.SlotLemmas.{holds_parts, waits_parts, waits_from}
 
 -- the slots do not depend on the moment, but for the bookings that are to come
-pub slots_later : (n : ℕ) (d : Day) (live waiting behind : List (Option ℕ)) → AreSlots d live waiting behind → AreSlots (later_by n d) live waiting behind
-slots_later n d live waiting behind h = record {
+pub slots_later : (n : ℕ) (d : Day) (live waiting following : List (Option ℕ)) → AreSlots d live waiting following → AreSlots (later_by n d) live waiting following
+slots_later n d live waiting following h = record {
   live_size = h.live_size;
   waiting_size = h.waiting_size;
-  behind_size = h.behind_size;
+  after_size = h.after_size;
   lives = h.lives;
   waits = h.waits;
-  behinds = h.behinds;
+  followings = h.followings;
   ordered = h.ordered;
   ahead = λ i lt accepted early. h.ahead i lt accepted (omega (arith, early));
 }
 
-pub skip_indexed : (n : ℕ) (d : Day) (live waiting behind : List (Option ℕ)) (due : ℕ) → IsQuietFor n d → IsIndexed d live waiting behind due → IsIndexed (later_by n d) live waiting behind due
-skip_indexed n d live waiting behind due quiet h = record {
+pub skip_indexed : (n : ℕ) (d : Day) (live waiting following : List (Option ℕ)) (due : ℕ) → IsQuietFor n d → IsIndexed d live waiting following due → IsIndexed (later_by n d) live waiting following due
+skip_indexed n d live waiting following due quiet h = record {
   exchange = skip_stays n d h.exchange quiet;
-  slots = slots_later n d live waiting behind h.slots;
+  slots = slots_later n d live waiting following h.slots;
   known = λ one. (let is = h.known one in record { limit = is.limit; ordered = is.ordered; before = is.before; latest = is.latest });
 }
 
 -- before the next due moment a tick is quiet
-pub idle_now : (d : Day) (live waiting behind : List (Option ℕ)) (due : ℕ) → d.moment + 1 < due → IsIndexed d live waiting behind due → IsQuietTick d
-idle_now d live waiting behind due lt h = subst IsQuietTick (later_none d) (quiet_until d due 0 h.exchange (h.known (omega (arith, lt))) (omega (arith, lt)))
+pub idle_now : (d : Day) (live waiting following : List (Option ℕ)) (due : ℕ) → d.moment + 1 < due → IsIndexed d live waiting following due → IsQuietTick d
+idle_now d live waiting following due lt h = subst IsQuietTick (later_none d) (quiet_until d due 0 h.exchange (h.known (omega (arith, lt))) (omega (arith, lt)))
 
-pub idle_indexed : (d : Day) (live waiting behind : List (Option ℕ)) (due : ℕ) → d.moment + 1 < due → IsIndexed d live waiting behind due → IsIndexed (later_by 1 d) live waiting behind due
-idle_indexed d live waiting behind due lt h = skip_indexed 1 d live waiting behind due (λ k small. quiet_until d due k h.exchange (h.known (omega (arith, lt))) (omega (arith, lt, small))) h
+pub idle_indexed : (d : Day) (live waiting following : List (Option ℕ)) (due : ℕ) → d.moment + 1 < due → IsIndexed d live waiting following due → IsIndexed (later_by 1 d) live waiting following due
+idle_indexed d live waiting following due lt h = skip_indexed 1 d live waiting following due (λ k small. quiet_until d due k h.exchange (h.known (omega (arith, lt))) (omega (arith, lt, small))) h
 
 -- where nothing is known of the next due moment, and where it is
-pub indexed_now : (d : Day) (live waiting behind : List (Option ℕ)) → IsExchange d → AreSlots d live waiting behind → IsIndexed d live waiting behind 0
-indexed_now d live waiting behind h s = record { exchange = h; slots = s; known = λ one. absurd (omega (arith, one)) }
+pub indexed_now : (d : Day) (live waiting following : List (Option ℕ)) → IsExchange d → AreSlots d live waiting following → IsIndexed d live waiting following 0
+indexed_now d live waiting following h s = record { exchange = h; slots = s; known = λ one. absurd (omega (arith, one)) }
 
-pub indexed_due : (d : Day) (live waiting behind : List (Option ℕ)) (due due' : ℕ) → IsDue d (length d.entries) due' → IsIndexed d live waiting behind due → IsIndexed d live waiting behind due'
-indexed_due d live waiting behind due due' is h = record { exchange = h.exchange; slots = h.slots; known = λ one. is }
+pub indexed_due : (d : Day) (live waiting following : List (Option ℕ)) (due due' : ℕ) → IsDue d (length d.entries) due' → IsIndexed d live waiting following due → IsIndexed d live waiting following due'
+indexed_due d live waiting following due due' is h = record { exchange = h.exchange; slots = h.slots; known = λ one. is }
 
 -- ---- the opening: nothing is live, and each accepted booking waits
 
@@ -81,13 +81,13 @@ opening_ordered rows assigned b i lt =
     let is : (entry_at (entries_from 1 rows assigned) i).booking ≡ row_at rows i = ap (λ (e : Entry). e.booking) (opening_at 1 (i + 1) rows assigned i (let q : 1 + i ≡ i + 1 = omega arith in q) inside) ∙ entry_booking (i + 1) (row_at rows i) _ in
     subst (λ (r : Row). r.start < r.end) (sym is) (b.each i inside).in_order
 
-pub opening_slots : (rows : List Row) (assigned : List (Option ℕ)) (d : Day) (heads behind : List (Option ℕ)) → AreBookings rows → d.entries ≡ entries_from 1 rows assigned → AreLinks d.entries heads behind → AreSlots d (replicate 32 None) heads behind
-opening_slots rows assigned d heads behind b is l =
+pub opening_slots : (rows : List Row) (assigned : List (Option ℕ)) (d : Day) (heads following : List (Option ℕ)) → AreBookings rows → d.entries ≡ entries_from 1 rows assigned → AreLinks d.entries heads following → AreSlots d (replicate 32 None) heads following
+opening_slots rows assigned d heads following b is l =
     let opened : (i : ℕ) → i < length d.entries → IsOpening (entry_at d.entries i) = subst (λ (es : List Entry). (i : ℕ) → i < length es → IsOpening (entry_at es i)) (sym is) (opening_each rows assigned) in
     record {
       live_size = refl;
       waiting_size = l.head_size;
-      behind_size = l.behind_size;
+      after_size = l.after_size;
       lives = λ c. record {
         there = λ i there. absurd (false≢true (ap is_some (sym (none_in 32 c) ∙ there)));
         each = λ i lt h. absurd (true≢false (sym (holds_parts c (entry_at d.entries i) h).0 ∙ (opened i lt).idle));
@@ -97,7 +97,7 @@ opening_slots rows assigned d heads behind b is l =
         each = λ i lt h. (let q = waits_parts c (entry_at d.entries i) h in (l.firsts c).each i lt (unoffered_accepted (entry_at d.entries i).standing q.0) q.1);
         first = λ i r lt h is less. (let q = waits_parts c (entry_at d.entries i) h in (l.firsts c).first i r lt (unoffered_accepted (entry_at d.entries i).standing q.0) q.1 is less);
       };
-      behinds = l.behinds;
+      followings = l.followings;
       ahead = λ i lt accepted early. (opened i lt).waits accepted;
       ordered = subst (λ (es : List Entry). (i : ℕ) → i < length es → (entry_at es i).booking.start < (entry_at es i).booking.end) (sym is) (opening_ordered rows assigned b);
     }
@@ -105,25 +105,25 @@ opening_slots rows assigned d heads behind b is l =
 -- ---- after a pass over the bookings
 
 -- what it leaves
-pub pass_moved : (link : Link) (t : ℕ) (items es new : List Entry) (ms ms' : List Bool) (said : List (Option Outgoing)) (live waiting behind seen second : List (Option ℕ)) (due : ℕ) (blocked : List Bool) (now : Day) → IsIndexed (day_of t items ms) live waiting behind due → es ≡ items → seen ≡ behind → day_of t items ms ≡ now → AreBlocked now blocked → ((c : ℕ) → slot_at second c ≡ follower seen (slot_at waiting c))
+pub pass_moved : (link : Link) (t : ℕ) (items es new : List Entry) (ms ms' : List Bool) (said : List (Option Outgoing)) (live waiting following seen second : List (Option ℕ)) (due : ℕ) (blocked : List Bool) (now : Day) → IsIndexed (day_of t items ms) live waiting following due → es ≡ items → seen ≡ following → day_of t items ms ≡ now → AreBlocked now blocked → ((c : ℕ) → slot_at second c ≡ follower seen (slot_at waiting c))
     → ((d : Day) → d ≡ day_of t es ms → IsExchange d → AreBlocked d blocked → AreTouched link d live waiting second → IsSecond link d new ms' said) → IsSecond link (day_of t es ms) new ms' said
-pass_moved link t items es new ms ms' said live waiting behind seen second due blocked now h same read view free follows moved =
+pass_moved link t items es new ms ms' said live waiting following seen second due blocked now h same read view free follows moved =
     let d = day_of t es ms in
     let day : day_of t items ms ≡ d = ap (λ (xs : List Entry). day_of t xs ms) (sym same) in
     let whole : IsExchange d = subst IsExchange day h.exchange in
-    let slots : AreSlots d live waiting behind = subst (λ (x : Day). AreSlots x live waiting behind) day h.slots in
-    moved d refl whole (subst (λ (x : Day). AreBlocked x blocked) (sym view ∙ day) free) (touched_of link d live waiting behind second whole slots (λ c. follows c ∙ ap (λ b. follower b (slot_at waiting c)) read))
+    let slots : AreSlots d live waiting following = subst (λ (x : Day). AreSlots x live waiting following) day h.slots in
+    moved d refl whole (subst (λ (x : Day). AreBlocked x blocked) (sym view ∙ day) free) (touched_of link d live waiting following second whole slots (λ c. follows c ∙ ap (λ b. follower b (slot_at waiting c)) read))
 
-pub pass_indexed : (link : Link) (t n : ℕ) (items es new seen : List Entry) (ms ms' : List Bool) (said : List (Option Outgoing)) (live waiting behind live' waiting' : List (Option ℕ)) → t < 300000 → IsExchange (day_of t items ms) → AreSlots (day_of t items ms) live waiting behind → es ≡ items → n ≡ length items
-    → IsSecond link (day_of t es ms) new ms' said → seen ≡ take n (new ++ drop (length new) items) → ((d : Day) → IsExchange d → d.moment < 300000 → seen ≡ map (after_in link d) d.entries → AreSlots d live waiting behind → AreSlots (passed_in link d).day live' waiting' behind)
-    → IsIndexed (day_of (t + 1) (take n (new ++ drop (length new) items)) ms') live' waiting' behind 0
-pass_indexed link t n items es new seen ms ms' said live waiting behind live' waiting' early h slots same all moved is settled =
+pub pass_indexed : (link : Link) (t n : ℕ) (items es new seen : List Entry) (ms ms' : List Bool) (said : List (Option Outgoing)) (live waiting following live' waiting' : List (Option ℕ)) → t < 300000 → IsExchange (day_of t items ms) → AreSlots (day_of t items ms) live waiting following → es ≡ items → n ≡ length items
+    → IsSecond link (day_of t es ms) new ms' said → seen ≡ take n (new ++ drop (length new) items) → ((d : Day) → IsExchange d → d.moment < 300000 → seen ≡ map (after_in link d) d.entries → AreSlots d live waiting following → AreSlots (passed_in link d).day live' waiting' following)
+    → IsIndexed (day_of (t + 1) (take n (new ++ drop (length new) items)) ms') live' waiting' following 0
+pass_indexed link t n items es new seen ms ms' said live waiting following live' waiting' early h slots same all moved is settled =
     let d = day_of t es ms in
     let whole : IsExchange d = subst (λ (xs : List Entry). IsExchange (day_of t xs ms)) (sym same) h in
     let count : length new ≡ length items = ap length moved.entries ∙ map_size link d es ∙ ap length same in
     let entries : take n (new ++ drop (length new) items) ≡ map (after_in link d) es = refilled n new items count all ∙ moved.entries in
     let day : day_of (t + 1) (take n (new ++ drop (length new) items)) ms' ≡ (passed_in link d).day = ap₂ (day_of (t + 1)) entries moved.maintenance in
-    subst (λ (x : Day). IsIndexed x live' waiting' behind 0) (sym day) (indexed_now (passed_in link d).day live' waiting' behind (passed_stays link d early whole) (settled d whole early (is ∙ entries) (subst (λ (xs : List Entry). AreSlots (day_of t xs ms) live waiting behind) (sym same) slots)))
+    subst (λ (x : Day). IsIndexed x live' waiting' following 0) (sym day) (indexed_now (passed_in link d).day live' waiting' following (passed_stays link d early whole) (settled d whole early (is ∙ entries) (subst (λ (xs : List Entry). AreSlots (day_of t xs ms) live waiting following) (sym same) slots)))
 
 pub pass_size : (link : Link) (t n : ℕ) (items es new seen : List Entry) (ms ms' : List Bool) (said : List (Option Outgoing)) → es ≡ items → n ≡ length items → IsSecond link (day_of t es ms) new ms' said → seen ≡ take n (new ++ drop (length new) items) → length seen ≡ length items
 pass_size link t n items es new seen ms ms' said same all moved is =

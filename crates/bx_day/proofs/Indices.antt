@@ -28,7 +28,7 @@ index_none test es before =
     none_chosen true n h = absurd (h refl)
     none_chosen false n h = refl
 
--- of a list with one more in front
+-- of a list with one more before it
 pub position_next : (test : Entry → Bool) (e : Entry) (es : List Entry) → position test (e ∷ es) ≡ (if test e then Some 0 else option_map suc (position test es))
 position_next test e es = step (test e) (position_or_len test es) (length es)
   where

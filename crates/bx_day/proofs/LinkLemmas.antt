@@ -11,7 +11,7 @@ use Rattle.bx_base.specs.Orders.{index_in}
 use Rattle.bx_base.proofs.Orders.{not_later, indices_differ}
 use Rattle.bx_day.specs.Linking.{IsOffered, begins, AreByStart, AreLinks}
 use Rattle.bx_day.specs.Reading.{Seated}
-use Rattle.bx_day.specs.Slots.{slot_at, IsBehind}
+use Rattle.bx_day.specs.Slots.{slot_at, IsFollowing}
 use Rattle.bx_day.specs.declared.entry.Entry.{Entry}
 use Rattle.bx_day.proofs.Once.{each_at}
 use Rattle.bx_day.proofs.LiveTurns.{pairs_at}
@@ -44,30 +44,30 @@ pub record IsPlan (es : List Entry) (order : List (ℕ × ℕ)) : Type 0 where
   pub ordered : (i : ℕ) → i < length es → (entry_at es i).booking.start < (entry_at es i).booking.end
 
 -- the bookings from this place on are linked
-pub record AreLinkedFrom (es : List Entry) (order : List (ℕ × ℕ)) (p : ℕ) (heads behind : List (Option ℕ)) : Type 0 where
+pub record AreLinkedFrom (es : List Entry) (order : List (ℕ × ℕ)) (p : ℕ) (heads following : List (Option ℕ)) : Type 0 where
   pub head_size : length heads ≡ 32
-  pub behind_size : length behind ≡ length es
+  pub after_size : length following ≡ length es
   pub there : (c r : ℕ) → slot_at heads c ≡ Some r → (q : ℕ) × (p ≤ q) × (q < length order) × (index_in order q ≡ r) × ((entry_at es r).channel ≡ c)
   pub each : (q : ℕ) → p ≤ q → q < length order → is_some (slot_at heads (entry_at es (index_in order q)).channel) ≡ true
   pub first : (q r : ℕ) → p ≤ q → q < length order → slot_at heads (entry_at es (index_in order q)).channel ≡ Some r → (entry_at es (index_in order q)).booking.start < (entry_at es r).booking.end → index_in order q ≡ r
-  pub behinds : (q : ℕ) → p ≤ q → q < length order → IsBehind es (index_in order q) (slot_at behind (index_in order q))
+  pub followings : (q : ℕ) → p ≤ q → q < length order → IsFollowing es (index_in order q) (slot_at following (index_in order q))
 
 pub none_in : (n c : ℕ) → slot_at (replicate n None) c ≡ None
 none_in zero c = refl
 none_in (suc n) zero = refl
 none_in (suc n) (suc c) = none_in n c
 
-pub none_linked : (es : List Entry) (order : List (ℕ × ℕ)) (p : ℕ) (behind : List (Option ℕ)) → length order ≤ p → length behind ≡ length es → AreLinkedFrom es order p (replicate 32 None) behind
-none_linked es order p behind le size = record {
+pub none_linked : (es : List Entry) (order : List (ℕ × ℕ)) (p : ℕ) (following : List (Option ℕ)) → length order ≤ p → length following ≡ length es → AreLinkedFrom es order p (replicate 32 None) following
+none_linked es order p following le size = record {
   head_size = refl;
-  behind_size = size;
+  after_size = size;
   there = λ c r is. absurd (false≢true (ap is_some (sym (none_in 32 c) ∙ is)));
   each = λ q low high. absurd (omega (arith, le, low, high));
   first = λ q r low high. absurd (omega (arith, le, low, high));
-  behinds = λ q low high. absurd (omega (arith, le, low, high));
+  followings = λ q low high. absurd (omega (arith, le, low, high));
 }
 
--- a booking of an index that starts where that of a place ends, or later, has a place behind it
+-- a booking of an index that starts where that of a place ends, or later, has a place after it
 later_place : (es : List Entry) (order : List (ℕ × ℕ)) (p i : ℕ) → IsPlan es order → p < length order → i < length es → is_refused (entry_at es i).standing ≡ false → (entry_at es (index_in order p)).booking.end ≤ (entry_at es i).booking.start → (q : ℕ) × (p + 1 ≤ q) × (q < length order) × (index_in order q ≡ i)
 later_place es order p i h lt inside accepted late =
     let f = h.sorted.all i inside accepted in
@@ -90,9 +90,9 @@ place_ends es order p q h less lt same =
     let b = h.sorted.each q lt in
     ends_first es (index_in order p) (index_in order q) h.apart a.within b.within (indices_differ (length es) (IsOffered es) (begins es) order h.sorted p q less lt) a.passes b.passes same (not_later (length es) (IsOffered es) (begins es) order h.sorted p q less lt) (h.ordered (index_in order q) b.within)
 
--- the slot of the channel says what comes behind the next place
-behind_place : (es : List Entry) (order : List (ℕ × ℕ)) (p : ℕ) (heads behind : List (Option ℕ)) → IsPlan es order → p < length order → AreLinkedFrom es order (p + 1) heads behind → IsBehind es (index_in order p) (slot_at heads (entry_at es (index_in order p)).channel)
-behind_place es order p heads behind h lt l =
+-- the slot of the channel says what comes after the next place
+after_place : (es : List Entry) (order : List (ℕ × ℕ)) (p : ℕ) (heads following : List (Option ℕ)) → IsPlan es order → p < length order → AreLinkedFrom es order (p + 1) heads following → IsFollowing es (index_in order p) (slot_at heads (entry_at es (index_in order p)).channel)
+after_place es order p heads following h lt l =
     let r = index_in order p in
     record {
       there = λ s is.
@@ -116,8 +116,8 @@ behind_place es order p heads behind h lt l =
 from_next : (p q : ℕ) → p ≤ q → q ≢ p → p + 1 ≤ q
 from_next p q le other = omega (arith, le, other)
 
-pub one_linked : (es : List Entry) (order : List (ℕ × ℕ)) (p r c : ℕ) (heads behind : List (Option ℕ)) (o : Option ℕ) → IsPlan es order → p < length order → r ≡ index_in order p → c ≡ (entry_at es r).channel → o ≡ slot_at heads c → AreLinkedFrom es order (p + 1) heads behind → AreLinkedFrom es order p (slice_set heads c (Some r)) (slice_set behind r o)
-one_linked es order p r c heads behind o h lt is on follows l =
+pub one_linked : (es : List Entry) (order : List (ℕ × ℕ)) (p r c : ℕ) (heads following : List (Option ℕ)) (o : Option ℕ) → IsPlan es order → p < length order → r ≡ index_in order p → c ≡ (entry_at es r).channel → o ≡ slot_at heads c → AreLinkedFrom es order (p + 1) heads following → AreLinkedFrom es order p (slice_set heads c (Some r)) (slice_set following r o)
+one_linked es order p r c heads following o h lt is on follows l =
     let here = h.sorted.each p lt in
     let inside : r < length es = subst (λ n. n < length es) (sym is) here.within in
     let high : (entry_at es (index_in order p)).channel ≤ 31 = ((each_at Seated es (index_in order p) here.within h.seated).channel here.passes).1 in
@@ -126,7 +126,7 @@ one_linked es order p r c heads behind o h lt is on follows l =
     let other : (k : ℕ) → k ≢ c → slot_at (slice_set heads c (Some r)) k ≡ slot_at heads k = λ k off. get_or-set_other heads c k (Some r) None off in
     record {
       head_size = length-set heads c (Some r) ∙ l.head_size;
-      behind_size = length-set behind r o ∙ l.behind_size;
+      after_size = length-set following r o ∙ l.after_size;
       there = λ k s found. elim (cases_eq k c) [
         | inl same ↦ (
             let s_is : s ≡ r = some_is s r (sym found ∙ ap (slot_at (slice_set heads c (Some r))) same ∙ own) in
@@ -149,20 +149,20 @@ one_linked es order p r c heads behind o h lt is on follows l =
             ])
         | inr off ↦ l.first q s (from_next p q low (λ e. off (ap (λ n. (entry_at es (index_in order n)).channel) e ∙ sym at_c))) inside' (sym (other (entry_at es (index_in order q)).channel off) ∙ found) less
       ];
-      behinds = λ q low inside'. elim (cases_eq q p) [
+      followings = λ q low inside'. elim (cases_eq q p) [
         | inl e ↦ (
-            let read : slot_at (slice_set behind r o) (index_in order p) ≡ slot_at heads (entry_at es (index_in order p)).channel = ap (slot_at (slice_set behind r o)) (sym is) ∙ get_or-set_same behind r o None (omega (arith, inside, l.behind_size)) ∙ follows ∙ ap (slot_at heads) at_c in
-            subst (λ n. IsBehind es (index_in order n) (slot_at (slice_set behind r o) (index_in order n))) (sym e) (subst (IsBehind es (index_in order p)) (sym read) (behind_place es order p heads behind h lt l)))
+            let read : slot_at (slice_set following r o) (index_in order p) ≡ slot_at heads (entry_at es (index_in order p)).channel = ap (slot_at (slice_set following r o)) (sym is) ∙ get_or-set_same following r o None (omega (arith, inside, l.after_size)) ∙ follows ∙ ap (slot_at heads) at_c in
+            subst (λ n. IsFollowing es (index_in order n) (slot_at (slice_set following r o) (index_in order n))) (sym e) (subst (IsFollowing es (index_in order p)) (sym read) (after_place es order p heads following h lt l)))
         | inr away ↦ (
             let differ : index_in order q ≢ r = λ same. indices_differ (length es) (IsOffered es) (begins es) order h.sorted p q (omega (arith, low, away)) inside' (sym is ∙ sym same) in
-            subst (IsBehind es (index_in order q)) (sym (get_or-set_other behind r (index_in order q) o None differ)) (l.behinds q (from_next p q low away) inside'))
+            subst (IsFollowing es (index_in order q)) (sym (get_or-set_other following r (index_in order q) o None differ)) (l.followings q (from_next p q low away) inside'))
       ];
     }
 
-pub all_linked : (es : List Entry) (order : List (ℕ × ℕ)) (heads behind : List (Option ℕ)) → IsPlan es order → AreLinkedFrom es order 0 heads behind → AreLinks es heads behind
-all_linked es order heads behind h l = record {
+pub all_linked : (es : List Entry) (order : List (ℕ × ℕ)) (heads following : List (Option ℕ)) → IsPlan es order → AreLinkedFrom es order 0 heads following → AreLinks es heads following
+all_linked es order heads following h l = record {
   head_size = l.head_size;
-  behind_size = l.behind_size;
+  after_size = l.after_size;
   firsts = λ c. record {
     there = λ r is. (
         let t = l.there c r is in
@@ -173,5 +173,5 @@ all_linked es order heads behind h l = record {
         let f = h.sorted.all i lt accepted in
         sym f.2 ∙ l.first f.0 r (omega arith) f.1 (ap (λ n. slot_at heads (entry_at es n).channel) f.2 ∙ ap (slot_at heads) on ∙ is) (subst (λ n. (entry_at es n).booking.start < (entry_at es r).booking.end) (sym f.2) less));
   };
-  behinds = λ r lt accepted. (let f = h.sorted.all r lt accepted in subst (λ n. IsBehind es n (slot_at behind n)) f.2 (l.behinds f.0 (omega arith) f.1));
+  followings = λ r lt accepted. (let f = h.sorted.all r lt accepted in subst (λ n. IsFollowing es n (slot_at following n)) f.2 (l.followings f.0 (omega arith) f.1));
 }

@@ -148,7 +148,7 @@ in_state c s a = OnCall (record c { state = s }) a
 stands : (n m t u : ℕ) (b : Row) (c : PlainNetCall) (a : Activity) → ActivityFits t b (phase_of c.state) a → (follows a u (net_to c None (net_later n m c.state))).standing ≡ in_state c (net_later n m c.state) a
 stands n m t u b c a h = ap (λ x. in_state c (net_later n m c.state) (activity_after a x u)) (later_active n m c.state) ∙ ap (in_state c (net_later n m c.state)) (activity_stays t u b c.state a h)
 
--- n seconds behind one
+-- n seconds after one
 abbrev Then : ℕ → ℕ → Row → Activity → ℕ → Transition PlainNetCall → Standing
 Then n u b a t step = outlasted n u b (follows a t step).standing
 

@@ -10,15 +10,15 @@ use Rattle.bx_day.specs.Day.{Day, is_live, is_unoffered, holds, entry_at, no_ent
 use Rattle.bx_day.specs.Receipts.{hears, names, is_open}
 use Rattle.bx_day.specs.Invariant.{is_refused}
 use Rattle.bx_day.specs.Reading.{IsExchange, Seated}
-use Rattle.bx_day.specs.Slots.{slot_at, waits_on, IsLiveOn, IsWaitingOn, IsLater, IsBehind, AreSlots}
+use Rattle.bx_day.specs.Slots.{slot_at, waits_on, IsLiveOn, IsWaitingOn, IsLater, IsFollowing, AreSlots}
 use Rattle.bx_day.specs.declared.entry.Entry.{Entry}
 use Rattle.bx_day.specs.declared.entry.Standing.{Standing}
 use Rattle.bx_day.specs.declared.entry.Standing.TheVariants.{Refused, Unoffered, OnCall, Carried, Unanswered, Missed}
 use Rattle.bx_day.proofs.Once.{decide, each_at}
 use Rattle.bx_day.proofs.Receive.{open_parts, Passes, index_passes}
 use Rattle.bx_day.proofs.Law.{hears_same}
-use Rattle.bx_day.proofs.Seats.{SameSeats, behind_kept, ordered_kept}
-use Rattle.bx_day.proofs.Turns.{behind_first, follow_waits}
+use Rattle.bx_day.proofs.Seats.{SameSeats, after_kept, ordered_kept}
+use Rattle.bx_day.proofs.Turns.{after_first, follow_waits}
 use Rattle.bx_day.proofs.SlotLemmas.{live_accepted, named_live, some_is, holds_parts, holds_from, waits_parts, waits_from, ends_later, open_first, open_there, held_is}
 use Rattle.bx_day.proofs.Tick.{by_cases, runs_at, with_standing, free_held}
 
@@ -119,15 +119,15 @@ waits_put d i k s o lt begun same idle h =
       first = λ j r inside waits is less. h.first j r (subst (λ n. j < n) (sym seats.size) inside) (still d i j k s lt begun waits).1 is (omega (arith, less, ap (λ b. b.start) (seats.booking j), ap (λ b. b.end) (seats.booking r)));
     }
 
--- the channel of a booking that begins: the one behind it is the first now
+-- the channel of a booking that begins: the one after it is the first now
 next_put : (d : Day) (i : ℕ) (s : Standing) (o : Option ℕ) → IsExchange d → i < length d.entries → is_unoffered s ≡ false → is_refused s ≡ is_refused (entry_at d.entries i).standing → is_unoffered (entry_at d.entries i).standing ≡ true → ((k : ℕ) → k < length d.entries → (entry_at d.entries k).booking.start < (entry_at d.entries k).booking.end)
     → ((k : ℕ) → k < length d.entries → is_refused (entry_at d.entries k).standing ≡ false → d.moment < (entry_at d.entries k).booking.start → is_unoffered (entry_at d.entries k).standing ≡ true)
-    → IsWaitingOn d.entries (entry_at d.entries i).channel (Some i) → IsBehind d.entries i o → IsWaitingOn (put_day d i s).entries (entry_at d.entries i).channel o
+    → IsWaitingOn d.entries (entry_at d.entries i).channel (Some i) → IsFollowing d.entries i o → IsWaitingOn (put_day d i s).entries (entry_at d.entries i).channel o
 next_put d i s o h lt begun same waits order ahead first b =
     let e = entry_at d.entries i in
     let seats = put_seats d i s lt same in
     let back : (j : ℕ) → j < length (put_day d i s).entries → j < length d.entries = λ j inside. subst (λ n. j < n) (sym seats.size) inside in
-    let later : (j : ℕ) → j < length (put_day d i s).entries → waits_on e.channel (entry_at (put_day d i s).entries j) ≡ true → IsLater d.entries i j = λ j inside w. (let p = still d i j e.channel s lt begun w in behind_first d.entries e.channel j i first (back j inside) p.1 p.0) in
+    let later : (j : ℕ) → j < length (put_day d i s).entries → waits_on e.channel (entry_at (put_day d i s).entries j) ≡ true → IsLater d.entries i j = λ j inside w. (let p = still d i j e.channel s lt begun w in after_first d.entries e.channel j i first (back j inside) p.1 p.0) in
     record {
       there = λ j is.
           let p = b.there j is in
@@ -159,14 +159,14 @@ busy_waits : (k : ℕ) (e : Entry) → is_unoffered e.standing ≡ false → wai
 busy_waits k e busy = decide (waits_on k e) (λ waits. absurd (true≢false (sym (waits_parts k e waits).0 ∙ busy))) (λ idle. idle)
 
 abbrev pub next_slot : Day → ℕ → List (Option ℕ) → List (Option ℕ) → Option ℕ
-next_slot d i waiting behind = if is_unoffered (entry_at d.entries i).standing then slot_at behind i else slot_at waiting (entry_at d.entries i).channel
+next_slot d i waiting following = if is_unoffered (entry_at d.entries i).standing then slot_at following i else slot_at waiting (entry_at d.entries i).channel
 
-waiting_put : (d : Day) (i k : ℕ) (s : Standing) (live waiting behind : List (Option ℕ)) → IsExchange d → i < length d.entries → IsTurned d (entry_at d.entries i) → is_unoffered s ≡ false → is_refused s ≡ is_refused (entry_at d.entries i).standing → is_refused (entry_at d.entries i).standing ≡ false → (entry_at d.entries i).channel < length waiting → AreSlots d live waiting behind
-    → IsWaitingOn (put_day d i s).entries k (slot_at (slice_set waiting (entry_at d.entries i).channel (next_slot d i waiting behind)) k)
-waiting_put d i k s live waiting behind h lt turn begun same accepted size slots =
+waiting_put : (d : Day) (i k : ℕ) (s : Standing) (live waiting following : List (Option ℕ)) → IsExchange d → i < length d.entries → IsTurned d (entry_at d.entries i) → is_unoffered s ≡ false → is_refused s ≡ is_refused (entry_at d.entries i).standing → is_refused (entry_at d.entries i).standing ≡ false → (entry_at d.entries i).channel < length waiting → AreSlots d live waiting following
+    → IsWaitingOn (put_day d i s).entries k (slot_at (slice_set waiting (entry_at d.entries i).channel (next_slot d i waiting following)) k)
+waiting_put d i k s live waiting following h lt turn begun same accepted size slots =
     let e = entry_at d.entries i in
     let c = e.channel in
-    let w = next_slot d i waiting behind in
+    let w = next_slot d i waiting following in
     elim (cases_eq k c) [
       | inl here ↦
           let slot : slot_at (slice_set waiting c w) k ≡ w = ap (slot_at (slice_set waiting c w)) here ∙ get_or-set_same waiting c w None size in
@@ -174,7 +174,7 @@ waiting_put d i k s live waiting behind h lt turn begun same accepted size slots
           (λ waits.
           let opened : is_open d e ≡ true = elim (or_cases (is_live e.standing) (is_open d e) turn) [ inl live ↦ absurd (true≢false (sym waits ∙ live_waits e.standing live)) | inr opens ↦ opens ] in
           let first : IsWaitingOn d.entries c (Some i) = subst (IsWaitingOn d.entries c) (open_waiting d i (slot_at waiting c) h lt opened (slots.waits c)) (slots.waits c) in
-          next_put d i s (slot_at behind i) h lt begun same waits slots.ordered slots.ahead first (slots.behinds i lt accepted))
+          next_put d i s (slot_at following i) h lt begun same waits slots.ordered slots.ahead first (slots.followings i lt accepted))
           (λ busy. waits_put d i c s (slot_at waiting c) lt begun same (busy_waits c e busy) (slots.waits c))))
       | inr away ↦
           let slot : slot_at (slice_set waiting c w) k ≡ slot_at waiting k = get_or-set_other waiting c k w None away in
@@ -182,8 +182,8 @@ waiting_put d i k s live waiting behind h lt turn begun same accepted size slots
     ]
 
 -- one that is live or may be called has begun, or does now
-not_ahead : (d : Day) (i : ℕ) (live waiting behind : List (Option ℕ)) → i < length d.entries → IsTurned d (entry_at d.entries i) → is_refused (entry_at d.entries i).standing ≡ false → AreSlots d live waiting behind → d.moment < (entry_at d.entries i).booking.start → ⊥
-not_ahead d i live waiting behind lt turn accepted slots early =
+not_ahead : (d : Day) (i : ℕ) (live waiting following : List (Option ℕ)) → i < length d.entries → IsTurned d (entry_at d.entries i) → is_refused (entry_at d.entries i).standing ≡ false → AreSlots d live waiting following → d.moment < (entry_at d.entries i).booking.start → ⊥
+not_ahead d i live waiting following lt turn accepted slots early =
     let e = entry_at d.entries i in
     elim (or_cases (is_live e.standing) (is_open d e) turn) [
       | inl on ↦ true≢false (sym (slots.ahead i lt accepted early) ∙ live_waits e.standing on)
@@ -193,22 +193,22 @@ not_ahead d i live waiting behind lt turn accepted slots early =
 pub turned_accepted : (d : Day) (e : Entry) → IsTurned d e → is_refused e.standing ≡ false
 turned_accepted d e turn = elim (or_cases (is_live e.standing) (is_open d e) turn) [ inl live ↦ live_accepted e.standing live | inr opened ↦ (open_parts d e opened).accepted ]
 
-pub put_slots : (d : Day) (i : ℕ) (s : Standing) (live waiting behind : List (Option ℕ)) (a : Option ℕ) → IsExchange d → i < length d.entries → IsTurned d (entry_at d.entries i) → is_unoffered s ≡ false → is_refused s ≡ false → is_refused (entry_at d.entries i).standing ≡ false → a ≡ (if is_live s then Some i else None) → AreSlots d live waiting behind
-    → AreSlots (put_day d i s) (slice_set live (entry_at d.entries i).channel a) (slice_set waiting (entry_at d.entries i).channel (next_slot d i waiting behind)) behind
-put_slots d i s live waiting behind a h lt turn begun lawful accepted is slots =
+pub put_slots : (d : Day) (i : ℕ) (s : Standing) (live waiting following : List (Option ℕ)) (a : Option ℕ) → IsExchange d → i < length d.entries → IsTurned d (entry_at d.entries i) → is_unoffered s ≡ false → is_refused s ≡ false → is_refused (entry_at d.entries i).standing ≡ false → a ≡ (if is_live s then Some i else None) → AreSlots d live waiting following
+    → AreSlots (put_day d i s) (slice_set live (entry_at d.entries i).channel a) (slice_set waiting (entry_at d.entries i).channel (next_slot d i waiting following)) following
+put_slots d i s live waiting following a h lt turn begun lawful accepted is slots =
     let e = entry_at d.entries i in
     let same : is_refused s ≡ is_refused e.standing = lawful ∙ sym accepted in
     let seats = put_seats d i s lt same in
     let high : e.channel ≤ 31 = ((each_at Seated d.entries i lt h.seated).channel accepted).1 in
     record {
       live_size = length-set live e.channel a ∙ slots.live_size;
-      waiting_size = length-set waiting e.channel (next_slot d i waiting behind) ∙ slots.waiting_size;
-      behind_size = slots.behind_size ∙ seats.size;
+      waiting_size = length-set waiting e.channel (next_slot d i waiting following) ∙ slots.waiting_size;
+      after_size = slots.after_size ∙ seats.size;
       lives = λ k. live_put d i k s live a lt turn (omega (arith, high, slots.live_size)) is slots.lives;
-      waits = λ k. waiting_put d i k s live waiting behind h lt turn begun same accepted (omega (arith, high, slots.waiting_size)) slots;
-      behinds = λ r inside free. behind_kept d.entries (put_day d i s).entries r (slot_at behind r) seats (slots.behinds r (subst (λ n. r < n) (sym seats.size) inside) (seats.refused r ∙ free));
+      waits = λ k. waiting_put d i k s live waiting following h lt turn begun same accepted (omega (arith, high, slots.waiting_size)) slots;
+      followings = λ r inside free. after_kept d.entries (put_day d i s).entries r (slot_at following r) seats (slots.followings r (subst (λ n. r < n) (sym seats.size) inside) (seats.refused r ∙ free));
       ahead = λ j inside free early. by_index (λ x. is_unoffered x.standing ≡ true) d i j s lt
-          (λ here. absurd (not_ahead d i live waiting behind lt turn accepted slots (let o : (entry_at (put_day d i s).entries j).booking.start ≡ (entry_at d.entries i).booking.start = ap (λ b. b.start) (sym (seats.booking j)) ∙ ap (λ n. (entry_at d.entries n).booking.start) here in omega (arith, o, early))))
+          (λ here. absurd (not_ahead d i live waiting following lt turn accepted slots (let o : (entry_at (put_day d i s).entries j).booking.start ≡ (entry_at d.entries i).booking.start = ap (λ b. b.start) (sym (seats.booking j)) ∙ ap (λ n. (entry_at d.entries n).booking.start) here in omega (arith, o, early))))
           (λ other. slots.ahead j (subst (λ n. j < n) (sym seats.size) inside) (seats.refused j ∙ free) (omega (arith, early, ap (λ b. b.start) (seats.booking j))));
       ordered = ordered_kept d.entries (put_day d i s).entries seats slots.ordered;
     }

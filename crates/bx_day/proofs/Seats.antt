@@ -3,7 +3,7 @@ use Rattle.std.proofs.Common.{◌≡◌, ℕ, ◌≤◌, ◌<◌, List, length, 
 use Rattle.bx_base.specs.Bookings.{Row}
 use Rattle.bx_day.specs.Day.{entry_at}
 use Rattle.bx_day.specs.Invariant.{is_refused}
-use Rattle.bx_day.specs.Slots.{IsLater, IsBehind}
+use Rattle.bx_day.specs.Slots.{IsLater, IsFollowing}
 use Rattle.bx_day.specs.declared.entry.Entry.{Entry}
 
 -- ---- two lists of bookings that differ in what has become of them
@@ -25,8 +25,8 @@ later_kept es fs r i s h = record {
   later = (let le : (entry_at es r).booking.end ≤ (entry_at es i).booking.start = h.later in omega (arith, le, ap (λ (b : Row). b.end) (s.booking r), ap (λ (b : Row). b.start) (s.booking i)));
 }
 
-pub behind_kept : (es fs : List Entry) (r : ℕ) (o : Option ℕ) → SameSeats es fs → IsBehind es r o → IsBehind fs r o
-behind_kept es fs r o s h = record {
+pub after_kept : (es fs : List Entry) (r : ℕ) (o : Option ℕ) → SameSeats es fs → IsFollowing es r o → IsFollowing fs r o
+after_kept es fs r o s h = record {
   there = λ k is. later_kept es fs r k s (h.there k is);
   each = λ i later. h.each i (later_kept fs es r i (turned es fs s) later);
   first = λ i k later is lt. h.first i k (later_kept fs es r i (turned es fs s) later) is (omega (arith, lt, ap (λ (b : Row). b.start) (s.booking i), ap (λ (b : Row). b.end) (s.booking k)));

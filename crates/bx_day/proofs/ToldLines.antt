@@ -28,15 +28,15 @@ module _ (bs : List Bool) (line whole : List ℕ) (told : line ≡ codes "mainte
   pub maintained_some : length line ≢ 11 → whole ≡ line ++ 10 ∷ [] → whole ≡ line_text (maintenance_fields bs)
   maintained_some l end = some_whole (members_from 0 bs) line whole told l end
 
--- the front of a line, and its outcome
-pub outcome_behind : (row : List ℕ) (o : Outcome) → line_text (row ∷ outcome_fields o) ≡ (row ++ 32 ∷ []) ++ line_text (outcome_fields o)
-outcome_behind row Refused = simp append_assoc
-outcome_behind row Waiting = simp append_assoc
-outcome_behind row Live = simp append_assoc
-outcome_behind row (Carried from until) = simp append_assoc
-outcome_behind row Unanswered = simp append_assoc
-outcome_behind row Missed = simp append_assoc
+-- the prefix of a line, and its outcome
+pub outcome_after : (row : List ℕ) (o : Outcome) → line_text (row ∷ outcome_fields o) ≡ (row ++ 32 ∷ []) ++ line_text (outcome_fields o)
+outcome_after row Refused = simp append_assoc
+outcome_after row Waiting = simp append_assoc
+outcome_after row Live = simp append_assoc
+outcome_after row (Carried from until) = simp append_assoc
+outcome_after row Unanswered = simp append_assoc
+outcome_after row Missed = simp append_assoc
 
--- three fields behind a front
-pub three_fields : (front a b c l1 l2 l3 : List ℕ) → l1 ≡ front ++ (a ++ 32 ∷ []) → l2 ≡ l1 ++ (b ++ 32 ∷ []) → l3 ≡ l2 ++ (c ++ 10 ∷ []) → l3 ≡ front ++ line_text (a ∷ b ∷ c ∷ [])
-three_fields front a b c l1 l2 l3 p q r = rw (r, q, p) (simp append_assoc)
+-- three fields after a prefix
+pub three_fields : (prefix a b c l1 l2 l3 : List ℕ) → l1 ≡ prefix ++ (a ++ 32 ∷ []) → l2 ≡ l1 ++ (b ++ 32 ∷ []) → l3 ≡ l2 ++ (c ++ 10 ∷ []) → l3 ≡ prefix ++ line_text (a ∷ b ∷ c ∷ [])
+three_fields prefix a b c l1 l2 l3 p q r = rw (r, q, p) (simp append_assoc)

@@ -151,20 +151,20 @@ second_waits_on d c i a (Some r) s u t is =
     let after : (entry_at d.entries r).booking.end ≤ (entry_at d.entries i).booking.start = l.later in
     t.ahead i l.inside l.accepted (omega (arith, going, after))
 
-pub touched_of : (link : Link) (d : Day) (live waiting behind second : List (Option ℕ)) → IsExchange d → AreSlots d live waiting behind → ((c : ℕ) → slot_at second c ≡ follower behind (slot_at waiting c)) → AreTouched link d live waiting second
-touched_of link d live waiting behind second h s is = record {
+pub touched_of : (link : Link) (d : Day) (live waiting following second : List (Option ℕ)) → IsExchange d → AreSlots d live waiting following → ((c : ℕ) → slot_at second c ≡ follower following (slot_at waiting c)) → AreTouched link d live waiting second
+touched_of link d live waiting following second h s is = record {
   firsts = λ c i there. (let p = (s.lives c).there i there in (p.0, (holds_parts c (entry_at d.entries i) p.1).1));
   seconds = λ c i there. (let p = (s.waits c).there i there in (p.0, (waits_parts c (entry_at d.entries i) p.1).1));
-  thirds = λ c i there. second_on d c _ _ _ _ (turn_of d c live waiting behind h s) i (sym (is c) ∙ there);
+  thirds = λ c i there. second_on d c _ _ _ _ (turn_of d c live waiting following h s) i (sym (is c) ∙ there);
   apart = λ c i two one. true≢false (sym (waits_parts c (entry_at d.entries i) ((s.waits c).there i two).1).0 ∙ live_waits (entry_at d.entries i).standing (holds_parts c (entry_at d.entries i) ((s.lives c).there i one).1).0);
-  third_apart = λ c i three one. true≢false (sym (second_waits_on d c i _ _ _ _ (turn_of d c live waiting behind h s) (sym (is c) ∙ three)) ∙ live_waits (entry_at d.entries i).standing (holds_parts c (entry_at d.entries i) ((s.lives c).there i one).1).0);
+  third_apart = λ c i three one. true≢false (sym (second_waits_on d c i _ _ _ _ (turn_of d c live waiting following h s) (sym (is c) ∙ three)) ∙ live_waits (entry_at d.entries i).standing (holds_parts c (entry_at d.entries i) ((s.lives c).there i one).1).0);
   last_apart = λ c i three two. (
       let p = (s.waits c).there i two in
-      let l = ((turn_of d c live waiting behind h s).second i two).there i (sym (is c) ∙ three) in
+      let l = ((turn_of d c live waiting following h s).second i two).there i (sym (is c) ∙ three) in
       let order : (entry_at d.entries i).booking.start < (entry_at d.entries i).booking.end = s.ordered i p.0 in
       let late : (entry_at d.entries i).booking.end ≤ (entry_at d.entries i).booking.start = l.later in
       absurd (omega (arith, order, late)));
-  others = λ i lt na nw ns. (let c = (entry_at d.entries i).channel in others_stay link d c i _ _ _ _ (turn_of d c live waiting behind h s) lt refl na nw (λ there. ns (is c ∙ there)));
+  others = λ i lt na nw ns. (let c = (entry_at d.entries i).channel in others_stay link d c i _ _ _ _ (turn_of d c live waiting following h s) lt refl na nw (λ there. ns (is c ∙ there)));
 }
 
 -- the three lists of slots together

@@ -1,5 +1,5 @@
 -- On a channel a second does something to three bookings at most: the live one, the first that waits, which may end, and
--- the one behind that, which may start then.
+-- the one after that, which may start then.
 use Rattle.std.proofs.Common.{◌≡◌, ◌≢◌, ℕ, ◌+◌, ◌≤◌, ◌<◌, Bool, true, false, List, map, length, Option, Some, None, arith, refl, sym, subst, ap, ◌∙◌, inl, inr, if◌then◌else◌}
 use Rattle.std.proofs.lemmas.Bool.{true≢false, false≢true, cases_lt}
 use Rattle.bx_q931.specs.Outgoing.{Outgoing}
@@ -13,7 +13,7 @@ use Rattle.bx_day.specs.Moves.{stays, follow, over_at}
 use Rattle.bx_day.specs.Invariant.{EntryFits, is_refused}
 use Rattle.bx_day.specs.Quiet.{booking_due}
 use Rattle.bx_day.specs.Reading.{IsExchange}
-use Rattle.bx_day.specs.Slots.{waits_on, IsLiveOn, IsWaitingOn, IsLater, IsBehind}
+use Rattle.bx_day.specs.Slots.{waits_on, IsLiveOn, IsWaitingOn, IsLater, IsFollowing}
 use Rattle.bx_day.specs.declared.entry.Activity.{Activity}
 use Rattle.bx_day.specs.declared.entry.Activity.TheVariants.{Never, Since, Was}
 use Rattle.bx_day.specs.declared.entry.Entry.{Entry}
@@ -116,8 +116,8 @@ pub unoffered_accepted : (s : Standing) → is_unoffered s ≡ true → is_refus
 unoffered_accepted s h = ap is_refused (waits_is s h)
 
 -- one that waits, and is not the first
-pub behind_first : (es : List Entry) (c i r : ℕ) → IsWaitingOn es c (Some r) → i < length es → waits_on c (entry_at es i) ≡ true → i ≢ r → IsLater es r i
-behind_first es c i r h lt waits other =
+pub after_first : (es : List Entry) (c i r : ℕ) → IsWaitingOn es c (Some r) → i < length es → waits_on c (entry_at es i) ≡ true → i ≢ r → IsLater es r i
+after_first es c i r h lt waits other =
     let p = h.there r refl in
     let q = waits_parts c (entry_at es i) waits in
     record {
@@ -127,9 +127,9 @@ behind_first es c i r h lt waits other =
       later = elim (cases_lt (entry_at es i).booking.start (entry_at es r).booking.end) [ inl less ↦ absurd (other (h.first i r lt waits refl less)) | inr le ↦ le ];
     }
 
--- nor the one behind that
-pub behind_second : (es : List Entry) (i r s : ℕ) → IsBehind es r (Some s) → IsLater es r i → i ≢ s → IsLater es s i
-behind_second es i r s h later other =
+-- nor the one after that
+pub after_second : (es : List Entry) (i r s : ℕ) → IsFollowing es r (Some s) → IsLater es r i → i ≢ s → IsLater es s i
+after_second es i r s h later other =
     let p = h.there s refl in
     record {
       inside = later.inside;
@@ -138,7 +138,7 @@ behind_second es i r s h later other =
       later = elim (cases_lt (entry_at es i).booking.start (entry_at es s).booking.end) [ inl less ↦ absurd (other (h.first i s later refl less)) | inr le ↦ le ];
     }
 
--- the second behind the first starts behind the next tick
+-- the second after the first starts after the next tick
 pub far_ahead : (d : Day) (i r s : ℕ) → IsExchange d → ((k : ℕ) → k < length d.entries → (entry_at d.entries k).booking.start < (entry_at d.entries k).booking.end) → r < length d.entries → is_unoffered (entry_at d.entries r).standing ≡ true → IsLater d.entries r s → IsLater d.entries s i → d.moment + 1 < (entry_at d.entries i).booking.start
 far_ahead d i r s h order lt waits one two =
     let a : d.moment < (entry_at d.entries r).booking.end = ends_later d r h lt waits in
@@ -147,27 +147,27 @@ far_ahead d i r s h order lt waits one two =
     let e : (entry_at d.entries s).booking.end ≤ (entry_at d.entries i).booking.start = two.later in
     omega (arith, a, b, c, e)
 
--- what follows is said of a channel with a live booking a, a first w that waits, and s behind that
+-- what follows is said of a channel with a live booking a, a first w that waits, and s after that
 pub record IsTurn (d : Day) (c : ℕ) (a w s u : Option ℕ) : Type 0 where
   pub exchange : IsExchange d
   pub ordered : (k : ℕ) → k < length d.entries → (entry_at d.entries k).booking.start < (entry_at d.entries k).booking.end
   pub ahead : (i : ℕ) → i < length d.entries → is_refused (entry_at d.entries i).standing ≡ false → d.moment < (entry_at d.entries i).booking.start → is_unoffered (entry_at d.entries i).standing ≡ true
   pub live : IsLiveOn d.entries c a
   pub waiting : IsWaitingOn d.entries c w
-  pub second : (r : ℕ) → w ≡ Some r → IsBehind d.entries r s
-  pub third : (r : ℕ) → s ≡ Some r → IsBehind d.entries r u
+  pub second : (r : ℕ) → w ≡ Some r → IsFollowing d.entries r s
+  pub third : (r : ℕ) → s ≡ Some r → IsFollowing d.entries r u
   pub no_second : w ≡ None → s ≡ None
   pub no_third : s ≡ None → u ≡ None
 
 pub waits_alone : (link : Link) (d : Day) (c i : ℕ) (a w s u : Option ℕ) → IsTurn d c a w s u → i < length d.entries → waits_on c (entry_at d.entries i) ≡ true → IsNone w i → IsNone s i → second_in link d (entry_at d.entries i) ≡ stays (entry_at d.entries i).standing
 waits_alone link d c i a None s u t lt waits nw ns = absurd (false≢true (t.waiting.each i lt waits))
 waits_alone link d c i a (Some r) None u t lt waits nw ns =
-    let later = behind_first d.entries c i r t.waiting lt waits (λ q. nw (ap (λ k. Some k) (sym q))) in
+    let later = after_first d.entries c i r t.waiting lt waits (λ q. nw (ap (λ k. Some k) (sym q))) in
     absurd (false≢true ((t.second r refl).each i later))
 waits_alone link d c i a (Some r) (Some s) u t lt waits nw ns =
-    let later = behind_first d.entries c i r t.waiting lt waits (λ q. nw (ap (λ k. Some k) (sym q))) in
+    let later = after_first d.entries c i r t.waiting lt waits (λ q. nw (ap (λ k. Some k) (sym q))) in
     let b = t.second r refl in
-    let last = behind_second d.entries i r s b later (λ q. ns (ap (λ k. Some k) (sym q))) in
+    let last = after_second d.entries i r s b later (λ q. ns (ap (λ k. Some k) (sym q))) in
     let p = t.waiting.there r refl in
     ahead_waits link d i t.exchange lt (t.ordered i lt) (waits_parts c (entry_at d.entries i) waits).0
     (far_ahead d i r s t.exchange t.ordered p.0 (waits_parts c (entry_at d.entries r) p.1).0 (b.there s refl) last)

@@ -1,4 +1,4 @@
--- The slots of the channels behind seconds without a link: what is live stays so, and what waits is found anew.
+-- The slots of the channels after seconds without a link: what is live stays so, and what waits is found anew.
 use Rattle.std.proofs.Common.{◌≡◌, ℕ, zero, suc, min, ◌+◌, ◌-◌, ◌≤◌, ◌<◌, ◌==◌, ◌&&◌, not, Bool, true, false, List, [], ◌∷◌, length, map, take, drop, ◌++◌, replicate, Option, Some, None, arith, refl, sym, subst, ap, ap₂, ◌∙◌, inl, inr, nat_le, slice_set, length-set, if◌then◌else◌}
 use Rattle.std.specs.Prelude.{is_some}
 use Rattle.std.proofs.lemmas.Bool.{leb-false, ltb-true, ltb-false, false≢true, true≢false, cases_eq, cases_lt}
@@ -26,7 +26,7 @@ use Rattle.bx_day.proofs.Once.{decide, each_at}
 use Rattle.bx_day.proofs.Outlasting.{fits_timed, outlasts_day, seconds_left, skipped}
 use Rattle.bx_day.proofs.Passing.{refilled, passed_stays}
 use Rattle.bx_day.proofs.Quiet.{late}
-use Rattle.bx_day.proofs.Seats.{SameSeats, behind_kept, ordered_kept}
+use Rattle.bx_day.proofs.Seats.{SameSeats, after_kept, ordered_kept}
 use Rattle.bx_day.proofs.SlotLemmas.{some_is, waits_parts, waits_from}
 use Rattle.bx_day.proofs.Tick.{by_cases}
 use Rattle.bx_day.proofs.Turns.{unoffered_accepted}
@@ -191,8 +191,8 @@ holds_same n u c es i = ap (holds c) (at_outlasts n u es i) ∙ ap (λ x. x && (
 
 -- ---- the slots
 
-pub outlasted_slots : (n : ℕ) (d : Day) (live waiting behind waiting' : List (Option ℕ)) → IsExchange (outlasts_day n d) → AreSlots d live waiting behind → AreEarliest (outlasts_day n d).entries (length (outlasts_day n d).entries) waiting' → AreSlots (outlasts_day n d) live waiting' behind
-outlasted_slots n d live waiting behind waiting' h s anew =
+pub outlasted_slots : (n : ℕ) (d : Day) (live waiting following waiting' : List (Option ℕ)) → IsExchange (outlasts_day n d) → AreSlots d live waiting following → AreEarliest (outlasts_day n d).entries (length (outlasts_day n d).entries) waiting' → AreSlots (outlasts_day n d) live waiting' following
+outlasted_slots n d live waiting following waiting' h s anew =
     let u = d.moment + n in
     let es = d.entries in
     let now = map (outlasts n u) es in
@@ -202,13 +202,13 @@ outlasted_slots n d live waiting behind waiting' h s anew =
     record {
       live_size = s.live_size;
       waiting_size = anew.size;
-      behind_size = s.behind_size ∙ seats.size;
+      after_size = s.after_size ∙ seats.size;
       lives = λ c. record {
         there = λ i is. (let p = (s.lives c).there i is in (subst (λ m. i < m) seats.size p.0, holds_same n u c es i ∙ p.1));
         each = λ i lt held. (s.lives c).each i (back i lt) (sym (holds_same n u c es i) ∙ held);
       };
       waits = λ c. earliest_waits now c (slot_at waiting' c) h.day.pairs ordered (anew.each c);
-      behinds = λ r lt accepted. behind_kept es now r (slot_at behind r) seats (s.behinds r (back r lt) (seats.refused r ∙ accepted));
+      followings = λ r lt accepted. after_kept es now r (slot_at following r) seats (s.followings r (back r lt) (seats.refused r ∙ accepted));
       ahead = λ i lt accepted early. (
           let b = (entry_at es i).booking in
           let start : (entry_at now i).booking.start ≡ b.start = ap (λ (x : Row). x.start) (sym (seats.booking i)) in
@@ -263,8 +263,8 @@ skip_day k n before len d seen new at left h same size p =
     let entries : take len (new ++ drop (length new) d.entries) ≡ map (outlasts n (d.moment + n)) d.entries = refilled len new d.entries q.size size ∙ all_outlasted n d new few h q in
     ap₂ (λ m es. day_of (m + n) es d.maintenance) at entries ∙ ap (λ m. outlasts_day m d) number
 
-pub skip_index : (k : ℕ) (d now : Day) (live waiting behind waiting' : List (Option ℕ)) → IsExchange d → now ≡ outlasts_day (seconds_left k d) d → AreSlots d live waiting behind → AreEarliest now.entries (length now.entries) waiting' → IsIndexed now live waiting' behind 0
-skip_index k d now live waiting behind waiting' h is s anew =
+pub skip_index : (k : ℕ) (d now : Day) (live waiting following waiting' : List (Option ℕ)) → IsExchange d → now ≡ outlasts_day (seconds_left k d) d → AreSlots d live waiting following → AreEarliest now.entries (length now.entries) waiting' → IsIndexed now live waiting' following 0
+skip_index k d now live waiting following waiting' h is s anew =
     let whole = outlasted_exchange k d h in
-    subst (λ (x : Day). IsIndexed x live waiting' behind 0) (sym is)
-    (indexed_now (outlasts_day (seconds_left k d) d) live waiting' behind whole (outlasted_slots (seconds_left k d) d live waiting behind waiting' whole s (subst (λ (x : Day). AreEarliest x.entries (length x.entries) waiting') is anew)))
+    subst (λ (x : Day). IsIndexed x live waiting' following 0) (sym is)
+    (indexed_now (outlasts_day (seconds_left k d) d) live waiting' following whole (outlasted_slots (seconds_left k d) d live waiting following waiting' whole s (subst (λ (x : Day). AreEarliest x.entries (length x.entries) waiting') is anew)))

@@ -15,7 +15,7 @@ use Rattle.bx_day.specs.declared.entry.Standing.TheVariants.{OnCall}
 abbrev pub added : Lost → ℕ
 added x = x.seconds + t308 * x.outages
 
--- clearing takes T305 and twice T308 at most from moment m on. Behind a second without a link RELEASE was sent once at most
+-- clearing takes T305 and twice T308 at most from moment m on. After a second without a link RELEASE was sent once at most
 abbrev pub ClearsBy : Bool → ℕ → NetState → Type 0
 ClearsBy lasts m (DisconnectIndication cause due) = due ≤ m + t305
 ClearsBy lasts m (ReleaseRequest false cause due) = due ≤ m + (t305 + t308)

@@ -1,5 +1,5 @@
 -- The day of a plan that goes on from another: what has become of each booking stays, one that waits has the channel of the longer
--- plan, and new bookings stand behind, as at the opening.
+-- plan, and new bookings stand after, as at the opening.
 use Rattle.std.specs.Prelude.{◌≡◌, ℕ, ◌<◌, ◌≤◌, not, false, List, [], ◌∷◌, length, Option, Some, None, is_some, slice_index_or}
 use Rattle.bx_base.specs.Bookings.{Row, row_at}
 use Rattle.bx_base.specs.Extending.{IsSameBooking}
@@ -24,7 +24,7 @@ pub record IsKept (t : ℕ) (e : Entry) (row : Row) (given : Option ℕ) : Type 
   pub accepted : is_some given ≡ not (is_refused e.standing)
   pub channel : is_refused e.standing ≡ false → e.booking.start ≤ t → given ≡ Some e.channel
 
--- the plan has the bookings of the day in their places, and new ones behind them, which start after its moment
+-- the plan has the bookings of the day in their places, and new ones after them, which start after its moment
 pub record IsExtendedBy (d : Day) (rows : List Row) (assigned : List (Option ℕ)) : Type 0 where
   pub longer : length d.entries ≤ length rows
   pub kept : (i : ℕ) → i < length d.entries → IsKept d.moment (entry_at d.entries i) (row_at rows i) (slice_index_or assigned i None)

@@ -3,7 +3,7 @@ use Rattle.std.specs.Prelude.{◌≡◌, ℕ, ◌<◌, false, true, List, length
 use Rattle.bx_base.specs.Orders.{AreListed, AreInOrder}
 use Rattle.bx_day.specs.Day.{entry_at}
 use Rattle.bx_day.specs.Invariant.{is_refused}
-use Rattle.bx_day.specs.Slots.{slot_at, IsBehind}
+use Rattle.bx_day.specs.Slots.{slot_at, IsFollowing}
 use Rattle.bx_day.specs.declared.entry.Entry.{Entry}
 
 abbrev pub IsOffered : List Entry → ℕ → Type 0
@@ -27,8 +27,8 @@ pub record IsFirstOn (es : List Entry) (c : ℕ) (o : Option ℕ) : Type 0 where
   pub first : (i r : ℕ) → i < length es → is_refused (entry_at es i).standing ≡ false → (entry_at es i).channel ≡ c → o ≡ Some r → (entry_at es i).booking.start < (entry_at es r).booking.end → i ≡ r
 
 -- the first of each channel, and what follows each
-pub record AreLinks (es : List Entry) (heads behind : List (Option ℕ)) : Type 0 where
+pub record AreLinks (es : List Entry) (heads following : List (Option ℕ)) : Type 0 where
   pub head_size : length heads ≡ 32
-  pub behind_size : length behind ≡ length es
+  pub after_size : length following ≡ length es
   pub firsts : (c : ℕ) → IsFirstOn es c (slot_at heads c)
-  pub behinds : (r : ℕ) → r < length es → is_refused (entry_at es r).standing ≡ false → IsBehind es r (slot_at behind r)
+  pub followings : (r : ℕ) → r < length es → is_refused (entry_at es r).standing ≡ false → IsFollowing es r (slot_at following r)

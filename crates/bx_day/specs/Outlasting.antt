@@ -14,7 +14,7 @@ abbrev pub IsTimedBy : ℕ → Standing → Type 0
 IsTimedBy latest (OnCall call activity) = IsDueBy latest call.state
 IsTimedBy latest _ = Unit {0}
 
--- what has become of a booking in n such seconds, of which the last comes to moment t: a call is not Active behind its
+-- what has become of a booking in n such seconds, of which the last comes to moment t: a call is not Active after its
 -- booking's end
 abbrev pub outlasted : ℕ → ℕ → Row → Standing → Standing
 outlasted n t b (OnCall call activity) = (follows activity b.end (net_unlinked n call t b.end)).standing

@@ -6,10 +6,10 @@ use Rattle.bx_day.specs.QuietSeconds.{tick_due, due_at}
 use Rattle.bx_day.specs.declared.entry.Entry.{Entry}
 use Rattle.bx_day.specs.Slots.{slot_at}
 
--- the slot behind the one of this booking
+-- the slot after the one of this booking
 abbrev pub follower : List (Option ℕ) → Option ℕ → Option ℕ
-follower behind None = None
-follower behind (Some i) = slot_at behind i
+follower following None = None
+follower following (Some i) = slot_at following i
 
 abbrev pub is_live_at : List Entry → Option ℕ → Bool
 is_live_at es None = false
@@ -19,12 +19,12 @@ abbrev pub is_waiting_at : List Entry → Option ℕ → Bool
 is_waiting_at es None = false
 is_waiting_at es (Some i) = is_unoffered (entry_at es i).standing
 
--- after a tick, by what was live, what waited first, and what was behind that
+-- after a tick, by what was live, what waited first, and what was after that
 abbrev pub live_of : List Entry → Option ℕ → Option ℕ → Option ℕ → Option ℕ
 live_of es a b c = if is_live_at es a then a else if is_live_at es b then b else if is_live_at es c then c else None
 
 abbrev pub waiting_of : List Entry → List (Option ℕ) → Option ℕ → Option ℕ → Option ℕ
-waiting_of es behind a b = if is_waiting_at es a then a else if is_waiting_at es b then b else follower behind b
+waiting_of es following a b = if is_waiting_at es a then a else if is_waiting_at es b then b else follower following b
 
 -- a slot of an index inside
 abbrev pub IsInside : List Entry → Option ℕ → Type 0
@@ -35,7 +35,7 @@ abbrev pub earlier : Option ℕ → ℕ → ℕ
 earlier None i = i
 earlier (Some other) i = min other i
 
--- the first tick that does something to the booking of a slot, or the one behind the day's last
+-- the first tick that does something to the booking of a slot, or the one after the day's last
 abbrev pub slot_due : List Entry → Bool → Option ℕ → ℕ
 slot_due es free None = 300001
 slot_due es free (Some i) = tick_due (entry_at es i) free (entry_at es i).standing

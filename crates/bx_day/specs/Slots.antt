@@ -32,23 +32,23 @@ pub record IsLater (es : List Entry) (r i : ℕ) : Type 0 where
   pub later : (entry_at es r).booking.end ≤ (entry_at es i).booking.start
 
 -- the first of these, if there are any
-pub record IsBehind (es : List Entry) (r : ℕ) (o : Option ℕ) : Type 0 where
+pub record IsFollowing (es : List Entry) (r : ℕ) (o : Option ℕ) : Type 0 where
   pub there : (s : ℕ) → o ≡ Some s → IsLater es r s
   pub each : (i : ℕ) → IsLater es r i → is_some o ≡ true
   pub first : (i s : ℕ) → IsLater es r i → o ≡ Some s → (entry_at es i).booking.start < (entry_at es s).booking.end → i ≡ s
 
-pub record AreSlots (d : Day) (live waiting behind : List (Option ℕ)) : Type 0 where
+pub record AreSlots (d : Day) (live waiting following : List (Option ℕ)) : Type 0 where
   pub live_size : length live ≡ 32
   pub waiting_size : length waiting ≡ 32
-  pub behind_size : length behind ≡ length d.entries
+  pub after_size : length following ≡ length d.entries
   pub lives : (c : ℕ) → IsLiveOn d.entries c (slot_at live c)
   pub waits : (c : ℕ) → IsWaitingOn d.entries c (slot_at waiting c)
-  pub behinds : (r : ℕ) → r < length d.entries → is_refused (entry_at d.entries r).standing ≡ false → IsBehind d.entries r (slot_at behind r)
+  pub followings : (r : ℕ) → r < length d.entries → is_refused (entry_at d.entries r).standing ≡ false → IsFollowing d.entries r (slot_at following r)
   pub ahead : (i : ℕ) → i < length d.entries → is_refused (entry_at d.entries i).standing ≡ false → d.moment < (entry_at d.entries i).booking.start → is_unoffered (entry_at d.entries i).standing ≡ true
   pub ordered : (i : ℕ) → i < length d.entries → (entry_at d.entries i).booking.start < (entry_at d.entries i).booking.end
 
 -- what an exchange keeps: a day, its slots, and the first tick that does something again, or 0 where that is not known
-pub record IsIndexed (d : Day) (live waiting behind : List (Option ℕ)) (due : ℕ) : Type 0 where
+pub record IsIndexed (d : Day) (live waiting following : List (Option ℕ)) (due : ℕ) : Type 0 where
   pub exchange : IsExchange d
-  pub slots : AreSlots d live waiting behind
+  pub slots : AreSlots d live waiting following
   pub known : 1 ≤ due → IsDue d (length d.entries) due

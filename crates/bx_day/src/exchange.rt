@@ -30,8 +30,8 @@ pub struct Exchange {
     /// For each channel the index of the first of its bookings that wait.
     pub(crate) waiting: [Option<u16>; 32],
     /// For each booking the index of the next one on its channel.
-    pub(crate) behind: Vec<Option<u16>>,
-    /// The first tick that does something again, or the one behind the day's last; 0 where that is not known.
+    pub(crate) following: Vec<Option<u16>>,
+    /// The first tick that does something again, or the one after the day's last; 0 where that is not known.
     pub(crate) due: u32,
 }
 
@@ -43,13 +43,13 @@ impl Model for Exchange {
 
     ghost view = { λ x. record { moment = x.moment; entries = x.entries.items; maintenance = x.maintenance } };
 
-    ghost invariant = { λ x. IsIndexed (record { moment = x.moment; entries = x.entries.items; maintenance = x.maintenance }) x.live x.waiting x.behind.items x.due };
+    ghost invariant = { λ x. IsIndexed (record { moment = x.moment; entries = x.entries.items; maintenance = x.maintenance }) x.live x.waiting x.following.items x.due };
 }
 
 impl Exchange {
     /// The exchange at the opening of its day: moment 0, nothing offered, nothing in maintenance. The plan's channels carry its
-    /// accepted bookings, as those of a checked plan do. Only here an exchange takes memory: `AllocError` where a growth was
-    /// refused.
+    /// accepted bookings, as those of a checked plan do. Only here an exchange takes memory: `AllocError` where memory ran
+    /// out.
     pub fn new(alloc: Global, plan: &Plan) -> Result<Exchange, AllocError>
         requires { Carries plan.now.bookings plan.now.channels (is_accepted plan.now.assigned.items) (channel_at plan.now.assigned.items) }
         ensures { IfOk result (λ x. x ≡ opening plan.now.bookings plan.now.assigned.items) }
@@ -66,7 +66,7 @@ impl Exchange {
             maintenance: ChannelSet::empty(),
             live: [None; 32],
             waiting,
-            behind: links.behind,
+            following: links.following,
             due: 0,
         })
     }

@@ -19,20 +19,20 @@ use thiserror::Error;
 /// Why a day does not go on with a plan.
 #[derive(Clone, Copy, Debug, PartialEq, Eq, Error)]
 pub enum NoExtension {
-    /// The plan does not have the bookings of the day as they are, with new ones behind them that start later.
+    /// The plan does not have the bookings of the day as they are, with new ones after them that start later.
     #[error("OtherPlan")]
     OtherPlan,
-    /// A growth was refused.
+    /// Memory ran out.
     #[error("Memory")]
     Memory,
 }
 
 impl Exchange {
     /// Goes on with a longer plan, whose channels carry its accepted bookings: what has become of each booking stays, those that
-    /// wait have the channels of the plan, and new bookings wait for their starts behind them. So the day is the one that the
+    /// wait have the channels of the plan, and new bookings wait for their starts after them. So the day is the one that the
     /// plan would have after the same events (`laws::day_of_a_longer_plan` of `bx_sales`). `OtherPlan`, which is tested first, where the plan
     /// does not go on from this day: where a booking is another, one that was accepted is refused or the other way round, one that
-    /// has started has another channel, or a new one starts by now. `Memory` where a growth is refused. A fault changes nothing.
+    /// has started has another channel, or a new one starts by now. `Memory` where memory runs out. A fault changes nothing.
     /// It looks at each booking once and sorts them by their starts.
     pub fn extend(&mut self, alloc: Global, plan: &Plan) -> Result<(), NoExtension>
         requires { Carries plan.now.bookings plan.now.channels (is_accepted plan.now.assigned.items) (channel_at plan.now.assigned.items) }
@@ -56,7 +56,7 @@ impl Exchange {
         };
         self.waiting = first_waiting(&entries);
         self.entries = entries;
-        self.behind = links.behind;
+        self.following = links.following;
         self.due = 0;
         Ok(())
     }

@@ -10,7 +10,7 @@ ghost use Rattle.bx_day.specs.Outages.{live_day_after, live_happens, none_lost, 
 ghost use Rattle.bx_day.specs.Law.{IsOrderly, SentFits};
 
 /// Over every list of events of a carried plan, on the link and without one: no channel is held twice, and calls are in
-/// their time, behind whose end they are over 38 seconds later, and the seconds without a link since then, and T308 more for each
+/// their time, after whose end they are over 38 seconds later, and the seconds without a link since then, and T308 more for each
 /// outage. A list without seconds that have no link is a day as a session goes through it.
 pub fn one_per_channel()
     ensures state { (rows : List Row) (channels : List Bool) (assigned : List (Option ℕ)) (events : List LiveEvent) → AreBookings rows → Carries rows channels (is_accepted assigned) (channel_at assigned) → IsOrderly rows assigned (λ m. lost_since m events (opening rows assigned)) (live_day_after events (opening rows assigned)) }

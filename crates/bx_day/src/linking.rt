@@ -15,7 +15,7 @@ use std::alloc::{AllocError, Global};
 #[derive(Drop)]
 pub struct Links {
     pub first: [Option<u16>; 32],
-    pub behind: Vec<Option<u16>>,
+    pub following: Vec<Option<u16>>,
 }
 
 /// The links of accepted bookings of which no two run at once on a channel, by one sort: from the last start to the
@@ -25,18 +25,18 @@ pub(crate) fn linked(alloc: Global, entries: &[Entry]) -> Result<Links, AllocErr
     requires seated { AllByRecursion Seated entries.now }
     requires apart { Pairs Apart entries.now }
     requires ordered { (i : ℕ) → i < length entries.now → (entry_at entries.now i).booking.start < (entry_at entries.now i).booking.end }
-    ensures { IfOk result (λ l. AreLinks entries.now l.first l.behind.items) }
+    ensures { IfOk result (λ l. AreLinks entries.now l.first l.following.items) }
 {
     let order = by_start(alloc, entries)?;
     let mut first = [None; 32];
-    let mut behind = vec![in alloc; None; entries.len()]?;
+    let mut following = vec![in alloc; None; entries.len()]?;
     for k in 0..order.len() {
         let (_, index) = order[order.len() - 1 - k];
         let channel = entries[index as usize].channel as usize;
-        behind[index as usize] = first[channel];
+        following[index as usize] = first[channel];
         first[channel] = Some(index);
     }
-    Ok(Links { first, behind })
+    Ok(Links { first, following })
 }
 
 /// The start and the index of each accepted booking, in the order of the starts.

@@ -32,7 +32,7 @@ impl Exchange {
     }
 }
 
-/// Brings each booking to this moment, behind so many seconds without a link.
+/// Brings each booking to this moment, after so many seconds without a link.
 fn outlast(entries: &mut [Entry], seconds: u32, moment: u32)
     requires { moment ≤ LAST_MOMENT }
     ensures { AreOutlasting seconds moment (length entries.old) entries.old entries.new }
@@ -43,7 +43,7 @@ fn outlast(entries: &mut [Entry], seconds: u32, moment: u32)
     }
 }
 
-/// What has become of a booking at this moment, behind so many seconds without a link.
+/// What has become of a booking at this moment, after so many seconds without a link.
 fn outlasted(entry: &Entry, seconds: u32, moment: u32) -> Standing
     requires { moment ≤ LAST_MOMENT }
     ensures { (latest : ℕ) → IsTimedBy latest entry.now.standing → latest + seconds ≤ 4294967295 → result ≡ outlasted seconds moment entry.now.booking entry.now.standing }

@@ -22,7 +22,7 @@ impl Exchange {
     /// Writes what has become of each booking, a line for each row in order: its number, and `refused`,
     /// `waiting`, `live`, `carried` with the moments from and until which its call was Active, `unanswered`
     /// or `missed`. Then `maintenance` with the channels in maintenance in rising order, or `none`. Each line
-    /// ends with LF. Takes no memory. At `WriteFailed` the writer is faulted, and a front of the text was written.
+    /// ends with LF. Takes no memory. At `WriteFailed` the writer is faulted, and a prefix of the text was written.
     pub fn write_outcomes<W: Write>(&self, writer: &mut Watched<W>) -> Result<(), WriteFailed>
         ensures ok { OnOk result (Appends (W.contents (device_of writer.old)) (W.contents (device_of writer.new)) (outcomes_text self.now)) }
         ensures prefix { OnErr result (AppendsPrefix (W.contents (device_of writer.old)) (W.contents (device_of writer.new)) (outcomes_text self.now)) }

@@ -14,7 +14,7 @@ use bx_events::LAST_MOMENT;
 
 impl Exchange {
     /// For how many seconds nothing happens where no message comes: each of so many ticks sends nothing and
-    /// changes nothing but the moment, and the one behind them does something, or finds the day over. At most
+    /// changes nothing but the moment, and the one after them does something, or finds the day over. At most
     /// 300,000 less the moment. It looks at no more than each channel's slots, and takes no memory.
     pub fn quiet(&self) -> u32
         ensures each { IsQuietFor result self.now }
@@ -35,8 +35,8 @@ impl Exchange {
         self.moment += seconds;
     }
 
-    /// The first tick that does something to a booking, or the one behind the day's last. It is looked for only where
-    /// it is not known, as behind a message.
+    /// The first tick that does something to a booking, or the one after the day's last. It is looked for only where
+    /// it is not known, as after a message.
     fn known_due(&self) -> u32
         ensures { IsDue self.now (length self.now.entries) result }
     {

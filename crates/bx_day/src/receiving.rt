@@ -137,7 +137,7 @@ impl Exchange {
         self.waiting[channel] = waiting_slot(
             entry.standing,
             self.waiting[channel],
-            self.behind[index],
+            self.following[index],
         );
         self.due = 0;
         moved.said
@@ -170,11 +170,11 @@ fn live_slot(index: usize, standing: Standing) -> Option<u16>
 }
 
 /// The slot of the channel's first booking that waits, once one of this standing does not.
-fn waiting_slot(standing: Standing, first: Option<u16>, behind: Option<u16>) -> Option<u16>
-    ensures { result ≡ (if is_unoffered standing then behind else first) }
+fn waiting_slot(standing: Standing, first: Option<u16>, following: Option<u16>) -> Option<u16>
+    ensures { result ≡ (if is_unoffered standing then following else first) }
 {
     match standing {
-        Standing::Unoffered => behind,
+        Standing::Unoffered => following,
         _ => first,
     }
 }

@@ -11,46 +11,46 @@ ghost use Rattle.bx_day.specs.SlotSteps.{follower, live_of, waiting_of, is_live_
 use crate::entry::{Entry, Standing};
 use bx_events::LAST_MOMENT;
 
-/// Brings the slots up to date after a second. What was live, what waited first on a channel and what comes behind
+/// Brings the slots up to date after a second. What was live, what waited first on a channel and what comes after
 /// that are all that can be live now; and what waited still does, but for these.
 pub(crate) fn settle(
     entries: &[Entry],
-    behind: &[Option<u16>],
+    following: &[Option<u16>],
     live: &mut [Option<u16>; 32],
     waiting: &mut [Option<u16>; 32],
 )
-    requires size { length behind.now ≡ length entries.now }
+    requires size { length following.now ≡ length entries.now }
     requires live { (c : ℕ) → IsInside entries.now (slot_at live.old c) }
     requires waiting { (c : ℕ) → IsInside entries.now (slot_at waiting.old c) }
-    requires second { (c : ℕ) → IsInside entries.now (follower behind.now (slot_at waiting.old c)) }
-    ensures { (link : Link) (d : Day) → IsExchange d → d.moment < LAST_MOMENT → entries.now ≡ map (after_in link d) d.entries → AreSlots d live.old waiting.old behind.now → AreSlots (passed_in link d).day live.new waiting.new behind.now }
+    requires second { (c : ℕ) → IsInside entries.now (follower following.now (slot_at waiting.old c)) }
+    ensures { (link : Link) (d : Day) → IsExchange d → d.moment < LAST_MOMENT → entries.now ≡ map (after_in link d) d.entries → AreSlots d live.old waiting.old following.now → AreSlots (passed_in link d).day live.new waiting.new following.now }
 {
     for number in 0..32 {
         let first = waiting[number];
-        let second = follower(behind, first);
+        let second = follower(following, first);
         live[number] = live_of(entries, live[number], first, second);
-        waiting[number] = waiting_of(entries, behind, first, second);
+        waiting[number] = waiting_of(entries, following, first, second);
     }
 }
 
-/// For each channel the booking behind the first that waits.
-pub(crate) fn followers(behind: &[Option<u16>], waiting: &[Option<u16>; 32]) -> [Option<u16>; 32]
-    requires { (c i : ℕ) → slot_at waiting.now c ≡ Some i → i < length behind.now }
-    ensures { (c : ℕ) → slot_at result c ≡ follower behind.now (slot_at waiting.now c) }
+/// For each channel the booking after the first that waits.
+pub(crate) fn followers(following: &[Option<u16>], waiting: &[Option<u16>; 32]) -> [Option<u16>; 32]
+    requires { (c i : ℕ) → slot_at waiting.now c ≡ Some i → i < length following.now }
+    ensures { (c : ℕ) → slot_at result c ≡ follower following.now (slot_at waiting.now c) }
 {
     let mut second = [None; 32];
     for number in 0..32 {
-        second[number] = follower(behind, waiting[number]);
+        second[number] = follower(following, waiting[number]);
     }
     second
 }
 
-/// The booking behind this one.
-fn follower(behind: &[Option<u16>], index: Option<u16>) -> Option<u16>
-    requires { (i : ℕ) → index ≡ Some i → i < length behind.now }
-    ensures { result ≡ follower behind.now index }
+/// The booking after this one.
+fn follower(following: &[Option<u16>], index: Option<u16>) -> Option<u16>
+    requires { (i : ℕ) → index ≡ Some i → i < length following.now }
+    ensures { result ≡ follower following.now index }
 {
-    behind[index? as usize]
+    following[index? as usize]
 }
 
 /// The first of these that is live.
@@ -76,24 +76,24 @@ fn live_of(
     }
 }
 
-/// The first of these that waits, or else the one behind them.
+/// The first of these that waits, or else the one after them.
 fn waiting_of(
     entries: &[Entry],
-    behind: &[Option<u16>],
+    following: &[Option<u16>],
     first: Option<u16>,
     second: Option<u16>,
 ) -> Option<u16>
-    requires size { length behind.now ≡ length entries.now }
+    requires size { length following.now ≡ length entries.now }
     requires first { IsInside entries.now first }
     requires second { IsInside entries.now second }
-    ensures { result ≡ waiting_of entries.now behind.now first second }
+    ensures { result ≡ waiting_of entries.now following.now first second }
 {
     if is_waiting_at(entries, first) {
         first
     } else if is_waiting_at(entries, second) {
         second
     } else {
-        follower(behind, second)
+        follower(following, second)
     }
 }
 

@@ -62,7 +62,7 @@ impl Exchange {
         ensures slots { length result ≡ 32 }
     {
         let blocked = self.blocked();
-        let second = followers(&self.behind, &self.waiting);
+        let second = followers(&self.following, &self.waiting);
         let said = move_on(
             &mut self.entries,
             &mut self.maintenance,
@@ -75,7 +75,7 @@ impl Exchange {
         );
         settle(
             &self.entries,
-            &self.behind,
+            &self.following,
             &mut self.live,
             &mut self.waiting,
         );
@@ -171,7 +171,7 @@ fn move_all(
 }
 
 /// Moves the bookings on to which a second may do something: on each channel the live one, the first that waits, and
-/// the second behind that, which may start when the first ends. Puts channels that break into maintenance, and answers
+/// the second after that, which may start when the first ends. Puts channels that break into maintenance, and answers
 /// what is said, by the number of its channel.
 fn move_on(
     entries: &mut [Entry],

@@ -1,4 +1,4 @@
--- Hatched lanes, one behind another.
+-- Hatched lanes, one after another.
 use Rattle.std.proofs.Common.{◌≡◌, ◌∙◌, ◌+◌, ◌&&◌, ℕ, suc, Bool, true, false, List, [], ◌++◌, Option, Some, None, refl, ap, sym, append_assoc, append-nil, if◌then◌else◌, arith}
 use Rattle.bx_base.specs.Channels.{has_channel}
 use Rattle.bx_calendar.specs.declared.clock.Clock.{Clock}

@@ -1,4 +1,4 @@
--- A picture, piece behind piece.
+-- A picture, piece after piece.
 use Rattle.std.proofs.Common.{◌≡◌, ℕ, List, [], ◌++◌}
 use Rattle.bx_day_chart.specs.Heads.{pair}
 

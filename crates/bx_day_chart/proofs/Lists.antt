@@ -3,7 +3,7 @@ use Rattle.std.proofs.Common.{◌≡◌, ◌<◌, ◌≤◌, ◌+◌, ◌++◌, 
 use Rattle.std.specs.List.{flat_map}
 use Rattle.std.proofs.lemmas.List.{drop_all, get_or_default}
 
--- the one of an index, and those behind it
+-- the one of an index, and those after it
 pub cut : {A : Type 0} (xs : List A) (k : ℕ) (x : A) → x ≡ slice_index_or xs k x → k < length xs → drop k xs ≡ x ∷ drop (k + 1) xs
 cut {A = A} xs k x is lt = drop-cons xs k x lt ∙ ap₂ (λ (y : A) (n : ℕ). y ∷ drop n xs) (sym is) (let q : suc k ≡ k + 1 = omega arith in q)
 

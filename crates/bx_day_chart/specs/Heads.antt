@@ -46,7 +46,7 @@ titled height = sized height ++ codes "'>\n<title>A day as it went</title>\n"
 abbrev pub day_opening : ℕ → List ℕ
 day_opening height = titled height ++ style ++ day_style ++ paper height
 
--- two counts, each behind its words
+-- two counts, each after its words
 abbrev pub pair : List ℕ → ℕ → List ℕ → ℕ → List ℕ
 pair words count more second = (words ++ decimal count) ++ (more ++ decimal second)
 

@@ -20,7 +20,7 @@ abbrev pub crossed : ℕ → ℕ → ℕ → ℕ → List ℕ
 crossed from until top bottom = risen from until top bottom ++ fallen from until top bottom
 
 -- a booking that was missed has a rising stroke, one that was not answered a cross, and one whose call ended early a falling stroke over what was
--- not carried behind it
+-- not carried after it
 abbrev pub mark_of : Row → ℕ → ℕ → Standing → List ℕ
 mark_of row top bottom Missed = risen row.start row.end top bottom
 mark_of row top bottom Unanswered = crossed row.start row.end top bottom

@@ -17,7 +17,7 @@ last_of outages = slice_index_or outages (length outages - 1) no_outage
 abbrev pub goes_on : ℕ → List Outage → Bool
 goes_on second outages = nat_lt 0 (length outages) && ((last_of outages).until == second)
 
--- the second behind this one, as 32 bits have it
+-- the second after this one, as 32 bits have it
 abbrev pub next_second : ℕ → ℕ
 next_second second = min (second + 1) 4294967295
 

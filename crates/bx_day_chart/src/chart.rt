@@ -57,7 +57,7 @@ fn add_day_part(
     picture.add(b"</svg>\n")
 }
 
-/// Adds all that stands behind that part: where bookings begin, the hours, now, and the legend.
+/// Adds all that stands after that part: where bookings begin, the hours, now, and the legend.
 fn add_foot(
     picture: &mut Picture,
     exchange: &Exchange,

@@ -68,7 +68,7 @@ fn add_opening(picture: &mut Picture, height: u64) -> Result<(), AllocError>
     add_paper(picture, height)
 }
 
-/// Adds two counts, each behind its words.
+/// Adds two counts, each after its words.
 fn add_pair(
     picture: &mut Picture,
     words: &[u8],

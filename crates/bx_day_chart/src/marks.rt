@@ -52,7 +52,7 @@ fn add_crossed(picture: &mut Picture, from: u32, until: u32, edges: Edges) -> Re
 }
 
 /// Adds the mark of a booking of which this has become: a rising stroke where it was missed, a cross where it was not answered, and a falling stroke over what
-/// was not carried behind a call that ended early.
+/// was not carried after a call that ended early.
 pub(crate) fn add_mark(
     picture: &mut Picture,
     booking: &Booking,

@@ -7,7 +7,7 @@ use bx_calendar::Clock;
 use bx_chart::{Picture, add_corner, add_extent, add_time};
 use std::alloc::{AllocError, Global};
 
-/// Seconds on end without a link: from the first of them until the one behind the last.
+/// Seconds on end without a link: from the first of them until the one after the last.
 #[derive(Clone, Copy)]
 pub struct Outage {
     pub from: u32,
@@ -41,7 +41,7 @@ impl Outages {
     }
 
     /// Notes that there was no link from this second of the day until the next. One that follows on the last lengthens its outage, so a day has no more
-    /// of them than were noted apart. `AllocError` where a growth is refused, and nothing is noted.
+    /// of them than were noted apart. `AllocError` where memory runs out, and nothing is noted.
     pub fn note(&mut self, second: u32) -> Result<(), AllocError>
         ensures noted { OnOk result (self.new.spans.items ≡ noted second self.old.spans.items) }
         ensures kept { OnErr result (self.new.spans.items ≡ self.old.spans.items) }

@@ -18,7 +18,7 @@ use std::io::Write;
 /// Writes a picture of a day as it went, in SVG 1.1: of the day of a clock with the hours that it shows, or of 86,400 seconds with the hours from midnight
 /// on. Each booking that the plan accepts has its bar in the lane of its channel, pale, and over it what was carried; one of which not all was carried has a
 /// mark that says why. The seconds without a link are shaded over all lanes, the lane of a channel in maintenance is hatched from when a call was last on it,
-/// and where the day is not over a line stands at the moment to which it has come. `Memory` where a growth is refused, before anything is written;
+/// and where the day is not over a line stands at the moment to which it has come. `Memory` where memory runs out, before anything is written;
 /// `WriteFailed` where a write fails, or takes none of what it was given.
 pub fn write_day_chart<W: Write>(
     alloc: Global,

@@ -43,16 +43,16 @@ module _ {F G : Type 0} (followed : F → List LiveEvent → F → Type 0) (goes
 
 -- ---- a sale that is none
 
-none_in : (before behind : List LiveEvent) (line : List ℕ) → [] ≡ before ++ Sold line ∷ behind → ⊥
-none_in [] behind line e = cc
-none_in (event ∷ before) behind line e = cc
+none_in : (before following : List LiveEvent) (line : List ℕ) → [] ≡ before ++ Sold line ∷ following → ⊥
+none_in [] following line e = cc
+none_in (event ∷ before) following line e = cc
 
-front_of : (before after : Option (List ℕ)) (read : List ℕ) → Consumes before after read → (known : List ℕ) → before ≡ Some known → (rest : List ℕ) × (known ≡ read ++ rest)
-front_of None after read c known is = absurd cc
-front_of (Some xs) None read c known is = absurd c
-front_of (Some xs) (Some ys) read c known is = let same : xs ≡ known = cc in (ys, sym same ∙ c)
+prefix_of : (before after : Option (List ℕ)) (read : List ℕ) → Consumes before after read → (known : List ℕ) → before ≡ Some known → (rest : List ℕ) × (known ≡ read ++ rest)
+prefix_of None after read c known is = absurd cc
+prefix_of (Some xs) None read c known is = absurd c
+prefix_of (Some xs) (Some ys) read c known is = let same : xs ≡ known = cc in (ys, sym same ∙ c)
 
--- it followed the events and sales up to one that is none, and those behind that not
+-- it followed the events and sales up to one that is none, and those after that not
 module _ {F : Type 0} (followed : F → List LiveEvent → F → Type 0) (faulted : Bool) (before after : Option (List ℕ)) (wanted : Wanted) (f g : F) (channels : List Bool) (opened day : Day) (fault : SaleFault)
     (stop : (events : List LiveEvent) → followed f events g → IsStopped (day_goes channels) (λ (d : Day). d) channels opened events day fault) where
   by_events : (events : List LiveEvent) → IsReadSoFar wanted before events → followed f events g → HasBadSale channels wanted before opened fault
@@ -61,18 +61,18 @@ module _ {F : Type 0} (followed : F → List LiveEvent → F → Type 0) (faulte
   by_refusal : (why : JournalFault) → WasRefused followed before after wanted f g why → HasBadSale channels wanted before opened fault
   by_refusal why r = by_events r.events (record {
     read = r.read;
-    front = front_of before after r.read r.consumed;
+    prefix = prefix_of before after r.read r.consumed;
     are = inr (subst (λ (l : List ℕ). events_before wanted l ≡ r.events) (append-nil r.read) (r.are []));
   }) r.followed_all
 
   no_stop : followed f [] g → HasBadSale channels wanted before opened fault
-  no_stop h = let s = stop [] h in absurd (none_in s.sale.before s.sale.behind s.sale.line s.sale.are)
+  no_stop h = let s = stop [] h in absurd (none_in s.sale.before s.sale.following s.sale.line s.sale.are)
 
-  cut_front : (read held : List ℕ) → Consumes before after (read ++ held) → (known : List ℕ) → before ≡ Some known → (rest : List ℕ) × (known ≡ read ++ rest)
-  cut_front read held c known is = let p = front_of before after (read ++ held) c known is in (held ++ p.0, p.1 ∙ append_assoc read held p.0)
+  cut_prefix : (read held : List ℕ) → Consumes before after (read ++ held) → (known : List ℕ) → before ≡ Some known → (rest : List ℕ) × (known ≡ read ++ rest)
+  cut_prefix read held c known is = let p = prefix_of before after (read ++ held) c known is in (held ++ p.0, p.1 ∙ append_assoc read held p.0)
 
   pub bad_sale : (result : Result ℕ JournalFault) → IsFollowed followed faulted before after wanted f g result → HasBadSale channels wanted before opened fault
-  bad_sale (Ok n) r = by_events r.events (record { read = r.text; front = front_of before after r.text r.consumed; are = inl (the_events (length (whole_text r.text)) n (recovered wanted r.text) r.events r.is) }) r.followed_all
+  bad_sale (Ok n) r = by_events r.events (record { read = r.text; prefix = prefix_of before after r.text r.consumed; are = inl (the_events (length (whole_text r.text)) n (recovered wanted r.text) r.events r.is) }) r.followed_all
   bad_sale (Err (BadLine n)) r = by_refusal (BadLine n) r
   bad_sale (Err OtherPlan) r = by_refusal OtherPlan r
   bad_sale (Err OtherDay) r = by_refusal OtherDay r
@@ -80,7 +80,7 @@ module _ {F : Type 0} (followed : F → List LiveEvent → F → Type 0) (faulte
   bad_sale (Err NotBegun) r = no_stop r.followed_none
   bad_sale (Err ReadFailed) r = by_cut r.is where
     by_cut : (recovered wanted r.read ≡ Ok r.events) ⊎ ((recovered wanted r.read ≡ Err NotBegun) × (r.events ≡ [])) → HasBadSale channels wanted before opened fault
-    by_cut (inl is) = by_events r.events (record { read = r.read; front = cut_front r.read r.held r.consumed; are = inl is }) r.followed_all
+    by_cut (inl is) = by_events r.events (record { read = r.read; prefix = cut_prefix r.read r.held r.consumed; are = inl is }) r.followed_all
     by_cut (inr (not, none)) = no_stop (subst (λ (es : List LiveEvent). followed f es g) none r.followed_all)
 
 -- ---- an exchange that follows
@@ -120,7 +120,7 @@ untold wanted before fault none = record { text = none.text; told = λ known is.
 pub of_file : (name : List ℕ) (wanted : Wanted) (channels : List Bool) (opened : Day) (before after : Option (List ℕ)) (faulted : Bool) (fault : DayCommandFault) → IsNoReplay name wanted channels opened before after faulted fault → HasNoReplay name wanted channels opened fault
 of_file name wanted channels opened before after faulted (faults.Sale why) bad = record {
   events = bad.events;
-  read = record { read = bad.read.read; front = λ known is. absurd cc; are = bad.read.are };
+  read = record { read = bad.read.read; prefix = λ known is. absurd cc; are = bad.read.are };
   sale = bad.sale;
   day = bad.day;
   through = bad.through;

@@ -3,7 +3,7 @@ use Rattle.std.specs.Prelude.{◌≡◌, ◌⊎◌, ◌≤◌, ℕ, Bool, true, 
 use Rattle.bx_check_commands.specs.declared.fault.CommandFault.TheVariants.{CannotRead}
 use Rattle.bx_day_openings.specs.declared.fault.DayCommandFault.{DayCommandFault}
 use Rattle.bx_day_openings.specs.declared.fault.DayCommandFault.TheVariants.{Command, Journal}
-use Rattle.bx_devices.specs.Octets.{ReadsFront}
+use Rattle.bx_devices.specs.Octets.{ReadsPrefix}
 use Rattle.bx_journal.specs.Reading.{recovered}
 use Rattle.bx_journal.specs.declared.fault.JournalFault.{JournalFault}
 use Rattle.bx_journal.specs.declared.fault.JournalFault.TheVariants.{BadLine, OtherPlan, OtherDay, OtherRules}
@@ -17,7 +17,7 @@ pub record IsNoJournalText (wanted : Wanted) (before : Option (List ℕ)) (fault
 
 -- a read failed, or as many octets were read as are counted
 abbrev pub IsCutOff : Option (List ℕ) → Option (List ℕ) → Bool → Type 0
-IsCutOff before after faulted = (faulted ≡ true) ⊎ ((n : ℕ) × (18446744073709551615 ≤ n) × ReadsFront before after n)
+IsCutOff before after faulted = (faulted ≡ true) ⊎ ((n : ℕ) × (18446744073709551615 ≤ n) × ReadsPrefix before after n)
 
 -- why a journal of this name is not followed to its end
 abbrev pub IsNoJournal : List ℕ → Wanted → Option (List ℕ) → Option (List ℕ) → Bool → DayCommandFault → Type 0

@@ -16,7 +16,7 @@ use Rattle.bx_day_openings.specs.declared.fault.DayCommandFault.{DayCommandFault
 use Rattle.bx_day_openings.specs.declared.fault.DayCommandFault.TheVariants.{Command, Script, Capture, CannotListen, CannotConnect, CannotWriteFile}
 use Rattle.bx_day_openings.specs.declared.fault.DayCommandFault.TheVariants as faults
 
--- a file of this name is not read, or holds no plan that is proved, or a growth is refused
+-- a file of this name is not read, or holds no plan that is proved, or memory runs out
 abbrev pub IsNoOpening : List ℕ → DayCommandFault → Type 0
 IsNoOpening name (Command fault) = HasNoProvedPlan name fault
 IsNoOpening name _ = ⊥
@@ -27,7 +27,7 @@ pub record IsNoScriptText (before : Option (List ℕ)) (fault : ScriptFault) : T
   pub told : (known : List ℕ) → before ≡ Some known → text ≡ known
   pub first : IsScriptFault (strip_bom text) fault
 
--- a file of this name is not read, or holds a text that is no script, with just this first fault, or a growth is refused
+-- a file of this name is not read, or holds a text that is no script, with just this first fault, or memory runs out
 abbrev pub IsNoFarEnd : List ℕ → DayCommandFault → Type 0
 IsNoFarEnd name (Command (CannotRead n)) = n.now ≡ name
 IsNoFarEnd name (Command Memory) = Unit {0}

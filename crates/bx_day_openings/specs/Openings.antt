@@ -13,7 +13,7 @@ use Rattle.bx_far.specs.ScriptTexts.{IsScript}
 use Rattle.bx_far.specs.declared.row.ScriptRow.{ScriptRow}
 
 -- the greatest moment at which the call of one of the first so many bookings, where it is taken, may end: T305
--- and twice T308 behind its end; 1 where none is taken
+-- and twice T308 after its end; 1 where none is taken
 pub record IsGreatest (taken : ℕ → Bool) (ends : ℕ → ℕ) (count turns : ℕ) : Type 0 where
   pub each : (i : ℕ) → i < count → taken i ≡ true → ends i + clearing_time ≤ turns
   pub one : ((i : ℕ) × (i < count) × (taken i ≡ true) × (turns ≡ ends i + clearing_time)) ⊎ (((i : ℕ) → i < count → taken i ≡ false) × (turns ≡ 1))
@@ -36,7 +36,7 @@ abbrev pub AreTurns : Option ℕ → Parts → ℕ → Type 0
 AreTurns (Some asked) plan turns = turns ≡ asked
 AreTurns None plan turns = IsLastOf plan.rows plan.assigned (length plan.rows) turns
 
--- this is the text of a script, but for a byte order mark at its front, and what there was to read, where the input tells it
+-- this is the text of a script, but for a byte order mark at its start, and what there was to read, where the input tells it
 pub record IsScriptRead (before : Option (List ℕ)) (script : List ScriptRow) : Type 0 where
   pub text : List ℕ
   pub told : (known : List ℕ) → before ≡ Some known → text ≡ known

@@ -18,10 +18,10 @@ pub record IsDayThrough (channels : List Bool) (wanted : Wanted) (before : Optio
   pub journal : IsJournal wanted before events
   pub through : day_goes channels opened events day
 
--- a front of what there was to read, where it is told, has just these events, up to its first line that is wrong
+-- a prefix of what there was to read, where it is told, has just these events, up to its first line that is wrong
 pub record IsReadSoFar (wanted : Wanted) (before : Option (List ℕ)) (events : List LiveEvent) : Type 0 where
   pub read : List ℕ
-  pub front : (known : List ℕ) → before ≡ Some known → (rest : List ℕ) × (known ≡ read ++ rest)
+  pub prefix : (known : List ℕ) → before ≡ Some known → (rest : List ℕ) × (known ≡ read ++ rest)
   pub are : (recovered wanted read ≡ Ok events) ⊎ (events_before wanted read ≡ events)
 
 -- a journal has a sale that is none of the day that it has come to, and all before it is right

@@ -1,4 +1,4 @@
--- How a day opens whose events go on record.
+-- How a day opens whose events are logged.
 use Rattle.std.specs.Prelude.{◌≡◌, ℕ, Bool, List, Option, None}
 use Rattle.bx_base.specs.PlanParts.{Parts}
 use Rattle.bx_day.specs.Day.{Day, opening}

@@ -40,7 +40,7 @@ pub fn first_of<'a>(capture: Option<CaptureWords<'a>>) -> Result<u32, DayCommand
     }
 }
 
-/// The file, with the header of a capture behind what stands in it, written once.
+/// The file, with the header of a capture after what stands in it, written once.
 fn headed<F: Write + Drop>(file: F) -> Result<Watched<F>, WriteFailed>
     ensures header { IfOk result (λ watched. Appends (F.contents file) (F.contents (device_of watched)) file_header) }
     ensures unfaulted { IfOk result (λ watched. is_faulted watched ≡ false) }

@@ -12,7 +12,7 @@ use thiserror::Error;
 /// The refusal of a command that runs a day, or tells one from its journal.
 #[derive(Clone, Copy, Debug, PartialEq, Eq, Error)]
 pub enum DayCommandFault<'a> {
-    /// A file of this name was not opened or not read, it holds no plan or none that is proved, the output failed, or a growth was refused.
+    /// A file of this name was not opened or not read, it holds no plan or none that is proved, the output failed, or memory ran out.
     #[error("{0}")]
     Command(CommandFault<'a>),
     /// What was read is no script.

@@ -40,7 +40,7 @@ pub fn follow_to_end<'a, R: Read, F: Follower>(
     ensures whole { OnOk result (IsFollowedWhole F.followed wanted.now (R.remaining (device_of journal.old)) follower.old follower.new) }
     ensures refused { IfErr result (IsNoJournal name.now wanted.now (R.remaining (device_of journal.old)) (R.remaining (device_of journal.new)) (is_faulted journal.new)) }
     // At a refusal the events before it were followed.
-    ensures front { IfErr result (λ fault. IsFollowedSoFar F.followed follower.old follower.new) }
+    ensures prefix { IfErr result (λ fault. IsFollowedSoFar F.followed follower.old follower.new) }
 {
     let whole = read_journal(journal, wanted, follower);
     journal_read(name, whole)

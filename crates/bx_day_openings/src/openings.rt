@@ -67,8 +67,8 @@ fn script_from<'a, R: Read>(
     }
 }
 
-/// The far end at the opening of its day by the script of an input. `Command` where the input cannot be read, or a growth was
-/// refused; `Script` where it holds no script.
+/// The far end at the opening of its day by the script of an input. `Command` where the input cannot be read, or memory ran
+/// out; `Script` where it holds no script.
 pub fn far_end_of<'a, I: Inputs>(
     alloc: Global,
     inputs: &mut I,

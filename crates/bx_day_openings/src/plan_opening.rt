@@ -1,4 +1,4 @@
-//! How a day opens whose events go on record.
+//! How a day opens whose events are logged.
 
 ghost use Rattle.std.specs.Prelude.{◌≡◌, ℕ, List, Option, IfOk, IfErr};
 ghost use Rattle.bx_base.specs.Bookings.{Carries};
@@ -30,7 +30,7 @@ pub struct DayOpening {
     pub digest: [u8; 32],
 }
 
-/// The opening of the day of this plan, whose channels carry its accepted bookings. `Command`, as `Memory`, where a growth is refused.
+/// The opening of the day of this plan, whose channels carry its accepted bookings. `Command`, as `Memory`, where memory runs out.
 pub fn opening_of<'a>(alloc: Global, tied: &TiedPlan) -> Result<DayOpening, DayCommandFault<'a>>
     requires { Carries tied.now.plan.bookings tied.now.plan.channels (is_accepted tied.now.plan.assigned.items) (channel_at tied.now.plan.assigned.items) }
     ensures opened { IfOk result (IsOpened tied.now) }

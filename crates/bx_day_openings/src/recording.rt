@@ -89,8 +89,8 @@ pub fn unrecorded<'a>(fault: RecordsFault, unwritten: DayCommandFault<'a>) -> Da
 }
 
 /// Writes the records of a day into the file that was made for them, where there is one. `CannotWriteFile` where a write failed:
-/// then a front of the records was written. At the others nothing was: `Day`, as `OutOfRange`, where a moment lies behind the last
-/// that can be named, and `Command`, as `Memory`, where a growth was refused.
+/// then a prefix of the records was written. At the others nothing was: `Day`, as `OutOfRange`, where a moment lies after the last
+/// that can be named, and `Command`, as `Memory`, where memory ran out.
 pub fn record<'a, F: Write + Drop>(
     alloc: Global,
     exchange: &Exchange,

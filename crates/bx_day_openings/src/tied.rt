@@ -23,7 +23,7 @@ pub struct TiedPlan {
 
 /// The plan whose text is read to the end of an input of this name, where it is proved, with the digest of just this text. A text is
 /// at most 4,194,304 octets, read in at most 8,388,608 reads; `CannotRead` is answered beyond that, and where a read failed. `Plan`
-/// where the text is no plan, `Check` where the plan is not proved, `Memory` where a growth was refused.
+/// where the text is no plan, `Check` where the plan is not proved, `Memory` where memory ran out.
 pub fn tied_plan<'a, R: Read>(
     alloc: Global,
     name: &'a str,

@@ -30,10 +30,10 @@ const CHANNELS: [u8; 3] = [1, 2, 3];
 
 /// Whether such a message was sent.
 fn was_sent(sent: &[Octets], flag: u8, reference: u8, kind: u8) -> bool {
-    let front = [0x08, 0x02, flag, reference, kind];
+    let prefix = [0x08, 0x02, flag, reference, kind];
     let mut found = false;
     for octets in sent {
-        found |= octets.as_slice().starts_with(&front);
+        found |= octets.as_slice().starts_with(&prefix);
     }
     found
 }

@@ -245,7 +245,7 @@ static ASKED_LAST: [Asked; 4] = [
 
 static TOLD_LAST: [Answer; 4] = [LATE, NO_CHANNEL, YES, FULL];
 
-/// A day with two places left: what is asked for behind the second booking that starts later finds none.
+/// A day with two places left: what is asked for after the second booking that starts later finds none.
 fn last_places(alloc: Global) -> Option<bool> {
     let mut exchange = refused_day(alloc, 3998)?;
     let world = world_after(alloc, &mut exchange, &[1], 0, &ASKED_LAST)?;

@@ -43,9 +43,9 @@ const ALL: Seen = Seen {
 };
 
 impl Seen {
-    /// Looks at the state of a call before and behind seconds without a link.
-    fn looks(&mut self, before: u8, behind: u8) {
-        match (before, behind) {
+    /// Looks at the state of a call before and after seconds without a link.
+    fn looks(&mut self, before: u8, following: u8) {
+        match (before, following) {
             (10, 10) => self.active = true,
             (10, 12) => self.ended = true,
             (3, 3) => self.connect = true,
@@ -55,9 +55,9 @@ impl Seen {
         }
     }
 
-    /// Looks at the state of a call before and behind a report.
-    fn hears(&mut self, before: u8, behind: u8) {
-        if (before, behind) == (10, 19) {
+    /// Looks at the state of a call before and after a report.
+    fn hears(&mut self, before: u8, following: u8) {
+        if (before, following) == (10, 19) {
             self.reported = true;
         }
     }
@@ -70,7 +70,7 @@ fn hear(exchange: &mut Exchange, skipping: &mut Exchange, second: &mut Second, o
     second.hears(octets);
 }
 
-/// Lets so many seconds go by, and answers whether the exchanges agree behind each.
+/// Lets so many seconds go by, and answers whether the exchanges agree after each.
 fn go_on(exchange: &mut Exchange, second: &mut Second, seconds: u32, linked: bool) -> bool {
     let mut same = true;
     for _second in 0..seconds {

@@ -11,14 +11,14 @@ use bx_far::Far;
 use bx_worked_days::far_of;
 use std::alloc::Global;
 
-/// A script; what happens before seconds without a link, to which moment these go, and what happens behind them; and how channel 1
+/// A script; what happens before seconds without a link, to which moment these go, and what happens after them; and how channel 1
 /// is in the end.
 struct Outage {
     name: &'static str,
     script: &'static str,
     before: &'static [Step],
     to: u32,
-    behind: &'static [Step],
+    following: &'static [Step],
     ending: Ending,
 }
 
@@ -28,7 +28,7 @@ static OUTAGES: [Outage; 6] = [
         script: "number,policy,seconds\n*,answer,0\n",
         before: &[(0, SETUP, &[]), (1, &[], &[CONNECT_CHANNEL_1])],
         to: 30,
-        behind: &[(34, &[], &[FAR_DISCONNECT_102])],
+        following: &[(34, &[], &[FAR_DISCONNECT_102])],
         ending: (Some((1, CallState::DisconnectRequest)), false),
     },
     Outage {
@@ -41,7 +41,7 @@ static OUTAGES: [Outage; 6] = [
             (2, &[], &[FAR_DISCONNECT_16]),
         ],
         to: 10,
-        behind: &[
+        following: &[
             (11, &[], &[FAR_RELEASE_16]),
             (15, &[], &[FAR_RELEASE_16]),
             (19, &[], &[]),
@@ -60,7 +60,7 @@ static OUTAGES: [Outage; 6] = [
             (36, &[], &[FAR_RELEASE_16]),
         ],
         to: 90,
-        behind: &[(91, &[], &[FAR_RELEASE_16]), (95, &[], &[])],
+        following: &[(91, &[], &[FAR_RELEASE_16]), (95, &[], &[])],
         ending: (None, true),
     },
     Outage {
@@ -68,7 +68,7 @@ static OUTAGES: [Outage; 6] = [
         script: "number,policy,seconds,channel\n99,call,1,1\n1234,call,5,1\n",
         before: &[],
         to: 3,
-        behind: &[(5, &[], &[SETUP])],
+        following: &[(5, &[], &[SETUP])],
         ending: (Some((1, CallState::CallInitiated)), false),
     },
     Outage {
@@ -76,7 +76,7 @@ static OUTAGES: [Outage; 6] = [
         script: "number,policy,seconds,channel\n1234,call,1,1\n",
         before: &[(1, &[], &[SETUP])],
         to: 20,
-        behind: &[(24, &[], &[SETUP]), (28, &[], &[USER_RELEASE_COMPLETE_102])],
+        following: &[(24, &[], &[SETUP]), (28, &[], &[USER_RELEASE_COMPLETE_102])],
         ending: FREE,
     },
     Outage {
@@ -84,7 +84,7 @@ static OUTAGES: [Outage; 6] = [
         script: "number,policy,seconds\n*,answer,2\n",
         before: &[(0, SETUP, &[]), (1, &[], &[ALERTING_CHANNEL_1])],
         to: 9,
-        behind: &[(10, &[], &[CONNECT])],
+        following: &[(10, &[], &[CONNECT])],
         ending: (Some((1, CallState::ConnectRequest)), false),
     },
 ];
@@ -102,8 +102,8 @@ fn day_goes(alloc: Global, outage: &Outage) -> Option<bool> {
     let mut far = far_of(alloc, outage.script)?;
     let before = first_wrong(&mut far, outage.before).is_none();
     let without = goes_without(&mut far, outage.to);
-    let behind = first_wrong(&mut far, outage.behind).is_none();
-    Some(before && without && behind && ends(&far, outage.ending))
+    let following = first_wrong(&mut far, outage.following).is_none();
+    Some(before && without && following && ends(&far, outage.ending))
 }
 
 #[test]

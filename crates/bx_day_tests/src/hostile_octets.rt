@@ -23,7 +23,7 @@ static WORKED: [&[u8]; 20] = [
     &[
         0x08, 0x02, 0x00, 0x08, 0x05, 0x04, 0x02, 0x88, 0x90, 0x18, 0x01, 0xA3,
     ],
-    // to a call that the exchange began: an answer on its channel, on another one, on any, behind shifts
+    // to a call that the exchange began: an answer on its channel, on another one, on any, after shifts
     &[0x08, 0x02, 0x80, 0x01, 0x07, 0x18, 0x03, 0xA9, 0x83, 0x81],
     &[0x08, 0x02, 0x80, 0x01, 0x02, 0x18, 0x03, 0xA9, 0x83, 0x82],
     &[0x08, 0x02, 0x80, 0x01, 0x07, 0x18, 0x01, 0xA3],
@@ -86,13 +86,13 @@ fn each_value<S: Subject>(subject: &mut S, octets: &mut [u8], at: usize) -> bool
     right
 }
 
-/// Whether each front of the octets is taken rightly, and each copy with one octet replaced.
-fn fronts_and_values<S: Subject>(subject: &mut S, message: &[u8]) -> bool {
+/// Whether each prefix of the octets is taken rightly, and each copy with one octet replaced.
+fn prefixes_and_values<S: Subject>(subject: &mut S, message: &[u8]) -> bool {
     let mut right = subject.takes_rightly(message);
     for at in 0..message.len() {
         let mut copy = [0; 32];
-        if let (Some(front), Some(room)) = (message.get(..at), copy.get_mut(..message.len())) {
-            right &= subject.takes_rightly(front);
+        if let (Some(prefix), Some(room)) = (message.get(..at), copy.get_mut(..message.len())) {
+            right &= subject.takes_rightly(prefix);
             room.copy_from_slice(message);
             right &= each_value(subject, room, at);
         }
@@ -100,10 +100,10 @@ fn fronts_and_values<S: Subject>(subject: &mut S, message: &[u8]) -> bool {
     right
 }
 
-/// The index of the first worked message of which some front or some copy is taken wrongly; 20 where a short string is.
+/// The index of the first worked message of which some prefix or some copy is taken wrongly; 20 where a short string is.
 pub(crate) fn first_wrong<S: Subject>(subject: &mut S) -> Option<usize> {
     for (index, message) in WORKED.iter().enumerate() {
-        if !fronts_and_values(subject, message) {
+        if !prefixes_and_values(subject, message) {
             return Some(index);
         }
     }

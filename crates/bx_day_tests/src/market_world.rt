@@ -14,7 +14,7 @@ use bx_q931::Octets;
 #[derive(Drop)]
 pub struct MarketWorld {
     batch: Option<Bookings>,
-    /// How many sales were put on record, and how many of them were on the disk when the customer was told.
+    /// How many sales were logged, and how many of them were on the disk when the customer was told.
     pub recorded: usize,
     pub synced: usize,
     pub told: ArrayVec<Answer, 8>,

@@ -638,8 +638,8 @@ fn reported_calls(rt: HostRuntime) {
     }
 }
 
-/// What is told of a booking of the last second behind an outage of 80,000 seconds, and of one longer than the day.
-fn told_behind_hours(alloc: Global) -> Option<[(u32, Outcome); 3]> {
+/// What is told of a booking of the last second after an outage of 80,000 seconds, and of one longer than the day.
+fn told_after_hours(alloc: Global) -> Option<[(u32, Outcome); 3]> {
     let mut exchange = exchange_of(alloc, &[(80_000, 80_001, 1, false)])?;
     exchange.skip_without_link(80_000);
     let first = (exchange.moment(), exchange.outcome(1)?);
@@ -653,7 +653,7 @@ fn told_behind_hours(alloc: Global) -> Option<[(u32, Outcome); 3]> {
 #[test]
 fn outage_of_hours(rt: HostRuntime) {
     assert!(rt;
-        told_behind_hours(rt.alloc())
+        told_after_hours(rt.alloc())
             == Some([
                 (80_000, Outcome::Waiting),
                 (80_001, Outcome::Missed),

@@ -10,7 +10,7 @@ use bx_day::Exchange;
 use bx_worked_days::{Row, exchange_of};
 use std::alloc::Global;
 
-/// Bookings, and steps with the quiet seconds behind each.
+/// Bookings, and steps with the quiet seconds after each.
 struct Worked {
     name: &'static str,
     bookings: &'static [Row],
@@ -90,7 +90,7 @@ static WORKED: [Worked; 6] = [
     },
 ];
 
-/// The moment of the first step that goes otherwise, or has other quiet seconds behind it.
+/// The moment of the first step that goes otherwise, or has other quiet seconds after it.
 fn first_unquiet(alloc: Global, worked: &Worked) -> Option<u32> {
     let mut exchange = exchange_of(alloc, worked.bookings)?;
     for (step, seconds) in worked.steps {

@@ -20,7 +20,7 @@ static ASKED: [(u32, u32, Result<(), NoSale>); 6] = [
     (10, 20, Ok(())),
 ];
 
-/// The last plan: what was sold stands behind the others, first fit.
+/// The last plan: what was sold stands after the others, first fit.
 static LAST: [Row; 6] = [
     (0, 10, 1, false),
     (20, 30, 1, false),

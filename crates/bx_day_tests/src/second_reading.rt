@@ -11,7 +11,7 @@ pub(crate) enum Naming {
     Channel { number: u8, exclusive: bool },
 }
 
-/// A message: its reference and flag (none: the dummy reference), its type, and what stands behind.
+/// A message: its reference and flag (none: the dummy reference), its type, and what stands after.
 #[derive(Clone, Copy)]
 pub(crate) struct Heard<'a> {
     pub(crate) reference: Option<(u16, bool)>,
@@ -21,19 +21,22 @@ pub(crate) struct Heard<'a> {
 
 /// The octets before the elements.
 fn header(octets: &[u8]) -> Result<Heard<'_>, MessageFault> {
-    let (reference, behind) = match octets {
+    let (reference, following) = match octets {
         [] | [0x08] => return Err(MessageFault::TooShort),
-        [0x08, 0, behind @ ..] => (None, behind),
-        [0x08, 1, only, behind @ ..] => (Some((u16::from(*only & 0x7F), *only >= 0x80)), behind),
-        [0x08, 2, high, low, behind @ ..] => (
+        [0x08, 0, following @ ..] => (None, following),
+        [0x08, 1, only, following @ ..] => (
+            Some((u16::from(*only & 0x7F), *only >= 0x80)),
+            following,
+        ),
+        [0x08, 2, high, low, following @ ..] => (
             Some((u16::from_be_bytes([*high & 0x7F, *low]), *high >= 0x80)),
-            behind,
+            following,
         ),
         [0x08, 1 | 2, ..] => return Err(MessageFault::TooShort),
         [0x08, ..] => return Err(MessageFault::BadCallReference),
         _ => return Err(MessageFault::NotQ931),
     };
-    match behind {
+    match following {
         [kind, elements @ ..] => Ok(Heard {
             reference,
             kind: *kind,
@@ -47,7 +50,9 @@ fn header(octets: &[u8]) -> Result<Heard<'_>, MessageFault> {
 fn item_size(octets: &[u8]) -> Option<usize> {
     match octets {
         [head, ..] if *head >= 0x80 => Some(1),
-        [_, length, behind @ ..] if behind.len() >= *length as usize => Some(*length as usize + 2),
+        [_, length, following @ ..] if following.len() >= *length as usize => Some(
+            *length as usize + 2,
+        ),
         _ => None,
     }
 }
@@ -60,8 +65,8 @@ struct Codesets {
 }
 
 impl Codesets {
-    /// Behind an item that begins with this octet.
-    fn behind(self, head: u8) -> Codesets {
+    /// After an item that begins with this octet.
+    fn following(self, head: u8) -> Codesets {
         if head & 0xF8 == 0x90 {
             Codesets {
                 locked: self.locked.max(head & 0x07),
@@ -99,7 +104,7 @@ impl<'a> Heard<'a> {
             if *head == id && here == 0 && found.is_none() {
                 found = Some(rest.get(2..size).unwrap_or(&[]));
             }
-            codesets = codesets.behind(*head);
+            codesets = codesets.following(*head);
             rest = rest.get(size..).unwrap_or(&[]);
         }
         Ok(found)
@@ -115,15 +120,15 @@ impl<'a> Heard<'a> {
         match self.element(0x18) {
             None => Naming::Absent,
             Some([first, ..]) if *first & 0x27 == 0x23 => Naming::Any,
-            Some([first, behind @ ..]) if *first & 0x67 == 0x21 => numbered(*first, behind),
-            Some([first, behind @ ..]) if *first & 0x67 == 0x61 => {
-                numbered(*first, behind_interface(behind))
+            Some([first, following @ ..]) if *first & 0x67 == 0x21 => numbered(*first, following),
+            Some([first, following @ ..]) if *first & 0x67 == 0x61 => {
+                numbered(*first, following_interface(following))
             }
             Some(_) => Naming::Unread,
         }
     }
 
-    /// The cause (4.5.12): behind octet 3a where there is one.
+    /// The cause (4.5.12): after octet 3a where there is one.
     pub(crate) fn cause(&self) -> Option<u8> {
         match self.element(0x08)? {
             [0x80..=0xFF, value, ..] | [0x00..=0x7F, _, value, ..] => Some(*value & 0x7F),
@@ -153,8 +158,8 @@ impl<'a> Heard<'a> {
     }
 }
 
-/// The octets behind an interface identifier.
-fn behind_interface(octets: &[u8]) -> &[u8] {
+/// The octets after an interface identifier.
+fn following_interface(octets: &[u8]) -> &[u8] {
     match octets.iter().position(|octet| *octet >= 0x80) {
         Some(last) => octets.get(last + 1..).unwrap_or(&[]),
         None => &[],

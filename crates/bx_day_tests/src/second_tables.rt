@@ -12,7 +12,7 @@ pub(crate) enum Next {
 }
 
 impl Next {
-    /// The number of the state behind this one, 0 where the call is over.
+    /// The number of the state after this one, 0 where the call is over.
     pub(crate) fn after(self, state: u8) -> u8 {
         match self {
             Next::Same => state,
@@ -39,7 +39,7 @@ const KNOWN: &[u8] = &[
     0x01, 0x02, 0x03, 0x05, 0x07, 0x0D, 0x0F, 0x45, 0x4D, 0x5A, 0x6E, 0x75, 0x7B, 0x7D,
 ];
 
-/// The network side, behind a STATUS that reports Null and a wrong channel in N6.
+/// The network side, after a STATUS that reports Null and a wrong channel in N6.
 static NETWORK: [Line; 14] = [
     (&[], &[0x5A], Reply::Nothing, Next::Over),
     (&[], &[0x75], Reply::Status(30, 0), Next::Same),
@@ -57,7 +57,7 @@ static NETWORK: [Line; 14] = [
     (&[], &[], Reply::Status(97, 0), Next::Same),
 ];
 
-/// The user side, behind a STATUS that reports Null and a wrong channel in U1.
+/// The user side, after a STATUS that reports Null and a wrong channel in U1.
 static USER: [Line; 14] = [
     (&[], &[0x5A], Reply::Nothing, Next::Over),
     (&[], &[0x75], Reply::Status(30, 0), Next::Same),

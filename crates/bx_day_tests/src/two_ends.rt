@@ -70,7 +70,7 @@ impl Ends {
     }
 }
 
-/// Both ends at the opening of their days; bookings behind the numbers are of 1234.
+/// Both ends at the opening of their days; bookings after the numbers are of 1234.
 pub(crate) fn opened(alloc: Global, rows: &[Row], numbers: &[&[u8]], script: &str) -> Option<Ends> {
     Some(Ends {
         exchange: exchange_of_numbers(alloc, rows, numbers)?,

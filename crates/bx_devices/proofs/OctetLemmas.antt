@@ -6,7 +6,7 @@ use Rattle.std.proofs.lemmas.Bool.Decides.{nat_tests}
 use Rattle.std.proofs.Math.Bool.{or-false}
 use Rattle.std.specs.Io.KnownBytes.{Appends, Consumes}
 use Rattle.std.proofs.KnownBytes.{Appends-trans, Consumes-trans}
-use Rattle.bx_devices.specs.Octets.{AppendsPrefix, ReadsAll, ReadsFront}
+use Rattle.bx_devices.specs.Octets.{AppendsPrefix, ReadsAll, ReadsPrefix}
 
 -- what is left from a place on, as the code cuts it
 pub from_place : (bytes : List ℕ) (at : ℕ) → take (length bytes - at) (drop at bytes) ≡ drop at bytes
@@ -24,14 +24,14 @@ pub takes_some : (n : ℕ) (bytes : List ℕ) (old : Bool) → n ≢ 0 → (old 
 takes_some n bytes old h = let e : ((n == 0) && nat_lt 0 (length bytes)) ≡ false = grind (arith, nat_tests) in rw e (or-false old)
 
 -- the read that brings one octet too many
-pub ReadsFront-next : (a b c : Option (List ℕ)) (old buf : List ℕ) (n most : ℕ) → Consumes a b old → Consumes b c (take n buf) → n ≤ length buf → length old + n ≡ most → ReadsFront a c most
-ReadsFront-next a b c old buf n most p q h e = (old ++ take n buf, omega (arith, length-append old (take n buf), length-take-le n buf h), Consumes-trans a b c old (take n buf) p q)
+pub ReadsPrefix-next : (a b c : Option (List ℕ)) (old buf : List ℕ) (n most : ℕ) → Consumes a b old → Consumes b c (take n buf) → n ≤ length buf → length old + n ≡ most → ReadsPrefix a c most
+ReadsPrefix-next a b c old buf n most p q h e = (old ++ take n buf, omega (arith, length-append old (take n buf), length-take-le n buf h), Consumes-trans a b c old (take n buf) p q)
 
--- a front of what was to be written, before more of it
+-- a prefix of what was to be written, before more of it
 pub AppendsPrefix-more : (a b : Option (List ℕ)) (bs cs : List ℕ) → AppendsPrefix a b bs → AppendsPrefix a b (bs ++ cs)
 AppendsPrefix-more a b bs cs p = (p.0, omega (arith, p.1, length-append bs cs), subst (Appends a b) (sym (take-append-le p.0 bs cs p.1)) p.2)
 
--- all of one text, and a front of the next
+-- all of one text, and a prefix of the next
 pub AppendsPrefix-after : (a b c : Option (List ℕ)) (bs cs : List ℕ) → Appends a b bs → AppendsPrefix b c cs → AppendsPrefix a c (bs ++ cs)
 AppendsPrefix-after a b c bs cs p q = (length bs + q.0, omega (arith, q.1, length-append bs cs), subst (Appends a c) (sym (take-append-add bs cs q.0)) (Appends-trans a b c bs (take q.0 cs) p q.2))
 

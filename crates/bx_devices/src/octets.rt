@@ -3,7 +3,7 @@
 ghost use Rattle.std.specs.Prelude.{◌≡◌, ◌+◌, ◌≤◌, ◌<◌, ◌↔◌, ◌⊎◌, ℕ, List, true, false, length, min, take, Ok, IsTrue, IsErr, IsErrOf, OnOk, OnErr, IfOk, IfSome, vec_len};
 ghost use Rattle.std.specs.Io.KnownBytes.{Appends, Consumes, IsAtEnd};
 ghost use Rattle.bx_devices.specs.Watching.{device_of, is_faulted, reads_of};
-ghost use Rattle.bx_devices.specs.Octets.{AppendsPart, AppendsPrefix, ReadsAll, ReadsFront, ReadsWithin, RunsOutOfReads};
+ghost use Rattle.bx_devices.specs.Octets.{AppendsPart, AppendsPrefix, ReadsAll, ReadsPrefix, ReadsWithin, RunsOutOfReads};
 
 use crate::watched::{MAX_READS, Watched};
 use std::alloc::{AllocError, Global};
@@ -14,7 +14,7 @@ use std::io::{Read, Write};
 pub struct WriteFailed;
 
 /// Writes all the octets, in as many writes as it takes. `WriteFailed` where a write fails, or takes none of what it was given:
-/// the writer is then faulted, and a front of the octets was written, but not all of them.
+/// the writer is then faulted, and a prefix of the octets was written, but not all of them.
 pub fn write_octets<W: Write>(w: &mut Watched<W>, bytes: &[u8]) -> Result<(), WriteFailed>
     ensures ok { OnOk result (Appends (W.contents (device_of w.old)) (W.contents (device_of w.new)) bytes.now) }
     ensures prefix { OnErr result (AppendsPrefix (W.contents (device_of w.old)) (W.contents (device_of w.new)) bytes.now) }
@@ -44,17 +44,17 @@ pub enum ReadFault {
     Failed,
     /// More octets came than are read.
     TooLong,
-    /// A growth was refused.
+    /// Memory ran out.
     Memory,
 }
 
 /// Reads to the end: at most 4,194,304 octets in at most 8,388,608 reads. `TooLong` where one octet more comes, after which
-/// nothing is read; `Failed` where a read fails, or so many reads do not reach the end; `Memory` where a growth is refused.
+/// nothing is read; `Failed` where a read fails, or so many reads do not reach the end; `Memory` where memory runs out.
 pub fn read_octets<R: Read>(alloc: Global, r: &mut Watched<R>) -> Result<Vec<u8>, ReadFault>
     ensures all { IfOk result (λ v. ReadsAll (R.remaining (device_of r.old)) (R.remaining (device_of r.new)) v.items) }
     ensures fits { IfOk result (λ v. vec_len v ≤ MAX_OCTETS) }
     ensures failed { IsErrOf result ReadFault.Failed → IsTrue (is_faulted r.new) ⊎ RunsOutOfReads (R.remaining (device_of r.old)) (R.remaining (device_of r.new)) (reads_of r.old) }
-    ensures too_long { IsErrOf result ReadFault.TooLong → ReadsFront (R.remaining (device_of r.old)) (R.remaining (device_of r.new)) (MAX_OCTETS + 1) }
+    ensures too_long { IsErrOf result ReadFault.TooLong → ReadsPrefix (R.remaining (device_of r.old)) (R.remaining (device_of r.new)) (MAX_OCTETS + 1) }
     ensures memory { IsErrOf result ReadFault.Memory → ReadsWithin (R.remaining (device_of r.old)) (R.remaining (device_of r.new)) MAX_OCTETS }
     ensures unfaulted { (is_faulted r.new ≡ is_faulted r.old) ⊎ (result ≡ Err ReadFault.Failed) }
 {

@@ -1,4 +1,4 @@
--- A list behind a `&mut`, as it comes back from a call.
+-- A list after a `&mut`, as it comes back from a call.
 use Rattle.std.proofs.Common.{◌≡◌, ℕ, List, ◌++◌, length, take, drop}
 use Rattle.std.proofs.Math.Seq.{take-append_seam}
 

@@ -33,7 +33,7 @@ impl Model for Carried {
 }
 
 impl Carried {
-    /// Nothing under way. `AllocError` where a growth is refused.
+    /// Nothing under way. `AllocError` where memory runs out.
     pub fn empty(alloc: Global, line: &Line) -> Result<Carried, AllocError>
         ensures value { IfOk result (λ c. c ≡ empty_flow line.now) }
         ensures flow { IfOk result (IsFlow line.now) }
@@ -49,7 +49,7 @@ impl Carried {
 
     /// The flow of as many units along another line in which the same rows carry a unit each. In each gap the other units
     /// are idle. That line has to have as many rows, over no gap of it may more rows carry a unit than there are units, and where
-    /// it has no gap there may be no unit. `AllocError` where a growth is refused.
+    /// it has no gap there may be no unit. `AllocError` where memory runs out.
     pub fn along(&self, alloc: Global, line: &Line) -> Result<Carried, AllocError>
         requires rows { length self.now.accepted ≡ length line.now.arcs }
         requires room { (gap : ℕ) → gap + 1 < places_of line.now → crossing_at line.now self.now gap ≤ self.now.units }
@@ -138,7 +138,7 @@ impl Carried {
             && self.idle.len() == (line.places() as usize).saturating_sub(1)
     }
 
-    /// How many rows carry a unit over the gap behind a place.
+    /// How many rows carry a unit over the gap after a place.
     fn crossing(&self, line: &Line, gap: u16) -> u16
         ensures count { result ≡ crossing_at line.now self.now gap }
         ensures limit { result ≤ MAX_BOOKINGS }

@@ -89,7 +89,7 @@ impl Dist {
 pub trait Distances {
     /// The distances from the first place in a part of the flow's residual network, and a least walk to the last place that
     /// meets no place twice. There has to be a place, the flow has to be one along the line, and the potentials have to fit it:
-    /// they say that no cycle has a negative length. `AllocError` where a growth is refused.
+    /// they say that no cycle has a negative length. `AllocError` where memory runs out.
     fn from_first(
         &self,
         alloc: Global,

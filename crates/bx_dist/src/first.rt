@@ -16,7 +16,7 @@ use std::alloc::{AllocError, Global};
 
 impl Potentials {
     /// The distances from the first place where nothing is carried. No step leads back there, so one pass along the
-    /// line finds them. `AllocError` where a growth is refused.
+    /// line finds them. `AllocError` where memory runs out.
     pub fn first(alloc: Global, line: &Line) -> Result<Potentials, AllocError>
         ensures { IfOk result (AreLeast Whole line.now (empty_flow line.now)) }
     {

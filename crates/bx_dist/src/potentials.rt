@@ -38,7 +38,7 @@ impl Potentials {
         }
     }
 
-    /// For each place of a line the number of the place that is listed for it. `AllocError` where a growth is refused.
+    /// For each place of a line the number of the place that is listed for it. `AllocError` where memory runs out.
     pub fn lifted(&self, alloc: Global, places: &[u16]) -> Result<Potentials, AllocError>
         ensures one_each { IfOk result (λ p. length p ≡ length places.now) }
         ensures each { IfOk result (λ p. (v : ℕ) → v < length places.now → height_at p v ≡ height_at self.now (slice_index places.now v)) }

@@ -56,7 +56,7 @@ abbrev pub insert_call : PlainUserCall → List PlainUserCall → List PlainUser
 insert_call new [] = new ∷ []
 insert_call new (call ∷ calls) = if nat_lt new.channel call.channel then new ∷ call ∷ calls else call ∷ insert_call new calls
 
--- what became of a call, in front of the others
+-- what became of a call, before the others
 abbrev pub next_then : Next PlainUserCall → List PlainUserCall → List PlainUserCall
 next_then (Live call) rest = call ∷ rest
 next_then Over rest = rest

@@ -17,7 +17,7 @@ pub enum ScriptFault {
     /// There is a row after the 4,000th.
     #[error("S4 TooMany")]
     TooMany,
-    /// A growth was refused.
+    /// Memory ran out.
     #[error("Memory")]
     Memory,
 }

@@ -34,7 +34,7 @@ impl Model for Script {
 impl Script {
     /// Reads a script, RFC 4180 records as `csv` reads them: a header `number,policy,seconds`, which may go on
     /// with `channel`, and then at most 4,000 rows. The answer is all rows, or the first fault: `BadHeader`, or of the rows in
-    /// their order `WrongColumns`, `BadEntry` or `TooMany`; or `Memory` where a growth was refused.
+    /// their order `WrongColumns`, `BadEntry` or `TooMany`; or `Memory` where memory ran out.
     pub fn read(alloc: Global, octets: &[u8]) -> Result<Script, ScriptFault>
         ensures ok { IfOk result (IsScript (strip_bom octets.now)) }
         ensures err { IfErr result (IsScriptFault (strip_bom octets.now)) }

@@ -35,7 +35,7 @@ pub record IsFarTold (old new : Option (List ℕ)) : Type 0 where
   pub run : IsFarRun moment
   pub written : Appends old new (ended_line moment)
 
--- or a front of its line
+-- or a prefix of its line
 pub record IsFarCut (old new : Option (List ℕ)) : Type 0 where
   pub moment : ℕ
   pub run : IsFarRun moment

@@ -28,7 +28,7 @@ StopsFarEnd files request fault =
     ⊎ (HasFirst request.sight.capture × HasFarEnd × IsNoFile request.sight.capture fault)
     ⊎ (HasFirst request.sight.capture × HasFarEnd × HasFile files request.sight.capture × IsUnjoined (IsFarStopped files request.sight.capture) fault)
 
--- the output has failed, and a front of what was to be written was written; at any other fault there is this reason
+-- the output has failed, and a prefix of what was to be written was written; at any other fault there is this reason
 -- for it, and the output is as it was
 abbrev pub IsRefusedRun : {W : Type 0} → (DayCommandFault → Type 0) → (Option (List ℕ) → Option (List ℕ) → Type 0) → (W → Option (List ℕ)) → Watched W → Watched W → DayCommandFault → Type 0
 IsRefusedRun reason cut contents old new (Command CannotWrite) = (is_faulted new ≡ true) × cut (contents (device_of old)) (contents (device_of new))

@@ -12,7 +12,7 @@ use Rattle.bx_far_commands.specs.Days.{IsFarRun, far_packets, far_packets_of}
 abbrev pub IsFarKept : {F : Type 0} → (F → Option (List ℕ)) → Option (Watched F) → Option (Watched F) → ℕ → ℕ → Type 0
 IsFarKept contents file closed first moment = (run : IsFarRun moment) × Keeps contents file closed (far_packets_of run first)
 
--- it stopped behind some events, and the file took the packets of these
+-- it stopped after some events, and the file took the packets of these
 abbrev pub IsFarKeptSoFar : {F : Type 0} → (F → Option (List ℕ)) → Option (Watched F) → Option (Watched F) → ℕ → FarDay → Type 0
 IsFarKeptSoFar contents file closed first opened = (events : List Event) × Keeps contents file closed (far_packets first events opened)
 

@@ -57,8 +57,8 @@ pub record IsFarRunIn {W : Type 0} (did : W → List Act → W → Type 0) (old 
   pub day : to ≡ far_live_after (far_events acts) from
   pub reached : ended acts ≡ false → to.moment ≡ max from.moment (min turns LAST_MOMENT)
 
--- What was captured of these acts, where there is a file: behind each act it has taken the packets of what was written, and of the message that
--- was read, at the second of the day that began last, behind the first one; and whether it took them all.
+-- What was captured of these acts, where there is a file: after each act it has taken the packets of what was written, and of the message that
+-- was read, at the second of the day that began last, after the first one; and whether it took them all.
 pub record AreCaptured (W : Type 0) {F : Type 0} (contents : F → Option (List ℕ)) (file : Option (Watched F)) (first : ℕ) (acts : List Act) (is_whole : Bool) : Type 0 where
   pub old : CapturedWorld W F
   pub new : CapturedWorld W F
@@ -105,7 +105,7 @@ pub record IsFarLineDone {F : Type 0} (H : Type 0) (files : F → Option (List �
   pub day : IsFarLineDay H files request moment is_whole
   pub written : Appends before after (ended_line moment)
 
--- or a front of that
+-- or a prefix of that
 pub record IsFarLineCut {F : Type 0} (H : Type 0) (files : F → Option (List ℕ)) (request : FarLineRequest) (before after : Option (List ℕ)) : Type 0 where
   pub moment : ℕ
   pub is_whole : Bool

@@ -26,7 +26,7 @@ pub(crate) struct LineView<F> {
     pub(crate) is_shown: bool,
 }
 
-/// A world behind a run of a day, and whether all that was to be captured was.
+/// A world after a run of a day, and whether all that was to be captured was.
 #[derive(Drop)]
 struct Seen<W> {
     world: W,

@@ -19,7 +19,7 @@ use bx_text::named_line;
 use std::io::Write;
 
 /// Writes `ended at `, the moment and LF. `WriteFailed` where a write failed, or took nothing: then the output is faulted, and a
-/// front of the line was written.
+/// prefix of the line was written.
 pub fn write_ended<W: Write>(output: &mut Watched<W>, moment: u32) -> Result<(), WriteFailed>
     ensures told { OnOk result (Appends (W.contents (device_of output.old)) (W.contents (device_of output.new)) (ended_line moment)) }
     ensures cut { OnErr result (AppendsPrefix (W.contents (device_of output.old)) (W.contents (device_of output.new)) (ended_line moment)) }
@@ -78,7 +78,7 @@ fn is_shown(sight: Sight<'_>, is_terminal: bool) -> bool
 
 /// Runs the far end of a day by the script that is asked for, towards the exchange that serves at the port or the socket, and writes
 /// the moment at which the day ended. The moment is shown while the day runs, on a terminal alone. A capture that was not written whole
-/// is a refusal, behind all that was told; at any other refusal nothing was written, except that where the output failed a front of
+/// is a refusal, after all that was told; at any other refusal nothing was written, except that where the output failed a prefix of
 /// that line was.
 ///
 /// What the day needs is opened in this order, and the first fault of it is answered: `Day` or `Capture` for the date and the

@@ -102,8 +102,8 @@ fn is_shown_by(request: FarLineRequest<'_>, is_terminal: bool) -> bool
 /// Runs the far end of a day by the script that is asked for, by the clock, as the user's end of a data link over UDP, up to the turn
 /// that is asked for, or else to turn 90,038, but to 300,000 at the most, whatever the line does; and writes the moment at which the day
 /// ended. Each fault of the link and each late second is told on standard error, and the moment on a terminal alone. A capture that was
-/// not written whole is a refusal, behind all that was told; at any other refusal nothing was written, except that where the output
-/// failed a front of that line was.
+/// not written whole is a refusal, after all that was told; at any other refusal nothing was written, except that where the output
+/// failed a prefix of that line was.
 ///
 /// What the day needs is opened in this order, and the first fault of it is answered: `Day` or `Capture` for the date and the zone;
 /// `Command` or `Script` for the script; `CannotWriteFile` for the file of the capture; `CannotListen` or `CannotConnect` for the line.

@@ -15,7 +15,7 @@ use bx_request::Place;
 use std::io::{Read, Write};
 use std::rt::Clock;
 
-/// The end behind its day, and the file of its capture.
+/// The end after its day, and the file of its capture.
 fn parted<E, H, W: Write>(end: Captured<Shown<'_, E, H>, W>) -> (E, Option<Watched<W>>)
     ensures end { result.0 ≡ end.entry.end.end }
     ensures file { result.1 ≡ end.entry.file }

@@ -18,7 +18,7 @@ use Rattle.bx_far_live.proofs.Due.{by_due}
 abbrev pub far_after : List Act → FarDay → FarDay
 far_after acts d = far_live_after (far_events acts) d
 
--- ---- the day behind one act
+-- ---- the day after one act
 
 abbrev Steps : Place → Act → Type 0
 Steps p act = day_at (next p act) ≡ far_after (act ∷ []) (day_at p)
@@ -48,7 +48,7 @@ heard_day d room (Err fault) = refl
 pub step_day : (p : Place) (act : Act) → IsDue p act → Steps p act
 step_day = by_due Steps begun_day wrote_day heard_day (λ d loss. refl) (λ d. refl) (λ d. refl)
 
--- ---- and behind more
+-- ---- and after more
 
 pub more_taken : (act : Act) (acts : List Act) (d : FarDay) → far_after (act ∷ acts) d ≡ far_after acts (far_after (act ∷ []) d)
 more_taken (Began second begins.Late) acts d = refl

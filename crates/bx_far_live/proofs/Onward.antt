@@ -17,7 +17,7 @@ use Rattle.bx_far_live.specs.Written.{IsFarWrittenFor}
 use Rattle.bx_far_live.proofs.Due.{by_due}
 use Rattle.bx_far_live.proofs.Days.{far_after, more_taken, step_day}
 
--- ---- lists of acts, one behind the other
+-- ---- lists of acts, one after the other
 
 events_on : (xs ys : List Act) → far_events (xs ++ ys) ≡ far_events xs ++ far_events ys
 events_on [] ys = refl
@@ -42,14 +42,14 @@ record Stands (d : FarDay) (acts : List Act) (p : Place) : Type 0 where
   owes : Owes d acts p
 
 module _ (d : FarDay) (acts : List Act) where
-  abbrev behind_act : Act → List Act
-  behind_act act = acts ++ act ∷ []
+  abbrev after_act : Act → List Act
+  after_act act = acts ++ act ∷ []
 
   abbrev KeepsOwed : Place → Act → Type 0
-  KeepsOwed p act = Stands d acts p → Owes d (behind_act act) (next p act)
+  KeepsOwed p act = Stands d acts p → Owes d (after_act act) (next p act)
 
   -- an event that is told by the act, by the day as it is before it
-  told_now : (p : Place) (act : Act) (event : Event) → far_events (act ∷ []) ≡ OnLink event ∷ [] → Stands d acts p → IsFarWrittenFor d (behind_act act) (far_text (day_at p) event)
+  told_now : (p : Place) (act : Act) (event : Event) → far_events (act ∷ []) ≡ OnLink event ∷ [] → Stands d acts p → IsFarWrittenFor d (after_act act) (far_text (day_at p) event)
   told_now p act event tells stands = record {
     earlier = far_events acts;
     event = event;
@@ -76,7 +76,7 @@ module _ (d : FarDay) (acts : List Act) where
   owed_heard : (day : FarDay) (room : ℕ) (answer : Result Frame LinkFault) → KeepsOwed (Hearing day room) (Read room answer)
   owed_heard day room (Ok (frames.Message octets)) stands =
       let act = Read room (Ok (frames.Message octets)) in
-      owing_owes (far_next day (Receive octets.items)) _ (far_text day (Receive octets.items)) (behind_act act) (told_now (Hearing day room) act (Receive octets.items) refl stands)
+      owing_owes (far_next day (Receive octets.items)) _ (far_text day (Receive octets.items)) (after_act act) (told_now (Hearing day room) act (Receive octets.items) refl stands)
   owed_heard day room (Ok (frames.EndOfTurn said)) stands = either_owes (said == day.moment) day _ _
   owed_heard day room (Ok frames.EndOfDay) stands = tt
   owed_heard day room (Err fault) stands = tt
@@ -84,7 +84,7 @@ module _ (d : FarDay) (acts : List Act) where
   keeps_owed : (p : Place) (act : Act) → IsDue p act → KeepsOwed p act
   keeps_owed = by_due KeepsOwed owed_begun owed_wrote owed_heard (λ day loss stands. tt) (λ day stands. tt) (λ day stands. tt)
 
-  stands_on : (p : Place) (act : Act) → IsDue p act → Stands d acts p → Stands d (behind_act act) (next p act)
+  stands_on : (p : Place) (act : Act) → IsDue p act → Stands d acts p → Stands d (after_act act) (next p act)
   stands_on p act due stands = record {
     day = step_day p act due ∙ (ap (far_after (act ∷ [])) stands.day ∙ sym (after_on acts act d));
     owes = keeps_owed p act due stands;
@@ -94,10 +94,10 @@ module _ (d : FarDay) (acts : List Act) where
   written_now (Owing day room text) octets done due stands = subst (IsFarWrittenFor d acts) (sym due) stands.owes
   written_now p octets done due stands = absurd due
 
-written_behind : (d : FarDay) (acts : List Act) (p : Place) → Stands d acts p → (before behind : List Act) (octets : List ℕ) (done : Bool) (to : Place) → IsFarRun p (before ++ Wrote octets done ∷ behind) to → IsFarWrittenFor d (acts ++ before) octets
-written_behind d acts p stands [] behind octets done to (due, goes) = subst (λ xs. IsFarWrittenFor d xs octets) (sym (append-nil acts)) (written_now d acts p octets done due stands)
-written_behind d acts p stands (act ∷ before) behind octets done to (due, goes) =
-    subst (λ xs. IsFarWrittenFor d xs octets) (append_assoc acts (act ∷ []) before) (written_behind d (acts ++ act ∷ []) (next p act) (stands_on d acts p act due stands) before behind octets done to goes)
+written_after : (d : FarDay) (acts : List Act) (p : Place) → Stands d acts p → (before following : List Act) (octets : List ℕ) (done : Bool) (to : Place) → IsFarRun p (before ++ Wrote octets done ∷ following) to → IsFarWrittenFor d (acts ++ before) octets
+written_after d acts p stands [] following octets done to (due, goes) = subst (λ xs. IsFarWrittenFor d xs octets) (sym (append-nil acts)) (written_now d acts p octets done due stands)
+written_after d acts p stands (act ∷ before) following octets done to (due, goes) =
+    subst (λ xs. IsFarWrittenFor d xs octets) (append_assoc acts (act ∷ []) before) (written_after d (acts ++ act ∷ []) (next p act) (stands_on d acts p act due stands) before following octets done to goes)
 
-pub written_law : (d : FarDay) (before behind : List Act) (octets : List ℕ) (done : Bool) (to : Place) → IsFarRun (Between d) (before ++ Wrote octets done ∷ behind) to → IsFarWrittenFor d before octets
-written_law d before behind octets done to run = written_behind d [] (Between d) (record { day = refl; owes = tt }) before behind octets done to run
+pub written_law : (d : FarDay) (before following : List Act) (octets : List ℕ) (done : Bool) (to : Place) → IsFarRun (Between d) (before ++ Wrote octets done ∷ following) to → IsFarWrittenFor d before octets
+written_law d before following octets done to run = written_after d [] (Between d) (record { day = refl; owes = tt }) before following octets done to run

@@ -45,7 +45,7 @@ rest_well (Synced false) acts e = cc
 rest_well (Wrote octets false) acts e = cc
 rest_well act acts e = e
 
--- ---- what is written, and what is owed behind it
+-- ---- what is written, and what is owed after it
 
 abbrev Tells : Place → Act → Type 0
 Tells p act = goes_well (act ∷ []) ≡ true → written (act ∷ []) ++ owed_at (next p act) ≡ owed_at p ++ far_told (act ∷ []) (day_at p)

@@ -15,7 +15,7 @@ use Rattle.bx_live.specs.Acts.{Act, Began, Dropped, Wrote, Read, EndedDay}
 
 -- where a run stands, with the day as far as it has come
 pub data Place : Type 0 where
-  -- behind one second, and before the next
+  -- after one second, and before the next
   Between : (d : FarDay) → Place
   -- this is to be written in a turn in which so many messages may still come
   Owing : (d : FarDay) (room : ℕ) (text : List ℕ) → Place
@@ -47,7 +47,7 @@ IsDue (Losing d loss) (Dropped why) = why ≡ loss
 IsDue (Ending d) EndedDay = Unit {0}
 IsDue _ _ = ⊥
 
--- what is written behind an event: nothing, or octets
+-- what is written after an event: nothing, or octets
 abbrev pub owing : FarDay → ℕ → List ℕ → Place
 owing d room [] = Hearing d room
 owing d room (octet ∷ text) = Owing d room (octet ∷ text)
@@ -67,7 +67,7 @@ heard d room (Ok (frames.EndOfTurn said)) = if said == d.moment then Between d e
 heard d room (Ok frames.EndOfDay) = Losing d (losses.Fault UnknownKind)
 heard d room (Err fault) = Losing d (losses.Fault fault)
 
--- where the run is behind the act that was due
+-- where the run is after the act that was due
 abbrev pub next : Place → Act → Place
 next (Between d) (Began second begin) = begun d begin
 next (Between d) EndedDay = Done d

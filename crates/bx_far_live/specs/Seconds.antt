@@ -8,10 +8,10 @@ use Rattle.bx_far_live.specs.Running.{FarRuns}
 use Rattle.bx_far_live.specs.Runs.{Place, Between, Ending}
 use Rattle.bx_events.specs.declared.moment.TheConstants.{LAST_MOMENT}
 
--- the place behind a second that is over, or does not begin any more
-abbrev pub behind_second : FarDay → Second → Place
-behind_second d Passed = Between d
-behind_second d Ended = Ending d
+-- the place after a second that is over, or does not begin any more
+abbrev pub after_second : FarDay → Second → Place
+after_second d Passed = Between d
+after_second d Ended = Ending d
 
 -- a second that passes raises the moment by one
 abbrev pub Rises : FarDay → FarDay → Type 0

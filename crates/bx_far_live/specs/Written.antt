@@ -7,7 +7,7 @@ use Rattle.bx_live.specs.Acts.{Act}
 use Rattle.bx_far_live.specs.Events.{far_events}
 use Rattle.bx_far_live.specs.Runs.{Place, Between, Owing, Hearing, Losing, Ending, Done}
 
--- octets that are written behind these acts: they are those of the last event that the acts tell, which came on a link, by the day as it was
+-- octets that are written after these acts: they are those of the last event that the acts tell, which came on a link, by the day as it was
 -- before it
 pub record IsFarWrittenFor (d : FarDay) (acts : List Act) (octets : List ℕ) : Type 0 where
   pub earlier : List LiveEvent

@@ -11,7 +11,7 @@ ghost use Rattle.bx_far_live.specs.Written.{IsFarWrittenFor, owed_at};
 
 /// Whatever is written to the exchange is what the far end sends for the last event, which came on a link.
 pub fn written_for_last()
-    ensures { (d : FarDay) (before behind : List Act) (octets : List ℕ) (done : Bool) (to : Place) → IsFarRun (Between d) (before ++ Wrote octets done ∷ behind) to → IsFarWrittenFor d before octets }
+    ensures { (d : FarDay) (before following : List Act) (octets : List ℕ) (done : Bool) (to : Place) → IsFarRun (Between d) (before ++ Wrote octets done ∷ following) to → IsFarWrittenFor d before octets }
 {}
 
 /// From one place of a run to another, where no write fails: what is written is just what the day's definition gives for the events that

@@ -7,7 +7,7 @@ ghost use Rattle.bx_live.specs.Acts.{ended};
 ghost use Rattle.bx_far_live.specs.Events.{far_events};
 ghost use Rattle.bx_far_live.specs.Runs.{Between, Owing, Done};
 ghost use Rattle.bx_far_live.specs.Running.{FarRuns};
-ghost use Rattle.bx_far_live.specs.Seconds.{behind_second, Rises, RisesBySecond, IsSaid};
+ghost use Rattle.bx_far_live.specs.Seconds.{after_second, Rises, RisesBySecond, IsSaid};
 ghost use Rattle.bx_far_live.specs.Inside.{or_losing};
 
 use crate::hearing::hear_turn;
@@ -39,7 +39,7 @@ fn pass_with_link<W: World>(far: &mut Far, world: &mut W)
 
 /// The next second, where one begins: it is waited for, and the far end ticks in it if there is a link.
 fn run_second<W: World>(far: &mut Far, world: &mut W) -> Second
-    ensures ran { FarRuns W.did world.old world.new (Between far.old) (behind_second far.new result) }
+    ensures ran { FarRuns W.did world.old world.new (Between far.old) (after_second far.new result) }
     ensures moment { RisesBySecond far.old far.new result }
     ensures said { IsSaid W.did world.old world.new far.old far.new result }
 {

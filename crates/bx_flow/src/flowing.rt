@@ -62,7 +62,7 @@ fn sent_over_cliques<D: Distances>(
 /// less, and the distances in its residual network without the arcs of must rows. By successive shortest paths with
 /// potentials on the shorter line of cliques, and one search on the whole line, for every lawful way to find distances. The
 /// last distance is no deeper than the free bookings pay together. On a line without moments both are empty, and no
-/// distances are asked for. `AllocError` where a growth is refused.
+/// distances are asked for. `AllocError` where memory runs out.
 pub fn least_cost<D: Distances>(
     alloc: Global,
     line: &Line,

@@ -14,7 +14,7 @@ use std::alloc::{AllocError, Global};
 /// Sends one more unit from the first place to the last along a least walk, the shortest augmenting path, and answers the
 /// distances, which are feasible potentials of the flow that has come about. A flow with such potentials is of least cost. The
 /// line has to have a place, the flow has to be one along it of fewer than 30 units, and the potentials have to fit it.
-/// `AllocError` where a growth is refused: the flow stays as it is then.
+/// `AllocError` where memory runs out: the flow stays as it is then.
 pub fn grown<D: Distances>(
     alloc: Global,
     line: &Line,
@@ -38,7 +38,7 @@ pub fn grown<D: Distances>(
 
 /// The distances in the residual network without the arcs of must rows. The last is no deeper than the free bookings pay
 /// together. On a line without moments there are none, and none are asked for. The flow has to be one along the line, and the
-/// potentials have to fit it. `AllocError` where a growth is refused.
+/// potentials have to fit it. `AllocError` where memory runs out.
 pub fn free_distances<D: Distances>(
     alloc: Global,
     line: &Line,

@@ -12,7 +12,7 @@ use std::alloc::{AllocError, Global};
 /// From a flow along the shorter line of cliques (M. C. Carlisle and E. L. Lloyd, On the k-coloring of intervals, 1995) and
 /// potentials that fit it, the flow of as many units along the whole line in which the same rows carry a unit, and potentials
 /// that fit this one: each place has that of its count. The counts have to be those of `cliques` for the line. `AllocError`
-/// where a growth is refused.
+/// where memory runs out.
 pub fn lifted(
     alloc: Global,
     line: &Line,

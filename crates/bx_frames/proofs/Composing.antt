@@ -1,4 +1,4 @@
--- What an end has gone through so far, and what it goes through behind that.
+-- What an end has gone through so far, and what it goes through after that.
 use Rattle.std.proofs.Common.{◌≡◌, ℕ, ◌+◌, ◌≤◌, List, [], ◌∷◌, ◌++◌, length, take, refl, sym, ap, ◌∙◌, subst, append_assoc, append-nil, length-append, arith, Option, Some, Result, Ok, Bool, true, ◌⊎◌, inl, inr}
 use Rattle.std.proofs.Math.Seq.{take-append-add}
 use Rattle.std.specs.Io.KnownBytes.{Appends}
@@ -12,13 +12,13 @@ use Rattle.bx_frames.specs.Talks.{Talk, with_events, stop}
 use Rattle.bx_frames.specs.Heard.{IsWhole, BreaksOff, IsHeard, IsCutShort, Tells, Goes}
 use Rattle.bx_frames.specs.declared.fault.LinkFault.{LinkFault}
 use Rattle.bx_frames.specs.declared.frame.Receiver.{Receiver}
-use Rattle.bx_frames.proofs.ReadAnswers.{fails_behind, either_first}
-use Rattle.bx_frames.proofs.Events.{after_more, told_more, last_behind}
+use Rattle.bx_frames.proofs.ReadAnswers.{fails_after, either_first}
+use Rattle.bx_frames.proofs.Events.{after_more, told_more, last_following}
 
 pub with_more : (xs ys : List Event) (talk : Talk) → with_events xs (with_events ys talk) ≡ with_events (xs ++ ys) talk
 with_more xs ys talk = ap (λ (l : List Event). record talk { events = l }) (sym (append_assoc xs ys talk.events))
 
--- these events were read of the text; whatever comes behind what was read is heard behind them
+-- these events were read of the text; whatever comes after what was read is heard after them
 pub record IsBeyond (finds onward : List ℕ → Talk) (text : List ℕ) (events : List Event) (left : Option (List ℕ)) : Type 0 where
   pub read : List ℕ
   pub is_read : IsRead text read left
@@ -34,7 +34,7 @@ pub record SoFar {D R W : Type 0} (next : D → Event → D) (text : D → Event
   pub counted : reads_of r ≤ reads_of r'
   pub writer : is_faulted w' ≡ is_faulted w
 
--- ---- what was heard, behind what was heard before
+-- ---- what was heard, after what was heard before
 
 module _ (finds onward : List ℕ → Talk) (xs : List Event) where
   pub read_on : (text : List ℕ) (left : Option (List ℕ)) (a : IsBeyond finds onward text xs left) (read : List ℕ) (later : Option (List ℕ)) → IsRead a.is_read.rest read later → IsRead text (a.read ++ read) later
@@ -68,14 +68,14 @@ module _ (finds onward : List ℕ → Talk) (xs : List Event) where
             read = a.read ++ unread.read;
             is_read = read_on text left a unread.read later unread.is_read;
             all = ap (λ (l : List Event). xs ++ l) unread.all ∙ sym (ap (λ (t : Talk). t.events) e);
-            behind = ap (λ (t : Talk). t.behind) e ∙ unread.behind;
+            following = ap (λ (t : Talk). t.following) e ∙ unread.following;
             rest = ap (λ (t : Talk). t.rest) e ∙ unread.rest;
             cut = cut_on unread.read e unread.cut;
           },
         )) where
           cut_on : (read : List ℕ) → finds (a.read ++ read) ≡ with_events xs (onward read) → BreaksOff receiver (onward read).ending ys → BreaksOff receiver (finds (a.read ++ read)).ending (xs ++ ys)
           cut_on read e (inl cut) = inl (ap (λ (t : Talk). t.ending) e ∙ cut)
-          cut_on read e (inr (ended, last, far)) = inr (ap (λ (t : Talk). t.ending) e ∙ ended, last_behind xs ys last, far)
+          cut_on read e (inr (ended, last, far)) = inr (ap (λ (t : Talk). t.ending) e ∙ ended, last_following xs ys last, far)
 
 -- ---- both
 
@@ -131,13 +131,13 @@ module _ {D R W : Type 0} (next : D → Event → D) (text : D → Event → Lis
     unfaulted = either_first (λ q. q ∙ before.writer) p.unfaulted;
   }
 
-  -- behind what went well
+  -- after what went well
   pub then_goes : (receiver : Receiver) (result : Result Bool LinkFault) → Goes receiver next text onward remaining contents r1 r2 w1 w2 d1 d2 ys result → Goes receiver next text finds remaining contents r r2 w w2 d d2 (xs ++ ys) result
   then_goes receiver result p = record {
     day = day_on p.day;
     talk = λ known e. let a = before.talk known e in heard_on finds onward xs receiver known ys result (remaining (device_of r1)) (remaining (device_of r2)) a (p.talk a.is_read.rest a.is_read.is_left);
     written = tells_on result p.written;
-    faulted = λ e. fails_behind r r1 r2 before.counted (p.faulted e);
+    faulted = λ e. fails_after r r1 r2 before.counted (p.faulted e);
     counted = omega (arith, before.counted, p.counted);
     unfaulted = either_first (λ q. q ∙ before.reader) p.unfaulted;
   }

@@ -30,8 +30,8 @@ last_of_some said [] e = cc
 last_of_some said (Tick ∷ ys) e = e
 last_of_some said (Receive octets ∷ ys) e = e
 
-pub last_behind : (xs ys : List Event) → ticks_last false ys ≡ true → ticks_last false (xs ++ ys) ≡ true
-last_behind xs ys e = last_more false xs ys ∙ last_of_some (ticks_last false xs) ys e
+pub last_following : (xs ys : List Event) → ticks_last false ys ≡ true → ticks_last false (xs ++ ys) ≡ true
+last_following xs ys e = last_more false xs ys ∙ last_of_some (ticks_last false xs) ys e
 
 -- where there is no tick, the last event is none
 pub no_last : (ys : List Event) → ticks_of ys ≡ 0 → ticks_last false ys ≡ true → ⊥

@@ -110,7 +110,7 @@ module _ {D R W : Type 0} (next : D → Event → D) (text : D → Event → Lis
               read = b.read;
               is_read = b.is_read;
               all = sym (ap (λ (t : Talk). t.events) same);
-              behind = ap (λ (t : Talk). t.behind) same;
+              following = ap (λ (t : Talk). t.following) same;
               rest = ap (λ (t : Talk). t.rest) same;
               cut = inl (ap (λ (t : Talk). t.ending) same);
             },
@@ -123,10 +123,10 @@ module _ {D R W : Type 0} (next : D → Event → D) (text : D → Event → Lis
 
 module _ {D R W : Type 0} {next : D → Event → D} {text : D → Event → List ℕ} {receiver : Receiver} (moment room : ℕ) {remaining : R → Option (List ℕ)} {contents : W → Option (List ℕ)} {r r1 : Watched R} {w : Watched W} {d : D} where
   -- another frame was read, and the turn is over
-  stopped_by : (frame : Frame) → Reads remaining r r1 (gave frame) (frame_in receiver room) → (result : Result Bool LinkFault) (behind : List ℕ → List ℕ)
-      → ((known : List ℕ) → gave frame ≡ (frame_in receiver room known).answer → turn_in receiver moment room known ≡ stop result (frame_in receiver room known).rest (behind known))
+  stopped_by : (frame : Frame) → Reads remaining r r1 (gave frame) (frame_in receiver room) → (result : Result Bool LinkFault) (following : List ℕ → List ℕ)
+      → ((known : List ℕ) → gave frame ≡ (frame_in receiver room known).answer → turn_in receiver moment room known ≡ stop result (frame_in receiver room known).rest (following known))
       → (result ≡ Err ReadFailed → ⊥) → (result ≡ Err link.WriteFailed → ⊥) → Goes receiver next text (turn_in receiver moment room) remaining contents r r1 w w d d [] result
-  stopped_by frame reads result behind so no_read no_write = record {
+  stopped_by frame reads result following so no_read no_write = record {
     day = refl;
     talk = λ known e.
         let f = was_found (frame_in receiver room) known frame (remaining (device_of r1)) (reads.found known e) in

@@ -1,4 +1,4 @@
--- What is found at the front of a text depends on what is read alone: whatever comes behind it is left.
+-- What is found at the start of a text depends on what is read alone: whatever comes after it is left.
 use Rattle.std.proofs.Common.{◌≡◌, ℕ, ◌≤◌, nat_lt, Bool, true, false, not, ◌&&◌, ◌==◌, if◌then◌else◌, List, [], ◌∷◌, ◌++◌, length, take, drop, refl, sym, ap, ◌∙◌, append_assoc, length-append, arith, Option, Some, None, Result, Ok, Err}
 use Rattle.std.proofs.lemmas.Bool.Decides.{nat_tests}
 use Rattle.std.proofs.lemmas.List.{take-append-drop, length-take-le}
@@ -14,7 +14,7 @@ use Rattle.bx_frames.specs.declared.frame.FrameKind.{FrameKind}
 use Rattle.bx_frames.specs.declared.frame.Frame.{Frame}
 use Rattle.bx_frames.proofs.ReadAnswers.{gave}
 
--- this was found, and it is found whatever comes behind what was read
+-- this was found, and it is found whatever comes after what was read
 pub record IsTaken {A : Type 0} (finds : List ℕ → Found A) (text : List ℕ) (x : A) (rest : List ℕ) : Type 0 where
   pub read : List ℕ
   pub splits : text ≡ read ++ rest
@@ -24,7 +24,7 @@ pub record IsTaken {A : Type 0} (finds : List ℕ → Found A) (text : List ℕ)
 abbrev pub IsLocal : {A : Type 0} → (List ℕ → Found A) → Type 0
 IsLocal {A = A} finds = (text : List ℕ) (x : A) → gave x ≡ (finds text).answer → IsTaken finds text x (finds text).rest
 
--- ---- one definition behind another
+-- ---- one definition after another
 
 module _ {A B : Type 0} (first : List ℕ → Found A) (next : A → List ℕ → Found B) where
   abbrev Both : List ℕ → Found B
@@ -70,14 +70,14 @@ module _ (n : ℕ) (text : List ℕ) (enough : n ≤ length text) (more : List �
   count = length-take-le n text enough
 
   still_enough : nat_lt (length (take n text ++ more)) n ≡ false
-  still_enough = let total = length-append (take n text) more in let front = count in grind (arith, nat_tests)
+  still_enough = let total = length-append (take n text) more in let prefix = count in grind (arith, nat_tests)
 
   same_octets : octets_in n (take n text ++ more) ≡ found (Ok (record { items = take n text })) more
   same_octets =
-      let front : take n (take n text ++ more) ≡ take n text = ap (λ (k : ℕ). take k (take n text ++ more)) (sym count) ∙ take-append_seam (take n text) more in
-      let behind : drop n (take n text ++ more) ≡ more = ap (λ (k : ℕ). drop k (take n text ++ more)) (sym count) ∙ drop-append_seam (take n text) more in
+      let prefix : take n (take n text ++ more) ≡ take n text = ap (λ (k : ℕ). take k (take n text ++ more)) (sym count) ∙ take-append_seam (take n text) more in
+      let following : drop n (take n text ++ more) ≡ more = ap (λ (k : ℕ). drop k (take n text ++ more)) (sym count) ∙ drop-append_seam (take n text) more in
       ap (λ (b : Bool). octets_by b n (take n text ++ more)) still_enough
-      ∙ ap (λ (l : List ℕ). found (Ok (record { items = l })) (drop n (take n text ++ more))) front ∙ ap (λ (l : List ℕ). found (Ok (record { items = take n text })) l) behind
+      ∙ ap (λ (l : List ℕ). found (Ok (record { items = l })) (drop n (take n text ++ more))) prefix ∙ ap (λ (l : List ℕ). found (Ok (record { items = take n text })) l) following
 
 pub octets_local : (n : ℕ) → IsLocal (octets_in n)
 octets_local n text x e = by_test (nat_lt (length text) n) refl e where

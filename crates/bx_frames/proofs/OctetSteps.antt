@@ -7,7 +7,7 @@ use Rattle.std.proofs.KnownBytes.{Consumes-trans, Consumes-kept}
 use borrow.Rule.Slice.PartMut.{put_mid, post_of}
 
 module _ (buf part : List ℕ) (at n : ℕ) (within : at ≤ length buf) (bound : n ≤ length part) where
-  -- the front of the buffer, after a read of n octets to the place
+  -- the prefix of the buffer, after a read of n octets to the place
   take_read : take (at + n) (put_mid at (length buf - at) buf part) ≡ take at buf ++ take n part
   take_read =
       let post = post_of at (length buf - at) buf in
@@ -20,7 +20,7 @@ module _ (buf part : List ℕ) (at n : ℕ) (within : at ≤ length buf) (bound 
   pub Consumes-next : (a b c : Option (List ℕ)) → Consumes a b (take at buf) → Consumes b c (take n part) → Consumes a c (take (at + n) (put_mid at (length buf - at) buf part))
   Consumes-next a b c p q = subst (Consumes a c) (sym take_read) (Consumes-trans a b c (take at buf) (take n part) p q)
 
--- a read failed, behind what was read before
+-- a read failed, after what was read before
 module _ (buf part : List ℕ) (at : ℕ) (within : at < length buf) (same : length part ≡ length buf - at) (a b c : Option (List ℕ)) where
   pub part_read : Consumes a b (take at buf) → Keeps b c → (read : List ℕ) × (length read < length (put_mid at (length buf - at) buf part)) × Consumes a c read
   part_read p q = (

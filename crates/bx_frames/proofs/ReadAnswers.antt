@@ -12,9 +12,9 @@ gave x = Ok x
 abbrev pub faulty : {A : Type 0} → LinkFault → Result A LinkFault
 faulty fault = Err fault
 
--- a read that failed behind others
-pub fails_behind : {R : Type 0} (a b c : Watched R) → reads_of a ≤ reads_of b → FailsToRead b c → FailsToRead a c
-fails_behind a b c le p = record { faulted = p.faulted; passed_on = omega (arith, le, p.passed_on) }
+-- a read that failed after others
+pub fails_after : {R : Type 0} (a b c : Watched R) → reads_of a ≤ reads_of b → FailsToRead b c → FailsToRead a c
+fails_after a b c le p = record { faulted = p.faulted; passed_on = omega (arith, le, p.passed_on) }
 
 pub either_first : {P Q S : Type 0} → (P → S) → P ⊎ Q → S ⊎ Q
 either_first f (inl p) = inl (f p)

@@ -10,7 +10,7 @@ use Rattle.bx_frames.specs.declared.frame.Frame.{Frame}
 use Rattle.bx_frames.specs.Reading.{IsRead, IsFound, IsCut, Reads}
 use Rattle.bx_frames.specs.declared.fault.LinkFault.{LinkFault}
 use Rattle.bx_frames.specs.declared.fault.LinkFault.TheVariants.{ReadFailed, WriteFailed}
-use Rattle.bx_frames.proofs.ReadAnswers.{gave, faulty, either_first, fails_behind}
+use Rattle.bx_frames.proofs.ReadAnswers.{gave, faulty, either_first, fails_after}
 use Rattle.bx_frames.proofs.Locality.{IsLocal, octets_by, sized_by, cut_first, cut_later}
 
 -- of known octets these were read
@@ -63,7 +63,7 @@ module _ {R A B : Type 0} (remaining : R → Option (List ℕ)) (first : List �
     found = λ text known.
         let f = was_found first text x (remaining (device_of b)) (p.found text known) in
         each text f (q.found (first text).rest f.rest);
-    failed = λ e. fails_behind a b c p.counted (q.failed e);
+    failed = λ e. fails_after a b c p.counted (q.failed e);
     counted = omega (arith, p.counted, q.counted);
     unfaulted = either_first (λ e. e ∙ not_faulted x (is_faulted b ≡ is_faulted a) p.unfaulted) q.unfaulted;
     reads = q.reads;

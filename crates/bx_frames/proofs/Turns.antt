@@ -71,7 +71,7 @@ turn_nothing receiver moment room = turn_fault receiver moment [] room EndedInFr
 pub record IsEnded (finds : List ℕ → Talk) (text : List ℕ) (b : Bool) (talk : Talk) : Type 0 where
   pub read : List ℕ
   pub splits : text ≡ read ++ talk.rest
-  pub onward : (more : List ℕ) → finds (read ++ more) ≡ record { events = talk.events; ending = Ok b; rest = more; behind = more }
+  pub onward : (more : List ℕ) → finds (read ++ more) ≡ record { events = talk.events; ending = Ok b; rest = more; following = more }
 
 abbrev pub IsLocalTalk : (List ℕ → Talk) → Type 0
 IsLocalTalk finds = (text : List ℕ) (b : Bool) → gave b ≡ (finds text).ending → IsEnded finds text b (finds text)

@@ -21,7 +21,7 @@ abbrev pub stopped : WriteFailed → Written
 stopped e = Err e
 
 module _ {W : Type 0} (contents : W → Option (List ℕ)) where
-  -- a text behind one that was written
+  -- a text after one that was written
   pub sends_then : (a b d : Watched W) (r : Written) (s t : List ℕ) → Sends contents a b done s → Sends contents b d r t → Sends contents a d r (s ++ t)
   sends_then a b d (Ok x) s t p q = record {
     written = Appends-trans (contents (device_of a)) (contents (device_of b)) (contents (device_of d)) s t p.written q.written;
@@ -41,7 +41,7 @@ module _ {W : Type 0} (contents : W → Option (List ℕ)) where
     unfaulted = tt;
   }
 
-  -- a text that was to be the front of another, where its writing failed
+  -- a text that was to be the prefix of another, where its writing failed
   pub sends_failed : (a b : Watched W) (e f : WriteFailed) (s rest whole : List ℕ) → whole ≡ s ++ rest → Sends contents a b (stopped e) s → Sends contents a b (stopped f) whole
   sends_failed a b e f s rest whole same p = record {
     written = tt;

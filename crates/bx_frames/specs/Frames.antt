@@ -31,9 +31,9 @@ turn_frame moment = 2 ∷ 0 ∷ 4 ∷ to_be_bytes w32 moment
 abbrev pub day_frame : List ℕ
 day_frame = 3 ∷ 0 ∷ 0 ∷ []
 
--- ---- what is found at the front of octets
+-- ---- what is found at the start of octets
 
--- what is found, or the first fault, and the octets that are left behind what was looked at
+-- what is found, or the first fault, and the octets that are left after what was looked at
 pub record Found (A : Type 0) : Type 0 where
   pub answer : Result A LinkFault
   pub rest : List ℕ
@@ -45,7 +45,7 @@ abbrev pub continue_by : {A B : Type 0} → Result A LinkFault → List ℕ → 
 continue_by (Ok x) rest next = next x rest
 continue_by (Err fault) rest next = found (Err fault) rest
 
--- what is found next, behind what was found
+-- what is found next, after what was found
 abbrev pub and_then : {A B : Type 0} → Found A → (A → List ℕ → Found B) → Found B
 and_then first next = continue_by first.answer first.rest next
 
@@ -82,7 +82,7 @@ frame_of kinds.EndOfDay octets = frames.EndOfDay
 abbrev pub contents_in : FrameKind → ℕ → List ℕ → Found Frame
 contents_in kind n text = and_then (octets_in n text) (λ octets rest. found (Ok (frame_of kind octets)) rest)
 
--- behind the length n; so many messages may still come in this turn
+-- after the length n; so many messages may still come in this turn
 abbrev pub sized_in : FrameKind → ℕ → ℕ → List ℕ → Found Frame
 sized_in kind room n text =
     if not (fits kind n) then found (Err BadLength) text
@@ -92,7 +92,7 @@ sized_in kind room n text =
 abbrev pub length_in : List ℕ → Found ℕ
 length_in text = and_then (octet_in text) (λ high more. and_then (octet_in more) (λ low rest. found (Ok (from_be_bytes w16 (high ∷ low ∷ []))) rest))
 
--- behind the kind
+-- after the kind
 abbrev pub kind_in : Option FrameKind → ℕ → List ℕ → Found Frame
 kind_in None room text = found (Err UnknownKind) text
 kind_in (Some kind) room text = and_then (length_in text) (sized_in kind room)

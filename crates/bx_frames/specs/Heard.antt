@@ -27,28 +27,28 @@ pub record IsTorn (finds : List ℕ → Talk) (text : List ℕ) (events : List E
   pub all : events ≡ (finds read).events
   pub cut : (finds read).ending ≡ Err EndedInFrame
 
--- octets broke off inside a frame; or they ended with an end of turn, behind which a far end has its tick
+-- octets broke off inside a frame; or they ended with an end of turn, after which a far end has its tick
 abbrev pub BreaksOff : Receiver → Result Bool LinkFault → List Event → Type 0
 BreaksOff receiver ending events = (ending ≡ Err EndedInFrame) ⊎ ((ending ≡ Ok true) × (ticks_last false events ≡ true) × (is_far receiver ≡ true))
 
--- what was read holds just these events, and ends behind the last frame of them: before the next, or behind an end of
+-- what was read holds just these events, and ends after the last frame of them: before the next, or after an end of
 -- turn with whose tick the events of a far end end
 pub record IsUnread (receiver : Receiver) (finds : List ℕ → Talk) (text : List ℕ) (events : List Event) (left : Option (List ℕ)) : Type 0 where
   pub read : List ℕ
   pub is_read : IsRead text read left
   pub all : events ≡ (finds read).events
-  pub behind : (finds read).behind ≡ []
+  pub following : (finds read).following ≡ []
   pub rest : (finds read).rest ≡ []
   pub cut : BreaksOff receiver (finds read).ending events
 
--- all was heard up to the ending; or a read failed inside the frame behind these events; or a write failed, and nothing
--- was read behind them
+-- all was heard up to the ending; or a read failed inside the frame after these events; or a write failed, and nothing
+-- was read after them
 abbrev pub IsHeard : Receiver → (List ℕ → Talk) → List ℕ → List Event → Result Bool LinkFault → Option (List ℕ) → Type 0
 IsHeard receiver finds text events result left = IsWhole (finds text) events result left ⊎ (((result ≡ Err ReadFailed) × IsTorn finds text events left) ⊎ ((result ≡ Err WriteFailed) × IsUnread receiver finds text events left))
 
 -- ---- what was written for events
 
--- a write of what the last of them has written failed: all before it was written, and a front of it, which is not the
+-- a write of what the last of them has written failed: all before it was written, and a prefix of it, which is not the
 -- whole
 pub record IsCutShort {D : Type 0} (next : D → Event → D) (text : D → Event → List ℕ) (old new : Option (List ℕ)) (d : D) (events : List Event) : Type 0 where
   pub before : List Event

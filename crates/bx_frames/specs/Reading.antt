@@ -31,7 +31,7 @@ pub record IsCut {A : Type 0} (finds : List ℕ → Found A) (text : List ℕ) (
   pub is_read : IsRead text read left
   pub cut : finds read ≡ found (Err EndedInFrame) []
 
--- of the octets that it had left, what the definition finds there was read, and nothing behind it; or a read failed,
+-- of the octets that it had left, what the definition finds there was read, and nothing after it; or a read failed,
 -- before all of that was read
 pub record Reads {R A : Type 0} (remaining : R → Option (List ℕ)) (old new : Watched R) (result : Result A LinkFault) (finds : List ℕ → Found A) : Type 0 where
   pub found : (text : List ℕ) → remaining (device_of old) ≡ Some text → IsFound (finds text) result (remaining (device_of new)) ⊎ ((result ≡ Err ReadFailed) × IsCut finds text (remaining (device_of new)))

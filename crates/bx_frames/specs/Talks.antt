@@ -9,16 +9,16 @@ use Rattle.bx_frames.specs.declared.frame.Frame.{Frame}
 use Rattle.bx_frames.specs.declared.frame.Frame.TheVariants as frames
 
 -- what happens; how it ends: with an end of turn (true), with the end of the day (false), or by a fault; the octets
--- that are left behind what was looked at; and those behind the last frame that was heard
+-- that are left after what was looked at; and those after the last frame that was heard
 pub record Talk : Type 0 where
   pub events : List Event
   pub ending : Result Bool LinkFault
   pub rest : List ℕ
-  pub behind : List ℕ
+  pub following : List ℕ
 
 -- nothing more happens
 abbrev pub stop : Result Bool LinkFault → List ℕ → List ℕ → Talk
-stop ending rest behind = record { events = []; ending = ending; rest = rest; behind = behind }
+stop ending rest following = record { events = []; ending = ending; rest = rest; following = following }
 
 abbrev pub with_events : List Event → Talk → Talk
 with_events events talk = record talk { events = events ++ talk.events }

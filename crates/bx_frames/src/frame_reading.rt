@@ -67,8 +67,8 @@ fn carried(kind: FrameKind, octets: Octets) -> Frame
     }
 }
 
-/// Reads what stands behind the kind of a frame. So many messages may still come in this turn.
-fn read_behind_kind<R: Read>(
+/// Reads what stands after the kind of a frame. So many messages may still come in this turn.
+fn read_after_kind<R: Read>(
     r: &mut Watched<R>,
     kind: FrameKind,
     room: u32,
@@ -87,7 +87,7 @@ fn read_behind_kind<R: Read>(
     Ok(carried(kind, octets))
 }
 
-/// Reads the next frame, and nothing behind it. So many messages may still come in this turn. The first fault is answered as soon
+/// Reads the next frame, and nothing after it. So many messages may still come in this turn. The first fault is answered as soon
 /// as it is read: `UnknownKind`, which the kind's octet alone decides; `EndedInFrame` where the input ends before the frame does;
 /// and `BadLength` and `MoreThan64Messages` before the contents are read. Where a read fails it is `ReadFailed`.
 pub fn read_frame<R: Read>(
@@ -100,7 +100,7 @@ pub fn read_frame<R: Read>(
 {
     let octet = read_octet(r)?;
     match FrameKind::of(receiver, octet) {
-        Some(kind) => read_behind_kind(r, kind, room),
+        Some(kind) => read_after_kind(r, kind, room),
         None => Err(LinkFault::UnknownKind),
     }
 }

@@ -27,14 +27,14 @@ fn message_octets(message: &Octets) -> ArrayVec<u8, 263>
     }
 }
 
-/// Writes a message as a frame. At `WriteFailed` a front of the frame was written, but not all of it, and the writer is faulted.
+/// Writes a message as a frame. At `WriteFailed` a prefix of the frame was written, but not all of it, and the writer is faulted.
 pub fn write_message<W: Write>(w: &mut Watched<W>, message: &Octets) -> Result<(), WriteFailed>
     ensures { Sends W.contents w.old w.new result (message_frame message.now.items) }
 {
     write_octets(w, &message_octets(message))
 }
 
-/// Writes messages as frames, in their order. At `WriteFailed` a front of them was written, but not all, and the writer is faulted.
+/// Writes messages as frames, in their order. At `WriteFailed` a prefix of them was written, but not all, and the writer is faulted.
 pub fn write_messages<W: Write>(w: &mut Watched<W>, messages: &[Octets]) -> Result<(), WriteFailed>
     ensures { Sends W.contents w.old w.new result (flat_map frame_with messages.now) }
 {
@@ -44,7 +44,7 @@ pub fn write_messages<W: Write>(w: &mut Watched<W>, messages: &[Octets]) -> Resu
     Ok(())
 }
 
-/// Writes the end of a turn with its moment. At `WriteFailed` a front of the frame was written, but not all of it, and the
+/// Writes the end of a turn with its moment. At `WriteFailed` a prefix of the frame was written, but not all of it, and the
 /// writer is faulted.
 pub fn write_end_of_turn<W: Write>(w: &mut Watched<W>, moment: u32) -> Result<(), WriteFailed>
     ensures { Sends W.contents w.old w.new result (turn_frame moment) }
@@ -53,7 +53,7 @@ pub fn write_end_of_turn<W: Write>(w: &mut Watched<W>, moment: u32) -> Result<()
     write_octets(w, &[2, 0, 4, first, second, third, last])
 }
 
-/// Writes the end of the day. At `WriteFailed` a front of the frame was written, but not all of it, and the writer is faulted.
+/// Writes the end of the day. At `WriteFailed` a prefix of the frame was written, but not all of it, and the writer is faulted.
 pub fn write_end_of_day<W: Write>(w: &mut Watched<W>) -> Result<(), WriteFailed>
     ensures { Sends W.contents w.old w.new result day_frame }
 {

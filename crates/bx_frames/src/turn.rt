@@ -32,7 +32,7 @@ fn write_turn<W: Write>(
 }
 
 /// The end ticks, and what it sends and the end of the turn are written. A second that is known to be quiet is skipped. At
-/// `WriteFailed` the tick has happened; a front of these frames was written, but not all of them, and the writer is faulted.
+/// `WriteFailed` the tick has happened; a prefix of these frames was written, but not all of them, and the writer is faulted.
 pub fn write_tick<L: Course, E: End<L>, W: Write>(
     end: &mut E,
     writer: &mut Watched<W>,

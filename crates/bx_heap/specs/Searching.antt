@@ -143,7 +143,7 @@ pub record ArePointers (line : Network) (st : State) : Type 0 where
   pub to : (v : ℕ) → v ≢ 0 → v < places_of line → step_to line (last_step st.last v) ≡ v
   pub earlier : (v : ℕ) → v ≢ 0 → v < places_of line → slice_index st.ranks (step_from line (last_step st.last v)) < slice_index st.ranks v
 
--- last steps, one behind the other, that lead from a place to the last place
+-- last steps, one after the other, that lead from a place to the last place
 abbrev pub IsTrail : Network → State → ℕ → List Step → Type 0
 IsTrail line st place [] = place ≡ places_of line - 1
 IsTrail line st place (step ∷ walk) = (step ≡ last_step st.last (step_to line step)) × (step_to line step ≢ 0) × (step_from line step ≡ place) × IsTrail line st (step_to line step) walk

@@ -12,7 +12,7 @@ use Rattle.bx_journal.specs.declared.head_reading.Version.TheVariants.{Undated, 
 use Rattle.bx_journal.specs.Lines.{whole_lines}
 use Rattle.bx_journal.specs.Numbers.{number_on}
 use Rattle.bx_journal.specs.Text.{plan_line}
-use Rattle.bx_journal.specs.Reading.{event_on, with_event, events_on, undated, dated_by, version_on, is_plan_line, plan_on, day_on, fits_day, behind_day, behind_plan, behind_version, head_on, events_behind, recovered}
+use Rattle.bx_journal.specs.Reading.{event_on, with_event, events_on, undated, dated_by, version_on, is_plan_line, plan_on, day_on, fits_day, after_day, after_plan, after_version, head_on, events_after, recovered}
 
 abbrev err_of : {T : Type 0} → JournalFault → Result T JournalFault
 err_of f = Err f
@@ -50,17 +50,17 @@ same_fault : (f g : JournalFault) → err_of {T = ℕ} f ≡ err_of g → f ≡ 
 same_fault f g e = cc
 
 module _ (wanted : Wanted) (any : wanted.day ≡ None) where
-  third : (line : List ℕ) (r : Result (Unit {0}) JournalFault) → fits_day wanted.day (day_on line) ≡ r → behind_day r ≡ err_of OtherDay → ⊥
+  third : (line : List ℕ) (r : Result (Unit {0}) JournalFault) → fits_day wanted.day (day_on line) ≡ r → after_day r ≡ err_of OtherDay → ⊥
   third line (Ok x) is e = absurd cc
   third line (Err f) is e = any_fits (day_on line) (ap (λ (d : Option JournalDay). fits_day d (day_on line)) (sym any) ∙ is ∙ ap err_of (same_fault f OtherDay e))
 
-  second : (v : Version) (line : List ℕ) (lines : List (List ℕ)) (r : Result (Unit {0}) JournalFault) → plan_on wanted.plan line ≡ r → behind_plan wanted.day r v lines ≡ err_of OtherDay → ⊥
+  second : (v : Version) (line : List ℕ) (lines : List (List ℕ)) (r : Result (Unit {0}) JournalFault) → plan_on wanted.plan line ≡ r → after_plan wanted.day r v lines ≡ err_of OtherDay → ⊥
   second v line lines (Err f) is e = plan_other wanted.plan line (is ∙ ap err_of (same_fault f OtherDay e))
   second Undated line lines (Ok x) is e = absurd cc
   second Dated line [] (Ok x) is e = absurd cc
   second Dated line (l3 ∷ rest) (Ok x) is e = third l3 (fits_day wanted.day (day_on l3)) refl e
 
-  first : (line : List ℕ) (lines : List (List ℕ)) (r : Result Version JournalFault) → version_on wanted.day line ≡ r → behind_version wanted r lines ≡ err_of OtherDay → ⊥
+  first : (line : List ℕ) (lines : List (List ℕ)) (r : Result Version JournalFault) → version_on wanted.day line ≡ r → after_version wanted r lines ≡ err_of OtherDay → ⊥
   first line lines (Err f) is e = version_other wanted.day line (is ∙ ap err_of (same_fault f OtherDay e))
   first line [] (Ok v) is e = absurd cc
   first line (l2 ∷ lines) (Ok v) is e = second v l2 lines (plan_on wanted.plan l2) refl e
@@ -78,7 +78,7 @@ module _ (wanted : Wanted) (any : wanted.day ≡ None) where
   events_other n [] e = absurd cc
   events_other n (line ∷ lines) e = one n (event_on line) (events_on (n + 1) lines) (λ is. events_other (n + 1) lines is) e
 
-  by_head : (lines : List (List ℕ)) (r : Result ℕ JournalFault) → head_on wanted lines ≡ r → events_behind r lines ≡ err_of OtherDay → ⊥
+  by_head : (lines : List (List ℕ)) (r : Result ℕ JournalFault) → head_on wanted lines ≡ r → events_after r lines ≡ err_of OtherDay → ⊥
   by_head lines (Ok n) is e = events_other (n + 1) (drop n lines) e
   by_head lines (Err f) is e = head_other lines (is ∙ ap err_of (same_events_fault f OtherDay e)) where
     same_events_fault : (f g : JournalFault) → err_of {T = List LiveEvent} f ≡ err_of g → f ≡ g

@@ -18,7 +18,7 @@ use Rattle.bx_journal.specs.Numbers.{number_on, space_at}
 use Rattle.bx_journal.specs.Hex.{hex_of}
 use Rattle.bx_journal.specs.Text.{rules_line, plan_line, day_line}
 use Rattle.bx_journal.specs.Reading.{undated, dated_by, version_on, is_plan_line, plan_on, live_of, live_on, day_on, is_day, fits_day}
-use Rattle.bx_journal.proofs.NumbersRead.{IsNumberOf, decimal_digits, number_read, number_spelled, decimal_short, none_long, decimal_without_lf, space_behind, space_parts, decimal_some}
+use Rattle.bx_journal.proofs.NumbersRead.{IsNumberOf, decimal_digits, number_read, number_spelled, decimal_short, none_long, decimal_without_lf, space_after, space_parts, decimal_some}
 use Rattle.bx_journal.proofs.Digits.{hex_length}
 use Rattle.bx_journal.proofs.Takings.{no_lf_on}
 
@@ -84,11 +84,11 @@ day_without_lf (Live first pace) is =
 
 live_read : (first pace : ℕ) → first < 4294967296 → 1 ≤ pace → pace < 4294967296 → live_on (decimal first ++ 32 ∷ decimal pace) ≡ Some (Live first pace)
 live_read first pace small some less =
-    let at : space_at (decimal first ++ 32 ∷ decimal pace) ≡ length (decimal first) = space_behind (decimal first) (decimal pace) (decimal_digits first small) in
-    let front : take (length (decimal first)) (decimal first ++ 32 ∷ decimal pace) ≡ decimal first = take_at (decimal first) (32 ∷ decimal pace) (length (decimal first)) refl in
+    let at : space_at (decimal first ++ 32 ∷ decimal pace) ≡ length (decimal first) = space_after (decimal first) (decimal pace) (decimal_digits first small) in
+    let prefix : take (length (decimal first)) (decimal first ++ 32 ∷ decimal pace) ≡ decimal first = take_at (decimal first) (32 ∷ decimal pace) (length (decimal first)) refl in
     let rest : drop (length (decimal first) + 1) (decimal first ++ 32 ∷ decimal pace) ≡ decimal pace =
     ap (drop (length (decimal first) + 1)) (sym (append_assoc (decimal first) (32 ∷ []) (decimal pace))) ∙ drop_at (decimal first ++ 32 ∷ []) (decimal pace) (length (decimal first) + 1) (length-append (decimal first) (32 ∷ [])) in
-    rw (at, front, rest, number_read first small, number_read pace less, le-leb 1 pace some) refl
+    rw (at, prefix, rest, number_read first small, number_read pace less, le-leb 1 pace some) refl
 
 pub day_read : (day : JournalDay) → IsDay day → day_on (day_line day) ≡ Some day
 day_read Rehearsed is = refl
@@ -126,9 +126,9 @@ by_day : (a b : Bool) (line : List ℕ) (day : JournalDay) → bytes_eq line (co
 by_day true b line day is word e = subst (IsLineOfDay line) (some_day _ _ e) (record { spelled = (bytes_eq-Decides line (codes "day rehearsed")).0 is; is = tt })
 by_day false true line day is word e =
     let r = live_numbers (number_on (take (space_at (drop 9 line)) (drop 9 line))) (number_on (drop (space_at (drop 9 line) + 1) (drop 9 line))) (drop 9 line) day refl refl e in
-    let front = (bytes_eq-Decides (take 9 line) (codes "day live ")).0 word in
+    let prefix = (bytes_eq-Decides (take 9 line) (codes "day live ")).0 word in
     let text : line ≡ day_line (Live r.first r.pace) =
-    sym (take-append-drop 9 line) ∙ ap (λ (l : List ℕ). l ++ drop 9 line) front ∙ ap (λ (l : List ℕ). codes "day live " ++ l) (r.spelled ∙ sym (append_assoc (decimal r.first) (32 ∷ []) (decimal r.pace))) in
+    sym (take-append-drop 9 line) ∙ ap (λ (l : List ℕ). l ++ drop 9 line) prefix ∙ ap (λ (l : List ℕ). codes "day live " ++ l) (r.spelled ∙ sym (append_assoc (decimal r.first) (32 ∷ []) (decimal r.pace))) in
     subst (IsLineOfDay line) r.same (record { spelled = text; is = r.is })
 by_day false false line day is word e = absurd cc
 

@@ -9,7 +9,7 @@ pub mod ReadAgain
 pub mod Moments
 pub mod Recorded
 pub mod PastContents
-pub mod Fronts
+pub mod Prefixes
 pub mod Spelled
 pub mod OneText
 pub mod AnyDay

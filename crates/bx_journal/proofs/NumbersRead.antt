@@ -76,14 +76,14 @@ digits_without_lf (c ∷ cs) h = let p = and_parts (is_ascii_digit c) (list_all 
 pub decimal_without_lf : (n : ℕ) → n < 4294967296 → HasNoLf (decimal n)
 decimal_without_lf n small = digits_without_lf (decimal n) (decimal_digits n small)
 
-pub space_behind : (ds rest : List ℕ) → AreDigits ds → space_at (ds ++ 32 ∷ rest) ≡ length ds
-space_behind [] rest h = refl
-space_behind (c ∷ cs) rest h =
+pub space_after : (ds rest : List ℕ) → AreDigits ds → space_at (ds ++ 32 ∷ rest) ≡ length ds
+space_after [] rest h = refl
+space_after (c ∷ cs) rest h =
     let p = and_parts (is_ascii_digit c) (list_all is_ascii_digit cs) h in
     let d = digit_between c p.0 in
-    rw (ne_eqb c 32 (λ e. omega (arith, e, d.0)), space_behind cs rest p.1) refl
+    rw (ne_eqb c 32 (λ e. omega (arith, e, d.0)), space_after cs rest p.1) refl
 
--- a text is what stands before its first space and behind it, or there is none
+-- a text is what stands before its first space and after it, or there is none
 abbrev SpaceParts : List ℕ → ℕ → Type 0
 SpaceParts text n = (drop (n + 1) text ≡ []) ⊎ (text ≡ take n text ++ 32 ∷ drop (n + 1) text)
 

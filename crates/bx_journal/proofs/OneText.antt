@@ -12,7 +12,7 @@ use Rattle.bx_journal.specs.Heads.{IsDay, IsWanted, wanted_of}
 use Rattle.bx_journal.specs.Hex.{hex_of, octets_in}
 use Rattle.bx_journal.specs.Lines.{whole_lines}
 use Rattle.bx_journal.specs.Text.{line_of, plan_line, lines_of, journal_text, undated_lines, undated_text}
-use Rattle.bx_journal.specs.Reading.{Recovery, day_on, events_on, events_behind, recovered, journal_events, journal_in}
+use Rattle.bx_journal.specs.Reading.{Recovery, day_on, events_on, events_after, recovered, journal_events, journal_in}
 use Rattle.bx_journal.proofs.Digits.{octets_read}
 use Rattle.bx_journal.proofs.DayLines.{day_read}
 use Rattle.bx_journal.proofs.HeadLines.{undated_refused}
@@ -61,7 +61,7 @@ pub undated_none : (wanted : Wanted) (day : JournalDay) (plan torn : List ℕ) (
 undated_none wanted day plan torn es some are =
     let rest = plan_line plan ∷ (map line_of es ++ whole_lines torn) in
     ap (journal_events wanted) (lines_then (undated_lines plan es) torn (undated_without_lf plan es are))
-    ∙ ap (λ (r : Result ℕ JournalFault). events_behind r (undated_lines plan es ++ whole_lines torn)) (undated_refused wanted day rest some)
+    ∙ ap (λ (r : Result ℕ JournalFault). events_after r (undated_lines plan es ++ whole_lines torn)) (undated_refused wanted day rest some)
 
 -- what is read where a head is wanted is read alike where less is
 pub with_less : (head : Head) (wanted : Wanted) (left : List ℕ) (es : List LiveEvent) → IsWanted wanted head → recovered (wanted_of head) left ≡ Ok es → recovered wanted left ≡ Ok es

@@ -1,4 +1,4 @@
--- The text of events is read as these events, whatever front of a line stands behind it.
+-- The text of events is read as these events, whatever prefix of a line stands after it.
 use Rattle.std.proofs.Common.{◌≡◌, ◌==◌, ◌≤◌, inl, inr, nat_le, ℕ, ◌+◌, true, false, arith, List, [], ◌∷◌, ◌++◌, length, map, Some, None, Result, Ok, refl, ap, sym, ◌∙◌, subst}
 use Rattle.std.specs.List.{flat_map, list_all}
 use Rattle.std.specs.Option.{option_map}
@@ -8,7 +8,7 @@ use Rattle.bx_journal.specs.Lines.{whole_lines, whole_text, ended}
 use Rattle.bx_journal.specs.Inside.{HasNoLf, HaveNoLf}
 use Rattle.bx_journal.specs.Heads.{IsDay, IsWanted, wanted_of}
 use Rattle.bx_journal.specs.Text.{line_of, plan_line, lines_of, journal_text, undated_lines}
-use Rattle.bx_journal.specs.Reading.{heard_event, event_on, events_on, events_behind, journal_events, recovered, journal_in, with_whole, IsJournalText}
+use Rattle.bx_journal.specs.Reading.{heard_event, event_on, events_on, events_after, journal_events, recovered, journal_in, with_whole, IsJournalText}
 use Rattle.bx_journal.specs.declared.fault.JournalFault.{JournalFault}
 use Rattle.bx_journal.specs.declared.head.Head.{Head}
 use Rattle.bx_journal.specs.declared.head.Wanted.{Wanted}
@@ -57,7 +57,7 @@ pub events_read : (n : ℕ) (es : List LiveEvent) → AreEvents es → events_on
 events_read n [] are = refl
 events_read n (e ∷ es) are = rw (event_read e are.0, events_read (n + 1) es are.1) refl
 
--- what lines are read as, whatever stands behind them that no LF ends
+-- what lines are read as, whatever stands after them that no LF ends
 module _ (wanted : Wanted) (lines : List (List ℕ)) (es : List LiveEvent) (torn : List ℕ) (none : HaveNoLf lines) (read : journal_events wanted lines ≡ Ok es) (t : whole_lines torn ≡ []) where
   pub lines_again : recovered wanted (flat_map ended lines ++ torn) ≡ Ok es
   lines_again = ap (journal_events wanted) (lines_whole lines torn none t) ∙ read
@@ -68,10 +68,10 @@ module _ (wanted : Wanted) (lines : List (List ℕ)) (es : List LiveEvent) (torn
       ∙ ap (λ (ls : List (List ℕ)). Ok (record { events = es; whole = length (flat_map ended ls) })) (lines_whole lines torn none t)
 
 pub lines_read : (wanted : Wanted) (head : Head) (es : List LiveEvent) → IsWanted wanted head → IsDay head.day → AreEvents es → journal_events wanted (lines_of head es) ≡ Ok es
-lines_read wanted head es is day are = ap (λ (r : Result ℕ JournalFault). events_behind r (lines_of head es)) (head_read wanted head is day (map line_of es)) ∙ events_read 4 es are
+lines_read wanted head es is day are = ap (λ (r : Result ℕ JournalFault). events_after r (lines_of head es)) (head_read wanted head is day (map line_of es)) ∙ events_read 4 es are
 
 pub undated_read : (wanted : Wanted) (es : List LiveEvent) → wanted.day ≡ None → AreEvents es → journal_events wanted (undated_lines wanted.plan es) ≡ Ok es
-undated_read wanted es none are = ap (λ (r : Result ℕ JournalFault). events_behind r (undated_lines wanted.plan es)) (undated_head_read wanted (map line_of es) none) ∙ events_read 3 es are
+undated_read wanted es none are = ap (λ (r : Result ℕ JournalFault). events_after r (undated_lines wanted.plan es)) (undated_head_read wanted (map line_of es) none) ∙ events_read 3 es are
 
 -- its own head is wanted
 pub own : (head : Head) → IsWanted (wanted_of head) head

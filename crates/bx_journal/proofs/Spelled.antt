@@ -9,18 +9,18 @@ use Rattle.std.proofs.lemmas.Slice.Eq.{bytes_eq-Decides}
 use Rattle.bx_events.specs.Events.{Tick, LiveEvent, OnLink, WithoutLink, Sold}
 use Rattle.bx_journal.specs.declared.fault.JournalFault.{JournalFault}
 use Rattle.bx_journal.specs.Events.{AreOctets, IsEvent, AreEvents, is_printable}
-use Rattle.bx_journal.specs.Hex.{hex_digit, hex_of, hex_value, octet_of, octets_in, behind_octet}
+use Rattle.bx_journal.specs.Hex.{hex_digit, hex_of, hex_value, octet_of, octets_in, after_octet}
 use Rattle.bx_journal.specs.Lines.{whole_lines, whole_text, ended, onto}
 use Rattle.bx_journal.specs.Inside.{HasNoLf, HaveNoLf}
 use Rattle.bx_journal.specs.Text.{line_of, rules_line, plan_line, day_line, lines_of, journal_text, undated_lines}
-use Rattle.bx_journal.specs.Reading.{event_on, heard_on, heard_event, sold_on, events_on, with_event, head_on, events_behind, journal_events, recovered, Recovery, journal_in, with_whole, IsJournalText}
+use Rattle.bx_journal.specs.Reading.{event_on, heard_on, heard_event, sold_on, events_on, with_event, head_on, events_after, journal_events, recovered, Recovery, journal_in, with_whole, IsJournalText}
 use Rattle.bx_journal.specs.Heads.{IsDay, IsWanted, wanted_of}
 use Rattle.bx_journal.specs.declared.head.Head.{Head}
 use Rattle.bx_journal.specs.declared.head.JournalDay.{JournalDay}
 use Rattle.bx_journal.specs.declared.head.TheConstants.{RULES}
 use Rattle.bx_journal.specs.declared.head.Wanted.{Wanted}
 use Rattle.bx_journal.proofs.Digits.{hex_length}
-use Rattle.bx_journal.proofs.WholeLines.{lines_whole, torn_line, front_without_lf, take_past}
+use Rattle.bx_journal.proofs.WholeLines.{lines_whole, torn_line, prefix_without_lf, take_past}
 use Rattle.bx_journal.proofs.HeadLines.{IsDated, IsUndated, head_spelled}
 
 -- a text is its whole lines, and octets without LF
@@ -86,7 +86,7 @@ two ten h l ds os a b high low rest =
     }
 
 pair : (ten h l : ℕ) (ds os : List ℕ) (o p : Option ℕ) (r : Option (List ℕ)) → hex_value ten h ≡ o → hex_value ten l ≡ p → ((xs : List ℕ) → r ≡ Some xs → AreDigitsOf ten ds xs)
-    → behind_octet (octet_of o p) r ≡ Some os → AreDigitsOf ten (h ∷ l ∷ ds) os
+    → after_octet (octet_of o p) r ≡ Some os → AreDigitsOf ten (h ∷ l ∷ ds) os
 pair ten h l ds os None p r eh el more e = absurd cc
 pair ten h l ds os (Some a) None r eh el more e = absurd cc
 pair ten h l ds os (Some a) (Some b) None eh el more e = absurd cc
@@ -174,19 +174,19 @@ pub record AreLinesUndated (wanted : Wanted) (lines : List (List ℕ)) (es : Lis
 abbrev pub AreLines : Wanted → List (List ℕ) → List LiveEvent → Type 0
 AreLines wanted lines es = AreLinesDated wanted lines es ⊎ AreLinesUndated wanted lines es
 
-behind_head : (wanted : Wanted) (lines : List (List ℕ)) (es : List LiveEvent) (n : ℕ) → IsDated wanted lines n ⊎ IsUndated wanted lines n → events_on (n + 1) (drop n lines) ≡ Ok es → AreLines wanted lines es
-behind_head wanted lines es n (inl d) e =
+following_head : (wanted : Wanted) (lines : List (List ℕ)) (es : List LiveEvent) (n : ℕ) → IsDated wanted lines n ⊎ IsUndated wanted lines n → events_on (n + 1) (drop n lines) ≡ Ok es → AreLines wanted lines es
+following_head wanted lines es n (inl d) e =
     let at : events_on 4 d.rest ≡ Ok es = sym (ap (λ (ls : List (List ℕ)). events_on 4 (drop 3 ls)) d.are) ∙ ap (λ k. events_on (k + 1) (drop k lines)) (sym d.count) ∙ e in
     let rest = lines_spelled 4 d.rest es at in
     inl (record { head = d.head; is_wanted = d.is_wanted; day = d.day; are = d.are ∙ ap (λ (ls : List (List ℕ)). rules_line RULES ∷ plan_line d.head.plan ∷ day_line d.head.day ∷ ls) rest.spelled; events = rest.octets })
-behind_head wanted lines es n (inr u) e =
+following_head wanted lines es n (inr u) e =
     let at : events_on 3 u.rest ≡ Ok es = sym (ap (λ (ls : List (List ℕ)). events_on 3 (drop 2 ls)) u.are) ∙ ap (λ k. events_on (k + 1) (drop k lines)) (sym u.count) ∙ e in
     let rest = lines_spelled 3 u.rest es at in
     inr (record { none = u.none; are = u.are ∙ ap (λ (ls : List (List ℕ)). codes "bx-journal 1" ∷ plan_line wanted.plan ∷ ls) rest.spelled; events = rest.octets })
 
-by_head : (wanted : Wanted) (lines : List (List ℕ)) (es : List LiveEvent) (r : Result ℕ JournalFault) → head_on wanted lines ≡ r → events_behind r lines ≡ Ok es → AreLines wanted lines es
+by_head : (wanted : Wanted) (lines : List (List ℕ)) (es : List LiveEvent) (r : Result ℕ JournalFault) → head_on wanted lines ≡ r → events_after r lines ≡ Ok es → AreLines wanted lines es
 by_head wanted lines es (Err f) is e = absurd cc
-by_head wanted lines es (Ok n) is e = behind_head wanted lines es n (head_spelled wanted n lines is) e
+by_head wanted lines es (Ok n) is e = following_head wanted lines es n (head_spelled wanted n lines is) e
 
 pub all_lines : (wanted : Wanted) (lines : List (List ℕ)) (es : List LiveEvent) → journal_events wanted lines ≡ Ok es → AreLines wanted lines es
 all_lines wanted lines es e = by_head wanted lines es (head_on wanted lines) refl e
@@ -205,7 +205,7 @@ own_lines_by head lines es (inr u) = absurd (some_is_none head.day u.none) where
 pub own_lines : (head : Head) (lines : List (List ℕ)) (es : List LiveEvent) → journal_events (wanted_of head) lines ≡ Ok es → (lines ≡ lines_of head es) × IsDay head.day × AreEvents es
 own_lines head lines es e = own_lines_by head lines es (all_lines (wanted_of head) lines es e)
 
--- the text of what is read, and octets without LF behind it
+-- the text of what is read, and octets without LF after it
 text_by : (wanted : Wanted) (text : List ℕ) (lines : List (List ℕ)) (es : List LiveEvent) → text ≡ flat_map ended lines → AreLines wanted lines es → IsJournalText wanted es text × AreEvents es
 text_by wanted text lines es is (inl d) = (inl (record { head = d.head; is_wanted = d.is_wanted; is_day = d.day; is = is ∙ ap (flat_map ended) d.are }), d.events)
 text_by wanted text lines es is (inr u) = (inr (u.none, is ∙ ap (flat_map ended) u.are), u.events)
@@ -232,18 +232,18 @@ cut_lines bytes n le =
     let s = split bytes in
     let m = n - length (whole_text bytes) in
     let e : length (whole_text bytes) + m ≡ n = omega arith in
-    let front : take n bytes ≡ whole_text bytes ++ take m s.torn = ap (λ k. take k bytes) (sym e) ∙ ap (take (length (whole_text bytes) + m)) s.is ∙ take_past (whole_text bytes) s.torn m in
-    ap whole_lines front ∙ lines_whole (whole_lines bytes) (take m s.torn) (clean bytes) (torn_line _ (front_without_lf m s.torn s.none))
+    let prefix : take n bytes ≡ whole_text bytes ++ take m s.torn = ap (λ k. take k bytes) (sym e) ∙ ap (take (length (whole_text bytes) + m)) s.is ∙ take_past (whole_text bytes) s.torn m in
+    ap whole_lines prefix ∙ lines_whole (whole_lines bytes) (take m s.torn) (clean bytes) (torn_line _ (prefix_without_lf m s.torn s.none))
 
 -- what is cut off is in no line
 pub recovered_cut : (wanted : Wanted) (bytes : List ℕ) (n : ℕ) → length (whole_text bytes) ≤ n → recovered wanted (take n bytes) ≡ recovered wanted bytes
 recovered_cut wanted bytes n le = ap (journal_events wanted) (cut_lines bytes n le)
 
-pub whole_front : (bytes : List ℕ) → take (length (whole_text bytes)) bytes ≡ whole_text bytes
-whole_front bytes = let s = split bytes in ap (take (length (whole_text bytes))) s.is ∙ take_at (whole_text bytes) s.torn (length (whole_text bytes)) refl
+pub whole_prefix : (bytes : List ℕ) → take (length (whole_text bytes)) bytes ≡ whole_text bytes
+whole_prefix bytes = let s = split bytes in ap (take (length (whole_text bytes))) s.is ∙ take_at (whole_text bytes) s.torn (length (whole_text bytes)) refl
 
-pub torn_behind : (bytes : List ℕ) → whole_lines (drop (length (whole_text bytes)) bytes) ≡ []
-torn_behind bytes =
+pub torn_after : (bytes : List ℕ) → whole_lines (drop (length (whole_text bytes)) bytes) ≡ []
+torn_after bytes =
     let s = split bytes in
     ap whole_lines (ap (drop (length (whole_text bytes))) s.is ∙ drop_at (whole_text bytes) s.torn (length (whole_text bytes)) refl) ∙ torn_line s.torn s.none
 
@@ -265,13 +265,13 @@ pub recovery_parts : (wanted : Wanted) (bytes : List ℕ) (r : Recovery) → jou
 recovery_parts wanted bytes r e = recovery (length (whole_text bytes)) wanted bytes (recovered wanted bytes) r refl refl e
 
 taken_whole : (wanted : Wanted) (bytes : List ℕ) (r : Recovery) → IsRecovery wanted bytes r → take r.whole bytes ≡ whole_text bytes
-taken_whole wanted bytes r p = ap (λ k. take k bytes) p.whole ∙ whole_front bytes
+taken_whole wanted bytes r p = ap (λ k. take k bytes) p.whole ∙ whole_prefix bytes
 
-pub front_spelled : (wanted : Wanted) (bytes : List ℕ) (r : Recovery) → journal_in wanted bytes ≡ Ok r → IsJournalText wanted r.events (take r.whole bytes) × (whole_lines (drop r.whole bytes) ≡ []) × AreEvents r.events
-front_spelled wanted bytes r e =
+pub prefix_spelled : (wanted : Wanted) (bytes : List ℕ) (r : Recovery) → journal_in wanted bytes ≡ Ok r → IsJournalText wanted r.events (take r.whole bytes) × (whole_lines (drop r.whole bytes) ≡ []) × AreEvents r.events
+prefix_spelled wanted bytes r e =
     let p = recovery_parts wanted bytes r e in
     let t = recovered_text wanted bytes r.events p.events in
-    (subst (IsJournalText wanted r.events) (sym (taken_whole wanted bytes r p)) t.0, ap (λ k. whole_lines (drop k bytes)) p.whole ∙ torn_behind bytes, t.1)
+    (subst (IsJournalText wanted r.events) (sym (taken_whole wanted bytes r p)) t.0, ap (λ k. whole_lines (drop k bytes)) p.whole ∙ torn_after bytes, t.1)
 
 -- the same where a head is wanted
 pub record IsOwn (head : Head) (bytes : List ℕ) (r : Recovery) : Type 0 where

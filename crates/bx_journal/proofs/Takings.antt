@@ -1,4 +1,4 @@
--- What is taken of a device, one part behind another.
+-- What is taken of a device, one part after another.
 use Rattle.std.proofs.Common.{◌≡◌, inl, ℕ, ◌+◌, ◌≤◌, ◌==◌, Bool, true, false, List, [], ◌∷◌, ◌++◌, length, Option, Result, Ok, Err, OnOk, OnErr, is_ok, ap, sym, ◌∙◌, subst, append_assoc, length-append, arith}
 use Rattle.std.proofs.lemmas.List.{append-nil}
 use Rattle.std.proofs.KnownBytes.{Consumes-nil, Consumes-trans}
@@ -58,7 +58,7 @@ part_none now held = record { takes = takes_none now held; no_lf = tt }
 pub takes_held : (now : Option (List ℕ)) (old new : Held) (octet : ℕ) → old.octets ≡ octet ∷ new.octets → new.taken ≡ old.taken + 1 → Takes now now old new (octet ∷ [])
 takes_held now old new octet is count = record { read = []; consumed = Consumes-nil now; split = append-nil old.octets ∙ is; count = omega (arith, count) }
 
--- behind a reader that held nothing, what was read is what was taken and what is held
+-- after a reader that held nothing, what was read is what was taken and what is held
 pub all_read : (before after : Option (List ℕ)) (old new : Held) (xs : List ℕ) → old.octets ≡ [] → (t : Takes before after old new xs) → t.read ≡ xs ++ new.octets
 all_read before after old new xs none t = ap (λ (l : List ℕ). l ++ t.read) (sym none) ∙ t.split
 

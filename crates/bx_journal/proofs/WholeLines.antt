@@ -14,10 +14,10 @@ pub torn_line : (torn : List ℕ) → HasNoLf torn → whole_lines torn ≡ []
 torn_line [] none = refl
 torn_line (b ∷ torn) none = rw (none.0) (ap (onto b) (torn_line torn none.1))
 
-pub front_without_lf : (n : ℕ) (line : List ℕ) → HasNoLf line → HasNoLf (take n line)
-front_without_lf zero line none = tt
-front_without_lf (suc n) [] none = tt
-front_without_lf (suc n) (b ∷ line) none = (none.0, front_without_lf n line none.1)
+pub prefix_without_lf : (n : ℕ) (line : List ℕ) → HasNoLf line → HasNoLf (take n line)
+prefix_without_lf zero line none = tt
+prefix_without_lf (suc n) [] none = tt
+prefix_without_lf (suc n) (b ∷ line) none = (none.0, prefix_without_lf n line none.1)
 
 regroup : (line more torn : List ℕ) → (ended line ++ more) ++ torn ≡ line ++ 10 ∷ (more ++ torn)
 regroup line more torn = append_assoc (ended line) more torn ∙ append_assoc line (10 ∷ []) (more ++ torn)
@@ -44,19 +44,19 @@ take_none : (n : ℕ) → take {A = ℕ} n [] ≡ []
 take_none zero = refl
 take_none (suc n) = refl
 
--- a front of lines has the first of them
-pub record IsFrontOf (lines : List (List ℕ)) (octets : List ℕ) : Type 0 where
+-- a prefix of lines has the first of them
+pub record IsPrefixOf (lines : List (List ℕ)) (octets : List ℕ) : Type 0 where
   pub count : ℕ
   pub within : count ≤ length lines
   pub are : whole_lines octets ≡ take count lines
 
-pub front_of : (lines : List (List ℕ)) (n : ℕ) → HaveNoLf lines → IsFrontOf lines (take n (flat_map ended lines))
-front_of [] n none = record { count = 0; within = omega arith; are = ap whole_lines (take_none n) }
-front_of (line ∷ lines) n none = elim (cases_lt (length line) n) [
+pub prefix_of : (lines : List (List ℕ)) (n : ℕ) → HaveNoLf lines → IsPrefixOf lines (take n (flat_map ended lines))
+prefix_of [] n none = record { count = 0; within = omega arith; are = ap whole_lines (take_none n) }
+prefix_of (line ∷ lines) n none = elim (cases_lt (length line) n) [
   | inl whole ↦
       let m = n - length (ended line) in
       let split : length (ended line) + m ≡ n = omega (arith, whole, length-append line (10 ∷ [])) in
-      let rest = front_of lines m none.1 in
+      let rest = prefix_of lines m none.1 in
       record {
         count = suc rest.count;
         within = omega (arith, rest.within);
@@ -66,7 +66,7 @@ front_of (line ∷ lines) n none = elim (cases_lt (length line) n) [
             ∙ ap (λ (ls : List (List ℕ)). line ∷ ls) rest.are;
       }
   | inr torn ↦
-      let front : take n (ended line ++ flat_map ended lines) ≡ take n line =
+      let prefix : take n (ended line ++ flat_map ended lines) ≡ take n line =
       ap (take n) (append_assoc line (10 ∷ []) (flat_map ended lines)) ∙ take-append-le n line (10 ∷ flat_map ended lines) torn in
-      record { count = 0; within = omega arith; are = ap whole_lines front ∙ torn_line (take n line) (front_without_lf n line none.0) }
+      record { count = 0; within = omega arith; are = ap whole_lines prefix ∙ torn_line (take n line) (prefix_without_lf n line none.0) }
 ]

@@ -1,7 +1,7 @@
 -- What the calls of a disk do to what a crash may leave on it.
 use Rattle.std.specs.Prelude.{◌≡◌, ◌⊎◌, ℕ, ◌≤◌, List, ◌++◌, take}
 
--- after an append that a crash cuts short: a front of these octets stands behind what was there
+-- after an append that a crash cuts short: a prefix of these octets stands after what was there
 abbrev pub IsTorn : List ℕ → List ℕ → List ℕ → Type 0
 IsTorn octets old new = (n : ℕ) × (new ≡ old ++ take n octets)
 

@@ -1,4 +1,4 @@
--- What may be put on record.
+-- What may be logged.
 use Rattle.std.specs.Prelude.{◌≡◌, ℕ, ◌≤◌, ◌<◌, ◌&&◌, nat_le, Bool, true, List, [], ◌∷◌, length, slice_index, slice_index_or}
 use Rattle.std.specs.List.{list_all}
 use Rattle.bx_events.specs.Events.{Tick, Receive, LiveEvent, OnLink, WithoutLink, Sold}

@@ -16,7 +16,7 @@ pub record WasRead {F : Type 0} (followed : F → List LiveEvent → F → Type 
   pub is : journal_in wanted text ≡ Ok (record { events = events; whole = whole })
   pub followed_all : followed old events new
 
--- it was read up to its first fault, whatever stands behind
+-- it was read up to its first fault, whatever stands after
 pub record WasRefused {F : Type 0} (followed : F → List LiveEvent → F → Type 0) (before after : Option (List ℕ)) (wanted : Wanted) (old new : F) (fault : JournalFault) : Type 0 where
   pub read : List ℕ
   pub consumed : Consumes before after read

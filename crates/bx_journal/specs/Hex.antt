@@ -25,17 +25,17 @@ octet_of (Some high) (Some low) = Some (high * 16 + low)
 octet_of (Some high) None = None
 octet_of None low = None
 
--- these octets, and others behind them
-abbrev pub behind : List ℕ → Option (List ℕ) → Option (List ℕ)
-behind front (Some octets) = Some (front ++ octets)
-behind front None = None
+-- these octets, and others after them
+abbrev pub following : List ℕ → Option (List ℕ) → Option (List ℕ)
+following prefix (Some octets) = Some (prefix ++ octets)
+following prefix None = None
 
-abbrev pub behind_octet : Option ℕ → Option (List ℕ) → Option (List ℕ)
-behind_octet (Some octet) octets = behind (octet ∷ []) octets
-behind_octet None octets = None
+abbrev pub after_octet : Option ℕ → Option (List ℕ) → Option (List ℕ)
+after_octet (Some octet) octets = following (octet ∷ []) octets
+after_octet None octets = None
 
 -- the octets that digits spell, if they do
 abbrev pub octets_in : ℕ → List ℕ → Option (List ℕ)
 octets_in ten [] = Some []
 octets_in ten (high ∷ []) = None
-octets_in ten (high ∷ low ∷ digits) = behind_octet (octet_of (hex_value ten high) (hex_value ten low)) (octets_in ten digits)
+octets_in ten (high ∷ low ∷ digits) = after_octet (octet_of (hex_value ten high) (hex_value ten low)) (octets_in ten digits)

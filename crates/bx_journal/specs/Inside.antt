@@ -1,7 +1,7 @@
 -- Private: what its functions promise one another.
 use Rattle.std.specs.Prelude.{◌≡◌, ◌≤◌, ◌==◌, ℕ, false, List, [], ◌∷◌, take}
 
--- a cut to len octets that a crash cuts short: a front of the text, with at least these
+-- a cut to len octets that a crash cuts short: a prefix of the text, with at least these
 abbrev pub IsCutBack : ℕ → List ℕ → List ℕ → Type 0
 IsCutBack len text left = (n : ℕ) × (len ≤ n) × (left ≡ take n text)
 

@@ -2,12 +2,12 @@
 use Rattle.std.specs.Prelude.{ℕ, ◌==◌, List, [], ◌∷◌, ◌++◌, if◌then◌else◌}
 use Rattle.std.specs.List.{flat_map}
 
--- one octet more at the front of the first line; where no line is ended, the octet is in none
+-- one octet more at the start of the first line; where no line is ended, the octet is in none
 abbrev pub onto : ℕ → List (List ℕ) → List (List ℕ)
 onto octet [] = []
 onto octet (line ∷ lines) = (octet ∷ line) ∷ lines
 
--- the whole lines: those that LF ends, without it. What stands behind the last LF is in none.
+-- the whole lines: those that LF ends, without it. What stands after the last LF is in none.
 abbrev pub whole_lines : List ℕ → List (List ℕ)
 whole_lines [] = []
 whole_lines (octet ∷ octets) = if octet == 10 then [] ∷ whole_lines octets else onto octet (whole_lines octets)
@@ -16,6 +16,6 @@ whole_lines (octet ∷ octets) = if octet == 10 then [] ∷ whole_lines octets e
 abbrev pub ended : List ℕ → List ℕ
 ended line = line ++ 10 ∷ []
 
--- the front of a text that is whole lines
+-- the prefix of a text that is whole lines
 abbrev pub whole_text : List ℕ → List ℕ
 whole_text octets = flat_map ended (whole_lines octets)

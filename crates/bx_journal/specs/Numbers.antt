@@ -5,7 +5,7 @@ use Rattle.std.specs.Char.{is_ascii_digit}
 use Rattle.std.specs.Str.{bytes_eq}
 use Rattle.bx_text.specs.Digits.{decimal_value}
 
--- digits that spell a number of 32 bits as it is written: with no zero in front
+-- digits that spell a number of 32 bits as it is written: with no leading zero
 abbrev pub is_number : List ℕ → Bool
 is_number digits = list_all is_ascii_digit digits && (nat_lt (decimal_value digits) 4294967296 && bytes_eq digits (decimal (decimal_value digits)))
 

@@ -42,7 +42,7 @@ event_on line =
     else if bytes_eq (take 6 line) (codes "heard ") then heard_on (drop 6 line)
     else sold_by line
 
--- an event, and those of the lines behind it; the first fault is answered
+-- an event, and those of the lines after it; the first fault is answered
 abbrev pub with_event : ℕ → Option LiveEvent → Result (List LiveEvent) JournalFault → Result (List LiveEvent) JournalFault
 with_event n None events = Err (BadLine n)
 with_event n (Some event) (Ok events) = Ok (event ∷ events)
@@ -115,38 +115,38 @@ fits_day None (Some day) = Ok tt
 fits_day (Some wanted) (Some day) = if is_day wanted day then Ok tt else Err OtherDay
 
 -- how many lines the head has, or the first fault in it. Where it is not there whole yet, the journal was never begun.
-abbrev pub behind_day : Result (Unit {0}) JournalFault → Result ℕ JournalFault
-behind_day (Ok fits) = Ok 3
-behind_day (Err fault) = Err fault
+abbrev pub after_day : Result (Unit {0}) JournalFault → Result ℕ JournalFault
+after_day (Ok fits) = Ok 3
+after_day (Err fault) = Err fault
 
 abbrev pub dated_head : Option JournalDay → List (List ℕ) → Result ℕ JournalFault
 dated_head day [] = Err NotBegun
-dated_head day (line ∷ lines) = behind_day (fits_day day (day_on line))
+dated_head day (line ∷ lines) = after_day (fits_day day (day_on line))
 
-abbrev pub behind_plan : Option JournalDay → Result (Unit {0}) JournalFault → Version → List (List ℕ) → Result ℕ JournalFault
-behind_plan day (Err fault) version lines = Err fault
-behind_plan day (Ok tied) Undated lines = Ok 2
-behind_plan day (Ok tied) Dated lines = dated_head day lines
+abbrev pub after_plan : Option JournalDay → Result (Unit {0}) JournalFault → Version → List (List ℕ) → Result ℕ JournalFault
+after_plan day (Err fault) version lines = Err fault
+after_plan day (Ok tied) Undated lines = Ok 2
+after_plan day (Ok tied) Dated lines = dated_head day lines
 
-abbrev pub behind_version : Wanted → Result Version JournalFault → List (List ℕ) → Result ℕ JournalFault
-behind_version wanted (Err fault) lines = Err fault
-behind_version wanted (Ok version) [] = Err NotBegun
-behind_version wanted (Ok version) (line ∷ lines) = behind_plan wanted.day (plan_on wanted.plan line) version lines
+abbrev pub after_version : Wanted → Result Version JournalFault → List (List ℕ) → Result ℕ JournalFault
+after_version wanted (Err fault) lines = Err fault
+after_version wanted (Ok version) [] = Err NotBegun
+after_version wanted (Ok version) (line ∷ lines) = after_plan wanted.day (plan_on wanted.plan line) version lines
 
 abbrev pub head_on : Wanted → List (List ℕ) → Result ℕ JournalFault
 head_on wanted [] = Err NotBegun
-head_on wanted (line ∷ lines) = behind_version wanted (version_on wanted.day line) lines
+head_on wanted (line ∷ lines) = after_version wanted (version_on wanted.day line) lines
 
 -- ---- the whole
 
-abbrev pub events_behind : Result ℕ JournalFault → List (List ℕ) → Result (List LiveEvent) JournalFault
-events_behind (Ok n) lines = events_on (n + 1) (drop n lines)
-events_behind (Err fault) lines = Err fault
+abbrev pub events_after : Result ℕ JournalFault → List (List ℕ) → Result (List LiveEvent) JournalFault
+events_after (Ok n) lines = events_on (n + 1) (drop n lines)
+events_after (Err fault) lines = Err fault
 
 abbrev pub journal_events : Wanted → List (List ℕ) → Result (List LiveEvent) JournalFault
-journal_events wanted lines = events_behind (head_on wanted lines) lines
+journal_events wanted lines = events_after (head_on wanted lines) lines
 
--- the events that a text has on record, where it is the journal that is wanted: those of its whole lines
+-- the events that a text has in the journal, where it is the journal that is wanted: those of its whole lines
 abbrev pub recovered : Wanted → List ℕ → Result (List LiveEvent) JournalFault
 recovered wanted octets = journal_events wanted (whole_lines octets)
 
@@ -162,7 +162,7 @@ with_whole whole (Err fault) = Err fault
 abbrev pub journal_in : Wanted → List ℕ → Result Recovery JournalFault
 journal_in wanted octets = with_whole (length (whole_text octets)) (recovered wanted octets)
 
--- an event, and those behind it, up to the first line that has none
+-- an event, and those after it, up to the first line that has none
 abbrev pub then_events : Option LiveEvent → List LiveEvent → List LiveEvent
 then_events None events = []
 then_events (Some event) events = event ∷ events
@@ -171,13 +171,13 @@ abbrev pub events_to_fault : List (List ℕ) → List LiveEvent
 events_to_fault [] = []
 events_to_fault (line ∷ lines) = then_events (event_on line) (events_to_fault lines)
 
-abbrev pub events_behind_head : Result ℕ JournalFault → List (List ℕ) → List LiveEvent
-events_behind_head (Ok n) lines = events_to_fault (drop n lines)
-events_behind_head (Err fault) lines = []
+abbrev pub events_after_head : Result ℕ JournalFault → List (List ℕ) → List LiveEvent
+events_after_head (Ok n) lines = events_to_fault (drop n lines)
+events_after_head (Err fault) lines = []
 
 -- the events of the whole lines before the first fault, or of all of them
 abbrev pub events_before : Wanted → List ℕ → List LiveEvent
-events_before wanted octets = events_behind_head (head_on wanted (whole_lines octets)) (whole_lines octets)
+events_before wanted octets = events_after_head (head_on wanted (whole_lines octets)) (whole_lines octets)
 
 -- ---- what is read, by how it is written
 

@@ -16,12 +16,12 @@ use Rattle.bx_journal.specs.Inside.{HasNoLf, HaveNoLf}
 use Rattle.bx_journal.specs.Reading.{event_on, head_on}
 use Rattle.bx_journal.specs.Text.{line_of}
 
--- These octets were taken: they stood first in what was held and in what was read behind it.
-pub record Takes (before after : Option (List ℕ)) (old new : Held) (front : List ℕ) : Type 0 where
+-- These octets were taken: they stood first in what was held and in what was read after it.
+pub record Takes (before after : Option (List ℕ)) (old new : Held) (prefix : List ℕ) : Type 0 where
   pub read : List ℕ
   pub consumed : Consumes before after read
-  pub split : old.octets ++ read ≡ front ++ new.octets
-  pub count : new.taken ≡ old.taken + length front
+  pub split : old.octets ++ read ≡ prefix ++ new.octets
+  pub count : new.taken ≡ old.taken + length prefix
 
 -- the same of octets without LF
 pub record TakesPart (before after : Option (List ℕ)) (old new : Held) (part : List ℕ) : Type 0 where
@@ -91,7 +91,7 @@ pub record TakesLines (before after : Option (List ℕ)) (old new : Held) (lines
   pub takes : Takes before after old new (flat_map ended lines)
   pub no_lf : HaveNoLf lines
 
--- the same, and what stands behind them without LF
+-- the same, and what stands after them without LF
 pub record TakesTorn (before after : Option (List ℕ)) (old new : Held) (lines : List (List ℕ)) : Type 0 where
   pub torn : List ℕ
   pub takes : Takes before after old new (flat_map ended lines ++ torn)
@@ -146,7 +146,7 @@ pub record TakesEvents {F : Type 0} (followed : F → List LiveEvent → F → T
   pub followed_all : followed f events g
   pub number : n ≡ first + length events
 
--- the same, and what stands behind these lines
+-- the same, and what stands after these lines
 pub record EventsEnd {F : Type 0} (followed : F → List LiveEvent → F → Type 0) (f g : F) (before after : Option (List ℕ)) (old new : Held) (whole : ℕ) : Type 0 where
   pub events : List LiveEvent
   pub are : AreEvents events

@@ -7,7 +7,7 @@ ghost use Rattle.bx_journal.specs.Disk.{Only, Follows, IsTorn, IsCutAt, Elapses}
 #[derive(Clone, Copy, Debug, PartialEq, Eq)]
 pub struct DiskFailed;
 
-/// What a journal is recorded on. One that does not tell its octets, as a file, holds no text that is known.
+/// What a journal is logged on. One that does not tell its octets, as a file, holds no text that is known.
 pub trait Disk {
     /// The octets that it holds are these, on the disk or not.
     ghost holds: { Self → List ℕ → Type 0 };
@@ -27,7 +27,7 @@ pub trait Disk {
     /// What it is written into has said that all of it outlasts a crash.
     ghost has_synced: { Self → Type 0 };
 
-    /// Writes behind what is there. Until a sync, a crash may leave any front of it, behind all that was there.
+    /// Writes after what is there. Until a sync, a crash may leave any prefix of it, after all that was there.
     fn append(&mut self, octets: &[u8]) -> Result<(), DiskFailed>
         ensures written { OnOk result ((text : List ℕ) → holds self.old text → holds self.new (text ++ octets.now)) }
         ensures crash { (c : List ℕ) → may_leave self.new c → may_leave self.old c ⊎ ((text : List ℕ) → holds self.old text → IsTorn octets.now text c) }

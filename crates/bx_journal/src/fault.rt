@@ -17,7 +17,7 @@ pub enum JournalFault {
     /// The first line names other rules, or the version that named none, where a day is wanted.
     #[error("J8 OtherRules")]
     OtherRules,
-    /// The text ends inside its head, so no event is on record.
+    /// The text ends inside its head, so no event is logged.
     #[error("NotBegun")]
     NotBegun,
     /// A read failed.

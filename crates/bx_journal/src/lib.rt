@@ -1,4 +1,4 @@
-//! The journal of a day: each event is on record before what is sent for it goes out.
+//! The journal of a day: each event is logged before what is sent for it goes out.
 #![tactic(auto)]
 
 mod beginning;

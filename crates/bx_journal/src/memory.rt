@@ -7,7 +7,7 @@ ghost use Rattle.bx_journal.specs.Past.{HadBeen, only_bytes};
 use crate::disk::{Disk, DiskFailed};
 use std::alloc::{AllocError, Global};
 
-/// Octets in memory, as a disk. A growth that is refused is a write that failed.
+/// Octets in memory, as a disk. Where memory runs out that is a write that failed.
 #[derive(Drop)]
 pub struct MemoryDisk {
     alloc: Global,

@@ -6,7 +6,7 @@ ghost use Rattle.bx_journal.specs.Numbers.{number_on, space_at};
 use bx_text::{all_digits, digits_value};
 use itoa::Buffer;
 
-/// The number of 32 bits that digits spell as it is written: with no zero in front.
+/// The number of 32 bits that digits spell as it is written: with no leading zero.
 pub(crate) fn number_on(digits: &[u8]) -> Option<u32>
     ensures { result ≡ number_on digits.now }
 {

@@ -61,7 +61,7 @@ fn read_events<R: Read, F: Follower>(
 }
 
 /// Reads the journal that is wanted to its end, and lets its events be followed one by one. It keeps neither the text nor the
-/// events, so a journal may be of any length. Answers how many octets are whole lines: what stands behind them is what a
+/// events, so a journal may be of any length. Answers how many octets are whole lines: what stands after them is what a
 /// crash cut, and is dropped. Lines are read in order, and the first fault is answered: `NotBegun` where the text ends inside its
 /// head, `OtherRules` at line 1, `OtherPlan` at line 2, `OtherDay` at line 3, `BadLine` with the number of the line, or
 /// `ReadFailed`. The events before it were followed. What was read of a device that does not tell its octets is some text, of

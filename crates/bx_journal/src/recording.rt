@@ -1,4 +1,4 @@
-//! Putting events on record.
+//! Events are logged.
 
 ghost use Rattle.std.specs.Prelude.{◌≡◌, ◌≤◌, ◌++◌, ◌∷◌, [], List, map, IsTrue, OnOk, OnErr};
 ghost use Rattle.bx_events.specs.Events.{LiveEvent as PlainEvent};
@@ -6,19 +6,19 @@ ghost use Rattle.bx_journal.specs.Disk.{LeavesOnly};
 ghost use Rattle.bx_events.specs.Told.{live_event_of};
 ghost use Rattle.bx_journal.specs.Events.{IsMessage, AreMessages};
 ghost use Rattle.bx_journal.specs.declared.head.Head.{Head};
-ghost use Rattle.bx_journal.specs.Recording.{IsSettled, IsPending, IsFront, Records};
+ghost use Rattle.bx_journal.specs.Recording.{IsSettled, IsPending, IsPrefix, Records};
 
 use crate::disk::{Disk, DiskFailed};
 use crate::written::line_of;
 use bx_events::LiveEvent;
 
-/// Writes the line of an event behind the others. It is on record when the journal is committed, and not before. Octets that came
+/// Writes the line of an event after the others. It is logged when the journal is committed, and not before. Octets that came
 /// are at most 260. `DiskFailed` where the write failed.
 pub fn write_event<D: Disk>(disk: &mut D, event: LiveEvent<'_>) -> Result<(), DiskFailed>
     requires { IsMessage (live_event_of event) }
     ensures written { OnOk result ((head : Head) (events more : List PlainEvent) → IsPending D.holds D.may_leave disk.old head events more → IsPending D.holds D.may_leave disk.new head events (more ++ live_event_of event.entry ∷ [])) }
-    // A crash at any moment of the call leaves the events that are on record, and a front of the others.
-    ensures any_moment { (head : Head) (events more : List PlainEvent) → IsPending D.holds D.may_leave disk.old head events more → LeavesOnly D.moment D.left_since disk.old disk.new (IsFront head events (more ++ live_event_of event.entry ∷ [])) }
+    // A crash at any moment of the call leaves the events that are logged, and a prefix of the others.
+    ensures any_moment { (head : Head) (events more : List PlainEvent) → IsPending D.holds D.may_leave disk.old head events more → LeavesOnly D.moment D.left_since disk.old disk.new (IsPrefix head events (more ++ live_event_of event.entry ∷ [])) }
     // It does not give up by itself.
     ensures failed { OnErr result (IsTrue (D.has_failed disk.new)) }
     ensures unfailed { OnOk result (D.has_failed disk.new ≡ D.has_failed disk.old) }
@@ -27,20 +27,20 @@ pub fn write_event<D: Disk>(disk: &mut D, event: LiveEvent<'_>) -> Result<(), Di
     disk.append(&line)
 }
 
-/// Puts all events that were written on record. At `Ok` each crash from then on leaves a text that has them. At `DiskFailed`, where
-/// the sync failed, some of them may be on record: none must be acted on, and the journal has to be read again before anything else
+/// Puts all events that were written in the journal. At `Ok` each crash from then on leaves a text that has them. At `DiskFailed`, where
+/// the sync failed, some of them may be logged: none must be acted on, and the journal has to be read again before anything else
 /// is written to it.
 pub fn commit<D: Disk>(disk: &mut D) -> Result<(), DiskFailed>
     ensures committed { OnOk result ((head : Head) (events more : List PlainEvent) → IsPending D.holds D.may_leave disk.old head events more → IsSettled D.holds D.may_leave disk.new head (events ++ more)) }
-    ensures any_moment { (head : Head) (events more : List PlainEvent) → IsPending D.holds D.may_leave disk.old head events more → LeavesOnly D.moment D.left_since disk.old disk.new (IsFront head events more) }
+    ensures any_moment { (head : Head) (events more : List PlainEvent) → IsPending D.holds D.may_leave disk.old head events more → LeavesOnly D.moment D.left_since disk.old disk.new (IsPrefix head events more) }
     ensures failed { OnErr result (IsTrue (D.has_failed disk.new)) }
     ensures unfailed { OnOk result (D.has_failed disk.new ≡ D.has_failed disk.old) }
 {
     disk.sync()
 }
 
-/// Puts an event on record: it is to be called before anything is done about the event. Octets that came are at most 260. At `Ok`
-/// each crash from then on leaves a text that has it. At `DiskFailed`, where the write or the sync failed, it may be on record or
+/// Logs an event: it is to be called before anything is done about the event. Octets that came are at most 260. At `Ok`
+/// each crash from then on leaves a text that has it. At `DiskFailed`, where the write or the sync failed, it may be logged or
 /// not.
 pub fn record_event<D: Disk>(disk: &mut D, event: LiveEvent<'_>) -> Result<(), DiskFailed>
     requires { IsMessage (live_event_of event) }
@@ -48,7 +48,7 @@ pub fn record_event<D: Disk>(disk: &mut D, event: LiveEvent<'_>) -> Result<(), D
     // What a run of such calls leaves is a law (`laws::front_is_left`).
     ensures step { OnOk result (Records D.holds D.may_leave D.moment D.left_since disk.old (live_event_of event.entry) disk.new) }
     // A crash at any moment of the call leaves the events from before it, with the new one or without.
-    ensures any_moment { (head : Head) (events : List PlainEvent) → IsSettled D.holds D.may_leave disk.old head events → LeavesOnly D.moment D.left_since disk.old disk.new (IsFront head events (live_event_of event.entry ∷ [])) }
+    ensures any_moment { (head : Head) (events : List PlainEvent) → IsSettled D.holds D.may_leave disk.old head events → LeavesOnly D.moment D.left_since disk.old disk.new (IsPrefix head events (live_event_of event.entry ∷ [])) }
     ensures failed { OnErr result (IsTrue (D.has_failed disk.new)) }
     ensures unfailed { OnOk result (D.has_failed disk.new ≡ D.has_failed disk.old) }
 {
@@ -56,13 +56,13 @@ pub fn record_event<D: Disk>(disk: &mut D, event: LiveEvent<'_>) -> Result<(), D
     commit(disk)
 }
 
-/// Puts events on record by one sync, as those of a turn before what is sent in it goes out. Octets that came are at most 260 for
-/// each event. At `DiskFailed`, where a write or the sync failed, a front of them may be on record.
+/// Logs events by one sync, as those of a turn before what is sent in it goes out. Octets that came are at most 260 for
+/// each event. At `DiskFailed`, where a write or the sync failed, a prefix of them may be logged.
 pub fn record_events<D: Disk>(disk: &mut D, events: &[LiveEvent<'_>]) -> Result<(), DiskFailed>
     requires { AreMessages events.now }
     ensures recorded { OnOk result ((head : Head) (before : List PlainEvent) → IsSettled D.holds D.may_leave disk.old head before → IsSettled D.holds D.may_leave disk.new head (before ++ map live_event_of events.now)) }
-    // A crash at any moment of the call leaves the events from before it, and a front of these: none is skipped.
-    ensures any_moment { (head : Head) (before : List PlainEvent) → IsSettled D.holds D.may_leave disk.old head before → LeavesOnly D.moment D.left_since disk.old disk.new (IsFront head before (map live_event_of events.now)) }
+    // A crash at any moment of the call leaves the events from before it, and a prefix of these: none is skipped.
+    ensures any_moment { (head : Head) (before : List PlainEvent) → IsSettled D.holds D.may_leave disk.old head before → LeavesOnly D.moment D.left_since disk.old disk.new (IsPrefix head before (map live_event_of events.now)) }
     ensures failed { OnErr result (IsTrue (D.has_failed disk.new)) }
     ensures unfailed { OnOk result (D.has_failed disk.new ≡ D.has_failed disk.old) }
 {

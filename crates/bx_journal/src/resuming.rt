@@ -26,7 +26,7 @@ fn cut_back<D: Disk>(disk: &mut D, len: u64) -> Result<(), DiskFailed>
 }
 
 /// Cuts off what a crash tore from a journal that was read, by how many of its octets were whole lines, so that more events can
-/// be put on record behind it. Events go on only in the journal of the head that was wanted when it was read. It may crash too, at any moment, and the same events stay on record. `DiskFailed` where the cut or
+/// be logged after it. Events go on only in the journal of the head that was wanted when it was read. It may crash too, at any moment, and the same events stay in the journal. `DiskFailed` where the cut or
 /// the sync failed.
 pub fn resume<D: Disk>(disk: &mut D, whole: u64) -> Result<(), DiskFailed>
     ensures resumed { OnOk result ((head : Head) (text : List ℕ) (events : List LiveEvent) → journal_in (wanted_of head) text ≡ Ok (record { events = events; whole = whole }) → D.holds disk.old text → IsSettled D.holds D.may_leave disk.new head events) }

@@ -13,7 +13,7 @@ use arrayvec::ArrayVec;
 use bx_events::{Event, LiveEvent};
 use itoa::Buffer;
 
-/// A line, or its front: none is longer than that of a message of 260 octets.
+/// A line, or its prefix: none is longer than that of a message of 260 octets.
 pub type Line = ArrayVec<u8, 527>;
 
 /// The digit of a value, where ten is that of 10.

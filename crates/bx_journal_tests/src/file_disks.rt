@@ -6,7 +6,7 @@ use std::alloc::Global;
 use std::io::BufWriter;
 use std::test::Fail;
 
-/// What a file holds behind two events, and a line that was torn and cut off.
+/// What a file holds after two events, and a line that was torn and cut off.
 fn went_on<F: DiskFile + Drop>(file: F) -> Option<F> {
     let mut disk = FileDisk::new(file);
     begin(&mut disk, &HEAD).ok()?;

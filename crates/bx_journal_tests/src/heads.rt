@@ -113,9 +113,9 @@ static THIRD: [Row; 14] = [
 ];
 
 /// A text of these octets, a line, and its LF.
-fn with_line(front: &[u8], line: &[u8]) -> ArrayVec<u8, 200> {
+fn with_line(prefix: &[u8], line: &[u8]) -> ArrayVec<u8, 200> {
     let mut text = ArrayVec::new();
-    let _ = text.try_extend_from_slice(front);
+    let _ = text.try_extend_from_slice(prefix);
     let _ = text.try_extend_from_slice(line);
     let _ = text.try_extend_from_slice(b"\n");
     text
@@ -151,12 +151,12 @@ fn each_first_line_has_its_fault(rt: HostRuntime) -> Result<(), Fail> {
 
 #[test]
 fn each_third_line_has_its_fault(rt: HostRuntime) -> Result<(), Fail> {
-    let front =
+    let prefix =
         b"bx-journal 2 rules 1\nplan abababababababababababababababababababababababababababababababab\n";
     let any = Wanted::of_any_day(&PLAN);
     let mut all = true;
     for row in &THIRD {
-        let text = with_line(front, row.0);
+        let text = with_line(prefix, row.0);
         let whole = Ok(text.len() as u64);
         all = all && is_said(&text, &HEAD.wanted(), row.1, whole);
         all = all && is_said(&text, &any, row.2, whole);

@@ -4,7 +4,7 @@ use crate::told::{WasRead, mark};
 use arrayvec::ArrayVec;
 use bx_journal::{Disk, DiskFailed};
 
-/// Octets, of which a front is synced, and how many calls are done before one fails. Nothing is claimed of it.
+/// Octets, of which a prefix is synced, and how many calls are done before one fails. Nothing is claimed of it.
 #[derive(Drop)]
 pub struct LosingDisk {
     pub octets: ArrayVec<u8, 256>,

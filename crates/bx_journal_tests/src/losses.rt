@@ -1,4 +1,4 @@
-//! What a crash leaves of events that are put on record.
+//! What a crash leaves of events that are logged.
 
 use crate::losing_disk::{LosingDisk, events_read};
 use crate::told::reading;
@@ -9,7 +9,7 @@ use bx_journal::{
 };
 use std::test::Fail;
 
-/// Puts the events of the worked journal on record, and answers for how many that was done before a call failed.
+/// Puts the events of the worked journal in the journal, and answers for how many that was done before a call failed.
 fn recorded(disk: &mut LosingDisk) -> u64 {
     if begin(disk, &HEAD).is_err() || record_event(disk, TICK).is_err() {
         return 0;
@@ -30,8 +30,8 @@ fn recorded(disk: &mut LosingDisk) -> u64 {
     6
 }
 
-/// Whether what a crash left is a front of the worked journal, with so many events at least.
-fn is_front(left: &[u8], least: u64) -> bool {
+/// Whether what a crash left is a prefix of the worked journal, with so many events at least.
+fn is_prefix(left: &[u8], least: u64) -> bool {
     if !TEXT.starts_with(left) {
         return false;
     }
@@ -42,25 +42,27 @@ fn is_front(left: &[u8], least: u64) -> bool {
     }
 }
 
-/// Whether each crash behind so many calls leaves a front.
-fn are_fronts(calls: u32) -> bool {
+/// Whether each crash after so many calls leaves a prefix.
+fn are_prefixes(calls: u32) -> bool {
     let mut disk = LosingDisk::new(ArrayVec::new(), calls);
     let done = recorded(&mut disk);
     let len = disk.octets.len();
-    let mut fronts = true;
+    let mut prefixes = true;
     for kept in disk.synced..len + 1 {
-        fronts = fronts && kept <= len && is_front(&disk.octets.as_slice()[..kept.min(len)], done);
+        prefixes = prefixes
+            && kept <= len
+            && is_prefix(&disk.octets.as_slice()[..kept.min(len)], done);
     }
-    fronts
+    prefixes
 }
 
 #[test]
-fn what_a_crash_leaves_is_a_front(rt: HostRuntime) -> Result<(), Fail> {
-    let mut fronts = true;
+fn what_a_crash_leaves_is_a_prefix(rt: HostRuntime) -> Result<(), Fail> {
+    let mut prefixes = true;
     for calls in 0..14u32 {
-        fronts = fronts && are_fronts(calls);
+        prefixes = prefixes && are_prefixes(calls);
     }
-    assert!(rt; fronts);
+    assert!(rt; prefixes);
     let mut disk = LosingDisk::new(ArrayVec::new(), 14);
     assert_eq!(rt; recorded(&mut disk), 6);
     assert_eq!(rt; disk.octets.as_slice(), TEXT);
@@ -68,7 +70,7 @@ fn what_a_crash_leaves_is_a_front(rt: HostRuntime) -> Result<(), Fail> {
     Ok(())
 }
 
-/// Whether a journal of which so many octets are left goes on behind its last whole line.
+/// Whether a journal of which so many octets are left goes on after its last whole line.
 fn goes_on(len: usize) -> bool {
     let left = &TEXT[..len.min(TEXT.len())];
     let Ok(whole) = reading(left, &HEAD.wanted()).answer else {
@@ -82,8 +84,8 @@ fn goes_on(len: usize) -> bool {
         return false;
     }
     let rest = disk.octets.as_slice();
-    let front = (whole as usize).min(TEXT.len());
-    ENDS.contains(&whole) && rest.strip_prefix(&TEXT[..front]) == Some(b"down\n".as_slice())
+    let prefix = (whole as usize).min(TEXT.len());
+    ENDS.contains(&whole) && rest.strip_prefix(&TEXT[..prefix]) == Some(b"down\n".as_slice())
 }
 
 #[test]

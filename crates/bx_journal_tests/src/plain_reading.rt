@@ -20,7 +20,7 @@ fn value(digits: &[u8], digit: u8) -> Option<u8> {
     None
 }
 
-/// The octets of a line behind `heard `, where it is right.
+/// The octets of a line after `heard `, where it is right.
 fn octets(digits: &[u8]) -> Option<Line> {
     let mut octets = ArrayVec::new();
     let mut high = None;
@@ -64,7 +64,7 @@ fn event_line(line: &[u8], marks: &mut Marks) -> bool {
     }
 }
 
-/// The same of what stands behind `sold `.
+/// The same of what stands after `sold `.
 fn sold_line(booking: &[u8], marks: &mut Marks) -> bool {
     let right = booking.len() <= 120 && booking.iter().all(|octet| *octet >= 32 && *octet <= 126);
     if right {
@@ -75,7 +75,7 @@ fn sold_line(booking: &[u8], marks: &mut Marks) -> bool {
     right
 }
 
-/// The number of 32 bits that digits spell, with no zero in front.
+/// The number of 32 bits that digits spell, with no leading zero.
 fn number(digits: &[u8]) -> Option<u64> {
     let is_padded = digits.starts_with(b"0") && digits.len() > 1;
     if digits.is_empty() || digits.len() > 10 || is_padded {
@@ -137,17 +137,17 @@ fn is_live(line: &[u8]) -> bool {
     };
     let mut first = Line::new();
     let mut pace = Line::new();
-    let mut is_behind = false;
+    let mut is_after = false;
     for octet in numbers {
-        if is_behind {
+        if is_after {
             let _ = pace.try_push(*octet);
         } else if *octet == b' ' {
-            is_behind = true;
+            is_after = true;
         } else {
             let _ = first.try_push(*octet);
         }
     }
-    is_behind && number(&first).is_some() && number(&pace).unwrap_or(0) >= 1
+    is_after && number(&first).is_some() && number(&pace).unwrap_or(0) >= 1
 }
 
 /// What is wrong with a third line, for the day of the worked journal.

@@ -35,8 +35,8 @@ fn is_same_turned(at: usize, value: u8) -> bool {
     is_same(&text)
 }
 
-/// Whether they do of each front of a text.
-fn is_same_in_front(text: &[u8]) -> bool {
+/// Whether they do of each prefix of a text.
+fn is_same_ahead(text: &[u8]) -> bool {
     let mut same = true;
     for len in 0..=text.len() {
         same = same && is_same(&text[..len]);
@@ -56,10 +56,10 @@ fn the_worked_journal_is_read(rt: HostRuntime) -> Result<(), Fail> {
 }
 
 #[test]
-fn each_front_is_read(rt: HostRuntime) -> Result<(), Fail> {
-    assert!(rt; is_same_in_front(TEXT));
-    assert!(rt; is_same_in_front(REHEARSED));
-    assert!(rt; is_same_in_front(UNDATED));
+fn each_prefix_is_read(rt: HostRuntime) -> Result<(), Fail> {
+    assert!(rt; is_same_ahead(TEXT));
+    assert!(rt; is_same_ahead(REHEARSED));
+    assert!(rt; is_same_ahead(UNDATED));
     Ok(())
 }
 
@@ -75,7 +75,7 @@ fn each_octet_may_be_another(rt: HostRuntime) -> Result<(), Fail> {
     Ok(())
 }
 
-/// Whether a failed read behind so many octets leaves the events of the whole lines before it.
+/// Whether a failed read after so many octets leaves the events of the whole lines before it.
 fn is_cut_off(reads: u32) -> bool {
     let read = reading(Failing::new(TEXT, reads, 1), &HEAD.wanted());
     let plain = plain_reading(&TEXT[..(reads as usize).min(TEXT.len())], true);
@@ -104,8 +104,8 @@ fn another_plan_is_named(rt: HostRuntime) -> Result<(), Fail> {
     Ok(())
 }
 
-/// What is read of the head and so many digits behind a word, with an end of the line or without.
-fn digits_behind(
+/// What is read of the head and so many digits after a word, with an end of the line or without.
+fn digits_after(
     alloc: Global,
     word: &[u8],
     digits: u32,
@@ -124,10 +124,10 @@ fn digits_behind(
 fn no_line_is_longer_than_that_of_the_longest_message(rt: HostRuntime) -> Result<(), Fail> {
     let alloc = rt.alloc();
     let bad = Some(Err(JournalFault::BadLine(4)));
-    assert!(rt; digits_behind(alloc, b"heard ", 520, b"\n") == Some(Ok(641)));
-    assert!(rt; digits_behind(alloc, b"heard ", 522, b"\n") == bad);
-    assert!(rt; digits_behind(alloc, b"heard ", 20_000, b"\n") == bad);
-    assert!(rt; digits_behind(alloc, b"heard ", 20_000, b"") == Some(Ok(114)));
+    assert!(rt; digits_after(alloc, b"heard ", 520, b"\n") == Some(Ok(641)));
+    assert!(rt; digits_after(alloc, b"heard ", 522, b"\n") == bad);
+    assert!(rt; digits_after(alloc, b"heard ", 20_000, b"\n") == bad);
+    assert!(rt; digits_after(alloc, b"heard ", 20_000, b"") == Some(Ok(114)));
     Ok(())
 }
 
@@ -135,7 +135,7 @@ fn no_line_is_longer_than_that_of_the_longest_message(rt: HostRuntime) -> Result
 fn no_booking_is_longer_than_its_line(rt: HostRuntime) -> Result<(), Fail> {
     let alloc = rt.alloc();
     let bad = Some(Err(JournalFault::BadLine(4)));
-    assert!(rt; digits_behind(alloc, b"sold ", 120, b"\n") == Some(Ok(240)));
-    assert!(rt; digits_behind(alloc, b"sold ", 121, b"\n") == bad);
+    assert!(rt; digits_after(alloc, b"sold ", 120, b"\n") == Some(Ok(240)));
+    assert!(rt; digits_after(alloc, b"sold ", 121, b"\n") == bad);
     Ok(())
 }

@@ -9,7 +9,7 @@ use bx_journal::{
 use std::alloc::Global;
 use std::test::Fail;
 
-/// A disk with the worked journal, if no growth was refused.
+/// A disk with the worked journal, if memory did not run out.
 fn recorded(alloc: Global) -> Option<MemoryDisk> {
     let mut disk = MemoryDisk::new(alloc, Vec::new(alloc));
     begin(&mut disk, &HEAD).ok()?;

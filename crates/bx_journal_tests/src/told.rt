@@ -5,7 +5,7 @@ use bx_devices::Watched;
 use bx_journal::{Follower, JournalFault, RecordedEvent, Wanted, read_journal};
 use std::io::Read;
 
-/// A letter for each event, `t`, `d` or `h`, and behind `h` the octets that came and a full stop.
+/// A letter for each event, `t`, `d` or `h`, and after `h` the octets that came and a full stop.
 #[derive(Drop)]
 pub struct Told {
     pub marks: ArrayVec<u8, 256>,

@@ -18,7 +18,7 @@ pub static HEAD: Head = Head {
 pub static TEXT: &[u8] =
     b"bx-journal 2 rules 1\nplan abababababababababababababababababababababababababababababababab\nday live 1767222000 60\ntick\nheard 0802010075\ndown\ntick\nheard \nsold 60 90 5 1234 in\n";
 
-/// Where the head ends, and each event behind it.
+/// Where the head ends, and each event after it.
 pub static ENDS: [u64; 7] = [114, 119, 136, 141, 146, 153, 174];
 
 /// The same events of a day that was rehearsed.

@@ -1,8 +1,8 @@
 -- Between two establishments a link skips nothing: what stays true over establishments.
 --
--- An attempt of an end is its SABME on the way, or the answer to it: there is one at most, and the end is in state 5. Behind a SABME only
+-- An attempt of an end is its SABME on the way, or the answer to it: there is one at most, and the end is in state 5. After a SABME only
 -- answers go out. So where the answer is on the way nothing else is in the other direction (`alone`), and where its sender is up, what it has
--- sent behind it is what it sends to an end that has just begun (`waits`). Both ends are up without an attempt of either: then both
+-- sent after it is what it sends to an end that has just begun (`waits`). Both ends are up without an attempt of either: then both
 -- directions are as over one establishment.
 use Rattle.std.proofs.Common.{◌≡◌, ◌∙◌, ℕ, ◌+◌, ◌-◌, ◌%◌, ◌≤◌, ◌&&◌, ◌||◌, ◌==◌, not, take, drop, Bool, true, false, List, [], ◌∷◌, ◌++◌, refl, sym, ap, subst, inl, inr, append_assoc, append-nil, nat_lt, arith, if◌then◌else◌}
 use Rattle.std.specs.List.{AllByRecursion}
@@ -65,15 +65,15 @@ all_join : (P : Frame → Type 0) (xs ys : List Frame) → AllByRecursion P xs �
 all_join P [] ys h k = k
 all_join P (x ∷ xs) ys h k = (h.0, all_join P xs ys h.1 k)
 
-in_front : (a b c d : ℕ) → d ≡ b + c → a + d ≡ a + b + c
-in_front a b c d q = omega (arith, q)
+ahead_of_it : (a b c d : ℕ) → d ≡ b + c → a + d ≡ a + b + c
+ahead_of_it a b c d q = omega (arith, q)
 
-none_in_front : (n : ℕ) → n ≡ 0 + n
-none_in_front n = omega arith
+none_ahead : (n : ℕ) → n ≡ 0 + n
+none_ahead n = omega arith
 
 frames_append : (test : Frame → Bool) (xs ys : List Frame) → frames_of test (xs ++ ys) ≡ frames_of test xs + frames_of test ys
-frames_append test [] ys = none_in_front (frames_of test ys)
-frames_append test (f ∷ xs) ys = in_front (if test f then 1 else 0) (frames_of test xs) (frames_of test ys) (frames_of test (xs ++ ys)) (frames_append test xs ys)
+frames_append test [] ys = none_ahead (frames_of test ys)
+frames_append test (f ∷ xs) ys = ahead_of_it (if test f then 1 else 0) (frames_of test xs) (frames_of test ys) (frames_of test (xs ++ ys)) (frames_append test xs ys)
 
 no_more : (n : ℕ) → n ≡ 0 → 0 + n ≡ 0
 no_more n h = omega (arith, h)
@@ -110,7 +110,7 @@ at_least false n = omega arith
 
 -- ---- an attempt
 
--- behind a SABME only answers go out
+-- after a SABME only answers go out
 abbrev Quiet : List Frame → Type 0
 Quiet [] = Unit {0}
 Quiet (f ∷ fs) = (is_sabme f ≡ true → OnlyUas fs) × Quiet fs
@@ -150,7 +150,7 @@ waits_more : (l l' : Link) (had had' got got' : List (ArrayVec ℕ)) (fs more : 
 waits_more l l' had had' got got' [] more f z h = waits_none l' had' got' more z
 waits_more l l' had had' got got' (x ∷ fs) more f z h = ((λ s. f fs (h.0 s)), waits_more l l' had had' got got' fs more f z h.1)
 
--- the first UA of these, and what is behind it
+-- the first UA of these, and what is after it
 waits_last : (l : Link) (had got : List (ArrayVec ℕ)) (fs more : List Frame) → uas fs ≡ 0 → Waiting l had got more → uas more ≡ 0 → Waits l had got (fs ++ Plain u.Ua true ∷ more)
 waits_last l had got [] more h w z = ((λ _. w), waits_none l had got more z)
 waits_last l had got (f ∷ fs) more h w z = (let p = first_none (is_ua f) (uas fs) h in ((λ s. absurd (true≢false (sym s ∙ p.0))), waits_last l had got fs more p.1 w z))

@@ -101,7 +101,7 @@ step_none l told h = record { link = h; frames = tt; few = omega arith }
 step_plain : (l : Link) (kind : Unnumbered) (poll : Bool) (told : List Indication) → IsLink l → IsStep (does l (Plain kind poll ∷ []) told)
 step_plain l kind poll told h = record { link = h; frames = (tt, tt); few = omega arith }
 
--- a step that sends two frames at most, before what goes out behind it
+-- a step that sends two frames at most, before what goes out after it
 pub record IsFirst (s : Step) : Type 0 where
   pub link : IsLink s.link
   pub frames : AllByRecursion IsFrame s.frames
@@ -122,13 +122,13 @@ same_link l m a b c d e f h = kept l m a b c (omega (arith, d, h.rc)) e (λ up. 
 -- ---- acknowledgements
 
 -- of numbers below 128, where N(R) is valid
-behind_valid : (va vs nr : ℕ) → va < 128 → vs < 128 → nr < 128 → ahead va vs ≤ 7 → ahead va nr ≤ ahead va vs → ahead nr vs + ahead va nr ≡ ahead va vs
-behind_valid va vs nr a b c w v = omega arith
+after_valid : (va vs nr : ℕ) → va < 128 → vs < 128 → nr < 128 → ahead va vs ≤ 7 → ahead va nr ≤ ahead va vs → ahead nr vs + ahead va nr ≡ ahead va vs
+after_valid va vs nr a b c w v = omega arith
 
 acknowledged_within : (l : Link) (nr : ℕ) → nr < 128 → is_valid l nr ≡ true → is_up l.state ≡ true → IsLink l → IsLink (acknowledged l nr)
 acknowledged_within l nr n v up h =
     let valid = leb-true (ahead l.va nr) (outstanding l) v in
-    let gap = behind_valid l.va l.vs nr h.va h.vs n h.window valid in
+    let gap = after_valid l.va l.vs nr h.va h.vs n h.window valid in
     let win = h.window in
     let held = h.held up in
     let few = h.few in
@@ -162,7 +162,7 @@ number_within : (l : Link) (b : Bool) (nr now : ℕ) → is_valid l nr ≡ b →
 number_within l true nr now v n up h = first_none (settled (is_recovering l.state || l.busy) (nr == l.va) (acknowledged l nr) now) [] (settled_within (acknowledged l nr) (is_recovering l.state || l.busy) (nr == l.va) now (acknowledged_within l nr n v up h))
 number_within l false nr now v n up h = first_plain (establishing l false now) u.Sabme true (LinkError error.WrongNumber ∷ []) (establishing_within l false now h)
 
--- ---- what goes out behind each row
+-- ---- what goes out after each row
 
 acknowledges_within : (l : Link) (owed : Bool) → IsLink l → IsFirst (acknowledges l owed)
 acknowledges_within l true h = first_numbered (record l { owed = false }) ReceiveReady false false l.vr [] h.vr (same_link l (record l { owed = false }) refl refl refl refl refl refl h)

@@ -1,5 +1,5 @@
 -- Frames on the way over establishments: each I frame has the place i of its message among all that were given, and the place b of the
--- message that had number 0 when it was sent. Behind an unnumbered frame each I frame is of a later establishment.
+-- message that had number 0 when it was sent. After an unnumbered frame each I frame is of a later establishment.
 use Rattle.std.proofs.Common.{◌≡◌, ◌∙◌, ◌⊎◌, inl, inr, ℕ, suc, ◌+◌, ◌-◌, ◌%◌, ◌<◌, ◌≤◌, max, Bool, true, false, List, [], ◌∷◌, ◌++◌, length, take, drop, Option, Some, None, refl, sym, ap, subst, take-append-drop, arith}
 use Rattle.std.proofs.lemmas.List.{take-take}
 use Rattle.arrayvec.specs.ArrayVec.{ArrayVec}
@@ -32,13 +32,13 @@ part_taken xs g r i l p =
     subst (IsPartOf xs) (take-append-drop r (take i g))
     (part_more xs (take r (take i g)) (drop r (take i g)) (subst (IsPartOf xs) (sym (take-take r i g l)) p))
 
--- the message of a later place comes behind
+-- the message of a later place comes after
 pub part_next : (got g : List (ArrayVec ℕ)) (r i : ℕ) (m : ArrayVec ℕ) → r ≤ i → message_at g i ≡ Some m → IsPartOf got (take r g) → IsPartOf (got ++ m ∷ []) (take (suc i) g)
 part_next got g r i m l at p = subst (IsPartOf (got ++ m ∷ [])) (sym (take_at_next g i m at)) (part_push m got (take i g) (part_taken got g r i l p))
 
 -- ---- lanes
 
--- a frame with place i and base b, behind others: the last base before was c, or none counts any more; below r all has come or been seen
+-- a frame with place i and base b, after others: the last base before was c, or none counts any more; below r all has come or been seen
 abbrev pub Fits : Option ℕ → ℕ → ℕ → ℕ → Type 0
 Fits None b r i = r ≤ b
 Fits (Some c) b r i = ((c ≡ b) × (r ≤ i + 7)) ⊎ (r ≤ b)
@@ -91,7 +91,7 @@ lane_given g more c r E (Information poll ns nr m ∷ fs) h = (h.0, h.1, h.2, h.
 lane_given g more c r E (Numbered kind command poll nr ∷ fs) h = (h.0, lane_given g more c r E fs h.1)
 lane_given g more c r E (Plain kind poll ∷ fs) h = lane_given g more None r E fs h
 
--- more goes out behind
+-- more goes out after
 pub lane_append : (g : List (ArrayVec ℕ)) (c : Option ℕ) (r : ℕ) (E F : Option ℕ → ℕ → Type 0) (fs more : List Frame) → Lane g c r E fs → ((d : Option ℕ) (q : ℕ) → E d q → Lane g d q F more) → Lane g c r F (fs ++ more)
 lane_append g c r E F [] more h k = k c r h
 lane_append g c r E F (Information poll ns nr m ∷ fs) more h k = (h.0, h.1, h.2, h.3, h.4, h.5, h.6, lane_append g (Some h.1) (max r (suc h.0)) E F fs more h.7 k)

@@ -89,7 +89,7 @@ line_loses g got x v f fs o = record {
   lane = lane_loses g o.c o.r (Ends (is_up x.state) o.n.b o.n.h) f fs (ends_falls (is_up x.state) o.n.b o.n.h) o.lane;
 }
 
--- an unnumbered frame: V(R) may be anything behind it
+-- an unnumbered frame: V(R) may be anything after it
 line_plain : (g got : List (ArrayVec ℕ)) (x : Link) (v : ℕ) (kind : Unnumbered) (poll : Bool) (fs : List Frame) (s : Step) → messages_of s.told ≡ [] → Line g got x v (Plain kind poll ∷ fs) → Line g (got ++ messages_of s.told) x s.link.vr fs
 line_plain g got x v kind poll fs s e o = record {
   n = o.n;
@@ -106,7 +106,7 @@ line_plain g got x v kind poll fs s e o = record {
 later_number : (x y : ℕ) → x % 128 ≡ y % 128 → y ≤ x + 7 → y ≤ x
 later_number x y e l = omega arith
 
--- a message whose number is V(R) has a place behind all that was delivered
+-- a message whose number is V(R) has a place after all that was delivered
 place_later : (c : Option ℕ) (b r i v ns : ℕ) → b ≤ i → ns ≡ (i - b) % 128 → ns ≡ v → Fits c b r i → Aligned c r v → r ≤ i
 place_later None b r i v ns l e k f a = omega arith
 place_later (Some c) b r i v ns l e k (inr f) a = omega arith

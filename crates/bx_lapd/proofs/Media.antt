@@ -1,6 +1,6 @@
 -- Frames on the way: which messages the I frames carry, and what the N(R) of all of them acknowledge.
 --
--- Counts from the establishment on stand behind the numbers modulo 128. Of one direction: of the messages given, r were delivered, and
+-- Counts from the establishment on stand after the numbers modulo 128. Of one direction: of the messages given, r were delivered, and
 -- the first h were ever sent. `Comes`: each I frame on the way has a count i whose message it carries, and r is at most 7 above it, also
 -- when the frames before it have come. `Confirms`: the N(R) on the way back are counts that never fall, from those acknowledged up to r.
 use Rattle.std.proofs.Common.{◌≡◌, ◌∙◌, ℕ, zero, suc, ◌+◌, ◌%◌, ◌≤◌, max, Bool, false, List, [], ◌∷◌, ◌++◌, length, take, drop, Option, Some, None, refl, sym, ap, subst, append_assoc, append-nil, arith}
@@ -38,16 +38,16 @@ abbrev pub Stand : List (ArrayVec ℕ) → ℕ → List (ArrayVec ℕ) → Type 
 Stand g s [] = Unit {0}
 Stand g s (m ∷ ms) = (message_at g s ≡ Some m) × Stand g (suc s) ms
 
-stand_behind : (x : ArrayVec ℕ) (g : List (ArrayVec ℕ)) (s : ℕ) (ms : List (ArrayVec ℕ)) → Stand g s ms → Stand (x ∷ g) (suc s) ms
-stand_behind x g s [] h = tt
-stand_behind x g s (m ∷ ms) h = (h.0, stand_behind x g (suc s) ms h.1)
+stand_after : (x : ArrayVec ℕ) (g : List (ArrayVec ℕ)) (s : ℕ) (ms : List (ArrayVec ℕ)) → Stand g s ms → Stand (x ∷ g) (suc s) ms
+stand_after x g s [] h = tt
+stand_after x g s (m ∷ ms) h = (h.0, stand_after x g (suc s) ms h.1)
 
 pub stand_drop : (k s : ℕ) (g : List (ArrayVec ℕ)) → Stand g s (take k (drop s g))
 stand_drop zero s g = tt
 stand_drop (suc k) zero [] = tt
-stand_drop (suc k) zero (x ∷ g) = (refl, stand_behind x g zero (take k g) (stand_drop k zero g))
+stand_drop (suc k) zero (x ∷ g) = (refl, stand_after x g zero (take k g) (stand_drop k zero g))
 stand_drop (suc k) (suc s) [] = tt
-stand_drop (suc k) (suc s) (x ∷ g) = stand_behind x g s (take (suc k) (drop s g)) (stand_drop (suc k) s g)
+stand_drop (suc k) (suc s) (x ∷ g) = stand_after x g s (take (suc k) (drop s g)) (stand_drop (suc k) s g)
 
 -- ---- I frames on the way
 

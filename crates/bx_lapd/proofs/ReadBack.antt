@@ -21,15 +21,15 @@ checked_again : (body : List ℕ) (a b : ℕ) → a ≡ fcs body % 256 → b ≡
 checked_again body a b x y = eq-eqb (a + 256 * b) (fcs body) (omega (arith, x, y))
 
 -- octets with their check sequence are read as those before it
-pub behind_check : (network : Bool) (body : List ℕ) → 3 ≤ length body → read_octets network (with_fcs body) ≡ read_body network body
-behind_check network body l =
+pub after_check : (network : Bool) (body : List ℕ) → 3 ≤ length body → read_octets network (with_fcs body) ≡ read_body network body
+after_check network body l =
     let a = fcs body % 256 in
     let b = fcs body / 256 in
     let len : length (body ++ a ∷ b ∷ []) ≡ length body + 2 = length-append body (a ∷ b ∷ []) in
-    let front : length body ≡ length (body ++ a ∷ b ∷ []) - 2 = omega (arith, len) in
+    let prefix : length body ≡ length (body ++ a ∷ b ∷ []) - 2 = omega (arith, len) in
     let long : nat_lt (length (body ++ a ∷ b ∷ [])) 5 ≡ false = le-ltb (length (body ++ a ∷ b ∷ [])) 5 (omega (arith, len)) in
-    let first : take (length (body ++ a ∷ b ∷ []) - 2) (body ++ a ∷ b ∷ []) ≡ body = take_at body (a ∷ b ∷ []) (length (body ++ a ∷ b ∷ []) - 2) front in
-    let last : drop (length (body ++ a ∷ b ∷ []) - 2) (body ++ a ∷ b ∷ []) ≡ a ∷ b ∷ [] = drop_at body (a ∷ b ∷ []) (length (body ++ a ∷ b ∷ []) - 2) front in
+    let first : take (length (body ++ a ∷ b ∷ []) - 2) (body ++ a ∷ b ∷ []) ≡ body = take_at body (a ∷ b ∷ []) (length (body ++ a ∷ b ∷ []) - 2) prefix in
+    let last : drop (length (body ++ a ∷ b ∷ []) - 2) (body ++ a ∷ b ∷ []) ≡ a ∷ b ∷ [] = drop_at body (a ∷ b ∷ []) (length (body ++ a ∷ b ∷ []) - 2) prefix in
     let choose : Bool → List ℕ → List ℕ → Result Frame Refusal = λ short x y. if short then Err (Dropped Short) else if is_checked x y then read_body network x else Err (Dropped Check) in
     ap (λ (s : Bool). choose s (take (length (body ++ a ∷ b ∷ []) - 2) (body ++ a ∷ b ∷ [])) (drop (length (body ++ a ∷ b ∷ []) - 2) (body ++ a ∷ b ∷ []))) long
     ∙ ap (λ x. choose false x (drop (length (body ++ a ∷ b ∷ []) - 2) (body ++ a ∷ b ∷ []))) first
@@ -106,7 +106,7 @@ long_enough false true control rest = omega arith
 long_enough false false control rest = omega arith
 
 framed_again : (network command : Bool) (control : ℕ) (rest : List ℕ) → read_octets (not network) (with_fcs (address network command ++ control ∷ rest)) ≡ read_control command control rest
-framed_again network command control rest = behind_check (not network) (address network command ++ control ∷ rest) (long_enough network command control rest) ∙ body_again network command control rest
+framed_again network command control rest = after_check (not network) (address network command ++ control ∷ rest) (long_enough network command control rest) ∙ body_again network command control rest
 
 pub reads_back : ReadsBack
 reads_back network (Information poll ns nr m) f s = framed_again network true (2 * (ns % 128)) ((2 * (nr % 128) + bit_of poll) ∷ m.items) ∙ information_again ns nr poll m f.0 f.1 f.2

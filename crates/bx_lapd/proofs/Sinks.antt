@@ -43,7 +43,7 @@ took_follows l m s f a b = record { vr = b.vr ∙ a.vr; one = messages_of-append
 mute_follows : (s : Step) (f : Link → Step) → Mute s → Deaf s.link (f s.link) → Mute (follows s f)
 mute_follows s f a b = both_none s.told (f s.link).told a b.none
 
--- ---- what goes out behind each row
+-- ---- what goes out after each row
 
 deaf_acknowledges : (l : Link) (owed : Bool) → Deaf l (acknowledges l owed)
 deaf_acknowledges l true = record { vr = refl; none = refl }

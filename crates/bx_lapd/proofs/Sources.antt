@@ -444,7 +444,7 @@ heard_sends g l n (Plain kind poll) now small x t = plain_sends g l n kind poll 
 heard_sends g l n (Information poll ns nr m) now small x t = if_up g l n (is_up l.state) (hear_information l poll ns nr m now) (λ up. information_sends g l n poll ns nr m now up small x t) x t
 heard_sends g l n (Numbered kind command poll nr) now small x t = if_up g l n (is_up l.state) (hear_numbered l kind command poll nr now) (λ up. numbered_sends g l n kind command poll nr now up small x t) x t
 
--- ---- what goes out behind each row
+-- ---- what goes out after each row
 
 firm_acknowledges : (g : List (ArrayVec ℕ)) (l : Link) (n : Spot) (owed : Bool) → Source g l n → n.s ≡ n.h → Firm g (is_up l.state) n.b n.h (acknowledges l owed)
 firm_acknowledges g l n true x t = record { n = n; source = like g l (record l { owed = false }) n refl x.vr x.stand x; tight = t; lane = λ c r e. (x.vr, e) }

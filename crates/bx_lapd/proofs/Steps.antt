@@ -124,24 +124,24 @@ mid_message g d k e l p forth rest n false poll ns nr m x j =
 
 -- ---- an N(R) that comes: it is valid, and acknowledges
 
--- the count of an N(R) that comes, and the N(R) behind it
+-- the count of an N(R) that comes, and the N(R) after it
 pub record Count (r : ℕ) (back : List Frame) (a nr : ℕ) : Type 0 where
   pub c : ℕ
   pub is : nr ≡ c % 128
   pub above : a ≤ c
-  pub behind : Confirms c r back
+  pub following : Confirms c r back
 
 pub joint_valid : (g d k e : List (ArrayVec ℕ)) (l p : Link) (forth back : List Frame) (n : Marks) (nr : ℕ) → Joint g d k e l p forth back n → n.s ≡ n.h → Count n.r back n.a nr → is_valid l nr ≡ true
 joint_valid g d k e l p forth back n nr j t x =
     let w = comes_within g n.r n.h forth j.out.comes in
-    let v = confirms_within x.c n.r back x.behind in
+    let v = confirms_within x.c n.r back x.following in
     let one : ahead l.va nr ≡ x.c - n.a = flow_span g e l.va l.vs l.queue p.vr forth back n.a n.s n.h n.r nr x.c j.out x.is x.above (omega arith) in
     let two : ahead l.va l.vs ≡ n.s - n.a = flow_outstanding g e l.va l.vs l.queue p.vr forth back n.a n.s n.h n.r j.out in
     le-leb (ahead l.va nr) (ahead l.va l.vs) (omega (arith, one, two))
 
 joint_acknowledged : (g d k e : List (ArrayVec ℕ)) (l p : Link) (forth back : List Frame) (n : Marks) (nr : ℕ) → Joint g d k e l p forth back n → n.s ≡ n.h → (x : Count n.r back n.a nr) → Joint g d k e (acknowledged l nr) p forth back (record n { a = x.c })
 joint_acknowledged g d k e l p forth back n nr j t x = record {
-  out = flow_acknowledged g e l.va l.vs l.queue p.vr forth back back n.a n.s n.h n.r nr x.c j.out t x.is x.above x.behind;
+  out = flow_acknowledged g e l.va l.vs l.queue p.vr forth back back n.a n.s n.h n.r nr x.c j.out t x.is x.above x.following;
   into = j.into;
 }
 
@@ -214,7 +214,7 @@ unasked_none : (b : Bool) → messages_of (unasked b) ≡ []
 unasked_none true = refl
 unasked_none false = refl
 
--- what is behind the first frame
+-- what is after the first frame
 joint_next : (g d k e : List (ArrayVec ℕ)) (l p : Link) (forth rest : List Frame) (n : Marks) (kind : Supervisory) (command poll : Bool) (nr : ℕ) → Joint g d k e l p forth (Numbered kind command poll nr ∷ rest) n → Joint g d k e l p forth rest n
 joint_next g d k e l p forth rest n kind command poll nr j =
     let o = j.out.confirms in
@@ -227,7 +227,7 @@ kept_numbered : (g d k e : List (ArrayVec ℕ)) (l p : Link) (forth rest : List 
     → KeptReady g d k e p forth rest (hear_numbered l kind command poll nr now)
 kept_numbered g d k e l p forth rest n kind command poll nr now u t j =
     let o = j.out.confirms in
-    let x : Count n.r rest n.a nr = record { c = o.0; is = o.1; above = o.2; behind = o.3 } in
+    let x : Count n.r rest n.a nr = record { c = o.0; is = o.1; above = o.2; following = o.3 } in
     let b = record l { busy = is_not_ready kind } in
     let i = joint_next g d k e l p forth rest n kind command poll nr j in
     let told = unasked (is_established l.state && not command && poll) in
@@ -238,7 +238,7 @@ kept_numbered g d k e l p forth rest n kind command poll nr now u t j =
     (kept_supervised g first.dd k e m p first.ff rest n m.state kind (not command && poll) nr now refl (ap is_up (answers_state (command && poll) b told) ∙ u) (answers_busy (command && poll) b told) t first.joint x) in
     (second.0, mid_follows g d k e p forth rest (answers (command && poll) b told) (λ v. hear_supervised (is_valid v nr) v.state v kind (not command && poll) nr now) n second.0 first second.1, second.2)
 
--- ---- what goes out behind each row
+-- ---- what goes out after each row
 
 mid_flushes : (g d k e : List (ArrayVec ℕ)) (l p : Link) (forth back : List Frame) (n : Marks) (now : ℕ) (ms : List (ArrayVec ℕ)) → Joint g d k e l p forth back n → Stand g n.s ms → n.h ≤ n.s + length ms → n.s + length ms ≤ n.a + 7 → n.s + length ms ≤ length g
     → (m : Marks) × Mid g d k e p forth back (flushes l now ms) m × (m.s ≡ m.h)
@@ -289,7 +289,7 @@ kept_information : (g d k e : List (ArrayVec ℕ)) (l p : Link) (forth rest : Li
     → KeptReady g d k e p forth rest (hear_information l poll ns nr m now)
 kept_information g d k e l p forth rest n poll ns nr m now t j =
     let o = j.out.confirms in
-    let x : Count n.r rest n.a nr = record { c = o.0; is = o.1; above = o.2; behind = o.3 } in
+    let x : Count n.r rest n.a nr = record { c = o.0; is = o.1; above = o.2; following = o.3 } in
     let one = mid_message g d k e l p forth rest n (ns == l.vr) poll ns nr m refl j in
     let first = one.1 in
     let v = (hear_message (ns == l.vr) l poll m).link in

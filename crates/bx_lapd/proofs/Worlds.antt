@@ -126,10 +126,10 @@ first_valid : (g d k e : List (ArrayVec ℕ)) (l p : Link) (forth back : List Fr
 first_valid g d k e l p forth [] n j t = tt
 first_valid g d k e l p forth (Information poll ns nr m ∷ fs) n j t =
     let o = j.out.confirms in
-    joint_valid g d k e l p forth (Information poll ns nr m ∷ fs) n nr j t (record { c = o.0; is = o.1; above = o.2; behind = (o.0, o.1, omega arith, o.3) })
+    joint_valid g d k e l p forth (Information poll ns nr m ∷ fs) n nr j t (record { c = o.0; is = o.1; above = o.2; following = (o.0, o.1, omega arith, o.3) })
 first_valid g d k e l p forth (Numbered kind command poll nr ∷ fs) n j t =
     let o = j.out.confirms in
-    joint_valid g d k e l p forth (Numbered kind command poll nr ∷ fs) n nr j t (record { c = o.0; is = o.1; above = o.2; behind = (o.0, o.1, omega arith, o.3) })
+    joint_valid g d k e l p forth (Numbered kind command poll nr ∷ fs) n nr j t (record { c = o.0; is = o.1; above = o.2; following = (o.0, o.1, omega arith, o.3) })
 first_valid g d k e l p forth (Plain kind poll ∷ fs) n j t = absurd j.out.confirms
 
 pub in_order_of : (w : World) → WorldOk w → IsInOrder w
@@ -144,7 +144,7 @@ in_order_of w o =
     let got : length w.far_got ≡ n.r = ap length f.got_is ∙ length-take n.r w.near_given ∙ (let h : min n.r (length w.near_given) ≡ n.r = omega arith in h) in
     let out : outstanding w.near ≡ n.s - n.a = flow_outstanding w.near_given w.far_got w.near.va w.near.vs w.near.queue w.far.vr w.near_sent w.far_sent n.a n.s n.h n.r f in
     record {
-      front = f.got_is ∙ ap (λ i. take i w.near_given) (sym got);
+      prefix = f.got_is ∙ ap (λ i. take i w.near_given) (sym got);
       kept = (n.a, f.queue_is, omega (arith, got));
       few = omega (arith, out);
       valid = first_valid w.near_given w.near_got w.far_given w.far_got w.near w.far w.near_sent w.far_sent n o.joint o.tight;

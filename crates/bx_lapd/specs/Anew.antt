@@ -3,9 +3,9 @@
 -- Take two ends that are not linked, and any list of events of the world in which layer 3 releases no link, and T200 of an establishment is
 -- due only where neither its SABME nor the answer to that is on the way: each has come, or was lost. Count what an end was given, and
 -- what it delivered, from its last establishment on; what it keeps then is the first that it has to send. While both ends are up,
--- what one delivered is a front of what the other had to send, and all else that `in_order` says.
+-- what one delivered is a prefix of what the other had to send, and all else that `in_order` says.
 --
--- The premise is kept by a line whose round trip is below T200. Without it a SABME that is sent again, and comes behind the answer to the
+-- The premise is kept by a line whose round trip is below T200. Without it a SABME that is sent again, and comes after the answer to the
 -- first, sets back one end alone.
 use Rattle.std.specs.Prelude.{◌≡◌, ℕ, ◌+◌, Bool, true, false, List, [], ◌∷◌, if◌then◌else◌}
 use Rattle.bx_lapd.specs.declared.words.LinkState.{LinkState}

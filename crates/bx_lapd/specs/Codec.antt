@@ -130,7 +130,7 @@ abbrev pub read_supervisory : Option Supervisory → Bool → Bool → ℕ → �
 read_supervisory None command poll nr n = Err (Faulty error.UnknownControl)
 read_supervisory (Some kind) command poll nr n = if n == 0 then Ok (Numbered kind command poll nr) else Err (Faulty error.UnexpectedInformation)
 
--- behind the address: the control octet, and the others
+-- after the address: the control octet, and the others
 abbrev pub read_sequenced : Bool → ℕ → List ℕ → Result Frame Refusal
 read_sequenced command control [] = Err (Dropped Short)
 read_sequenced command control (second ∷ info) =

@@ -4,13 +4,13 @@
 -- the world: messages are given, frames come or are lost, time goes by at either end, each as it likes. As long as neither end leaves
 -- states 7 and 8:
 --
---   front     what an end delivered is a front of what the other had to send: in order, each once, and nothing is skipped;
+--   prefix     what an end delivered is a prefix of what the other had to send: in order, each once, and nothing is skipped;
 --   kept      what an end no longer keeps was delivered by the other;
 --   few       at most k = 7 of its I frames are outstanding;
 --   valid     the N(R) that comes next is valid, so no end establishes the link anew for an N(R) error.
 --
 -- An end leaves these states where the peer did not answer N200 enquiries, or layer 3 asks for it. Not said: what holds over an
--- establishment that begins while frames of the one before are still on the way (a SABME that was sent again, and comes behind the UA of the
+-- establishment that begins while frames of the one before are still on the way (a SABME that was sent again, and comes after the UA of the
 -- first): there a message can be skipped, as in any link by Q.921.
 use Rattle.std.specs.Prelude.{◌≡◌, ℕ, ◌≤◌, true, List, [], ◌∷◌, length, take, drop}
 use Rattle.arrayvec.specs.ArrayVec.{ArrayVec}
@@ -48,7 +48,7 @@ IsFirstValid l (Plain kind poll ∷ fs) = ⊥
 
 -- of the messages from the near end to the far end
 pub record IsInOrder (w : World) : Type 0 where
-  pub front : w.far_got ≡ take (length w.far_got) w.near_given
+  pub prefix : w.far_got ≡ take (length w.far_got) w.near_given
   pub kept : (a : ℕ) × (w.near.queue ≡ drop a w.near_given) × (a ≤ length w.far_got)
   pub few : outstanding w.near ≤ 7
   pub valid : IsFirstValid w.near w.far_sent

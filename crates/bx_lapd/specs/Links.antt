@@ -1,7 +1,7 @@
 -- A data link entity (ITU-T Q.921, 5.5 and 5.6, and Annex B): what it keeps, and what a row of its table may do.
 --
 -- The queue holds each message that was given and is not acknowledged. The first (V(S) - V(A)) modulo 128 of them were sent: so to go
--- back N is to set V(S) to V(A), and an acknowledgement takes messages from the front. What comes is delivered at once, so there is
+-- back N is to set V(S) to V(A), and an acknowledgement takes messages from the start. What comes is delivered at once, so there is
 -- no own receiver busy condition.
 use Rattle.std.specs.Prelude.{◌≡◌, ℕ, ◌+◌, ◌-◌, ◌%◌, nat_le, ◌&&◌, not, Bool, true, false, List, [], ◌∷◌, ◌++◌, length, take, drop, if◌then◌else◌}
 use Rattle.arrayvec.specs.ArrayVec.{ArrayVec}
@@ -48,7 +48,7 @@ pub record Did : Type 0 where
   pub frames : List Frame
   pub told : List Indication
 
--- what a row does: the link behind it, the frames that it sends, and what it tells
+-- what a row does: the link after it, the frames that it sends, and what it tells
 pub record Step : Type 0 where
   pub link : Link
   pub frames : List Frame
@@ -69,7 +69,7 @@ follows s f = record { link = (f s.link).link; frames = s.frames ++ (f s.link).f
 
 -- ---- numbers modulo 128
 
--- how far a number is behind another
+-- how far a number is after another
 abbrev pub ahead : ℕ → ℕ → ℕ
 ahead from to = (to + 128 - from) % 128
 
@@ -142,7 +142,7 @@ abbrev pub running : Timer → ℕ → Timer
 running (T200 due) now = T200 due
 running _ now = T200 (now + t200)
 
--- ---- what goes out behind each row
+-- ---- what goes out after each row
 
 -- the messages that the window has room for, of at most k = 7
 abbrev pub sendable : Link → List (ArrayVec ℕ)

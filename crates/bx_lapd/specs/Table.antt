@@ -53,7 +53,7 @@ due_of Stopped = None
 due_of (T200 due) = Some due
 due_of (T203 due) = Some due
 
--- RC behind the first enquiry: T200 counts
+-- RC after the first enquiry: T200 counts
 abbrev pub first_count : Timer → ℕ
 first_count (T200 due) = 1
 first_count _ = 0
@@ -154,7 +154,7 @@ abbrev pub hear_message : Bool → Link → Bool → ArrayVec ℕ → Step
 hear_message true l poll m = answers poll (took l) (Delivered m ∷ [])
 hear_message false l poll m = rejects l.rejected l poll
 
--- the timer behind an acknowledgement; `same` says that it acknowledged nothing new
+-- the timer after an acknowledgement; `same` says that it acknowledged nothing new
 abbrev pub timed : Bool → Bool → Link → ℕ → Link
 timed true same l now = record l { timer = T203 (now + t203) }
 timed false true l now = l

@@ -38,15 +38,15 @@ impl Model for DataLink {
     ghost view = { λ l. record { state = l.state; vs = l.vs; va = l.va; vr = l.vr; rc = l.rc; asked = l.asked; busy = l.busy; rejected = l.rejected; owed = l.owed; timer = l.timer; queue = l.queue.items } };
 }
 
-/// How far a number is behind another, modulo 128.
+/// How far a number is after another, modulo 128.
 pub(crate) fn ahead_of(from: u8, to: u8) -> u8
     ensures { result ≡ ahead from to }
 {
     ((u16::from(to) + 128).saturating_sub(u16::from(from)) % 128) as u8
 }
 
-/// Takes so many messages from the front, or all.
-fn drop_front(queue: &mut ArrayVec<Octets, 32>, count: u8)
+/// Takes so many messages from the start, or all.
+fn drop_first(queue: &mut ArrayVec<Octets, 32>, count: u8)
     ensures { queue.new.items ≡ drop count queue.old.items }
 {
     for _taken in 0..count {
@@ -152,7 +152,7 @@ impl DataLink {
     pub(crate) fn acknowledge(&mut self, received: u8)
         ensures { self.new ≡ acknowledged self.old received }
     {
-        drop_front(&mut self.queue, ahead_of(self.va, received));
+        drop_first(&mut self.queue, ahead_of(self.va, received));
         self.va = received;
     }
 }

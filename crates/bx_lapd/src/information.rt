@@ -85,7 +85,7 @@ impl DataLink {
         }
     }
 
-    /// The timer behind an acknowledgement.
+    /// The timer after an acknowledgement.
     fn time(&mut self, idle: bool, same: bool, now: u64)
         requires { now < 2 ^ 62 }
         ensures { self.new ≡ timed idle same self.old now }
@@ -97,7 +97,7 @@ impl DataLink {
         }
     }
 
-    /// The timer behind an acknowledgement, unless it is to stand.
+    /// The timer after an acknowledgement, unless it is to stand.
     pub(crate) fn settle(&mut self, still: bool, same: bool, now: u64)
         requires { now < 2 ^ 62 }
         ensures { self.new ≡ settled still same self.old now }

@@ -131,7 +131,7 @@ fn read_number(
     })
 }
 
-/// Behind the address.
+/// After the address.
 fn read_control(command: bool, control: u8, rest: &[u8]) -> Result<Frame, Refusal>
     ensures read { result ≡ read_control command control rest.now }
     ensures within { IfOk result IsFrame }

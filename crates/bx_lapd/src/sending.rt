@@ -1,4 +1,4 @@
-//! What goes out behind each row: the messages that the window has room for, or an acknowledgement.
+//! What goes out after each row: the messages that the window has room for, or an acknowledgement.
 
 ghost use Rattle.std.specs.Prelude.{◌≡◌, ◌+◌, ◌<◌, ◌≤◌, ◌^◌, ◌++◌, length, take, drop};
 ghost use Rattle.bx_lapd.specs.Links.{numbered, running, sendable, flush};
@@ -28,7 +28,7 @@ fn send_numbered(messages: &[Octets], sent: u8, received: u8, out: &mut Done)
 }
 
 /// At most so many of the first messages.
-fn front(messages: &[Octets], count: usize) -> &[Octets]
+fn prefix(messages: &[Octets], count: usize) -> &[Octets]
     ensures { result.now ≡ take count messages.now }
 {
     if messages.len() <= count {
@@ -39,7 +39,7 @@ fn front(messages: &[Octets], count: usize) -> &[Octets]
 }
 
 /// The messages from this place on.
-fn behind(messages: &[Octets], place: usize) -> &[Octets]
+fn following(messages: &[Octets], place: usize) -> &[Octets]
     ensures { result.now ≡ drop place messages.now }
 {
     if messages.len() <= place {
@@ -59,8 +59,8 @@ impl DataLink {
             return &[];
         }
         let sent = usize::from(self.outstanding());
-        let rest = behind(self.queue.as_slice(), sent);
-        front(rest, 7usize.saturating_sub(sent))
+        let rest = following(self.queue.as_slice(), sent);
+        prefix(rest, 7usize.saturating_sub(sent))
     }
 
     /// T200 is started where it does not run.
@@ -74,7 +74,7 @@ impl DataLink {
         }
     }
 
-    /// What goes out behind each row.
+    /// What goes out after each row.
     pub(crate) fn flush(&mut self, now: u64, out: &mut Done)
         requires now { now < 2 ^ 62 }
         requires room { length out.old.frames ≤ 2 }

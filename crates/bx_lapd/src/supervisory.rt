@@ -38,7 +38,7 @@ impl DataLink {
         self.timer = Timer::T203 { due: now + T203 };
     }
 
-    /// State 7, behind the acknowledgement.
+    /// State 7, after the acknowledgement.
     fn guide(&mut self, kind: Supervisory, same: bool, now: u64)
         requires { now < 2 ^ 62 }
         ensures { self.new ≡ guided kind same self.old now }
@@ -50,7 +50,7 @@ impl DataLink {
         }
     }
 
-    /// State 8, behind the acknowledgement.
+    /// State 8, after the acknowledgement.
     fn recover(&mut self, last: bool, kind: Supervisory, now: u64)
         requires { now < 2 ^ 62 }
         ensures { self.new ≡ recovered last kind self.old now }

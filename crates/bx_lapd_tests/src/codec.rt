@@ -167,7 +167,7 @@ fn frames_and_octets(rt: HostRuntime) {
 }
 
 /// Whose it is, the octets, and their check sequence: the check value of catalogues, the frames of ITU-T X.25, Appendix I, a SABME of a
-/// user's side, and what a frame leaves with its own check sequence behind it.
+/// user's side, and what a frame leaves with its own check sequence after it.
 static SUMS: [(&str, &[u8], u16); 5] = [
     ("the nine digits", b"123456789", 0x906E),
     ("SABM of X.25", &[0x03, 0x3F], 0xEC5B),

@@ -19,7 +19,7 @@ static CONTROLS: [u8; 32] = [
 /// First octets of addresses: commands and responses, another SAPI, and a last octet.
 static FIRSTS: [u8; 8] = [2, 0, 2, 0, 2, 0, 4, 3];
 
-/// How many octets stand behind the control octet.
+/// How many octets stand after the control octet.
 static LENGTHS: [u16; 8] = [0, 1, 1, 1, 0, 5, 3, 261];
 
 impl Drawn {

@@ -64,8 +64,8 @@ impl Tried {
         }
     }
 
-    /// A front of a body with a right check sequence, and the same front of the closed frame.
-    fn fronts(&mut self, state: u8, body: &[u8]) {
+    /// A prefix of a body with a right check sequence, and the same prefix of the closed frame.
+    fn prefixes(&mut self, state: u8, body: &[u8]) {
         let whole = closed(body);
         for (place, _octet) in whole.as_slice().iter().enumerate() {
             self.octets(state, &whole.as_slice()[..place]);
@@ -110,7 +110,7 @@ fn mangled(body: &[u8]) -> Tried {
         dropped: 0,
     };
     for state in 4..=8u8 {
-        tried.fronts(state, body);
+        tried.prefixes(state, body);
         tried.flips(state, body);
         for (at, _octet) in body.iter().enumerate() {
             tried.values(state, body, at);

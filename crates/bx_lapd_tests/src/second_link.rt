@@ -216,7 +216,7 @@ impl Second {
         }
     }
 
-    /// What is sent behind each frame.
+    /// What is sent after each frame.
     pub(crate) fn goes_on(&mut self, now: u64) {
         for _place in 0..7u8 {
             self.sends_next(now);

@@ -214,7 +214,7 @@ impl Second {
         }
     }
 
-    /// State 7 anew; what was sent and not acknowledged is lost, with all behind it.
+    /// State 7 anew; what was sent and not acknowledged is lost, with all after it.
     fn loses_and_begins(&mut self, now: u64) {
         if self.vs != self.va {
             self.kept.clear();

@@ -35,7 +35,7 @@ grown false growing ends g e = rw (g, e) refl
 started : (starts rest : Bool) → starts ≡ true → (starts || rest) ≡ true
 started starts rest s = rw s refl
 
--- behind a start a set grows
+-- after a start a set grows
 pub start_grows : (line : Network) (from : ℕ) → has_row Leaving line from ≡ true → is_growing line (from + 1) ≡ true
 start_grows line from starts = growing_next line from ∙ started (has_row Leaving line from) (is_growing line from && not (has_row Arriving line from)) starts
 

@@ -1,6 +1,6 @@
 -- Conservation at the places is the same as one count of units in each gap.
 --
--- A row that is carried leads over the gap before a place or starts there, just where it leads over the gap behind it or
+-- A row that is carried leads over the gap before a place or starts there, just where it leads over the gap after it or
 -- ends there. So from gap to gap the count over the gap changes by what starts less what ends at the place between, and
 -- conservation says that the idle units change by the opposite.
 use Rattle.std.proofs.Common.{◌≡◌, ℕ, zero, suc, ◌+◌, ◌-◌, ◌<◌, Bool, true, false, cond, ◌&&◌, eqb, ltb, length, refl, ap, sym, ◌∙◌, subst, arith, inl, inr, add-one}

@@ -1,8 +1,8 @@
 -- What a flow of the line of counts is on the whole line.
 --
--- The rows over a gap of the whole line are over one gap of the line of counts: that behind the count of the place, where
+-- The rows over a gap of the whole line are over one gap of the line of counts: that after the count of the place, where
 -- a set grows there, else that before it. So no gap of the whole line has more rows than there are units. Where the count
--- rises from a place to the next, the rows over the gap between are just those over the gap behind the count.
+-- rises from a place to the next, the rows over the gap between are just those over the gap after the count.
 use Rattle.std.proofs.Common.{◌≡◌, ℕ, ◌+◌, ◌-◌, ◌<◌, ◌≤◌, Bool, true, false, cond, ◌&&◌, List, length, get_or, refl, sym, ap, arith, inl, inr}
 use Rattle.std.proofs.lemmas.Bool.{cases_lt}
 use Rattle.std.proofs.lemmas.Bool.Decides.{nat_tests}
@@ -65,8 +65,8 @@ module _ (line : Network) (counts : List ℕ) (shorter : Network) (network : IsN
       let to = over_to (arc_at line i) v over in
       let before = counts_rise line counts cliques (arc_at line i).from v from (omega arith) in
       let apart = ends_apart line (v + 1) grows (arc_at line i).to (omega arith) (has_row-from Arriving line i h) in
-      let behind : count v < count (arc_at line i).to = omega (arith, apart, cliques.each v (omega arith), cliques.each (arc_at line i).to arc.within) in
-      rw (shortened.arcs.each i h) (is_over (counted_arc counts (arc_at line i)) (count v) before behind)
+      let following : count v < count (arc_at line i).to = omega (arith, apart, cliques.each v (omega arith), cliques.each (arc_at line i).to arc.within) in
+      rw (shortened.arcs.each i h) (is_over (counted_arc counts (arc_at line i)) (count v) before following)
 
   -- and where none does
   over_ended : (i v : ℕ) → i < length line.arcs → v + 1 < places_of line → is_growing line (v + 1) ≡ false → spans (arc_at line i) v ≡ true → spans (arc_at shorter i) (count v - 1) ≡ true
@@ -79,8 +79,8 @@ module _ (line : Network) (counts : List ℕ) (shorter : Network) (network : IsN
         | inl e ↦ omega (arith, e, cliques.each v (omega arith), cliques.each (arc_at line i).from (omega arith))
         | inr g ↦ absurd (cc)
       ] in
-      let behind = counts_rise line counts cliques v (arc_at line i).to (omega arith) arc.within in
-      rw (shortened.arcs.each i h) (is_over (counted_arc counts (arc_at line i)) (count v - 1) (omega (arith, before)) (omega (arith, before, behind)))
+      let following = counts_rise line counts cliques v (arc_at line i).to (omega arith) arc.within in
+      rw (shortened.arcs.each i h) (is_over (counted_arc counts (arc_at line i)) (count v - 1) (omega (arith, before)) (omega (arith, before, following)))
 
   module _ (flow : Flow) where
     -- the rows over a gap are over another one of the line of counts
@@ -125,8 +125,8 @@ module _ (line : Network) (counts : List ℕ) (shorter : Network) (network : IsN
         let from = over_from (arc_at line i) v over in
         let to = over_to (arc_at line i) v over in
         let before = counts_rise line counts cliques (arc_at line i).from v from (omega arith) in
-        let behind = counts_rise line counts cliques (v + 1) (arc_at line i).to (omega arith) arc.within in
-        rw (shortened.arcs.each i h) (is_over (counted_arc counts (arc_at line i)) (count v) before (omega (arith, behind, rises)))
+        let following = counts_rise line counts cliques (v + 1) (arc_at line i).to (omega arith) arc.within in
+        rw (shortened.arcs.each i h) (is_over (counted_arc counts (arc_at line i)) (count v) before (omega (arith, following, rises)))
 
     over_back : (i : ℕ) → i < length line.arcs → spans (arc_at shorter i) (count v) ≡ true → spans (arc_at line i) v ≡ true
     over_back i h over =
@@ -138,11 +138,11 @@ module _ (line : Network) (counts : List ℕ) (shorter : Network) (network : IsN
           | inl a ↦ absurd (omega (arith, counts_rise line counts cliques (v + 1) (arc_at line i).from (omega arith) (omega (arith, arc.rising, arc.within)), from, rises))
           | inr a ↦ a
         ] in
-        let behind : v < (arc_at line i).to = elim (cases_lt v (arc_at line i).to) [
+        let following : v < (arc_at line i).to = elim (cases_lt v (arc_at line i).to) [
           | inl a ↦ a
           | inr a ↦ absurd (omega (arith, counts_rise line counts cliques (arc_at line i).to v a (omega arith), to))
         ] in
-        is_over (arc_at line i) v before behind
+        is_over (arc_at line i) v before following
 
     crossing_equal : (flow : Flow) → crossing_at line flow v ≡ crossing_at shorter flow (count v)
     crossing_equal flow =

@@ -1,5 +1,5 @@
 -- Places counted by maximal sets of rows that run together (Carlisle and Lloyd 1995: the maximal cliques of intervals). Such
--- a set is whole where a row ends behind the start of another: it ends there.
+-- a set is whole where a row ends after the start of another: it ends there.
 use Rattle.std.proofs.Common.{zero, suc}
 use Rattle.std.specs.Prelude.{◌≡◌, ℕ, ◌+◌, ◌-◌, ◌<◌, ◌==◌, ◌&&◌, ◌||◌, not, Bool, false, List, nat_lt, length, slice_index, slice_index_or, if◌then◌else◌}
 use Rattle.bx_base.specs.Sums.{sum_below}
@@ -13,7 +13,7 @@ use Rattle.bx_line.specs.Network.{Network, places_of, no_arc}
 abbrev pub has_row : Incidence → Network → ℕ → Bool
 has_row side line place = nat_lt 0 (sum_below (length line.arcs) (λ k. if row_place side line.arcs k == place then 1 else 0))
 
--- whether a row has started at one of the places below n, and no row has ended behind it
+-- whether a row has started at one of the places below n, and no row has ended after it
 abbrev pub is_growing : Network → ℕ → Bool
 is_growing line zero = false
 is_growing line (suc n) = has_row Leaving line n || (is_growing line n && not (has_row Arriving line n))

@@ -44,8 +44,8 @@ impl Model for Line {
 }
 
 impl Line {
-    /// The line of these bookings, by one sort: its time is n log n in the bookings, its memory linear. `AllocError` where a
-    /// growth is refused.
+    /// The line of these bookings, by one sort: its time is n log n in the bookings, its memory linear. `AllocError` where memory
+    /// runs out.
     pub fn of(alloc: Global, bookings: &Bookings) -> Result<Line, AllocError>
         ensures moments { IfOk result (λ line. HasJustMoments bookings.now line.moments) }
         ensures arcs { IfOk result (λ line. AreArcsOf line.moments bookings.now line.arcs) }
@@ -134,9 +134,9 @@ impl Line {
     }
 
     /// How many maximal sets of rows that run together have ended by each place: one more at a place where a row ends, if a row
-    /// started behind the last such place. So the counts rise by 0 or 1 from place to place, and from the start of each row to
-    /// its end. These sets are the maximal cliques of the intervals (Carlisle and Lloyd, 1995). `AllocError` where a growth is
-    /// refused.
+    /// started after the last such place. So the counts rise by 0 or 1 from place to place, and from the start of each row to
+    /// its end. These sets are the maximal cliques of the intervals (Carlisle and Lloyd, 1995). `AllocError` where memory runs
+    /// out.
     pub fn cliques(&self, alloc: Global) -> Result<Vec<u16>, AllocError>
         ensures counts { IfOk result (λ v. AreCliques self.now v.items) }
     {
@@ -157,7 +157,7 @@ impl Line {
 
     /// The line that has a place for each of these counts, and two at least where it has any, with the same rows in the
     /// same order, each from the count of its start to that of its end. Its moments are the counts. They have to be those that
-    /// `cliques` answers for this line. `AllocError` where a growth is refused.
+    /// `cliques` answers for this line. `AllocError` where memory runs out.
     pub fn shortened(&self, alloc: Global, counts: &[u16]) -> Result<Line, AllocError>
         requires counts { AreCliques self.now counts.now }
         ensures shorter { IfOk result (IsShortened self.now counts.now) }

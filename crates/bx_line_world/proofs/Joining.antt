@@ -46,25 +46,25 @@ part_trans (x ∷ xs) (y ∷ ys) (z ∷ zs) (inr p) (inl (f, q)) = inr (part_tra
 part_trans (x ∷ xs) (y ∷ ys) (z ∷ zs) (inl p) (inr q) = inr (part_trans (x ∷ xs) (y ∷ ys) zs (inl p) q)
 part_trans (x ∷ xs) (y ∷ ys) (z ∷ zs) (inr p) (inr q) = inr (part_trans (x ∷ xs) (y ∷ ys) zs (inr p) q)
 
-pub part_front : (zs xs ys : List (ArrayVec ℕ)) → IsPartOf xs ys → IsPartOf (zs ++ xs) (zs ++ ys)
-part_front [] xs ys p = p
-part_front (z ∷ zs) xs ys p = inl (refl, part_front zs xs ys p)
+pub part_prefix : (zs xs ys : List (ArrayVec ℕ)) → IsPartOf xs ys → IsPartOf (zs ++ xs) (zs ++ ys)
+part_prefix [] xs ys p = p
+part_prefix (z ∷ zs) xs ys p = inl (refl, part_prefix zs xs ys p)
 
-pub part_behind : (xs ys zs : List (ArrayVec ℕ)) → IsPartOf xs ys → IsPartOf (xs ++ zs) (ys ++ zs)
-part_behind [] [] zs p = part_refl zs
-part_behind [] (y ∷ ys) zs p = part_skip zs y (ys ++ zs) (part_behind [] ys zs tt)
-part_behind (x ∷ xs) [] zs p = absurd p
-part_behind (x ∷ xs) (y ∷ ys) zs (inl (e, p)) = inl (e, part_behind xs ys zs p)
-part_behind (x ∷ xs) (y ∷ ys) zs (inr p) = inr (part_behind (x ∷ xs) ys zs p)
+pub part_after : (xs ys zs : List (ArrayVec ℕ)) → IsPartOf xs ys → IsPartOf (xs ++ zs) (ys ++ zs)
+part_after [] [] zs p = part_refl zs
+part_after [] (y ∷ ys) zs p = part_skip zs y (ys ++ zs) (part_after [] ys zs tt)
+part_after (x ∷ xs) [] zs p = absurd p
+part_after (x ∷ xs) (y ∷ ys) zs (inl (e, p)) = inl (e, part_after xs ys zs p)
+part_after (x ∷ xs) (y ∷ ys) zs (inr p) = inr (part_after (x ∷ xs) ys zs p)
 
 pub part_both : (xs ys zs ws : List (ArrayVec ℕ)) → IsPartOf xs ys → IsPartOf zs ws → IsPartOf (xs ++ zs) (ys ++ ws)
-part_both xs ys zs ws p q = part_trans (xs ++ zs) (ys ++ zs) (ys ++ ws) (part_behind xs ys zs p) (part_front ys zs ws q)
+part_both xs ys zs ws p q = part_trans (xs ++ zs) (ys ++ zs) (ys ++ ws) (part_after xs ys zs p) (part_prefix ys zs ws q)
 
 part_more : (xs ys : List (ArrayVec ℕ)) → IsPartOf xs (xs ++ ys)
 part_more [] ys = tt
 part_more (x ∷ xs) ys = inl (refl, part_more xs ys)
 
--- ---- what waits behind what was told
+-- ---- what waits after what was told
 
 reset_part : (b : Bool) (p : Post) (ys : List (ArrayVec ℕ)) → IsPartOf (reset b p).messages.items ys
 reset_part true p ys = tt
@@ -93,9 +93,9 @@ told_part p (one ∷ more) =
     let first = messages_of (one ∷ []) in
     let all : (here ++ first) ++ messages_of more ≡ here ++ messages_of (one ∷ more) = append_assoc here first (messages_of more) ∙ ap (λ ms. here ++ ms) (sym (messages_more one more)) in
     subst (λ ms. IsPartOf (all_told_to (told_to p one) more).messages.items ms) all
-    (part_trans _ _ _ (told_part (told_to p one) more) (part_behind (told_to p one).messages.items (here ++ first) (messages_of more) (told_one p one)))
+    (part_trans _ _ _ (told_part (told_to p one) more) (part_after (told_to p one).messages.items (here ++ first) (messages_of more) (told_one p one)))
 
--- ---- lists of events, one behind the other
+-- ---- lists of events, one after the other
 
 after_on : (u : LinkEnd) (xs ys : List LineEvent) → after_events u (xs ++ ys) ≡ after_events (after_events u xs) ys
 after_on u [] ys = refl
@@ -208,8 +208,8 @@ module _ {W : Type 0} {did : W → List WireAct → W → Type 0} where
         let b_wire : did t.wire (wire_acts mid b.events) u.wire = subst (λ (x : LinkEnd). did t.wire (wire_acts x b.events) u.wire) a.link b.wire in
         let b_came : IsPartOf (q ++ u.post.messages.items) (t.post.messages.items ++ two) = subst (λ (x : LinkEnd). IsPartOf (q ++ u.post.messages.items) (t.post.messages.items ++ delivered x b.events)) a.link b.came in
         let joined : IsPartOf (r ++ (q ++ u.post.messages.items)) ((here ++ one) ++ two) =
-        part_trans _ _ _ (part_front r (q ++ u.post.messages.items) (t.post.messages.items ++ two) b_came)
-        (subst (λ ms. IsPartOf ms ((here ++ one) ++ two)) (append_assoc r t.post.messages.items two) (part_behind (r ++ t.post.messages.items) (here ++ one) two a.came)) in
+        part_trans _ _ _ (part_prefix r (q ++ u.post.messages.items) (t.post.messages.items ++ two) b_came)
+        (subst (λ ms. IsPartOf ms ((here ++ one) ++ two)) (append_assoc r t.post.messages.items two) (part_after (r ++ t.post.messages.items) (here ++ one) two a.came)) in
         record {
           events = a.events ++ b.events;
           wire = subst (λ xs. did s.wire xs u.wire) (sym (acts_on first a.events b.events)) (more s.wire t.wire u.wire (wire_acts first a.events) (wire_acts mid b.events) a.wire b_wire);

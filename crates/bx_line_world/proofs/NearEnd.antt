@@ -15,7 +15,7 @@ use Rattle.bx_line_world.specs.Lines.{LineEvent, Asked, Given, Elapsed, Heard, P
 use Rattle.bx_line_world.specs.Joined.{LinkEnd, end_of, line_at, after_event, delivered, given_in}
 use Rattle.bx_line_world.specs.TwoEnds.{Shared, Idle, Ours, Theirs, our_events, all_events, IsIdle, IsSame, IsTheirs, AreShared, IsOnce}
 use Rattle.bx_line_world.specs.declared.line_world.LineWorld.{LineWorld}
-use Rattle.bx_line_world.proofs.Joining.{part_trans, part_front, part_both, given_on}
+use Rattle.bx_line_world.proofs.Joining.{part_trans, part_prefix, part_both, given_on}
 
 -- ---- one event
 
@@ -184,5 +184,5 @@ once_over did old new acts day w events unlinked link are shared =
     let given : z.near_given ≡ a.gave = a.given ∙ ap (λ ms. ms ++ a.gave) unlinked.near.none_given in
     let got : z.near_got ≡ delivered u day.events = a.got ∙ (ap (λ ms. ms ++ delivered u (our_events events)) unlinked.near.none_got ∙ ap (λ es. delivered u es) are) in (
       part_trans z.far_got a.gave (given_in day.events) (subst (λ ms. IsPartOf z.far_got ms) given once.0) (subst (λ es. IsPartOf a.gave (given_in es)) are a.part),
-      part_trans _ (waiting ++ delivered u day.events) _ day.read (part_front waiting (delivered u day.events) z.far_given (subst (λ ms. IsPartOf ms z.far_given) got once.1)),
+      part_trans _ (waiting ++ delivered u day.events) _ day.read (part_prefix waiting (delivered u day.events) z.far_given (subst (λ ms. IsPartOf ms z.far_given) got once.1)),
     )

@@ -23,22 +23,22 @@ use Rattle.bx_line_world.specs.Steps.{Looks, keeps, Carries, GivesWhere, PolledB
 use Rattle.bx_line_world.specs.declared.line.Line.{Line}
 use Rattle.bx_line_world.specs.declared.post.Post.{Post}
 
-pub map_behind : {A B : Type 0} (f : A → B) (xs : List A) (x : A) → map f (xs ++ x ∷ []) ≡ map f xs ++ f x ∷ []
-map_behind f [] x = refl
-map_behind f (y ∷ xs) x = ap (λ zs. f y ∷ zs) (map_behind f xs x)
+pub map_after : {A B : Type 0} (f : A → B) (xs : List A) (x : A) → map f (xs ++ x ∷ []) ≡ map f xs ++ f x ∷ []
+map_after f [] x = refl
+map_after f (y ∷ xs) x = ap (λ zs. f y ∷ zs) (map_after f xs x)
 
-pub told_behind : (p : Post) (xs : List Indication) (x : Indication) → all_told_to p (xs ++ x ∷ []) ≡ told_to (all_told_to p xs) x
-told_behind p [] x = refl
-told_behind p (y ∷ xs) x = told_behind (told_to p y) xs x
+pub told_after : (p : Post) (xs : List Indication) (x : Indication) → all_told_to p (xs ++ x ∷ []) ≡ told_to (all_told_to p xs) x
+told_after p [] x = refl
+told_after p (y ∷ xs) x = told_after (told_to p y) xs x
 
-pub length_behind : {A : Type 0} (xs : List A) (x : A) → length (xs ++ x ∷ []) ≡ length xs + 1
-length_behind [] x = refl
-length_behind (y ∷ xs) x = omega (arith, length_behind xs x)
+pub length_after : {A : Type 0} (xs : List A) (x : A) → length (xs ++ x ∷ []) ≡ length xs + 1
+length_after [] x = refl
+length_after (y ∷ xs) x = omega (arith, length_after xs x)
 
 pub told_more : (p : Post) (xs : List Indication) (i : ℕ) (x : Indication) → i < length xs → get_or xs i x ≡ x → told_to (all_told_to p (take i xs)) x ≡ all_told_to p (take (i + 1) xs)
 told_more p xs i x here is =
-    let front : take (i + 1) xs ≡ take i xs ++ x ∷ [] = subst (λ y. take (i + 1) xs ≡ take i xs ++ y ∷ []) is (take_more xs i x here) in
-    sym (ap (λ ys. all_told_to p ys) front ∙ told_behind p (take i xs) x)
+    let prefix : take (i + 1) xs ≡ take i xs ++ x ∷ [] = subst (λ y. take (i + 1) xs ≡ take i xs ++ y ∷ []) is (take_more xs i x here) in
+    sym (ap (λ ys. all_told_to p ys) prefix ∙ told_after p (take i xs) x)
 
 pub kept_more : {W : Type 0} (a b : Line W) (p : Post) (xs : List Indication) (i : ℕ) (x : Indication) → i < length xs → x ≡ get_or xs i x → b ≡ keeps a (take i xs) → p ≡ told_to b.post x → record b { post = p } ≡ keeps a (take (i + 1) xs)
 kept_more {W} a b p xs i x here is so_far told =
@@ -57,17 +57,17 @@ pub taken_first : {W : Type 0} (left : ℕ) (polled : Line W) (m : Option (Array
 taken_first left polled (Some m) p whole (rest, are, fits, new) = (whole, rest, are, fits, ap (λ (x : Post). record polled { post = x }) new)
 taken_first left polled None p whole (none, same) = (inr none, ap (λ (x : Post). record polled { post = x }) same)
 
-quiet_behind : (xs : List LineEvent) (came : LineEvent) → has_come came ≡ false → ends_quiet (xs ++ came ∷ []) ≡ true
-quiet_behind [] came none = ap not none
-quiet_behind (x ∷ []) came none = ap not none
-quiet_behind (x ∷ y ∷ xs) came none = quiet_behind (y ∷ xs) came none
+quiet_following : (xs : List LineEvent) (came : LineEvent) → has_come came ≡ false → ends_quiet (xs ++ came ∷ []) ≡ true
+quiet_following [] came none = ap not none
+quiet_following (x ∷ []) came none = ap not none
+quiet_following (x ∷ y ∷ xs) came none = quiet_following (y ∷ xs) came none
 
 module _ {W : Type 0} {did : W → List WireAct → W → Type 0} where
   module _ (more : (u v w : W) (xs ys : List WireAct) → did u xs v → did v ys w → did u (xs ++ ys) w) where
     pub sent_more : (a : W) (network : Bool) (xs : List Frame) (i : ℕ) (x : Frame) (b c : W) → i < length xs → get_or xs i x ≡ x → did a (map (sent_as network) (take i xs)) b → did b (Sent (sent_octets network x) ∷ []) c → did a (map (sent_as network) (take (i + 1) xs)) c
     sent_more a network xs i x b c here is so_far one =
-        let front : take (i + 1) xs ≡ take i xs ++ x ∷ [] = subst (λ y. take (i + 1) xs ≡ take i xs ++ y ∷ []) is (take_more xs i x here) in
-        let acts : map (sent_as network) (take (i + 1) xs) ≡ map (sent_as network) (take i xs) ++ sent_as network x ∷ [] = ap (λ ys. map (sent_as network) ys) front ∙ map_behind (sent_as network) (take i xs) x in
+        let prefix : take (i + 1) xs ≡ take i xs ++ x ∷ [] = subst (λ y. take (i + 1) xs ≡ take i xs ++ y ∷ []) is (take_more xs i x here) in
+        let acts : map (sent_as network) (take (i + 1) xs) ≡ map (sent_as network) (take i xs) ++ sent_as network x ∷ [] = ap (λ ys. map (sent_as network) ys) prefix ∙ map_after (sent_as network) (take i xs) x in
         subst (λ ys. did a ys c) (sym acts) (more a b c (map (sent_as network) (take i xs)) (Sent (sent_octets network x) ∷ []) so_far one)
 
     -- a look at the clock, a call of the end by the table, and what it wants
@@ -103,7 +103,7 @@ module _ {W : Type 0} {did : W → List WireAct → W → Type 0} where
   sliced_more {until} {in_turn} {a} {b} {c} {n} {came} s one = record {
     waits = s.waits ++ came ∷ [];
     run = chain_more (Slice did until in_turn) a b c s.waits (came ∷ []) s.run one;
-    counted = length_behind s.waits came ∙ ap (λ m. m + 1) s.counted;
+    counted = length_after s.waits came ∙ ap (λ m. m + 1) s.counted;
   }
 
   pub none_polled : (a : Line W) → PolledBy did 0 a a
@@ -113,7 +113,7 @@ module _ {W : Type 0} {did : W → List WireAct → W → Type 0} where
   polled_more {a} {b} {c} {n} {came} s one = record {
     came = s.came ++ came ∷ [];
     run = chain_more (Polls did) a b c s.came (came ∷ []) s.run one;
-    counted = length_behind s.came came ∙ ap (λ m. m + 1) s.counted;
+    counted = length_after s.came came ∙ ap (λ m. m + 1) s.counted;
   }
 
   -- and the last wait brought nothing
@@ -121,13 +121,13 @@ module _ {W : Type 0} {did : W → List WireAct → W → Type 0} where
   polled_out {a} {b} {c} {n} {came} s one none = record {
     came = s.came ++ came ∷ [];
     run = chain_more (Polls did) a b c s.came (came ∷ []) s.run one;
-    over = inr (inl (quiet_behind s.came came none));
+    over = inr (inl (quiet_following s.came came none));
   }
 
   pub given_more : (a : Line W) (xs : List (ArrayVec ℕ)) (i : ℕ) (x : ArrayVec ℕ) (b c : Line W) → i < length xs → get_or xs i x ≡ x → Chain (Gives did) a (take i xs) b → Gives did b x c → Chain (Gives did) a (take (i + 1) xs) c
   given_more a xs i x b c here is so_far one =
-      let front : take (i + 1) xs ≡ take i xs ++ x ∷ [] = subst (λ y. take (i + 1) xs ≡ take i xs ++ y ∷ []) is (take_more xs i x here) in
-      subst (λ ys. Chain (Gives did) a ys c) (sym front) (chain_more (Gives did) a b c (take i xs) (x ∷ []) so_far one)
+      let prefix : take (i + 1) xs ≡ take i xs ++ x ∷ [] = subst (λ y. take (i + 1) xs ≡ take i xs ++ y ∷ []) is (take_more xs i x here) in
+      subst (λ ys. Chain (Gives did) a ys c) (sym prefix) (chain_more (Gives did) a b c (take i xs) (x ∷ []) so_far one)
 
   pub one_given : (m : ArrayVec ℕ) (ok : Bool) (a b : Line W) → GivesWhere did m ok a b → GivesAll did (m ∷ []) ok a b
   one_given m true a b given = record { given = m ∷ []; rest = []; all = refl; run = given; whole = λ e. refl; refused = λ e. absurd (cc) }

@@ -23,7 +23,7 @@ use Rattle.bx_line_world.specs.declared.line_world.LineWorld.{LineWorld}
 abbrev pub is_here : {W : Type 0} → Line W → Bool
 is_here s = is_up s.end.link.state && not (is_lost s.post.lost)
 
--- How a second begins whose instant was waited for. Late is more than a second behind the instant, by the last reading of the clock.
+-- How a second begins whose instant was waited for. Late is more than a second after the instant, by the last reading of the clock.
 -- It is never said that none begins any more
 abbrev pub IsBegun : {W : Type 0} → Begin → ℕ → Line W → Type 0
 IsBegun Late instant s = instant + 1_000_000_000 < s.shown
@@ -58,7 +58,7 @@ pub record Writes {W : Type 0} (did : W → List WireAct → W → Type 0) (octe
   pub text : IsTextOf messages octets
   pub gives : GivesAll did messages done old new
 
--- what is answered behind a wait: a loss, else the first message, else the end of the turn, which this world makes itself
+-- what is answered after a wait: a loss, else the first message, else the end of the turn, which this world makes itself
 -- A message that has more octets than are left in the second waits for the next
 abbrev pub Answers : {W : Type 0} → ℕ → ℕ → Line W → Result Frame LinkFault → Line W → Type 0
 Answers second left waited (Err fault) new = (waited.post.lost ≡ Some fault) × (new ≡ waited)

@@ -58,7 +58,7 @@ read_in (Read room (Ok (frames.Message m)) ∷ acts) = m ∷ read_in acts
 read_in (Took (Some m) ∷ acts) = m ∷ read_in acts
 read_in (act ∷ acts) = read_in acts
 
--- the messages that the day writes, in their order: those of each act, or a front of them where it failed
+-- the messages that the day writes, in their order: those of each act, or a prefix of them where it failed
 abbrev pub AreWritten : List Act → List (ArrayVec ℕ) → Type 0
 AreWritten [] given = given ≡ []
 AreWritten (Wrote octets done ∷ acts) given =

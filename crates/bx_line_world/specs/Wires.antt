@@ -9,7 +9,7 @@ pub data WireAct : Type 0 where
   -- a frame was waited for, so many nanoseconds at most: its octets, or none came
   Waited : (most : ℕ) (came : Option (List ℕ)) → WireAct
 
--- what came, at the front of the room for it
+-- what came, at the start of the room for it
 abbrev pub came_in : Option ℕ → List ℕ → Option (List ℕ)
 came_in None room = None
 came_in (Some n) room = Some (take n room)

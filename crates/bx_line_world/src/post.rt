@@ -100,7 +100,7 @@ impl Post {
         }
     }
 
-    /// The day has dropped the link. Behind a fault the next second is one without a link, also where it is up again by then: what was under
+    /// The day has dropped the link. After a fault the next second is one without a link, also where it is up again by then: what was under
     /// way is lost, and the day is to ask.
     pub(crate) fn drop_link(&mut self, loss: Loss)
         ensures { self.new ≡ dropped_by self.old loss }

@@ -15,9 +15,9 @@ use bx_day::Exchange;
 use bx_journal::Disk;
 use bx_live::{CannotRecord, run_held};
 
-/// Runs the rest of a day over a data link, up to a second of it, or to `LAST_MOMENT` where that is earlier, and behind that on while a
+/// Runs the rest of a day over a data link, up to a second of it, or to `LAST_MOMENT` where that is earlier, and after that on while a
 /// call is up. It comes there whatever the line does: where it is done no call is up, or there are no more seconds. Only where an event
-/// cannot be put on record it is over before, with `CannotRecord`.
+/// cannot be logged it is over before, with `CannotRecord`.
 pub fn run_by_line<W: Wire, D: Disk>(
     exchange: &mut Exchange,
     world: &mut LineWorld<W, D>,

@@ -16,7 +16,7 @@ pub trait Wire {
     fn send(&mut self, octets: &[u8])
         ensures { did self.old (Sent octets.now ∷ []) self.new };
 
-    /// Waits for a frame, so many nanoseconds at most. Its octets stand at the front of the room, and are so many.
+    /// Waits for a frame, so many nanoseconds at most. Its octets stand at the start of the room, and are so many.
     fn receive(&mut self, room: &mut [u8], wait: u64) -> Option<usize>
         ensures came { did self.old (Waited wait (came_in result room.new) ∷ []) self.new }
         ensures size { length room.new ≡ length room.old }

@@ -97,7 +97,7 @@ module _ {R W : Type 0} {remaining : R → Option (List ℕ)} {contents : W → 
               read = b.read;
               is_read = b.is_read;
               all = sym (append-nil events) ∙ sym (ap (λ (t : Talk). t.events) same);
-              behind = ap (λ (t : Talk). t.behind) same;
+              following = ap (λ (t : Talk). t.following) same;
               rest = ap (λ (t : Talk). t.rest) same;
               cut = inl (ap (λ (t : Talk). t.ending) same);
             };

@@ -46,11 +46,11 @@ pub only_write : (fault : LinkFault) → (broken fault ≡ Ok tt) ⊎ (broken fa
 only_write fault (inl e) = cc
 only_write fault (inr e) = cc
 
--- the turns behind this one
+-- the turns after this one
 abbrev pub Onward : ℕ → Day → List Event → List ℕ → Talk
 Onward turns d1 events = talk_in turns (after exchange_next events d1)
 
--- behind the tick
+-- after the tick
 abbrev pub Open : ℕ → Day → List ℕ → Talk
 Open turns d1 text = follow (exchange_turn d1 text) (Onward turns d1) (exchange_turn d1 text)
 
@@ -88,7 +88,7 @@ module _ {R W : Type 0} (remaining : R → Option (List ℕ)) (contents : W → 
                 read = [];
                 is_read = record { rest = known; splits = refl; is_left = e };
                 all = sym (ap (λ (t : Talk). t.events) same);
-                behind = ap (λ (t : Talk). t.behind) same;
+                following = ap (λ (t : Talk). t.following) same;
                 rest = ap (λ (t : Talk). t.rest) same;
                 cut = inl (ap (λ (t : Talk). t.ending) same);
               },

@@ -24,8 +24,8 @@ use Rattle.bx_frames.proofs.Turns.{IsEnded, IsLocalTalk, turn_nothing, turn_loca
 use Rattle.bx_frames.proofs.WritingFrames.{done, stopped}
 
 -- the ending is what it was said to be
-pub ended_so : (talk : Talk) (b : Bool) → talk.ending ≡ Ok b → talk ≡ record { events = talk.events; ending = Ok b; rest = talk.rest; behind = talk.behind }
-ended_so talk b e = ap (λ (x : Result Bool LinkFault). record { events = talk.events; ending = x; rest = talk.rest; behind = talk.behind }) e
+pub ended_so : (talk : Talk) (b : Bool) → talk.ending ≡ Ok b → talk ≡ record { events = talk.events; ending = Ok b; rest = talk.rest; following = talk.following }
+ended_so talk b e = ap (λ (x : Result Bool LinkFault). record { events = talk.events; ending = x; rest = talk.rest; following = talk.following }) e
 
 -- ---- one turn
 
@@ -33,28 +33,28 @@ module _ {R W : Type 0} (remaining : R → Option (List ℕ)) (contents : W → 
   abbrev HearsFar : Result Bool LinkFault → Type 0
   HearsFar result = Went FarEnd far_next far_text (far_hears d) no_tick remaining contents r r1 w w1 d d1 result
 
-  abbrev Behind : List Event → List ℕ → Talk
-  Behind events = ticked
+  abbrev Afterwards : List Event → List ℕ → Talk
+  Afterwards events = ticked
 
   -- there is no tick
   abbrev pub turn_stopped : (fault : LinkFault) → HearsFar (faulty fault) → TakesTurn remaining contents r r1 w w1 d d1 (faulty fault)
   turn_stopped fault hears = record {
     events = hears.events;
-    goes = follow_fault FarEnd (far_hears d) Behind (far_hears d) far_next far_text remaining contents r r1 w w1 d d1 hears.events fault (λ last. absurd (no_last hears.events hears.ticks last)) hears.goes;
+    goes = follow_fault FarEnd (far_hears d) Afterwards (far_hears d) far_next far_text remaining contents r r1 w w1 d d1 hears.events fault (λ last. absurd (no_last hears.events hears.ticks last)) hears.goes;
     ticks = inl hears.ticks;
   }
 
   abbrev pub day_over : HearsFar (gave false) → TakesTurn remaining contents r r1 w w1 d d1 (gave false)
   day_over hears = record {
     events = hears.events;
-    goes = follow_day FarEnd (far_hears d) Behind (far_hears d) far_next far_text remaining contents r r1 w w1 d d1 hears.events (gave false) (λ e. cc) (λ e. cc) (λ known e. ended_so (far_hears d known) false e) hears.goes;
+    goes = follow_day FarEnd (far_hears d) Afterwards (far_hears d) far_next far_text remaining contents r r1 w w1 d d1 hears.events (gave false) (λ e. cc) (λ e. cc) (λ known e. ended_so (far_hears d known) false e) hears.goes;
     ticks = hears.ticks;
   }
 
-  -- a tick, whose messages were written, or a front of them
+  -- a tick, whose messages were written, or a prefix of them
   module _ (hears : HearsFar (gave true)) (w2 : Watched W) (d2 : FarDay) (step : d2 ≡ far_next d1 Tick) where
     pub at_tick : SoFar far_next far_text (far_turn d) ticked remaining contents r r1 w w1 d d1 hears.events
-    at_tick = follow_on FarEnd (far_hears d) Behind (far_hears d) far_next far_text remaining contents r r1 w w1 d d1 hears.events (turn_local FarEnd (min (d.moment + 1) 300000) 64) hears.goes
+    at_tick = follow_on FarEnd (far_hears d) Afterwards (far_hears d) far_next far_text remaining contents r r1 w w1 d d1 hears.events (turn_local FarEnd (min (d.moment + 1) 300000) 64) hears.goes
 
     pub one_tick : ticks_of (hears.events ++ Tick ∷ []) ≡ 1
     one_tick = omega (arith, ticks_more hears.events (Tick ∷ []), hears.ticks)
@@ -78,7 +78,7 @@ module _ {R W : Type 0} (remaining : R → Option (List ℕ)) (contents : W → 
       events = hears.events ++ Tick ∷ [];
       goes = then_goes far_next far_text (far_turn d) ticked remaining contents r r1 r1 w w1 w2 d d1 d2 hears.events (Tick ∷ []) at_tick FarEnd (faulty WriteFailed) (record {
         day = step;
-        talk = λ known e. inr (inr (refl, record { read = []; is_read = record { rest = known; splits = refl; is_left = e }; all = refl; behind = refl; rest = refl; cut = inr (refl, refl, refl) }));
+        talk = λ known e. inr (inr (refl, record { read = []; is_read = record { rest = known; splits = refl; is_left = e }; all = refl; following = refl; rest = refl; cut = inr (refl, refl, refl) }));
         written = one_failed far_next far_text contents w1 w2 d1 Tick f writes;
         faulted = λ e. cc;
         counted = omega arith;
@@ -99,7 +99,7 @@ module _ (d : FarDay) (text : List ℕ) (b : Bool) where
         read = i.read;
         splits = i.splits;
         onward = λ more. ap (λ (t : Talk). follow t (λ events. ticked) (far_hears d (i.read ++ more))) (i.onward more)
-            ∙ ap (λ (c : Bool). record { events = (far_hears d text).events ++ Tick ∷ []; ending = Ok c; rest = more; behind = more }) same;
+            ∙ ap (λ (c : Bool). record { events = (far_hears d text).events ++ Tick ∷ []; ending = Ok c; rest = more; following = more }) same;
       }
   by_ending (Ok false) s e =
       let i = turn_local FarEnd (min (d.moment + 1) 300000) 64 text false (sym s) in
@@ -107,7 +107,7 @@ module _ (d : FarDay) (text : List ℕ) (b : Bool) where
       record {
         read = i.read;
         splits = i.splits;
-        onward = λ more. ap (λ (t : Talk). follow t (λ events. ticked) t) (i.onward more) ∙ ap (λ (c : Bool). record { events = (far_hears d text).events; ending = Ok c; rest = more; behind = more }) same;
+        onward = λ more. ap (λ (t : Talk). follow t (λ events. ticked) t) (i.onward more) ∙ ap (λ (c : Bool). record { events = (far_hears d text).events; ending = Ok c; rest = more; following = more }) same;
       }
   by_ending (Err fault) s e = cc
 
@@ -161,7 +161,7 @@ module _ {R W : Type 0} (remaining : R → Option (List ℕ)) (contents : W → 
       subst (λ (f : List ℕ → Talk). Goes FarEnd far_next far_text f remaining contents r r1 w w1 d d1 turn.events (gave false)) (sym (next_turn 0 d))
       (follow_day FarEnd (far_turn d) (Next 0 d) (Over 0 d) far_next far_text remaining contents r r1 w w1 d d1 turn.events (gave false) (λ e. cc) (λ e. cc) (λ known e. ended_so (far_turn d known) false e) turn.goes)
 
-  -- or with another behind it
+  -- or with another after it
   pub closed_went : (turns : ℕ) → Goes FarEnd far_next far_text (far_talk_in (suc (suc turns)) d) remaining contents r r1 w w1 d d1 turn.events (faulty Closed)
   closed_went turns =
       subst (λ (f : List ℕ → Talk). Goes FarEnd far_next far_text f remaining contents r r1 w w1 d d1 turn.events (faulty Closed)) (sym (next_turn (suc turns) d))
@@ -201,9 +201,9 @@ module _ {R W : Type 0} (remaining : R → Option (List ℕ)) (contents : W → 
       }
 
   module _ (r2 : Watched R) (w2 : Watched W) (d2 : FarDay) where
-    pub behind : (n : ℕ) (events : List Event) (result : Result Bool LinkFault) → Goes FarEnd far_next far_text (far_talk_in n d1) remaining contents r1 r2 w1 w2 d1 d2 events result
+    pub following : (n : ℕ) (events : List Event) (result : Result Bool LinkFault) → Goes FarEnd far_next far_text (far_talk_in n d1) remaining contents r1 r2 w1 w2 d1 d2 events result
         → Goes FarEnd far_next far_text (far_talk_in (count + n) d) remaining contents r r2 w w2 d d2 (p.events ++ events) result
-    behind n events result q = then_goes far_next far_text (far_talk_in (count + n) d) (far_talk_in n d1) remaining contents r r1 r2 w w1 w2 d d1 d2 p.events events (p.so_far n) FarEnd result q
+    following n events result q = then_goes far_next far_text (far_talk_in (count + n) d) (far_talk_in n d1) remaining contents r r1 r2 w w1 w2 d d1 d2 p.events events (p.so_far n) FarEnd result q
 
     abbrev pub far_goes_on : TakesTurn remaining contents r1 r2 w1 w2 d1 d2 (gave true) → FarSoFar remaining contents (count + 1) r r2 w w2 d d2
     far_goes_on turn = record {
@@ -219,7 +219,7 @@ module _ {R W : Type 0} (remaining : R → Option (List ℕ)) (contents : W → 
     abbrev pub far_failed : (fault : LinkFault) → TakesTurn remaining contents r1 r2 w1 w2 d1 d2 (faulty fault) → FarTalks remaining contents (count + 1) r r2 w w2 d d2 (faulty fault)
     far_failed fault turn = record {
       events = p.events ++ turn.events;
-      goes = behind 1 turn.events (faulty fault) (next_failed remaining contents 0 r1 r2 w1 w2 d1 d2 fault turn);
+      goes = following 1 turn.events (faulty fault) (next_failed remaining contents 0 r1 r2 w1 w2 d1 d2 fault turn);
       ticks = (omega arith, at_most turn.ticks);
     } where
       at_most : (ticks_of turn.events ≡ 0) ⊎ ((ticks_of turn.events ≡ 1) × (fault ≡ WriteFailed)) → ticks_of (p.events ++ turn.events) ≤ count + 1
@@ -229,13 +229,13 @@ module _ {R W : Type 0} (remaining : R → Option (List ℕ)) (contents : W → 
     abbrev pub far_ended : TakesTurn remaining contents r1 r2 w1 w2 d1 d2 (gave false) → FarTalks remaining contents (count + 1) r r2 w w2 d d2 (gave false)
     far_ended turn = record {
       events = p.events ++ turn.events;
-      goes = behind 1 turn.events (gave false) (last_went remaining contents r1 r2 w1 w2 d1 d2 turn);
+      goes = following 1 turn.events (gave false) (last_went remaining contents r1 r2 w1 w2 d1 d2 turn);
       ticks = omega (arith, ticks_more p.events turn.events, p.ticks, turn.ticks);
     }
 
     pub far_closed : TakesTurn remaining contents r1 r2 w1 w2 d1 d2 (gave false) → FarTalks remaining contents (count + 2) r r2 w w2 d d2 (faulty Closed)
     far_closed turn = record {
       events = p.events ++ turn.events;
-      goes = behind 2 turn.events (faulty Closed) (closed_went remaining contents r1 r2 w1 w2 d1 d2 turn 0);
+      goes = following 2 turn.events (faulty Closed) (closed_went remaining contents r1 r2 w1 w2 d1 d2 turn 0);
       ticks = (omega arith, omega (arith, ticks_more p.events turn.events, p.ticks, turn.ticks));
     }

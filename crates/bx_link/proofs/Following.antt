@@ -1,4 +1,4 @@
--- What is heard behind a turn that has ended.
+-- What is heard after a turn that has ended.
 use Rattle.std.proofs.Common.{◌≡◌, ℕ, List, [], ◌++◌, refl, sym, ap, ◌∙◌, append-nil, Option, Some, Result, Ok, Err, Bool, true, false, ◌⊎◌, inl, inr}
 use Rattle.std.specs.Io.KnownBytes.{Appends}
 use Rattle.bx_devices.specs.declared.watched.Watched.{Watched}
@@ -49,7 +49,7 @@ module _ (receiver : Receiver) (finds : List ℕ → Talk) (next : List Event �
   by_day : (text : List ℕ) → (finds text).ending ≡ Ok false → Follows text ≡ over text
   by_day text e = ap (λ (x : Result Bool LinkFault). follow_by x (finds text) next (over text)) e
 
-  -- a turn that has ended, and what comes behind it
+  -- a turn that has ended, and what comes after it
   beyond : (text : List ℕ) (events : List Event) (left : Option (List ℕ)) → IsLocalTalk finds → IsWhole (finds text) events (gave true) left → IsBeyond Follows (next events) text events left
   beyond text events left is_local whole =
       let i = is_local text true whole.ending in
@@ -60,13 +60,13 @@ module _ (receiver : Receiver) (finds : List ℕ → Talk) (next : List Event �
       }
 
   module _ (text : List ℕ) (events : List Event) (fault : LinkFault) (left : Option (List ℕ)) (quiet : ticks_last false events ≡ true → IsQuiet (next events [])) where
-    unread_so : (read : List ℕ) → IsRead text read left → (talk : Talk) → Follows read ≡ talk → events ≡ talk.events → talk.behind ≡ [] → talk.rest ≡ []
+    unread_so : (read : List ℕ) → IsRead text read left → (talk : Talk) → Follows read ≡ talk → events ≡ talk.events → talk.following ≡ [] → talk.rest ≡ []
         → BreaksOff receiver talk.ending events → IsUnread receiver Follows text events left
-    unread_so read is_read talk e all behind rest cut = record {
+    unread_so read is_read talk e all following rest cut = record {
       read = read;
       is_read = is_read;
       all = all ∙ sym (ap (λ (t : Talk). t.events) e);
-      behind = ap (λ (t : Talk). t.behind) e ∙ behind;
+      following = ap (λ (t : Talk). t.following) e ∙ following;
       rest = ap (λ (t : Talk). t.rest) e ∙ rest;
       cut = cut_so cut;
     } where
@@ -74,8 +74,8 @@ module _ (receiver : Receiver) (finds : List ℕ → Talk) (next : List Event �
       cut_so (inl f) = inl (ap (λ (t : Talk). t.ending) e ∙ f)
       cut_so (inr (f, last, far)) = inr (ap (λ (t : Talk). t.ending) e ∙ f, last, far)
 
-    behind_tick : (u : IsUnread receiver finds text events left) → (finds u.read).ending ≡ Ok true → ticks_last false events ≡ true → is_far receiver ≡ true → IsQuiet (next events []) → IsUnread receiver Follows text events left
-    behind_tick u ended last far q =
+    after_tick : (u : IsUnread receiver finds text events left) → (finds u.read).ending ≡ Ok true → ticks_last false events ≡ true → is_far receiver ≡ true → IsQuiet (next events []) → IsUnread receiver Follows text events left
+    after_tick u ended last far q =
         let e : Follows u.read ≡ with_events events (next events []) =
         by_end u.read ended ∙ ap (λ (l : List ℕ). with_events (finds u.read).events (next (finds u.read).events l)) u.rest ∙ ap (λ (l : List Event). with_events l (next l [])) (sym u.all) in
         by_quiet e q where
@@ -92,8 +92,8 @@ module _ (receiver : Receiver) (finds : List ℕ → Talk) (next : List Event �
         inr (inl (failed, record { read = torn.read; is_read = torn.is_read; all = torn.all ∙ sym (ap (λ (t : Talk). t.events) e); cut = ap (λ (t : Talk). t.ending) e ∙ torn.cut }))
     stopped (inr (inr (failed, u))) = inr (inr (failed, by_cut u.cut)) where
       by_cut : BreaksOff receiver (finds u.read).ending events → IsUnread receiver Follows text events left
-      by_cut (inl cut) = unread_so u.read u.is_read (finds u.read) (by_fault u.read EndedInFrame cut) u.all u.behind u.rest (inl cut)
-      by_cut (inr (ended, last, far)) = behind_tick u ended last far (quiet last)
+      by_cut (inl cut) = unread_so u.read u.is_read (finds u.read) (by_fault u.read EndedInFrame cut) u.all u.following u.rest (inl cut)
+      by_cut (inr (ended, last, far)) = after_tick u ended last far (quiet last)
 
   module _ {D R W : Type 0} (step : D → Event → D) (text : D → Event → List ℕ) (remaining : R → Option (List ℕ)) (contents : W → Option (List ℕ)) (r r1 : Watched R) (w w1 : Watched W) (d d1 : D) (events : List Event) where
     abbrev GoesBy : (List ℕ → Talk) → Result Bool LinkFault → Type 0
@@ -121,7 +121,7 @@ module _ (receiver : Receiver) (finds : List ℕ → Talk) (next : List Event �
 
     -- the day has ended
     pub follow_day : (result : Result Bool LinkFault) → (result ≡ Err ReadFailed → ⊥) → (result ≡ Err WriteFailed → ⊥)
-        → ((known : List ℕ) → (finds known).ending ≡ Ok false → over known ≡ record { events = (finds known).events; ending = result; rest = (finds known).rest; behind = (finds known).behind })
+        → ((known : List ℕ) → (finds known).ending ≡ Ok false → over known ≡ record { events = (finds known).events; ending = result; rest = (finds known).rest; following = (finds known).following })
         → GoesBy finds (gave false) → GoesBy Follows result
     follow_day result no_read no_write same p = record {
       day = p.day;

@@ -91,7 +91,7 @@ pub record FarFailed {R W S T : Type 0} (turns : ℕ) (near : Passage Day R W) (
   pub near_side : NearWaits turns taken near
   pub far_side : FarSide far taken result
 
--- or behind the last; or the end of a turn came to it there, which the exchange's session, closed by the end of the
+-- or after the last; or the end of a turn came to it there, which the exchange's session, closed by the end of the
 -- day, does not close
 pub record FarFailedAtEnd {R W S T : Type 0} (turns : ℕ) (near : Passage Day R W) (far : Passage FarDay S T) (result : Result Bool LinkFault) : Type 0 where
   pub fault : LinkFault

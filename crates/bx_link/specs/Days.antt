@@ -21,7 +21,7 @@ use Rattle.bx_events.specs.declared.moment.TheConstants.{LAST_MOMENT}
 
 -- ---- several turns of the exchange
 
--- of so many turns each was opened; or at a fault the one in which it was, and none behind it
+-- of so many turns each was opened; or at a fault the one in which it was, and none after it
 abbrev pub opened : ℕ → Result Bool LinkFault → ℕ → Type 0
 opened turns (Ok b) n = n ≡ turns
 opened turns (Err fault) n = (0 < n) × (n ≤ turns)
@@ -30,14 +30,14 @@ opened turns (Err fault) n = (0 < n) × (n ≤ turns)
 abbrev pub Talks : {R W : Type 0} → (R → Option (List ℕ)) → (W → Option (List ℕ)) → ℕ → Watched R → Watched R → Watched W → Watched W → Day → Day → Result Bool LinkFault → Type 0
 Talks remaining contents turns r r' w w' d d' result = Went Exchange exchange_next exchange_text (talk_in turns d) (opened turns) remaining contents r r' w w' d d' result
 
--- the end of the day was written; or a write failed, and a front of it was written, which is not the whole
+-- the end of the day was written; or a write failed, and a prefix of it was written, which is not the whole
 pub record EndsDay {W : Type 0} (contents : W → Option (List ℕ)) (w w' : Watched W) (result : Result Bool LinkFault) : Type 0 where
   pub whole : (result ≡ Err WriteFailed) ⊎ ((result ≡ Ok true) × Appends (contents (device_of w)) (contents (device_of w')) day_frame)
   pub part : result ≡ Err WriteFailed → AppendsPart (contents (device_of w)) (contents (device_of w')) day_frame
   pub faulted : result ≡ Err WriteFailed → is_faulted w' ≡ true
   pub unfaulted : (is_faulted w' ≡ is_faulted w) ⊎ (result ≡ Err WriteFailed)
 
--- behind its last turn an exchange wrote the end of the day
+-- after its last turn an exchange wrote the end of the day
 pub record TalksToEnd {R W : Type 0} (remaining : R → Option (List ℕ)) (contents : W → Option (List ℕ)) (turns : ℕ) (r r' : Watched R) (w w' : Watched W) (d d' : Day) (result : Result Bool LinkFault) : Type 0 where
   pub last : Watched W
   pub talks : Talks remaining contents turns r r' w last d d' (Ok true)

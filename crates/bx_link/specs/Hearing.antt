@@ -30,14 +30,14 @@ abbrev pub Hears : {R W : Type 0} → (R → Option (List ℕ)) → (W → Optio
 Hears remaining contents r r' w w' d d' result = Went Exchange exchange_next exchange_text (exchange_turn d) no_tick remaining contents r r' w w' d d' (turned result)
 
 -- a far end ticks just where an end of turn has come
-abbrev pub tick_behind : Result Bool LinkFault → ℕ → Type 0
-tick_behind (Ok true) n = n ≡ 1
-tick_behind (Ok false) n = n ≡ 0
-tick_behind (Err fault) n = (n ≡ 0) ⊎ ((n ≡ 1) × (fault ≡ WriteFailed))
+abbrev pub tick_after : Result Bool LinkFault → ℕ → Type 0
+tick_after (Ok true) n = n ≡ 1
+tick_after (Ok false) n = n ≡ 0
+tick_after (Err fault) n = (n ≡ 0) ⊎ ((n ≡ 1) × (fault ≡ WriteFailed))
 
 -- a far end took a turn
 abbrev pub TakesTurn : {R W : Type 0} → (R → Option (List ℕ)) → (W → Option (List ℕ)) → Watched R → Watched R → Watched W → Watched W → FarDay → FarDay → Result Bool LinkFault → Type 0
-TakesTurn remaining contents r r' w w' d d' result = Went FarEnd far_next far_text (far_turn d) tick_behind remaining contents r r' w w' d d' result
+TakesTurn remaining contents r r' w w' d d' result = Went FarEnd far_next far_text (far_turn d) tick_after remaining contents r r' w w' d d' result
 
 -- more turns may follow
 abbrev pub goes_on : Result Bool LinkFault → Bool

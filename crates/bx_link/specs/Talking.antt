@@ -18,7 +18,7 @@ follow_by (Ok true) first next over = with_events first.events (next first.event
 follow_by (Ok false) first next over = over
 follow_by (Err fault) first next over = first
 
--- what happens behind an end of turn, by what happened before it; and what there is where the day ended
+-- what happens after an end of turn, by what happened before it; and what there is where the day ended
 abbrev pub follow : Talk → (List Event → List ℕ → Talk) → Talk → Talk
 follow first next over = follow_by first.ending first next over
 
@@ -37,12 +37,12 @@ talk_in (suc turns) d text =
 
 -- ---- the far end
 
--- what it hears, and a tick behind the end of turn
+-- what it hears, and a tick after the end of turn
 abbrev pub far_hears : FarDay → List ℕ → Talk
 far_hears d text = turn_in FarEnd (far_due d) 64 text
 
 abbrev pub ticked : List ℕ → Talk
-ticked text = record { events = Tick ∷ []; ending = Ok true; rest = text; behind = text }
+ticked text = record { events = Tick ∷ []; ending = Ok true; rest = text; following = text }
 
 abbrev pub far_turn : FarDay → List ℕ → Talk
 far_turn d text = follow (far_hears d text) (λ events. ticked) (far_hears d text)

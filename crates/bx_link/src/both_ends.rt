@@ -16,7 +16,7 @@ use std::io::{Read, Write};
 /// Runs a day of both ends, each at its end of a connection. The exchange opens a turn, the far end takes it, and
 /// the exchange closes it, so many times, or as many as there are to `LAST_MOMENT` where that is fewer; then the
 /// exchange writes the end of the day, and the far end hears it. Takes no memory. The first fault of either end's
-/// session is answered, and nothing is done behind it; and `Closed` where an end of turn comes to the far end in
+/// session is answered, and nothing is done after it; and `Closed` where an end of turn comes to the far end in
 /// place of the end of the day, since the exchange's session is closed then.
 pub fn run_both_ends<E: End<Exchange>, R: Read, W: Write, S: Read, T: Write>(
     exchange: &mut E,

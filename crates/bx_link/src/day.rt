@@ -29,10 +29,10 @@ fn run_turns<E: End<Exchange>, R: Read, W: Write>(
 }
 
 /// Opens and closes so many turns, or as many as there are to `LAST_MOMENT` where that is fewer, and then
-/// writes the end of the day. Each of these turns has its tick, and nothing is read behind the last end of turn.
+/// writes the end of the day. Each of these turns has its tick, and nothing is read after the last end of turn.
 /// Takes no memory. The first fault of the session is answered: the exchange has then gone through all whole turns, the next tick,
 /// and each message of that turn that came whole; what was written is theirs. At `WriteFailed` the write was that of the last of
-/// these, or of the end of the day; a front of that was written, but not all of it, and nothing was read behind the last of these.
+/// these, or of the end of the day; a prefix of that was written, but not all of it, and nothing was read after the last of these.
 pub fn run_day<E: End<Exchange>, R: Read, W: Write>(
     exchange: &mut E,
     reader: &mut Watched<R>,

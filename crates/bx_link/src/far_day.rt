@@ -11,8 +11,8 @@ use std::io::{Read, Write};
 /// More turns than a connection lasts for.
 const MOST_TURNS: u64 = u64::MAX;
 
-/// Takes turns until the exchange ends the day; each but the last of them has its tick. Nothing is read behind the end
-/// of the day. Takes no memory. The first fault of a turn is answered; and `Closed` behind 2^64 - 1 turns.
+/// Takes turns until the exchange ends the day; each but the last of them has its tick. Nothing is read after the end
+/// of the day. Takes no memory. The first fault of a turn is answered; and `Closed` after 2^64 - 1 turns.
 pub fn run_far_day<E: End<Far>, R: Read, W: Write>(
     far: &mut E,
     reader: &mut Watched<R>,

@@ -35,14 +35,14 @@ impl FarSession {
 
     /// Takes a turn: each message that comes is received by the far end, and the reply is written, up to the end of
     /// turn with the moment that is due, one after the far end's, and at 300,000 the same. Then the far end ticks,
-    /// and each message that it sends is written as a frame, in order, and behind them the end of turn with its
+    /// and each message that it sends is written as a frame, in order, and after them the end of turn with its
     /// moment. Answers true; or false where the end of the day comes in place of the end of turn, and the far end
-    /// does not tick. Nothing is read behind either. Takes no memory.
+    /// does not tick. Nothing is read after either. Takes no memory.
     ///
     /// Another moment is `WrongMoment`, and the far end does not tick; a 65th message is `MoreThan64Messages`. A
     /// closed session answers `Closed`, and neither reads nor writes. At any fault the session is closed: the far end
     /// has received each message that came whole, and no more. Where a write failed it was that of the reply to the
-    /// last message that was received, and nothing was read behind that message; or it was that of the tick, which has
+    /// last message that was received, and nothing was read after that message; or it was that of the tick, which has
     /// happened. It was not written whole, and all that is written before it was.
     pub fn far_turn<E: End<Far>, R: Read, W: Write>(
         &mut self,

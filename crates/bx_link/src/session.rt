@@ -49,7 +49,7 @@ impl Session {
 
     /// Opens a turn, where none is open: the exchange ticks, and each message that it sends is written as a frame, in
     /// order, and then the end of turn with its moment. Takes no memory. A closed session answers `Closed`, and neither
-    /// ticks nor writes. At `WriteFailed` the session is closed: the tick has happened, and a front of
+    /// ticks nor writes. At `WriteFailed` the session is closed: the tick has happened, and a prefix of
     /// these octets was written, but not all of them.
     pub fn open_turn<E: End<Exchange>, W: Write>(
         &mut self,
@@ -81,10 +81,10 @@ impl Session {
     }
 
     /// Closes a turn: one is open, unless the session is closed. Each message that comes is received by the exchange, and the
-    /// reply is written, up to the end of turn with the exchange's moment. Nothing is read behind it. Takes no memory. A closed
+    /// reply is written, up to the end of turn with the exchange's moment. Nothing is read after it. Takes no memory. A closed
     /// session answers `Closed`, and neither reads nor writes. At any other fault, which is one of `hear_turn`, the session is
     /// closed: the exchange has received each message that came whole, and no more. At `WriteFailed` the write was that of the
-    /// reply to the last message that was received: it was not written whole, nothing was read behind that message, and all
+    /// reply to the last message that was received: it was not written whole, nothing was read after that message, and all
     /// replies before were written whole.
     pub fn close_turn<E: End<Exchange>, R: Read, W: Write>(
         &mut self,

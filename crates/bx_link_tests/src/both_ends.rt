@@ -83,9 +83,9 @@ fn spoken(moment: u8) -> (&'static [u8], &'static [u8]) {
     }
 }
 
-/// Whether these are the front's octets, and behind them the end of the turn with this moment.
-fn ends_with(octets: &[u8], front: &[u8], moment: u8) -> bool {
-    octets.strip_prefix(front) == Some([2, 0, 4, 0, 0, 0, moment].as_slice())
+/// Whether these are the prefix's octets, and after them the end of the turn with this moment.
+fn ends_with(octets: &[u8], prefix: &[u8], moment: u8) -> bool {
+    octets.strip_prefix(prefix) == Some([2, 0, 4, 0, 0, 0, moment].as_slice())
 }
 
 /// Whether both ends say in this turn what they should.

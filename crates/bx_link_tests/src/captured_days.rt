@@ -31,12 +31,12 @@ fn packets(alloc: Global, second: u32, messages: &[(Direction, &[u8])]) -> Optio
     Some(all)
 }
 
-/// Whether a file that fails after so many writes has a front of the packets, all of them where it does not fail.
+/// Whether a file that fails after so many writes has a prefix of the packets, all of them where it does not fail.
 fn holds(file: &[u8], whole: &[u8], is_whole: bool) -> bool {
     whole.starts_with(file) && (file.len() == whole.len()) == is_whole
 }
 
-/// Whether the exchange's day goes on in the same way, and its capture is a front, where the file takes so many octets.
+/// Whether the exchange's day goes on in the same way, and its capture is a prefix, where the file takes so many octets.
 fn exchange_captured(alloc: Global, calls: u32) -> Option<bool> {
     let whole = packets(
         alloc,

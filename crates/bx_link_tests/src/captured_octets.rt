@@ -7,7 +7,7 @@ use bx_devices::Watched;
 use bx_q931::Octets;
 use std::alloc::Global;
 
-/// What stands at the front of each capture file.
+/// What stands at the start of each capture file.
 pub(crate) static HEADER: [u8; 24] = [
     0xA1, 0xB2, 0xC3, 0xD4, 0, 2, 0, 4, 0, 0, 0, 0, 0, 0, 0, 0, 0, 0, 0xFF, 0xFF, 0, 0, 0, 0xFC,
 ];

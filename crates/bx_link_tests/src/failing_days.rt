@@ -44,8 +44,8 @@ fn reads(alloc: Global, reads: u32) -> Option<bool> {
     let result = run_day(&mut exchange, &mut reader, &mut writer, 1);
     let is_ended = result == expected && reader.faulted() == (reads < 20);
     let held = writer.into_inner();
-    let is_front = held.len() == count && whole.starts_with(held.as_slice());
-    Some(is_ended && is_front && is_active(&exchange) == (reads >= 13))
+    let is_prefix = held.len() == count && whole.starts_with(held.as_slice());
+    Some(is_ended && is_prefix && is_active(&exchange) == (reads >= 13))
 }
 
 #[test]
@@ -75,8 +75,8 @@ fn writes(alloc: Global, writes: u32) -> Option<bool> {
     let is_ended = result == expected && exchange.moment() == 1;
     let is_left = reader.into_inner().len() == left;
     let held = writer.into_inner().into_inner();
-    let is_front = held.len() == writes.min(43) as usize && whole.starts_with(held.as_slice());
-    Some(is_ended && is_left && is_front)
+    let is_prefix = held.len() == writes.min(43) as usize && whole.starts_with(held.as_slice());
+    Some(is_ended && is_left && is_prefix)
 }
 
 #[test]

@@ -62,8 +62,8 @@ fn writes(alloc: Global, writes: u32) -> Option<bool> {
     let is_ended = result == expected && far.moment() == moment;
     let is_left = reader.into_inner().len() == left;
     let held = writer.into_inner().into_inner();
-    let is_front = held.len() == writes as usize && whole.starts_with(held.as_slice());
-    Some(is_ended && is_left && is_front)
+    let is_prefix = held.len() == writes as usize && whole.starts_with(held.as_slice());
+    Some(is_ended && is_left && is_prefix)
 }
 
 #[test]

@@ -7,7 +7,7 @@ use bx_link::FarSession;
 use bx_worked_days::far_end;
 use std::alloc::Global;
 
-/// What is tried; so many frames that are refused, and what comes behind them; how the turn ends, and how many octets are left.
+/// What is tried; so many frames that are refused, and what comes after them; how the turn ends, and how many octets are left.
 type Ending = (
     &'static str,
     u8,
@@ -129,10 +129,10 @@ static ENDINGS: [Ending; 20] = [
     ),
 ];
 
-/// Whether so many refusals are written, and the end of the turn behind them where the far end ticks.
+/// Whether so many refusals are written, and the end of the turn after them where the far end ticks.
 fn is_written(alloc: Global, octets: &[u8], refusals: u8, ticks: bool) -> bool {
-    let behind = if ticks { END_OF_TURN } else { &[] };
-    match repeated(alloc, FAR_REFUSAL, refusals, behind) {
+    let following = if ticks { END_OF_TURN } else { &[] };
+    match repeated(alloc, FAR_REFUSAL, refusals, following) {
         Some(expected) => octets == expected.as_slice(),
         None => false,
     }
@@ -141,8 +141,8 @@ fn is_written(alloc: Global, octets: &[u8], refusals: u8, ticks: bool) -> bool {
 /// Whether the turn ends so, leaves so many octets, and writes just its replies; the session is over where the far
 /// end does not tick, and then answers `Closed`.
 fn ends_so(alloc: Global, ending: &Ending) -> Option<bool> {
-    let (_, count, behind, expected, left) = *ending;
-    let input = repeated(alloc, FAR_STRAY, count, behind)?;
+    let (_, count, following, expected, left) = *ending;
+    let input = repeated(alloc, FAR_STRAY, count, following)?;
     let mut far = far_end(alloc)?;
     let mut session = FarSession::new();
     let mut reader = Watched::new(input.as_slice());

@@ -15,7 +15,7 @@ pub(crate) const CONNECT: &[u8] = &[
     0x01, 0x00, 0x0A, 0x08, 0x02, 0x80, 0x01, 0x07, 0x18, 0x03, 0xA9, 0x83, 0x81,
 ];
 
-/// The front of a CONNECT that does not come whole.
+/// The prefix of a CONNECT that does not come whole.
 pub(crate) const TORN: &[u8] = &[0x01, 0x00, 0x0A, 0x08, 0x02];
 
 pub(crate) const CONNECT_ACKNOWLEDGE: &[u8] = &[0x01, 0x00, 0x05, 0x08, 0x02, 0x00, 0x01, 0x0F];
@@ -48,13 +48,18 @@ pub(crate) const FAR_REFUSAL: &[u8] = &[
     0x01, 0x00, 0x09, 0x08, 0x02, 0x80, 0x09, 0x5A, 0x08, 0x02, 0x80, 0xD1,
 ];
 
-/// So many frames, one after another, and what stands behind them.
-pub(crate) fn repeated(alloc: Global, frame: &[u8], count: u8, behind: &[u8]) -> Option<Vec<u8>> {
+/// So many frames, one after another, and what stands after them.
+pub(crate) fn repeated(
+    alloc: Global,
+    frame: &[u8],
+    count: u8,
+    following: &[u8],
+) -> Option<Vec<u8>> {
     let mut octets = Vec::new(alloc);
     for _ in 0..count {
         octets.extend_from_slice(frame).ok()?;
     }
-    octets.extend_from_slice(behind).ok()?;
+    octets.extend_from_slice(following).ok()?;
     Some(octets)
 }
 

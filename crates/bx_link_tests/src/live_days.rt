@@ -8,7 +8,7 @@ use bx_live::{Begin, CannotRecord, Loss, run_live};
 use bx_worked_days::exchange;
 use std::alloc::Global;
 
-/// A peer is lost in the first second behind an end of turn that is none; the second has none; in the third one comes, asks for
+/// A peer is lost in the first second after an end of turn that is none; the second has none; in the third one comes, asks for
 /// a call that is unknown and ends its turn; the fourth begins late; in the fifth it sends half a frame; the sixth has none; in
 /// the last two one ends its turns. No timer runs in the second, the fourth and the sixth, so T303 is due in the eighth.
 static SECONDS: [Scene; 8] = [
@@ -54,7 +54,7 @@ static OPENED: [u8; 32] = [
 
 /// The end of the turn of moment 3, the refusal of the unknown call, the ends of the turns of moments 5 and 7, and the SETUP once
 /// more, with the end of the turn of moment 8.
-static BEHIND: [u8; 65] = [
+static FOLLOWING: [u8; 65] = [
     2, 0, 4, 0, 0, 0, 3, 1, 0, 9, 8, 2, 0, 9, 0x5A, 8, 2, 0x82, 0xD1, 2, 0, 4, 0, 0, 0, 5, 2, 0, 4,
     0, 0, 0, 7, 1, 0, 0x16, 8, 2, 0, 1, 5, 0xA1, 4, 2, 0x88, 0x90, 0x18, 3, 0xA9, 0x83, 0x81, 0x70,
     5, 0x81, 0x31, 0x32, 0x33, 0x34, 2, 0, 4, 0, 0, 0, 8,
@@ -82,7 +82,7 @@ fn has_lines(world: &MemoryWorld, letters: &[u8]) -> bool {
     true
 }
 
-/// Runs the seconds with room for so many lines and so many syncs: how it ended, the moment, and the world behind it.
+/// Runs the seconds with room for so many lines and so many syncs: how it ended, the moment, and the world after it.
 fn run(
     alloc: Global,
     lines: u32,
@@ -106,7 +106,7 @@ fn goes_through(alloc: Global) -> Option<bool> {
         is_done
             && is_lost
             && is_kept
-            && octets.strip_prefix(OPENED.as_slice()) == Some(BEHIND.as_slice()),
+            && octets.strip_prefix(OPENED.as_slice()) == Some(FOLLOWING.as_slice()),
     )
 }
 
@@ -130,7 +130,7 @@ fn stops(
     Some(is_stopped && is_kept && world.into_written().len() == written)
 }
 
-/// A peer ends its first turn, and no second begins behind it.
+/// A peer ends its first turn, and no second begins after it.
 static SHORT: [Scene; 2] = [
     Scene {
         begin: Begin::Joined,

@@ -19,7 +19,7 @@ pub struct Scene {
     pub input: &'static [u8],
 }
 
-/// A world whose seconds are these, from the first on. No peer is there behind the last of them.
+/// A world whose seconds are these, from the first on. No peer is there after the last of them.
 #[derive(Drop)]
 pub struct MemoryWorld {
     scenes: &'static [Scene],
@@ -35,7 +35,7 @@ pub struct MemoryWorld {
     pub is_over: bool,
     /// Whether all that the peer sends in a second comes at once.
     pub is_together: bool,
-    /// What was read behind the last message that was taken.
+    /// What was read after the last message that was taken.
     ahead: Option<Result<u32, LinkFault>>,
 }
 

@@ -21,7 +21,7 @@ const WHOLE: Told = (Begin::Joined, None);
 
 const LOST: Told = (Begin::Joined, Some(LinkFault::LinkReset));
 
-/// The second behind a loss goes by without a link, so that the day asks.
+/// The second after a loss goes by without a link, so that the day asks.
 const AWAY: Told = (Begin::Alone, None);
 
 static RESETS: [Reset; 4] = [

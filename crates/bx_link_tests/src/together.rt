@@ -43,7 +43,7 @@ fn are_replies(octets: &[u8]) -> bool {
     is_connected && is_refused && octets.len() == 348
 }
 
-/// How many syncs there were, how many lines are on record, and whether the replies were written, in their order.
+/// How many syncs there were, how many lines are logged, and whether the replies were written, in their order.
 fn run(alloc: Global, is_together: bool) -> Option<(u32, usize, bool)> {
     let mut exchange = exchange_of(alloc, &ROWS)?;
     let mut world = MemoryWorld::new(alloc, &SECOND, 100);

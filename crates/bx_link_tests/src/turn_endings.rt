@@ -7,7 +7,7 @@ use bx_link::Session;
 use bx_worked_days::exchange;
 use std::alloc::Global;
 
-/// What is tried; so many frames that are refused, and what comes behind them; how the turn ends, and how many octets are left.
+/// What is tried; so many frames that are refused, and what comes after them; how the turn ends, and how many octets are left.
 type Ending = (
     &'static str,
     u8,
@@ -120,8 +120,8 @@ fn is_written(alloc: Global, octets: &[u8], refusals: u8) -> bool {
 
 /// Whether the turn is opened, ends so at moment 1, leaves so many octets, and writes just its replies.
 fn ends_so(alloc: Global, ending: &Ending) -> Option<bool> {
-    let (_, count, behind, expected, left) = *ending;
-    let input = repeated(alloc, STRAY, count, behind)?;
+    let (_, count, following, expected, left) = *ending;
+    let input = repeated(alloc, STRAY, count, following)?;
     let mut exchange = exchange(alloc)?;
     let mut session = Session::new();
     let mut reader = Watched::new(input.as_slice());

@@ -1,4 +1,4 @@
-//! A wire in memory with a clock of its own, behind which the far end runs its day.
+//! A wire in memory with a clock of its own, after which the far end runs its day.
 
 ghost use Rattle.std.specs.Prelude.{◌<◌, ◌^◌};
 
@@ -36,7 +36,7 @@ struct Flying {
     octets: FrameOctets,
 }
 
-/// The wire, with the far end behind it, and how many frames were lost.
+/// The wire, with the far end after it, and how many frames were lost.
 #[derive(Drop)]
 pub struct MemoryWire {
     now: u64,

@@ -1,4 +1,4 @@
--- The day of a run is the one after the events that are on record.
+-- The day of a run is the one after the events that are logged.
 use Rattle.std.proofs.Common.{◌≡◌, ℕ, zero, suc, ◌==◌, Option, Some, None, List, [], ◌∷◌, ◌++◌, OnOk, refl, sym, ap, ◌∙◌, true, false, Bool, Result, Ok, Err, if◌then◌else◌}
 use Rattle.arrayvec.specs.ArrayVec.{ArrayVec}
 use Rattle.bx_frames.specs.declared.fault.LinkFault.{LinkFault}
@@ -52,7 +52,7 @@ lost_day : (d : Day) (loss : Loss) → day_at (lost d loss) ≡ d
 lost_day d losses.Late = refl
 lost_day d (losses.Fault fault) = refl
 
--- the day behind one act
+-- the day after one act
 abbrev pub Steps : Place → Act → Type 0
 Steps p act = day_at (next p act) ≡ live_day_after (recorded (act ∷ [])) (day_at p)
 
@@ -107,7 +107,7 @@ run_day p q (act ∷ acts) (due, goes) = run_day (next p act) q acts goes ∙ (a
 
 -- what was said among these acts was said
 pub ended_inside : (xs ys zs : List Act) → ended ys ≡ true → ended (xs ++ (ys ++ zs)) ≡ true
-ended_inside xs ys zs e = behind xs (ys ++ zs) (before ys zs e) where
+ended_inside xs ys zs e = following xs (ys ++ zs) (before ys zs e) where
   before : (ys zs : List Act) → ended ys ≡ true → ended (ys ++ zs) ≡ true
   before [] zs e = cc
   before (Began second begins.Ended ∷ ys) zs e = refl
@@ -122,19 +122,19 @@ ended_inside xs ys zs e = behind xs (ys ++ zs) (before ys zs e) where
   before (Took message ∷ ys) zs e = before ys zs e
   before (EndedDay ∷ ys) zs e = before ys zs e
 
-  behind : (xs ys : List Act) → ended ys ≡ true → ended (xs ++ ys) ≡ true
-  behind [] ys e = e
-  behind (Began second begins.Ended ∷ xs) ys e = refl
-  behind (Began second begins.Late ∷ xs) ys e = behind xs ys e
-  behind (Began second begins.Alone ∷ xs) ys e = behind xs ys e
-  behind (Began second begins.Joined ∷ xs) ys e = behind xs ys e
-  behind (Dropped loss ∷ xs) ys e = behind xs ys e
-  behind (Recorded event done ∷ xs) ys e = behind xs ys e
-  behind (Synced done ∷ xs) ys e = behind xs ys e
-  behind (Wrote octets done ∷ xs) ys e = behind xs ys e
-  behind (Read room answer ∷ xs) ys e = behind xs ys e
-  behind (Took message ∷ xs) ys e = behind xs ys e
-  behind (EndedDay ∷ xs) ys e = behind xs ys e
+  following : (xs ys : List Act) → ended ys ≡ true → ended (xs ++ ys) ≡ true
+  following [] ys e = e
+  following (Began second begins.Ended ∷ xs) ys e = refl
+  following (Began second begins.Late ∷ xs) ys e = following xs ys e
+  following (Began second begins.Alone ∷ xs) ys e = following xs ys e
+  following (Began second begins.Joined ∷ xs) ys e = following xs ys e
+  following (Dropped loss ∷ xs) ys e = following xs ys e
+  following (Recorded event done ∷ xs) ys e = following xs ys e
+  following (Synced done ∷ xs) ys e = following xs ys e
+  following (Wrote octets done ∷ xs) ys e = following xs ys e
+  following (Read room answer ∷ xs) ys e = following xs ys e
+  following (Took message ∷ xs) ys e = following xs ys e
+  following (EndedDay ∷ xs) ys e = following xs ys e
 
 -- of any answer, what holds anyway
 pub at_any : {A E : Type 0} {P : Type 0} (r : Result A E) → P → OnOk r P

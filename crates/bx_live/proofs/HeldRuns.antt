@@ -39,10 +39,10 @@ held_on last d (EndedDay ∷ xs) ys h k = held_on last d xs ys h k
 -- one second that was wanted
 pub held_second : (last : ℕ) (d : Day) (acts : List Act) → IsOneSecond d.moment acts → d.moment < 300000 → (d.moment < last) ⊎ (has_call d ≡ true) → AreHeld last d acts
 held_second last d acts second early wanted =
-    subst (AreHeld last d) (sym second.are) (omega (arith, early), behind_last wanted, held_none last d second.behind second.one) where
-      behind_last : (d.moment < last) ⊎ (has_call d ≡ true) → last < d.moment + 1 → has_call d ≡ true
-      behind_last (inl before) behind = absurd (omega (arith, before, behind))
-      behind_last (inr up) behind = up
+    subst (AreHeld last d) (sym second.are) (omega (arith, early), after_last wanted, held_none last d second.following second.one) where
+      after_last : (d.moment < last) ⊎ (has_call d ≡ true) → last < d.moment + 1 → has_call d ≡ true
+      after_last (inl before) following = absurd (omega (arith, before, following))
+      after_last (inr up) following = up
 
 module _ {W : Type 0} {did : W → List Act → W → Type 0} (more : (u v w : W) (xs ys : List Act) → did u xs v → did v ys w → did u (xs ++ ys) w) where
   abbrev pub HeldTo : ℕ → W → W → Day → Place → Type 0
@@ -68,7 +68,7 @@ module _ {W : Type 0} {did : W → List Act → W → Type 0} (more : (u v w : W
       let inside = ended_inside so_far.0.acts second.run.acts close.acts (second.said refl) in
       (h.0, record { after = closed_day_is (Between d) d2 r h.0.acts h.0.goes; held = h.1; out = at_any r (λ none. absurd (true≢false (sym inside ∙ none))) })
 
-  -- a second could not be put on record
+  -- a second could not be logged
   pub breaks_held : {u v w : W} (last : ℕ) (d d1 d2 : Day) (fault : CannotRecord) → HeldTo last u v d (Between d1) → (run : Runs did v w (Between d1) (Over d2)) → AreHeld last d1 run.acts
       → (ran : Runs did u w (Between d) (Over d2)) × IsHeldRun last d d2 ran.acts (Err fault)
   breaks_held last d d1 d2 fault so_far run held =

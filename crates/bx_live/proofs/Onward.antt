@@ -1,4 +1,4 @@
--- Whatever is written belongs to the last event on record.
+-- Whatever is written belongs to the last event in the journal.
 use Rattle.std.proofs.Common.{◌≡◌, ◌⊎◌, inl, inr, ℕ, zero, suc, ◌+◌, Option, Some, None, List, [], ◌∷◌, ◌++◌, refl, sym, ap, ◌∙◌, subst, true, false, Bool, Result, Ok, Err, ◌==◌, if◌then◌else◌}
 use Rattle.std.proofs.lemmas.List.{append-nil, append_assoc}
 use Rattle.arrayvec.specs.ArrayVec.{ArrayVec}
@@ -19,7 +19,7 @@ use Rattle.bx_live.specs.Written.{Filed, filed, filed_by, AreHeard, IsWrittenFor
 use Rattle.bx_live.proofs.Due.{by_due}
 use Rattle.bx_live.proofs.Days.{step_day}
 
--- ---- lists of acts, one behind the other
+-- ---- lists of acts, one after the other
 
 days_on : (xs ys : List LiveEvent) (d : Day) → live_day_after (xs ++ ys) d ≡ live_day_after ys (live_day_after xs d)
 days_on [] ys d = refl
@@ -52,7 +52,7 @@ filed_on (Read room answer ∷ xs) ys f = filed_on xs ys f
 filed_on (Took message ∷ xs) ys f = filed_on xs ys f
 filed_on (EndedDay ∷ xs) ys f = filed_on xs ys f
 
--- all that is on record is on the disk, or behind the last sync
+-- all that is logged is on the disk, or after the last sync
 all_filed : (xs : List Act) (f : Filed) → (filed_by xs f).disk ++ (filed_by xs f).more ≡ (f.disk ++ f.more) ++ recorded xs
 all_filed [] f = sym (append-nil (f.disk ++ f.more))
 all_filed (Began second begin ∷ xs) f = all_filed xs f
@@ -103,21 +103,21 @@ record Stands (d : Day) (acts : List Act) (p : Place) : Type 0 where
   day : day_at p ≡ live_day_after (recorded acts) d
   owes : Owes d acts p
 
-heard_behind : (events : List LiveEvent) (octets : List ℕ) → AreHeard events → AreHeard (events ++ OnLink (Receive octets) ∷ [])
-heard_behind [] octets h = tt
-heard_behind (OnLink (Receive other) ∷ events) octets h = heard_behind events octets h
-heard_behind (OnLink Tick ∷ events) octets h = absurd h
-heard_behind (WithoutLink ∷ events) octets h = absurd h
-heard_behind (Sold line ∷ events) octets h = absurd h
+heard_after : (events : List LiveEvent) (octets : List ℕ) → AreHeard events → AreHeard (events ++ OnLink (Receive octets) ∷ [])
+heard_after [] octets h = tt
+heard_after (OnLink (Receive other) ∷ events) octets h = heard_after events octets h
+heard_after (OnLink Tick ∷ events) octets h = absurd h
+heard_after (WithoutLink ∷ events) octets h = absurd h
+heard_after (Sold line ∷ events) octets h = absurd h
 
--- what is owed behind other acts
+-- what is owed after other acts
 owed_map : (d : Day) (acts after : List Act) (was is : Bool) → ((text : List ℕ) → IsOwed d acts was text → IsOwed d after is text) → (texts : List (List ℕ)) → AreOwed d acts was texts → AreOwed d after is texts
 owed_map d acts after was is f [] owed = tt
 owed_map d acts after was is f (text ∷ texts) (first, owed) = (f text first, owed_map d acts after was is f texts owed)
 
-owed_behind : (d : Day) (acts : List Act) (unsynced : Bool) (owed : List (List ℕ)) (text : List ℕ) → AreOwed d acts unsynced owed → (¬ (text ≡ []) → IsOwed d acts unsynced text) → AreOwed d acts unsynced (with_reply owed text)
-owed_behind d acts unsynced owed [] are one = are
-owed_behind d acts unsynced owed (octet ∷ text) are one = last owed are where
+owed_after : (d : Day) (acts : List Act) (unsynced : Bool) (owed : List (List ℕ)) (text : List ℕ) → AreOwed d acts unsynced owed → (¬ (text ≡ []) → IsOwed d acts unsynced text) → AreOwed d acts unsynced (with_reply owed text)
+owed_after d acts unsynced owed [] are one = are
+owed_after d acts unsynced owed (octet ∷ text) are one = last owed are where
   last : (owed : List (List ℕ)) → AreOwed d acts unsynced owed → AreOwed d acts unsynced (owed ++ (octet ∷ text) ∷ [])
   last [] are = (one (λ e. cc), tt)
   last (other ∷ owed) (first, are) = (first, last owed are)
@@ -159,16 +159,16 @@ module _ (d : Day) (acts : List Act) where
   lost_owes day (losses.Fault fault) = tt
 
 module _ (d : Day) (acts : List Act) where
-  abbrev behind_act : Act → List Act
-  behind_act act = acts ++ act ∷ []
+  abbrev after_act : Act → List Act
+  after_act act = acts ++ act ∷ []
 
-  -- of what is owed behind an act
+  -- of what is owed after an act
   abbrev KeepsOwed : Place → Act → Type 0
-  KeepsOwed p act = Stands d acts p → Owes d (behind_act act) (next p act)
+  KeepsOwed p act = Stands d acts p → Owes d (after_act act) (next p act)
 
   owed_recorded : (day : Day) (room : ℕ) (event : LiveEvent) (done : Bool) → KeepsOwed (Recording day room event) (Recorded event done)
   owed_recorded day room (OnLink e) true stands =
-      owing_owes d (behind_act (Recorded (OnLink e) true)) (exchange_next day e) room (recorded acts) e (exchange_sent day e) (exchange_text day e)
+      owing_owes d (after_act (Recorded (OnLink e) true)) (exchange_next day e) room (recorded acts) e (exchange_sent day e) (exchange_text day e)
       (recorded_on acts (Recorded (OnLink e) true ∷ [])) (ap (λ x. exchange_sent x e) stands.day) (ap (λ x. exchange_text x e) stands.day)
   owed_recorded day room WithoutLink true stands = tt
   owed_recorded day room (Sold line) true stands = tt
@@ -179,7 +179,7 @@ module _ (d : Day) (acts : List Act) where
       let e = Receive octets in
       let act = Recorded (OnLink e) true in
       let text = exchange_text day e in
-      let one : IsOwed d (behind_act act) true text = record {
+      let one : IsOwed d (after_act act) true text = record {
         earlier = recorded acts;
         event = e;
         later = [];
@@ -188,21 +188,21 @@ module _ (d : Day) (acts : List Act) where
         is_text = ap (λ x. exchange_text x e) stands.day;
         synced = inl refl;
       } in
-      replying_owes d (behind_act act) (exchange_next day e) (with_reply owed text) room
-      (owed_behind d (behind_act act) true owed text (owed_map d acts (behind_act act) true true (λ t o. record {
+      replying_owes d (after_act act) (exchange_next day e) (with_reply owed text) room
+      (owed_after d (after_act act) true owed text (owed_map d acts (after_act act) true true (λ t o. record {
         earlier = o.earlier;
         event = o.event;
         later = o.later ++ OnLink e ∷ [];
         on_record = recorded_on acts (act ∷ []) ∙ (ap (λ es. es ++ OnLink e ∷ []) o.on_record ∙ append_assoc o.earlier (OnLink o.event ∷ o.later) (OnLink e ∷ []));
-        heard = heard_behind o.later octets o.heard;
+        heard = heard_after o.later octets o.heard;
         is_text = o.is_text;
         synced = inl refl;
       }) owed stands.owes) (λ some. one))
   owed_received day room owed octets false stands = tt
 
-  -- an act that puts nothing on record
-  quiet_owed : (act : Act) → recorded (act ∷ []) ≡ [] → (owed : List (List ℕ)) → AreOwed d acts true owed → AreOwed d (behind_act act) true owed
-  quiet_owed act none owed are = owed_map d acts (behind_act act) true true (λ t o. record {
+  -- an act that puts nothing in the journal
+  quiet_owed : (act : Act) → recorded (act ∷ []) ≡ [] → (owed : List (List ℕ)) → AreOwed d acts true owed → AreOwed d (after_act act) true owed
+  quiet_owed act none owed are = owed_map d acts (after_act act) true true (λ t o. record {
     earlier = o.earlier;
     event = o.event;
     later = o.later;
@@ -217,7 +217,7 @@ module _ (d : Day) (acts : List Act) where
   owed_took day room owed None stands = quiet_owed (Took None) refl owed stands.owes
 
   owed_synced : (day : Day) (room : ℕ) (texts : List (List ℕ)) (done : Bool) → KeepsOwed (Owing day room true texts) (Synced done)
-  owed_synced day room texts true stands = owed_map d acts (behind_act (Synced true)) true false (λ t o. record {
+  owed_synced day room texts true stands = owed_map d acts (after_act (Synced true)) true false (λ t o. record {
     earlier = o.earlier;
     event = o.event;
     later = o.later;
@@ -229,7 +229,7 @@ module _ (d : Day) (acts : List Act) where
   owed_synced day room texts false stands = tt
 
   owed_written : (day : Day) (room : ℕ) (text : List ℕ) (texts : List (List ℕ)) (done : Bool) → KeepsOwed (Owing day room false (text ∷ texts)) (Wrote text done)
-  owed_written day room text texts true stands = writing_owes d (behind_act (Wrote text true)) day room texts (owed_map d acts (behind_act (Wrote text true)) false false (λ t o. record {
+  owed_written day room text texts true stands = writing_owes d (after_act (Wrote text true)) day room texts (owed_map d acts (after_act (Wrote text true)) false false (λ t o. record {
     earlier = o.earlier;
     event = o.event;
     later = o.later;
@@ -238,7 +238,7 @@ module _ (d : Day) (acts : List Act) where
     is_text = o.is_text;
     synced = still_synced o.synced;
   }) texts stands.owes.1) where
-    still_synced : {A B : Type 0} → A ⊎ (B ⊎ ((filed acts).more ≡ [])) → A ⊎ (B ⊎ ((filed (behind_act (Wrote text true))).more ≡ []))
+    still_synced : {A B : Type 0} → A ⊎ (B ⊎ ((filed acts).more ≡ [])) → A ⊎ (B ⊎ ((filed (after_act (Wrote text true))).more ≡ []))
     still_synced (inl a) = inl a
     still_synced (inr (inl b)) = inr (inl b)
     still_synced (inr (inr none)) = inr (inr (ap (λ (f : Filed). f.more) (filed_on acts (Wrote text true ∷ []) (record { disk = []; more = [] })) ∙ none))
@@ -254,10 +254,10 @@ module _ (d : Day) (acts : List Act) where
 
   keeps_owed : (p : Place) (act : Act) → IsDue p act → KeepsOwed p act
   keeps_owed = by_due KeepsOwed
-      (λ day begin stands. begun_owes d (behind_act (Began (day.moment + 1) begin)) day begin) owed_recorded owed_received owed_took owed_synced owed_written
-      (λ day room answer stands. heard_owes d (behind_act (Read room answer)) day room answer) (λ day loss stands. lost_owes d (behind_act (Dropped loss)) day loss) owed_closed owed_ended (λ day stands. tt)
+      (λ day begin stands. begun_owes d (after_act (Began (day.moment + 1) begin)) day begin) owed_recorded owed_received owed_took owed_synced owed_written
+      (λ day room answer stands. heard_owes d (after_act (Read room answer)) day room answer) (λ day loss stands. lost_owes d (after_act (Dropped loss)) day loss) owed_closed owed_ended (λ day stands. tt)
 
-  stands_on : (p : Place) (act : Act) → IsDue p act → Stands d acts p → Stands d (behind_act act) (next p act)
+  stands_on : (p : Place) (act : Act) → IsDue p act → Stands d acts p → Stands d (after_act act) (next p act)
   stands_on p act due stands = record {
     day = step_day p act due ∙ (ap (live_day_after (recorded (act ∷ []))) stands.day ∙ (sym (days_on (recorded acts) (recorded (act ∷ [])) d) ∙ ap (λ es. live_day_after es d) (sym (recorded_on acts (act ∷ [])))));
     owes = keeps_owed p act due stands;
@@ -291,10 +291,10 @@ module _ (d : Day) (acts : List Act) where
   written_now (Ending day) octets done due stands = absurd due
   written_now (Done day) octets done due stands = absurd due
 
-written_behind : (d : Day) (acts : List Act) (p : Place) → Stands d acts p → (before behind : List Act) (octets : List ℕ) (done : Bool) (to : Place) → IsRun p (before ++ Wrote octets done ∷ behind) to → IsWrittenFor d (acts ++ before) octets
-written_behind d acts p stands [] behind octets done to (due, goes) = subst (λ xs. IsWrittenFor d xs octets) (sym (append-nil acts)) (written_now d acts p octets done due stands)
-written_behind d acts p stands (act ∷ before) behind octets done to (due, goes) =
-    subst (λ xs. IsWrittenFor d xs octets) (append_assoc acts (act ∷ []) before) (written_behind d (acts ++ act ∷ []) (next p act) (stands_on d acts p act due stands) before behind octets done to goes)
+written_after : (d : Day) (acts : List Act) (p : Place) → Stands d acts p → (before following : List Act) (octets : List ℕ) (done : Bool) (to : Place) → IsRun p (before ++ Wrote octets done ∷ following) to → IsWrittenFor d (acts ++ before) octets
+written_after d acts p stands [] following octets done to (due, goes) = subst (λ xs. IsWrittenFor d xs octets) (sym (append-nil acts)) (written_now d acts p octets done due stands)
+written_after d acts p stands (act ∷ before) following octets done to (due, goes) =
+    subst (λ xs. IsWrittenFor d xs octets) (append_assoc acts (act ∷ []) before) (written_after d (acts ++ act ∷ []) (next p act) (stands_on d acts p act due stands) before following octets done to goes)
 
-pub written_law : (d : Day) (before behind : List Act) (octets : List ℕ) (done : Bool) (to : Place) → IsRun (Between d) (before ++ Wrote octets done ∷ behind) to → IsWrittenFor d before octets
-written_law d before behind octets done to run = written_behind d [] (Between d) (record { day = refl; owes = tt }) before behind octets done to run
+pub written_law : (d : Day) (before following : List Act) (octets : List ℕ) (done : Bool) (to : Place) → IsRun (Between d) (before ++ Wrote octets done ∷ following) to → IsWrittenFor d before octets
+written_law d before following octets done to run = written_after d [] (Between d) (record { day = refl; owes = tt }) before following octets done to run

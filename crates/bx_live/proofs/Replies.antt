@@ -13,13 +13,13 @@ use Rattle.bx_live.specs.Inside.{texts_of, owing_replies, or_stopped, heard_with
 use Rattle.bx_live.specs.declared.turn.Stop.{Stop}
 use Rattle.bx_live.specs.declared.turn.Stop.TheVariants as stops
 
-texts_behind : (items : List (ArrayVec ℕ)) (reply : ArrayVec ℕ) → texts_of (items ++ reply ∷ []) ≡ texts_of items ++ frame_with reply ∷ []
-texts_behind [] reply = refl
-texts_behind (item ∷ items) reply = ap (λ (ts : List (List ℕ)). frame_with item ∷ ts) (texts_behind items reply)
+texts_after : (items : List (ArrayVec ℕ)) (reply : ArrayVec ℕ) → texts_of (items ++ reply ∷ []) ≡ texts_of items ++ frame_with reply ∷ []
+texts_after [] reply = refl
+texts_after (item ∷ items) reply = ap (λ (ts : List (List ℕ)). frame_with item ∷ ts) (texts_after items reply)
 
 -- one more reply
 pub texts_more : (items new : List (ArrayVec ℕ)) (reply : ArrayVec ℕ) → new ≡ items ++ reply ∷ [] → texts_of new ≡ texts_of items ++ frame_with reply ∷ []
-texts_more items new reply e = ap texts_of e ∙ texts_behind items reply
+texts_more items new reply e = ap texts_of e ∙ texts_after items reply
 
 pub texts_some : (items : List (ArrayVec ℕ)) → ¬ (items ≡ []) → ¬ (texts_of items ≡ [])
 texts_some [] some e = some refl

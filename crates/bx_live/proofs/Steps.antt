@@ -14,7 +14,7 @@ use Rattle.bx_live.specs.declared.turn.Stop.TheVariants as stops
 use Rattle.bx_live.specs.Acts.{Act, Began, Dropped, Recorded, Synced, Wrote, Read, Took, EndedDay, ended, begins_none}
 use Rattle.bx_live.specs.Runs.{Place, Between, begun, heard, Recording, Receiving, with_reply, replying, Losing, Over, IsDue, next, IsRun, owing, happened}
 use Rattle.bx_live.specs.Running.{Runs, RunsInside}
-use Rattle.bx_live.specs.Seconds.{behind_second, IsSecond}
+use Rattle.bx_live.specs.Seconds.{after_second, IsSecond}
 use Rattle.bx_live.specs.declared.running.Second.{Second}
 use Rattle.bx_live.specs.declared.running.Second.TheVariants.{Ended}
 use Rattle.bx_live.specs.declared.world.Begin.{Begin}
@@ -26,7 +26,7 @@ pub run_more : (p q r : Place) (xs ys : List Act) → IsRun p xs q → IsRun q y
 run_more p q r [] ys e more = subst (λ x. IsRun x ys r) (sym e) more
 run_more p q r (x ∷ xs) ys (due, goes) more = (due, run_more (next p x) q r xs ys goes more)
 
--- what an event that is on record owes, by what the exchange sends for it
+-- what an event that is logged owes, by what the exchange sends for it
 pub owed : (d d1 : Day) (room : ℕ) (e : Event) (sent : List (ArrayVec ℕ)) (text : List ℕ) → d1 ≡ exchange_next d e → sent ≡ exchange_sent d e → text ≡ exchange_text d e → happened d room (OnLink e) ≡ owing d1 room sent text
 owed d d1 room e sent text day messages octets =
     ap (λ x. owing x room (exchange_sent d e) (exchange_text d e)) (sym day) ∙ (ap (λ x. owing d1 room x (exchange_text d e)) (sym messages) ∙ ap (λ x. owing d1 room sent x) (sym octets))
@@ -57,12 +57,12 @@ module _ {W : Type 0} {did : W → List Act → W → Type 0} where
   abbrev pub one_done : {u v : W} (p : Place) (act : Act) → begins_none (act ∷ []) ≡ true → did u (act ∷ []) v → IsDue p act → RunsInside did u v p (next p act)
   one_done p act inside done due = record { acts = act ∷ []; done = done; goes = (due, refl); inside = inside }
 
-  -- an event was put on record
+  -- an event was logged
   pub on_record : {u v : W} (d d1 : Day) (room : ℕ) (e : Event) (sent : List (ArrayVec ℕ)) (text : List ℕ) → did u (Recorded (OnLink e) true ∷ []) v → d1 ≡ exchange_next d e → sent ≡ exchange_sent d e → text ≡ exchange_text d e
       → RunsInside did u v (Recording d room (OnLink e)) (owing d1 room sent text)
   on_record d d1 room e sent text done day messages octets = record { acts = Recorded (OnLink e) true ∷ []; done = done; goes = (refl, owed d d1 room e sent text day messages octets); inside = refl }
 
-  -- octets that came were put on record
+  -- octets that came were logged
   pub received_on : {u v : W} (d d1 : Day) (room : ℕ) (owed : List (List ℕ)) (octets text : List ℕ) → did u (Recorded (OnLink (Receive octets)) true ∷ []) v → d1 ≡ exchange_next d (Receive octets) → text ≡ exchange_text d (Receive octets)
       → RunsInside did u v (Receiving d room owed octets) (replying d1 (with_reply owed text) room)
   received_on d d1 room owed octets text done day is = record {
@@ -80,11 +80,11 @@ module _ {W : Type 0} {did : W → List Act → W → Type 0} where
     then_done {u} {v} {w} {p} {q} {r} a b = record { acts = a.acts ++ b.acts; done = more u v w a.acts b.acts a.done b.done; goes = run_more p q r a.acts b.acts a.goes b.goes; inside = begins_on a.acts b.acts a.inside b.inside }
 
     -- a second began, and was gone through
-    pub second_done : {u v w : W} (d d1 : Day) (begin : Begin) (r : Result Second CannotRecord) → did u (Began (d.moment + 1) begin ∷ []) v → RunsInside did v w (begun d begin) (behind_second d1 r)
+    pub second_done : {u v w : W} (d d1 : Day) (begin : Begin) (r : Result Second CannotRecord) → did u (Began (d.moment + 1) begin ∷ []) v → RunsInside did v w (begun d begin) (after_second d1 r)
         → (r ≡ Ok Ended → ended (Began (d.moment + 1) begin ∷ []) ≡ true) → IsSecond did u w d d1 r
     second_done {u} {v} {w} d d1 begin r began rest said = record {
       run = record { acts = Began (d.moment + 1) begin ∷ rest.acts; done = more u v w (Began (d.moment + 1) begin ∷ []) rest.acts began rest.done; goes = (refl, rest.goes) };
-      one = record { begin = begin; behind = rest.acts; are = refl; one = rest.inside };
+      one = record { begin = begin; following = rest.acts; are = refl; one = rest.inside };
       said = λ e. said_on begin (said e);
     } where
       said_on : (begin : Begin) → ended (Began (d.moment + 1) begin ∷ []) ≡ true → ended (Began (d.moment + 1) begin ∷ rest.acts) ≡ true

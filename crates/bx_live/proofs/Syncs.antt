@@ -17,7 +17,7 @@ use Rattle.bx_live.specs.declared.world.Loss.{Loss}
 use Rattle.bx_live.specs.declared.world.Loss.TheVariants as losses
 use Rattle.bx_live.proofs.Due.{by_due}
 
--- how many syncs_in may come before the next wait, and behind the last one
+-- how many syncs_in may come before the next wait, and after the last one
 abbrev left_at : Place → ℕ
 left_at (Between d) = 1
 left_at (Recording d room event) = 2

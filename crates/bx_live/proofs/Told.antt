@@ -1,4 +1,4 @@
--- In a run in which nothing fails just what is sent for the events on record is written, in order and once.
+-- In a run in which nothing fails just what is sent for the logged events is written, in order and once.
 use Rattle.std.proofs.Common.{◌≡◌, ℕ, zero, suc, ◌+◌, Option, Some, None, List, [], ◌∷◌, ◌++◌, refl, sym, ap, ◌∙◌, true, false, Bool, Result, Ok, Err, ◌==◌, if◌then◌else◌}
 use Rattle.std.proofs.lemmas.List.{append-nil, append_assoc}
 use Rattle.std.specs.List.{concat}
@@ -71,7 +71,7 @@ rest_well (Read room answer) acts e = e
 rest_well (Took message) acts e = e
 rest_well EndedDay acts e = e
 
--- ---- what is written, and what is owed behind it
+-- ---- what is written, and what is owed after it
 
 abbrev Tells : Place → Act → Type 0
 Tells p act = goes_well (act ∷ []) ≡ true → written (act ∷ []) ++ owed_at (next p act) ≡ owed_at p ++ live_told (recorded (act ∷ [])) (day_at p)

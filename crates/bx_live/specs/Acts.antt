@@ -13,9 +13,9 @@ pub data Act : Type 0 where
   Began : (second : ℕ) (begin : Begin) → Act
   -- the peer was dropped, if there was one
   Dropped : (loss : Loss) → Act
-  -- an event was put on record, or could not be
+  -- an event was logged, or could not be
   Recorded : (event : LiveEvent) (done : Bool) → Act
-  -- what was recorded is on the disk, or could not be brought there
+  -- what was logged is on the disk, or could not be brought there
   Synced : (done : Bool) → Act
   -- octets were written to the peer, or not all of them
   Wrote : (octets : List ℕ) (done : Bool) → Act
@@ -26,7 +26,7 @@ pub data Act : Type 0 where
   -- the peer, if there was one, was told that the day is over
   EndedDay : Act
 
--- the events that are on record
+-- the events that are logged
 abbrev pub recorded : List Act → List LiveEvent
 recorded [] = []
 recorded (Recorded event true ∷ acts) = event ∷ recorded acts

@@ -15,7 +15,7 @@ is_up e = is_live e.standing
 abbrev pub has_call : Day → Bool
 has_call d = list_any is_up d.entries
 
--- Acts from this day on: no second begins behind `LAST_MOMENT`, and behind the last one that was asked for one begins only while a
+-- Acts from this day on: no second begins after `LAST_MOMENT`, and after the last one that was asked for one begins only while a
 -- call is up, by the day as it is then.
 abbrev pub AreHeld : ℕ → Day → List Act → Type 0
 AreHeld last d [] = Unit {0}
@@ -28,7 +28,7 @@ pub record IsHeldOut (last : ℕ) (d : Day) : Type 0 where
   pub reached : min last LAST_MOMENT ≤ d.moment
   pub clear : (has_call d ≡ false) ⊎ (d.moment ≡ LAST_MOMENT)
 
--- The day of a run that is held open is the one after just the events on record. Unless the world has said that no second begins any
+-- The day of a run that is held open is the one after just the logged events. Unless the world has said that no second begins any
 -- more, it is held out
 pub record IsHeldRun (last : ℕ) (d d1 : Day) (acts : List Act) (result : Result (Unit {0}) CannotRecord) : Type 0 where
   pub after : d1 ≡ live_day_after (recorded acts) d

@@ -12,7 +12,7 @@ use Rattle.bx_live.specs.declared.turn.Stop.TheVariants as stops
 use Rattle.bx_live.specs.Runs.{Place, Hearing, Owing, Losing, Over}
 use Rattle.bx_events.specs.declared.moment.TheConstants.{LAST_MOMENT}
 
--- the place behind what went well, or broke off
+-- the place after what went well, or broke off
 abbrev pub or_stopped : {A : Type 0} → Place → Day → Result A Stop → Place
 or_stopped place d (Ok _) = place
 or_stopped place d (Err (stops.Link fault)) = Losing d (losses.Fault fault)
@@ -32,12 +32,12 @@ or_lost place d (Err _) = Losing d (losses.Fault Unwritten)
 abbrev pub texts_of : List (ArrayVec ℕ) → List (List ℕ)
 texts_of replies = map frame_with replies
 
--- replies are to be written behind a sync, where there are some
+-- replies are to be written after a sync, where there are some
 abbrev pub owing_replies : Day → ℕ → List (List ℕ) → Place
 owing_replies d room [] = Hearing d room
 owing_replies d room (text ∷ texts) = Owing d room true (text ∷ texts)
 
--- messages that came together were heard, so many may still come; or one could not be put on record
+-- messages that came together were heard, so many may still come; or one could not be logged
 abbrev pub gathered : Day → List (List ℕ) → Result ℕ CannotRecord → Place
 gathered d texts (Ok left) = owing_replies d left texts
 gathered d texts (Err fault) = Over d

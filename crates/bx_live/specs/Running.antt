@@ -17,7 +17,7 @@ pub record RunsInside {W : Type 0} (did : W → List Act → W → Type 0) (old 
   pub goes : IsRun from acts to
   pub inside : begins_none acts ≡ true
 
--- the place behind what went well, or failed
+-- the place after what went well, or failed
 abbrev pub or_over : {A : Type 0} → Place → Day → Result A CannotRecord → Place
 or_over place d (Ok _) = place
 or_over place d (Err _) = Over d

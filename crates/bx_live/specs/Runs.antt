@@ -17,21 +17,21 @@ use Rattle.bx_live.specs.Acts.{Act, Began, Dropped, Recorded, Synced, Wrote, Rea
 
 -- where a run stands, with the day as far as it has come
 pub data Place : Type 0 where
-  -- behind one second, and before the next
+  -- after one second, and before the next
   Between : (d : Day) → Place
-  -- this event comes, and has to be put on record; then so many messages may come in the turn
+  -- this event comes, and has to be logged; then so many messages may come in the turn
   Recording : (d : Day) (room : ℕ) (event : LiveEvent) → Place
-  -- these octets came, and have to be put on record; replies are owed for those that came before them
+  -- these octets came, and have to be logged; replies are owed for those that came before them
   Receiving : (d : Day) (room : ℕ) (owed : List (List ℕ)) (octets : List ℕ) → Place
   -- replies are owed, and before they are written what is there already is heard
   Taking : (d : Day) (room : ℕ) (owed : List (List ℕ)) → Place
-  -- what was on record has happened, and these are to be written for it, one after another; a sync comes first, or is not wanted
+  -- what was logged has happened, and these are to be written for it, one after another; a sync comes first, or is not wanted
   Owing : (d : Day) (room : ℕ) (unsynced : Bool) (texts : List (List ℕ)) → Place
   -- the peer's turn
   Hearing : (d : Day) (room : ℕ) → Place
   -- the peer is to be dropped
   Losing : (d : Day) (loss : Loss) → Place
-  -- nothing more is done: what happens cannot be put on record
+  -- nothing more is done: what happens cannot be logged
   Over : (d : Day) → Place
   -- no second begins any more
   Closing : (d : Day) → Place
@@ -75,7 +75,7 @@ owing d room [] [] = Hearing d room
 owing d room [] (octet ∷ text) = Owing d room false ((octet ∷ text) ∷ [])
 owing d room (message ∷ sent) text = Owing d room true (text ∷ [])
 
--- an event that is on record happens
+-- an event that is logged happens
 abbrev pub happened : Day → ℕ → LiveEvent → Place
 happened d room WithoutLink = Between (without_link d)
 happened d room (Sold line) = Between d
@@ -92,11 +92,11 @@ replying d [] room = Hearing d room
 replying d (text ∷ owed) zero = Owing d zero true (text ∷ owed)
 replying d (text ∷ owed) (suc room) = Taking d (suc room) (text ∷ owed)
 
--- octets that came are on record, and happen
+-- octets that came are logged, and happen
 abbrev pub received : Day → ℕ → List (List ℕ) → List ℕ → Place
 received d room owed octets = replying (exchange_next d (Receive octets)) (with_reply owed (exchange_text d (Receive octets))) room
 
--- where nothing more is there, the replies are written, behind one sync
+-- where nothing more is there, the replies are written, after one sync
 abbrev pub taken : Day → ℕ → List (List ℕ) → Option (ArrayVec ℕ) → Place
 taken d room owed (Some message) = Receiving d (room - 1) owed message.items
 taken d room owed None = Owing d room true owed
@@ -126,7 +126,7 @@ abbrev pub lost : Day → Loss → Place
 lost d losses.Late = Recording d 0 WithoutLink
 lost d (losses.Fault fault) = Between d
 
--- where the run is behind the act that was due
+-- where the run is after the act that was due
 abbrev pub next : Place → Act → Place
 next (Between d) (Began second begin) = begun d begin
 next (Between d) (Synced done) = if done then Ending d else Over d

@@ -10,11 +10,11 @@ use Rattle.bx_live.specs.Running.{Runs}
 use Rattle.bx_live.specs.Runs.{Place, Between, Over, Closing}
 use Rattle.bx_events.specs.declared.moment.TheConstants.{LAST_MOMENT}
 
--- the place behind a second that is over, or does not begin any more; or behind one that could not be recorded
-abbrev pub behind_second : Day → Result Second CannotRecord → Place
-behind_second d (Ok Passed) = Between d
-behind_second d (Ok Ended) = Closing d
-behind_second d (Err _) = Over d
+-- the place after a second that is over, or does not begin any more; or after one that could not be logged
+abbrev pub after_second : Day → Result Second CannotRecord → Place
+after_second d (Ok Passed) = Between d
+after_second d (Ok Ended) = Closing d
+after_second d (Err _) = Over d
 
 abbrev pub RisesBySecond : Day → Day → Result Second CannotRecord → Type 0
 RisesBySecond d d1 (Ok Passed) = d.moment < LAST_MOMENT → d1.moment ≡ d.moment + 1
@@ -24,12 +24,12 @@ RisesBySecond d d1 (Err _) = Unit {0}
 -- the acts of one second: it begins, and no other does
 pub record IsOneSecond (moment : ℕ) (acts : List Act) : Type 0 where
   pub begin : Begin
-  pub behind : List Act
-  pub are : acts ≡ Began (moment + 1) begin ∷ behind
-  pub one : begins_none behind ≡ true
+  pub following : List Act
+  pub are : acts ≡ Began (moment + 1) begin ∷ following
+  pub one : begins_none following ≡ true
 
 -- A second of a run was waited for, and the run has gone through it. That no second begins any more was said by the world
 pub record IsSecond {W : Type 0} (did : W → List Act → W → Type 0) (old new : W) (d d1 : Day) (result : Result Second CannotRecord) : Type 0 where
-  pub run : Runs did old new (Between d) (behind_second d1 result)
+  pub run : Runs did old new (Between d) (after_second d1 result)
   pub one : IsOneSecond d.moment run.acts
   pub said : result ≡ Ok Ended → ended run.acts ≡ true

@@ -8,7 +8,7 @@ use Rattle.bx_day.specs.Outages.{live_happens, live_day_after}
 use Rattle.bx_live.specs.Acts.{Act, Recorded, Synced, Wrote, recorded}
 use Rattle.bx_live.specs.Runs.{Place, Between, Recording, Receiving, Taking, Owing, Hearing, Losing, Over, Closing, Ending, Done}
 
--- the events that are on the disk, and those that were put on record behind the last sync
+-- the events that are on the disk, and those that were logged after the last sync
 pub record Filed : Type 0 where
   pub disk : List LiveEvent
   pub more : List LiveEvent
@@ -28,8 +28,8 @@ AreHeard [] = Unit {0}
 AreHeard (OnLink (Receive octets) ∷ events) = AreHeard events
 AreHeard (event ∷ events) = ⊥
 
--- octets that are written behind these acts: they are those of an event on record, by the day as it was before it. No second has begun
--- since, and where messages are among them all that is on record is on the disk
+-- octets that are written after these acts: they are those of a logged event, by the day as it was before it. No second has begun
+-- since, and where messages are among them all that is logged is on the disk
 pub record IsWrittenFor (d : Day) (acts : List Act) (octets : List ℕ) : Type 0 where
   pub earlier : List LiveEvent
   pub event : Event

@@ -45,8 +45,8 @@ pub fn goes_on(exchange: &Exchange, last: u32) -> bool
     exchange.moment() < last || has_call(exchange)
 }
 
-/// Runs the day as `run_live` does, and behind its last second on while a call is up, so that each call that is begun is cleared and
-/// can be billed: until none is up, or up to `LAST_MOMENT`, or until the world says that the day is over. No second begins behind
+/// Runs the day as `run_live` does, and after its last second on while a call is up, so that each call that is begun is cleared and
+/// can be billed: until none is up, or up to `LAST_MOMENT`, or until the world says that the day is over. No second begins after
 /// the last one but for a call that is up. At its end all of it is on the disk. At `CannotRecord` nothing more is done.
 pub fn run_held<W: World>(
     exchange: &mut Exchange,

@@ -7,15 +7,15 @@ ghost use Rattle.bx_live.specs.Runs.{Place, Between, IsRun, day_at};
 ghost use Rattle.bx_live.specs.Syncs.{syncs_in, waits_in};
 ghost use Rattle.bx_live.specs.Written.{IsWrittenFor, filed, written, goes_well, owed_at, live_told};
 
-/// Whatever is written to a peer is what the exchange sends for the last event on record; where messages are sent for it, all that
-/// is on record is on the disk by then. What is on record is on the disk, or behind the last sync.
+/// Whatever is written to a peer is what the exchange sends for the last event in the journal; where messages are sent for it, all that
+/// is logged is on the disk by then. What is logged is on the disk, or after the last sync.
 pub fn written_on_record()
-    ensures written { (d : Day) (before behind : List Act) (octets : List ℕ) (done : Bool) (to : Place) → IsRun (Between d) (before ++ Wrote octets done ∷ behind) to → IsWrittenFor d before octets }
+    ensures written { (d : Day) (before following : List Act) (octets : List ℕ) (done : Bool) (to : Place) → IsRun (Between d) (before ++ Wrote octets done ∷ following) to → IsWrittenFor d before octets }
     ensures filed { (acts : List Act) → (filed acts).disk ++ (filed acts).more ≡ recorded acts }
 {}
 
 /// From one place of a run to another, where no record, sync or write fails: what is written is just what the day's definition
-/// gives for the events on record, in order and once, but for what is still owed.
+/// gives for the logged events, in order and once, but for what is still owed.
 pub fn all_is_written()
     ensures { (from to : Place) (acts : List Act) → IsRun from acts to → goes_well acts ≡ true → written acts ++ owed_at to ≡ owed_at from ++ live_told (recorded acts) (day_at from) }
 {}

@@ -1,4 +1,4 @@
-//! Messages that came together, and the replies to them: each message is on record before it happens, and one sync brings all of them to
+//! Messages that came together, and the replies to them: each message is logged before it happens, and one sync brings all of them to
 //! the disk before the replies are written.
 
 ghost use Rattle.std.specs.Prelude.{◌≡◌, ◌≤◌, ◌<◌, ◌+◌, [], ℕ, IfOk, length};
@@ -19,7 +19,7 @@ use bx_q931::Octets;
 /// Replies that are owed, in the order of the messages that came.
 type Replies = ArrayVec<Octets, 64>;
 
-/// A message that came: it is put on record, and happens. What is replied to it is owed.
+/// A message that came: it is logged, and happens. What is replied to it is owed.
 fn hear<W: World>(
     exchange: &mut Exchange,
     world: &mut W,
@@ -41,7 +41,7 @@ fn hear<W: World>(
     }
 }
 
-/// Hears a message, and once a reply is owed what is there already behind it. Answers how many messages may still come in the turn.
+/// Hears a message, and once a reply is owed what is there already after it. Answers how many messages may still come in the turn.
 fn gather<W: World>(
     exchange: &mut Exchange,
     world: &mut W,
@@ -77,7 +77,7 @@ fn write_all<W: World>(world: &mut W, replies: &[Octets]) -> Result<(), WriteFai
     Ok(())
 }
 
-/// Writes the replies that are owed, behind one sync.
+/// Writes the replies that are owed, after one sync.
 fn write_replies<W: World>(world: &mut W, replies: &[Octets]) -> Result<(), Stop>
     ensures { (d : Day) (room : ℕ) → RunsInside W.did world.old world.new (owing_replies d room (texts_of replies.now)) (or_stopped (Hearing d room) d result) }
 {
@@ -89,7 +89,7 @@ fn write_replies<W: World>(world: &mut W, replies: &[Octets]) -> Result<(), Stop
     Ok(())
 }
 
-/// Hears a message with those behind it that are there already, and writes what is replied to them. Answers how many messages may still
+/// Hears a message with those after it that are there already, and writes what is replied to them. Answers how many messages may still
 /// come in the turn.
 pub(crate) fn hear_together<W: World>(
     exchange: &mut Exchange,

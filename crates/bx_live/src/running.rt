@@ -8,7 +8,7 @@ ghost use Rattle.bx_live.specs.Acts.{recorded, ended};
 ghost use Rattle.bx_live.specs.Runs.{Recording, Hearing, Between, Closing, Done, Losing};
 ghost use Rattle.bx_live.specs.Running.{Runs, RunsInside, or_over};
 ghost use Rattle.bx_live.specs.declared.running.Second.TheVariants.{Ended};
-ghost use Rattle.bx_live.specs.Seconds.{behind_second, RisesBySecond, IsSecond};
+ghost use Rattle.bx_live.specs.Seconds.{after_second, RisesBySecond, IsSecond};
 ghost use Rattle.bx_live.specs.Inside.{or_stopped, RisesByTurn};
 
 use crate::hearing::hear_turn;
@@ -31,7 +31,7 @@ fn pass_without_link<W: World>(
     exchange: &mut Exchange,
     world: &mut W,
 ) -> Result<Second, CannotRecord>
-    ensures ran { RunsInside W.did world.old world.new (Recording exchange.old 0 WithoutLink) (behind_second exchange.new result) }
+    ensures ran { RunsInside W.did world.old world.new (Recording exchange.old 0 WithoutLink) (after_second exchange.new result) }
     ensures moment { RisesBySecond exchange.old exchange.new result }
     ensures passes { ¬ (result ≡ Ok Ended) }
 {
@@ -51,7 +51,7 @@ fn run_turn<W: World>(exchange: &mut Exchange, world: &mut W) -> Result<(), Stop
 
 /// The next second with a peer. A fault of the link drops it.
 fn pass_with_peer<W: World>(exchange: &mut Exchange, world: &mut W) -> Result<Second, CannotRecord>
-    ensures ran { RunsInside W.did world.old world.new (Recording exchange.old 64 (OnLink Tick)) (behind_second exchange.new result) }
+    ensures ran { RunsInside W.did world.old world.new (Recording exchange.old 64 (OnLink Tick)) (after_second exchange.new result) }
     ensures moment { RisesBySecond exchange.old exchange.new result }
     ensures passes { ¬ (result ≡ Ok Ended) }
 {
@@ -65,7 +65,7 @@ fn pass_with_peer<W: World>(exchange: &mut Exchange, world: &mut W) -> Result<Se
     }
 }
 
-/// The next second, where one begins, and no other: it is waited for, and what happens in it is on record before it happens, and on the
+/// The next second, where one begins, and no other: it is waited for, and what happens in it is logged before it happens, and on the
 /// disk before messages are written for it. At a fault of the link the peer is dropped. At `CannotRecord` nothing more is to be done.
 pub fn run_second<W: World>(exchange: &mut Exchange, world: &mut W) -> Result<Second, CannotRecord>
     ensures ran { IsSecond W.did world.old world.new exchange.old exchange.new result }
@@ -93,9 +93,9 @@ pub fn close_day<W: World>(world: &mut W) -> Result<(), CannotRecord>
 }
 
 /// Runs the day up to a second of it, or to `LAST_MOMENT` where that is earlier, or until the world says that it is over. Each
-/// second is waited for. In one with a peer each event is on record before it happens, and on the disk before messages are written
+/// second is waited for. In one with a peer each event is logged before it happens, and on the disk before messages are written
 /// for it. At a fault of the link the peer is dropped, and the day goes on. At its end all of it is on the disk. At `CannotRecord`,
-/// where something could not be put on record or synced, nothing more is done.
+/// where something could not be logged or synced, nothing more is done.
 pub fn run_live<W: World>(
     exchange: &mut Exchange,
     world: &mut W,

@@ -1,4 +1,4 @@
-//! The exchange's half of a turn: recorded, happened, synced, written.
+//! The exchange's half of a turn: logged, happened, synced, written.
 
 ghost use Rattle.std.specs.Prelude.{◌≡◌, ◌++◌, ◌∷◌, [], ℕ, false};
 ghost use Rattle.bx_frames.specs.Frames.{frames_of, turn_frame};
@@ -45,7 +45,7 @@ impl From<WriteFailed> for Stop {
     }
 }
 
-/// What was recorded is on the disk before messages are written.
+/// What was logged is on the disk before messages are written.
 fn sync_before<W: World>(world: &mut W, sent: &[Octets]) -> Result<(), CannotRecord>
     ensures { (d : Day) (room moment : ℕ) → RunsInside W.did world.old world.new (owing d room sent.now (frames_of sent.now ++ turn_frame moment)) (or_over (Owing d room false ((frames_of sent.now ++ turn_frame moment) ∷ [])) d result) }
 {

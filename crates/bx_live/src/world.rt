@@ -15,7 +15,7 @@ use bx_q931::Octets;
 /// How a second begins.
 #[derive(Clone, Copy, Debug, PartialEq, Eq)]
 pub enum Begin {
-    /// More than a second behind its instant.
+    /// More than a second after its instant.
     Late,
     /// In time, and no peer is there.
     Alone,
@@ -34,7 +34,7 @@ pub enum Loss {
     Fault(LinkFault),
 }
 
-/// An event could not be recorded, or what was recorded not synced.
+/// An event could not be logged, or what was logged not synced.
 #[derive(Clone, Copy, Debug, PartialEq, Eq)]
 pub struct CannotRecord;
 
@@ -51,11 +51,11 @@ pub trait World {
     fn drop_peer(&mut self, loss: Loss)
         ensures { did self.old (Dropped loss ∷ []) self.new };
 
-    /// Puts an event on record. It need not be on the disk before the next sync. `CannotRecord` where that failed.
+    /// Logs an event. It need not be on the disk before the next sync. `CannotRecord` where that failed.
     fn record(&mut self, event: LiveEvent<'_>) -> Result<(), CannotRecord>
         ensures { did self.old (Recorded (live_event_of event.entry) (is_ok result) ∷ []) self.new };
 
-    /// What was recorded is on the disk. `CannotRecord` where it may not be.
+    /// What was logged is on the disk. `CannotRecord` where it may not be.
     fn sync(&mut self) -> Result<(), CannotRecord>
         ensures { did self.old (Synced (is_ok result) ∷ []) self.new };
 

@@ -3,24 +3,24 @@ use Rattle.std.specs.Prelude.{◌≡◌, ℕ, Bool, true, false, List, [], ◌�
 use Rattle.bx_events.specs.Events.{LiveEvent}
 use Rattle.bx_journal.specs.Disk.{LeavesOnly}
 use Rattle.bx_journal.specs.Events.{IsMessage}
-use Rattle.bx_journal.specs.Recording.{IsPending, IsFront}
+use Rattle.bx_journal.specs.Recording.{IsPending, IsPrefix}
 use Rattle.bx_journal.specs.declared.head.Head.{Head}
 use Rattle.bx_live.specs.Acts.{Act, Recorded, Synced}
 
--- The line of an event was written, or could not be. A crash at any moment of it leaves what was on the disk, and a front of the
+-- The line of an event was written, or could not be. A crash at any moment of it leaves what was on the disk, and a prefix of the
 -- other events, with this one or without.
 pub record Writes {D : Type 0} (holds may_leave : D → List ℕ → Type 0) (moment : D → ℕ) (left_since : D → ℕ → List ℕ → Type 0) (has_failed : D → Bool) (old : D) (event : LiveEvent) (done : Bool) (new : D) : Type 0 where
   pub written : done ≡ true → (head : Head) (events more : List LiveEvent) → IsPending holds may_leave old head events more → IsPending holds may_leave new head events (more ++ event ∷ [])
-  pub any_moment : (head : Head) (events more : List LiveEvent) → IsPending holds may_leave old head events more → LeavesOnly moment left_since old new (IsFront head events (more ++ event ∷ []))
+  pub any_moment : (head : Head) (events more : List LiveEvent) → IsPending holds may_leave old head events more → LeavesOnly moment left_since old new (IsPrefix head events (more ++ event ∷ []))
   -- it could not only where the disk has failed: no event of a journal is refused by itself
   pub failed : done ≡ false → IsMessage event → has_failed new ≡ true
   pub unfailed : done ≡ true → has_failed new ≡ has_failed old
 
--- What was written is on the disk, or could not be brought there. A crash at any moment of it leaves what was there, and a front of
+-- What was written is on the disk, or could not be brought there. A crash at any moment of it leaves what was there, and a prefix of
 -- what was written.
 pub record Commits {D : Type 0} (holds may_leave : D → List ℕ → Type 0) (moment : D → ℕ) (left_since : D → ℕ → List ℕ → Type 0) (has_failed : D → Bool) (old : D) (done : Bool) (new : D) : Type 0 where
   pub committed : done ≡ true → (head : Head) (events more : List LiveEvent) → IsPending holds may_leave old head events more → IsPending holds may_leave new head (events ++ more) []
-  pub any_moment : (head : Head) (events more : List LiveEvent) → IsPending holds may_leave old head events more → LeavesOnly moment left_since old new (IsFront head events more)
+  pub any_moment : (head : Head) (events more : List LiveEvent) → IsPending holds may_leave old head events more → LeavesOnly moment left_since old new (IsPrefix head events more)
   pub failed : done ≡ false → has_failed new ≡ true
   pub unfailed : done ≡ true → has_failed new ≡ has_failed old
 
@@ -35,7 +35,7 @@ CommitsKept holds may_leave moment left_since has_failed (Some old) done (Some n
 CommitsKept holds may_leave moment left_since has_failed None done None = done ≡ true
 CommitsKept holds may_leave moment left_since has_failed old done new = ⊥
 
--- the journal after an act: only what is recorded and synced changes it
+-- the journal after an act: only what is logged and synced changes it
 abbrev pub OnRecord : {D : Type 0} → (D → List ℕ → Type 0) → (D → List ℕ → Type 0) → (D → ℕ) → (D → ℕ → List ℕ → Type 0) → (D → Bool) → Option D → Act → Option D → Type 0
 OnRecord holds may_leave moment left_since has_failed old (Recorded event done) new = WritesKept holds may_leave moment left_since has_failed old event done new
 OnRecord holds may_leave moment left_since has_failed old (Synced done) new = CommitsKept holds may_leave moment left_since has_failed old done new

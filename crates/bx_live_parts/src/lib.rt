@@ -1,4 +1,4 @@
-//! What the worlds of a live day share: when its seconds begin, and what it puts on record.
+//! What the worlds of a live day share: when its seconds begin, and what it logs.
 #![tactic(auto)]
 
 mod record;

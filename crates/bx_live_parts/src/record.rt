@@ -1,4 +1,4 @@
-//! What a live day puts on record.
+//! What a live day logs.
 
 ghost use Rattle.std.specs.Prelude.{◌≡◌, ◌≤◌, true, false, length, is_ok, Some, None};
 ghost use Rattle.bx_events.specs.Told.{live_event_of};
@@ -52,7 +52,7 @@ fn bring_to_disk<D: Disk>(disk: &mut D) -> Result<(), CannotRecord>
 }
 
 impl<D: Disk> Record<D> {
-    /// Puts an event on record, where a journal is kept. It need not be on the disk before the next sync. `CannotRecord` where what
+    /// Logs an event, where a journal is kept. It need not be on the disk before the next sync. `CannotRecord` where what
     /// came has more than 260 octets, or the disk did not take the line.
     pub fn record(&mut self, event: LiveEvent<'_>) -> Result<(), CannotRecord>
         ensures { OnRecord D.holds D.may_leave D.moment D.left_since D.has_failed self.old.disk (Recorded (live_event_of event.entry) (is_ok result)) self.new.disk }
@@ -63,7 +63,7 @@ impl<D: Disk> Record<D> {
         }
     }
 
-    /// What was recorded is on the disk, where a journal is kept. `CannotRecord` where the disk did not do that.
+    /// What was logged is on the disk, where a journal is kept. `CannotRecord` where the disk did not do that.
     pub fn sync(&mut self) -> Result<(), CannotRecord>
         ensures { OnRecord D.holds D.may_leave D.moment D.left_since D.has_failed self.old.disk (Synced (is_ok result)) self.new.disk }
     {

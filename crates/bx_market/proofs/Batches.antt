@@ -81,7 +81,7 @@ pub or_more : {W A : Type 0} {dealt : W → List Deal → W → Type 0} (channel
 or_more channels more u v w p q s (Ok a) run on = then_asked more run on
 or_more channels more u v w p q s (Err fault) run (over, on) = (over, then_asked more run on)
 
--- where a growth was refused before anything was chosen, nothing is sold
+-- where memory ran out before anything was chosen, nothing is sold
 pub none_of_memory : (d : Day) (batch : List Row) (answers : List Answer) → AreToldOfMemory d batch answers → sold_of batch answers ≡ []
 none_of_memory d batch answers told = none_sold_of batch answers (λ i lt is. by_order i lt is (cases_lt d.moment (row_at batch i).start)) where
   by_order : (i : ℕ) → i < length answers → answer_at answers i ≡ Accepted → (d.moment < (row_at batch i).start) ⊎ ((row_at batch i).start ≤ d.moment) → ⊥

@@ -86,8 +86,8 @@ told_at channels deals (Within p) to answers s e = absurd e
 told_at channels deals (Filing shown d batch sold) to answers s (none, are, told, e) = of_best channels deals shown batch sold answers s told
 told_at channels deals (Telling shown d batch sold) to answers s (are, told, e) = of_best channels deals shown batch sold answers s.sold_since told
 
-pub told_of_best : (channels : List Bool) (done before behind : List Deal) (answers : List Answer) (from to : Stand) → Stands done from → IsMarketRun channels from (before ++ Answered answers ∷ behind) to → IsToldOfBest channels (done ++ before) answers
-told_of_best channels done [] behind answers from to s (mid, goes, rest) = subst (λ (l : List Deal). IsToldOfBest channels l answers) (sym (append-nil done)) (told_at channels done from mid answers s goes)
-told_of_best channels done (deal ∷ before) behind answers from to s (mid, goes, rest) =
+pub told_of_best : (channels : List Bool) (done before following : List Deal) (answers : List Answer) (from to : Stand) → Stands done from → IsMarketRun channels from (before ++ Answered answers ∷ following) to → IsToldOfBest channels (done ++ before) answers
+told_of_best channels done [] following answers from to s (mid, goes, rest) = subst (λ (l : List Deal). IsToldOfBest channels l answers) (sym (append-nil done)) (told_at channels done from mid answers s goes)
+told_of_best channels done (deal ∷ before) following answers from to s (mid, goes, rest) =
     subst (λ (l : List Deal). IsToldOfBest channels l answers) (append_assoc done (deal ∷ []) before)
-    (told_of_best channels (done ++ deal ∷ []) before behind answers mid to (stands channels done from mid deal s goes) rest)
+    (told_of_best channels (done ++ deal ∷ []) before following answers mid to (stands channels done from mid deal s goes) rest)

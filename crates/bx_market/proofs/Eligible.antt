@@ -29,7 +29,7 @@ one_first : (moment count : ℕ) (start : ℕ) (n rest : ℕ) (b : Bool) → (lt
 one_first moment count start n rest true e is lt = omega (arith, is, lt)
 one_first moment count start n rest false e is lt = omega (arith, is, lt)
 
--- the day has a place for each, behind those before it
+-- the day has a place for each, after those before it
 pub eligible_places : (moment count : ℕ) (batch : List Row) (i : ℕ) → is_in (eligible_marks moment count batch) i ≡ true → count + marked_before (eligible_marks moment count batch) i < 4000
 eligible_places moment count [] i h = absurd (true≢false (sym h ∙ get_or_past [] i false (omega arith)))
 eligible_places moment count (row ∷ batch) zero h = let lt = ltb-true count 4000 (and_parts (ltb moment row.start) (ltb count 4000) h).1 in omega (arith, lt)

@@ -21,15 +21,15 @@ use Rattle.bx_market.proofs.Eligible.{eligible_later}
 use Rattle.bx_market.proofs.Best.{told_of_best}
 use Rattle.bx_market.proofs.Through.{run_through}
 
--- a run of deals one behind another
+-- a run of deals one after another
 record Split (channels : List Bool) (p r : Stand) (xs ys : List Deal) : Type 0 where
   at : Stand
   before : IsMarketRun channels p xs at
-  behind : IsMarketRun channels at ys r
+  following : IsMarketRun channels at ys r
 
 run_split : (channels : List Bool) (p r : Stand) (xs ys : List Deal) → IsMarketRun channels p (xs ++ ys) r → Split channels p r xs ys
-run_split channels p r [] ys run = record { at = p; before = refl; behind = run }
-run_split channels p r (x ∷ xs) ys (mid, goes, rest) = let s = run_split channels mid r xs ys rest in record { at = s.at; before = (mid, goes, s.before); behind = s.behind }
+run_split channels p r [] ys run = record { at = p; before = refl; following = run }
+run_split channels p r (x ∷ xs) ys (mid, goes, rest) = let s = run_split channels mid r xs ys rest in record { at = s.at; before = (mid, goes, s.before); following = s.following }
 
 first_fit_through : (channels : List Bool) (events : List LiveEvent) (d d1 : Day) → IsFirstFitDay channels d → RunsThrough channels row_on events d d1 → IsFirstFitDay channels d1
 first_fit_through channels [] d d1 first same = subst (IsFirstFitDay channels) (sym same) first
@@ -80,12 +80,12 @@ shown_first_fit : (channels : List Bool) (d shown : Day) (batch : List Row) (bef
 shown_first_fit channels d shown batch before since to first run =
     let s = run_split channels (Within (Between d)) to before (Asked shown (Some batch) ∷ since) run in
     let there = first_fit_through channels (recorded (acts_of before)) d (stand_day s.at) first (run_through channels (Within (Between d)) s.at before tt s.before) in
-    let behind = s.behind in
-    at_asked channels shown batch s.at behind.0 there behind.1
+    let following = s.following in
+    at_asked channels shown batch s.at following.0 there following.1
 
-pub never_other : (channels : List Bool) (before behind : List Deal) (answers : List Answer) (d : Day) (to : Stand) → IsFirstFitDay channels d → IsMarketRun channels (Within (Between d)) (before ++ Answered answers ∷ behind) to → (i : ℕ) → i < length answers → answer_at answers i ≡ Refused OtherChannels → ⊥
-never_other channels before behind answers d to first run i lt e =
-    let told = told_of_best channels [] before behind answers (Within (Between d)) to tt run in
-    let prefix = run_split channels (Within (Between d)) to before (Answered answers ∷ behind) run in
+pub never_other : (channels : List Bool) (before following : List Deal) (answers : List Answer) (d : Day) (to : Stand) → IsFirstFitDay channels d → IsMarketRun channels (Within (Between d)) (before ++ Answered answers ∷ following) to → (i : ℕ) → i < length answers → answer_at answers i ≡ Refused OtherChannels → ⊥
+never_other channels before following answers d to first run i lt e =
+    let told = told_of_best channels [] before following answers (Within (Between d)) to tt run in
+    let prefix = run_split channels (Within (Between d)) to before (Answered answers ∷ following) run in
     let first_there = shown_first_fit channels d told.shown told.batch told.before told.since prefix.at first (subst (λ (l : List Deal). IsMarketRun channels (Within (Between d)) l prefix.at) told.are prefix.before) in
     not_told channels told.shown told.batch first_there answers i lt told.told e

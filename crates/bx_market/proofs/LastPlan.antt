@@ -35,10 +35,10 @@ through_others channels (Sold line ∷ events) d = through_others channels event
 through_others channels (OnLink event ∷ events) d = through_others channels events (live_happens d (OnLink event)).day
 through_others channels (WithoutLink ∷ events) d = through_others channels events (live_happens d WithoutLink).day
 
-pub day_behind : (channels : List Bool) (rows : List Row) (accepted : List Bool) (assigned : List (Option ℕ)) (earlier events : List LiveEvent) (d d1 : Day) → length accepted ≡ length rows → AreBookings rows → Carries rows channels (is_accepted assigned) (channel_at assigned) → IsFirstFit rows channels accepted assigned
+pub day_following : (channels : List Bool) (rows : List Row) (accepted : List Bool) (assigned : List (Option ℕ)) (earlier events : List LiveEvent) (d d1 : Day) → length accepted ≡ length rows → AreBookings rows → Carries rows channels (is_accepted assigned) (channel_at assigned) → IsFirstFit rows channels accepted assigned
     → d ≡ live_day_after earlier (opening rows assigned) → RunsThrough channels row_on events d d1 → (last : List (Option ℕ))
     → IsFirstFit (rows ++ sold_in row_on events) channels (accepted ++ map (λ (row : Row). true) (sold_in row_on events)) last → d1 ≡ live_day_after (earlier ++ events) (opening (rows ++ sold_in row_on events) last)
-day_behind channels rows accepted assigned earlier events d d1 count bookings carries first is through last fit =
+day_following channels rows accepted assigned earlier events d d1 count bookings carries first is through last fit =
     let all = others earlier ++ events in
     let a = opening rows assigned in
     let run = through_more channels row_on (others earlier) events a d d1 (subst (λ (x : Day). RunsThrough channels row_on (others earlier) a x) (sym is) (through_others channels earlier a)) through in

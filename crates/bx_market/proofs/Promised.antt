@@ -35,7 +35,7 @@ pub promised_must : (es : List Entry) (i : ℕ) → i < length (promised es) →
 promised_must [] i lt = absurd (omega (arith, lt))
 promised_must (e ∷ es) i lt = promised_more e.booking (promised es) (is_refused e.standing) (promised_must es) i lt
 
--- of bookings behind others only one of these can be one that has to be held
+-- of bookings after others only one of these can be one that has to be held
 pub must_in : (rows more : List Row) (marks : List Bool) → ((i : ℕ) → i < length more → (row_at more i).must ≡ false) → (i : ℕ) → i < length (rows ++ more) → (row_at (rows ++ more) i).must ≡ true → is_in (all_of rows ++ marks) i ≡ true
 must_in [] more marks free i lt must = absurd (true≢false (sym must ∙ free i lt))
 must_in (row ∷ rows) more marks free zero lt must = refl

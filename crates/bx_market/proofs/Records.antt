@@ -1,4 +1,4 @@
--- Nothing is sold off the record.
+-- Nothing is sold outside the journal.
 use Rattle.std.proofs.Common.{◌≡◌, inl, inr, Bool, true, false, List, [], ◌∷◌, ◌++◌, Some, None, refl, sym, ap, ◌∙◌, subst, append_assoc}
 use Rattle.std.proofs.lemmas.List.{append-nil}
 use Rattle.bx_base.specs.Bookings.{Row}
@@ -43,8 +43,8 @@ pub record AreSold (deals : List Deal) (shown : Day) (batch sold : List Row) : T
   pub is : sold_in row_on (recorded (acts_of since)) ≡ sold
 
 -- one deal more
-sold_behind : (deals : List Deal) (shown : Day) (batch sold : List Row) (act : Act) → AreSold deals shown batch sold → AreSold (deals ++ Ran act ∷ []) shown batch (sold ++ sold_in row_on (recorded (act ∷ [])))
-sold_behind deals shown batch sold act s = record {
+sold_after : (deals : List Deal) (shown : Day) (batch sold : List Row) (act : Act) → AreSold deals shown batch sold → AreSold (deals ++ Ran act ∷ []) shown batch (sold ++ sold_in row_on (recorded (act ∷ [])))
+sold_after deals shown batch sold act s = record {
   before = s.before;
   since = s.since ++ Ran act ∷ [];
   are = ap (λ (l : List Deal). l ++ Ran act ∷ []) s.are ∙ append_assoc s.before (Asked shown (Some batch) ∷ s.since) (Ran act ∷ []);
@@ -81,12 +81,12 @@ stands channels deals (Within (Closing d)) to (Asked shown batch) s e = absurd e
 stands channels deals (Within (Ending d)) to (Asked shown batch) s e = absurd e
 stands channels deals (Within (Done d)) to (Asked shown batch) s e = absurd e
 stands channels deals (Within p) to (Answered answers) s e = absurd e
-stands channels deals (Filing shown d batch sold) to (Ran (Recorded (Sold line) true)) s (d1, is, e) = named _ to (Filing shown d1 batch (sold ++ row_on line ∷ [])) e (sold_behind deals shown batch sold (Recorded (Sold line) true) s)
+stands channels deals (Filing shown d batch sold) to (Ran (Recorded (Sold line) true)) s (d1, is, e) = named _ to (Filing shown d1 batch (sold ++ row_on line ∷ [])) e (sold_after deals shown batch sold (Recorded (Sold line) true) s)
 stands channels deals (Filing shown d batch sold) to (Ran (Recorded (Sold line) false)) s e = named _ to (Within (Over d)) e tt
 stands channels deals (Filing shown d batch sold) to (Ran (Recorded (OnLink event) done)) s e = absurd e
 stands channels deals (Filing shown d batch sold) to (Ran (Recorded WithoutLink done)) s e = absurd e
 stands channels deals (Filing shown d batch sold) to (Ran (Synced true)) s e = named _ to (Telling shown d batch sold) e (record {
-  sold_since = subst (AreSold (deals ++ Ran (Synced true) ∷ []) shown batch) (append-nil sold) (sold_behind deals shown batch sold (Synced true) s);
+  sold_since = subst (AreSold (deals ++ Ran (Synced true) ∷ []) shown batch) (append-nil sold) (sold_after deals shown batch sold (Synced true) s);
   on_disk = ap (λ (l : List Act). (filed l).more) (acts_more deals (Ran (Synced true) ∷ [])) ∙ filed_synced (acts_of deals) _;
 })
 stands channels deals (Filing shown d batch sold) to (Ran (Synced false)) s e = named _ to (Within (Over d)) e tt
@@ -108,8 +108,8 @@ told_at channels deals (Filing shown d batch sold) to answers s (none, are, told
 told_at channels deals (Telling shown d batch sold) to answers s (are, told, e) =
     record { shown = shown; batch = batch; before = s.sold_since.before; since = s.sold_since.since; are = s.sold_since.are; sold = s.sold_since.is ∙ sym are; on_disk = inr s.on_disk }
 
-pub told_on_record : (channels : List Bool) (done before behind : List Deal) (answers : List Answer) (from to : Stand) → Stands done from → IsMarketRun channels from (before ++ Answered answers ∷ behind) to → IsToldOnRecord (done ++ before) answers
-told_on_record channels done [] behind answers from to s (mid, goes, rest) = subst (λ (l : List Deal). IsToldOnRecord l answers) (sym (append-nil done)) (told_at channels done from mid answers s goes)
-told_on_record channels done (deal ∷ before) behind answers from to s (mid, goes, rest) =
+pub told_on_record : (channels : List Bool) (done before following : List Deal) (answers : List Answer) (from to : Stand) → Stands done from → IsMarketRun channels from (before ++ Answered answers ∷ following) to → IsToldOnRecord (done ++ before) answers
+told_on_record channels done [] following answers from to s (mid, goes, rest) = subst (λ (l : List Deal). IsToldOnRecord l answers) (sym (append-nil done)) (told_at channels done from mid answers s goes)
+told_on_record channels done (deal ∷ before) following answers from to s (mid, goes, rest) =
     subst (λ (l : List Deal). IsToldOnRecord l answers) (append_assoc done (deal ∷ []) before)
-    (told_on_record channels (done ++ deal ∷ []) before behind answers mid to (stands channels done from mid deal s goes) rest)
+    (told_on_record channels (done ++ deal ∷ []) before following answers mid to (stands channels done from mid deal s goes) rest)

@@ -55,20 +55,20 @@ module _ (channels : List Bool) (last : ℕ) where
   pub second_held : (d : Day) (q : Place) (acts : List Act) → IsRun (Between d) acts q → IsOneSecond d.moment acts → d.moment < 300000 → (d.moment < last) ⊎ (has_call d ≡ true) → Held (Within (Between d)) (all_ran acts) (Within q)
   second_held d q acts run second early wanted =
       subst (λ (xs : List Act). Held (Within (Between d)) (all_ran xs) (Within q)) (sym second.are) (begun (subst (λ (xs : List Act). IsRun (Between d) xs q) second.are run)) where
-        behind_last : (d.moment < last) ⊎ (has_call d ≡ true) → last < d.moment + 1 → has_call d ≡ true
-        behind_last (inl before) behind = absurd (omega (arith, before, behind))
-        behind_last (inr up) behind = up
+        after_last : (d.moment < last) ⊎ (has_call d ≡ true) → last < d.moment + 1 → has_call d ≡ true
+        after_last (inl before) following = absurd (omega (arith, before, following))
+        after_last (inr up) following = up
 
-        begun : IsRun (Between d) (Began (d.moment + 1) second.begin ∷ second.behind) q → Held (Within (Between d)) (Ran (Began (d.moment + 1) second.begin) ∷ all_ran second.behind) (Within q)
-        begun (due, goes) = (Within (next (Between d) (Began (d.moment + 1) second.begin)), (due, refl), (omega (arith, early), behind_last wanted), inside_held (next (Between d) (Began (d.moment + 1) second.begin)) q second.behind goes second.one)
+        begun : IsRun (Between d) (Began (d.moment + 1) second.begin ∷ second.following) q → Held (Within (Between d)) (Ran (Began (d.moment + 1) second.begin) ∷ all_ran second.following) (Within q)
+        begun (due, goes) = (Within (next (Between d) (Began (d.moment + 1) second.begin)), (due, refl), (omega (arith, early), after_last wanted), inside_held (next (Between d) (Began (d.moment + 1) second.begin)) q second.following goes second.one)
 
 -- what was said among these deals was said
 ended_deals : (xs ys zs : List Deal) → ended (acts_of ys) ≡ true → ended (acts_of (xs ++ (ys ++ zs))) ≡ true
 ended_deals xs ys zs e =
     ap ended (acts_more xs (ys ++ zs) ∙ ap (λ (l : List Act). acts_of xs ++ l) (acts_more ys zs)) ∙ ended_inside (acts_of xs) (acts_of ys) (acts_of zs) e
 
-ended_behind : (xs ys : List Act) → ended ys ≡ true → ended (xs ++ ys) ≡ true
-ended_behind xs ys e = subst (λ (l : List Act). ended (xs ++ l) ≡ true) (append-nil ys) (ended_inside xs ys [] e)
+ended_after : (xs ys : List Act) → ended ys ≡ true → ended (xs ++ ys) ≡ true
+ended_after xs ys e = subst (λ (l : List Act). ended (xs ++ l) ≡ true) (append-nil ys) (ended_inside xs ys [] e)
 
 module _ {W : Type 0} {did : W → List Act → W → Type 0} {dealt : W → List Deal → W → Type 0} (channels : List Bool) (by : (v w : W) (acts : List Act) → did v acts w → dealt v (all_ran acts) w)
     (more : (u v w : W) (xs ys : List Deal) → dealt u xs v → dealt v ys w → dealt u (xs ++ ys) w) (last : ℕ) where
@@ -115,7 +115,7 @@ module _ {W : Type 0} {did : W → List Act → W → Type 0} {dealt : W → Lis
       let after = one_second d1 (Closing d2) second.run second.one early wanted in
       closes d d2 (Closing d2) r (then_held so_far after) close (inl (said so_far.0.deals (ap ended (acts_all_ran second.run.acts) ∙ second.said refl))) where
         said : (xs : List Deal) → ended (acts_of (all_ran second.run.acts)) ≡ true → ended (acts_of (xs ++ all_ran second.run.acts)) ≡ true
-        said xs e = ap ended (acts_more xs (all_ran second.run.acts)) ∙ ended_behind (acts_of xs) (acts_of (all_ran second.run.acts)) e
+        said xs e = ap ended (acts_more xs (all_ran second.run.acts)) ∙ ended_after (acts_of xs) (acts_of (all_ran second.run.acts)) e
 
   -- a run that broke off
   pub breaks : {u w : W} (d d2 over : Day) (r : Result (Unit {0}) CannotRecord) (fault : CannotRecord) → r ≡ Err fault → HeldTo u w (Within (Between d)) (Within (Over over)) → IsSaleRun dealt channels u w d d2 last r

@@ -1,4 +1,4 @@
--- A booking of a batch that is chosen can be sold behind those before it: all of them are carried together, and the day has a place for each.
+-- A booking of a batch that is chosen can be sold after those before it: all of them are carried together, and the day has a place for each.
 use Rattle.std.proofs.Common.{◌≡◌, ℕ, suc, ◌+◌, ◌-◌, ◌<◌, ◌≤◌, Bool, true, false, true≢false, cond, leb, List, [], ◌∷◌, ◌++◌, map, length, Result, Ok, refl, sym, ap, ap₂, ◌∙◌, subst, arith, append_assoc, ◌⊎◌, inl, inr}
 use Rattle.std.proofs.lemmas.Bool.{cases_lt, leb-true, false_from_ne_true}
 use Rattle.std.proofs.lemmas.List.{append-nil, length-append, length-map, get_or_append_left, get_or-append_right, map-append}
@@ -62,7 +62,7 @@ pub record AreSettled (channels : List Bool) (d : Day) (batch : List Row) (chose
   pub went : GoesThrough channels (map Bought (sold_of batch answers)) d d1
   pub each : (i : ℕ) → i < length answers → IsToldOf channels d batch chosen i (is_in chosen i) (answer_at answers i)
 
--- one sale behind others
+-- one sale after others
 one_more_sold : (channels : List Bool) (rows : List Row) (row : Row) (d d1 d2 : Day) → GoesThrough channels (map Bought rows) d d1 → IsSold channels row d1 d2 → GoesThrough channels (map Bought (rows ++ row ∷ [])) d d2
 one_more_sold channels [] row d d1 d2 same s = (d2, subst (λ (x : Day). IsSold channels row x d2) same s, refl)
 one_more_sold channels (r ∷ rows) row d d1 d2 (next, first, rest) s = (next, first, one_more_sold channels rows row next d1 d2 rest s)
@@ -165,50 +165,50 @@ module _ (channels : List Bool) (d : Day) (batch : List Row) (chosen : List Bool
         let is : a ≡ Refused (why_not d1.moment (row_at batch i) (is_eligible d batch i)) = cc (left_out refl) in
         subst (λ (x : Answer). IsToldOf channels d batch chosen i false x) (sym is) (told_left_out bookings e (leb (row_at batch i).start d1.moment) (is_eligible d batch i) refl refl)
 
-    -- the day behind this booking
-    abbrev pub IsBehind : Day → Answer → Type 0
-    IsBehind d2 Accepted = IsSold channels (row_at batch i) d1 d2
-    IsBehind d2 (Refused why) = d2 ≡ d1
+    -- the day after this booking
+    abbrev pub IsFollowing : Day → Answer → Type 0
+    IsFollowing d2 Accepted = IsSold channels (row_at batch i) d1 d2
+    IsFollowing d2 (Refused why) = d2 ≡ d1
 
-    rows_next : (d2 : Day) (a : Answer) → IsBehind d2 a → rows_of d2 ≡ rows_of d ++ sold_of batch (answers ++ a ∷ [])
+    rows_next : (d2 : Day) (a : Answer) → IsFollowing d2 a → rows_of d2 ≡ rows_of d ++ sold_of batch (answers ++ a ∷ [])
     rows_next d2 Accepted s =
         let more = sold_more batch answers (omega (arith, at, lt)) ∙ ap (λ (k : ℕ). sold ++ row_at batch k ∷ []) at in
         rows_sold_with channels (row_at batch i) d1 d2 s ∙ (ap (λ (rs : List Row). rs ++ row_at batch i ∷ []) settled.rows ∙ (append_assoc (rows_of d) sold (row_at batch i ∷ []) ∙ ap (λ (rs : List Row). rows_of d ++ rs) (sym more)))
     rows_next d2 (Refused why) s = ap rows_of s ∙ (settled.rows ∙ ap (λ (rs : List Row). rows_of d ++ rs) (sym (sold_same batch answers why)))
 
-    marks_next : (d2 : Day) (a : Answer) → IsBehind d2 a → marks_of d2 ≡ marks_of d ++ all_of (sold_of batch (answers ++ a ∷ []))
+    marks_next : (d2 : Day) (a : Answer) → IsFollowing d2 a → marks_of d2 ≡ marks_of d ++ all_of (sold_of batch (answers ++ a ∷ []))
     marks_next d2 Accepted s =
         let more = sold_more batch answers (omega (arith, at, lt)) ∙ ap (λ (k : ℕ). sold ++ row_at batch k ∷ []) at in
         marks_sold_with channels (row_at batch i) d1 d2 s ∙ (ap (λ (ms : List Bool). ms ++ true ∷ []) settled.marks ∙ (append_assoc (marks_of d) (all_of sold) (true ∷ []) ∙ ap (λ (ms : List Bool). marks_of d ++ ms) (sym (ap all_of more ∙ map-append (λ (row : Row). true) sold (row_at batch i ∷ [])))))
     marks_next d2 (Refused why) s = ap marks_of s ∙ (settled.marks ∙ ap (λ (rs : List Row). marks_of d ++ all_of rs) (sym (sold_same batch answers why)))
 
-    went_next : (d2 : Day) (a : Answer) → IsBehind d2 a → GoesThrough channels (map Bought (sold_of batch (answers ++ a ∷ []))) d d2
+    went_next : (d2 : Day) (a : Answer) → IsFollowing d2 a → GoesThrough channels (map Bought (sold_of batch (answers ++ a ∷ []))) d d2
     went_next d2 Accepted s =
         let more = sold_more batch answers (omega (arith, at, lt)) ∙ ap (λ (k : ℕ). sold ++ row_at batch k ∷ []) at in
         subst (λ (rs : List Row). GoesThrough channels (map Bought rs) d d2) (sym more) (one_more_sold channels sold (row_at batch i) d d1 d2 settled.went s)
     went_next d2 (Refused why) s = subst (λ (x : Day). GoesThrough channels (map Bought (sold_of batch (answers ++ Refused why ∷ []))) d x) (sym s) (subst (λ (rs : List Row). GoesThrough channels (map Bought rs) d d1) (sym (sold_same batch answers why)) settled.went)
 
-    pub settled_next : (d2 : Day) (a : Answer) → d2.moment ≡ d1.moment → IsToldOf channels d batch chosen i (is_in chosen i) a → IsBehind d2 a → AreSettled channels d batch chosen d2 (answers ++ a ∷ [])
-    settled_next d2 a moment told behind = record {
-      rows = rows_next d2 a behind;
-      marks = marks_next d2 a behind;
+    pub settled_next : (d2 : Day) (a : Answer) → d2.moment ≡ d1.moment → IsToldOf channels d batch chosen i (is_in chosen i) a → IsFollowing d2 a → AreSettled channels d batch chosen d2 (answers ++ a ∷ [])
+    settled_next d2 a moment told following = record {
+      rows = rows_next d2 a following;
+      marks = marks_next d2 a following;
       moment = moment ∙ settled.moment;
-      went = went_next d2 a behind;
+      went = went_next d2 a following;
       each = λ k inside. each k inside (cases_lt k i);
     } where
       each : (k : ℕ) → k < length (answers ++ a ∷ []) → (k < i) ⊎ (i ≤ k) → IsToldOf channels d batch chosen k (is_in chosen k) (answer_at (answers ++ a ∷ []) k)
       each k inside (inl before) = subst (IsToldOf channels d batch chosen k (is_in chosen k)) (sym (get_or_append_left answers (a ∷ []) (Refused Memory) k (omega (arith, before, at)))) (settled.each k (omega (arith, before, at)))
-      each k inside (inr behind_it) =
+      each k inside (inr after_it) =
           let n = length-append answers (a ∷ []) in
-          let here : i ≡ k = omega (arith, inside, n, behind_it, at) in
+          let here : i ≡ k = omega (arith, inside, n, after_it, at) in
           let is : answer_at (answers ++ a ∷ []) i ≡ a = get_or-append_right answers (a ∷ []) i i (Refused Memory) at (omega arith) ∙ (let z : i - i ≡ 0 = omega arith in ap (answer_at (a ∷ [])) z) in
           subst (λ (j : ℕ). IsToldOf channels d batch chosen j (is_in chosen j) (answer_at (answers ++ a ∷ []) j)) here (subst (IsToldOf channels d batch chosen i (is_in chosen i)) (sym is) told)
 
     -- so it is, by what is known of the booking
-    pub behind_of : {W : Type 0} (dealt : W → List Deal → W → Type 0) (u v : W) (d2 : Day) (a : Answer) (b : Bool) → IsToldOf channels d batch chosen i b a → (b ≡ true → IsSettled channels (row_at batch i) d1 d2 (Ok a)) → IsOffered dealt channels u v d batch sold (row_at batch i) d1 d2 (Ok a) → IsBehind d2 a
-    behind_of dealt u v d2 Accepted true told settled_so offered = settled_so refl
-    behind_of dealt u v d2 Accepted false told settled_so offered = absurd told
-    behind_of dealt u v d2 (Refused why) b told settled_so offered = offered.1
+    pub after_of : {W : Type 0} (dealt : W → List Deal → W → Type 0) (u v : W) (d2 : Day) (a : Answer) (b : Bool) → IsToldOf channels d batch chosen i b a → (b ≡ true → IsSettled channels (row_at batch i) d1 d2 (Ok a)) → IsOffered dealt channels u v d batch sold (row_at batch i) d1 d2 (Ok a) → IsFollowing d2 a
+    after_of dealt u v d2 Accepted true told settled_so offered = settled_so refl
+    after_of dealt u v d2 Accepted false told settled_so offered = absurd told
+    after_of dealt u v d2 (Refused why) b told settled_so offered = offered.1
 
     -- one booking more is settled
     pub step : AreBookings batch → {W : Type 0} (dealt : W → List Deal → W → Type 0) (u v : W) (d2 : Day) (a : Answer) (row : Row) (eligible is_chosen : Bool) → row ≡ row_at batch i → eligible ≡ is_eligible d batch i → is_chosen ≡ is_in chosen i → d2.moment ≡ d1.moment
@@ -217,7 +217,7 @@ module _ (channels : List Bool) (d : Day) (batch : List Row) (chosen : List Bool
         let so : is_in chosen i ≡ true → IsSettled channels (row_at batch i) d1 d2 (Ok a) = λ h. subst (λ (r : Row). IsSettled channels r d1 d2 (Ok a)) row_is (settled_so (chosen_is ∙ h)) in
         let left : is_in chosen i ≡ false → as_result a ≡ as_result (Refused (why_not d1.moment (row_at batch i) (is_eligible d batch i))) = λ h. left_out (chosen_is ∙ h) ∙ ap₂ (λ (r : Row) (e : Bool). as_result (Refused (why_not d1.moment r e))) row_is eligible_is in
         let told = told_next bookings d2 a (is_in chosen i) refl so left in
-        settled_next d2 a moment told (behind_of dealt u v d2 a (is_in chosen i) told so (subst (λ (r : Row). IsOffered dealt channels u v d batch (sold_of batch answers) r d1 d2 (Ok a)) row_is offered))
+        settled_next d2 a moment told (after_of dealt u v d2 a (is_in chosen i) told so (subst (λ (r : Row). IsOffered dealt channels u v d batch (sold_of batch answers) r d1 d2 (Ok a)) row_is offered))
 
   -- all are settled
   pub all_told : (d1 : Day) (answers : List Answer) → AreSettled channels d batch chosen d1 answers → length answers ≡ length batch → AreTold channels d batch answers

@@ -1,4 +1,4 @@
--- Runs with sales, one behind another.
+-- Runs with sales, one after another.
 use Rattle.std.proofs.Common.{◌≡◌, Bool, true, List, [], ◌∷◌, ◌++◌, refl, sym, ap, ◌∙◌, subst}
 use Rattle.bx_live.specs.Acts.{Act, Began, Dropped, Recorded, Synced, Wrote, Read, Took, EndedDay, begins_none}
 use Rattle.bx_live.specs.Runs.{Place, IsRun, next}

@@ -22,14 +22,14 @@ IsWhyNot channels d batch chosen i NoChannel = (is_eligible d batch i ≡ true) 
 IsWhyNot channels d batch chosen i OtherChannels = ⊥
 IsWhyNot channels d batch chosen i Memory = ⊥
 
--- from this day on some bookings were sold, and the first-fit plan with this one behind them is none that the day then goes on with
+-- from this day on some bookings were sold, and the first-fit plan with this one after them is none that the day then goes on with
 pub record HasOtherChannels (channels : List Bool) (d : Day) (row : Row) : Type 0 where
   pub sold : List Row
   pub now : Day
   pub went : GoesThrough channels (map Bought sold) d now
   pub other : IsOtherPlan channels row now
 
--- A booking that is chosen is sold, unless a growth is refused, or the channels of the day are not those of first fit. Of one that is not chosen it is
+-- A booking that is chosen is sold, unless memory runs out, or the channels of the day are not those of first fit. Of one that is not chosen it is
 -- told why
 abbrev pub IsToldOf : List Bool → Day → List Row → List Bool → ℕ → Bool → Answer → Type 0
 IsToldOf channels d batch chosen i true Accepted = Unit {0}
@@ -46,7 +46,7 @@ pub record AreToldByChoice (channels : List Bool) (d : Day) (batch : List Row) (
   pub one_each : length answers ≡ length batch
   pub each : (i : ℕ) → i < length batch → IsToldOf channels d batch chosen i (is_in chosen i) (answer_at answers i)
 
--- a growth was refused before anything was chosen
+-- memory ran out before anything was chosen
 pub record AreToldOfMemory (d : Day) (batch : List Row) (answers : List Answer) : Type 0 where
   pub one_each : length answers ≡ length batch
   pub late : (i : ℕ) → i < length batch → (row_at batch i).start ≤ d.moment → answer_at answers i ≡ Refused Late

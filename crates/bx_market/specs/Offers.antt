@@ -23,12 +23,12 @@ pub record Asks {W : Type 0} (dealt : W → List Deal → W → Type 0) (channel
   pub inside : begins_none (acts_of deals) ≡ true
 
 module _ {W : Type 0} (dealt : W → List Deal → W → Type 0) (channels : List Bool) (old new : W) where
-  -- the run stands there; or something could not be put on record, and nothing more is done, at the day that is on record
+  -- the run stands there; or something could not be logged, and nothing more is done, at the day that is logged
   abbrev pub OrOver : {A : Type 0} → Stand → Stand → Result A CannotRecord → Type 0
   OrOver from to (Ok _) = Asks dealt channels old new from to
   OrOver from to (Err fault) = (d : Day) × Asks dealt channels old new from (Within (Over d))
 
-  -- a booking of a batch was offered: it is sold and on record, or refused, and nothing changed
+  -- a booking of a batch was offered: it is sold and in the journal, or refused, and nothing changed
   abbrev pub IsOffered : Day → List Row → List Row → Row → Day → Day → Result Answer CannotRecord → Type 0
   IsOffered shown batch sold row d d1 (Ok Accepted) = Asks dealt channels old new (Filing shown d batch sold) (Filing shown d1 batch (sold ++ row ∷ []))
   IsOffered shown batch sold row d d1 (Ok (Refused why)) = Asks dealt channels old new (Filing shown d batch sold) (Filing shown d1 batch sold) × (d1 ≡ d)

@@ -10,7 +10,7 @@ use Rattle.bx_sales.specs.Journal.{RunsThrough}
 use Rattle.bx_market.specs.Deals.{Deal, acts_of}
 use Rattle.bx_market.specs.Stands.{Within, IsHeldMarketRun, Deals}
 
--- A run up to a second, and behind it on while a call is up: the day went through just the events and sales on record. Unless the world said that no second
+-- A run up to a second, and after it on while a call is up: the day went through just the logged events and sales. Unless the world said that no second
 -- begins any more it has reached that second and no call is up, or there are no more seconds
 pub record IsWholeRun {W : Type 0} (dealt : W → List Deal → W → Type 0) (channels : List Bool) (old new : W) (d d1 : Day) (last : ℕ) : Type 0 where
   pub run : Deals dealt channels old new (Within (Between d)) (Within (Done d1))
@@ -18,7 +18,7 @@ pub record IsWholeRun {W : Type 0} (dealt : W → List Deal → W → Type 0) (c
   pub held : IsHeldMarketRun channels last (Within (Between d)) run.deals (Within (Done d1))
   pub out : ended (acts_of run.deals) ≡ false → IsHeldOut last d1
 
--- a run that broke off: the day on record went through just the events and sales on record
+-- a run that broke off: the day in the journal went through just the logged events and sales
 pub record IsBrokenRun {W : Type 0} (dealt : W → List Deal → W → Type 0) (channels : List Bool) (old new : W) (d : Day) (last : ℕ) : Type 0 where
   pub over : Day
   pub run : Deals dealt channels old new (Within (Between d)) (Within (Over over))

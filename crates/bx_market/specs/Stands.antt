@@ -16,18 +16,18 @@ use Rattle.bx_market.specs.Deals.{Deal, Ran, Asked, Answered, sold_of}
 pub data Stand : Type 0 where
   -- in the run by the clock, at this place
   Within : (p : Place) → Stand
-  -- a batch was asked for where the day was shown, and these of it are sold so far, each on record
+  -- a batch was asked for where the day was shown, and these of it are sold so far, each in the journal
   Filing : (shown d : Day) (batch sold : List Row) → Stand
   -- what is sold of the batch is on the disk
   Telling : (shown d : Day) (batch sold : List Row) → Stand
 
--- the day as far as its events and sales are on record
+-- the day as far as its events and sales are logged
 abbrev pub stand_day : Stand → Day
 stand_day (Within p) = day_at p
 stand_day (Filing shown d batch sold) = d
 stand_day (Telling shown d batch sold) = d
 
--- one booking more is sold and on record; or it could not be put on record, and nothing more is done
+-- one booking more is sold and in the journal; or it could not be logged, and nothing more is done
 abbrev pub Filed : List Bool → Day → Day → List Row → List Row → Row → Bool → Stand → Type 0
 Filed channels shown d batch sold row true to = (d1 : Day) × IsSold channels row d d1 × (to ≡ Filing shown d1 batch (sold ++ row ∷ []))
 Filed channels shown d batch sold row false to = to ≡ Within (Over d)
@@ -41,7 +41,7 @@ abbrev pub asked : Day → Option (List Row) → Stand
 asked d None = Within (Between d)
 asked d (Some batch) = Filing d d batch []
 
--- A deal leads from one stand to another. Between two seconds the market is shown the day so far, and asked. Each booking that is sold is put on record, one sync
+-- A deal leads from one stand to another. Between two seconds the market is shown the day so far, and asked. Each booking that is sold is logged, one sync
 -- follows, and only then the customer is answered, of the best choice among the batch; where nothing is sold, no sync is wanted.
 abbrev pub Goes : List Bool → Stand → Deal → Stand → Type 0
 Goes channels (Within p) (Ran act) to = IsDue p act × (to ≡ Within (next p act))
@@ -57,7 +57,7 @@ abbrev pub IsMarketRun : List Bool → Stand → List Deal → Stand → Type 0
 IsMarketRun channels from [] to = from ≡ to
 IsMarketRun channels from (deal ∷ deals) to = (mid : Stand) × Goes channels from deal mid × IsMarketRun channels mid deals to
 
--- no second begins behind `LAST_MOMENT`, and behind the last one that was asked for one begins only while a call is up, by the day as it is then
+-- no second begins after `LAST_MOMENT`, and after the last one that was asked for one begins only while a call is up, by the day as it is then
 abbrev pub IsHeldAt : ℕ → Deal → Stand → Type 0
 IsHeldAt last (Ran (Began second begin)) (Within (Between d)) = (second ≤ LAST_MOMENT) × (last < second → has_call d ≡ true)
 IsHeldAt last deal stand = Unit {0}

@@ -1,4 +1,4 @@
--- What holds of every run with sales: nothing is sold off the record, of each batch the best choice is sold, and the day is that of the last plan.
+-- What holds of every run with sales: nothing is sold outside the journal, of each batch the best choice is sold, and the day is that of the last plan.
 use Rattle.std.specs.Prelude.{◌≡◌, ◌⊎◌, ◌<◌, ℕ, Bool, true, false, List, [], ◌∷◌, ◌++◌, map, length, Option, Some}
 use Rattle.bx_base.specs.Bookings.{Row, AreBookings, Carries}
 use Rattle.bx_base.specs.Plans.{is_accepted, channel_at}
@@ -21,8 +21,8 @@ use Rattle.bx_market.specs.Choices.{IsBestChoice}
 use Rattle.bx_market.specs.Deals.{Deal, Ran, Asked, Answered, acts_of, sold_of}
 use Rattle.bx_market.specs.Stands.{Stand, Within, IsMarketRun, stand_day}
 
--- what a customer is told behind these deals is on record: since the batch was asked for, just those of its bookings were recorded as
--- sold that are answered as accepted; where there are such, all that is on record is on the disk
+-- what a customer is told after these deals is logged: since the batch was asked for, just those of its bookings were logged as
+-- sold that are answered as accepted; where there are such, all that is logged is on the disk
 pub record IsToldOnRecord (deals : List Deal) (answers : List Answer) : Type 0 where
   pub shown : Day
   pub batch : List Row
@@ -37,12 +37,12 @@ abbrev pub is_sold : Answer → Bool
 is_sold Accepted = true
 is_sold (Refused why) = false
 
--- no growth was refused, and the channels of the day were those of first fit
+-- memory did not run out, and the channels of the day were those of first fit
 abbrev pub IsUnhindered : Answer → Type 0
 IsUnhindered answer = ¬ (answer ≡ Refused Memory) × ¬ (answer ≡ Refused OtherChannels)
 
--- what a customer is told behind these deals is the best choice of the batch, beside all that was promised when it was asked for: no other choice that keeps
--- those promises pays more than what is accepted. Where a growth was refused some are told so
+-- what a customer is told after these deals is the best choice of the batch, beside all that was promised when it was asked for: no other choice that keeps
+-- those promises pays more than what is accepted. Where memory ran out some are told so
 pub record IsToldOfBest (channels : List Bool) (deals : List Deal) (answers : List Answer) : Type 0 where
   pub shown : Day
   pub batch : List Row
@@ -53,20 +53,20 @@ pub record IsToldOfBest (channels : List Bool) (deals : List Deal) (answers : Li
   pub best : ((i : ℕ) → i < length batch → IsUnhindered (answer_at answers i)) → IsBestChoice channels shown batch (map is_sold answers)
 
 abbrev pub IsBestOfEachBatch : Type 0
-IsBestOfEachBatch = (channels : List Bool) (d : Day) (before behind : List Deal) (answers : List Answer) (to : Stand) →
-    IsMarketRun channels (Within (Between d)) (before ++ Answered answers ∷ behind) to → IsToldOfBest channels before answers
+IsBestOfEachBatch = (channels : List Bool) (d : Day) (before following : List Deal) (answers : List Answer) (to : Stand) →
+    IsMarketRun channels (Within (Between d)) (before ++ Answered answers ∷ following) to → IsToldOfBest channels before answers
 
 abbrev pub IsNothingOffRecord : Type 0
-IsNothingOffRecord = (channels : List Bool) (d : Day) (before behind : List Deal) (answers : List Answer) (to : Stand) →
-    IsMarketRun channels (Within (Between d)) (before ++ Answered answers ∷ behind) to → IsToldOnRecord before answers
+IsNothingOffRecord = (channels : List Bool) (d : Day) (before following : List Deal) (answers : List Answer) (to : Stand) →
+    IsMarketRun channels (Within (Between d)) (before ++ Answered answers ∷ following) to → IsToldOnRecord before answers
 
 -- where the day at which a run begins is that of a first-fit plan, no customer is told of other channels
 abbrev pub IsNeverOfOtherChannels : Type 0
-IsNeverOfOtherChannels = (channels : List Bool) (d : Day) (before behind : List Deal) (answers : List Answer) (to : Stand) →
-    IsFirstFitDay channels d → IsMarketRun channels (Within (Between d)) (before ++ Answered answers ∷ behind) to → (i : ℕ) → i < length answers → ¬ (answer_at answers i ≡ Refused OtherChannels)
+IsNeverOfOtherChannels = (channels : List Bool) (d : Day) (before following : List Deal) (answers : List Answer) (to : Stand) →
+    IsFirstFitDay channels d → IsMarketRun channels (Within (Between d)) (before ++ Answered answers ∷ following) to → (i : ℕ) → i < length answers → ¬ (answer_at answers i ≡ Refused OtherChannels)
 
--- A run that goes on from the day of a plan: the rows of that plan, with all that is sold behind them, coloured once, have the day by the
--- events before and those on record. It may have gone on with a journal, whose sales the plan has among its rows.
+-- A run that goes on from the day of a plan: the rows of that plan, with all that is sold after them, coloured once, have the day by the
+-- events before and those in the journal. It may have gone on with a journal, whose sales the plan has among its rows.
 abbrev pub IsDayOfTheLastPlan : Type 0
 IsDayOfTheLastPlan = (channels : List Bool) (rows : List Row) (accepted : List Bool) (assigned : List (Option ℕ)) (earlier : List LiveEvent) (d : Day) (deals : List Deal) (to : Stand) →
     length accepted ≡ length rows → AreBookings rows → Carries rows channels (is_accepted assigned) (channel_at assigned) → IsFirstFit rows channels accepted assigned →

@@ -61,7 +61,7 @@ fn eligible_marks(
     Ok(eligible)
 }
 
-/// Adds a booking. There have to be fewer than 4,000, or this is told as a growth that was refused.
+/// Adds a booking. There have to be fewer than 4,000, or this is told as memory that ran out.
 fn add(rows: &mut Bookings, booking: Booking) -> Result<(), AllocError>
     ensures { OnOk result (rows.new ≡ rows.old ++ booking ∷ []) }
 {
@@ -157,7 +157,7 @@ fn all_fit(alloc: Global, rows: &Bookings, channels: ChannelSet) -> Result<bool,
 
 /// The best choice among the bookings of a batch beside all that is promised. Where all that are eligible fit, these; else by a plan in which each
 /// promised booking has to be held, and those of the batch are free. Where the channels do not carry what is promised, nothing is chosen.
-/// `AllocError` where a growth is refused.
+/// `AllocError` where memory runs out.
 pub(crate) fn choose(
     alloc: Global,
     exchange: &Exchange,

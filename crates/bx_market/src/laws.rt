@@ -2,26 +2,26 @@
 
 ghost use Rattle.bx_market.specs.Told.{IsNothingOffRecord, IsBestOfEachBatch, IsNeverOfOtherChannels, IsDayOfTheLastPlan, IsAllWrittenForEvents};
 
-/// Nothing is sold off the record: what a customer is told was put on record since the batch was asked for, neither more nor less,
+/// Nothing is sold outside the journal: what a customer is told was logged since the batch was asked for, neither more nor less,
 /// and is on the disk.
 pub fn nothing_off_record()
     ensures { IsNothingOffRecord }
 {}
 
 /// Of each batch the best choice is sold: of its bookings that start later, no other set that is carried beside all that was promised
-/// when it was asked for pays more than what is accepted. Where a growth was refused that is told, and where the channels of the day
+/// when it was asked for pays more than what is accepted. Where memory ran out that is told, and where the channels of the day
 /// are not those of first fit (`OtherChannels`).
 pub fn best_of_each_batch()
     ensures { IsBestOfEachBatch }
 {}
 
-/// Where the plan of the morning is first fit, nobody is told `OtherChannels`: a booking that is chosen is refused only where a growth is.
+/// Where the plan of the morning is first fit, nobody is told `OtherChannels`: a booking that is chosen is refused only where memory runs out.
 pub fn no_other_channels()
     ensures { IsNeverOfOtherChannels }
 {}
 
-/// The day of a run is that of the last plan, over the events on record from the morning on: of the rows of the morning with all that
-/// was sold behind them, coloured once. The same holds where the run goes on behind a journal that was read, whose sales are among the
+/// The day of a run is that of the last plan, over the logged events from the morning on: of the rows of the morning with all that
+/// was sold after them, coloured once. The same holds where the run goes on after a journal that was read, whose sales are among the
 /// rows by then.
 pub fn day_of_the_last_plan()
     ensures { IsDayOfTheLastPlan }

@@ -1,4 +1,4 @@
-//! A live run with sales: between two seconds customers ask for bookings, and what is sold is on record before they are told.
+//! A live run with sales: between two seconds customers ask for bookings, and what is sold is logged before they are told.
 #![tactic(auto)]
 
 mod choosing;

@@ -21,7 +21,7 @@ use bx_planfile::spell_booking;
 use bx_sales::{NoSale, sell};
 use std::alloc::{AllocError, Global};
 
-/// Sells one booking of a batch, where it fits beside all that is promised, and puts it on record.
+/// Sells one booking of a batch, where it fits beside all that is promised, and puts it in the journal.
 fn offer<W: Market>(
     alloc: Global,
     exchange: &mut Exchange,
@@ -133,7 +133,7 @@ fn sell_chosen<W: Market>(
     tell(world, &answers, is_any_sold)
 }
 
-/// What is told of a booking where a growth was refused before anything was chosen.
+/// What is told of a booking where memory ran out before anything was chosen.
 fn unchosen(moment: u32, booking: Booking) -> Answer
     ensures late { booking.start ≤ moment → result ≡ Answer.Refused NoSale.Late }
     ensures memory { moment < booking.start → result ≡ Answer.Refused NoSale.Memory }
@@ -145,7 +145,7 @@ fn unchosen(moment: u32, booking: Booking) -> Answer
     }
 }
 
-/// Tells the customer that a growth was refused before anything was chosen.
+/// Tells the customer that memory ran out before anything was chosen.
 fn tell_of_memory<W: Market>(world: &mut W, exchange: &Exchange, batch: &Bookings)
     ensures { (channels : List Bool) → Asks W.dealt channels world.old world.new (Filing exchange.now exchange.now batch.now []) (Within (Between exchange.now)) }
 {

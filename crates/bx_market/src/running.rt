@@ -55,11 +55,11 @@ fn ask_all<W: Market>(
     Ok(())
 }
 
-/// Runs the day up to a second of it, and behind that on while a call is up, so that each call that is begun is cleared and can be billed: until none is up,
+/// Runs the day up to a second of it, and after that on while a call is up, so that each call that is begun is cleared and can be billed: until none is up,
 /// or up to `LAST_MOMENT`, or until the world says that it is over. Before each second the market is shown the exchange and asked for batches of bookings, at
-/// most 16 times: of each batch the best choice is sold beside all that is promised (`laws::best_of_each_batch`), row by row, put on record, brought to the disk by
-/// one sync, and only then answered. So the day is the one of the last plan over the events on record (`laws::day_of_the_last_plan`). At `CannotRecord` nothing more is done, and nothing is answered: the exchange is to
-/// be dropped, and the day that is on record is read again.
+/// most 16 times: of each batch the best choice is sold beside all that is promised (`laws::best_of_each_batch`), row by row, logged, brought to the disk by
+/// one sync, and only then answered. So the day is the one of the last plan over the logged events (`laws::day_of_the_last_plan`). At `CannotRecord` nothing more is done, and nothing is answered: the exchange is to
+/// be dropped, and the day that is logged is read again.
 pub fn run_market<W: Market>(
     alloc: Global,
     exchange: &mut Exchange,

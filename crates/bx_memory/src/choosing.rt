@@ -11,7 +11,7 @@ use bx_planner::{Earning, NoAmendment, NoPlan, amend, capacity, plan};
 use bx_rounds::Rounds;
 use std::alloc::{AllocError, Global};
 
-/// The answer of a call that refuses growths alone.
+/// The answer of a call that refuses for memory alone.
 fn summed(given: Result<u64, AllocError>) -> Answer {
     match given {
         Ok(number) => Answer::Right(number),

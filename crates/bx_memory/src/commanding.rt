@@ -1,4 +1,4 @@
-//! The commands over readers and writers. A refused growth has to leave the output empty.
+//! The commands over readers and writers. Where memory runs out the output has to stay empty.
 
 use crate::world::{Answer, BOOKINGS, World};
 use bx_book::StreamFault;
@@ -17,7 +17,7 @@ fn output_of(alloc: Global) -> Option<Watched<Vec<u8>>> {
     }
 }
 
-/// What was written, by its length, where the call was done; nothing, where a growth was refused.
+/// What was written, by its length, where the call was done; nothing, where memory ran out.
 fn answer_of(output: Watched<Vec<u8>>, is_done: bool) -> Answer {
     let written = output.into_inner().len() as u64;
     if is_done {

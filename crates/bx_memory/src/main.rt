@@ -1,5 +1,5 @@
-//! Calls everything that takes memory, each call again where a growth was refused, and prints what it gave. Run with each
-//! growth refused in turn, it has to print the same: a refused growth is answered by `Memory` and nothing else, and the same
+//! Calls everything that takes memory, each call again where memory ran out, and prints what it gave. Run with each
+//! request for memory refused in turn, it has to print the same: memory that runs out is answered by `Memory` and nothing else, and the same
 //! call with memory gives its answer.
 #![tactic(auto)]
 

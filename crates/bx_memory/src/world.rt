@@ -8,7 +8,7 @@ use bx_planfile::write_plan;
 use bx_planner::plan;
 use std::alloc::Global;
 
-/// What came of a call: a number that sums up what it gave, a refused growth, or anything else.
+/// What came of a call: a number that sums up what it gave, memory that ran out, or anything else.
 #[derive(Clone, Copy)]
 pub enum Answer {
     Right(u64),
@@ -34,7 +34,7 @@ pub static BOOKINGS: &[u8] = b"start,end,number,pay,must\n\
 2026-01-05T00:00:20Z,2026-01-05T00:00:30Z,4930114,1,no\n\
 2026-01-05T00:00:08Z,2026-01-05T00:00:25Z,4930115,7,no\n";
 
-/// The world; none where a growth was refused.
+/// The world; none where memory ran out.
 pub fn world_of(alloc: Global) -> Option<World> {
     let day = Day::new("2026-01-05", "UTC0").ok()?;
     let channels = ChannelSet::from_numbers(&[1, 2]).ok()?;

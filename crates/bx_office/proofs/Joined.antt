@@ -2,17 +2,17 @@
 use Rattle.std.proofs.Common.{◌≡◌, refl, sym, subst, ap, ◌∙◌, ℕ, ◌<◌, ◌≤◌, List, ◌++◌, take, drop, length, arith, ◌+◌, []}
 use Rattle.std.proofs.lemmas.List.{take-append-drop, take_at, drop_at, drop_all, length-append}
 
-pub is_long : (text front back : List ℕ) → text ≡ front ++ back → length text < length front → ⊥
-is_long text front back e short = omega (arith, short, ap length e, length-append front back)
+pub is_long : (text prefix back : List ℕ) → text ≡ prefix ++ back → length text < length prefix → ⊥
+is_long text prefix back e short = omega (arith, short, ap length e, length-append prefix back)
 
-pub has_front : (text front back : List ℕ) → text ≡ front ++ back → take (length front) text ≡ front
-has_front text front back e = ap (take (length front)) e ∙ take_at front back (length front) refl
+pub has_prefix : (text prefix back : List ℕ) → text ≡ prefix ++ back → take (length prefix) text ≡ prefix
+has_prefix text prefix back e = ap (take (length prefix)) e ∙ take_at prefix back (length prefix) refl
 
-pub has_back : (text front back : List ℕ) → text ≡ front ++ back → drop (length front) text ≡ back
-has_back text front back e = ap (drop (length front)) e ∙ drop_at front back (length front) refl
+pub has_back : (text prefix back : List ℕ) → text ≡ prefix ++ back → drop (length prefix) text ≡ back
+has_back text prefix back e = ap (drop (length prefix)) e ∙ drop_at prefix back (length prefix) refl
 
-pub is_both : (text front back : List ℕ) → take (length front) text ≡ front → drop (length front) text ≡ back → text ≡ front ++ back
-is_both text front back f b = sym (take-append-drop (length front) text) ∙ ap (λ (xs : List ℕ). xs ++ drop (length front) text) f ∙ ap (λ (xs : List ℕ). front ++ xs) b
+pub is_both : (text prefix back : List ℕ) → take (length prefix) text ≡ prefix → drop (length prefix) text ≡ back → text ≡ prefix ++ back
+is_both text prefix back f b = sym (take-append-drop (length prefix) text) ∙ ap (λ (xs : List ℕ). xs ++ drop (length prefix) text) f ∙ ap (λ (xs : List ℕ). prefix ++ xs) b
 
 pub drop_past : (n : ℕ) (xs : List ℕ) → length xs ≤ n → [] ≡ drop (n + 1) xs
 drop_past n xs past = sym (drop_all (n + 1) xs (omega (arith, past)))

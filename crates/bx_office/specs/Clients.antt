@@ -15,7 +15,7 @@ use Rattle.bx_office.specs.declared.gate.Place.{Place}
 use Rattle.bx_office.specs.declared.gate.Refusal.{Refusal}
 use Rattle.bx_office.specs.declared.gate.Route.{Route}
 
--- a request was let through: its head stood in front of what came, and the gate let it through
+-- a request was let through: its head stood first in what came, and the gate let it through
 pub record IsAdmitted (old new : Client) (route : Route) : Type 0 where
   pub head : RequestHead
   pub framing : Framing
@@ -31,11 +31,11 @@ pub record IsReadOn (old new : Client) (route : Route) : Type 0 where
   pub piece : List ℕ
   pub body : new.body.items ≡ old.body.items ++ piece
 
--- the body of the request of this route is due behind a step
-abbrev pub IsDueBehind : Client → Client → Stage → Type 0
-IsDueBehind old new (Body route) = IsAdmitted old new route ⊎ IsReadOn old new route
-IsDueBehind old new (Asked route) = (old.stage ≡ Asked route) ⊎ ((old.stage ≡ Body route) × (new.query.items ≡ old.query.items) × (new.body.items ≡ old.body.items))
-IsDueBehind old new _ = Unit {0}
+-- the body of the request of this route is due after a step
+abbrev pub IsDueAfter : Client → Client → Stage → Type 0
+IsDueAfter old new (Body route) = IsAdmitted old new route ⊎ IsReadOn old new route
+IsDueAfter old new (Asked route) = (old.stage ≡ Asked route) ⊎ ((old.stage ≡ Body route) × (new.query.items ≡ old.query.items) × (new.body.items ≡ old.body.items))
+IsDueAfter old new _ = Unit {0}
 
 -- ---- what each function of it does
 
@@ -73,7 +73,7 @@ pub record IsTaken (octets : List ℕ) (old new : Client) : Type 0 where
   pub body : new.body ≡ old.body
   pub out : new.out ≡ old.out
 
--- behind an answer the next head is due, or nothing more is read
+-- after an answer the next head is due, or nothing more is read
 abbrev pub IsNext : Stage → Type 0
 IsNext Head = Unit {0}
 IsNext Last = Unit {0}

@@ -14,7 +14,7 @@ use Rattle.bx_office.specs.declared.gate.Refusal.TheVariants.{OtherHost, OtherOr
 abbrev pub text_of : Option (Bor (List ℕ)) → Option (List ℕ)
 text_of = option_map (λ x. x.now)
 
--- ---- the target of a request: a path, and behind the first question mark a query
+-- ---- the target of a request: a path, and after the first question mark a query
 
 abbrev pub path_len : List ℕ → ℕ
 path_len target = prefix_len (λ c. not (c == 63)) target
@@ -74,7 +74,7 @@ IsOwn place host origin = (is_own_host place host ≡ true) × IsOwnOrigin place
 
 -- ---- what is sent
 
--- behind the type come parameters, or nothing
+-- after the type come parameters, or nothing
 abbrev pub ends_type : List ℕ → Bool
 ends_type [] = true
 ends_type (c ∷ rest) = (c == 59) || (c == 32)

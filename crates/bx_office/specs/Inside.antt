@@ -29,6 +29,6 @@ pub record IsBegun (place : Place) (input : List ℕ) (spans : List HeaderSpan) 
   pub unread : new.unread.items ≡ drop r.len input
   pub body : new.body.items ≡ []
 
--- the connection behind an answer
+-- the connection after an answer
 abbrev pub after_reply : Bool → Server → Reply → Bool → Server
 after_reply is_head s reply is_last = after_end (after_body is_head (after_head s reply is_last) reply.body.now)

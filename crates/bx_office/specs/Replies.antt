@@ -61,7 +61,7 @@ abbrev pub fields_of : Reply → Bool → List Header
 fields_of reply is_last = (codes "content-type", type_of reply.kind) ∷ (codes "cache-control", codes "no-store") ∷ (codes "x-content-type-options", codes "nosniff")
     ∷ (codes "content-security-policy", policy) ∷ allowed_of reply.allowed ∷ (if is_last then (codes "connection", codes "close") ∷ [] else [])
 
--- the head of an answer, and the connection behind it
+-- the head of an answer, and the connection after it
 abbrev pub head_text : Server → Reply → Bool → List ℕ
 head_text s reply is_last = planned_response s (code_of reply.status) (reason_of reply.status) (Known (length reply.body.now)) (fields_of reply is_last)
 
@@ -77,7 +77,7 @@ abbrev pub after_body : Bool → Server → List ℕ → Server
 after_body true s body = s
 after_body false s body = with_writing s (after_data (writing s) (length body))
 
--- the octets of an answer, and the connection behind it
+-- the octets of an answer, and the connection after it
 abbrev pub reply_text : Bool → Server → Reply → Bool → List ℕ
 reply_text is_head s reply is_last = head_text s reply is_last ++ body_text is_head (after_head s reply is_last) reply.body.now
     ++ finish_text (writing (after_body is_head (after_head s reply is_last) reply.body.now)) []

@@ -60,7 +60,7 @@ impl Client {
     ghost use Rattle.httparse.specs.Grammar.{RequestHead};
     ghost use Rattle.httparse.specs.Spans.{IsRequestWithin, IsRequestAt};
     ghost use Rattle.bx_office.specs.Inside.{IsUndue, IsBegun};
-    ghost use Rattle.bx_office.specs.Clients.{IsDueBehind, IsLeft, IsTaken, IsNext, is_over, is_reading, room_of};
+    ghost use Rattle.bx_office.specs.Clients.{IsDueAfter, IsLeft, IsTaken, IsNext, is_over, is_reading, room_of};
     ghost use Rattle.bx_office.specs.Replies.{reply_text};
 
     /// A client that has sent nothing yet. Takes no memory.
@@ -115,7 +115,7 @@ impl Client {
         MAX_UNREAD.saturating_sub(self.unread.len())
     }
 
-    /// Takes octets that came, no more than there is room for. Where a growth is refused the client is given up.
+    /// Takes octets that came, no more than there is room for. Where memory runs out the client is given up.
     pub fn take(&mut self, octets: &[u8])
         requires { length octets.now ≤ room_of self.old }
         ensures taken { IsLeft self.new ⊎ IsTaken octets.now self.old self.new }
@@ -176,7 +176,7 @@ impl Client {
     /// Reads one thing of what came: a head, a piece of a body, its end. Answers whether there may be more. What is no request of HTTP/1.1
     /// within the limits, and what the gate does not let through, is answered here.
     pub fn step(&mut self) -> bool
-        ensures due { IsDueBehind self.old self.new self.new.stage }
+        ensures due { IsDueAfter self.old self.new self.new.stage }
         ensures place { self.new.place ≡ self.old.place }
     {
         if !self.is_reading() {
@@ -203,7 +203,7 @@ impl Client {
         true
     }
 
-    /// Takes a head, with what the gate answers to it. None where a growth was refused.
+    /// Takes a head, with what the gate answers to it. None where memory ran out.
     fn take_head(
         &mut self,
         head: &RequestSpans,
@@ -247,7 +247,7 @@ impl Client {
         }
     }
 
-    /// The request is refused. Where it has a body, that is not read, and nothing behind it.
+    /// The request is refused. Where it has a body, that is not read, and nothing after it.
     fn refuse(&mut self, refusal: Refusal)
         ensures stage { IsUndue self.new.stage }
         ensures place { self.new.place ≡ self.old.place }
@@ -340,7 +340,7 @@ impl Client {
         self.send(reply, false);
     }
 
-    /// Writes an answer. Behind the last one nothing is read.
+    /// Writes an answer. After the last one nothing is read.
     fn send(&mut self, reply: Reply<'_>, is_last: bool)
         ensures said { IsLeft self.new ⊎ (self.new.out.items ≡ self.old.out.items ++ reply_text self.old.is_head self.old.server reply.entry is_last) }
         ensures next { IsNext self.new.stage }

@@ -74,7 +74,7 @@ fn path_len(target: &[u8]) -> usize
     target.iter().take_while(|c| **c != b'?').count()
 }
 
-/// What stands behind the path and a question mark.
+/// What stands after the path and a question mark.
 #[tactic(auto, using(crate::proofs::Joined::drop_past))]
 pub(crate) fn query_in(target: &[u8]) -> &[u8]
     ensures { result.now ≡ query_in target.now }
@@ -214,18 +214,18 @@ fn is_same(one: &[u8], other: &[u8]) -> bool
     one == other
 }
 
-/// Whether a text is these two, one behind the other.
-#[tactic(auto, using(crate::proofs::Joined::is_long, crate::proofs::Joined::has_front, crate::proofs::Joined::has_back, crate::proofs::Joined::is_both))]
-fn is_joined(text: &[u8], front: &[u8], back: &[u8]) -> bool
-    ensures { IsTrue result ↔ (text.now ≡ front.now ++ back.now) }
+/// Whether a text is these two, one after the other.
+#[tactic(auto, using(crate::proofs::Joined::is_long, crate::proofs::Joined::has_prefix, crate::proofs::Joined::has_back, crate::proofs::Joined::is_both))]
+fn is_joined(text: &[u8], prefix: &[u8], back: &[u8]) -> bool
+    ensures { IsTrue result ↔ (text.now ≡ prefix.now ++ back.now) }
 {
-    if text.len() < front.len() {
+    if text.len() < prefix.len() {
         return false;
     }
-    if !is_same(&text[..front.len()], front) {
+    if !is_same(&text[..prefix.len()], prefix) {
         return false;
     }
-    is_same(&text[front.len()..], back)
+    is_same(&text[prefix.len()..], back)
 }
 
 /// Whether a page of this host has such an origin.
@@ -254,7 +254,7 @@ fn is_own_origin(place: Place, host: Option<&[u8]>, origin: Option<&[u8]>) -> bo
 
 /// Where a request goes, by its method, its target, and the fields `Host`, `Origin` and `Content-Type`, where it has them. What is let
 /// through names this office, was sent by no page of another origin, and asks for what is there as that is asked for; bookings come as
-/// `text/csv`, which a browser sends to another origin only behind a question that is not answered here.
+/// `text/csv`, which a browser sends to another origin only after a question that is not answered here.
 pub fn let_through(
     place: Place,
     method: &[u8],

@@ -1,4 +1,4 @@
-//! The office in front of a live day: which requests are let through, and a client's connection.
+//! The office of a live day: which requests are let through, and a client's connection.
 #![tactic(auto)]
 
 mod client;

@@ -78,7 +78,7 @@ given_more c (n ∷ ns) e =
     each (nat_le n c) (not (is_among n ns)) (are_given c ns) (nat_le n (c + 1)) (not (is_among n (ns ++ (c + 1) ∷ []))) (are_given (c + 1) (ns ++ (c + 1) ∷ [])) e
     (within_more n c) (λ a b. not_so (is_among n ns) (is_among n (ns ++ (c + 1) ∷ [])) (fresh n (c + 1) ns (above n c a)) b) (given_more c ns)
 
--- ---- who comes stands behind the others
+-- ---- who comes stands after the others
 
 pub numbers-push : (gs : List Guest) (g : Guest) → numbers_of (gs ++ g ∷ []) ≡ numbers_of gs ++ g.number ∷ []
 numbers-push [] g = refl
@@ -121,7 +121,7 @@ pub attended : (ns0 ns1 ns2 ns3 : List ℕ) (c0 c1 c2 c3 : ℕ) → ns1 ≡ ns0 
 attended ns0 ns1 ns2 ns3 c0 c1 c2 c3 e f t g h =
     subst (λ (c : ℕ). IsThinned (ns0 ++ given_since c0 c) ns3) (sym (h ∙ g)) (subst (λ (ns : List ℕ). IsThinned ns ns3) (f ∙ e) t)
 
--- ---- one moves behind the others
+-- ---- one moves after the others
 
 left : (a b : Bool) → (a || b) ≡ false → a ≡ false
 left true b e = e
@@ -185,5 +185,5 @@ numbers-append (x ∷ xs) ys = ap (λ (ns : List ℕ). x.number ∷ ns) (numbers
 pub guests_moved : (c : ℕ) (xs ys : List Guest) (g h : Guest) → h.number ≡ g.number → are_given c (numbers_of (xs ++ g ∷ ys)) ≡ true → are_given c (numbers_of (xs ++ ys ++ h ∷ [])) ≡ true
 guests_moved c xs ys g h same e =
     let before : numbers_of (xs ++ g ∷ ys) ≡ numbers_of xs ++ g.number ∷ numbers_of ys = numbers-append xs (g ∷ ys) in
-    let behind : numbers_of (xs ++ ys ++ h ∷ []) ≡ numbers_of xs ++ numbers_of ys ++ g.number ∷ [] = numbers-push (xs ++ ys) h ∙ ap (λ (ns : List ℕ). ns ++ h.number ∷ []) (numbers-append xs ys) ∙ ap (λ (n : ℕ). numbers_of xs ++ numbers_of ys ++ n ∷ []) same in
-    ap (are_given c) behind ∙ given_moved c g.number (numbers_of xs) (numbers_of ys) (sym (ap (are_given c) before) ∙ e)
+    let following : numbers_of (xs ++ ys ++ h ∷ []) ≡ numbers_of xs ++ numbers_of ys ++ g.number ∷ [] = numbers-push (xs ++ ys) h ∙ ap (λ (ns : List ℕ). ns ++ h.number ∷ []) (numbers-append xs ys) ∙ ap (λ (n : ℕ). numbers_of xs ++ numbers_of ys ++ n ∷ []) same in
+    ap (are_given c) following ∙ given_moved c g.number (numbers_of xs) (numbers_of ys) (sym (ap (are_given c) before) ∙ e)

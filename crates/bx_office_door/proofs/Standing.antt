@@ -13,7 +13,7 @@ passed : (b : Bool) (c : Client) (x y z : Option Client) → (if b then Some c e
 passed true c x y z e f = cc
 passed false c x y z e f = f e
 
--- nobody of the number stands in front
+-- nobody of the number stands before
 pub client_of-append : (n : ℕ) (xs ys : List Guest) → client_of n xs ≡ None → client_of n (xs ++ ys) ≡ client_of n ys
 client_of-append n [] ys e = refl
 client_of-append n (g ∷ xs) ys e = passed (g.number == n) g.client (client_of n xs) (client_of n (xs ++ ys)) (client_of n ys) e (client_of-append n xs ys)
@@ -34,8 +34,8 @@ none_more n xs i g lt is other e =
 -- the list is cut at an index
 cut_at : (xs : List Guest) (i : ℕ) (g : Guest) → i < length xs → g ≡ get_or xs i g → xs ≡ take i xs ++ g ∷ drop (i + 1) xs
 cut_at xs i g lt is =
-    let front : take (i + 1) xs ≡ take i xs ++ g ∷ [] = take_more xs i g lt ∙ ap (λ (x : Guest). take i xs ++ x ∷ []) (sym is) in
-    sym (take-append-drop (i + 1) xs) ∙ ap (λ (ys : List Guest). ys ++ drop (i + 1) xs) front ∙ append_assoc (take i xs) (g ∷ []) (drop (i + 1) xs)
+    let prefix : take (i + 1) xs ≡ take i xs ++ g ∷ [] = take_more xs i g lt ∙ ap (λ (x : Guest). take i xs ++ x ∷ []) (sym is) in
+    sym (take-append-drop (i + 1) xs) ∙ ap (λ (ys : List Guest). ys ++ drop (i + 1) xs) prefix ∙ append_assoc (take i xs) (g ∷ []) (drop (i + 1) xs)
 
 -- it is found there
 pub is_found : (n : ℕ) (gs : List Guest) (i : ℕ) (g : Guest) → IsFirstOf n gs i → g ≡ get_or gs i g → is_some (client_of n gs) ≡ true
@@ -43,12 +43,12 @@ is_found n gs i g f is =
     let named : g.number ≡ n = ap (λ (x : Guest). x.number) is ∙ f.here g in
     ap (λ (xs : List Guest). is_some (client_of n xs)) (cut_at gs i g f.inside is) ∙ ap is_some (client_of-append n (take i gs) (g ∷ drop (i + 1) gs) f.before) ∙ ap (λ (b : Bool). is_some (if b then Some g.client else client_of n (drop (i + 1) gs))) (equal g.number n named)
 
--- it is taken out, answered, and put behind the others
+-- it is taken out, answered, and put after the others
 pub answered : (n : ℕ) (reply : Reply) (gs gs' gs'' : List Guest) (i : ℕ) (g h : Guest) → IsFirstOf n gs i → g ≡ get_or gs i g → gs' ≡ take i gs ++ drop (i + 1) gs → IsTold reply g h → gs'' ≡ gs' ++ h ∷ [] → IsAnswered n reply gs gs''
 answered n reply gs gs' gs'' i g h f is out told back = record {
   before = take i gs;
   guest = g;
-  behind = drop (i + 1) gs;
+  following = drop (i + 1) gs;
   told = h;
   stood = cut_at gs i g f.inside is;
   first = f.before;

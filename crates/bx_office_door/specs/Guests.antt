@@ -45,17 +45,17 @@ pub record IsTold (reply : Reply) (old new : Guest) : Type 0 where
   pub stream : new.stream ≡ old.stream
   pub client : IsReplied reply old.client new.client
 
--- just the client of this number is answered: it stands behind the others then, which are as they were
+-- just the client of this number is answered: it stands after the others then, which are as they were
 pub record IsAnswered (number : ℕ) (reply : Reply) (old new : List Guest) : Type 0 where
   pub before : List Guest
   pub guest : Guest
-  pub behind : List Guest
+  pub following : List Guest
   pub told : Guest
-  pub stood : old ≡ before ++ guest ∷ behind
+  pub stood : old ≡ before ++ guest ∷ following
   pub first : client_of number before ≡ None
   pub named : guest.number ≡ number
   pub is : IsTold reply guest told
-  pub stands : new ≡ before ++ behind ++ told ∷ []
+  pub stands : new ≡ before ++ following ++ told ∷ []
 
 -- .. where it is there; else all stand as they stood
 abbrev pub IsAnsweredThere : ℕ → Reply → List Guest → List Guest → Type 0
@@ -75,7 +75,7 @@ abbrev pub are_given : ℕ → List ℕ → Bool
 are_given count [] = true
 are_given count (n ∷ more) = nat_le n count && (not (is_among n more) && are_given count more)
 
--- the numbers that are given behind the first so many, up to another
+-- the numbers that are given after the first so many, up to another
 abbrev pub given_since : ℕ → ℕ → List ℕ
 given_since old new = range_with_len (old + 1) (new - old)
 

@@ -1,11 +1,11 @@
--- Private: acts that are cut so, one behind another.
+-- Private: acts that are cut so, one after another.
 use Rattle.std.specs.Prelude.{◌≡◌, List, [], ◌∷◌, ◌++◌}
 use Rattle.std.proofs.Common.{refl, sym, subst, ap, ◌∙◌}
 use Rattle.std.proofs.lemmas.List.{append_assoc}
 use Rattle.bx_line_world.specs.Wires.{WireAct, Shown, Sent, Waited}
 use Rattle.bx_office_door.specs.Sliced.{IsFolded, DidInside}
 
--- what lies in some acts, and what lies behind them
+-- what lies in some acts, and what lies after them
 folded_more : (xs ys is js : List WireAct) → IsFolded xs is → IsFolded ys js → IsFolded (xs ++ ys) (is ++ js)
 folded_more [] ys is js f g = subst (λ (ks : List WireAct). IsFolded ys (ks ++ js)) (sym f) g
 folded_more (Shown nanos ∷ xs) ys is js f g = (f.0 ++ js, ap (λ (ks : List WireAct). ks ++ js) f.1, folded_more xs ys f.0 js f.2 g)

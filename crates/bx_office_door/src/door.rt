@@ -91,7 +91,7 @@ impl Door {
         self.guests.retain(|guest| !guest.is_gone());
     }
 
-    /// Moves what is ready, and never waits: `now` is what the clock shows, in nanoseconds. Who comes stands behind the others.
+    /// Moves what is ready, and never waits: `now` is what the clock shows, in nanoseconds. Who comes stands after the others.
     pub fn attend(&mut self, now: u128)
         ensures { IsAttended self.old self.new }
     {
@@ -151,7 +151,7 @@ impl Door {
         None
     }
 
-    /// Answers just the client of this number, where it is there. It stands behind the others then.
+    /// Answers just the client of this number, where it is there. It stands after the others then.
     pub fn answer(&mut self, number: u64, reply: Reply<'_>)
         ensures answered { IsAnsweredThere number reply.entry (guests_of self.old) (guests_of self.new) }
         ensures answers { self.new.answers ≡ (if is_some (client_of number (guests_of self.old)) then min (self.old.answers + 1) 18446744073709551615 else self.old.answers) }

@@ -135,7 +135,7 @@ impl Guest {
         }
     }
 
-    /// Throws away what still comes behind the last answer. Answers whether something came.
+    /// Throws away what still comes after the last answer. Answers whether something came.
     fn drain(&mut self) -> bool
         ensures { self.new.number ≡ self.old.number }
     {

@@ -45,12 +45,12 @@ fn request(alloc: Global, path: &str, port: u16) -> Result<Vec<u8>, Fail> {
 }
 
 /// Attends the door until the client has something or its end: whether what it has begins so. Where it is the end, it begins with nothing.
-fn begins(door: &mut Door, stream: &mut TcpStream, now: u128, front: &[u8]) -> bool {
+fn begins(door: &mut Door, stream: &mut TcpStream, now: u128, prefix: &[u8]) -> bool {
     let mut room = [0u8; 4096];
     for _turn in 0..50u32 {
         door.attend(now);
         match stream.read(&mut room) {
-            Ok(count) => return count >= front.len() && &room[..front.len()] == front,
+            Ok(count) => return count >= prefix.len() && &room[..prefix.len()] == prefix,
             Err(_) => {}
         }
     }

@@ -1,4 +1,4 @@
-//! A live day with an office in front of it, over sockets of this machine and in one thread.
+//! A live day with an office beside it, over sockets of this machine and in one thread.
 
 use crate::quiet_world::QuietWorld;
 use bx_base::ChannelSet;
@@ -53,12 +53,12 @@ fn client<H: Net<Listener = TcpListener, Stream = TcpStream>>(
 }
 
 /// Whether a client gets an answer that begins and ends so.
-fn is_told_so(stream: &mut TcpStream, front: &str, back: &str) -> bool {
+fn is_told_so(stream: &mut TcpStream, prefix: &str, back: &str) -> bool {
     let mut room = [0u8; 4096];
     match stream.read(&mut room) {
         Ok(count) if count <= 4096 => {
             let text = &room[..count];
-            text.starts_with(front.as_bytes()) && text.ends_with(back.as_bytes())
+            text.starts_with(prefix.as_bytes()) && text.ends_with(back.as_bytes())
         }
         _ => false,
     }
@@ -107,7 +107,7 @@ const QUIET: Run = Run {
     is_cleared: false,
 };
 
-/// What has become of a run: how many bookings the day has, and how many were sold on record and on the disk.
+/// What has become of a run: how many bookings the day has, and how many were sold in the journal and on the disk.
 type Ran = (usize, u32, u32);
 
 /// Runs a day with an office at this door, which was opened with this.

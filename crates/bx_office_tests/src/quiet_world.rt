@@ -24,9 +24,9 @@ pub struct QuietWorld<'a> {
     /// Whether a call is cleared once by the far end, with cause 17.
     pub is_cleared: bool,
     moment: u32,
-    /// How many bookings were put on record.
+    /// How many bookings were logged.
     pub sold: u32,
-    /// How many were on record when it was brought to the disk last.
+    /// How many were logged when it was brought to the disk last.
     pub synced: u32,
 }
 

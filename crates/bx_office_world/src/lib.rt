@@ -1,4 +1,4 @@
-//! A live day with a booking office in front of it.
+//! A live day with a booking office beside it.
 #![tactic(auto)]
 
 mod counting;

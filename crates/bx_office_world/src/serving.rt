@@ -83,7 +83,7 @@ fn refuse<F: Display + Drop>(alloc: Global, door: &mut Door, number: u64, status
 }
 
 impl Desk<'_> {
-    /// Notes how a second begins, behind which the day has come to this moment.
+    /// Notes how a second begins, after which the day has come to this moment.
     pub(crate) fn note(&mut self, moment: u32, begin: Begin)
         ensures figures { self.new.figures ≡ begun begin self.old.figures }
         ensures late { self.new.is_late ≡ is_late begin }
@@ -93,7 +93,7 @@ impl Desk<'_> {
         count_begin(&mut self.figures, begin);
         self.is_late = is_late(begin);
         if is_without_link(begin) {
-            // Where a growth is refused the picture lacks this second.
+            // Where memory runs out the picture lacks this second.
             let _ = self.sight.outages.note(moment.saturating_sub(1));
         }
     }

@@ -1,4 +1,4 @@
-//! A live day with a booking office in front of it.
+//! A live day with a booking office beside it.
 
 ghost use Rattle.std.specs.Prelude.{◌≡◌, [], false, replicate};
 
@@ -77,7 +77,7 @@ impl<'a> Office<'a> {
     }
 }
 
-/// A world of a live day with a booking office in front of it. Whoever serves the world attends the door, as a wire does that has it too.
+/// A world of a live day with a booking office beside it. Whoever serves the world attends the door, as a wire does that has it too.
 #[derive(Drop)]
 pub struct OfficeWorld<'a, W> {
     pub world: W,

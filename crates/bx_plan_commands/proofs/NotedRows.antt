@@ -36,22 +36,22 @@ module _ (plan : Parts) (i : ℕ) where
   pub noted_as_before : is_too_short plan i ≡ false → noted plan (i + 1) ≡ noted plan i
   noted_as_before is = ap (noted plan) one ∙ ap (λ (b : Bool). noted plan i ++ (if b then row_text (is_begun plan i) (i + 1) else [])) is ∙ append-nil (noted plan i)
 
--- the note of fewer rows is a front of it
-noted_front : (plan : Parts) (n m : ℕ) → n ≤ m → (rest : List ℕ) × (noted plan m ≡ noted plan n ++ rest)
-noted_front plan n zero le = let none : n ≡ zero = omega (arith, le) in ([], ap (noted plan) (sym none) ∙ sym (append-nil (noted plan n)))
-noted_front plan n (suc m) le = elim (cases_lt n (suc m)) [
+-- the note of fewer rows is a prefix of it
+noted_prefix : (plan : Parts) (n m : ℕ) → n ≤ m → (rest : List ℕ) × (noted plan m ≡ noted plan n ++ rest)
+noted_prefix plan n zero le = let none : n ≡ zero = omega (arith, le) in ([], ap (noted plan) (sym none) ∙ sym (append-nil (noted plan n)))
+noted_prefix plan n (suc m) le = elim (cases_lt n (suc m)) [
   | inl less ↦
-      let before = noted_front plan n m (omega (arith, less)) in
+      let before = noted_prefix plan n m (omega (arith, less)) in
       let piece : List ℕ = if is_too_short plan m then row_text (is_begun plan m) (m + 1) else [] in
       (before.0 ++ piece, ap (λ (l : List ℕ). l ++ piece) before.1 ∙ append_assoc (noted plan n) before.0 piece)
   | inr more ↦ let same : suc m ≡ n = omega (arith, more, le) in ([], ap (noted plan) same ∙ sym (append-nil (noted plan n)))
 ]
 
-pub note_front : (plan : Parts) (n : ℕ) → n ≤ length plan.rows → (rest : List ℕ) × (note_text plan ≡ noted plan n ++ rest)
-note_front plan n le =
-    let front = noted_front plan n (length plan.rows) le in
+pub note_prefix : (plan : Parts) (n : ℕ) → n ≤ length plan.rows → (rest : List ℕ) × (note_text plan ≡ noted plan n ++ rest)
+note_prefix plan n le =
+    let leading = noted_prefix plan n (length plan.rows) le in
     let tail : List ℕ = note_end (is_begun plan (length plan.rows)) in
-    (front.0 ++ tail, ap (λ (l : List ℕ). l ++ tail) front.1 ∙ append_assoc (noted plan n) front.0 tail)
+    (leading.0 ++ tail, ap (λ (l : List ℕ). l ++ tail) leading.1 ∙ append_assoc (noted plan n) leading.0 tail)
 
 module _ {W E : Type 0} (contents : W → Option (List ℕ)) where
   pub put_so : {F : Type 0} (a b : Held W) (r : Result (Unit {0}) E) (text : List ℕ) → is_ok r ≡ true → Gathers contents a b r text → Gathers contents a b (done {E = F}) text

@@ -17,7 +17,7 @@ pub record IsAmended (rows : List Row) (channels : List Bool) (output : Writing)
   pub best : IsBestPlan rows channels plan
   pub written : Appends output.before output.after (plan_text Three plan)
 
--- a front of such a text was written
+-- a prefix of such a text was written
 pub record IsCutAmended (rows : List Row) (channels : List Bool) (output : Writing) : Type 0 where
   pub plan : Parts
   pub limits : IsPlan plan

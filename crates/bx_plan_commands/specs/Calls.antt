@@ -21,7 +21,7 @@ pub record IsSecondOf (word : List ℕ) (second : ℕ) : Type 0 where
   pub value : second ≡ decimal_value word
   pub within : second ≤ MAX_MOMENT
 
--- it is no decimal, or its value lies behind each day
+-- it is no decimal, or its value lies after each day
 abbrev pub IsSecondFault : List ℕ → BookFault → Type 0
 IsSecondFault word (NotATime row) = (row ≡ 1) × (is_decimal word ≡ false)
 IsSecondFault word (OutsideDay row) = (row ≡ 1) × (is_decimal word ≡ true) × (MAX_MOMENT < decimal_value word)
@@ -34,7 +34,7 @@ pub record AreBoth (IsOne : List ℕ → ℕ → Type 0) (call : Call) (start en
   pub starts : IsOne call.start.now start
   pub ends : IsOne call.end.now end
 
--- they do, and the end is not behind the start
+-- they do, and the end is not after the start
 pub record AreTurned (IsOne : List ℕ → ℕ → Type 0) (call : Call) : Type 0 where
   pub start : ℕ
   pub end : ℕ

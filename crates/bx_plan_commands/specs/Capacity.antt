@@ -26,7 +26,7 @@ pub record IsTabled (input : Reading) (output : Writing) (span : Span) : Type 0 
   pub table : IsTable rows text
   pub written : Appends output.before output.after text
 
--- a front of them was
+-- a prefix of them was
 pub record IsCutTable (input : Reading) (output : Writing) (span : Span) : Type 0 where
   pub rows : List Row
   pub read : IsBookRead input span rows

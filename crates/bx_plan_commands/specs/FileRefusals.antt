@@ -48,7 +48,7 @@ abbrev pub IsFileFault : (CommandFault → Type 0) → FileFault → Type 0
 IsFileFault why (files.Command fault) = why fault
 IsFileFault why _ = ⊥
 
--- what was read are no bookings of the day, with the first fault of the text; or it was not read to its end; or a growth was refused
+-- what was read are no bookings of the day, with the first fault of the text; or it was not read to its end; or memory ran out
 abbrev pub AreNoBookings : List ℕ → Reading → Span → FileFault → Type 0
 AreNoBookings name input span (files.Command (CannotRead n)) = (n.now ≡ name) × (IsStreamFault input span stream.ReadFailed ⊎ IsStreamFault input span stream.TooLong)
 AreNoBookings name input span (files.Command Memory) = IsStreamFault input span stream.Memory

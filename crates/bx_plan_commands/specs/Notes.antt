@@ -1,4 +1,4 @@
--- The note on accepted bookings that no day carries: they last one second, and begin in second 0 or right behind another on their channel.
+-- The note on accepted bookings that no day carries: they last one second, and begin in second 0 or right after another on their channel.
 use Rattle.std.specs.Prelude.{◌≡◌, ◌⊎◌, ℕ, zero, suc, ◌+◌, ◌==◌, ◌&&◌, ◌||◌, Bool, true, false, List, [], ◌∷◌, ◌++◌, length, codes, decimal, Option, Some, None, slice_index_or, if◌then◌else◌}
 use Rattle.std.specs.Io.KnownBytes.{Appends}
 use Rattle.bx_base.specs.Bookings.{Row, row_at}
@@ -40,7 +40,7 @@ abbrev pub is_begun : Parts → ℕ → Bool
 is_begun plan zero = false
 is_begun plan (suc n) = is_begun plan n || is_too_short plan n
 
--- the front of the note, with those of the first n rows that are to be noted
+-- the prefix of the note, with those of the first n rows that are to be noted
 abbrev pub noted : Parts → ℕ → List ℕ
 noted plan zero = []
 noted plan (suc n) = noted plan n ++ (if is_too_short plan n then row_text (is_begun plan n) (n + 1) else [])
@@ -52,6 +52,6 @@ note_end is_begun = if is_begun then codes " last one second behind another on t
 abbrev pub note_text : Parts → List ℕ
 note_text plan = noted plan (length plan.rows) ++ note_end (is_begun plan (length plan.rows))
 
--- it was written, or a front of it where that failed
+-- it was written, or a prefix of it where that failed
 abbrev pub IsNoted : Parts → Writing → Type 0
 IsNoted plan errors = Appends errors.before errors.after (note_text plan) ⊎ ((errors.is_faulted ≡ true) × AppendsPrefix errors.before errors.after (note_text plan))

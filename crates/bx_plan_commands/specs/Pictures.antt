@@ -51,7 +51,7 @@ IsUndrawn gives day name output fault = (sight : IsDrawable gives day name) × I
 abbrev pub IsSomeClock : Option (Bor (List ℕ) × Bor (List ℕ)) → Type 0
 IsSomeClock day = (clock : Option Clock) × IsClockOf day clock
 
--- there is no such plan of the input, or a growth was refused before anything was drawn of it
+-- there is no such plan of the input, or memory ran out before anything was drawn of it
 abbrev pub IsUnpictured : (List ℕ → Option (List ℕ) → Type 0) → List ℕ → CommandFault → Type 0
 IsUnpictured gives name Memory = IsNoProvedOf gives name Memory ⊎ ((plan : Parts) × IsPlanOf gives name plan)
 IsUnpictured gives name fault = IsNoProvedOf gives name fault

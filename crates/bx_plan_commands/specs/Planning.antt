@@ -23,7 +23,7 @@ pub record IsRun (input : Reading) (output : Writing) (span : Span) (channels : 
   pub proved : IsProved rows channels plan
   pub written : Appends output.before output.after (plan_text Three plan)
 
--- a front of the text of such a plan was written
+-- a prefix of the text of such a plan was written
 pub record IsCut (input : Reading) (output : Writing) (span : Span) (channels : List Bool) : Type 0 where
   pub rows : List Row
   pub read : IsBookRead input span rows

@@ -22,7 +22,7 @@ pub enum AmendFault {
     /// There is none.
     #[error("{0}")]
     Amend(NoAmendment),
-    /// A write failed, or took none of what it was given: a front of the plan's text was written.
+    /// A write failed, or took none of what it was given: a prefix of the plan's text was written.
     #[error("F2 CannotWrite")]
     WriteFailed,
 }

@@ -15,8 +15,8 @@ use std::alloc::Global;
 use std::io::Write;
 
 /// Writes what 0 to 30 channels would earn with the bookings of an input, a line for each count. At a refusal nothing was
-/// written, except that where the output failed a front of these lines was. `Day` where the words name no day, `Command` where
-/// the input cannot be opened or read, the output fails or a growth is refused, and `Book` where what was read is no booking
+/// written, except that where the output failed a prefix of these lines was. `Day` where the words name no day, `Command` where
+/// the input cannot be opened or read, the output fails or memory runs out, and `Book` where what was read is no booking
 /// text.
 pub fn capacity_file<'a, I: Inputs, W: Write>(
     alloc: Global,

@@ -28,8 +28,8 @@ fn clock_of<'a>(day: Option<(&str, &str)>) -> Result<Option<Clock>, FileFault<'a
 }
 
 /// Writes a picture of the plan of an input, with what one more channel would add to its total, of the day with this date and
-/// zone where one is named. At a refusal nothing was written, except that where the output failed a front of the picture was.
-/// `Day` where the words name no day, `Command` where there is no proved plan of the input or a growth is refused, and `Chart`
+/// zone where one is named. At a refusal nothing was written, except that where the output failed a prefix of the picture was.
+/// `Day` where the words name no day, `Command` where there is no proved plan of the input or memory runs out, and `Chart`
 /// where no picture was written.
 pub fn chart_file<'a, I: Inputs, W: Write>(
     alloc: Global,

@@ -21,10 +21,10 @@ pub enum CapacityFault {
     /// The reader gave no bookings of the day.
     #[error("{0}")]
     Unread(StreamFault),
-    /// A write failed, or took none of what it was given: a front of the lines was written.
+    /// A write failed, or took none of what it was given: a prefix of the lines was written.
     #[error("F2 CannotWrite")]
     WriteFailed,
-    /// A growth was refused, after the bookings were read.
+    /// Memory ran out, after the bookings were read.
     #[error("Memory")]
     Memory,
 }

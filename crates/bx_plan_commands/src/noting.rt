@@ -40,7 +40,7 @@ fn some_ends(plan: &Plan, channel: Channel, second: u32) -> bool
 }
 
 /// Whether the booking at this place is accepted, and lasts one second in which its channel is not free before: second 0, or right
-/// behind another booking.
+/// after another booking.
 fn is_too_short(plan: &Plan, index: u16) -> bool
     requires { index < length plan.now.bookings }
     ensures { result ≡ is_too_short (parts_of plan.now) index }
@@ -53,7 +53,7 @@ fn is_too_short(plan: &Plan, index: u16) -> bool
     booking.end() == start + 1 && (start == 0 || some_ends(plan, channel, start))
 }
 
-/// The front of the note with its first row, or what the next row adds to it.
+/// The prefix of the note with its first row, or what the next row adds to it.
 fn row_text(is_begun: bool, row: u16) -> Line
     ensures { result.items ≡ row_text is_begun row }
 {
@@ -88,7 +88,7 @@ fn put_note<W: Write>(plan: &Plan, block: &mut Block, w: &mut Watched<W>) -> Res
     )
 }
 
-/// Writes the note on the accepted bookings that last one second, in second 0 or right behind another on their channel: no day
+/// Writes the note on the accepted bookings that last one second, in second 0 or right after another on their channel: no day
 /// carries them. Nothing where there are none. What becomes of the note changes nothing.
 pub(crate) fn note_too_short<E: Write>(plan: &Plan, errors: &mut Watched<E>)
     ensures { IsNoted (parts_of plan.now) (writing_of E.contents errors.old errors.new) }

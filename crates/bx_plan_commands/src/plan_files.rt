@@ -17,7 +17,7 @@ use std::alloc::Global;
 use std::io::Write;
 
 /// Writes the plan of the bookings of an input, and on standard error a note on the accepted ones that last one second, in second 0 or
-/// right behind another on their channel, where there are some. At a refusal nothing was written, except that where the output failed a front of
+/// right after another on their channel, where there are some. At a refusal nothing was written, except that where the output failed a prefix of
 /// a plan was. `Channels` and `Day` where the words name none, `Command` where the input cannot be opened, and `Run` where the
 /// planning run is refused.
 pub fn plan_file<'a, I: Inputs, W: Write, E: Write>(
@@ -47,7 +47,7 @@ pub fn plan_file<'a, I: Inputs, W: Write, E: Write>(
 }
 
 /// Checks the plan of one input against the bookings of another, and writes `proved `, the total and LF. At a refusal nothing was
-/// written, except that where the output failed a front of that line was. `Channels` and `Day` where the words name none, `Book`
+/// written, except that where the output failed a prefix of that line was. `Channels` and `Day` where the words name none, `Book`
 /// where the first input has no booking text, and `Command` for all else.
 pub fn check_file<'a, I: Inputs, W: Write>(
     alloc: Global,
@@ -73,7 +73,7 @@ pub fn check_file<'a, I: Inputs, W: Write>(
 }
 
 /// Writes the plan that holds all that the plan of one input accepts, for its bookings and those of another, and on standard error
-/// the note of `plan_file`. At a refusal nothing was written, except that where the output failed a front of such a plan was. `Day` where the words name none,
+/// the note of `plan_file`. At a refusal nothing was written, except that where the output failed a prefix of such a plan was. `Day` where the words name none,
 /// `Command` where there is no plan of the first input or the second is not read, `Book` where that has no booking text, and
 /// `Amend` where nothing was amended.
 pub fn amend_file<'a, I: Inputs, W: Write, E: Write>(

@@ -31,13 +31,13 @@ pub enum RunFault {
     /// What was read is no booking text of the day.
     #[error("{0}")]
     Book(BookFault),
-    /// A write failed, or took none of what it was given: a front of the plan's text was written.
+    /// A write failed, or took none of what it was given: a prefix of the plan's text was written.
     #[error("G4 WriteFailed")]
     WriteFailed,
     /// At this moment, in seconds of the day, more must bookings run than there are channels; at no earlier one.
     #[error("G5 TooManyMust {0}")]
     TooManyMust(u32),
-    /// A growth was refused.
+    /// Memory ran out.
     #[error("Memory")]
     Memory,
 }
@@ -75,8 +75,8 @@ fn plan_of(alloc: Global, bookings: &Bookings, channels: ChannelSet) -> Result<P
 
 /// Reads a booking text of the day to its end, plans its bookings on these channels, and writes the plan's text (version 3).
 /// Answers the plan, which the checker proves. At most 4,194,304 octets are read, in at most 8,388,608 reads. The faults are
-/// tested in this order: `ReadFailed` and `TooLong`, `Book`, `TooManyMust`, `WriteFailed`; `Memory` comes where a growth is
-/// refused. Nothing is written before any of them but `WriteFailed`.
+/// tested in this order: `ReadFailed` and `TooLong`, `Book`, `TooManyMust`, `WriteFailed`; `Memory` comes where memory runs
+/// out. Nothing is written before any of them but `WriteFailed`.
 pub fn plan_run<R: Read, W: Write>(
     alloc: Global,
     input: &mut Watched<R>,

@@ -23,7 +23,7 @@ use std::alloc::Global;
 use std::io::Write;
 
 /// Writes what each row that the plan of an input refuses pays, and what its seconds cost; or what one of them has to pay to be
-/// taken. At a refusal nothing was written, except that where the output failed a front of that was. `Command` where there is no
+/// taken. At a refusal nothing was written, except that where the output failed a prefix of that was. `Command` where there is no
 /// proved plan of the input, and `Quote` where there is no quote, or it was not written.
 pub fn explain_file<'a, I: Inputs, W: Write>(
     alloc: Global,
@@ -50,7 +50,7 @@ pub fn explain_file<'a, I: Inputs, W: Write>(
 }
 
 /// Writes what a call has to pay to be taken beside those of the plan of an input. At a refusal nothing was written, except that
-/// where the output failed a front of that was. `Day` where the words of the call name no day, `Book` where they name no times,
+/// where the output failed a prefix of that was. `Day` where the words of the call name no day, `Book` where they name no times,
 /// as for a text's row 1, `Command` where there is no proved plan of the input, and `Quote` where there is no quote, or it was
 /// not written.
 pub fn quote_file<'a, I: Inputs, W: Write>(

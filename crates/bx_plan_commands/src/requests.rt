@@ -15,7 +15,7 @@ use bx_request::FileRequest;
 use std::alloc::Global;
 use std::io::Write;
 
-/// Does one command on files. Only `plan` and `amend` may write a note on standard error. At a refusal nothing was written, except that where the output failed a front of what was to be
+/// Does one command on files. Only `plan` and `amend` may write a note on standard error. At a refusal nothing was written, except that where the output failed a prefix of what was to be
 /// written was. The faults are those of the command's own function.
 pub fn run_on_files<'a, I: Inputs, W: Write, E: Write>(
     alloc: Global,

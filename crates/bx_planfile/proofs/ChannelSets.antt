@@ -111,9 +111,9 @@ numbers_give xs (true ∷ ys) last only low =
     let longer : length (xs ++ true ∷ []) ≡ n + 1 = length-append xs (true ∷ []) in
     let whole : (xs ++ true ∷ []) ++ ys ≡ xs ++ true ∷ ys = append_assoc xs (true ∷ []) ys in
     let more = numbers_give (xs ++ true ∷ []) ys n (λ m has. only m (ap (λ (l : List Bool). get_or l m false) (sym whole) ∙ has)) (inr (omega (arith, longer))) in
-    let behind : with_channels (xs ++ true ∷ blank) n (members_from (n + 1) ys) ≡ Some (xs ++ true ∷ ys) = rw (append_assoc xs (true ∷ []) blank, whole, longer) at more in
+    let following : with_channels (xs ++ true ∷ blank) n (members_from (n + 1) ys) ≡ Some (xs ++ true ∷ ys) = rw (append_assoc xs (true ∷ []) blank, whole, longer) at more in
     let written : set (xs ++ false ∷ blank) n true ≡ xs ++ true ∷ blank = set_at xs false blank true n refl in
-    rw (first, second, written) behind
+    rw (first, second, written) following
 numbers_give xs (false ∷ ys) last only low =
     let n = length xs in
     let blank : List Bool = replicate (length ys) false in

@@ -34,9 +34,9 @@ value-decimal n small = digits_value-decimal own n small
 or_true : (a b : Bool) → a ≡ true → (a || b) ≡ true
 or_true a b e = rw e refl
 
-decimal_front : (n : ℕ) → n < 2 ^ 64 → (not (eqb (get_or (decimal n) 0 0) 48) || eqb (length (decimal n)) 1) ≡ true
-decimal_front zero small = rw (decimal_digit 0 (omega arith)) refl
-decimal_front (suc n) small =
+decimal_prefix : (n : ℕ) → n < 2 ^ 64 → (not (eqb (get_or (decimal n) 0 0) 48) || eqb (length (decimal n)) 1) ≡ true
+decimal_prefix zero small = rw (decimal_digit 0 (omega arith)) refl
+decimal_prefix (suc n) small =
     let big = first_decimal (suc n) (omega arith) small in
     let other : not (eqb (get_or (decimal (suc n)) 0 0) 48) ≡ true = grind (arith, nat_tests, big) in
     or_true _ (eqb (length (decimal (suc n))) 1) other
@@ -44,7 +44,7 @@ decimal_front (suc n) small =
 pub is_decimal-decimal : (n : ℕ) → n < 2 ^ 64 → is_decimal (decimal n) ≡ true
 is_decimal-decimal n small =
     let some : ltb 0 (length (decimal n)) ≡ true = lt-ltb 0 (length (decimal n)) (decimal_nonempty n small) in
-    rw (some, digits-decimal n small, decimal_front n small) refl
+    rw (some, digits-decimal n small, decimal_prefix n small) refl
 
 pub some_digits : (ds : List ℕ) → is_digits ds ≡ true → 0 < length ds
 some_digits ds h = ltb-true 0 (length ds) (and_both _ _ h).0

@@ -15,7 +15,7 @@ done_is false rest v e =
     let h : false ≡ is_nothing (fields_of rest) = grind (arith, nat_tests, some) in
     h ∙ ap is_nothing e
 
--- a field with a space behind it
+-- a field with a space after it
 pub taken : (done : Bool) (rest : List ℕ) (v : List (List ℕ)) (k : ℕ) → (done ≡ true → length rest ≡ 0) → left_of done rest ≡ v → position is_space rest ≡ Some k
     → (take k rest ≡ first v) × (left_of done (take (length rest - (k + 1)) (drop (k + 1) rest)) ≡ others v)
 taken true rest v k inv e at = absurd (omega (arith, inv refl, (position_within is_space rest k at).0))

@@ -91,7 +91,7 @@ charge_again n p h = let again = price_again p h in rw (again.0, again.1) refl
 pub ends_so : (n : ℕ) (fs : List (List ℕ)) (rest x : List ℕ) → read_end n fs rest ≡ Ok x → (fs ≡ codes "end" ∷ []) × (rest ≡ [])
 unfolding read_end
 ends_so n fs rest x e =
-    let a = bind_ok (where_holds (is_end fs) (BadLine n) rest) (λ behind. where_holds (eqb (length behind) 0) Trailing behind) x e in
+    let a = bind_ok (where_holds (is_end fs) (BadLine n) rest) (λ following. where_holds (eqb (length following) 0) Trailing following) x e in
     let h = holds_ok (is_end fs) (BadLine n) rest a.0 a.1 in
     let g = holds_ok (eqb (length a.0) 0) Trailing a.0 x a.2 in
     (end_takes fs h.0, h.1 ∙ nil_from_length a.0 (eqb-true _ _ g.0))

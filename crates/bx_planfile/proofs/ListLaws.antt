@@ -14,7 +14,7 @@ use Rattle.bx_planfile.proofs.PlainLines.{line_again, line_takes}
 use Rattle.bx_planfile.proofs.ChannelSets.{IsChannel-from_test, test_from_channel}
 use Rattle.bx_planfile.proofs.LineLaws.{bind_ok, charge_again, charge_takes, entry_again, entry_takes, ok_is, plain_booking, plain_price}
 
--- bookings that were read from the front of a text
+-- bookings that were read from the start of a text
 pub record ReadsBookings (version : Version) (count : ℕ) (bytes : List ℕ) (x : Entries) : Type 0 where
   pub spelled : bytes ≡ flat_map line_text (booking_lines version x.rows x.assigned) ++ x.rest
   pub rows : length x.rows ≡ count
@@ -37,10 +37,10 @@ module _ (version : Version) (count n : ℕ) (bytes after : List ℕ) (fields : 
   booking_first line booking more =
       let first = entry_takes version n fields e booking in
       let here : List ℕ = line_text (booking_fields version e.row e.channel) in
-      let behind : List ℕ = flat_map line_text (booking_lines version x.rows x.assigned) in
+      let following : List ℕ = flat_map line_text (booking_lines version x.rows x.assigned) in
       let own : bytes ≡ here ++ after = line_takes n bytes (fields, after) line ∙ ap (λ (fs : List (List ℕ)). line_text fs ++ after) first.spelled in
       record {
-        spelled = own ∙ ap (λ (r : List ℕ). here ++ r) more.spelled ∙ sym (append_assoc here behind x.rest);
+        spelled = own ∙ ap (λ (r : List ℕ). here ++ r) more.spelled ∙ sym (append_assoc here following x.rest);
         rows = ap suc more.rows;
         assigned = ap suc more.assigned;
         bookings = each_more IsBooking e.row x.rows first.booking more.bookings;
@@ -78,14 +78,14 @@ bookings_again version (r ∷ rows) (a ∷ assigned) n rest len bookings told ch
     let booking : IsBooking r = bookings 0 (omega arith) in
     let told_so : IsTold version r = told 0 (omega arith) in
     let channel : is_assignable a ≡ true = assigned_here a (λ c. channels 0 c) in
-    let behind = flat_map line_text (booking_lines version rows assigned) in
+    let following = flat_map line_text (booking_lines version rows assigned) in
     let fields = booking_fields version r a in
-    let regrouped : (line_text fields ++ behind) ++ rest ≡ line_text fields ++ (behind ++ rest) = append_assoc (line_text fields) behind rest in
-    let line : read_line n (line_text fields ++ (behind ++ rest)) ≡ Ok (fields, behind ++ rest) = line_again n (decimal r.start) (decimal r.end ∷ decimal r.pay ∷ r.number ∷ channel_field a ∷ mark_fields version r) (behind ++ rest) (plain_booking version r a booking channel) in
+    let regrouped : (line_text fields ++ following) ++ rest ≡ line_text fields ++ (following ++ rest) = append_assoc (line_text fields) following rest in
+    let line : read_line n (line_text fields ++ (following ++ rest)) ≡ Ok (fields, following ++ rest) = line_again n (decimal r.start) (decimal r.end ∷ decimal r.pay ∷ r.number ∷ channel_field a ∷ mark_fields version r) (following ++ rest) (plain_booking version r a booking channel) in
     let more = bookings_again version rows assigned (n + 1) rest (omega arith) (λ i lt. bookings (suc i) (omega arith)) (λ i lt. told (suc i) (omega arith)) (λ i c. channels (suc i) c) in
     ap (read_bookings version (suc (length rows)) n) regrouped ∙ rw (line, entry_again version n e booking told_so channel, more) refl
 
--- prices that were read from the front of a text
+-- prices that were read from the start of a text
 pub record ReadsPrices (count : ℕ) (bytes : List ℕ) (x : List Charge × List ℕ) : Type 0 where
   pub spelled : bytes ≡ flat_map line_text (map price_fields x.0) ++ x.1
   pub len : length x.0 ≡ count
@@ -100,10 +100,10 @@ module _ (count n : ℕ) (bytes after : List ℕ) (fields : List (List ℕ)) (p 
   price_first line price more =
       let first = charge_takes n fields p price in
       let here : List ℕ = line_text (price_fields p) in
-      let behind : List ℕ = flat_map line_text (map price_fields x.0) in
+      let following : List ℕ = flat_map line_text (map price_fields x.0) in
       let own : bytes ≡ here ++ after = line_takes n bytes (fields, after) line ∙ ap (λ (fs : List (List ℕ)). line_text fs ++ after) first.0 in
       record {
-        spelled = own ∙ ap (λ (r : List ℕ). here ++ r) more.spelled ∙ sym (append_assoc here behind x.1);
+        spelled = own ∙ ap (λ (r : List ℕ). here ++ r) more.spelled ∙ sym (append_assoc here following x.1);
         len = ap suc more.len;
         prices = prices_more p x.0 first.1 more.prices;
       }
@@ -127,8 +127,8 @@ unfolding read_prices
 prices_again [] n rest h = refl
 prices_again (p ∷ ps) n rest h =
     let here : IsCharge p = h 0 (omega arith) in
-    let behind = flat_map line_text (map price_fields ps) in
-    let regrouped : (line_text (price_fields p) ++ behind) ++ rest ≡ line_text (price_fields p) ++ (behind ++ rest) = append_assoc (line_text (price_fields p)) behind rest in
-    let line : read_line n (line_text (price_fields p) ++ (behind ++ rest)) ≡ Ok (price_fields p, behind ++ rest) = line_again n (decimal p.moment) (decimal p.amount ∷ []) (behind ++ rest) (plain_price p here) in
+    let following = flat_map line_text (map price_fields ps) in
+    let regrouped : (line_text (price_fields p) ++ following) ++ rest ≡ line_text (price_fields p) ++ (following ++ rest) = append_assoc (line_text (price_fields p)) following rest in
+    let line : read_line n (line_text (price_fields p) ++ (following ++ rest)) ≡ Ok (price_fields p, following ++ rest) = line_again n (decimal p.moment) (decimal p.amount ∷ []) (following ++ rest) (plain_price p here) in
     let more = prices_again ps (n + 1) rest (λ i lt. h (suc i) (omega arith)) in
     ap (read_prices (suc (length ps)) n) regrouped ∙ rw (line, charge_again n p here, more) refl

@@ -76,7 +76,7 @@ module _ (version : Version) (count i n : ℕ) (bytes : List ℕ) (rows : List R
 
 -- prices that were read before, and those that are still read
 abbrev pub with_prices : List Charge → Result (List Charge × List ℕ) PlanTextFault → Result (List Charge × List ℕ) PlanTextFault
-with_prices front read = read >>= λ x. Ok (front ++ x.0, x.1)
+with_prices prefix read = read >>= λ x. Ok (prefix ++ x.0, x.1)
 
 with_no_prices : (read : Result (List Charge × List ℕ) PlanTextFault) → with_prices [] read ≡ read
 with_no_prices (Ok x) = refl
@@ -88,20 +88,20 @@ no_prices n bytes m =
     let line : n + 0 ≡ n = omega arith in
     rw (k, line) (with_no_prices (read_prices m n bytes))
 
-regroup_prices : (front : List Charge) (p : Charge) (read : Result (List Charge × List ℕ) PlanTextFault) → with_prices front (read >>= λ more. Ok (p ∷ more.0, more.1)) ≡ with_prices (front ++ p ∷ []) read
-regroup_prices front p (Ok x) = simp append_assoc
-regroup_prices front p (Err f) = refl
+regroup_prices : (prefix : List Charge) (p : Charge) (read : Result (List Charge × List ℕ) PlanTextFault) → with_prices prefix (read >>= λ more. Ok (p ∷ more.0, more.1)) ≡ with_prices (prefix ++ p ∷ []) read
+regroup_prices prefix p (Ok x) = simp append_assoc
+regroup_prices prefix p (Err f) = refl
 
-module _ (count i n : ℕ) (bytes : List ℕ) (front : List Charge) (total : Result (List Charge × List ℕ) PlanTextFault)
-    (so_far : with_prices front (read_prices (count - i) (n + i) bytes) ≡ total) where
+module _ (count i n : ℕ) (bytes : List ℕ) (prefix : List Charge) (total : Result (List Charge × List ℕ) PlanTextFault)
+    (so_far : with_prices prefix (read_prices (count - i) (n + i) bytes) ≡ total) where
   pub price_follows : (fields : List (List ℕ)) (after : List ℕ) (p : Charge) → i < count → read_line (n + i) bytes ≡ Ok (fields, after) → read_price (n + i) fields ≡ Ok p
-      → with_prices (front ++ p ∷ []) (read_prices (count - (i + 1)) (n + (i + 1)) after) ≡ total
+      → with_prices (prefix ++ p ∷ []) (read_prices (count - (i + 1)) (n + (i + 1)) after) ≡ total
   unfolding read_prices
   price_follows fields after p lt line price =
       let k : count - i ≡ suc (count - (i + 1)) = omega arith in
       let next : n + i + 1 ≡ n + (i + 1) = omega arith in
-      let one : with_prices front (read_prices (count - i) (n + i) bytes) ≡ with_prices (front ++ p ∷ []) (read_prices (count - (i + 1)) (n + (i + 1)) after)
-      = rw (k, line, price, next) (regroup_prices front p (read_prices (count - (i + 1)) (n + (i + 1)) after)) in
+      let one : with_prices prefix (read_prices (count - i) (n + i) bytes) ≡ with_prices (prefix ++ p ∷ []) (read_prices (count - (i + 1)) (n + (i + 1)) after)
+      = rw (k, line, price, next) (regroup_prices prefix p (read_prices (count - (i + 1)) (n + (i + 1)) after)) in
       sym one ∙ so_far
 
   pub price_line_fails : (f : PlanTextFault) → i < count → Fails f (read_line (n + i) bytes) → Fails f total
@@ -116,7 +116,7 @@ module _ (count i n : ℕ) (bytes : List ℕ) (front : List Charge) (total : Res
       let k : count - i ≡ suc (count - (i + 1)) = omega arith in
       subst (Fails f) so_far (rw (k, line) (fails_along f _ _ (fails_along f _ _ h)))
 
-  pub prices_done : count ≤ i → total ≡ Ok (front, bytes)
+  pub prices_done : count ≤ i → total ≡ Ok (prefix, bytes)
   unfolding read_prices
   prices_done le =
       let k : count - i ≡ 0 = omega arith in
@@ -133,11 +133,11 @@ bookings_grow version count i n all bytes rows assigned so_far fields after e lt
     let made = bookings_done version (i + 1) (i + 1) n after (rows ++ e.row ∷ []) (assigned ++ e.channel ∷ []) total next (omega arith) in
     (i + 1, omega arith, omega arith, (entries (rows ++ e.row ∷ []) (assigned ++ e.channel ∷ []) after, made))
 
-pub prices_grow : (count i n : ℕ) (all bytes : List ℕ) (front : List Charge)
-    → ((m : ℕ) → i ≤ m → with_prices front (read_prices (m - i) (n + i) bytes) ≡ read_prices m n all)
+pub prices_grow : (count i n : ℕ) (all bytes : List ℕ) (prefix : List Charge)
+    → ((m : ℕ) → i ≤ m → with_prices prefix (read_prices (m - i) (n + i) bytes) ≡ read_prices m n all)
     → (fields : List (List ℕ)) (after : List ℕ) (p : Charge) → i < count → read_line (n + i) bytes ≡ Ok (fields, after) → read_price (n + i) fields ≡ Ok p → SomePrices count n all
-prices_grow count i n all bytes front so_far fields after p lt line price =
+prices_grow count i n all bytes prefix so_far fields after p lt line price =
     let total = read_prices (i + 1) n all in
-    let next = price_follows (i + 1) i n bytes front total (so_far (i + 1) (omega arith)) fields after p (omega arith) line price in
-    let made = prices_done (i + 1) (i + 1) n after (front ++ p ∷ []) total next (omega arith) in
-    (i + 1, omega arith, omega arith, ((front ++ p ∷ [], after), made))
+    let next = price_follows (i + 1) i n bytes prefix total (so_far (i + 1) (omega arith)) fields after p (omega arith) line price in
+    let made = prices_done (i + 1) (i + 1) n after (prefix ++ p ∷ []) total next (omega arith) in
+    (i + 1, omega arith, omega arith, ((prefix ++ p ∷ [], after), made))

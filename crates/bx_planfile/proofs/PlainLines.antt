@@ -76,7 +76,7 @@ no_lf_join (field ∷ next ∷ fields) e =
     let b = and_both (is_plain field) _ e in
     no_lf_append field (32 ∷ join_with_byte 32 (next ∷ fields)) (no_lf_plain field b.0) (no_lf_join (next ∷ fields) b.1)
 
--- a line that stands at the front is read
+-- a line that stands at the start is read
 pub line_again : (n : ℕ) (field : List ℕ) (fields : List (List ℕ)) (rest : List ℕ) → are_plain (field ∷ fields) ≡ true → read_line n (line_text (field ∷ fields) ++ rest) ≡ Ok (field ∷ fields, rest)
 unfolding read_line
 line_again n field fields rest e =
@@ -85,27 +85,27 @@ line_again n field fields rest e =
     let place : position_or_len is_lf (line ++ 10 ∷ rest) ≡ length line = lf_at line rest (no_lf_join (field ∷ fields) e) in
     let within : ltb (length line) (length (line ++ 10 ∷ rest)) ≡ true = lt-ltb _ _ (omega (arith, length-append line (10 ∷ rest))) in
     let found : position is_lf (line ++ 10 ∷ rest) ≡ Some (length line) = rw (place, within) refl in
-    let front : take (length line) (line ++ 10 ∷ rest) ≡ line = take_at line (10 ∷ rest) (length line) refl in
-    let behind : drop (length line + 1) (line ++ 10 ∷ rest) ≡ rest
+    let prefix : take (length line) (line ++ 10 ∷ rest) ≡ line = take_at line (10 ∷ rest) (length line) refl in
+    let following : drop (length line + 1) (line ++ 10 ∷ rest) ≡ rest
     = ap (drop (length line + 1)) (sym whole) ∙ drop_at (line_text (field ∷ fields)) rest (length line + 1) (length-append line (10 ∷ [])) in
-    ap (λ b. or_fault (BadLine n) (first_line b)) whole ∙ ap (λ p. or_fault (BadLine n) (cut_line (line ++ 10 ∷ rest) p)) found ∙ rw (front, behind, fields-join field fields e) refl
+    ap (λ b. or_fault (BadLine n) (first_line b)) whole ∙ ap (λ p. or_fault (BadLine n) (cut_line (line ++ 10 ∷ rest) p)) found ∙ rw (prefix, following, fields-join field fields e) refl
 
 takes_at : (n : ℕ) (bytes : List ℕ) (p : Option ℕ) (x : List (List ℕ) × List ℕ) → position is_lf bytes ≡ p → or_fault (BadLine n) (cut_line bytes p) ≡ Ok x → bytes ≡ line_text x.0 ++ x.1
 takes_at n bytes None x at e = absurd cc
 takes_at n bytes (Some k) x at e =
     let place = position-Some is_lf bytes k 0 at in
     let lf : get_or bytes k 0 ≡ 10 = eqb-true _ _ place.1 in
-    let front = take k bytes in
-    let behind = drop (k + 1) bytes in
-    let cut : drop k bytes ≡ 10 ∷ behind = drop_more bytes k 0 place.0 ∙ ap (λ (c : ℕ). c ∷ behind) lf in
-    let whole : bytes ≡ line_text (fields_of front) ++ behind =
-    sym (take-append-drop k bytes) ∙ ap (λ (r : List ℕ). front ++ r) cut ∙ sym (append_assoc front (10 ∷ []) behind)
-    ∙ ap (λ (l : List ℕ). (l ++ 10 ∷ []) ++ behind) (sym (join_with_byte-slice_split 32 front)) in
-    let made : List (List ℕ) × List ℕ = (fields_of front, behind) in
+    let prefix = take k bytes in
+    let following = drop (k + 1) bytes in
+    let cut : drop k bytes ≡ 10 ∷ following = drop_more bytes k 0 place.0 ∙ ap (λ (c : ℕ). c ∷ following) lf in
+    let whole : bytes ≡ line_text (fields_of prefix) ++ following =
+    sym (take-append-drop k bytes) ∙ ap (λ (r : List ℕ). prefix ++ r) cut ∙ sym (append_assoc prefix (10 ∷ []) following)
+    ∙ ap (λ (l : List ℕ). (l ++ 10 ∷ []) ++ following) (sym (join_with_byte-slice_split 32 prefix)) in
+    let made : List (List ℕ) × List ℕ = (fields_of prefix, following) in
     let same : made ≡ x = cc in
     subst (λ (y : List (List ℕ) × List ℕ). bytes ≡ line_text y.0 ++ y.1) same whole
 
--- and a line that is read stands at the front
+-- and a line that is read stands at the start
 pub line_takes : (n : ℕ) (bytes : List ℕ) (x : List (List ℕ) × List ℕ) → read_line n bytes ≡ Ok x → bytes ≡ line_text x.0 ++ x.1
 unfolding read_line
 line_takes n bytes x e = takes_at n bytes (position is_lf bytes) x refl e

@@ -73,13 +73,13 @@ unfolding read_tail
 tail_again n prices total few limits le =
     let count = length prices in
     let end_line = line_text (codes "end" ∷ []) ++ [] in
-    let behind = line_text (named (codes "total") total) ++ end_line in
-    let listed = flat_map line_text (map price_fields prices) ++ behind in
+    let following = line_text (named (codes "total") total) ++ end_line in
+    let listed = flat_map line_text (map price_fields prices) ++ following in
     let first = line_again n (codes "prices") (decimal count ∷ []) listed (plain_named (codes "prices") count refl (omega arith)) in
     let last = line_again (n + 1 + count) (codes "total") (decimal total ∷ []) end_line (plain_named (codes "total") total refl (omega arith)) in
     let ending = line_again (n + 2 + count) (codes "end") [] [] refl in
     ap (read_tail n) (tail_text prices total)
-    ∙ rw (first, count_again (codes "prices") 8000 n count (lit< tt) few, prices_again prices (n + 1) behind limits, last, total_again (n + 1 + count) total le, ending, ends_again (n + 2 + count)) refl
+    ∙ rw (first, count_again (codes "prices") 8000 n count (lit< tt) few, prices_again prices (n + 1) following limits, last, total_again (n + 1 + count) total le, ending, ends_again (n + 2 + count)) refl
 
 -- ---- all lines
 
@@ -150,17 +150,17 @@ module _ (bytes rest : List ℕ) (head : Head) (rows : List Row) (assigned : Lis
       → ReadsAll bytes (record { rows = rows; channels = head.channels; assigned = assigned; prices = prices; total = total })
   plan_from head1 listed1 tail1 =
       let parts : Parts = record { rows = rows; channels = head.channels; assigned = assigned; prices = prices; total = total } in
-      let front = head_takes bytes head head1 in
+      let prefix = head_takes bytes head head1 in
       let listed = bookings_take head.version head.count 4 head.rest (entries rows assigned rest) listed1 in
       let tail = tail_takes (4 + head.count) rest (prices, total) tail1 in
-      let behind : head.rest ≡ flat_map line_text (booking_lines head.version rows assigned) ++ flat_map line_text (tail_lines prices total) = listed.spelled ∙ ap (λ (r : List ℕ). flat_map line_text (booking_lines head.version rows assigned) ++ r) tail.spelled in
-      let few : length rows ≤ 4000 = rw listed.rows front.few in
+      let following : head.rest ≡ flat_map line_text (booking_lines head.version rows assigned) ++ flat_map line_text (tail_lines prices total) = listed.spelled ∙ ap (λ (r : List ℕ). flat_map line_text (booking_lines head.version rows assigned) ++ r) tail.spelled in
+      let few : length rows ≤ 4000 = rw listed.rows prefix.few in
       let counted : head.count ≡ length rows = sym listed.rows in
       record {
         version = head.version;
         plan = record {
           rows = record { few = few; each = listed.bookings };
-          channels = front.channels;
+          channels = prefix.channels;
           one_each = listed.assigned ∙ sym listed.rows;
           assigned = listed.channels;
           few_prices = tail.few;
@@ -168,7 +168,7 @@ module _ (bytes rest : List ℕ) (head : Head) (rows : List Row) (assigned : Lis
           total = tail.total;
         };
         told = listed.told;
-        spelled = front.spelled ∙ rw (behind, counted) (sym (whole_text head.version parts));
+        spelled = prefix.spelled ∙ rw (following, counted) (sym (whole_text head.version parts));
       }
 
 all_takes : (bytes : List ℕ) (x : Parts) → read_all bytes ≡ Ok x → ReadsAll bytes x
@@ -215,11 +215,11 @@ is_only bytes r given parts plan text = subst (λ (f : Result Parts PlanTextFaul
 -- one text is one plan's, in one version
 pub same_version : (v w : Version) (a b : Parts) → plan_text v a ≡ plan_text w b → v ≡ w
 same_version v w a b e =
-    let behind_v = line_text (codes "channels" ∷ map decimal (members_from 0 a.channels)) ++ (line_text (named (codes "bookings") (length a.rows)) ++ (flat_map line_text (booking_lines v a.rows a.assigned) ++ flat_map line_text (tail_lines a.prices a.total))) in
-    let behind_w = line_text (codes "channels" ∷ map decimal (members_from 0 b.channels)) ++ (line_text (named (codes "bookings") (length b.rows)) ++ (flat_map line_text (booking_lines w b.rows b.assigned) ++ flat_map line_text (tail_lines b.prices b.total))) in
-    let first_v = ap (read_line 1) (whole_text v a) ∙ line_again 1 (codes "bx-plan") (version_field v ∷ []) behind_v (plain_version v) in
-    let first_w = ap (read_line 1) (whole_text w b) ∙ line_again 1 (codes "bx-plan") (version_field w ∷ []) behind_w (plain_version w) in
-    let same = ok_is (codes "bx-plan" ∷ version_field v ∷ [], behind_v) (codes "bx-plan" ∷ version_field w ∷ [], behind_w) (sym first_v ∙ ap (read_line 1) e ∙ first_w) in
+    let after_v = line_text (codes "channels" ∷ map decimal (members_from 0 a.channels)) ++ (line_text (named (codes "bookings") (length a.rows)) ++ (flat_map line_text (booking_lines v a.rows a.assigned) ++ flat_map line_text (tail_lines a.prices a.total))) in
+    let after_w = line_text (codes "channels" ∷ map decimal (members_from 0 b.channels)) ++ (line_text (named (codes "bookings") (length b.rows)) ++ (flat_map line_text (booking_lines w b.rows b.assigned) ++ flat_map line_text (tail_lines b.prices b.total))) in
+    let first_v = ap (read_line 1) (whole_text v a) ∙ line_again 1 (codes "bx-plan") (version_field v ∷ []) after_v (plain_version v) in
+    let first_w = ap (read_line 1) (whole_text w b) ∙ line_again 1 (codes "bx-plan") (version_field w ∷ []) after_w (plain_version w) in
+    let same = ok_is (codes "bx-plan" ∷ version_field v ∷ [], after_v) (codes "bx-plan" ∷ version_field w ∷ [], after_w) (sym first_v ∙ ap (read_line 1) e ∙ first_w) in
     ok_is v w (sym (header_line_again 1 v) ∙ ap (λ (x : List (List ℕ) × List ℕ). read_header 1 x.0) same ∙ header_line_again 1 w)
 
 pub same_parts : (v w : Version) (a b : Parts) → IsPlan a → IsPlan b → HasText v a → HasText w b → plan_text v a ≡ plan_text w b → a ≡ b

@@ -13,7 +13,7 @@ no_option : {A : Type 0} (n : ℕ) (o : Option A) → or_fault (BadLine n) o ≡
 no_option n None e = cc
 no_option n (Some x) e = cc
 
--- a form, and limits behind it
+-- a form, and limits after it
 no_form : {A B : Type 0} (n : ℕ) (o : Option A) (f : A → Result B PlanTextFault) → ((x : A) → f x ≡ Err Memory → ⊥) → (or_fault (BadLine n) o >>= f) ≡ Err Memory → ⊥
 no_form n None f h e = cc
 no_form n (Some x) f h e = h x e
@@ -62,7 +62,7 @@ no_trailing : (b : Bool) (x : List ℕ) → where_holds b Trailing x ≡ Err Mem
 no_trailing true x e = cc
 no_trailing false x e = cc
 
-no_end : (n : ℕ) (a : Bool) (rest : List ℕ) → (where_holds a (BadLine n) rest >>= λ behind. where_holds (length behind == 0) Trailing behind) ≡ Err Memory → ⊥
+no_end : (n : ℕ) (a : Bool) (rest : List ℕ) → (where_holds a (BadLine n) rest >>= λ following. where_holds (length following == 0) Trailing following) ≡ Err Memory → ⊥
 no_end n true rest e = no_trailing (length rest == 0) rest e
 no_end n false rest e = cc
 
@@ -77,10 +77,10 @@ passed_on {e} {r} m passed = let p = err_from_is_err_and r passed in cc
 pub not_memory : {A B X : Type 0} {read : Result A PlanTextFault} {e : PlanTextFault} {r : Result B PlanTextFault} → (read ≡ Err Memory → ⊥) → read ≡ Err e → r ≡ Err Memory → IsErrAnd r (λ y. y ≡ e) → X
 not_memory never is m passed = absurd (never (is ∙ ap Err (passed_on m passed)))
 
--- ---- the lines before the bookings were read, and a list was to grow behind them
+-- ---- the lines before the bookings were read, and a list was to grow after them
 
 module _ {version : Version} {count : ℕ} {bytes r1 r2 r3 : List ℕ} {f1 f2 f3 : List (List ℕ)} {channels : List Bool} where
-  pub grows_behind : read_line 1 bytes ≡ Ok (f1, r1) → read_header 1 f1 ≡ Ok version → read_line 2 r1 ≡ Ok (f2, r2) → read_channels 2 f2 ≡ Ok channels → read_line 3 r2 ≡ Ok (f3, r3)
+  pub grows_after : read_line 1 bytes ≡ Ok (f1, r1) → read_header 1 f1 ≡ Ok version → read_line 2 r1 ≡ Ok (f2, r2) → read_channels 2 f2 ≡ Ok channels → read_line 3 r2 ≡ Ok (f3, r3)
       → read_count (codes "bookings") 4000 3 f3 ≡ Ok count → SomeBookings version count 4 r3 ⊎ ((x : Entries) × (read_bookings version count 4 r3 ≡ Ok x) × GrowsInTail (4 + count) x.rest) → Grows bytes
   unfolding read_head
-  grows_behind line1 header line2 set line3 counted grows = record { head = head_of version channels count r3; is_head = rw (line1, header, line2, set, line3, counted) refl; grows = grows }
+  grows_after line1 header line2 set line3 counted grows = record { head = head_of version channels count r3; is_head = rw (line1, header, line2, set, line3, counted) refl; grows = grows }

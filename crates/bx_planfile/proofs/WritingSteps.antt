@@ -57,10 +57,10 @@ module _ (plan : Plan) where
       ∙ ap (λ (r : List ℕ). head_text ++ r) (flat_map-append line_text (booking_lines Three plan.bookings plan.assigned.items) tail)
       ∙ ap (λ (r : List ℕ). head_text ++ (rows_text ++ (count_text ++ r))) (flat_map-append line_text (map price_fields plan.prices.items) (foot_lines plan))
 
--- a part is put behind another, or it fails before others, and so does the text
+-- a part is put after another, or it fails before others, and so does the text
 module _ {W : Type 0} {contents : W → Option (List ℕ)} {a b : Held W} where
-  pub behind : {d : Held W} {r : Written} {s t : List ℕ} → Gathers contents a b (done {E = PlanWriteFault}) s → Gathers contents b d r t → Gathers contents a d r (s ++ t)
-  behind {d} {r} {s} {t} p q = puts_then contents a b d r s t p q
+  pub following : {d : Held W} {r : Written} {s t : List ℕ} → Gathers contents a b (done {E = PlanWriteFault}) s → Gathers contents b d r t → Gathers contents a d r (s ++ t)
+  following {d} {r} {s} {t} p q = puts_then contents a b d r s t p q
 
   pub failing : {e f : PlanWriteFault} {s : List ℕ} (rest : List ℕ) → Gathers {T = Unit {0}} contents a b (Err e) s → Gathers {T = Unit {0}} contents a b (Err f) (s ++ rest)
   failing {e} {f} {s} rest p = puts_failed contents a b e f s rest (s ++ rest) refl p

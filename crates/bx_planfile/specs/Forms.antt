@@ -19,7 +19,7 @@ is_nothing fields = length fields == 0
 abbrev pub is_digits : List ℕ → Bool
 is_digits field = nat_lt 0 (length field) && list_all is_ascii_digit field
 
--- `0`, or digits with no zero in front
+-- `0`, or digits with no leading zero
 abbrev pub is_decimal : List ℕ → Bool
 is_decimal field = is_digits field && (not (slice_index field 0 == 48) || (length field == 1))
 
@@ -79,7 +79,7 @@ is_must_field field = bytes_eq field (codes "must") || bytes_eq field (codes "fr
 abbrev pub is_direction_field : List ℕ → Bool
 is_direction_field field = bytes_eq field (codes "in") || bytes_eq field (codes "out")
 
--- the marks behind a booking
+-- the marks after a booking
 pub record Marks : Type 0 where
   pub must : Bool
   pub inward : Bool

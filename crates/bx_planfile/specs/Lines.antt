@@ -12,7 +12,7 @@ is_space octet = octet == 32
 abbrev pub fields_of : List ℕ → List (List ℕ)
 fields_of line = slice_split is_space line
 
--- the fields of the first line, and what stands behind its LF; none where no LF is left
+-- the fields of the first line, and what stands after its LF; none where no LF is left
 abbrev pub cut_line : List ℕ → Option ℕ → Option (List (List ℕ) × List ℕ)
 cut_line bytes None = None
 cut_line bytes (Some k) = Some (fields_of (take k bytes), drop (k + 1) bytes)
@@ -25,7 +25,7 @@ abbrev pub first : List (List ℕ) → List ℕ
 first [] = []
 first (field ∷ fields) = field
 
--- the fields behind the first
+-- the fields after the first
 abbrev pub others : List (List ℕ) → List (List ℕ)
 others [] = []
 others (field ∷ fields) = fields

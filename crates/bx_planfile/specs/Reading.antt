@@ -37,7 +37,7 @@ or_fault e (Some x) = Ok x
 abbrev pub where_holds : {A : Type 0} → Bool → PlanTextFault → A → Result A PlanTextFault
 where_holds holds e x = if holds then Ok x else Err e
 
--- the fields of the first line, which is line n of the text, and what stands behind it
+-- the fields of the first line, which is line n of the text, and what stands after it
 unfoldable pub read_line : ℕ → List ℕ → Result (List (List ℕ) × List ℕ) PlanTextFault
 read_line n bytes = or_fault (BadLine n) (first_line bytes)
 
@@ -70,13 +70,13 @@ read_total n fields = do
   total ← or_fault (BadLine n) (named_form (codes "total") fields)
   where_holds (nat_le total MAX_TOTAL) (OutOfLimits n) total
 
--- the last line, with nothing behind it
+-- the last line, with nothing after it
 unfoldable pub read_end : ℕ → List (List ℕ) → List ℕ → Result (List ℕ) PlanTextFault
 read_end n fields rest = do
-  behind ← where_holds (is_end fields) (BadLine n) rest
-  where_holds (length behind == 0) Trailing behind
+  following ← where_holds (is_end fields) (BadLine n) rest
+  where_holds (length following == 0) Trailing following
 
--- bookings, and the channel of each, with what stands behind them
+-- bookings, and the channel of each, with what stands after them
 pub record Entries : Type 0 where
   pub rows : List Row
   pub assigned : List (Option ℕ)
@@ -115,7 +115,7 @@ read_tail n bytes = do
   rest ← read_end (n + 2 + count) ending.0 ending.1
   Ok (prices.0, total)
 
--- the lines before the bookings, and what stands behind them
+-- the lines before the bookings, and what stands after them
 pub record Head : Type 0 where
   pub version : Version
   pub channels : List Bool
@@ -143,7 +143,7 @@ read_all bytes = do
   tail ← read_tail (4 + head.count) entries.rest
   Ok (record { rows = entries.rows; channels = head.channels; assigned = entries.assigned; prices = tail.0; total = tail.1 })
 
--- Places at which a plan that is read grows: behind the line of a booking or of a price, where all lines up to
+-- Places at which a plan that is read grows: after the line of a booking or of a price, where all lines up to
 -- it have no fault.
 abbrev pub SomeBookings : Version → ℕ → ℕ → List ℕ → Type 0
 SomeBookings version count n bytes = (k : ℕ) × (1 ≤ k) × (k ≤ count) × ((x : Entries) × (read_bookings version k n bytes ≡ Ok x))

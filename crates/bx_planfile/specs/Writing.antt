@@ -10,7 +10,7 @@ use Rattle.bx_planfile.specs.Text.{version_field}
 abbrev pub AreAssigned : List (Option ℕ) → Type 0
 AreAssigned assigned = (i c : ℕ) → slice_index_or assigned i None ≡ Some c → IsChannel c
 
--- the lines before the bookings, and those behind the prices
+-- the lines before the bookings, and those after the prices
 abbrev pub head_lines : Plan → List (List (List ℕ))
 head_lines plan = (codes "bx-plan" ∷ version_field Three ∷ []) ∷ (codes "channels" ∷ map decimal (members_from 0 plan.channels)) ∷ named (codes "bookings") (length plan.bookings) ∷ []
 

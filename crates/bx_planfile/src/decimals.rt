@@ -13,7 +13,7 @@ pub(crate) fn is_digits(field: &[u8]) -> bool
     !field.is_empty() && all_digits(field)
 }
 
-/// The value of a field that is a decimal: `0`, or digits with no zero in front. One of any length has the
+/// The value of a field that is a decimal: `0`, or digits with no leading zero. One of any length has the
 /// right form, and from `u64::MAX` on, which is beyond each limit, they all count as that.
 pub fn decimal(field: &[u8]) -> Option<u64>
     ensures { MatchOption result (is_decimal field.now ≡ false) (λ n. (is_decimal field.now ≡ true) × (n ≡ capped (decimal_value field.now))) }

@@ -15,10 +15,10 @@ pub enum PlanTextFault {
     /// The line has the right form, and a value of it is outside its limits.
     #[error("P3 OutOfLimits {0}")]
     OutOfLimits(u32),
-    /// Octets stand behind the last line.
+    /// Octets stand after the last line.
     #[error("P4 Trailing")]
     Trailing,
-    /// A growth was refused.
+    /// Memory ran out.
     #[error("Memory")]
     Memory,
 }

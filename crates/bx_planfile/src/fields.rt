@@ -83,7 +83,7 @@ impl<'a> Fields<'a> {
     }
 }
 
-/// The fields of the first line, which is line `n` of the text, and what stands behind its LF.
+/// The fields of the first line, which is line `n` of the text, and what stands after its LF.
 #[tactic(auto, unfolding(crate::specs::Reading::read_line))]
 pub(crate) fn line_of(bytes: &[u8], n: u32) -> Result<(Fields<'_>, &[u8]), PlanTextFault>
     ensures { Answers (λ x. (x.0, x.1.now)) result (read_line n bytes.now) }

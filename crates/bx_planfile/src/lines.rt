@@ -45,9 +45,9 @@ pub(crate) fn header_of(fields: Fields<'_>, n: u32) -> Result<Version, PlanTextF
     version_of(fields).ok_or(PlanTextFault::BadLine(n))
 }
 
-/// The decimal behind a word, which are all the fields.
+/// The decimal after a word, which are all the fields.
 #[tactic(auto, unfolding(crate::specs::Forms::named_form))]
-fn number_behind(word: &[u8], mut fields: Fields<'_>) -> Option<u64>
+fn number_after(word: &[u8], mut fields: Fields<'_>) -> Option<u64>
     ensures { result ≡ option_map capped (named_form word.now fields.entry) }
 {
     if fields.take() != word {
@@ -68,7 +68,7 @@ pub(crate) fn count_of(
     ensures value { Answers (λ x. x) result (read_count word.now most n fields.entry) }
     ensures few { IfOk result (λ x. x ≤ most) }
 {
-    let count = number_behind(word, fields).ok_or(PlanTextFault::BadLine(n))?;
+    let count = number_after(word, fields).ok_or(PlanTextFault::BadLine(n))?;
     if count > u64::from(most) {
         return Err(PlanTextFault::BadCount);
     }
@@ -81,14 +81,14 @@ pub(crate) fn total_of(fields: Fields<'_>, n: u32) -> Result<u64, PlanTextFault>
     ensures value { Answers (λ x. x) result (read_total n fields.entry) }
     ensures limit { IfOk result (λ x. x ≤ MAX_TOTAL) }
 {
-    let total = number_behind(b"total", fields).ok_or(PlanTextFault::BadLine(n))?;
+    let total = number_after(b"total", fields).ok_or(PlanTextFault::BadLine(n))?;
     if total > MAX_TOTAL {
         return Err(PlanTextFault::OutOfLimits(n));
     }
     Ok(total)
 }
 
-/// That line `n`, with these fields, is the last one, and that nothing stands behind it.
+/// That line `n`, with these fields, is the last one, and that nothing stands after it.
 #[tactic(auto, unfolding(crate::specs::Reading::read_end, crate::specs::Forms::is_end))]
 pub(crate) fn ends<'a>(
     mut fields: Fields<'_>,

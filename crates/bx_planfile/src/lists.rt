@@ -25,7 +25,7 @@ fn add(bookings: &mut Bookings, booking: Booking) -> Result<(), PlanTextFault>
     }
 }
 
-/// So many bookings, the first of them in line `n`, the channel of each, and what stands behind them.
+/// So many bookings, the first of them in line `n`, the channel of each, and what stands after them.
 pub(crate) fn bookings_of(
     alloc: Global,
     version: Version,
@@ -56,7 +56,7 @@ pub(crate) fn bookings_of(
     Ok((bookings, assigned, rest))
 }
 
-/// So many prices, the first of them in line `n`, and what stands behind them.
+/// So many prices, the first of them in line `n`, and what stands after them.
 pub(crate) fn prices_of(
     alloc: Global,
     count: u16,

@@ -57,7 +57,7 @@ fn plan_of(alloc: Global, bytes: &[u8]) -> Result<Plan, PlanTextFault>
 
 /// The plan that a text of version 1, 2 or 3 states. A booking of a version 1 text is free, and one of a version
 /// 1 or 2 text is called outward. Of several faults the first is answered, and within a line its form comes
-/// before its values. `Memory` is answered only where a growth was refused.
+/// before its values. `Memory` is answered only where memory ran out.
 pub fn read_plan(alloc: Global, bytes: &[u8]) -> Result<Plan, PlanTextFault>
     ensures limits { IfOk result (λ plan. IsPlan (parts_of plan)) }
     // What is read is spelled so.

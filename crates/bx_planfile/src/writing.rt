@@ -80,7 +80,7 @@ fn put_prices<W: Write>(
     Ok(())
 }
 
-/// Puts the lines behind the prices.
+/// Puts the lines after the prices.
 fn put_foot<W: Write>(
     plan: &Plan,
     block: &mut Block,
@@ -109,7 +109,7 @@ fn put_plan<W: Write>(
 }
 
 /// Writes the text of version 3 of a plan, and nothing else, in blocks of up to 8,192 octets. Takes no memory. `WriteFailed`
-/// is answered where a write failed or took no octet; a front of the text was written then.
+/// is answered where a write failed or took no octet; a prefix of the text was written then.
 pub fn write_plan<W: Write>(plan: &Plan, w: &mut Watched<W>) -> Result<(), PlanWriteFault>
     ensures ok { OnOk result (Appends (W.contents (device_of w.old)) (W.contents (device_of w.new)) (plan_text Three (parts_of plan.now))) }
     ensures prefix { OnErr result (AppendsPrefix (W.contents (device_of w.old)) (W.contents (device_of w.new)) (plan_text Three (parts_of plan.now))) }

@@ -1,4 +1,4 @@
--- Where the moves of one unit more do not lead to the last second, the prices can be lowered: behind the places that were not
+-- Where the moves of one unit more do not lead to the last second, the prices can be lowered: after the places that were not
 -- seen, all that comes before them is less by one. These prices prove the set too, and their sum is less.
 use Rattle.std.proofs.Common.{zero, suc, ◌≡◌, ℕ, ◌+◌, ◌-◌, ◌<◌, ◌≤◌, Bool, true, false, cond, ltb, List, [], ◌∷◌, length, map, get_or, refl, ◌∙◌, ap, subst, arith, inl, inr}
 use Rattle.std.specs.Prelude.{ℤ, pos, neg_ℤ, ◌-ℤ◌, nat_abs}

@@ -1,4 +1,4 @@
--- A row runs at the moment of a place just where its arc spans the gap behind the place.
+-- A row runs at the moment of a place just where its arc spans the gap after the place.
 use Rattle.std.proofs.Common.{◌≡◌, ℕ, ◌<◌, ◌≤◌, cond, ◌&&◌, ltb, leb, List, length, get_or, refl, sym, ◌∙◌, ap, arith, inl, inr}
 use Rattle.std.proofs.lemmas.Bool.{cases_lt}
 use Rattle.std.proofs.lemmas.Bool.Decides.{nat_tests}
@@ -31,7 +31,7 @@ module _ (rows : List Row) (line : Network) (network : IsNetwork line) (arcs : A
       (λ k. let x = rising v arc.to 0 k a.to_within in omega (arith, x, a.to))
       (λ k. let x = never_falls line.moments network.rising arc.to v k b in omega (arith, x, a.to))
 
-  -- the marked rows that run at the moment of a place are those that cross the gap behind it
+  -- the marked rows that run at the moment of a place are those that cross the gap after it
   pub running_crosses : (flow : Flow) (v : ℕ) → v < places_of line → running_at rows flow.accepted (get_or line.moments v 0) ≡ crossing_at line flow v
   running_crosses flow v b =
       let same = sum_below-same (length rows) (λ i. cond (is_in flow.accepted i && is_running (row_at rows i) (get_or line.moments v 0)) 1 0) (λ i. cond (is_carried flow i && spans (arc_at line i) v) 1 0) (λ i h. rw (runs_where_spans i v h b) refl) in

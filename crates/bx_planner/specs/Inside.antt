@@ -11,7 +11,7 @@ use Rattle.bx_planner.specs.Amending.{amended}
 use Rattle.bx_planner.specs.Choices.{ProvesBest}
 use Rattle.bx_base.specs.declared.plan.TheConstants.{MAX_PRICES}
 
--- the rows that a plan is asked for: these alone, or behind those of an earlier plan
+-- the rows that a plan is asked for: these alone, or after those of an earlier plan
 abbrev pub demanded : Option (Bor Plan) → List Row → List Row
 demanded None rows = rows
 demanded (Some plan) rows = amended plan.now.bookings plan.now.assigned.items rows

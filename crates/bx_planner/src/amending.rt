@@ -26,7 +26,7 @@ pub enum NoAmendment {
     /// one.
     #[error("K1 TooManyMust {0}")]
     TooManyMust(u32),
-    /// A growth was refused.
+    /// Memory ran out.
     #[error("Memory")]
     Memory,
 }
@@ -37,7 +37,7 @@ pub enum NoAmendment {
 /// where the plan is a best one and first fit, as `plan` and `amend` make them, and the new bookings start at a moment or later,
 /// none that starts before that moment has another channel, and what was refused stays so (`extended`).
 /// The plan need not be proved, or carried; its prices and its total do not matter. `TooMany` is tested first, then
-/// `TooManyMust`, both without memory; `Memory` where a growth is refused. A refusal leaves both as they are.
+/// `TooManyMust`, both without memory; `Memory` where memory runs out. A refusal leaves both as they are.
 pub fn amend(alloc: Global, plan: &Plan, more: &Bookings) -> Result<Plan, NoAmendment>
     ensures full { (result ≡ Err NoAmendment.TooMany) ↔ (MAX_BOOKINGS < length plan.now.bookings + length more.now) }
     ensures musts { (t : ℕ) → (result ≡ Err (NoAmendment.TooManyMust t)) ↔ ((length plan.now.bookings + length more.now ≤ MAX_BOOKINGS) × IsTooManyMust (amended plan.now.bookings plan.now.assigned.items more.now) plan.now.channels t) }

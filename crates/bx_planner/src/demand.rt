@@ -9,7 +9,7 @@ use bx_base::{Booking, Bookings, Plan};
 use std::alloc::{AllocError, Global};
 use std::marker::Model;
 
-/// Bookings alone, or more bookings behind those of an earlier plan, which have to be held just where it accepted them.
+/// Bookings alone, or more bookings after those of an earlier plan, which have to be held just where it accepted them.
 #[derive(Drop)]
 pub(crate) struct Demand<'a> {
     earlier: Option<&'a Plan>,

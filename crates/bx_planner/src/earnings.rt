@@ -35,8 +35,8 @@ pub enum Earning {
 }
 
 /// What each count of channels would earn, from 0 to 30, in rising order: by a flow of least cost that grows by a unit for each
-/// channel (R. K. Ahuja, T. L. Magnanti, J. B. Orlin, Network flows, 1993: successive shortest paths). `AllocError` where a
-/// growth is refused.
+/// channel (R. K. Ahuja, T. L. Magnanti, J. B. Orlin, Network flows, 1993: successive shortest paths). `AllocError` where memory
+/// runs out.
 pub fn capacity(alloc: Global, bookings: &Bookings) -> Result<Vec<Earning>, AllocError>
     ensures { IfOk result (λ v. AreEarnings bookings.now v.items) }
 {
@@ -48,7 +48,7 @@ pub fn capacity(alloc: Global, bookings: &Bookings) -> Result<Vec<Earning>, Allo
 }
 
 /// What one more channel would add to the total of a plan that has to be proved for its own bookings, whatever proves it: the
-/// sum of the least prices for its bookings and channels. `AllocError` where a growth is refused.
+/// sum of the least prices for its bookings and channels. `AllocError` where memory runs out.
 pub fn next_gain(alloc: Global, plan: &Plan) -> Result<u64, AllocError>
     requires proved { IsOutcome plan.now.bookings plan.now.channels (parts_of plan.now) (Ok plan.now.total) }
     ensures { IfOk result (λ next. IsEarning plan.now.bookings (count_of plan.now.channels) (Earning.Most plan.now.total next)) }

@@ -25,7 +25,7 @@ pub enum NoPlan {
     /// at no earlier one.
     #[error("K1 TooManyMust {0}")]
     TooManyMust(u32),
-    /// A growth was refused.
+    /// Memory ran out.
     #[error("Memory")]
     Memory,
 }
@@ -33,7 +33,7 @@ pub enum NoPlan {
 /// A best plan: channels for bookings that pay the most of all sets that these channels can carry and that have each
 /// booking marked to be held (of all feasible choices), and prices that prove it. By a flow of least cost along the line of the
 /// bookings (M. C. Carlisle and E. L. Lloyd, On the k-coloring of intervals, 1995), coloured first-fit. `TooManyMust` is tested
-/// first, without memory; `Memory` where a growth is refused.
+/// first, without memory; `Memory` where memory runs out.
 pub fn plan(alloc: Global, bookings: &Bookings, channels: ChannelSet) -> Result<Plan, NoPlan>
     ensures musts { (t : ℕ) → (result ≡ Err (NoPlan.TooManyMust t)) ↔ IsTooManyMust bookings.now channels t }
     ensures bookings { IfOk result (λ p. p.bookings ≡ bookings.now) }

@@ -10,7 +10,7 @@ use bx_dist::Potentials;
 use bx_line::Line;
 use std::alloc::{AllocError, Global};
 
-/// A price at each place behind which the distances fall: by how much they fall to the next place.
+/// A price at each place after which the distances fall: by how much they fall to the next place.
 pub(crate) fn prices_of(
     alloc: Global,
     line: &Line,

@@ -23,8 +23,8 @@ fn writes(alloc: Global, text: &[u8], writer: (u32, usize, usize)) -> bool {
     let whole = write_octets(&mut w, text).is_ok();
     let faulted = w.faulted();
     let held = w.into_inner().into_inner();
-    let is_front = held.len() == written && text.starts_with(held.as_slice());
-    is_front && whole == (written == text.len()) && faulted != whole
+    let is_prefix = held.len() == written && text.starts_with(held.as_slice());
+    is_prefix && whole == (written == text.len()) && faulted != whole
 }
 
 #[test]

@@ -13,7 +13,7 @@ fn unexplained(alloc: Global, row: u16) -> Option<NoQuote> {
     explain(alloc, &plan_of(alloc, &ROWS, 1)?, row).err()
 }
 
-/// The refusal of a booking behind them on so many channels.
+/// The refusal of a booking after them on so many channels.
 fn unquoted(alloc: Global, count: usize, row: &Row) -> Option<NoQuote> {
     quote(alloc, &plan_of(alloc, &ROWS, count)?, &booking_of(row)?).err()
 }
@@ -52,8 +52,11 @@ fn rows_without_a_quote(rt: HostRuntime) -> Result<(), Fail> {
 fn bookings_without_a_channel(rt: HostRuntime) -> Result<(), Fail> {
     let within = unquoted(rt.alloc(), 1, &(15, 25, 9, false)).ok_or("a quote")?;
     assert_eq!(rt; within.to_string(rt.alloc())?.as_str(), "Q1 NoChannel 20");
-    let behind = unquoted(rt.alloc(), 1, &(25, 35, 9, false)).ok_or("a quote")?;
-    assert_eq!(rt; behind.to_string(rt.alloc())?.as_str(), "Q1 NoChannel 25");
+    let following = unquoted(rt.alloc(), 1, &(25, 35, 9, false)).ok_or("a quote")?;
+    assert_eq!(rt;
+        following.to_string(rt.alloc())?.as_str(),
+        "Q1 NoChannel 25"
+    );
     assert!(rt;
         unquoted(rt.alloc(), 2, &(15, 25, 9, false)).is_none(),
         "two channels"

@@ -7,7 +7,7 @@ use std::alloc::Global;
 
 /// What is asked for.
 enum Ask {
-    /// A booking behind the plan's rows.
+    /// A booking after the plan's rows.
     New(Row),
     /// A row of the plan.
     Refused(u16),

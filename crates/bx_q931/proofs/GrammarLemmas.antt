@@ -96,7 +96,7 @@ body_again : (reference : List ℕ) (octet : ℕ) (rest : List ℕ) → body_at 
 body_again reference octet rest =
     rw (lt-leb (length (reference ++ octet ∷ rest)) (length reference) (omega (arith, length-append reference (octet ∷ rest))), take-append_seam reference (octet ∷ rest), drop-append_seam reference (octet ∷ rest)) refl
 
--- behind the discriminator and a length that is none too many
+-- after the discriminator and a length that is none too many
 opened : (len : ℕ) (rest : List ℕ) → length (8 ∷ len ∷ rest) ≤ 260 → len ≤ 2 → message_at (8 ∷ len ∷ rest) ≡ body_at len rest
 opened len rest few h = rw (le-ltb 260 (length (8 ∷ len ∷ rest)) few, le-ltb 2 len h) refl
 

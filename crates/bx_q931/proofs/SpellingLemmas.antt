@@ -54,9 +54,9 @@ items_spelled (suc n) (o ∷ os) is e =
     let found = and_some (items_at n) (item_at (o ∷ os)) is e in
     let p = found.0 in
     let js = found.2 in
-    let front = item_spelled (o ∷ os) p found.1 in
+    let prefix = item_spelled (o ∷ os) p found.1 in
     let more = items_spelled n p.1 js found.3 in
-    subst (Spells (o ∷ os)) found.4 (front.0 ∙ ap (λ l. item_octets p.0 ++ l) more.0, (front.1, more.1))
+    subst (Spells (o ∷ os)) found.4 (prefix.0 ∙ ap (λ l. item_octets p.0 ++ l) more.0, (prefix.1, more.1))
 
 -- ---- what is spelled so is read
 

@@ -38,7 +38,7 @@ codeset_after before = unwrap_or (single_before before) (locked_before before)
 abbrev pub plain_element : ℕ → PlainItem → PlainElement
 plain_element codeset i = record { codeset = codeset; id = i.first; contents = i.contents }
 
--- the elements of items that stand behind others, the nearest of those first
+-- the elements of items that stand after others, the nearest of those first
 unfoldable pub elements_after : List PlainItem → List PlainItem → List PlainElement
 elements_after before [] = []
 elements_after before (i ∷ is) = if is_shift i then elements_after (i ∷ before) is else plain_element (codeset_after before) i ∷ elements_after (i ∷ before) is

@@ -32,7 +32,7 @@ IsMessage octets m = (reference : List ℕ) × (type_octet : ℕ) × IsSpelled o
 abbrev pub IsBadLength : ℕ → Type 0
 IsBadLength octet = (0 < octet / 16) ⊎ (2 < octet % 16)
 
--- the octets end before the type: at once, behind the discriminator, or in the reference or right behind it
+-- the octets end before the type: at once, after the discriminator, or in the reference or right after it
 abbrev pub EndsEarly : List ℕ → Type 0
 EndsEarly octets =
     (octets ≡ []) ⊎ (octets ≡ 8 ∷ [])

@@ -21,16 +21,16 @@ abbrev pub whole_message : Reference → Kind → Option (List PlainItem) → Re
 whole_message reference kind None = Err TornElement
 whole_message reference kind (Some items) = Ok (plain_message reference kind items)
 
--- behind the reference: the type, and the items
+-- after the reference: the type, and the items
 abbrev pub kind_at : Reference → List ℕ → Result PlainMessage MessageFault
 kind_at reference [] = Err TooShort
 kind_at reference (octet ∷ rest) = whole_message reference (kind_of octet) (all_items rest)
 
--- behind the length of the reference
+-- after the length of the reference
 abbrev pub body_at : ℕ → List ℕ → Result PlainMessage MessageFault
 body_at len rest = if nat_le (length rest) len then Err TooShort else kind_at (reference_of (take len rest)) (drop len rest)
 
--- behind the protocol discriminator
+-- after the protocol discriminator
 abbrev pub reference_at : List ℕ → Result PlainMessage MessageFault
 reference_at [] = Err TooShort
 reference_at (len ∷ rest) = if nat_lt 2 len then Err BadCallReference else body_at len rest

@@ -3,7 +3,7 @@ use Rattle.std.specs.Prelude.{ℕ, max, List, [], ◌∷◌, if◌then◌else◌
 use Rattle.bx_q931.specs.Items.{PlainItem}
 use Rattle.bx_q931.specs.Elements.{PlainElement, plain_element, is_shift, is_locking, named_codeset}
 
--- behind locking shifts to this codeset and perhaps a shift for one element
+-- after locking shifts to this codeset and perhaps a shift for one element
 unfoldable pub passed : ℕ → Option ℕ → List PlainItem → List PlainElement
 passed locked single [] = []
 passed locked single (i ∷ is) =

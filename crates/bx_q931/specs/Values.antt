@@ -43,7 +43,7 @@ state_in (o ∷ os) = Some (o % 64)
 abbrev pub state_of : PlainMessage → Option ℕ
 state_of m = if_there state_in (first_of 0x14 m)
 
--- ---- called party number (4.5.8): the octets behind the first, where they are 1 to 15 digits
+-- ---- called party number (4.5.8): the octets after the first, where they are 1 to 15 digits
 
 unfoldable pub are_digits : List ℕ → Bool
 are_digits [] = true
@@ -64,7 +64,7 @@ called_of m = if_there called_in (first_of 0x70 m)
 abbrev pub has_bit : ℕ → ℕ → Bool
 has_bit octet bit = not (bit_and octet bit == 0)
 
--- behind the interface identifier, which ends with its first octet that has bit 8 set
+-- after the interface identifier, which ends with its first octet that has bit 8 set
 unfoldable pub after_interface : List ℕ → List ℕ
 after_interface [] = []
 after_interface (o ∷ os) = if nat_lt o 128 then after_interface os else os
@@ -72,7 +72,7 @@ after_interface (o ∷ os) = if nat_lt o 128 then after_interface os else os
 abbrev pub is_channel : ℕ → Bool
 is_channel n = nat_le 1 n && nat_le n 31 && not (n == 16)
 
--- octet 3.2: a channel number in B-channel units; octet 3.3: the number (profile: octets behind it are
+-- octet 3.2: a channel number in B-channel units; octet 3.3: the number (profile: octets after it are
 -- not looked at)
 abbrev pub numbered : Bool → List ℕ → ChannelField
 numbered exclusive [] = Unread

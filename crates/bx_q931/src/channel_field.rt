@@ -32,7 +32,7 @@ impl ChannelField {
         match *first & 0x03 {
             3 => ChannelField::AnyChannel,
             1 if has_bit(*first, 0x40) => {
-                numbered(behind_interface(rest), has_bit(*first, 0x08))
+                numbered(following_interface(rest), has_bit(*first, 0x08))
             }
             1 => numbered(rest, has_bit(*first, 0x08)),
             _ => ChannelField::Unread,
@@ -46,8 +46,8 @@ fn has_bit(octet: u8, bit: u8) -> bool
     octet & bit != 0
 }
 
-/// The octets behind the interface identifier.
-fn behind_interface(octets: &[u8]) -> &[u8]
+/// The octets after the interface identifier.
+fn following_interface(octets: &[u8]) -> &[u8]
     ensures { result.now ≡ after_interface octets.now }
 {
     let mut rest = octets;

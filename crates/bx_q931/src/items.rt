@@ -1,4 +1,4 @@
-//! The items of a message: shifts and elements, from the octets behind its type.
+//! The items of a message: shifts and elements, from the octets after its type.
 
 ghost use Rattle.std.specs.Prelude.{◌≡◌, option_map, is_some};
 ghost use Rattle.bx_q931.specs.Items.{item_at, all_items};
@@ -11,7 +11,7 @@ pub struct Item<'a> {
     pub contents: &'a [u8],
 }
 
-/// The item at the front, and the octets behind it; none where it is torn.
+/// The item at the start, and the octets after it; none where it is torn.
 pub(crate) fn first_item(octets: &[u8]) -> Option<(Item<'_>, &[u8])>
     ensures { option_map (λ p. (item_view p.0, p.1.now)) result ≡ item_at octets.now }
 {

@@ -16,7 +16,7 @@ pub const MAX_MESSAGE: usize = 260;
 /// The protocol discriminator of Q.931 (4.2).
 pub const DISCRIMINATOR: u8 = 8;
 
-/// Behind the length of the reference: the reference, the type and the items.
+/// After the length of the reference: the reference, the type and the items.
 fn body(rest: &[u8], len: usize) -> Result<Message<'_>, MessageFault>
     requires { len ≤ 2 }
     ensures { result ≡ body_at len rest.now }

@@ -1,4 +1,4 @@
-//! Channel identifications, behind shifts too.
+//! Channel identifications, after shifts too.
 
 use bx_channels::Channel;
 use bx_q931::{ChannelField, Octets, read};

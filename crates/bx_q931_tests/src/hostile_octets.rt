@@ -9,13 +9,13 @@ static SHIFTED: [u8; 23] = [
     0x83, 0x81, 0x98, 0x08, 0x01, 0x10, 0x90,
 ];
 
-/// The octets behind the shifts at the front.
+/// The octets after the shifts at the start.
 fn after_shifts(octets: &[u8]) -> &[u8] {
     let shifts = octets.iter().take_while(|octet| **octet / 16 == 9).count();
     octets.get(shifts..).unwrap_or(&[])
 }
 
-/// The octets behind an element, where they begin with it.
+/// The octets after an element, where they begin with it.
 fn after_element<'a>(octets: &'a [u8], element: &Element<'_>) -> Option<&'a [u8]> {
     let (id, rest) = after_shifts(octets).split_first()?;
     if *id != element.id {

@@ -164,7 +164,7 @@ fn first_odd_report(call: &NetCall, fitting: &[u8], release: &[u8]) -> Option<u8
 }
 
 /// The call as a message leaves it, at 100.
-fn behind(call: NetCall, octets: &[u8]) -> Option<NetCall> {
+fn following(call: NetCall, octets: &[u8]) -> Option<NetCall> {
     match call.on_message(&read(octets).ok()?, 100).next {
         Next::Live(live) => Some(live),
         _ => None,
@@ -176,7 +176,7 @@ fn call_states_that_are_reported(rt: HostRuntime) -> Result<(), Fail> {
     let channel = Channel::new(1).ok_or("a channel")?;
     let number = Number::new(b"1234").ok_or("a number")?;
     let (offered, _) = NetCall::offered(1, channel, number, 100);
-    let active = behind(offered, CONNECT).ok_or("a call that is answered")?;
+    let active = following(offered, CONNECT).ok_or("a call that is answered")?;
     assert_eq!(rt; first_odd_report(&active, &[8, 10], RELEASE_101), None);
     let (answered, _) = NetCall::answered(1, channel, 100);
     let Next::Live(active) = answered.on_second(101, 200).next else {

@@ -40,7 +40,7 @@ fn user_step(call: UserCall, row: &Row) -> Option<Transition<UserCall>> {
     }
 }
 
-/// The call behind a row that is right; the one before it where none is left.
+/// The call after a row that is right; the one before it where none is left.
 fn after_net_row(call: NetCall, end: u32, row: &Row) -> Option<NetCall> {
     let Transition { next, reply } = net_step(call, end, row)?;
     let (left, after) = match next {
@@ -69,7 +69,7 @@ fn after_user_row(call: UserCall, row: &Row) -> Option<UserCall> {
     }
 }
 
-/// What is left of a call that is asked for behind a second without a link, and hears this; None where something else is sent.
+/// What is left of a call that is asked for after a second without a link, and hears this; None where something else is sent.
 pub(crate) fn after_report(call: NetCall, octets: &[u8], sent: &[u8]) -> Option<After> {
     let Next::Live(asked) = call.on_seconds_unlinked(1, 110, 200).next else {
         return None;

@@ -14,8 +14,8 @@ use Rattle.bx_quote.specs.Weighing.{held}
 use Rattle.bx_quote.proofs.Places.{sum_split}
 
 -- one row more, which is counted where it is marked, beside one of its own
-pub add_behind : (rows : List Row) (marked : ℕ → Bool) (n t : ℕ) (b : Bool) (own before after : ℕ) → marked n ≡ b → before ≡ sum_below n (λ j. cond (marked j && is_running (row_at rows j) t) 1 0) + own → after ≡ before + cond (b && is_running (row_at rows n) t) 1 0 → after ≡ sum_below (n + 1) (λ j. cond (marked j && is_running (row_at rows j) t) 1 0) + own
-add_behind rows marked n t b own before after e h k =
+pub add_after : (rows : List Row) (marked : ℕ → Bool) (n t : ℕ) (b : Bool) (own before after : ℕ) → marked n ≡ b → before ≡ sum_below n (λ j. cond (marked j && is_running (row_at rows j) t) 1 0) + own → after ≡ before + cond (b && is_running (row_at rows n) t) 1 0 → after ≡ sum_below (n + 1) (λ j. cond (marked j && is_running (row_at rows j) t) 1 0) + own
+add_after rows marked n t b own before after e h k =
     let next = sum_below-next n (λ j. cond (marked j && is_running (row_at rows j) t) 1 0) in
     let term : cond {A = ℕ} (marked n && is_running (row_at rows n) t) 1 0 ≡ cond (b && is_running (row_at rows n) t) 1 0 = rw e refl in
     omega (arith, next, term, h, k)

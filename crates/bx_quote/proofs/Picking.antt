@@ -53,11 +53,11 @@ named_with xs x i false = let s : xs ++ [] ≡ xs = append-nil xs in rw s (or_no
     or_none true = refl
     or_none false = refl
 
-none_behind : (test : ℕ → Bool) (n j : ℕ) → n ≤ j → is_named (picked test n) j ≡ false
-none_behind test zero j h = refl
-none_behind test (suc n) j h =
+none_following : (test : ℕ → Bool) (n j : ℕ) → n ≤ j → is_named (picked test n) j ≡ false
+none_following test zero j h = refl
+none_following test (suc n) j h =
     let e : eqb (suc n) (j + 1) ≡ false = ne_eqb (suc n) (j + 1) (omega arith) in
-    let before = none_behind test n j (omega arith) in
+    let before = none_following test n j (omega arith) in
     named_with (picked test n) (suc n) (j + 1) (test n) ∙ rw (before, e) (and_none (test n))
   where
     and_none : (b : Bool) → (false || (b && false)) ≡ false
@@ -70,7 +70,7 @@ named_picked test zero j h = absurd (omega arith)
 named_picked test (suc n) j h =
     elim (cases_lt j n) [
       | inl a ↦ (let e : eqb (suc n) (j + 1) ≡ false = ne_eqb (suc n) (j + 1) (omega arith) in let before = named_picked test n j a in named_with (picked test n) (suc n) (j + 1) (test n) ∙ rw (before, e) (keeps (test j) (test n)))
-      | inr a ↦ (let s : j ≡ n = omega arith in let e : eqb (suc n) (j + 1) ≡ true = eq-eqb (suc n) (j + 1) (omega arith) in let before = none_behind test n j a in named_with (picked test n) (suc n) (j + 1) (test n) ∙ rw (before, e, s) (adds (test n)))
+      | inr a ↦ (let s : j ≡ n = omega arith in let e : eqb (suc n) (j + 1) ≡ true = eq-eqb (suc n) (j + 1) (omega arith) in let before = none_following test n j a in named_with (picked test n) (suc n) (j + 1) (test n) ∙ rw (before, e, s) (adds (test n)))
     ]
   where
     keeps : (a b : Bool) → (a || (b && false)) ≡ a

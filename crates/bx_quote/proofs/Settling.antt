@@ -1,4 +1,4 @@
--- A proved plan beside a row that it refuses, or one behind its rows.
+-- A proved plan beside a row that it refuses, or one after its rows.
 use Rattle.std.proofs.Common.{suc, ◌≡◌, ℕ, ◌+◌, ◌-◌, ◌*◌, ◌<◌, ◌≤◌, Bool, true, false, cond, ◌&&◌, List, [], ◌∷◌, ◌++◌, length, Option, None, Ok, is_some, refl, sym, ◌∙◌, ap, arith, inl, inr}
 use Rattle.std.specs.Prelude.{ℤ, pos, ◌+ℤ◌, slice_set}
 use Rattle.std.proofs.lemmas.Int.{ints}
@@ -52,7 +52,7 @@ settle_refused plan i outcome h out =
       proved = same_bound (bound_of (offered plan.rows i 0) (count_of plan.channels) plan.prices) (bound_of plan.rows (count_of plan.channels) plan.prices) (term_of plan.prices row) (term_of plan.prices (record row { pay = 0 })) plan.total change (dear_term plan.prices row free dear ∙ sym (dear_term plan.prices (record row { pay = 0 }) free (omega arith))) outcome.3;
     }
 
--- rows with one more behind them
+-- rows with one more after them
 module _ (rows : List Row) (more : Row) where
   abbrev all : List Row
   all = rows ++ more ∷ []
@@ -118,7 +118,7 @@ module _ (rows : List Row) (more : Row) where
                 absurd (cc))
           ]
 
--- a booking behind the rows of the plan
+-- a booking after the rows of the plan
 module _ (plan : Parts) (booking : Row) (outcome : IsOutcome plan.rows plan.channels plan (Ok plan.total)) (one_each : length plan.assigned ≡ length plan.rows) where
   abbrev more : Row
   more = record booking { must = false }
@@ -153,7 +153,7 @@ module _ (plan : Parts) (booking : Row) (outcome : IsOutcome plan.rows plan.chan
       nothing_more : (z : ℤ) → z +ℤ pos 0 ≡ z
       nothing_more z = omega (arith, ints)
 
--- a free booking behind them is no must row
+-- a free booking after them is no must row
 pub musts_asked : (rows : List Row) (booking : Row) (t : ℕ) → musts_at (asked rows booking) t ≡ musts_at rows t
 musts_asked rows booking t =
     let more = record booking { must = false } in

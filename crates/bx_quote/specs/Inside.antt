@@ -9,7 +9,7 @@ use Rattle.bx_quote.specs.declared.writing.QuoteFault.TheVariants as fault
 abbrev pub is_apart : (ℕ → Bool) → (ℕ → Bool) → ℕ → ℕ → Bool
 is_apart one other i j = not (j == i) && (one j && not (other j))
 
--- a text was not written: the output failed, and a front of it was
+-- a text was not written: the output failed, and a prefix of it was
 abbrev pub IsWriteFault : Writing → List ℕ → QuoteFault → Type 0
 IsWriteFault output text fault.WriteFailed = (output.is_faulted ≡ true) × AppendsPrefix output.before output.after text
 IsWriteFault output text _ = ⊥

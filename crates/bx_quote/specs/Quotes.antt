@@ -12,7 +12,7 @@ use Rattle.bx_quote.specs.Rooms.{IsNoChannel, IsNeverTaken}
 use Rattle.bx_quote.specs.Thresholds.{IsThreshold, Decides}
 use Rattle.bx_base.specs.declared.bookings.TheConstants.{MAX_BOOKINGS}
 
--- the rows with one more behind them, which a plan is free to leave out
+-- the rows with one more after them, which a plan is free to leave out
 abbrev pub asked : List Row → Row → List Row
 asked rows row = rows ++ record row { must = false } ∷ []
 

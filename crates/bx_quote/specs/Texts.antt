@@ -12,7 +12,7 @@ use Rattle.bx_quote.specs.Named.{picked}
 abbrev pub number_line : List ℕ → ℕ → List ℕ
 number_line words number = words ++ decimal number ++ 10 ∷ []
 
--- rows by their names, each behind a space, or none
+-- rows by their names, each after a space, or none
 abbrev pub names : List ℕ → List ℕ
 names [] = codes " none"
 names (row ∷ rows) = flat_map (λ r. 32 ∷ decimal r) (row ∷ rows)

@@ -18,7 +18,7 @@ pub record IsTold (rows : List Row) (plan : Parts) (i : ℕ) (text : Quote → L
   pub is : IsQuote rows plan i quote
   pub written : Appends output.before output.after (text quote)
 
--- a front of it was
+-- a prefix of it was
 pub record IsCutTold (rows : List Row) (plan : Parts) (i : ℕ) (text : Quote → List ℕ) (output : Writing) : Type 0 where
   pub quote : Quote
   pub is : IsQuote rows plan i quote

@@ -32,7 +32,7 @@ pub enum NoQuote {
     /// The plan accepts the row.
     #[error("Q3 Accepted {0}")]
     Accepted(u16),
-    /// A growth was refused.
+    /// Memory ran out.
     #[error("Memory")]
     Memory,
 }

@@ -1,4 +1,4 @@
-//! Answers for what a plan refuses: the price at which a booking would be taken, with a proof behind it.
+//! Answers for what a plan refuses: the price at which a booking would be taken, with a proof of it.
 #![tactic(auto)]
 
 mod answer;

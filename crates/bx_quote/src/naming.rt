@@ -30,7 +30,7 @@ pub(crate) fn apart(
     Ok(named)
 }
 
-/// Whether the row at this place has a channel. One behind the last has none.
+/// Whether the row at this place has a channel. One after the last has none.
 fn accepts(assigned: &[Option<Channel>], index: u16) -> bool
     ensures { result ≡ is_accepted assigned.now index }
 {

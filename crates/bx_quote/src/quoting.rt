@@ -19,7 +19,7 @@ use std::alloc::{AllocError, Global};
 
 /// What a booking that is not in the plan has to pay to be taken, where nothing else changes. Neither its own pay nor its must
 /// mark counts. The plan has to be proved for its own bookings and channels. `TooMany` is tested first, then `NoChannel`, both
-/// without memory; `Memory` where a growth is refused. By two best plans: the one given, and one that has to hold the booking.
+/// without memory; `Memory` where memory runs out. By two best plans: the one given, and one that has to hold the booking.
 pub fn quote(alloc: Global, plan: &Plan, booking: &Booking) -> Result<Quote, NoQuote>
     requires proved { IsOutcome plan.now.bookings plan.now.channels (parts_of plan.now) (Ok plan.now.total) }
     ensures full { (result ≡ Err NoQuote.TooMany) ↔ (MAX_BOOKINGS ≤ length plan.now.bookings) }
@@ -40,8 +40,8 @@ pub fn quote(alloc: Global, plan: &Plan, booking: &Booking) -> Result<Quote, NoQ
 }
 
 /// What a row that the plan refuses has to pay to be taken. Its own pay does not count. The plan has to be proved for its own
-/// bookings and channels. `NoSuchRow`, `Accepted` and `NoChannel` are tested in this order, without memory; `Memory` where a
-/// growth is refused.
+/// bookings and channels. `NoSuchRow`, `Accepted` and `NoChannel` are tested in this order, without memory; `Memory` where memory
+/// runs out.
 pub fn explain(alloc: Global, plan: &Plan, row: u16) -> Result<Quote, NoQuote>
     requires proved { IsOutcome plan.now.bookings plan.now.channels (parts_of plan.now) (Ok plan.now.total) }
     ensures no_row { (result ≡ Err NoQuote.NoSuchRow) ↔ (¬ IsRowOf (parts_of plan.now) row) }

@@ -21,7 +21,7 @@ pub(crate) fn quote_text(alloc: Global, quote: &Quote) -> Result<Vec<u8>, AllocE
     Ok(text)
 }
 
-/// The same behind a line of the row and what it pays.
+/// The same after a line of the row and what it pays.
 pub(crate) fn explained_text(
     alloc: Global,
     row: u16,
@@ -91,7 +91,7 @@ fn add_number(text: &mut Vec<u8>, words: &[u8], number: u64) -> Result<(), Alloc
     text.extend_from_slice(b"\n")
 }
 
-/// Adds words, the names of rows, each behind a space, or none, and the end of the line.
+/// Adds words, the names of rows, each after a space, or none, and the end of the line.
 fn add_names(text: &mut Vec<u8>, words: &[u8], rows: &[u16]) -> Result<(), AllocError>
     ensures { OnOk result (text.new.items ≡ text.old.items ++ names_line words.now rows.now) }
 {

@@ -30,7 +30,7 @@ pub enum QuoteFault {
     /// There is none.
     #[error("{0}")]
     Quote(NoQuote),
-    /// A write failed, or took none of what it was given: a front of the lines was written.
+    /// A write failed, or took none of what it was given: a prefix of the lines was written.
     #[error("F2 CannotWrite")]
     WriteFailed,
 }
@@ -60,7 +60,7 @@ pub fn write_quote<W: Write>(
     }
 }
 
-/// Writes what a row that the plan refuses has to pay to be taken: the same behind a line `row`, its name, `pays`, and what it
+/// Writes what a row that the plan refuses has to pay to be taken: the same after a line `row`, its name, `pays`, and what it
 /// pays. The plan has to be proved for its own bookings and channels. Faults are those of `explain`, before which nothing is
 /// written, and `WriteFailed`.
 pub fn write_explained<W: Write>(

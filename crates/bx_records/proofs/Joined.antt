@@ -1,4 +1,4 @@
--- Records, line behind line.
+-- Records, line after line.
 use Rattle.std.proofs.Common.{◌≡◌, subst, ◌++◌, ◌+◌, ◌<◌, ◌∷◌, [], ◌∙◌, ap, refl, sym, ℕ, List, Option, length, drop, drop-cons, append_assoc, append-nil, slice_index_or, ap₂, suc, ◌≤◌, arith}
 use Rattle.std.proofs.lemmas.List.{drop_all}
 use Rattle.bx_calendar.specs.declared.clock.Clock.{Clock}
@@ -14,11 +14,11 @@ joined a b c d e f g h p1 p2 p3 p4 p5 p6 p7 e1 e2 e3 e4 e5 e6 e7 = rw (e7, e6, e
 pub line_more : (clock : Option Clock) (entries : List Entry) (k : ℕ) (entry : Entry) (text new line : List ℕ) → drop k entries ≡ entry ∷ drop (k + 1) entries → IsRecord clock entry line → new ≡ text ++ line
     → ((rest : List ℕ) → AreRecords clock (drop k entries) rest → IsRecordsText clock entries (text ++ rest))
     → (rest : List ℕ) → AreRecords clock (drop (k + 1) entries) rest → IsRecordsText clock entries (new ++ rest)
-line_more clock entries k entry text new line cut is more before rest behind =
+line_more clock entries k entry text new line cut is more before rest following =
     subst (IsRecordsText clock entries) (sym (ap (λ (n : List ℕ). n ++ rest) more ∙ append_assoc text line rest))
-    (before (line ++ rest) (subst (λ (es : List Entry). AreRecords clock es (line ++ rest)) (sym cut) (line, rest, is, behind, refl)))
+    (before (line ++ rest) (subst (λ (es : List Entry). AreRecords clock es (line ++ rest)) (sym cut) (line, rest, is, following, refl)))
 
--- the entry of an index, and those behind it
+-- the entry of an index, and those after it
 pub entries_from : (entries : List Entry) (k : ℕ) (entry : Entry) → entry ≡ slice_index_or entries k entry → k < length entries → drop k entries ≡ entry ∷ drop (k + 1) entries
 entries_from entries k entry is lt = drop-cons entries k entry lt ∙ ap₂ (λ (e : Entry) (n : ℕ). e ∷ drop n entries) (sym is) (let q : suc k ≡ k + 1 = omega arith in q)
 

@@ -89,6 +89,6 @@ abbrev pub AreRecords : Option Clock → List Entry → List ℕ → Type 0
 AreRecords clock [] text = text ≡ []
 AreRecords clock (e ∷ es) text = (line rest : List ℕ) × IsRecord clock e line × AreRecords clock es rest × (text ≡ line ++ rest)
 
--- behind the header
+-- after the header
 abbrev pub IsRecordsText : Option Clock → List Entry → List ℕ → Type 0
 IsRecordsText clock entries text = (lines : List ℕ) × AreRecords clock entries lines × (text ≡ header ++ lines)

@@ -20,7 +20,7 @@ abbrev pub IsBeyond : Option Clock → Type 0
 IsBeyond None = ⊥
 IsBeyond (Some clock) = (moment : ℕ) × ¬ IsTimestampNanos ((clock_start clock +ℤ pos moment) *ℤ pos 1_000_000_000)
 
--- each refusal: nothing was written, or the output failed behind a front of the records
+-- each refusal: nothing was written, or the output failed after a prefix of the records
 abbrev pub IsRecordsRefusal : Option Clock → List Entry → Writing → RecordsFault → Type 0
 IsRecordsRefusal clock entries output OutOfRange = IsBeyond clock × KeepsOutput output
 IsRecordsRefusal clock entries output WriteFailed = (output.is_faulted ≡ true) × ((text : List ℕ) × IsRecordsText clock entries text × AppendsPrefix output.before output.after text)

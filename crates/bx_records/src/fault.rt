@@ -6,13 +6,13 @@ use thiserror::Error;
 /// The refusal to write records.
 #[derive(Clone, Copy, Debug, PartialEq, Eq, Error)]
 pub enum RecordsFault {
-    /// A moment of the day lies behind the last that `jiff` can name, 9999-12-30T22:00:00Z.
+    /// A moment of the day lies after the last that `jiff` can name, 9999-12-30T22:00:00Z.
     #[error("A3 OutOfRange")]
     OutOfRange,
-    /// A write failed, or took none of what it was given: a front of the records was written.
+    /// A write failed, or took none of what it was given: a prefix of the records was written.
     #[error("F2 CannotWrite")]
     WriteFailed,
-    /// A growth was refused.
+    /// Memory ran out.
     #[error("Memory")]
     Memory,
 }

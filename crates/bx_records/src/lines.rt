@@ -13,7 +13,7 @@ use bx_day::Entry;
 use bx_text::append_decimal;
 use std::alloc::{AllocError, Global};
 
-/// Appends what is paid and what became of it, each with a comma behind it.
+/// Appends what is paid and what became of it, each with a comma after it.
 fn put_outcome(text: &mut Vec<u8>, entry: &Entry) -> Result<(), AllocError>
     ensures { OnOk result (text.new.items ≡ text.old.items ++ (decimal entry.now.booking.pay ++ 44 ∷ outcome_word entry.now.standing ++ 44 ∷ [])) }
 {

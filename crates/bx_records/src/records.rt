@@ -48,7 +48,7 @@ pub(crate) fn active_until(standing: &Standing) -> Option<u32>
     }
 }
 
-/// Appends the row, the direction, the number and the channel, each with a comma behind it.
+/// Appends the row, the direction, the number and the channel, each with a comma after it.
 pub(crate) fn put_booked(text: &mut Vec<u8>, entry: &Entry) -> Result<(), AllocError>
     ensures { OnOk result (text.new.items ≡ text.old.items ++ booked_text entry.now) }
 {

@@ -71,13 +71,13 @@ fn line_of(totals: Totals) -> Line
 }
 
 /// Writes one line of totals: `carried C of A accepted, paid P of T`, where C of the A bookings that the plan accepts were carried,
-/// these pay P, and all A pay T. At `WriteFailed` the writer is faulted, and a front of the line was written.
+/// these pay P, and all A pay T. At `WriteFailed` the writer is faulted, and a prefix of the line was written.
 pub fn write_totals<W: Write>(
     exchange: &Exchange,
     output: &mut Watched<W>,
 ) -> Result<(), WriteFailed>
     ensures done { OnOk result (Appends (W.contents (device_of output.old)) (W.contents (device_of output.new)) (totals_text exchange.now.entries)) }
-    ensures front { OnErr result (AppendsPrefix (W.contents (device_of output.old)) (W.contents (device_of output.new)) (totals_text exchange.now.entries)) }
+    ensures prefix { OnErr result (AppendsPrefix (W.contents (device_of output.old)) (W.contents (device_of output.new)) (totals_text exchange.now.entries)) }
     ensures failed { OnErr result (IsTrue (is_faulted output.new)) }
 {
     // Read for the prover alone, which learns a limit from it.

@@ -15,7 +15,7 @@ use std::io::Write;
 /// Writes the records of the day as CSV: a header, and a line for each booking in the order of the plan's rows, with its
 /// row, direction, number, channel, start, end, pay, what became of it, and where its call was Active from when until when,
 /// and for how many seconds. Moments are seconds of the day, or with a clock local times of its zone. At `OutOfRange`, where `jiff`
-/// cannot name such a time, and at `Memory` nothing was written; at `WriteFailed` a front of the records was.
+/// cannot name such a time, and at `Memory` nothing was written; at `WriteFailed` a prefix of the records was.
 pub fn write_records<W: Write>(
     alloc: Global,
     exchange: &Exchange,

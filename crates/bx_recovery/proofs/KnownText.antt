@@ -1,4 +1,4 @@
--- What was read of a device that tells its octets is its text, or a front of it.
+-- What was read of a device that tells its octets is its text, or a prefix of it.
 use Rattle.std.proofs.Common.{◌≡◌, ◌≤◌, ℕ, Bool, List, [], ◌++◌, length, take, Option, Some, None, Result, Ok, Err, refl, ap, sym, ◌∙◌, subst, append_assoc}
 use Rattle.std.proofs.lemmas.List.{append-nil}
 use Rattle.std.specs.Io.KnownBytes.{Consumes, IsAtEnd}
@@ -13,9 +13,9 @@ use Rattle.bx_journal.specs.Reading.{Recovery, recovered, journal_in, with_whole
 use Rattle.bx_journal.specs.Lines.{whole_text}
 use Rattle.bx_journal.specs.Follows.{WasRefused, IsFollowed}
 use Rattle.bx_journal.specs.Heads.{IsWanted}
-use Rattle.bx_journal.specs.Recording.{IsFront}
+use Rattle.bx_journal.specs.Recording.{IsPrefix}
 use Rattle.bx_journal.proofs.OneText.{with_less}
-use Rattle.bx_recovery.specs.Recovered.{goes_on, IsDayBefore, IsRecovered, IsFrontDay}
+use Rattle.bx_recovery.specs.Recovered.{goes_on, IsDayBefore, IsRecovered, IsPrefixDay}
 
 pub record Splits (text read : List ℕ) : Type 0 where
   pub rest : List ℕ
@@ -47,7 +47,7 @@ module _ (wanted : Wanted) (text : List ℕ) (after : Option (List ℕ)) (old ne
   known faulted (Err NotBegun) r = (ap (recovered wanted) (whole text r.text after r.consumed r.at_end) ∙ r.is, r.followed_none)
   known faulted (Err ReadFailed) r =
       let s = splits text (r.read ++ r.held) after r.consumed in
-      record { front = r.read; rest = r.held ++ s.rest; splits = s.is ∙ append_assoc r.read r.held s.rest; events = r.events; is = r.is; day = r.followed_all }
+      record { prefix = r.read; rest = r.held ++ s.rest; splits = s.is ∙ append_assoc r.read r.held s.rest; events = r.events; is = r.is; day = r.followed_all }
 
 pub day_known : (wanted : Wanted) (text : List ℕ) (before after : Option (List ℕ)) (old new : Day) (faulted : Bool) (result : Result ℕ JournalFault) → before ≡ Some text → IsFollowed goes_on faulted before after wanted old new result → IsRecovered wanted text old new result
 day_known wanted text before after old new faulted result is r = known wanted text after old new faulted result (subst (λ (b : Option (List ℕ)). IsFollowed goes_on faulted b after wanted old new result) is r)
@@ -66,23 +66,23 @@ not_both : (xs : List LiveEvent) (f : JournalFault) (r : Result (List LiveEvent)
 not_both xs f r a b = absurd cc
 
 -- what a crash left, as it is read where this is wanted
-abbrev IsFrontOf : Wanted → List LiveEvent → List LiveEvent → List ℕ → Type 0
-IsFrontOf wanted before more text = (n : ℕ) × (n ≤ length more) × (recovered wanted text ≡ Ok (before ++ take n more))
+abbrev IsPrefixOf : Wanted → List LiveEvent → List LiveEvent → List ℕ → Type 0
+IsPrefixOf wanted before more text = (n : ℕ) × (n ≤ length more) × (recovered wanted text ≡ Ok (before ++ take n more))
 
-front_by : (wanted : Wanted) (text : List ℕ) (old new : Day) (result : Result ℕ JournalFault) (before more : List LiveEvent) → IsRecovered wanted text old new result → IsFrontOf wanted before more text → IsFrontDay before more old new result
-front_by wanted text old new (Ok n) before more r f =
+prefix_by : (wanted : Wanted) (text : List ℕ) (old new : Day) (result : Result ℕ JournalFault) (before more : List LiveEvent) → IsRecovered wanted text old new result → IsPrefixOf wanted before more text → IsPrefixDay before more old new result
+prefix_by wanted text old new (Ok n) before more r f =
     let events = the_events (length (whole_text text)) n (recovered wanted text) r.events r.is in
     (f.0, f.1, r.day ∙ ap (λ (es : List LiveEvent). live_day_after es old) (ok_events r.events (before ++ take f.0 more) (recovered wanted text) events f.2))
-front_by wanted text old new (Err (BadLine n)) before more r f = absurd (not_both _ (BadLine n) (recovered wanted text) f.2 r.is)
-front_by wanted text old new (Err OtherPlan) before more r f = absurd (not_both _ OtherPlan (recovered wanted text) f.2 r.is)
-front_by wanted text old new (Err OtherDay) before more r f = absurd (not_both _ OtherDay (recovered wanted text) f.2 r.is)
-front_by wanted text old new (Err OtherRules) before more r f = absurd (not_both _ OtherRules (recovered wanted text) f.2 r.is)
-front_by wanted text old new (Err NotBegun) before more r f = absurd (not_both _ NotBegun (recovered wanted text) f.2 r.0)
-front_by wanted text old new (Err ReadFailed) before more r f = refl
+prefix_by wanted text old new (Err (BadLine n)) before more r f = absurd (not_both _ (BadLine n) (recovered wanted text) f.2 r.is)
+prefix_by wanted text old new (Err OtherPlan) before more r f = absurd (not_both _ OtherPlan (recovered wanted text) f.2 r.is)
+prefix_by wanted text old new (Err OtherDay) before more r f = absurd (not_both _ OtherDay (recovered wanted text) f.2 r.is)
+prefix_by wanted text old new (Err OtherRules) before more r f = absurd (not_both _ OtherRules (recovered wanted text) f.2 r.is)
+prefix_by wanted text old new (Err NotBegun) before more r f = absurd (not_both _ NotBegun (recovered wanted text) f.2 r.0)
+prefix_by wanted text old new (Err ReadFailed) before more r f = refl
 
 -- of the journal of a head that is wanted
-pub front_day : (wanted : Wanted) (head : Head) (text : List ℕ) (old new : Day) (result : Result ℕ JournalFault) (before more : List LiveEvent) → IsWanted wanted head → IsRecovered wanted text old new result → IsFront head before more text → IsFrontDay before more old new result
-front_day wanted head text old new result before more is r f = front_by wanted text old new result before more r (f.0, f.1, with_less head wanted text (before ++ take f.0 more) is f.2)
+pub prefix_day : (wanted : Wanted) (head : Head) (text : List ℕ) (old new : Day) (result : Result ℕ JournalFault) (before more : List LiveEvent) → IsWanted wanted head → IsRecovered wanted text old new result → IsPrefix head before more text → IsPrefixDay before more old new result
+prefix_day wanted head text old new result before more is r f = prefix_by wanted text old new result before more r (f.0, f.1, with_less head wanted text (before ++ take f.0 more) is f.2)
 
 -- what a follower has followed, said of its day
 module _ {F : Type 0} (followed : F → List LiveEvent → F → Type 0) (day : F → Day) (goes : (f g : F) (events : List LiveEvent) → followed f events g → goes_on (day f) events (day g))

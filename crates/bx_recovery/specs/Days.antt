@@ -1,4 +1,4 @@
--- Private: Days one behind another.
+-- Private: Days one after another.
 use Rattle.std.specs.Prelude.{◌≡◌, List, [], ◌∷◌, ◌++◌}
 use Rattle.std.proofs.Common.{refl, sym, ap, ◌∙◌}
 use Rattle.bx_events.specs.Events.{LiveEvent}

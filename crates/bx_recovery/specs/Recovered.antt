@@ -23,13 +23,13 @@ pub record IsDayBefore (wanted : Wanted) (text : List ℕ) (old new : Day) (faul
   pub is : recovered wanted text ≡ Err fault
   pub day : new ≡ live_day_after (events_before wanted text) old
 
--- the day after the events of a front of this text, which has no fault but that it may end inside its head
-pub record IsDayOfFront (wanted : Wanted) (text : List ℕ) (old new : Day) : Type 0 where
-  pub front : List ℕ
+-- the day after the events of a prefix of this text, which has no fault but that it may end inside its head
+pub record IsDayOfPrefix (wanted : Wanted) (text : List ℕ) (old new : Day) : Type 0 where
+  pub prefix : List ℕ
   pub rest : List ℕ
-  pub splits : text ≡ front ++ rest
+  pub splits : text ≡ prefix ++ rest
   pub events : List LiveEvent
-  pub is : (recovered wanted front ≡ Ok events) ⊎ ((recovered wanted front ≡ Err NotBegun) × (events ≡ []))
+  pub is : (recovered wanted prefix ≡ Ok events) ⊎ ((recovered wanted prefix ≡ Err NotBegun) × (events ≡ []))
   pub day : new ≡ live_day_after events old
 
 abbrev pub IsRecovered : Wanted → List ℕ → Day → Day → Result ℕ JournalFault → Type 0
@@ -39,9 +39,9 @@ IsRecovered wanted text old new (Err OtherPlan) = IsDayBefore wanted text old ne
 IsRecovered wanted text old new (Err OtherDay) = IsDayBefore wanted text old new OtherDay
 IsRecovered wanted text old new (Err OtherRules) = IsDayBefore wanted text old new OtherRules
 IsRecovered wanted text old new (Err NotBegun) = (recovered wanted text ≡ Err NotBegun) × (new ≡ old)
-IsRecovered wanted text old new (Err ReadFailed) = IsDayOfFront wanted text old new
+IsRecovered wanted text old new (Err ReadFailed) = IsDayOfPrefix wanted text old new
 
--- after a crash while more events were put on record behind those before: the day after all before, and a front of the others
-abbrev pub IsFrontDay : List LiveEvent → List LiveEvent → Day → Day → Result ℕ JournalFault → Type 0
-IsFrontDay before more old new (Ok whole) = (n : ℕ) × (n ≤ length more) × (new ≡ live_day_after (before ++ take n more) old)
-IsFrontDay before more old new (Err fault) = fault ≡ ReadFailed
+-- after a crash while more events were logged after those before: the day after all before, and a prefix of the others
+abbrev pub IsPrefixDay : List LiveEvent → List LiveEvent → Day → Day → Result ℕ JournalFault → Type 0
+IsPrefixDay before more old new (Ok whole) = (n : ℕ) × (n ≤ length more) × (new ≡ live_day_after (before ++ take n more) old)
+IsPrefixDay before more old new (Err fault) = fault ≡ ReadFailed

@@ -23,7 +23,7 @@ pub struct Replayed {
 }
 
 /// The day of a plan over these events, from its opening. The plan's channels carry its accepted bookings, as those of a
-/// checked plan do. `AllocError` where a growth was refused.
+/// checked plan do. `AllocError` where memory ran out.
 pub fn replay(alloc: Global, plan: &Plan, events: &[Event<'_>]) -> Result<Replayed, AllocError>
     requires { Carries plan.now.bookings plan.now.channels (is_accepted plan.now.assigned.items) (channel_at plan.now.assigned.items) }
     ensures exchange { IfOk result (λ r. r.exchange ≡ day_after (map event_of events.now) (opening plan.now.bookings plan.now.assigned.items)) }
@@ -37,7 +37,7 @@ pub fn replay(alloc: Global, plan: &Plan, events: &[Event<'_>]) -> Result<Replay
     Ok(Replayed { exchange, sent })
 }
 
-/// An event, whose messages go behind those that were sent.
+/// An event, whose messages go after those that were sent.
 fn happen(
     exchange: &mut Exchange,
     event: Event<'_>,

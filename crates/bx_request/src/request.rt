@@ -116,7 +116,7 @@ pub enum Peer<'a> {
 pub struct RehearsalRequest<'a> {
     pub plan: &'a str,
     pub peer: Peer<'a>,
-    /// The file of its journal, where what happens is to go on record. It may not hold one.
+    /// The file of its journal, where what happens is to be logged. It may not hold one.
     pub journal: Option<&'a str>,
     pub turns: Option<u32>,
     pub records: Option<RecordsWords<'a>>,
@@ -162,7 +162,7 @@ pub struct LiveRequest<'a> {
     pub hours: DayHours<'a>,
     /// The file of its journal, where one is kept.
     pub journal: Option<&'a str>,
-    /// Where its booking office listens, where there is one. Nothing is sold off the record, so there is one only beside a journal.
+    /// Where its booking office listens, where there is one. Nothing is sold outside the journal, so there is one only beside a journal.
     pub office: Option<Place<'a>>,
     pub turns: Option<u32>,
     pub is_quiet: bool,

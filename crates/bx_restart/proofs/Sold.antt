@@ -22,7 +22,7 @@ module _ (a b : Selling) (channels : b.channels ≡ a.channels) where
 
   pub not_sold : (line : List ℕ) (fault : SaleFault) → a.sale ≡ None → b.sale ≡ Some fault → b.exchange ≡ a.exchange → IsBadSale a.channels line a.exchange fault → IsAfter a (Sold line ∷ []) b
   not_sold line fault none is same why = after (Sold line ∷ []) none (subst (λ (s : Option SaleFault). GoesFrom (day_goes a.channels) (λ (d : Day). d) a.channels None a.exchange (Sold line ∷ []) b.exchange s) (sym is) (record {
-    sale = record { before = []; line = line; behind = []; are = refl };
+    sale = record { before = []; line = line; following = []; are = refl };
     went = same;
     why = subst (λ (d : Day). IsBadSale a.channels line d fault) (sym same) why;
   }))

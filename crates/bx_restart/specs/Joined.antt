@@ -1,4 +1,4 @@
--- Events and sales one behind another.
+-- Events and sales one after another.
 use Rattle.std.specs.Prelude.{Bool, List, [], ◌∷◌, ◌++◌, Option, Some, None}
 use Rattle.std.proofs.Common.{refl, sym, ap, ◌∙◌, subst, append_assoc}
 use Rattle.bx_day.specs.Day.{Day}
@@ -19,7 +19,7 @@ module _ {S : Type 0} (goes : S → List LiveEvent → S → Type 0) (day : S �
   module _ (more : (s t u : S) (xs ys : List LiveEvent) → goes s xs t → goes t ys u → goes s (xs ++ ys) u) where
     later_stop : (s t u : S) (xs ys : List LiveEvent) (fault : SaleFault) → goes s xs t → IsStopped goes day channels t ys u fault → IsStopped goes day channels s (xs ++ ys) u fault
     later_stop s t u xs ys fault went stop = record {
-      sale = record { before = xs ++ stop.sale.before; line = stop.sale.line; behind = stop.sale.behind; are = ap (λ (l : List LiveEvent). xs ++ l) stop.sale.are ∙ sym (append_assoc xs stop.sale.before (Sold stop.sale.line ∷ stop.sale.behind)) };
+      sale = record { before = xs ++ stop.sale.before; line = stop.sale.line; following = stop.sale.following; are = ap (λ (l : List LiveEvent). xs ++ l) stop.sale.are ∙ sym (append_assoc xs stop.sale.before (Sold stop.sale.line ∷ stop.sale.following)) };
       went = more s t u xs stop.sale.before went stop.went;
       why = stop.why;
     }
@@ -30,7 +30,7 @@ module _ {S : Type 0} (goes : S → List LiveEvent → S → Type 0) (day : S �
     from_here s t u xs ys (Some fault) b stop (same, still) =
         subst (λ (x : Option SaleFault). Goes goes day channels s (xs ++ ys) u x) (sym still)
         (subst (λ (x : S). IsStopped goes day channels s (xs ++ ys) x fault) (sym same) (record {
-          sale = record { before = stop.sale.before; line = stop.sale.line; behind = stop.sale.behind ++ ys; are = ap (λ (l : List LiveEvent). l ++ ys) stop.sale.are ∙ append_assoc stop.sale.before (Sold stop.sale.line ∷ stop.sale.behind) ys };
+          sale = record { before = stop.sale.before; line = stop.sale.line; following = stop.sale.following ++ ys; are = ap (λ (l : List LiveEvent). l ++ ys) stop.sale.are ∙ append_assoc stop.sale.before (Sold stop.sale.line ∷ stop.sale.following) ys };
           went = stop.went;
           why = stop.why;
         }))

@@ -1,4 +1,4 @@
--- Sales that are on record, and what may be wrong with one.
+-- Sales that are logged, and what may be wrong with one.
 use Rattle.std.specs.Prelude.{◌≡◌, ◌≤◌, ℕ, Bool, List, ◌∷◌, ◌++◌, length, Option, Some, None}
 use Rattle.bx_base.specs.Bookings.{Row}
 use Rattle.bx_base.specs.declared.bookings.TheConstants.{MAX_BOOKINGS}
@@ -15,8 +15,8 @@ use Rattle.bx_restart.specs.declared.reselling.SaleFault.TheVariants.{BadSale, L
 pub record SaleIn (events : List LiveEvent) : Type 0 where
   pub before : List LiveEvent
   pub line : List ℕ
-  pub behind : List LiveEvent
-  pub are : events ≡ before ++ Sold line ∷ behind
+  pub following : List LiveEvent
+  pub are : events ≡ before ++ Sold line ∷ following
 
 -- why this booking is not sold on this day
 abbrev pub IsNoSale : List Bool → Row → Day → SaleFault → Type 0

@@ -1,4 +1,4 @@
-//! A sale that is on record.
+//! A sale that is logged.
 
 ghost use Rattle.std.specs.Prelude.{◌≡◌, OnOk, OnErr, IfErr};
 ghost use Rattle.bx_planfile.specs.OneBooking.{row_on};
@@ -12,7 +12,7 @@ use bx_sales::{NoSale, sell};
 use std::alloc::Global;
 use thiserror::Error;
 
-/// Why a sale that is on record is none of the day.
+/// Why a sale that is logged is none of the day.
 #[derive(Clone, Copy, Debug, PartialEq, Eq, Error)]
 pub enum SaleFault {
     /// Its line tells no booking.
@@ -30,7 +30,7 @@ pub enum SaleFault {
     /// The plan is not first fit, and a booking that had started would have got another channel.
     #[error("J13 OtherChannels")]
     OtherChannels,
-    /// A growth was refused.
+    /// Memory ran out.
     #[error("Memory")]
     Memory,
 }

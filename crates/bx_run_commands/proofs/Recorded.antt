@@ -1,4 +1,4 @@
--- What the journal of a rehearsal has behind the day.
+-- What the journal of a rehearsal has after the day.
 use Rattle.std.proofs.Common.{◌≡◌, ℕ, zero, suc, ◌+◌, ◌==◌, Bool, true, false, if◌then◌else◌, is_some, List, [], ◌∷◌, ◌++◌, Option, Some, None, Result, Ok, refl, sym, subst}
 use Rattle.arrayvec.specs.ArrayVec.{ArrayVec}
 use Rattle.bx_day.specs.Day.{Day}
@@ -140,7 +140,7 @@ over_of p e (Read room answer ∷ acts) kept (due, goes) = absurd (goes_on p (Re
 over_of p e (Took message ∷ acts) kept (due, goes) = absurd (goes_on p (Took message) due (over_of (next p (Took message)) e acts kept goes))
 over_of p e (EndedDay ∷ acts) kept (due, goes) = absurd (goes_on p EndedDay due (over_of (next p EndedDay) e acts kept goes))
 
--- ---- what a disk holds behind acts, all of which went well
+-- ---- what a disk holds after acts, all of which went well
 
 module _ {D : Type 0} (holds may_leave : D → List ℕ → Type 0) (moment : D → ℕ) (left_since : D → ℕ → List ℕ → Type 0) (has_failed : D → Bool) (head : Head) where
   abbrev Step : D → Act → D → Type 0
@@ -195,7 +195,7 @@ module _ {D : Type 0} (holds may_leave : D → List ℕ → Type 0) (has_failed 
       let (last, is, onto) = kept_on (waiting_holds holds) no_crash no_moment none_left (waiting_failed has_failed) first p acts chain in
       put_away (recorded acts) disk last p closed is away (λ dated empty. held_whole (waiting_holds holds) no_crash no_moment none_left (waiting_failed has_failed) head acts first last d e run onto (begun dated empty))
 
-  -- ---- what can't be put on record, or away, is kept
+  -- ---- what can't be logged, or away, is kept
 
   -- a run that is over before its end has a journal
   pub stopped_kept : (disk : Option D) (o p : Option (WaitingDisk D)) (acts : List Act) (d e : Day) → HasBegun holds head disk o → Chain Kept o acts p → IsRun (Between d) acts (Over e) → is_some disk ≡ true

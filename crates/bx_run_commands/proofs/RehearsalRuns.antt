@@ -1,4 +1,4 @@
--- A world behind a rehearsal.
+-- A world after a rehearsal.
 use Rattle.std.proofs.Common.{◌≡◌, ◌∙◌, ℕ, Bool, true, is_some, List, Option, None, Result, Ok, Err, OnErr, refl}
 use Rattle.bx_day.specs.Day.{Day}
 use Rattle.bx_devices.specs.declared.watched.Watched.{Watched}

@@ -21,7 +21,7 @@ pub if_err : {T E : Type 0} (r : Result T E) (P Q : E → Type 0) → ((e : E) �
 if_err (Ok v) P Q f p = tt
 if_err (Err e) P Q f p = f e p
 
--- a run that could be put on record
+-- a run that could be logged
 module _ {W F : Type 0} (did : W → List Act → W → Type 0) (contents : F → Option (List ℕ)) where
   pub whole_run : (old new : W) (turns : ℕ) (from to : Day) (done : Result (Unit {0}) CannotRecord) (file : Option (Watched F)) (first : ℕ) (is_whole : Bool) → done ≡ Ok tt → (r : RunsIn did old new turns from to done contents file first is_whole) → IsWholeRun turns from to r.ran.acts
   whole_run old new turns from to done file first is_whole is r = record {

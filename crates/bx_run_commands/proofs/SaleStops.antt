@@ -62,7 +62,7 @@ module _ (channels : List Bool) where
   over_none d (Answered answers ∷ deals) to (mid, goes, rest) = absurd goes
   over_none d (act ∷ deals) to (mid, (due, same), rest) = absurd due
 
-  -- what cannot be put on record, or on the disk, is the last act
+  -- what cannot be logged, or on the disk, is the last act
   fails_at : (p : Stand) (act : Act) (to : Stand) → Goes channels p (Ran act) to → Fails act to
   fails_at (Within p) act to (due, same) = fails_within p act to (stops p act due) same
   fails_at (Filing shown d batch sold) (Recorded (Sold line) false) to goes = (d, goes)
@@ -73,7 +73,7 @@ module _ (channels : List Bool) where
   fails_at (Telling shown d batch sold) (Synced false) to goes = absurd goes
   fails_at p act to goes = tt
 
-  -- behind any other the run goes on
+  -- after any other the run goes on
   goes_on_at : (p : Stand) (act : Act) (to : Stand) → Goes channels p (Ran act) to → GoesOnAt act to
   goes_on_at (Within p) act to (due, same) = on_within p act to (goes_on p act due) same
   goes_on_at (Filing shown d batch sold) (Recorded (Sold line) true) to (d1, is, same) = λ over. subst IsOverAt same over

@@ -14,7 +14,7 @@ use Rattle.bx_request.specs.declared.request.RehearsalRequest.{RehearsalRequest}
 use Rattle.bx_run_commands.specs.RehearsedDays.{RehearsalWith, IsRehearsedDay, IsRehearsalTold}
 use Rattle.bx_run_commands.specs.NewJournals.{HasNoNewJournal}
 use Rattle.bx_run_commands.specs.ReadyInside.{IsLostBy}
-use Rattle.bx_run_commands.specs.RehearsalRefusals.{IsNoPeer, IsUnmet, StopsBehindPeer, StopsRehearsal, IsRehearsalRefusal}
+use Rattle.bx_run_commands.specs.RehearsalRefusals.{IsNoPeer, IsUnmet, StopsAfterPeer, StopsRehearsal, IsRehearsalRefusal}
 use Rattle.bx_run_commands.specs.Telling.{IsToldWhole, IsNotToldWhole}
 use Rattle.bx_run_commands.specs.JournalDisks.{JournalDisk}
 use Rattle.bx_run_commands.specs.declared.fault.LiveFault.{LiveFault}
@@ -67,19 +67,19 @@ no_journal None none = none
 no_journal (Some name) none = none
 
 module _ {F : Type 0} (files : F → Option (List ℕ)) (request : RehearsalRequest) where
-  behind_writes : (peer : Peer) → StopsBehindPeer files peer request (OfDay (Command commands.CannotWrite)) → ⊥
-  behind_writes peer (inl journal) = no_journal request.journal journal
-  behind_writes peer (inr (inl file)) = file
-  behind_writes peer (inr (inr (inl (has, records)))) = records
-  behind_writes peer (inr (inr (inr (has, there, inl unmet)))) = met peer unmet
-  behind_writes peer (inr (inr (inr (has, there, inr unkept)))) = no_output request.journal unkept
+  after_writes : (peer : Peer) → StopsAfterPeer files peer request (OfDay (Command commands.CannotWrite)) → ⊥
+  after_writes peer (inl journal) = no_journal request.journal journal
+  after_writes peer (inr (inl file)) = file
+  after_writes peer (inr (inr (inl (has, records)))) = records
+  after_writes peer (inr (inr (inr (has, there, inl unmet)))) = met peer unmet
+  after_writes peer (inr (inr (inr (has, there, inr unkept)))) = no_output request.journal unkept
 
   writes : StopsRehearsal files request (OfDay (Command commands.CannotWrite)) → ⊥
   writes (inl (inl first)) = first
   writes (inl (inr (has, clock))) = no_clock request.records clock
   writes (inr (inl (has, clock, plan))) = plan
   writes (inr (inr (inl (has, clock, tied, inl peer)))) = no_peer request.peer peer
-  writes (inr (inr (inl (has, clock, tied, inr (there, behind))))) = behind_writes request.peer behind
+  writes (inr (inr (inl (has, clock, tied, inr (there, following))))) = after_writes request.peer following
   writes (inr (inr (inr lost))) = lost
 
   pub rehearsal_stopped : {W : Type 0} (contents : W → Option (List ℕ)) (output : Watched W) (fault : LiveFault) → StopsRehearsal files request fault → IsRehearsalRefusal files request contents output output fault

@@ -1,4 +1,4 @@
--- Without a journal nothing fails to be put on record.
+-- Without a journal nothing fails to be logged.
 use Rattle.std.proofs.Common.{◌≡◌, ℕ, true, false, List, [], ◌∷◌, Option, Some, None, refl, sym, subst, Bool}
 use Rattle.bx_live.specs.Acts.{Act, Recorded, Synced}
 use Rattle.bx_live_parts.specs.Chains.{Chain, chain_first}
@@ -9,7 +9,7 @@ module _ {D : Type 0} (holds may_leave : D → List ℕ → Type 0) (moment : D 
   abbrev pub Kept : Option D → Act → Option D → Type 0
   Kept = OnRecord holds may_leave moment left_since has_failed
 
-  -- without a journal there is none behind an act
+  -- without a journal there is none after an act
   none_by : (act : Act) (o : Option D) → Kept None act o → o ≡ None
   none_by (Recorded event done) None p = refl
   none_by (Recorded event done) (Some w) p = absurd p

@@ -28,7 +28,7 @@ use Rattle.bx_run_commands.specs.Resuming.{GoesOnBy, IsKeptBy}
 abbrev pub did_on : {H : Type 0} → UdpWire H → List WireAct → UdpWire H → Type 0
 did_on old acts new = Unit {0}
 
--- a booking office stands in front of the day that the words want: nothing is sold off the record, so there is none without a journal
+-- a booking office stands at the day that the words want: nothing is sold outside the journal, so there is none without a journal
 abbrev pub has_office : LiveRequest → Bool
 has_office request = is_some request.office && is_some request.journal
 
@@ -48,7 +48,7 @@ pub record IsAtHand (request : LiveRequest) : Type 0 where
   pub opens : IsFirstFitOpening opened channels digest
 
 -- The day of such a plan after the events and sales of its journal. Where there is a journal it was that of this plan on this day, all of it was read, and
--- what happens is put on record in just this journal.
+-- what happens is logged in just this journal.
 pub record IsGoingOn (H F : Type 0) (request : LiveRequest) : Type 0 where
   pub at_hand : IsAtHand request
   pub resumed : Day
@@ -87,7 +87,7 @@ pub record IsLiveUp {F : Type 0} (H : Type 0) (files : F → Option (List ℕ)) 
   pub last : day.moment ≡ LAST_MOMENT
   pub written : Appends before after (outcomes_text day)
 
--- or a front of it was
+-- or a prefix of it was
 pub record IsLiveCut {F : Type 0} (H : Type 0) (files : F → Option (List ℕ)) (request : LiveRequest) (before after : Option (List ℕ)) : Type 0 where
   pub day : Day
   pub live : IsLiveDay H files request day

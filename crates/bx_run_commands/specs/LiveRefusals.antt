@@ -20,7 +20,7 @@ use Rattle.bx_run_commands.specs.declared.fault.LiveFault.TheVariants.{Day as Of
 abbrev pub IsNoLine : DayCommandFault → Type 0
 IsNoLine fault = IsUnheard fault ⊎ IsUnconnected fault
 
--- nobody can be let in at the office, or a growth is refused
+-- nobody can be let in at the office, or memory runs out
 abbrev pub IsNoOffice : DayCommandFault → Type 0
 IsNoOffice (Command Memory) = Unit {0}
 IsNoOffice fault = IsUnheard fault
@@ -35,7 +35,7 @@ StopsLive H F request fault =
     ⊎ (IsAtHand request × (has_office request ≡ true) × OfOpening IsNoOffice fault)
     ⊎ ((at_hand : IsAtHand request) × (IsNoRecord request.journal (live_head at_hand.digest at_hand.hours) at_hand.channels at_hand.opened fault ⊎ (IsUnrecorded request.journal fault × IsLiveStopped H F request)))
 
--- the output has failed, and a front of what was to be told was; or all of it was told, and calls are up; or the day stopped, and the
+-- the output has failed, and a prefix of what was to be told was; or all of it was told, and calls are up; or the day stopped, and the
 -- output is as it was
 abbrev pub IsLiveRefusal : {F W : Type 0} → Type 0 → (F → Option (List ℕ)) → LiveRequest → (W → Option (List ℕ)) → Watched W → Watched W → LiveFault → Type 0
 IsLiveRefusal H files request contents old new (OfDay (Command CannotWrite)) = (is_faulted new ≡ true) × IsLiveCut H files request (contents (device_of old)) (contents (device_of new))

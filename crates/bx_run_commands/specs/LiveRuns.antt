@@ -15,7 +15,7 @@ use Rattle.bx_live_parts.specs.declared.record.Record.{Record}
 use Rattle.bx_live_parts.specs.declared.schedule.Schedule.{Schedule}
 
 -- A world with the network's end of a data link over this wire, with this schedule and this record, has gone through the acts of a run of a day from
--- here to its end. The day is the one after just the events on record. It has come to its last second, whatever the line did, and has gone on behind it
+-- here to its end. The day is the one after just the logged events. It has come to its last second, whatever the line did, and has gone on after it
 -- only while a call was up: no call is up at its end, or there are no more seconds.
 pub record RunsByLine {W D : Type 0} (did : W → List WireAct → W → Type 0) (holds may_leave : D → List ℕ → Type 0) (moment : D → ℕ) (left_since : D → ℕ → List ℕ → Type 0) (has_failed : D → Bool) (wire : W) (schedule : Schedule) (kept : Record D) (turns : ℕ) (from to : Day) : Type 0 where
   pub acts : List Act
@@ -39,7 +39,7 @@ EndsWithNoEvent (Recorded event false ∷ []) = IsMessage event → ⊥
 EndsWithNoEvent (act ∷ acts) = EndsWithNoEvent acts
 
 -- Such a world has gone through the acts of a run that is over before its end, and why: the disk of its journal has failed, or what came is no event
--- of a journal. Nothing is put on record behind that.
+-- of a journal. Nothing is logged after that.
 pub record StopsByLine {W D : Type 0} (did : W → List WireAct → W → Type 0) (holds may_leave : D → List ℕ → Type 0) (moment : D → ℕ) (left_since : D → ℕ → List ℕ → Type 0) (has_failed : D → Bool) (wire : W) (schedule : Schedule) (kept : Record D) (from : Day) : Type 0 where
   pub acts : List Act
   pub old : LineWorld W D

@@ -13,7 +13,7 @@ IsNotNew name (Ok (suc n)) (NotEmpty named) = named.now ≡ name
 IsNotNew name (Err error) (CannotRecord named) = named.now ≡ name
 IsNotNew name length fault = ⊥
 
--- so it is, or a growth was refused
+-- so it is, or memory ran out
 abbrev pub IsNoNewJournal : List ℕ → Result ℕ Error → LiveFault → Type 0
 IsNoNewJournal name length (OfDay (Command Memory)) = length ≡ Ok 0
 IsNoNewJournal name length fault = IsNotNew name length fault

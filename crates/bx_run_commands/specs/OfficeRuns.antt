@@ -1,4 +1,4 @@
--- A day that was run by the clock, over a data link, with a booking office in front of it.
+-- A day that was run by the clock, over a data link, with a booking office beside it.
 use Rattle.std.specs.Prelude.{◌≡◌, ◌⊎◌, ℕ, Bool, true, false, List, Some}
 use Rattle.bx_day.specs.Day.{Day}
 use Rattle.bx_line_world.specs.Days.{GoesByLine}
@@ -23,9 +23,9 @@ did_at_door did old acts new = DidInside did old.wire acts new.wire
 abbrev pub deals_by_line : {W D : Type 0} → (W → List WireAct → W → Type 0) → (D → List ℕ → Type 0) → (D → List ℕ → Type 0) → (D → ℕ) → (D → ℕ → List ℕ → Type 0) → (D → Bool) → LineWorld (OfficeWire W) D → List Deal → LineWorld (OfficeWire W) D → Type 0
 deals_by_line did holds may_leave moment left_since has_failed old deals new = Chain (GoesByLine (did_at_door did) holds may_leave moment left_since has_failed) old (acts_of deals) new
 
--- A world with the network's end of a data link over this wire, with this schedule and this record, and with a booking office in front of it, has gone
--- through the deals of a run of a day from here to its end: the day went through just the events and sales on record. It has come to its last second,
--- whatever the line did and whoever asked, and has gone on behind it only while a call was up: no call is up at its end, or there are no more seconds.
+-- A world with the network's end of a data link over this wire, with this schedule and this record, and with a booking office beside it, has gone
+-- through the deals of a run of a day from here to its end: the day went through just the logged events and sales. It has come to its last second,
+-- whatever the line did and whoever asked, and has gone on after it only while a call was up: no call is up at its end, or there are no more seconds.
 pub record SellsByLine {W D : Type 0} (did : W → List WireAct → W → Type 0) (holds may_leave : D → List ℕ → Type 0) (moment : D → ℕ) (left_since : D → ℕ → List ℕ → Type 0) (has_failed : D → Bool) (wire : W) (schedule : Schedule) (kept : Record D) (channels : List Bool) (turns : ℕ) (from to : Day) : Type 0 where
   pub old : LineWorld (OfficeWire W) D
   pub new : LineWorld (OfficeWire W) D
@@ -38,7 +38,7 @@ pub record SellsByLine {W D : Type 0} (did : W → List WireAct → W → Type 0
   pub out : IsHeldOut turns to
 
 -- Such a world has gone through the deals of a run that is over before its end, and why: the disk of its journal has failed, or what came is no event
--- of a journal. Nothing is put on record behind that, and nobody is told that something is sold.
+-- of a journal. Nothing is logged after that, and nobody is told that something is sold.
 pub record StopsSelling {W D : Type 0} (did : W → List WireAct → W → Type 0) (holds may_leave : D → List ℕ → Type 0) (moment : D → ℕ) (left_since : D → ℕ → List ℕ → Type 0) (has_failed : D → Bool) (wire : W) (schedule : Schedule) (kept : Record D) (channels : List Bool) (turns : ℕ) (from : Day) : Type 0 where
   pub old : LineWorld (OfficeWire W) D
   pub new : LineWorld (OfficeWire W) D

@@ -15,7 +15,7 @@ OfOpening reason (NotAFile name) = ⊥
 OfOpening reason StillUp = ⊥
 OfOpening reason NotFirstFit = ⊥
 
--- something can't be put on record in the journal of this name
+-- something can't be logged in the journal of this name
 abbrev pub IsUnrecorded : Option (Bor (List ℕ)) → LiveFault → Type 0
 IsUnrecorded (Some name) (CannotRecord named) = named.now ≡ name.now
 IsUnrecorded name fault = ⊥

@@ -45,15 +45,15 @@ IsLost {F = F} files request (OfDay (Link fault)) = (rehearsed : Rehearsed (Jour
 IsLost files request fault = ⊥
 
 -- why a day whose ends are opened stops: what it needs is opened in this order, and what is tested first is answered
-abbrev pub StopsBehindPeer : {F : Type 0} → (F → Option (List ℕ)) → Peer → RehearsalRequest → LiveFault → Type 0
-StopsBehindPeer {F = F} files peer request fault =
+abbrev pub StopsAfterPeer : {F : Type 0} → (F → Option (List ℕ)) → Peer → RehearsalRequest → LiveFault → Type 0
+StopsAfterPeer {F = F} files peer request fault =
     HasNoNewJournal request.journal fault
     ⊎ OfOpening (IsNoFile request.sight.capture) fault
     ⊎ (HasFile files request.sight.capture × OfOpening (IsNoRecordsFile request.records) fault)
     ⊎ (HasFile files request.sight.capture × HasRecordsFile F request.records × (OfOpening (IsUnmet peer) fault ⊎ IsUnrecorded request.journal fault))
 
 abbrev pub StopsAtPeer : {F : Type 0} → (F → Option (List ℕ)) → Peer → RehearsalRequest → LiveFault → Type 0
-StopsAtPeer files peer request fault = OfOpening (IsNoPeer peer) fault ⊎ (HasPeer peer × StopsBehindPeer files peer request fault)
+StopsAtPeer files peer request fault = OfOpening (IsNoPeer peer) fault ⊎ (HasPeer peer × StopsAfterPeer files peer request fault)
 
 -- the date and the zone of the capture name no day that it can have, or those of the records none; the capture's are tested first
 abbrev pub IsUnseen : RehearsalRequest → DayCommandFault → Type 0
@@ -73,7 +73,7 @@ pub record IsRehearsalUnwhole {F : Type 0} (files : F → Option (List ℕ)) (re
   pub told : IsRehearsalTold files request before after is_whole recorded
   pub unkept : OfOpening (IsNotKept request.sight.capture is_whole recorded) fault
 
--- the output has failed, and a front of what was to be told was; or the day stopped, and the output is as it was; or all was told,
+-- the output has failed, and a prefix of what was to be told was; or the day stopped, and the output is as it was; or all was told,
 -- and the file of its capture or of its records was not written whole
 abbrev pub IsRehearsalRefusal : {F W : Type 0} → (F → Option (List ℕ)) → RehearsalRequest → (W → Option (List ℕ)) → Watched W → Watched W → LiveFault → Type 0
 IsRehearsalRefusal files request contents old new (OfDay (Command CannotWrite)) = (is_faulted new ≡ true) × IsRehearsalCut files request (contents (device_of old)) (contents (device_of new))

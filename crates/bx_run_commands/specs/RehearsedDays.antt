@@ -60,7 +60,7 @@ RanWith files (Script script) opened file first rehearsed = (far : FarDay) × Is
 RanWith files (At (Port port)) opened file first rehearsed = RanOver TcpStream files opened file first rehearsed
 RanWith files (At (Socket path)) opened file first rehearsed = RanOver UnixStream files opened file first rehearsed
 
--- The day of a plan that is proved, which was rehearsed with such a peer: each event that happened is on record, and no other, in a journal
+-- The day of a plan that is proved, which was rehearsed with such a peer: each event that happened is logged, and no other, in a journal
 -- that began with the day, where one is named; and its messages are captured, where they are to be.
 pub record RehearsalWith {F : Type 0} (files : F → Option (List ℕ)) (peer : Peer) (request : RehearsalRequest) (rehearsed : Rehearsed (JournalDisk F)) : Type 0 where
   pub opened : Opened (JournalDisk F)
@@ -92,7 +92,7 @@ pub record IsRehearsalTold {F : Type 0} (files : F → Option (List ℕ)) (reque
   pub written : Appends before after (outcomes_text day)
   pub records : AreRecorded files request.records day.entries recorded
 
--- or a front of it was, and all the same just the records of such a day were written, or there is a reason why not
+-- or a prefix of it was, and all the same just the records of such a day were written, or there is a reason why not
 pub record IsRehearsalCut {F : Type 0} (files : F → Option (List ℕ)) (request : RehearsalRequest) (before after : Option (List ℕ)) : Type 0 where
   pub day : Day
   pub is_whole : Bool

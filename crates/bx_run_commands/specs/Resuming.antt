@@ -24,7 +24,7 @@ abbrev pub IsFollowedBy : Head → List Bool → Option (List ℕ) → Day → D
 IsFollowedBy head channels before opened day whole = (faulted : Bool) × (after : Option (List ℕ)) × IsFollowed (day_goes channels) faulted before after (wanted_of head) opened day whole
 
 -- The record is kept on the disk of the journal, which was made ready from what the reading left of it, as it was read: what is torn is
--- cut off, what was on record stays, and one that was not begun begins.
+-- cut off, what was logged stays, and one that was not begun begins.
 pub record IsKeptOn {F : Type 0} (contents : F → Option (List ℕ)) (is_told : Bool) (head : Head) (channels : List Bool) (before : Option (List ℕ)) (opened day : Day) (kept : Record (FileDisk F)) : Type 0 where
   pub whole : Result ℕ JournalFault
   pub followed : IsFollowedBy head channels before opened day whole

@@ -11,8 +11,8 @@ use Rattle.bx_live.specs.Acts.{Act, Began, Wrote, Read, Took}
 use Rattle.bx_world.specs.Captures.{AreFramesOf}
 use Rattle.bx_events.specs.declared.moment.TheConstants.{LAST_MOMENT}
 
--- The packets of the messages of acts, one behind another: of those whose frames were written, and of each that was read or taken. Each has
--- the second that began last, behind the first second; this one did before the acts
+-- The packets of the messages of acts, one after another: of those whose frames were written, and of each that was read or taken. Each has
+-- the second that began last, after the first second; this one did before the acts
 abbrev pub ArePackets : ℕ → ℕ → List Act → List ℕ → Type 0
 ArePackets first second [] packets = packets ≡ []
 ArePackets first second (Began begun begin ∷ acts) packets = ArePackets first (min begun LAST_MOMENT) acts packets

@@ -10,7 +10,7 @@ use Rattle.bx_live.specs.declared.world.CannotRecord.{CannotRecord}
 use Rattle.bx_run_commands.specs.RunCaptures.{IsRunKept}
 use Rattle.bx_events.specs.declared.moment.TheConstants.{LAST_MOMENT}
 
--- a world has gone through the acts of a run to its end, or to where something could not be put on record; and these were captured
+-- a world has gone through the acts of a run to its end, or to where something could not be logged; and these were captured
 pub record RunsIn {W F : Type 0} (did : W → List Act → W → Type 0) (old new : W) (turns : ℕ) (from to : Day) (done : Result (Unit {0}) CannotRecord) (contents : F → Option (List ℕ)) (file : Option (Watched F)) (first : ℕ) (is_whole : Bool) : Type 0 where
   pub ran : Runs did old new (Between from) (or_over (Done to) to done)
   pub after : to ≡ live_day_after (recorded ran.acts) from

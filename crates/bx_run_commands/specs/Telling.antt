@@ -1,4 +1,4 @@
--- What was told of a day behind its end.
+-- What was told of a day after its end.
 use Rattle.std.specs.Prelude.{◌≡◌, ℕ, true, List, Option, Result, Ok}
 use Rattle.std.specs.Io.KnownBytes.{Appends}
 use Rattle.bx_check_commands.specs.declared.fault.CommandFault.TheVariants.{CannotWrite}
@@ -23,7 +23,7 @@ pub record IsToldWhole {F : Type 0} (files : F → Option (List ℕ)) (capture :
   pub told : IsTold files ended output (Ok tt)
   pub kept : IsAllKept capture ended.is_whole (Ok tt)
 
--- a front of what became of the bookings was written, and the records, or not
+-- a prefix of what became of the bookings was written, and the records, or not
 pub record IsCut {F : Type 0} (files : F → Option (List ℕ)) (ended : Ended F) (output : Writing) : Type 0 where
   pub faulted : output.is_faulted ≡ true
   pub written : AppendsPrefix output.before output.after (outcomes_text ended.exchange)

@@ -21,8 +21,8 @@ pub struct Told<'a> {
     pub is_shown: bool,
 }
 
-/// Runs the rest of a day up to a turn of it, and behind that on while a call is up, by the clock, as the network's end of a data link
-/// over the wire. Answers the exchange at the end of the day. `CannotRecord` where an event cannot be put on record, since the journal's disk has
+/// Runs the rest of a day up to a turn of it, and after that on while a call is up, by the clock, as the network's end of a data link
+/// over the wire. Answers the exchange at the end of the day. `CannotRecord` where an event cannot be logged, since the journal's disk has
 /// failed: nothing more is done then.
 pub fn run_by_clock<'a, 'h, H: Clock + Eprint, W: Wire + Drop, D: Disk + Drop>(
     rt: &'h H,

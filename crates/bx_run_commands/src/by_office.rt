@@ -1,4 +1,4 @@
-//! The rest of a day, run by the clock over a data link, with a booking office in front of it.
+//! The rest of a day, run by the clock over a data link, with a booking office beside it.
 
 ghost use Rattle.std.specs.Prelude.{◌≡◌, true, is_some, IfOk, OnErr};
 ghost use Rattle.bx_run_commands.specs.OfficeRuns.{SellsByLine, StopsSelling};
@@ -30,9 +30,9 @@ pub struct Premises {
     pub day: Day,
 }
 
-/// Runs the rest of a day as `run_by_clock` does, and between two seconds answers who stands at the door: what is sold is put on record, and on
+/// Runs the rest of a day as `run_by_clock` does, and between two seconds answers who stands at the door: what is sold is logged, and on
 /// the disk, before its customer is told. Answers the exchange at the end of the day, with all that was sold. `CannotRecord` where something cannot be
-/// put on record, since the journal's disk has failed: nothing more is done or told then.
+/// logged, since the journal's disk has failed: nothing more is done or told then.
 pub fn run_with_office<'a, 'h, H: Clock + Eprint + AllocGlobal, W: Wire + Drop, D: Disk + Drop>(
     rt: &'h H,
     resumed: Resumed<D>,

@@ -1,4 +1,4 @@
-//! Why a day that is on record was not run to its end.
+//! Why a day that is logged was not run to its end.
 
 ghost use Rattle.std.specs.Prelude.{◌≡◌, true, is_some};
 ghost use Rattle.bx_run_commands.specs.OpeningFaults.{IsUnrecorded};
@@ -6,7 +6,7 @@ ghost use Rattle.bx_run_commands.specs.OpeningFaults.{IsUnrecorded};
 use bx_day_openings::DayCommandFault;
 use thiserror::Error;
 
-/// The refusal of a command that runs a day with what happens on record.
+/// The refusal of a command that runs a day with what happens logged.
 #[derive(Clone, Copy, Debug, PartialEq, Eq, Error)]
 pub enum LiveFault<'a> {
     /// What is needed was not opened, or the day was not told.
@@ -43,7 +43,7 @@ impl<'a> From<DayCommandFault<'a>> for LiveFault<'a> {
     }
 }
 
-/// The fault by which something cannot be put on record in a journal that is kept.
+/// The fault by which something cannot be logged in a journal that is kept.
 pub(crate) fn unrecorded<'a>(journal: Option<&'a str>) -> LiveFault<'a>
     requires { is_some journal ≡ true }
     ensures { IsUnrecorded journal.entry result }

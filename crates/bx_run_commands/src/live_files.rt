@@ -63,7 +63,7 @@ fn live_opening<'a, I: Inputs>(
     }
 }
 
-/// Runs the rest of a day over a wire, with an office in front of it where one is opened.
+/// Runs the rest of a day over a wire, with an office beside it where one is opened.
 fn run_rest<'a, 'h, H: Clock + Eprint + AllocGlobal, W: Wire + Drop, D: Disk + Drop>(
     rt: &'h H,
     resumed: Resumed<D>,
@@ -133,7 +133,7 @@ fn run_live_day<'a, H: Host, I: Inputs>(
 }
 
 /// Runs the exchange's end of the day of a plan by the clock, as the network's end of a data link over UDP, from where its journal has
-/// left it, with a booking office in front of it where one is asked for; tells each fault of the link and each late second on standard error, and its moment on a terminal alone; and writes what
+/// left it, with a booking office beside it where one is asked for; tells each fault of the link and each late second on standard error, and its moment on a terminal alone; and writes what
 /// became of each booking. What a capture and records are made of stands in the journal.
 ///
 /// What the day needs is opened in this order, and the first fault of it is answered: `Day` or `Capture` for the date and the zone;
@@ -141,8 +141,8 @@ fn run_live_day<'a, H: Host, I: Inputs>(
 /// others of these as `LiveFault::Day`; for the journal
 /// `CannotRecord` where it cannot be opened, `NotAFile` where it is no plain file, `InUse` where another program writes it,
 /// `LiveFault::Day`, as `Sale`, `Journal` (`BadLine`, `OtherPlan`, `OtherDay` or `OtherRules`) or `Command` (`CannotRead`), where it is none
-/// of this day, and `CannotRecord` where it cannot be made ready. `CannotRecord` is also answered where an event cannot be put on record.
-/// At each of these nothing was written. `LiveFault::Day`, as `Command` (`CannotWrite`), is the fault of the output, of which a front was
+/// of this day, and `CannotRecord` where it cannot be made ready. `CannotRecord` is also answered where an event cannot be logged.
+/// At each of these nothing was written. `LiveFault::Day`, as `Command` (`CannotWrite`), is the fault of the output, of which a prefix was
 /// written then. `StillUp` where the day has no more seconds, and a call is up: all of it was written then.
 pub fn live_on_files<'a, H: Host, I: Inputs, W: Write>(
     rt: &'a H,

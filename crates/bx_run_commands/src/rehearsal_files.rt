@@ -10,7 +10,7 @@ ghost use Rattle.bx_run_commands.specs.OpeningFaults.{IsUnrecorded};
 ghost use Rattle.bx_run_commands.specs.Rehearsals.{RehearsesTowards};
 ghost use Rattle.bx_run_commands.specs.ReadyInside.{IsReadied, IsNotReadied, IsEnded, IsLostBy};
 ghost use Rattle.bx_run_commands.specs.RehearsedDays.{RehearsalWith, IsRehearsal, IsRehearsedDay, IsRehearsalTold};
-ghost use Rattle.bx_run_commands.specs.RehearsalRefusals.{IsUnseen, StopsAtPeer, StopsBehindPeer, StopsRehearsal, IsRehearsalRefusal};
+ghost use Rattle.bx_run_commands.specs.RehearsalRefusals.{IsUnseen, StopsAtPeer, StopsAfterPeer, StopsRehearsal, IsRehearsalRefusal};
 
 use crate::fault::{LiveFault, unrecorded};
 use crate::host::Host;
@@ -96,14 +96,14 @@ fn connection<R: Read, W: Write>(reader: R, writer: W) -> Connection<R, W> {
     }
 }
 
-/// A day behind its rehearsal, with the file for its records.
+/// A day after its rehearsal, with the file for its records.
 #[derive(Drop)]
 struct Run<'a, F: Write + Drop> {
     rehearsed: Rehearsed<JournalDisk<F>>,
     records: Option<RecordsFile<'a, F>>,
 }
 
-/// Rehearses a day towards a peer. What cannot be put on record is a fault of the journal that is named.
+/// Rehearses a day towards a peer. What cannot be logged is a fault of the journal that is named.
 fn rehearse_named<'a, 'h, H: Host, P: Peer + Drop>(
     rt: &'h H,
     opened: Opened<JournalDisk<H::File>>,
@@ -164,7 +164,7 @@ fn rehearse_at<'a, H: Host>(
     requires { seen.first ≤ 4294667295 }
     ensures ran { IfOk result (λ run. IsFirstOf request.entry.sight.capture seen.first → IsTiedDay request.entry.turns opening.exchange opening.digest opening.turns → RehearsalWith H.File.contents (Asked.At place.entry) request.entry run.rehearsed) }
     ensures records { IfOk result (λ run. IsRecordsFileFor request.entry.records seen.clock run.records) }
-    ensures stopped { IfErr result (λ fault. IsRecordsClock request.entry.records seen.clock → StopsBehindPeer H.File.contents (Asked.At place.entry) request.entry fault) }
+    ensures stopped { IfErr result (λ fault. IsRecordsClock request.entry.records seen.clock → StopsAfterPeer H.File.contents (Asked.At place.entry) request.entry fault) }
 {
     let ready = readied(rt, request, opening, seen)?;
     let Ready {
@@ -204,7 +204,7 @@ fn rehearse_with_peer<'a, H: Host, I: Inputs>(
     }
 }
 
-/// A day behind its rehearsal, up to its end; or the fault of the link that ended it before.
+/// A day after its rehearsal, up to its end; or the fault of the link that ended it before.
 fn ended<'a, F: Write + Drop>(run: Run<'a, F>) -> Result<Ended<'a, F>, LiveFault<'a>>
     ensures ended { IfOk result (IsEnded run.entry.rehearsed run.entry.records) }
     ensures lost { IfErr result (IsLostBy run.entry.rehearsed.lost) }
@@ -258,17 +258,17 @@ fn run_rehearsal<'a, H: Host, I: Inputs>(
 }
 
 /// Rehearses the day of a plan with the far end of a script, or towards the first peer that connects, as fast as they go, and with what
-/// happens on record in a new journal, where one is named; shows its moment on a terminal alone, writes what became of each booking, and
+/// happens logged in a new journal, where one is named; shows its moment on a terminal alone, writes what became of each booking, and
 /// its records into their file, where they are to be written. A journal that holds something is left as it is. At a fault of the link, and
-/// at an event that cannot be put on record, the day is over; the journal has what happened until then. A capture or records that were not written whole
-/// are a refusal, behind all that was told; at any other refusal nothing was written, except that where the output failed a front of
+/// at an event that cannot be logged, the day is over; the journal has what happened until then. A capture or records that were not written whole
+/// are a refusal, after all that was told; at any other refusal nothing was written, except that where the output failed a prefix of
 /// what was to be told was, and the records as if it had not.
 ///
 /// What the day needs is opened in this order, and the first fault of it is answered, as `LiveFault::Day` but for `NotEmpty` and
 /// `CannotRecord`: `Day` or `Capture` for the date and the zone of the capture; `Day` for those of the records; `Command` for the
 /// plan; `Command` or `Script` for the script; `CannotRecord`, `NotAFile`, `InUse`, `NotEmpty` or `Command`, as `Memory`, for a journal that is named;
 /// `CannotWriteFile` for the file of the capture, and then for that of the records; `CannotListen` or `CannotConnect` for the
-/// connection. `CannotRecord` is also answered where an event cannot be put on record, and `Link` is the fault of the link that
+/// connection. `CannotRecord` is also answered where an event cannot be logged, and `Link` is the fault of the link that
 /// ended the day. At the end `Command`, as `CannotWrite`, is the fault of the output; `CannotWriteFile` that of the capture; and
 /// `CannotWriteFile`, `Day`, as `OutOfRange`, or `Command`, as `Memory`, that of the records.
 pub fn rehearse_on_files<'a, H: Host, I: Inputs, W: Write>(

@@ -26,7 +26,7 @@ pub struct Opened<D> {
     pub disk: Option<D>,
 }
 
-/// A day behind its rehearsal, with the disk on which its journal is, where one was kept.
+/// A day after its rehearsal, with the disk on which its journal is, where one was kept.
 #[derive(Drop)]
 pub struct Rehearsed<D> {
     pub exchange: Exchange,
@@ -57,7 +57,7 @@ fn begun<D: Disk + Drop>(
     }
 }
 
-/// The disk of a journal, with all that is on record, where one was kept.
+/// The disk of a journal, with all that is logged, where one was kept.
 fn put_away<D: Disk + Drop>(kept: Record<WaitingDisk<D>>) -> Result<Option<D>, CannotRecord>
     ensures away { IfOk result (IsPutAway D.holds D.may_leave kept.disk) }
     ensures failed { OnErr result (is_some kept.disk ≡ true) }
@@ -71,8 +71,8 @@ fn put_away<D: Disk + Drop>(kept: Record<WaitingDisk<D>>) -> Result<Option<D>, C
     }
 }
 
-/// Rehearses a day towards a peer. Where a journal is kept, each event is on record before it happens, and all of it is on the disk at
-/// the end, also where a fault of the link has ended the day; where something cannot be put on record there, nothing more is done, and
+/// Rehearses a day towards a peer. Where a journal is kept, each event is logged before it happens, and all of it is on the disk at
+/// the end, also where a fault of the link has ended the day; where something cannot be logged there, nothing more is done, and
 /// `CannotRecord` is answered. The first second of the view is at most 4,294,667,295.
 pub fn rehearse<'a, 'h, H: Clock + Eprint, P: Peer + Drop, D: Disk + Drop, F: Write + Drop>(
     rt: &'h H,

@@ -21,7 +21,7 @@ use std::fs::{File, Files, OpenFile};
 use std::io;
 use std::io::Read;
 
-/// An exchange whose day goes on, with what it puts on record.
+/// An exchange whose day goes on, with what it logs.
 #[derive(Drop)]
 pub struct Resumed<D: Disk> {
     pub exchange: Exchange,
@@ -45,7 +45,7 @@ fn make_ready<D: Disk>(
     }
 }
 
-/// Lets the events happen to the exchange that the journal in a file of this name has on record, sells again what it says was sold, and makes it ready for
+/// Lets the events happen to the exchange that the journal in a file of this name has, sells again what it says was sold, and makes it ready for
 /// what comes. A journal that was not begun has none, and begins. `LiveFault::Day` where it is not read to its end: as `Sale`, as `Journal`,
 /// as `BadLine`, `OtherPlan`, `OtherDay` or `OtherRules`, or as `Command`, as `CannotRead`; `CannotRecord` where it cannot be made ready.
 pub fn resume_on<'a, F: Read + DiskFile + Drop>(
@@ -56,7 +56,7 @@ pub fn resume_on<'a, F: Read + DiskFile + Drop>(
     opening: DayOpening,
 ) -> Result<Resumed<FileDisk<F>>, LiveFault<'a>>
     ensures resumed { IfOk result (λ resumed. GoesOn head.now opening.channels (F.remaining file) opening.exchange resumed.exchange) }
-    // What happens from then on goes on record behind what was read.
+    // What happens from then on is logged after what was read.
     ensures kept { IfOk result (λ resumed. IsKeptOn F.contents F.is_told head.now opening.channels (F.remaining file) opening.exchange resumed.exchange resumed.record) }
     ensures refused { IfErr result (IsNotResumed name.now head.now opening.channels opening.exchange) }
 {

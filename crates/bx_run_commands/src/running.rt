@@ -21,7 +21,7 @@ pub struct View<'a, F> {
     pub is_shown: bool,
 }
 
-/// A world behind a run of a day, with whether all of that is on record, and all that was to be captured was.
+/// A world after a run of a day, with whether all of that is logged, and all that was to be captured was.
 #[derive(Drop)]
 pub struct Ran<W> {
     pub world: W,

@@ -1,4 +1,4 @@
-//! What is told of a day behind its end.
+//! What is told of a day after its end.
 
 ghost use Rattle.std.specs.Prelude.{◌≡◌, IfErr, OnOk};
 ghost use Rattle.bx_devices.specs.Devices.{writing_of};

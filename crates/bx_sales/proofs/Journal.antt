@@ -43,7 +43,7 @@ told_by channels row_on rows accepted assigned events d count bookings carries f
     ∙ same_day row_on events (opening (rows ++ bought_in items) last)
     ∙ ap (λ (bought : List Row). live_day_after events (opening (rows ++ bought) last)) s
 
--- one list of events behind another
+-- one list of events after another
 pub through_more : (channels : List Bool) (row_on : List ℕ → Row) (xs ys : List LiveEvent) (a b c : Day) → RunsThrough channels row_on xs a b → RunsThrough channels row_on ys b c → RunsThrough channels row_on (xs ++ ys) a c
 through_more channels row_on [] ys a b c e more = subst (λ (d : Day). RunsThrough channels row_on ys d c) e more
 through_more channels row_on (Sold line ∷ xs) ys a b c (sold, is, rest) more = (sold, is, through_more channels row_on xs ys sold b c rest more)

@@ -1,4 +1,4 @@
--- A day on which one booking more is sold has the bookings of the day before, and this one behind them, accepted.
+-- A day on which one booking more is sold has the bookings of the day before, and this one after them, accepted.
 use Rattle.std.proofs.Common.{◌≡◌, ℕ, ◌+◌, ◌-◌, ◌≤◌, not, Bool, true, false, List, [], ◌∷◌, ◌++◌, map, length, Option, Some, None, slice_index_or, refl, sym, ap, ap₂, ◌∙◌, arith}
 use Rattle.std.proofs.lemmas.List.{length-append, length-map, get_or-append_right}
 use Rattle.bx_base.specs.Bookings.{Row}

@@ -30,7 +30,7 @@ IsToldByJournal = (channels : List Bool) (row_on : List ℕ → Row) (rows : Lis
     (last : List (Option ℕ)) → IsFirstFit (rows ++ sold_in row_on events) channels (accepted ++ map (λ (row : Row). true) (sold_in row_on events)) last →
     d ≡ live_day_after events (opening (rows ++ sold_in row_on events) last)
 
--- a day with the bookings of a plan and behind them those that were sold, all of these accepted, which the channels carry
+-- a day with the bookings of a plan and after them those that were sold, all of these accepted, which the channels carry
 pub record HasSoldRows (channels : List Bool) (rows : List Row) (assigned : List (Option ℕ)) (sold : List Row) (d : Day) : Type 0 where
   pub bookings : AreBookings (rows ++ sold)
   pub rows_are : rows_of d ≡ rows ++ sold

@@ -30,7 +30,7 @@ pub record IsSold (channels : List Bool) (row : Row) (old new : Day) : Type 0 wh
   pub sale : IsSale channels old (rows_with old row) assigned
   pub day : new ≡ extended (rows_with old row) assigned old
 
--- the first-fit plan with this booking behind all others is none that the day goes on with: one that has started would get another channel
+-- the first-fit plan with this booking after all others is none that the day goes on with: one that has started would get another channel
 pub record IsOtherPlan (channels : List Bool) (row : Row) (d : Day) : Type 0 where
   pub assigned : List (Option ℕ)
   pub first_fit : IsFirstFit (rows_with d row) channels (marks_with d) assigned

@@ -1,4 +1,4 @@
--- What stands on record of a day on which bookings are sold, and what the day is that it tells.
+-- What stands in the journal of a day on which bookings are sold, and what the day is that it tells.
 use Rattle.std.specs.Prelude.{◌≡◌, ◌<◌, ℕ, Bool, true, List, [], ◌∷◌, ◌++◌, map, length, Option}
 use Rattle.bx_base.specs.Bookings.{Row, AreBookings, Carries}
 use Rattle.bx_base.specs.Plans.{is_accepted, channel_at}
@@ -13,7 +13,7 @@ pub data Item : Type 0 where
   Happened : (event : LiveEvent) → Item
   Bought : (row : Row) → Item
 
--- the events on record
+-- the logged events
 abbrev pub events_in : List Item → List LiveEvent
 events_in [] = []
 events_in (Happened event ∷ items) = event ∷ events_in items
@@ -31,7 +31,7 @@ GoesThrough channels [] old new = new ≡ old
 GoesThrough channels (Happened event ∷ items) old new = GoesThrough channels items (live_happens old event).day new
 GoesThrough channels (Bought row ∷ items) old new = (sold : Day) × IsSold channels row old sold × GoesThrough channels items sold new
 
--- the plan of the morning, with all that was sold behind it and accepted, coloured once, has the day that went through these
+-- the plan of the morning, with all that was sold after it and accepted, coloured once, has the day that went through these
 abbrev pub IsToldByRecord : Type 0
 IsToldByRecord = (channels : List Bool) (rows : List Row) (accepted : List Bool) (assigned : List (Option ℕ)) (items : List Item) (d : Day) →
     length accepted ≡ length rows → AreBookings rows → Carries rows channels (is_accepted assigned) (channel_at assigned) → IsFirstFit rows channels accepted assigned →

@@ -13,7 +13,7 @@ ghost use Rattle.bx_sales.specs.Journal.{IsToldByJournal, AreRowsSold};
 ghost use Rattle.bx_sales.specs.Sold.{IsFirstFitSold, IsToldByRecord, StaysFirstFit};
 
 /// The record tells the day: where the plan of the morning is first fit, a day that went through events and sales, in whatever order,
-/// is the day of one plan over these events alone: of the morning's bookings with all that was sold behind them, coloured once.
+/// is the day of one plan over these events alone: of the morning's bookings with all that was sold after them, coloured once.
 pub fn told_by_record()
     ensures { IsToldByRecord }
 {}
@@ -33,15 +33,15 @@ pub fn told_by_journal()
     ensures { IsToldByJournal }
 {}
 
-/// A day that went through a journal from the opening of a plan that is carried has the bookings of that plan, and behind them those that were
+/// A day that went through a journal from the opening of a plan that is carried has the bookings of that plan, and after them those that were
 /// sold, accepted; its channels carry what it has accepted. So the last plan is read off the day.
 pub fn rows_of_a_sold_day()
     ensures { AreRowsSold }
 {}
 
-/// Where a plan extends another from moment m, their days agree up to there. After every list of events behind which the moment is
+/// Where a plan extends another from moment m, their days agree up to there. After every list of events after which the moment is
 /// still below m, the day of the longer plan is that of the plan before, of which each booking that waits has its new channel, and
-/// behind which the new bookings stand (`day`); and while the moment stays below m, each event has the same sent (`sent`).
+/// after which the new bookings stand (`day`); and while the moment stays below m, each event has the same sent (`sent`).
 /// So bookings may be sold while the day runs: it is the day of its last plan. What `Exchange::extend` tests of its day is
 /// just that (`tested`, `goes_on`).
 pub fn day_of_a_longer_plan()

@@ -29,13 +29,13 @@ pub enum NoSale {
     /// The channels of the day are not those of first fit, and a booking that has started would get another one.
     #[error("OtherChannels")]
     OtherChannels,
-    /// A growth was refused.
+    /// Memory ran out.
     #[error("Memory")]
     Memory,
 }
 
 /// Sells a booking of the day that runs, where it starts later and fits on the channels beside all that is promised: it stands
-/// behind the bookings of the day, as accepted, and all are coloured first fit. A refusal changes nothing. `Late` is tested first.
+/// after the bookings of the day, as accepted, and all are coloured first fit. A refusal changes nothing. `Late` is tested first.
 pub fn sell(
     alloc: Global,
     exchange: &mut Exchange,
@@ -43,7 +43,7 @@ pub fn sell(
     booking: &Booking,
 ) -> Result<(), NoSale>
     ensures sold { OnOk result (IsSold channels booking.now exchange.old exchange.new) }
-    ensures behind { OnOk result ((rows_of exchange.new ≡ rows_with exchange.old booking.now) × (marks_of exchange.new ≡ marks_with exchange.old)) }
+    ensures following { OnOk result ((rows_of exchange.new ≡ rows_with exchange.old booking.now) × (marks_of exchange.new ≡ marks_with exchange.old)) }
     ensures kept { OnErr result (exchange.new ≡ exchange.old) }
     ensures late { (result ≡ Err NoSale.Late) ↔ (booking.now.start ≤ exchange.old.moment) }
     ensures full { result ≡ Err NoSale.Full → MAX_BOOKINGS ≤ length exchange.old.entries }

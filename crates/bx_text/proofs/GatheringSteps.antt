@@ -22,8 +22,8 @@ waiting_two : (x s t f g y z : List ℕ) → x ++ s ≡ f ++ y → y ++ t ≡ g 
 waiting_two x s t f g y z p q = sym (append_assoc x s t) ∙ ap (λ (l : List ℕ). l ++ t) p ∙ append_assoc f y t ∙ ap (λ (l : List ℕ). f ++ l) q ∙ sym (append_assoc f g z)
 
 -- a text, and one whose writing failed
-waiting_front : (x s t f y : List ℕ) → x ++ s ≡ f ++ y → f ++ (y ++ t) ≡ x ++ (s ++ t)
-waiting_front x s t f y p = sym (append_assoc f y t) ∙ ap (λ (l : List ℕ). l ++ t) (sym p) ∙ append_assoc x s t
+waiting_prefix : (x s t f y : List ℕ) → x ++ s ≡ f ++ y → f ++ (y ++ t) ≡ x ++ (s ++ t)
+waiting_prefix x s t f y p = sym (append_assoc f y t) ∙ ap (λ (l : List ℕ). l ++ t) (sym p) ∙ append_assoc x s t
 
 abbrev pub done : {E : Type 0} → Result (Unit {0}) E
 done = Ok tt
@@ -33,7 +33,7 @@ module _ {W E : Type 0} (contents : W → Option (List ℕ)) where
   pub nothing_put : (a : Held W) → Gathers contents a a (done {E = E}) []
   nothing_put a = record { put = ([], Appends-nil (contents (device_of a.writer)), append-nil a.waiting); prefix = tt; faulted = tt; unfaulted = refl; reads = refl }
 
-  -- a text behind one that was put
+  -- a text after one that was put
   pub puts_then : {F : Type 0} (a b d : Held W) (r : Result (Unit {0}) E) (s t : List ℕ) → Gathers contents a b (done {E = F}) s → Gathers contents b d r t → Gathers contents a d r (s ++ t)
   puts_then a b d (Ok x) s t p q = record {
     put = (
@@ -48,7 +48,7 @@ module _ {W E : Type 0} (contents : W → Option (List ℕ)) where
   }
   puts_then a b d (Err e) s t p q = record {
     put = tt;
-    prefix = subst (AppendsPrefix (contents (device_of a.writer)) (contents (device_of d.writer))) (waiting_front a.waiting s t p.put.0 b.waiting p.put.2)
+    prefix = subst (AppendsPrefix (contents (device_of a.writer)) (contents (device_of d.writer))) (waiting_prefix a.waiting s t p.put.0 b.waiting p.put.2)
         (AppendsPrefix-after (contents (device_of a.writer)) (contents (device_of b.writer)) (contents (device_of d.writer)) p.put.0 (b.waiting ++ t) p.put.1 q.prefix);
     faulted = q.faulted;
     unfaulted = tt;
@@ -68,7 +68,7 @@ module _ {W E : Type 0} (contents : W → Option (List ℕ)) where
   }
   put_at_once a b block (Err e) text empty written prefix faulted unfaulted reads = record { put = tt; prefix = rw empty prefix; faulted = faulted; unfaulted = tt; reads = reads }
 
--- a text that was to be the front of another, where its writing failed
+-- a text that was to be the prefix of another, where its writing failed
 module _ {W E F : Type 0} (contents : W → Option (List ℕ)) where
   pub puts_failed : (a b : Held W) (e : E) (f : F) (s rest whole : List ℕ) → whole ≡ s ++ rest → Gathers {T = Unit {0}} contents a b (Err e) s → Gathers {T = Unit {0}} contents a b (Err f) whole
   puts_failed a b e f s rest whole same p = record {
@@ -80,7 +80,7 @@ module _ {W E F : Type 0} (contents : W → Option (List ℕ)) where
     reads = p.reads;
   }
 
--- ---- a whole text, put into an empty block that is written out behind it
+-- ---- a whole text, put into an empty block that is written out after it
 
 module _ {W : Type 0} (contents : W → Option (List ℕ)) (a b : Watched W) (p q : Block) (text : List ℕ) (empty : octets_of p ≡ []) where
   pub whole_written : {E : Type 0} (r : Result (Unit {0}) E) → Gathers contents (held a p) (held b q) r text → OnOk r (octets_of q ≡ []) → Writes contents a b r text

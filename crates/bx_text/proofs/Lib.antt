@@ -1,4 +1,4 @@
 pub mod GatheringSteps
 pub mod DigitSteps
-mod Fronts
+mod Prefixes
 pub mod MemberSteps

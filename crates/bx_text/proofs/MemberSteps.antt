@@ -12,9 +12,9 @@ join_spaced : (word : List ℕ) (numbers : List ℕ) → join_with_byte 32 (word
 join_spaced word [] = sym (append-nil word)
 join_spaced word (n ∷ ns) = ap (λ (r : List ℕ). word ++ (32 ∷ r)) (join_spaced (decimal n) ns)
 
--- a word, numbers behind it, and the end of the line
-pub members_line : (word front line whole : List ℕ) (numbers : List ℕ) → front ≡ word → line ≡ front ++ spaced numbers → whole ≡ line ++ 10 ∷ [] → whole ≡ line_text (word ∷ map decimal numbers)
-members_line word front line whole numbers first added end = rw (end, added, first) (ap (λ (l : List ℕ). l ++ 10 ∷ []) (sym (join_spaced word numbers)))
+-- a word, numbers after it, and the end of the line
+pub members_line : (word leading line whole : List ℕ) (numbers : List ℕ) → leading ≡ word → line ≡ leading ++ spaced numbers → whole ≡ line ++ 10 ∷ [] → whole ≡ line_text (word ∷ map decimal numbers)
+members_line word leading line whole numbers first added end = rw (end, added, first) (ap (λ (l : List ℕ). l ++ 10 ∷ []) (sym (join_spaced word numbers)))
 
 -- one more place of a set
 members_more : (bs : List Bool) (k n : ℕ) → n < length bs → spaced (members_from k (take (n + 1) bs)) ≡ spaced (members_from k (take n bs)) ++ member_text (has_channel bs n) (k + n)
@@ -33,12 +33,12 @@ members_more (false ∷ bs) k (suc n) lt =
     let more = members_more bs (k + 1) n (omega arith) in
     rw place (rw same at more)
 
-pub member_added : (bs : List Bool) (n : ℕ) (front before after : List ℕ) → n < length bs → before ≡ front ++ spaced (members_from 0 (take n bs)) → after ≡ before ++ member_text (has_channel bs n) n
-    → after ≡ front ++ spaced (members_from 0 (take (n + 1) bs))
-member_added bs n front before after lt so_far added =
+pub member_added : (bs : List Bool) (n : ℕ) (leading before after : List ℕ) → n < length bs → before ≡ leading ++ spaced (members_from 0 (take n bs)) → after ≡ before ++ member_text (has_channel bs n) n
+    → after ≡ leading ++ spaced (members_from 0 (take (n + 1) bs))
+member_added bs n leading before after lt so_far added =
     let place : 0 + n ≡ n = omega arith in
     let more : spaced (members_from 0 (take (n + 1) bs)) ≡ spaced (members_from 0 (take n bs)) ++ member_text (has_channel bs n) n = rw place at (members_more bs 0 n lt) in
-    added ∙ ap (λ (l : List ℕ). l ++ member_text (has_channel bs n) n) so_far ∙ append_assoc front (spaced (members_from 0 (take n bs))) (member_text (has_channel bs n) n) ∙ ap (λ (r : List ℕ). front ++ r) (sym more)
+    added ∙ ap (λ (l : List ℕ). l ++ member_text (has_channel bs n) n) so_far ∙ append_assoc leading (spaced (members_from 0 (take n bs))) (member_text (has_channel bs n) n) ∙ ap (λ (r : List ℕ). leading ++ r) (sym more)
 
-pub members_whole : (bs : List Bool) (n : ℕ) (front line : List ℕ) → length bs ≤ n → line ≡ front ++ spaced (members_from 0 (take n bs)) → line ≡ front ++ spaced (members_from 0 bs)
-members_whole bs n front line le so_far = so_far ∙ ap (λ (l : List Bool). front ++ spaced (members_from 0 l)) (take_all n bs le)
+pub members_whole : (bs : List Bool) (n : ℕ) (leading line : List ℕ) → length bs ≤ n → line ≡ leading ++ spaced (members_from 0 (take n bs)) → line ≡ leading ++ spaced (members_from 0 bs)
+members_whole bs n leading line le so_far = so_far ∙ ap (λ (l : List Bool). leading ++ spaced (members_from 0 l)) (take_all n bs le)

@@ -18,12 +18,12 @@ pub record Held (W : Type 0) : Type 0 where
 abbrev pub held : {W : Type 0} → Watched W → Block → Held W
 held w block = record { writer = w; waiting = octets_of block }
 
--- known octets grew by a front of a text, and the rest of it waits
+-- known octets grew by a prefix of a text, and the rest of it waits
 abbrev pub Leaves : Option (List ℕ) → Option (List ℕ) → List ℕ → List ℕ → Type 0
-Leaves old new text waiting = (front : List ℕ) × Appends old new front × (text ≡ front ++ waiting)
+Leaves old new text waiting = (leading : List ℕ) × Appends old new leading × (text ≡ leading ++ waiting)
 
 -- a text is put: what is written by that, followed by what waits, is what waited before followed by the text; or a write
--- fails, and a front of that is written
+-- fails, and a prefix of that is written
 pub record Gathers {W T E : Type 0} (contents : W → Option (List ℕ)) (old new : Held W) (result : Result T E) (text : List ℕ) : Type 0 where
   pub put : OnOk result (Leaves (contents (device_of old.writer)) (contents (device_of new.writer)) (old.waiting ++ text) new.waiting)
   pub prefix : OnErr result (AppendsPrefix (contents (device_of old.writer)) (contents (device_of new.writer)) (old.waiting ++ text))

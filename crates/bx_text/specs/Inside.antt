@@ -3,11 +3,11 @@ use Rattle.std.specs.Prelude.{◌≡◌, ℕ, Bool, List, [], ◌∷◌, Option,
 use Rattle.csv.specs.Reading.{source_of}
 use Rattle.csv.specs.declared.reader.Reader.{Reader}
 use Rattle.bx_text.specs.Forms.{Form}
-use Rattle.bx_text.specs.Rows.{IsFront}
+use Rattle.bx_text.specs.Rows.{IsPrefixRead}
 
--- the reader stands behind a header and records that are these rows
-abbrev pub Front : {R Row Fault : Type 0} → Form Row Fault → (R → Option (List ℕ)) → Reader R → List ℕ → ℕ → List Row → Type 0
-Front form rem reader text columns rows = (rest : List ℕ) × (source_of rem reader ≡ Some rest) × IsFront form text columns rows reader.state rest
+-- the reader stands after a header and records that are these rows
+abbrev pub PrefixRead : {R Row Fault : Type 0} → Form Row Fault → (R → Option (List ℕ)) → Reader R → List ℕ → ℕ → List Row → Type 0
+PrefixRead form rem reader text columns rows = (rest : List ℕ) × (source_of rem reader ≡ Some rest) × IsPrefixRead form text columns rows reader.state rest
 
 -- what a line of channels has for a number, in the set or not
 abbrev pub member_text : Bool → ℕ → List ℕ

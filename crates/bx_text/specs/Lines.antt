@@ -6,7 +6,7 @@ use Rattle.std.specs.List.{flat_map, join_with_byte}
 abbrev pub line_text : List (List ℕ) → List ℕ
 line_text fields = join_with_byte 32 fields ++ 10 ∷ []
 
--- a word, and a number behind it
+-- a word, and a number after it
 abbrev pub named : List ℕ → ℕ → List (List ℕ)
 named word n = word ∷ decimal n ∷ []
 

@@ -16,7 +16,7 @@ AreRows IsRow (fields ∷ records) [] = ⊥
 AreRows IsRow (fields ∷ records) (row ∷ rows) = IsRow fields row × AreRows IsRow records rows
 
 -- a text begins with a header and with records that are these rows, which lead to here
-pub record IsFront {Row Fault : Type 0} (form : Form Row Fault) (text : List ℕ) (columns : ℕ) (rows : List Row) (s : State) (rest : List ℕ) : Type 0 where
+pub record IsPrefixRead {Row Fault : Type 0} (form : Form Row Fault) (text : List ℕ) (columns : ℕ) (rows : List Row) (s : State) (rest : List ℕ) : Type 0 where
   pub header : List (List ℕ)
   pub records : List (List (List ℕ))
   pub reached : Reached default_config st.StartRecord text (header ∷ records) s rest
@@ -28,7 +28,7 @@ pub record HasRows {Row Fault : Type 0} (form : Form Row Fault) (text : List ℕ
   pub columns : ℕ
   pub state : State
   pub rest : List ℕ
-  pub front : IsFront form text columns rows state rest
+  pub leading : IsPrefixRead form text columns rows state rest
   pub ends : next_record default_config state [] [] rest ≡ None
 
 -- after a header and records that are these rows comes a record with these fields

@@ -23,9 +23,9 @@ impl Block {
         }
     }
 
-    /// Puts octets behind those that were put before. Where the block has no room for them, what it holds is
+    /// Puts octets after those that were put before. Where the block has no room for them, what it holds is
     /// written first; octets that are longer than a block are then written as they are. `WriteFailed` as of `write_octets`: the
-    /// writer is then faulted, and holds a front of what was put.
+    /// writer is then faulted, and holds a prefix of what was put.
     pub fn put<W: Write>(&mut self, w: &mut Watched<W>, octets: &[u8]) -> Result<(), WriteFailed>
         ensures { Gathers W.contents (held w.old self.old) (held w.new self.new) result octets.now }
     {
@@ -47,7 +47,7 @@ impl Block {
     }
 
     /// Writes what the block holds, and leaves it empty. `WriteFailed` as of `write_octets`: the writer is then faulted, and
-    /// holds a front of what was put.
+    /// holds a prefix of what was put.
     pub fn write_out<W: Write>(&mut self, w: &mut Watched<W>) -> Result<(), WriteFailed>
         ensures text { Gathers W.contents (held w.old self.old) (held w.new self.new) result [] }
         ensures empty { OnOk result (octets_of self.new ≡ []) }

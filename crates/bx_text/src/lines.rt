@@ -11,7 +11,7 @@ use bx_base::ChannelSet;
 use bx_channels::Channel;
 use itoa::Buffer;
 
-/// A line, or its front: no line is as long.
+/// A line, or its prefix: no line is as long.
 pub type Line = ArrayVec<u8, 128>;
 
 /// Adds octets. With them the line has to have at most 128.
@@ -26,7 +26,7 @@ pub fn append(line: &mut Line, octets: &[u8])
     }
 }
 
-/// Adds a field, and what stands behind it. With them the line has to have at most 128 octets.
+/// Adds a field, and what stands after it. With them the line has to have at most 128 octets.
 pub fn add(line: &mut Line, field: &[u8], stop: u8)
     requires { array_vec_len line.old + length field.now < 128 }
     ensures items { line.new.items ≡ line.old.items ++ (field.now ++ stop ∷ []) }
@@ -36,7 +36,7 @@ pub fn add(line: &mut Line, field: &[u8], stop: u8)
     line.push(stop);
 }
 
-/// Adds a decimal, and what stands behind it: at most 21 octets. The line has to have at most 107 before.
+/// Adds a decimal, and what stands after it: at most 21 octets. The line has to have at most 107 before.
 pub fn add_decimal(line: &mut Line, number: u64, stop: u8)
     requires { array_vec_len line.old ≤ 107 }
     ensures items { line.new.items ≡ line.old.items ++ (decimal number ++ stop ∷ []) }

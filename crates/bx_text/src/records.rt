@@ -11,7 +11,7 @@ use csv::{ByteRecord, Reader, ReaderBuilder};
 use std::alloc::Global;
 use std::io::Read;
 
-/// No record was read, since the reader underneath failed or a growth was refused.
+/// No record was read, since the reader underneath failed or memory ran out.
 #[derive(Clone, Copy)]
 pub struct ReadRefused;
 
@@ -28,7 +28,7 @@ pub fn records_of<R: Read>(alloc: Global, reader: R) -> Reader<R>
 }
 
 /// Reads the next record, and answers whether there is one. The reader is one of `records_of` that no read has failed on.
-/// `ReadRefused` where the reader underneath fails, or a growth is refused.
+/// `ReadRefused` where the reader underneath fails, or memory runs out.
 pub fn read_next<R: Read>(
     records: &mut Reader<R>,
     fields: &mut ByteRecord,

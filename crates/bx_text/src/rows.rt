@@ -7,7 +7,7 @@ ghost use Rattle.csv.specs.Records.{fields_of};
 ghost use Rattle.bx_text.specs.Forms.{Form};
 ghost use Rattle.bx_text.specs.Records.{IsReading};
 ghost use Rattle.bx_text.specs.Rows.{HasRows, IsFirstFault};
-ghost use Rattle.bx_text.specs.Inside.{Front};
+ghost use Rattle.bx_text.specs.Inside.{PrefixRead};
 
 use crate::records::read_next;
 use crate::rows_fault::RowsFault;
@@ -45,7 +45,7 @@ pub trait RowForm {
     fn none(alloc: Global) -> Self::List
         ensures { rows result ≡ [] };
 
-    /// Adds a row behind fewer than 4,000.
+    /// Adds a row after fewer than 4,000.
     fn keep(list: &mut Self::List, row: Self::Row) -> Result<(), AllocError>
         requires { length (rows list.old) < 4000 }
         ensures { OnOk result (rows list.new ≡ rows list.old ++ row ∷ []) };
@@ -58,7 +58,7 @@ fn read_header<R: Read, F: RowForm>(
     fields: &mut ByteRecord,
 ) -> Result<usize, RowsFault<F::Fault>>
     requires { IsReading records.old × (reader_state records.old ≡ st.StartRecord) }
-    ensures ok { IfOk result (λ columns. IsReading records.new × IfSome (source_of R.remaining records.old) (λ text. Front (F.form form.now) R.remaining records.new text columns [])) }
+    ensures ok { IfOk result (λ columns. IsReading records.new × IfSome (source_of R.remaining records.old) (λ text. PrefixRead (F.form form.now) R.remaining records.new text columns [])) }
     ensures err { IfErr result (λ e. IfSome (source_of R.remaining records.old) (λ text. IsFirstFault (F.form form.now) text e)) }
 {
     let Ok(found) = read_next(records, fields) else {
@@ -73,7 +73,7 @@ fn read_header<R: Read, F: RowForm>(
     }
 }
 
-/// Reads the rows behind the header.
+/// Reads the rows after the header.
 fn read_rows<R: Read, F: RowForm>(
     form: &F,
     records: &mut Reader<R>,
@@ -83,8 +83,8 @@ fn read_rows<R: Read, F: RowForm>(
 ) -> Result<(), RowsFault<F::Fault>>
     requires reading { IsReading records.old }
     requires empty { F.rows list.old ≡ [] }
-    ensures ok { (text : List ℕ) → Front (F.form form.now) R.remaining records.old text columns [] → OnOk result (HasRows (F.form form.now) text (F.rows list.new)) }
-    ensures err { (text : List ℕ) → Front (F.form form.now) R.remaining records.old text columns [] → IfErr result (IsFirstFault (F.form form.now) text) }
+    ensures ok { (text : List ℕ) → PrefixRead (F.form form.now) R.remaining records.old text columns [] → OnOk result (HasRows (F.form form.now) text (F.rows list.new)) }
+    ensures err { (text : List ℕ) → PrefixRead (F.form form.now) R.remaining records.old text columns [] → IfErr result (IsFirstFault (F.form form.now) text) }
 {
     for number in 1..4001u16 {
         let Ok(found) = read_next(records, fields) else {
@@ -109,7 +109,7 @@ fn read_rows<R: Read, F: RowForm>(
 }
 
 /// Reads a header and at most 4,000 rows from a reader of `records_of` that nothing was read of. The answer is all rows, or the
-/// first fault: `BadHeader`, `Row`, `TooMany`; or `Memory` where a growth is refused or the reader underneath fails.
+/// first fault: `BadHeader`, `Row`, `TooMany`; or `Memory` where memory runs out or the reader underneath fails.
 pub fn read_records<R: Read, F: RowForm>(
     alloc: Global,
     form: &F,

@@ -9,6 +9,6 @@ pub enum RowsFault<F> {
     Row(F),
     /// There is a row after the 4,000th.
     TooMany,
-    /// A growth was refused, or the reader underneath failed.
+    /// Memory ran out, or the reader underneath failed.
     Memory,
 }

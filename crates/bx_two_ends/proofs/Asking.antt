@@ -221,7 +221,7 @@ hears_unasked : (m : Said) (t : ℕ) (s : Standing) → StandingUnasked s → St
 hears_unasked m t (OnCall c a) h = heard_unasked c m.heard t a
 hears_unasked m t s h = tt
 
--- and no call is asked for behind a message of it
+-- and no call is asked for after a message of it
 pub hears_awake : (m : Said) (t : ℕ) (s : Standing) → StandingUnasked (hears m t s).standing
 hears_awake m t (OnCall c a) = heard_unasked c m.heard t a
 hears_awake m t s = tt

@@ -1,5 +1,5 @@
 -- Where the far end answers each turn, no channel breaks, and an outward booking is carried from its second second with a link
--- at the latest. A second is taken as a whole: what the far end has answered behind its messages is enough.
+-- at the latest. A second is taken as a whole: what the far end has answered after its messages is enough.
 use Rattle.std.proofs.Common.{◌≡◌, ◌≢◌, ℕ, suc, ◌+◌, ◌≤◌, ◌<◌, ◌==◌, ◌&&◌, ◌||◌, not, Bool, true, false, List, [], ◌∷◌, length, take, Option, arith, refl, sym, subst, ap, ◌∙◌, nat_le, inl, inr, ◌⊎◌, if◌then◌else◌, zero}
 use Rattle.std.specs.List.{list_any}
 use Rattle.std.proofs.lemmas.Bool.{false≢true, true≢false, and_from, leb-true, eqb-true, eq-eqb, false_from_ne_true, cases_eq, cases_lt}
@@ -78,7 +78,7 @@ same_marks link d c (b ∷ bs) h = ap (λ x. (b || x) ∷ maintained_in link d (
 marks_kept : (link : Link) (d : Day) → ((j : ℕ) → (second_in link d (entry_at d.entries j)).broken ≡ false) → IsClean d → IsClean (passed_in link d).day
 marks_kept link d h clean c = ap (λ bs. is_marked bs c) (same_marks link d 0 d.maintenance h) ∙ clean c
 
--- the day behind the tick
+-- the day after the tick
 pub called_turn : (rows : List Row) (assigned : List (Option ℕ)) (d : Day) → d.moment < 300000 → IsCalm rows assigned d → IsTurn rows assigned (d.moment + 1) (passed_in Up d).day
 called_turn rows assigned d early h = record {
   fits = subst (λ (s : Day). RunFits rows assigned s) (ap (λ s. s.day) (tick_is d early)) (happens_fits rows assigned d Tick h.fits);
@@ -87,7 +87,7 @@ called_turn rows assigned d early h = record {
   clean = marks_kept Up d (λ j. let e = entry_at d.entries j in whole_tick (d.moment + 1) e (is_free d e.channel) e.standing (h.quiet j)) h.clean;
 }
 
--- and behind what was answered in it
+-- and after what was answered in it
 pub calm_linked : (rows : List Row) (assigned : List (Option ℕ)) (d : Day) (received : List (List ℕ)) → d.moment < 300000 → IsCalm rows assigned d → IsCleared (passed_in Up d).day (heard_in received (passed_in Up d).day) → IsCalm rows assigned (heard_in received (passed_in Up d).day)
 calm_linked rows assigned d received early h ok =
     let left : Day = heard_in received (passed_in Up d).day in
@@ -126,8 +126,8 @@ pub record Stands (rows : List Row) (assigned : List (Option ℕ)) (i cleared of
   pub over : (row_at rows i).end ≤ d.moment → IsOver offered (row_at rows i).end (standing_at d i)
   pub done : ended ≤ d.moment → IsCarriedBy offered (row_at rows i).end (standing_at d i)
 
-abbrev pub behind : Day → List (List ℕ) → Day
-behind d received = heard_in received (passed_in Up d).day
+abbrev pub following : Day → List (List ℕ) → Day
+following d received = heard_in received (passed_in Up d).day
 
 -- ---- a second with a link: the booking of index i
 
@@ -136,47 +136,47 @@ record IsLink (rows : List Row) (assigned : List (Option ℕ)) (i : ℕ) (d : Da
   fits : RunFits rows assigned d
   quiet : IsQuietCall (standing_at d i)
   first : IsTurn rows assigned (d.moment + 1) (passed_in Up d).day
-  last : IsTurn rows assigned (d.moment + 1) (behind d received)
-  ok : IsCleared (passed_in Up d).day (behind d received)
+  last : IsTurn rows assigned (d.moment + 1) (following d received)
+  ok : IsCleared (passed_in Up d).day (following d received)
 
--- a call that was Active is Active behind the turn, where it goes on behind the tick
-link_keeps : (rows : List Row) (assigned : List (Option ℕ)) (i u : ℕ) (d : Day) (received : List (List ℕ)) → IsLink rows assigned i d received → is_going (standing_at (passed_in Up d).day i) ≡ true → IsKept u (standing_at (passed_in Up d).day i) → IsUp u (standing_at (behind d received) i)
+-- a call that was Active is Active after the turn, where it goes on after the tick
+link_keeps : (rows : List Row) (assigned : List (Option ℕ)) (i u : ℕ) (d : Day) (received : List (List ℕ)) → IsLink rows assigned i d received → is_going (standing_at (passed_in Up d).day i) ≡ true → IsKept u (standing_at (passed_in Up d).day i) → IsUp u (standing_at (following d received) i)
 link_keeps rows assigned i u d received h going kept =
-    let left : Day = behind d received in
+    let left : Day = following d received in
     keeps_of left.moment u (entry_at left.entries i) (standing_at left i) (fits_at left i h.last.fits.day) (h.ok.kept i going) (h.ok.cleared i) (heard_kept u (d.moment + 1) i received (passed_in Up d).day refl kept)
 
 -- and any outward one, where each SETUP is answered
 abbrev pub IsSettledAt : Day → ℕ → Type 0
 IsSettledAt d i = OnLive (standing_at d i) (λ call a. is_settled call ≡ true)
 
-link_talks : (rows : List Row) (assigned : List (Option ℕ)) (i u : ℕ) (d : Day) (received : List (List ℕ)) → IsLink rows assigned i d received → IsSettledAt (behind d received) i → is_going (standing_at (passed_in Up d).day i) ≡ true → (row_at rows i).inward ≡ false → d.moment + 1 ≤ u → IsUp u (standing_at (behind d received) i)
+link_talks : (rows : List Row) (assigned : List (Option ℕ)) (i u : ℕ) (d : Day) (received : List (List ℕ)) → IsLink rows assigned i d received → IsSettledAt (following d received) i → is_going (standing_at (passed_in Up d).day i) ≡ true → (row_at rows i).inward ≡ false → d.moment + 1 ≤ u → IsUp u (standing_at (following d received) i)
 link_talks rows assigned i u d received h settled going out le =
-    let left : Day = behind d received in
+    let left : Day = following d received in
     up_of left.moment u (entry_at left.entries i) (standing_at left i) (fits_at left i h.last.fits.day) (h.ok.kept i going) settled (ap (λ (b : Row). b.inward) (h.last.fits.framed.0 i h.inside).booking ∙ out) (omega (arith, le, h.last.moment))
 
 -- an Active call stays Active while its booking runs
-link_up : (rows : List Row) (assigned : List (Option ℕ)) (i u : ℕ) (d : Day) (received : List (List ℕ)) → IsLink rows assigned i d received → d.moment + 1 < (row_at rows i).end → IsUp u (standing_at d i) → IsUp u (standing_at (behind d received) i)
+link_up : (rows : List Row) (assigned : List (Option ℕ)) (i u : ℕ) (d : Day) (received : List (List ℕ)) → IsLink rows assigned i d received → d.moment + 1 < (row_at rows i).end → IsUp u (standing_at d i) → IsUp u (standing_at (following d received) i)
 link_up rows assigned i u d received h less up =
     let called : Day = (passed_in Up d).day in
     let e = entry_at d.entries i in
     let now : IsUp u (standing_at called i) = subst (IsUp u) (sym (after_standing Up d i)) (up_tick u (d.moment + 1) e (is_free d e.channel) e.standing up h.quiet (subst (λ (b : Row). d.moment + 1 < b.end) (sym (h.fits.framed.0 i h.inside).booking) less)) in
     link_keeps rows assigned i u d received h (up_going u (standing_at called i) now) (up_kept u (standing_at called i) now)
 
--- where a call is being cleared behind the tick, it is over behind the turn
-link_clears : (rows : List Row) (assigned : List (Option ℕ)) (i u end : ℕ) (d : Day) (received : List (List ℕ)) → IsLink rows assigned i d received → IsOver u end (standing_at (passed_in Up d).day i) → IsCarriedBy u end (standing_at (behind d received) i)
+-- where a call is being cleared after the tick, it is over after the turn
+link_clears : (rows : List Row) (assigned : List (Option ℕ)) (i u end : ℕ) (d : Day) (received : List (List ℕ)) → IsLink rows assigned i d received → IsOver u end (standing_at (passed_in Up d).day i) → IsCarriedBy u end (standing_at (following d received) i)
 link_clears rows assigned i u end d received h over =
-    let left : Day = behind d received in
+    let left : Day = following d received in
     over_cleared u end (standing_at left i) (heard_over u end (d.moment + 1) i received (passed_in Up d).day refl over) (cleared_at left i (h.ok.cleared i))
 
 -- at its end it is carried
-link_end : (rows : List Row) (assigned : List (Option ℕ)) (i u : ℕ) (d : Day) (received : List (List ℕ)) → IsLink rows assigned i d received → d.moment + 1 ≡ (row_at rows i).end → IsUp u (standing_at d i) → IsCarriedBy u (row_at rows i).end (standing_at (behind d received) i)
+link_end : (rows : List Row) (assigned : List (Option ℕ)) (i u : ℕ) (d : Day) (received : List (List ℕ)) → IsLink rows assigned i d received → d.moment + 1 ≡ (row_at rows i).end → IsUp u (standing_at d i) → IsCarriedBy u (row_at rows i).end (standing_at (following d received) i)
 link_end rows assigned i u d received h is up =
     let e = entry_at d.entries i in
     let book : e.booking ≡ row_at rows i = (h.fits.framed.0 i h.inside).booking in
     let over : IsOver u e.booking.end (second_at e (d.moment + 1) (is_free d e.channel) e.standing).standing = end_tick u (d.moment + 1) e (is_free d e.channel) e.standing up (is ∙ ap (λ (b : Row). b.end) (sym book)) in
     link_clears rows assigned i u (row_at rows i).end d received h (subst (λ (b : Row). IsOver u b.end (standing_at (passed_in Up d).day i)) book (subst (IsOver u e.booking.end) (sym (after_standing Up d i)) over))
 
-link_over : (rows : List Row) (assigned : List (Option ℕ)) (i u : ℕ) (d : Day) (received : List (List ℕ)) → IsLink rows assigned i d received → IsOver u (row_at rows i).end (standing_at d i) → IsCarriedBy u (row_at rows i).end (standing_at (behind d received) i)
+link_over : (rows : List Row) (assigned : List (Option ℕ)) (i u : ℕ) (d : Day) (received : List (List ℕ)) → IsLink rows assigned i d received → IsOver u (row_at rows i).end (standing_at d i) → IsCarriedBy u (row_at rows i).end (standing_at (following d received) i)
 link_over rows assigned i u d received h was =
     let e = entry_at d.entries i in
     let book : e.booking ≡ row_at rows i = (h.fits.framed.0 i h.inside).booking in
@@ -184,8 +184,8 @@ link_over rows assigned i u d received h was =
     link_clears rows assigned i u (row_at rows i).end d received h (subst (λ (b : Row). IsOver u b.end (standing_at (passed_in Up d).day i)) book (subst (IsOver u e.booking.end) (sym (after_standing Up d i)) over))
 
 -- one that waits is offered and Active, or could not be offered and waits on
-link_waits : (rows : List Row) (assigned : List (Option ℕ)) (i u : ℕ) (d : Day) (received : List (List ℕ)) → IsLink rows assigned i d received → IsSettledAt (behind d received) i → (row_at rows i).inward ≡ false → d.moment + 1 < (row_at rows i).end → d.moment + 1 ≤ u → standing_at d i ≡ Unoffered
-    → ((standing_at (behind d received) i ≡ Unoffered) × (offers (entry_at d.entries i) (d.moment + 1) (is_free d (entry_at d.entries i).channel) ≡ false)) ⊎ IsUp u (standing_at (behind d received) i)
+link_waits : (rows : List Row) (assigned : List (Option ℕ)) (i u : ℕ) (d : Day) (received : List (List ℕ)) → IsLink rows assigned i d received → IsSettledAt (following d received) i → (row_at rows i).inward ≡ false → d.moment + 1 < (row_at rows i).end → d.moment + 1 ≤ u → standing_at d i ≡ Unoffered
+    → ((standing_at (following d received) i ≡ Unoffered) × (offers (entry_at d.entries i) (d.moment + 1) (is_free d (entry_at d.entries i).channel) ≡ false)) ⊎ IsUp u (standing_at (following d received) i)
 link_waits rows assigned i u d received h settled out less le is =
     let called : Day = (passed_in Up d).day in
     let e = entry_at d.entries i in
@@ -200,10 +200,10 @@ link_waits rows assigned i u d received h settled out less le is =
     let outward : (entry_at called.entries i).booking.inward ≡ false = ap (λ (b : Row). b.inward) (h.first.fits.framed.0 i h.inside).booking ∙ out in
     inl ((heard_waits n i received called refl (outward, waiting)).1, stays))
 
--- behind a turn that no other booking of its channel runs in, nobody else has the channel
-link_free : (rows : List Row) (assigned : List (Option ℕ)) (i cleared offered : ℕ) (d : Day) (received : List (List ℕ)) → IsLink rows assigned i d received → IsAlone rows assigned i cleared offered → cleared ≤ d.moment + 1 → d.moment + 1 ≤ offered → is_held (behind d received).entries (channel_at assigned i) ≡ true → is_live (standing_at (behind d received) i) ≡ true
+-- after a turn that no other booking of its channel runs in, nobody else has the channel
+link_free : (rows : List Row) (assigned : List (Option ℕ)) (i cleared offered : ℕ) (d : Day) (received : List (List ℕ)) → IsLink rows assigned i d received → IsAlone rows assigned i cleared offered → cleared ≤ d.moment + 1 → d.moment + 1 ≤ offered → is_held (following d received).entries (channel_at assigned i) ≡ true → is_live (standing_at (following d received) i) ≡ true
 link_free rows assigned i cleared offered d received h alone low high held =
-    let left : Day = behind d received in
+    let left : Day = following d received in
     let c = channel_at assigned i in
     let p = held_by left.entries c held in
     let j = p.0 in
@@ -237,8 +237,8 @@ offers_none e t = none (is_running e.booking t && not e.booking.inward)
     none false = refl
 
 -- what is left of the cases below: the booking before its second with a link
-link_early : (rows : List Row) (assigned : List (Option ℕ)) (i cleared offered ended : ℕ) (d : Day) (received : List (List ℕ)) → IsBooked rows assigned i cleared offered ended → Stands rows assigned i cleared offered ended d → IsLink rows assigned i d received → IsSettledAt (behind d received) i → d.moment + 1 ≤ offered
-    → ((standing_at (behind d received) i ≡ Unoffered) × (offers (entry_at d.entries i) (d.moment + 1) (is_free d (entry_at d.entries i).channel) ≡ false) × (standing_at d i ≡ Unoffered)) ⊎ IsUp offered (standing_at (behind d received) i)
+link_early : (rows : List Row) (assigned : List (Option ℕ)) (i cleared offered ended : ℕ) (d : Day) (received : List (List ℕ)) → IsBooked rows assigned i cleared offered ended → Stands rows assigned i cleared offered ended d → IsLink rows assigned i d received → IsSettledAt (following d received) i → d.moment + 1 ≤ offered
+    → ((standing_at (following d received) i ≡ Unoffered) × (offers (entry_at d.entries i) (d.moment + 1) (is_free d (entry_at d.entries i).channel) ≡ false) × (standing_at d i ≡ Unoffered)) ⊎ IsUp offered (standing_at (following d received) i)
 link_early rows assigned i cleared offered ended d received b s h settled le =
     let less : d.moment + 1 < (row_at rows i).end = omega (arith, le, b.late) in
     elim (s.early (omega (arith, le))) [
@@ -252,7 +252,7 @@ link_early rows assigned i cleared offered ended d received b s h settled le =
 unoffered_live : (s : Standing) → s ≡ Unoffered → is_live s ≡ true → ⊥
 unoffered_live s is live = false≢true (sym (ap is_live is) ∙ live)
 
-link_offers : (rows : List Row) (assigned : List (Option ℕ)) (i cleared offered ended : ℕ) (d : Day) (received : List (List ℕ)) → IsBooked rows assigned i cleared offered ended → Stands rows assigned i cleared offered ended d → IsLink rows assigned i d received → IsSettledAt (behind d received) i → d.moment + 1 ≡ offered → IsUp offered (standing_at (behind d received) i)
+link_offers : (rows : List Row) (assigned : List (Option ℕ)) (i cleared offered ended : ℕ) (d : Day) (received : List (List ℕ)) → IsBooked rows assigned i cleared offered ended → Stands rows assigned i cleared offered ended d → IsLink rows assigned i d received → IsSettledAt (following d received) i → d.moment + 1 ≡ offered → IsUp offered (standing_at (following d received) i)
 link_offers rows assigned i cleared offered ended d received b s h settled is =
     elim (link_early rows assigned i cleared offered ended d received b s h settled (omega (arith, is))) [
       | inl still ↦ absurd (
@@ -266,16 +266,16 @@ link_offers rows assigned i cleared offered ended d received b s h settled is =
       | inr up ↦ up
     ]
 
-link_over_at : (rows : List Row) (assigned : List (Option ℕ)) (i cleared offered ended : ℕ) (d : Day) (received : List (List ℕ)) → IsBooked rows assigned i cleared offered ended → Stands rows assigned i cleared offered ended d → IsLink rows assigned i d received → (row_at rows i).end ≤ d.moment + 1 → IsCarriedBy offered (row_at rows i).end (standing_at (behind d received) i)
+link_over_at : (rows : List Row) (assigned : List (Option ℕ)) (i cleared offered ended : ℕ) (d : Day) (received : List (List ℕ)) → IsBooked rows assigned i cleared offered ended → Stands rows assigned i cleared offered ended d → IsLink rows assigned i d received → (row_at rows i).end ≤ d.moment + 1 → IsCarriedBy offered (row_at rows i).end (standing_at (following d received) i)
 link_over_at rows assigned i cleared offered ended d received b s h le = elim (cases_lt d.moment (row_at rows i).end) [
   | inl less ↦ (let is : d.moment + 1 ≡ (row_at rows i).end = omega (arith, less, le) in link_end rows assigned i offered d received h is (s.up (omega (arith, is, b.late)) less))
   | inr past ↦ link_over rows assigned i offered d received h (s.over past)
 ]
 
-link_stands : (rows : List Row) (assigned : List (Option ℕ)) (i cleared offered ended : ℕ) (d : Day) (received : List (List ℕ)) → d.moment < 300000 → IsBooked rows assigned i cleared offered ended → Stands rows assigned i cleared offered ended d → IsAnswered (passed_in Up d).day (behind d received) → Stands rows assigned i cleared offered ended (behind d received)
+link_stands : (rows : List Row) (assigned : List (Option ℕ)) (i cleared offered ended : ℕ) (d : Day) (received : List (List ℕ)) → d.moment < 300000 → IsBooked rows assigned i cleared offered ended → Stands rows assigned i cleared offered ended d → IsAnswered (passed_in Up d).day (following d received) → Stands rows assigned i cleared offered ended (following d received)
 link_stands rows assigned i cleared offered ended d received early b s ok =
     let called : Day = (passed_in Up d).day in
-    let left : Day = behind d received in
+    let left : Day = following d received in
     let n = d.moment + 1 in
     let end = (row_at rows i).end in
     let first = called_turn rows assigned d early s.calm in
@@ -306,7 +306,7 @@ down_live d e = unlinked e (d.moment + 1) e.standing (λ m. is_live m.standing �
     was (Before live) = live
     was (Offered accepted runs free) = absurd (false≢true free)
 
--- a channel that is held behind it was held before
+-- a channel that is held after it was held before
 down_held : (d : Day) (c : ℕ) → is_held (passed_in Down d).day.entries c ≡ true → is_held d.entries c ≡ true
 down_held d c held =
     let p = held_by (passed_in Down d).day.entries c held in
@@ -360,13 +360,13 @@ not_due : (ss : List LiveSecond) (m t : ℕ) → IsDueIn (Unlinked ∷ ss) m t �
 not_due ss m t (inl le) is = omega (arith, le, is)
 not_due ss m t (inr h) is = false≢true (sym (ap (λ b. if b then false else has_link (m + 1) ss t) (eq-eqb t (m + 1) is)) ∙ h)
 
-pub day_linked : (d : Day) (received : List (List ℕ)) → d.moment < 300000 → second_after (Linked received) d ≡ behind d received
+pub day_linked : (d : Day) (received : List (List ℕ)) → d.moment < 300000 → second_after (Linked received) d ≡ following d received
 day_linked d received early = ap (λ x. heard_in received x.day) (tick_is d early)
 
-pub turn_linked : (P : Day → Day → Type 0) (d : Day) (received : List (List ℕ)) → d.moment < 300000 → P (tick d).day (heard_in received (tick d).day) → P (passed_in Up d).day (behind d received)
+pub turn_linked : (P : Day → Day → Type 0) (d : Day) (received : List (List ℕ)) → d.moment < 300000 → P (tick d).day (heard_in received (tick d).day) → P (passed_in Up d).day (following d received)
 turn_linked P d received early ok = subst (λ x. P x.day (heard_in received x.day)) (tick_is d early) ok
 
-pub linked_turn : (P : Day → Day → Type 0) (d : Day) (received : List (List ℕ)) → d.moment < 300000 → P (passed_in Up d).day (behind d received) → P (tick d).day (heard_in received (tick d).day)
+pub linked_turn : (P : Day → Day → Type 0) (d : Day) (received : List (List ℕ)) → d.moment < 300000 → P (passed_in Up d).day (following d received) → P (tick d).day (heard_in received (tick d).day)
 linked_turn P d received early ok = subst (λ x. P x.day (heard_in received x.day)) (sym (tick_is d early)) ok
 
 pub booked_run : (rows : List Row) (assigned : List (Option ℕ)) (i cleared offered ended : ℕ) (seconds : List LiveSecond) (d : Day) → IsBooked rows assigned i cleared offered ended → Stands rows assigned i cleared offered ended d → AreAnswered seconds d → d.moment + length seconds ≤ 300000
@@ -374,7 +374,7 @@ pub booked_run : (rows : List Row) (assigned : List (Option ℕ)) (i cleared off
 booked_run rows assigned i cleared offered ended [] d b s ok few dc do_ de = elim de [ inl le ↦ s.done le | inr h ↦ absurd (false≢true h) ]
 booked_run rows assigned i cleared offered ended (Linked received ∷ ss) d b s ok few dc do_ de =
     let early : d.moment < 300000 = omega (arith, few) in
-    let left : Day = behind d received in
+    let left : Day = following d received in
     let is : second_after (Linked received) d ≡ left = day_linked d received early in
     let next = link_stands rows assigned i cleared offered ended d received early b s (turn_linked IsAnswered d received early ok.0) in
     let first = called_turn rows assigned d early s.calm in
@@ -397,7 +397,7 @@ pub calm_run : (rows : List Row) (assigned : List (Option ℕ)) (seconds : List 
 calm_run rows assigned [] d h ok few = h
 calm_run rows assigned (Linked received ∷ ss) d h ok few =
     let early : d.moment < 300000 = omega (arith, few) in
-    let left : Day = behind d received in
+    let left : Day = following d received in
     let is : second_after (Linked received) d ≡ left = day_linked d received early in
     let at : left.moment ≡ d.moment + 1 = (heard_turn rows assigned (d.moment + 1) received (passed_in Up d).day (called_turn rows assigned d early h)).moment in
     subst (λ x. IsCalm rows assigned (seconds_after ss x)) (sym is) (calm_run rows assigned ss left (calm_linked rows assigned d received early h (turn_linked IsCleared d received early ok.0)) (subst (AreCleared ss) is ok.1) (omega (arith, few, at)))
@@ -422,16 +422,16 @@ pub record Connects (rows : List Row) (assigned : List (Option ℕ)) (i connecte
   pub done : ended ≤ d.moment → IsCarriedBy connected (row_at rows i).end (standing_at d i)
 
 -- a tick connects it
-link_connects : (rows : List Row) (assigned : List (Option ℕ)) (i u : ℕ) (d : Day) (received : List (List ℕ)) → IsLink rows assigned i d received → d.moment + 1 < (row_at rows i).end → d.moment + 1 ≤ u → IsBegun (standing_at d i) → IsUp u (standing_at (behind d received) i)
+link_connects : (rows : List Row) (assigned : List (Option ℕ)) (i u : ℕ) (d : Day) (received : List (List ℕ)) → IsLink rows assigned i d received → d.moment + 1 < (row_at rows i).end → d.moment + 1 ≤ u → IsBegun (standing_at d i) → IsUp u (standing_at (following d received) i)
 link_connects rows assigned i u d received h less le begun =
     let called : Day = (passed_in Up d).day in
     let e = entry_at d.entries i in
     let now : IsUp u (standing_at called i) = subst (IsUp u) (sym (after_standing Up d i)) (begun_tick u (d.moment + 1) e (is_free d e.channel) e.standing begun (subst (λ (b : Row). d.moment + 1 < b.end) (sym (h.fits.framed.0 i h.inside).booking) less) le) in
     link_keeps rows assigned i u d received h (up_going u (standing_at called i) now) (up_kept u (standing_at called i) now)
 
-link_inward : (rows : List Row) (assigned : List (Option ℕ)) (i connected ended : ℕ) (d : Day) (received : List (List ℕ)) → d.moment < 300000 → IsInward rows i connected ended → Connects rows assigned i connected ended d → IsCleared (passed_in Up d).day (behind d received) → Connects rows assigned i connected ended (behind d received)
+link_inward : (rows : List Row) (assigned : List (Option ℕ)) (i connected ended : ℕ) (d : Day) (received : List (List ℕ)) → d.moment < 300000 → IsInward rows i connected ended → Connects rows assigned i connected ended d → IsCleared (passed_in Up d).day (following d received) → Connects rows assigned i connected ended (following d received)
 link_inward rows assigned i connected ended d received early b s ok =
-    let left : Day = behind d received in
+    let left : Day = following d received in
     let n = d.moment + 1 in
     let first = called_turn rows assigned d early s.calm in
     let last = heard_turn rows assigned n received (passed_in Up d).day first in
@@ -487,7 +487,7 @@ inward_run : (rows : List Row) (assigned : List (Option ℕ)) (i connected ended
 inward_run rows assigned i connected ended [] d b s ok few dc de = elim de [ inl le ↦ s.done le | inr h ↦ absurd (false≢true h) ]
 inward_run rows assigned i connected ended (Linked received ∷ ss) d b s ok few dc de =
     let early : d.moment < 300000 = omega (arith, few) in
-    let left : Day = behind d received in
+    let left : Day = following d received in
     let is : second_after (Linked received) d ≡ left = day_linked d received early in
     let next = link_inward rows assigned i connected ended d received early b s (turn_linked IsCleared d received early ok.0) in
     let at : left.moment ≡ d.moment + 1 = (heard_turn rows assigned (d.moment + 1) received (passed_in Up d).day (called_turn rows assigned d early s.calm)).moment in
@@ -549,7 +549,7 @@ called_run rows assigned i connected ended zero seconds d b calm ok few on size 
 called_run rows assigned i connected ended (suc n) [] d b calm ok few on size dc de = absurd (omega (arith, size))
 called_run rows assigned i connected ended (suc n) (Linked received ∷ ss) d b calm ok few on size dc de =
     let early : d.moment < 300000 = omega (arith, few) in
-    let left : Day = behind d received in
+    let left : Day = following d received in
     let is : second_after (Linked received) d ≡ left = day_linked d received early in
     let at : left.moment ≡ d.moment + 1 = (heard_turn rows assigned (d.moment + 1) received (passed_in Up d).day (called_turn rows assigned d early calm)).moment in
     subst (λ x. IsCarriedBy connected (row_at rows i).end (standing_at (seconds_after ss x) i)) (sym is)

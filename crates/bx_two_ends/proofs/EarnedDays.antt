@@ -209,7 +209,7 @@ carried_punctual rows channels assigned turns i b h few ok k = at (row_at rows i
     free : (s : ℕ) → (row_at rows i).start ≡ suc s → IsAlone rows assigned i s (suc s)
     free s is j m lt other a same from to = false_from_ne_true (is_running (row_at rows j) m) (λ runs.
         let p = runs_at (row_at rows j) m runs in
-        let past : suc s < (row_at rows j).end = past_end s m (row_at rows j).end from p.1 (λ e. k.behind_none j lt a same (e ∙ sym is)) in
+        let past : suc s < (row_at rows j).end = past_end s m (row_at rows j).end from p.1 (λ e. k.after_none j lt a same (e ∙ sym is)) in
         true≢false (sym (runs_from (row_at rows j) (suc s) (omega (arith, p.0, to)) past)
         ∙ alone_in rows channels assigned i (suc s) (suc s) h k.inside k.accepted (omega (arith, is)) (omega (arith, is, order)) j (suc s) lt other a same (omega arith) (omega arith)))
       where

@@ -42,7 +42,7 @@ use Rattle.bx_live.specs.declared.world.Begin.TheVariants as begins
 use Rattle.bx_live.specs.declared.world.Loss.{Loss}
 use Rattle.bx_live_parts.specs.Chains.{Chain, chain_first}
 use Rattle.bx_live.specs.declared.world.Loss.TheVariants as losses
-use Rattle.bx_world.specs.BothEnds.{WroteNear, GaveBoth, PartedBoth, FarTurn, ReadsBehind, lost_by}
+use Rattle.bx_world.specs.BothEnds.{WroteNear, GaveBoth, PartedBoth, FarTurn, ReadsAfter, lost_by}
 use Rattle.bx_world.specs.Rehearsals.{Rehearses, OnPeer, OnLost, begins_by}
 use Rattle.bx_world.specs.declared.both_ends.BothEnds.{BothEnds}
 use Rattle.bx_world.specs.declared.rehearsal.Rehearsal.{Rehearsal}
@@ -171,7 +171,7 @@ module _ {R W S T D : Type 0} (remaining : R → Option (List ℕ)) (contents : 
     is_open = ap (λ (f : PlainFarEnd S T). is_far_over f.session) distant ∙ k.is_open;
   }
 
-  -- what is heard from a place on, in so many turns behind this one
+  -- what is heard from a place on, in so many turns after this one
   abbrev talk_at : Place → List ℕ → ℕ → Talk
   talk_at (Between d) t n = talk_in n d t
   talk_at (Recording d room (OnLink e)) t n = with_events (e ∷ []) (Onward n (exchange_next d e) (turn_in Exchange (exchange_next d e).moment room t))
@@ -251,7 +251,7 @@ module _ {R W S T D : Type 0} (remaining : R → Option (List ℕ)) (contents : 
       found_in : Reads remaining s.peer.near.reader mid.peer.near.reader (Ok frame) (frame_in Exchange room) → IsFound (frame_in Exchange room t) (Ok frame) (remaining (device_of mid.peer.near.reader))
       found_in r = was_found (frame_in Exchange room) t frame (remaining (device_of mid.peer.near.reader)) (r.found t k.heard)
 
-      by_turn : (turned : Result Bool LinkFault) → FarTurn far_remaining far_contents s.peer.distant mid.peer.distant turned → ReadsBehind remaining s.peer.near.reader mid.peer.near.reader (Ok frame) room turned → ReadStep s mid room frame t u
+      by_turn : (turned : Result Bool LinkFault) → FarTurn far_remaining far_contents s.peer.distant mid.peer.distant turned → ReadsAfter remaining s.peer.near.reader mid.peer.near.reader (Ok frame) room turned → ReadStep s mid room frame t u
       by_turn (Ok true) turn r = record { found' = found_in r; far_step = far_took s.peer.distant mid.peer.distant u k.far_heard k.is_open turn }
       by_turn (Ok false) turn r = absurd (let e = r.1 in cc)
       by_turn (Err fault) turn r = absurd (let e = r.1 in cc)
@@ -268,11 +268,11 @@ module _ {R W S T D : Type 0} (remaining : R → Option (List ℕ)) (contents : 
               grows = λ last p. subst (λ (f : PlainFarEnd S T). FarPart f last u) r.0 p;
             };
           }
-      by_due true is = let r = reads.behind is in by_turn r.0 r.1 r.2
+      by_due true is = let r = reads.following is in by_turn r.0 r.1 r.2
 
   -- ---- the run
 
-  -- the parts behind an act that leaves both ends' connections as they were
+  -- the parts after an act that leaves both ends' connections as they were
   quiet : {talks : ℕ → Talk} {d d' : Day} {m : ℕ} {owed : List ℕ} {w' : Watched W} {last : PlainFarEnd S T} {u : List ℕ} (s mid : World) → mid.peer.near.writer ≡ s.peer.near.writer → mid.peer.distant ≡ s.peer.distant → Ran talks d d' m owed mid.peer.near.writer w' mid.peer.distant last u → Ran talks d d' m owed s.peer.near.writer w' s.peer.distant last u
   quiet {talks = talks} {d = d} {d' = d'} {m = m} {owed = owed} {w' = w'} {last = last} {u = u} s mid near distant r =
       subst (λ (f : PlainFarEnd S T). Ran talks d d' m owed s.peer.near.writer w' f last u) distant (subst (λ (w : Watched W). Ran talks d d' m owed w w' mid.peer.distant last u) near r)
@@ -316,7 +316,7 @@ module _ {R W S T D : Type 0} (remaining : R → Option (List ℕ)) (contents : 
     by_reply acts d zero s new t u again (octet ∷ text) run = one_text (octet ∷ text) (again (Owing d zero true ((octet ∷ text) ∷ [])) tt run)
     by_reply acts d (suc room) s new t u again (octet ∷ text) run = one_text (octet ∷ text) (again (Taking d (suc room) ((octet ∷ text) ∷ [])) tt run)
 
-    -- behind one of the texts
+    -- after one of the texts
     by_texts : (acts : List Act) (d : Day) (room : ℕ) (s new : World) (t u : List ℕ) → ((place : Place) → RunsOn acts place s new t u) → (texts : List (List ℕ)) → IsRun (writing d room texts) acts (Done d')
         → Ran (λ n. Onward n d (turn_in Exchange d.moment room t)) d d' d.moment (concat texts) s.peer.near.writer new.peer.near.writer s.peer.distant new.peer.distant u
     by_texts acts d room s new t u again [] run = again (Hearing d room) tt run

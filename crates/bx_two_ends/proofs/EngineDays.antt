@@ -34,23 +34,23 @@ module _ {R W S T D : Type 0} (remaining : R → Option (List ℕ)) (contents : 
   abbrev Far : FarDay
   Far = old.peer.distant.far
 
-  ran : engine.Ran remaining contents far_remaining far_contents holds may_leave moment left_since has_failed (λ n. talk_in n Start (j.joined.far_said ++ j.joined.behind)) Start reached 0 [] old.peer.near.writer new.peer.near.writer old.peer.distant new.peer.distant (j.joined.said ++ j.joined.far_behind)
-  ran = engine.ran remaining contents far_remaining far_contents holds may_leave moment left_since has_failed reached j.early j.acts (Between Start) old new (j.joined.far_said ++ j.joined.behind) (j.joined.said ++ j.joined.far_behind)
+  ran : engine.Ran remaining contents far_remaining far_contents holds may_leave moment left_since has_failed (λ n. talk_in n Start (j.joined.far_said ++ j.joined.following)) Start reached 0 [] old.peer.near.writer new.peer.near.writer old.peer.distant new.peer.distant (j.joined.said ++ j.joined.far_following)
+  ran = engine.ran remaining contents far_remaining far_contents holds may_leave moment left_since has_failed reached j.early j.acts (Between Start) old new (j.joined.far_said ++ j.joined.following) (j.joined.said ++ j.joined.far_following)
       (record { heard = j.joined.hears; far_heard = j.joined.far_hears; is_open = j.session }) j.chain j.lost tt j.run
 
   abbrev Told : List ℕ
-  Told = told exchange_next exchange_text (talk_in ran.turns Start (j.joined.far_said ++ j.joined.behind)).events Start
+  Told = told exchange_next exchange_text (talk_in ran.turns Start (j.joined.far_said ++ j.joined.following)).events Start
 
   said_is : j.joined.said ≡ Told ++ day_frame
   said_is = same_text (contents (device_of old.peer.near.writer)) (contents (device_of new.peer.near.writer)) j.joined.held j.joined.said (Told ++ day_frame) j.joined.holds j.joined.writes ran.near.written
 
-  far_said_is : j.joined.far_said ≡ told far_next far_text (far_talk_in ran.far_part.turns Far (j.joined.said ++ j.joined.far_behind)).events Far
+  far_said_is : j.joined.far_said ≡ told far_next far_text (far_talk_in ran.far_part.turns Far (j.joined.said ++ j.joined.far_following)).events Far
   far_said_is = same_text (far_contents (device_of old.peer.distant.connection.writer)) (far_contents (device_of new.peer.distant.connection.writer)) j.joined.far_held j.joined.far_said _ j.joined.far_holds j.joined.far_writes ran.far_part.written
 
-  text_is : j.joined.said ++ j.joined.far_behind ≡ Told ++ (day_frame ++ j.joined.far_behind)
-  text_is = ap (λ (l : List ℕ). l ++ j.joined.far_behind) said_is ∙ append_assoc Told day_frame j.joined.far_behind
+  text_is : j.joined.said ++ j.joined.far_following ≡ Told ++ (day_frame ++ j.joined.far_following)
+  text_is = ap (λ (l : List ℕ). l ++ j.joined.far_following) said_is ∙ append_assoc Told day_frame j.joined.far_following
 
-  crosses : Crosses ran.turns ran.far_part.turns Start Far [] Told j.joined.far_said j.joined.behind (day_frame ++ j.joined.far_behind)
+  crosses : Crosses ran.turns ran.far_part.turns Start Far [] Told j.joined.far_said j.joined.following (day_frame ++ j.joined.far_following)
   crosses = record {
     written = refl;
     far_written = far_said_is ∙ ap (λ (t : List ℕ). told far_next far_text (far_talk_in ran.far_part.turns Far t).events Far) text_is;
@@ -65,7 +65,7 @@ module _ {R W S T D : Type 0} (remaining : R → Option (List ℕ)) (contents : 
   engine_in_lockstep =
       let turns : ran.turns ≡ reached.moment = (let r = ran.reached in omega (arith, r)) in
       ran.near.day
-      ∙ in_turns assigned ran.turns ran.far_part.turns Start Far [] Told j.joined.far_said j.joined.behind (day_frame ++ j.joined.far_behind) start (let e = j.early in omega (arith, turns, e)) crosses
+      ∙ in_turns assigned ran.turns ran.far_part.turns Start Far [] Told j.joined.far_said j.joined.following (day_frame ++ j.joined.far_following) start (let e = j.early in omega (arith, turns, e)) crosses
       ∙ ap (λ (f : FarDay). seconds_after (turns_from ran.turns (ends_of Start f [])) Start) j.far_opened
       ∙ ap (λ (n : ℕ). seconds_after (turns_from n (ends_opening rows assigned script)) Start) turns
       ∙ sym (seconds_are (turns_from reached.moment (ends_opening rows assigned script)) Start)

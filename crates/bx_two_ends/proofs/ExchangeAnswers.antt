@@ -137,7 +137,7 @@ stray_x rows assigned c t i o rest said d ok ref flag h over x is same mine repl
     next : (n : ℕ) → suc n ≡ n + 1
     next n = omega arith
 
--- ---- which of three things a live one is behind the tick
+-- ---- which of three things a live one is after the tick
 
 pub data Kinds (c : Day) (i : ℕ) : Type 0 where
   Ringing : is_ringing (standing_at c i) ≡ true → Kinds c i

@@ -43,7 +43,7 @@ abbrev pub Is19 : UserState → Type 0
 Is19 (ReleaseRequest again cause due) = Unit {0}
 Is19 _ = ⊥
 
--- ---- states behind its tick
+-- ---- states after its tick
 
 abbrev pub InT : Day → ℕ → UserState → Type 0
 InT c j s = (In8 s × (is_ringing (standing_at c j) ≡ true)) ⊎ (In10 s ⊎ (Is19 s × (is_clearing (standing_at c j) ≡ true)))

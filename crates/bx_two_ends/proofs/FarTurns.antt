@@ -24,7 +24,7 @@ use Rattle.bx_two_ends.specs.TwoEnds.{AreOnTheirOwn}
 use Rattle.bx_two_ends.proofs.FarCalls.{all_calls, insert_all, insert_apart, none_on, settle_all, settle_apart, OnLive, first_found}
 use Rattle.bx_two_ends.proofs.Holders.{held_by, insert_same, insert_other, settle_live, settle_gone, settle_other}
 
--- ---- the day behind the tick, which stays the same in a turn: its live calls are outward, each on a channel of its own
+-- ---- the day after the tick, which stays the same in a turn: its live calls are outward, each on a channel of its own
 
 pub record IsCalledDay (c : Day) : Type 0 where
   pub apart : (i j : ℕ) → is_live (standing_at c i) ≡ true → is_live (standing_at c j) ≡ true → (entry_at c.entries i).channel ≡ (entry_at c.entries j).channel → i ≡ j
@@ -115,7 +115,7 @@ holder_for c t E Q f i call day h live is =
     let same : p.1.index ≡ i = day.apart p.1.index i p.1.live live (sym p.1.channel ∙ on) in
     (p.1.reference ∙ ap suc same, (on, (p.1.origin, subst (λ k. E k call.state) same p.1.state)))
 
--- ---- a step of one call: E' and Q' say what stands behind it
+-- ---- a step of one call: E' and Q' say what stands after it
 
 -- what becomes of the call of booking i
 abbrev pub After : Day → ℕ → (ℕ → UserState → Type 0) → Next PlainUserCall → Type 0

@@ -63,7 +63,7 @@ abbrev pub received : List (ArrayVec ℕ) → List Event
 received ms = map (λ (m : ArrayVec ℕ). Receive m.items) ms
 
 abbrev pub whole_turn : List (ArrayVec ℕ) → List ℕ → Talk
-whole_turn ms rest = record { events = received ms; ending = Ok true; rest = rest; behind = rest }
+whole_turn ms rest = record { events = received ms; ending = Ok true; rest = rest; following = rest }
 
 module _ (receiver : Receiver) (moment : ℕ) (few : moment < 2 ^ 32) (rest : List ℕ) where
   abbrev pub TurnText : List (ArrayVec ℕ) → List ℕ

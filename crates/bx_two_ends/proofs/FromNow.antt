@@ -17,10 +17,10 @@ use Rattle.bx_two_ends.proofs.Calm.{IsCalm, Stands, IsDueIn, settled_cleared, se
 use Rattle.bx_two_ends.proofs.Carrying.{cleared_quiet}
 use Rattle.bx_two_ends.proofs.EarnedDays.{after_both, seconds_are, size_after}
 
--- a second with a link is behind the moment from which on it is looked for
-link_behind : (seconds : List LiveSecond) (m t : ℕ) → has_link m seconds t ≡ true → m < t
-link_behind [] m t h = absurd (false≢true h)
-link_behind (s ∷ ss) m t h = at (t == m + 1) refl (link_behind ss (m + 1) t)
+-- a second with a link is after the moment from which on it is looked for
+link_after : (seconds : List LiveSecond) (m t : ℕ) → has_link m seconds t ≡ true → m < t
+link_after [] m t h = absurd (false≢true h)
+link_after (s ∷ ss) m t h = at (t == m + 1) refl (link_after ss (m + 1) t)
   where
     at : (b : Bool) → (t == m + 1) ≡ b → (has_link (m + 1) ss t ≡ true → m + 1 < t) → m < t
     at true is rest = (let same : t ≡ m + 1 = eqb-true t (m + 1) is in omega (arith, same))
@@ -44,7 +44,7 @@ module _ (rows : List Row) (channels : List Bool) (assigned : List (Option ℕ))
 
   module _ (s : IsSettledDay D) (k : HasSecondsFrom rows assigned D seconds i cleared offered ended) where
     early : D.moment < offered
-    early = link_behind seconds D.moment offered k.offers
+    early = link_after seconds D.moment offered k.offers
 
     late : offered < (row_at rows i).end
     late = (runs_at (row_at rows i) offered k.runs).1
@@ -52,7 +52,7 @@ module _ (rows : List Row) (channels : List Bool) (assigned : List (Option ℕ))
     free : cleared ≤ D.moment → is_held D.entries (channel_at assigned i) ≡ false
     free low = elim k.clears [
       | inl p ↦ p.1
-      | inr p ↦ (let behind = link_behind seconds D.moment cleared p in absurd (omega (arith, behind, low)))
+      | inr p ↦ (let following = link_after seconds D.moment cleared p in absurd (omega (arith, following, low)))
     ]
 
     stands : Stands rows assigned i cleared offered ended D

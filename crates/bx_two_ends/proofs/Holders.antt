@@ -1,4 +1,4 @@
--- The far end's calls, channel by channel: who holds a channel behind a step.
+-- The far end's calls, channel by channel: who holds a channel after a step.
 use Rattle.std.proofs.Common.{◌≡◌, ◌≢◌, ℕ, zero, suc, ◌<◌, ◌==◌, Bool, true, false, List, [], ◌∷◌, length, Option, Some, None, refl, sym, ap, subst, ◌∙◌, nat_lt, is_some, slice_set, slice_index_or, if◌then◌else◌}
 use Rattle.std.specs.List.{AllByRecursion, list_any}
 use Rattle.std.proofs.lemmas.Bool.{true≢false, eq-eqb, eqb-true, ne_eqb, or_left, or_right}
@@ -46,14 +46,14 @@ settle_live ch y x (z ∷ zs) h on = by_cases (z.channel == ch) _ _ (λ (ys : Li
     (λ _. ap (λ b. if b then Some y else held_by ch zs) (eq-eqb y.channel ch on))
     (λ off. ap (λ b. if b then Some z else held_by ch (settle_calls ch (Live y) zs)) off ∙ settle_live ch y x zs (sym (ap (λ b. if b then Some z else held_by ch zs) off) ∙ h) on)
 
-none_behind : (z : PlainUserCall) (zs : List PlainUserCall) (ch : ℕ) → z.channel ≡ ch → AllByRecursion (λ (x : PlainUserCall). z.channel ≢ x.channel) zs → held_by ch zs ≡ None
-none_behind z [] ch on h = refl
-none_behind z (x ∷ xs) ch on h = ap (λ b. if b then Some x else held_by ch xs) (ne_eqb x.channel ch (λ e. h.0 (on ∙ sym e))) ∙ none_behind z xs ch on h.1
+none_following : (z : PlainUserCall) (zs : List PlainUserCall) (ch : ℕ) → z.channel ≡ ch → AllByRecursion (λ (x : PlainUserCall). z.channel ≢ x.channel) zs → held_by ch zs ≡ None
+none_following z [] ch on h = refl
+none_following z (x ∷ xs) ch on h = ap (λ b. if b then Some x else held_by ch xs) (ne_eqb x.channel ch (λ e. h.0 (on ∙ sym e))) ∙ none_following z xs ch on h.1
 
 pub settle_gone : (ch : ℕ) (cs : List PlainUserCall) → AreOnTheirOwn cs → held_by ch (settle_calls ch Over cs) ≡ None
 settle_gone ch [] own = refl
 settle_gone ch (z ∷ zs) own = by_cases (z.channel == ch) _ _ (λ (ys : List PlainUserCall). held_by ch ys ≡ None)
-    (λ on. none_behind z zs ch (eqb-true z.channel ch on) own.0)
+    (λ on. none_following z zs ch (eqb-true z.channel ch on) own.0)
     (λ off. ap (λ b. if b then Some z else held_by ch (settle_calls ch Over zs)) off ∙ settle_gone ch zs own.1)
 
 pub settle_other : (ch other : ℕ) (next : Next PlainUserCall) (cs : List PlainUserCall) → other ≢ ch → OnLive (λ x. x.channel ≡ ch) next → held_by other (settle_calls ch next cs) ≡ held_by other cs

@@ -10,7 +10,7 @@
 --   replies  a message of the exchange for such a call has a reference that was given; for each CONNECT of r the
 --            exchange holds r on its channel, or has that in maintenance, or the far end has cleared r (`KeptInward`);
 --   entries  a live inward call of the exchange has a reference that was given, and is on its channel; it is not in N6,
---            from which a tick ends a call and leaves nothing behind.
+--            from which a tick ends a call and leaves nothing after.
 --
 -- That says the law, as there. Each event keeps it. The exchange takes a SETUP on the channel that it names and on no
 -- other. At the far end two calls of its own with one reference would be on one channel, so there are none, and what

@@ -74,7 +74,7 @@ near_told (o ∷ os) d =
     let x = receive_octets d (out_octets o) in
     ap (λ (l : List ℕ). framed (reply_list x.reply) ++ l) (near_told os x.day) ∙ sym (framed_more (reply_list x.reply) (exchange_says os x.day))
 
--- what the far end says, and is, behind two lists of messages
+-- what the far end says, and is, after two lists of messages
 pub far_heard_more : (xs ys : List Outgoing) (f : FarDay) → far_heard (xs ++ ys) f ≡ far_heard ys (far_heard xs f)
 far_heard_more [] ys f = refl
 far_heard_more (x ∷ xs) ys f = far_heard_more xs ys (far_receive_octets f (out_octets x)).day
@@ -130,7 +130,7 @@ module _ (a b c y z : List ℕ) where
       ∙ ap (λ (l : List ℕ). a ++ l) (sym (append_assoc b c (y ++ z)))
       ∙ sym (append_assoc a (b ++ c) (y ++ z))
 
--- what the exchange hears behind its tick, in so many turns of which this is the first
+-- what the exchange hears after its tick, in so many turns of which this is the first
 abbrev pub Onward : ℕ → Day → Talk → Talk
 Onward n d1 first = follow_by first.ending first (λ events. talk_in n (after exchange_next events d1)) first
 
@@ -275,14 +275,14 @@ module _ (assigned : List (Option ℕ)) (n k : ℕ) (d : Day) (f : FarDay) (r : 
   heard_both : after far_next (hearings (r ++ S)) f ≡ G
   heard_both = far_after (r ++ S) f ∙ far_heard_more r S f
 
-  far_behind : after far_next FarEvents f ≡ F1
-  far_behind = after_more far_next (hearings (r ++ S)) (Tick ∷ []) f ∙ ap (λ (x : FarDay). (far_tick x).day) heard_both
+  far_following : after far_next FarEvents f ≡ F1
+  far_following = after_more far_next (hearings (r ++ S)) (Tick ∷ []) f ∙ ap (λ (x : FarDay). (far_tick x).day) heard_both
 
   abbrev FarRest : Talk
   FarRest = far_talk_in k F1 (Said1 ++ far_more)
 
   far_goes : far_talk_in (suc k) f FarText ≡ with_events FarEvents FarRest
-  far_goes = far_talk_step k f FarText ∙ ap (FarOnward k f) far_first ∙ ap (λ (x : FarDay). with_events FarEvents (far_talk_in k x (Said1 ++ far_more))) far_behind
+  far_goes = far_talk_step k f FarText ∙ ap (FarOnward k f) far_first ∙ ap (λ (x : FarDay). with_events FarEvents (far_talk_in k x (Said1 ++ far_more))) far_following
 
   abbrev FarSaid1 : List ℕ
   FarSaid1 = told far_next far_text FarRest.events F1
@@ -304,7 +304,7 @@ module _ (assigned : List (Option ℕ)) (n k : ℕ) (d : Day) (f : FarDay) (r : 
       c.far_written
       ∙ ap (λ (t : Talk). told far_next far_text t.events f) far_goes
       ∙ told_more far_next far_text FarEvents FarRest.events f
-      ∙ ap (λ (x : FarDay). told far_next far_text FarEvents f ++ told far_next far_text FarRest.events x) far_behind
+      ∙ ap (λ (x : FarDay). told far_next far_text FarEvents f ++ told far_next far_text FarRest.events x) far_following
       ∙ ap (λ (l : List ℕ). l ++ FarSaid1) far_tells
       ∙ ap (λ (l : List ℕ). (l ++ ((framed (far_tick G).sent ++ turn_frame F1.moment) ++ [])) ++ FarSaid1) far_framed
       ∙ text_to_near (framed (far_says r f)) (framed (far_says S (far_heard r f))) (framed (far_tick G).sent) (turn_frame F1.moment) FarSaid1

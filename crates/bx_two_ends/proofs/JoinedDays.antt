@@ -49,7 +49,7 @@ pub appended : (P : Type 0) (fault : LinkFault) (b : Bool) → (Ok b ≡ Err fau
 appended P fault b (inl e) = absurd cc
 appended P fault b (inr p) = p
 
--- what was written behind what was held, told in two ways
+-- what was written after what was held, told in two ways
 pub same_text : (old new : Option (List ℕ)) (held text more : List ℕ) → old ≡ Some held → new ≡ Some (held ++ text) → Appends old new more → text ≡ more
 same_text (Some xs) (Some ys) held text more p q a =
     let o : xs ≡ held = cc in
@@ -79,7 +79,7 @@ module _ {R W S T : Type 0} (rows : List Row) (channels : List Bool) (assigned :
   start = rw (j.opened, j.far_opened) (opened_between rows channels assigned script b set h s)
 
   abbrev Heard : List ℕ
-  Heard = j.joined.far_said ++ j.joined.behind
+  Heard = j.joined.far_said ++ j.joined.following
 
   near_whole : IsWhole (talk_in turns near.opened Heard) j.done.near_side.talks.events (Ok true) (near.remaining (device_of near.new.reader))
   near_whole = whole_heard Exchange (talk_in turns near.opened) Heard _ true _ (j.done.near_side.talks.goes.talk Heard j.joined.hears)
@@ -94,16 +94,16 @@ module _ {R W S T : Type 0} (rows : List Row) (channels : List Bool) (assigned :
   said_is : j.joined.said ≡ Told ++ day_frame
   said_is = same_text (near.contents (device_of near.old.writer)) (near.contents (device_of near.new.writer)) j.joined.held j.joined.said (Told ++ day_frame) j.joined.holds j.joined.writes near_written
 
-  far_whole : IsWhole (far_talk_in (turns + 1) far.opened (j.joined.said ++ j.joined.far_behind)) j.done.far_side.events (Ok false) (far.remaining (device_of far.new.reader))
-  far_whole = whole_heard FarEnd (far_talk_in (turns + 1) far.opened) (j.joined.said ++ j.joined.far_behind) j.done.far_side.events false _ (j.done.far_side.goes.talk (j.joined.said ++ j.joined.far_behind) j.joined.far_hears)
+  far_whole : IsWhole (far_talk_in (turns + 1) far.opened (j.joined.said ++ j.joined.far_following)) j.done.far_side.events (Ok false) (far.remaining (device_of far.new.reader))
+  far_whole = whole_heard FarEnd (far_talk_in (turns + 1) far.opened) (j.joined.said ++ j.joined.far_following) j.done.far_side.events false _ (j.done.far_side.goes.talk (j.joined.said ++ j.joined.far_following) j.joined.far_hears)
 
   far_said_is : j.joined.far_said ≡ told far_next far_text j.done.far_side.events far.opened
   far_said_is = same_text (far.contents (device_of far.old.writer)) (far.contents (device_of far.new.writer)) j.joined.far_held j.joined.far_said _ j.joined.far_holds j.joined.far_writes (appended _ _ false j.done.far_side.goes.written.whole)
 
-  text_is : j.joined.said ++ j.joined.far_behind ≡ Told ++ (day_frame ++ j.joined.far_behind)
-  text_is = ap (λ (l : List ℕ). l ++ j.joined.far_behind) said_is ∙ append_assoc Told day_frame j.joined.far_behind
+  text_is : j.joined.said ++ j.joined.far_following ≡ Told ++ (day_frame ++ j.joined.far_following)
+  text_is = ap (λ (l : List ℕ). l ++ j.joined.far_following) said_is ∙ append_assoc Told day_frame j.joined.far_following
 
-  crosses : Crosses turns (turns + 1) near.opened far.opened [] Told j.joined.far_said j.joined.behind (day_frame ++ j.joined.far_behind)
+  crosses : Crosses turns (turns + 1) near.opened far.opened [] Told j.joined.far_said j.joined.following (day_frame ++ j.joined.far_following)
   crosses = record {
     written = ap (λ (es : List Event). told exchange_next exchange_text es near.opened) near_whole.all;
     far_written = far_said_is ∙ ap (λ (es : List Event). told far_next far_text es far.opened) far_whole.all ∙ ap (λ (t : List ℕ). told far_next far_text (far_talk_in (turns + 1) far.opened t).events far.opened) text_is;
@@ -118,7 +118,7 @@ module _ {R W S T : Type 0} (rows : List Row) (channels : List Bool) (assigned :
   in_lockstep =
       j.done.near_side.talks.goes.day
       ∙ ap (λ (es : List Event). after exchange_next es near.opened) near_whole.all
-      ∙ in_turns assigned turns (turns + 1) near.opened far.opened [] Told j.joined.far_said j.joined.behind (day_frame ++ j.joined.far_behind) start early crosses
+      ∙ in_turns assigned turns (turns + 1) near.opened far.opened [] Told j.joined.far_said j.joined.following (day_frame ++ j.joined.far_following) start early crosses
       ∙ ap (λ (d : Day). seconds_after (turns_from turns (ends_of d far.opened [])) d) j.opened
       ∙ ap (λ (f : FarDay). seconds_after (turns_from turns (ends_of Start f [])) Start) j.far_opened
       ∙ sym (seconds_are (turns_from turns (ends_opening rows assigned script)) Start)

@@ -79,13 +79,13 @@ pub record FarHolds (f : FarDay) : Type 0 where
   pub script : AllByRecursion IsScriptRow f.script
   pub within : FarWithin f
 
--- behind these messages, with what it says to them
+-- after these messages, with what it says to them
 pub record FarHeard (os : List Outgoing) (f : FarDay) : Type 0 where
   pub holds : FarHolds (far_heard os f)
   pub said : AllByRecursion Sendable (far_says os f)
   pub moment : (far_heard os f).moment ≡ f.moment
 
--- the same behind an answer
+-- the same after an answer
 record FarAnswers (os : List Outgoing) (t : ℕ) (y : Answered FarDay) : Type 0 where
   holds : FarHolds (far_heard os y.day)
   said : AllByRecursion Sendable (reply_list y.reply ++ far_says os y.day)

@@ -177,7 +177,7 @@ once_second link d once m i j flag hi hj = once m i j flag (was i hi) (was j hj)
 
 -- ---- a message does
 
--- what stands at an index behind a change at another, or at the same one
+-- what stands at an index after a change at another, or at the same one
 pub set_at : (P : Entry → Type 0) (es : List Entry) (k i : ℕ) (y : Entry) → (k ≡ i → i < length es → P y) → P (entry_at es i) → P (entry_at (slice_set es k y) i)
 set_at P (e ∷ es) zero zero y f p = f refl (omega arith)
 set_at P (e ∷ es) (suc k) (suc i) y f p = set_at P es k i y (λ is lt. f (ap suc is) (omega (arith, lt))) p

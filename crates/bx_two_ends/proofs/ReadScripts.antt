@@ -72,4 +72,4 @@ rows_fit columns (r ∷ rs) [] h = absurd h
 rows_fit columns (r ∷ rs) (b ∷ bs) h = (subst (Where IsScriptRow) h.0.row_is (row_fits columns r), rows_fit columns rs bs h.1)
 
 pub scripts_fit : (text : List ℕ) (script : List ScriptRow) → IsScript text script → AllByRecursion IsScriptRow script
-scripts_fit text script h = rows_fit h.columns h.front.records script h.front.are_rows
+scripts_fit text script h = rows_fit h.columns h.leading.records script h.leading.are_rows

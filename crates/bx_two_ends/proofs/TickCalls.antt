@@ -1,4 +1,4 @@
--- The exchange's tick in a turn, where all its live calls are Active: what it says, and what stands behind it.
+-- The exchange's tick in a turn, where all its live calls are Active: what it says, and what stands after it.
 use Rattle.std.proofs.Common.{◌≡◌, ℕ, zero, suc, ◌+◌, ◌<◌, Bool, true, false, List, [], ◌∷◌, length, Option, Some, None, refl, sym, ap, subst, ◌∙◌, arith, nat_le, if◌then◌else◌}
 use Rattle.std.specs.List.{AllByRecursion, list_any}
 use Rattle.std.proofs.lemmas.Bool.{false≢true, true≢false, and_from}
@@ -75,7 +75,7 @@ abbrev pub HasSaid : (Outgoing → Bool) → Option Outgoing → Type 0
 HasSaid p None = ⊥
 HasSaid p (Some o) = p o ≡ true
 
--- how a live one stands behind it
+-- how a live one stands after it
 pub data StandsAt (i : ℕ) (was : Bool) (s : Standing) : Type 0 where
   Idle : is_live s ≡ false → was ≡ false → StandsAt i was s
   Talks : OutwardIn ActiveIn i s → was ≡ true → StandsAt i was s
@@ -204,7 +204,7 @@ live_accepted s h = refl
 booked_live : (rows : List Row) (assigned : List (Option ℕ)) (d : Day) (i : ℕ) → Talking rows assigned d → is_live (standing_at (passed_in Up d).day i) ≡ true → Booked i (entry_at d.entries i)
 booked_live rows assigned d i h live = booked_at rows assigned d i h (second_refused (d.moment + 1) (is_free d (entry_at d.entries i).channel) (entry_at d.entries i) (standing_at d i) (live_accepted (second_in Up d (entry_at d.entries i)).standing (sym (ap is_live (same_standing d i)) ∙ live)))
 
--- what stands behind the tick was sent in it
+-- what stands after the tick was sent in it
 pub sets_sent : (rows : List Row) (assigned : List (Option ℕ)) (d : Day) (i : ℕ) → d.moment < 300000 → Talking rows assigned d → is_ringing (standing_at (passed_in Up d).day i) ≡ true → list_any (sets_up (suc i)) (tick d).sent ≡ true
 sets_sent rows assigned d i early h r = subst (λ (s : Sent Day). list_any (sets_up (suc i)) s.sent ≡ true) (sym (tick_is d early))
     (in_sent (sets_up (suc i)) (ticked d).sent (second_in Up d (entry_at d.entries i)).said (is_sent d i (booked_live rows assigned d i h (ring_live (standing_at (passed_in Up d).day i) r)).channel)

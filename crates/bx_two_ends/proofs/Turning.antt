@@ -82,13 +82,13 @@ at_set P (e ∷ es) zero zero y f p = f p
 at_set P (e ∷ es) (suc i) (suc k) y f p = at_set P es i k y f p
 at_set P es i k y f p = p
 
--- ---- a turn: the day behind some messages
+-- ---- a turn: the day after some messages
 
 -- no channel is in maintenance
 abbrev pub IsClean : Day → Type 0
 IsClean d = (c : ℕ) → is_marked d.maintenance c ≡ false
 
--- behind what was heard in the second to moment t
+-- after what was heard in the second to moment t
 pub record IsTurn (rows : List Row) (assigned : List (Option ℕ)) (t : ℕ) (d : Day) : Type 0 where
   pub fits : RunFits rows assigned d
   pub size : length d.entries ≡ length rows
@@ -152,7 +152,7 @@ WaitsOut e = (e.booking.inward ≡ false) × (e.standing ≡ Unoffered)
 pub heard_waits : (t i : ℕ) (received : List (List ℕ)) (d : Day) → d.moment ≡ t → WaitsOut (entry_at d.entries i) → WaitsOut (entry_at (heard_in received d).entries i)
 heard_waits t i received d at h = heard_entry WaitsOut t i (λ s e k. (k.0, ap (λ x. (hears s t x).standing) k.1)) (λ s x e op k. absurd (true≢false (sym (open_parts x e op).inward ∙ k.0))) received d at h
 
--- ---- who is live behind a turn
+-- ---- who is live after a turn
 
 pub on_live_at : (s : Standing) (P : PlainNetCall → Activity → Type 0) → OnLive s P → (c : PlainNetCall) (a : Activity) → s ≡ OnCall c a → P c a
 on_live_at s P h c a is = subst (λ x. OnLive x P) is h

@@ -1,5 +1,5 @@
 -- A far end that answers, by its messages: each SETUP that waits by CONNECT, each DISCONNECT and RELEASE that waits by RELEASE or
--- RELEASE COMPLETE, each STATUS ENQUIRY behind an outage by any message of its call, all before the next tick; and it clears no
+-- RELEASE COMPLETE, each STATUS ENQUIRY after an outage by any message of its call, all before the next tick; and it clears no
 -- other call. It may call as it likes.
 use Rattle.std.specs.Prelude.{◌≡◌, ℕ, ◌==◌, ◌&&◌, ◌||◌, not, Bool, true, false, List, [], ◌∷◌, Option, Some, None, Result, Ok, Err, if◌then◌else◌}
 use Rattle.std.specs.List.{list_any}
@@ -88,7 +88,7 @@ abbrev pub is_clearing : Standing → Bool
 is_clearing (OnCall call activity) = net_is_clearing call.state
 is_clearing _ = false
 
--- STATUS ENQUIRY was sent behind an outage, or is to be
+-- STATUS ENQUIRY was sent after an outage, or is to be
 abbrev pub is_enquired : Standing → Bool
 is_enquired (OnCall call activity) = is_asked call.state
 is_enquired _ = false
@@ -107,7 +107,7 @@ abbrev pub SparesAll : List (List ℕ) → Day → Type 0
 SparesAll [] d = Unit {0}
 SparesAll (octets ∷ rest) d = Spares octets d × SparesAll rest (receive_octets d octets).day
 
--- what comes in a turn, behind the tick that leaves this day: each call that is being cleared is released, each that is asked for
+-- what comes in a turn, after the tick that leaves this day: each call that is being cleared is released, each that is asked for
 -- is told something, and no other is cleared
 pub record Clears (d : Day) (received : List (List ℕ)) : Type 0 where
   pub released : (i : ℕ) → is_clearing (standing_at d i) ≡ true → is_told (λ m. is_release m.kind) (entry_at d.entries i) received ≡ true

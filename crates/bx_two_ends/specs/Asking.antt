@@ -1,4 +1,4 @@
--- A call that is asked for, behind seconds without a link: how long it is Active where no word comes of it, and that there
+-- A call that is asked for, after seconds without a link: how long it is Active where no word comes of it, and that there
 -- is no such call on a day without such seconds.
 use Rattle.std.specs.Prelude.{◌≡◌, ℕ, zero, suc, ◌+◌, Bool, true, false}
 use Rattle.std.specs.List.{AllByRecursion}
@@ -20,7 +20,7 @@ next_second t end (Live call) = (net_second call t end).next
 next_second t end Over = Over
 next_second t end Broken = Broken
 
--- behind n ticks, of which the first comes to moment t + 1
+-- after n ticks, of which the first comes to moment t + 1
 abbrev pub call_after : ℕ → ℕ → ℕ → Next PlainNetCall → Next PlainNetCall
 call_after zero t end next = next
 call_after (suc n) t end next = call_after n (t + 1) end (next_second (t + 1) end next)

@@ -74,7 +74,7 @@ abbrev pub is_going : Standing → Bool
 is_going (OnCall call activity) = not (net_is_clearing call.state)
 is_going _ = false
 
--- a turn, from the day behind its tick to the day that it leaves: no DISCONNECT, RELEASE or STATUS ENQUIRY waits for its answer, and
+-- a turn, from the day after its tick to the day that it leaves: no DISCONNECT, RELEASE or STATUS ENQUIRY waits for its answer, and
 -- no call is over that was not being cleared. A call may ring as long as its timers let it.
 pub record IsCleared (called left : Day) : Type 0 where
   pub cleared : (i : ℕ) → OnLive (standing_at left i) (λ call a. net_is_clearing call.state ≡ false)
@@ -105,7 +105,7 @@ abbrev pub IsAlone : List Row → List (Option ℕ) → ℕ → ℕ → ℕ → 
 IsAlone rows assigned i t u = (j m : ℕ) → j < length rows → j ≢ i → is_accepted assigned j ≡ true → channel_at assigned j ≡ channel_at assigned i → t ≤ m → m ≤ u → is_running (row_at rows j) m ≡ false
 
 -- its channel is cleared by moment cleared, at the opening or in a second with a link; it runs in the second with a link to
--- moment offered; and behind its end there is one to moment ended
+-- moment offered; and after its end there is one to moment ended
 pub record HasSeconds (rows : List Row) (assigned : List (Option ℕ)) (seconds : List LiveSecond) (i cleared offered ended : ℕ) : Type 0 where
   pub inside : i < length rows
   pub accepted : is_accepted assigned i ≡ true
@@ -126,7 +126,7 @@ pub record IsSettledDay (d : Day) : Type 0 where
   pub clean : (c : ℕ) → is_marked d.maintenance c ≡ false
 
 -- a booking that waits on such a day has its seconds from then on: its channel is not held on that day, or is cleared in a second
--- with a link behind it; the rest is as before
+-- with a link after it; the rest is as before
 pub record HasSecondsFrom (rows : List Row) (assigned : List (Option ℕ)) (d : Day) (seconds : List LiveSecond) (i cleared offered ended : ℕ) : Type 0 where
   pub inside : i < length rows
   pub outward : (row_at rows i).inward ≡ false
@@ -145,7 +145,7 @@ pub record HasSecondsFrom (rows : List Row) (assigned : List (Option ℕ)) (d : 
 abbrev pub IsActiveAt : List Row → List (Option ℕ) → List LiveSecond → ℕ → ℕ → Type 0
 IsActiveAt rows assigned seconds i moment = OnLive (standing_at (seconds_after (take moment seconds) (opening rows assigned)) i) (λ call a. is_active call.state ≡ true)
 
--- its call is Active at moment begun, and behind its end there is a second with a link to moment ended
+-- its call is Active at moment begun, and after its end there is a second with a link to moment ended
 pub record IsTalking (rows : List Row) (assigned : List (Option ℕ)) (seconds : List LiveSecond) (i begun ended : ℕ) : Type 0 where
   pub inside : i < length rows
   pub live : is_live (standing_at (seconds_after (take begun seconds) (opening rows assigned)) i) ≡ true
@@ -154,8 +154,8 @@ pub record IsTalking (rows : List Row) (assigned : List (Option ℕ)) (seconds :
   pub over : (row_at rows i).end ≤ ended
   pub ends : has_link 0 seconds ended ≡ true
 
--- its call is live at moment begun, begun by the far end; it runs in a second with a link to moment connected behind that; and
--- behind its end there is one to moment ended
+-- its call is live at moment begun, begun by the far end; it runs in a second with a link to moment connected after that; and
+-- after its end there is one to moment ended
 pub record IsCalled (rows : List Row) (assigned : List (Option ℕ)) (seconds : List LiveSecond) (i begun connected ended : ℕ) : Type 0 where
   pub inside : i < length rows
   pub live : is_live (standing_at (seconds_after (take begun seconds) (opening rows assigned)) i) ≡ true
@@ -189,10 +189,10 @@ pub record IsPunctual (rows : List Row) (assigned : List (Option ℕ)) (i turns 
   pub accepted : is_accepted assigned i ≡ true
   pub outward : (row_at rows i).inward ≡ false
   pub first : 1 ≤ (row_at rows i).start
-  pub behind_none : (j : ℕ) → j < length rows → is_accepted assigned j ≡ true → channel_at assigned j ≡ channel_at assigned i → (row_at rows j).end ≢ (row_at rows i).start
+  pub after_none : (j : ℕ) → j < length rows → is_accepted assigned j ≡ true → channel_at assigned j ≡ channel_at assigned i → (row_at rows j).end ≢ (row_at rows i).start
   pub over : (row_at rows i).end ≤ turns
 
--- it was Active from some moment that is not behind this one until its end
+-- it was Active from some moment that is not after this one until its end
 abbrev pub IsCarriedBy : ℕ → ℕ → Standing → Type 0
 IsCarriedBy moment end (Carried from until) = (from ≤ moment) × (until ≡ end)
 IsCarriedBy moment end _ = ⊥

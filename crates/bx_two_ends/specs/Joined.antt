@@ -19,8 +19,8 @@ use Rattle.bx_world.specs.Rehearsals.{Rehearses}
 use Rattle.bx_world.specs.declared.both_ends.BothEnds.{BothEnds}
 use Rattle.bx_world.specs.declared.rehearsal.Rehearsal.{Rehearsal}
 
--- what each end writes in the day, behind what its writer held before, is what the reader of the other end gives from the day's
--- opening on, with anything behind it; by what readers still give and what writers hold, before and after
+-- what each end writes in the day, after what its writer held before, is what the reader of the other end gives from the day's
+-- opening on, with anything after it; by what readers still give and what writers hold, before and after
 pub record AreJoined {R W S T : Type 0} (remaining : R → Option (List ℕ)) (contents : W → Option (List ℕ)) (far_remaining : S → Option (List ℕ)) (far_contents : T → Option (List ℕ)) (near near' : Connection R W) (far far' : Connection S T) : Type 0 where
   pub held : List ℕ
   pub said : List ℕ
@@ -30,10 +30,10 @@ pub record AreJoined {R W S T : Type 0} (remaining : R → Option (List ℕ)) (c
   pub writes : contents (device_of near'.writer) ≡ Some (held ++ said)
   pub far_holds : far_contents (device_of far.writer) ≡ Some far_held
   pub far_writes : far_contents (device_of far'.writer) ≡ Some (far_held ++ far_said)
-  pub behind : List ℕ
-  pub far_behind : List ℕ
-  pub hears : remaining (device_of near.reader) ≡ Some (far_said ++ behind)
-  pub far_hears : far_remaining (device_of far.reader) ≡ Some (said ++ far_behind)
+  pub following : List ℕ
+  pub far_following : List ℕ
+  pub hears : remaining (device_of near.reader) ≡ Some (far_said ++ following)
+  pub far_hears : far_remaining (device_of far.reader) ≡ Some (said ++ far_following)
 
 -- a day of so many turns by `run_both_ends`, of a plan and a script, that went through all of them
 pub record IsJoinedDay {R W S T : Type 0} (rows : List Row) (assigned : List (Option ℕ)) (script : List ScriptRow) (turns : ℕ) (near : Passage Day R W) (far : Passage FarDay S T) : Type 0 where
@@ -44,7 +44,7 @@ pub record IsJoinedDay {R W S T : Type 0} (rows : List Row) (assigned : List (Op
   pub done : BothDone turns near far result
 
 -- a day by the program's engine, `run_live` over a rehearsal towards `BothEnds`, with a journal or without: its acts take the world from the
--- opening of both days to this day of the exchange, behind the end of the day, and the link was not lost
+-- opening of both days to this day of the exchange, after the end of the day, and the link was not lost
 pub record IsEngineDay {R W S T D : Type 0} (remaining : R → Option (List ℕ)) (contents : W → Option (List ℕ)) (far_remaining : S → Option (List ℕ)) (far_contents : T → Option (List ℕ)) (holds may_leave : D → List ℕ → Type 0) (moment : D → ℕ) (left_since : D → ℕ → List ℕ → Type 0) (has_failed : D → Bool)
     (rows : List Row) (assigned : List (Option ℕ)) (script : List ScriptRow) (old new : Rehearsal (BothEnds R W S T) D) (reached : Day) : Type 0 where
   pub acts : List Act

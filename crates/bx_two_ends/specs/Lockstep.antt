@@ -33,13 +33,13 @@ abbrev pub exchange_says : List Outgoing → Day → List Outgoing
 exchange_says [] d = []
 exchange_says (o ∷ os) d = reply_list (receive_octets d (out_octets o)).reply ++ exchange_says os (receive_octets d (out_octets o)).day
 
--- between two turns: both days, and what the far end said behind its last tick
+-- between two turns: both days, and what the far end said after its last tick
 pub record Ends : Type 0 where
   pub exchange : Day
   pub far : FarDay
   pub pending : List Outgoing
 
--- the far end behind the messages of the exchange's tick, and behind its own
+-- the far end after the messages of the exchange's tick, and after its own
 abbrev pub far_called : Ends → FarDay
 far_called e = far_heard (tick e.exchange).sent e.far
 

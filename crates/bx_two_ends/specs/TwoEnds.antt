@@ -10,7 +10,7 @@
 --   acknowledged  for each such call that is Active at the far end, the exchange has sent CONNECT ACKNOWLEDGE with its
 --                 reference.
 --
--- A front of a list of events is one too, so this holds at each point. A call is named by its reference and by who began
+-- A prefix of a list of events is one too, so this holds at each point. A call is named by its reference and by who began
 -- it, which the flag tells: 0 in messages from the end that began the call, 1 in messages to it.
 --
 -- Premises: bookings and script rows within their limits, a plan that is carried, and that each message which comes was

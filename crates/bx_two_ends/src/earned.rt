@@ -39,7 +39,7 @@ pub fn plan_stays()
 
 /// What is planned is earned, whatever seconds without a link there are between turns. Where the far end answers each turn an accepted
 /// outward booking is carried to its end, from its second second with a link at the latest; on a link that is never lost each that
-/// takes two seconds or more, from a second behind its start at the latest, and one that begins while its channel is free from its
+/// takes two seconds or more, from a second after its start at the latest, and one that begins while its channel is free from its
 /// start. Where it clears just what is cleared, but lets calls ring, a booking whose call is Active at some moment is carried from
 /// then at the latest, and an inward one that is called from the next second with a link on; and no channel gets into maintenance.
 /// And whatever went before (`recovered`): on a day on which no call waits for an answer and no channel is in maintenance, and from which on
@@ -55,8 +55,8 @@ pub fn planned_is_carried()
     ensures punctual { (rows : List Row) (channels : List Bool) (assigned : List (Option ℕ)) (turns : List (List (List ℕ))) (i : ℕ) → AreBookings rows → Carries rows channels (is_accepted assigned) (channel_at assigned) → length turns ≤ LAST_MOMENT → AreAnswered (map (λ (received : List (List ℕ)). Linked received) turns) (opening rows assigned) → IsPunctual rows assigned i (length turns) → IsCarriedBy (row_at rows i).start (row_at rows i).end (standing_at (live_day_after (events_of (map (λ (received : List (List ℕ)). Linked received) turns)) (opening rows assigned)) i) }
 {}
 
-/// A far end that answers by its messages answers each turn, and one that clears by its messages clears each turn: behind a tick and before
-/// the next one come RELEASE or RELEASE COMPLETE to each call that is being cleared, any message to each that is asked for behind seconds
+/// A far end that answers by its messages answers each turn, and one that clears by its messages clears each turn: after a tick and before
+/// the next one come RELEASE or RELEASE COMPLETE to each call that is being cleared, any message to each that is asked for after seconds
 /// without a link, nothing that clears another call, and, where it answers, a CONNECT to each call whose SETUP waits.
 pub fn turns_are_answered()
     ensures answered { (rows : List Row) (channels : List Bool) (assigned : List (Option ℕ)) (seconds : List LiveSecond) → AreBookings rows → IsChannelSet channels → Carries rows channels (is_accepted assigned) (channel_at assigned) → length seconds ≤ LAST_MOMENT → AnswersAll seconds (opening rows assigned) → AreAnswered seconds (opening rows assigned) }

@@ -177,14 +177,14 @@ pub const NEW_JOURNAL: Argument = Argument {
     name: "journal",
     value: "FILE",
     form: Form::Optional,
-    help: "Put each event on record in this file, which has to be new or empty, before anything is sent for it",
+    help: "Log each event in this file, which has to be new or empty, before anything is sent for it",
 };
 
 pub const KEPT_JOURNAL: Argument = Argument {
     name: "journal",
     value: "FILE",
     form: Form::Optional,
-    help: "Put each event on record in this file before anything is sent for it: a new or empty one; a live day goes on from what stands there",
+    help: "Log each event in this file before anything is sent for it: a new or empty one; a live day goes on from what stands there",
 };
 
 pub const OFFICE: Argument = Argument {
@@ -240,7 +240,7 @@ pub const END: Argument = Argument {
     name: "end",
     value: "END",
     form: Form::Place,
-    help: "The first second behind the call, in the same form",
+    help: "The first second after the call, in the same form",
 };
 
 pub const INWARD: Argument = Argument {

@@ -146,7 +146,7 @@ static DAY_COMMANDS: [Words; 7] = [
     },
     Words {
         name: "sold",
-        about: "Print the last plan of a proved plan's day by its journal: its bookings, and behind them those that were sold while it ran",
+        about: "Print the last plan of a proved plan's day by its journal: its bookings, and after them those that were sold while it ran",
         arguments: &[PLAN, RECORDED_JOURNAL],
     },
     Words {

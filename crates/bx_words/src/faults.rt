@@ -1,6 +1,6 @@
 //! What each fault means, in one line.
 
-/// The faults in the order of the documents: what is printed behind `bx: `, and what it means. A letter in small print stands
+/// The faults in the order of the documents: what is printed after `bx: `, and what it means. A letter in small print stands
 /// for a number.
 pub const FAULTS: &str =
     "P1 BadLine n          line n of a plan has another form than the line that stands in its place, or is missing
@@ -36,7 +36,7 @@ A2 BadZone            the zone rule cannot be read
 A3 OutOfRange         the day is outside the calendar's range
 A4 OddDay             the day is not 1 to 200,000 seconds long
 A5 BeyondCapture      a capture or a live day cannot name the seconds of the day: it begins before 1970, or after 2106-02-03T19:08:15Z
-B1 BadHeader          the first record of the bookings is none of the headers
+B1 BadHeader          the first line of the bookings is none of the headers
 B2 WrongColumns r     row r has another number of fields than the header
 B3 NotATime r         a field of row r is not a time
 B4 NotWholeSeconds r  a time of row r has a fraction of a second
@@ -47,7 +47,7 @@ B8 BadPay r           the pay of row r is not 1 to 1,000,000,000
 B9 TooMany            there are more than 4,000 bookings
 B10 BadMust r         the mark of row r is neither yes nor no
 B11 BadDirection r    the direction of row r is neither out nor in
-S1 BadHeader          the first record of the script is neither header
+S1 BadHeader          the first line of the script is neither header
 S2 WrongColumns r     row r of the script has another number of fields than the header
 S3 BadEntry r         a field of row r of the script is none that may stand there
 S4 TooMany            the script has more than 4,000 rows
@@ -82,5 +82,5 @@ M2 NotQ931            the first octet is not 08
 M3 BadCallReference   the length of the call reference is wrong
 M4 TornElement        an information element is not whole
 M5 TooLong            the message has more than 260 octets
-Memory                no memory was to be had
+Memory                memory ran out
 ";

@@ -16,7 +16,7 @@ use std::alloc::{AllocError, AllocFailed, Global};
 /// Why the words are no command.
 #[derive(Debug, Drop)]
 pub enum Refusal {
-    /// A growth was refused.
+    /// Memory ran out.
     Memory,
     /// Help, or the version, was asked for: this is the text.
     Help(String),
@@ -403,9 +403,9 @@ fn name_it_twice(words: &[&str]) -> bool {
     words.iter().filter(|word| **word == "-").count() > 1
 }
 
-/// The command of these words, which stand behind the program's name. `help faults` is no command: it asks for the list
-/// of faults. `Wrong` where the words are no command, `Help` where help or the version was asked for, `Memory` where a growth was
-/// refused.
+/// The command of these words, which stand after the program's name. `help faults` is no command: it asks for the list
+/// of faults. `Wrong` where the words are no command, `Help` where help or the version was asked for, `Memory` where memory ran
+/// out.
 pub fn read_words<'a>(alloc: Global, words: &'a [&'a str]) -> Result<Request<'a>, Refusal> {
     if let ["help", "faults"] = words {
         return Err(faults(alloc));

@@ -39,7 +39,7 @@ fn channels_of(alloc: Global, rows: &[Row]) -> Option<Vec<Option<Channel>>> {
     Some(assigned)
 }
 
-/// A plan on channels 1, 2 and 3 of bookings of these numbers, those behind them of 1234. Its total is not that of the
+/// A plan on channels 1, 2 and 3 of bookings of these numbers, those after them of 1234. Its total is not that of the
 /// bookings: no day reads it.
 pub fn plan_of(alloc: Global, rows: &[Row], numbers: &[&[u8]]) -> Option<Plan> {
     let channels = ChannelSet::from_numbers(&[1, 2, 3]).ok()?;
@@ -48,7 +48,7 @@ pub fn plan_of(alloc: Global, rows: &[Row], numbers: &[&[u8]]) -> Option<Plan> {
     Plan::new(bookings, channels, assigned, Vec::new(alloc), 0)
 }
 
-/// The exchange at the opening of a day with bookings of these numbers, those behind them of 1234; none where their
+/// The exchange at the opening of a day with bookings of these numbers, those after them of 1234; none where their
 /// channels do not carry them.
 pub fn exchange_of_numbers(alloc: Global, rows: &[Row], numbers: &[&[u8]]) -> Option<Exchange> {
     let plan = plan_of(alloc, rows, numbers)?;

@@ -22,10 +22,10 @@ pub record FarTurn {S T : Type 0} (remaining : S → Option (List ℕ)) (content
   pub over : is_far_over new.session ≡ not (goes_on answer)
 
 -- where its turn is due, the far end takes it before the exchange reads; at a fault of it nothing is read
-abbrev pub ReadsBehind : {R : Type 0} → (R → Option (List ℕ)) → Watched R → Watched R → Result Frame LinkFault → ℕ → Result Bool LinkFault → Type 0
-ReadsBehind remaining old new answer room (Ok true) = Reads remaining old new answer (frame_in Exchange room)
-ReadsBehind remaining old new answer room (Ok false) = (new ≡ old) × (answer ≡ Err Closed)
-ReadsBehind remaining old new answer room (Err fault) = (new ≡ old) × (answer ≡ Err fault)
+abbrev pub ReadsAfter : {R : Type 0} → (R → Option (List ℕ)) → Watched R → Watched R → Result Frame LinkFault → ℕ → Result Bool LinkFault → Type 0
+ReadsAfter remaining old new answer room (Ok true) = Reads remaining old new answer (frame_in Exchange room)
+ReadsAfter remaining old new answer room (Ok false) = (new ≡ old) × (answer ≡ Err Closed)
+ReadsAfter remaining old new answer room (Err fault) = (new ≡ old) × (answer ≡ Err fault)
 
 -- the far end's day is over with the end of the day
 abbrev pub lost_by : Result Bool LinkFault → Option LinkFault
@@ -41,7 +41,7 @@ pub record IsOpening {R W S T : Type 0} (near : Connection R W) (far : FarDay) (
   pub fresh : is_far_over both.distant.session ≡ false
   pub due : both.is_due ≡ false
 
--- the far end's turn is due behind what is written, which may leave it as it was where that is a message alone
+-- the far end's turn is due after what is written, which may leave it as it was where that is a message alone
 abbrev pub IsOpened : Bool → List ℕ → Bool → Type 0
 IsOpened was octets due = (due ≡ true) ⊎ ((message : List ℕ) × (octets ≡ message_frame message) × (due ≡ was))
 
@@ -55,7 +55,7 @@ pub record WroteNear {R W S T : Type 0} (contents : W → Option (List ℕ)) (ol
 -- a frame was read for the exchange
 pub record GaveBoth {R W S T : Type 0} (remaining : R → Option (List ℕ)) (far_remaining : S → Option (List ℕ)) (far_contents : T → Option (List ℕ)) (old : BothEnds R W S T) (room : ℕ) (answer : Result Frame LinkFault) (new : BothEnds R W S T) : Type 0 where
   pub at_once : old.is_due ≡ false → (new.distant ≡ old.distant) × Reads remaining old.near.reader new.near.reader answer (frame_in Exchange room)
-  pub behind : old.is_due ≡ true → (turned : Result Bool LinkFault) × FarTurn far_remaining far_contents old.distant new.distant turned × ReadsBehind remaining old.near.reader new.near.reader answer room turned
+  pub following : old.is_due ≡ true → (turned : Result Bool LinkFault) × FarTurn far_remaining far_contents old.distant new.distant turned × ReadsAfter remaining old.near.reader new.near.reader answer room turned
   pub due : new.is_due ≡ false
   pub unwritten : new.near.writer ≡ old.near.writer
 

@@ -20,7 +20,7 @@ first_second c = c.first
 abbrev pub AreFramesOf : List (ArrayVec ℕ) → List ℕ → Type 0
 AreFramesOf messages octets = ((message : ArrayVec ℕ) × (messages ≡ message ∷ []) × (octets ≡ message_frame message.items)) ⊎ ((moment : ℕ) × (octets ≡ frames_of messages ++ turn_frame moment))
 
--- the file behind an act at this second of the clock: it has taken the packets of what was written and of the message that was read
+-- the file after an act at this second of the clock: it has taken the packets of what was written and of the message that was read
 abbrev pub OnFile : {F : Type 0} → (F → Option (List ℕ)) → ℕ → Option (Watched F) → Act → Option (Watched F) → Type 0
 OnFile contents second old (Wrote octets done) new = (messages : List (ArrayVec ℕ)) × AreFramesOf messages octets × Keeps contents old new (flat_map (packet_sent second) messages)
 OnFile contents second old (Read room (Ok (frames.Message message))) new = Keeps contents old new (packet second Received message.items)

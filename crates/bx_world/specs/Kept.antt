@@ -10,24 +10,24 @@ use Rattle.bx_journal.specs.declared.head.Head.{Head}
 use Rattle.bx_live.specs.Acts.{Act, Recorded, Synced}
 use Rattle.bx_live.specs.Written.{IsWrittenFor}
 
--- no event could not be recorded, and no sync failed
+-- no event could not be logged, and no sync failed
 abbrev pub keeps_record : List Act → Bool
 keeps_record [] = true
 keeps_record (Recorded event done ∷ acts) = done && keeps_record acts
 keeps_record (Synced done ∷ acts) = done && keeps_record acts
 keeps_record (act ∷ acts) = keeps_record acts
 
--- the events that were to be recorded
+-- the events that were to be logged
 abbrev pub asked : List Act → List LiveEvent
 asked [] = []
 asked (Recorded event done ∷ acts) = event ∷ asked acts
 asked (act ∷ acts) = asked acts
 
--- what a crash left has these events at its front
+-- what a crash left has these events at its start
 abbrev pub Knows : Head → List LiveEvent → List ℕ → Type 0
 Knows head events left = (more : List LiveEvent) × (recovered (wanted_of head) left ≡ Ok (events ++ more))
 
--- what was written belongs to the last event on record; and where messages are among it, this holds as well
+-- what was written belongs to the last event in the journal; and where messages are among it, this holds as well
 pub record IsSafe (d : Day) (before : List Act) (octets : List ℕ) (known : Type 0) : Type 0 where
   pub belongs : IsWrittenFor d before octets
   pub safe : (exchange_sent (live_day_after belongs.earlier d) belongs.event ≡ []) ⊎ known

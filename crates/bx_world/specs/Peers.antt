@@ -12,7 +12,7 @@ use Rattle.bx_frames.specs.declared.frame.Frame.{Frame}
 use Rattle.bx_frames.specs.declared.frame.Receiver.TheVariants.{Exchange}
 use Rattle.bx_link.specs.declared.connection.Connection.{Connection}
 
--- these octets were written, or a front of them and not all
+-- these octets were written, or a prefix of them and not all
 abbrev pub Puts : {W : Type 0} → (W → Option (List ℕ)) → Watched W → Watched W → List ℕ → Bool → Type 0
 Puts contents old new octets true = Appends (contents (device_of old)) (contents (device_of new)) octets
 Puts contents old new octets false = AppendsPart (contents (device_of old)) (contents (device_of new)) octets

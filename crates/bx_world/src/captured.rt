@@ -28,7 +28,7 @@ impl<W, F: Write> CapturedWorld<W, F> {
     ghost use Rattle.bx_world.specs.Captures.{first_second};
 
     /// Captures a world from now on, into the file where there is one. Moment 0 is the first second. That is at most
-    /// 4,294,667,295, so that 32 bits number each of the 300,000 seconds behind it.
+    /// 4,294,667,295, so that 32 bits number each of the 300,000 seconds after it.
     pub fn new(world: W, file: Option<Watched<F>>, first: u32) -> Self
         requires { first ≤ 4294667295 }
         ensures world { result.world ≡ world }

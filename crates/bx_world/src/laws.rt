@@ -4,7 +4,7 @@ ghost use Rattle.std.specs.Prelude.{◌≡◌, ◌++◌, ◌∷◌, ℕ, Bool, L
 ghost use Rattle.bx_events.specs.Events.{LiveEvent};
 ghost use Rattle.bx_day.specs.Day.{Day};
 ghost use Rattle.bx_journal.specs.Disk.{LeavesOnly};
-ghost use Rattle.bx_journal.specs.Recording.{IsSettled, IsFront};
+ghost use Rattle.bx_journal.specs.Recording.{IsSettled, IsPrefix};
 ghost use Rattle.bx_journal.specs.declared.head.Head.{Head};
 ghost use Rattle.bx_live.specs.Acts.{Act, Wrote, recorded, ended};
 ghost use Rattle.bx_live.specs.Runs.{Place, Between, IsRun};
@@ -18,14 +18,14 @@ ghost use Rattle.bx_world.specs.declared.rehearsal.Rehearsal.{Rehearsal as Plain
 use crate::peer::Peer;
 use bx_journal::Disk;
 
-/// A run over the disk of a journal, cut at any moment of it or behind it. What a crash leaves has each event that was synced by any
-/// earlier moment, and a front of those behind; and whenever messages were written to a peer, a crash from then on leaves all that
-/// was on record then, with the event for which they were written. So a restart knows everything that was ever sent.
+/// A run over the disk of a journal, cut at any moment of it or after it. What a crash leaves has each event that was synced by any
+/// earlier moment, and a prefix of those after; and whenever messages were written to a peer, a crash from then on leaves all that
+/// was logged then, with the event for which they were written. So a restart knows everything that was ever sent.
 pub fn nothing_is_lost<D: Disk>()
-    ensures front { (head : Head) (earlier : List LiveEvent) (first mid last : D) (before behind : List Act) (d : Day) (to : Place) → IsSettled D.holds D.may_leave first head earlier → IsRun (Between d) (before ++ behind) to → keeps_record before ≡ true → Chain (OnDisk D.holds D.may_leave D.moment D.left_since D.has_failed) first before mid → Chain (OnDisk D.holds D.may_leave D.moment D.left_since D.has_failed) mid behind last → LeavesOnly D.moment D.left_since mid last (IsFront head (earlier ++ (filed before).disk) ((filed before).more ++ asked behind)) }
-    // The same of one run, whose acts are told up to that moment and behind it.
-    ensures moments { (head : Head) (earlier : List LiveEvent) (first last : D) (before behind : List Act) (d : Day) (to : Place) → IsSettled D.holds D.may_leave first head earlier → IsRun (Between d) (before ++ behind) to → keeps_record before ≡ true → Chain (OnDisk D.holds D.may_leave D.moment D.left_since D.has_failed) first (before ++ behind) last → (mid : D) × Chain (OnDisk D.holds D.may_leave D.moment D.left_since D.has_failed) first before mid × LeavesOnly D.moment D.left_since mid last (IsFront head (earlier ++ (filed before).disk) ((filed before).more ++ asked behind)) }
-    ensures written { (head : Head) (earlier : List LiveEvent) (first mid last : D) (before behind : List Act) (octets : List ℕ) (done : Bool) (d : Day) (to : Place) → IsSettled D.holds D.may_leave first head earlier → IsRun (Between d) (before ++ Wrote octets done ∷ behind) to → Chain (OnDisk D.holds D.may_leave D.moment D.left_since D.has_failed) first before mid → Chain (OnDisk D.holds D.may_leave D.moment D.left_since D.has_failed) mid (Wrote octets done ∷ behind) last → IsSafe d before octets (LeavesOnly D.moment D.left_since mid last (Knows head (earlier ++ recorded before))) }
+    ensures prefix { (head : Head) (earlier : List LiveEvent) (first mid last : D) (before following : List Act) (d : Day) (to : Place) → IsSettled D.holds D.may_leave first head earlier → IsRun (Between d) (before ++ following) to → keeps_record before ≡ true → Chain (OnDisk D.holds D.may_leave D.moment D.left_since D.has_failed) first before mid → Chain (OnDisk D.holds D.may_leave D.moment D.left_since D.has_failed) mid following last → LeavesOnly D.moment D.left_since mid last (IsPrefix head (earlier ++ (filed before).disk) ((filed before).more ++ asked following)) }
+    // The same of one run, whose acts are told up to that moment and after it.
+    ensures moments { (head : Head) (earlier : List LiveEvent) (first last : D) (before following : List Act) (d : Day) (to : Place) → IsSettled D.holds D.may_leave first head earlier → IsRun (Between d) (before ++ following) to → keeps_record before ≡ true → Chain (OnDisk D.holds D.may_leave D.moment D.left_since D.has_failed) first (before ++ following) last → (mid : D) × Chain (OnDisk D.holds D.may_leave D.moment D.left_since D.has_failed) first before mid × LeavesOnly D.moment D.left_since mid last (IsPrefix head (earlier ++ (filed before).disk) ((filed before).more ++ asked following)) }
+    ensures written { (head : Head) (earlier : List LiveEvent) (first mid last : D) (before following : List Act) (octets : List ℕ) (done : Bool) (d : Day) (to : Place) → IsSettled D.holds D.may_leave first head earlier → IsRun (Between d) (before ++ Wrote octets done ∷ following) to → Chain (OnDisk D.holds D.may_leave D.moment D.left_since D.has_failed) first before mid → Chain (OnDisk D.holds D.may_leave D.moment D.left_since D.has_failed) mid (Wrote octets done ∷ following) last → IsSafe d before octets (LeavesOnly D.moment D.left_since mid last (Knows head (earlier ++ recorded before))) }
 {}
 
 /// Towards one peer: where it was not lost, each second began; and the disk of the journal has gone through the acts.

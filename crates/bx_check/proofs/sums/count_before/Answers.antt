@@ -1,7 +1,7 @@
 use Rattle.std.proofs.Common.{◌≡◌, ◌≤◌, ◌<◌, ◌+◌, ◌-◌, ◌/◌, sym, ◌∙◌, ap, arith}
 use Rattle.std.proofs.lemmas.List.{get_or_default}
 use Rattle.bx_base.specs.Bound.{Charge, price_at, no_charge}
-use Rattle.bx_check.proofs.Before.{before_middle, behind_middle}
+use Rattle.bx_check.proofs.Before.{before_middle, after_middle}
 use Rattle.bx_check.proofs.sums.count_before.Goals as goal
 
 pub loop-low-preserved-then-price-moment : goal.loop-low-preserved-then-price-moment
@@ -14,7 +14,7 @@ loop-low-preserved-then-price-moment c =
       order = omega arith;
       limit = c.loop-low.invariant.limit;
       before = before_middle prices c.requires m c.args.moment (omega arith) here;
-      behind = c.loop-low.invariant.behind;
+      following = c.loop-low.invariant.following;
     }
 
 pub loop-low-preserved : goal.loop-low-preserved
@@ -27,5 +27,5 @@ loop-low-preserved c =
       order = omega arith;
       limit = omega arith;
       before = c.loop-low.invariant.before;
-      behind = behind_middle prices c.requires m c.args.moment here;
+      following = after_middle prices c.requires m c.args.moment here;
     }

@@ -8,7 +8,7 @@ invariant-loop-low l =
       order : l.low ≤ l.high;
       limit : l.high ≤ length l.prices;
       before : (k : ℕ) → k < l.low → (price_at l.prices k).moment < l.moment;
-      behind : (k : ℕ) → l.high ≤ k → k < length l.prices → l.moment ≤ (price_at l.prices k).moment;
+      following : (k : ℕ) → l.high ≤ k → k < length l.prices → l.moment ≤ (price_at l.prices k).moment;
     }
 
 abbrev pub decreases-loop-low : goal.decreases-loop-low

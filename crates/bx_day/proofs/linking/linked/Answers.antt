@@ -12,7 +12,7 @@ use Rattle.bx_day.proofs.linking.linked.Goals as goal
 pub loop-k-init : goal.loop-k-init
 loop-k-init c =
     let order = c.in_ok-order.order.items in
-    none_linked c.args.entries.now order (length order - 0) c.in_ok-behind.behind.items (omega arith) (sym c.in_ok-behind.behind.ok.0 ∙ c.in_ok-behind.ensures.len)
+    none_linked c.args.entries.now order (length order - 0) c.in_ok-following.following.items (omega arith) (sym c.in_ok-following.following.ok.0 ∙ c.in_ok-following.ensures.len)
 
 -- the entry that is read, by its place in the order
 read_is : (c : After-index-entries-index) → let es = c.args.entries.now in let order = c.in_ok-order.order.items in let p = c.len.result - 1 - c.loop-k.k in let r = c.index.result.now.1 in
@@ -50,13 +50,13 @@ loop-k-preserved c =
     let read = read_is (goal.at.loop-k-preserved c).After-index-entries-index in
     let channel = (slice_index_or es r c.index-entries-index.result).channel in
     let plan : IsPlan es order = record { sorted = c.in_ok-order.ensures; apart = c.requires.apart; seated = c.requires.seated; ordered = c.requires.ordered } in
-    let before : AreLinkedFrom es order (p + 1) c.loop-k.first c.loop-k.behind.items = subst (λ n. AreLinkedFrom es order n c.loop-k.first c.loop-k.behind.items) (omega (arith, c.loop-k-test.true, c.len-k-end.ensures, c.len.ensures, c.in_ok-order.order.ok)) c.loop-k.invariant in
-    subst (λ n. AreLinkedFrom es order n (slice_set c.loop-k.first channel (Some r)) (slice_set c.loop-k.behind.items r (slice_index_or c.loop-k.first channel None))) (omega (arith, c.loop-k-test.true, c.len-k-end.ensures, c.len.ensures, c.in_ok-order.order.ok))
-    (one_linked es order p r channel c.loop-k.first c.loop-k.behind.items (slice_index_or c.loop-k.first channel None) plan read.0 read.1 read.2 refl before)
+    let before : AreLinkedFrom es order (p + 1) c.loop-k.first c.loop-k.following.items = subst (λ n. AreLinkedFrom es order n c.loop-k.first c.loop-k.following.items) (omega (arith, c.loop-k-test.true, c.len-k-end.ensures, c.len.ensures, c.in_ok-order.order.ok)) c.loop-k.invariant in
+    subst (λ n. AreLinkedFrom es order n (slice_set c.loop-k.first channel (Some r)) (slice_set c.loop-k.following.items r (slice_index_or c.loop-k.first channel None))) (omega (arith, c.loop-k-test.true, c.len-k-end.ensures, c.len.ensures, c.in_ok-order.order.ok))
+    (one_linked es order p r channel c.loop-k.first c.loop-k.following.items (slice_index_or c.loop-k.first channel None) plan read.0 read.1 read.2 refl before)
 
 pub returns : goal.returns
 returns c =
     let es = c.args.entries.now in
     let order = c.in_ok-order.order.items in
     let plan : IsPlan es order = record { sorted = c.in_ok-order.ensures; apart = c.requires.apart; seated = c.requires.seated; ordered = c.requires.ordered } in
-    all_linked es order c.loop-k.first c.loop-k.behind.items plan (subst (λ n. AreLinkedFrom es order n c.loop-k.first c.loop-k.behind.items) (omega (arith, c.loop-k-test.false, c.len-k-end.ensures, c.in_ok-order.order.ok)) c.loop-k.invariant)
+    all_linked es order c.loop-k.first c.loop-k.following.items plan (subst (λ n. AreLinkedFrom es order n c.loop-k.first c.loop-k.following.items) (omega (arith, c.loop-k-test.false, c.len-k-end.ensures, c.in_ok-order.order.ok)) c.loop-k.invariant)

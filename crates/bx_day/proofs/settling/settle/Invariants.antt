@@ -8,5 +8,5 @@ use Rattle.bx_day.proofs.settling.settle.Given as goal
 abbrev pub invariant-loop-number : goal.invariant-loop-number
 invariant-loop-number l = record {
   left : AreLeft l.number l.fn.live l.fn.waiting l.live l.waiting;
-  settled : (link : Link) (d : Day) → l.entries ≡ map (after_in link d) d.entries → AreSettledBelow link d l.number l.fn.live l.fn.waiting l.behind l.live l.waiting;
+  settled : (link : Link) (d : Day) → l.entries ≡ map (after_in link d) d.entries → AreSettledBelow link d l.number l.fn.live l.fn.waiting l.following l.live l.waiting;
 }

@@ -14,8 +14,8 @@ returns-clause-refused g c =
     not_followed g.F.Follower.followed (is_faulted journal) (g.R.Read.remaining (device_of c.args.journal.now)) (g.R.Read.remaining (device_of journal)) c.args.wanted.now c.args.follower.now c.read_journal-whole.new.follower c.args.name c.read_journal-whole.result c.journal_read.result c.journal_read.ensures
     c.read_journal-whole.ensures.read
 
-pub returns-clause-front : goal.returns-clause-front
-returns-clause-front g c =
+pub returns-clause-prefix : goal.returns-clause-prefix
+returns-clause-prefix g c =
     let journal = c.read_journal-whole.new.device in
     followed_so_far g.F.Follower.followed (is_faulted journal) (g.R.Read.remaining (device_of c.args.journal.now)) (g.R.Read.remaining (device_of journal)) c.args.wanted.now c.args.follower.now c.read_journal-whole.new.follower c.args.name c.read_journal-whole.result c.journal_read.result c.journal_read.ensures
     c.read_journal-whole.ensures.read

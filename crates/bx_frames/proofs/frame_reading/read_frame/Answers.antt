@@ -17,5 +17,5 @@ returns-in-Some-clause-read g c =
     let receiver = c.args.receiver in
     let room = c.args.room in
     let known : Some c.in-Some.kind ≡ kind_of receiver c.in_ok-octet.octet = search rules in
-    reads_then g.R.Read.remaining octet_in (λ octet rest. kind_in (kind_of receiver octet) room rest) c.args.r.now c.read_octet.new.r c.read_behind_kind.new.r c.in_ok-octet.octet c.read_behind_kind.result octet_local c.in_ok-octet.ensures
-    (subst (λ (kind : Option FrameKind). Reads g.R.Read.remaining c.read_octet.new.r c.read_behind_kind.new.r c.read_behind_kind.result (λ rest. kind_in kind room rest)) known c.read_behind_kind.ensures.read)
+    reads_then g.R.Read.remaining octet_in (λ octet rest. kind_in (kind_of receiver octet) room rest) c.args.r.now c.read_octet.new.r c.read_after_kind.new.r c.in_ok-octet.octet c.read_after_kind.result octet_local c.in_ok-octet.ensures
+    (subst (λ (kind : Option FrameKind). Reads g.R.Read.remaining c.read_octet.new.r c.read_after_kind.new.r c.read_after_kind.result (λ rest. kind_in kind room rest)) known c.read_after_kind.ensures.read)

@@ -2,7 +2,7 @@ use Rattle.std.proofs.Common.{Ok, subst}
 use Rattle.std.proofs.lemmas.Result.{err_from_is_err_and}
 use Rattle.bx_devices.specs.Watching.{device_of, is_faulted}
 use Rattle.bx_journal.specs.declared.head_reading.Version.{Version}
-use Rattle.bx_journal.specs.Reading.{behind_plan}
+use Rattle.bx_journal.specs.Reading.{after_plan}
 use Rattle.bx_journal.proofs.HeadLines.{SoFar, version_failed, version_passed, plan_failed, plan_passed, day_failed, day_passed, undated_taken, past_head}
 use Rattle.bx_journal.proofs.head_reading.read_head.Goals as goal
 
@@ -25,7 +25,7 @@ returns-in_err-read_day_line-in-Dated-clause-head g c =
     let remaining = g.R.Read.remaining in
     let one = version_passed c.args.wanted.now (is_faulted c.read_version.new.device) (remaining (device_of c.args.device.now)) (remaining (device_of c.read_version.new.device)) c.args.pieces.now c.read_version.new.pieces c.in_ok-version.version c.in_ok-version.ensures.line in
     let two = plan_passed c.args.wanted.now (is_faulted c.read_plan_line.new.device) (remaining (device_of c.args.device.now)) (remaining (device_of c.read_version.new.device)) (remaining (device_of c.read_plan_line.new.device)) c.args.pieces.now c.read_version.new.pieces c.read_plan_line.new.pieces c.in_ok-version.version one c.in_ok-read_plan_line.ensures.line in
-    let at = subst (λ (v : Version). SoFar c.args.wanted.now (remaining (device_of c.args.device.now)) (remaining (device_of c.read_plan_line.new.device)) c.args.pieces.now c.read_plan_line.new.pieces 2 (behind_plan c.args.wanted.now.day (Ok tt) v)) c.in-Dated.is two in
+    let at = subst (λ (v : Version). SoFar c.args.wanted.now (remaining (device_of c.args.device.now)) (remaining (device_of c.read_plan_line.new.device)) c.args.pieces.now c.read_plan_line.new.pieces 2 (after_plan c.args.wanted.now.day (Ok tt) v)) c.in-Dated.is two in
     rw (p.1, p.2) (day_failed c.args.wanted.now (is_faulted c.read_day_line.new.device) (remaining (device_of c.args.device.now)) (remaining (device_of c.read_plan_line.new.device)) (remaining (device_of c.read_day_line.new.device)) c.args.pieces.now c.read_plan_line.new.pieces c.read_day_line.new.pieces c.in_err-read_day_line-in-Dated.field-0.0 at c.in_err-read_day_line-in-Dated.ensures.line)
 
 pub returns-in-Undated-clause-head : goal.returns-in-Undated-clause-head
@@ -33,7 +33,7 @@ returns-in-Undated-clause-head g c =
     let remaining = g.R.Read.remaining in
     let one = version_passed c.args.wanted.now (is_faulted c.read_version.new.device) (remaining (device_of c.args.device.now)) (remaining (device_of c.read_version.new.device)) c.args.pieces.now c.read_version.new.pieces c.in_ok-version.version c.in_ok-version.ensures.line in
     let two = plan_passed c.args.wanted.now (is_faulted c.read_plan_line.new.device) (remaining (device_of c.args.device.now)) (remaining (device_of c.read_version.new.device)) (remaining (device_of c.read_plan_line.new.device)) c.args.pieces.now c.read_version.new.pieces c.read_plan_line.new.pieces c.in_ok-version.version one c.in_ok-read_plan_line.ensures.line in
-    let at = subst (λ (v : Version). SoFar c.args.wanted.now (remaining (device_of c.args.device.now)) (remaining (device_of c.read_plan_line.new.device)) c.args.pieces.now c.read_plan_line.new.pieces 2 (behind_plan c.args.wanted.now.day (Ok tt) v)) c.in-Undated.is two in
+    let at = subst (λ (v : Version). SoFar c.args.wanted.now (remaining (device_of c.args.device.now)) (remaining (device_of c.read_plan_line.new.device)) c.args.pieces.now c.read_plan_line.new.pieces 2 (after_plan c.args.wanted.now.day (Ok tt) v)) c.in-Undated.is two in
     undated_taken c.args.wanted.now (is_faulted c.read_plan_line.new.device) (remaining (device_of c.args.device.now)) (remaining (device_of c.read_version.new.device)) (remaining (device_of c.read_plan_line.new.device)) c.args.pieces.now c.read_version.new.pieces c.read_plan_line.new.pieces at
 
 pub returns-in_ok-read_day_line-in-Dated-clause-head : goal.returns-in_ok-read_day_line-in-Dated-clause-head
@@ -41,7 +41,7 @@ returns-in_ok-read_day_line-in-Dated-clause-head g c =
     let remaining = g.R.Read.remaining in
     let one = version_passed c.args.wanted.now (is_faulted c.read_version.new.device) (remaining (device_of c.args.device.now)) (remaining (device_of c.read_version.new.device)) c.args.pieces.now c.read_version.new.pieces c.in_ok-version.version c.in_ok-version.ensures.line in
     let two = plan_passed c.args.wanted.now (is_faulted c.read_plan_line.new.device) (remaining (device_of c.args.device.now)) (remaining (device_of c.read_version.new.device)) (remaining (device_of c.read_plan_line.new.device)) c.args.pieces.now c.read_version.new.pieces c.read_plan_line.new.pieces c.in_ok-version.version one c.in_ok-read_plan_line.ensures.line in
-    let at = subst (λ (v : Version). SoFar c.args.wanted.now (remaining (device_of c.args.device.now)) (remaining (device_of c.read_plan_line.new.device)) c.args.pieces.now c.read_plan_line.new.pieces 2 (behind_plan c.args.wanted.now.day (Ok tt) v)) c.in-Dated.is two in
+    let at = subst (λ (v : Version). SoFar c.args.wanted.now (remaining (device_of c.args.device.now)) (remaining (device_of c.read_plan_line.new.device)) c.args.pieces.now c.read_plan_line.new.pieces 2 (after_plan c.args.wanted.now.day (Ok tt) v)) c.in-Dated.is two in
     day_passed c.args.wanted.now (is_faulted c.read_day_line.new.device) (remaining (device_of c.args.device.now)) (remaining (device_of c.read_plan_line.new.device)) (remaining (device_of c.read_day_line.new.device)) c.args.pieces.now c.read_plan_line.new.pieces c.read_day_line.new.pieces at c.in_ok-read_day_line-in-Dated.ensures.line
 
 pub returns-in-Undated-clause-past : goal.returns-in-Undated-clause-past

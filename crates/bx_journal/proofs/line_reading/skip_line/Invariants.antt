@@ -5,7 +5,7 @@ use Rattle.bx_journal.proofs.line_reading.skip_line.Given as goal
 
 abbrev pub invariant-loop-pieces : goal.invariant-loop-pieces
 invariant-loop-pieces g l = record {
-  part : (front : List ℕ) × TakesPart (g.R.Read.remaining (device_of l.fn.device)) (g.R.Read.remaining (device_of l.device)) l.fn.pieces l.pieces front;
+  part : (prefix : List ℕ) × TakesPart (g.R.Read.remaining (device_of l.fn.device)) (g.R.Read.remaining (device_of l.device)) l.fn.pieces l.pieces prefix;
   unfaulted : is_faulted l.device ≡ is_faulted l.fn.device;
 }
 

@@ -1,7 +1,7 @@
 use Rattle.std.proofs.Common.{◌∷◌, []}
 use Rattle.bx_events.specs.Told.{live_event_of}
-use Rattle.bx_journal.specs.Recording.{IsFront}
-use Rattle.bx_journal.proofs.Fronts.{leaves_then}
+use Rattle.bx_journal.specs.Recording.{IsPrefix}
+use Rattle.bx_journal.proofs.Prefixes.{leaves_then}
 use Rattle.bx_journal.proofs.Recorded.{pending, ok_then}
 use Rattle.bx_journal.proofs.recording.record_event.Goals as goal
 
@@ -15,7 +15,7 @@ returns-clause-recorded g c = ok_then c.commit.result c.commit.ensures.committed
 pub returns-clause-any_moment : goal.returns-clause-any_moment
 returns-clause-any_moment g c = λ head events s.
     let p = pending g.D.Disk.holds g.D.Disk.may_leave c.args.disk.now head events s in
-    let P = IsFront head events (live_event_of c.args.event ∷ []) in
+    let P = IsPrefix head events (live_event_of c.args.event ∷ []) in
     leaves_then g.D.Disk.moment g.D.Disk.left_since c.args.disk.now c.write_event.new.disk c.commit.new.disk P P (c.write_event.ensures.any_moment head events [] p)
     (c.commit.ensures.any_moment head events (live_event_of c.args.event ∷ []) (c.in_ok-write_event.ensures.written head events [] p)) (λ f q. q)
 

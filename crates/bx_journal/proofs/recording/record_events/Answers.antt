@@ -5,14 +5,14 @@ use Rattle.bx_events.specs.declared.event.LiveEvent.TheVariants as rust
 use Rattle.bx_events.specs.declared.event.Event.TheVariants as plain
 use Rattle.bx_events.specs.Told.{live_event_of}
 use Rattle.bx_journal.specs.declared.head.Head.{Head}
-use Rattle.bx_journal.specs.Recording.{IsSettled, IsPending, IsFront}
+use Rattle.bx_journal.specs.Recording.{IsSettled, IsPending, IsPrefix}
 use Rattle.bx_journal.proofs.Moments.{started}
 use Rattle.bx_journal.proofs.Recorded.{pending, ok_then}
-use Rattle.bx_journal.proofs.Fronts.{leaves_then, more_of}
+use Rattle.bx_journal.proofs.Prefixes.{leaves_then, more_of}
 use Rattle.bx_journal.proofs.recording.record_events.Goals as goal
 
--- a front of a front
-within : (head : Head) (before all : List LiveEvent) (i : ℕ) (c : List ℕ) → IsFront head before (take i all) c → IsFront head before all c
+-- a prefix of a prefix
+within : (head : Head) (before all : List LiveEvent) (i : ℕ) (c : List ℕ) → IsPrefix head before (take i all) c → IsPrefix head before all c
 within head before all i c f =
     (f.0, omega (arith, f.1, length-take i all), f.2 ∙ ap (λ (l : List LiveEvent). Ok (before ++ l)) (take-take f.0 i all (omega (arith, f.1, length-take i all))))
 
@@ -22,7 +22,7 @@ loop-event-init g c = record {
   left = λ head before s.
       let all = map live_event_of c.args.events.now in
       let p = pending g.D.Disk.holds g.D.Disk.may_leave c.args.disk.now head before s in
-      started g.D.Disk.moment g.D.Disk.left_since c.args.disk.now (IsFront head before all) (λ f left. within head before all 0 f (p.left f (g.met.D.Disk.only_now c.args.disk.now f left)));
+      started g.D.Disk.moment g.D.Disk.left_since c.args.disk.now (IsPrefix head before all) (λ f left. within head before all 0 f (p.left f (g.met.D.Disk.only_now c.args.disk.now f left)));
   unfailed = refl;
 }
 
@@ -32,9 +32,9 @@ returns-in_err-write_event-clause-any_moment g c = λ head before s.
     let all = map live_event_of c.args.events.now in
     let e = live_event_of (get_or c.args.events.now i (rust.OnLink plain.Tick)) in
     let next = more_of c.args.events.now i c.loop-event-test.true in
-    leaves_then g.D.Disk.moment g.D.Disk.left_since c.args.disk.now c.loop-event.disk c.write_event.new.disk (IsFront head before all) (IsFront head before (take i all ++ e ∷ []))
+    leaves_then g.D.Disk.moment g.D.Disk.left_since c.args.disk.now c.loop-event.disk c.write_event.new.disk (IsPrefix head before all) (IsPrefix head before (take i all ++ e ∷ []))
     (c.loop-event.invariant.left head before s) (c.write_event.ensures.any_moment head before (take i all) (c.loop-event.invariant.written head before s))
-    (λ f q. within head before all (i + 1) f (subst (λ (l : List LiveEvent). IsFront head before l f) (sym next) q))
+    (λ f q. within head before all (i + 1) f (subst (λ (l : List LiveEvent). IsPrefix head before l f) (sym next) q))
 
 pub loop-event-preserved : goal.loop-event-preserved
 loop-event-preserved g c =
@@ -46,9 +46,9 @@ loop-event-preserved g c =
       written = λ head before s.
           subst (IsPending g.D.Disk.holds g.D.Disk.may_leave c.write_event.new.disk head before) (sym next) (c.in_ok-write_event.ensures.written head before (take i all) (c.loop-event.invariant.written head before s));
       left = λ head before s.
-          leaves_then g.D.Disk.moment g.D.Disk.left_since c.args.disk.now c.loop-event.disk c.write_event.new.disk (IsFront head before all) (IsFront head before (take i all ++ e ∷ []))
+          leaves_then g.D.Disk.moment g.D.Disk.left_since c.args.disk.now c.loop-event.disk c.write_event.new.disk (IsPrefix head before all) (IsPrefix head before (take i all ++ e ∷ []))
           (c.loop-event.invariant.left head before s) (c.write_event.ensures.any_moment head before (take i all) (c.loop-event.invariant.written head before s))
-          (λ f q. within head before all (i + 1) f (subst (λ (l : List LiveEvent). IsFront head before l f) (sym next) q));
+          (λ f q. within head before all (i + 1) f (subst (λ (l : List LiveEvent). IsPrefix head before l f) (sym next) q));
       unfailed = c.in_ok-write_event.ensures.unfailed ∙ c.loop-event.invariant.unfailed;
     }
 
@@ -62,5 +62,5 @@ pub returns-clause-any_moment : goal.returns-clause-any_moment
 returns-clause-any_moment g c = λ head before s.
     let i = c.loop-event.event-index in
     let all = map live_event_of c.args.events.now in
-    leaves_then g.D.Disk.moment g.D.Disk.left_since c.args.disk.now c.loop-event.disk c.commit.new.disk (IsFront head before all) (IsFront head before (take i all))
+    leaves_then g.D.Disk.moment g.D.Disk.left_since c.args.disk.now c.loop-event.disk c.commit.new.disk (IsPrefix head before all) (IsPrefix head before (take i all))
     (c.loop-event.invariant.left head before s) (c.commit.ensures.any_moment head before (take i all) (c.loop-event.invariant.written head before s)) (λ f q. within head before all i f q)

@@ -2,7 +2,7 @@ use Rattle.std.proofs.Common.{inl, inr, ⊎_elim, ◌++◌, ◌∷◌, [], ℕ, 
 use Rattle.bx_events.specs.Told.{live_event_of}
 use Rattle.bx_journal.specs.Events.{AreEvents}
 use Rattle.bx_journal.specs.Text.{journal_text}
-use Rattle.bx_journal.specs.Recording.{IsFront}
+use Rattle.bx_journal.specs.Recording.{IsPrefix}
 use Rattle.bx_journal.proofs.Moments.{started, goes_on}
 use Rattle.bx_journal.proofs.Recorded.{write_leaves, longer, text_more, are_more, ok_then}
 use Rattle.bx_journal.proofs.recording.write_event.Goals as goal
@@ -22,7 +22,7 @@ returns-clause-written g c = ok_then c.append.result c.append.ensures.written (�
 pub returns-clause-any_moment : goal.returns-clause-any_moment
 returns-clause-any_moment g c = λ head events more s.
     let e = live_event_of c.args.event in
-    let P = IsFront head events (more ++ e ∷ []) in
+    let P = IsPrefix head events (more ++ e ∷ []) in
     let line = c.deref.ensures.0 ∙ c.line_of-line.ensures.text in
     let here : (f : List ℕ) → g.D.Disk.may_leave c.append.new.self f → P f =
     λ f left. write_leaves head events more e c.deref.result.now s.day_is s.events_are c.line_of-line.ensures.octets line f (⊎_elim (λ was. inl (s.left f was)) (λ torn. inr (torn _ s.written)) (c.append.ensures.crash f left)) in

@@ -16,11 +16,11 @@ loop-reply-preserved g c = λ d room.
     let l = c.loop-reply in
     let reply = c.reply-item.result in
     let text = frame_with reply in
-    let behind = texts_of (drop (l.reply-index + 1) c.args.replies.now) in
+    let following = texts_of (drop (l.reply-index + 1) c.args.replies.now) in
     let here = texts_from c.args.replies.now l.reply-index reply c.loop-reply-test.true (sym c.reply-item.is) in
     then_done g.met.W.World.did_more
-    (at_place (writing d room (texts_of (drop l.reply-index c.args.replies.now))) (Owing d room false (text ∷ behind)) (ap (writing d room) here) (l.invariant d room))
-    (one_done (Owing d room false (text ∷ behind)) (Wrote text true) refl c.in_ok-write_message.ensures refl)
+    (at_place (writing d room (texts_of (drop l.reply-index c.args.replies.now))) (Owing d room false (text ∷ following)) (ap (writing d room) here) (l.invariant d room))
+    (one_done (Owing d room false (text ∷ following)) (Wrote text true) refl c.in_ok-write_message.ensures refl)
 
 pub returns-in_err-write_message : goal.returns-in_err-write_message
 returns-in_err-write_message g c = λ d room.
@@ -28,12 +28,12 @@ returns-in_err-write_message g c = λ d room.
     let l = c.loop-reply in
     let reply = c.reply-item.result in
     let text = frame_with reply in
-    let behind = texts_of (drop (l.reply-index + 1) c.args.replies.now) in
+    let following = texts_of (drop (l.reply-index + 1) c.args.replies.now) in
     let here = texts_from c.args.replies.now l.reply-index reply c.loop-reply-test.true (sym c.reply-item.is) in
     rw p.1
     (then_done g.met.W.World.did_more
-    (at_place (writing d room (texts_of (drop l.reply-index c.args.replies.now))) (Owing d room false (text ∷ behind)) (ap (writing d room) here) (l.invariant d room))
-    (one_done (Owing d room false (text ∷ behind)) (Wrote text false) refl c.in_err-write_message.ensures refl))
+    (at_place (writing d room (texts_of (drop l.reply-index c.args.replies.now))) (Owing d room false (text ∷ following)) (ap (writing d room) here) (l.invariant d room))
+    (one_done (Owing d room false (text ∷ following)) (Wrote text false) refl c.in_err-write_message.ensures refl))
 
 pub returns : goal.returns
 returns g c = λ d room.

@@ -5,4 +5,4 @@ use Rattle.bx_market.proofs.Best.{told_of_best}
 use Rattle.bx_market.proofs.laws.best_of_each_batch.Goals as goal
 
 pub returns : goal.returns
-returns c channels d before behind answers to run = told_of_best channels [] before behind answers (Within (Between d)) to tt run
+returns c channels d before following answers to run = told_of_best channels [] before following answers (Within (Between d)) to tt run

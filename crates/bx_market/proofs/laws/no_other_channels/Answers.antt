@@ -2,4 +2,4 @@ use Rattle.bx_market.proofs.Hindered.{never_other}
 use Rattle.bx_market.proofs.laws.no_other_channels.Goals as goal
 
 pub returns : goal.returns
-returns c channels d before behind answers to first run i lt told = never_other channels before behind answers d to first run i lt told
+returns c channels d before following answers to first run i lt told = never_other channels before following answers d to first run i lt told

@@ -5,4 +5,4 @@ use Rattle.bx_market.proofs.Records.{told_on_record}
 use Rattle.bx_market.proofs.laws.nothing_off_record.Goals as goal
 
 pub returns : goal.returns
-returns c channels d before behind answers to run = told_on_record channels [] before behind answers (Within (Between d)) to tt run
+returns c channels d before following answers to run = told_on_record channels [] before following answers (Within (Between d)) to tt run

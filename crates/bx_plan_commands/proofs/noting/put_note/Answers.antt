@@ -5,7 +5,7 @@ use Rattle.bx_base.specs.PlanParts.{parts_of}
 use Rattle.bx_devices.specs.declared.octets.WriteFailed.{WriteFailed}
 use Rattle.bx_text.proofs.GatheringSteps.{done, puts_then, puts_failed}
 use Rattle.bx_text.specs.Gathering.{Gathers, held}
-use Rattle.bx_plan_commands.proofs.NotedRows.{begun_here, begun_as_before, noted_here, noted_as_before, note_front}
+use Rattle.bx_plan_commands.proofs.NotedRows.{begun_here, begun_as_before, noted_here, noted_as_before, note_prefix}
 use Rattle.bx_plan_commands.specs.Notes.{is_begun, is_too_short, row_text, noted, note_end, note_text}
 use Rattle.bx_plan_commands.proofs.noting.put_note.Goals as goal
 use Rattle.bx_plan_commands.proofs.noting.put_note.Goals.{then-is_too_short+in_ok-put, else-is_too_short}
@@ -17,10 +17,10 @@ returns-in_err-put g c =
     let p = err_from_is_err_and c.from_residual.result c.from_residual.ensures.1 in
     let short : is_too_short plan i ≡ true = sym c.is_too_short.ensures ∙ c.if-is_too_short.true in
     let piece : c.deref.result.now ≡ row_text (is_begun plan i) (i + 1) = c.deref.ensures.0 ∙ c.row_text.ensures ∙ ap (λ (b : Bool). row_text b (i + 1)) c.loop-index.invariant.begun in
-    let front = note_front plan (i + 1) (omega (arith, c.loop-index-test.true, c.len-index-end.ensures.count)) in
-    let whole : note_text plan ≡ (noted plan i ++ row_text (is_begun plan i) (i + 1)) ++ front.0 = front.1 ∙ ap (λ (l : List ℕ). l ++ front.0) (noted_here plan i short) in
+    let leading = note_prefix plan (i + 1) (omega (arith, c.loop-index-test.true, c.len-index-end.ensures.count)) in
+    let whole : note_text plan ≡ (noted plan i ++ row_text (is_begun plan i) (i + 1)) ++ leading.0 = leading.1 ∙ ap (λ (l : List ℕ). l ++ leading.0) (noted_here plan i short) in
     let failed = puts_then g.W.Write.contents (held c.args.w.now c.args.block.now) (held c.loop-index.w c.loop-index.block) (held c.put.new.w c.put.new.self) (Err c.in_err-put.field-0.0) (noted plan i) (row_text (is_begun plan i) (i + 1)) c.loop-index.invariant.text (rw piece at c.in_err-put.ensures) in
-    rw p.1 (puts_failed g.W.Write.contents (held c.args.w.now c.args.block.now) (held c.put.new.w c.put.new.self) c.in_err-put.field-0.0 p.0 (noted plan i ++ row_text (is_begun plan i) (i + 1)) front.0 (note_text plan) whole failed)
+    rw p.1 (puts_failed g.W.Write.contents (held c.args.w.now c.args.block.now) (held c.put.new.w c.put.new.self) c.in_err-put.field-0.0 p.0 (noted plan i ++ row_text (is_begun plan i) (i + 1)) leading.0 (note_text plan) whole failed)
 
 pub loop-index-preserved : goal.loop-index-preserved
 loop-index-preserved g c =

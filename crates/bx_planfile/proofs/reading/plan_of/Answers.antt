@@ -1,6 +1,6 @@
 use Rattle.std.proofs.lemmas.Grind.{common_steps}
 use Rattle.std.proofs.Common.{arith, rules, Err, inl, inr, ap}
-use Rattle.bx_planfile.proofs.Refusals.{line_never, header_never, channels_never, count_never, not_memory, passed_on, grows_behind}
+use Rattle.bx_planfile.proofs.Refusals.{line_never, header_never, channels_never, count_never, not_memory, passed_on, grows_after}
 use Rattle.bx_planfile.specs.Reading.{entries, read_head, read_all}
 use Rattle.bx_planfile.proofs.reading.plan_of.Goals as goal
 
@@ -24,13 +24,13 @@ returns-in_err-count-clause-memory c = λ m. not_memory (count_never _ _ _ _) c.
 
 pub returns-in_err-bookings-clause-memory : goal.returns-in_err-bookings-clause-memory
 returns-in_err-bookings-clause-memory c = λ m.
-    grows_behind c.in_ok-fields.ensures c.in_ok-version.ensures c.in_ok-fields-2.ensures c.in_ok-channels.ensures c.in_ok-fields-3.ensures c.in_ok-count.ensures.value
+    grows_after c.in_ok-fields.ensures c.in_ok-version.ensures c.in_ok-fields-2.ensures c.in_ok-channels.ensures c.in_ok-fields-3.ensures c.in_ok-count.ensures.value
     (inl (c.in_err-bookings.ensures.memory (ap Err (passed_on m c.from_residual-in_err-bookings.ensures.1))))
 
 pub returns-in_err-prices-clause-memory : goal.returns-in_err-prices-clause-memory
 returns-in_err-prices-clause-memory c = λ m.
     let tail = rw c.from.ensures at (c.in_err-prices.ensures.memory (ap Err (passed_on m c.from_residual-in_err-prices.ensures.1))) in
-    grows_behind c.in_ok-fields.ensures c.in_ok-version.ensures c.in_ok-fields-2.ensures c.in_ok-channels.ensures c.in_ok-fields-3.ensures c.in_ok-count.ensures.value
+    grows_after c.in_ok-fields.ensures c.in_ok-version.ensures c.in_ok-fields-2.ensures c.in_ok-channels.ensures c.in_ok-fields-3.ensures c.in_ok-count.ensures.value
     (inr (entries c.in_ok-bookings.bookings c.in_ok-bookings.assigned.items c.in_ok-bookings.rest.now, c.in_ok-bookings.ensures.value, tail))
 
 pub bookings_of-requires-clause-few : goal.bookings_of-requires-clause-few

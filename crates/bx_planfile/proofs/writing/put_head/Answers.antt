@@ -35,6 +35,6 @@ returns-clause-text g c =
     let count : c.from.result ≡ length c.args.plan.now.bookings = c.from.ensures ∙ c.len-count.ensures.count in
     let text_3 : c.deref-2.result.now ≡ third = c.deref-2.ensures.0 ∙ c.named_line.ensures ∙ ap (λ (n : ℕ). line_text (named (codes "bookings") n)) count in
     let end : third ++ [] ≡ third = append-nil third in
-    let behind = puts_then g.W.Write.contents (held c.put.new.w c.put.new.block) (held c.put-2.new.w c.put-2.new.block) (held c.put-3.new.w c.put-3.new.block) c.put-3.result second third (rw text at c.in_ok-put-2.ensures) (rw text_3 at c.put-3.ensures) in
-    let whole = puts_then g.W.Write.contents (held c.args.w.now c.args.block.now) (held c.put.new.w c.put.new.block) (held c.put-3.new.w c.put-3.new.block) c.put-3.result first (second ++ third) c.in_ok-put.ensures behind in
+    let following = puts_then g.W.Write.contents (held c.put.new.w c.put.new.block) (held c.put-2.new.w c.put-2.new.block) (held c.put-3.new.w c.put-3.new.block) c.put-3.result second third (rw text at c.in_ok-put-2.ensures) (rw text_3 at c.put-3.ensures) in
+    let whole = puts_then g.W.Write.contents (held c.args.w.now c.args.block.now) (held c.put.new.w c.put.new.block) (held c.put-3.new.w c.put-3.new.block) c.put-3.result first (second ++ third) c.in_ok-put.ensures following in
     subst (λ (t : List ℕ). Gathers g.W.Write.contents (held c.args.w.now c.args.block.now) (held c.put-3.new.w c.put-3.new.block) c.put-3.result (first ++ (second ++ t))) (sym end) whole

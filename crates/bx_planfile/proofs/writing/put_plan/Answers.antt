@@ -1,7 +1,7 @@
 use Rattle.std.proofs.Common.{◌++◌, arith}
 use Rattle.std.proofs.lemmas.Result.{err_from_is_err_and}
 use Rattle.bx_base.specs.PlanParts.{IsPlan, parts_of}
-use Rattle.bx_planfile.proofs.WritingSteps.{rows_text, count_text, prices_text, foot_text, behind, failing, in_text, on_ok}
+use Rattle.bx_planfile.proofs.WritingSteps.{rows_text, count_text, prices_text, foot_text, following, failing, in_text, on_ok}
 use Rattle.bx_planfile.proofs.writing.put_plan.Goals as goal
 
 pub returns-in_err-put_head-clause-text : goal.returns-in_err-put_head-clause-text
@@ -14,14 +14,14 @@ pub returns-in_err-put_bookings-clause-text : goal.returns-in_err-put_bookings-c
 returns-in_err-put_bookings-clause-text g c =
     let plan = c.args.plan.now in
     let r = err_from_is_err_and c.from_residual-in_err-put_bookings.result c.from_residual-in_err-put_bookings.ensures.1 in
-    rw r.1 (in_text plan (behind c.in_ok-put_head.ensures.text (failing (count_text plan ++ (prices_text plan ++ foot_text plan)) c.in_err-put_bookings.ensures.text)))
+    rw r.1 (in_text plan (following c.in_ok-put_head.ensures.text (failing (count_text plan ++ (prices_text plan ++ foot_text plan)) c.in_err-put_bookings.ensures.text)))
 
 pub returns-in_err-put-clause-text : goal.returns-in_err-put-clause-text
 returns-in_err-put-clause-text g c =
     let plan = c.args.plan.now in
     let count = rw (c.deref.ensures.0, c.named_line.ensures, c.len.ensures, plan.prices.ok.0) at c.in_err-put.ensures in
     let r = err_from_is_err_and c.from_residual-in_err-put.result c.from_residual-in_err-put.ensures.1 in
-    rw r.1 (in_text plan (behind c.in_ok-put_head.ensures.text (behind c.in_ok-put_bookings.ensures.text (failing (prices_text plan ++ foot_text plan) count))))
+    rw r.1 (in_text plan (following c.in_ok-put_head.ensures.text (following c.in_ok-put_bookings.ensures.text (failing (prices_text plan ++ foot_text plan) count))))
 
 pub returns-in_err-put_prices-clause-text : goal.returns-in_err-put_prices-clause-text
 returns-in_err-put_prices-clause-text g c =
@@ -29,14 +29,14 @@ returns-in_err-put_prices-clause-text g c =
     let count = rw (c.deref.ensures.0, c.named_line.ensures, c.len.ensures, plan.prices.ok.0) at c.in_ok-put.ensures in
     let prices = rw c.deref-2.ensures.value at c.in_err-put_prices.ensures.text in
     let r = err_from_is_err_and c.from_residual-in_err-put_prices.result c.from_residual-in_err-put_prices.ensures.1 in
-    rw r.1 (in_text plan (behind c.in_ok-put_head.ensures.text (behind c.in_ok-put_bookings.ensures.text (behind count (failing (foot_text plan) prices)))))
+    rw r.1 (in_text plan (following c.in_ok-put_head.ensures.text (following c.in_ok-put_bookings.ensures.text (following count (failing (foot_text plan) prices)))))
 
 pub returns-clause-text : goal.returns-clause-text
 returns-clause-text g c =
     let plan = c.args.plan.now in
     let count = rw (c.deref.ensures.0, c.named_line.ensures, c.len.ensures, plan.prices.ok.0) at c.in_ok-put.ensures in
     let prices = rw c.deref-2.ensures.value at c.in_ok-put_prices.ensures.text in
-    in_text plan (behind c.in_ok-put_head.ensures.text (behind c.in_ok-put_bookings.ensures.text (behind count (behind prices c.put_foot.ensures))))
+    in_text plan (following c.in_ok-put_head.ensures.text (following c.in_ok-put_bookings.ensures.text (following count (following prices c.put_foot.ensures))))
 
 pub returns-clause-limits : goal.returns-clause-limits
 returns-clause-limits g c =

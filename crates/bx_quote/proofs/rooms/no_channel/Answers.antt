@@ -2,7 +2,7 @@ use Rattle.std.proofs.Common.{◌≡◌, ℕ, ◌+◌, Bool, true, false, cond, 
 use Rattle.bx_base.specs.Bookings.{row_at, is_running}
 use Rattle.bx_colour.specs.Loads.{load_at}
 use Rattle.bx_planner.specs.Musts.{musts_at}
-use Rattle.bx_quote.proofs.Crowding.{add_behind, first_full}
+use Rattle.bx_quote.proofs.Crowding.{add_after, first_full}
 use Rattle.bx_quote.proofs.rooms.no_channel.Goals as goal
 use Rattle.bx_quote.proofs.rooms.no_channel.Goals.{then-is_must, else-is_must}
 
@@ -15,11 +15,11 @@ loop-i-preserved c =
     let marked : ℕ → Bool = (λ j. (row_at rows j).must) in
     elim c.if-is_must.branch [
       | then-is_must w ↦ record {
-        each = λ t. rw w.load-is (add_behind rows marked i t true (own t) (load_at c.loop-i.load t) (load_at w.add-then-is_must.new.self t) (rw here at (sym c.is_must.ensures ∙ w.if-is_must.true)) (c.loop-i.invariant.each t) (rw here at (w.add-then-is_must.ensures.each t)));
+        each = λ t. rw w.load-is (add_after rows marked i t true (own t) (load_at c.loop-i.load t) (load_at w.add-then-is_must.new.self t) (rw here at (sym c.is_must.ensures ∙ w.if-is_must.true)) (c.loop-i.invariant.each t) (rw here at (w.add-then-is_must.ensures.each t)));
         few = rw w.load-is (omega (arith, w.add-then-is_must.ensures.size, c.loop-i.invariant.few));
       }
       | else-is_must w ↦ record {
-        each = λ t. rw w.load-is (add_behind rows marked i t false (own t) (load_at c.loop-i.load t) (load_at c.loop-i.load t) (rw here at (sym c.is_must.ensures ∙ w.if-is_must.false)) (c.loop-i.invariant.each t) (omega arith));
+        each = λ t. rw w.load-is (add_after rows marked i t false (own t) (load_at c.loop-i.load t) (load_at c.loop-i.load t) (rw here at (sym c.is_must.ensures ∙ w.if-is_must.false)) (c.loop-i.invariant.each t) (omega arith));
         few = rw w.load-is (omega (arith, c.loop-i.invariant.few));
       }
     ]

@@ -1,5 +1,5 @@
 use Rattle.bx_devices.specs.Watching.{device_of, is_faulted}
-use Rattle.bx_recovery.proofs.KnownText.{day_known, followed_day, front_day}
+use Rattle.bx_recovery.proofs.KnownText.{day_known, followed_day, prefix_day}
 use Rattle.bx_recovery.proofs.recovering.recover_day.Goals as goal
 
 pub returns-clause-day : goal.returns-clause-day
@@ -10,6 +10,6 @@ returns-clause-day g c = λ text is.
     day_known c.args.wanted.now text before after c.args.exchange read.new.follower.exchange (is_faulted read.new.device) read.result is
     (followed_day _ (λ f. f.exchange) (λ f h events p. p) (is_faulted read.new.device) before after c.args.wanted.now _ read.new.follower read.result read.ensures.read)
 
-pub returns-clause-front : goal.returns-clause-front
-returns-clause-front g c = λ head text before more wants is left.
-    front_day c.args.wanted.now head text c.args.exchange c.read_journal-whole.new.follower.exchange c.read_journal-whole.result before more wants (returns-clause-day g c text is) left
+pub returns-clause-prefix : goal.returns-clause-prefix
+returns-clause-prefix g c = λ head text before more wants is left.
+    prefix_day c.args.wanted.now head text c.args.exchange c.read_journal-whole.new.follower.exchange c.read_journal-whole.result before more wants (returns-clause-day g c text is) left

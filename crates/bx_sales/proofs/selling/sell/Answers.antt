@@ -32,8 +32,8 @@ returns-in-Ok-extend-clause-sold c =
       day = c.in-Ok-extend.ensures.ok ∙ ap (λ rs. extended rs c.in-Some.plan.assigned.items d) plan_rows ∙ ap (λ a. extended (rows_with d row) a d) plan_assigned;
     }
 
-pub returns-in-Ok-extend-clause-behind : goal.returns-in-Ok-extend-clause-behind
-returns-in-Ok-extend-clause-behind c =
+pub returns-in-Ok-extend-clause-following : goal.returns-in-Ok-extend-clause-following
+returns-in-Ok-extend-clause-following c =
     let sold = returns-in-Ok-extend-clause-sold c in
     (rows_sold_with c.args.channels c.args.booking.now c.args.exchange.now c.extend.new.self sold, marks_sold_with c.args.channels c.args.booking.now c.args.exchange.now c.extend.new.self sold)
 

@@ -2,7 +2,7 @@ use Rattle.std.proofs.Common.{rules}
 use Rattle.std.proofs.lemmas.Result.{err_from_is_err_and}
 use Rattle.csv.specs.Reading.{source_of}
 use Rattle.bx_text.specs.Rows.{IsFirstFault}
-use Rattle.bx_text.proofs.Fronts.{if_known}
+use Rattle.bx_text.proofs.Prefixes.{if_known}
 use Rattle.bx_text.proofs.rows.read_records.Goals as goal
 
 pub returns-in_err-read_rows-clause-err : goal.returns-in_err-read_rows-clause-err

@@ -24,13 +24,13 @@ pub loop-number-preserved : goal.loop-number-preserved
 loop-number-preserved c =
     let numbers = c.args.numbers.now in
     let i = c.loop-number.number-index in
-    let front = take i numbers in
+    let prefix = take i numbers in
     let n = get_or numbers i 0 in
     let more = take_more numbers i 0 (omega arith) in
-    let new : Contains front n → ⊥ = λ h. (let is = (c.loop-number.invariant.just n).1 h in cc c.in-Some.ensures.value) in
+    let new : Contains prefix n → ⊥ = λ h. (let is = (c.loop-number.invariant.just n).1 h in cc c.in-Some.ensures.value) in
     rw more (record {
-      channels = AreChannels-push front n c.loop-number.invariant.channels (c.in-Some.ensures.exactly.0 refl) new;
-      just = HasJust-push c.loop-number.set c.with-set.result front n c.loop-number.invariant.just (subst (λ m. has_channel c.with-set.result m ≡ true) c.in-Some.ensures.value c.with-set.ensures.added) (λ k other. c.with-set.ensures.others k (λ e. other (e ∙ c.in-Some.ensures.value)));
+      channels = AreChannels-push prefix n c.loop-number.invariant.channels (c.in-Some.ensures.exactly.0 refl) new;
+      just = HasJust-push c.loop-number.set c.with-set.result prefix n c.loop-number.invariant.just (subst (λ m. has_channel c.with-set.result m ≡ true) c.in-Some.ensures.value c.with-set.ensures.added) (λ k other. c.with-set.ensures.others k (λ e. other (e ∙ c.in-Some.ensures.value)));
     })
 
 pub returns-in_default-clause-fault : goal.returns-in_default-clause-fault

@@ -5,7 +5,7 @@ use Rattle.bx_channels.specs.Numbers.{IsNumber, padded}
 use Rattle.bx_channels.specs.NumberInside.{IsNumberInside}
 use Rattle.bx_channels.proofs.number.Number.new.Goals as goal
 
--- the digits at the front of zeros
+-- the digits at the start of zeros
 inside_of : (digits zeros : List ℕ) → IsNumber digits → zeros ≡ replicate (15 - length digits) 0 → IsNumberInside (record { digits = digits ++ zeros; count = length digits })
 inside_of digits zeros h z =
     let e : take (length digits) (digits ++ zeros) ≡ digits = take-append_seam digits zeros in

@@ -21,7 +21,7 @@ linked-requires-clause-few c =
     let at = c.moment-moment.ensures.value ∙ ap (λ (d : Day). d.moment) (sym c.self.view_is) in
     let goes_on = tested d plan.bookings plan.assigned.items c.moment-moment.result c.len.result c.deref.result.now at c.deref.ensures.value (c.len.ensures ∙ x.entries.ok.0) (c.are_kept.ensures.0 c.if-not-are_kept.false) (c.are_later.ensures.0 c.if-not-are_later.false) in
     let all_is = c.in-Ok.ensures ∙ ap (λ (es : List Entry). with_standings es (entries_from 1 plan.bookings plan.assigned.items)) c.deref-2.ensures.value in
-    subst (λ (es : List Entry). length es ≤ 4000) (sym (c.deref-3.ensures.value ∙ all_is)) (exchange_extended d plan.bookings plan.channels plan.assigned.items x.live x.waiting x.behind.items c.len-rows.ensures.bookings c.count-channels.ensures.set c.requires c.self.invariant.exchange c.self.invariant.slots goes_on).rows
+    subst (λ (es : List Entry). length es ≤ 4000) (sym (c.deref-3.ensures.value ∙ all_is)) (exchange_extended d plan.bookings plan.channels plan.assigned.items x.live x.waiting x.following.items c.len-rows.ensures.bookings c.count-channels.ensures.set c.requires c.self.invariant.exchange c.self.invariant.slots goes_on).rows
 
 pub linked-requires-clause-seated : goal.linked-requires-clause-seated
 linked-requires-clause-seated c =
@@ -31,7 +31,7 @@ linked-requires-clause-seated c =
     let at = c.moment-moment.ensures.value ∙ ap (λ (d : Day). d.moment) (sym c.self.view_is) in
     let goes_on = tested d plan.bookings plan.assigned.items c.moment-moment.result c.len.result c.deref.result.now at c.deref.ensures.value (c.len.ensures ∙ x.entries.ok.0) (c.are_kept.ensures.0 c.if-not-are_kept.false) (c.are_later.ensures.0 c.if-not-are_later.false) in
     let all_is = c.in-Ok.ensures ∙ ap (λ (es : List Entry). with_standings es (entries_from 1 plan.bookings plan.assigned.items)) c.deref-2.ensures.value in
-    subst (AllByRecursion Seated) (sym (c.deref-3.ensures.value ∙ all_is)) (exchange_extended d plan.bookings plan.channels plan.assigned.items x.live x.waiting x.behind.items c.len-rows.ensures.bookings c.count-channels.ensures.set c.requires c.self.invariant.exchange c.self.invariant.slots goes_on).seated
+    subst (AllByRecursion Seated) (sym (c.deref-3.ensures.value ∙ all_is)) (exchange_extended d plan.bookings plan.channels plan.assigned.items x.live x.waiting x.following.items c.len-rows.ensures.bookings c.count-channels.ensures.set c.requires c.self.invariant.exchange c.self.invariant.slots goes_on).seated
 
 pub linked-requires-clause-apart : goal.linked-requires-clause-apart
 linked-requires-clause-apart c =
@@ -41,7 +41,7 @@ linked-requires-clause-apart c =
     let at = c.moment-moment.ensures.value ∙ ap (λ (d : Day). d.moment) (sym c.self.view_is) in
     let goes_on = tested d plan.bookings plan.assigned.items c.moment-moment.result c.len.result c.deref.result.now at c.deref.ensures.value (c.len.ensures ∙ x.entries.ok.0) (c.are_kept.ensures.0 c.if-not-are_kept.false) (c.are_later.ensures.0 c.if-not-are_later.false) in
     let all_is = c.in-Ok.ensures ∙ ap (λ (es : List Entry). with_standings es (entries_from 1 plan.bookings plan.assigned.items)) c.deref-2.ensures.value in
-    subst (Pairs Apart) (sym (c.deref-3.ensures.value ∙ all_is)) (exchange_extended d plan.bookings plan.channels plan.assigned.items x.live x.waiting x.behind.items c.len-rows.ensures.bookings c.count-channels.ensures.set c.requires c.self.invariant.exchange c.self.invariant.slots goes_on).day.pairs
+    subst (Pairs Apart) (sym (c.deref-3.ensures.value ∙ all_is)) (exchange_extended d plan.bookings plan.channels plan.assigned.items x.live x.waiting x.following.items c.len-rows.ensures.bookings c.count-channels.ensures.set c.requires c.self.invariant.exchange c.self.invariant.slots goes_on).day.pairs
 
 pub linked-requires-clause-ordered : goal.linked-requires-clause-ordered
 linked-requires-clause-ordered c =
@@ -51,7 +51,7 @@ linked-requires-clause-ordered c =
     let at = c.moment-moment.ensures.value ∙ ap (λ (d : Day). d.moment) (sym c.self.view_is) in
     let goes_on = tested d plan.bookings plan.assigned.items c.moment-moment.result c.len.result c.deref.result.now at c.deref.ensures.value (c.len.ensures ∙ x.entries.ok.0) (c.are_kept.ensures.0 c.if-not-are_kept.false) (c.are_later.ensures.0 c.if-not-are_later.false) in
     let all_is = c.in-Ok.ensures ∙ ap (λ (es : List Entry). with_standings es (entries_from 1 plan.bookings plan.assigned.items)) c.deref-2.ensures.value in
-    subst (λ (es : List Entry). (i : ℕ) → i < length es → (entry_at es i).booking.start < (entry_at es i).booking.end) (sym (c.deref-3.ensures.value ∙ all_is)) (ordered_extended d plan.bookings plan.channels plan.assigned.items x.live x.waiting x.behind.items c.len-rows.ensures.bookings c.count-channels.ensures.set c.requires c.self.invariant.exchange c.self.invariant.slots goes_on)
+    subst (λ (es : List Entry). (i : ℕ) → i < length es → (entry_at es i).booking.start < (entry_at es i).booking.end) (sym (c.deref-3.ensures.value ∙ all_is)) (ordered_extended d plan.bookings plan.channels plan.assigned.items x.live x.waiting x.following.items c.len-rows.ensures.bookings c.count-channels.ensures.set c.requires c.self.invariant.exchange c.self.invariant.slots goes_on)
 
 pub first_waiting-self-inside-requires-clause-few : goal.first_waiting-self-inside-requires-clause-few
 first_waiting-self-inside-requires-clause-few c =
@@ -61,7 +61,7 @@ first_waiting-self-inside-requires-clause-few c =
     let at = c.moment-moment.ensures.value ∙ ap (λ (d : Day). d.moment) (sym c.self.view_is) in
     let goes_on = tested d plan.bookings plan.assigned.items c.moment-moment.result c.len.result c.deref.result.now at c.deref.ensures.value (c.len.ensures ∙ x.entries.ok.0) (c.are_kept.ensures.0 c.if-not-are_kept.false) (c.are_later.ensures.0 c.if-not-are_later.false) in
     let all_is = c.in-Ok.ensures ∙ ap (λ (es : List Entry). with_standings es (entries_from 1 plan.bookings plan.assigned.items)) c.deref-2.ensures.value in
-    subst (λ (es : List Entry). length es ≤ 4000) (sym (c.deref-4.ensures.value ∙ all_is)) (exchange_extended d plan.bookings plan.channels plan.assigned.items x.live x.waiting x.behind.items c.len-rows.ensures.bookings c.count-channels.ensures.set c.requires c.self.invariant.exchange c.self.invariant.slots goes_on).rows
+    subst (λ (es : List Entry). length es ≤ 4000) (sym (c.deref-4.ensures.value ∙ all_is)) (exchange_extended d plan.bookings plan.channels plan.assigned.items x.live x.waiting x.following.items c.len-rows.ensures.bookings c.count-channels.ensures.set c.requires c.self.invariant.exchange c.self.invariant.slots goes_on).rows
 
 pub first_waiting-self-inside-requires-clause-seated : goal.first_waiting-self-inside-requires-clause-seated
 first_waiting-self-inside-requires-clause-seated c =
@@ -71,7 +71,7 @@ first_waiting-self-inside-requires-clause-seated c =
     let at = c.moment-moment.ensures.value ∙ ap (λ (d : Day). d.moment) (sym c.self.view_is) in
     let goes_on = tested d plan.bookings plan.assigned.items c.moment-moment.result c.len.result c.deref.result.now at c.deref.ensures.value (c.len.ensures ∙ x.entries.ok.0) (c.are_kept.ensures.0 c.if-not-are_kept.false) (c.are_later.ensures.0 c.if-not-are_later.false) in
     let all_is = c.in-Ok.ensures ∙ ap (λ (es : List Entry). with_standings es (entries_from 1 plan.bookings plan.assigned.items)) c.deref-2.ensures.value in
-    subst (AllByRecursion Seated) (sym (c.deref-4.ensures.value ∙ all_is)) (exchange_extended d plan.bookings plan.channels plan.assigned.items x.live x.waiting x.behind.items c.len-rows.ensures.bookings c.count-channels.ensures.set c.requires c.self.invariant.exchange c.self.invariant.slots goes_on).seated
+    subst (AllByRecursion Seated) (sym (c.deref-4.ensures.value ∙ all_is)) (exchange_extended d plan.bookings plan.channels plan.assigned.items x.live x.waiting x.following.items c.len-rows.ensures.bookings c.count-channels.ensures.set c.requires c.self.invariant.exchange c.self.invariant.slots goes_on).seated
 
 pub invariant_of-self : goal.invariant_of-self
 invariant_of-self c =
@@ -81,9 +81,9 @@ invariant_of-self c =
     let at = c.moment-moment.ensures.value ∙ ap (λ (d : Day). d.moment) (sym c.self.view_is) in
     let goes_on = tested d plan.bookings plan.assigned.items c.moment-moment.result c.len.result c.deref.result.now at c.deref.ensures.value (c.len.ensures ∙ x.entries.ok.0) (c.are_kept.ensures.0 c.if-not-are_kept.false) (c.are_later.ensures.0 c.if-not-are_later.false) in
     let all_is = c.in-Ok.ensures ∙ ap (λ (es : List Entry). with_standings es (entries_from 1 plan.bookings plan.assigned.items)) c.deref-2.ensures.value in
-    let behind = c.in-Ok-linked.links.behind.items in
+    let following = c.in-Ok-linked.links.following.items in
     let first = c.first_waiting-self-inside.result in
-    let links = subst (λ (es : List Entry). AreLinks es c.in-Ok-linked.links.first behind) (c.deref-3.ensures.value ∙ all_is) c.in-Ok-linked.ensures in
+    let links = subst (λ (es : List Entry). AreLinks es c.in-Ok-linked.links.first following) (c.deref-3.ensures.value ∙ all_is) c.in-Ok-linked.ensures in
     let anew = subst (λ (es : List Entry). AreEarliest es (length es) first) (c.deref-4.ensures.value ∙ all_is) c.first_waiting-self-inside.ensures in
-    let slots = slots_extended d plan.bookings plan.channels plan.assigned.items x.live x.waiting x.behind.items c.len-rows.ensures.bookings c.count-channels.ensures.set c.requires c.self.invariant.exchange c.self.invariant.slots goes_on c.in-Ok-linked.links.first behind first links anew in
-    subst (λ (es : List Entry). IsIndexed (day_of x.moment es x.maintenance) x.live first behind 0) (sym all_is) (indexed_now (extended plan.bookings plan.assigned.items d) x.live first behind (exchange_extended d plan.bookings plan.channels plan.assigned.items x.live x.waiting x.behind.items c.len-rows.ensures.bookings c.count-channels.ensures.set c.requires c.self.invariant.exchange c.self.invariant.slots goes_on) slots)
+    let slots = slots_extended d plan.bookings plan.channels plan.assigned.items x.live x.waiting x.following.items c.len-rows.ensures.bookings c.count-channels.ensures.set c.requires c.self.invariant.exchange c.self.invariant.slots goes_on c.in-Ok-linked.links.first following first links anew in
+    subst (λ (es : List Entry). IsIndexed (day_of x.moment es x.maintenance) x.live first following 0) (sym all_is) (indexed_now (extended plan.bookings plan.assigned.items d) x.live first following (exchange_extended d plan.bookings plan.channels plan.assigned.items x.live x.waiting x.following.items c.len-rows.ensures.bookings c.count-channels.ensures.set c.requires c.self.invariant.exchange c.self.invariant.slots goes_on) slots)

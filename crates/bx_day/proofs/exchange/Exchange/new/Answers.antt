@@ -38,9 +38,9 @@ invariant_of-result c =
     let with_set = subst (λ (m : List Bool). IsExchange (record { moment = 0; entries = entries_from 1 plan.bookings plan.assigned.items; maintenance = m })) (sym c.empty.ensures) whole in
     let day = day_of 0 es c.empty.result in
     let exchange : IsExchange day = subst (λ (xs : List Entry). IsExchange (record { moment = 0; entries = xs; maintenance = c.empty.result })) (sym c.in_ok-entries.ensures) with_set in
-    let links : AreLinks es c.in_ok-links.links.first c.in_ok-links.links.behind.items = subst (λ (xs : List Entry). AreLinks xs c.in_ok-links.links.first c.in_ok-links.links.behind.items) c.deref.ensures.value c.in_ok-links.ensures in
+    let links : AreLinks es c.in_ok-links.links.first c.in_ok-links.links.following.items = subst (λ (xs : List Entry). AreLinks xs c.in_ok-links.links.first c.in_ok-links.links.following.items) c.deref.ensures.value c.in_ok-links.ensures in
     record {
       exchange = exchange;
       known = λ one. absurd (omega (arith, one));
-      slots = opening_slots plan.bookings plan.assigned.items day c.in_ok-links.links.first c.in_ok-links.links.behind.items c.len-rows.ensures.bookings c.in_ok-entries.ensures links;
+      slots = opening_slots plan.bookings plan.assigned.items day c.in_ok-links.links.first c.in_ok-links.links.following.items c.len-rows.ensures.bookings c.in_ok-entries.ensures links;
     }

@@ -14,7 +14,7 @@ pub followers-second-requires : goal.followers-second-requires
 followers-second-requires c k i is =
     let x = c.self.inside in
     let p : i < length x.entries.items = ((c.self.invariant.slots.waits k).there i is).0 in
-    omega (arith, p, c.self.invariant.slots.behind_size, ap length c.deref.ensures.value)
+    omega (arith, p, c.self.invariant.slots.after_size, ap length c.deref.ensures.value)
 
 pub move_on-said-requires-clause-live : goal.move_on-said-requires-clause-live
 move_on-said-requires-clause-live c k i is = subst (λ (es : List Entry). i < length es) (sym c.deref_mut.ensures.value) ((c.self.invariant.slots.lives k).there i is).0
@@ -22,54 +22,54 @@ move_on-said-requires-clause-live c k i is = subst (λ (es : List Entry). i < le
 pub move_on-said-requires-clause-second : goal.move_on-said-requires-clause-second
 move_on-said-requires-clause-second c k i is =
     let x = c.self.inside in
-    let second : follower x.behind.items (slot_at x.waiting k) ≡ Some i = ap (λ (b : List (Option ℕ)). follower b (slot_at x.waiting k)) (sym c.deref.ensures.value) ∙ sym (c.followers-second.ensures k) ∙ is in
-    subst (λ (es : List Entry). i < length es) (sym c.deref_mut.ensures.value) (second_inside (day_of x.moment x.entries.items x.maintenance) x.entries.items x.live x.waiting x.behind.items refl c.self.invariant.exchange c.self.invariant.slots k i second)
+    let second : follower x.following.items (slot_at x.waiting k) ≡ Some i = ap (λ (b : List (Option ℕ)). follower b (slot_at x.waiting k)) (sym c.deref.ensures.value) ∙ sym (c.followers-second.ensures k) ∙ is in
+    subst (λ (es : List Entry). i < length es) (sym c.deref_mut.ensures.value) (second_inside (day_of x.moment x.entries.items x.maintenance) x.entries.items x.live x.waiting x.following.items refl c.self.invariant.exchange c.self.invariant.slots k i second)
 
 pub settle-requires-clause-live : goal.settle-requires-clause-live
 settle-requires-clause-live c =
     let x = c.self.inside in
-    let moved = pass_moved c.args.link x.moment x.entries.items c.deref_mut.result.now c.move_on-said.new.entries x.maintenance c.move_on-said.new.maintenance c.move_on-said.result x.live x.waiting x.behind.items c.deref.result.now c.followers-second.result x.due c.blocked-blocked.result c.args.self.now c.self.invariant c.deref_mut.ensures.value c.deref.ensures.value c.self.view_is c.blocked-blocked.ensures c.followers-second.ensures c.move_on-said.ensures in
+    let moved = pass_moved c.args.link x.moment x.entries.items c.deref_mut.result.now c.move_on-said.new.entries x.maintenance c.move_on-said.new.maintenance c.move_on-said.result x.live x.waiting x.following.items c.deref.result.now c.followers-second.result x.due c.blocked-blocked.result c.args.self.now c.self.invariant c.deref_mut.ensures.value c.deref.ensures.value c.self.view_is c.blocked-blocked.ensures c.followers-second.ensures c.move_on-said.ensures in
     let size = pass_size c.args.link x.moment x.entries.len x.entries.items c.deref_mut.result.now c.move_on-said.new.entries c.deref-2.result.now x.maintenance c.move_on-said.new.maintenance c.move_on-said.result c.deref_mut.ensures.value x.entries.ok.0 moved c.deref-2.ensures.value in
-    live_inside (day_of x.moment x.entries.items x.maintenance) c.deref-2.result.now x.live x.waiting x.behind.items size c.self.invariant.slots
+    live_inside (day_of x.moment x.entries.items x.maintenance) c.deref-2.result.now x.live x.waiting x.following.items size c.self.invariant.slots
 
 pub settle-requires-clause-waiting : goal.settle-requires-clause-waiting
 settle-requires-clause-waiting c =
     let x = c.self.inside in
-    let moved = pass_moved c.args.link x.moment x.entries.items c.deref_mut.result.now c.move_on-said.new.entries x.maintenance c.move_on-said.new.maintenance c.move_on-said.result x.live x.waiting x.behind.items c.deref.result.now c.followers-second.result x.due c.blocked-blocked.result c.args.self.now c.self.invariant c.deref_mut.ensures.value c.deref.ensures.value c.self.view_is c.blocked-blocked.ensures c.followers-second.ensures c.move_on-said.ensures in
+    let moved = pass_moved c.args.link x.moment x.entries.items c.deref_mut.result.now c.move_on-said.new.entries x.maintenance c.move_on-said.new.maintenance c.move_on-said.result x.live x.waiting x.following.items c.deref.result.now c.followers-second.result x.due c.blocked-blocked.result c.args.self.now c.self.invariant c.deref_mut.ensures.value c.deref.ensures.value c.self.view_is c.blocked-blocked.ensures c.followers-second.ensures c.move_on-said.ensures in
     let size = pass_size c.args.link x.moment x.entries.len x.entries.items c.deref_mut.result.now c.move_on-said.new.entries c.deref-2.result.now x.maintenance c.move_on-said.new.maintenance c.move_on-said.result c.deref_mut.ensures.value x.entries.ok.0 moved c.deref-2.ensures.value in
-    waiting_inside (day_of x.moment x.entries.items x.maintenance) c.deref-2.result.now x.live x.waiting x.behind.items size c.self.invariant.slots
+    waiting_inside (day_of x.moment x.entries.items x.maintenance) c.deref-2.result.now x.live x.waiting x.following.items size c.self.invariant.slots
 
 pub settle-requires-clause-second : goal.settle-requires-clause-second
 settle-requires-clause-second c k =
     let x = c.self.inside in
-    let moved = pass_moved c.args.link x.moment x.entries.items c.deref_mut.result.now c.move_on-said.new.entries x.maintenance c.move_on-said.new.maintenance c.move_on-said.result x.live x.waiting x.behind.items c.deref.result.now c.followers-second.result x.due c.blocked-blocked.result c.args.self.now c.self.invariant c.deref_mut.ensures.value c.deref.ensures.value c.self.view_is c.blocked-blocked.ensures c.followers-second.ensures c.move_on-said.ensures in
+    let moved = pass_moved c.args.link x.moment x.entries.items c.deref_mut.result.now c.move_on-said.new.entries x.maintenance c.move_on-said.new.maintenance c.move_on-said.result x.live x.waiting x.following.items c.deref.result.now c.followers-second.result x.due c.blocked-blocked.result c.args.self.now c.self.invariant c.deref_mut.ensures.value c.deref.ensures.value c.self.view_is c.blocked-blocked.ensures c.followers-second.ensures c.move_on-said.ensures in
     let size = pass_size c.args.link x.moment x.entries.len x.entries.items c.deref_mut.result.now c.move_on-said.new.entries c.deref-2.result.now x.maintenance c.move_on-said.new.maintenance c.move_on-said.result c.deref_mut.ensures.value x.entries.ok.0 moved c.deref-2.ensures.value in
     subst (λ (b : List (Option ℕ)). IsInside c.deref-2.result.now (follower b (slot_at x.waiting k))) (sym c.deref-3.ensures.value)
-    (second_inside (day_of x.moment x.entries.items x.maintenance) c.deref-2.result.now x.live x.waiting x.behind.items size c.self.invariant.exchange c.self.invariant.slots k)
+    (second_inside (day_of x.moment x.entries.items x.maintenance) c.deref-2.result.now x.live x.waiting x.following.items size c.self.invariant.exchange c.self.invariant.slots k)
 
 pub invariant_of-self : goal.invariant_of-self
 invariant_of-self c =
     let x = c.self.inside in
-    let moved = pass_moved c.args.link x.moment x.entries.items c.deref_mut.result.now c.move_on-said.new.entries x.maintenance c.move_on-said.new.maintenance c.move_on-said.result x.live x.waiting x.behind.items c.deref.result.now c.followers-second.result x.due c.blocked-blocked.result c.args.self.now c.self.invariant c.deref_mut.ensures.value c.deref.ensures.value c.self.view_is c.blocked-blocked.ensures c.followers-second.ensures c.move_on-said.ensures in
+    let moved = pass_moved c.args.link x.moment x.entries.items c.deref_mut.result.now c.move_on-said.new.entries x.maintenance c.move_on-said.new.maintenance c.move_on-said.result x.live x.waiting x.following.items c.deref.result.now c.followers-second.result x.due c.blocked-blocked.result c.args.self.now c.self.invariant c.deref_mut.ensures.value c.deref.ensures.value c.self.view_is c.blocked-blocked.ensures c.followers-second.ensures c.move_on-said.ensures in
     let early : x.moment < 300000 = subst (λ (d : Day). d.moment < 300000) (sym c.self.view_is) c.requires in
-    pass_indexed c.args.link x.moment x.entries.len x.entries.items c.deref_mut.result.now c.move_on-said.new.entries c.deref-2.result.now x.maintenance c.move_on-said.new.maintenance c.move_on-said.result x.live x.waiting x.behind.items c.settle.new.live c.settle.new.waiting
+    pass_indexed c.args.link x.moment x.entries.len x.entries.items c.deref_mut.result.now c.move_on-said.new.entries c.deref-2.result.now x.maintenance c.move_on-said.new.maintenance c.move_on-said.result x.live x.waiting x.following.items c.settle.new.live c.settle.new.waiting
     early c.self.invariant.exchange c.self.invariant.slots c.deref_mut.ensures.value x.entries.ok.0 moved c.deref-2.ensures.value
     (subst (λ (b : List (Option ℕ)). (d : Day) → IsExchange d → d.moment < 300000 → c.deref-2.result.now ≡ map (after_in c.args.link d) d.entries → AreSlots d x.live x.waiting b → AreSlots (passed_in c.args.link d).day c.settle.new.live c.settle.new.waiting b) c.deref-3.ensures.value (c.settle.ensures c.args.link))
 
 pub returns-clause-day : goal.returns-clause-day
 returns-clause-day c =
     let x = c.self.inside in
-    let moved = pass_moved c.args.link x.moment x.entries.items c.deref_mut.result.now c.move_on-said.new.entries x.maintenance c.move_on-said.new.maintenance c.move_on-said.result x.live x.waiting x.behind.items c.deref.result.now c.followers-second.result x.due c.blocked-blocked.result c.args.self.now c.self.invariant c.deref_mut.ensures.value c.deref.ensures.value c.self.view_is c.blocked-blocked.ensures c.followers-second.ensures c.move_on-said.ensures in
+    let moved = pass_moved c.args.link x.moment x.entries.items c.deref_mut.result.now c.move_on-said.new.entries x.maintenance c.move_on-said.new.maintenance c.move_on-said.result x.live x.waiting x.following.items c.deref.result.now c.followers-second.result x.due c.blocked-blocked.result c.args.self.now c.self.invariant c.deref_mut.ensures.value c.deref.ensures.value c.self.view_is c.blocked-blocked.ensures c.followers-second.ensures c.move_on-said.ensures in
     pass_day c.args.link x.moment x.entries.len x.entries.items c.deref_mut.result.now c.move_on-said.new.entries x.maintenance c.move_on-said.new.maintenance c.move_on-said.result c.deref_mut.ensures.value x.entries.ok.0 moved ∙ ap (λ (d : Day). (passed_in c.args.link d).day) c.self.view_is
 
 pub returns-clause-said : goal.returns-clause-said
 returns-clause-said c =
     let x = c.self.inside in
-    let moved = pass_moved c.args.link x.moment x.entries.items c.deref_mut.result.now c.move_on-said.new.entries x.maintenance c.move_on-said.new.maintenance c.move_on-said.result x.live x.waiting x.behind.items c.deref.result.now c.followers-second.result x.due c.blocked-blocked.result c.args.self.now c.self.invariant c.deref_mut.ensures.value c.deref.ensures.value c.self.view_is c.blocked-blocked.ensures c.followers-second.ensures c.move_on-said.ensures in
+    let moved = pass_moved c.args.link x.moment x.entries.items c.deref_mut.result.now c.move_on-said.new.entries x.maintenance c.move_on-said.new.maintenance c.move_on-said.result x.live x.waiting x.following.items c.deref.result.now c.followers-second.result x.due c.blocked-blocked.result c.args.self.now c.self.invariant c.deref_mut.ensures.value c.deref.ensures.value c.self.view_is c.blocked-blocked.ensures c.followers-second.ensures c.move_on-said.ensures in
     subst (λ (d : Day). SaysOnEach c.args.link d c.move_on-said.result) (ap (λ (es : List Entry). day_of x.moment es x.maintenance) c.deref_mut.ensures.value ∙ c.self.view_is) moved.said
 
 pub returns-clause-slots : goal.returns-clause-slots
 returns-clause-slots c =
     let x = c.self.inside in
-    let moved = pass_moved c.args.link x.moment x.entries.items c.deref_mut.result.now c.move_on-said.new.entries x.maintenance c.move_on-said.new.maintenance c.move_on-said.result x.live x.waiting x.behind.items c.deref.result.now c.followers-second.result x.due c.blocked-blocked.result c.args.self.now c.self.invariant c.deref_mut.ensures.value c.deref.ensures.value c.self.view_is c.blocked-blocked.ensures c.followers-second.ensures c.move_on-said.ensures in
+    let moved = pass_moved c.args.link x.moment x.entries.items c.deref_mut.result.now c.move_on-said.new.entries x.maintenance c.move_on-said.new.maintenance c.move_on-said.result x.live x.waiting x.following.items c.deref.result.now c.followers-second.result x.due c.blocked-blocked.result c.args.self.now c.self.invariant c.deref_mut.ensures.value c.deref.ensures.value c.self.view_is c.blocked-blocked.ensures c.followers-second.ensures c.move_on-said.ensures in
     moved.sizes

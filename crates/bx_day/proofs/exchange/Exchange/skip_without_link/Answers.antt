@@ -27,7 +27,7 @@ invariant_of-self c =
     let h = c.self.invariant.exchange in
     let at = c.moment-before.ensures.value ∙ ap (λ (d : Day). d.moment) (sym c.self.view_is) in
     let is = skip_day c.args.seconds c.min-seconds.result c.moment-before.result x.entries.len d c.deref_mut.result.now c.outlast.new.entries at c.min-seconds.ensures h c.deref_mut.ensures.value x.entries.ok.0 c.outlast.ensures in
-    skip_index c.args.seconds d _ x.live x.waiting x.behind.items c.first_waiting-self-inside.result h is c.self.invariant.slots
+    skip_index c.args.seconds d _ x.live x.waiting x.following.items c.first_waiting-self-inside.result h is c.self.invariant.slots
     (subst (λ (es : List Entry). AreEarliest es (length es) c.first_waiting-self-inside.result) c.deref.ensures.value c.first_waiting-self-inside.ensures)
 
 pub returns : goal.returns

@@ -6,7 +6,7 @@ use Rattle.csv.specs.declared.parser.State.TheVariants as st
 use Rattle.csv.proofs.ReadFacts.{rows-end, rows-more}
 use Rattle.bx_text.specs.Forms.{Form}
 use Rattle.bx_text.specs.Rows.{AreRows, IsNext, HasRows, IsBadHeader}
-use Rattle.bx_text.specs.Inside.{Front}
+use Rattle.bx_text.specs.Inside.{PrefixRead}
 
 pub rows_append : {Row : Type 0} (IsRow : List (List ℕ) → Row → Type 0) (records : List (List (List ℕ))) (rows : List Row) (f : List (List ℕ)) (row : Row)
     → AreRows IsRow records rows → IsRow f row → AreRows IsRow (records ++ f ∷ []) (rows ++ row ∷ [])
@@ -21,7 +21,7 @@ module _ {R Row Fault : Type 0} (form : Form Row Fault) (rem : R → Option (Lis
   unfolding Reached
   at_start e s r = rows-more rem a b f default_config st.StartRecord text text [] config e (sym s, refl) r
 
-  pub header_read : (columns : ℕ) → source_of rem a ≡ Some text → a.state ≡ st.StartRecord → ReadRecord rem a b true f → form.columns_under f ≡ Some columns → Front form rem b text columns []
+  pub header_read : (columns : ℕ) → source_of rem a ≡ Some text → a.state ≡ st.StartRecord → ReadRecord rem a b true f → form.columns_under f ≡ Some columns → PrefixRead form rem b text columns []
   header_read columns e s r h = let m = at_start e s r in (m.0, m.1, record { header = f; records = []; reached = m.2; is_header = h; are_rows = tt })
 
   pub header_wrong : source_of rem a ≡ Some text → a.state ≡ st.StartRecord → ReadRecord rem a b true f → form.columns_under f ≡ None → IsBadHeader form text
@@ -30,19 +30,19 @@ module _ {R Row Fault : Type 0} (form : Form Row Fault) (rem : R → Option (Lis
   pub header_missing : source_of rem a ≡ Some text → a.state ≡ st.StartRecord → ReadRecord rem a b false f → IsBadHeader form text
   header_missing e s r = inl (rw s at (rows-end rem a b f default_config text config e r))
 
-  module _ (columns : ℕ) (rows : List Row) (front : Front form rem a text columns rows) where
+  module _ (columns : ℕ) (rows : List Row) (leading : PrefixRead form rem a text columns rows) where
     more : ReadRecord rem a b true f
-        → (z : List ℕ) × (source_of rem b ≡ Some z) × Reached default_config st.StartRecord text ((front.2.header ∷ front.2.records) ++ (f ∷ [])) b.state z
-    more r = rows-more rem a b f default_config st.StartRecord text front.0 (front.2.header ∷ front.2.records) config front.1 front.2.reached r
+        → (z : List ℕ) × (source_of rem b ≡ Some z) × Reached default_config st.StartRecord text ((leading.2.header ∷ leading.2.records) ++ (f ∷ [])) b.state z
+    more r = rows-more rem a b f default_config st.StartRecord text leading.0 (leading.2.header ∷ leading.2.records) config leading.1 leading.2.reached r
 
-    pub front_next : (row : Row) → ReadRecord rem a b true f → form.IsRow columns f row → Front form rem b text columns (rows ++ row ∷ [])
-    front_next row r h = let m = more r in (m.0, m.1, record { header = front.2.header; records = front.2.records ++ f ∷ []; reached = m.2; is_header = front.2.is_header; are_rows = rows_append (form.IsRow columns) front.2.records rows f row front.2.are_rows h })
+    pub prefix_next : (row : Row) → ReadRecord rem a b true f → form.IsRow columns f row → PrefixRead form rem b text columns (rows ++ row ∷ [])
+    prefix_next row r h = let m = more r in (m.0, m.1, record { header = leading.2.header; records = leading.2.records ++ f ∷ []; reached = m.2; is_header = leading.2.is_header; are_rows = rows_append (form.IsRow columns) leading.2.records rows f row leading.2.are_rows h })
 
-    pub front_record : ReadRecord rem a b true f → IsNext form text columns rows f
-    front_record r = let m = more r in record { header = front.2.header; records = front.2.records; state = b.state; rest = m.0; reached = m.2; is_header = front.2.is_header; are_rows = front.2.are_rows }
+    pub prefix_record : ReadRecord rem a b true f → IsNext form text columns rows f
+    prefix_record r = let m = more r in record { header = leading.2.header; records = leading.2.records; state = b.state; rest = m.0; reached = m.2; is_header = leading.2.is_header; are_rows = leading.2.are_rows }
 
-    pub front_end : ReadRecord rem a b false f → HasRows form text rows
-    front_end r = record { columns = columns; state = a.state; rest = front.0; front = front.2; ends = rows-end rem a b f default_config front.0 config front.1 r }
+    pub prefix_end : ReadRecord rem a b false f → HasRows form text rows
+    prefix_end r = record { columns = columns; state = a.state; rest = leading.0; leading = leading.2; ends = rows-end rem a b f default_config leading.0 config leading.1 r }
 
 pub if_known : (known : Option (List ℕ)) (P : List ℕ → Type 0) → ((text : List ℕ) → known ≡ Some text → P text) → IfSome known P
 if_known None P h = tt

@@ -1,4 +1,4 @@
--- What was sold behind a best plan leaves it best: no choice of all these rows pays more than what was accepted before with all that was sold.
+-- What was sold after a best plan leaves it best: no choice of all these rows pays more than what was accepted before with all that was sold.
 use Rattle.std.proofs.Common.{◌≡◌, ◌∙◌, ◌⊎◌, inl, inr, ℕ, zero, suc, ◌-◌, ◌<◌, ◌≤◌, Bool, true, false, cond, List, ◌++◌, map, is_some, length, Option, arith, sym, ap, subst}
 use Rattle.std.proofs.lemmas.Bool.{cases_lt}
 use Rattle.std.proofs.lemmas.List.{length-append, length-map, get_or-map, get_or_append_left, get_or-append_right}
@@ -65,8 +65,8 @@ module _ (rows sold : List Row) (channels : List Bool) (assigned : List (Option 
       by_order i lt must (inl here) = kept i here ∙ lawful.has_musts i here (sym (ap (λ (r : Row). r.must) (row_there i here)) ∙ must)
       by_order i lt must (inr past) = taken i past lt
 
-    front : (set : ℕ → Bool) → IsLawful all channels set → IsLawful rows channels set
-    front set l = record {
+    prefix : (set : ℕ → Bool) → IsLawful all channels set → IsLawful rows channels set
+    prefix set l = record {
       carried = (
         l.carried.0,
         record {
@@ -80,7 +80,7 @@ module _ (rows sold : List Row) (channels : List Bool) (assigned : List (Option 
     pub still_best : IsBest all channels (pay_of all (is_accepted last))
     still_best set l =
         let n = length rows in
-        let here = best set (front set l) in
+        let here = best set (prefix set l) in
         let of_set = sum_below-same n (λ i. cond (set i) (row_at all i).pay 0) (λ i. cond (set i) (row_at rows i).pay 0) (λ i lt. ap (λ (r : Row). cond (set i) r.pay 0) (row_there i lt)) in
         let of_last = sum_below-same n (λ i. cond (is_accepted last i) (row_at all i).pay 0) (λ i. cond (is_accepted assigned i) (row_at rows i).pay 0)
         (λ i lt. ap (λ (r : Row). cond (is_accepted last i) r.pay 0) (row_there i lt) ∙ ap (λ (b : Bool). cond {A = ℕ} b (row_at rows i).pay 0) (kept i lt)) in

@@ -1,7 +1,7 @@
 use Rattle.std.proofs.Common.{◌≡◌, ◌<◌, ◌≤◌, ℕ, List, length, [], ◌∷◌, ◌∙◌, refl, arith}
 use Rattle.std.proofs.lemmas.Bool.{lt-ltb, le-ltb}
 use Rattle.bx_q931.specs.Values.{after_interface}
-use Rattle.bx_q931.proofs.channel_field.behind_interface.Goals as goal
+use Rattle.bx_q931.proofs.channel_field.following_interface.Goals as goal
 
 goes_on : (o : ℕ) (os rest : List ℕ) → rest ≡ o ∷ os → o < 128 → after_interface os ≡ after_interface rest
 unfolding after_interface

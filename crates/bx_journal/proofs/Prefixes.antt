@@ -12,9 +12,9 @@ use Rattle.bx_journal.specs.Heads.{IsDay, wanted_of}
 use Rattle.bx_journal.specs.Text.{lines_of, journal_text}
 use Rattle.bx_journal.specs.declared.fault.JournalFault.{JournalFault}
 use Rattle.bx_journal.specs.declared.head.Head.{Head}
-use Rattle.bx_journal.specs.Reading.{events_behind, journal_events}
+use Rattle.bx_journal.specs.Reading.{events_after, journal_events}
 use Rattle.bx_journal.specs.Recording.{IsUnbegun}
-use Rattle.bx_journal.proofs.WholeLines.{front_of}
+use Rattle.bx_journal.proofs.WholeLines.{prefix_of}
 use Rattle.bx_journal.proofs.HeadLines.{one_line, two_lines}
 use Rattle.bx_journal.proofs.ReadAgain.{own, lines_without_lf, lines_read}
 
@@ -36,12 +36,12 @@ more_of events i lt =
 module _ (head : Head) (day : IsDay head.day) where
   first_lines : (k : ℕ) (octets : List ℕ) → whole_lines octets ≡ take k (lines_of head []) → k ≤ 3 → IsUnbegun head octets
   first_lines zero octets are few = inl (ap (journal_events (wanted_of head)) are)
-  first_lines (suc zero) octets are few = inl (ap (journal_events (wanted_of head)) are ∙ ap (λ (r : Result ℕ JournalFault). events_behind r (take 1 (lines_of head []))) (one_line (wanted_of head) head (own head) day))
-  first_lines (suc (suc zero)) octets are few = inl (ap (journal_events (wanted_of head)) are ∙ ap (λ (r : Result ℕ JournalFault). events_behind r (take 2 (lines_of head []))) (two_lines (wanted_of head) head (own head) day))
+  first_lines (suc zero) octets are few = inl (ap (journal_events (wanted_of head)) are ∙ ap (λ (r : Result ℕ JournalFault). events_after r (take 1 (lines_of head []))) (one_line (wanted_of head) head (own head) day))
+  first_lines (suc (suc zero)) octets are few = inl (ap (journal_events (wanted_of head)) are ∙ ap (λ (r : Result ℕ JournalFault). events_after r (take 2 (lines_of head []))) (two_lines (wanted_of head) head (own head) day))
   first_lines (suc (suc (suc zero))) octets are few = inr (ap (journal_events (wanted_of head)) are ∙ lines_read (wanted_of head) head [] (own head) day tt)
   first_lines (suc (suc (suc (suc k)))) octets are few = absurd (omega (arith, few))
 
-  pub head_front : (n : ℕ) → IsUnbegun head (take n (journal_text head []))
-  head_front n =
-      let f = front_of (lines_of head []) n (lines_without_lf head [] day tt) in
+  pub head_prefix : (n : ℕ) → IsUnbegun head (take n (journal_text head []))
+  head_prefix n =
+      let f = prefix_of (lines_of head []) n (lines_without_lf head [] day tt) in
       first_lines f.count (take n (journal_text head [])) f.are f.within

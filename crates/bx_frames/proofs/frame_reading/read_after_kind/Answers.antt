@@ -4,8 +4,8 @@ use Rattle.bx_frames.specs.Frames.{length_in, octets_in, fits, is_message, frame
 use Rattle.bx_frames.proofs.ReadAnswers.{faulty}
 use Rattle.bx_frames.proofs.Locality.{length_local}
 use Rattle.bx_frames.proofs.ReadingSteps.{reads_then, reads_fault, reads_sized}
-use Rattle.bx_frames.proofs.frame_reading.read_behind_kind.Goals.{else-eq-via-then-eq+else-room-eq0, else-eq-via-else-eq}
-use Rattle.bx_frames.proofs.frame_reading.read_behind_kind.Goals as goal
+use Rattle.bx_frames.proofs.frame_reading.read_after_kind.Goals.{else-eq-via-then-eq+else-room-eq0, else-eq-via-else-eq}
+use Rattle.bx_frames.proofs.frame_reading.read_after_kind.Goals as goal
 
 pub returns-in_err-length-clause-read : goal.returns-in_err-length-clause-read
 returns-in_err-length-clause-read g c =
