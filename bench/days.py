@@ -59,7 +59,7 @@ def nested(count):
 
 
 def staircase(count):
-    """Calls of one length, each a step behind the one before it."""
+    """Calls of one length, each a step after the one before it."""
     for row in range(count):
         yield row * 20, row * 20 + 1_200, random.randrange(1, 1_000)
 

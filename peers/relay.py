@@ -1,7 +1,7 @@
 """A line between two ends that speak HDLC frames over UDP, one a datagram: it loses, damages, repeats and delays them by a seed, may be
 cut for a while, and keeps what went through in a capture of LAPD.
 
-Each direction keeps the order of its frames, as a line does; a frame that is repeated comes twice, one right behind the other. A frame
+Each direction keeps the order of its frames, as a line does; a frame that is repeated comes twice, one right after the other. A frame
 that is damaged has one to three bits turned, which its check sequence always shows.
 """
 import heapq
@@ -120,7 +120,7 @@ class Relay(threading.Thread):
 
     def messages(self, side):
         """The messages of layer 3 of a side that went through, in their order, each once: those whose frame has the number that is due.
-        Numbers begin anew behind a SABME or UA of that side."""
+        Numbers begin anew after a SABME or UA of that side."""
         due, messages = 0, []
         for _, sender, frame in self.passed:
             if sender != side:

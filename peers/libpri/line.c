@@ -30,7 +30,7 @@ static uint32_t moment_now(void) {
     return moment > 0 ? moment : 0;
 }
 
-// ---- frames of HDLC: each has a check sequence of 16 bits behind it, the low octet first
+// ---- frames of HDLC: each has a check sequence of 16 bits after it, the low octet first
 static unsigned check_sequence(const unsigned char *octets, int length) {
     unsigned rest = 0xFFFF;
     for (int i = 0; i < length * 8; i++) {
