@@ -7,7 +7,10 @@ use Rattle.bx_office_door.specs.declared.guest.Guest.{Guest}
 abbrev pub guests_of : Door → List Guest
 guests_of door = door.guests.items
 
--- who came stands after the others, by the numbers that are given next; some are gone, and all that stay do so in their order
-pub record IsAttended (old new : Door) : Type 0 where
+-- Who came stands after the others, by the numbers that are given next; some are gone, and all that stay do so in their order. The clock showed this then, and
+-- no answer is counted
+pub record IsAttended (now : ℕ) (old new : Door) : Type 0 where
   pub count : old.count ≤ new.count
   pub numbers : IsThinned (numbers_of (guests_of old) ++ given_since old.count new.count) (numbers_of (guests_of new))
+  pub answers : new.answers ≡ old.answers
+  pub shown : new.shown ≡ now

@@ -39,9 +39,11 @@ pub record IsReplied (reply : Reply) (old new : Client) : Type 0 where
   pub next : IsNext new.stage
   pub place : new.place ≡ old.place
 
--- .. and of who stands at the door
+-- .. and of who stands at the door, and stays there
 pub record IsTold (reply : Reply) (old new : Guest) : Type 0 where
   pub number : new.number ≡ old.number
+  pub is_shut : new.is_shut ≡ old.is_shut
+  pub is_gone : new.is_gone ≡ old.is_gone
   pub stream : new.stream ≡ old.stream
   pub client : IsReplied reply old.client new.client
 

@@ -37,7 +37,9 @@ impl Door {
 
     /// A door where nobody stands yet.
     pub fn new(alloc: Global, place: Place, listening: Listening) -> Door
-        ensures { guests_of result ≡ [] }
+        ensures nobody { guests_of result ≡ [] }
+        ensures place { result.place ≡ place }
+        ensures counts { (result.count ≡ 0) × (result.answers ≡ 0) × (result.shown ≡ 0) }
     {
         Door {
             alloc,
@@ -54,6 +56,7 @@ impl Door {
     fn let_in(&mut self, now: u128)
         ensures count { self.old.count ≤ self.new.count }
         ensures numbers { numbers_of (guests_of self.new) ≡ numbers_of (guests_of self.old) ++ given_since self.old.count self.new.count }
+        ensures others { (self.new.answers ≡ self.old.answers) × (self.new.shown ≡ self.old.shown) }
     {
         for _guest in 0..MAX_GUESTS {
             if self.guests.len() >= MAX_GUESTS {
@@ -77,6 +80,7 @@ impl Door {
     fn go_on(&mut self, now: u128)
         ensures count { self.new.count ≡ self.old.count }
         ensures numbers { numbers_of (guests_of self.new) ≡ numbers_of (guests_of self.old) }
+        ensures others { (self.new.answers ≡ self.old.answers) × (self.new.shown ≡ self.old.shown) }
     {
         for index in 0..self.guests.len() {
             self.guests[index].attend(now);
@@ -87,13 +91,14 @@ impl Door {
     fn let_out(&mut self)
         ensures count { self.new.count ≡ self.old.count }
         ensures stay { guests_of self.new ≡ filter (λ guest. not guest.is_gone) (guests_of self.old) }
+        ensures others { (self.new.answers ≡ self.old.answers) × (self.new.shown ≡ self.old.shown) }
     {
         self.guests.retain(|guest| !guest.is_gone());
     }
 
     /// Moves what is ready, and never waits: `now` is what the clock shows, in nanoseconds. Who comes stands after the others.
     pub fn attend(&mut self, now: u128)
-        ensures { IsAttended self.old self.new }
+        ensures { IsAttended now self.old self.new }
     {
         self.shown = now;
         self.let_in(now);

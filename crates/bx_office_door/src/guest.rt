@@ -1,6 +1,6 @@
 //! A client at the door.
 
-ghost use Rattle.std.specs.Prelude.{◌≡◌};
+ghost use Rattle.std.specs.Prelude.{◌≡◌, false, Some};
 ghost use Rattle.bx_office_door.specs.Guests.{IsTold};
 
 use crate::stream::{Came, Stream};
@@ -34,6 +34,8 @@ impl Guest {
         ensures number { result.number ≡ number }
         ensures place { result.client.place ≡ place }
         ensures stage { result.client.stage ≡ Stage.Head }
+        ensures stays { (result.is_shut ≡ false) × (result.is_gone ≡ false) }
+        ensures since { result.since ≡ Some now }
     {
         Guest {
             number,

@@ -1,4 +1,4 @@
-use Rattle.std.proofs.Common.{arith, not, subst, sym, List}
+use Rattle.std.proofs.Common.{arith, not, subst, sym, List, ◌∙◌}
 use Rattle.bx_office_door.proofs.GivenNumbers.{attended, thinned_filter}
 use Rattle.bx_office_door.specs.Guests.{numbers_of, IsThinned}
 use Rattle.bx_office_door.specs.declared.guest.Guest.{Guest}
@@ -10,4 +10,6 @@ returns c =
     record {
       count = omega (arith, c.let_in.ensures.count, c.go_on.ensures.count, c.let_out.ensures.count);
       numbers = attended _ _ _ _ _ _ _ _ c.let_in.ensures.numbers c.go_on.ensures.numbers stay c.go_on.ensures.count c.let_out.ensures.count;
+      answers = c.let_out.ensures.others.0 ∙ (c.go_on.ensures.others.0 ∙ c.let_in.ensures.others.0);
+      shown = c.let_out.ensures.others.1 ∙ (c.go_on.ensures.others.1 ∙ c.let_in.ensures.others.1);
     }

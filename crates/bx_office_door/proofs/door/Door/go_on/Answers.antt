@@ -12,4 +12,4 @@ invariant_of-self c =
 pub loop-index-preserved : goal.loop-index-preserved
 loop-index-preserved c =
     let same = numbers-set c.loop-index.self.guests.items c.loop-index.index c.attend.new.self c.index_mut.result.now (c.attend.ensures ∙ ap (λ (g : Guest). g.number) c.index_mut.ensures.value) in
-    record { count = c.loop-index.invariant.count; many = c.loop-index.invariant.many; numbers = same ∙ c.loop-index.invariant.numbers }
+    record { count = c.loop-index.invariant.count; many = c.loop-index.invariant.many; numbers = same ∙ c.loop-index.invariant.numbers; answers = c.loop-index.invariant.answers; shown = c.loop-index.invariant.shown }

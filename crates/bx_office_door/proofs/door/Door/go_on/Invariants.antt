@@ -7,4 +7,6 @@ invariant-loop-index l = record {
   count : l.self.count ≡ l.fn.self.count;
   many : vec_len l.self.guests ≡ vec_len l.fn.self.guests;
   numbers : numbers_of l.self.guests.items ≡ numbers_of l.fn.self.guests.items;
+  answers : l.self.answers ≡ l.fn.self.answers;
+  shown : l.self.shown ≡ l.fn.self.shown;
 }

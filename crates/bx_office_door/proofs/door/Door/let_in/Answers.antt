@@ -18,4 +18,6 @@ loop-guest-preserved c =
     record {
       count = omega (arith, next, c.loop-guest.invariant.count);
       numbers = came_more _ _ _ _ _ _ _ c.loop-guest.invariant.count c.loop-guest.invariant.numbers all c.new-guest.ensures.number next;
+      answers = c.loop-guest.invariant.answers;
+      shown = c.loop-guest.invariant.shown;
     }

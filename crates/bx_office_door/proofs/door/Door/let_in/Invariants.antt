@@ -6,4 +6,6 @@ abbrev pub invariant-loop-guest : goal.invariant-loop-guest
 invariant-loop-guest l = record {
   count : l.fn.self.count ≤ l.self.count;
   numbers : numbers_of l.self.guests.items ≡ numbers_of l.fn.self.guests.items ++ given_since l.fn.self.count l.self.count;
+  answers : l.self.answers ≡ l.fn.self.answers;
+  shown : l.self.shown ≡ l.fn.self.shown;
 }
