@@ -2,7 +2,7 @@
 use Rattle.std.proofs.Common.{◌≡◌, ℕ, Option, Some, None}
 use Rattle.bx_q931.specs.Outgoing.{Outgoing}
 use Rattle.bx_q931.specs.declared.kind.Kind.{Kind}
-use Rattle.bx_q931.specs.declared.kind.Kind.TheVariants.{Alerting, CallProceeding, Progress, Setup, Connect, SetupAcknowledge, ConnectAcknowledge, Disconnect, Release, ReleaseComplete, Notify, StatusEnquiry, Information, Status, Other}
+use Rattle.bx_q931.specs.declared.kind.Kind.TheVariants.{Alerting, CallProceeding, Progress, Setup, Connect, SetupAcknowledge, ConnectAcknowledge, Disconnect, Release, ReleaseComplete, StatusEnquiry, Status, Other}
 use Rattle.bx_calls.specs.declared.transition.Transition.{Transition}
 use Rattle.bx_calls.specs.declared.net_state.NetState.{NetState}
 use Rattle.bx_calls.specs.declared.net_state.NetState.TheVariants as net
@@ -16,21 +16,12 @@ use Rattle.bx_calls.specs.UserTable.{user_status, user_row}
 
 -- any other message is one that only some states expect
 pub progress_of : {A : Type 0} (call : A) (m : Heard) (status : Outgoing) (released : Option Outgoing) (kind : Kind) → every_state_row call m status released kind ≡ None → IsProgress kind
-progress_of call m status released Alerting e = tt
-progress_of call m status released CallProceeding e = tt
-progress_of call m status released Progress e = tt
 progress_of call m status released Setup e = cc
-progress_of call m status released Connect e = tt
-progress_of call m status released SetupAcknowledge e = tt
-progress_of call m status released ConnectAcknowledge e = tt
-progress_of call m status released Disconnect e = tt
 progress_of call m status released Release e = cc
 progress_of call m status released ReleaseComplete e = cc
-progress_of call m status released Notify e = tt
 progress_of call m status released StatusEnquiry e = cc
-progress_of call m status released Information e = tt
 progress_of call m status released Status e = cc
-progress_of call m status released (Other octet) e = tt
+progress_of call m status released kind e = tt
 
 pub net_every : (c : PlainNetCall) (m : Heard) (t : ℕ) (state : NetState) (kind : Kind) (row : Transition PlainNetCall) → every_state_row c m (net_status c 30) (net_released c state) kind ≡ Some row → row ≡ net_row c m t state kind
 net_every c m t state Alerting row e = cc
@@ -49,12 +40,8 @@ net_every c m t net.Active Release row e = cc
 net_every c m t (net.Enquiring asked due) Release row e = cc
 net_every c m t (net.DisconnectIndication cause due) Release row e = cc
 net_every c m t (net.ReleaseRequest again cause due) Release row e = cc
-net_every c m t state ReleaseComplete row e = cc
-net_every c m t state Notify row e = cc
-net_every c m t state StatusEnquiry row e = cc
-net_every c m t state Information row e = cc
-net_every c m t state Status row e = cc
 net_every c m t state (Other octet) row e = cc
+net_every c m t state kind row e = cc
 
 pub user_every : (c : PlainUserCall) (m : Heard) (t : ℕ) (state : UserState) (kind : Kind) (row : Transition PlainUserCall) → every_state_row c m (user_status c 30) (user_released c state) kind ≡ Some row → row ≡ user_row c m t state kind
 user_every c m t state Alerting row e = cc
@@ -74,9 +61,5 @@ user_every c m t user.IncomingCallProceeding Release row e = cc
 user_every c m t (user.Active since) Release row e = cc
 user_every c m t (user.DisconnectRequest cause due) Release row e = cc
 user_every c m t (user.ReleaseRequest again cause due) Release row e = cc
-user_every c m t state ReleaseComplete row e = cc
-user_every c m t state Notify row e = cc
-user_every c m t state StatusEnquiry row e = cc
-user_every c m t state Information row e = cc
-user_every c m t state Status row e = cc
 user_every c m t state (Other octet) row e = cc
+user_every c m t state kind row e = cc
