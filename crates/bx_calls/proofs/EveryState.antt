@@ -2,7 +2,7 @@
 use Rattle.std.proofs.Common.{◌≡◌, ℕ, Option, Some, None}
 use Rattle.bx_q931.specs.Outgoing.{Outgoing}
 use Rattle.bx_q931.specs.declared.kind.Kind.{Kind}
-use Rattle.bx_q931.specs.declared.kind.Kind.TheVariants.{Alerting, CallProceeding, Progress, Setup, Connect, SetupAcknowledge, ConnectAcknowledge, Disconnect, Release, ReleaseComplete, StatusEnquiry, Status, Other}
+use Rattle.bx_q931.specs.declared.kind.Kind.TheVariants.{Setup, Release, ReleaseComplete, StatusEnquiry, Status}
 use Rattle.bx_calls.specs.declared.transition.Transition.{Transition}
 use Rattle.bx_calls.specs.declared.net_state.NetState.{NetState}
 use Rattle.bx_calls.specs.declared.net_state.NetState.TheVariants as net
@@ -24,14 +24,6 @@ progress_of call m status released Status e = cc
 progress_of call m status released kind e = tt
 
 pub net_every : (c : PlainNetCall) (m : Heard) (t : ℕ) (state : NetState) (kind : Kind) (row : Transition PlainNetCall) → every_state_row c m (net_status c 30) (net_released c state) kind ≡ Some row → row ≡ net_row c m t state kind
-net_every c m t state Alerting row e = cc
-net_every c m t state CallProceeding row e = cc
-net_every c m t state Progress row e = cc
-net_every c m t state Setup row e = cc
-net_every c m t state Connect row e = cc
-net_every c m t state SetupAcknowledge row e = cc
-net_every c m t state ConnectAcknowledge row e = cc
-net_every c m t state Disconnect row e = cc
 net_every c m t net.OutgoingCallProceeding Release row e = cc
 net_every c m t (net.CallPresent again due) Release row e = cc
 net_every c m t (net.IncomingCallProceeding due) Release row e = cc
@@ -40,18 +32,9 @@ net_every c m t net.Active Release row e = cc
 net_every c m t (net.Enquiring asked due) Release row e = cc
 net_every c m t (net.DisconnectIndication cause due) Release row e = cc
 net_every c m t (net.ReleaseRequest again cause due) Release row e = cc
-net_every c m t state (Other octet) row e = cc
 net_every c m t state kind row e = cc
 
 pub user_every : (c : PlainUserCall) (m : Heard) (t : ℕ) (state : UserState) (kind : Kind) (row : Transition PlainUserCall) → every_state_row c m (user_status c 30) (user_released c state) kind ≡ Some row → row ≡ user_row c m t state kind
-user_every c m t state Alerting row e = cc
-user_every c m t state CallProceeding row e = cc
-user_every c m t state Progress row e = cc
-user_every c m t state Setup row e = cc
-user_every c m t state Connect row e = cc
-user_every c m t state SetupAcknowledge row e = cc
-user_every c m t state ConnectAcknowledge row e = cc
-user_every c m t state Disconnect row e = cc
 user_every c m t (user.CallInitiated again due) Release row e = cc
 user_every c m t (user.OutgoingCallProceeding due) Release row e = cc
 user_every c m t user.CallPresent Release row e = cc
@@ -61,5 +44,4 @@ user_every c m t user.IncomingCallProceeding Release row e = cc
 user_every c m t (user.Active since) Release row e = cc
 user_every c m t (user.DisconnectRequest cause due) Release row e = cc
 user_every c m t (user.ReleaseRequest again cause due) Release row e = cc
-user_every c m t state (Other octet) row e = cc
 user_every c m t state kind row e = cc

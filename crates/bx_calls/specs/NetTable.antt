@@ -216,3 +216,7 @@ net_unlinked n c t end =
 -- a timer, if it runs, is due at this moment at the latest
 abbrev pub IsDueBy : ℕ → NetState → Type 0
 IsDueBy m state = (due : ℕ) → net_due state ≡ Some due → due ≤ m
+
+-- what holds where the timer can be put off by n seconds within a word
+abbrev pub IfDueFits : ℕ → NetState → Type 0 → Type 0
+IfDueFits n state P = (latest : ℕ) → IsDueBy latest state → latest + n ≤ 4294967295 → P

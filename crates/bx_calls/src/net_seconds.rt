@@ -1,7 +1,7 @@
 //! What a second does to a call at the network side.
 
 ghost use Rattle.std.specs.Prelude.{◌≡◌, ◌≤◌, ◌+◌, ℕ, None};
-ghost use Rattle.bx_calls.specs.NetTable.{net_to, net_is_clearing, net_setup_again, net_asks, net_timer, net_second, net_lost, net_later, net_unlinked, IsDueBy};
+ghost use Rattle.bx_calls.specs.NetTable.{net_to, net_is_clearing, net_setup_again, net_asks, net_timer, net_second, net_lost, net_later, net_unlinked, IsDueBy, IfDueFits};
 
 use crate::net_call::NetCall;
 use crate::net_state::{Asked, NetOrigin, NetState};
@@ -45,7 +45,7 @@ impl NetCall {
     /// The same where the booking does not end.
     fn outlasts(self, seconds: u32, moment: u32) -> Transition<NetCall>
         requires moment { moment ≤ LAST_MOMENT }
-        ensures { (latest : ℕ) → IsDueBy latest self.state → latest + seconds ≤ 4294967295 → result ≡ net_to self None (net_later seconds moment self.state) }
+        ensures { IfDueFits seconds self.state (result ≡ net_to self None (net_later seconds moment self.state)) }
     {
         let state = following(self.state, seconds, moment);
         self.goes(None, state)
