@@ -31,7 +31,7 @@ impl NetCall {
     /// would be due after the last moment of a `u32` is due at that. The moment is at most `LAST_MOMENT`.
     pub fn on_seconds_unlinked(self, seconds: u32, moment: u32, end: u32) -> Transition<NetCall>
         requires moment { moment ≤ LAST_MOMENT }
-        ensures { (latest : ℕ) → IsDueBy latest self.state → latest + seconds ≤ 4294967295 → result ≡ net_unlinked seconds self moment end }
+        ensures { IfDueFits seconds self.state (result ≡ net_unlinked seconds self moment end) }
     {
         if moment >= end && !self.is_clearing() {
             let due = moment + 1;
