@@ -1,8 +1,8 @@
 -- Acts of a run that is held open, one after another.
-use Rattle.std.proofs.Common.{◌≡◌, ◌⊎◌, inl, inr, ℕ, ◌+◌, ◌<◌, List, [], ◌∷◌, ◌++◌, true, false, true≢false, sym, refl, ◌∙◌, subst, arith, Result, Ok, Err}
+use Rattle.std.proofs.Common.{◌≡◌, ◌⊎◌, inl, inr, ℕ, ◌+◌, ◌<◌, List, [], ◌∷◌, ◌++◌, true, true≢false, sym, refl, ◌∙◌, subst, arith, Result, Ok, Err}
 use Rattle.bx_day.specs.Day.{Day}
 use Rattle.bx_day.specs.Outages.{live_happens, live_day_after}
-use Rattle.bx_live.specs.Acts.{Act, Began, Dropped, Recorded, Synced, Wrote, Read, Took, EndedDay, recorded, begins_none}
+use Rattle.bx_live.specs.Acts.{Act, Began, Recorded, recorded, begins_none}
 use Rattle.bx_live.specs.Held.{AreHeld, has_call, IsHeldOut, IsHeldRun}
 use Rattle.bx_live.specs.Runs.{Place, Between, Over, Closing, Done}
 use Rattle.bx_live.specs.Running.{Runs, RunsInside, or_over}
@@ -15,26 +15,14 @@ use Rattle.bx_live.proofs.Days.{run_day, closed_day_is, ended_inside, at_any}
 pub held_none : (last : ℕ) (d : Day) (acts : List Act) → begins_none acts ≡ true → AreHeld last d acts
 held_none last d [] e = tt
 held_none last d (Began second begin ∷ acts) e = absurd (true≢false (sym e))
-held_none last d (Dropped loss ∷ acts) e = held_none last d acts e
 held_none last d (Recorded event true ∷ acts) e = held_none last (live_happens d event).day acts e
-held_none last d (Recorded event false ∷ acts) e = held_none last d acts e
-held_none last d (Synced done ∷ acts) e = held_none last d acts e
-held_none last d (Wrote octets done ∷ acts) e = held_none last d acts e
-held_none last d (Read room answer ∷ acts) e = held_none last d acts e
-held_none last d (Took message ∷ acts) e = held_none last d acts e
-held_none last d (EndedDay ∷ acts) e = held_none last d acts e
+held_none last d (x ∷ acts) e = held_none last d acts e
 
 pub held_on : (last : ℕ) (d : Day) (xs ys : List Act) → AreHeld last d xs → AreHeld last (live_day_after (recorded xs) d) ys → AreHeld last d (xs ++ ys)
 held_on last d [] ys h k = k
 held_on last d (Began second begin ∷ xs) ys (few, up, h) k = (few, up, held_on last d xs ys h k)
-held_on last d (Dropped loss ∷ xs) ys h k = held_on last d xs ys h k
 held_on last d (Recorded event true ∷ xs) ys h k = held_on last (live_happens d event).day xs ys h k
-held_on last d (Recorded event false ∷ xs) ys h k = held_on last d xs ys h k
-held_on last d (Synced done ∷ xs) ys h k = held_on last d xs ys h k
-held_on last d (Wrote octets done ∷ xs) ys h k = held_on last d xs ys h k
-held_on last d (Read room answer ∷ xs) ys h k = held_on last d xs ys h k
-held_on last d (Took message ∷ xs) ys h k = held_on last d xs ys h k
-held_on last d (EndedDay ∷ xs) ys h k = held_on last d xs ys h k
+held_on last d (x ∷ xs) ys h k = held_on last d xs ys h k
 
 -- one second that was wanted
 pub held_second : (last : ℕ) (d : Day) (acts : List Act) → IsOneSecond d.moment acts → d.moment < 300000 → (d.moment < last) ⊎ (has_call d ≡ true) → AreHeld last d acts

@@ -4,7 +4,7 @@ use Rattle.std.specs.List.{position}
 use Rattle.std.proofs.lemmas.Bool.Decides.{nat_tests}
 use Rattle.bx_q931.specs.Messages.{PlainMessage, message_at}
 use Rattle.bx_q931.specs.declared.channel_field.ChannelField.{ChannelField}
-use Rattle.bx_q931.specs.declared.channel_field.ChannelField.TheVariants.{Absent, Named, AnyChannel, Unread}
+use Rattle.bx_q931.specs.declared.channel_field.ChannelField.TheVariants.{Named, Unread}
 use Rattle.bx_q931.specs.declared.fault.MessageFault.{MessageFault}
 use Rattle.bx_q931.specs.declared.kind.Kind.{Kind}
 use Rattle.bx_q931.specs.declared.kind.Kind.TheVariants as kinds
@@ -13,13 +13,11 @@ use Rattle.bx_q931.specs.declared.reference.Reference.TheVariants.{Dummy, Value}
 use Rattle.bx_events.specs.Events.{Tick, Receive}
 use Rattle.bx_calls.specs.Said.{Said, said_of}
 use Rattle.bx_calls.specs.Sending.{Sent, Answered, unchanged}
-use Rattle.bx_day.specs.declared.entry.Link.TheVariants.{Down}
 use Rattle.bx_day.specs.Day.{Day, every_channel}
-use Rattle.bx_day.specs.Ticks.{ticked, passed_in}
+use Rattle.bx_day.specs.Ticks.{ticked}
 use Rattle.bx_day.specs.Receipts.{opens, names, lowest_open, takes_or, takes_preferred, called_on, called, stray, received_at, receive}
 use Rattle.bx_day.specs.Run.{receive_from, receive_read, receive_octets}
 use Rattle.bx_day.specs.Course.{exchange_next}
-use Rattle.bx_day.specs.Outages.{without_link}
 
 abbrev Stays : Day → Answered Day → Type 0
 Stays d answered = answered.day.moment ≡ d.moment
@@ -37,8 +35,7 @@ module _ (d : Day) (m : Said) where
   called_on_stays Unread = refl
   called_on_stays (Named c true) = taken_stays 44 (position (opens d c) d.entries)
   called_on_stays (Named c false) = preferred_stays (position (opens d c) d.entries)
-  called_on_stays Absent = taken_stays 34 (lowest_open d every_channel)
-  called_on_stays AnyChannel = taken_stays 34 (lowest_open d every_channel)
+  called_on_stays field = taken_stays 34 (lowest_open d every_channel)
 
   called_stays : (cause : Option ℕ) → Stays d (called d m cause)
   called_stays (Some cause) = refl
@@ -79,10 +76,3 @@ tick_moves d false e = refl
 
 pub tick_rises : (d d1 : Day) → d1 ≡ exchange_next d Tick → d.moment < 300000 → d1.moment ≡ d.moment + 1
 tick_rises d d1 e early = let t : nat_le 300000 d.moment ≡ false = grind (arith, nat_tests, early) in ap (λ (x : Day). x.moment) e ∙ tick_moves d (nat_le 300000 d.moment) t
-
-down_moves : (d : Day) (b : Bool) → b ≡ false → (let x : Day = if b then d else (passed_in Down d).day in x).moment ≡ d.moment + 1
-down_moves d true e = cc
-down_moves d false e = refl
-
-pub down_rises : (d d1 : Day) → d1 ≡ without_link d → d.moment < 300000 → d1.moment ≡ d.moment + 1
-down_rises d d1 e early = let t : nat_le 300000 d.moment ≡ false = grind (arith, nat_tests, early) in ap (λ (x : Day). x.moment) e ∙ down_moves d (nat_le 300000 d.moment) t

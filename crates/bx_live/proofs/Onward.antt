@@ -1,8 +1,8 @@
 -- Whatever is written belongs to the last event in the journal.
-use Rattle.std.proofs.Common.{◌≡◌, ◌⊎◌, inl, inr, ℕ, zero, suc, ◌+◌, Option, Some, None, List, [], ◌∷◌, ◌++◌, refl, sym, ap, ◌∙◌, subst, true, false, Bool, Result, Ok, Err, ◌==◌, if◌then◌else◌}
+use Rattle.std.proofs.Common.{◌≡◌, ◌⊎◌, inl, inr, ℕ, zero, suc, ◌+◌, Some, None, List, [], ◌∷◌, ◌++◌, refl, sym, ap, ◌∙◌, subst, true, false, Bool, Result, Ok, ◌==◌, if◌then◌else◌}
 use Rattle.std.proofs.lemmas.List.{append-nil, append_assoc}
 use Rattle.arrayvec.specs.ArrayVec.{ArrayVec}
-use Rattle.bx_events.specs.Events.{Event, Tick, Receive, LiveEvent, OnLink, WithoutLink, Sold}
+use Rattle.bx_events.specs.Events.{Event, Receive, LiveEvent, OnLink, WithoutLink, Sold}
 use Rattle.bx_frames.specs.declared.fault.LinkFault.{LinkFault}
 use Rattle.bx_frames.specs.declared.frame.Frame.{Frame}
 use Rattle.bx_frames.specs.declared.frame.Frame.TheVariants as frames
@@ -12,11 +12,10 @@ use Rattle.bx_day.specs.Outages.{live_day_after}
 use Rattle.bx_live.specs.declared.world.Begin.{Begin}
 use Rattle.bx_live.specs.declared.world.Begin.TheVariants as begins
 use Rattle.bx_live.specs.declared.world.Loss.{Loss}
-use Rattle.bx_live.specs.declared.world.Loss.TheVariants as losses
-use Rattle.bx_live.specs.Acts.{Act, Began, Dropped, Recorded, Synced, Wrote, Read, Took, EndedDay, recorded}
-use Rattle.bx_live.specs.Runs.{Place, Between, Recording, Receiving, Taking, Owing, Hearing, Losing, Over, Closing, Ending, Done, IsDue, IsRun, next, day_at, owing, with_reply, replying, writing, begun, heard, lost}
+use Rattle.bx_live.specs.Acts.{Act, Began, Recorded, Synced, Wrote, Read, Took, recorded}
+use Rattle.bx_live.specs.Runs.{Place, Between, Recording, Receiving, Taking, Owing, Losing, IsDue, IsRun, next, day_at, owing, with_reply, replying, writing, begun, heard}
 use Rattle.bx_live.specs.Written.{Filed, filed, filed_by, AreHeard, IsWrittenFor}
-use Rattle.bx_live.proofs.Due.{by_due}
+use Rattle.bx_live.proofs.Due.{by_answers}
 use Rattle.bx_live.proofs.Days.{step_day}
 
 -- ---- lists of acts, one after the other
@@ -29,44 +28,23 @@ days_on (Sold line ∷ xs) ys d = days_on xs ys d
 
 pub recorded_on : (xs ys : List Act) → recorded (xs ++ ys) ≡ recorded xs ++ recorded ys
 recorded_on [] ys = refl
-recorded_on (Began second begin ∷ xs) ys = recorded_on xs ys
-recorded_on (Dropped loss ∷ xs) ys = recorded_on xs ys
 recorded_on (Recorded event true ∷ xs) ys = ap (λ es. event ∷ es) (recorded_on xs ys)
-recorded_on (Recorded event false ∷ xs) ys = recorded_on xs ys
-recorded_on (Synced done ∷ xs) ys = recorded_on xs ys
-recorded_on (Wrote octets done ∷ xs) ys = recorded_on xs ys
-recorded_on (Read room answer ∷ xs) ys = recorded_on xs ys
-recorded_on (Took message ∷ xs) ys = recorded_on xs ys
-recorded_on (EndedDay ∷ xs) ys = recorded_on xs ys
+recorded_on (x ∷ xs) ys = recorded_on xs ys
 
 pub filed_on : (xs ys : List Act) (f : Filed) → filed_by (xs ++ ys) f ≡ filed_by ys (filed_by xs f)
 filed_on [] ys f = refl
-filed_on (Began second begin ∷ xs) ys f = filed_on xs ys f
-filed_on (Dropped loss ∷ xs) ys f = filed_on xs ys f
 filed_on (Recorded event true ∷ xs) ys f = filed_on xs ys (record { disk = f.disk; more = f.more ++ event ∷ [] })
-filed_on (Recorded event false ∷ xs) ys f = filed_on xs ys f
 filed_on (Synced true ∷ xs) ys f = filed_on xs ys (record { disk = f.disk ++ f.more; more = [] })
-filed_on (Synced false ∷ xs) ys f = filed_on xs ys f
-filed_on (Wrote octets done ∷ xs) ys f = filed_on xs ys f
-filed_on (Read room answer ∷ xs) ys f = filed_on xs ys f
-filed_on (Took message ∷ xs) ys f = filed_on xs ys f
-filed_on (EndedDay ∷ xs) ys f = filed_on xs ys f
+filed_on (x ∷ xs) ys f = filed_on xs ys f
 
 -- all that is logged is on the disk, or after the last sync
 all_filed : (xs : List Act) (f : Filed) → (filed_by xs f).disk ++ (filed_by xs f).more ≡ (f.disk ++ f.more) ++ recorded xs
 all_filed [] f = sym (append-nil (f.disk ++ f.more))
-all_filed (Began second begin ∷ xs) f = all_filed xs f
-all_filed (Dropped loss ∷ xs) f = all_filed xs f
 all_filed (Recorded event true ∷ xs) f =
     all_filed xs (record { disk = f.disk; more = f.more ++ event ∷ [] })
     ∙ (ap (λ es. es ++ recorded xs) (sym (append_assoc f.disk f.more (event ∷ []))) ∙ append_assoc (f.disk ++ f.more) (event ∷ []) (recorded xs))
-all_filed (Recorded event false ∷ xs) f = all_filed xs f
 all_filed (Synced true ∷ xs) f = all_filed xs (record { disk = f.disk ++ f.more; more = [] }) ∙ ap (λ es. es ++ recorded xs) (append-nil (f.disk ++ f.more))
-all_filed (Synced false ∷ xs) f = all_filed xs f
-all_filed (Wrote octets done ∷ xs) f = all_filed xs f
-all_filed (Read room answer ∷ xs) f = all_filed xs f
-all_filed (Took message ∷ xs) f = all_filed xs f
-all_filed (EndedDay ∷ xs) f = all_filed xs f
+all_filed (x ∷ xs) f = all_filed xs f
 
 pub filed_law : (acts : List Act) → (filed acts).disk ++ (filed acts).more ≡ recorded acts
 filed_law acts = all_filed acts (record { disk = []; more = [] })
@@ -90,14 +68,7 @@ abbrev Owes : Day → List Act → Place → Type 0
 Owes d acts (Receiving day room owed octets) = AreOwed d acts true owed
 Owes d acts (Taking day room owed) = AreOwed d acts true owed
 Owes d acts (Owing day room unsynced texts) = AreOwed d acts unsynced texts
-Owes d acts (Between day) = Unit {0}
-Owes d acts (Recording day room event) = Unit {0}
-Owes d acts (Hearing day room) = Unit {0}
-Owes d acts (Losing day loss) = Unit {0}
-Owes d acts (Over day) = Unit {0}
-Owes d acts (Closing day) = Unit {0}
-Owes d acts (Ending day) = Unit {0}
-Owes d acts (Done day) = Unit {0}
+Owes d acts p = Unit {0}
 
 record Stands (d : Day) (acts : List Act) (p : Place) : Type 0 where
   day : day_at p ≡ live_day_after (recorded acts) d
@@ -106,9 +77,7 @@ record Stands (d : Day) (acts : List Act) (p : Place) : Type 0 where
 heard_after : (events : List LiveEvent) (octets : List ℕ) → AreHeard events → AreHeard (events ++ OnLink (Receive octets) ∷ [])
 heard_after [] octets h = tt
 heard_after (OnLink (Receive other) ∷ events) octets h = heard_after events octets h
-heard_after (OnLink Tick ∷ events) octets h = absurd h
-heard_after (WithoutLink ∷ events) octets h = absurd h
-heard_after (Sold line ∷ events) octets h = absurd h
+heard_after (x ∷ events) octets h = absurd h
 
 -- what is owed after other acts
 owed_map : (d : Day) (acts after : List Act) (was is : Bool) → ((text : List ℕ) → IsOwed d acts was text → IsOwed d after is text) → (texts : List (List ℕ)) → AreOwed d acts was texts → AreOwed d after is texts
@@ -139,24 +108,16 @@ module _ (d : Day) (acts : List Act) where
   owing_owes d1 room earlier event (message ∷ sent) text on messages octets = (record { earlier = earlier; event = event; later = []; on_record = on; heard = tt; is_text = octets; synced = inl refl }, tt)
 
   begun_owes : (day : Day) (begin : Begin) → Owes d acts (begun day begin)
-  begun_owes day begins.Late = tt
-  begun_owes day begins.Alone = tt
-  begun_owes day begins.Joined = tt
   begun_owes day begins.Ended = tt
+  begun_owes day begin = tt
 
   either_owes : (b : Bool) (day : Day) (loss : Loss) → Owes d acts (if b then Between day else Losing day loss)
   either_owes true day loss = tt
   either_owes false day loss = tt
 
   heard_owes : (day : Day) (room : ℕ) (answer : Result Frame LinkFault) → Owes d acts (heard day room answer)
-  heard_owes day room (Ok (frames.Message octets)) = tt
   heard_owes day room (Ok (frames.EndOfTurn said)) = either_owes (said == day.moment) day _
-  heard_owes day room (Ok frames.EndOfDay) = tt
-  heard_owes day room (Err fault) = tt
-
-  lost_owes : (day : Day) (loss : Loss) → Owes d acts (lost day loss)
-  lost_owes day losses.Late = tt
-  lost_owes day (losses.Fault fault) = tt
+  heard_owes day room answer = tt
 
 module _ (d : Day) (acts : List Act) where
   abbrev after_act : Act → List Act
@@ -170,12 +131,11 @@ module _ (d : Day) (acts : List Act) where
   owed_recorded day room (OnLink e) true stands =
       owing_owes d (after_act (Recorded (OnLink e) true)) (exchange_next day e) room (recorded acts) e (exchange_sent day e) (exchange_text day e)
       (recorded_on acts (Recorded (OnLink e) true ∷ [])) (ap (λ x. exchange_sent x e) stands.day) (ap (λ x. exchange_text x e) stands.day)
-  owed_recorded day room WithoutLink true stands = tt
-  owed_recorded day room (Sold line) true stands = tt
   owed_recorded day room event false stands = tt
+  owed_recorded day room event true stands = tt
 
-  owed_received : (day : Day) (room : ℕ) (owed : List (List ℕ)) (octets : List ℕ) (done : Bool) → KeepsOwed (Receiving day room owed octets) (Recorded (OnLink (Receive octets)) done)
-  owed_received day room owed octets true stands =
+  owed_received : (day : Day) (room : ℕ) (owed : List (List ℕ)) (octets : List ℕ) → KeepsOwed (Receiving day room owed octets) (Recorded (OnLink (Receive octets)) true)
+  owed_received day room owed octets stands =
       let e = Receive octets in
       let act = Recorded (OnLink e) true in
       let text = exchange_text day e in
@@ -198,7 +158,6 @@ module _ (d : Day) (acts : List Act) where
         is_text = o.is_text;
         synced = inl refl;
       }) owed stands.owes) (λ some. one))
-  owed_received day room owed octets false stands = tt
 
   -- an act that puts nothing in the journal
   quiet_owed : (act : Act) → recorded (act ∷ []) ≡ [] → (owed : List (List ℕ)) → AreOwed d acts true owed → AreOwed d (after_act act) true owed
@@ -212,12 +171,8 @@ module _ (d : Day) (acts : List Act) where
     synced = inl refl;
   }) owed are
 
-  owed_took : (day : Day) (room : ℕ) (owed : List (List ℕ)) (message : Option (ArrayVec ℕ)) → KeepsOwed (Taking day room owed) (Took message)
-  owed_took day room owed (Some message) stands = quiet_owed (Took (Some message)) refl owed stands.owes
-  owed_took day room owed None stands = quiet_owed (Took None) refl owed stands.owes
-
-  owed_synced : (day : Day) (room : ℕ) (texts : List (List ℕ)) (done : Bool) → KeepsOwed (Owing day room true texts) (Synced done)
-  owed_synced day room texts true stands = owed_map d acts (after_act (Synced true)) true false (λ t o. record {
+  owed_synced : (day : Day) (room : ℕ) (texts : List (List ℕ)) → KeepsOwed (Owing day room true texts) (Synced true)
+  owed_synced day room texts stands = owed_map d acts (after_act (Synced true)) true false (λ t o. record {
     earlier = o.earlier;
     event = o.event;
     later = o.later;
@@ -226,10 +181,9 @@ module _ (d : Day) (acts : List Act) where
     is_text = o.is_text;
     synced = inr (inr (ap (λ (f : Filed). f.more) (filed_on acts (Synced true ∷ []) (record { disk = []; more = [] }))));
   }) texts stands.owes
-  owed_synced day room texts false stands = tt
 
-  owed_written : (day : Day) (room : ℕ) (text : List ℕ) (texts : List (List ℕ)) (done : Bool) → KeepsOwed (Owing day room false (text ∷ texts)) (Wrote text done)
-  owed_written day room text texts true stands = writing_owes d (after_act (Wrote text true)) day room texts (owed_map d acts (after_act (Wrote text true)) false false (λ t o. record {
+  owed_written : (day : Day) (room : ℕ) (text : List ℕ) (texts : List (List ℕ)) → KeepsOwed (Owing day room false (text ∷ texts)) (Wrote text true)
+  owed_written day room text texts stands = writing_owes d (after_act (Wrote text true)) day room texts (owed_map d acts (after_act (Wrote text true)) false false (λ t o. record {
     earlier = o.earlier;
     event = o.event;
     later = o.later;
@@ -242,20 +196,15 @@ module _ (d : Day) (acts : List Act) where
     still_synced (inl a) = inl a
     still_synced (inr (inl b)) = inr (inl b)
     still_synced (inr (inr none)) = inr (inr (ap (λ (f : Filed). f.more) (filed_on acts (Wrote text true ∷ []) (record { disk = []; more = [] })) ∙ none))
-  owed_written day room text texts false stands = tt
-
-  owed_closed : (day : Day) (done : Bool) → KeepsOwed (Between day) (Synced done)
-  owed_closed day true stands = tt
-  owed_closed day false stands = tt
-
-  owed_ended : (day : Day) (done : Bool) → KeepsOwed (Closing day) (Synced done)
-  owed_ended day true stands = tt
-  owed_ended day false stands = tt
 
   keeps_owed : (p : Place) (act : Act) → IsDue p act → KeepsOwed p act
-  keeps_owed = by_due KeepsOwed
-      (λ day begin stands. begun_owes d (after_act (Began (day.moment + 1) begin)) day begin) owed_recorded owed_received owed_took owed_synced owed_written
-      (λ day room answer stands. heard_owes d (after_act (Read room answer)) day room answer) (λ day loss stands. lost_owes d (after_act (Dropped loss)) day loss) owed_closed owed_ended (λ day stands. tt)
+  keeps_owed = by_answers KeepsOwed
+      (λ day begin stands. begun_owes d (after_act (Began (day.moment + 1) begin)) day begin) owed_recorded
+      (λ day room owed octets. (owed_received day room owed octets, λ stands. tt))
+      (λ day room owed. ((λ message stands. quiet_owed (Took (Some message)) refl owed stands.owes), (λ stands. quiet_owed (Took None) refl owed stands.owes)))
+      (λ day room texts. (owed_synced day room texts, λ stands. tt)) (λ day room text texts. (owed_written day room text texts, λ stands. tt))
+      (λ day room answer stands. heard_owes d (after_act (Read room answer)) day room answer)
+      (λ day. ((λ stands. tt), (λ fault stands. tt))) (λ day. ((λ stands. tt), (λ stands. tt))) (λ day. ((λ stands. tt), (λ stands. tt))) (λ day stands. tt)
 
   stands_on : (p : Place) (act : Act) → IsDue p act → Stands d acts p → Stands d (after_act act) (next p act)
   stands_on p act due stands = record {
@@ -278,18 +227,7 @@ module _ (d : Day) (acts : List Act) where
         not_unsynced : {A : Type 0} → (false ≡ true) ⊎ A → A
         not_unsynced (inl e) = cc
         not_unsynced (inr a) = a
-  written_now (Owing day room false []) octets done due stands = absurd due
-  written_now (Owing day room true texts) octets done due stands = absurd due
-  written_now (Receiving day room owed came) octets done due stands = absurd due
-  written_now (Taking day room owed) octets done due stands = absurd due
-  written_now (Between day) octets done due stands = absurd due
-  written_now (Recording day room event) octets done due stands = absurd due
-  written_now (Hearing day room) octets done due stands = absurd due
-  written_now (Losing day loss) octets done due stands = absurd due
-  written_now (Over day) octets done due stands = absurd due
-  written_now (Closing day) octets done due stands = absurd due
-  written_now (Ending day) octets done due stands = absurd due
-  written_now (Done day) octets done due stands = absurd due
+  written_now p octets done due stands = absurd due
 
 written_after : (d : Day) (acts : List Act) (p : Place) → Stands d acts p → (before following : List Act) (octets : List ℕ) (done : Bool) (to : Place) → IsRun p (before ++ Wrote octets done ∷ following) to → IsWrittenFor d (acts ++ before) octets
 written_after d acts p stands [] following octets done to (due, goes) = subst (λ xs. IsWrittenFor d xs octets) (sym (append-nil acts)) (written_now d acts p octets done due stands)

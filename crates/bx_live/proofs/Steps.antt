@@ -11,7 +11,7 @@ use Rattle.bx_frames.specs.declared.frame.Frame.TheVariants as frames
 use Rattle.bx_live.specs.declared.world.Loss.TheVariants as losses
 use Rattle.bx_live.specs.declared.turn.Stop.{Stop}
 use Rattle.bx_live.specs.declared.turn.Stop.TheVariants as stops
-use Rattle.bx_live.specs.Acts.{Act, Began, Dropped, Recorded, Synced, Wrote, Read, Took, EndedDay, ended, begins_none}
+use Rattle.bx_live.specs.Acts.{Act, Began, Recorded, ended, begins_none}
 use Rattle.bx_live.specs.Runs.{Place, Between, begun, heard, Recording, Receiving, with_reply, replying, Losing, Over, IsDue, next, IsRun, owing, happened}
 use Rattle.bx_live.specs.Running.{Runs, RunsInside}
 use Rattle.bx_live.specs.Seconds.{after_second, IsSecond}
@@ -34,13 +34,7 @@ owed d d1 room e sent text day messages octets =
 pub begins_on : (xs ys : List Act) → begins_none xs ≡ true → begins_none ys ≡ true → begins_none (xs ++ ys) ≡ true
 begins_on [] ys e f = f
 begins_on (Began second begin ∷ xs) ys e f = absurd (true≢false (sym e))
-begins_on (Dropped loss ∷ xs) ys e f = begins_on xs ys e f
-begins_on (Recorded event done ∷ xs) ys e f = begins_on xs ys e f
-begins_on (Synced done ∷ xs) ys e f = begins_on xs ys e f
-begins_on (Wrote octets done ∷ xs) ys e f = begins_on xs ys e f
-begins_on (Read room answer ∷ xs) ys e f = begins_on xs ys e f
-begins_on (Took message ∷ xs) ys e f = begins_on xs ys e f
-begins_on (EndedDay ∷ xs) ys e f = begins_on xs ys e f
+begins_on (x ∷ xs) ys e f = begins_on xs ys e f
 
 module _ {W : Type 0} {did : W → List Act → W → Type 0} where
   -- nothing was done yet
@@ -89,9 +83,7 @@ module _ {W : Type 0} {did : W → List Act → W → Type 0} where
     } where
       said_on : (begin : Begin) → ended (Began (d.moment + 1) begin ∷ []) ≡ true → ended (Began (d.moment + 1) begin ∷ rest.acts) ≡ true
       said_on begins.Ended e = refl
-      said_on begins.Late e = absurd (true≢false (sym e))
-      said_on begins.Alone e = absurd (true≢false (sym e))
-      said_on begins.Joined e = absurd (true≢false (sym e))
+      said_on begin e = absurd (true≢false (sym e))
 
 -- ---- how a turn stops
 

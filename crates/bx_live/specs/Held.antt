@@ -7,6 +7,8 @@ use Rattle.bx_day.specs.declared.entry.Entry.{Entry}
 use Rattle.bx_events.specs.declared.moment.TheConstants.{LAST_MOMENT}
 use Rattle.bx_live.specs.declared.world.CannotRecord.{CannotRecord}
 use Rattle.bx_live.specs.Acts.{Act, Began, Recorded, recorded, ended}
+use Rattle.bx_live.specs.Runs.{Between, Done}
+use Rattle.bx_live.specs.Running.{Runs, or_over}
 
 -- the call of a booking is up
 abbrev pub is_up : Entry → Bool
@@ -34,3 +36,8 @@ pub record IsHeldRun (last : ℕ) (d d1 : Day) (acts : List Act) (result : Resul
   pub after : d1 ≡ live_day_after (recorded acts) d
   pub held : AreHeld last d acts
   pub out : OnOk result (ended acts ≡ false → IsHeldOut last d1)
+
+-- the rest of a day that is held open was run
+abbrev pub RunsHeld : {W : Type 0} → (W → List Act → W → Type 0) → W → W → ℕ → Day → Day → Result (Unit {0}) CannotRecord → Type 0
+RunsHeld did old new last d d1 result =
+    (ran : Runs did old new (Between d) (or_over (Done d1) d1 result)) × IsHeldRun last d d1 ran.acts result

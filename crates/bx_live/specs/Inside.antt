@@ -1,16 +1,18 @@
 -- Private: how the functions of a run end.
-use Rattle.std.specs.Prelude.{◌≡◌, ℕ, ◌+◌, ◌<◌, true, List, [], ◌∷◌, map, Result, Ok, Err}
+use Rattle.std.specs.Prelude.{◌≡◌, ℕ, ◌+◌, ◌<◌, true, List, [], ◌∷◌, map, Result, Ok, Err, ◌++◌, false}
 use Rattle.arrayvec.specs.ArrayVec.{ArrayVec}
 use Rattle.bx_day.specs.Day.{Day}
 use Rattle.bx_devices.specs.declared.octets.WriteFailed.{WriteFailed}
-use Rattle.bx_frames.specs.Frames.{frame_with}
+use Rattle.bx_frames.specs.Frames.{frame_with, frames_of, turn_frame}
 use Rattle.bx_frames.specs.declared.fault.LinkFault.TheVariants.{WriteFailed as Unwritten}
 use Rattle.bx_live.specs.declared.world.CannotRecord.{CannotRecord}
 use Rattle.bx_live.specs.declared.world.Loss.TheVariants as losses
 use Rattle.bx_live.specs.declared.turn.Stop.{Stop}
 use Rattle.bx_live.specs.declared.turn.Stop.TheVariants as stops
-use Rattle.bx_live.specs.Runs.{Place, Hearing, Owing, Losing, Over}
+use Rattle.bx_live.specs.Runs.{Place, Hearing, Owing, Losing, Over, Receiving, owing, replying}
 use Rattle.bx_events.specs.declared.moment.TheConstants.{LAST_MOMENT}
+use Rattle.bx_live.specs.Acts.{Act}
+use Rattle.bx_live.specs.Running.{RunsInside, or_over}
 
 -- the place after what went well, or broke off
 abbrev pub or_stopped : {A : Type 0} → Place → Day → Result A Stop → Place
@@ -47,3 +49,26 @@ abbrev pub heard_with : Day → Result ℕ Stop → Place
 heard_with d (Ok left) = Hearing d left
 heard_with d (Err (stops.Link fault)) = Losing d (losses.Fault fault)
 heard_with d (Err stops.Record) = Over d
+
+-- ---- runs inside of a second
+
+module _ {W : Type 0} (did : W → List Act → W → Type 0) (old new : W) where
+  -- what was logged is on the disk before messages are written with the end of a turn
+  abbrev pub SyncsBefore : List (ArrayVec ℕ) → Result (Unit {0}) CannotRecord → Type 0
+  SyncsBefore sent result =
+      (d : Day) (room moment : ℕ)
+      → RunsInside did old new (owing d room sent (frames_of sent ++ turn_frame moment)) (or_over (Owing d room false ((frames_of sent ++ turn_frame moment) ∷ [])) d result)
+
+  -- a message was heard; replies were owed before, and are after it
+  abbrev pub HearsOne : Day → List (ArrayVec ℕ) → List ℕ → Day → List (ArrayVec ℕ) → Result (Unit {0}) CannotRecord → Type 0
+  HearsOne d owed octets d1 owed1 result =
+      (room : ℕ) → RunsInside did old new (Receiving d room (texts_of owed) octets) (or_over (replying d1 (texts_of owed1) room) d1 result)
+
+  -- messages were heard from this one on
+  abbrev pub HearsFrom : Day → ℕ → List ℕ → Day → List (ArrayVec ℕ) → Result ℕ CannotRecord → Type 0
+  HearsFrom d room octets d1 owed result = RunsInside did old new (Receiving d room [] octets) (gathered d1 (texts_of owed) result)
+
+  -- the replies that are owed were written, after one sync
+  abbrev pub WritesReplies : List (ArrayVec ℕ) → Result (Unit {0}) Stop → Type 0
+  WritesReplies replies result =
+      (d : Day) (room : ℕ) → RunsInside did old new (owing_replies d room (texts_of replies)) (or_stopped (Hearing d room) d result)

@@ -1,14 +1,15 @@
 -- How a second of a run ends.
-use Rattle.std.specs.Prelude.{◌≡◌, ℕ, ◌+◌, ◌<◌, true, List, ◌∷◌, Result, Ok, Err}
+use Rattle.std.specs.Prelude.{◌≡◌, ℕ, ◌+◌, ◌<◌, true, List, ◌∷◌, Result, Ok, Err, false, min, max, OnOk}
 use Rattle.bx_day.specs.Day.{Day}
 use Rattle.bx_live.specs.declared.world.CannotRecord.{CannotRecord}
 use Rattle.bx_live.specs.declared.world.Begin.{Begin}
 use Rattle.bx_live.specs.declared.running.Second.{Second}
 use Rattle.bx_live.specs.declared.running.Second.TheVariants.{Passed, Ended}
-use Rattle.bx_live.specs.Acts.{Act, Began, ended, begins_none}
-use Rattle.bx_live.specs.Running.{Runs}
-use Rattle.bx_live.specs.Runs.{Place, Between, Over, Closing}
+use Rattle.bx_live.specs.Acts.{Act, Began, ended, begins_none, recorded}
+use Rattle.bx_live.specs.Running.{Runs, or_over}
+use Rattle.bx_live.specs.Runs.{Place, Between, Over, Closing, Done}
 use Rattle.bx_events.specs.declared.moment.TheConstants.{LAST_MOMENT}
+use Rattle.bx_day.specs.Outages.{live_day_after}
 
 -- the place after a second that is over, or does not begin any more; or after one that could not be logged
 abbrev pub after_second : Day → Result Second CannotRecord → Place
@@ -33,3 +34,11 @@ pub record IsSecond {W : Type 0} (did : W → List Act → W → Type 0) (old ne
   pub run : Runs did old new (Between d) (after_second d1 result)
   pub one : IsOneSecond d.moment run.acts
   pub said : result ≡ Ok Ended → ended run.acts ≡ true
+
+-- A day was run up to a second of it, and is the one after the logged events. Unless the world has said that no second begins any more,
+-- it has come to that second
+abbrev pub RunsUpTo : {W : Type 0} → (W → List Act → W → Type 0) → W → W → ℕ → Day → Day → Result (Unit {0}) CannotRecord → Type 0
+RunsUpTo did old new last d d1 result =
+    (ran : Runs did old new (Between d) (or_over (Done d1) d1 result))
+    × (d1 ≡ live_day_after (recorded ran.acts) d)
+    × OnOk result (ended ran.acts ≡ false → d1.moment ≡ max d.moment (min last LAST_MOMENT))

@@ -6,7 +6,7 @@ use Rattle.bx_day.specs.Day.{Day}
 use Rattle.bx_day.specs.Course.{exchange_sent, exchange_text}
 use Rattle.bx_day.specs.Outages.{live_happens, live_day_after}
 use Rattle.bx_live.specs.Acts.{Act, Recorded, Synced, Wrote, recorded}
-use Rattle.bx_live.specs.Runs.{Place, Between, Recording, Receiving, Taking, Owing, Hearing, Losing, Over, Closing, Ending, Done}
+use Rattle.bx_live.specs.Runs.{Place, Between, Receiving, Taking, Owing, IsRun, day_at}
 
 -- the events that are on the disk, and those that were logged after the last sync
 pub record Filed : Type 0 where
@@ -70,11 +70,18 @@ abbrev pub owed_at : Place → List ℕ
 owed_at (Receiving d room owed octets) = concat owed
 owed_at (Taking d room owed) = concat owed
 owed_at (Owing d room unsynced texts) = concat texts
-owed_at (Between d) = []
-owed_at (Recording d room event) = []
-owed_at (Hearing d room) = []
-owed_at (Losing d loss) = []
-owed_at (Over d) = []
-owed_at (Closing d) = []
-owed_at (Ending d) = []
-owed_at (Done d) = []
+owed_at p = []
+
+-- ---- of every run
+
+-- whatever is written, at any place of it
+abbrev pub AllIsOnRecord : Type 0
+AllIsOnRecord =
+    (d : Day) (before following : List Act) (octets : List ℕ) (done : Bool) (to : Place)
+    → IsRun (Between d) (before ++ Wrote octets done ∷ following) to → IsWrittenFor d before octets
+
+-- what is written, with what is still owed, is what was owed before, with what is told for the logged events
+abbrev pub AllIsWritten : Type 0
+AllIsWritten =
+    (from to : Place) (acts : List Act) → IsRun from acts to → goes_well acts ≡ true
+    → written acts ++ owed_at to ≡ owed_at from ++ live_told (recorded acts) (day_at from)

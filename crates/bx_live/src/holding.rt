@@ -2,9 +2,7 @@
 
 ghost use Rattle.std.specs.Prelude.{◌≡◌, ◌⊎◌, ◌≤◌, ◌<◌, true, false};
 ghost use Rattle.bx_day.specs.Day.{is_live};
-ghost use Rattle.bx_live.specs.Runs.{Between, Done};
-ghost use Rattle.bx_live.specs.Running.{Runs, or_over};
-ghost use Rattle.bx_live.specs.Held.{has_call, IsHeldRun};
+ghost use Rattle.bx_live.specs.Held.{has_call, RunsHeld};
 
 use crate::running::{Second, close_day, run_second};
 use crate::world::{CannotRecord, World};
@@ -53,7 +51,7 @@ pub fn run_held<W: World>(
     world: &mut W,
     last: u32,
 ) -> Result<(), CannotRecord>
-    ensures { (ran : Runs W.did world.old world.new (Between exchange.old) (or_over (Done exchange.new) exchange.new result)) × IsHeldRun last exchange.old exchange.new ran.acts result }
+    ensures { RunsHeld W.did world.old world.new last exchange.old exchange.new result }
 {
     for _second in exchange.moment()..LAST_MOMENT {
         if !goes_on(exchange, last) {

@@ -1,23 +1,23 @@
 //! What holds of every live run.
 
-ghost use Rattle.std.specs.Prelude.{◌≡◌, ◌≤◌, ◌+◌, ◌++◌, ◌∷◌, ℕ, Bool, List, true};
+ghost use Rattle.std.specs.Prelude.{◌≡◌, ◌≤◌, ◌+◌, ◌++◌, ◌∷◌, List};
 ghost use Rattle.bx_day.specs.Day.{Day};
-ghost use Rattle.bx_live.specs.Acts.{Act, Wrote, recorded};
-ghost use Rattle.bx_live.specs.Runs.{Place, Between, IsRun, day_at};
+ghost use Rattle.bx_live.specs.Acts.{Act, recorded};
+ghost use Rattle.bx_live.specs.Runs.{Place, Between, IsRun};
 ghost use Rattle.bx_live.specs.Syncs.{syncs_in, waits_in};
-ghost use Rattle.bx_live.specs.Written.{IsWrittenFor, filed, written, goes_well, owed_at, live_told};
+ghost use Rattle.bx_live.specs.Written.{filed, written, AllIsOnRecord, AllIsWritten};
 
 /// Whatever is written to a peer is what the exchange sends for the last event in the journal; where messages are sent for it, all that
 /// is logged is on the disk by then. What is logged is on the disk, or after the last sync.
 pub fn written_on_record()
-    ensures written { (d : Day) (before following : List Act) (octets : List ℕ) (done : Bool) (to : Place) → IsRun (Between d) (before ++ Wrote octets done ∷ following) to → IsWrittenFor d before octets }
+    ensures written { AllIsOnRecord }
     ensures filed { (acts : List Act) → (filed acts).disk ++ (filed acts).more ≡ recorded acts }
 {}
 
 /// From one place of a run to another, where no record, sync or write fails: what is written is just what the day's definition
 /// gives for the logged events, in order and once, but for what is still owed.
 pub fn all_is_written()
-    ensures { (from to : Place) (acts : List Act) → IsRun from acts to → goes_well acts ≡ true → written acts ++ owed_at to ≡ owed_at from ++ live_told (recorded acts) (day_at from) }
+    ensures { AllIsWritten }
 {}
 
 /// A run waits for the disk at most once for each second and each frame that it waited for, and once at its end: what was there already when

@@ -3,9 +3,9 @@
 
 ghost use Rattle.std.specs.Prelude.{◌≡◌, ◌≤◌, ◌<◌, ◌+◌, [], ℕ, IfOk, length};
 ghost use Rattle.bx_day.specs.Day.{Day};
-ghost use Rattle.bx_live.specs.Runs.{Receiving, Hearing, replying, writing};
-ghost use Rattle.bx_live.specs.Running.{RunsInside, or_over};
-ghost use Rattle.bx_live.specs.Inside.{or_stopped, or_lost, texts_of, owing_replies, gathered, heard_with};
+ghost use Rattle.bx_live.specs.Runs.{Receiving, Hearing, writing};
+ghost use Rattle.bx_live.specs.Running.{RunsInside};
+ghost use Rattle.bx_live.specs.Inside.{or_lost, texts_of, heard_with, HearsOne, HearsFrom, WritesReplies};
 
 use crate::turn::Stop;
 use crate::world::{CannotRecord, World};
@@ -27,7 +27,7 @@ fn hear<W: World>(
     replies: &mut Replies,
 ) -> Result<(), CannotRecord>
     requires { length replies.old.items < 64 }
-    ensures ran { (room : ℕ) → RunsInside W.did world.old world.new (Receiving exchange.old room (texts_of replies.old.items) message.now.items) (or_over (replying exchange.new (texts_of replies.new.items) room) exchange.new result) }
+    ensures ran { HearsOne W.did world.old world.new exchange.old replies.old.items message.now.items exchange.new replies.new.items result }
     ensures moment { exchange.new.moment ≡ exchange.old.moment }
     ensures few { length replies.new.items ≤ length replies.old.items + 1 }
 {
@@ -51,7 +51,7 @@ fn gather<W: World>(
 ) -> Result<u32, CannotRecord>
     requires room { room < 64 }
     requires none { replies.old.items ≡ [] }
-    ensures ran { RunsInside W.did world.old world.new (Receiving exchange.old room [] first.now.items) (gathered exchange.new (texts_of replies.new.items) result) }
+    ensures ran { HearsFrom W.did world.old world.new exchange.old room first.now.items exchange.new replies.new.items result }
     ensures moment { exchange.new.moment ≡ exchange.old.moment }
     ensures fewer { IfOk result (λ left. left ≤ room) }
 {
@@ -79,7 +79,7 @@ fn write_all<W: World>(world: &mut W, replies: &[Octets]) -> Result<(), WriteFai
 
 /// Writes the replies that are owed, after one sync.
 fn write_replies<W: World>(world: &mut W, replies: &[Octets]) -> Result<(), Stop>
-    ensures { (d : Day) (room : ℕ) → RunsInside W.did world.old world.new (owing_replies d room (texts_of replies.now)) (or_stopped (Hearing d room) d result) }
+    ensures { WritesReplies W.did world.old world.new replies.now result }
 {
     if replies.is_empty() {
         return Ok(());

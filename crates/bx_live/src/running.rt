@@ -1,14 +1,12 @@
 //! A live day, second by second.
 
-ghost use Rattle.std.specs.Prelude.{◌≡◌, ℕ, ◌≤◌, min, max, Ok, OnOk, false};
+ghost use Rattle.std.specs.Prelude.{◌≡◌, ℕ, ◌≤◌, min, max, Ok, OnOk};
 ghost use Rattle.bx_events.specs.Events.{Tick, OnLink, WithoutLink};
-ghost use Rattle.bx_day.specs.Outages.{live_day_after};
 ghost use Rattle.bx_day.specs.Day.{Day};
-ghost use Rattle.bx_live.specs.Acts.{recorded, ended};
 ghost use Rattle.bx_live.specs.Runs.{Recording, Hearing, Between, Closing, Done, Losing};
-ghost use Rattle.bx_live.specs.Running.{Runs, RunsInside, or_over};
+ghost use Rattle.bx_live.specs.Running.{RunsInside, or_over};
 ghost use Rattle.bx_live.specs.declared.running.Second.TheVariants.{Ended};
-ghost use Rattle.bx_live.specs.Seconds.{after_second, RisesBySecond, IsSecond};
+ghost use Rattle.bx_live.specs.Seconds.{after_second, RisesBySecond, IsSecond, RunsUpTo};
 ghost use Rattle.bx_live.specs.Inside.{or_stopped, RisesByTurn};
 
 use crate::hearing::hear_turn;
@@ -101,7 +99,7 @@ pub fn run_live<W: World>(
     world: &mut W,
     last: u32,
 ) -> Result<(), CannotRecord>
-    ensures ran { (ran : Runs W.did world.old world.new (Between exchange.old) (or_over (Done exchange.new) exchange.new result)) × (exchange.new ≡ live_day_after (recorded ran.acts) exchange.old) × OnOk result (ended ran.acts ≡ false → exchange.new.moment ≡ max exchange.old.moment (min last LAST_MOMENT)) }
+    ensures ran { RunsUpTo W.did world.old world.new last exchange.old exchange.new result }
     ensures whole { OnOk result (exchange.new.moment ≤ max exchange.old.moment (min last LAST_MOMENT)) }
 {
     let end = last.min(LAST_MOMENT);

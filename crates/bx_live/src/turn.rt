@@ -1,12 +1,10 @@
 //! The exchange's half of a turn: logged, happened, synced, written.
 
-ghost use Rattle.std.specs.Prelude.{◌≡◌, ◌++◌, ◌∷◌, [], ℕ, false};
-ghost use Rattle.bx_frames.specs.Frames.{frames_of, turn_frame};
-ghost use Rattle.bx_day.specs.Day.{Day};
+ghost use Rattle.std.specs.Prelude.{◌≡◌, ◌++◌, ◌∷◌};
 ghost use Rattle.bx_events.specs.Events.{Tick, OnLink};
-ghost use Rattle.bx_live.specs.Runs.{Recording, Hearing, Owing, owing};
-ghost use Rattle.bx_live.specs.Running.{RunsInside, or_over};
-ghost use Rattle.bx_live.specs.Inside.{or_stopped, RisesByTurn};
+ghost use Rattle.bx_live.specs.Runs.{Recording, Hearing};
+ghost use Rattle.bx_live.specs.Running.{RunsInside};
+ghost use Rattle.bx_live.specs.Inside.{or_stopped, RisesByTurn, SyncsBefore};
 
 use crate::world::{CannotRecord, World};
 use bx_day::Exchange;
@@ -47,7 +45,7 @@ impl From<WriteFailed> for Stop {
 
 /// What was logged is on the disk before messages are written.
 fn sync_before<W: World>(world: &mut W, sent: &[Octets]) -> Result<(), CannotRecord>
-    ensures { (d : Day) (room moment : ℕ) → RunsInside W.did world.old world.new (owing d room sent.now (frames_of sent.now ++ turn_frame moment)) (or_over (Owing d room false ((frames_of sent.now ++ turn_frame moment) ∷ [])) d result) }
+    ensures { SyncsBefore W.did world.old world.new sent.now result }
 {
     if sent.is_empty() {
         return Ok(());

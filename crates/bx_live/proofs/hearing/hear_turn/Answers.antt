@@ -1,4 +1,4 @@
-use Rattle.std.proofs.Common.{◌-◌, ◌∙◌, refl, arith, Ok, Err}
+use Rattle.std.proofs.Common.{◌∙◌, refl, arith, Ok, Err}
 use Rattle.std.proofs.lemmas.Result.{err_from_is_err_and}
 use Rattle.bx_frames.specs.declared.frame.Frame.TheVariants as frames
 use Rattle.bx_frames.specs.declared.fault.LinkFault.TheVariants.{WrongMoment}

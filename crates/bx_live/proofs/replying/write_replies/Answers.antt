@@ -1,4 +1,4 @@
-use Rattle.std.proofs.Common.{◌≡◌, [], refl, true, false}
+use Rattle.std.proofs.Common.{◌≡◌, [], refl, true}
 use Rattle.bx_frames.specs.declared.fault.LinkFault.TheVariants.{WriteFailed}
 use Rattle.bx_live.specs.declared.world.Loss.TheVariants as losses
 use Rattle.bx_live.specs.Acts.{Synced}
