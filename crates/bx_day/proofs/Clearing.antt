@@ -9,19 +9,18 @@ use Rattle.bx_q931.specs.declared.fault.MessageFault.{MessageFault}
 use Rattle.bx_q931.specs.declared.kind.Kind.{Kind}
 use Rattle.bx_q931.specs.declared.kind.Kind.TheVariants.{Setup, Disconnect, Release, ReleaseComplete, Status}
 use Rattle.bx_q931.specs.declared.channel_field.ChannelField.{ChannelField}
-use Rattle.bx_q931.specs.declared.channel_field.ChannelField.TheVariants.{Absent, Named, AnyChannel, Unread}
+use Rattle.bx_q931.specs.declared.channel_field.ChannelField.TheVariants.{Named, Unread}
 use Rattle.bx_q931.specs.declared.reference.Reference.{Reference}
 use Rattle.bx_q931.specs.declared.reference.Reference.TheVariants.{Dummy, Value}
 use Rattle.bx_base.specs.Bookings.{Row}
 use Rattle.bx_calls.specs.declared.transition.Next.{Next}
-use Rattle.bx_calls.specs.declared.transition.Next.TheVariants.{Live, Over, Broken}
+use Rattle.bx_calls.specs.declared.transition.Next.TheVariants.{Live}
 use Rattle.bx_calls.specs.declared.transition.Transition.{Transition}
 use Rattle.bx_calls.specs.PlainCalls.{PlainNetCall}
 use Rattle.bx_calls.specs.declared.net_state.NetOrigin.{NetOrigin}
 use Rattle.bx_calls.specs.declared.net_state.Asked.{Asked}
-use Rattle.bx_calls.specs.declared.net_state.Asked.TheVariants.{NotYet, Once, Twice}
 use Rattle.bx_calls.specs.declared.net_state.NetState.{NetState}
-use Rattle.bx_calls.specs.declared.net_state.NetState.TheVariants.{OutgoingCallProceeding, CallPresent, IncomingCallProceeding, CallReceived, Active, Enquiring, DisconnectIndication, ReleaseRequest}
+use Rattle.bx_calls.specs.declared.net_state.NetState.TheVariants.{CallPresent, IncomingCallProceeding, CallReceived, Enquiring, DisconnectIndication, ReleaseRequest}
 use Rattle.bx_calls.specs.Hearing.{Heard, reports_null}
 use Rattle.bx_calls.specs.NetTable.{net_awake_state, net_heard, net_releases, net_row, net_second, net_unlinked}
 use Rattle.bx_calls.specs.Said.{Said, said_of}
@@ -35,12 +34,12 @@ use Rattle.bx_day.specs.Outages.{without_link, live_happens, live_day_after, Los
 use Rattle.bx_day.specs.Invariant.{CallFits, EntryFits, DayFits, phase_of, PhaseFits}
 use Rattle.bx_day.specs.Clearing.{added, ClearsBy, StandingClears, EntryClears, DayClears}
 use Rattle.bx_day.specs.declared.entry.Activity.{Activity}
-use Rattle.bx_day.specs.declared.entry.Activity.TheVariants.{Never, Since, Was}
+use Rattle.bx_day.specs.declared.entry.Activity.TheVariants.{Was}
 use Rattle.bx_day.specs.declared.entry.Entry.{Entry}
 use Rattle.bx_day.specs.declared.entry.Moved.{Moved}
 use Rattle.bx_day.specs.declared.entry.Link.TheVariants.{Up, Down}
 use Rattle.bx_day.specs.declared.entry.Standing.{Standing}
-use Rattle.bx_day.specs.declared.entry.Standing.TheVariants.{Refused, Unoffered, OnCall, Carried, Unanswered, Missed}
+use Rattle.bx_day.specs.declared.entry.Standing.TheVariants.{Unoffered, OnCall}
 use Rattle.bx_day.proofs.Hear.{awake_fits, heard_by}
 use Rattle.bx_day.proofs.Second.{call_of}
 use Rattle.bx_day.proofs.Tick.{by_cases, with_standing, offers, all_weaker}
@@ -57,26 +56,17 @@ begins x first = by_cases x.lasts _ _ (λ (n : ℕ). added x + 5 ≤ x.seconds +
 
 -- a link after it
 linked_state : (lasts : Bool) (m : ℕ) (s : NetState) → ClearsBy lasts m s → ClearsBy false m s
-linked_state lasts m OutgoingCallProceeding h = tt
-linked_state lasts m (CallPresent again due) h = tt
-linked_state lasts m (IncomingCallProceeding due) h = tt
-linked_state lasts m (CallReceived due) h = tt
-linked_state lasts m Active h = tt
-linked_state lasts m (Enquiring asked due) h = tt
 linked_state lasts m (DisconnectIndication cause due) h = h
 linked_state lasts m (ReleaseRequest false cause due) h = h
 linked_state lasts m (ReleaseRequest true cause due) h = (refl, h.1)
+linked_state lasts m s h = tt
 
 abbrev linked : Lost → Lost
 linked x = record x { lasts = false }
 
 linked_standing : (x : Lost) (t : ℕ) (b : Row) (s : Standing) → StandingClears x t b s → StandingClears (linked x) t b s
 linked_standing x t b (OnCall c a) h = λ late. linked_state x.lasts (b.end + added x) c.state (h late)
-linked_standing x t b Refused h = tt
-linked_standing x t b Unoffered h = tt
-linked_standing x t b (Carried from until) h = tt
-linked_standing x t b Unanswered h = tt
-linked_standing x t b Missed h = tt
+linked_standing x t b s h = tt
 
 -- ---- a step of a call
 
@@ -84,14 +74,12 @@ abbrev StepClears : Lost → ℕ → Entry → Activity → Transition PlainNetC
 StepClears x t e a step = StandingClears x t e.booking (follows a t step).standing
 
 over_clears : (x : Lost) (t u : ℕ) (b : Row) (a : Activity) → StandingClears x t b (over_at a u)
-over_clears x t u b Never = tt
-over_clears x t u b (Since from) = tt
 over_clears x t u b (Was from until) = tt
+over_clears x t u b a = tt
 
 next_early : (x : Lost) (t : ℕ) (e : Entry) (a : Activity) (said : Option Outgoing) (next : Next PlainNetCall) → t < e.booking.end → StandingClears x t e.booking (follow a t said next).standing
 next_early x t e a said (Live c) early = λ late. absurd (omega (arith, early, late))
-next_early x t e a said Over early = over_clears x t t e.booking a
-next_early x t e a said Broken early = over_clears x t t e.booking a
+next_early x t e a said next early = over_clears x t t e.booking a
 
 -- while the booking runs
 early_clears : (x : Lost) (t : ℕ) (e : Entry) (a : Activity) (step : Transition PlainNetCall) → t < e.booking.end → StepClears x t e a step
@@ -119,20 +107,13 @@ next_within t end n due k room c lt le late = elim (cases_lt t end) [
 ]
 
 second_clears : (x : Lost) (t : ℕ) (e : Entry) (r ch : ℕ) (o : NetOrigin) (s : NetState) (a : Activity) → CallFits t e (call_of r ch o s) a → (e.booking.end ≤ t → ClearsBy x.lasts (e.booking.end + added x) s) → StepClears (linked x) (t + 1) e a (net_second (call_of r ch o s) (t + 1) e.booking.end)
-second_clears x t e r ch o OutgoingCallProceeding a h c = at_end (linked x) t e a _ _ (λ late. omega (arith, h.phase.1))
-second_clears x t e r ch o (CallPresent again due) a h c = at_end (linked x) t e a _ _ (λ late. omega (arith, h.phase.1))
-second_clears x t e r ch o (IncomingCallProceeding due) a h c = at_end (linked x) t e a _ _ (λ late. omega (arith, h.phase.1))
-second_clears x t e r ch o (CallReceived due) a h c = at_end (linked x) t e a _ _ (λ late. omega (arith, h.phase.1))
-second_clears x t e r ch o Active a h c = at_end (linked x) t e a _ _ (λ late. omega (arith, h.phase.1))
-second_clears x t e r ch o (Enquiring NotYet due) a h c = at_end (linked x) t e a _ _ (λ late. omega (arith, h.phase.1))
-second_clears x t e r ch o (Enquiring Once due) a h c = at_end (linked x) t e a _ _ (λ late. omega (arith, h.phase.1))
-second_clears x t e r ch o (Enquiring Twice due) a h c = at_end (linked x) t e a _ _ (λ late. omega (arith, h.phase.1))
 second_clears x t e r ch o (DisconnectIndication cause due) a h c =
     clears_test (nat_le due (t + 1)) (linked x) (t + 1) e a _ _ (λ _ late. next_within t e.booking.end (added x) due 30 30 c h.due.0 (omega arith) late) (λ _ late. within t e.booking.end (added x) due 30 30 c h.due.1 (omega arith) late)
 second_clears x t e r ch o (ReleaseRequest false cause due) a h c =
     clears_test (nat_le due (t + 1)) (linked x) (t + 1) e a _ _ (λ _ late. (refl, next_within t e.booking.end (added x) due 4 34 c h.due.0 (omega arith) late)) (λ _ late. within t e.booking.end (added x) due 4 34 c h.due.1 (omega arith) late)
 second_clears x t e r ch o (ReleaseRequest true cause due) a h c =
     clears_test (nat_le due (t + 1)) (linked x) (t + 1) e a _ _ (λ _. over_clears (linked x) (t + 1) (t + 1) e.booking a) (λ _ late. (refl, within t e.booking.end (added x) due 4 38 (λ over. (c over).1) h.due.1 (omega arith) late))
+second_clears x t e r ch o s a h c = at_end (linked x) t e a _ _ (λ late. omega (arith, h.phase.1))
 
 -- a second without a link: RELEASE is due in the next. Of those after the end, what is added is one more, and T308 in the first of an
 -- outage
@@ -151,12 +132,6 @@ record IsAdded (x y : Lost) : Type 0 where
   outage : x.lasts ≡ false → added x + 5 ≤ added y
 
 still_clears : (x y : Lost) (t : ℕ) (e : Entry) (r ch : ℕ) (o : NetOrigin) (s : NetState) (a : Activity) → (e.booking.end ≤ t → IsAdded x y) → CallFits t e (call_of r ch o s) a → (e.booking.end ≤ t → ClearsBy x.lasts (e.booking.end + added x) s) → StepClears y (t + 1) e a (net_unlinked 1 (call_of r ch o s) (t + 1) e.booking.end)
-still_clears x y t e r ch o OutgoingCallProceeding a more h c = at_end y t e a _ _ (λ late. omega (arith, h.phase.1))
-still_clears x y t e r ch o (CallPresent again due) a more h c = at_end y t e a _ _ (λ late. omega (arith, h.phase.1))
-still_clears x y t e r ch o (IncomingCallProceeding due) a more h c = at_end y t e a _ _ (λ late. omega (arith, h.phase.1))
-still_clears x y t e r ch o (CallReceived due) a more h c = at_end y t e a _ _ (λ late. omega (arith, h.phase.1))
-still_clears x y t e r ch o Active a more h c = at_end y t e a _ _ (λ late. omega (arith, h.phase.1))
-still_clears x y t e r ch o (Enquiring asked due) a more h c = at_end y t e a _ _ (λ late. omega (arith, h.phase.1))
 still_clears x y t e r ch o (DisconnectIndication cause due) a more h c = λ late. still_clears_at t e.booking.end (added x) (added y) due 30 (λ over. (more over).second) c h.due.0 (omega arith) late
 still_clears x y t e r ch o (ReleaseRequest false cause due) a more h c = λ late. still_clears_at t e.booking.end (added x) (added y) due 34 (λ over. (more over).second) c h.due.0 (omega arith) late
 still_clears x y t e r ch o (ReleaseRequest true cause due) a more h c = λ late. elim (cases_lt t e.booking.end) [
@@ -166,14 +141,13 @@ still_clears x y t e r ch o (ReleaseRequest true cause due) a more h c = λ late
   where
     up : due ≤ e.booking.end + added x + 38 → added x + 5 ≤ added y → t + 1 + 1 ≤ e.booking.end + added y + 34
     up p q = omega (arith, p, q, h.due.0)
+still_clears x y t e r ch o s a more h c = at_end y t e a _ _ (λ late. omega (arith, h.phase.1))
 
 -- a message, row by row
 row_clears : (x : Lost) (t : ℕ) (e : Entry) (r ch : ℕ) (o : NetOrigin) (a : Activity) (m : Heard) (s : NetState) (k : Kind) → CallFits t e (call_of r ch o s) a → (e.booking.end ≤ t → ClearsBy x.lasts (e.booking.end + added x) s) → StepClears x t e a (net_row (call_of r ch o s) m t s k)
-row_clears x t e r ch o a m OutgoingCallProceeding k h c = early_clears x t e a (net_row (call_of r ch o OutgoingCallProceeding) m t OutgoingCallProceeding k) h.phase.1
 row_clears x t e r ch o a m (CallPresent again due) k h c = early_clears x t e a (net_row (call_of r ch o (CallPresent again due)) m t (CallPresent again due) k) h.phase.1
 row_clears x t e r ch o a m (IncomingCallProceeding due) k h c = early_clears x t e a (net_row (call_of r ch o (IncomingCallProceeding due)) m t (IncomingCallProceeding due) k) h.phase.1
 row_clears x t e r ch o a m (CallReceived due) k h c = early_clears x t e a (net_row (call_of r ch o (CallReceived due)) m t (CallReceived due) k) h.phase.1
-row_clears x t e r ch o a m Active k h c = early_clears x t e a (net_row (call_of r ch o Active) m t Active k) h.phase.1
 row_clears x t e r ch o a m (Enquiring asked due) k h c = early_clears x t e a (net_row (call_of r ch o (Enquiring asked due)) m t (Enquiring asked due) k) h.phase.1
 row_clears x t e r ch o a m (DisconnectIndication cause due) ReleaseComplete h c = over_clears x t t e.booking a
 row_clears x t e r ch o a m (DisconnectIndication cause due) Release h c = over_clears x t t e.booking a
@@ -184,17 +158,12 @@ row_clears x t e r ch o a m (ReleaseRequest again cause due) ReleaseComplete h c
 row_clears x t e r ch o a m (ReleaseRequest again cause due) Release h c = over_clears x t t e.booking a
 row_clears x t e r ch o a m (ReleaseRequest again cause due) Status h c = clears_test (reports_null m.state) x t e a _ _ (λ _. over_clears x t t e.booking a) (λ _. c)
 row_clears x t e r ch o a m (ReleaseRequest again cause due) k h c = c
+row_clears x t e r ch o a m s k h c = early_clears x t e a (net_row (call_of r ch o s) m t s k) h.phase.1
 
 -- asked no more
 awake_clears : (lasts : Bool) (m end t : ℕ) (s : NetState) → (end ≤ t → ClearsBy lasts m s) → end ≤ t → ClearsBy lasts m (net_awake_state s)
 awake_clears lasts m end t (Enquiring asked due) c = λ late. tt
-awake_clears lasts m end t OutgoingCallProceeding c = c
-awake_clears lasts m end t (CallPresent again due) c = c
-awake_clears lasts m end t (IncomingCallProceeding due) c = c
-awake_clears lasts m end t (CallReceived due) c = c
-awake_clears lasts m end t Active c = c
-awake_clears lasts m end t (DisconnectIndication cause due) c = c
-awake_clears lasts m end t (ReleaseRequest again cause due) c = c
+awake_clears lasts m end t s c = c
 
 heard_clears : (x : Lost) (t : ℕ) (e : Entry) (r ch : ℕ) (o : NetOrigin) (a : Activity) (m : Heard) (s : NetState) (k : Kind) → CallFits t e (call_of r ch o s) a → (e.booking.end ≤ t → ClearsBy x.lasts (e.booking.end + added x) s) → StepClears x t e a (net_heard (call_of r ch o s) m t s k)
 heard_clears x t e r ch o a m s k h c = heard_by (StepClears x t e a) (call_of r ch o s) m t s k
@@ -214,26 +183,16 @@ waits_clears x t e free =
 tick_clears_at : (x : Lost) (t : ℕ) (e : Entry) (free : Bool) (s : Standing) → EntryFits t (with_standing e s) → StandingClears x t e.booking s → StandingClears (linked x) (t + 1) e.booking (second_at e (t + 1) free s).standing
 tick_clears_at x t e free (OnCall c a) h k = second_clears x t (with_standing e (OnCall c a)) c.reference c.channel c.origin c.state a h k
 tick_clears_at x t e free Unoffered h k = waits_clears (linked x) (t + 1) e free
-tick_clears_at x t e free Refused h k = tt
-tick_clears_at x t e free (Carried from until) h k = tt
-tick_clears_at x t e free Unanswered h k = tt
-tick_clears_at x t e free Missed h k = tt
+tick_clears_at x t e free s h k = tt
 
 unlinked_clears_at : (x y : Lost) (t : ℕ) (e : Entry) (s : Standing) → (e.booking.end ≤ t → IsAdded x y) → EntryFits t (with_standing e s) → StandingClears x t e.booking s → StandingClears y (t + 1) e.booking (unlinked_at e (t + 1) s).standing
 unlinked_clears_at x y t e (OnCall c a) more h k = still_clears x y t (with_standing e (OnCall c a)) c.reference c.channel c.origin c.state a more h k
 unlinked_clears_at x y t e Unoffered more h k = waits_clears y (t + 1) e false
-unlinked_clears_at x y t e Refused more h k = tt
-unlinked_clears_at x y t e (Carried from until) more h k = tt
-unlinked_clears_at x y t e Unanswered more h k = tt
-unlinked_clears_at x y t e Missed more h k = tt
+unlinked_clears_at x y t e s more h k = tt
 
 hears_clears : (x : Lost) (t : ℕ) (m : Said) (e : Entry) (s : Standing) → EntryFits t (with_standing e s) → StandingClears x t e.booking s → StandingClears x t e.booking (hears m t s).standing
 hears_clears x t m e (OnCall c a) h k = heard_clears x t (with_standing e (OnCall c a)) c.reference c.channel c.origin a m.heard c.state m.heard.kind h k
-hears_clears x t m e Refused h k = tt
-hears_clears x t m e Unoffered h k = tt
-hears_clears x t m e (Carried from until) h k = tt
-hears_clears x t m e Unanswered h k = tt
-hears_clears x t m e Missed h k = tt
+hears_clears x t m e s h k = tt
 
 -- ---- a day
 
@@ -260,11 +219,10 @@ preferred_clears lost d m None h = takes_clears lost d m 34 (lowest_open d every
 preferred_clears lost d m (Some i) h = takes_clears lost d m 34 (Some i) h
 
 on_clears : (lost : ℕ → Lost) (d : Day) (m : Said) (f : ChannelField) → DayClears lost d → DayClears lost (called_on d m f).day
-on_clears lost d m Absent h = takes_clears lost d m 34 (lowest_open d every_channel) h
-on_clears lost d m AnyChannel h = takes_clears lost d m 34 (lowest_open d every_channel) h
 on_clears lost d m Unread h = h
 on_clears lost d m (Named c true) h = takes_clears lost d m 44 (position (opens d c) d.entries) h
 on_clears lost d m (Named c false) h = preferred_clears lost d m (position (opens d c) d.entries) h
+on_clears lost d m f h = takes_clears lost d m 34 (lowest_open d every_channel) h
 
 called_clears : (lost : ℕ → Lost) (d : Day) (m : Said) (b : Option ℕ) → DayClears lost d → DayClears lost (called d m b).day
 called_clears lost d m (Some cause) h = h

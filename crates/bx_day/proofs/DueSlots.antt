@@ -12,18 +12,15 @@ use Rattle.bx_day.specs.Reading.{IsExchange, Seated}
 use Rattle.bx_day.specs.Slots.{IsLiveOn, IsWaitingOn}
 use Rattle.bx_day.specs.declared.entry.Entry.{Entry}
 use Rattle.bx_day.specs.declared.entry.Standing.{Standing}
-use Rattle.bx_day.specs.declared.entry.Standing.TheVariants.{Refused, Unoffered, OnCall, Carried, Unanswered, Missed}
+use Rattle.bx_day.specs.declared.entry.Standing.TheVariants.{Refused, Unoffered, OnCall}
 use Rattle.bx_day.proofs.Once.{decide, each_at}
 use Rattle.bx_day.proofs.SlotLemmas.{holds_parts, holds_from, waits_parts, waits_from}
 
 -- a booking that is neither live nor waits is over for the day
 never_due : (e : Entry) (free : Bool) (s : Standing) → is_live s ≡ false → is_unoffered s ≡ false → tick_due e free s ≡ never
-never_due e free Refused live waits = refl
 never_due e free Unoffered live waits = absurd (true≢false waits)
 never_due e free (OnCall c a) live waits = absurd (true≢false live)
-never_due e free (Carried from until) live waits = refl
-never_due e free Unanswered live waits = refl
-never_due e free Missed live waits = refl
+never_due e free s live waits = refl
 
 within : (start end : ℕ) (b free : Bool) → start ≤ end → (start ≤ (if free then (if b then end else start) else end)) × ((if free then (if b then end else start) else end) ≤ end)
 within start end true true order = (order, omega arith)
@@ -33,11 +30,7 @@ within start end b false order = (order, omega arith)
 -- one that waits is due between its start and its end
 waiting_due : (e : Entry) (free : Bool) (s : Standing) → is_unoffered s ≡ true → e.booking.start ≤ e.booking.end → (e.booking.start ≤ tick_due e free s) × (tick_due e free s ≤ e.booking.end)
 waiting_due e free Unoffered waits order = within e.booking.start e.booking.end e.booking.inward free order
-waiting_due e free Refused waits order = absurd (false≢true waits)
-waiting_due e free (OnCall c a) waits order = absurd (false≢true waits)
-waiting_due e free (Carried from until) waits order = absurd (false≢true waits)
-waiting_due e free Unanswered waits order = absurd (false≢true waits)
-waiting_due e free Missed waits order = absurd (false≢true waits)
+waiting_due e free s waits order = absurd (false≢true waits)
 
 own_due : (d : Day) (c i : ℕ) (free : Bool) → free ≡ is_free d c → (entry_at d.entries i).channel ≡ c → slot_due d.entries free (Some i) ≡ due_at d i
 own_due d c i free is on = let e = entry_at d.entries i in ap (λ b. tick_due e b e.standing) (is ∙ ap (is_free d) (sym on))
@@ -138,11 +131,7 @@ accepted_due d i h = let e = entry_at d.entries i in step e (is_free d e.channel
   where
     step : (e : Entry) (free : Bool) (s : Standing) → is_refused s ≡ true → tick_due e free s ≡ never
     step e free Refused h = refl
-    step e free Unoffered h = absurd (false≢true h)
-    step e free (OnCall c a) h = absurd (false≢true h)
-    step e free (Carried from until) h = absurd (false≢true h)
-    step e free Unanswered h = absurd (false≢true h)
-    step e free Missed h = absurd (false≢true h)
+    step e free s h = absurd (false≢true h)
 
 pub all_below : (d : Day) (c due : ℕ) → IsExchange d → ((k : ℕ) → k < length d.entries → (entry_at d.entries k).booking.start < (entry_at d.entries k).booking.end) → 32 ≤ c → IsDueBelow d c due → IsDue d (length d.entries) due
 all_below d c due h order all s =

@@ -21,8 +21,8 @@ use Rattle.bx_day.specs.declared.entry.Moved.{Moved}
 use Rattle.bx_day.specs.declared.entry.Entry.{Entry}
 use Rattle.bx_day.specs.declared.entry.Standing.{Standing}
 use Rattle.bx_day.specs.declared.entry.Activity.{Activity}
-use Rattle.bx_day.specs.declared.entry.Standing.TheVariants.{Refused, Unoffered, OnCall, Carried, Unanswered, Missed}
-use Rattle.bx_day.specs.declared.entry.Activity.TheVariants.{Never, Since, Was}
+use Rattle.bx_day.specs.declared.entry.Standing.TheVariants.{Refused, Unoffered, OnCall}
+use Rattle.bx_day.specs.declared.entry.Activity.TheVariants.{Was}
 use Rattle.bx_day.proofs.Tick.{with_standing, offers, by_cases}
 use Rattle.bx_day.proofs.Once.{decide, each_at}
 use Rattle.bx_day.proofs.Passing.{tick_is}
@@ -35,11 +35,8 @@ use Rattle.bx_day.specs.declared.entry.Link.TheVariants.{Up}
 due_quiet : (moment t : ℕ) (free : Bool) (e : Entry) (s : Standing) → EntryFits moment (with_standing e s) → e.booking.start ≤ e.booking.end → t < tick_due e free s → second_at e t free s ≡ stays s
 due_quiet moment t true e Unoffered h order lt = booking_quiet moment t true e Unoffered h order lt
 due_quiet moment t false e Unoffered h order lt = waits_on e t false (not_offered (is_running e.booking t) e.booking.inward false (or_right e.booking.inward true refl)) lt
-due_quiet moment t free e Refused h order lt = refl
 due_quiet moment t free e (OnCall c a) h order lt = booking_quiet moment t free e (OnCall c a) h order lt
-due_quiet moment t free e (Carried from until) h order lt = refl
-due_quiet moment t free e Unanswered h order lt = refl
-due_quiet moment t free e Missed h order lt = refl
+due_quiet moment t free e s h order lt = refl
 
 pub quiet_until : (d : Day) (due k : ℕ) → IsExchange d → IsDue d (length d.entries) due → d.moment + k + 1 < due → IsQuietTick (later_by k d)
 quiet_until d due k h is lt =
@@ -69,14 +66,11 @@ abbrev pub stage : Standing → ℕ
 stage Refused = 0
 stage Unoffered = 1
 stage (OnCall call activity) = state_stage call.state
-stage (Carried from until) = 14
-stage Unanswered = 14
-stage Missed = 14
+stage s = 14
 
 over_stage : (a : Activity) (t : ℕ) → stage (over_at a t) ≡ 14
-over_stage Never t = refl
-over_stage (Since from) t = refl
 over_stage (Was from until) t = refl
+over_stage a t = refl
 
 -- a step of a call at moment t to a later stage than n
 abbrev pub Rises : ℕ → Activity → ℕ → Transition PlainNetCall → Type 0
@@ -89,38 +83,23 @@ neither due end t le early waiting =
     let c : suc t ≤ min due end = le-min (omega (arith, b)) (omega (arith, a)) in
     omega (arith, le, c)
 
+-- past its end, or where its timer fires, and one of both has come
+timed_rises : (due end t k : ℕ) (a : Activity) (x y z : Transition PlainNetCall) → min due end ≤ t → Rises t a k x → Rises t a k y → Rises t a k (if nat_le end t then x else (if nat_le due t then y else z))
+timed_rises due end t k a x y z le ended fires =
+    by_cases (nat_le end t) _ _ (Rises t a k) (λ past. ended)
+    (λ early. by_cases (nat_le due t) _ _ (Rises t a k) (λ now. fires) (λ waiting. absurd (neither due end t le early waiting)))
+
 call_rises : (c : PlainNetCall) (s : NetState) (a : Activity) (t end : ℕ) → call_due s end ≤ t → Rises t a (state_stage s) (net_second (record c { state = s }) t end)
 call_rises c OutgoingCallProceeding a t end le = by_cases (nat_le end t) _ _ (Rises t a 2) (λ ended. let lt : 2 < 11 = omega arith in lt) (λ _. let lt : 2 < 7 = omega arith in lt)
-call_rises c (CallPresent false due) a t end le =
-    by_cases (nat_le end t) _ _ (Rises t a 3)
-    (λ ended. let lt : 3 < 11 = omega arith in lt)
-    (λ early. by_cases (nat_le due t) _ _ (Rises t a 3) (λ fires. let lt : 3 < 4 = omega arith in lt) (λ waiting. absurd (neither due end t le early waiting)))
-call_rises c (CallPresent true due) a t end le =
-    by_cases (nat_le end t) _ _ (Rises t a 4)
-    (λ ended. let lt : 4 < 11 = omega arith in lt)
-    (λ early. by_cases (nat_le due t) _ _ (Rises t a 4) (λ fires. subst (λ n. 4 < n) (sym (over_stage a t)) (let lt : 4 < 14 = omega arith in lt)) (λ waiting. absurd (neither due end t le early waiting)))
-call_rises c (IncomingCallProceeding due) a t end le =
-    by_cases (nat_le end t) _ _ (Rises t a 5)
-    (λ ended. let lt : 5 < 11 = omega arith in lt)
-    (λ early. by_cases (nat_le due t) _ _ (Rises t a 5) (λ fires. let lt : 5 < 11 = omega arith in lt) (λ waiting. absurd (neither due end t le early waiting)))
-call_rises c (CallReceived due) a t end le =
-    by_cases (nat_le end t) _ _ (Rises t a 6)
-    (λ ended. let lt : 6 < 11 = omega arith in lt)
-    (λ early. by_cases (nat_le due t) _ _ (Rises t a 6) (λ fires. let lt : 6 < 11 = omega arith in lt) (λ waiting. absurd (neither due end t le early waiting)))
+call_rises c (CallPresent false due) a t end le = timed_rises due end t 3 a _ _ _ le (let lt : 3 < 11 = omega arith in lt) (let lt : 3 < 4 = omega arith in lt)
+call_rises c (CallPresent true due) a t end le = timed_rises due end t 4 a _ _ _ le (let lt : 4 < 11 = omega arith in lt) (subst (λ n. 4 < n) (sym (over_stage a t)) (let lt : 4 < 14 = omega arith in lt))
+call_rises c (IncomingCallProceeding due) a t end le = timed_rises due end t 5 a _ _ _ le (let lt : 5 < 11 = omega arith in lt) (let lt : 5 < 11 = omega arith in lt)
+call_rises c (CallReceived due) a t end le = timed_rises due end t 6 a _ _ _ le (let lt : 6 < 11 = omega arith in lt) (let lt : 6 < 11 = omega arith in lt)
 call_rises c Active a t end le =
     by_cases (nat_le end t) _ _ (Rises t a 7) (λ ended. let lt : 7 < 11 = omega arith in lt) (λ early. absurd (true≢false (sym (le-leb end t le) ∙ early)))
-call_rises c (Enquiring NotYet due) a t end le =
-    by_cases (nat_le end t) _ _ (Rises t a 8)
-    (λ ended. let lt : 8 < 11 = omega arith in lt)
-    (λ early. by_cases (nat_le due t) _ _ (Rises t a 8) (λ fires. let lt : 8 < 9 = omega arith in lt) (λ waiting. absurd (neither due end t le early waiting)))
-call_rises c (Enquiring Once due) a t end le =
-    by_cases (nat_le end t) _ _ (Rises t a 9)
-    (λ ended. let lt : 9 < 11 = omega arith in lt)
-    (λ early. by_cases (nat_le due t) _ _ (Rises t a 9) (λ fires. let lt : 9 < 10 = omega arith in lt) (λ waiting. absurd (neither due end t le early waiting)))
-call_rises c (Enquiring Twice due) a t end le =
-    by_cases (nat_le end t) _ _ (Rises t a 10)
-    (λ ended. let lt : 10 < 11 = omega arith in lt)
-    (λ early. by_cases (nat_le due t) _ _ (Rises t a 10) (λ fires. let lt : 10 < 11 = omega arith in lt) (λ waiting. absurd (neither due end t le early waiting)))
+call_rises c (Enquiring NotYet due) a t end le = timed_rises due end t 8 a _ _ _ le (let lt : 8 < 11 = omega arith in lt) (let lt : 8 < 9 = omega arith in lt)
+call_rises c (Enquiring Once due) a t end le = timed_rises due end t 9 a _ _ _ le (let lt : 9 < 11 = omega arith in lt) (let lt : 9 < 10 = omega arith in lt)
+call_rises c (Enquiring Twice due) a t end le = timed_rises due end t 10 a _ _ _ le (let lt : 10 < 11 = omega arith in lt) (let lt : 10 < 11 = omega arith in lt)
 call_rises c (DisconnectIndication cause due) a t end le =
     by_cases (nat_le due t) _ _ (Rises t a 11) (λ fires. let lt : 11 < 12 = omega arith in lt) (λ early. absurd (true≢false (sym (le-leb due t le) ∙ early)))
 call_rises c (ReleaseRequest false cause due) a t end le =
@@ -143,12 +122,9 @@ waits_rises t free e le =
     (λ going. absurd (true≢false (sym (must_offer e.booking.start e.booking.end t e.booking.inward free le (leb-false e.booking.end t going)) ∙ kept))))
 
 due_rises : (t : ℕ) (free : Bool) (e : Entry) (s : Standing) → t ≤ 300000 → tick_due e free s ≤ t → stage s < stage (second_at e t free s).standing
-due_rises t free e Refused low le = absurd (let late : 4294967295 ≤ t = le in omega (arith, low, late))
 due_rises t free e Unoffered low le = waits_rises t free e le
 due_rises t free e (OnCall c a) low le = call_rises c c.state a t e.booking.end le
-due_rises t free e (Carried from until) low le = absurd (let late : 4294967295 ≤ t = le in omega (arith, low, late))
-due_rises t free e Unanswered low le = absurd (let late : 4294967295 ≤ t = le in omega (arith, low, late))
-due_rises t free e Missed low le = absurd (let late : 4294967295 ≤ t = le in omega (arith, low, late))
+due_rises t free e s low le = absurd (let late : 4294967295 ≤ t = le in omega (arith, low, late))
 
 -- ---- a quiet tick comes before anything is due
 

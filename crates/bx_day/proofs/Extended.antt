@@ -13,7 +13,7 @@ use Rattle.bx_q931.specs.declared.reference.Reference.TheVariants.{Dummy, Value}
 use Rattle.bx_q931.specs.declared.kind.Kind.{Kind}
 use Rattle.bx_q931.specs.declared.kind.Kind.TheVariants.{Setup}
 use Rattle.bx_q931.specs.declared.channel_field.ChannelField.{ChannelField}
-use Rattle.bx_q931.specs.declared.channel_field.ChannelField.TheVariants.{Absent, Named, AnyChannel, Unread}
+use Rattle.bx_q931.specs.declared.channel_field.ChannelField.TheVariants.{Named, Unread}
 use Rattle.bx_base.specs.Bookings.{is_running}
 use Rattle.bx_channels.specs.Marks.{is_marked}
 use Rattle.bx_calls.specs.Shared.{cons_some}
@@ -28,7 +28,7 @@ use Rattle.bx_day.specs.declared.entry.Link.{Link}
 use Rattle.bx_day.specs.declared.entry.Link.TheVariants.{Up, Down}
 use Rattle.bx_day.specs.declared.entry.Moved.{Moved}
 use Rattle.bx_day.specs.declared.entry.Standing.{Standing}
-use Rattle.bx_day.specs.declared.entry.Standing.TheVariants.{Refused, Unoffered, OnCall, Carried, Unanswered, Missed}
+use Rattle.bx_day.specs.declared.entry.Standing.TheVariants.{Refused, Unoffered, OnCall, Missed}
 use Rattle.bx_day.specs.Day.{Day, entry_at, no_entry, holds, is_held, is_free, is_live, is_unoffered, every_channel}
 use Rattle.bx_day.specs.Moves.{becomes, stays, follows}
 use Rattle.bx_day.specs.Ticks.{waits, second_by, second_in, after_in, said_in, breaks_in, maintained_in, passed_in, tick}
@@ -78,10 +78,7 @@ over ns d = record d { entries = with_standings d.entries ns }
 pub rests_unheld : (m start : ℕ) (s : Standing) → Rests m start s → is_live s ≡ false
 rests_unheld m start Refused h = refl
 rests_unheld m start Unoffered h = refl
-rests_unheld m start (OnCall c a) h = absurd h
-rests_unheld m start (Carried from until) h = absurd h
-rests_unheld m start Unanswered h = absurd h
-rests_unheld m start Missed h = absurd h
+rests_unheld m start s h = absurd h
 
 -- ---- channels are held as before
 
@@ -123,16 +120,9 @@ waits_seat m e n s t free h q =
 second_seat : (m : ℕ) (link : Link) (e n : Entry) (x : Standing) (t : ℕ) (free : Bool) (s : Standing) → IsSeat m e n → n.channel ≡ e.channel → second_by link (with_standing n x) t free s ≡ second_by link e t free s
 second_seat m Up e n x t free (OnCall c a) h q = ap (λ k. follows a t (net_second c t k)) h.end
 second_seat m Up e n x t free Unoffered h q = waits_seat m e n x t free h q
-second_seat m Up e n x t free Refused h q = refl
-second_seat m Up e n x t free (Carried from until) h q = refl
-second_seat m Up e n x t free Unanswered h q = refl
-second_seat m Up e n x t free Missed h q = refl
 second_seat m Down e n x t free (OnCall c a) h q = ap (λ k. follows a t (net_unlinked 1 c t k)) h.end
 second_seat m Down e n x t free Unoffered h q = waits_seat m e n x t false h q
-second_seat m Down e n x t free Refused h q = refl
-second_seat m Down e n x t free (Carried from until) h q = refl
-second_seat m Down e n x t free Unanswered h q = refl
-second_seat m Down e n x t free Missed h q = refl
+second_seat m link e n x t free s h q = refl
 
 -- nothing, where it starts later
 waits_still : (e : Entry) (t : ℕ) (free : Bool) → t < e.booking.start → e.booking.start < e.booking.end → waits e t free ≡ stays Unoffered
@@ -145,10 +135,7 @@ second_still m Up e t free Refused early h order = refl
 second_still m Up e t free Unoffered early h order = waits_still e t free (omega (arith, early, h)) order
 second_still m Down e t free Refused early h order = refl
 second_still m Down e t free Unoffered early h order = waits_still e t false (omega (arith, early, h)) order
-second_still m link e t free (OnCall c a) early h order = absurd h
-second_still m link e t free (Carried from until) early h order = absurd h
-second_still m link e t free Unanswered early h order = absurd h
-second_still m link e t free Missed early h order = absurd h
+second_still m link e t free s early h order = absurd h
 
 -- ---- a second before m, of a whole day
 
@@ -351,11 +338,7 @@ module _ (m : ℕ) (d : Day) (ns : List Entry) (seats : AreSeats m d.entries ns)
   -- nobody calls a booking that rests
   unoffered_later : (start : ℕ) (s : Standing) → is_unoffered s ≡ true → Rests m start s → m ≤ start
   unoffered_later start Unoffered h rests = rests
-  unoffered_later start Refused h rests = absurd (false≢true h)
-  unoffered_later start (OnCall c a) h rests = absurd (false≢true h)
-  unoffered_later start (Carried from until) h rests = absurd (false≢true h)
-  unoffered_later start Unanswered h rests = absurd (false≢true h)
-  unoffered_later start Missed h rests = absurd (false≢true h)
+  unoffered_later start s h rests = absurd (false≢true h)
 
   open_unoffered : (x : Day) (e : Entry) → is_open x e ≡ true → is_unoffered e.standing ≡ true
   open_unoffered x e h =
@@ -418,11 +401,10 @@ module _ (m : ℕ) (d : Day) (ns : List Entry) (seats : AreSeats m d.entries ns)
   preferred_over sm (Some i) h = takes_over sm 34 (Some i) h
 
   on_over : (sm : Said) (f : ChannelField) → Hears m ns (called_on d sm f) (called_on (over ns d) sm f)
-  on_over sm Absent = lowest_takes sm
-  on_over sm AnyChannel = lowest_takes sm
   on_over sm Unread = ignored _
   on_over sm (Named c true) = takes_by sm 44 (position (opens d c) d.entries) (position (opens (over ns d) c) (with_standings d.entries ns)) (opens_over c) (open_index d c)
   on_over sm (Named c false) = subst (λ x. Hears m ns (takes_preferred d sm (position (opens d c) d.entries)) (takes_preferred (over ns d) sm x)) (sym (opens_over c)) (preferred_over sm (position (opens d c) d.entries) (open_index d c))
+  on_over sm f = lowest_takes sm
 
   called_over : (sm : Said) (refused : Option ℕ) → Hears m ns (called d sm refused) (called (over ns d) sm refused)
   called_over sm (Some cause) = ignored _
@@ -434,11 +416,7 @@ module _ (m : ℕ) (d : Day) (ns : List Entry) (seats : AreSeats m d.entries ns)
 
   named_live : (sm : Said) (s : Standing) → names_call sm s ≡ true → is_live s ≡ true
   named_live sm (OnCall c a) h = refl
-  named_live sm Refused h = absurd (false≢true h)
-  named_live sm Unoffered h = absurd (false≢true h)
-  named_live sm (Carried from until) h = absurd (false≢true h)
-  named_live sm Unanswered h = absurd (false≢true h)
-  named_live sm Missed h = absurd (false≢true h)
+  named_live sm s h = absurd (false≢true h)
 
   received_over : (sm : Said) (o : Option ℕ) → position (names sm) d.entries ≡ o → Hears m ns (received_at d sm o) (received_at (over ns d) sm o)
   received_over sm None is = stray_over sm sm.heard.kind
@@ -485,11 +463,10 @@ preferred_later d sm None = takes_later d sm 34 (lowest_open d every_channel)
 preferred_later d sm (Some i) = takes_later d sm 34 (Some i)
 
 on_later : (d : Day) (sm : Said) (f : ChannelField) → Later d (called_on d sm f).day
-on_later d sm Absent = takes_later d sm 34 (lowest_open d every_channel)
-on_later d sm AnyChannel = takes_later d sm 34 (lowest_open d every_channel)
 on_later d sm Unread = omega arith
 on_later d sm (Named c true) = takes_later d sm 44 (position (opens d c) d.entries)
 on_later d sm (Named c false) = preferred_later d sm (position (opens d c) d.entries)
+on_later d sm f = takes_later d sm 34 (lowest_open d every_channel)
 
 called_later : (d : Day) (sm : Said) (refused : Option ℕ) → Later d (called d sm refused).day
 called_later d sm (Some cause) = omega arith

@@ -12,7 +12,7 @@ use Rattle.bx_day.specs.declared.entry.Activity.{Activity}
 use Rattle.bx_day.specs.declared.entry.Activity.TheVariants.{Never, Since, Was}
 use Rattle.bx_day.specs.declared.entry.Entry.{Entry}
 use Rattle.bx_day.specs.declared.entry.Standing.{Standing}
-use Rattle.bx_day.specs.declared.entry.Standing.TheVariants.{Refused, Unoffered, OnCall, Carried, Unanswered, Missed}
+use Rattle.bx_day.specs.declared.entry.Standing.TheVariants.{Refused, Unoffered, OnCall, Carried, Missed}
 use Rattle.bx_day.specs.Day.{Day, entry_at, entry_of, entries_from, holds, is_live, is_unoffered}
 use Rattle.bx_day.specs.Extended.{with_standings, extended, IsKept, IsExtendedBy}
 use Rattle.bx_day.specs.Invariant.{EntryFits, OriginFits, Phase, Ringing, Talking, Clearing, PhaseFits, phase_of, ActivityFits, Apart, Pairs, is_refused}
@@ -21,7 +21,7 @@ use Rattle.bx_day.specs.Outlasting.{AreEarliest}
 use Rattle.bx_day.specs.Reading.{IsExchange, Seated}
 use Rattle.bx_day.specs.Slots.{slot_at, AreSlots}
 use Rattle.bx_day.proofs.Extended.{Rests, IsSeat, IsToCome, AreSeats, holds_seat, rests_unheld, at_over}
-use Rattle.bx_day.proofs.Law.{IsFrame}
+use Rattle.bx_day.proofs.Law.{IsFrame, frame_of}
 use Rattle.bx_day.proofs.LiveTurns.{pairs_at}
 use Rattle.bx_day.proofs.LongerPlan.{seats_from, to_come_of}
 use Rattle.bx_day.proofs.Once.{each_at}
@@ -52,25 +52,16 @@ pairs_from R (e ∷ es) h = (all_from (R e) es (λ j lt. h 0 (suc j) (omega arit
 
 not_back : (a r : Bool) → a ≡ not r → r ≡ not a
 not_back true true h = absurd (true≢false h)
-not_back true false h = refl
-not_back false true h = refl
 not_back false false h = absurd (false≢true h)
+not_back a r h = refl
 
 refused_rests : (m start : ℕ) (s : Standing) → is_refused s ≡ true → Rests m start s
 refused_rests m start Refused h = tt
-refused_rests m start Unoffered h = absurd (false≢true h)
-refused_rests m start (OnCall c a) h = absurd (false≢true h)
-refused_rests m start (Carried from until) h = absurd (false≢true h)
-refused_rests m start Unanswered h = absurd (false≢true h)
-refused_rests m start Missed h = absurd (false≢true h)
+refused_rests m start s h = absurd (false≢true h)
 
 waiting_rests : (m start : ℕ) (s : Standing) → is_unoffered s ≡ true → m ≤ start → Rests m start s
 waiting_rests m start Unoffered h after = after
-waiting_rests m start Refused h after = absurd (false≢true h)
-waiting_rests m start (OnCall c a) h after = absurd (false≢true h)
-waiting_rests m start (Carried from until) h after = absurd (false≢true h)
-waiting_rests m start Unanswered h after = absurd (false≢true h)
-waiting_rests m start Missed h after = absurd (false≢true h)
+waiting_rests m start s h after = absurd (false≢true h)
 
 seat_kept : (t k : ℕ) (e : Entry) (b : Row) (a : Option ℕ) → e.row ≡ k → e.booking.start < e.booking.end → (is_refused e.standing ≡ false → t < e.booking.start → is_unoffered e.standing ≡ true) → IsKept t e b a → IsSeat (t + 1) e (entry_of k b a)
 seat_kept t k e b None row order ahead h = record { row = sym row; start = h.same.start; end = h.same.end; number = h.same.number; inward = h.same.inward; order = order; place = inr (refused_rests (t + 1) e.booking.start e.standing (not_back false (is_refused e.standing) h.accepted)) }
@@ -93,10 +84,6 @@ frame_kept : (t k : ℕ) (e : Entry) (b : Row) (a : Option ℕ) → IsKept t e b
 frame_kept t k e b None h = record { booking = refl; channel = refl; accepted = not_back false (is_refused e.standing) h.accepted }
 frame_kept t k e b (Some c) h = record { booking = refl; channel = refl; accepted = not_back true (is_refused e.standing) h.accepted }
 
-frame_new : (k : ℕ) (b : Row) (a : Option ℕ) → IsFrame b a (entry_of k b a)
-frame_new k b None = record { booking = refl; channel = refl; accepted = refl }
-frame_new k b (Some c) = record { booking = refl; channel = refl; accepted = refl }
-
 fits_new : (t k : ℕ) (b : Row) (a : Option ℕ) → t < b.end → EntryFits t (entry_of k b a)
 fits_new t k b None h = tt
 fits_new t k b (Some c) h = h
@@ -110,27 +97,21 @@ origin_seat m e n reference (Outward called) h k = (h.inward ∙ k.0, k.1 ∙ sy
 origin_seat m e n reference Inward h k = h.inward ∙ k
 
 phase_seat : (m t : ℕ) (e n : Entry) (p : Phase) → IsSeat m e n → PhaseFits t e.booking p → PhaseFits t n.booking p
-phase_seat m t e n Ringing h k = (omega (arith, k.0, h.start), omega (arith, k.1, h.end))
-phase_seat m t e n Talking h k = (omega (arith, k.0, h.start), omega (arith, k.1, h.end))
 phase_seat m t e n Clearing h k = tt
+phase_seat m t e n p h k = (omega (arith, k.0, h.start), omega (arith, k.1, h.end))
 
 activity_seat : (m t : ℕ) (e n : Entry) (p : Phase) (a : Activity) → IsSeat m e n → ActivityFits t e.booking p a → ActivityFits t n.booking p a
 activity_seat m t e n Ringing Never h k = tt
-activity_seat m t e n Ringing (Since from) h k = absurd k
-activity_seat m t e n Ringing (Was from until) h k = absurd k
-activity_seat m t e n Talking Never h k = absurd k
 activity_seat m t e n Talking (Since from) h k = (omega (arith, k.0, h.start), k.1)
-activity_seat m t e n Talking (Was from until) h k = absurd k
 activity_seat m t e n Clearing Never h k = tt
-activity_seat m t e n Clearing (Since from) h k = absurd k
 activity_seat m t e n Clearing (Was from until) h k = (omega (arith, k.0, h.start), k.1, k.2, omega (arith, k.3, h.end))
+activity_seat m t e n p a h k = absurd k
 
 -- a seat of a booking whose standing does not matter
 bare : (m : ℕ) (e n : Entry) (c : PlainNetCall) (a : Activity) → IsSeat m (with_standing e (OnCall c a)) n → IsSeat m e n
 bare m e n c a h = record { row = h.row; start = h.start; end = h.end; number = h.number; inward = h.inward; order = h.order; place = elim h.place [ inl q ↦ inl q | inr rests ↦ absurd rests ] }
 
 fits_seat : (m t : ℕ) (e n : Entry) (s : Standing) → IsSeat m (with_standing e s) n → EntryFits t (with_standing e s) → EntryFits t (with_standing n s)
-fits_seat m t e n Refused h k = tt
 fits_seat m t e n Unoffered h k = omega (arith, k, h.end)
 fits_seat m t e n (OnCall c a) h k = record {
   channel = elim h.place [ inl q ↦ k.channel ∙ sym q | inr rests ↦ absurd rests ];
@@ -140,8 +121,8 @@ fits_seat m t e n (OnCall c a) h k = record {
   activity = activity_seat m t e n (phase_of c.state) a (bare m e n c a h) k.activity;
 }
 fits_seat m t e n (Carried from until) h k = (omega (arith, k.0, h.start), k.1, omega (arith, k.2, h.end))
-fits_seat m t e n Unanswered h k = tt
 fits_seat m t e n Missed h k = omega (arith, k, h.end)
+fits_seat m t e n s h k = tt
 
 -- ---- the day
 
@@ -183,7 +164,7 @@ module _ (d : Day) (rows : List Row) (channels : List Bool) (assigned : List (Op
   frame_at : (i : ℕ) → i < length rows → IsFrame (row_at rows i) (slice_index_or assigned i None) (entry_at all i)
   frame_at i lt = elim (cases_lt i (length d.entries)) [
     | inl old ↦ subst (IsFrame (row_at rows i) (slice_index_or assigned i None)) (sym (old_at i old ∙ ap (λ (n : Entry). with_standing n (entry_at d.entries i).standing) (new_at i lt))) (frame_kept d.moment (i + 1) (entry_at d.entries i) (row_at rows i) (slice_index_or assigned i None) (x.kept i old))
-    | inr new ↦ subst (IsFrame (row_at rows i) (slice_index_or assigned i None)) (sym (past_at i new lt)) (frame_new (i + 1) (row_at rows i) (slice_index_or assigned i None))
+    | inr new ↦ subst (IsFrame (row_at rows i) (slice_index_or assigned i None)) (sym (past_at i new lt)) (frame_of (i + 1) (row_at rows i) (slice_index_or assigned i None))
   ]
 
   fits_at : (i : ℕ) → i < length all → EntryFits d.moment (entry_at all i)

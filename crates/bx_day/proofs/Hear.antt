@@ -4,7 +4,7 @@ use Rattle.std.proofs.lemmas.Bool.{true≢false}
 use Rattle.bx_q931.specs.declared.kind.Kind.{Kind}
 use Rattle.bx_q931.specs.declared.kind.Kind.TheVariants.{Alerting, CallProceeding, Setup, Connect, ConnectAcknowledge, Disconnect, Release, ReleaseComplete, StatusEnquiry, Status}
 use Rattle.bx_calls.specs.declared.net_state.NetOrigin.{NetOrigin}
-use Rattle.bx_calls.specs.declared.net_state.NetOrigin.TheVariants.{Outward, Inward}
+use Rattle.bx_calls.specs.declared.net_state.NetOrigin.TheVariants.{Outward}
 use Rattle.bx_calls.specs.declared.net_state.NetState.{NetState}
 use Rattle.bx_calls.specs.declared.net_state.NetState.TheVariants.{OutgoingCallProceeding, CallPresent, IncomingCallProceeding, CallReceived, Active, Enquiring, DisconnectIndication, ReleaseRequest}
 use Rattle.bx_calls.specs.declared.net_state.Asked.{Asked}
@@ -33,14 +33,11 @@ same_fits t e r ch o (ReleaseRequest again cause due) a h = goes_on t t e r ch o
 
 -- the call is over
 pub over_fits : (t : ℕ) (e : Entry) (r ch : ℕ) (o : NetOrigin) (s : NetState) (a : Activity) → CallFits t e (call_of r ch o s) a → EntryFits t (record e { standing = over_at a t })
-over_fits t e r ch o OutgoingCallProceeding a h = ringing_over t t e a h.activity
-over_fits t e r ch o (CallPresent again due) a h = ringing_over t t e a h.activity
-over_fits t e r ch o (IncomingCallProceeding due) a h = ringing_over t t e a h.activity
-over_fits t e r ch o (CallReceived due) a h = ringing_over t t e a h.activity
 over_fits t e r ch o Active a h = talking_over t t e a (omega arith) (omega arith) h.activity
 over_fits t e r ch o (Enquiring asked due) a h = talking_over t t e a (omega arith) (omega (arith, h.phase.1)) h.activity
 over_fits t e r ch o (DisconnectIndication cause due) a h = clearing_over t t e a h.activity
 over_fits t e r ch o (ReleaseRequest again cause due) a h = clearing_over t t e a h.activity
+over_fits t e r ch o s a h = ringing_over t t e a h.activity
 
 abbrev pub is_releasing : NetState → Bool
 is_releasing (ReleaseRequest again cause due) = true
@@ -48,25 +45,17 @@ is_releasing _ = false
 
 -- RELEASE, in any state but Release Request
 pub release_fits : (t : ℕ) (e : Entry) (r ch : ℕ) (o : NetOrigin) (s : NetState) (a : Activity) (c : Option ℕ) → is_releasing s ≡ false → CallFits t e (call_of r ch o s) a → EntryFits t (on_call t e a (call_of r ch o (ReleaseRequest false c (t + 4))))
-release_fits t e r ch o OutgoingCallProceeding a c n h = goes_on t t e r ch o OutgoingCallProceeding a (ReleaseRequest false c (t + 4)) h tt (omega arith, omega arith) (ringing_clears t t e.booking a h.activity)
 release_fits t e r ch o (CallPresent again due) a c n h = goes_on t t e r ch o (CallPresent again due) a (ReleaseRequest false c (t + 4)) h tt (omega arith, omega arith) (ringing_clears t t e.booking a h.activity)
-release_fits t e r ch o (IncomingCallProceeding due) a c n h = goes_on t t e r ch o (IncomingCallProceeding due) a (ReleaseRequest false c (t + 4)) h tt (omega arith, omega arith) (ringing_clears t t e.booking a h.activity)
-release_fits t e r ch o (CallReceived due) a c n h = goes_on t t e r ch o (CallReceived due) a (ReleaseRequest false c (t + 4)) h tt (omega arith, omega arith) (ringing_clears t t e.booking a h.activity)
 release_fits t e r ch o Active a c n h = goes_on t t e r ch o Active a (ReleaseRequest false c (t + 4)) h tt (omega arith, omega arith) (talking_clears t t e.booking a (omega arith) (omega arith) h.activity)
 release_fits t e r ch o (Enquiring asked due) a c n h = goes_on t t e r ch o (Enquiring asked due) a (ReleaseRequest false c (t + 4)) h tt (omega arith, omega arith) (talking_clears t t e.booking a (omega arith) (omega (arith, h.phase.1)) h.activity)
 release_fits t e r ch o (DisconnectIndication cause due) a c n h = goes_on t t e r ch o (DisconnectIndication cause due) a (ReleaseRequest false c (t + 4)) h tt (omega arith, omega arith) (clearing_kept t t e.booking a (omega arith) h.activity)
 release_fits t e r ch o (ReleaseRequest again cause due) a c n h = absurd (true≢false n)
+release_fits t e r ch o s a c n h = goes_on t t e r ch o s a (ReleaseRequest false c (t + 4)) h tt (omega arith, omega arith) (ringing_clears t t e.booking a h.activity)
 
 -- asked no more
 pub awake_fits : (t : ℕ) (e : Entry) (r ch : ℕ) (o : NetOrigin) (s : NetState) (a : Activity) → CallFits t e (call_of r ch o s) a → CallFits t e (call_of r ch o (net_awake_state s)) a
 awake_fits t e r ch o (Enquiring asked due) a h = record { channel = h.channel; origin = h.origin; phase = h.phase; due = tt; activity = h.activity }
-awake_fits t e r ch o OutgoingCallProceeding a h = h
-awake_fits t e r ch o (CallPresent again due) a h = h
-awake_fits t e r ch o (IncomingCallProceeding due) a h = h
-awake_fits t e r ch o (CallReceived due) a h = h
-awake_fits t e r ch o Active a h = h
-awake_fits t e r ch o (DisconnectIndication cause due) a h = h
-awake_fits t e r ch o (ReleaseRequest again cause due) a h = h
+awake_fits t e r ch o s a h = h
 
 -- each row of the table, in its order
 pub row_fits : (t : ℕ) (e : Entry) (r ch : ℕ) (o : NetOrigin) (a : Activity) (m : Heard) (s : NetState) (k : Kind) → CallFits t e (call_of r ch o s) a → StepFits t e a (net_row (call_of r ch o s) m t s k)
@@ -86,7 +75,6 @@ row_fits t e r ch o a m (IncomingCallProceeding due) Alerting h = goes_on t t e 
 row_fits t e r ch o a m (IncomingCallProceeding due) Connect h = goes_on t t e r ch o (IncomingCallProceeding due) a Active h h.phase tt (ringing_talks t t e.booking a h.phase.0 h.activity)
 row_fits t e r ch o a m (CallReceived due) Connect h = goes_on t t e r ch o (CallReceived due) a Active h h.phase tt (ringing_talks t t e.booking a h.phase.0 h.activity)
 row_fits t e r ch (Outward called) a m Active ConnectAcknowledge h = same_fits t e r ch (Outward called) Active a h
-row_fits t e r ch Inward a m Active ConnectAcknowledge h = same_fits t e r ch Inward Active a h
 row_fits t e r ch o a m s k h = same_fits t e r ch o s a h
 
 -- whether the user was asked or not: a call that is asked for is released by a report that does not fit, and any other message
@@ -95,13 +83,7 @@ pub heard_by : (P : Transition PlainNetCall → Type 0) (c : PlainNetCall) (m : 
     → ((asked : Asked) (due : ℕ) → s ≡ Enquiring asked due → net_is_contradicted s c.origin m k ≡ true → P (net_releases c false (Some 101) t))
     → P (net_row (record c { state = net_awake_state s }) m t (net_awake_state s) k) → P (net_heard c m t s k)
 heard_by P c m t (Enquiring asked due) k f g = by_cases (net_is_contradicted (Enquiring asked due) c.origin m k) _ _ P (λ q. f asked due refl q) (λ _. g)
-heard_by P c m t OutgoingCallProceeding k f g = g
-heard_by P c m t (CallPresent again due) k f g = g
-heard_by P c m t (IncomingCallProceeding due) k f g = g
-heard_by P c m t (CallReceived due) k f g = g
-heard_by P c m t Active k f g = g
-heard_by P c m t (DisconnectIndication cause due) k f g = g
-heard_by P c m t (ReleaseRequest again cause due) k f g = g
+heard_by P c m t s k f g = g
 
 pub message_fits : (t : ℕ) (e : Entry) (r ch : ℕ) (o : NetOrigin) (a : Activity) (m : Heard) (s : NetState) (k : Kind) → CallFits t e (call_of r ch o s) a → StepFits t e a (net_heard (call_of r ch o s) m t s k)
 message_fits t e r ch o a m s k h = heard_by (StepFits t e a) (call_of r ch o s) m t s k

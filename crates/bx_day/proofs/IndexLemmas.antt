@@ -21,8 +21,8 @@ use Rattle.bx_day.specs.declared.entry.Link.{Link}
 use Rattle.bx_day.proofs.LinkLemmas.{none_in}
 use Rattle.bx_day.proofs.OpeningDay.{opening_at, opening_size}
 use Rattle.bx_day.proofs.Skips.{later_none, skip_stays}
-use Rattle.bx_day.proofs.Turns.{unoffered_accepted}
 use Rattle.bx_day.proofs.SlotLemmas.{holds_parts, waits_parts, waits_from}
+use Rattle.bx_day.proofs.Receive.{unoffered_accepted}
 
 -- the slots do not depend on the moment, but for the bookings that are to come
 pub slots_later : (n : ℕ) (d : Day) (live waiting following : List (Option ℕ)) → AreSlots d live waiting following → AreSlots (later_by n d) live waiting following

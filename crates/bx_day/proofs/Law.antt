@@ -7,17 +7,17 @@ use Rattle.std.proofs.lemmas.Bool.{false≢true, true≢false, and_from, le-leb,
 use Rattle.bx_q931.specs.declared.kind.Kind.{Kind}
 use Rattle.bx_q931.specs.declared.kind.Kind.TheVariants.{Setup}
 use Rattle.bx_q931.specs.declared.channel_field.ChannelField.{ChannelField}
-use Rattle.bx_q931.specs.declared.channel_field.ChannelField.TheVariants.{Absent, Named, AnyChannel, Unread}
+use Rattle.bx_q931.specs.declared.channel_field.ChannelField.TheVariants.{Named, Unread}
 use Rattle.bx_calls.specs.PlainCalls.{PlainNetCall}
 use Rattle.bx_calls.specs.declared.net_state.NetState.{NetState}
-use Rattle.bx_calls.specs.declared.net_state.NetState.TheVariants.{OutgoingCallProceeding, CallPresent, IncomingCallProceeding, CallReceived, Active, Enquiring, DisconnectIndication, ReleaseRequest}
+use Rattle.bx_calls.specs.declared.net_state.NetState.TheVariants.{DisconnectIndication, ReleaseRequest}
 use Rattle.bx_calls.specs.NetTable.{net_message, net_second, net_unlinked}
 use Rattle.bx_base.specs.Bookings.{Row, row_at, is_running, AreBookings, Carries}
 use Rattle.bx_base.specs.Plans.{is_accepted, channel_at}
 use Rattle.bx_calls.specs.Said.{Said, said_of}
 use Rattle.bx_day.specs.declared.entry.Activity.{Activity}
 use Rattle.bx_day.specs.declared.entry.Standing.{Standing}
-use Rattle.bx_day.specs.declared.entry.Standing.TheVariants.{Refused, Unoffered, OnCall, Carried, Unanswered, Missed}
+use Rattle.bx_day.specs.declared.entry.Standing.TheVariants.{Unoffered, OnCall, Carried}
 use Rattle.bx_day.specs.declared.entry.Entry.{Entry}
 use Rattle.bx_day.specs.declared.entry.Moved.{Moved}
 use Rattle.bx_day.specs.declared.entry.Link.{Link}
@@ -84,7 +84,7 @@ pub record IsFrame (b : Row) (a : Option ℕ) (e : Entry) : Type 0 where
 abbrev pub Framed : List Row → List (Option ℕ) → Day → Type 0
 Framed rows assigned d = ((i : ℕ) → i < length rows → IsFrame (row_at rows i) (slice_index_or assigned i None) (entry_at d.entries i)) × AllByRecursion (Placed rows assigned) d.entries
 
-frame_of : (k : ℕ) (b : Row) (a : Option ℕ) → IsFrame b a (entry_of k b a)
+pub frame_of : (k : ℕ) (b : Row) (a : Option ℕ) → IsFrame b a (entry_of k b a)
 frame_of k b None = record { booking = refl; channel = refl; accepted = refl }
 frame_of k b (Some c) = record { booking = refl; channel = refl; accepted = refl }
 
@@ -99,33 +99,25 @@ waits_refused : (e : Entry) (t : ℕ) (free : Bool) → is_refused (waits e t fr
 waits_refused e t free = by_cases (offers e t free) _ _ (λ (m : Moved). is_refused m.standing ≡ false) (λ _. refl) (λ _. by_cases (nat_le e.booking.end t) _ _ (λ (m : Moved). is_refused m.standing ≡ false) (λ _. refl) (λ _. refl))
 
 pub second_same : (e : Entry) (t : ℕ) (free : Bool) (s : Standing) → is_refused (second_at e t free s).standing ≡ is_refused s
-second_same e t free Refused = refl
 second_same e t free Unoffered = waits_refused e t free
 second_same e t free (OnCall c a) = follow_refused a t (net_second c t e.booking.end).reply (net_second c t e.booking.end).next
-second_same e t free (Carried from until) = refl
-second_same e t free Unanswered = refl
-second_same e t free Missed = refl
+second_same e t free s = refl
 
 pub in_same : (link : Link) (e : Entry) (t : ℕ) (free : Bool) (s : Standing) → is_refused (second_by link e t free s).standing ≡ is_refused s
 in_same Up e t free s = second_same e t free s
 in_same Down e t free s = unlinked e t s (λ m. is_refused m.standing ≡ is_refused s) (λ c a p. follow_refused a t (net_unlinked 1 c t e.booking.end).reply (net_unlinked 1 c t e.booking.end).next ∙ sym (ap is_refused p)) (second_same e t false s)
 
 pub hears_same : (m : Said) (t : ℕ) (s : Standing) → is_refused (hears m t s).standing ≡ is_refused s
-hears_same m t Refused = refl
-hears_same m t Unoffered = refl
 hears_same m t (OnCall c a) = follow_refused a t (net_message c m.heard t).reply (net_message c m.heard t).next
-hears_same m t (Carried from until) = refl
-hears_same m t Unanswered = refl
-hears_same m t Missed = refl
+hears_same m t s = refl
 
 refit : (b : Row) (a : Option ℕ) (e : Entry) (s : Standing) → is_refused s ≡ is_refused e.standing → IsFrame b a e → IsFrame b a (with_standing e s)
 refit b a e s same h = record { booking = h.booking; channel = h.channel; accepted = same ∙ h.accepted }
 
 pub at_map_in : (link : Link) (d : Day) (es : List Entry) (i : ℕ) → entry_at (map (after_in link d) es) i ≡ after_in link d (entry_at es i)
-at_map_in Up d [] i = refl
 at_map_in Down d [] i = refl
-at_map_in link d (e ∷ es) zero = refl
 at_map_in link d (e ∷ es) (suc i) = at_map_in link d es i
+at_map_in link d es i = refl
 
 pub at_map : (d : Day) (es : List Entry) (i : ℕ) → entry_at (map (after_in Up d) es) i ≡ after_in Up d (entry_at es i)
 at_map d es i = at_map_in Up d es i
@@ -133,9 +125,8 @@ at_map d es i = at_map_in Up d es i
 at_set : (P : Entry → Type 0) (es : List Entry) (i k : ℕ) (y : Entry) → (P (entry_at es i) → P y) → P (entry_at es k) → P (entry_at (slice_set es i y) k)
 at_set P [] i k y f p = p
 at_set P (e ∷ es) zero zero y f p = f p
-at_set P (e ∷ es) zero (suc k) y f p = p
-at_set P (e ∷ es) (suc i) zero y f p = p
 at_set P (e ∷ es) (suc i) (suc k) y f p = at_set P es i k y f p
+at_set P (e ∷ es) i k y f p = p
 
 -- where each entry stands in its plan
 opening_length : (k : ℕ) (rows : List Row) (assigned : List (Option ℕ)) → length (entries_from k rows assigned) ≡ length rows
@@ -143,7 +134,7 @@ opening_length k [] assigned = refl
 opening_length k (b ∷ bs) [] = ap suc (opening_length (k + 1) bs [])
 opening_length k (b ∷ bs) (a ∷ as') = ap suc (opening_length (k + 1) bs as')
 
-row_of_entry : (k : ℕ) (b : Row) (a : Option ℕ) → (entry_of k b a).row ≡ k
+pub row_of_entry : (k : ℕ) (b : Row) (a : Option ℕ) → (entry_of k b a).row ≡ k
 row_of_entry k b None = refl
 row_of_entry k b (Some c) = refl
 
@@ -211,11 +202,10 @@ preferred_framed rows assigned d m None op h = takes_framed rows assigned d m 34
 preferred_framed rows assigned d m (Some i) op h = takes_framed rows assigned d m 34 (Some i) op h
 
 on_framed : (rows : List Row) (assigned : List (Option ℕ)) (d : Day) (m : Said) (f : ChannelField) → Framed rows assigned d → Framed rows assigned (called_on d m f).day
-on_framed rows assigned d m Absent h = takes_framed rows assigned d m 34 (lowest_open d every_channel) (open_lowest d every_channel) h
-on_framed rows assigned d m AnyChannel h = takes_framed rows assigned d m 34 (lowest_open d every_channel) (open_lowest d every_channel) h
 on_framed rows assigned d m Unread h = h
 on_framed rows assigned d m (Named c true) h = takes_framed rows assigned d m 44 (position (opens d c) d.entries) (open_index d c) h
 on_framed rows assigned d m (Named c false) h = preferred_framed rows assigned d m (position (opens d c) d.entries) (open_index d c) h
+on_framed rows assigned d m f h = takes_framed rows assigned d m 34 (lowest_open d every_channel) (open_lowest d every_channel) h
 
 called_framed : (rows : List Row) (assigned : List (Option ℕ)) (d : Day) (m : Said) (b : Option ℕ) → Framed rows assigned d → Framed rows assigned (called d m b).day
 called_framed rows assigned d m (Some cause) h = h
@@ -272,19 +262,11 @@ all_on_link (e ∷ es) d = all_on_link es (happens d e).day
 -- what that says
 on_live : (s : Standing) (P : PlainNetCall → Activity → Type 0) → ((c : PlainNetCall) (a : Activity) → s ≡ OnCall c a → P c a) → OnLive s P
 on_live (OnCall c a) P f = f c a refl
-on_live Refused P f = tt
-on_live Unoffered P f = tt
-on_live (Carried from until) P f = tt
-on_live Unanswered P f = tt
-on_live Missed P f = tt
+on_live s P f = tt
 
 on_carried : (s : Standing) (P : ℕ → ℕ → Type 0) → ((from until : ℕ) → s ≡ Carried from until → P from until) → OnCarried s P
 on_carried (Carried from until) P f = f from until refl
-on_carried (OnCall c a) P f = tt
-on_carried Refused P f = tt
-on_carried Unoffered P f = tt
-on_carried Unanswered P f = tt
-on_carried Missed P f = tt
+on_carried s P f = tt
 
 pairs_at : (es : List Entry) (i j : ℕ) → i < j → Pairs Apart es → Apart (entry_at es i) (entry_at es j)
 pairs_at [] i j lt ps = apart_none no_entry
@@ -298,14 +280,9 @@ not_refused None h = absurd (false≢true h)
 not_refused (Some c) h = refl
 
 active_talks : (t : ℕ) (b : Row) (s : NetState) → is_active s ≡ true → PhaseFits t b (phase_of s) → (b.start ≤ t) × (t < b.end)
-active_talks t b Active at h = h
-active_talks t b (Enquiring asked due) at h = h
-active_talks t b OutgoingCallProceeding at h = h
-active_talks t b (CallPresent again due) at h = h
-active_talks t b (IncomingCallProceeding due) at h = h
-active_talks t b (CallReceived due) at h = h
 active_talks t b (DisconnectIndication cause due) at h = absurd (false≢true at)
 active_talks t b (ReleaseRequest again cause due) at h = absurd (false≢true at)
+active_talks t b s at h = h
 
 active_runs : (t : ℕ) (b : Row) (c : PlainNetCall) → is_active c.state ≡ true → PhaseFits t b (phase_of c.state) → is_running b t ≡ true
 active_runs t b c at h =
@@ -317,15 +294,10 @@ call_at d i h c a p = subst (StandingFits d.moment (entry_at d.entries i)) p (al
 
 -- 38 seconds with a link after the end no call is left
 late_none : (t n : ℕ) (lasts : Bool) (b : Row) (s : NetState) → PhaseFits t b (phase_of s) → DueFits t s → (b.end ≤ t → ClearsBy lasts (b.end + n) s) → b.end + 38 + n ≤ t → ⊥
-late_none t n lasts b OutgoingCallProceeding p q c h = omega (arith, p.1, h)
-late_none t n lasts b (CallPresent again due) p q c h = omega (arith, p.1, h)
-late_none t n lasts b (IncomingCallProceeding due) p q c h = omega (arith, p.1, h)
-late_none t n lasts b (CallReceived due) p q c h = omega (arith, p.1, h)
-late_none t n lasts b Active p q c h = omega (arith, p.1, h)
-late_none t n lasts b (Enquiring asked due) p q c h = omega (arith, p.1, h)
 late_none t n lasts b (DisconnectIndication cause due) p q c h = omega (arith, q.0, c (omega (arith, h)), h)
 late_none t n lasts b (ReleaseRequest false cause due) p q c h = omega (arith, q.0, c (omega (arith, h)), h)
 late_none t n lasts b (ReleaseRequest true cause due) p q c h = omega (arith, q.0, (c (omega (arith, h))).1, h)
+late_none t n lasts b s p q c h = omega (arith, p.1, h)
 
 -- no channel is held twice
 pub held_apart : (rows : List Row) (assigned : List (Option ℕ)) (d : Day) → RunFits rows assigned d → (i j : ℕ) → i < j → OnLive (standing_at d i) (λ call a. OnLive (standing_at d j) (λ other b. call.channel ≢ other.channel))

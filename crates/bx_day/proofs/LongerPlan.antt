@@ -44,10 +44,9 @@ to_come_of m k b None after order = record { order = order; rests = tt }
 to_come_of m k b (Some c) after order = record { order = order; rests = after }
 
 standing_of : (k : ℕ) (b b' : Row) (a a' : Option ℕ) → is_some a' ≡ is_some a → (entry_of k b a).standing ≡ (entry_of k b' a').standing
-standing_of k b b' None None same = refl
-standing_of k b b' (Some c) (Some c') same = refl
 standing_of k b b' None (Some c') same = absurd (true≢false same)
 standing_of k b b' (Some c) None same = absurd (false≢true same)
+standing_of k b b' a a' same = refl
 
 module _ (m : ℕ) (rows : List Row) (assigned : List (Option ℕ)) (rows' : List Row) (assigned' : List (Option ℕ)) (bookings : AreBookings rows') (h : Extends m rows assigned rows' assigned') where
   abbrev old : List Entry

@@ -14,10 +14,10 @@ use Rattle.bx_day.specs.declared.entry.Link.{Link}
 use Rattle.bx_day.specs.declared.entry.Link.TheVariants.{Up, Down}
 use Rattle.bx_day.specs.declared.entry.Entry.{Entry}
 use Rattle.bx_day.specs.declared.entry.Standing.{Standing}
-use Rattle.bx_day.specs.declared.entry.Standing.TheVariants.{Refused, Unoffered, OnCall, Carried, Unanswered, Missed}
+use Rattle.bx_day.specs.declared.entry.Standing.TheVariants.{Refused, Unoffered, OnCall}
 use Rattle.bx_day.proofs.Tick.{by_cases, unlinked, never_offered, with_standing, offers, offers_parts, WasLive, Before, Offered, Holding, live_apart, all_hold}
 
-none≢some : {X : Type 0} (x : X) → None ≡ Some x → ⊥
+pub none≢some : {X : Type 0} (x : X) → None ≡ Some x → ⊥
 none≢some x e = false≢true (ap is_some e)
 
 pub decide : {P : Type 0} (b : Bool) → (b ≡ true → P) → (b ≡ false → P) → P
@@ -43,12 +43,9 @@ waits_says t free e o =
     (λ going says. absurd (none≢some o says)))
 
 pub says : (t : ℕ) (free : Bool) (e : Entry) (s : Standing) (o : Outgoing) → (second_at e t free s).said ≡ Some o → WasLive t free (with_standing e s)
-says t free e Refused o h = absurd (none≢some o h)
 says t free e Unoffered o h = waits_says t free e o h
 says t free e (OnCall c a) o h = Before refl
-says t free e (Carried from until) o h = absurd (none≢some o h)
-says t free e Unanswered o h = absurd (none≢some o h)
-says t free e Missed o h = absurd (none≢some o h)
+says t free e s o h = absurd (none≢some o h)
 
 pub in_says : (link : Link) (t : ℕ) (free : Bool) (e : Entry) (s : Standing) (o : Outgoing) → (second_by link e t free s).said ≡ Some o → WasLive t free (with_standing e s)
 in_says Up t free e s o h = says t free e s o h
@@ -84,11 +81,7 @@ once link d c (e ∷ es) hs ps =
 -- nothing is said on what is no channel
 live_refused : (s : Standing) → is_live s ≡ true → is_refused s ≡ false
 live_refused Refused h = absurd (false≢true h)
-live_refused Unoffered h = refl
-live_refused (OnCall c a) h = refl
-live_refused (Carried from until) h = refl
-live_refused Unanswered h = refl
-live_refused Missed h = refl
+live_refused s h = refl
 
 spoken_refused : (t : ℕ) (free : Bool) (e : Entry) → WasLive t free e → is_refused e.standing ≡ false
 spoken_refused t free e (Before live) = live_refused e.standing live

@@ -10,7 +10,7 @@ use Rattle.bx_base.specs.Plans.{is_accepted, channel_at}
 use Rattle.bx_day.specs.Day.{entries_from, entry_at, entry_of, opening, no_entry}
 use Rattle.bx_day.specs.Reading.{IsExchange, IsNumbered, Seated}
 use Rattle.bx_day.specs.declared.entry.Entry.{Entry}
-use Rattle.bx_day.proofs.Law.{opening_fits}
+use Rattle.bx_day.proofs.Law.{opening_fits, row_of_entry}
 
 pub opening_size : (k : ℕ) (rows : List Row) (assigned : List (Option ℕ)) → length (entries_from k rows assigned) ≡ length rows
 opening_size k [] assigned = refl
@@ -44,15 +44,11 @@ opening_seated k [] assigned one few h = tt
 opening_seated k (b ∷ bs) [] one few h = (seat k b None one (omega (arith, few)) (λ c. h 0 c (omega arith)), opening_seated (k + 1) bs [] (omega arith) (omega (arith, few)) (λ i c lt q. h (suc i) c (omega (arith, lt)) q))
 opening_seated k (b ∷ bs) (a ∷ as') one few h = (seat k b a one (omega (arith, few)) (λ c. h 0 c (omega arith)), opening_seated (k + 1) bs as' (omega arith) (omega (arith, few)) (λ i c lt q. h (suc i) c (omega (arith, lt)) q))
 
-entry_row : (k : ℕ) (b : Row) (a : Option ℕ) → (entry_of k b a).row ≡ k
-entry_row k b None = refl
-entry_row k b (Some c) = refl
-
 pub opening_numbered : (rows : List Row) (assigned : List (Option ℕ)) → IsNumbered (entries_from 1 rows assigned)
 opening_numbered rows assigned i lt =
     let inside : i < length rows = omega (arith, lt, opening_size 1 rows assigned) in
     let place : 1 + i ≡ i + 1 = omega arith in
-    ap (λ (e : Entry). e.row) (opening_at 1 (i + 1) rows assigned i place inside) ∙ entry_row (i + 1) (row_at rows i) (slice_index_or assigned i None)
+    ap (λ (e : Entry). e.row) (opening_at 1 (i + 1) rows assigned i place inside) ∙ row_of_entry (i + 1) (row_at rows i) (slice_index_or assigned i None)
 
 pub opening_is : (rows : List Row) (channels : List Bool) (assigned : List (Option ℕ)) → AreBookings rows → IsChannelSet channels → Carries rows channels (is_accepted assigned) (channel_at assigned) → IsExchange (opening rows assigned)
 opening_is rows channels assigned b set carries = record {

@@ -7,15 +7,15 @@ use Rattle.bx_events.specs.Events.{WithoutLink}
 use Rattle.bx_calls.specs.declared.transition.Transition.{Transition}
 use Rattle.bx_calls.specs.PlainCalls.{PlainNetCall}
 use Rattle.bx_calls.specs.declared.net_state.NetState.{NetState}
-use Rattle.bx_calls.specs.declared.net_state.NetState.TheVariants.{OutgoingCallProceeding, CallPresent, IncomingCallProceeding, CallReceived, Active, Enquiring, DisconnectIndication, ReleaseRequest}
+use Rattle.bx_calls.specs.declared.net_state.NetState.TheVariants.{CallPresent, IncomingCallProceeding, CallReceived, Enquiring, DisconnectIndication, ReleaseRequest}
 use Rattle.bx_calls.specs.NetTable.{net_to, net_is_clearing, net_lost, net_later, net_unlinked, IsDueBy}
 use Rattle.bx_day.specs.declared.entry.Activity.{Activity}
-use Rattle.bx_day.specs.declared.entry.Activity.TheVariants.{Never, Since, Was}
+use Rattle.bx_day.specs.declared.entry.Activity.TheVariants.{Was}
 use Rattle.bx_day.specs.declared.entry.Entry.{Entry}
 use Rattle.bx_day.specs.declared.entry.Link.TheVariants.{Down}
 use Rattle.bx_day.specs.declared.entry.Moved.{Moved}
 use Rattle.bx_day.specs.declared.entry.Standing.{Standing}
-use Rattle.bx_day.specs.declared.entry.Standing.TheVariants.{Refused, Unoffered, OnCall, Carried, Unanswered, Missed}
+use Rattle.bx_day.specs.declared.entry.Standing.TheVariants.{Unoffered, OnCall, Missed}
 use Rattle.bx_day.specs.Day.{Day}
 use Rattle.bx_day.specs.Moves.{activity_after, is_active, follows}
 use Rattle.bx_day.specs.Ticks.{unlinked_at, after_in, breaks_in, maintained_in, passed_in, waits}
@@ -37,22 +37,17 @@ no_due : (due : ℕ) → None ≡ Some due → ⊥
 no_due due is = false≢true (ap is_some is)
 
 state_timed : (t : ℕ) (s : NetState) → DueFits t s → IsDueBy (t + 180) s
-state_timed t OutgoingCallProceeding h due is = absurd (no_due due is)
 state_timed t (CallPresent again x) h due is = due_most x due (t + 180) is (omega (arith, h.1))
 state_timed t (IncomingCallProceeding x) h due is = due_most x due (t + 180) is (omega (arith, h.1))
 state_timed t (CallReceived x) h due is = due_most x due (t + 180) is (omega (arith, h.1))
-state_timed t Active h due is = absurd (no_due due is)
 state_timed t (Enquiring asked x) h due is = due_most x due (t + 180) is (omega (arith, h.1))
 state_timed t (DisconnectIndication cause x) h due is = due_most x due (t + 180) is (omega (arith, h.1))
 state_timed t (ReleaseRequest again cause x) h due is = due_most x due (t + 180) is (omega (arith, h.1))
+state_timed t s h due is = absurd (no_due due is)
 
 pub fits_timed : (t : ℕ) (e : Entry) (s : Standing) → EntryFits t (with_standing e s) → IsTimedBy (t + 180) s
 fits_timed t e (OnCall c a) h = state_timed t c.state h.due
-fits_timed t e Refused h = tt
-fits_timed t e Unoffered h = tt
-fits_timed t e (Carried from until) h = tt
-fits_timed t e Unanswered h = tt
-fits_timed t e Missed h = tt
+fits_timed t e s h = tt
 
 -- ---- a call
 
@@ -78,14 +73,10 @@ one_more : (n : ℕ) → (n + 1 == 0) ≡ false
 one_more n = false_from_ne_true (n + 1 == 0) (λ e. let q : n + 1 ≡ 0 = eqb-true (n + 1) 0 e in omega (arith, q))
 
 lost_more : (n t u : ℕ) (s : NetState) → net_lost n u (net_lost 1 t s) ≡ net_lost (n + 1) u s
-lost_more n t u OutgoingCallProceeding = refl
 lost_more n t u (CallPresent again due) = ap (λ x. CallPresent again x) (let q : due + 1 + n ≡ due + (n + 1) = omega arith in q)
 lost_more n t u (IncomingCallProceeding due) = ap (λ x. IncomingCallProceeding x) (let q : due + 1 + n ≡ due + (n + 1) = omega arith in q)
 lost_more n t u (CallReceived due) = ap (λ x. CallReceived x) (let q : due + 1 + n ≡ due + (n + 1) = omega arith in q)
-lost_more n t u Active = refl
-lost_more n t u (Enquiring asked due) = refl
-lost_more n t u (DisconnectIndication cause due) = refl
-lost_more n t u (ReleaseRequest again cause due) = refl
+lost_more n t u s = refl
 
 later_more : (n t u : ℕ) (s : NetState) → u ≡ t + 1 + n → net_later n u (net_later 1 (t + 1) s) ≡ net_later (n + 1) u s
 later_more n t u s q = decide (n == 0)
@@ -100,46 +91,28 @@ later_disconnects n t u q = decide (n == 0)
     (λ some. later_is n u (DisconnectIndication 16 (t + 1 + 1)) some)
 
 lost_clearing : (n t : ℕ) (s : NetState) → net_is_clearing (net_lost n t s) ≡ net_is_clearing s
-lost_clearing n t OutgoingCallProceeding = refl
-lost_clearing n t (CallPresent again due) = refl
-lost_clearing n t (IncomingCallProceeding due) = refl
-lost_clearing n t (CallReceived due) = refl
-lost_clearing n t Active = refl
-lost_clearing n t (Enquiring asked due) = refl
-lost_clearing n t (DisconnectIndication cause due) = refl
 lost_clearing n t (ReleaseRequest again cause due) = refl
+lost_clearing n t s = refl
 
 later_clearing : (n t : ℕ) (s : NetState) → net_is_clearing (net_later n t s) ≡ net_is_clearing s
 later_clearing n t s = decide (n == 0) (λ none. ap net_is_clearing (later_none n t s none)) (λ some. ap net_is_clearing (later_is n t s some) ∙ lost_clearing n t s)
 
 lost_active : (n t : ℕ) (s : NetState) → is_active (net_lost n t s) ≡ is_active s
-lost_active n t OutgoingCallProceeding = refl
-lost_active n t (CallPresent again due) = refl
-lost_active n t (IncomingCallProceeding due) = refl
-lost_active n t (CallReceived due) = refl
-lost_active n t Active = refl
-lost_active n t (Enquiring asked due) = refl
-lost_active n t (DisconnectIndication cause due) = refl
 lost_active n t (ReleaseRequest again cause due) = refl
+lost_active n t s = refl
 
 later_active : (n t : ℕ) (s : NetState) → is_active (net_later n t s) ≡ is_active s
 later_active n t s = decide (n == 0) (λ none. ap is_active (later_none n t s none)) (λ some. ap is_active (later_is n t s some) ∙ lost_active n t s)
 
 -- a call that is not being cleared runs
 runs : (t : ℕ) (b : Row) (s : NetState) → PhaseFits t b (phase_of s) → net_is_clearing s ≡ false → t < b.end
-runs t b OutgoingCallProceeding h q = h.1
-runs t b (CallPresent again due) h q = h.1
-runs t b (IncomingCallProceeding due) h q = h.1
-runs t b (CallReceived due) h q = h.1
-runs t b Active h q = h.1
-runs t b (Enquiring asked due) h q = h.1
 runs t b (DisconnectIndication cause due) h q = absurd (false≢true (sym q))
 runs t b (ReleaseRequest again cause due) h q = absurd (false≢true (sym q))
+runs t b s h q = h.1
 
 twice : (a : Activity) (t u : ℕ) → activity_after (activity_after a false t) false u ≡ activity_after a false t
-twice Never t u = refl
-twice (Since from) t u = refl
 twice (Was from until) t u = refl
+twice a t u = refl
 
 abbrev in_state : PlainNetCall → NetState → Activity → Standing
 in_state c s a = OnCall (record c { state = s }) a
@@ -214,18 +187,12 @@ wait_more n t u e q =
 booking_more : (n t u : ℕ) (e : Entry) (s : Standing) → u ≡ t + 1 + n → EntryFits t (with_standing e s) → outlasted n u e.booking (unlinked_at e (t + 1) s).standing ≡ outlasted (n + 1) u e.booking s
 booking_more n t u e (OnCall c a) q h = call_more n t u (with_standing e (OnCall c a)) c a q h
 booking_more n t u e Unoffered q h = wait_more n t u e q
-booking_more n t u e Refused q h = refl
-booking_more n t u e (Carried from until) q h = refl
-booking_more n t u e Unanswered q h = refl
-booking_more n t u e Missed q h = refl
+booking_more n t u e s q h = refl
 
 booking_none : (t : ℕ) (e : Entry) (s : Standing) → EntryFits t (with_standing e s) → outlasted 0 t e.booking s ≡ s
 booking_none t e (OnCall c a) h = call_none t (with_standing e (OnCall c a)) c a h
 booking_none t e Unoffered h = ap (λ b. if b then Missed else Unoffered) (late e.booking.end t h)
-booking_none t e Refused h = refl
-booking_none t e (Carried from until) h = refl
-booking_none t e Unanswered h = refl
-booking_none t e Missed h = refl
+booking_none t e s h = refl
 
 -- no channel breaks without a link
 waits_whole : (e : Entry) (t : ℕ) → (waits e t false).broken ≡ false
@@ -234,10 +201,7 @@ waits_whole e t = by_cases (offers e t false) _ _ (λ (m : Moved). m.broken ≡ 
 booking_whole : (e : Entry) (t : ℕ) (s : Standing) → (unlinked_at e t s).broken ≡ false
 booking_whole e t (OnCall c a) = by_cases (not (net_is_clearing c.state) && nat_le e.booking.end t) _ _ (λ (step : Transition PlainNetCall). (follows a t step).broken ≡ false) (λ _. refl) (λ _. refl)
 booking_whole e t Unoffered = waits_whole e t
-booking_whole e t Refused = refl
-booking_whole e t (Carried from until) = refl
-booking_whole e t Unanswered = refl
-booking_whole e t Missed = refl
+booking_whole e t s = refl
 
 -- ---- a day
 

@@ -19,16 +19,16 @@ use Rattle.bx_day.specs.declared.entry.Link.{Link}
 use Rattle.bx_day.specs.declared.entry.Link.TheVariants.{Up, Down}
 use Rattle.bx_day.specs.declared.entry.Entry.{Entry}
 use Rattle.bx_day.specs.declared.entry.Standing.{Standing}
-use Rattle.bx_day.specs.declared.entry.Standing.TheVariants.{Refused, Unoffered, OnCall, Carried, Unanswered, Missed}
+use Rattle.bx_day.specs.declared.entry.Standing.TheVariants.{Refused}
 use Rattle.bx_day.proofs.Tick.{unlinked, in_refused, passed_fits}
 use Rattle.bx_day.proofs.Once.{decide, off_channel, says_once}
 use Rattle.bx_day.proofs.Law.{at_map_in}
 
-and_false : (b : Bool) → (b && false) ≡ false
+pub and_false : (b : Bool) → (b && false) ≡ false
 and_false true = refl
 and_false false = refl
 
-or_true : (b : Bool) → (b || true) ≡ true
+pub or_true : (b : Bool) → (b || true) ≡ true
 or_true true = refl
 or_true false = refl
 
@@ -47,11 +47,7 @@ moved_is link d e e' m blocked c same on set is =
 -- a refused booking stays, says nothing and breaks nothing
 pub refused_stays : (t : ℕ) (free : Bool) (e : Entry) (s : Standing) → is_refused s ≡ true → second_at e t free s ≡ stays s
 refused_stays t free e Refused h = refl
-refused_stays t free e Unoffered h = absurd (false≢true h)
-refused_stays t free e (OnCall c a) h = absurd (false≢true h)
-refused_stays t free e (Carried from until) h = absurd (false≢true h)
-refused_stays t free e Unanswered h = absurd (false≢true h)
-refused_stays t free e Missed h = absurd (false≢true h)
+refused_stays t free e s h = absurd (false≢true h)
 
 pub refused_stays_in : (link : Link) (t : ℕ) (free : Bool) (e : Entry) (s : Standing) → is_refused s ≡ true → second_by link e t free s ≡ stays s
 refused_stays_in Up t free e s h = refused_stays t free e s h

@@ -13,7 +13,7 @@ use Rattle.bx_day.specs.Reading.{IsExchange, Seated}
 use Rattle.bx_day.specs.Slots.{slot_at, waits_on, IsLiveOn, IsWaitingOn, IsLater, IsFollowing, AreSlots}
 use Rattle.bx_day.specs.declared.entry.Entry.{Entry}
 use Rattle.bx_day.specs.declared.entry.Standing.{Standing}
-use Rattle.bx_day.specs.declared.entry.Standing.TheVariants.{Refused, Unoffered, OnCall, Carried, Unanswered, Missed}
+use Rattle.bx_day.specs.declared.entry.Standing.TheVariants.{Unoffered, OnCall}
 use Rattle.bx_day.proofs.Once.{decide, each_at}
 use Rattle.bx_day.proofs.Receive.{open_parts, Passes, index_passes}
 use Rattle.bx_day.proofs.Law.{hears_same}
@@ -148,12 +148,8 @@ off_channel : (c k : ℕ) (e : Entry) → e.channel ≡ c → k ≢ c → waits_
 off_channel c k e on away = decide (waits_on k e) (λ waits. absurd (away (sym (waits_parts k e waits).1 ∙ on))) (λ idle. idle)
 
 pub live_waits : (s : Standing) → is_live s ≡ true → is_unoffered s ≡ false
-live_waits (OnCall c a) h = refl
-live_waits Refused h = refl
 live_waits Unoffered h = absurd (false≢true h)
-live_waits (Carried from until) h = refl
-live_waits Unanswered h = refl
-live_waits Missed h = refl
+live_waits s h = refl
 
 busy_waits : (k : ℕ) (e : Entry) → is_unoffered e.standing ≡ false → waits_on k e ≡ false
 busy_waits k e busy = decide (waits_on k e) (λ waits. absurd (true≢false (sym (waits_parts k e waits).0 ∙ busy))) (λ idle. idle)
@@ -216,11 +212,7 @@ put_slots d i s live waiting following a h lt turn begun lawful accepted is slot
 -- a live booking that hears a message does not wait then
 pub heard_begun : (m : Said) (t : ℕ) (s : Standing) → is_live s ≡ true → is_unoffered (hears m t s).standing ≡ false
 heard_begun m t (OnCall c a) h = follow_waits a t (net_message c m.heard t).reply (net_message c m.heard t).next
-heard_begun m t Refused h = absurd (false≢true h)
-heard_begun m t Unoffered h = absurd (false≢true h)
-heard_begun m t (Carried from until) h = absurd (false≢true h)
-heard_begun m t Unanswered h = absurd (false≢true h)
-heard_begun m t Missed h = absurd (false≢true h)
+heard_begun m t s h = absurd (false≢true h)
 
 pub heard_accepted : (m : Said) (t : ℕ) (s : Standing) → is_live s ≡ true → is_refused (hears m t s).standing ≡ false
 heard_accepted m t s h = hears_same m t s ∙ live_accepted s h

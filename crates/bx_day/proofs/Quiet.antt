@@ -5,7 +5,7 @@ use Rattle.std.proofs.Math.Nat.{min-le_left, min-le_right}
 use Rattle.std.proofs.lemmas.Bool.{true≢false, false≢true, leb-true}
 use Rattle.bx_base.specs.Bookings.{Row, is_running}
 use Rattle.bx_calls.specs.PlainCalls.{PlainNetCall}
-use Rattle.bx_calls.specs.declared.net_state.Asked.TheVariants.{NotYet, Once, Twice}
+use Rattle.bx_calls.specs.declared.net_state.Asked.TheVariants.{Twice}
 use Rattle.bx_calls.specs.declared.net_state.NetState.{NetState}
 use Rattle.bx_calls.specs.declared.net_state.NetState.TheVariants.{OutgoingCallProceeding, CallPresent, IncomingCallProceeding, CallReceived, Active, Enquiring, DisconnectIndication, ReleaseRequest}
 use Rattle.bx_calls.specs.NetTable.{net_second, net_same, net_offered}
@@ -22,7 +22,7 @@ use Rattle.bx_day.specs.declared.entry.Moved.{Moved}
 use Rattle.bx_day.specs.declared.entry.Entry.{Entry}
 use Rattle.bx_day.specs.declared.entry.Standing.{Standing}
 use Rattle.bx_day.specs.declared.entry.Activity.{Activity}
-use Rattle.bx_day.specs.declared.entry.Standing.TheVariants.{Refused, Unoffered, OnCall, Carried, Unanswered, Missed}
+use Rattle.bx_day.specs.declared.entry.Standing.TheVariants.{Unoffered, OnCall, Missed}
 use Rattle.bx_day.specs.declared.entry.Activity.TheVariants.{Never, Since, Was}
 use Rattle.bx_day.proofs.Tick.{by_cases, with_standing, offers}
 use Rattle.bx_day.proofs.Once.{decide}
@@ -38,7 +38,7 @@ none_breaks : (d : Day) (c : ℕ) (es : List Entry) → AllByRecursion (λ e. se
 none_breaks d c [] h = refl
 none_breaks d c (e ∷ es) h = ap₂ (λ (m : Moved) b. (m.broken && (e.channel == c)) || b) h.0 (none_breaks d c es h.1)
 
-or_false : (b : Bool) → (b || false) ≡ b
+pub or_false : (b : Bool) → (b || false) ≡ b
 or_false true = refl
 or_false false = refl
 
@@ -71,30 +71,17 @@ late m t h = decide (nat_le m t) (λ yes. absurd (let le : m ≤ t = leb-true m 
 
 -- a call in its state stays in its activity
 pub activity_stays : (t u : ℕ) (b : Row) (s : NetState) (a : Activity) → ActivityFits t b (phase_of s) a → activity_after a (is_active s) u ≡ a
-activity_stays t u b OutgoingCallProceeding Never h = refl
 activity_stays t u b OutgoingCallProceeding (Since from) h = absurd h
-activity_stays t u b OutgoingCallProceeding (Was from until) h = refl
-activity_stays t u b (CallPresent again due) Never h = refl
 activity_stays t u b (CallPresent again due) (Since from) h = absurd h
-activity_stays t u b (CallPresent again due) (Was from until) h = refl
-activity_stays t u b (IncomingCallProceeding due) Never h = refl
 activity_stays t u b (IncomingCallProceeding due) (Since from) h = absurd h
-activity_stays t u b (IncomingCallProceeding due) (Was from until) h = refl
-activity_stays t u b (CallReceived due) Never h = refl
 activity_stays t u b (CallReceived due) (Since from) h = absurd h
-activity_stays t u b (CallReceived due) (Was from until) h = refl
 activity_stays t u b Active Never h = absurd h
-activity_stays t u b Active (Since from) h = refl
 activity_stays t u b Active (Was from until) h = absurd h
 activity_stays t u b (Enquiring asked due) Never h = absurd h
-activity_stays t u b (Enquiring asked due) (Since from) h = refl
 activity_stays t u b (Enquiring asked due) (Was from until) h = absurd h
-activity_stays t u b (DisconnectIndication cause due) Never h = refl
 activity_stays t u b (DisconnectIndication cause due) (Since from) h = absurd h
-activity_stays t u b (DisconnectIndication cause due) (Was from until) h = refl
-activity_stays t u b (ReleaseRequest again cause due) Never h = refl
 activity_stays t u b (ReleaseRequest again cause due) (Since from) h = absurd h
-activity_stays t u b (ReleaseRequest again cause due) (Was from until) h = refl
+activity_stays t u b s a h = refl
 
 running_late : (b : Row) (t : ℕ) → t < b.start → is_running b t ≡ false
 running_late b t h = ap (λ x. x && nat_lt t b.end) (late b.start t h)
@@ -107,12 +94,11 @@ at_rest c (CallPresent true due) t end lt = rw (late end t (omega (arith, lt, mi
 at_rest c (IncomingCallProceeding due) t end lt = rw (late end t (omega (arith, lt, min-le_right due end))) (rw (late due t (omega (arith, lt, min-le_left due end))) refl)
 at_rest c (CallReceived due) t end lt = rw (late end t (omega (arith, lt, min-le_right due end))) (rw (late due t (omega (arith, lt, min-le_left due end))) refl)
 at_rest c Active t end lt = rw (late end t lt) refl
-at_rest c (Enquiring NotYet due) t end lt = rw (late end t (omega (arith, lt, min-le_right due end))) (rw (late due t (omega (arith, lt, min-le_left due end))) refl)
-at_rest c (Enquiring Once due) t end lt = rw (late end t (omega (arith, lt, min-le_right due end))) (rw (late due t (omega (arith, lt, min-le_left due end))) refl)
 at_rest c (Enquiring Twice due) t end lt = rw (late end t (omega (arith, lt, min-le_right due end))) (rw (late due t (omega (arith, lt, min-le_left due end))) refl)
 at_rest c (DisconnectIndication cause due) t end lt = rw (late due t lt) refl
 at_rest c (ReleaseRequest false cause due) t end lt = rw (late due t lt) refl
 at_rest c (ReleaseRequest true cause due) t end lt = rw (late due t lt) refl
+at_rest c (Enquiring x due) t end lt = rw (late end t (omega (arith, lt, min-le_right due end))) (rw (late due t (omega (arith, lt, min-le_left due end))) refl)
 
 call_quiet : (moment t : ℕ) (free : Bool) (e : Entry) (c : PlainNetCall) (a : Activity) → CallFits moment e c a → t < call_due c.state e.booking.end → second_at e t free (OnCall c a) ≡ stays (OnCall c a)
 call_quiet moment t free e c a fits lt = ap (follows a t) (at_rest c c.state t e.booking.end lt) ∙ ap (λ b. stays (OnCall c b)) (activity_stays moment t e.booking c.state a fits.activity)
@@ -139,9 +125,6 @@ waits_quiet t free e order lt = decide e.booking.inward
     waits_on e t free (not_begun (is_running e.booking t) e.booking.inward free (running_late e.booking t early)) (omega (arith, early, order)))
 
 pub booking_quiet : (moment t : ℕ) (free : Bool) (e : Entry) (s : Standing) → EntryFits moment (with_standing e s) → e.booking.start ≤ e.booking.end → t < booking_due e s → second_at e t free s ≡ stays s
-booking_quiet moment t free e Refused h order lt = refl
 booking_quiet moment t free e Unoffered h order lt = waits_quiet t free e order lt
 booking_quiet moment t free e (OnCall c a) h order lt = call_quiet moment t free (with_standing e (OnCall c a)) c a h lt
-booking_quiet moment t free e (Carried from until) h order lt = refl
-booking_quiet moment t free e Unanswered h order lt = refl
-booking_quiet moment t free e Missed h order lt = refl
+booking_quiet moment t free e s h order lt = refl

@@ -6,7 +6,7 @@ use Rattle.std.proofs.lemmas.List.Quantifiers.{position-Some}
 use Rattle.bx_q931.specs.declared.kind.Kind.{Kind}
 use Rattle.bx_q931.specs.declared.kind.Kind.TheVariants.{Setup}
 use Rattle.bx_q931.specs.declared.channel_field.ChannelField.{ChannelField}
-use Rattle.bx_q931.specs.declared.channel_field.ChannelField.TheVariants.{Absent, Named, AnyChannel, Unread}
+use Rattle.bx_q931.specs.declared.channel_field.ChannelField.TheVariants.{Named, Unread}
 use Rattle.bx_base.specs.Bookings.{is_running}
 use Rattle.bx_calls.specs.Said.{Said}
 use Rattle.bx_day.specs.Day.{Day, is_live, is_held, is_free, is_unoffered, entry_at, no_entry, every_channel}
@@ -14,7 +14,7 @@ use Rattle.bx_day.specs.Receipts.{is_open, opens, or_else, lowest_open, names, h
 use Rattle.bx_calls.specs.Sending.{Answered}
 use Rattle.bx_day.specs.declared.entry.Entry.{Entry}
 use Rattle.bx_day.specs.declared.entry.Standing.{Standing}
-use Rattle.bx_day.specs.declared.entry.Standing.TheVariants.{Refused, Unoffered, OnCall, Carried, Unanswered, Missed}
+use Rattle.bx_day.specs.declared.entry.Standing.TheVariants.{Refused, OnCall}
 use Rattle.bx_day.specs.Invariant.{EntryFits, Apart, Pairs, DayFits, is_refused}
 use Rattle.bx_day.proofs.Hear.{message_fits}
 use Rattle.bx_day.proofs.Tick.{with_standing, by_cases, all_hold, Holding, free_held, runs_at}
@@ -59,28 +59,16 @@ index_passes test es = at (position test es) refl
 
 -- a live booking that hears a message
 pub hears_fits : (m : Said) (t : ℕ) (e : Entry) (s : Standing) → EntryFits t (with_standing e s) → EntryFits t (with_standing e (hears m t s).standing)
-hears_fits m t e Refused h = h
-hears_fits m t e Unoffered h = h
 hears_fits m t e (OnCall c a) h = message_fits t (with_standing e (OnCall c a)) c.reference c.channel c.origin a m.heard c.state m.heard.kind h
-hears_fits m t e (Carried from until) h = h
-hears_fits m t e Unanswered h = h
-hears_fits m t e Missed h = h
+hears_fits m t e s h = h
 
 pub hears_live : (m : Said) (t : ℕ) (s : Standing) → is_live (hears m t s).standing ≡ true → is_live s ≡ true
 hears_live m t (OnCall c a) h = refl
-hears_live m t Refused h = h
-hears_live m t Unoffered h = h
-hears_live m t (Carried from until) h = h
-hears_live m t Unanswered h = h
-hears_live m t Missed h = h
+hears_live m t s h = h
 
 pub hears_refused : (m : Said) (t : ℕ) (s : Standing) → is_refused (hears m t s).standing ≡ false → is_refused s ≡ false
 hears_refused m t (OnCall c a) h = refl
-hears_refused m t Refused h = h
-hears_refused m t Unoffered h = h
-hears_refused m t (Carried from until) h = h
-hears_refused m t Unanswered h = h
-hears_refused m t Missed h = h
+hears_refused m t s h = h
 
 pub heard_fits : (d : Day) (m : Said) (i : ℕ) → DayFits d → DayFits (received_at d m (Some i)).day
 heard_fits d m i h =
@@ -107,13 +95,9 @@ pub record Open (d : Day) (e : Entry) : Type 0 where
   pub runs : is_running e.booking d.moment ≡ true
   pub free : is_free d e.channel ≡ true
 
-unoffered_accepted : (s : Standing) → is_unoffered s ≡ true → is_refused s ≡ false
-unoffered_accepted Unoffered h = refl
+pub unoffered_accepted : (s : Standing) → is_unoffered s ≡ true → is_refused s ≡ false
 unoffered_accepted Refused h = absurd (false≢true h)
-unoffered_accepted (OnCall c a) h = refl
-unoffered_accepted (Carried from until) h = refl
-unoffered_accepted Unanswered h = refl
-unoffered_accepted Missed h = refl
+unoffered_accepted s h = refl
 
 pub open_parts : (d : Day) (e : Entry) → is_open d e ≡ true → Open d e
 open_parts d e h =
@@ -167,11 +151,10 @@ preferred_fits d m None h fits = takes_fits d m 34 (lowest_open d every_channel)
 preferred_fits d m (Some i) h fits = takes_fits d m 34 (Some i) h fits
 
 pub on_fits : (d : Day) (m : Said) (f : ChannelField) → DayFits d → DayFits (called_on d m f).day
-on_fits d m Absent fits = takes_fits d m 34 (lowest_open d every_channel) (open_lowest d every_channel) fits
-on_fits d m AnyChannel fits = takes_fits d m 34 (lowest_open d every_channel) (open_lowest d every_channel) fits
 on_fits d m Unread fits = fits
 on_fits d m (Named c true) fits = takes_fits d m 44 (position (opens d c) d.entries) (open_index d c) fits
 on_fits d m (Named c false) fits = preferred_fits d m (position (opens d c) d.entries) (open_index d c) fits
+on_fits d m f fits = takes_fits d m 34 (lowest_open d every_channel) (open_lowest d every_channel) fits
 
 pub called_fits : (d : Day) (m : Said) (refused : Option ℕ) → DayFits d → DayFits (called d m refused).day
 called_fits d m (Some cause) fits = fits

@@ -5,14 +5,14 @@ use Rattle.std.specs.List.{position}
 use Rattle.std.specs.Option.{option_map}
 use Rattle.std.proofs.lemmas.Bool.{and_parts, true≢false, false≢true, eqb-true, eqb-false, leb-true, ltb-true, not-true, or_cases, cases_eq, false_from_ne_true}
 use Rattle.bx_q931.specs.declared.kind.Kind.{Kind}
-use Rattle.bx_q931.specs.declared.kind.Kind.TheVariants.{Alerting, CallProceeding, Setup, Connect, ConnectAcknowledge, Disconnect, Release, ReleaseComplete, StatusEnquiry, Status}
+use Rattle.bx_q931.specs.declared.kind.Kind.TheVariants.{Alerting, CallProceeding, Setup, Connect, ConnectAcknowledge, Status}
 use Rattle.bx_q931.specs.declared.channel_field.ChannelField.TheVariants.{Absent}
 use Rattle.bx_calls.specs.PlainCalls.{PlainNetCall}
 use Rattle.bx_calls.specs.declared.transition.Transition.{Transition}
 use Rattle.bx_calls.specs.declared.net_state.NetOrigin.{NetOrigin}
 use Rattle.bx_calls.specs.declared.net_state.NetOrigin.TheVariants.{Outward, Inward}
 use Rattle.bx_calls.specs.declared.net_state.NetState.{NetState}
-use Rattle.bx_calls.specs.declared.net_state.NetState.TheVariants.{CallPresent, IncomingCallProceeding, CallReceived, Active, DisconnectIndication, ReleaseRequest}
+use Rattle.bx_calls.specs.declared.net_state.NetState.TheVariants.{CallPresent, Active, ReleaseRequest}
 use Rattle.bx_calls.specs.Hearing.{Heard, names_channel, reports_null}
 use Rattle.bx_calls.specs.Expected.{net_awake}
 use Rattle.bx_calls.specs.NetTable.{net_awake_state, net_row, net_flag, net_answered}
@@ -29,7 +29,7 @@ use Rattle.bx_day.specs.declared.entry.Activity.TheVariants.{Never}
 use Rattle.bx_day.specs.declared.entry.Entry.{Entry}
 use Rattle.bx_day.specs.declared.entry.Moved.{Moved}
 use Rattle.bx_day.specs.declared.entry.Standing.{Standing}
-use Rattle.bx_day.specs.declared.entry.Standing.TheVariants.{Refused, Unoffered, OnCall, Carried, Unanswered, Missed}
+use Rattle.bx_day.specs.declared.entry.Standing.TheVariants.{OnCall}
 use Rattle.bx_day.specs.Invariant.{StandingFits, EntryFits, OriginFits, DayFits, is_refused}
 use Rattle.bx_day.specs.Reading.{IsExchange, Seated}
 use Rattle.bx_day.specs.Calling.{awaits}
@@ -49,32 +49,18 @@ whole_either true a t x y f g = f
 whole_either false a t x y f g = g
 
 row_whole : (c : PlainNetCall) (m : Heard) (t : ℕ) (a : Activity) (o : NetOrigin) (s : NetState) (k : Kind) → c.origin ≡ o → Whole a t (net_row c m t s k)
-row_whole c m t a o s ReleaseComplete e = refl
-row_whole c m t a o s StatusEnquiry e = refl
 row_whole c m t a o s Status e = whole_either (reports_null m.state) a t _ _ refl refl
-row_whole c m t a o s Setup e = refl
-row_whole c m t a o (ReleaseRequest again cause due) Release e = refl
-row_whole c m t a o s Release e = refl
 row_whole c m t a o (ReleaseRequest again cause due) k e = refl
-row_whole c m t a o s Disconnect e = refl
-row_whole c m t a o (DisconnectIndication cause due) k e = refl
 row_whole c m t a o (CallPresent again due) CallProceeding e = whole_either (names_channel m.channel c.channel) a t _ _ refl refl
 row_whole c m t a o (CallPresent again due) Alerting e = whole_either (names_channel m.channel c.channel) a t _ _ refl refl
 row_whole c m t a o (CallPresent again due) Connect e = whole_either (names_channel m.channel c.channel) a t _ _ refl refl
-row_whole c m t a o (IncomingCallProceeding due) Alerting e = refl
-row_whole c m t a o (IncomingCallProceeding due) Connect e = refl
-row_whole c m t a o (CallReceived due) Connect e = refl
 row_whole c m t a (Outward called) Active ConnectAcknowledge e = rw e refl
 row_whole c m t a Inward Active ConnectAcknowledge e = rw e refl
 row_whole c m t a o s k e = refl
 
 pub hears_whole : (m : Said) (t : ℕ) (s : Standing) → (hears m t s).broken ≡ false
 hears_whole m t (OnCall c a) = heard_by (Whole a t) c m.heard t c.state m.heard.kind (λ asked due is q. refl) (row_whole (net_awake c) m.heard t a c.origin (net_awake_state c.state) m.heard.kind refl)
-hears_whole m t Refused = refl
-hears_whole m t Unoffered = refl
-hears_whole m t (Carried from until) = refl
-hears_whole m t Unanswered = refl
-hears_whole m t Missed = refl
+hears_whole m t s = refl
 
 -- ---- who is named: a call that the exchange began has its row as reference
 
@@ -87,11 +73,7 @@ standing_row t m e (OnCall c a) flag fits h =
     let p = and_parts (c.reference == m.reference) (bool_eq (net_flag c.origin) (not m.flag)) h in
     let outward : bool_eq (net_flag c.origin) false ≡ true = subst (λ (b : Bool). bool_eq (net_flag c.origin) (not b) ≡ true) flag p.1 in
     sym (origin_row e.row e c c.origin fits.origin outward) ∙ eqb-true c.reference m.reference p.0
-standing_row t m e Refused flag fits h = absurd (false≢true h)
-standing_row t m e Unoffered flag fits h = absurd (false≢true h)
-standing_row t m e (Carried from until) flag fits h = absurd (false≢true h)
-standing_row t m e Unanswered flag fits h = absurd (false≢true h)
-standing_row t m e Missed flag fits h = absurd (false≢true h)
+standing_row t m e s flag fits h = absurd (false≢true h)
 
 named_place : (d : Day) (m : Said) (k : ℕ) → IsExchange d → m.flag ≡ true → k < length d.entries → names m (entry_at d.entries k) ≡ true → k + 1 ≡ m.reference
 named_place d m k h flag lt named =
@@ -197,9 +179,6 @@ none_at d x (y ∷ ys) cover before =
     let q = and_parts (is_channel y) ((x == y) || ((x == 16) && (y == 17))) p.0 in
     ap (λ (o : Option ℕ). or_else o (lowest_open d ys)) (before y (channel_is y q.0)) ∙ none_at d (y + 1) ys p.1 before
 
-pub lowest_none : (d : Day) → ((n : ℕ) → IsChannel n → position (opens d n) d.entries ≡ None) → lowest_open d every_channel ≡ None
-lowest_none d before = none_at d 1 every_channel refl before
-
 -- ---- what is taken is open
 
 abbrev IsOpenAt : Day → Option ℕ → Type 0
@@ -234,9 +213,8 @@ length_set (e ∷ es) (suc i) y = ap suc (length_set es i y)
 row_set : (es : List Entry) (i k : ℕ) (s : Standing) → (entry_at (slice_set es i (with_standing (entry_at es i) s)) k).row ≡ (entry_at es k).row
 row_set [] i k s = refl
 row_set (e ∷ es) zero zero s = refl
-row_set (e ∷ es) zero (suc k) s = refl
-row_set (e ∷ es) (suc i) zero s = refl
 row_set (e ∷ es) (suc i) (suc k) s = row_set es i k s
+row_set (e ∷ es) i k s = refl
 
 reseat : (e : Entry) (s : Standing) → (is_refused s ≡ false → is_refused e.standing ≡ false) → Seated e → Seated (with_standing e s)
 reseat e s f h = record { row = h.row; channel = λ r. h.channel (f r) }

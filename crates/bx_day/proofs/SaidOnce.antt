@@ -63,9 +63,8 @@ maintained_at link d k (suc c) (b ∷ bs) lt = maintained_at link d (k + 1) c bs
 
 pub same_set : (xs ys : List Bool) → length xs ≡ length ys → ((c : ℕ) → c < length xs → is_marked xs c ≡ is_marked ys c) → xs ≡ ys
 same_set [] [] size h = refl
-same_set [] (y ∷ ys) size h = absurd (omega (arith, size))
-same_set (x ∷ xs) [] size h = absurd (omega (arith, size))
 same_set (x ∷ xs) (y ∷ ys) size h = ap₂ (λ b bs. b ∷ bs) (h 0 (omega arith)) (same_set xs ys (omega (arith, size)) (λ c lt. h (suc c) (omega (arith, lt))))
+same_set xs ys size h = absurd (omega (arith, size))
 
 pub any_there : (p : Entry → Bool) (es : List Entry) → list_any p es ≡ true → (i : ℕ) × (i < length es) × (p (entry_at es i) ≡ true)
 any_there p [] h = absurd (false≢true h)

@@ -7,15 +7,15 @@ use Rattle.std.specs.Prelude.{All, nat_lt}
 use Rattle.bx_base.specs.Bookings.{Row, row_at, is_running}
 use Rattle.bx_base.specs.Plans.{is_accepted, channel_at}
 use Rattle.bx_q931.specs.declared.kind.Kind.{Kind}
-use Rattle.bx_q931.specs.declared.kind.Kind.TheVariants.{Alerting, CallProceeding, Progress, Setup, Connect, ConnectAcknowledge, Disconnect, Release, ReleaseComplete, Notify, StatusEnquiry, Information, Status, Other}
+use Rattle.bx_q931.specs.declared.kind.Kind.TheVariants.{Alerting, CallProceeding, Progress, Setup, Connect, ConnectAcknowledge, Disconnect, Release, ReleaseComplete, Notify, StatusEnquiry, Information, Status}
 use Rattle.bx_q931.specs.Outgoing.{Outgoing}
 use Rattle.bx_calls.specs.declared.transition.Transition.{Transition}
 use Rattle.bx_calls.specs.declared.transition.Next.{Next}
-use Rattle.bx_calls.specs.declared.transition.Next.TheVariants.{Live, Over, Broken}
+use Rattle.bx_calls.specs.declared.transition.Next.TheVariants.{Broken}
 use Rattle.bx_calls.specs.PlainCalls.{PlainNetCall}
 use Rattle.bx_calls.specs.declared.net_state.NetOrigin.{NetOrigin}
 use Rattle.bx_calls.specs.declared.net_state.NetOrigin.TheVariants.{Outward, Inward}
-use Rattle.bx_calls.specs.declared.net_state.Asked.TheVariants.{NotYet, Once, Twice}
+use Rattle.bx_calls.specs.declared.net_state.Asked.TheVariants.{Twice}
 use Rattle.bx_calls.specs.declared.net_state.NetState.{NetState}
 use Rattle.bx_calls.specs.declared.net_state.NetState.TheVariants.{OutgoingCallProceeding, CallPresent, IncomingCallProceeding, CallReceived, Active, Enquiring, DisconnectIndication, ReleaseRequest}
 use Rattle.bx_calls.specs.Hearing.{Heard, names_channel, reports_null}
@@ -27,7 +27,7 @@ use Rattle.bx_q931.specs.declared.reference.Reference.{Reference}
 use Rattle.bx_q931.specs.declared.reference.Reference.TheVariants.{Dummy, Value}
 use Rattle.bx_q931.specs.declared.fault.MessageFault.{MessageFault}
 use Rattle.bx_q931.specs.declared.channel_field.ChannelField.{ChannelField}
-use Rattle.bx_q931.specs.declared.channel_field.ChannelField.TheVariants.{Absent, Named, AnyChannel, Unread}
+use Rattle.bx_q931.specs.declared.channel_field.ChannelField.TheVariants.{Named, Unread}
 use Rattle.bx_calls.specs.UnknownTable.{unknown_row, unknown_status}
 use Rattle.bx_calls.specs.declared.unknown_reference.Side.TheVariants.{Network}
 use Rattle.bx_calls.specs.Said.{Said, said_of}
@@ -36,11 +36,11 @@ use Rattle.bx_day.specs.Ticks.{waits, second_at, tick, second_in}
 use Rattle.bx_day.specs.Receipts.{opens, lowest_open, names, hears, takes_or, takes_preferred, called_on, called, stray, received_at}
 use Rattle.bx_day.specs.Moves.{follow}
 use Rattle.bx_calls.specs.Sending.{Sent, Answered, reply_list}
-use Rattle.bx_events.specs.Events.{Event, Tick, Receive, LiveEvent, OnLink, WithoutLink, Sold}
+use Rattle.bx_events.specs.Events.{Event, Tick, Receive, LiveEvent, OnLink}
 use Rattle.bx_day.specs.Outages.{live_happens}
 use Rattle.bx_day.specs.Run.{receive_from, receive_read, happens}
 use Rattle.bx_day.specs.declared.entry.Standing.{Standing}
-use Rattle.bx_day.specs.declared.entry.Standing.TheVariants.{Refused, Unoffered, OnCall, Carried, Unanswered, Missed}
+use Rattle.bx_day.specs.declared.entry.Standing.TheVariants.{Unoffered, OnCall}
 use Rattle.bx_day.specs.declared.entry.Moved.{Moved}
 use Rattle.bx_day.specs.declared.entry.Entry.{Entry}
 use Rattle.bx_day.specs.declared.entry.Activity.{Activity}
@@ -140,14 +140,10 @@ row_plain r ch o t m (CallPresent again due) CallProceeding = test_said Plain (n
 row_plain r ch o t m (CallPresent again due) Alerting = test_said Plain (names_channel m.channel ch) _ _ (λ _. tt) (λ _. refl)
 row_plain r ch o t m (CallPresent again due) Connect = test_said Plain (names_channel m.channel ch) _ _ (λ _. refl) (λ _. refl)
 row_plain r ch o t m (IncomingCallProceeding due) Alerting = tt
-row_plain r ch o t m (IncomingCallProceeding due) Connect = refl
-row_plain r ch o t m (CallReceived due) Connect = refl
-row_plain r ch (Outward called) t m Active ConnectAcknowledge = refl
 row_plain r ch Inward t m Active ConnectAcknowledge = tt
 row_plain r ch o t m s Progress = tt
 row_plain r ch o t m s Notify = tt
 row_plain r ch o t m s Information = tt
-row_plain r ch o t m s (Other octet) = refl
 row_plain r ch o t m s k = refl
 
 pub heard_plain : (r ch : ℕ) (o : NetOrigin) (t : ℕ) (m : Heard) (s : NetState) (k : Kind) → OfSaid Plain (net_heard (call_of r ch o s) m t s k).reply
@@ -190,12 +186,6 @@ second_said rows assigned t e r ch o (CallReceived due) a p acc h =
     (λ _. test_said (OutFits rows assigned (t + 1)) (nat_le due (t + 1)) _ _ (λ _. plain_fits rows assigned (t + 1) _ refl) (λ _. tt))
 second_said rows assigned t e r ch o Active a p acc h =
     test_said (OutFits rows assigned (t + 1)) (nat_le e.booking.end (t + 1)) _ _ (λ _. plain_fits rows assigned (t + 1) _ refl) (λ _. tt)
-second_said rows assigned t e r ch o (Enquiring NotYet due) a p acc h =
-    test_said (OutFits rows assigned (t + 1)) (nat_le e.booking.end (t + 1)) _ _ (λ _. plain_fits rows assigned (t + 1) _ refl)
-    (λ _. test_said (OutFits rows assigned (t + 1)) (nat_le due (t + 1)) _ _ (λ _. plain_fits rows assigned (t + 1) _ refl) (λ _. tt))
-second_said rows assigned t e r ch o (Enquiring Once due) a p acc h =
-    test_said (OutFits rows assigned (t + 1)) (nat_le e.booking.end (t + 1)) _ _ (λ _. plain_fits rows assigned (t + 1) _ refl)
-    (λ _. test_said (OutFits rows assigned (t + 1)) (nat_le due (t + 1)) _ _ (λ _. plain_fits rows assigned (t + 1) _ refl) (λ _. tt))
 second_said rows assigned t e r ch o (Enquiring Twice due) a p acc h =
     test_said (OutFits rows assigned (t + 1)) (nat_le e.booking.end (t + 1)) _ _ (λ _. plain_fits rows assigned (t + 1) _ refl)
     (λ _. test_said (OutFits rows assigned (t + 1)) (nat_le due (t + 1)) _ _ (λ _. plain_fits rows assigned (t + 1) _ refl) (λ _. tt))
@@ -206,11 +196,13 @@ second_said rows assigned t e r ch o (ReleaseRequest false cause due) a p acc h 
     (λ _. plain_said rows assigned (t + 1) (net_releases (call_of r ch o (ReleaseRequest false cause due)) true cause (t + 1)).reply (releases_plain (call_of r ch o (ReleaseRequest false cause due)) true cause (t + 1))) (λ _. tt)
 second_said rows assigned t e r ch o (ReleaseRequest true cause due) a p acc h =
     test_said (OutFits rows assigned (t + 1)) (nat_le due (t + 1)) _ _ (λ _. tt) (λ _. tt)
+second_said rows assigned t e r ch o (Enquiring x due) a p acc h =
+    test_said (OutFits rows assigned (t + 1)) (nat_le e.booking.end (t + 1)) _ _ (λ _. plain_fits rows assigned (t + 1) _ refl)
+    (λ _. test_said (OutFits rows assigned (t + 1)) (nat_le due (t + 1)) _ _ (λ _. plain_fits rows assigned (t + 1) _ refl) (λ _. tt))
 
 follow_said : (P : Outgoing → Type 0) (a : Activity) (t : ℕ) (said : Option Outgoing) (n : Next PlainNetCall) → OfSaid P said → OfSaid P (follow a t said n).said
-follow_said P a t said (Live c) h = h
-follow_said P a t said Over h = h
 follow_said P a t said Broken h = h
+follow_said P a t said n h = h
 
 -- what a second makes one booking say
 waits_said : (rows : List Row) (assigned : List (Option ℕ)) (t : ℕ) (e : Entry) (free : Bool) → Placed rows assigned (with_standing e Unoffered) → OfSaid (OutFits rows assigned t) (waits e t free).said
@@ -221,14 +213,11 @@ waits_said rows assigned t e free p =
     (λ _. by_cases (nat_le e.booking.end t) _ _ (λ (m : Moved). OfSaid (OutFits rows assigned t) m.said) (λ _. tt) (λ _. tt))
 
 entry_said : (rows : List Row) (assigned : List (Option ℕ)) (t : ℕ) (e : Entry) (free : Bool) (s : Standing) → Placed rows assigned (with_standing e s) → EntryFits t (with_standing e s) → OfSaid (OutFits rows assigned (t + 1)) (second_at e (t + 1) free s).said
-entry_said rows assigned t e free Refused p h = tt
 entry_said rows assigned t e free Unoffered p h = waits_said rows assigned (t + 1) e free p
 entry_said rows assigned t e free (OnCall c a) p h =
     follow_said (OutFits rows assigned (t + 1)) a (t + 1) (net_second c (t + 1) e.booking.end).reply (net_second c (t + 1) e.booking.end).next
     (second_said rows assigned t (with_standing e (OnCall c a)) c.reference c.channel c.origin c.state a p refl h)
-entry_said rows assigned t e free (Carried from until) p h = tt
-entry_said rows assigned t e free Unanswered p h = tt
-entry_said rows assigned t e free Missed p h = tt
+entry_said rows assigned t e free s p h = tt
 
 entries_said : (rows : List Row) (assigned : List (Option ℕ)) (d : Day) (es : List Entry) → AllByRecursion (Placed rows assigned) es → AllByRecursion (EntryFits d.moment) es → AllByRecursion (λ e. OfSaid (OutFits rows assigned (d.moment + 1)) (second_in Up d e).said) es
 entries_said rows assigned d [] p h = tt
@@ -250,12 +239,8 @@ placed_at rows assigned es i h =
     (all_weaker (Placed rows assigned) (λ e. is_refused e.standing ≡ false → Placed rows assigned e) (λ e p _. p) es h)
 
 hears_plain : (m : Said) (t : ℕ) (s : Standing) → OfSaid Plain (hears m t s).said
-hears_plain m t Refused = tt
-hears_plain m t Unoffered = tt
 hears_plain m t (OnCall c a) = follow_said Plain a t (net_message c m.heard t).reply (net_message c m.heard t).next (heard_plain c.reference c.channel c.origin t m.heard c.state m.heard.kind)
-hears_plain m t (Carried from until) = tt
-hears_plain m t Unanswered = tt
-hears_plain m t Missed = tt
+hears_plain m t s = tt
 
 takes_said : (rows : List Row) (assigned : List (Option ℕ)) (d : Day) (m : Said) (cause : ℕ) (o : Option ℕ) → AllByRecursion (Placed rows assigned) d.entries → OpenAt d o → ReplyFits rows assigned (takes_or d m cause o)
 takes_said rows assigned d m cause None p op = plain_fits rows assigned d.moment _ refl
@@ -274,11 +259,10 @@ preferred_said rows assigned d m None p op = takes_said rows assigned d m 34 (lo
 preferred_said rows assigned d m (Some i) p op = takes_said rows assigned d m 34 (Some i) p op
 
 on_said : (rows : List Row) (assigned : List (Option ℕ)) (d : Day) (m : Said) (f : ChannelField) → AllByRecursion (Placed rows assigned) d.entries → ReplyFits rows assigned (called_on d m f)
-on_said rows assigned d m Absent p = takes_said rows assigned d m 34 (lowest_open d every_channel) p (open_lowest d every_channel)
-on_said rows assigned d m AnyChannel p = takes_said rows assigned d m 34 (lowest_open d every_channel) p (open_lowest d every_channel)
 on_said rows assigned d m Unread p = plain_fits rows assigned d.moment _ refl
 on_said rows assigned d m (Named c true) p = takes_said rows assigned d m 44 (position (opens d c) d.entries) p (open_index d c)
 on_said rows assigned d m (Named c false) p = preferred_said rows assigned d m (position (opens d c) d.entries) p (open_index d c)
+on_said rows assigned d m f p = takes_said rows assigned d m 34 (lowest_open d every_channel) p (open_lowest d every_channel)
 
 called_said : (rows : List Row) (assigned : List (Option ℕ)) (d : Day) (m : Said) (o : Option ℕ) → AllByRecursion (Placed rows assigned) d.entries → ReplyFits rows assigned (called d m o)
 called_said rows assigned d m (Some cause) p = plain_fits rows assigned d.moment _ refl
@@ -292,7 +276,6 @@ unknown_plain : (r : ℕ) (flag : Bool) (m : Heard) (k : Kind) → OfSaid Plain 
 unknown_plain r flag m ReleaseComplete = tt
 unknown_plain r flag m Status = status_plain r flag m.state
 unknown_plain r flag m Setup = tt
-unknown_plain r flag m StatusEnquiry = refl
 unknown_plain r flag m k = refl
 
 stray_said : (rows : List Row) (assigned : List (Option ℕ)) (d : Day) (m : Said) (k : Kind) → AllByRecursion (Placed rows assigned) d.entries → ReplyFits rows assigned (stray d m k)
@@ -328,5 +311,4 @@ sent_fits rows assigned d (Receive octets) p h =
 
 pub live_sent : (rows : List Row) (assigned : List (Option ℕ)) (d : Day) (event : LiveEvent) → AllByRecursion (Placed rows assigned) d.entries → DayFits d → SentFits rows assigned (live_happens d event)
 live_sent rows assigned d (OnLink event) p h = sent_fits rows assigned d event p h
-live_sent rows assigned d WithoutLink p h = record { each = All-nil _ }
-live_sent rows assigned d (Sold booking) p h = record { each = All-nil _ }
+live_sent rows assigned d event p h = record { each = All-nil _ }

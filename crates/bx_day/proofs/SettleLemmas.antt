@@ -16,8 +16,9 @@ use Rattle.bx_day.proofs.Law.{at_map_in}
 use Rattle.bx_day.proofs.SlotLemmas.{waits_parts, waits_from}
 use Rattle.bx_day.proofs.Tick.{by_cases}
 use Rattle.bx_day.proofs.Seats.{after_kept, ordered_kept}
-use Rattle.bx_day.proofs.Turns.{After, second_seats, waited, ahead_waits, IsNone, unoffered_accepted, after_first, after_second, far_ahead, IsTurn}
+use Rattle.bx_day.proofs.Turns.{After, second_seats, waited, ahead_waits, IsNone, after_first, after_second, far_ahead, IsTurn}
 use Rattle.bx_day.proofs.LiveTurns.{second_on, live_settled}
+use Rattle.bx_day.proofs.Receive.{unoffered_accepted}
 use Rattle.bx_day.specs.declared.entry.Link.{Link}
 
 -- ---- the first that waits after the tick

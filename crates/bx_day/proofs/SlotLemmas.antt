@@ -16,16 +16,13 @@ use Rattle.bx_day.specs.Slots.{slot_at, waits_on, IsLiveOn, IsWaitingOn}
 use Rattle.bx_day.specs.SlotSteps.{earlier}
 use Rattle.bx_day.specs.declared.entry.Entry.{Entry}
 use Rattle.bx_day.specs.declared.entry.Standing.{Standing}
-use Rattle.bx_day.specs.declared.entry.Standing.TheVariants.{Refused, Unoffered, OnCall, Carried, Unanswered, Missed}
+use Rattle.bx_day.specs.declared.entry.Standing.TheVariants.{Refused, Unoffered, OnCall}
 use Rattle.bx_day.proofs.Indices.{index_found, index_none}
-use Rattle.bx_day.proofs.Once.{each_at}
+use Rattle.bx_day.proofs.Once.{each_at, none≢some}
 use Rattle.bx_day.proofs.Receive.{open_parts}
 use Rattle.bx_day.proofs.Received.{held_index}
 use Rattle.bx_day.specs.Passing.{AreBlocked}
 use Rattle.bx_day.proofs.Tick.{runs_at}
-
-none≢some : {X : Type 0} (x : X) → None ≡ Some x → ⊥
-none≢some x e = false≢true (ap is_some e)
 
 pub some_is : (a b : ℕ) → Some a ≡ Some b → a ≡ b
 some_is a b e = ap (λ (o : Option ℕ). unwrap_or o 0) e
@@ -93,23 +90,15 @@ first_inside test es n (Some i) h = h.0
 
 named_call : (m : Said) (s : Standing) → names_call m s ≡ true → is_live s ≡ true
 named_call m (OnCall call a) h = refl
-named_call m Refused h = absurd (false≢true h)
-named_call m Unoffered h = absurd (false≢true h)
-named_call m (Carried from until) h = absurd (false≢true h)
-named_call m Unanswered h = absurd (false≢true h)
-named_call m Missed h = absurd (false≢true h)
+named_call m s h = absurd (false≢true h)
 
 -- one that is named is live
 pub named_live : (m : Said) (e : Entry) → names m e ≡ true → is_live e.standing ≡ true
 named_live m e h = named_call m e.standing h
 
 pub live_accepted : (s : Standing) → is_live s ≡ true → is_refused s ≡ false
-live_accepted (OnCall call a) h = refl
 live_accepted Refused h = absurd (false≢true h)
-live_accepted Unoffered h = refl
-live_accepted (Carried from until) h = refl
-live_accepted Unanswered h = refl
-live_accepted Missed h = refl
+live_accepted s h = refl
 
 pub live_seated : (d : Day) (k : ℕ) → IsExchange d → k < length d.entries → is_live (entry_at d.entries k).standing ≡ true → IsChannel (entry_at d.entries k).channel
 live_seated d k h lt live = (each_at Seated d.entries k lt h.seated).channel (live_accepted (entry_at d.entries k).standing live)
@@ -118,11 +107,7 @@ live_seated d k h lt live = (each_at Seated d.entries k lt h.seated).channel (li
 
 waiting_fits : (t : ℕ) (e : Entry) (s : Standing) → StandingFits t e s → is_unoffered s ≡ true → t < e.booking.end
 waiting_fits t e Unoffered h waits = h
-waiting_fits t e Refused h waits = absurd (false≢true waits)
-waiting_fits t e (OnCall call a) h waits = absurd (false≢true waits)
-waiting_fits t e (Carried from until) h waits = absurd (false≢true waits)
-waiting_fits t e Unanswered h waits = absurd (false≢true waits)
-waiting_fits t e Missed h waits = absurd (false≢true waits)
+waiting_fits t e s h waits = absurd (false≢true waits)
 
 pub ends_later : (d : Day) (k : ℕ) → IsExchange d → k < length d.entries → is_unoffered (entry_at d.entries k).standing ≡ true → d.moment < (entry_at d.entries k).booking.end
 ends_later d k h lt waits = let e = entry_at d.entries k in waiting_fits d.moment e e.standing (each_at (EntryFits d.moment) d.entries k lt h.day.each) waits

@@ -5,7 +5,7 @@ use Rattle.std.proofs.lemmas.Bool.{leb-true, leb-false, ltb-true, and_parts, bot
 use Rattle.bx_q931.specs.Outgoing.{Outgoing}
 use Rattle.bx_calls.specs.PlainCalls.{PlainNetCall}
 use Rattle.bx_calls.specs.declared.transition.Next.{Next}
-use Rattle.bx_calls.specs.declared.transition.Next.TheVariants.{Live, Over, Broken}
+use Rattle.bx_calls.specs.declared.transition.Next.TheVariants.{Live}
 use Rattle.bx_base.specs.Bookings.{Row, is_running}
 use Rattle.bx_channels.specs.Marks.{is_marked}
 use Rattle.bx_day.specs.Day.{Day, is_live, holds, is_held, is_free}
@@ -18,8 +18,8 @@ use Rattle.bx_day.specs.declared.entry.Moved.{Moved}
 use Rattle.bx_day.specs.declared.entry.Entry.{Entry}
 use Rattle.bx_day.specs.declared.entry.Standing.{Standing}
 use Rattle.bx_day.specs.declared.entry.Activity.{Activity}
-use Rattle.bx_day.specs.declared.entry.Standing.TheVariants.{Refused, Unoffered, OnCall, Carried, Unanswered, Missed}
-use Rattle.bx_day.specs.declared.entry.Activity.TheVariants.{Never, Since, Was}
+use Rattle.bx_day.specs.declared.entry.Standing.TheVariants.{Refused, Unoffered, OnCall, Carried, Missed}
+use Rattle.bx_day.specs.declared.entry.Activity.TheVariants.{Was}
 use Rattle.bx_day.specs.Invariant.{EntryFits, Apart, Pairs, DayFits, is_refused}
 use Rattle.bx_day.specs.declared.entry.Link.{Link}
 use Rattle.bx_day.specs.declared.entry.Link.TheVariants.{Up, Down}
@@ -62,12 +62,11 @@ waits_fits t e free =
 
 -- one booking
 pub entry_fits : (t : ℕ) (e : Entry) (free : Bool) (s : Standing) → EntryFits t (with_standing e s) → EntryFits (t + 1) (with_standing e (second_at e (t + 1) free s).standing)
-entry_fits t e free Refused h = tt
 entry_fits t e free Unoffered h = waits_fits t e free
 entry_fits t e free (OnCall c a) h = second_fits t (with_standing e (OnCall c a)) c.reference c.channel c.origin c.state a h
 entry_fits t e free (Carried from until) h = h
-entry_fits t e free Unanswered h = tt
 entry_fits t e free Missed h = omega arith
+entry_fits t e free s h = tt
 
 -- a booking that is live after a tick was live before, or is offered at it
 pub data WasLive (t : ℕ) (free : Bool) (e : Entry) : Type 0 where
@@ -83,31 +82,22 @@ waits_live t free e =
     (λ going live. absurd (false≢true live)))
 
 pub second_live : (t : ℕ) (free : Bool) (e : Entry) (s : Standing) → is_live (second_at e t free s).standing ≡ true → WasLive t free (with_standing e s)
-second_live t free e Refused live = absurd (false≢true live)
 second_live t free e Unoffered live = waits_live t free e live
 second_live t free e (OnCall c a) live = Before refl
-second_live t free e (Carried from until) live = absurd (false≢true live)
-second_live t free e Unanswered live = absurd (false≢true live)
-second_live t free e Missed live = absurd (false≢true live)
+second_live t free e s live = absurd (false≢true live)
 
 pub over_refused : (a : Activity) (t : ℕ) → is_refused (over_at a t) ≡ false
-over_refused Never t = refl
-over_refused (Since from) t = refl
 over_refused (Was from until) t = refl
+over_refused a t = refl
 
 -- no booking is refused by a tick, and none that was is not
 pub follow_refused : (a : Activity) (t : ℕ) (said : Option Outgoing) (n : Next PlainNetCall) → is_refused (follow a t said n).standing ≡ false
 follow_refused a t said (Live c) = refl
-follow_refused a t said Over = over_refused a t
-follow_refused a t said Broken = over_refused a t
+follow_refused a t said n = over_refused a t
 
 pub second_refused : (t : ℕ) (free : Bool) (e : Entry) (s : Standing) → is_refused (second_at e t free s).standing ≡ false → is_refused s ≡ false
 second_refused t free e Refused h = h
-second_refused t free e Unoffered h = refl
-second_refused t free e (OnCall c a) h = refl
-second_refused t free e (Carried from until) h = refl
-second_refused t free e Unanswered h = refl
-second_refused t free e Missed h = refl
+second_refused t free e s h = refl
 
 or_left : (x y : Bool) → x ≡ true → (x || y) ≡ true
 or_left true y h = refl
@@ -148,19 +138,12 @@ live_apart d e f p he hf (Offered re ue fe) (Offered rf uf ff) same = p.planned 
 -- what holds of a call in a second without a link, and of any other booking at a tick while its channel is held
 pub unlinked : (e : Entry) (t : ℕ) (s : Standing) (P : Moved → Type 0) → ((c : PlainNetCall) (a : Activity) → s ≡ OnCall c a → P (follows a t (net_unlinked 1 c t e.booking.end))) → P (second_at e t false s) → P (unlinked_at e t s)
 unlinked e t (OnCall c a) P f g = f c a refl
-unlinked e t Refused P f g = g
-unlinked e t Unoffered P f g = g
-unlinked e t (Carried from until) P f g = g
-unlinked e t Unanswered P f g = g
-unlinked e t Missed P f g = g
+unlinked e t s P f g = g
 
 still_fits : (t : ℕ) (e : Entry) (s : Standing) → EntryFits t (with_standing e s) → EntryFits (t + 1) (with_standing e (unlinked_at e (t + 1) s).standing)
 still_fits t e (OnCall c a) h = unlinked_fits t (with_standing e (OnCall c a)) c.reference c.channel c.origin c.state a h
-still_fits t e Refused h = entry_fits t e false Refused h
-still_fits t e Unoffered h = entry_fits t e false Unoffered h
 still_fits t e (Carried from until) h = entry_fits t e false (Carried from until) h
-still_fits t e Unanswered h = entry_fits t e false Unanswered h
-still_fits t e Missed h = entry_fits t e false Missed h
+still_fits t e s h = entry_fits t e false s h
 
 pub in_fits : (link : Link) (t : ℕ) (e : Entry) (free : Bool) (s : Standing) → EntryFits t (with_standing e s) → EntryFits (t + 1) (with_standing e (second_by link e (t + 1) free s).standing)
 in_fits Up t e free s h = entry_fits t e free s h

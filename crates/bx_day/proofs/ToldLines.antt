@@ -1,11 +1,9 @@
 -- The lines that are built are those of the text.
-use Rattle.std.proofs.Common.{◌≡◌, ◌≢◌, ℕ, Bool, List, [], ◌∷◌, ◌++◌, length, map, refl, sym, ap, ◌∙◌, arith, append_assoc, length-append}
+use Rattle.std.proofs.Common.{◌≡◌, ◌≢◌, ℕ, Bool, List, [], ◌∷◌, ◌++◌, length, map, refl, sym, ap, ◌∙◌, arith, length-append}
 use Rattle.std.specs.Prelude.{codes, decimal}
-use Rattle.bx_day.specs.declared.outcome.Outcome.{Outcome}
-use Rattle.bx_day.specs.declared.outcome.Outcome.TheVariants.{Refused, Waiting, Live, Carried, Unanswered, Missed}
 use Rattle.bx_text.specs.Lines.{line_text, members_from, spaced}
 use Rattle.bx_text.proofs.MemberSteps.{members_line}
-use Rattle.bx_day.specs.Telling.{or_none, maintenance_fields, outcome_fields}
+use Rattle.bx_day.specs.Telling.{or_none, maintenance_fields}
 
 -- no number was added
 none_added : (ns : List ℕ) (line : List ℕ) → line ≡ codes "maintenance" ++ spaced ns → length line ≡ 11 → ns ≡ []
@@ -27,16 +25,3 @@ module _ (bs : List Bool) (line whole : List ℕ) (told : line ≡ codes "mainte
 
   pub maintained_some : length line ≢ 11 → whole ≡ line ++ 10 ∷ [] → whole ≡ line_text (maintenance_fields bs)
   maintained_some l end = some_whole (members_from 0 bs) line whole told l end
-
--- the prefix of a line, and its outcome
-pub outcome_after : (row : List ℕ) (o : Outcome) → line_text (row ∷ outcome_fields o) ≡ (row ++ 32 ∷ []) ++ line_text (outcome_fields o)
-outcome_after row Refused = simp append_assoc
-outcome_after row Waiting = simp append_assoc
-outcome_after row Live = simp append_assoc
-outcome_after row (Carried from until) = simp append_assoc
-outcome_after row Unanswered = simp append_assoc
-outcome_after row Missed = simp append_assoc
-
--- three fields after a prefix
-pub three_fields : (prefix a b c l1 l2 l3 : List ℕ) → l1 ≡ prefix ++ (a ++ 32 ∷ []) → l2 ≡ l1 ++ (b ++ 32 ∷ []) → l3 ≡ l2 ++ (c ++ 10 ∷ []) → l3 ≡ prefix ++ line_text (a ∷ b ∷ c ∷ [])
-three_fields prefix a b c l1 l2 l3 p q r = rw (r, q, p) (simp append_assoc)

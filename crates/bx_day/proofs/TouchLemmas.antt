@@ -13,7 +13,7 @@ use Rattle.bx_day.specs.Passing.{Passed}
 use Rattle.bx_day.specs.Reading.{IsExchange}
 use Rattle.bx_day.specs.declared.entry.Entry.{Entry}
 use Rattle.bx_day.specs.declared.entry.Moved.{Moved}
-use Rattle.bx_day.proofs.Once.{says_once_in}
+use Rattle.bx_day.proofs.Once.{says_once_in, none≢some}
 use Rattle.bx_day.proofs.Passing.{refused_stays_in}
 use Rattle.bx_day.proofs.SaidOnce.{said_alone}
 use Rattle.bx_day.specs.declared.entry.Link.{Link}
@@ -24,9 +24,6 @@ pub empty_at : (n c : ℕ) → ◌≡◌ {A = Option Outgoing} (slice_index_or (
 empty_at zero c = refl
 empty_at (suc n) zero = refl
 empty_at (suc n) (suc c) = empty_at n c
-
-none≢some : {X : Type 0} (x : X) → None ≡ Some x → ⊥
-none≢some x e = false≢true (ap is_some e)
 
 pub none_passed : (link : Link) (d : Day) → Passed link d (λ i. false) d.entries d.maintenance (replicate 32 None)
 none_passed link d = record {

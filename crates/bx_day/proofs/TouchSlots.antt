@@ -17,7 +17,7 @@ use Rattle.bx_day.specs.declared.entry.Entry.{Entry}
 use Rattle.bx_day.specs.declared.entry.Moved.{Moved}
 use Rattle.bx_day.proofs.Law.{at_map_in}
 use Rattle.bx_day.proofs.Once.{decide}
-use Rattle.bx_day.proofs.Passing.{map_size}
+use Rattle.bx_day.proofs.Passing.{map_size, and_false, or_true}
 use Rattle.bx_day.proofs.Turns.{IsTurn, others_stay}
 use Rattle.bx_day.proofs.SettleLemmas.{beyond, turn_of}
 use Rattle.bx_day.proofs.LiveTurns.{second_on}
@@ -25,6 +25,7 @@ use Rattle.bx_day.proofs.PutLemmas.{live_waits}
 use Rattle.bx_day.proofs.SlotLemmas.{some_is, holds_parts, waits_parts, ends_later}
 use Rattle.bx_day.proofs.SaidOnce.{none_said, maintained_size, maintained_at, same_set, any_there, none_there}
 use Rattle.bx_day.proofs.TouchLemmas.{with_one, other_or}
+use Rattle.bx_day.proofs.Quiet.{or_false}
 use Rattle.bx_day.specs.declared.entry.Link.{Link}
 
 -- ---- slot by slot
@@ -39,14 +40,6 @@ slot_true (Some j) i h = ap (λ k. Some k) (eqb-true j i h)
 
 slot_false : (o : Option ℕ) (i : ℕ) → (o ≡ Some i → ⊥) → is_slot o i ≡ false
 slot_false o i never = false_from_ne_true (is_slot o i) (λ h. never (slot_true o i h))
-
-and_false : (b : Bool) → (b && false) ≡ false
-and_false true = refl
-and_false false = refl
-
-or_false : (b : Bool) → (b || false) ≡ b
-or_false true = refl
-or_false false = refl
 
 not_less : (a n : ℕ) → n ≤ a → nat_lt a n ≡ false
 not_less a n le = false_from_ne_true (nat_lt a n) (λ h. (let lt : a < n = ltb-true a n h in absurd (omega (arith, lt, le))))
@@ -80,10 +73,6 @@ one_below d slots done n j i is on = elim (cases_eq i j) [
       ap₂ (λ x y. done j || (x && y)) slot less ∙ or_true (done j) ∙ sym (ap (λ b. b || with_below d slots done n j) (eq-eqb j j refl)))
   | inr other ↦ same_below d slots done n i (λ there. other (some_is i j (sym there ∙ is))) ∙ sym (other_or i j (with_below d slots done n i) other)
 ]
-  where
-    or_true : (b : Bool) → (b || true) ≡ true
-    or_true true = refl
-    or_true false = refl
 
 pub undone_below : (d : Day) (slots : List (Option ℕ)) (done : ℕ → Bool) (n j : ℕ) → (entry_at d.entries j).channel ≡ n → done j ≡ false → with_below d slots done n j ≡ false
 undone_below d slots done n j on undone =
@@ -106,9 +95,8 @@ all_below d slots done n i le =
 
 same_entries : (xs ys : List Entry) → length xs ≡ length ys → ((i : ℕ) → i < length xs → entry_at xs i ≡ entry_at ys i) → xs ≡ ys
 same_entries [] [] size h = refl
-same_entries [] (y ∷ ys) size h = absurd (omega (arith, size))
-same_entries (x ∷ xs) [] size h = absurd (omega (arith, size))
 same_entries (x ∷ xs) (y ∷ ys) size h = ap₂ (λ e es. e ∷ es) (h 0 (omega arith)) (same_entries xs ys (omega (arith, size)) (λ i lt. h (suc i) (omega (arith, lt))))
+same_entries xs ys size h = absurd (omega (arith, size))
 
 pub all_passed : (link : Link) (d : Day) (done : ℕ → Bool) (es : List Entry) (ms : List Bool) (ss : List (Option Outgoing)) → IsExchange d → ((i : ℕ) → i < length d.entries → done i ≡ false → second_in link d (entry_at d.entries i) ≡ stays (entry_at d.entries i).standing) → Passed link d done es ms ss → IsSecond link d es ms ss
 all_passed link d done es ms ss h others p = record {

@@ -5,7 +5,7 @@ use Rattle.std.proofs.lemmas.Bool.{true≢false, false≢true, cases_lt}
 use Rattle.bx_q931.specs.Outgoing.{Outgoing}
 use Rattle.bx_calls.specs.PlainCalls.{PlainNetCall}
 use Rattle.bx_calls.specs.declared.transition.Next.{Next}
-use Rattle.bx_calls.specs.declared.transition.Next.TheVariants.{Live, Over, Broken}
+use Rattle.bx_calls.specs.declared.transition.Next.TheVariants.{Live}
 use Rattle.bx_calls.specs.NetTable.{net_second, net_unlinked}
 use Rattle.bx_day.specs.Day.{Day, is_live, is_unoffered, is_free, entry_at}
 use Rattle.bx_day.specs.Ticks.{second_at, second_by, second_in, after_in, waits}
@@ -15,10 +15,10 @@ use Rattle.bx_day.specs.Quiet.{booking_due}
 use Rattle.bx_day.specs.Reading.{IsExchange}
 use Rattle.bx_day.specs.Slots.{waits_on, IsLiveOn, IsWaitingOn, IsLater, IsFollowing}
 use Rattle.bx_day.specs.declared.entry.Activity.{Activity}
-use Rattle.bx_day.specs.declared.entry.Activity.TheVariants.{Never, Since, Was}
+use Rattle.bx_day.specs.declared.entry.Activity.TheVariants.{Was}
 use Rattle.bx_day.specs.declared.entry.Entry.{Entry}
 use Rattle.bx_day.specs.declared.entry.Standing.{Standing}
-use Rattle.bx_day.specs.declared.entry.Standing.TheVariants.{Refused, Unoffered, OnCall, Carried, Unanswered, Missed}
+use Rattle.bx_day.specs.declared.entry.Standing.TheVariants.{Unoffered, OnCall}
 use Rattle.bx_day.proofs.Law.{at_map_in, in_same}
 use Rattle.bx_day.proofs.Once.{decide, each_at}
 use Rattle.bx_day.proofs.Passing.{map_size}
@@ -28,6 +28,7 @@ use Rattle.bx_day.proofs.Seats.{SameSeats}
 use Rattle.bx_day.specs.declared.entry.Link.{Link}
 use Rattle.bx_day.specs.declared.entry.Link.TheVariants.{Up, Down}
 use Rattle.bx_day.proofs.Tick.{with_standing, unlinked}
+use Rattle.bx_day.proofs.Receive.{unoffered_accepted}
 
 -- ---- a second, booking by booking
 
@@ -43,23 +44,18 @@ second_seats link d = record {
 }
 
 pub over_waits : (a : Activity) (t : ℕ) → is_unoffered (over_at a t) ≡ false
-over_waits Never t = refl
-over_waits (Since from) t = refl
 over_waits (Was from until) t = refl
+over_waits a t = refl
 
 pub follow_waits : (a : Activity) (t : ℕ) (said : Option Outgoing) (n : Next PlainNetCall) → is_unoffered (follow a t said n).standing ≡ false
 follow_waits a t said (Live c) = refl
-follow_waits a t said Over = over_waits a t
-follow_waits a t said Broken = over_waits a t
+follow_waits a t said n = over_waits a t
 
 -- one that waits after a second waited before it
 pub second_waits : (t : ℕ) (free : Bool) (e : Entry) (s : Standing) → is_unoffered (second_at e t free s).standing ≡ true → is_unoffered s ≡ true
-second_waits t free e Refused h = h
 second_waits t free e Unoffered h = refl
 second_waits t free e (OnCall c a) h = absurd (true≢false (sym h ∙ follow_waits a t (net_second c t e.booking.end).reply (net_second c t e.booking.end).next))
-second_waits t free e (Carried from until) h = h
-second_waits t free e Unanswered h = h
-second_waits t free e Missed h = h
+second_waits t free e s h = h
 
 pub in_waits : (link : Link) (t : ℕ) (free : Bool) (e : Entry) (s : Standing) → is_unoffered (second_by link e t free s).standing ≡ true → is_unoffered s ≡ true
 in_waits Up t free e s = second_waits t free e s
@@ -77,11 +73,7 @@ soon t start end false lt order = lt
 
 pub waits_is : (s : Standing) → is_unoffered s ≡ true → s ≡ Unoffered
 waits_is Unoffered h = refl
-waits_is Refused h = absurd (false≢true h)
-waits_is (OnCall c a) h = absurd (false≢true h)
-waits_is (Carried from until) h = absurd (false≢true h)
-waits_is Unanswered h = absurd (false≢true h)
-waits_is Missed h = absurd (false≢true h)
+waits_is s h = absurd (false≢true h)
 
 -- one that starts later goes on waiting
 in_quiet : (link : Link) (moment t : ℕ) (free : Bool) (e : Entry) (s : Standing) → is_unoffered s ≡ true → EntryFits moment (with_standing e s) → e.booking.start ≤ e.booking.end → t < booking_due e s → second_by link e t free s ≡ stays s
@@ -101,19 +93,13 @@ abbrev pub IsNone : Option ℕ → ℕ → Type 0
 IsNone o i = o ≡ Some i → ⊥
 
 pub idle_stays : (t : ℕ) (free : Bool) (e : Entry) (s : Standing) → is_live s ≡ false → is_unoffered s ≡ false → second_at e t free s ≡ stays s
-idle_stays t free e Refused live waits = refl
 idle_stays t free e Unoffered live waits = absurd (true≢false waits)
 idle_stays t free e (OnCall c a) live waits = absurd (true≢false live)
-idle_stays t free e (Carried from until) live waits = refl
-idle_stays t free e Unanswered live waits = refl
-idle_stays t free e Missed live waits = refl
+idle_stays t free e s live waits = refl
 
 in_idle : (link : Link) (t : ℕ) (free : Bool) (e : Entry) (s : Standing) → is_live s ≡ false → is_unoffered s ≡ false → second_by link e t free s ≡ stays s
 in_idle Up t free e s live waits = idle_stays t free e s live waits
 in_idle Down t free e s live waits = unlinked e t s (λ m. m ≡ stays s) (λ c a p. absurd (true≢false (sym (ap is_live p) ∙ live))) (idle_stays t false e s live waits)
-
-pub unoffered_accepted : (s : Standing) → is_unoffered s ≡ true → is_refused s ≡ false
-unoffered_accepted s h = ap is_refused (waits_is s h)
 
 -- one that waits, and is not the first
 pub after_first : (es : List Entry) (c i r : ℕ) → IsWaitingOn es c (Some r) → i < length es → waits_on c (entry_at es i) ≡ true → i ≢ r → IsLater es r i

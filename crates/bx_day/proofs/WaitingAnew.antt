@@ -19,7 +19,7 @@ use Rattle.bx_day.specs.Slots.{slot_at, waits_on, IsWaitingOn, AreSlots, IsIndex
 use Rattle.bx_day.specs.declared.entry.Entry.{Entry}
 use Rattle.bx_day.specs.declared.entry.Link.TheVariants.{Down}
 use Rattle.bx_day.specs.declared.entry.Standing.{Standing}
-use Rattle.bx_day.specs.declared.entry.Standing.TheVariants.{Refused, Unoffered, OnCall, Carried, Unanswered, Missed}
+use Rattle.bx_day.specs.declared.entry.Standing.TheVariants.{Unoffered, OnCall, Missed}
 use Rattle.bx_day.proofs.IndexLemmas.{indexed_now}
 use Rattle.bx_day.proofs.LinkLemmas.{none_in, ends_first}
 use Rattle.bx_day.proofs.Once.{decide, each_at}
@@ -29,7 +29,7 @@ use Rattle.bx_day.proofs.Quiet.{late}
 use Rattle.bx_day.proofs.Seats.{SameSeats, after_kept, ordered_kept}
 use Rattle.bx_day.proofs.SlotLemmas.{some_is, waits_parts, waits_from}
 use Rattle.bx_day.proofs.Tick.{by_cases}
-use Rattle.bx_day.proofs.Turns.{unoffered_accepted}
+use Rattle.bx_day.proofs.Receive.{unoffered_accepted}
 
 -- ---- the slots as each booking is looked at
 
@@ -148,26 +148,16 @@ earliest_waits es c o apart ordered h = record {
 call_live : (n u : ℕ) (b : Row) (s : Standing) → is_live (outlasted n u b s) ≡ is_live s
 call_live n u b (OnCall c a) = by_cases (not (net_is_clearing c.state) && nat_le b.end u) _ _ (λ (step : Transition PlainNetCall). is_live (follows a b.end step).standing ≡ true) (λ _. refl) (λ _. refl)
 call_live n u b Unoffered = by_cases (nat_le b.end u) _ _ (λ (s : Standing). is_live s ≡ false) (λ _. refl) (λ _. refl)
-call_live n u b Refused = refl
-call_live n u b (Carried from until) = refl
-call_live n u b Unanswered = refl
-call_live n u b Missed = refl
+call_live n u b s = refl
 
 same_refused : (n u : ℕ) (b : Row) (s : Standing) → is_refused (outlasted n u b s) ≡ is_refused s
 same_refused n u b (OnCall c a) = by_cases (not (net_is_clearing c.state) && nat_le b.end u) _ _ (λ (step : Transition PlainNetCall). is_refused (follows a b.end step).standing ≡ false) (λ _. refl) (λ _. refl)
 same_refused n u b Unoffered = by_cases (nat_le b.end u) _ _ (λ (s : Standing). is_refused s ≡ false) (λ _. refl) (λ _. refl)
-same_refused n u b Refused = refl
-same_refused n u b (Carried from until) = refl
-same_refused n u b Unanswered = refl
-same_refused n u b Missed = refl
+same_refused n u b s = refl
 
 still_waits : (n u : ℕ) (b : Row) (s : Standing) → u < b.end → is_unoffered s ≡ true → is_unoffered (outlasted n u b s) ≡ true
 still_waits n u b Unoffered early h = ap (λ x. is_unoffered (if x then Missed else Unoffered)) (late b.end u early)
-still_waits n u b (OnCall c a) early h = absurd (false≢true h)
-still_waits n u b Refused early h = absurd (false≢true h)
-still_waits n u b (Carried from until) early h = absurd (false≢true h)
-still_waits n u b Unanswered early h = absurd (false≢true h)
-still_waits n u b Missed early h = absurd (false≢true h)
+still_waits n u b s early h = absurd (false≢true h)
 
 at_outlasts : (n u : ℕ) (es : List Entry) (i : ℕ) → entry_at (map (outlasts n u) es) i ≡ outlasts n u (entry_at es i)
 at_outlasts n u [] i = refl
@@ -221,9 +211,8 @@ outlasted_slots n d live waiting following waiting' h s anew =
 
 same_entries : (es fs : List Entry) → length es ≡ length fs → ((i : ℕ) → i < length fs → entry_at es i ≡ entry_at fs i) → es ≡ fs
 same_entries [] [] size h = refl
-same_entries [] (f ∷ fs) size h = absurd (omega (arith, size))
-same_entries (e ∷ es) [] size h = absurd (omega (arith, size))
 same_entries (e ∷ es) (f ∷ fs) size h = ap₂ (λ x xs. x ∷ xs) (h 0 (omega arith)) (same_entries es fs (omega (arith, size)) (λ i lt. h (suc i) (omega (arith, lt))))
+same_entries es fs size h = absurd (omega (arith, size))
 
 -- what the pass over the bookings leaves
 pub all_outlasted : (n : ℕ) (d : Day) (now : List Entry) → n ≤ 300000 → IsExchange d → AreOutlasting n (d.moment + n) (length d.entries) d.entries now → now ≡ map (outlasts n (d.moment + n)) d.entries

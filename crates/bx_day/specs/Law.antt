@@ -1,14 +1,15 @@
 -- One call per channel, over every list of events.
-use Rattle.std.specs.Prelude.{◌≡◌, ◌≢◌, ℕ, ◌+◌, ◌*◌, ◌-◌, ◌≤◌, ◌<◌, true, false, List, length, All, Option, Some}
+use Rattle.std.specs.Prelude.{◌≡◌, ◌≢◌, ℕ, Bool, ◌+◌, ◌*◌, ◌-◌, ◌≤◌, ◌<◌, true, false, List, length, All, Option, Some}
 use Rattle.bx_q931.specs.declared.kind.Kind.TheVariants.{Setup, CallProceeding}
 use Rattle.bx_q931.specs.Outgoing.{Outgoing}
 use Rattle.bx_calls.specs.PlainCalls.{PlainNetCall}
 use Rattle.bx_calls.specs.Timers.{t308, clearing_time}
-use Rattle.bx_base.specs.Bookings.{Row, row_at, is_running}
+use Rattle.bx_base.specs.Bookings.{Row, AreBookings, Carries, row_at, is_running}
 use Rattle.bx_base.specs.Plans.{is_accepted, channel_at}
-use Rattle.bx_day.specs.Day.{Day, entry_at}
+use Rattle.bx_day.specs.Day.{Day, entry_at, opening}
 use Rattle.bx_day.specs.Moves.{is_active}
-use Rattle.bx_day.specs.Outages.{Lost}
+use Rattle.bx_day.specs.Outages.{Lost, live_day_after, live_happens, lost_since}
+use Rattle.bx_events.specs.Events.{LiveEvent}
 use Rattle.bx_calls.specs.Sending.{Sent}
 use Rattle.bx_day.specs.declared.entry.Standing.{Standing}
 use Rattle.bx_day.specs.declared.entry.Activity.{Activity}
@@ -61,3 +62,17 @@ pub record OutFits (rows : List Row) (assigned : List (Option ℕ)) (t : ℕ) (o
 
 pub record SentFits (rows : List Row) (assigned : List (Option ℕ)) (s : Sent Day) : Type 0 where
   pub each : All (OutFits rows assigned s.day.moment) s.sent
+
+-- each day of a carried plan is orderly, whatever its events
+abbrev pub DaysAreOrderly : Type 0
+DaysAreOrderly =
+    (rows : List Row) (channels : List Bool) (assigned : List (Option ℕ)) (events : List LiveEvent)
+    → AreBookings rows → Carries rows channels (is_accepted assigned) (channel_at assigned)
+    → IsOrderly rows assigned (λ m. lost_since m events (opening rows assigned)) (live_day_after events (opening rows assigned))
+
+-- and what is sent at one more event fits
+abbrev pub AllSentFits : Type 0
+AllSentFits =
+    (rows : List Row) (channels : List Bool) (assigned : List (Option ℕ)) (events : List LiveEvent) (event : LiveEvent)
+    → AreBookings rows → Carries rows channels (is_accepted assigned) (channel_at assigned)
+    → SentFits rows assigned (live_happens (live_day_after events (opening rows assigned)) event)

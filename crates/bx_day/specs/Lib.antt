@@ -19,3 +19,4 @@ pub mod SlotSteps
 pub mod Course
 pub mod Outlasting
 pub mod Extended
+pub mod Keeping

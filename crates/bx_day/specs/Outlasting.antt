@@ -14,6 +14,10 @@ abbrev pub IsTimedBy : ℕ → Standing → Type 0
 IsTimedBy latest (OnCall call activity) = IsDueBy latest call.state
 IsTimedBy latest _ = Unit {0}
 
+-- what holds where it can be put off by n seconds within a word
+abbrev pub IfTimersFit : ℕ → Standing → Type 0 → Type 0
+IfTimersFit n s P = (latest : ℕ) → IsTimedBy latest s → latest + n ≤ 4294967295 → P
+
 -- what has become of a booking in n such seconds, of which the last comes to moment t: a call is not Active after its
 -- booking's end
 abbrev pub outlasted : ℕ → ℕ → Row → Standing → Standing

@@ -1,10 +1,14 @@
 -- Private: slots after a tick, and what is due on them.
-use Rattle.std.specs.Prelude.{◌≡◌, ℕ, ◌<◌, ◌≤◌, Bool, false, List, length, Option, Some, None, min, if◌then◌else◌}
+use Rattle.std.specs.Prelude.{◌≡◌, ℕ, ◌<◌, ◌≤◌, Bool, false, List, length, map, Option, Some, None, min, if◌then◌else◌}
 use Rattle.bx_day.specs.Day.{Day, is_live, is_unoffered, entry_at}
 use Rattle.bx_day.specs.Invariant.{is_refused}
 use Rattle.bx_day.specs.QuietSeconds.{tick_due, due_at}
 use Rattle.bx_day.specs.declared.entry.Entry.{Entry}
-use Rattle.bx_day.specs.Slots.{slot_at}
+use Rattle.bx_day.specs.Slots.{AreSlots, slot_at}
+use Rattle.bx_day.specs.Ticks.{after_in, passed_in}
+use Rattle.bx_day.specs.Reading.{IsExchange}
+use Rattle.bx_day.specs.declared.entry.Link.{Link}
+use Rattle.bx_events.specs.declared.moment.TheConstants.{LAST_MOMENT}
 
 -- the slot after the one of this booking
 abbrev pub follower : List (Option ℕ) → Option ℕ → Option ℕ
@@ -44,3 +48,9 @@ slot_due es free (Some i) = tick_due (entry_at es i) free (entry_at es i).standi
 pub record IsDueOn (d : Day) (c due : ℕ) : Type 0 where
   pub before : (i : ℕ) → i < length d.entries → is_refused (entry_at d.entries i).standing ≡ false → (entry_at d.entries i).channel ≡ c → min 300001 due ≤ due_at d i
   pub latest : (t : ℕ) → t ≤ 300001 → ((i : ℕ) → i < length d.entries → t ≤ due_at d i) → t ≤ due
+
+-- slots of a day become those after a second of it, with a link or without one, whose bookings these are
+abbrev pub SettlesSlots : (entries : List Entry) (following live waiting later_live later_waiting : List (Option ℕ)) → Type 0
+SettlesSlots entries following live waiting later_live later_waiting =
+    (link : Link) (d : Day) → IsExchange d → d.moment < LAST_MOMENT → entries ≡ map (after_in link d) d.entries
+    → AreSlots d live waiting following → AreSlots (passed_in link d).day later_live later_waiting following

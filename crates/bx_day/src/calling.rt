@@ -9,7 +9,7 @@ ghost use Rattle.bx_calls.specs.Said.{said_of};
 ghost use Rattle.bx_channels.specs.Marks.{is_marked};
 ghost use Rattle.bx_day.specs.Day.{is_free, entry_at, every_channel};
 ghost use Rattle.bx_day.specs.Receipts.{is_open, opens, lowest_open, or_else, takes_or, called_on, called};
-ghost use Rattle.bx_day.specs.Calling.{awaits};
+ghost use Rattle.bx_day.specs.Calling.{awaits, called_for};
 
 use crate::entry::{Activity, Entry, Moved, Standing};
 use crate::exchange::Exchange;
@@ -54,8 +54,8 @@ impl Exchange {
     /// An exclusive channel is taken or no other; a preferred one where it is open, and else the lowest.
     fn called_at(&mut self, reference: u16, channel: Channel, exclusive: bool) -> Option<Out>
         requires { IsCallReference reference }
-        ensures day { (flag : Bool) (m : PlainMessage) → self.new ≡ (called_on self.old (said_of reference flag m) (ChannelField.Named channel exclusive)).day }
-        ensures reply { (flag : Bool) (m : PlainMessage) → result ≡ (called_on self.old (said_of reference flag m) (ChannelField.Named channel exclusive)).reply }
+        ensures day { (flag : Bool) (m : PlainMessage) → self.new ≡ (called_for self.old (said_of reference flag m) channel exclusive).day }
+        ensures reply { (flag : Bool) (m : PlainMessage) → result ≡ (called_for self.old (said_of reference flag m) channel exclusive).reply }
     {
         if exclusive {
             let index = self.open_on(channel);

@@ -1,10 +1,11 @@
 //! Bookings that are sold while the day runs.
 
-ghost use Rattle.std.specs.Prelude.{◌≡◌, ◌≤◌, ◌<◌, ◌↔◌, ℕ, IfOk, OnOk, OnErr, Err, IsTrue, length, None, slice_index_or};
+ghost use Rattle.std.specs.Prelude.{◌≡◌, ◌≤◌, ◌<◌, ◌↔◌, ℕ, IfOk, OnOk, OnErr, Err, IsTrue, length, None};
 ghost use Rattle.bx_base.specs.Bookings.{Carries, row_at};
 ghost use Rattle.bx_base.specs.Plans.{is_accepted, channel_at};
-ghost use Rattle.bx_day.specs.Day.{entries_from, entry_at};
+ghost use Rattle.bx_day.specs.Day.{entries_from};
 ghost use Rattle.bx_day.specs.Extended.{with_standings, extended, IsKept, IsExtendedBy};
+ghost use Rattle.bx_day.specs.Keeping.{KeepsPlaces};
 
 use crate::entry::{Entry, Standing};
 use crate::exchange::Exchange;
@@ -84,7 +85,7 @@ fn put_standings(entries: &mut [Entry], before: &[Entry])
 
 /// Whether the plan has each of these bookings in its place.
 fn are_kept(entries: &[Entry], plan: &Plan, moment: u32) -> bool
-    ensures { IsTrue result ↔ ((length entries.now ≤ length plan.now.bookings) × ((i : ℕ) → i < length entries.now → IsKept moment (entry_at entries.now i) (row_at plan.now.bookings i) (slice_index_or plan.now.assigned.items i None))) }
+    ensures { IsTrue result ↔ KeepsPlaces moment entries.now plan.now.bookings plan.now.assigned.items }
 {
     if entries.len() > plan.bookings.len() as usize {
         return false;

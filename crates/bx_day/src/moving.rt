@@ -3,7 +3,7 @@
 ghost use Rattle.std.specs.Prelude.{◌≡◌, ◌≤◌, ◌+◌, ℕ, Bool, false};
 ghost use Rattle.bx_q931.specs.Outgoing.{IsCallReference};
 ghost use Rattle.bx_day.specs.Ticks.{second_at, second_by, unlinked_at};
-ghost use Rattle.bx_day.specs.Outlasting.{IsTimedBy};
+ghost use Rattle.bx_day.specs.Outlasting.{IfTimersFit};
 ghost use Rattle.bx_day.specs.Receipts.{hears};
 ghost use Rattle.bx_day.specs.Moves.{activity_after, over_at, follows};
 ghost use Rattle.bx_calls.specs.Said.{said_of};
@@ -92,7 +92,7 @@ pub(crate) fn second(entry: &Entry, channel: Channel, moment: u32, free: bool, l
     requires moment { moment ≤ LAST_MOMENT }
     requires row { IsCallReference entry.now.row }
     requires channel { channel ≡ entry.now.channel }
-    ensures { (latest : ℕ) → IsTimedBy latest entry.now.standing → latest + 1 ≤ 4294967295 → result ≡ second_by link entry.now moment free entry.now.standing }
+    ensures { IfTimersFit 1 entry.now.standing (result ≡ second_by link entry.now moment free entry.now.standing) }
 {
     match link {
         Link::Up => linked(entry, channel, moment, free),
@@ -105,7 +105,7 @@ fn unlinked(entry: &Entry, channel: Channel, moment: u32) -> Moved
     requires moment { moment ≤ LAST_MOMENT }
     requires row { IsCallReference entry.now.row }
     requires channel { channel ≡ entry.now.channel }
-    ensures { (latest : ℕ) → IsTimedBy latest entry.now.standing → latest + 1 ≤ 4294967295 → result ≡ unlinked_at entry.now moment entry.now.standing }
+    ensures { IfTimersFit 1 entry.now.standing (result ≡ unlinked_at entry.now moment entry.now.standing) }
 {
     match entry.standing {
         Standing::OnCall { call, activity } => {

@@ -5,7 +5,7 @@ ghost use Rattle.std.specs.List.{AllByRecursion};
 ghost use Rattle.bx_base.specs.declared.bookings.TheConstants.{MAX_BOOKINGS};
 ghost use Rattle.bx_events.specs.Events.{WithoutLink};
 ghost use Rattle.bx_day.specs.Outages.{live_day_after};
-ghost use Rattle.bx_day.specs.Outlasting.{IsTimedBy, outlasted, AreOutlasting, starts_before, with_waiting, AreEarliest};
+ghost use Rattle.bx_day.specs.Outlasting.{IfTimersFit, outlasted, AreOutlasting, starts_before, with_waiting, AreEarliest};
 ghost use Rattle.bx_day.specs.Reading.{Seated};
 ghost use Rattle.bx_day.specs.Slots.{slot_at};
 ghost use Rattle.bx_day.specs.SlotSteps.{IsInside};
@@ -46,7 +46,7 @@ fn outlast(entries: &mut [Entry], seconds: u32, moment: u32)
 /// What has become of a booking at this moment, after so many seconds without a link.
 fn outlasted(entry: &Entry, seconds: u32, moment: u32) -> Standing
     requires { moment ≤ LAST_MOMENT }
-    ensures { (latest : ℕ) → IsTimedBy latest entry.now.standing → latest + seconds ≤ 4294967295 → result ≡ outlasted seconds moment entry.now.booking entry.now.standing }
+    ensures { IfTimersFit seconds entry.now.standing (result ≡ outlasted seconds moment entry.now.booking entry.now.standing) }
 {
     let end = entry.booking.end();
     match entry.standing {

@@ -1,12 +1,8 @@
 //! The slots of the channels after a second.
 
-ghost use Rattle.std.specs.Prelude.{◌≡◌, ◌<◌, ℕ, Some, length, map};
-ghost use Rattle.bx_day.specs.Day.{Day};
-ghost use Rattle.bx_day.specs.Ticks.{after_in, passed_in};
-ghost use Rattle.bx_day.specs.Reading.{IsExchange};
-ghost use Rattle.bx_day.specs.declared.entry.Link.{Link};
-ghost use Rattle.bx_day.specs.Slots.{AreSlots, slot_at};
-ghost use Rattle.bx_day.specs.SlotSteps.{follower, live_of, waiting_of, is_live_at, is_waiting_at, IsInside};
+ghost use Rattle.std.specs.Prelude.{◌≡◌, ◌<◌, ℕ, Some, length};
+ghost use Rattle.bx_day.specs.Slots.{slot_at};
+ghost use Rattle.bx_day.specs.SlotSteps.{SettlesSlots, follower, live_of, waiting_of, is_live_at, is_waiting_at, IsInside};
 
 use crate::entry::{Entry, Standing};
 use bx_events::LAST_MOMENT;
@@ -23,7 +19,7 @@ pub(crate) fn settle(
     requires live { (c : ℕ) → IsInside entries.now (slot_at live.old c) }
     requires waiting { (c : ℕ) → IsInside entries.now (slot_at waiting.old c) }
     requires second { (c : ℕ) → IsInside entries.now (follower following.now (slot_at waiting.old c)) }
-    ensures { (link : Link) (d : Day) → IsExchange d → d.moment < LAST_MOMENT → entries.now ≡ map (after_in link d) d.entries → AreSlots d live.old waiting.old following.now → AreSlots (passed_in link d).day live.new waiting.new following.now }
+    ensures { SettlesSlots entries.now following.now live.old waiting.old live.new waiting.new }
 {
     for number in 0..32 {
         let first = waiting[number];

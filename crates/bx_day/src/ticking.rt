@@ -1,13 +1,12 @@
 //! The seconds of a day: ticks, and seconds without a link.
 
-ghost use Rattle.std.specs.Prelude.{◌≡◌, ◌≤◌, ◌<◌, ◌==◌, ◌||◌, ℕ, Bool, Some, true, false, length, is_some, slice_set, if◌then◌else◌};
+ghost use Rattle.std.specs.Prelude.{◌≡◌, ◌≤◌, ◌<◌, ◌==◌, ◌||◌, ℕ, Some, true, length, is_some, slice_set, if◌then◌else◌};
 ghost use Rattle.std.specs.List.{AllByRecursion};
-ghost use Rattle.bx_day.specs.Day.{Day};
 ghost use Rattle.bx_day.specs.Ticks.{tick, passed_in, SaysOnce};
 ghost use Rattle.bx_day.specs.Outages.{without_link};
-ghost use Rattle.bx_day.specs.Passing.{day_of, AreBlocked, AreOwn, AreTouched, IsSecond, Passed, SaysOnEach, with_slots};
+ghost use Rattle.bx_day.specs.Passing.{AreBlocked, MovesOne, MovesAll, MovesOn, SaysOnEach};
 ghost use Rattle.bx_calls.specs.Sending.{in_order, spelled};
-ghost use Rattle.bx_day.specs.Reading.{IsExchange, Seated};
+ghost use Rattle.bx_day.specs.Reading.{Seated};
 ghost use Rattle.bx_day.specs.Slots.{slot_at};
 ghost use Rattle.bx_day.specs.SlotSteps.{IsInside};
 
@@ -128,7 +127,7 @@ fn move_one(
     requires seated { AllByRecursion Seated entries.old }
     ensures seated { AllByRecursion Seated entries.new }
     ensures size { length entries.new ≡ length entries.old }
-    ensures moved { (d : Day) (done : ℕ → Bool) → d.moment ≡ moment → IsExchange d → AreBlocked d blocked → done index ≡ false → Passed link d done entries.old maintenance.old said.old → Passed link d (λ i. (i == index) || done i) entries.new maintenance.new said.new }
+    ensures moved { MovesOne link moment blocked index entries.old maintenance.old said.old entries.new maintenance.new said.new }
 {
     let entry = entries[index];
     if let Some(channel) = Channel::new(entry.channel) {
@@ -153,7 +152,7 @@ fn move_all(
     requires seated { AllByRecursion Seated entries.old }
     ensures seated { AllByRecursion Seated entries.new }
     ensures size { length entries.new ≡ length entries.old }
-    ensures moved { (d : Day) (done : ℕ → Bool) → d.moment ≡ moment → IsExchange d → AreBlocked d blocked → AreOwn d slots.now → ((c i : ℕ) → slot_at slots.now c ≡ Some i → done i ≡ false) → Passed link d done entries.old maintenance.old said.old → Passed link d (with_slots d slots.now done) entries.new maintenance.new said.new }
+    ensures moved { MovesAll link moment blocked slots.now entries.old maintenance.old said.old entries.new maintenance.new said.new }
 {
     for number in 0..32 {
         if let Some(index) = slots[number] {
@@ -188,7 +187,7 @@ fn move_on(
     requires live { (c : ℕ) → IsInside entries.old (slot_at live.now c) }
     requires waiting { (c : ℕ) → IsInside entries.old (slot_at waiting.now c) }
     requires second { (c : ℕ) → IsInside entries.old (slot_at second.now c) }
-    ensures { (d : Day) → d ≡ day_of moment entries.old maintenance.old → IsExchange d → AreBlocked d blocked → AreTouched link d live.now waiting.now second.now → IsSecond link d entries.new maintenance.new result }
+    ensures { MovesOn link moment blocked live.now waiting.now second.now entries.old maintenance.old entries.new maintenance.new result }
 {
     let mut said = [None; 32];
     move_all(entries, live, &mut said, maintenance, blocked, moment, link);

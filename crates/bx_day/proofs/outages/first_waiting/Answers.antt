@@ -4,9 +4,9 @@ use Rattle.bx_day.specs.Day.{is_unoffered, entry_at}
 use Rattle.bx_day.specs.Outlasting.{AreEarliest}
 use Rattle.bx_day.specs.Reading.{Seated}
 use Rattle.bx_day.proofs.Once.{each_at}
-use Rattle.bx_day.proofs.Turns.{unoffered_accepted}
 use Rattle.bx_day.proofs.WaitingAnew.{nothing_seen, one_seen}
 use Rattle.bx_day.proofs.outages.first_waiting.Goals as goal
+use Rattle.bx_day.proofs.Receive.{unoffered_accepted}
 
 pub loop-index-init : goal.loop-index-init
 loop-index-init c = nothing_seen c.args.entries.now
