@@ -9,17 +9,17 @@ use Rattle.bx_lapd.specs.Links.{Step}
 use Rattle.bx_lapd.specs.Once.{IsPartOf}
 use Rattle.bx_lapd.specs.World.{messages_of}
 use Rattle.bx_lapd.specs.declared.indication.Indication.{Indication}
-use Rattle.bx_lapd.specs.declared.indication.Indication.TheVariants.{LinkEstablished, LinkReleased, Delivered, LinkError}
+use Rattle.bx_lapd.specs.declared.indication.Indication.TheVariants.{Delivered, LinkError}
 use Rattle.bx_live.specs.Acts.{Act, Began, Dropped, Recorded, Synced, Wrote, Read, Took, EndedDay}
 use Rattle.bx_live.specs.declared.world.Begin.{Begin}
-use Rattle.bx_live.specs.declared.world.Begin.TheVariants.{Late, Alone, Joined, Ended}
+use Rattle.bx_live.specs.declared.world.Begin.TheVariants.{Late, Ended}
 use Rattle.bx_live.specs.declared.world.Loss.{Loss}
 use Rattle.bx_live.specs.declared.world.Loss.TheVariants as losses
 use Rattle.bx_live_parts.specs.Chains.{Chain, chain_first}
 use Rattle.bx_live_parts.specs.Schedules.{instant_of}
 use Rattle.bx_line_world.specs.Wires.{WireAct}
 use Rattle.bx_line_world.specs.Posts.{with_messages, reset, put, told_to, all_told_to, begun_by, dropped_by}
-use Rattle.bx_line_world.specs.Lines.{LineEvent, Asked, Given, Elapsed, Heard, Passed, Quiet, Serves, acts_of, step_of, passed_after, shown_by}
+use Rattle.bx_line_world.specs.Lines.{LineEvent, Asked, Given, Elapsed, Quiet, Serves, acts_of, step_of, passed_after, shown_by}
 use Rattle.bx_line_world.specs.Serving.{IsWait, Slice, Served, Polls, Asks, Gives, is_idle}
 use Rattle.bx_line_world.specs.Days.{GoesByLine, IsTextOf, Reads, ReadsFor, Takes}
 use Rattle.bx_line_world.specs.Joined.{LinkEnd, end_of, line_at, after_event, after_events, wire_acts, delivered, given_in, read_in, AreWritten, GoesOverLink}
@@ -76,15 +76,12 @@ put_part false p m = part_more p.messages.items (m ∷ [])
 
 told_one : (p : Post) (told : Indication) → IsPartOf (told_to p told).messages.items (p.messages.items ++ messages_of (told ∷ []))
 told_one p (Delivered m) = put_part _ p m
-told_one p LinkEstablished = reset_part p.here p _
-told_one p LinkReleased = reset_part p.here p _
 told_one p (LinkError code) = part_more p.messages.items []
+told_one p told = reset_part p.here p _
 
 messages_more : (told : Indication) (more : List Indication) → messages_of (told ∷ more) ≡ messages_of (told ∷ []) ++ messages_of more
-messages_more (Delivered m) more = refl
-messages_more LinkEstablished more = refl
-messages_more LinkReleased more = refl
 messages_more (LinkError code) more = refl
+messages_more told more = refl
 
 told_part : (p : Post) (told : List Indication) → IsPartOf (all_told_to p told).messages.items (p.messages.items ++ messages_of told)
 told_part p [] = part_more p.messages.items []
@@ -113,12 +110,8 @@ delivered_on u (x ∷ xs) ys =
 
 pub given_on : (xs ys : List LineEvent) → given_in (xs ++ ys) ≡ given_in xs ++ given_in ys
 given_on [] ys = refl
-given_on (Asked shown ∷ xs) ys = given_on xs ys
 given_on (Given m shown ∷ xs) ys = ap (λ zs. m ∷ zs) (given_on xs ys)
-given_on (Elapsed shown ∷ xs) ys = given_on xs ys
-given_on (Heard until octets shown ∷ xs) ys = given_on xs ys
-given_on (Passed until octets ∷ xs) ys = given_on xs ys
-given_on (Quiet until ∷ xs) ys = given_on xs ys
+given_on (x ∷ xs) ys = given_on xs ys
 
 -- ---- what a line has gone through
 
@@ -130,28 +123,16 @@ pub record Went {W : Type 0} (did : W → List WireAct → W → Type 0) (s t : 
   pub came : IsPartOf (read ++ t.post.messages.items) (s.post.messages.items ++ delivered (end_of s) events)
 
 same_acts : {W : Type 0} (s : Line W) (e : LineEvent) → acts_of s e ≡ acts_of (line_at (end_of s)) e
-same_acts s (Asked shown) = refl
-same_acts s (Given m shown) = refl
-same_acts s (Elapsed shown) = refl
-same_acts s (Heard until octets shown) = refl
-same_acts s (Passed until octets) = refl
 same_acts s (Quiet until) = refl
+same_acts s e = refl
 
 same_step : {W : Type 0} (s : Line W) (e : LineEvent) → step_of s e ≡ step_of (line_at (end_of s)) e
-same_step s (Asked shown) = refl
-same_step s (Given m shown) = refl
-same_step s (Elapsed shown) = refl
-same_step s (Heard until octets shown) = refl
-same_step s (Passed until octets) = refl
 same_step s (Quiet until) = refl
+same_step s e = refl
 
 same_passed : {W : Type 0} (s : Line W) (e : LineEvent) → passed_after s e ≡ passed_after (line_at (end_of s)) e
-same_passed s (Asked shown) = refl
-same_passed s (Given m shown) = refl
-same_passed s (Elapsed shown) = refl
-same_passed s (Heard until octets shown) = refl
-same_passed s (Passed until octets) = refl
 same_passed s (Quiet until) = refl
+same_passed s e = refl
 
 module _ {W : Type 0} {did : W → List WireAct → W → Type 0} where
   end_by : (s t : Line W) (e : LineEvent) → Serves did s e t → end_of t ≡ after_event (end_of s) e
@@ -222,12 +203,10 @@ module _ {W : Type 0} {did : W → List WireAct → W → Type 0} where
     -- ---- waits
 
     wait_gives : (until : ℕ) (came : LineEvent) → IsWait until came → given_in (came ∷ []) ≡ []
-    wait_gives until (Heard end octets shown) w = refl
-    wait_gives until (Passed end octets) w = refl
-    wait_gives until (Quiet end) w = refl
     wait_gives until (Asked shown) w = absurd w
     wait_gives until (Given m shown) w = absurd w
     wait_gives until (Elapsed shown) w = absurd w
+    wait_gives until came w = refl
 
     went_waited : {s t : Line W} (until : ℕ) (came : LineEvent) → IsWait until came → Serves did s came t → Went did s t [] []
     went_waited {s} {t} until came w sv = subst (λ ms. Went did s t ms []) (wait_gives until came w) (went_one came sv)
@@ -258,10 +237,8 @@ module _ {W : Type 0} {did : W → List WireAct → W → Type 0} where
     went_asked false s t nothing same = subst (λ (x : Line W). Went did s x [] []) (sym same) (went_none nothing s)
 
     begun_same : (p : Post) (begin : Begin) → (begun_by p begin).messages.items ≡ p.messages.items
-    begun_same p Late = refl
-    begun_same p Alone = refl
-    begun_same p Joined = refl
     begun_same p Ended = refl
+    begun_same p begin = refl
 
     dropped_same : (p : Post) (loss : Loss) → (dropped_by p loss).messages.items ≡ p.messages.items
     dropped_same p losses.Late = refl
@@ -330,27 +307,12 @@ module _ {W D : Type 0} (did : W → List WireAct → W → Type 0) (holds may_l
   written_on : (act : Act) (acts : List Act) (xs ys : List (ArrayVec ℕ)) → AreWritten (act ∷ []) xs → AreWritten acts ys → AreWritten (act ∷ acts) (xs ++ ys)
   written_on (Wrote octets done) acts xs ys (here, rest, none, text, whole, is, nil) w =
       (here, rest, ys, text, whole, ap (λ ms. ms ++ ys) (is ∙ (ap (λ ms. here ++ ms) nil ∙ append-nil here)), w)
-  written_on (Began second begin) acts xs ys e w = subst (λ ms. AreWritten acts (ms ++ ys)) (sym e) w
-  written_on (Dropped loss) acts xs ys e w = subst (λ ms. AreWritten acts (ms ++ ys)) (sym e) w
-  written_on (Recorded event done) acts xs ys e w = subst (λ ms. AreWritten acts (ms ++ ys)) (sym e) w
-  written_on (Synced done) acts xs ys e w = subst (λ ms. AreWritten acts (ms ++ ys)) (sym e) w
-  written_on (Read room answer) acts xs ys e w = subst (λ ms. AreWritten acts (ms ++ ys)) (sym e) w
-  written_on (Took message) acts xs ys e w = subst (λ ms. AreWritten acts (ms ++ ys)) (sym e) w
-  written_on EndedDay acts xs ys e w = subst (λ ms. AreWritten acts (ms ++ ys)) (sym e) w
+  written_on act acts xs ys e w = subst (λ ms. AreWritten acts (ms ++ ys)) (sym e) w
 
   read_more : (act : Act) (acts : List Act) → read_in (act ∷ acts) ≡ read_in (act ∷ []) ++ read_in acts
-  read_more (Began second begin) acts = refl
-  read_more (Dropped loss) acts = refl
-  read_more (Recorded event done) acts = refl
-  read_more (Synced done) acts = refl
-  read_more (Wrote octets done) acts = refl
   read_more (Read room (Ok (frames.Message m))) acts = refl
-  read_more (Read room (Ok (frames.EndOfTurn said))) acts = refl
-  read_more (Read room (Ok frames.EndOfDay)) acts = refl
-  read_more (Read room (Err fault)) acts = refl
   read_more (Took (Some m)) acts = refl
-  read_more (Took None) acts = refl
-  read_more EndedDay acts = refl
+  read_more act acts = refl
 
   went_acts : (s t : LineWorld W D) (acts : List Act) → Chain Goes s acts t → WentBy s t acts
   went_acts s t [] e = record { gives = []; written = refl; went = subst (λ (x : LineWorld W D). Went did s.line x.line [] []) e (went_none nothing s.line) }

@@ -7,7 +7,7 @@ use Rattle.bx_lapd.specs.Endpoints.{hear_read}
 use Rattle.bx_lapd.specs.Links.{Link, Step}
 use Rattle.bx_lapd.specs.Once.{IsPartOf}
 use Rattle.bx_lapd.specs.Table.{establish, takes, give, elapse, hear}
-use Rattle.bx_lapd.specs.World.{World, WorldEvent, AtNear, AtFar, EndEvent, Gives, Hears, Loses, Elapses, Asks, Releases, messages_of, becomes, comes, lost, swapped, world_after, world_happens, at_near}
+use Rattle.bx_lapd.specs.World.{World, WorldEvent, AtNear, AtFar, EndEvent, Gives, Hears, Loses, Elapses, Asks, messages_of, becomes, comes, lost, swapped, world_after, world_happens, at_near}
 use Rattle.bx_lapd.proofs.Lines.{once_holds}
 use Rattle.bx_live.specs.Acts.{Act}
 use Rattle.bx_line_world.specs.Wires.{WireAct}
@@ -31,9 +31,7 @@ idle_is u (Passed until octets) idle = record { link = refl; given = refl; told 
 idle_is u (Heard until octets shown) (why, is) =
     let t = time_at (line_at u) shown in
     record { link = ap (λ r. (hear_read r u.link t).link) is; given = refl; told = ap (λ r. messages_of (hear_read r u.link t).told) is }
-idle_is u (Asked shown) idle = absurd idle
-idle_is u (Given m shown) idle = absurd idle
-idle_is u (Elapsed shown) idle = absurd idle
+idle_is u e idle = absurd idle
 
 -- the near end after an event, where its link was this
 record IsOne (u : LinkEnd) (w after : World) (e : LineEvent) : Type 0 where
@@ -81,28 +79,7 @@ same_is u w (Heard until octets shown) (Hears now) link (is, (f, rest, first, re
       part = tt;
       got = ap (λ (x : Step). w.near_got ++ messages_of x.told) (sym step);
     })
-same_is u w (Asked shown) (Gives message now) link is = absurd is
-same_is u w (Asked shown) (Hears now) link is = absurd is
-same_is u w (Asked shown) Loses link is = absurd is
-same_is u w (Asked shown) (Elapses now) link is = absurd is
-same_is u w (Asked shown) (Releases now) link is = absurd is
-same_is u w (Elapsed shown) (Gives message now) link is = absurd is
-same_is u w (Elapsed shown) (Hears now) link is = absurd is
-same_is u w (Elapsed shown) Loses link is = absurd is
-same_is u w (Elapsed shown) (Asks now) link is = absurd is
-same_is u w (Elapsed shown) (Releases now) link is = absurd is
-same_is u w (Given m shown) (Hears now) link is = absurd is
-same_is u w (Given m shown) Loses link is = absurd is
-same_is u w (Given m shown) (Elapses now) link is = absurd is
-same_is u w (Given m shown) (Asks now) link is = absurd is
-same_is u w (Given m shown) (Releases now) link is = absurd is
-same_is u w (Heard until octets shown) (Gives message now) link is = absurd is
-same_is u w (Heard until octets shown) Loses link is = absurd is
-same_is u w (Heard until octets shown) (Elapses now) link is = absurd is
-same_is u w (Heard until octets shown) (Asks now) link is = absurd is
-same_is u w (Heard until octets shown) (Releases now) link is = absurd is
-same_is u w (Passed until octets) x link is = absurd is
-same_is u w (Quiet until) x link is = absurd is
+same_is u w e x link is = absurd is
 
 -- what happens elsewhere leaves the near end
 record Leaves (w after : World) : Type 0 where
@@ -123,18 +100,11 @@ near_lost w [] = record { near = refl; given = refl; got = refl }
 near_lost w (f ∷ fs) = record { near = refl; given = refl; got = refl }
 
 theirs_leaves : (w : World) (x : WorldEvent) → IsTheirs x → Leaves w (world_happens w x)
-theirs_leaves w (AtFar (Gives m now)) is = record { near = refl; given = refl; got = refl }
 theirs_leaves w (AtFar (Hears now)) is = far_comes w w.near_sent now
 theirs_leaves w (AtFar Loses) is = far_lost w w.far_sent
-theirs_leaves w (AtFar (Elapses now)) is = record { near = refl; given = refl; got = refl }
-theirs_leaves w (AtFar (Asks now)) is = record { near = refl; given = refl; got = refl }
-theirs_leaves w (AtFar (Releases now)) is = record { near = refl; given = refl; got = refl }
 theirs_leaves w (AtNear Loses) is = near_lost w w.near_sent
-theirs_leaves w (AtNear (Gives m now)) is = absurd is
-theirs_leaves w (AtNear (Hears now)) is = absurd is
-theirs_leaves w (AtNear (Elapses now)) is = absurd is
-theirs_leaves w (AtNear (Asks now)) is = absurd is
-theirs_leaves w (AtNear (Releases now)) is = absurd is
+theirs_leaves w (AtNear x) is = absurd is
+theirs_leaves w (AtFar x) is = record { near = refl; given = refl; got = refl }
 
 -- ---- all of them
 

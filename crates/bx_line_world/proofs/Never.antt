@@ -1,7 +1,7 @@
 -- A live day over a data link is never told that no second begins any more.
 use Rattle.std.proofs.Common.{◌≡◌, ℕ, List, [], ◌∷◌, refl, false, Result, Ok, Err, OnOk, Bool}
-use Rattle.bx_live.specs.declared.world.Begin.TheVariants.{Late, Alone, Joined, Ended}
-use Rattle.bx_live.specs.Acts.{Act, Began, Dropped, Recorded, Synced, Wrote, Read, Took, EndedDay, ended}
+use Rattle.bx_live.specs.declared.world.Begin.TheVariants.{Ended}
+use Rattle.bx_live.specs.Acts.{Act, Began, Dropped, Synced, Took, ended}
 use Rattle.bx_live_parts.specs.Chains.{Chain, chain_first}
 use Rattle.bx_line_world.specs.Wires.{WireAct}
 use Rattle.bx_line_world.specs.Days.{GoesByLine}
@@ -14,16 +14,10 @@ module _ {W D : Type 0} (did : W → List WireAct → W → Type 0) (holds may_l
   pub never_ends : (first last : LineWorld W D) (acts : List Act) → Chain Goes first acts last → ended acts ≡ false
   never_ends first last [] chain = refl
   never_ends first last (Began second Ended ∷ acts) chain = let p = chain_first Goes first last (Began second Ended) acts chain in absurd p.1.line.begun
-  never_ends first last (Began second Late ∷ acts) chain = let p = chain_first Goes first last (Began second Late) acts chain in never_ends p.0 last acts p.2
-  never_ends first last (Began second Alone ∷ acts) chain = let p = chain_first Goes first last (Began second Alone) acts chain in never_ends p.0 last acts p.2
-  never_ends first last (Began second Joined ∷ acts) chain = let p = chain_first Goes first last (Began second Joined) acts chain in never_ends p.0 last acts p.2
   never_ends first last (Dropped loss ∷ acts) chain = let p = chain_first Goes first last (Dropped loss) acts chain in never_ends p.0 last acts p.2
-  never_ends first last (Recorded event done ∷ acts) chain = let p = chain_first Goes first last (Recorded event done) acts chain in never_ends p.0 last acts p.2
   never_ends first last (Synced done ∷ acts) chain = let p = chain_first Goes first last (Synced done) acts chain in never_ends p.0 last acts p.2
-  never_ends first last (Wrote octets done ∷ acts) chain = let p = chain_first Goes first last (Wrote octets done) acts chain in never_ends p.0 last acts p.2
-  never_ends first last (Read room answer ∷ acts) chain = let p = chain_first Goes first last (Read room answer) acts chain in never_ends p.0 last acts p.2
   never_ends first last (Took message ∷ acts) chain = let p = chain_first Goes first last (Took message) acts chain in never_ends p.0 last acts p.2
-  never_ends first last (EndedDay ∷ acts) chain = let p = chain_first Goes first last EndedDay acts chain in never_ends p.0 last acts p.2
+  never_ends first last (y ∷ acts) chain = let p = chain_first Goes first last y acts chain in never_ends p.0 last acts p.2
 
 pub on_ok : {E : Type 0} (P Q : Type 0) (r : Result (Unit {0}) E) → P → OnOk r (P → Q) → OnOk r Q
 on_ok P Q (Ok done) p f = f p

@@ -1,10 +1,10 @@
 -- In one second at most 8,000 octets of messages are read.
-use Rattle.std.proofs.Common.{◌≡◌, ℕ, zero, suc, ◌+◌, ◌≤◌, List, [], ◌∷◌, true, true≢false, sym, ap, arith, Option, Some, None, Result, Ok, Err, Bool}
+use Rattle.std.proofs.Common.{◌≡◌, ℕ, zero, suc, ◌+◌, ◌≤◌, List, [], ◌∷◌, true, true≢false, sym, ap, arith, Option, Some, None, Result, Ok, Bool}
 use Rattle.arrayvec.specs.ArrayVec.{ArrayVec}
 use Rattle.bx_frames.specs.declared.fault.LinkFault.{LinkFault}
 use Rattle.bx_frames.specs.declared.frame.Frame.{Frame}
 use Rattle.bx_frames.specs.declared.frame.Frame.TheVariants as frames
-use Rattle.bx_live.specs.Acts.{Act, Began, Dropped, Recorded, Synced, Wrote, Read, Took, EndedDay, begins_none}
+use Rattle.bx_live.specs.Acts.{Act, Began, Recorded, Wrote, Read, Took, begins_none}
 use Rattle.bx_live.specs.declared.world.Begin.{Begin}
 use Rattle.bx_live_parts.specs.Chains.{Chain, chain_first}
 use Rattle.bx_line_world.specs.Wires.{WireAct}
@@ -19,9 +19,8 @@ module _ {W : Type 0} (did : W → List WireAct → W → Type 0) where
   read_within (suc room) until second left answer a b reads = within answer reads where
     within : (answer : Result Frame LinkFault) → Reads did until second left answer a b → octets_in answer ≤ left
     within (Ok (frames.Message m)) r = r.answers.3
-    within (Ok (frames.EndOfTurn said)) r = omega arith
     within (Ok frames.EndOfDay) r = absurd r.answers
-    within (Err fault) r = omega arith
+    within answer r = omega arith
 
   took_within : (left : ℕ) (message : Option (ArrayVec ℕ)) (a b : Line W) → Takes did left message a b → octets_of message ≤ left
   took_within left (Some m) a b takes = takes.takes.3
@@ -42,16 +41,12 @@ module _ {W D : Type 0} (did : W → List WireAct → W → Type 0) (holds may_l
       let (mid, step, more) = chain_first Goes s t (Took message) acts chain in
       let here = took_within did _ message s.line mid.line step.line in
       omega (arith, few, here, step.second.1, within_on acts mid t more none (omega (arith, few, here, step.second.1)))
-  within_on (Dropped loss ∷ acts) s t chain none few =
-      let (mid, step, more) = chain_first Goes s t (Dropped loss) acts chain in omega (arith, step.second.1, within_on acts mid t more none (omega (arith, few, step.second.1)))
   within_on (Recorded event done ∷ acts) s t chain none few =
       let (mid, step, more) = chain_first Goes s t (Recorded event done) acts chain in omega (arith, step.second.1, within_on acts mid t more none (omega (arith, few, step.second.1)))
-  within_on (Synced done ∷ acts) s t chain none few =
-      let (mid, step, more) = chain_first Goes s t (Synced done) acts chain in omega (arith, step.second.1, within_on acts mid t more none (omega (arith, few, step.second.1)))
   within_on (Wrote octets done ∷ acts) s t chain none few =
       let (mid, step, more) = chain_first Goes s t (Wrote octets done) acts chain in omega (arith, step.second.1, within_on acts mid t more none (omega (arith, few, step.second.1)))
-  within_on (EndedDay ∷ acts) s t chain none few =
-      let (mid, step, more) = chain_first Goes s t EndedDay acts chain in omega (arith, step.second.1, within_on acts mid t more none (omega (arith, few, step.second.1)))
+  within_on (y ∷ acts) s t chain none few =
+      let (mid, step, more) = chain_first Goes s t y acts chain in omega (arith, step.second.1, within_on acts mid t more none (omega (arith, few, step.second.1)))
 
   pub second_within : (old new : LineWorld W D) (second : ℕ) (begin : Begin) (acts : List Act) → Chain Goes old (Began second begin ∷ acts) new → begins_none acts ≡ true → octets_read acts ≤ 8000
   second_within old new second begin acts chain none =

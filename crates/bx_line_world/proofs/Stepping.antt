@@ -1,5 +1,5 @@
 -- Steps of a line, one after another.
-use Rattle.std.proofs.Common.{◌≡◌, ℕ, ◌+◌, ◌<◌, List, [], ◌∷◌, ◌++◌, length, take, get_or, map, refl, sym, ap, ◌∙◌, subst, true, false, not, Bool, inl, inr, Option, Some, None, is_some, arith, zero, suc, drop, Result, Ok, Err, IfOk}
+use Rattle.std.proofs.Common.{◌≡◌, ℕ, ◌+◌, ◌<◌, List, [], ◌∷◌, ◌++◌, length, take, get_or, map, refl, sym, ap, ◌∙◌, subst, true, false, not, Bool, inl, inr, Option, Some, None, is_some, arith, drop}
 use Rattle.std.proofs.lemmas.List.{take_more, take-append-drop}
 use Rattle.arrayvec.specs.ArrayVec.{ArrayVec}
 use Rattle.bx_lapd.specs.declared.frame.Frame.{Frame}
@@ -14,11 +14,9 @@ use Rattle.bx_line_world.specs.Lines.{LineEvent, Serves, IsTaken, passed_by, ins
 use Rattle.bx_line_world.specs.Serving.{Slice, Sliced, Gives, Polls, Polled, has_come, ends_quiet}
 use Rattle.bx_frames.specs.declared.frame.Frame.{Frame as LinkFrame}
 use Rattle.bx_frames.specs.declared.frame.Frame.TheVariants as frames
-use Rattle.bx_frames.specs.Reading.{MayCome}
-use Rattle.bx_frames.specs.declared.frame.Receiver.TheVariants.{Exchange}
 use Rattle.bx_frames.specs.declared.fault.LinkFault.{LinkFault}
 use Rattle.bx_lapd.specs.Table.{takes}
-use Rattle.bx_line_world.specs.Days.{GivesAll, TakesWaiting, Reads, ReadsFor}
+use Rattle.bx_line_world.specs.Days.{GivesAll, TakesWaiting}
 use Rattle.bx_line_world.specs.Steps.{Looks, keeps, Carries, GivesWhere, PolledBy, TakesFirst}
 use Rattle.bx_line_world.specs.declared.line.Line.{Line}
 use Rattle.bx_line_world.specs.declared.post.Post.{Post}
@@ -58,9 +56,8 @@ taken_first left polled (Some m) p whole (rest, are, fits, new) = (whole, rest, 
 taken_first left polled None p whole (none, same) = (inr none, ap (λ (x : Post). record polled { post = x }) same)
 
 quiet_following : (xs : List LineEvent) (came : LineEvent) → has_come came ≡ false → ends_quiet (xs ++ came ∷ []) ≡ true
-quiet_following [] came none = ap not none
-quiet_following (x ∷ []) came none = ap not none
 quiet_following (x ∷ y ∷ xs) came none = quiet_following (y ∷ xs) came none
+quiet_following xs came none = ap not none
 
 module _ {W : Type 0} {did : W → List WireAct → W → Type 0} where
   module _ (more : (u v w : W) (xs ys : List WireAct) → did u xs v → did v ys w → did u (xs ++ ys) w) where
@@ -133,10 +130,6 @@ module _ {W : Type 0} {did : W → List WireAct → W → Type 0} where
   one_given m true a b given = record { given = m ∷ []; rest = []; all = refl; run = given; whole = λ e. refl; refused = λ e. absurd (cc) }
   one_given m false a b (same, full) = record { given = []; rest = m ∷ []; all = refl; run = sym same; whole = λ e. absurd (cc); refused = λ e. subst (λ (x : Line W). takes x.end.link.state x.end.link ≡ false) (sym same) full }
 
-  pub reads_some : (room until second left : ℕ) (answer : Result LinkFrame LinkFault) (a b : Line W) → ¬ (room ≡ 0) → Reads did until second left answer a b → ReadsFor did room until second left answer a b
-  reads_some zero until second left answer a b some reads = absurd (some refl)
-  reads_some (suc room) until second left answer a b some reads = reads
-
   pub refused_at : (a : Line W) (xs : List (ArrayVec ℕ)) (i : ℕ) (b c : Line W) → Chain (Gives did) a (take i xs) b → (c ≡ b) × (takes b.end.link.state b.end.link ≡ false) → GivesAll did xs false a c
   refused_at a xs i b c run (same, full) = record {
     given = take i xs;
@@ -146,9 +139,3 @@ module _ {W : Type 0} {did : W → List WireAct → W → Type 0} where
     whole = λ e. absurd (cc);
     refused = λ e. subst (λ (x : Line W). takes x.end.link.state x.end.link ≡ false) (sym same) full;
   }
-
-  pub comes_by : (room until second left : ℕ) (answer : Result LinkFrame LinkFault) (a b : Line W) → ¬ (room ≡ 0) → Reads did until second left answer a b → IfOk answer (λ f. MayCome Exchange room f)
-  comes_by room until second left (Ok (frames.Message m)) a b some reads = omega (arith, some)
-  comes_by room until second left (Ok (frames.EndOfTurn said)) a b some reads = tt
-  comes_by room until second left (Ok frames.EndOfDay) a b some reads = absurd reads.answers
-  comes_by room until second left (Err fault) a b some reads = tt

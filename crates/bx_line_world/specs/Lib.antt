@@ -6,3 +6,4 @@ pub mod Days
 pub mod Joined
 pub mod TwoEnds
 pub mod Steps
+pub mod Laws

@@ -1,14 +1,10 @@
 //! What holds of every live day over a data link.
 
-ghost use Rattle.std.specs.Prelude.{◌≡◌, ◌≤◌, ◌∷◌, ℕ, List, true, false, Some};
-ghost use Rattle.bx_live.specs.Acts.{Act, Began, ended, begins_none};
-ghost use Rattle.bx_live.specs.declared.world.Begin.{Begin};
-ghost use Rattle.bx_live_parts.specs.Chains.{Chain};
-ghost use Rattle.bx_live_parts.specs.Records.{OnDisk};
-ghost use Rattle.bx_line_world.specs.Days.{GoesByLine, octets_read};
-ghost use Rattle.bx_line_world.specs.Joined.{GoesOverLink};
+ghost use Rattle.std.specs.Prelude.{◌≡◌, ◌≤◌, ◌∷◌, List};
+ghost use Rattle.bx_live.specs.Acts.{Act};
 ghost use Rattle.bx_line_world.specs.TwoEnds.{IsOnce};
 ghost use Rattle.bx_line_world.specs.declared.line_world.LineWorld.{LineWorld as PlainLineWorld};
+ghost use Rattle.bx_line_world.specs.Laws.{NeverEnds, ReadsSoMuch, DiskGoesAlong, AllGoOverLink};
 
 use crate::wire::Wire;
 use bx_journal::Disk;
@@ -16,16 +12,16 @@ use bx_journal::Disk;
 /// It is never said that no second begins any more; in one second at most 8,000 octets of messages are read; and the disk of the journal
 /// has gone through the acts, so what holds of a run over a disk holds of it.
 pub fn of_line<W: Wire, D: Disk>()
-    ensures begins { (old new : PlainLineWorld W D) (acts : List Act) → Chain (GoesByLine W.did D.holds D.may_leave D.moment D.left_since D.has_failed) old acts new → ended acts ≡ false }
-    ensures second { (old new : PlainLineWorld W D) (second : ℕ) (begin : Begin) (acts : List Act) → Chain (GoesByLine W.did D.holds D.may_leave D.moment D.left_since D.has_failed) old (Began second begin ∷ acts) new → begins_none acts ≡ true → octets_read acts ≤ 8000 }
-    ensures kept { (old new : PlainLineWorld W D) (acts : List Act) (first : D) → Chain (GoesByLine W.did D.holds D.may_leave D.moment D.left_since D.has_failed) old acts new → old.record.disk ≡ Some first → (last : D) × (new.record.disk ≡ Some last) × Chain (OnDisk D.holds D.may_leave D.moment D.left_since D.has_failed) first acts last }
+    ensures begins { NeverEnds W.did D.holds D.may_leave D.moment D.left_since D.has_failed }
+    ensures second { ReadsSoMuch W.did D.holds D.may_leave D.moment D.left_since D.has_failed }
+    ensures kept { DiskGoesAlong W.did D.holds D.may_leave D.moment D.left_since D.has_failed }
 {}
 
 /// All acts of a day are one list of events of its data link, of which the table of ITU-T Q.921 says all: just their clock readings, waits and
 /// frames went over the wire. What the day writes is given to the link, each message once and in order, up to the first of an act that is not
 /// taken; and what it reads is a part of what waited and was delivered, in its order. So `once` of `bx_lapd` speaks of a live day.
 pub fn over_a_link<W: Wire, D: Disk>()
-    ensures { (old new : PlainLineWorld W D) (acts : List Act) → Chain (GoesByLine W.did D.holds D.may_leave D.moment D.left_since D.has_failed) old acts new → GoesOverLink W.did old new acts }
+    ensures { AllGoOverLink W.did D.holds D.may_leave D.moment D.left_since D.has_failed }
 {}
 
 /// Towards another end by the same table, over a medium that is first-in-first-out, delays without bound and loses what it likes: the other end

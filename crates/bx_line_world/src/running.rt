@@ -1,13 +1,8 @@
 //! A live day over a data link, by the clock.
 
 ghost use Rattle.std.specs.Prelude.{◌≡◌, OnOk};
-ghost use Rattle.bx_live.specs.Acts.{recorded};
-ghost use Rattle.bx_live.specs.Held.{AreHeld, IsHeldOut};
-ghost use Rattle.bx_live.specs.Runs.{Between, Done};
-ghost use Rattle.bx_live.specs.Running.{Runs, or_over};
-ghost use Rattle.bx_live_parts.specs.Chains.{Chain};
-ghost use Rattle.bx_day.specs.Outages.{live_day_after};
-ghost use Rattle.bx_line_world.specs.Days.{GoesByLine};
+ghost use Rattle.bx_live.specs.Held.{IsHeldOut};
+ghost use Rattle.bx_line_world.specs.Laws.{RunsOverLine};
 
 use crate::line_world::LineWorld;
 use crate::wire::Wire;
@@ -23,7 +18,7 @@ pub fn run_by_line<W: Wire, D: Disk>(
     world: &mut LineWorld<W, D>,
     last: u32,
 ) -> Result<(), CannotRecord>
-    ensures ran { (ran : Runs (Chain (GoesByLine W.did D.holds D.may_leave D.moment D.left_since D.has_failed)) world.old world.new (Between exchange.old) (or_over (Done exchange.new) exchange.new result)) × (exchange.new ≡ live_day_after (recorded ran.acts) exchange.old) × AreHeld last exchange.old ran.acts }
+    ensures ran { RunsOverLine W.did D.holds D.may_leave D.moment D.left_since D.has_failed world.old world.new last exchange.old exchange.new result }
     ensures whole { OnOk result (IsHeldOut last exchange.new) }
 {
     run_held(exchange, world, last)
