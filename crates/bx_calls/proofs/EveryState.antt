@@ -24,24 +24,11 @@ progress_of call m status released Status e = cc
 progress_of call m status released kind e = tt
 
 pub net_every : (c : PlainNetCall) (m : Heard) (t : ℕ) (state : NetState) (kind : Kind) (row : Transition PlainNetCall) → every_state_row c m (net_status c 30) (net_released c state) kind ≡ Some row → row ≡ net_row c m t state kind
-net_every c m t net.OutgoingCallProceeding Release row e = cc
-net_every c m t (net.CallPresent again due) Release row e = cc
-net_every c m t (net.IncomingCallProceeding due) Release row e = cc
-net_every c m t (net.CallReceived due) Release row e = cc
-net_every c m t net.Active Release row e = cc
-net_every c m t (net.Enquiring asked due) Release row e = cc
-net_every c m t (net.DisconnectIndication cause due) Release row e = cc
+net_every c m t state Setup row e = cc
 net_every c m t (net.ReleaseRequest again cause due) Release row e = cc
 net_every c m t state kind row e = cc
 
 pub user_every : (c : PlainUserCall) (m : Heard) (t : ℕ) (state : UserState) (kind : Kind) (row : Transition PlainUserCall) → every_state_row c m (user_status c 30) (user_released c state) kind ≡ Some row → row ≡ user_row c m t state kind
-user_every c m t (user.CallInitiated again due) Release row e = cc
-user_every c m t (user.OutgoingCallProceeding due) Release row e = cc
-user_every c m t user.CallPresent Release row e = cc
-user_every c m t user.CallReceived Release row e = cc
-user_every c m t (user.ConnectRequest due) Release row e = cc
-user_every c m t user.IncomingCallProceeding Release row e = cc
-user_every c m t (user.Active since) Release row e = cc
-user_every c m t (user.DisconnectRequest cause due) Release row e = cc
+user_every c m t state Setup row e = cc
 user_every c m t (user.ReleaseRequest again cause due) Release row e = cc
 user_every c m t state kind row e = cc
