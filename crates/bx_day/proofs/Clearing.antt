@@ -20,7 +20,7 @@ use Rattle.bx_calls.specs.PlainCalls.{PlainNetCall}
 use Rattle.bx_calls.specs.declared.net_state.NetOrigin.{NetOrigin}
 use Rattle.bx_calls.specs.declared.net_state.Asked.{Asked}
 use Rattle.bx_calls.specs.declared.net_state.NetState.{NetState}
-use Rattle.bx_calls.specs.declared.net_state.NetState.TheVariants.{CallPresent, IncomingCallProceeding, CallReceived, Enquiring, DisconnectIndication, ReleaseRequest}
+use Rattle.bx_calls.specs.declared.net_state.NetState.TheVariants.{Enquiring, DisconnectIndication, ReleaseRequest}
 use Rattle.bx_calls.specs.Hearing.{Heard, reports_null}
 use Rattle.bx_calls.specs.NetTable.{net_awake_state, net_heard, net_releases, net_row, net_second, net_unlinked}
 use Rattle.bx_calls.specs.Said.{Said, said_of}
@@ -145,10 +145,6 @@ still_clears x y t e r ch o s a more h c = at_end y t e a _ _ (λ late. omega (a
 
 -- a message, row by row
 row_clears : (x : Lost) (t : ℕ) (e : Entry) (r ch : ℕ) (o : NetOrigin) (a : Activity) (m : Heard) (s : NetState) (k : Kind) → CallFits t e (call_of r ch o s) a → (e.booking.end ≤ t → ClearsBy x.lasts (e.booking.end + added x) s) → StepClears x t e a (net_row (call_of r ch o s) m t s k)
-row_clears x t e r ch o a m (CallPresent again due) k h c = early_clears x t e a (net_row (call_of r ch o (CallPresent again due)) m t (CallPresent again due) k) h.phase.1
-row_clears x t e r ch o a m (IncomingCallProceeding due) k h c = early_clears x t e a (net_row (call_of r ch o (IncomingCallProceeding due)) m t (IncomingCallProceeding due) k) h.phase.1
-row_clears x t e r ch o a m (CallReceived due) k h c = early_clears x t e a (net_row (call_of r ch o (CallReceived due)) m t (CallReceived due) k) h.phase.1
-row_clears x t e r ch o a m (Enquiring asked due) k h c = early_clears x t e a (net_row (call_of r ch o (Enquiring asked due)) m t (Enquiring asked due) k) h.phase.1
 row_clears x t e r ch o a m (DisconnectIndication cause due) ReleaseComplete h c = over_clears x t t e.booking a
 row_clears x t e r ch o a m (DisconnectIndication cause due) Release h c = over_clears x t t e.booking a
 row_clears x t e r ch o a m (DisconnectIndication cause due) Status h c = clears_test (reports_null m.state) x t e a _ _ (λ _. over_clears x t t e.booking a) (λ _. c)

@@ -45,7 +45,6 @@ is_releasing _ = false
 
 -- RELEASE, in any state but Release Request
 pub release_fits : (t : ℕ) (e : Entry) (r ch : ℕ) (o : NetOrigin) (s : NetState) (a : Activity) (c : Option ℕ) → is_releasing s ≡ false → CallFits t e (call_of r ch o s) a → EntryFits t (on_call t e a (call_of r ch o (ReleaseRequest false c (t + 4))))
-release_fits t e r ch o (CallPresent again due) a c n h = goes_on t t e r ch o (CallPresent again due) a (ReleaseRequest false c (t + 4)) h tt (omega arith, omega arith) (ringing_clears t t e.booking a h.activity)
 release_fits t e r ch o Active a c n h = goes_on t t e r ch o Active a (ReleaseRequest false c (t + 4)) h tt (omega arith, omega arith) (talking_clears t t e.booking a (omega arith) (omega arith) h.activity)
 release_fits t e r ch o (Enquiring asked due) a c n h = goes_on t t e r ch o (Enquiring asked due) a (ReleaseRequest false c (t + 4)) h tt (omega arith, omega arith) (talking_clears t t e.booking a (omega arith) (omega (arith, h.phase.1)) h.activity)
 release_fits t e r ch o (DisconnectIndication cause due) a c n h = goes_on t t e r ch o (DisconnectIndication cause due) a (ReleaseRequest false c (t + 4)) h tt (omega arith, omega arith) (clearing_kept t t e.booking a (omega arith) h.activity)
@@ -67,7 +66,6 @@ row_fits t e r ch o a m (ReleaseRequest again cause due) Release h = over_fits t
 row_fits t e r ch o a m s Release h = over_fits t e r ch o s a h
 row_fits t e r ch o a m (ReleaseRequest again cause due) k h = same_fits t e r ch o (ReleaseRequest again cause due) a h
 row_fits t e r ch o a m s Disconnect h = release_fits t e r ch o s a None refl h
-row_fits t e r ch o a m (DisconnectIndication cause due) k h = same_fits t e r ch o (DisconnectIndication cause due) a h
 row_fits t e r ch o a m (CallPresent again due) CallProceeding h = by_test (names_channel m.channel ch) t e a _ _ (λ _. goes_on t t e r ch o (CallPresent again due) a (IncomingCallProceeding (t + 10)) h h.phase (omega arith, omega arith) (ringing_kept t t e.booking a h.activity)) (λ _. release_fits t e r ch o (CallPresent again due) a (Some 6) refl h)
 row_fits t e r ch o a m (CallPresent again due) Alerting h = by_test (names_channel m.channel ch) t e a _ _ (λ _. goes_on t t e r ch o (CallPresent again due) a (CallReceived (t + 180)) h h.phase (omega arith, omega arith) (ringing_kept t t e.booking a h.activity)) (λ _. release_fits t e r ch o (CallPresent again due) a (Some 6) refl h)
 row_fits t e r ch o a m (CallPresent again due) Connect h = by_test (names_channel m.channel ch) t e a _ _ (λ _. goes_on t t e r ch o (CallPresent again due) a Active h h.phase tt (ringing_talks t t e.booking a h.phase.0 h.activity)) (λ _. release_fits t e r ch o (CallPresent again due) a (Some 6) refl h)

@@ -71,16 +71,11 @@ late m t h = decide (nat_le m t) (λ yes. absurd (let le : m ≤ t = leb-true m 
 
 -- a call in its state stays in its activity
 pub activity_stays : (t u : ℕ) (b : Row) (s : NetState) (a : Activity) → ActivityFits t b (phase_of s) a → activity_after a (is_active s) u ≡ a
-activity_stays t u b OutgoingCallProceeding (Since from) h = absurd h
-activity_stays t u b (CallPresent again due) (Since from) h = absurd h
-activity_stays t u b (IncomingCallProceeding due) (Since from) h = absurd h
-activity_stays t u b (CallReceived due) (Since from) h = absurd h
-activity_stays t u b Active Never h = absurd h
-activity_stays t u b Active (Was from until) h = absurd h
-activity_stays t u b (Enquiring asked due) Never h = absurd h
-activity_stays t u b (Enquiring asked due) (Was from until) h = absurd h
-activity_stays t u b (DisconnectIndication cause due) (Since from) h = absurd h
-activity_stays t u b (ReleaseRequest again cause due) (Since from) h = absurd h
+activity_stays t u b Active (Since from) h = refl
+activity_stays t u b (Enquiring asked due) (Since from) h = refl
+activity_stays t u b Active a h = absurd h
+activity_stays t u b (Enquiring asked due) a h = absurd h
+activity_stays t u b s (Since from) h = absurd h
 activity_stays t u b s a h = refl
 
 running_late : (b : Row) (t : ℕ) → t < b.start → is_running b t ≡ false

@@ -142,7 +142,6 @@ unlinked e t s P f g = g
 
 still_fits : (t : ℕ) (e : Entry) (s : Standing) → EntryFits t (with_standing e s) → EntryFits (t + 1) (with_standing e (unlinked_at e (t + 1) s).standing)
 still_fits t e (OnCall c a) h = unlinked_fits t (with_standing e (OnCall c a)) c.reference c.channel c.origin c.state a h
-still_fits t e (Carried from until) h = entry_fits t e false (Carried from until) h
 still_fits t e s h = entry_fits t e false s h
 
 pub in_fits : (link : Link) (t : ℕ) (e : Entry) (free : Bool) (s : Standing) → EntryFits t (with_standing e s) → EntryFits (t + 1) (with_standing e (second_by link e (t + 1) free s).standing)
