@@ -1,5 +1,5 @@
 -- The day of a run is the one after the events that are logged.
-use Rattle.std.proofs.Common.{◌≡◌, ℕ, zero, suc, ◌==◌, List, [], ◌∷◌, ◌++◌, OnOk, refl, sym, ap, ◌∙◌, true, false, Bool, Result, Ok, Err, if◌then◌else◌}
+use Rattle.std.proofs.Common.{◌≡◌, ℕ, zero, ◌==◌, List, [], ◌∷◌, ◌++◌, OnOk, refl, sym, ap, ◌∙◌, true, false, Bool, Result, Ok, Err, if◌then◌else◌}
 use Rattle.arrayvec.specs.ArrayVec.{ArrayVec}
 use Rattle.bx_frames.specs.declared.fault.LinkFault.{LinkFault}
 use Rattle.bx_frames.specs.declared.frame.Frame.{Frame}
@@ -18,14 +18,12 @@ use Rattle.bx_live.specs.Running.{or_over}
 use Rattle.bx_live.proofs.Due.{by_answers}
 
 pub owing_day : (d : Day) (room : ℕ) (sent : List (ArrayVec ℕ)) (text : List ℕ) → day_at (owing d room sent text) ≡ d
-owing_day d room [] [] = refl
 owing_day d room [] (octet ∷ text) = refl
-owing_day d room (message ∷ sent) text = refl
+owing_day d room sent text = refl
 
 replying_day : (d : Day) (owed : List (List ℕ)) (room : ℕ) → day_at (replying d owed room) ≡ d
-replying_day d [] room = refl
 replying_day d (text ∷ owed) zero = refl
-replying_day d (text ∷ owed) (suc room) = refl
+replying_day d owed room = refl
 
 writing_day : (d : Day) (room : ℕ) (texts : List (List ℕ)) → day_at (writing d room texts) ≡ d
 writing_day d room [] = refl

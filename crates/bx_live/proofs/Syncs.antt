@@ -1,5 +1,5 @@
 -- Between two waits_in there is one sync at most.
-use Rattle.std.proofs.Common.{◌≡◌, ℕ, zero, suc, ◌+◌, ◌≤◌, ◌==◌, Bool, true, false, if◌then◌else◌, List, [], ◌∷◌, Result, Ok, arith, ap}
+use Rattle.std.proofs.Common.{◌≡◌, ℕ, zero, ◌+◌, ◌≤◌, ◌==◌, Bool, true, false, if◌then◌else◌, List, [], ◌∷◌, Result, Ok, arith, ap}
 use Rattle.arrayvec.specs.ArrayVec.{ArrayVec}
 use Rattle.bx_day.specs.Day.{Day}
 use Rattle.bx_day.specs.Course.{exchange_next, exchange_sent, exchange_text}
@@ -45,9 +45,8 @@ spends = by_answers Spends on_begun on_recorded
       on_begun d begin = omega (arith)
 
       owing_left : (d : Day) (room : ℕ) (sent : List (ArrayVec ℕ)) (text : List ℕ) → left_at (owing d room sent text) ≤ 2
-      owing_left d room [] [] = omega (arith)
       owing_left d room [] (octet ∷ text) = omega (arith)
-      owing_left d room (message ∷ sent) text = omega (arith)
+      owing_left d room sent text = omega (arith)
 
       on_recorded : (d : Day) (room : ℕ) (event : LiveEvent) (done : Bool) → Spends (Recording d room event) (Recorded event done)
       on_recorded d room event false = omega (arith)
@@ -55,9 +54,8 @@ spends = by_answers Spends on_begun on_recorded
       on_recorded d room event true = omega (arith)
 
       replying_left : (d : Day) (owed : List (List ℕ)) (room : ℕ) → left_at (replying d owed room) ≤ 2
-      replying_left d [] room = omega (arith)
       replying_left d (text ∷ owed) zero = omega (arith)
-      replying_left d (text ∷ owed) (suc room) = omega (arith)
+      replying_left d owed room = omega (arith)
 
       writing_left : (d : Day) (room : ℕ) (texts : List (List ℕ)) → left_at (writing d room texts) ≤ 1
       writing_left d room [] = omega (arith)

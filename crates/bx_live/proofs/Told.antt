@@ -1,5 +1,5 @@
 -- In a run in which nothing fails just what is sent for the logged events is written, in order and once.
-use Rattle.std.proofs.Common.{◌≡◌, ℕ, zero, suc, ◌+◌, List, [], ◌∷◌, ◌++◌, refl, sym, ap, ◌∙◌, true, false, Bool, Result, Ok, ◌==◌, if◌then◌else◌}
+use Rattle.std.proofs.Common.{◌≡◌, ℕ, zero, ◌+◌, List, [], ◌∷◌, ◌++◌, refl, sym, ap, ◌∙◌, true, false, Bool, Result, Ok, ◌==◌, if◌then◌else◌}
 use Rattle.std.proofs.lemmas.List.{append-nil, append_assoc}
 use Rattle.std.specs.List.{concat}
 use Rattle.std.proofs.lemmas.List.Folds.{concat-append}
@@ -48,14 +48,12 @@ abbrev Tells : Place → Act → Type 0
 Tells p act = goes_well (act ∷ []) ≡ true → written (act ∷ []) ++ owed_at (next p act) ≡ owed_at p ++ live_told (recorded (act ∷ [])) (day_at p)
 
 owes_text : (d : Day) (room : ℕ) (sent : List (ArrayVec ℕ)) (text : List ℕ) → owed_at (owing d room sent text) ≡ text ++ []
-owes_text d room [] [] = refl
 owes_text d room [] (octet ∷ text) = refl
-owes_text d room (message ∷ sent) text = refl
+owes_text d room sent text = refl
 
 owes_replies : (d : Day) (owed : List (List ℕ)) (room : ℕ) → owed_at (replying d owed room) ≡ concat owed
-owes_replies d [] room = refl
 owes_replies d (text ∷ owed) zero = refl
-owes_replies d (text ∷ owed) (suc room) = refl
+owes_replies d owed room = refl
 
 owes_texts : (d : Day) (room : ℕ) (texts : List (List ℕ)) → owed_at (writing d room texts) ≡ concat texts
 owes_texts d room [] = refl
