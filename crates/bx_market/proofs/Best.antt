@@ -6,7 +6,7 @@ use Rattle.bx_base.specs.Bookings.{Row, row_at}
 use Rattle.bx_base.proofs.SumLemmas.{sum_below-zero}
 use Rattle.bx_colour.specs.Colouring.{is_in}
 use Rattle.bx_day.specs.Day.{Day}
-use Rattle.bx_sales.specs.declared.selling.NoSale.TheVariants.{Late, Full, NoChannel, OtherChannels, Memory}
+use Rattle.bx_sales.specs.declared.selling.NoSale.TheVariants.{Late, OtherChannels, Memory}
 use Rattle.bx_market.specs.declared.market.Answer.{Answer}
 use Rattle.bx_market.specs.declared.market.Answer.TheVariants.{Accepted, Refused}
 use Rattle.bx_market.specs.Answers.{answer_at, IsToldOf, AreToldByChoice, AreToldOfMemory, AreTold}
@@ -20,20 +20,16 @@ use Rattle.bx_market.proofs.Records.{AreSold, Stands, stands}
 -- marks that are one by one those of these answers
 same_marks : (answers : List Answer) (marks : List Bool) → length answers ≡ length marks → ((i : ℕ) → i < length answers → is_in marks i ≡ is_sold (answer_at answers i)) → marks ≡ map is_sold answers
 same_marks [] [] count same = refl
-same_marks [] (m ∷ marks) count same = absurd (omega (arith, count))
-same_marks (a ∷ answers) [] count same = absurd (omega (arith, count))
 same_marks (a ∷ answers) (m ∷ marks) count same = ap₂ (λ (b : Bool) (bs : List Bool). b ∷ bs) (same 0 (omega arith)) (same_marks answers marks (omega (arith, count)) (λ i lt. same (suc i) (omega (arith, lt))))
+same_marks answers marks count same = absurd (omega (arith, count))
 
 module _ (channels : List Bool) (d : Day) (batch : List Row) where
   chosen_sold : (chosen : List Bool) (i : ℕ) (b : Bool) (a : Answer) → IsToldOf channels d batch chosen i b a → IsUnhindered a → b ≡ is_sold a
   chosen_sold chosen i true Accepted told fine = refl
-  chosen_sold chosen i true (Refused Late) told fine = absurd told
-  chosen_sold chosen i true (Refused Full) told fine = absurd told
-  chosen_sold chosen i true (Refused NoChannel) told fine = absurd told
   chosen_sold chosen i true (Refused OtherChannels) told fine = absurd (fine.1 refl)
   chosen_sold chosen i true (Refused Memory) told fine = absurd (fine.0 refl)
-  chosen_sold chosen i false Accepted told fine = absurd told
   chosen_sold chosen i false (Refused why) told fine = refl
+  chosen_sold chosen i b a told fine = absurd told
 
   module _ (answers : List Answer) (fine : (i : ℕ) → i < length batch → IsUnhindered (answer_at answers i)) where
     by_choice : AreToldByChoice channels d batch answers → IsBestChoice channels d batch (map is_sold answers)

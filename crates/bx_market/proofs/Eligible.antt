@@ -55,8 +55,6 @@ module _ (f : Row → ℕ) (same : (row : Row) → f (free_row row) ≡ f row) w
   -- what they come to in the plan they come to in the batch
   pub chosen_total : (batch : List Row) (eligible : List Bool) (assigned : List (Option ℕ)) (place : ℕ) → length eligible ≡ length batch → marked f (free_rows batch eligible) (λ k. is_accepted assigned (place + k)) ≡ total f batch (chosen_marks eligible assigned place)
   chosen_total [] [] assigned place count = refl
-  chosen_total [] (o ∷ eligible) assigned place count = absurd (omega (arith, count))
-  chosen_total (row ∷ batch) [] assigned place count = absurd (omega (arith, count))
   chosen_total (row ∷ batch) (false ∷ eligible) assigned place count = let rest = chosen_total batch eligible assigned place (omega (arith, count)) in omega (arith, rest)
   chosen_total (row ∷ batch) (true ∷ eligible) assigned place count =
       let more = free_rows batch eligible in
@@ -66,6 +64,7 @@ module _ (f : Row → ℕ) (same : (row : Row) → f (free_row row) ≡ f row) w
       let here : cond (is_accepted assigned (place + 0)) (f (free_row row)) 0 ≡ cond (is_accepted assigned place) (f row) 0 =
       let e : place + 0 ≡ place = omega arith in ap (λ (n : ℕ). cond (is_accepted assigned n) (f (free_row row)) 0) e ∙ ap (λ (n : ℕ). cond (is_accepted assigned place) n 0) (same row) in
       omega (arith, peeled, shifted, here, rest)
+  chosen_total batch eligible assigned place count = absurd (omega (arith, count))
 
 -- ---- another choice among them
 
@@ -76,19 +75,9 @@ picked (o ∷ eligible) [] = []
 picked (true ∷ eligible) (mark ∷ marks) = mark ∷ picked eligible marks
 picked (false ∷ eligible) (mark ∷ marks) = picked eligible marks
 
-pub picked_count : (batch : List Row) (eligible marks : List Bool) → length eligible ≡ length batch → length marks ≡ length batch → length (picked eligible marks) ≡ length (free_rows batch eligible)
-picked_count [] [] marks count many = refl
-picked_count [] (o ∷ eligible) marks count many = absurd (omega (arith, count))
-picked_count (row ∷ batch) [] marks count many = absurd (omega (arith, count))
-picked_count (row ∷ batch) (o ∷ eligible) [] count many = absurd (omega (arith, many))
-picked_count (row ∷ batch) (true ∷ eligible) (mark ∷ marks) count many = let rest = picked_count batch eligible marks (omega (arith, count)) (omega (arith, many)) in omega (arith, rest)
-picked_count (row ∷ batch) (false ∷ eligible) (mark ∷ marks) count many = picked_count batch eligible marks (omega (arith, count)) (omega (arith, many))
-
 module _ (f : Row → ℕ) (same : (row : Row) → f (free_row row) ≡ f row) where
   pub picked_total : (batch : List Row) (eligible marks : List Bool) → length eligible ≡ length batch → length marks ≡ length batch → ((i : ℕ) → is_in marks i ≡ true → is_in eligible i ≡ true) → total f (free_rows batch eligible) (picked eligible marks) ≡ total f batch marks
   picked_total [] [] marks count many part = refl
-  picked_total [] (o ∷ eligible) marks count many part = absurd (omega (arith, count))
-  picked_total (row ∷ batch) [] marks count many part = absurd (omega (arith, count))
   picked_total (row ∷ batch) (o ∷ eligible) [] count many part = absurd (omega (arith, many))
   picked_total (row ∷ batch) (true ∷ eligible) (mark ∷ marks) count many part =
       let rest = picked_total batch eligible marks (omega (arith, count)) (omega (arith, many)) (λ i h. part (suc i) h) in
@@ -98,15 +87,15 @@ module _ (f : Row → ℕ) (same : (row : Row) → f (free_row row) ≡ f row) w
   picked_total (row ∷ batch) (false ∷ eligible) (false ∷ marks) count many part =
       let rest = picked_total batch eligible marks (omega (arith, count)) (omega (arith, many)) (λ i h. part (suc i) h) in
       omega (arith, rest)
+  picked_total batch eligible marks count many part = absurd (omega (arith, count))
 
 module _ (f : Row → ℕ) (same : (row : Row) → f (free_row row) ≡ f row) where
   -- all that take part
   pub all_free_total : (batch : List Row) (eligible : List Bool) → length eligible ≡ length batch → total f (free_rows batch eligible) (all_of (free_rows batch eligible)) ≡ total f batch eligible
   all_free_total [] [] count = refl
-  all_free_total [] (e ∷ eligible) count = absurd (omega (arith, count))
-  all_free_total (row ∷ batch) [] count = absurd (omega (arith, count))
   all_free_total (row ∷ batch) (true ∷ eligible) count = let rest = all_free_total batch eligible (omega (arith, count)) in let here = same row in omega (arith, rest, here)
   all_free_total (row ∷ batch) (false ∷ eligible) count = let rest = all_free_total batch eligible (omega (arith, count)) in omega (arith, rest)
+  all_free_total batch eligible count = absurd (omega (arith, count))
 
 pub free_rows_free : (batch : List Row) (eligible : List Bool) (i : ℕ) → i < length (free_rows batch eligible) → (row_at (free_rows batch eligible) i).must ≡ false
 free_rows_free [] eligible i lt = absurd (omega (arith, lt))

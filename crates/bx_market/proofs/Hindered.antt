@@ -4,9 +4,9 @@ use Rattle.std.proofs.lemmas.Bool.{cases_lt}
 use Rattle.bx_base.specs.Bookings.{Row, row_at}
 use Rattle.bx_colour.specs.Colouring.{is_in}
 use Rattle.bx_day.specs.Day.{Day}
-use Rattle.bx_events.specs.Events.{LiveEvent, OnLink, WithoutLink, Sold}
+use Rattle.bx_events.specs.Events.{LiveEvent, Sold}
 use Rattle.bx_live.specs.Acts.{recorded}
-use Rattle.bx_live.specs.Runs.{Between, Recording, Receiving, Taking, Owing, Hearing, Losing, Over, Closing, Ending, Done}
+use Rattle.bx_live.specs.Runs.{Between}
 use Rattle.bx_planfile.specs.OneBooking.{row_on}
 use Rattle.bx_sales.specs.Journal.{RunsThrough}
 use Rattle.bx_sales.specs.Sold.{IsFirstFitDay, Bought, GoesThrough}
@@ -16,7 +16,7 @@ use Rattle.bx_market.specs.declared.market.Answer.{Answer}
 use Rattle.bx_market.specs.declared.market.Answer.TheVariants.{Refused}
 use Rattle.bx_market.specs.Answers.{answer_at, IsToldOf, HasOtherChannels, AreTold}
 use Rattle.bx_market.specs.Deals.{Deal, Asked, Answered, acts_of}
-use Rattle.bx_market.specs.Stands.{Stand, Within, Filing, Telling, Goes, IsMarketRun, stand_day}
+use Rattle.bx_market.specs.Stands.{Stand, Within, Goes, IsMarketRun, stand_day}
 use Rattle.bx_market.proofs.Eligible.{eligible_later}
 use Rattle.bx_market.proofs.Best.{told_of_best}
 use Rattle.bx_market.proofs.Through.{run_through}
@@ -34,8 +34,7 @@ run_split channels p r (x ∷ xs) ys (mid, goes, rest) = let s = run_split chann
 first_fit_through : (channels : List Bool) (events : List LiveEvent) (d d1 : Day) → IsFirstFitDay channels d → RunsThrough channels row_on events d d1 → IsFirstFitDay channels d1
 first_fit_through channels [] d d1 first same = subst (IsFirstFitDay channels) (sym same) first
 first_fit_through channels (Sold line ∷ events) d d1 first (next, is, rest) = first_fit_through channels events next d1 (first_fit_sold channels (row_on line) d first next is) rest
-first_fit_through channels (OnLink event ∷ events) d d1 first rest = first_fit_through channels events _ d1 (still_first_fit channels d (OnLink event) first) rest
-first_fit_through channels (WithoutLink ∷ events) d d1 first rest = first_fit_through channels events _ d1 (still_first_fit channels d WithoutLink first) rest
+first_fit_through channels (x ∷ events) d d1 first rest = first_fit_through channels events _ d1 (still_first_fit channels d x first) rest
 
 first_fit_bought : (channels : List Bool) (rows : List Row) (d d1 : Day) → IsFirstFitDay channels d → GoesThrough channels (map Bought rows) d d1 → IsFirstFitDay channels d1
 first_fit_bought channels [] d d1 first same = subst (IsFirstFitDay channels) (sym same) first
@@ -62,18 +61,7 @@ module _ (channels : List Bool) (d : Day) (batch : List Row) (first : IsFirstFit
 
 at_asked : (channels : List Bool) (shown : Day) (batch : List Row) (q r : Stand) → IsFirstFitDay channels (stand_day q) → Goes channels q (Asked shown (Some batch)) r → IsFirstFitDay channels shown
 at_asked channels shown batch (Within (Between e)) r there (same, is) = subst (IsFirstFitDay channels) (sym same) there
-at_asked channels shown batch (Within (Recording e room event)) r there goes = absurd goes
-at_asked channels shown batch (Within (Receiving e room owed octets)) r there goes = absurd goes
-at_asked channels shown batch (Within (Taking e room owed)) r there goes = absurd goes
-at_asked channels shown batch (Within (Owing e room unsynced texts)) r there goes = absurd goes
-at_asked channels shown batch (Within (Hearing e room)) r there goes = absurd goes
-at_asked channels shown batch (Within (Losing e loss)) r there goes = absurd goes
-at_asked channels shown batch (Within (Over e)) r there goes = absurd goes
-at_asked channels shown batch (Within (Closing e)) r there goes = absurd goes
-at_asked channels shown batch (Within (Ending e)) r there goes = absurd goes
-at_asked channels shown batch (Within (Done e)) r there goes = absurd goes
-at_asked channels shown batch (Filing asked e wanted sold) r there goes = absurd goes
-at_asked channels shown batch (Telling asked e wanted sold) r there goes = absurd goes
+at_asked channels shown batch q r there goes = absurd goes
 
 -- the day that was shown where a batch was asked for
 shown_first_fit : (channels : List Bool) (d shown : Day) (batch : List Row) (before since : List Deal) (to : Stand) → IsFirstFitDay channels d → IsMarketRun channels (Within (Between d)) (before ++ Asked shown (Some batch) ∷ since) to → IsFirstFitDay channels shown

@@ -20,20 +20,17 @@ others (WithoutLink ∷ events) = WithoutLink ∷ others events
 others_day : (events more : List LiveEvent) (d : Day) → live_day_after (others events ++ more) d ≡ live_day_after (events ++ more) d
 others_day [] more d = refl
 others_day (Sold line ∷ events) more d = others_day events more d
-others_day (OnLink event ∷ events) more d = others_day events more (live_happens d (OnLink event)).day
-others_day (WithoutLink ∷ events) more d = others_day events more (live_happens d WithoutLink).day
+others_day (x ∷ events) more d = others_day events more (live_happens d x).day
 
 others_sell : (events more : List LiveEvent) → sold_in row_on (others events ++ more) ≡ sold_in row_on more
 others_sell [] more = refl
-others_sell (Sold line ∷ events) more = others_sell events more
-others_sell (OnLink event ∷ events) more = others_sell events more
 others_sell (WithoutLink ∷ events) more = others_sell events more
+others_sell (x ∷ events) more = others_sell events more
 
 through_others : (channels : List Bool) (events : List LiveEvent) (d : Day) → RunsThrough channels row_on (others events) d (live_day_after events d)
 through_others channels [] d = refl
 through_others channels (Sold line ∷ events) d = through_others channels events d
-through_others channels (OnLink event ∷ events) d = through_others channels events (live_happens d (OnLink event)).day
-through_others channels (WithoutLink ∷ events) d = through_others channels events (live_happens d WithoutLink).day
+through_others channels (x ∷ events) d = through_others channels events (live_happens d x).day
 
 pub day_following : (channels : List Bool) (rows : List Row) (accepted : List Bool) (assigned : List (Option ℕ)) (earlier events : List LiveEvent) (d d1 : Day) → length accepted ≡ length rows → AreBookings rows → Carries rows channels (is_accepted assigned) (channel_at assigned) → IsFirstFit rows channels accepted assigned
     → d ≡ live_day_after earlier (opening rows assigned) → RunsThrough channels row_on events d d1 → (last : List (Option ℕ))

@@ -3,9 +3,9 @@ use Rattle.std.proofs.Common.{◌≡◌, inl, inr, Bool, true, false, List, [], 
 use Rattle.std.proofs.lemmas.List.{append-nil}
 use Rattle.bx_base.specs.Bookings.{Row}
 use Rattle.bx_day.specs.Day.{Day}
-use Rattle.bx_events.specs.Events.{LiveEvent, OnLink, WithoutLink, Sold}
-use Rattle.bx_live.specs.Acts.{Act, Began, Dropped, Recorded, Synced, Wrote, Read, Took, EndedDay, recorded}
-use Rattle.bx_live.specs.Runs.{Between, Recording, Receiving, Taking, Owing, Hearing, Losing, Over, Closing, Ending, Done}
+use Rattle.bx_events.specs.Events.{LiveEvent, Sold}
+use Rattle.bx_live.specs.Acts.{Act, Recorded, Synced, recorded}
+use Rattle.bx_live.specs.Runs.{Between, Over}
 use Rattle.bx_live.specs.Written.{Filed, filed, filed_by}
 use Rattle.bx_live.proofs.Onward.{recorded_on}
 use Rattle.bx_planfile.specs.OneBooking.{row_on}
@@ -18,22 +18,14 @@ use Rattle.bx_market.proofs.Steps.{acts_more}
 
 filed_synced : (acts : List Act) (f : Filed) → (filed_by (acts ++ Synced true ∷ []) f).more ≡ []
 filed_synced [] f = refl
-filed_synced (Began second begin ∷ xs) f = filed_synced xs f
-filed_synced (Dropped loss ∷ xs) f = filed_synced xs f
 filed_synced (Recorded event true ∷ xs) f = filed_synced xs (record { disk = f.disk; more = f.more ++ event ∷ [] })
-filed_synced (Recorded event false ∷ xs) f = filed_synced xs f
 filed_synced (Synced true ∷ xs) f = filed_synced xs (record { disk = f.disk ++ f.more; more = [] })
-filed_synced (Synced false ∷ xs) f = filed_synced xs f
-filed_synced (Wrote octets done ∷ xs) f = filed_synced xs f
-filed_synced (Read room answer ∷ xs) f = filed_synced xs f
-filed_synced (Took message ∷ xs) f = filed_synced xs f
-filed_synced (EndedDay ∷ xs) f = filed_synced xs f
+filed_synced (x ∷ xs) f = filed_synced xs f
 
 sold_on : (xs ys : List LiveEvent) → sold_in row_on (xs ++ ys) ≡ sold_in row_on xs ++ sold_in row_on ys
 sold_on [] ys = refl
 sold_on (Sold line ∷ xs) ys = ap (λ (l : List Row). row_on line ∷ l) (sold_on xs ys)
-sold_on (OnLink event ∷ xs) ys = sold_on xs ys
-sold_on (WithoutLink ∷ xs) ys = sold_on xs ys
+sold_on (x ∷ xs) ys = sold_on xs ys
 
 -- the bookings that were sold since a batch was asked for
 pub record AreSold (deals : List Deal) (shown : Day) (batch sold : List Row) : Type 0 where
@@ -70,37 +62,16 @@ pub stands : (channels : List Bool) (deals : List Deal) (from to : Stand) (deal 
 stands channels deals (Within p) to (Ran act) s (due, e) = named _ to _ e tt
 stands channels deals (Within (Between d)) to (Asked shown None) s (at, e) = named _ to (Within (Between d)) e tt
 stands channels deals (Within (Between d)) to (Asked shown (Some batch)) s (at, e) = named _ to (Filing d d batch []) e (record { before = deals; since = []; are = ap (λ (x : Day). deals ++ Asked x (Some batch) ∷ []) at; is = refl })
-stands channels deals (Within (Recording d room event)) to (Asked shown batch) s e = absurd e
-stands channels deals (Within (Receiving d room owed octets)) to (Asked shown batch) s e = absurd e
-stands channels deals (Within (Taking d room owed)) to (Asked shown batch) s e = absurd e
-stands channels deals (Within (Owing d room unsynced texts)) to (Asked shown batch) s e = absurd e
-stands channels deals (Within (Hearing d room)) to (Asked shown batch) s e = absurd e
-stands channels deals (Within (Losing d loss)) to (Asked shown batch) s e = absurd e
-stands channels deals (Within (Over d)) to (Asked shown batch) s e = absurd e
-stands channels deals (Within (Closing d)) to (Asked shown batch) s e = absurd e
-stands channels deals (Within (Ending d)) to (Asked shown batch) s e = absurd e
-stands channels deals (Within (Done d)) to (Asked shown batch) s e = absurd e
-stands channels deals (Within p) to (Answered answers) s e = absurd e
 stands channels deals (Filing shown d batch sold) to (Ran (Recorded (Sold line) true)) s (d1, is, e) = named _ to (Filing shown d1 batch (sold ++ row_on line ∷ [])) e (sold_after deals shown batch sold (Recorded (Sold line) true) s)
 stands channels deals (Filing shown d batch sold) to (Ran (Recorded (Sold line) false)) s e = named _ to (Within (Over d)) e tt
-stands channels deals (Filing shown d batch sold) to (Ran (Recorded (OnLink event) done)) s e = absurd e
-stands channels deals (Filing shown d batch sold) to (Ran (Recorded WithoutLink done)) s e = absurd e
 stands channels deals (Filing shown d batch sold) to (Ran (Synced true)) s e = named _ to (Telling shown d batch sold) e (record {
   sold_since = subst (AreSold (deals ++ Ran (Synced true) ∷ []) shown batch) (append-nil sold) (sold_after deals shown batch sold (Synced true) s);
   on_disk = ap (λ (l : List Act). (filed l).more) (acts_more deals (Ran (Synced true) ∷ [])) ∙ filed_synced (acts_of deals) _;
 })
 stands channels deals (Filing shown d batch sold) to (Ran (Synced false)) s e = named _ to (Within (Over d)) e tt
-stands channels deals (Filing shown d batch sold) to (Ran (Began second begin)) s e = absurd e
-stands channels deals (Filing shown d batch sold) to (Ran (Dropped loss)) s e = absurd e
-stands channels deals (Filing shown d batch sold) to (Ran (Wrote octets done)) s e = absurd e
-stands channels deals (Filing shown d batch sold) to (Ran (Read room answer)) s e = absurd e
-stands channels deals (Filing shown d batch sold) to (Ran (Took message)) s e = absurd e
-stands channels deals (Filing shown d batch sold) to (Ran EndedDay) s e = absurd e
-stands channels deals (Filing shown d batch sold) to (Asked day other) s e = absurd e
 stands channels deals (Filing shown d batch sold) to (Answered answers) s (none, are, told, e) = named _ to (Within (Between d)) e tt
-stands channels deals (Telling shown d batch sold) to (Ran act) s e = absurd e
-stands channels deals (Telling shown d batch sold) to (Asked day other) s e = absurd e
 stands channels deals (Telling shown d batch sold) to (Answered answers) s (are, told, e) = named _ to (Within (Between d)) e tt
+stands channels deals from to deal s e = absurd e
 
 told_at : (channels : List Bool) (deals : List Deal) (from to : Stand) (answers : List Answer) → Stands deals from → Goes channels from (Answered answers) to → IsToldOnRecord deals answers
 told_at channels deals (Within p) to answers s e = absurd e

@@ -4,14 +4,14 @@ use Rattle.std.proofs.lemmas.List.{append-nil}
 use Rattle.bx_day.specs.Day.{Day}
 use Rattle.bx_live.specs.declared.world.CannotRecord.{CannotRecord}
 use Rattle.bx_live.specs.declared.running.Second.TheVariants.{Ended}
-use Rattle.bx_live.specs.Acts.{Act, Began, Dropped, Recorded, Synced, Wrote, Read, Took, EndedDay, ended, begins_none}
+use Rattle.bx_live.specs.Acts.{Act, Began, ended, begins_none}
 use Rattle.bx_live.specs.Held.{has_call, IsHeldOut}
 use Rattle.bx_live.specs.Runs.{Place, Between, Over, Closing, Done, IsRun, next}
 use Rattle.bx_live.specs.Running.{Runs, RunsInside, or_over}
 use Rattle.bx_live.specs.Seconds.{IsOneSecond, IsSecond}
 use Rattle.bx_live.proofs.Days.{ended_inside}
 use Rattle.bx_live.proofs.Steps.{as_run}
-use Rattle.bx_market.specs.Deals.{Deal, Ran, Asked, Answered, acts_of, all_ran}
+use Rattle.bx_market.specs.Deals.{Deal, Ran, acts_of, all_ran}
 use Rattle.bx_market.specs.Stands.{Stand, Within, IsMarketRun, IsHeldMarketRun, Deals}
 use Rattle.bx_market.specs.Offers.{Asks}
 use Rattle.bx_market.specs.SaleRuns.{IsSaleRun}
@@ -29,27 +29,13 @@ module _ (channels : List Bool) (last : ℕ) where
   -- where no second begins
   pub asks_held : (p q : Stand) (deals : List Deal) → IsMarketRun channels p deals q → begins_none (acts_of deals) ≡ true → Held p deals q
   asks_held p q [] e none = e
-  asks_held p q (Asked shown batch ∷ deals) (mid, goes, rest) none = (mid, goes, tt, asks_held mid q deals rest none)
-  asks_held p q (Answered answers ∷ deals) (mid, goes, rest) none = (mid, goes, tt, asks_held mid q deals rest none)
   asks_held p q (Ran (Began second begin) ∷ deals) (mid, goes, rest) none = absurd (true≢false (sym none))
-  asks_held p q (Ran (Dropped loss) ∷ deals) (mid, goes, rest) none = (mid, goes, tt, asks_held mid q deals rest none)
-  asks_held p q (Ran (Recorded event done) ∷ deals) (mid, goes, rest) none = (mid, goes, tt, asks_held mid q deals rest none)
-  asks_held p q (Ran (Synced done) ∷ deals) (mid, goes, rest) none = (mid, goes, tt, asks_held mid q deals rest none)
-  asks_held p q (Ran (Wrote octets done) ∷ deals) (mid, goes, rest) none = (mid, goes, tt, asks_held mid q deals rest none)
-  asks_held p q (Ran (Read room answer) ∷ deals) (mid, goes, rest) none = (mid, goes, tt, asks_held mid q deals rest none)
-  asks_held p q (Ran (Took message) ∷ deals) (mid, goes, rest) none = (mid, goes, tt, asks_held mid q deals rest none)
-  asks_held p q (Ran EndedDay ∷ deals) (mid, goes, rest) none = (mid, goes, tt, asks_held mid q deals rest none)
+  asks_held p q (x ∷ deals) (mid, goes, rest) none = (mid, goes, tt, asks_held mid q deals rest none)
 
   pub inside_held : (p q : Place) (acts : List Act) → IsRun p acts q → begins_none acts ≡ true → Held (Within p) (all_ran acts) (Within q)
   inside_held p q [] e none = ap Within e
   inside_held p q (Began second begin ∷ acts) (due, goes) none = absurd (true≢false (sym none))
-  inside_held p q (Dropped loss ∷ acts) (due, goes) none = (Within (next p (Dropped loss)), (due, refl), tt, inside_held (next p (Dropped loss)) q acts goes none)
-  inside_held p q (Recorded event done ∷ acts) (due, goes) none = (Within (next p (Recorded event done)), (due, refl), tt, inside_held (next p (Recorded event done)) q acts goes none)
-  inside_held p q (Synced done ∷ acts) (due, goes) none = (Within (next p (Synced done)), (due, refl), tt, inside_held (next p (Synced done)) q acts goes none)
-  inside_held p q (Wrote octets done ∷ acts) (due, goes) none = (Within (next p (Wrote octets done)), (due, refl), tt, inside_held (next p (Wrote octets done)) q acts goes none)
-  inside_held p q (Read room answer ∷ acts) (due, goes) none = (Within (next p (Read room answer)), (due, refl), tt, inside_held (next p (Read room answer)) q acts goes none)
-  inside_held p q (Took message ∷ acts) (due, goes) none = (Within (next p (Took message)), (due, refl), tt, inside_held (next p (Took message)) q acts goes none)
-  inside_held p q (EndedDay ∷ acts) (due, goes) none = (Within (next p EndedDay), (due, refl), tt, inside_held (next p EndedDay) q acts goes none)
+  inside_held p q (x ∷ acts) (due, goes) none = (Within (next p x), (due, refl), tt, inside_held (next p x) q acts goes none)
 
   -- one second that was wanted
   pub second_held : (d : Day) (q : Place) (acts : List Act) → IsRun (Between d) acts q → IsOneSecond d.moment acts → d.moment < 300000 → (d.moment < last) ⊎ (has_call d ≡ true) → Held (Within (Between d)) (all_ran acts) (Within q)

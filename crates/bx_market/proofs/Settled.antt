@@ -145,12 +145,11 @@ module _ (channels : List Bool) (d : Day) (batch : List Row) (chosen : List Bool
           omega (arith, places, few, before, count, now, was, rows, sum)
 
       told_chosen : (d2 : Day) (a : Answer) → IsSettled channels (row_at batch i) d1 d2 (Ok a) → IsToldOf channels d batch chosen i true a
-      told_chosen d2 Accepted s = tt
       told_chosen d2 (Refused Late) s = let later = eligible_later d.moment (length d.entries) batch i (best.eligible i in_choice) in absurd (omega (arith, s, later, settled.moment))
       told_chosen d2 (Refused Full) s = absurd (omega (arith, s, next_has_place))
       told_chosen d2 (Refused NoChannel) s = absurd (s next_fits)
       told_chosen d2 (Refused OtherChannels) s = record { sold = sold; now = d1; went = settled.went; other = s }
-      told_chosen d2 (Refused Memory) s = tt
+      told_chosen d2 a s = tt
 
     told_left_out : AreBookings batch → (is_in chosen i ≡ false) → (late eligible : Bool) → leb (row_at batch i).start d1.moment ≡ late → is_eligible d batch i ≡ eligible → IsToldOf channels d batch chosen i false (Refused (cond late Late (cond eligible NoChannel Full)))
     told_left_out bookings out true eligible late e = (let le = leb-true (row_at batch i).start d1.moment late in omega (arith, le, settled.moment))

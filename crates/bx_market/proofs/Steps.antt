@@ -1,11 +1,12 @@
 -- Runs with sales, one after another.
 use Rattle.std.proofs.Common.{◌≡◌, Bool, true, List, [], ◌∷◌, ◌++◌, refl, sym, ap, ◌∙◌, subst}
-use Rattle.bx_live.specs.Acts.{Act, Began, Dropped, Recorded, Synced, Wrote, Read, Took, EndedDay, begins_none}
+use Rattle.bx_live.specs.Acts.{Act, begins_none}
 use Rattle.bx_live.specs.Runs.{Place, IsRun, next}
 use Rattle.bx_live.specs.Running.{Runs}
-use Rattle.bx_market.specs.Deals.{Deal, Ran, Asked, Answered, acts_of, all_ran}
+use Rattle.bx_market.specs.Deals.{Deal, Ran, acts_of, all_ran}
 use Rattle.bx_market.specs.Offers.{Asks}
 use Rattle.bx_market.specs.Stands.{Stand, Within, Goes, IsMarketRun, Deals}
+use Rattle.bx_live.proofs.Steps.{begins_on}
 
 pub run_more : (channels : List Bool) (p q r : Stand) (xs ys : List Deal) → IsMarketRun channels p xs q → IsMarketRun channels q ys r → IsMarketRun channels p (xs ++ ys) r
 run_more channels p q r [] ys e more = subst (λ (s : Stand). IsMarketRun channels s ys r) (sym e) more
@@ -22,13 +23,9 @@ acts_all_ran (act ∷ acts) = ap (λ (l : List Act). act ∷ l) (acts_all_ran ac
 pub acts_more : (xs ys : List Deal) → acts_of (xs ++ ys) ≡ acts_of xs ++ acts_of ys
 acts_more [] ys = refl
 acts_more (Ran act ∷ xs) ys = ap (λ (l : List Act). act ∷ l) (acts_more xs ys)
-acts_more (Asked shown batch ∷ xs) ys = acts_more xs ys
-acts_more (Answered answers ∷ xs) ys = acts_more xs ys
+acts_more (x ∷ xs) ys = acts_more xs ys
 
 module _ {W : Type 0} {dealt : W → List Deal → W → Type 0} {channels : List Bool} where
-  abbrev pub one_dealt : {u v : W} (p q : Stand) (deal : Deal) → dealt u (deal ∷ []) v → Goes channels p deal q → Deals dealt channels u v p q
-  one_dealt p q deal done goes = record { deals = deal ∷ []; done = done; goes = (q, goes, refl) }
-
   module _ (more : (u v w : W) (xs ys : List Deal) → dealt u xs v → dealt v ys w → dealt u (xs ++ ys) w) where
     abbrev pub then_dealt : {u v w : W} {p q r : Stand} → Deals dealt channels u v p q → Deals dealt channels v w q r → Deals dealt channels u w p r
     then_dealt {u} {v} {w} {p} {q} {r} a b = record { deals = a.deals ++ b.deals; done = more u v w a.deals b.deals a.done b.done; goes = run_more channels p q r a.deals b.deals a.goes b.goes }
@@ -37,24 +34,10 @@ module _ {W : Type 0} {did : W → List Act → W → Type 0} {dealt : W → Lis
   abbrev pub by_run : {u v : W} {p q : Place} → Runs did u v p q → Deals dealt channels u v (Within p) (Within q)
   by_run {u} {v} {p} {q} run = record { deals = all_ran run.acts; done = by u v run.acts run.done; goes = within_run channels p q run.acts run.goes }
 
-  abbrev pub one_ran : {u v : W} (p q : Stand) (act : Act) → did u (act ∷ []) v → Goes channels p (Ran act) q → Deals dealt channels u v p q
-  one_ran {u} {v} p q act done goes = record { deals = Ran act ∷ []; done = by u v (act ∷ []) done; goes = (q, goes, refl) }
-
   abbrev pub none_ran : ((w : W) → did w [] w) → (w : W) (p : Stand) → Deals dealt channels w w p p
   none_ran none w p = record { deals = []; done = by w w [] (none w); goes = refl }
 
 -- ---- the same where no second begins
-
-pub inside_more : (xs ys : List Act) → begins_none xs ≡ true → begins_none ys ≡ true → begins_none (xs ++ ys) ≡ true
-inside_more [] ys e more = more
-inside_more (Began second begin ∷ xs) ys e more = cc
-inside_more (Dropped loss ∷ xs) ys e more = inside_more xs ys e more
-inside_more (Recorded event done ∷ xs) ys e more = inside_more xs ys e more
-inside_more (Synced done ∷ xs) ys e more = inside_more xs ys e more
-inside_more (Wrote octets done ∷ xs) ys e more = inside_more xs ys e more
-inside_more (Read room answer ∷ xs) ys e more = inside_more xs ys e more
-inside_more (Took message ∷ xs) ys e more = inside_more xs ys e more
-inside_more (EndedDay ∷ xs) ys e more = inside_more xs ys e more
 
 module _ {W : Type 0} {dealt : W → List Deal → W → Type 0} {channels : List Bool} where
   abbrev pub one_asked : {u v : W} (p q : Stand) (deal : Deal) → dealt u (deal ∷ []) v → Goes channels p deal q → begins_none (acts_of (deal ∷ [])) ≡ true → Asks dealt channels u v p q
@@ -69,7 +52,7 @@ module _ {W : Type 0} {dealt : W → List Deal → W → Type 0} {channels : Lis
       deals = a.deals ++ b.deals;
       done = more u v w a.deals b.deals a.done b.done;
       goes = run_more channels p q r a.deals b.deals a.goes b.goes;
-      inside = ap begins_none (acts_more a.deals b.deals) ∙ inside_more (acts_of a.deals) (acts_of b.deals) a.inside b.inside;
+      inside = ap begins_none (acts_more a.deals b.deals) ∙ begins_on (acts_of a.deals) (acts_of b.deals) a.inside b.inside;
     }
 
 module _ {W : Type 0} {did : W → List Act → W → Type 0} {dealt : W → List Deal → W → Type 0} (channels : List Bool) (by : (v w : W) (acts : List Act) → did v acts w → dealt v (all_ran acts) w) where

@@ -43,9 +43,8 @@ marked-total f (row ∷ rows) (mark ∷ marks) =
 
 pub total-append : (f : Row → ℕ) (xs ys : List Row) (ms ns : List Bool) → length ms ≡ length xs → total f (xs ++ ys) (ms ++ ns) ≡ total f xs ms + total f ys ns
 total-append f [] ys [] ns count = omega arith
-total-append f [] ys (m ∷ ms) ns count = absurd (omega (arith, count))
-total-append f (x ∷ xs) ys [] ns count = absurd (omega (arith, count))
 total-append f (x ∷ xs) ys (m ∷ ms) ns count = let rest = total-append f xs ys ms ns (omega (arith, count)) in omega (arith, rest)
+total-append f xs ys ms ns count = absurd (omega (arith, count))
 
 pub marked-append : (f : Row → ℕ) (xs ys : List Row) (set : ℕ → Bool) → marked f (xs ++ ys) set ≡ marked f xs set + marked f ys (λ k. set (length xs + k))
 marked-append f [] ys set =

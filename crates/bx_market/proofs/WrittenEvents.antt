@@ -3,9 +3,9 @@ use Rattle.std.proofs.Common.{◌≡◌, ◌⊎◌, inl, inr, Bool, true, false,
 use Rattle.std.proofs.lemmas.List.{append-nil}
 use Rattle.bx_day.specs.Day.{Day}
 use Rattle.bx_day.specs.Outages.{live_happens, live_day_after}
-use Rattle.bx_events.specs.Events.{LiveEvent, OnLink, WithoutLink, Sold}
-use Rattle.bx_live.specs.Acts.{Act, Began, Dropped, Recorded, Synced, Wrote, Read, Took, EndedDay, recorded}
-use Rattle.bx_live.specs.Runs.{Place, Between, Recording, Receiving, Taking, Owing, Hearing, Losing, Over, Closing, Ending, Done, IsDue, IsRun, next}
+use Rattle.bx_events.specs.Events.{LiveEvent, OnLink, Sold}
+use Rattle.bx_live.specs.Acts.{Act, Recorded, Synced, Wrote, recorded}
+use Rattle.bx_live.specs.Runs.{Place, Between, Over, IsDue, IsRun, next}
 use Rattle.bx_live.specs.Written.{Filed, filed, filed_by, IsWrittenFor}
 use Rattle.bx_live.proofs.Onward.{filed_on, recorded_on, written_law}
 use Rattle.bx_live.proofs.Steps as live
@@ -23,21 +23,12 @@ use Rattle.bx_market.proofs.Through.{IsLinkPlace, IsLinkStand, Through, keeps, l
 abbrev AreUnsold : List LiveEvent → Type 0
 AreUnsold [] = Unit {0}
 AreUnsold (Sold line ∷ events) = ⊥
-AreUnsold (OnLink event ∷ events) = AreUnsold events
-AreUnsold (WithoutLink ∷ events) = AreUnsold events
+AreUnsold (x ∷ events) = AreUnsold events
 
 one_unsold : (p : Place) (act : Act) (acts : List Act) → IsLinkPlace p → IsDue p act → AreUnsold (recorded acts) → AreUnsold (recorded (act ∷ acts))
-one_unsold p (Recorded (Sold line) true) acts link due rest = no_sale p line true link due
-one_unsold p (Recorded (OnLink event) true) acts link due rest = rest
-one_unsold p (Recorded WithoutLink true) acts link due rest = rest
 one_unsold p (Recorded event false) acts link due rest = rest
-one_unsold p (Began second begin) acts link due rest = rest
-one_unsold p (Dropped loss) acts link due rest = rest
-one_unsold p (Synced done) acts link due rest = rest
-one_unsold p (Wrote octets done) acts link due rest = rest
-one_unsold p (Read room answer) acts link due rest = rest
-one_unsold p (Took message) acts link due rest = rest
-one_unsold p EndedDay acts link due rest = rest
+one_unsold p (Recorded (Sold line) true) acts link due rest = no_sale p line true link due
+one_unsold p act acts link due rest = rest
 
 all_unsold : (p q : Place) (acts : List Act) → IsLinkPlace p → IsRun p acts q → AreUnsold (recorded acts)
 all_unsold p q [] link e = tt
@@ -46,46 +37,30 @@ all_unsold p q (act ∷ acts) link (due, goes) = one_unsold p act acts link due 
 first_unsold : (xs ys : List LiveEvent) → AreUnsold (xs ++ ys) → AreUnsold xs
 first_unsold [] ys are = tt
 first_unsold (Sold line ∷ xs) ys are = are
-first_unsold (OnLink event ∷ xs) ys are = first_unsold xs ys are
-first_unsold (WithoutLink ∷ xs) ys are = first_unsold xs ys are
+first_unsold (x ∷ xs) ys are = first_unsold xs ys are
 
 -- so it goes through them as a day without sales does
 unsold_through : (channels : List Bool) (events : List LiveEvent) (d : Day) → AreUnsold events → RunsThrough channels row_on events d (live_day_after events d)
 unsold_through channels [] d are = refl
 unsold_through channels (Sold line ∷ events) d are = absurd are
-unsold_through channels (OnLink event ∷ events) d are = unsold_through channels events (live_happens d (OnLink event)).day are
-unsold_through channels (WithoutLink ∷ events) d are = unsold_through channels events (live_happens d WithoutLink).day are
+unsold_through channels (x ∷ events) d are = unsold_through channels events (live_happens d x).day are
 
 -- ---- what is on the disk after some acts, whatever was logged before them
 
 same_unsynced : (acts : List Act) (f g : Filed) → f.more ≡ g.more → (filed_by acts f).more ≡ (filed_by acts g).more
 same_unsynced [] f g e = e
-same_unsynced (Began second begin ∷ acts) f g e = same_unsynced acts f g e
-same_unsynced (Dropped loss ∷ acts) f g e = same_unsynced acts f g e
 same_unsynced (Recorded event true ∷ acts) f g e = same_unsynced acts (record { disk = f.disk; more = f.more ++ event ∷ [] }) (record { disk = g.disk; more = g.more ++ event ∷ [] }) (ap (λ (es : List LiveEvent). es ++ event ∷ []) e)
-same_unsynced (Recorded event false ∷ acts) f g e = same_unsynced acts f g e
 same_unsynced (Synced true ∷ acts) f g e = same_unsynced acts (record { disk = f.disk ++ f.more; more = [] }) (record { disk = g.disk ++ g.more; more = [] }) refl
-same_unsynced (Synced false ∷ acts) f g e = same_unsynced acts f g e
-same_unsynced (Wrote octets done ∷ acts) f g e = same_unsynced acts f g e
-same_unsynced (Read room answer ∷ acts) f g e = same_unsynced acts f g e
-same_unsynced (Took message ∷ acts) f g e = same_unsynced acts f g e
-same_unsynced (EndedDay ∷ acts) f g e = same_unsynced acts f g e
+same_unsynced (x ∷ acts) f g e = same_unsynced acts f g e
 
 -- where some events were logged that are on the disk, so is all that was logged before them
 all_on_disk : (acts : List Act) (f g : Filed) → ¬ (f.more ++ recorded acts ≡ []) → (filed_by acts f).more ≡ [] → (filed_by acts g).more ≡ []
 all_on_disk [] f g some none = absurd (some (append-nil f.more ∙ none))
-all_on_disk (Began second begin ∷ acts) f g some none = all_on_disk acts f g some none
-all_on_disk (Dropped loss ∷ acts) f g some none = all_on_disk acts f g some none
 all_on_disk (Recorded event true ∷ acts) f g some none =
     all_on_disk acts (record { disk = f.disk; more = f.more ++ event ∷ [] }) (record { disk = g.disk; more = g.more ++ event ∷ [] })
     (λ e. some (sym (append_assoc f.more (event ∷ []) (recorded acts)) ∙ e)) none
-all_on_disk (Recorded event false ∷ acts) f g some none = all_on_disk acts f g some none
 all_on_disk (Synced true ∷ acts) f g some none = same_unsynced acts (record { disk = g.disk ++ g.more; more = [] }) (record { disk = f.disk ++ f.more; more = [] }) refl ∙ none
-all_on_disk (Synced false ∷ acts) f g some none = all_on_disk acts f g some none
-all_on_disk (Wrote octets done ∷ acts) f g some none = all_on_disk acts f g some none
-all_on_disk (Read room answer ∷ acts) f g some none = all_on_disk acts f g some none
-all_on_disk (Took message ∷ acts) f g some none = all_on_disk acts f g some none
-all_on_disk (EndedDay ∷ acts) f g some none = all_on_disk acts f g some none
+all_on_disk (x ∷ acts) f g some none = all_on_disk acts f g some none
 
 some_logged : (xs ys : List LiveEvent) (event : LiveEvent) → ¬ (xs ++ event ∷ ys ≡ [])
 some_logged [] ys event = λ e. cc
@@ -109,8 +84,7 @@ module _ (channels : List Bool) (d : Day) where
   -- nothing is written any more once something could not be logged
   abbrev HasRunSince : List Act → Stand → Type 0
   HasRunSince acts (Within p) = IsRunSince acts p ⊎ ((over : Day) × (p ≡ Over over))
-  HasRunSince acts (Filing shown day batch sold) = Unit {0}
-  HasRunSince acts (Telling shown day batch sold) = Unit {0}
+  HasRunSince acts s = Unit {0}
 
   record StandsThere (acts : List Act) (from : Stand) : Type 0 where
     link : IsLinkStand channels from
@@ -145,34 +119,13 @@ module _ (channels : List Bool) (d : Day) where
   since_there acts (Within p) to (Ran act) s (due, e) = named _ to _ e (one_act acts p act s.since due)
   since_there acts (Within (Between day)) to (Asked shown None) s (at, e) = named _ to (Within (Between day)) e (same_acts acts (Within (Between day)) s.since)
   since_there acts (Within (Between day)) to (Asked shown (Some batch)) s (at, e) = named _ to (Filing day day batch []) e tt
-  since_there acts (Within (Recording day room event)) to (Asked shown batch) s e = absurd e
-  since_there acts (Within (Receiving day room owed octets)) to (Asked shown batch) s e = absurd e
-  since_there acts (Within (Taking day room owed)) to (Asked shown batch) s e = absurd e
-  since_there acts (Within (Owing day room unsynced texts)) to (Asked shown batch) s e = absurd e
-  since_there acts (Within (Hearing day room)) to (Asked shown batch) s e = absurd e
-  since_there acts (Within (Losing day loss)) to (Asked shown batch) s e = absurd e
-  since_there acts (Within (Over day)) to (Asked shown batch) s e = absurd e
-  since_there acts (Within (Closing day)) to (Asked shown batch) s e = absurd e
-  since_there acts (Within (Ending day)) to (Asked shown batch) s e = absurd e
-  since_there acts (Within (Done day)) to (Asked shown batch) s e = absurd e
-  since_there acts (Within p) to (Answered answers) s e = absurd e
   since_there acts (Filing shown day batch sold) to (Ran (Recorded (Sold line) true)) s (d1, is, e) = named _ to (Filing shown d1 batch (sold ++ row_on line ∷ [])) e tt
   since_there acts (Filing shown day batch sold) to (Ran (Recorded (Sold line) false)) s e = named _ to (Within (Over day)) e (inr (day, refl))
-  since_there acts (Filing shown day batch sold) to (Ran (Recorded (OnLink event) done)) s e = absurd e
-  since_there acts (Filing shown day batch sold) to (Ran (Recorded WithoutLink done)) s e = absurd e
   since_there acts (Filing shown day batch sold) to (Ran (Synced true)) s e = named _ to (Telling shown day batch sold) e tt
   since_there acts (Filing shown day batch sold) to (Ran (Synced false)) s e = named _ to (Within (Over day)) e (inr (day, refl))
-  since_there acts (Filing shown day batch sold) to (Ran (Began second begin)) s e = absurd e
-  since_there acts (Filing shown day batch sold) to (Ran (Dropped loss)) s e = absurd e
-  since_there acts (Filing shown day batch sold) to (Ran (Wrote octets done)) s e = absurd e
-  since_there acts (Filing shown day batch sold) to (Ran (Read room answer)) s e = absurd e
-  since_there acts (Filing shown day batch sold) to (Ran (Took message)) s e = absurd e
-  since_there acts (Filing shown day batch sold) to (Ran EndedDay) s e = absurd e
-  since_there acts (Filing shown day batch sold) to (Asked other asked) s e = absurd e
   since_there acts (Filing shown day batch sold) to (Answered answers) s (none, are, told, e) = named _ to (Within (Between day)) e (inl (begins_anew acts day s.through))
-  since_there acts (Telling shown day batch sold) to (Ran act) s e = absurd e
-  since_there acts (Telling shown day batch sold) to (Asked other asked) s e = absurd e
   since_there acts (Telling shown day batch sold) to (Answered answers) s (are, told, e) = named _ to (Within (Between day)) e (inl (begins_anew acts day s.through))
+  since_there acts from to deal s e = absurd e
 
   stands_there : (acts : List Act) (from to : Stand) (deal : Deal) → StandsThere acts from → Goes channels from deal to → StandsThere (acts ++ acts_of (deal ∷ [])) to
   stands_there acts from to deal s goes =
@@ -215,8 +168,7 @@ module _ (channels : List Bool) (d : Day) where
     at_place (inl r) =
         let act = Wrote octets done in
         written_since acts p octets r (written_law r.start r.since [] octets done (next p act) (live.run_more (Between r.start) p (next p act) r.since (act ∷ []) r.goes (due, refl)))
-  written_there acts (Filing shown day batch sold) to octets done s e = absurd e
-  written_there acts (Telling shown day batch sold) to octets done s e = absurd e
+  written_there acts from to octets done s e = absurd e
 
   written_after : (acts : List Act) (before after : List Deal) (octets : List ℕ) (done : Bool) (from to : Stand) → StandsThere acts from → IsMarketRun channels from (before ++ Ran (Wrote octets done) ∷ after) to → IsWrittenForEvent channels d (acts ++ acts_of before) octets
   written_after acts [] after octets done from to s (mid, goes, rest) = subst (λ (l : List Act). IsWrittenForEvent channels d l octets) (sym (append-nil acts)) (written_there acts from mid octets done s goes)

@@ -1,19 +1,20 @@
 -- Private: how a batch ends.
-use Rattle.std.specs.Prelude.{◌≡◌, ◌≤◌, ℕ, Bool, true, List, [], ◌∷◌, ◌++◌, length, nat_le, Result, Ok, Err, if◌then◌else◌}
+use Rattle.std.specs.Prelude.{◌≡◌, ◌≤◌, ℕ, Bool, true, List, [], ◌∷◌, ◌++◌, length, nat_le, Result, Ok, Err, if◌then◌else◌, false}
 use Rattle.bx_base.specs.Bookings.{Row}
 use Rattle.bx_base.specs.declared.bookings.TheConstants.{MAX_BOOKINGS}
 use Rattle.bx_colour.specs.Colouring.{FitsChannels}
 use Rattle.bx_day.specs.Day.{Day}
 use Rattle.bx_live.specs.declared.world.CannotRecord.{CannotRecord}
 use Rattle.bx_live.specs.Acts.{begins_none}
-use Rattle.bx_live.specs.Runs.{Over}
+use Rattle.bx_live.specs.Runs.{Over, Between}
 use Rattle.bx_sales.specs.Selling.{rows_with, marks_with, IsSold, IsOtherPlan}
 use Rattle.bx_sales.specs.declared.selling.NoSale.{NoSale}
 use Rattle.bx_sales.specs.declared.selling.NoSale.TheVariants.{Late, Full, NoChannel, OtherChannels, Memory}
 use Rattle.bx_market.specs.declared.market.Answer.{Answer}
 use Rattle.bx_market.specs.declared.market.Answer.TheVariants.{Accepted, Refused}
-use Rattle.bx_market.specs.Deals.{Deal, acts_of}
+use Rattle.bx_market.specs.Deals.{Deal, acts_of, sold_of}
 use Rattle.bx_market.specs.Stands.{Stand, Within, Filing, IsMarketRun}
+use Rattle.bx_market.specs.Answers.{AreTold}
 
 -- the world has gone through the deals of a run in which no second begins
 pub record Asks {W : Type 0} (dealt : W → List Deal → W → Type 0) (channels : List Bool) (old new : W) (from to : Stand) : Type 0 where
@@ -33,6 +34,22 @@ module _ {W : Type 0} (dealt : W → List Deal → W → Type 0) (channels : Lis
   IsOffered shown batch sold row d d1 (Ok Accepted) = Asks dealt channels old new (Filing shown d batch sold) (Filing shown d1 batch (sold ++ row ∷ []))
   IsOffered shown batch sold row d d1 (Ok (Refused why)) = Asks dealt channels old new (Filing shown d batch sold) (Filing shown d1 batch sold) × (d1 ≡ d)
   IsOffered shown batch sold row d d1 (Err fault) = (over : Day) × Asks dealt channels old new (Filing shown d batch sold) (Within (Over over))
+
+  -- in any batch, whatever was sold of it before
+  abbrev pub IsOfferedInAny : Row → Day → Day → Result Answer CannotRecord → Type 0
+  IsOfferedInAny row d d1 result = (shown : Day) (batch sold : List Row) → IsOffered shown batch sold row d d1 result
+
+module _ {W : Type 0} (dealt : W → List Deal → W → Type 0) (old new : W) where
+  -- the customer of any batch is told, to whom this may be told; what is sold of it is on the disk by then
+  abbrev pub TellsOfAny : List Answer → Bool → Result (Unit {0}) CannotRecord → Type 0
+  TellsOfAny answers is_any_sold result =
+      (channels : List Bool) (shown d : Day) (batch : List Row) → AreTold channels shown batch answers
+      → (is_any_sold ≡ false → sold_of batch answers ≡ [])
+      → OrOver dealt channels old new (Filing shown d batch (sold_of batch answers)) (Within (Between d)) result
+
+  -- the customer is told that memory ran out
+  abbrev pub TellsOfMemory : Day → List Row → Type 0
+  TellsOfMemory d batch = (channels : List Bool) → Asks dealt channels old new (Filing d d batch []) (Within (Between d))
 
 -- what has become of a booking that was offered: it is sold; or why it is not
 abbrev pub IsSettled : List Bool → Row → Day → Day → Result Answer CannotRecord → Type 0

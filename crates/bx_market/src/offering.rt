@@ -1,14 +1,10 @@
 //! A batch of bookings that a customer asks for.
 
-ghost use Rattle.std.specs.Prelude.{◌≡◌, ◌≤◌, ◌<◌, [], List, Bool, true, false, length, Ok, OnOk};
-ghost use Rattle.bx_base.specs.Bookings.{Row};
+ghost use Rattle.std.specs.Prelude.{◌≡◌, ◌≤◌, ◌<◌, [], true, false, length, Ok, OnOk};
 ghost use Rattle.bx_live.specs.Runs.{Between};
-ghost use Rattle.bx_day.specs.Day.{Day};
-ghost use Rattle.bx_market.specs.Answers.{AreTold};
 ghost use Rattle.bx_market.specs.Choices.{eligible_marks, IsBestChoice};
-ghost use Rattle.bx_market.specs.Deals.{sold_of};
 ghost use Rattle.bx_market.specs.Stands.{Within, Filing};
-ghost use Rattle.bx_market.specs.Offers.{Asks, IsOffered, IsSettled, OrOver, why_not};
+ghost use Rattle.bx_market.specs.Offers.{IsSettled, OrOver, why_not, IsOfferedInAny, TellsOfAny, TellsOfMemory};
 
 use crate::choosing::{Choice, choose};
 use crate::market::{Answer, Market};
@@ -29,7 +25,7 @@ fn offer<W: Market>(
     channels: ChannelSet,
     booking: Booking,
 ) -> Result<Answer, CannotRecord>
-    ensures offered { (shown : Day) (batch sold : List Row) → IsOffered W.dealt channels world.old world.new shown batch sold booking exchange.old exchange.new result }
+    ensures offered { IsOfferedInAny W.dealt channels world.old world.new booking exchange.old exchange.new result }
     ensures moment { exchange.new.moment ≡ exchange.old.moment }
     ensures settled { IsSettled channels booking exchange.old exchange.new result }
 {
@@ -66,7 +62,7 @@ fn settle<W: Market>(
     is_eligible: bool,
     is_chosen: bool,
 ) -> Result<Answer, CannotRecord>
-    ensures offered { (shown : Day) (batch sold : List Row) → IsOffered W.dealt channels world.old world.new shown batch sold booking exchange.old exchange.new result }
+    ensures offered { IsOfferedInAny W.dealt channels world.old world.new booking exchange.old exchange.new result }
     ensures moment { exchange.new.moment ≡ exchange.old.moment }
     ensures chosen { is_chosen ≡ true → IsSettled channels booking exchange.old exchange.new result }
     ensures left_out { is_chosen ≡ false → result ≡ Ok (Answer.Refused (why_not exchange.old.moment booking is_eligible)) }
@@ -90,7 +86,7 @@ fn is_sold_now(was: bool, answer: Answer) -> bool
 
 /// Tells the customer. Where something is sold, it is on the disk by then.
 fn tell<W: Market>(world: &mut W, answers: &[Answer], is_any_sold: bool) -> Result<(), CannotRecord>
-    ensures { (channels : List Bool) (shown d : Day) (batch : List Row) → AreTold channels shown batch answers.now → (is_any_sold ≡ false → sold_of batch answers.now ≡ []) → OrOver W.dealt channels world.old world.new (Filing shown d batch (sold_of batch answers.now)) (Within (Between d)) result }
+    ensures { TellsOfAny W.dealt world.old world.new answers.now is_any_sold result }
 {
     if !is_any_sold {
         world.answer(answers);
@@ -147,7 +143,7 @@ fn unchosen(moment: u32, booking: Booking) -> Answer
 
 /// Tells the customer that memory ran out before anything was chosen.
 fn tell_of_memory<W: Market>(world: &mut W, exchange: &Exchange, batch: &Bookings)
-    ensures { (channels : List Bool) → Asks W.dealt channels world.old world.new (Filing exchange.now exchange.now batch.now []) (Within (Between exchange.now)) }
+    ensures { TellsOfMemory W.dealt world.old world.new exchange.now batch.now }
 {
     let moment = exchange.moment();
     let mut answers = ArrayVec::<Answer, 4000>::new();
