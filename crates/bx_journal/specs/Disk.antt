@@ -1,5 +1,5 @@
 -- What the calls of a disk do to what a crash may leave on it.
-use Rattle.std.specs.Prelude.{◌≡◌, ◌⊎◌, ℕ, ◌≤◌, List, ◌++◌, take}
+use Rattle.std.specs.Prelude.{◌≡◌, ◌⊎◌, ℕ, ◌≤◌, List, ◌++◌, take, Option, Some, length}
 
 -- after an append that a crash cuts short: a prefix of these octets stands after what was there
 abbrev pub IsTorn : List ℕ → List ℕ → List ℕ → Type 0
@@ -29,3 +29,18 @@ pub record LeavesOnly {D : Type 0} (moment : D → ℕ) (left_since : D → ℕ 
   pub each : (c : List ℕ) → left_since new (moment old) c → P c
   -- for a run that began earlier
   pub before : (t : ℕ) (c : List ℕ) → t ≤ moment old → left_since new t c → left_since old t c ⊎ P c
+
+-- after an append each outcome of a crash is an old one, or a prefix of these octets stands after what was there
+abbrev pub LeavesTorn : {D : Type 0} → (D → List ℕ → Type 0) → (D → List ℕ → Type 0) → List ℕ → D → D → Type 0
+LeavesTorn holds may_leave octets old new =
+    (c : List ℕ) →
+    may_leave new c →
+    may_leave old c ⊎ ((text : List ℕ) → holds old text → IsTorn octets text c)
+
+-- what holds a known text of at least len octets holds the first len of them afterwards
+abbrev pub IsCutTo : {F : Type 0} → (F → Option (List ℕ)) → ℕ → F → F → Type 0
+IsCutTo contents len old new =
+    (text : List ℕ) →
+    contents old ≡ Some text →
+    len ≤ length text →
+    contents new ≡ Some (take len text)

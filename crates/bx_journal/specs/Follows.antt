@@ -6,6 +6,8 @@ use Rattle.bx_journal.specs.declared.fault.JournalFault.{JournalFault}
 use Rattle.bx_journal.specs.declared.fault.JournalFault.TheVariants.{BadLine, OtherPlan, OtherDay, OtherRules, NotBegun, ReadFailed}
 use Rattle.bx_journal.specs.declared.head.Wanted.{Wanted}
 use Rattle.bx_journal.specs.Reading.{recovered, journal_in, events_before}
+use Rattle.bx_devices.specs.Watching.{device_of, is_faulted}
+use Rattle.bx_devices.specs.declared.watched.Watched.{Watched}
 
 -- it was read to its end: this is its text, of which so many octets are whole lines
 pub record WasRead {F : Type 0} (followed : F → List LiveEvent → F → Type 0) (before after : Option (List ℕ)) (wanted : Wanted) (old new : F) (whole : ℕ) : Type 0 where
@@ -51,3 +53,11 @@ IsFollowed followed faulted before after wanted old new (Err OtherDay) = WasRefu
 IsFollowed followed faulted before after wanted old new (Err OtherRules) = WasRefused followed before after wanted old new OtherRules
 IsFollowed followed faulted before after wanted old new (Err NotBegun) = WasNotBegun followed before after wanted old new
 IsFollowed followed faulted before after wanted old new (Err ReadFailed) = WasCutOff followed faulted before after wanted old new
+
+-- the same of what was read of a device
+abbrev pub IsFollowedFrom : {F R : Type 0} →
+    (F → List LiveEvent → F → Type 0) →
+    (R → Option (List ℕ)) →
+    Watched R → Watched R → Wanted → F → F → Result ℕ JournalFault → Type 0
+IsFollowedFrom followed remaining device_old device_new =
+    IsFollowed followed (is_faulted device_new) (remaining (device_of device_old)) (remaining (device_of device_new))

@@ -16,3 +16,4 @@ pub mod Past
 pub mod Memory
 pub mod Resuming
 pub mod MemoryInside
+pub mod Laws

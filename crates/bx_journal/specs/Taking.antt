@@ -15,6 +15,8 @@ use Rattle.bx_journal.specs.Lines.{ended}
 use Rattle.bx_journal.specs.Inside.{HasNoLf, HaveNoLf}
 use Rattle.bx_journal.specs.Reading.{event_on, head_on}
 use Rattle.bx_journal.specs.Text.{line_of}
+use Rattle.bx_devices.specs.Watching.{device_of, is_faulted}
+use Rattle.bx_devices.specs.declared.watched.Watched.{Watched}
 
 -- These octets were taken: they stood first in what was held and in what was read after it.
 pub record Takes (before after : Option (List ℕ)) (old new : Held) (prefix : List ℕ) : Type 0 where
@@ -184,3 +186,31 @@ AreEventLines followed f g first faulted before after old new (Err OtherDay) = �
 AreEventLines followed f g first faulted before after old new (Err OtherRules) = ⊥
 AreEventLines followed f g first faulted before after old new (Err NotBegun) = ⊥
 AreEventLines followed f g first faulted before after old new (Err ReadFailed) = EventsStop followed f g faulted before after old new
+
+-- ---- the same of what was read of a device
+
+abbrev pub IsLineFrom : {R : Type 0} →
+    (R → Option (List ℕ)) →
+    Watched R → Watched R → Held → Held → List ℕ → Result LineEnd CannotRead → Type 0
+IsLineFrom remaining device_old device_new =
+    IsLine (is_faulted device_new) (remaining (device_of device_old)) (remaining (device_of device_new))
+
+abbrev pub IsHeadLineFrom : {T R : Type 0} →
+    (List ℕ → Result T JournalFault) →
+    (R → Option (List ℕ)) →
+    Watched R → Watched R → Held → Held → Result T JournalFault → Type 0
+IsHeadLineFrom judge remaining device_old device_new =
+    IsHeadLine judge (is_faulted device_new) (remaining (device_of device_old)) (remaining (device_of device_new))
+
+abbrev pub IsHeadFrom : {R : Type 0} →
+    (R → Option (List ℕ)) →
+    Watched R → Watched R → Wanted → Held → Held → Result ℕ JournalFault → Type 0
+IsHeadFrom remaining device_old device_new wanted =
+    IsHead wanted (is_faulted device_new) (remaining (device_of device_old)) (remaining (device_of device_new))
+
+abbrev pub AreEventLinesFrom : {F R : Type 0} →
+    (F → List LiveEvent → F → Type 0) →
+    (R → Option (List ℕ)) →
+    Watched R → Watched R → F → F → ℕ → Held → Held → Result ℕ JournalFault → Type 0
+AreEventLinesFrom followed remaining device_old device_new f g first =
+    AreEventLines followed f g first (is_faulted device_new) (remaining (device_of device_old)) (remaining (device_of device_new))

@@ -1,7 +1,7 @@
 //! A disk as the journal sees it: what was written, and what a crash may leave.
 
-ghost use Rattle.std.specs.Prelude.{◌≡◌, ◌≤◌, ◌⊎◌, ◌++◌, Bool, List, ℕ, length, take, IsTrue, OnOk, OnErr};
-ghost use Rattle.bx_journal.specs.Disk.{Only, Follows, IsTorn, IsCutAt, Elapses};
+ghost use Rattle.std.specs.Prelude.{◌≡◌, ◌≤◌, ◌++◌, Bool, List, ℕ, length, take, IsTrue, OnOk, OnErr};
+ghost use Rattle.bx_journal.specs.Disk.{Only, Follows, IsCutAt, Elapses, LeavesTorn};
 
 /// A write, a cut or a sync failed.
 #[derive(Clone, Copy, Debug, PartialEq, Eq)]
@@ -30,7 +30,7 @@ pub trait Disk {
     /// Writes after what is there. Until a sync, a crash may leave any prefix of it, after all that was there.
     fn append(&mut self, octets: &[u8]) -> Result<(), DiskFailed>
         ensures written { OnOk result ((text : List ℕ) → holds self.old text → holds self.new (text ++ octets.now)) }
-        ensures crash { (c : List ℕ) → may_leave self.new c → may_leave self.old c ⊎ ((text : List ℕ) → holds self.old text → IsTorn octets.now text c) }
+        ensures crash { LeavesTorn holds may_leave octets.now self.old self.new }
         ensures time { Elapses (moment self.old) (moment self.new) (left_since self.old) (left_since self.new) (may_leave self.new) }
         ensures failed { OnErr result (IsTrue (has_failed self.new)) }
         ensures unfailed { OnOk result (has_failed self.new ≡ has_failed self.old) };

@@ -1,7 +1,8 @@
 //! A file as a disk.
 
-ghost use Rattle.std.specs.Prelude.{◌≡◌, ◌≤◌, Bool, true, false, ℕ, List, Some, length, take, OnOk};
+ghost use Rattle.std.specs.Prelude.{◌≡◌, Bool, true, false, ℕ, List, Some, OnOk};
 ghost use Rattle.bx_journal.specs.declared.file.FileDisk.{FileDisk as PlainFileDisk};
+ghost use Rattle.bx_journal.specs.Disk.{IsCutTo};
 
 use crate::disk::{Disk, DiskFailed};
 use std::io;
@@ -17,7 +18,7 @@ pub trait DiskFile: Write {
 
     /// Cuts what it holds to so many octets.
     fn cut(&mut self, len: u64) -> io::Result<()>
-        ensures { OnOk result ((text : List ℕ) → Self.contents self.old ≡ Some text → len ≤ length text → Self.contents self.new ≡ Some (take len text)) };
+        ensures { OnOk result (IsCutTo Self.contents len self.old self.new) };
 
     /// Brings what was written to where it outlasts a crash. No contract can say that it did: of a file of the system that is the
     /// system's word.

@@ -2,11 +2,11 @@
 
 ghost use Rattle.std.specs.Prelude.{◌≡◌, ◌≤◌, ◌<◌, Err, ◌⊎◌, IfOk};
 ghost use Rattle.std.specs.List.{list_all};
-ghost use Rattle.bx_devices.specs.Watching.{device_of, is_faulted};
+ghost use Rattle.bx_devices.specs.Watching.{is_faulted};
 ghost use Rattle.bx_journal.specs.Hex.{is_hex};
 ghost use Rattle.bx_journal.specs.Numbers.{number_on};
 ghost use Rattle.bx_journal.specs.Reading.{day_on, dated_by, dated_on, fits_day, is_day, is_plan_line, live_by, live_on, plan_fault, plan_on, undated, version_on};
-ghost use Rattle.bx_journal.specs.Taking.{IsHead, IsHeadLine};
+ghost use Rattle.bx_journal.specs.Taking.{IsHeadLineFrom, IsHeadFrom};
 
 use crate::fault::JournalFault;
 use crate::head::{JournalDay, RULES, Wanted};
@@ -197,7 +197,7 @@ fn read_version<R: Read>(
     device: &mut Watched<R>,
     day: Option<JournalDay>,
 ) -> Result<Version, JournalFault>
-    ensures line { IsHeadLine (version_on day) (is_faulted device.new) (R.remaining (device_of device.old)) (R.remaining (device_of device.new)) pieces.old pieces.new result }
+    ensures line { IsHeadLineFrom (version_on day) R.remaining device.old device.new pieces.old pieces.new result }
     ensures unfaulted { (is_faulted device.new ≡ is_faulted device.old) ⊎ (result ≡ Err JournalFault.ReadFailed) }
 {
     let mut line = WholeLine::new();
@@ -215,7 +215,7 @@ fn read_plan_line<R: Read>(
     device: &mut Watched<R>,
     plan: &[u8; 32],
 ) -> Result<(), JournalFault>
-    ensures line { IsHeadLine (plan_on plan.now) (is_faulted device.new) (R.remaining (device_of device.old)) (R.remaining (device_of device.new)) pieces.old pieces.new result }
+    ensures line { IsHeadLineFrom (plan_on plan.now) R.remaining device.old device.new pieces.old pieces.new result }
     ensures unfaulted { (is_faulted device.new ≡ is_faulted device.old) ⊎ (result ≡ Err JournalFault.ReadFailed) }
 {
     let mut line = WholeLine::new();
@@ -233,7 +233,7 @@ fn read_day_line<R: Read>(
     device: &mut Watched<R>,
     day: Option<JournalDay>,
 ) -> Result<(), JournalFault>
-    ensures line { IsHeadLine (λ line. fits_day day (day_on line)) (is_faulted device.new) (R.remaining (device_of device.old)) (R.remaining (device_of device.new)) pieces.old pieces.new result }
+    ensures line { IsHeadLineFrom (λ line. fits_day day (day_on line)) R.remaining device.old device.new pieces.old pieces.new result }
     ensures unfaulted { (is_faulted device.new ≡ is_faulted device.old) ⊎ (result ≡ Err JournalFault.ReadFailed) }
 {
     let mut line = WholeLine::new();
@@ -251,7 +251,7 @@ pub(crate) fn read_head<R: Read>(
     device: &mut Watched<R>,
     wanted: &Wanted,
 ) -> Result<u64, JournalFault>
-    ensures head { IsHead wanted.now (is_faulted device.new) (R.remaining (device_of device.old)) (R.remaining (device_of device.new)) pieces.old pieces.new result }
+    ensures head { IsHeadFrom R.remaining device.old device.new wanted.now pieces.old pieces.new result }
     ensures few { IfOk result (λ n. n ≤ 3) }
     ensures past { IfOk result (λ n. n < pieces.new.taken) }
     ensures unfaulted { (is_faulted device.new ≡ is_faulted device.old) ⊎ (result ≡ Err JournalFault.ReadFailed) }

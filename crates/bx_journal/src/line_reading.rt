@@ -2,7 +2,7 @@
 
 ghost use Rattle.std.specs.Prelude.{◌≡◌, OnOk};
 ghost use Rattle.bx_devices.specs.Watching.{device_of, is_faulted};
-ghost use Rattle.bx_journal.specs.Taking.{IsLine, IsSkipped};
+ghost use Rattle.bx_journal.specs.Taking.{IsSkipped, IsLineFrom};
 
 use crate::pieces::{CannotRead, Pieces};
 use arrayvec::ArrayVec;
@@ -47,7 +47,7 @@ pub(crate) fn next_line<R: Read>(
     device: &mut Watched<R>,
     line: &mut WholeLine,
 ) -> Result<LineEnd, CannotRead>
-    ensures line { IsLine (is_faulted device.new) (R.remaining (device_of device.old)) (R.remaining (device_of device.new)) pieces.old pieces.new line.new.items result }
+    ensures line { IsLineFrom R.remaining device.old device.new pieces.old pieces.new line.new.items result }
     ensures unfaulted { OnOk result (is_faulted device.new ≡ is_faulted device.old) }
 {
     line.clear();

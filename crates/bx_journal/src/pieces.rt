@@ -1,9 +1,10 @@
 //! Reading a device in pieces.
 
-ghost use Rattle.std.specs.Prelude.{◌≡◌, ◌+◌, ◌<◌, ◌∷◌, [], Ok, MatchOption, OnOk, OnErr, IsTrue};
+ghost use Rattle.std.specs.Prelude.{◌≡◌, ◌+◌, ◌<◌, [], Ok, MatchOption, OnOk, OnErr, IsTrue};
 ghost use Rattle.std.specs.Io.KnownBytes.{IsAtEnd};
 ghost use Rattle.bx_devices.specs.Watching.{device_of, is_faulted};
 ghost use Rattle.bx_journal.specs.Taking.{Takes, IsOctet};
+ghost use Rattle.bx_journal.specs.Held.{HoldsNothing, TakesHeld};
 
 use bx_devices::Watched;
 use std::io::Read;
@@ -59,7 +60,7 @@ impl Pieces {
     /// Takes the next octet that is held.
     fn take(&mut self) -> Option<u8>
         requires { self.old.taken < 18446744073709551615 }
-        ensures { MatchOption result ((self.old.octets ≡ []) × (self.new ≡ self.old)) (λ octet. (self.old.octets ≡ octet ∷ self.new.octets) × (self.new.taken ≡ self.old.taken + 1)) }
+        ensures { MatchOption result (HoldsNothing self.old self.new) (λ octet. TakesHeld octet self.old self.new) }
     {
         if self.at == self.len {
             return None;

@@ -1,11 +1,11 @@
 //! Reading a journal, whose events are followed one by one.
 
 ghost use Rattle.std.specs.Prelude.{◌≡◌, ◌≤◌, ◌++◌, ◌∷◌, [], List, Err, ◌⊎◌};
-ghost use Rattle.bx_devices.specs.Watching.{device_of, is_faulted};
+ghost use Rattle.bx_devices.specs.Watching.{is_faulted};
 ghost use Rattle.bx_events.specs.Events.{LiveEvent};
 ghost use Rattle.bx_journal.specs.Events.{recorded_event};
-ghost use Rattle.bx_journal.specs.Follows.{IsFollowed};
-ghost use Rattle.bx_journal.specs.Taking.{AreEventLines};
+ghost use Rattle.bx_journal.specs.Follows.{IsFollowedFrom};
+ghost use Rattle.bx_journal.specs.Taking.{AreEventLinesFrom};
 
 use crate::event::RecordedEvent;
 use crate::event_reading::event_on;
@@ -39,7 +39,7 @@ fn read_events<R: Read, F: Follower>(
     first: u64,
 ) -> Result<u64, JournalFault>
     requires { first ≤ pieces.old.taken }
-    ensures lines { AreEventLines F.followed follower.old follower.new first (is_faulted device.new) (R.remaining (device_of device.old)) (R.remaining (device_of device.new)) pieces.old pieces.new result }
+    ensures lines { AreEventLinesFrom F.followed R.remaining device.old device.new follower.old follower.new first pieces.old pieces.new result }
     ensures unfaulted { (is_faulted device.new ≡ is_faulted device.old) ⊎ (result ≡ Err JournalFault.ReadFailed) }
 {
     let mut line = WholeLine::new();
@@ -71,7 +71,7 @@ pub fn read_journal<R: Read, F: Follower>(
     wanted: &Wanted,
     follower: &mut F,
 ) -> Result<u64, JournalFault>
-    ensures read { IsFollowed F.followed (is_faulted device.new) (R.remaining (device_of device.old)) (R.remaining (device_of device.new)) wanted.now follower.old follower.new result }
+    ensures read { IsFollowedFrom F.followed R.remaining device.old device.new wanted.now follower.old follower.new result }
     ensures unfaulted { (is_faulted device.new ≡ is_faulted device.old) ⊎ (result ≡ Err JournalFault.ReadFailed) }
 {
     let mut pieces = Pieces::new();

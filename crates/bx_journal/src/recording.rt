@@ -1,12 +1,9 @@
 //! Events are logged.
 
-ghost use Rattle.std.specs.Prelude.{◌≡◌, ◌≤◌, ◌++◌, ◌∷◌, [], List, map, IsTrue, OnOk, OnErr};
-ghost use Rattle.bx_events.specs.Events.{LiveEvent as PlainEvent};
-ghost use Rattle.bx_journal.specs.Disk.{LeavesOnly};
+ghost use Rattle.std.specs.Prelude.{◌≡◌, ◌≤◌, ◌∷◌, [], map, IsTrue, OnOk, OnErr};
 ghost use Rattle.bx_events.specs.Told.{live_event_of};
 ghost use Rattle.bx_journal.specs.Events.{IsMessage, AreMessages};
-ghost use Rattle.bx_journal.specs.declared.head.Head.{Head};
-ghost use Rattle.bx_journal.specs.Recording.{IsSettled, IsPending, IsPrefix, Records};
+ghost use Rattle.bx_journal.specs.Recording.{Records, AddsPending, LeavesPending, SettlesPending, LeavesUnsettled, AddsSettled, LeavesSettled};
 
 use crate::disk::{Disk, DiskFailed};
 use crate::written::line_of;
@@ -16,9 +13,9 @@ use bx_events::LiveEvent;
 /// are at most 260. `DiskFailed` where the write failed.
 pub fn write_event<D: Disk>(disk: &mut D, event: LiveEvent<'_>) -> Result<(), DiskFailed>
     requires { IsMessage (live_event_of event) }
-    ensures written { OnOk result ((head : Head) (events more : List PlainEvent) → IsPending D.holds D.may_leave disk.old head events more → IsPending D.holds D.may_leave disk.new head events (more ++ live_event_of event.entry ∷ [])) }
+    ensures written { OnOk result (AddsPending D.holds D.may_leave disk.old (live_event_of event.entry) disk.new) }
     // A crash at any moment of the call leaves the events that are logged, and a prefix of the others.
-    ensures any_moment { (head : Head) (events more : List PlainEvent) → IsPending D.holds D.may_leave disk.old head events more → LeavesOnly D.moment D.left_since disk.old disk.new (IsPrefix head events (more ++ live_event_of event.entry ∷ [])) }
+    ensures any_moment { LeavesPending D.holds D.may_leave D.moment D.left_since disk.old (live_event_of event.entry ∷ []) disk.new }
     // It does not give up by itself.
     ensures failed { OnErr result (IsTrue (D.has_failed disk.new)) }
     ensures unfailed { OnOk result (D.has_failed disk.new ≡ D.has_failed disk.old) }
@@ -31,8 +28,8 @@ pub fn write_event<D: Disk>(disk: &mut D, event: LiveEvent<'_>) -> Result<(), Di
 /// the sync failed, some of them may be logged: none must be acted on, and the journal has to be read again before anything else
 /// is written to it.
 pub fn commit<D: Disk>(disk: &mut D) -> Result<(), DiskFailed>
-    ensures committed { OnOk result ((head : Head) (events more : List PlainEvent) → IsPending D.holds D.may_leave disk.old head events more → IsSettled D.holds D.may_leave disk.new head (events ++ more)) }
-    ensures any_moment { (head : Head) (events more : List PlainEvent) → IsPending D.holds D.may_leave disk.old head events more → LeavesOnly D.moment D.left_since disk.old disk.new (IsPrefix head events more) }
+    ensures committed { OnOk result (SettlesPending D.holds D.may_leave disk.old disk.new) }
+    ensures any_moment { LeavesUnsettled D.holds D.may_leave D.moment D.left_since disk.old disk.new }
     ensures failed { OnErr result (IsTrue (D.has_failed disk.new)) }
     ensures unfailed { OnOk result (D.has_failed disk.new ≡ D.has_failed disk.old) }
 {
@@ -44,11 +41,11 @@ pub fn commit<D: Disk>(disk: &mut D) -> Result<(), DiskFailed>
 /// not.
 pub fn record_event<D: Disk>(disk: &mut D, event: LiveEvent<'_>) -> Result<(), DiskFailed>
     requires { IsMessage (live_event_of event) }
-    ensures recorded { OnOk result ((head : Head) (events : List PlainEvent) → IsSettled D.holds D.may_leave disk.old head events → IsSettled D.holds D.may_leave disk.new head (events ++ live_event_of event.entry ∷ [])) }
+    ensures recorded { OnOk result (AddsSettled D.holds D.may_leave disk.old (live_event_of event.entry ∷ []) disk.new) }
     // What a run of such calls leaves is a law (`laws::front_is_left`).
     ensures step { OnOk result (Records D.holds D.may_leave D.moment D.left_since disk.old (live_event_of event.entry) disk.new) }
     // A crash at any moment of the call leaves the events from before it, with the new one or without.
-    ensures any_moment { (head : Head) (events : List PlainEvent) → IsSettled D.holds D.may_leave disk.old head events → LeavesOnly D.moment D.left_since disk.old disk.new (IsPrefix head events (live_event_of event.entry ∷ [])) }
+    ensures any_moment { LeavesSettled D.holds D.may_leave D.moment D.left_since disk.old (live_event_of event.entry ∷ []) disk.new }
     ensures failed { OnErr result (IsTrue (D.has_failed disk.new)) }
     ensures unfailed { OnOk result (D.has_failed disk.new ≡ D.has_failed disk.old) }
 {
@@ -60,9 +57,9 @@ pub fn record_event<D: Disk>(disk: &mut D, event: LiveEvent<'_>) -> Result<(), D
 /// each event. At `DiskFailed`, where a write or the sync failed, a prefix of them may be logged.
 pub fn record_events<D: Disk>(disk: &mut D, events: &[LiveEvent<'_>]) -> Result<(), DiskFailed>
     requires { AreMessages events.now }
-    ensures recorded { OnOk result ((head : Head) (before : List PlainEvent) → IsSettled D.holds D.may_leave disk.old head before → IsSettled D.holds D.may_leave disk.new head (before ++ map live_event_of events.now)) }
+    ensures recorded { OnOk result (AddsSettled D.holds D.may_leave disk.old (map live_event_of events.now) disk.new) }
     // A crash at any moment of the call leaves the events from before it, and a prefix of these: none is skipped.
-    ensures any_moment { (head : Head) (before : List PlainEvent) → IsSettled D.holds D.may_leave disk.old head before → LeavesOnly D.moment D.left_since disk.old disk.new (IsPrefix head before (map live_event_of events.now)) }
+    ensures any_moment { LeavesSettled D.holds D.may_leave D.moment D.left_since disk.old (map live_event_of events.now) disk.new }
     ensures failed { OnErr result (IsTrue (D.has_failed disk.new)) }
     ensures unfailed { OnOk result (D.has_failed disk.new ≡ D.has_failed disk.old) }
 {

@@ -1,14 +1,8 @@
 //! Going on with a journal after a crash.
 
-ghost use Rattle.std.specs.Prelude.{◌≡◌, ◌≤◌, ℕ, List, Ok, length, take, IsTrue, OnOk, OnErr};
-ghost use Rattle.bx_events.specs.Events.{LiveEvent};
+ghost use Rattle.std.specs.Prelude.{◌≡◌, ◌≤◌, ℕ, List, length, take, IsTrue, OnOk, OnErr};
 ghost use Rattle.bx_journal.specs.Disk.{LeavesOnly, Only};
-ghost use Rattle.bx_journal.specs.Heads.{wanted_of};
-ghost use Rattle.bx_journal.specs.Reading.{journal_in};
-ghost use Rattle.bx_journal.specs.declared.head.Head.{Head};
-ghost use Rattle.bx_journal.specs.declared.head.Wanted.{Wanted};
-ghost use Rattle.bx_journal.specs.Recording.{IsSettled};
-ghost use Rattle.bx_journal.specs.Resuming.{IsReadAs};
+ghost use Rattle.bx_journal.specs.Resuming.{IsResumed, LeavesReadAs};
 ghost use Rattle.bx_journal.specs.Inside.{IsCutBack};
 
 use crate::disk::{Disk, DiskFailed};
@@ -26,11 +20,11 @@ fn cut_back<D: Disk>(disk: &mut D, len: u64) -> Result<(), DiskFailed>
 }
 
 /// Cuts off what a crash tore from a journal that was read, by how many of its octets were whole lines, so that more events can
-/// be logged after it. Events go on only in the journal of the head that was wanted when it was read. It may crash too, at any moment, and the same events stay in the journal. `DiskFailed` where the cut or
-/// the sync failed.
+/// be logged after it. Events go on only in the journal of the head that was wanted when it was read. It may crash too, at any
+/// moment, and the same events stay in the journal. `DiskFailed` where the cut or the sync failed.
 pub fn resume<D: Disk>(disk: &mut D, whole: u64) -> Result<(), DiskFailed>
-    ensures resumed { OnOk result ((head : Head) (text : List ℕ) (events : List LiveEvent) → journal_in (wanted_of head) text ≡ Ok (record { events = events; whole = whole }) → D.holds disk.old text → IsSettled D.holds D.may_leave disk.new head events) }
-    ensures any_moment { (wanted : Wanted) (text : List ℕ) (events : List LiveEvent) → journal_in wanted text ≡ Ok (record { events = events; whole = whole }) → Only text (D.may_leave disk.old) → LeavesOnly D.moment D.left_since disk.old disk.new (IsReadAs wanted text) }
+    ensures resumed { OnOk result (IsResumed D.holds D.may_leave disk.old whole disk.new) }
+    ensures any_moment { LeavesReadAs D.may_leave D.moment D.left_since disk.old whole disk.new }
     ensures failed { OnErr result (IsTrue (D.has_failed disk.new)) }
     ensures unfailed { OnOk result (D.has_failed disk.new ≡ D.has_failed disk.old) }
 {
