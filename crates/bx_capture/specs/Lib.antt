@@ -2,3 +2,4 @@ pub mod Packets
 pub mod Starts
 pub mod Captures
 pub mod Keeping
+pub mod Ends

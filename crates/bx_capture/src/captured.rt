@@ -6,7 +6,7 @@ ghost use Rattle.bx_events.specs.Events.{Event, Tick, Receive};
 ghost use Rattle.bx_frames.specs.Courses.{after, told, reply_frame, reply_messages};
 ghost use Rattle.bx_frames.specs.Frames.{frame_with, turn_frame};
 ghost use Rattle.bx_capture.specs.Packets.{packet};
-ghost use Rattle.bx_capture.specs.Captures.{packet_sent, packets_for, is_unfaulted, IsKept, Keeps, IsCaptured};
+ghost use Rattle.bx_capture.specs.Captures.{packet_sent, is_unfaulted, IsKept, Keeps};
 ghost use Rattle.bx_capture.specs.Keeping.{captured_nothing, captured_on};
 ghost use Rattle.bx_capture.specs.declared.packet.Direction.TheVariants.{Sent, Received};
 
@@ -119,9 +119,11 @@ impl<E, W: Write> Captured<E, W> {
 }
 
 impl<L: Course, E: End<L>, W: Write> End<L> for Captured<E, W> {
+    ghost use Rattle.bx_capture.specs.Ends.{IsEndCaptured};
+
     ghost day = { λ c. E.day c.end };
 
-    ghost kept = { λ c events c'. E.kept c.end events c'.end × IsCaptured L.next (packets_for L.next L.sent L.moment_of L.turn_of) W.contents c.first c'.first c.file c'.file (E.day c.end) (E.day c'.end) events };
+    ghost kept = { λ c events c'. IsEndCaptured E.day E.kept L.next L.sent L.moment_of L.turn_of W.contents c events c' };
 
     fn hear(&mut self, message: &Octets) -> Option<Octets> {
         let second = self.first + self.end.turn();
