@@ -5,7 +5,8 @@ ghost use Rattle.bx_journal.specs.Recording.{LeavesDone};
 ghost use Rattle.bx_journal.specs.Reading.{recovered};
 ghost use Rattle.bx_journal.specs.declared.fault.JournalFault.TheVariants.{OtherDay};
 ghost use Rattle.bx_journal.specs.declared.head.Wanted.{Wanted};
-ghost use Rattle.bx_journal.specs.Laws.{IsOwnTextReadAgain, IsWantedTextReadAgain, IsSpelledAsRead, HasOneHeadAndEvents, IsReadWithItsHeadAlone, IsUndatedOfNoDay, IsReadAlikeWithLess};
+ghost use Rattle.bx_journal.specs.Laws.{IsOwnTextReadAgain, IsWantedTextReadAgain, IsSpelledAsRead, HasOneHeadAndEvents};
+ghost use Rattle.bx_journal.specs.Laws.{IsReadWithItsHeadAlone, IsUndatedOfNoDay, IsReadAlikeWithLess};
 
 use crate::disk::Disk;
 

@@ -43,6 +43,22 @@ pub record Link : Type 0 where
   pub timer : Timer
   pub queue : List (ArrayVec ℕ)
 
+-- the link of these fields
+abbrev pub link_of : LinkState → ℕ → ℕ → ℕ → ℕ → Bool → Bool → Bool → Bool → Timer → List (ArrayVec ℕ) → Link
+link_of state vs va vr rc asked busy rejected owed timer queue = record {
+  state = state;
+  vs = vs;
+  va = va;
+  vr = vr;
+  rc = rc;
+  asked = asked;
+  busy = busy;
+  rejected = rejected;
+  owed = owed;
+  timer = timer;
+  queue = queue;
+}
+
 -- what a call sends and tells
 pub record Did : Type 0 where
   pub frames : List Frame

@@ -31,11 +31,11 @@ pub struct DataLink {
 }
 
 impl Model for DataLink {
-    ghost use Rattle.bx_lapd.specs.Links.{Link};
+    ghost use Rattle.bx_lapd.specs.Links.{Link, link_of};
 
     ghost Value = { Link };
 
-    ghost view = { λ l. record { state = l.state; vs = l.vs; va = l.va; vr = l.vr; rc = l.rc; asked = l.asked; busy = l.busy; rejected = l.rejected; owed = l.owed; timer = l.timer; queue = l.queue.items } };
+    ghost view = { λ l. link_of l.state l.vs l.va l.vr l.rc l.asked l.busy l.rejected l.owed l.timer l.queue.items };
 }
 
 /// How far a number is after another, modulo 128.
