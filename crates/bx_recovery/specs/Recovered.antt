@@ -1,5 +1,5 @@
 -- The day of an exchange after a journal that was read, by the text.
-use Rattle.std.specs.Prelude.{◌≡◌, ◌⊎◌, ℕ, ◌≤◌, List, [], ◌++◌, length, take, Result, Ok, Err}
+use Rattle.std.specs.Prelude.{◌≡◌, ◌⊎◌, ℕ, ◌≤◌, List, [], ◌++◌, length, take, Result, Ok, Err, Option, Some}
 use Rattle.bx_events.specs.Events.{LiveEvent}
 use Rattle.bx_day.specs.Day.{Day}
 use Rattle.bx_day.specs.Outages.{live_day_after}
@@ -7,6 +7,9 @@ use Rattle.bx_journal.specs.declared.fault.JournalFault.{JournalFault}
 use Rattle.bx_journal.specs.declared.fault.JournalFault.TheVariants.{BadLine, OtherPlan, OtherDay, OtherRules, NotBegun, ReadFailed}
 use Rattle.bx_journal.specs.declared.head.Wanted.{Wanted}
 use Rattle.bx_journal.specs.Reading.{recovered, journal_in, events_before}
+use Rattle.bx_journal.specs.Heads.{IsWanted}
+use Rattle.bx_journal.specs.Recording.{IsPrefix}
+use Rattle.bx_journal.specs.declared.head.Head.{Head}
 
 -- what follows a journal: the day goes on by its events
 abbrev pub goes_on : Day → List LiveEvent → Day → Type 0
@@ -45,3 +48,12 @@ IsRecovered wanted text old new (Err ReadFailed) = IsDayOfPrefix wanted text old
 abbrev pub IsPrefixDay : List LiveEvent → List LiveEvent → Day → Day → Result ℕ JournalFault → Type 0
 IsPrefixDay before more old new (Ok whole) = (n : ℕ) × (n ≤ length more) × (new ≡ live_day_after (before ++ take n more) old)
 IsPrefixDay before more old new (Err fault) = fault ≡ ReadFailed
+
+-- where a crash left such a text in the journal of a head that is wanted, the day is the one after all before, and a prefix of more
+abbrev pub IsPrefixRecovered : Wanted → Option (List ℕ) → Day → Day → Result ℕ JournalFault → Type 0
+IsPrefixRecovered wanted known old new whole =
+    (head : Head) (text : List ℕ) (before more : List LiveEvent) →
+    IsWanted wanted head →
+    known ≡ Some text →
+    IsPrefix head before more text →
+    IsPrefixDay before more old new whole

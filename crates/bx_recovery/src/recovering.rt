@@ -2,12 +2,8 @@
 
 ghost use Rattle.std.specs.Prelude.{◌≡◌, ◌⊎◌, ℕ, List, Some, Err};
 ghost use Rattle.bx_devices.specs.Watching.{device_of, is_faulted};
-ghost use Rattle.bx_events.specs.Events.{LiveEvent};
-ghost use Rattle.bx_journal.specs.Follows.{IsFollowed};
-ghost use Rattle.bx_journal.specs.Heads.{IsWanted};
-ghost use Rattle.bx_journal.specs.Recording.{IsPrefix};
-ghost use Rattle.bx_journal.specs.declared.head.Head.{Head};
-ghost use Rattle.bx_recovery.specs.Recovered.{goes_on, IsRecovered, IsPrefixDay};
+ghost use Rattle.bx_journal.specs.Follows.{IsFollowedFrom};
+ghost use Rattle.bx_recovery.specs.Recovered.{goes_on, IsRecovered, IsPrefixRecovered};
 
 use crate::following::Following;
 use bx_day::Exchange;
@@ -31,10 +27,11 @@ pub fn recover_day<R: Read>(
     exchange: Exchange,
 ) -> Recovered
     // Of a device that does not tell its octets: some text was read of it, and the day is the one after the events of that.
-    ensures read { IsFollowed goes_on (is_faulted device.new) (R.remaining (device_of device.old)) (R.remaining (device_of device.new)) wanted.now exchange result.exchange result.whole }
+    ensures read { IsFollowedFrom goes_on R.remaining device.old device.new wanted.now exchange result.exchange result.whole }
     ensures day { (text : List ℕ) → R.remaining (device_of device.old) ≡ Some text → IsRecovered wanted.now text exchange result.exchange result.whole }
-    // After a crash while events were logged, in the journal of a head that is wanted, it is the day after a prefix of them, with each whose record was done.
-    ensures prefix { (head : Head) (text : List ℕ) (before more : List LiveEvent) → IsWanted wanted.now head → R.remaining (device_of device.old) ≡ Some text → IsPrefix head before more text → IsPrefixDay before more exchange result.exchange result.whole }
+    // After a crash while events were logged, in the journal of a head that is wanted, it is the day after a prefix of them, with each
+    // whose record was done.
+    ensures prefix { IsPrefixRecovered wanted.now (R.remaining (device_of device.old)) exchange result.exchange result.whole }
     ensures unfaulted { (is_faulted device.new ≡ is_faulted device.old) ⊎ (result.whole ≡ Err JournalFault.ReadFailed) }
 {
     let mut following = Following { exchange };
