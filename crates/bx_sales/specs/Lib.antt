@@ -3,3 +3,4 @@ pub mod Sold
 pub mod Journal
 pub mod Sales
 pub mod FreeChannels
+pub mod Laws

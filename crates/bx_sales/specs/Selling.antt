@@ -35,3 +35,10 @@ pub record IsOtherPlan (channels : List Bool) (row : Row) (d : Day) : Type 0 whe
   pub assigned : List (Option ℕ)
   pub first_fit : IsFirstFit (rows_with d row) channels (marks_with d) assigned
   pub not_extended : ¬ IsExtendedBy d (rows_with d row) assigned
+
+-- no first-fit plan with this booking after all others is one that the day goes on with
+abbrev pub IsNoPlanToGoOnWith : List Bool → Row → Day → Type 0
+IsNoPlanToGoOnWith channels row d =
+    (assigned : List (Option ℕ)) →
+    IsFirstFit (rows_with d row) channels (marks_with d) assigned →
+    ¬ IsExtendedBy d (rows_with d row) assigned

@@ -34,8 +34,8 @@ fn are_same(left: &[Option<Channel>], right: &[Option<Channel>]) -> bool
     true
 }
 
-/// Whether the accepted bookings of a plan, which its channels carry, have the channels that first fit gives them. A day may be sold on only then: else a booking that
-/// has started may get another channel. `AllocError` where memory runs out.
+/// Whether the accepted bookings of a plan, which its channels carry, have the channels that first fit gives them. A day may be sold on only
+/// then: else a booking that has started may get another channel. `AllocError` where memory runs out.
 pub fn is_first_fit(alloc: Global, plan: &Plan) -> Result<bool, AllocError>
     requires { Carries plan.now.bookings plan.now.channels (is_accepted plan.now.assigned.items) (channel_at plan.now.assigned.items) }
     ensures { IfOk result (λ b. IsTrue b ↔ IsFirstFit plan.now.bookings plan.now.channels (map is_some plan.now.assigned.items) plan.now.assigned.items) }

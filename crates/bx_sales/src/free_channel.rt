@@ -3,7 +3,7 @@
 ghost use Rattle.std.specs.Prelude.{◌≡◌, ◌++◌, ◌∷◌, [], not, true, map, IsTrue, ◌↔◌, IfSome};
 ghost use Rattle.bx_colour.specs.Colouring.{FitsChannels};
 ghost use Rattle.bx_day.specs.Invariant.{is_refused, Apart, Pairs};
-ghost use Rattle.bx_sales.specs.FreeChannels.{IsTakenBy};
+ghost use Rattle.bx_sales.specs.FreeChannels.{IsTakenBy, FitsBeside};
 
 use crate::listing::is_accepted;
 use bx_base::{Booking, Bookings, ChannelSet};
@@ -36,7 +36,7 @@ fn taken_with(
 /// Whether each accepted booking has a channel in service, and one of these is free for one more.
 fn has_free_channel(entries: &[Entry], booking: &Booking, channels: ChannelSet) -> bool
     requires { Pairs Apart entries.now }
-    ensures { result ≡ true → FitsChannels (map (λ e. e.booking) entries.now ++ booking.now ∷ []) (map (λ e. not (is_refused e.standing)) entries.now ++ true ∷ []) channels }
+    ensures { result ≡ true → FitsBeside channels entries.now booking.now }
 {
     let mut taken = ChannelSet::empty();
     for index in 0..entries.len() {

@@ -1,16 +1,8 @@
 //! Laws of a day on which bookings are sold.
 
-ghost use Rattle.std.specs.Prelude.{◌≡◌, ◌<◌, ℕ, Bool, List, Option};
-ghost use Rattle.bx_base.specs.Bookings.{Row, AreBookings, Carries};
-ghost use Rattle.bx_base.specs.Extending.{Extends};
-ghost use Rattle.bx_base.specs.Plans.{is_accepted, channel_at};
-ghost use Rattle.bx_day.specs.Day.{opening};
-ghost use Rattle.bx_events.specs.Events.{LiveEvent};
-ghost use Rattle.bx_day.specs.Outages.{live_day_after, live_happens};
-ghost use Rattle.bx_day.specs.Extended.{extended, IsExtendedBy};
-ghost use Rattle.bx_sales.specs.Sales.{Step, sold_day_after, events_of_steps, last_rows, last_assigned, AreSales};
 ghost use Rattle.bx_sales.specs.Journal.{IsToldByJournal, AreRowsSold};
 ghost use Rattle.bx_sales.specs.Sold.{IsFirstFitSold, IsToldByRecord, StaysFirstFit};
+ghost use Rattle.bx_sales.specs.Laws.{IsExtendedUpTo, HasSameSentUpTo, IsExtensionTested, GoesOnAsLonger, IsDayOfLastPlan, HasBookingsLast, IsLastPlanCarried};
 
 /// The record tells the day: where the plan of the morning is first fit, a day that went through events and sales, in whatever order,
 /// is the day of one plan over these events alone: of the morning's bookings with all that was sold after them, coloured once.
@@ -45,16 +37,16 @@ pub fn rows_of_a_sold_day()
 /// So bookings may be sold while the day runs: it is the day of its last plan. What `Exchange::extend` tests of its day is
 /// just that (`tested`, `goes_on`).
 pub fn day_of_a_longer_plan()
-    ensures day { (m : ℕ) (rows : List Row) (assigned : List (Option ℕ)) (rows' : List Row) (assigned' : List (Option ℕ)) (events : List LiveEvent) → AreBookings rows' → Extends m rows assigned rows' assigned' → (live_day_after events (opening rows assigned)).moment < m → live_day_after events (opening rows' assigned') ≡ extended rows' assigned' (live_day_after events (opening rows assigned)) }
-    ensures sent { (m : ℕ) (rows : List Row) (assigned : List (Option ℕ)) (rows' : List Row) (assigned' : List (Option ℕ)) (events : List LiveEvent) (event : LiveEvent) → AreBookings rows' → Extends m rows assigned rows' assigned' → (live_day_after events (opening rows assigned)).moment < m → (live_happens (live_day_after events (opening rows assigned)) event).day.moment < m → (live_happens (live_day_after events (opening rows' assigned')) event).sent ≡ (live_happens (live_day_after events (opening rows assigned)) event).sent }
-    ensures tested { (m : ℕ) (rows : List Row) (channels : List Bool) (assigned : List (Option ℕ)) (rows' : List Row) (assigned' : List (Option ℕ)) (events : List LiveEvent) → AreBookings rows → Carries rows channels (is_accepted assigned) (channel_at assigned) → (live_day_after events (opening rows assigned)).moment < m → Extends m rows assigned rows' assigned' → IsExtendedBy (live_day_after events (opening rows assigned)) rows' assigned' }
-    ensures goes_on { (rows : List Row) (channels : List Bool) (assigned : List (Option ℕ)) (rows' : List Row) (assigned' : List (Option ℕ)) (events : List LiveEvent) → AreBookings rows → Carries rows channels (is_accepted assigned) (channel_at assigned) → AreBookings rows' → IsExtendedBy (live_day_after events (opening rows assigned)) rows' assigned' → live_day_after events (opening rows' assigned') ≡ extended rows' assigned' (live_day_after events (opening rows assigned)) }
+    ensures day { IsExtendedUpTo }
+    ensures sent { HasSameSentUpTo }
+    ensures tested { IsExtensionTested }
+    ensures goes_on { GoesOnAsLonger }
 {}
 
 /// However often bookings are sold while the day runs: the day is that of the last plan over the same events (`day`), and that
 /// plan's channels carry it (`carried`), so each law of a day holds of it.
 pub fn day_of_the_last_plan()
-    ensures day { (channels : List Bool) (rows : List Row) (assigned : List (Option ℕ)) (steps : List Step) → AreBookings rows → Carries rows channels (is_accepted assigned) (channel_at assigned) → AreSales channels steps (opening rows assigned) → sold_day_after steps (opening rows assigned) ≡ live_day_after (events_of_steps steps) (opening (last_rows rows steps) (last_assigned assigned steps)) }
-    ensures bookings { (channels : List Bool) (rows : List Row) (assigned : List (Option ℕ)) (steps : List Step) → AreBookings rows → AreSales channels steps (opening rows assigned) → AreBookings (last_rows rows steps) }
-    ensures carried { (channels : List Bool) (rows : List Row) (assigned : List (Option ℕ)) (steps : List Step) → Carries rows channels (is_accepted assigned) (channel_at assigned) → AreSales channels steps (opening rows assigned) → Carries (last_rows rows steps) channels (is_accepted (last_assigned assigned steps)) (channel_at (last_assigned assigned steps)) }
+    ensures day { IsDayOfLastPlan }
+    ensures bookings { HasBookingsLast }
+    ensures carried { IsLastPlanCarried }
 {}

@@ -1,10 +1,9 @@
 //! One booking that is sold.
 
-ghost use Rattle.std.specs.Prelude.{◌≡◌, ◌≤◌, ◌<◌, ◌↔◌, ℕ, List, Option, OnOk, OnErr, Err, length};
+ghost use Rattle.std.specs.Prelude.{◌≡◌, ◌≤◌, ◌<◌, ◌↔◌, OnOk, OnErr, Err, length};
 ghost use Rattle.bx_base.specs.declared.bookings.TheConstants.{MAX_BOOKINGS};
-ghost use Rattle.bx_colour.specs.Colouring.{FitsChannels, IsFirstFit};
-ghost use Rattle.bx_day.specs.Extended.{IsExtendedBy};
-ghost use Rattle.bx_sales.specs.Selling.{rows_of, marks_of, rows_with, marks_with, IsSold, IsOtherPlan};
+ghost use Rattle.bx_colour.specs.Colouring.{FitsChannels};
+ghost use Rattle.bx_sales.specs.Selling.{rows_of, marks_of, rows_with, marks_with, IsSold, IsOtherPlan, IsNoPlanToGoOnWith};
 
 use crate::free_channel::fits_with;
 use crate::listing::{marks_with, rows_with};
@@ -47,7 +46,7 @@ pub fn sell(
     ensures kept { OnErr result (exchange.new ≡ exchange.old) }
     ensures late { (result ≡ Err NoSale.Late) ↔ (booking.now.start ≤ exchange.old.moment) }
     ensures full { result ≡ Err NoSale.Full → MAX_BOOKINGS ≤ length exchange.old.entries }
-    ensures other { result ≡ Err NoSale.OtherChannels → (assigned : List (Option ℕ)) → IsFirstFit (rows_with exchange.old booking.now) channels (marks_with exchange.old) assigned → ¬ IsExtendedBy exchange.old (rows_with exchange.old booking.now) assigned }
+    ensures other { result ≡ Err NoSale.OtherChannels → IsNoPlanToGoOnWith channels booking.now exchange.old }
     ensures other_plan { result ≡ Err NoSale.OtherChannels → IsOtherPlan channels booking.now exchange.old }
     ensures no_channel { result ≡ Err NoSale.NoChannel → ¬ FitsChannels (rows_with exchange.old booking.now) (marks_with exchange.old) channels }
     ensures fitting { OnOk result (FitsChannels (rows_with exchange.old booking.now) (marks_with exchange.old) channels) }
