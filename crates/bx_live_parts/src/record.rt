@@ -3,8 +3,8 @@
 ghost use Rattle.std.specs.Prelude.{◌≡◌, ◌≤◌, true, false, length, is_ok, Some, None};
 ghost use Rattle.bx_events.specs.Told.{live_event_of};
 ghost use Rattle.bx_journal.specs.Events.{IsMessage};
-ghost use Rattle.bx_live.specs.Acts.{Recorded, Synced};
-ghost use Rattle.bx_live_parts.specs.Records.{Writes, Commits, OnRecord};
+ghost use Rattle.bx_live.specs.Acts.{Synced};
+ghost use Rattle.bx_live_parts.specs.Records.{Writes, Commits, OnRecord, WritesKept};
 
 use bx_events::{Event, LiveEvent};
 use bx_journal::{Disk, are_printable, commit, write_event};
@@ -55,7 +55,7 @@ impl<D: Disk> Record<D> {
     /// Logs an event, where a journal is kept. It need not be on the disk before the next sync. `CannotRecord` where what
     /// came has more than 260 octets, or the disk did not take the line.
     pub fn record(&mut self, event: LiveEvent<'_>) -> Result<(), CannotRecord>
-        ensures { OnRecord D.holds D.may_leave D.moment D.left_since D.has_failed self.old.disk (Recorded (live_event_of event.entry) (is_ok result)) self.new.disk }
+        ensures { WritesKept D.holds D.may_leave D.moment D.left_since D.has_failed self.old.disk (live_event_of event.entry) (is_ok result) self.new.disk }
     {
         match &mut self.disk {
             Some(disk) => write_line(disk, event),
