@@ -3,3 +3,5 @@ pub mod Hearing
 pub mod Days
 pub mod BothEnds
 pub mod Sessions
+pub mod Kept
+pub mod TalkingInside

@@ -1,8 +1,9 @@
 //! A day of both ends in one process.
 
 ghost use Rattle.std.specs.Prelude.{◌≡◌, ◌-◌, min};
-ghost use Rattle.bx_link.specs.BothEnds.{RunsBoth, events_of_near, passage};
+ghost use Rattle.bx_link.specs.BothEnds.{passage};
 ghost use Rattle.bx_link.specs.Hearing.{turned};
+ghost use Rattle.bx_link.specs.Kept.{RunsBothKept};
 
 use crate::connection::Connection;
 use crate::far_session::FarSession;
@@ -25,7 +26,9 @@ pub fn run_both_ends<E: End<Exchange>, R: Read, W: Write, S: Read, T: Write>(
     distant: &mut Connection<S, T>,
     turns: u32,
 ) -> Result<(), LinkFault>
-    ensures { (ran : RunsBoth (min turns (LAST_MOMENT - (E.day exchange.old).moment)) (passage R.remaining W.contents near.old near.new (E.day exchange.old) (E.day exchange.new)) (passage S.remaining T.contents distant.old distant.new far.old far.new) (turned result)) × E.kept exchange.old (events_of_near ran) exchange.new }
+    ensures { RunsBothKept E.day E.kept (min turns (LAST_MOMENT - (E.day exchange.old).moment)) exchange.old exchange.new
+        (passage R.remaining W.contents near.old near.new (E.day exchange.old) (E.day exchange.new))
+        (passage S.remaining T.contents distant.old distant.new far.old far.new) (turned result) }
 {
     let count = turns.min(LAST_MOMENT - exchange.reached());
     let mut session = Session::new();

@@ -1,8 +1,8 @@
 //! The exchange's side of a whole day.
 
-ghost use Rattle.std.specs.Prelude.{◌≡◌, ◌-◌, min};
-ghost use Rattle.bx_link.specs.Days.{Talks, RunsDay, events_of_day};
-ghost use Rattle.bx_link.specs.Hearing.{turned};
+ghost use Rattle.std.specs.Prelude.{◌≡◌};
+ghost use Rattle.bx_link.specs.Kept.{RunsDayKept};
+ghost use Rattle.bx_link.specs.TalkingInside.{TalksKept};
 
 use crate::session::Session;
 use bx_day::Exchange;
@@ -18,7 +18,7 @@ fn run_turns<E: End<Exchange>, R: Read, W: Write>(
     writer: &mut Watched<W>,
     turns: u32,
 ) -> Result<(), LinkFault>
-    ensures { (talked : Talks R.remaining W.contents turns reader.old reader.new writer.old writer.new (E.day exchange.old) (E.day exchange.new) (turned result)) × E.kept exchange.old talked.events exchange.new }
+    ensures { TalksKept E.day E.kept R.remaining W.contents turns exchange.old exchange.new reader.old reader.new writer.old writer.new result }
 {
     let mut session = Session::new();
     for _turn in 0..turns {
@@ -39,7 +39,7 @@ pub fn run_day<E: End<Exchange>, R: Read, W: Write>(
     writer: &mut Watched<W>,
     turns: u32,
 ) -> Result<(), LinkFault>
-    ensures { (ran : RunsDay R.remaining W.contents (min turns (LAST_MOMENT - (E.day exchange.old).moment)) reader.old reader.new writer.old writer.new (E.day exchange.old) (E.day exchange.new) (turned result)) × E.kept exchange.old (events_of_day ran) exchange.new }
+    ensures { RunsDayKept E.day E.kept R.remaining W.contents turns exchange.old exchange.new reader.old reader.new writer.old writer.new result }
 {
     let count = turns.min(LAST_MOMENT - exchange.reached());
     run_turns(exchange, reader, writer, count)?;

@@ -1,6 +1,6 @@
 //! The far end's side of a whole day.
 
-ghost use Rattle.bx_link.specs.Days.{RunsFarDay};
+ghost use Rattle.bx_link.specs.Kept.{RunsFarDayKept};
 
 use crate::far_session::FarSession;
 use bx_devices::Watched;
@@ -18,7 +18,7 @@ pub fn run_far_day<E: End<Far>, R: Read, W: Write>(
     reader: &mut Watched<R>,
     writer: &mut Watched<W>,
 ) -> Result<(), LinkFault>
-    ensures { (ran : RunsFarDay R.remaining W.contents reader.old reader.new writer.old writer.new (E.day far.old) (E.day far.new) result) × E.kept far.old ran.talks.events far.new }
+    ensures { RunsFarDayKept E.day E.kept R.remaining W.contents far.old far.new reader.old reader.new writer.old writer.new result }
 {
     let mut session = FarSession::new();
     for _turn in 0..MOST_TURNS {

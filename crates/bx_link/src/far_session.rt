@@ -2,9 +2,10 @@
 //! day.
 
 ghost use Rattle.std.specs.Prelude.{◌≡◌, not, true, false, Err};
-ghost use Rattle.bx_link.specs.Hearing.{TakesTurn, goes_on};
+ghost use Rattle.bx_link.specs.Hearing.{goes_on};
 ghost use Rattle.bx_link.specs.Sessions.{is_far_over};
 ghost use Rattle.bx_frames.specs.declared.fault.LinkFault.TheVariants.{Closed};
+ghost use Rattle.bx_link.specs.Kept.{TakesTurnKept, TakesTurnIfOpen};
 
 use bx_devices::Watched;
 use bx_far::Far;
@@ -50,7 +51,7 @@ impl FarSession {
         reader: &mut Watched<R>,
         writer: &mut Watched<W>,
     ) -> Result<bool, LinkFault>
-        ensures taken { is_far_over self.old ≡ false → (took : TakesTurn R.remaining W.contents reader.old reader.new writer.old writer.new (E.day far.old) (E.day far.new) result) × E.kept far.old took.events far.new }
+        ensures taken { TakesTurnIfOpen self.old E.day E.kept R.remaining W.contents far.old far.new reader.old reader.new writer.old writer.new result }
         ensures refused { is_far_over self.old ≡ true → result ≡ Err Closed }
         ensures far { is_far_over self.old ≡ true → far.new ≡ far.old }
         ensures reader { is_far_over self.old ≡ true → reader.new ≡ reader.old }
@@ -82,7 +83,7 @@ fn take_turn<E: End<Far>, R: Read, W: Write>(
     reader: &mut Watched<R>,
     writer: &mut Watched<W>,
 ) -> Result<bool, LinkFault>
-    ensures { (took : TakesTurn R.remaining W.contents reader.old reader.new writer.old writer.new (E.day far.old) (E.day far.new) result) × E.kept far.old took.events far.new }
+    ensures { TakesTurnKept E.day E.kept R.remaining W.contents far.old far.new reader.old reader.new writer.old writer.new result }
 {
     let due = far.turn();
     let goes_on = hear_turn(far, Receiver::FarEnd, due, reader, writer)?;

@@ -2,9 +2,10 @@
 
 ghost use Rattle.std.specs.Prelude.{◌≡◌, ◌∷◌, [], true, false, is_ok, is_err, Err};
 ghost use Rattle.bx_events.specs.Events.{Tick};
-ghost use Rattle.bx_link.specs.Hearing.{Hears, Opens};
+ghost use Rattle.bx_link.specs.Hearing.{Opens};
 ghost use Rattle.bx_link.specs.Sessions.{is_turn_open, is_closed};
 ghost use Rattle.bx_frames.specs.declared.fault.LinkFault.TheVariants.{Closed};
+ghost use Rattle.bx_link.specs.Kept.{HearsIfOpen};
 
 use bx_day::Exchange;
 use bx_devices::Watched;
@@ -93,7 +94,7 @@ impl Session {
         writer: &mut Watched<W>,
     ) -> Result<(), LinkFault>
         requires { is_closed self.old ≡ false → is_turn_open self.old ≡ true }
-        ensures heard { is_closed self.old ≡ false → (heard : Hears R.remaining W.contents reader.old reader.new writer.old writer.new (E.day exchange.old) (E.day exchange.new) result) × E.kept exchange.old heard.events exchange.new }
+        ensures heard { HearsIfOpen self.old E.day E.kept R.remaining W.contents exchange.old exchange.new reader.old reader.new writer.old writer.new result }
         ensures refused { is_closed self.old ≡ true → result ≡ Err Closed }
         ensures exchange { is_closed self.old ≡ true → exchange.new ≡ exchange.old }
         ensures reader { is_closed self.old ≡ true → reader.new ≡ reader.old }
