@@ -4,3 +4,4 @@ pub mod Events
 pub mod Seconds
 pub mod Written
 pub mod Inside
+pub mod Laws

@@ -1,14 +1,13 @@
 //! A far end's live day, second by second.
 
-ghost use Rattle.std.specs.Prelude.{◌≡◌, ◌≤◌, min, max, false};
+ghost use Rattle.std.specs.Prelude.{◌≤◌, min, max};
 ghost use Rattle.bx_events.specs.Events.{Tick};
-ghost use Rattle.bx_far.specs.Course.{far_next, far_live_after, far_text};
-ghost use Rattle.bx_live.specs.Acts.{ended};
-ghost use Rattle.bx_far_live.specs.Events.{far_events};
-ghost use Rattle.bx_far_live.specs.Runs.{Between, Owing, Done};
+ghost use Rattle.bx_far.specs.Course.{far_next, far_text};
+ghost use Rattle.bx_far_live.specs.Runs.{Between, Owing};
 ghost use Rattle.bx_far_live.specs.Running.{FarRuns};
 ghost use Rattle.bx_far_live.specs.Seconds.{after_second, Rises, RisesBySecond, IsSaid};
 ghost use Rattle.bx_far_live.specs.Inside.{or_losing};
+ghost use Rattle.bx_far_live.specs.Laws.{RunsFarDayTo};
 
 use crate::hearing::hear_turn;
 use crate::turn::open_turn;
@@ -65,7 +64,7 @@ fn run_second<W: World>(far: &mut Far, world: &mut W) -> Second
 /// second is waited for. With a link the far end ticks in it, what it sends is written, and each message that comes is heard and
 /// answered before more is read; at a fault the link is dropped, and the day goes on. Without a link its timers stand still.
 pub fn run_far_live<W: World>(far: &mut Far, world: &mut W, last: u32)
-    ensures ran { (ran : FarRuns W.did world.old world.new (Between far.old) (Done far.new)) × (far.new ≡ far_live_after (far_events ran.acts) far.old) × (ended ran.acts ≡ false → far.new.moment ≡ max far.old.moment (min last LAST_MOMENT)) }
+    ensures ran { RunsFarDayTo W.did last world.old world.new far.old far.new }
     ensures whole { far.new.moment ≤ max far.old.moment (min last LAST_MOMENT) }
 {
     let end = last.min(LAST_MOMENT);

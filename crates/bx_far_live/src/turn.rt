@@ -1,11 +1,11 @@
 //! The far end's half of a turn, and its answer to a message.
 
-ghost use Rattle.std.specs.Prelude.{◌≡◌, ℕ};
+ghost use Rattle.std.specs.Prelude.{◌≡◌};
 ghost use Rattle.bx_events.specs.Events.{Tick, Receive};
 ghost use Rattle.bx_far.specs.Course.{far_next, far_text};
-ghost use Rattle.bx_far_live.specs.Runs.{Owing, Hearing, owing};
+ghost use Rattle.bx_far_live.specs.Runs.{Owing, Hearing};
 ghost use Rattle.bx_far_live.specs.Running.{FarRuns};
-ghost use Rattle.bx_far_live.specs.Inside.{or_losing};
+ghost use Rattle.bx_far_live.specs.Inside.{or_losing, AnswersInRun};
 
 use bx_far::Far;
 use bx_frames::{End, LinkFault};
@@ -30,7 +30,7 @@ pub(crate) fn answer<W: World>(
     world: &mut W,
     message: &Octets,
 ) -> Result<(), LinkFault>
-    ensures ran { (room : ℕ) → FarRuns W.did world.old world.new (owing (far_next far.old (Receive message.now.items)) room (far_text far.old (Receive message.now.items))) (or_losing (Hearing far.new room) far.new result) }
+    ensures ran { AnswersInRun W.did world.old world.new far.old (Receive message.now.items) far.new result }
     ensures day { far.new ≡ far_next far.old (Receive message.now.items) }
 {
     match End::<Far>::hear(far, message) {
