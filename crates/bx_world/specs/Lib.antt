@@ -3,3 +3,4 @@ pub mod Peers
 pub mod Rehearsals
 pub mod BothEnds
 pub mod Captures
+pub mod Laws

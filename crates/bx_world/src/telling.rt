@@ -15,8 +15,8 @@ use std::time::{Duration, Instant};
 const STANDS: u64 = 250;
 
 /// A world whose moment is shown on standard error, where it is to be shown, at most four times a second; and whose faults of the link, late
-/// seconds, and seconds from which on there is no link or one again are told there in a line each, where there is a clock for the time of day. What standard error does with it changes
-/// nothing.
+/// seconds, and seconds from which on there is no link or one again are told there in a line each, where there is a clock for the time of
+/// day. What standard error does with it changes nothing.
 #[derive(Drop)]
 pub struct Telling<'a, W, H> {
     pub world: W,
