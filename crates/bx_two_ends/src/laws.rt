@@ -4,25 +4,8 @@ ghost use Rattle.bx_two_ends.specs.Scripts.{ScriptsFit};
 ghost use Rattle.bx_two_ends.specs.Lockstep.{FarAnswers};
 ghost use Rattle.bx_two_ends.specs.TwoEnds.{TwoEnds};
 ghost use Rattle.bx_two_ends.specs.TwoEndsInward.{TwoEndsInward};
-ghost use Rattle.std.specs.Prelude.{◌≡◌, ◌≤◌, ◌+◌, ℕ, Bool, List, Option};
-ghost use Rattle.bx_base.specs.Bookings.{Row, row_at, AreBookings, Carries, pay_of};
-ghost use Rattle.bx_base.specs.Channels.{IsChannelSet};
-ghost use Rattle.bx_base.specs.Plans.{is_accepted, channel_at};
-ghost use Rattle.bx_day.specs.Day.{Day, opening};
-ghost use Rattle.bx_day.specs.Law.{standing_at};
-ghost use Rattle.bx_day.specs.Outages.{live_day_after};
-ghost use Rattle.bx_events.specs.declared.moment.TheConstants.{LAST_MOMENT};
-ghost use Rattle.bx_far.specs.FarDay.{FarDay};
-ghost use Rattle.bx_far.specs.declared.row.ScriptRow.{ScriptRow};
-ghost use Rattle.bx_link.specs.BothEnds.{Passage};
+ghost use Rattle.bx_two_ends.specs.Laws.{IsOneProcessInTurns, IsOneProcessCarried, IsOneProcessPaid, IsEngineDayInTurns, IsEngineDayCarried, IsEngineDayPaid};
 ghost use Rattle.bx_records.specs.Totals as totals;
-ghost use Rattle.bx_records.specs.Totals.{pays_of};
-ghost use Rattle.bx_two_ends.specs.Earning.{events_of, IsLongEnough, AreLongEnough, IsCarriedBy};
-ghost use Rattle.bx_two_ends.specs.Joined.{IsJoinedDay, IsEngineDay};
-ghost use Rattle.bx_world.specs.declared.both_ends.BothEnds.{BothEnds as PlainBothEnds};
-ghost use Rattle.bx_world.specs.declared.rehearsal.Rehearsal.{Rehearsal as PlainRehearsal};
-ghost use Rattle.bx_two_ends.specs.Lockstep.{turns_from, ends_opening, AnswersAtOnce};
-ghost use Rattle.bx_two_ends.specs.Scripts.{AreScriptRows};
 
 use bx_journal::Disk;
 use std::io::{Read, Write};
@@ -60,15 +43,15 @@ pub fn far_answers()
 /// the script answers each call at once, and calls nobody, each accepted outward booking of two seconds or more is carried to its end, from
 /// a second after its start at the latest; and where all are such, what is paid for carried calls is the plan's total.
 pub fn one_process<R: Read, W: Write, S: Read, T: Write>()
-    ensures in_turns { (rows : List Row) (channels : List Bool) (assigned : List (Option ℕ)) (script : List ScriptRow) (turns : ℕ) (near : Passage Day R W) (far : Passage FarDay S T) → AreBookings rows → IsChannelSet channels → Carries rows channels (is_accepted assigned) (channel_at assigned) → AreScriptRows script → turns ≤ LAST_MOMENT → IsJoinedDay rows assigned script turns near far → near.reached ≡ live_day_after (events_of (turns_from turns (ends_opening rows assigned script))) (opening rows assigned) }
-    ensures carried { (rows : List Row) (channels : List Bool) (assigned : List (Option ℕ)) (script : List ScriptRow) (turns i : ℕ) (near : Passage Day R W) (far : Passage FarDay S T) → AreBookings rows → IsChannelSet channels → Carries rows channels (is_accepted assigned) (channel_at assigned) → AreScriptRows script → AnswersAtOnce script → turns ≤ LAST_MOMENT → IsJoinedDay rows assigned script turns near far → IsLongEnough rows assigned i turns → IsCarriedBy ((row_at rows i).start + 1) (row_at rows i).end (standing_at near.reached i) }
-    ensures paid { (rows : List Row) (channels : List Bool) (assigned : List (Option ℕ)) (script : List ScriptRow) (turns : ℕ) (near : Passage Day R W) (far : Passage FarDay S T) → AreBookings rows → IsChannelSet channels → Carries rows channels (is_accepted assigned) (channel_at assigned) → AreScriptRows script → AnswersAtOnce script → turns ≤ LAST_MOMENT → IsJoinedDay rows assigned script turns near far → AreLongEnough rows assigned turns → pays_of totals.is_carried near.reached.entries ≡ pay_of rows (is_accepted assigned) }
+    ensures in_turns { IsOneProcessInTurns R W S T }
+    ensures carried { IsOneProcessCarried R W S T }
+    ensures paid { IsOneProcessPaid R W S T }
 {}
 
 /// The same of a day by the program's engine, `run_live` over a `Rehearsal` towards `BothEnds`, with a journal or without, that came to its end before the
 /// last moment, and whose link was not lost.
 pub fn engine_day<R: Read, W: Write, S: Read, T: Write, D: Disk>()
-    ensures in_turns { (rows : List Row) (channels : List Bool) (assigned : List (Option ℕ)) (script : List ScriptRow) (old new : PlainRehearsal (PlainBothEnds R W S T) D) (reached : Day) → AreBookings rows → IsChannelSet channels → Carries rows channels (is_accepted assigned) (channel_at assigned) → AreScriptRows script → IsEngineDay R.remaining W.contents S.remaining T.contents D.holds D.may_leave D.moment D.left_since D.has_failed rows assigned script old new reached → reached ≡ live_day_after (events_of (turns_from reached.moment (ends_opening rows assigned script))) (opening rows assigned) }
-    ensures carried { (rows : List Row) (channels : List Bool) (assigned : List (Option ℕ)) (script : List ScriptRow) (i : ℕ) (old new : PlainRehearsal (PlainBothEnds R W S T) D) (reached : Day) → AreBookings rows → IsChannelSet channels → Carries rows channels (is_accepted assigned) (channel_at assigned) → AreScriptRows script → AnswersAtOnce script → IsEngineDay R.remaining W.contents S.remaining T.contents D.holds D.may_leave D.moment D.left_since D.has_failed rows assigned script old new reached → IsLongEnough rows assigned i reached.moment → IsCarriedBy ((row_at rows i).start + 1) (row_at rows i).end (standing_at reached i) }
-    ensures paid { (rows : List Row) (channels : List Bool) (assigned : List (Option ℕ)) (script : List ScriptRow) (old new : PlainRehearsal (PlainBothEnds R W S T) D) (reached : Day) → AreBookings rows → IsChannelSet channels → Carries rows channels (is_accepted assigned) (channel_at assigned) → AreScriptRows script → AnswersAtOnce script → IsEngineDay R.remaining W.contents S.remaining T.contents D.holds D.may_leave D.moment D.left_since D.has_failed rows assigned script old new reached → AreLongEnough rows assigned reached.moment → pays_of totals.is_carried reached.entries ≡ pay_of rows (is_accepted assigned) }
+    ensures in_turns { IsEngineDayInTurns R.remaining W.contents S.remaining T.contents D.holds D.may_leave D.moment D.left_since D.has_failed }
+    ensures carried { IsEngineDayCarried R.remaining W.contents S.remaining T.contents D.holds D.may_leave D.moment D.left_since D.has_failed }
+    ensures paid { IsEngineDayPaid R.remaining W.contents S.remaining T.contents D.holds D.may_leave D.moment D.left_since D.has_failed }
 {}
