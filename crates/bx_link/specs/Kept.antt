@@ -6,10 +6,9 @@ use Rattle.bx_events.specs.Events.{Event}
 use Rattle.bx_events.specs.declared.moment.TheConstants.{LAST_MOMENT}
 use Rattle.bx_far.specs.FarDay.{FarDay}
 use Rattle.bx_frames.specs.declared.fault.LinkFault.{LinkFault}
-use Rattle.bx_link.specs.BothEnds.{Passage, passage, RunsBoth, events_of_near}
+use Rattle.bx_link.specs.BothEnds.{Passage, RunsBoth, events_of_near}
 use Rattle.bx_link.specs.Days.{RunsDay, RunsFarDay, events_of_day}
 use Rattle.bx_link.specs.Hearing.{Hears, TakesTurn, turned}
-use Rattle.bx_link.specs.declared.connection.Connection.{Connection}
 use Rattle.bx_link.specs.Sessions.{is_closed, is_far_over}
 use Rattle.bx_link.specs.declared.session.Session.{Session}
 use Rattle.bx_link.specs.declared.far_session.FarSession.{FarSession}
