@@ -11,6 +11,7 @@ use Rattle.bx_journal.specs.declared.head.Wanted.{Wanted}
 use Rattle.bx_restart.specs.Sales.{SaleIn, IsBadSale}
 use Rattle.bx_restart.specs.Selling.{day_goes}
 use Rattle.bx_restart.specs.declared.reselling.SaleFault.{SaleFault}
+use Rattle.bx_devices.specs.Devices.{Reading}
 
 -- just the events of a journal happened, and each of its sales was sold again where it stands
 pub record IsDayThrough (channels : List Bool) (wanted : Wanted) (before : Option (List ℕ)) (opened day : Day) : Type 0 where
@@ -42,3 +43,7 @@ IsNoReplay name wanted channels opened before after faulted fault = IsNoJournal 
 abbrev pub HasNoReplay : List ℕ → Wanted → List Bool → Day → DayCommandFault → Type 0
 HasNoReplay name wanted channels opened (Sale fault) = HasBadSale channels wanted None opened fault
 HasNoReplay name wanted channels opened fault = HasNoJournal name wanted fault
+
+-- the same of what was read
+abbrev pub IsNoReplayAsRead : List ℕ → Wanted → List Bool → Day → Reading → DayCommandFault → Type 0
+IsNoReplayAsRead name wanted channels opened reading = IsNoReplay name wanted channels opened reading.before reading.after reading.is_faulted

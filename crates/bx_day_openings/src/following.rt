@@ -1,10 +1,11 @@
 //! Journals that are followed to their ends.
 
 ghost use Rattle.std.specs.Prelude.{◌≡◌, IfErr, OnOk};
-ghost use Rattle.bx_devices.specs.Watching.{device_of, is_faulted};
-ghost use Rattle.bx_day_openings.specs.JournalRefusals.{IsNoJournal};
+ghost use Rattle.bx_devices.specs.Watching.{device_of};
+ghost use Rattle.bx_day_openings.specs.JournalRefusals.{IsNoJournalAsRead};
 ghost use Rattle.bx_day_openings.specs.Answers.{told_of};
 ghost use Rattle.bx_day_openings.specs.Followed.{IsFollowedWhole, IsFollowedSoFar};
+ghost use Rattle.bx_devices.specs.Devices.{reading_of};
 
 use crate::DayCommandFault;
 use bx_check_commands::CommandFault;
@@ -38,7 +39,7 @@ pub fn follow_to_end<'a, R: Read, F: Follower>(
     follower: &mut F,
 ) -> Result<(), DayCommandFault<'a>>
     ensures whole { OnOk result (IsFollowedWhole F.followed wanted.now (R.remaining (device_of journal.old)) follower.old follower.new) }
-    ensures refused { IfErr result (IsNoJournal name.now wanted.now (R.remaining (device_of journal.old)) (R.remaining (device_of journal.new)) (is_faulted journal.new)) }
+    ensures refused { IfErr result (IsNoJournalAsRead name.now wanted.now (reading_of R.remaining journal.old journal.new)) }
     // At a refusal the events before it were followed.
     ensures prefix { IfErr result (λ fault. IsFollowedSoFar F.followed follower.old follower.new) }
 {

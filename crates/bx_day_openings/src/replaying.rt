@@ -5,10 +5,11 @@ ghost use Rattle.bx_base.specs.declared.booking.TheConstants.{MAX_MOMENT};
 ghost use Rattle.bx_calls.specs.Timers.{clearing_time};
 ghost use Rattle.bx_day.specs.Invariant.{is_refused};
 ghost use Rattle.bx_day_openings.specs.Openings.{IsLastOfDay, AreDayTurns};
-ghost use Rattle.bx_day_openings.specs.Replays.{IsDayThrough, IsNoReplay};
-ghost use Rattle.bx_devices.specs.Watching.{device_of, is_faulted};
-ghost use Rattle.bx_journal.specs.Follows.{IsFollowed};
+ghost use Rattle.bx_day_openings.specs.Replays.{IsDayThrough, IsNoReplayAsRead};
+ghost use Rattle.bx_devices.specs.Watching.{device_of};
+ghost use Rattle.bx_journal.specs.Follows.{IsFollowedFrom};
 ghost use Rattle.bx_restart.specs.Selling.{day_goes};
+ghost use Rattle.bx_devices.specs.Devices.{reading_of};
 
 use crate::fault::DayCommandFault;
 use crate::following::journal_read;
@@ -40,8 +41,8 @@ pub fn replay_journal<'a, R: Read>(
     exchange: Exchange,
 ) -> Result<Replayed, DayCommandFault<'a>>
     ensures through { IfOk result (λ r. IsDayThrough channels wanted.now (R.remaining (device_of journal.old)) exchange r.exchange) }
-    ensures followed { IfOk result (λ r. IsFollowed (day_goes channels) (is_faulted journal.new) (R.remaining (device_of journal.old)) (R.remaining (device_of journal.new)) wanted.now exchange r.exchange r.whole) }
-    ensures refused { IfErr result (IsNoReplay name.now wanted.now channels exchange (R.remaining (device_of journal.old)) (R.remaining (device_of journal.new)) (is_faulted journal.new)) }
+    ensures followed { IfOk result (λ r. IsFollowedFrom (day_goes channels) R.remaining journal.old journal.new wanted.now exchange r.exchange r.whole) }
+    ensures refused { IfErr result (IsNoReplayAsRead name.now wanted.now channels exchange (reading_of R.remaining journal.old journal.new)) }
 {
     let mut selling = Selling::new(alloc, channels, exchange);
     let whole = read_journal(journal, wanted, &mut selling);
