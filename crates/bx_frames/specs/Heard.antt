@@ -5,7 +5,7 @@ use Rattle.bx_devices.specs.declared.watched.Watched.{Watched}
 use Rattle.bx_devices.specs.Watching.{device_of, is_faulted, reads_of}
 use Rattle.bx_events.specs.Events.{Event}
 use Rattle.bx_frames.specs.Courses.{after, told, ticks_of, ticks_last}
-use Rattle.bx_frames.specs.Talks.{Talk}
+use Rattle.bx_frames.specs.Talks.{Talk, turn_in}
 use Rattle.bx_frames.specs.Frames.{is_far}
 use Rattle.bx_frames.specs.Reading.{IsRead, FailsToRead}
 use Rattle.bx_frames.specs.declared.fault.LinkFault.{LinkFault}
@@ -88,3 +88,14 @@ pub record Went {D R W : Type 0} (receiver : Receiver) (next : D → Event → D
 -- while an end hears, it does not tick
 abbrev pub no_tick : Result Bool LinkFault → ℕ → Type 0
 no_tick result n = n ≡ 0
+
+-- an end heard the messages of a turn, and kept the events that it went through
+abbrev pub HearsTurnKept : {D E R W : Type 0} →
+    (E → D) → (E → List Event → E → Type 0) →
+    (D → Event → D) → (D → Event → List ℕ) →
+    Receiver → ℕ →
+    (R → Option (List ℕ)) → (W → Option (List ℕ)) →
+    E → E → Watched R → Watched R → Watched W → Watched W → Result Bool LinkFault → Type 0
+HearsTurnKept day kept next text receiver moment remaining contents e e' r r' w w' result =
+    (went : Went receiver next text (turn_in receiver moment 64) no_tick remaining contents r r' w w' (day e) (day e') result) ×
+    kept e went.events e'

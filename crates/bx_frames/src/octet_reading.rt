@@ -1,9 +1,10 @@
 //! The loop that reads a given count of octets.
 
-ghost use Rattle.std.specs.Prelude.{◌≡◌, ◌≤◌, ◌<◌, ℕ, List, length, take, IfOk, OnOk, OnErr};
+ghost use Rattle.std.specs.Prelude.{◌≡◌, ◌≤◌, ◌<◌, length, take, IfOk, OnOk, OnErr};
 ghost use Rattle.std.specs.Io.KnownBytes.{Consumes, IsAtEnd};
 ghost use Rattle.bx_devices.specs.Watching.{device_of, is_faulted, reads_of};
 ghost use Rattle.bx_frames.specs.Reading.{FailsToRead};
+ghost use Rattle.bx_frames.specs.Inside.{ReadsFewerThan};
 
 use crate::fault::LinkFault;
 use bx_devices::Watched;
@@ -23,7 +24,7 @@ pub(crate) fn read_exact_octets<R: Read>(
     ensures octets { IfOk result (λ n. Consumes (R.remaining (device_of r.old)) (R.remaining (device_of r.new)) (take n buf.new)) }
     ensures end { IfOk result (λ n. n < length buf.new → IsAtEnd (R.remaining (device_of r.new))) }
     ensures failed { OnErr result (FailsToRead r.old r.new) }
-    ensures part { OnErr result ((read : List ℕ) × (length read < length buf.new) × Consumes (R.remaining (device_of r.old)) (R.remaining (device_of r.new)) read) }
+    ensures part { OnErr result (ReadsFewerThan R.remaining (length buf.new) r.old r.new) }
     ensures unfaulted { OnOk result (is_faulted r.new ≡ is_faulted r.old) }
     ensures counted { reads_of r.old ≤ reads_of r.new }
 {

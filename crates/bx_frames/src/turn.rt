@@ -4,9 +4,8 @@ ghost use Rattle.std.specs.Prelude.{◌≡◌, ◌++◌, ◌∷◌, [], Ok, fals
 ghost use Rattle.std.specs.List.{flat_map};
 ghost use Rattle.bx_events.specs.Events.{Tick, Receive};
 ghost use Rattle.bx_frames.specs.Frames.{frame_with, turn_frame, is_far};
-ghost use Rattle.bx_frames.specs.Heard.{Went, no_tick};
+ghost use Rattle.bx_frames.specs.Heard.{HearsTurnKept};
 ghost use Rattle.bx_frames.specs.Writing.{Sends};
-ghost use Rattle.bx_frames.specs.Talks.{turn_in};
 
 use crate::end::{Course, End};
 use crate::{
@@ -75,7 +74,8 @@ pub fn hear_turn<L: Course, E: End<L>, R: Read, W: Write>(
     reader: &mut Watched<R>,
     writer: &mut Watched<W>,
 ) -> Result<bool, LinkFault>
-    ensures went { (went : Went receiver L.next L.text (turn_in receiver moment 64) no_tick R.remaining W.contents reader.old reader.new writer.old writer.new (E.day end.old) (E.day end.new) result) × E.kept end.old went.events end.new }
+    ensures went { HearsTurnKept E.day E.kept L.next L.text receiver moment R.remaining W.contents end.old end.new
+        reader.old reader.new writer.old writer.new result }
     ensures far { result ≡ Ok false → is_far receiver ≡ true }
 {
     let mut room = MAX_MESSAGES;
