@@ -1,5 +1,5 @@
 -- What was captured of the day of a far end.
-use Rattle.std.specs.Prelude.{◌≡◌, ℕ, Bool, List, Option}
+use Rattle.std.specs.Prelude.{◌≡◌, ℕ, Bool, List, Option, true}
 use Rattle.bx_devices.specs.declared.watched.Watched.{Watched}
 use Rattle.bx_capture.specs.Captures.{Keeps, is_unfaulted}
 use Rattle.bx_day_openings.specs.CaptureOpenings.{IsFirstOf, IsFileFor}
@@ -8,6 +8,7 @@ use Rattle.bx_events.specs.Events.{Event}
 use Rattle.bx_far.specs.FarDay.{FarDay}
 use Rattle.bx_day_openings.specs.Openings.{IsFarOpening}
 use Rattle.bx_far_commands.specs.Days.{IsFarTold, far_packets, far_packets_of}
+use Rattle.bx_devices.specs.Devices.{Writing}
 
 -- where there is a file, it took these packets, and whether it took them all
 pub record AreKept {F : Type 0} (contents : F → Option (List ℕ)) (file : Option (Watched F)) (packets : List ℕ) (is_whole : Bool) : Type 0 where
@@ -38,3 +39,7 @@ pub record IsFarStopped {F : Type 0} (contents : F → Option (List ℕ)) (captu
   pub events : List Event
   pub closed : Option (Watched F)
   pub keeps : Keeps contents file closed (far_packets first events opened)
+
+-- the same of an output, where all of the day was captured
+abbrev pub IsFarDoneWhole : {F : Type 0} → (F → Option (List ℕ)) → Option CaptureWords → Writing → Type 0
+IsFarDoneWhole contents capture output = IsFarDone contents capture output.before output.after true

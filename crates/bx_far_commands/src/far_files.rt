@@ -4,10 +4,11 @@ ghost use Rattle.std.specs.Prelude.{◌≡◌, ◌&&◌, not, true, IfOk, IfErr,
 ghost use Rattle.std.specs.Io.KnownBytes.{Appends};
 ghost use Rattle.bx_devices.specs.Octets.{AppendsPrefix};
 ghost use Rattle.bx_devices.specs.Watching.{device_of, is_faulted};
-ghost use Rattle.bx_far_commands.specs.CapturedDays.{IsFarDone};
+ghost use Rattle.bx_far_commands.specs.CapturedDays.{IsFarDone, IsFarDoneWhole};
 ghost use Rattle.bx_far_commands.specs.Days.{ended_line};
 ghost use Rattle.bx_far_commands.specs.FarRefusals.{StopsFarEnd, IsFarNotDone, IsFarRefusal};
 ghost use Rattle.bx_far_commands.specs.Kept.{IsFarCaptured};
+ghost use Rattle.bx_devices.specs.Devices.{writing_of};
 
 use crate::running::run_connected;
 use bx_capture::is_whole;
@@ -92,7 +93,7 @@ pub fn far_on_files<'a, H: System, I: Inputs, W: Write>(
     output: &mut Watched<W>,
     is_terminal: bool,
 ) -> Result<(), DayCommandFault<'a>>
-    ensures done { OnOk result (IsFarDone H.File.contents request.entry.sight.capture (W.contents (device_of output.old)) (W.contents (device_of output.new)) true) }
+    ensures done { OnOk result (IsFarDoneWhole H.File.contents request.entry.sight.capture (writing_of W.contents output.old output.new)) }
     ensures refused { IfErr result (IsFarRefusal H.File.contents request.entry W.contents output.old output.new) }
 {
     let is_shown = is_shown(request.sight, is_terminal);
