@@ -1,5 +1,5 @@
 -- What is told of a day by its journal.
-use Rattle.std.specs.Prelude.{◌≡◌, ℕ, Bool, List, Option, None}
+use Rattle.std.specs.Prelude.{◌≡◌, ℕ, Bool, List, Option, None, true}
 use Rattle.std.specs.Io.KnownBytes.{Appends}
 use Rattle.bx_devices.specs.declared.watched.Watched.{Watched}
 use Rattle.bx_devices.specs.Octets.{AppendsPrefix}
@@ -13,6 +13,10 @@ use Rattle.bx_day_openings.specs.TiedDays.{IsTiedOpening}
 use Rattle.bx_request.specs.declared.request.CaptureWords.{CaptureWords}
 use Rattle.bx_audit.specs.LiveCaptures.{CapturesThrough}
 use Rattle.bx_day_openings.specs.Journals.{IsJournal}
+use Rattle.bx_devices.specs.Devices.{Writing, Reading}
+use Rattle.bx_day_openings.specs.declared.plan_opening.DayOpening.{DayOpening}
+use Rattle.bx_day_openings.specs.Replays.{IsNoReplayAsRead}
+use Rattle.bx_day_openings.specs.declared.fault.DayCommandFault.{DayCommandFault}
 
 -- the day after just the events and sales of a journal, and the file took the packets of its messages
 pub record IsAudited {F : Type 0} (plan : List ℕ) (channels : List Bool) (before : Option (List ℕ)) (contents : F → Option (List ℕ)) (file closed : Option (Watched F)) (first : ℕ) (opened day : Day) : Type 0 where
@@ -56,3 +60,15 @@ pub record IsKeptSoFar {F : Type 0} (contents : F → Option (List ℕ)) (channe
   pub octets : List ℕ
   pub through : CapturesThrough channels first events opened day octets
   pub kept : Keeps contents file closed octets
+
+-- the same of the opening of a day
+abbrev pub IsOpeningAudited : {F : Type 0} → DayOpening → Option (List ℕ) → (F → Option (List ℕ)) → Option (Watched F) → Option (Watched F) → ℕ → Day → Type 0
+IsOpeningAudited opening before contents file closed first = IsAudited opening.digest opening.channels before contents file closed first opening.exchange
+
+-- what became of each booking was written, and all of the day was captured
+abbrev pub IsAuditToldWhole : {F : Type 0} → (F → Option (List ℕ)) → Option CaptureWords → Writing → Type 0
+IsAuditToldWhole contents capture output = IsAuditTold contents capture output.before output.after true
+
+-- why the day of this opening has not gone through its journal, whatever day that is of
+abbrev pub IsNotAuditedAsRead : List ℕ → DayOpening → Reading → DayCommandFault → Type 0
+IsNotAuditedAsRead name opening reading = IsNoReplayAsRead name (of_any_day opening.digest) opening.channels opening.exchange reading

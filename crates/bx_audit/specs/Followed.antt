@@ -8,6 +8,8 @@ use Rattle.bx_events.specs.Events.{LiveEvent}
 use Rattle.bx_restart.specs.Going.{GoesFrom}
 use Rattle.bx_restart.specs.declared.reselling.SaleFault.{SaleFault}
 use Rattle.bx_audit.specs.LiveCaptures.{live_packets, CapturesThrough}
+use Rattle.bx_capture.specs.declared.captured.Captured.{Captured}
+use Rattle.bx_audit.specs.declared.following.Recaptured.{Recaptured}
 
 -- the day went on by these events, and the file took the packets of each, which count from the same first second
 pub record IsLiveCaptured {W : Type 0} (contents : W → Option (List ℕ)) (first first' : ℕ) (file file' : Option (Watched W)) (d d' : Day) (events : List LiveEvent) : Type 0 where
@@ -34,3 +36,14 @@ pub record IsTaken {W : Type 0} (contents : W → Option (List ℕ)) (channels :
 -- up to the first sale that is none
 abbrev pub IsRecaptured : {W : Type 0} → (W → Option (List ℕ)) → List Bool → List Bool → Option SaleFault → Option SaleFault → Taken W → List LiveEvent → Taken W → Type 0
 IsRecaptured contents channels channels' sale sale' old events new = (channels' ≡ channels) × GoesFrom (IsTaken contents channels) (λ t. t.day) channels sale old events new sale'
+
+-- ---- the same of an exchange with its capture, and of what follows a journal
+
+abbrev pub IsCapturedLive : {W : Type 0} → (W → Option (List ℕ)) → Captured Day W → List LiveEvent → Captured Day W → Type 0
+IsCapturedLive contents old events new = IsLiveCaptured contents old.first new.first old.file new.file old.end new.end events
+
+abbrev pub taken_from : {W : Type 0} → Recaptured W → Taken W
+taken_from r = taken_of r.captured.end r.captured.file r.captured.first
+
+abbrev pub HasRecaptured : {W : Type 0} → (W → Option (List ℕ)) → Recaptured W → List LiveEvent → Recaptured W → Type 0
+HasRecaptured contents old events new = IsRecaptured contents old.channels new.channels old.sale new.sale (taken_from old) events (taken_from new)

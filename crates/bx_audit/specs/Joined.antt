@@ -7,8 +7,9 @@ use Rattle.bx_day.specs.Outages.{live_happens}
 use Rattle.bx_restart.specs.Going.{GoesFrom}
 use Rattle.bx_restart.specs.Joined.{goes_nothing, goes_more}
 use Rattle.bx_restart.specs.declared.reselling.SaleFault.{SaleFault}
-use Rattle.bx_audit.specs.Followed.{Taken, IsTaken, IsRecaptured}
+use Rattle.bx_audit.specs.Followed.{Taken, IsTaken, IsRecaptured, taken_from, HasRecaptured}
 use Rattle.bx_audit.specs.LiveCaptures.{live_packets_for, CapturesThrough}
+use Rattle.bx_audit.specs.declared.following.Recaptured.{Recaptured}
 
 captures_more : (channels : List Bool) (first : ℕ) (xs ys : List LiveEvent) (a b c : Day) (os ps : List ℕ) → CapturesThrough channels first xs a b os → CapturesThrough channels first ys b c ps → CapturesThrough channels first (xs ++ ys) a c (os ++ ps)
 captures_more channels first [] ys a b c os ps (same, none) more = subst (λ (l : List ℕ). CapturesThrough channels first ys a c (l ++ ps)) (sym none) (subst (λ (d : Day). CapturesThrough channels first ys d c ps) same more)
@@ -36,3 +37,10 @@ module _ {W : Type 0} (contents : W → Option (List ℕ)) where
   followed_on cs cs1 cs2 s s1 s2 a b c xs ys (same, p) (again, q) =
       let on = subst (λ (x : List Bool). GoesFrom (IsTaken contents x) (λ (t : Taken W). t.day) x s1 b ys c s2) same q in
       (again ∙ same, goes_more (IsTaken contents cs) (λ (t : Taken W). t.day) cs (taken_more cs) a b c xs ys s s1 s2 p on)
+
+  -- the same of what follows a journal
+  pub recaptured_nothing : (a : Recaptured W) → HasRecaptured contents a [] a
+  recaptured_nothing a = followed_nothing a.channels a.sale (taken_from a)
+
+  pub recaptured_on : (a b c : Recaptured W) (xs ys : List LiveEvent) → HasRecaptured contents a xs b → HasRecaptured contents b ys c → HasRecaptured contents a (xs ++ ys) c
+  recaptured_on a b c xs ys p q = followed_on a.channels b.channels c.channels a.sale b.sale c.sale (taken_from a) (taken_from b) (taken_from c) xs ys p q

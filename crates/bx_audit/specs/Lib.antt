@@ -15,3 +15,4 @@ pub mod NotedOn
 pub mod Seen
 pub mod Charted
 pub mod Uncharted
+pub mod Laws

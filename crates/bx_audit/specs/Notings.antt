@@ -1,7 +1,7 @@
 -- Private: outages while they are noted.
 use Rattle.std.specs.Prelude.{◌≡◌, ℕ, true, List, [], ◌∷◌}
 use Rattle.bx_events.specs.Events.{Tick, Receive, LiveEvent, OnLink, WithoutLink, Sold}
-use Rattle.bx_audit.specs.Noted.{next_moment, outages_from}
+use Rattle.bx_audit.specs.Noted.{next_moment, outages_from, noted_at}
 use Rattle.bx_audit.specs.declared.noting.Noting.{Noting}
 
 -- the moment to which a day has come that was at this one
@@ -25,3 +25,9 @@ pub record WasNoted (old : Noting) (events : List LiveEvent) (new : Noting) : Ty
 
 abbrev pub IsNoted : Noting → List LiveEvent → Noting → Type 0
 IsNoted old events new = new.is_whole ≡ true → WasNoted old events new
+
+-- the second that begins was noted as one without a link, where all were
+abbrev pub IsSecondNoted : Noting → Noting → Type 0
+IsSecondNoted old new =
+    new.is_whole ≡ true →
+    (old.is_whole ≡ true) × (new.outages.spans.items ≡ noted_at old.moment old.outages.spans.items)

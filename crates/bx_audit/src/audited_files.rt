@@ -1,12 +1,12 @@
 //! The command that tells a day by its journal.
 
-ghost use Rattle.std.specs.Prelude.{true, None, IfOk, IfErr, OnOk};
-ghost use Rattle.bx_devices.specs.Watching.{device_of};
+ghost use Rattle.std.specs.Prelude.{None, IfOk, IfErr, OnOk};
 ghost use Rattle.bx_day.specs.Day.{Day};
 ghost use Rattle.bx_day_openings.specs.Replays.{IsDayThrough, HasNoReplay};
 ghost use Rattle.bx_journal.specs.Heads.{of_any_day};
 ghost use Rattle.bx_audit.specs.AuditRefusals.{StopsAudit, IsAuditRefusal};
-ghost use Rattle.bx_audit.specs.Audits.{IsDayAudited, IsAuditTold};
+ghost use Rattle.bx_audit.specs.Audits.{IsDayAudited, IsAuditToldWhole};
+ghost use Rattle.bx_devices.specs.Devices.{writing_of};
 
 use crate::telling::audited_day;
 use bx_capture::is_whole;
@@ -95,7 +95,7 @@ pub fn audit_files<'a, H: Files + AllocGlobal + Eprint, I: Inputs, W: Write>(
     request: AuditRequest<'a>,
     output: &mut Watched<W>,
 ) -> Result<(), DayCommandFault<'a>>
-    ensures done { OnOk result (IsAuditTold H.File.contents request.entry.capture (W.contents (device_of output.old)) (W.contents (device_of output.new)) true) }
+    ensures done { OnOk result (IsAuditToldWhole H.File.contents request.entry.capture (writing_of W.contents output.old output.new)) }
     ensures refused { IfErr result (IsAuditRefusal request.entry H.File.contents W.contents output.old output.new) }
 {
     let (exchange, is_whole) = audited_in(rt, inputs, request)?;

@@ -1,9 +1,10 @@
 //! A day that is followed by its journal, with the seconds without a link.
 
 ghost use Rattle.std.specs.Prelude.{IfOk, IfErr};
-ghost use Rattle.bx_devices.specs.Watching.{device_of, is_faulted};
-ghost use Rattle.bx_audit.specs.Chartings.{IsNotSeen};
+ghost use Rattle.bx_devices.specs.Watching.{device_of};
+ghost use Rattle.bx_audit.specs.Chartings.{IsNotSeenAsRead};
 ghost use Rattle.bx_audit.specs.Seen.{IsSeenThrough};
+ghost use Rattle.bx_devices.specs.Devices.{reading_of};
 
 use crate::noting::Noting;
 use bx_base::ChannelSet;
@@ -47,8 +48,9 @@ pub(crate) struct Seen {
     pub(crate) outages: Outages,
 }
 
-/// The exchange after the events of a journal of this name, with the outages of its link; what it says was sold is sold again, on the channels in service. It is
-/// read once, in pieces. It is refused as `replay_journal` refuses it, or as `Command`, by `Memory`, where memory ran out as an outage was noted.
+/// The exchange after the events of a journal of this name, with the outages of its link; what it says was sold is sold again, on the
+/// channels in service. It is read once, in pieces. It is refused as `replay_journal` refuses it, or as `Command`, by `Memory`, where
+/// memory ran out as an outage was noted.
 pub(crate) fn seen_by<'a, R: Read>(
     alloc: Global,
     name: &'a str,
@@ -58,7 +60,7 @@ pub(crate) fn seen_by<'a, R: Read>(
     exchange: Exchange,
 ) -> Result<Seen, DayCommandFault<'a>>
     ensures through { IfOk result (λ s. IsSeenThrough channels wanted.now (R.remaining (device_of journal.old)) exchange s.exchange s.outages.spans.items) }
-    ensures refused { IfErr result (IsNotSeen name.now wanted.now channels exchange (R.remaining (device_of journal.old)) (R.remaining (device_of journal.new)) (is_faulted journal.new)) }
+    ensures refused { IfErr result (IsNotSeenAsRead name.now wanted.now channels exchange (reading_of R.remaining journal.old journal.new)) }
 {
     let mut charting = Charting {
         selling: Selling::new(alloc, channels, exchange),

@@ -2,8 +2,8 @@
 
 ghost use Rattle.std.specs.Prelude.{◌≡◌, ◌∷◌, [], true, IfOk};
 ghost use Rattle.bx_journal.specs.Events.{recorded_event};
-ghost use Rattle.bx_audit.specs.Noted.{next_moment, noted_at};
-ghost use Rattle.bx_audit.specs.Notings.{IsFresh, IsNoted};
+ghost use Rattle.bx_audit.specs.Noted.{next_moment};
+ghost use Rattle.bx_audit.specs.Notings.{IsFresh, IsNoted, IsSecondNoted};
 
 use bx_day_chart::Outages;
 use bx_events::LAST_MOMENT;
@@ -41,7 +41,7 @@ impl Noting {
 
     /// Notes the second that begins.
     fn note(&mut self)
-        ensures outages { self.new.is_whole ≡ true → (self.old.is_whole ≡ true) × (self.new.outages.spans.items ≡ noted_at self.old.moment self.old.outages.spans.items) }
+        ensures outages { IsSecondNoted self.old self.new }
         ensures moment { self.new.moment ≡ self.old.moment }
     {
         if self.moment < LAST_MOMENT && self.outages.note(self.moment).is_err() {

@@ -39,7 +39,8 @@ pub fn record_files<'a, I: Inputs, W: Write, E: Write>(
     output: &mut Watched<W>,
     errors: &mut Watched<E>,
 ) -> Result<(), DayCommandFault<'a>>
-    ensures done { OnOk result (AreRecordsTold (I.gives inputs.old) request.entry (writing_of W.contents output.old output.new) (writing_of E.contents errors.old errors.new)) }
+    ensures done { OnOk result
+        (AreRecordsTold (I.gives inputs.old) request.entry (writing_of W.contents output.old output.new) (writing_of E.contents errors.old errors.new)) }
     ensures refused { IfErr result (IsRecordsCommandRefusal (I.gives inputs.old) request.entry W.contents output.old output.new) }
 {
     let clock = clock_of(request.day)?;

@@ -1,10 +1,10 @@
 //! The day after a journal.
 
 ghost use Rattle.std.specs.Prelude.{◌≤◌, IfOk, IfErr, IsErrOf};
-ghost use Rattle.bx_devices.specs.Watching.{device_of, is_faulted};
+ghost use Rattle.bx_devices.specs.Watching.{device_of};
 ghost use Rattle.bx_journal.specs.Heads.{of_any_day};
-ghost use Rattle.bx_day_openings.specs.Replays.{IsNoReplay};
-ghost use Rattle.bx_audit.specs.Audits.{IsAudited, IsKeptSoFar};
+ghost use Rattle.bx_audit.specs.Audits.{IsKeptSoFar, IsOpeningAudited, IsNotAuditedAsRead};
+ghost use Rattle.bx_devices.specs.Devices.{reading_of};
 
 use crate::following::Recaptured;
 use bx_capture::Captured;
@@ -31,8 +31,8 @@ pub fn audited_day<'a, R: Read, W: Write + Drop>(
     first: u32,
 ) -> Result<Exchange, DayCommandFault<'a>>
     requires { first ≤ 4294667295 }
-    ensures audited { IfOk result (IsAudited opening.digest opening.channels (R.remaining (device_of journal.old)) W.contents file.old file.new first opening.exchange) }
-    ensures refused { IfErr result (IsNoReplay name.now (of_any_day opening.digest) opening.channels opening.exchange (R.remaining (device_of journal.old)) (R.remaining (device_of journal.new)) (is_faulted journal.new)) }
+    ensures audited { IfOk result (IsOpeningAudited opening (R.remaining (device_of journal.old)) W.contents file.old file.new first) }
+    ensures refused { IfErr result (IsNotAuditedAsRead name.now opening (reading_of R.remaining journal.old journal.new)) }
     // No day is wanted, so none is another one.
     ensures any_day { IsErrOf result (DayCommandFault.Journal JournalFault.OtherDay) → ⊥ }
     ensures kept { IfErr result (λ fault. IsKeptSoFar W.contents opening.channels file.old file.new first opening.exchange) }
