@@ -21,3 +21,4 @@ pub mod RehearsalsInside
 pub mod RehearsedDays
 pub mod ReadyInside
 pub mod RehearsalRefusals
+pub mod PeersInside

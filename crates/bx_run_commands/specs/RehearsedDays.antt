@@ -1,5 +1,5 @@
 -- What is told of a day that is rehearsed.
-use Rattle.std.specs.Prelude.{◌≡◌, ℕ, Bool, is_some, List, Option, None, Result}
+use Rattle.std.specs.Prelude.{◌≡◌, ℕ, Bool, is_some, List, Option, None, Result, true, Ok}
 use Rattle.std.specs.Borrow.{Bor}
 use Rattle.std.specs.Io.KnownBytes.{Appends}
 use Rattle.std.specs.declared.net.TcpStream.{TcpStream}
@@ -28,6 +28,7 @@ use Rattle.bx_run_commands.specs.Rehearsals.{RehearsesTowards}
 use Rattle.bx_run_commands.specs.JournalDisks.{JournalDisk}
 use Rattle.bx_run_commands.specs.declared.rehearsing.Opened.{Opened}
 use Rattle.bx_run_commands.specs.declared.rehearsing.Rehearsed.{Rehearsed}
+use Rattle.bx_devices.specs.Devices.{Writing}
 
 -- the two directions of a stream
 abbrev pub Stream : Type 0 → Type 0
@@ -100,3 +101,7 @@ pub record IsRehearsalCut {F : Type 0} (files : F → Option (List ℕ)) (reques
   pub written : AppendsPrefix before after (outcomes_text day)
   pub recorded : Result (Unit {0}) DayCommandFault
   pub records : AreRecorded files request.records day.entries recorded
+
+-- the same of an output, where all of the day was captured and just its records were written
+abbrev pub IsRehearsalDone : {F : Type 0} → (F → Option (List ℕ)) → RehearsalRequest → Writing → Type 0
+IsRehearsalDone files request output = IsRehearsalTold files request output.before output.after true (Ok tt)

@@ -43,8 +43,10 @@ pub fn run_with_office<'a, 'h, H: Clock + Eprint + AllocGlobal, W: Wire + Drop, 
     premises: Premises,
 ) -> Result<Exchange, CannotRecord>
     ensures failed { OnErr result (is_some resumed.record.disk ≡ true) }
-    ensures stopped { OnErr result (StopsSelling W.did D.holds D.may_leave D.moment D.left_since D.has_failed wire schedule resumed.record premises.channels turns resumed.exchange) }
-    ensures ran { IfOk result (SellsByLine W.did D.holds D.may_leave D.moment D.left_since D.has_failed wire schedule resumed.record premises.channels turns resumed.exchange) }
+    ensures stopped { OnErr result
+        (StopsSelling W.did D.holds D.may_leave D.moment D.left_since D.has_failed wire schedule resumed.record premises.channels turns resumed.exchange) }
+    ensures ran { IfOk result
+        (SellsByLine W.did D.holds D.may_leave D.moment D.left_since D.has_failed wire schedule resumed.record premises.channels turns resumed.exchange) }
 {
     let Resumed {
         mut exchange,

@@ -74,8 +74,10 @@ fn run_rest<'a, 'h, H: Clock + Eprint + AllocGlobal, W: Wire + Drop, D: Disk + D
     premises: Option<Premises>,
 ) -> Result<Exchange, CannotRecord>
     ensures failed { OnErr result (is_some resumed.record.disk ≡ true) }
-    ensures stopped { OnErr result (StopsWith premises W.did D.holds D.may_leave D.moment D.left_since D.has_failed wire schedule resumed.record turns resumed.exchange) }
-    ensures ran { IfOk result (RunsWith premises W.did D.holds D.may_leave D.moment D.left_since D.has_failed wire schedule resumed.record turns resumed.exchange) }
+    ensures stopped { OnErr result
+        (StopsWith premises W.did D.holds D.may_leave D.moment D.left_since D.has_failed wire schedule resumed.record turns resumed.exchange) }
+    ensures ran { IfOk result
+        (RunsWith premises W.did D.holds D.may_leave D.moment D.left_since D.has_failed wire schedule resumed.record turns resumed.exchange) }
 {
     match premises {
         None => run_by_clock(rt, resumed, wire, schedule, turns, told),
@@ -133,17 +135,18 @@ fn run_live_day<'a, H: Host, I: Inputs>(
 }
 
 /// Runs the exchange's end of the day of a plan by the clock, as the network's end of a data link over UDP, from where its journal has
-/// left it, with a booking office beside it where one is asked for; tells each fault of the link and each late second on standard error, and its moment on a terminal alone; and writes what
-/// became of each booking. What a capture and records are made of stands in the journal.
+/// left it, with a booking office beside it where one is asked for; tells each fault of the link and each late second on standard error,
+/// and its moment on a terminal alone; and writes what became of each booking. What a capture and records are made of stands in the
+/// journal.
 ///
 /// What the day needs is opened in this order, and the first fault of it is answered: `Day` or `Capture` for the date and the zone;
-/// `Command` for the plan, and `LiveFault::NotFirstFit` where its channels are not those of first fit; `CannotListen` or `CannotConnect` for the line, `CannotListen` for the office, all
-/// others of these as `LiveFault::Day`; for the journal
-/// `CannotRecord` where it cannot be opened, `NotAFile` where it is no plain file, `InUse` where another program writes it,
-/// `LiveFault::Day`, as `Sale`, `Journal` (`BadLine`, `OtherPlan`, `OtherDay` or `OtherRules`) or `Command` (`CannotRead`), where it is none
-/// of this day, and `CannotRecord` where it cannot be made ready. `CannotRecord` is also answered where an event cannot be logged.
-/// At each of these nothing was written. `LiveFault::Day`, as `Command` (`CannotWrite`), is the fault of the output, of which a prefix was
-/// written then. `StillUp` where the day has no more seconds, and a call is up: all of it was written then.
+/// `Command` for the plan, and `LiveFault::NotFirstFit` where its channels are not those of first fit; `CannotListen` or `CannotConnect`
+/// for the line, `CannotListen` for the office, all others of these as `LiveFault::Day`; for the journal `CannotRecord` where it cannot be
+/// opened, `NotAFile` where it is no plain file, `InUse` where another program writes it, `LiveFault::Day`, as `Sale`, `Journal`
+/// (`BadLine`, `OtherPlan`, `OtherDay` or `OtherRules`) or `Command` (`CannotRead`), where it is none of this day, and `CannotRecord` where
+/// it cannot be made ready. `CannotRecord` is also answered where an event cannot be logged. At each of these nothing was written.
+/// `LiveFault::Day`, as `Command` (`CannotWrite`), is the fault of the output, of which a prefix was written then. `StillUp` where the day
+/// has no more seconds, and a call is up: all of it was written then.
 pub fn live_on_files<'a, H: Host, I: Inputs, W: Write>(
     rt: &'a H,
     inputs: &mut I,

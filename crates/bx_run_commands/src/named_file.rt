@@ -11,8 +11,9 @@ use std::io;
 use std::io::{ErrorKind, Read, Write};
 
 /// A file of the system that is open to append to it, with the name by which it was opened and how many octets it has. A sync of it, and each
-/// 60th write since it was last seen, also sees that it stands there and has just these: what goes into a file that was removed, renamed or cut is lost. Nothing is known of what a
-/// cut or a sync of it does, so it tells nothing of what it holds. Why a call failed is told on standard error.
+/// 60th write since it was last seen, also sees that it stands there and has just these: what goes into a file that was removed, renamed or
+/// cut is lost. Nothing is known of what a cut or a sync of it does, so it tells nothing of what it holds. Why a call failed is told on
+/// standard error.
 #[derive(Drop)]
 pub struct NamedFile<'a, H, F> {
     rt: &'a H,

@@ -74,8 +74,8 @@ fn premises_at(
     })
 }
 
-/// What the office that the words want is opened with, where they want one. Without a journal there is none: nothing is sold outside the journal. `CannotListen`
-/// where nobody can be let in there, `Command`, as `Memory`, where memory runs out.
+/// What the office that the words want is opened with, where they want one. Without a journal there is none: nothing is sold outside the
+/// journal. `CannotListen` where nobody can be let in there, `Command`, as `Memory`, where memory runs out.
 pub(crate) fn premises_of<'a, H: System>(
     rt: &H,
     request: LiveRequest<'a>,

@@ -1,16 +1,16 @@
 //! The command that rehearses a day.
 
-ghost use Rattle.std.specs.Prelude.{◌≡◌, ◌≤◌, ◌&&◌, not, true, is_some, Ok, IfOk, IfErr, OnOk};
+ghost use Rattle.std.specs.Prelude.{◌≡◌, ◌≤◌, ◌&&◌, not, is_some, Ok, IfOk, IfErr, OnOk};
 ghost use Rattle.bx_day_openings.specs.CaptureOpenings.{IsFirstOf};
 ghost use Rattle.bx_day_openings.specs.Recording.{IsRecordsClock, IsRecordsFileFor, IsMade};
-ghost use Rattle.bx_devices.specs.Watching.{device_of};
-ghost use Rattle.bx_day_openings.specs.TiedDays.{IsTiedDay};
 ghost use Rattle.bx_journal.specs.Files.{holds_unknown, may_leave_any, has_failed_in};
 ghost use Rattle.bx_run_commands.specs.OpeningFaults.{IsUnrecorded};
 ghost use Rattle.bx_run_commands.specs.Rehearsals.{RehearsesTowards};
 ghost use Rattle.bx_run_commands.specs.ReadyInside.{IsReadied, IsNotReadied, IsEnded, IsLostBy};
-ghost use Rattle.bx_run_commands.specs.RehearsedDays.{RehearsalWith, IsRehearsal, IsRehearsedDay, IsRehearsalTold};
-ghost use Rattle.bx_run_commands.specs.RehearsalRefusals.{IsUnseen, StopsAtPeer, StopsAfterPeer, StopsRehearsal, IsRehearsalRefusal};
+ghost use Rattle.bx_run_commands.specs.RehearsedDays.{IsRehearsedDay, IsRehearsalDone};
+ghost use Rattle.bx_run_commands.specs.RehearsalRefusals.{IsUnseen, StopsRehearsal, IsRehearsalRefusal};
+ghost use Rattle.bx_run_commands.specs.PeersInside.{IsRehearsedFrom, StopsAtPeerByClock, StopsAfterPeerByClock};
+ghost use Rattle.bx_devices.specs.Devices.{writing_of};
 
 use crate::fault::{LiveFault, unrecorded};
 use crate::host::Host;
@@ -55,7 +55,8 @@ fn readied<'a, H: Host>(
     opening: Opening,
     seen: Seen,
 ) -> Result<Ready<'a, H::File>, LiveFault<'a>>
-    ensures readied { IfOk result (λ ready. IsReadied H.File.contents request.entry opening seen.first ready.opened ready.view.file ready.view.first seen.clock ready.records) }
+    ensures readied { IfOk result (λ ready.
+        IsReadied H.File.contents request.entry opening seen.first ready.opened ready.view.file ready.view.first seen.clock ready.records) }
     ensures refused { IfErr result (IsNotReadied H.File.contents request.entry) }
 {
     let disk = new_journal(rt, rt.alloc(), request.journal)?;
@@ -113,7 +114,8 @@ fn rehearse_named<'a, 'h, H: Host, P: Peer + Drop>(
 ) -> Result<Rehearsed<JournalDisk<H::File>>, LiveFault<'a>>
     requires limit { view.first ≤ 4294667295 }
     requires kept { is_some opened.disk ≡ is_some journal }
-    ensures ran { IfOk result (RehearsesTowards P.wrote P.gave P.parted holds_unknown may_leave_any has_failed_in H.File.contents opened peer view.entry.file view.entry.first) }
+    ensures ran { IfOk result
+        (RehearsesTowards P.wrote P.gave P.parted holds_unknown may_leave_any has_failed_in H.File.contents opened peer view.entry.file view.entry.first) }
     ensures stopped { IfErr result (IsUnrecorded journal.entry) }
 {
     match rehearse(rt, opened, peer, view) {
@@ -132,9 +134,9 @@ fn rehearse_script<'a, H: Host, I: Inputs>(
     seen: Seen,
 ) -> Result<Run<'a, H::File>, LiveFault<'a>>
     requires { seen.first ≤ 4294667295 }
-    ensures ran { IfOk result (λ run. IsFirstOf request.entry.sight.capture seen.first → IsTiedDay request.entry.turns opening.exchange opening.digest opening.turns → RehearsalWith H.File.contents (Asked.Script script.entry) request.entry run.rehearsed) }
+    ensures ran { IfOk result (λ run. IsRehearsedFrom H.File.contents (Asked.Script script.entry) request.entry seen.first opening run.rehearsed) }
     ensures records { IfOk result (λ run. IsRecordsFileFor request.entry.records seen.clock run.records) }
-    ensures stopped { IfErr result (λ fault. IsRecordsClock request.entry.records seen.clock → StopsAtPeer H.File.contents (Asked.Script script.entry) request.entry fault) }
+    ensures stopped { IfErr result (λ fault. StopsAtPeerByClock H.File.contents (Asked.Script script.entry) request.entry seen.clock fault) }
 {
     let far = far_end_of(rt.alloc(), inputs, script)?;
     let ready = readied(rt, request, opening, seen)?;
@@ -162,9 +164,9 @@ fn rehearse_at<'a, H: Host>(
     seen: Seen,
 ) -> Result<Run<'a, H::File>, LiveFault<'a>>
     requires { seen.first ≤ 4294667295 }
-    ensures ran { IfOk result (λ run. IsFirstOf request.entry.sight.capture seen.first → IsTiedDay request.entry.turns opening.exchange opening.digest opening.turns → RehearsalWith H.File.contents (Asked.At place.entry) request.entry run.rehearsed) }
+    ensures ran { IfOk result (λ run. IsRehearsedFrom H.File.contents (Asked.At place.entry) request.entry seen.first opening run.rehearsed) }
     ensures records { IfOk result (λ run. IsRecordsFileFor request.entry.records seen.clock run.records) }
-    ensures stopped { IfErr result (λ fault. IsRecordsClock request.entry.records seen.clock → StopsAfterPeer H.File.contents (Asked.At place.entry) request.entry fault) }
+    ensures stopped { IfErr result (λ fault. StopsAfterPeerByClock H.File.contents (Asked.At place.entry) request.entry seen.clock fault) }
 {
     let ready = readied(rt, request, opening, seen)?;
     let Ready {
@@ -194,9 +196,9 @@ fn rehearse_with_peer<'a, H: Host, I: Inputs>(
     seen: Seen,
 ) -> Result<Run<'a, H::File>, LiveFault<'a>>
     requires { seen.first ≤ 4294667295 }
-    ensures ran { IfOk result (λ run. IsFirstOf request.entry.sight.capture seen.first → IsTiedDay request.entry.turns opening.exchange opening.digest opening.turns → IsRehearsal H.File.contents request.entry run.rehearsed) }
+    ensures ran { IfOk result (λ run. IsRehearsedFrom H.File.contents request.entry.peer request.entry seen.first opening run.rehearsed) }
     ensures records { IfOk result (λ run. IsRecordsFileFor request.entry.records seen.clock run.records) }
-    ensures stopped { IfErr result (λ fault. IsRecordsClock request.entry.records seen.clock → StopsAtPeer H.File.contents request.entry.peer request.entry fault) }
+    ensures stopped { IfErr result (λ fault. StopsAtPeerByClock H.File.contents request.entry.peer request.entry seen.clock fault) }
 {
     match request.peer {
         Asked::Script(script) => rehearse_script(rt, inputs, script, request, opening, seen),
@@ -278,7 +280,7 @@ pub fn rehearse_on_files<'a, H: Host, I: Inputs, W: Write>(
     output: &mut Watched<W>,
     is_terminal: bool,
 ) -> Result<(), LiveFault<'a>>
-    ensures done { OnOk result (IsRehearsalTold H.File.contents request.entry (W.contents (device_of output.old)) (W.contents (device_of output.new)) true (Ok tt)) }
+    ensures done { OnOk result (IsRehearsalDone H.File.contents request.entry (writing_of W.contents output.old output.new)) }
     ensures refused { IfErr result (IsRehearsalRefusal H.File.contents request.entry W.contents output.old output.new) }
 {
     let ended = run_rehearsal(rt, inputs, request, is_terminal)?;

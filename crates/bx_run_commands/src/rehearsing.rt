@@ -82,7 +82,8 @@ pub fn rehearse<'a, 'h, H: Clock + Eprint, P: Peer + Drop, D: Disk + Drop, F: Wr
 ) -> Result<Rehearsed<D>, CannotRecord>
     requires { view.first ≤ 4294667295 }
     ensures failed { OnErr result (is_some opened.disk ≡ true) }
-    ensures ran { IfOk result (RehearsesTowards P.wrote P.gave P.parted D.holds D.may_leave D.has_failed F.contents opened peer view.entry.file view.entry.first) }
+    ensures ran { IfOk result
+        (RehearsesTowards P.wrote P.gave P.parted D.holds D.may_leave D.has_failed F.contents opened peer view.entry.file view.entry.first) }
 {
     let Opened {
         mut exchange,

@@ -57,7 +57,8 @@ pub fn resume_on<'a, F: Read + DiskFile + Drop>(
 ) -> Result<Resumed<FileDisk<F>>, LiveFault<'a>>
     ensures resumed { IfOk result (λ resumed. GoesOn head.now opening.channels (F.remaining file) opening.exchange resumed.exchange) }
     // What happens from then on is logged after what was read.
-    ensures kept { IfOk result (λ resumed. IsKeptOn F.contents F.is_told head.now opening.channels (F.remaining file) opening.exchange resumed.exchange resumed.record) }
+    ensures kept { IfOk result (λ resumed.
+        IsKeptOn F.contents F.is_told head.now opening.channels (F.remaining file) opening.exchange resumed.exchange resumed.record) }
     ensures refused { IfErr result (IsNotResumed name.now head.now opening.channels opening.exchange) }
 {
     let mut journal = Watched::new(file);
