@@ -1,5 +1,5 @@
 -- Prices on moments, which are dual prices, and the bound that they set.
-use Rattle.std.specs.Prelude.{◌≡◌, ℕ, ◌-◌, ◌*◌, ◌<◌, ◌≤◌, ℤ, pos, ◌+ℤ◌, ◌-ℤ◌, Bool, List, length, All, map, sum_by, slice_index_or, if◌then◌else◌}
+use Rattle.std.specs.Prelude.{◌≡◌, ℕ, ◌-◌, ◌*◌, ◌<◌, ◌≤◌, ℤ, pos, ◌+ℤ◌, ◌-ℤ◌, ◌≤ℤ◌, Bool, List, length, All, map, sum_by, slice_index_or, if◌then◌else◌}
 use Rattle.std.specs.List.Sorted.{IsStrictlyIncreasing}
 use Rattle.bx_base.specs.Sums.{sum_ints_below}
 use Rattle.bx_base.specs.Channels.{count_of}
@@ -56,3 +56,10 @@ bound_of rows count prices = pos (count * sum_of_prices prices) +ℤ sum_ints_be
 pub record Proves (rows : List Row) (channels : List Bool) (prices : List Charge) (set : ℕ → Bool) : Type 0 where
   pub lawful : IsLawful rows channels set
   pub exact : bound_of rows (count_of channels) prices ≡ pos (pay_of rows set)
+
+-- weak duality: whatever the prices are, no lawful set pays more than the bound
+abbrev pub IsWeakDuality : Type 0
+IsWeakDuality =
+    (rows : List Row) (channels : List Bool) (prices : List Charge) (set : ℕ → Bool)
+    → IsLawful rows channels set
+    → pos (pay_of rows set) ≤ℤ bound_of rows (count_of channels) prices

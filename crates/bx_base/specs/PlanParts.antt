@@ -1,5 +1,6 @@
 -- A plan as a value: what it says, with no word on how it lies in memory.
-use Rattle.std.specs.Prelude.{◌≡◌, ℕ, ◌<◌, ◌≤◌, Bool, List, length, Option, Some, None, slice_index_or}
+use Rattle.std.specs.Prelude.{◌≡◌, ℕ, ◌<◌, ◌≤◌, Bool, List, length, Option, Some, None, slice_index_or, Vec}
+use Rattle.std.specs.declared.alloc.Global.{Global}
 use Rattle.bx_base.specs.declared.plan.Plan.{Plan}
 use Rattle.bx_channels.specs.ChannelNumbers.{IsChannel}
 use Rattle.bx_base.specs.Channels.{IsChannelSet}
@@ -18,6 +19,15 @@ pub record Parts : Type 0 where
 -- the parts of this plan
 abbrev pub parts_of : Plan → Parts
 parts_of plan = record { rows = plan.bookings; channels = plan.channels; assigned = plan.assigned.items; prices = plan.prices.items; total = plan.total }
+
+-- a plan of just these parts
+abbrev pub IsMadeOf : List Row → List Bool → Vec (Option ℕ) Global → Vec Charge Global → ℕ → Plan → Type 0
+IsMadeOf rows channels assigned prices total plan =
+    (plan.bookings ≡ rows)
+    × (plan.channels ≡ channels)
+    × (plan.assigned ≡ assigned)
+    × (plan.prices ≡ prices)
+    × (plan.total ≡ total)
 
 -- the limits of a plan
 pub record IsPlan (parts : Parts) : Type 0 where

@@ -1,5 +1,5 @@
 -- Plans: which rows are accepted, on which channels, and at which prices.
-use Rattle.std.specs.Prelude.{◌≡◌, ℕ, Bool, true, false, List, Option, None, is_some, unwrap_or, slice_index_or}
+use Rattle.std.specs.Prelude.{◌≡◌, ℕ, ◌<◌, ◌≤◌, ◌-◌, Bool, true, false, List, length, Option, None, is_some, unwrap_or, slice_index_or}
 use Rattle.bx_base.specs.Channels.{has_channel}
 use Rattle.bx_base.specs.Bookings.{Row, row_at, Overlap}
 
@@ -20,6 +20,19 @@ pub record Clash (rows : List Row) (assigned : List (Option ℕ)) (i j : ℕ) : 
   pub second : is_accepted assigned j ≡ true
   pub overlap : Overlap (row_at rows i) (row_at rows j)
   pub channel : channel_at assigned i ≡ channel_at assigned j
+
+-- two rows that clash, the first of them before the second, where rows are named 1, 2, ..
+abbrev pub AreClashing : List Row → List (Option ℕ) → ℕ × ℕ → Type 0
+AreClashing rows assigned named =
+    (1 ≤ named.0)
+    × (named.0 < named.1)
+    × (named.1 ≤ length rows)
+    × Clash rows assigned (named.0 - 1) (named.1 - 1)
+
+-- no row before this place clashes with one after it
+abbrev pub AreApartBefore : List Row → List (Option ℕ) → ℕ → Type 0
+AreApartBefore rows assigned place =
+    (i k : ℕ) → i < place → i < k → k < length rows → ¬ Clash rows assigned i k
 
 -- a must row that is not accepted
 abbrev pub IsMustLeftOut : List Row → List (Option ℕ) → ℕ → Type 0

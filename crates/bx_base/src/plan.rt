@@ -2,7 +2,7 @@
 
 ghost use Rattle.std.specs.Prelude.{◌≡◌, ◌≤◌, ◌<◌, ◌-◌, ◌+◌, ℕ, ◌↔◌, IfNone, length, vec_len, IsTrue, IsSome, IfSome};
 ghost use Rattle.bx_base.specs.Bookings.{Carries};
-ghost use Rattle.bx_base.specs.Plans.{is_accepted, channel_at, IsOutOfService, Clash};
+ghost use Rattle.bx_base.specs.Plans.{is_accepted, channel_at, IsOutOfService, AreApartBefore, AreClashing, Clash};
 ghost use Rattle.bx_base.specs.declared.plan.TheConstants.{MAX_PRICES, MAX_TOTAL};
 
 use crate::bookings::Bookings;
@@ -31,6 +31,8 @@ pub struct Plan {
 }
 
 impl Plan {
+    ghost use Rattle.bx_base.specs.PlanParts.{IsMadeOf};
+
     /// The plan of these parts. None where there is not one entry for each booking, or are more than 8,000
     /// prices, or the total is above 4,000,000,000,000; the parts are then dropped.
     pub fn new(
@@ -41,7 +43,7 @@ impl Plan {
         total: u64,
     ) -> Option<Plan>
         ensures exactly { IsSome result ↔ ((vec_len assigned ≡ length bookings) × (vec_len prices ≤ MAX_PRICES) × (total ≤ MAX_TOTAL)) }
-        ensures parts { IfSome result (λ p. (p.bookings ≡ bookings) × (p.channels ≡ channels) × (p.assigned ≡ assigned) × (p.prices ≡ prices) × (p.total ≡ total)) }
+        ensures parts { IfSome result (IsMadeOf bookings channels assigned prices total) }
     {
         if assigned.len() != bookings.len() as usize
             || prices.len() > MAX_PRICES
@@ -99,8 +101,8 @@ impl Plan {
     /// The first two rows that overlap on one channel: the least first row, and for it the least second.
     /// Compares each two accepted rows at most.
     pub fn first_overlap(&self) -> Option<(u16, u16)>
-        ensures some { IfSome result (λ p. (1 ≤ p.0) × (p.0 < p.1) × (p.1 ≤ length self.now.bookings) × Clash self.now.bookings self.now.assigned.items (p.0 - 1) (p.1 - 1)) }
-        ensures least_first { IfSome result (λ p. (i k : ℕ) → i < p.0 - 1 → i < k → k < length self.now.bookings → ¬ Clash self.now.bookings self.now.assigned.items i k) }
+        ensures some { IfSome result (AreClashing self.now.bookings self.now.assigned.items) }
+        ensures least_first { IfSome result (λ p. AreApartBefore self.now.bookings self.now.assigned.items (p.0 - 1)) }
         ensures least_second { IfSome result (λ p. (k : ℕ) → p.0 - 1 < k → k < p.1 - 1 → ¬ Clash self.now.bookings self.now.assigned.items (p.0 - 1) k) }
         ensures none { IfNone result ((i k : ℕ) → i < k → k < length self.now.bookings → ¬ Clash self.now.bookings self.now.assigned.items i k) }
     {
