@@ -1,7 +1,7 @@
 //! Whether accepted rows keep apart on their channels, by one sort.
 
-ghost use Rattle.std.specs.Prelude.{◌≡◌, ◌≤◌, ◌<◌, ◌-◌, ℕ, IsTrue, IfSome, IfNone, length};
-ghost use Rattle.bx_base.specs.Plans.{Clash};
+ghost use Rattle.std.specs.Prelude.{◌<◌, ◌-◌, ℕ, IsTrue, IfSome, IfNone, length};
+ghost use Rattle.bx_base.specs.Plans.{Clash, AreApartBefore, AreClashing};
 ghost use Rattle.bx_check.specs.Seats.{AreSeats};
 
 use arrayvec::ArrayVec;
@@ -43,8 +43,8 @@ fn are_apart(plan: &Plan) -> bool
 /// The first two rows that overlap on one channel: the least first row, and for it the least second. Compares rows in pairs
 /// only where two overlap.
 pub(crate) fn first_overlap(plan: &Plan) -> Option<(u16, u16)>
-    ensures some { IfSome result (λ p. (1 ≤ p.0) × (p.0 < p.1) × (p.1 ≤ length plan.now.bookings) × Clash plan.now.bookings plan.now.assigned.items (p.0 - 1) (p.1 - 1)) }
-    ensures least_first { IfSome result (λ p. (i k : ℕ) → i < p.0 - 1 → i < k → k < length plan.now.bookings → ¬ Clash plan.now.bookings plan.now.assigned.items i k) }
+    ensures some { IfSome result (AreClashing plan.now.bookings plan.now.assigned.items) }
+    ensures least_first { IfSome result (λ p. AreApartBefore plan.now.bookings plan.now.assigned.items (p.0 - 1)) }
     ensures least_second { IfSome result (λ p. (k : ℕ) → p.0 - 1 < k → k < p.1 - 1 → ¬ Clash plan.now.bookings plan.now.assigned.items (p.0 - 1) k) }
     ensures none { IfNone result ((i k : ℕ) → i < k → k < length plan.now.bookings → ¬ Clash plan.now.bookings plan.now.assigned.items i k) }
 {
