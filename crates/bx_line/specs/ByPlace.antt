@@ -3,7 +3,8 @@ use Rattle.std.specs.Prelude.{◌≡◌, ◌≢◌, ℕ, ◌+◌, ◌<◌, ◌�
 use Rattle.bx_line.specs.declared.arc.Arc.{Arc}
 use Rattle.bx_line.specs.declared.incidence.Incidence.{Incidence}
 use Rattle.bx_line.specs.declared.incidence.Incidence.TheVariants.{Leaving, Arriving}
-use Rattle.bx_line.specs.Network.{no_arc}
+use Rattle.bx_line.specs.Network.{no_arc, Network, IsNetwork, places_of}
+use Rattle.bx_line.specs.declared.by_place.ByPlace.{ByPlace}
 
 -- the place of an arc on a side
 abbrev pub place_on : Incidence → Arc → ℕ
@@ -30,3 +31,10 @@ pub record AreChains (side : Incidence) (arcs : List Arc) (places : ℕ) (first 
   pub next_each : length next ≡ length arcs
   pub begins : (v : ℕ) → v < places → IsFirstRow side arcs v 0 (row_in first v)
   pub goes_on : (r : ℕ) → r < length arcs → IsFirstRow side arcs (row_place side arcs r) (r + 1) (row_in next r)
+
+-- a line with the chains of its rows, by where they start and by where they end
+abbrev pub IsChained : Network → ByPlace → ByPlace → Type 0
+IsChained line leaving arriving =
+    IsNetwork line
+    × AreChains Leaving line.arcs (places_of line) leaving.first.items leaving.next.items
+    × AreChains Arriving line.arcs (places_of line) arriving.first.items arriving.next.items

@@ -31,16 +31,14 @@ pub struct Line {
 }
 
 impl Model for Line {
-    ghost use Rattle.bx_line.specs.ByPlace.{AreChains};
-    ghost use Rattle.bx_line.specs.declared.incidence.Incidence.TheVariants.{Leaving, Arriving};
-    ghost use Rattle.bx_line.specs.Network.{Network, IsNetwork, network_of};
-    ghost use Rattle.std.specs.Prelude.{length};
+    ghost use Rattle.bx_line.specs.ByPlace.{IsChained};
+    ghost use Rattle.bx_line.specs.Network.{Network, network_of};
 
     ghost Value = { Network };
 
     ghost view = { λ l. network_of l.moments.items l.arcs.items };
 
-    ghost invariant = { λ l. IsNetwork (network_of l.moments.items l.arcs.items) × AreChains Leaving l.arcs.items (length l.moments.items) l.leaving.first.items l.leaving.next.items × AreChains Arriving l.arcs.items (length l.moments.items) l.arriving.first.items l.arriving.next.items };
+    ghost invariant = { λ l. IsChained (network_of l.moments.items l.arcs.items) l.leaving l.arriving };
 }
 
 impl Line {
