@@ -1,8 +1,9 @@
 -- A reader and a writer before and after a call, with the octets that they tell.
-use Rattle.std.specs.Prelude.{ℕ, Bool, List, Option}
+use Rattle.std.specs.Prelude.{ℕ, Bool, List, Option, ◌⊎◌, IsTrue}
 use Rattle.std.specs.Io.KnownBytes.{Keeps}
 use Rattle.bx_devices.specs.Watching.{device_of, is_faulted, reads_of}
 use Rattle.bx_devices.specs.declared.watched.Watched.{Watched}
+use Rattle.bx_devices.specs.Octets.{RunsOutOfReads}
 
 -- a reader before and after: the octets that are left, whether it was and is faulted, and how many reads it had seen
 pub record Reading : Type 0 where
@@ -29,3 +30,9 @@ writing_of contents old new = record { before = contents (device_of old); after 
 -- nothing was written
 abbrev pub KeepsOutput : Writing → Type 0
 KeepsOutput output = Keeps output.before output.after
+
+-- reads did not come to the end: the reader is faulted, or as many reads as are counted were not enough
+abbrev pub IsNeverAtEnd : {R : Type 0} → (R → Option (List ℕ)) → Watched R → Watched R → Type 0
+IsNeverAtEnd remaining old new =
+  IsTrue (is_faulted new)
+  ⊎ RunsOutOfReads (remaining (device_of old)) (remaining (device_of new)) (reads_of old)

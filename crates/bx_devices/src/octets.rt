@@ -1,9 +1,10 @@
 //! The one loop that writes octets, and the one that reads to the end.
 
-ghost use Rattle.std.specs.Prelude.{◌≡◌, ◌+◌, ◌≤◌, ◌<◌, ◌↔◌, ◌⊎◌, ℕ, List, true, false, length, min, take, Ok, IsTrue, IsErr, IsErrOf, OnOk, OnErr, IfOk, IfSome, vec_len};
-ghost use Rattle.std.specs.Io.KnownBytes.{Appends, Consumes, IsAtEnd};
+ghost use Rattle.std.specs.Prelude.{◌≡◌, ◌+◌, ◌≤◌, ◌<◌, ◌⊎◌, min, Ok, IsTrue, IsErrOf, OnOk, OnErr, IfOk, vec_len};
+ghost use Rattle.std.specs.Io.KnownBytes.{Appends};
 ghost use Rattle.bx_devices.specs.Watching.{device_of, is_faulted, reads_of};
-ghost use Rattle.bx_devices.specs.Octets.{AppendsPart, AppendsPrefix, ReadsAll, ReadsPrefix, ReadsWithin, RunsOutOfReads};
+ghost use Rattle.bx_devices.specs.Octets.{AppendsPart, AppendsPrefix, ReadsAll, ReadsPrefix, ReadsWithin};
+ghost use Rattle.bx_devices.specs.Devices.{IsNeverAtEnd};
 
 use crate::watched::{MAX_READS, Watched};
 use std::alloc::{AllocError, Global};
@@ -53,7 +54,7 @@ pub enum ReadFault {
 pub fn read_octets<R: Read>(alloc: Global, r: &mut Watched<R>) -> Result<Vec<u8>, ReadFault>
     ensures all { IfOk result (λ v. ReadsAll (R.remaining (device_of r.old)) (R.remaining (device_of r.new)) v.items) }
     ensures fits { IfOk result (λ v. vec_len v ≤ MAX_OCTETS) }
-    ensures failed { IsErrOf result ReadFault.Failed → IsTrue (is_faulted r.new) ⊎ RunsOutOfReads (R.remaining (device_of r.old)) (R.remaining (device_of r.new)) (reads_of r.old) }
+    ensures failed { IsErrOf result ReadFault.Failed → IsNeverAtEnd R.remaining r.old r.new }
     ensures too_long { IsErrOf result ReadFault.TooLong → ReadsPrefix (R.remaining (device_of r.old)) (R.remaining (device_of r.new)) (MAX_OCTETS + 1) }
     ensures memory { IsErrOf result ReadFault.Memory → ReadsWithin (R.remaining (device_of r.old)) (R.remaining (device_of r.new)) MAX_OCTETS }
     ensures unfaulted { (is_faulted r.new ≡ is_faulted r.old) ⊎ (result ≡ Err ReadFault.Failed) }
