@@ -1,13 +1,13 @@
 //! Rows under a header, read one after another. Which headers there are and what a row is, a form says.
 
-ghost use Rattle.std.specs.Prelude.{◌≡◌, ◌<◌, ◌++◌, ◌∷◌, [], ℕ, List, length, OnOk, IfSome, IfOk, IfErr};
+ghost use Rattle.std.specs.Prelude.{◌≡◌, ◌<◌, ◌++◌, ◌∷◌, [], List, length, OnOk, IfSome, IfOk, IfErr};
 ghost use Rattle.csv.specs.Reading.{reader_state, source_of};
 ghost use Rattle.csv.specs.declared.parser.State.TheVariants as st;
 ghost use Rattle.csv.specs.Records.{fields_of};
 ghost use Rattle.bx_text.specs.Forms.{Form};
 ghost use Rattle.bx_text.specs.Records.{IsReading};
 ghost use Rattle.bx_text.specs.Rows.{HasRows, IsFirstFault};
-ghost use Rattle.bx_text.specs.Inside.{PrefixRead};
+ghost use Rattle.bx_text.specs.Inside.{AfterHeader, IsHeaderRead};
 
 use crate::records::read_next;
 use crate::rows_fault::RowsFault;
@@ -58,7 +58,7 @@ fn read_header<R: Read, F: RowForm>(
     fields: &mut ByteRecord,
 ) -> Result<usize, RowsFault<F::Fault>>
     requires { IsReading records.old × (reader_state records.old ≡ st.StartRecord) }
-    ensures ok { IfOk result (λ columns. IsReading records.new × IfSome (source_of R.remaining records.old) (λ text. PrefixRead (F.form form.now) R.remaining records.new text columns [])) }
+    ensures ok { IfOk result (IsHeaderRead (F.form form.now) R.remaining records.old records.new) }
     ensures err { IfErr result (λ e. IfSome (source_of R.remaining records.old) (λ text. IsFirstFault (F.form form.now) text e)) }
 {
     let Ok(found) = read_next(records, fields) else {
@@ -83,8 +83,8 @@ fn read_rows<R: Read, F: RowForm>(
 ) -> Result<(), RowsFault<F::Fault>>
     requires reading { IsReading records.old }
     requires empty { F.rows list.old ≡ [] }
-    ensures ok { (text : List ℕ) → PrefixRead (F.form form.now) R.remaining records.old text columns [] → OnOk result (HasRows (F.form form.now) text (F.rows list.new)) }
-    ensures err { (text : List ℕ) → PrefixRead (F.form form.now) R.remaining records.old text columns [] → IfErr result (IsFirstFault (F.form form.now) text) }
+    ensures ok { AfterHeader (F.form form.now) R.remaining records.old columns (λ text. OnOk result (HasRows (F.form form.now) text (F.rows list.new))) }
+    ensures err { AfterHeader (F.form form.now) R.remaining records.old columns (λ text. IfErr result (IsFirstFault (F.form form.now) text)) }
 {
     for number in 1..4001u16 {
         let Ok(found) = read_next(records, fields) else {
