@@ -5,3 +5,4 @@ pub mod Sending
 pub mod Search
 pub mod Tight
 pub mod Passing
+pub mod Fitting
