@@ -34,5 +34,5 @@ KeepsOutput output = Keeps output.before output.after
 -- reads did not come to the end: the reader is faulted, or as many reads as are counted were not enough
 abbrev pub IsNeverAtEnd : {R : Type 0} → (R → Option (List ℕ)) → Watched R → Watched R → Type 0
 IsNeverAtEnd remaining old new =
-  IsTrue (is_faulted new)
-  ⊎ RunsOutOfReads (remaining (device_of old)) (remaining (device_of new)) (reads_of old)
+    IsTrue (is_faulted new)
+    ⊎ RunsOutOfReads (remaining (device_of old)) (remaining (device_of new)) (reads_of old)

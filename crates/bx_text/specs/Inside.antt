@@ -13,13 +13,13 @@ PrefixRead form rem reader text columns rows = (rest : List ℕ) × (source_of r
 -- a header was read: where the text is known that was left before, the reader stands after its header
 abbrev pub IsHeaderRead : {R Row Fault : Type 0} → Form Row Fault → (R → Option (List ℕ)) → Reader R → Reader R → ℕ → Type 0
 IsHeaderRead form rem old new columns =
-  IsReading new
-  × IfSome (source_of rem old) (λ text. PrefixRead form rem new text columns [])
+    IsReading new
+    × IfSome (source_of rem old) (λ text. PrefixRead form rem new text columns [])
 
 -- this holds of each text whose header was just read
 abbrev pub AfterHeader : {R Row Fault : Type 0} → Form Row Fault → (R → Option (List ℕ)) → Reader R → ℕ → (List ℕ → Type 0) → Type 0
 AfterHeader form rem reader columns Holds =
-  (text : List ℕ) → PrefixRead form rem reader text columns [] → Holds text
+    (text : List ℕ) → PrefixRead form rem reader text columns [] → Holds text
 
 -- what a line of channels has for a number, in the set or not
 abbrev pub member_text : Bool → ℕ → List ℕ
