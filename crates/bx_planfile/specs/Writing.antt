@@ -1,10 +1,12 @@
 -- Private: what the lines of a plan are, in parts.
 use Rattle.std.specs.Prelude.{◌≡◌, ℕ, List, [], ◌∷◌, codes, decimal, length, map, slice_index_or, Option, Some, None}
+use Rattle.std.specs.List.{flat_map}
+use Rattle.bx_base.specs.Bookings.{Row}
 use Rattle.bx_channels.specs.ChannelNumbers.{IsChannel}
 use Rattle.bx_base.specs.declared.plan.Plan.{Plan}
 use Rattle.bx_planfile.specs.declared.version.Version.TheVariants.{Three}
-use Rattle.bx_text.specs.Lines.{members_from, named}
-use Rattle.bx_planfile.specs.Text.{version_field}
+use Rattle.bx_text.specs.Lines.{line_text, members_from, named}
+use Rattle.bx_planfile.specs.Text.{version_field, booking_lines}
 
 -- channels that bookings have
 abbrev pub AreAssigned : List (Option ℕ) → Type 0
@@ -16,3 +18,7 @@ head_lines plan = (codes "bx-plan" ∷ version_field Three ∷ []) ∷ (codes "c
 
 abbrev pub foot_lines : Plan → List (List (List ℕ))
 foot_lines plan = named (codes "total") plan.total ∷ (codes "end" ∷ []) ∷ []
+
+-- the text of the bookings, each with its channel
+abbrev pub rows_text : List Row → List (Option ℕ) → List ℕ
+rows_text rows assigned = flat_map line_text (booking_lines Three rows assigned)

@@ -4,10 +4,9 @@ ghost use Rattle.std.specs.Prelude.{◌≡◌, codes, ◌<◌, MatchOption, None
 ghost use Rattle.std.specs.Option.{option_map};
 ghost use Rattle.std.specs.Str.{bytes_eq};
 ghost use Rattle.bx_base.specs.Bookings.{IsBooking};
-ghost use Rattle.bx_planfile.specs.Forms.{is_digits, is_channel_field, channel_of, is_must_field, is_direction_field, marks, marks_form, booking_form, is_assignable, is_within};
+ghost use Rattle.bx_planfile.specs.Forms.{is_digits, is_channel_field, is_must_field, is_direction_field, marks, marks_form, booking_form, is_assignable, is_within};
 ghost use Rattle.bx_planfile.specs.Capped.{capped_entry};
-ghost use Rattle.bx_text.specs.Digits.{capped};
-ghost use Rattle.bx_planfile.specs.Values.{entry_of_values, entry_of};
+ghost use Rattle.bx_planfile.specs.Values.{entry_of_values, entry_of, IsChannelRead, IsWithin};
 ghost use Rattle.bx_planfile.specs.Reading.{read_booking};
 ghost use Rattle.bx_planfile.specs.Inside.{Answers};
 
@@ -39,7 +38,7 @@ fn digits(field: &[u8]) -> Option<&[u8]>
 
 /// A channel, or a dash where there is none.
 fn channel(field: &[u8]) -> Option<Option<u64>>
-    ensures { MatchOption result (is_channel_field field.now ≡ false) (λ c. (is_channel_field field.now ≡ true) × (c ≡ option_map capped (channel_of field.now))) }
+    ensures { MatchOption result (is_channel_field field.now ≡ false) (IsChannelRead field.now) }
 {
     if field == b"-".as_slice() {
         return Some(None);
@@ -155,7 +154,7 @@ impl BookingValues<'_> {
     #[tactic(auto, using(crate::proofs::Limits::no_booking, crate::proofs::Limits::no_channel, crate::proofs::Limits::both_within))]
     fn within_limits(&self) -> Option<(Booking, Option<Channel>)>
         requires { is_digits self.now.number.now ≡ true }
-        ensures { MatchOption result (is_within (entry_of_values self.now) ≡ false) (λ x. (is_within (entry_of_values self.now) ≡ true) × (entry_of x.0 x.1 ≡ entry_of_values self.now)) }
+        ensures { MatchOption result (is_within (entry_of_values self.now) ≡ false) (λ x. IsWithin (entry_of_values self.now) (entry_of x.0 x.1)) }
     {
         let booking = self.booking()?;
         Some((booking, self.assigned()?))

@@ -1,11 +1,11 @@
 //! The lines of the version, of counts, of a price, of the total, and the last one.
 
-ghost use Rattle.std.specs.Prelude.{◌≡◌, ◌≤◌, ◌<◌, MatchOption, None, Some, true, false, IfOk};
+ghost use Rattle.std.specs.Prelude.{◌≡◌, ◌≤◌, ◌<◌, MatchOption, None, Some, false, IfOk};
 ghost use Rattle.std.specs.Option.{option_map};
 ghost use Rattle.bx_planfile.specs.Forms.{header_form, named_form, price_form, is_charge};
 ghost use Rattle.bx_planfile.specs.Capped.{capped_charge};
 ghost use Rattle.bx_text.specs.Digits.{capped};
-ghost use Rattle.bx_planfile.specs.Values.{charge_of_values};
+ghost use Rattle.bx_planfile.specs.Values.{charge_of_values, IsChargeWithin};
 ghost use Rattle.bx_planfile.specs.Reading.{read_header, read_count, read_total, read_end, read_price};
 ghost use Rattle.bx_planfile.specs.Inside.{Answers};
 ghost use Rattle.bx_base.specs.declared.plan.TheConstants.{MAX_TOTAL};
@@ -129,7 +129,7 @@ fn price_values(mut fields: Fields<'_>) -> Option<PriceValues>
 impl PriceValues {
     #[tactic(auto, unfolding(crate::specs::Forms::is_charge))]
     fn within_limits(&self) -> Option<Price>
-        ensures { MatchOption result (is_charge (charge_of_values self.now) ≡ false) (λ p. (is_charge (charge_of_values self.now) ≡ true) × (p ≡ charge_of_values self.now)) }
+        ensures { MatchOption result (is_charge (charge_of_values self.now) ≡ false) (IsChargeWithin (charge_of_values self.now)) }
     {
         Price::new(u32::try_from(self.moment).ok()?, self.amount)
     }

@@ -11,8 +11,8 @@ ghost use Rattle.bx_base.specs.PlanParts.{IsPlan, parts_of};
 ghost use Rattle.bx_devices.specs.Watching.{device_of, is_faulted, reads_of};
 ghost use Rattle.bx_planfile.specs.declared.version.Version.TheVariants.{Three};
 ghost use Rattle.bx_text.specs.Lines.{line_text};
-ghost use Rattle.bx_planfile.specs.Text.{plan_text, booking_lines, price_fields};
-ghost use Rattle.bx_planfile.specs.Writing.{AreAssigned, head_lines, foot_lines};
+ghost use Rattle.bx_planfile.specs.Text.{plan_text, price_fields};
+ghost use Rattle.bx_planfile.specs.Writing.{AreAssigned, head_lines, foot_lines, rows_text};
 ghost use Rattle.bx_text.specs.Gathering.{Gathers, held};
 
 use crate::fault::PlanWriteFault;
@@ -55,7 +55,7 @@ fn put_bookings<W: Write>(
     block: &mut Block,
     w: &mut Watched<W>,
 ) -> Result<(), PlanWriteFault>
-    ensures text { Gathers W.contents (held w.old block.old) (held w.new block.new) result (flat_map line_text (booking_lines Three plan.now.bookings plan.now.assigned.items)) }
+    ensures text { Gathers W.contents (held w.old block.old) (held w.new block.new) result (rows_text plan.now.bookings plan.now.assigned.items) }
     ensures limits { OnOk result (AreAssigned plan.now.assigned.items) }
 {
     for i in 0..plan.bookings.len() {
