@@ -1,5 +1,5 @@
 -- Private: a search for distances: places that are settled, one that is in hand, and places that wait.
-use Rattle.std.specs.Prelude.{◌≡◌, ◌≢◌, ℕ, ◌<◌, ◌≤◌, ◌+◌, ◌-◌, List, [], ◌∷◌, ◌++◌, length, ℤ, pos, nat_abs, ◌-ℤ◌, ◌≤ℤ◌, ◌⊎◌, slice_index, slice_set, Contains, nat_lt, if◌then◌else◌}
+use Rattle.std.specs.Prelude.{◌≡◌, ◌≢◌, ℕ, ◌<◌, ◌≤◌, ◌+◌, ◌-◌, List, [], ◌∷◌, ◌++◌, length, ℤ, pos, nat_abs, ◌-ℤ◌, ◌≤ℤ◌, ◌⊎◌, slice_index, slice_set, Contains, nat_lt, if◌then◌else◌, Option, MatchOption}
 use Rattle.std.specs.BinaryHeap.{heap_items}
 use Rattle.bx_base.specs.Sums.{sum_below}
 use Rattle.bx_line.specs.Network.{Network, IsNetwork, places_of}
@@ -147,3 +147,35 @@ pub record ArePointers (line : Network) (st : State) : Type 0 where
 abbrev pub IsTrail : Network → State → ℕ → List Step → Type 0
 IsTrail line st place [] = place ≡ places_of line - 1
 IsTrail line st place (step ∷ walk) = (step ≡ last_step st.last (step_to line step)) × (step_to line step ≢ 0) × (step_from line step ≡ place) × IsTrail line st (step_to line step) walk
+
+-- these hold in each part and for each flow, since a step that is taken reads neither
+abbrev pub HasQueued : Network → List ℤ → ℕ → State → State → Type 0
+HasQueued line heights place old new =
+    (part : Part) (flow : Flow) → Queues (setting_of part line flow heights) place old new
+
+abbrev pub HasReached : Network → List ℤ → Step → State → State → Type 0
+HasReached line heights step old new =
+    (part : Part) (flow : Flow) → Reaches (setting_of part line flow heights) step old new
+
+-- a search that rests in a setting with these potentials rests in it afterwards
+abbrev pub HasRested : List ℤ → State → State → Type 0
+HasRested heights old new =
+    (part : Part) (line : Network) (flow : Flow)
+    → IsResting (setting_of part line flow heights) old
+    → IsResting (setting_of part line flow heights) new
+
+-- this holds in each setting with these potentials in which the search rests
+abbrev pub InEachSetting : List ℤ → State → (Setting → Type 0) → Type 0
+InEachSetting heights st Holds =
+    (part : Part) (line : Network) (flow : Flow)
+    → IsSetting (setting_of part line flow heights)
+    → IsResting (setting_of part line flow heights) st
+    → Holds (setting_of part line flow heights)
+
+-- the next place is in hand, or each place has its rank
+abbrev pub IsNextPlace : Setting → State → State → Option ℕ → Type 0
+IsNextPlace s old new place = MatchOption place (places_of s.line ≤ old.count) (IsInHand s new)
+
+-- a place was settled last, and the steps from it are left from this turn on
+abbrev pub IsSettlingFrom : Setting → State → ℕ → ℕ → Type 0
+IsSettlingFrom s st place turn = IsSettling s st place (IsLeft s.line place turn)

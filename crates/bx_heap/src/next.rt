@@ -1,10 +1,7 @@
 //! The nearest place that is not settled yet.
 
-ghost use Rattle.bx_heap.specs.Searching.{state_of, setting_of, IsInHand, IsResting, IsSetting, IsSound};
-ghost use Rattle.bx_dist.specs.declared.part.Part.{Part};
-ghost use Rattle.bx_line.specs.Flows.{Flow};
-ghost use Rattle.bx_line.specs.Network.{Network, places_of};
-ghost use Rattle.std.specs.Prelude.{◌≡◌, ◌≤◌, ◌<◌, ◌⊎◌, ◌-ℤ◌, ℕ, [], pos, nat_abs, Contains, OnOk, IfOk, IfSome, IfNone, MatchOption, Some, length, slice_index};
+ghost use Rattle.bx_heap.specs.Searching.{state_of, IsSound, InEachSetting, IsNextPlace, HasRested};
+ghost use Rattle.std.specs.Prelude.{◌≡◌, ◌≤◌, ◌<◌, ◌⊎◌, ◌-ℤ◌, ℕ, [], pos, nat_abs, Contains, OnOk, IfOk, IfSome, IfNone, Some, length, slice_index};
 
 use crate::frontier::Frontier;
 use bx_dist::Potentials;
@@ -17,7 +14,7 @@ impl Frontier {
     /// The nearest place that has no rank yet, or none where all have one.
     pub(crate) fn next(&mut self, potentials: &Potentials) -> Result<Option<u16>, AllocError>
         requires { IsSound potentials.now (state_of self.old) }
-        ensures next { (part : Part) (line : Network) (flow : Flow) → IsSetting (setting_of part line flow potentials.now) → IsResting (setting_of part line flow potentials.now) (state_of self.old) → IfOk result (λ o. MatchOption o (places_of line ≤ self.old.count) (IsInHand (setting_of part line flow potentials.now) (state_of self.new))) }
+        ensures next { InEachSetting potentials.now (state_of self.old) (λ s. IfOk result (IsNextPlace s (state_of self.old) (state_of self.new))) }
         ensures count { IfOk result (λ _. self.new.count ≡ self.old.count) }
     {
         if let Some(place) = next_of(&mut self.tight, &self.ranks) {
@@ -30,7 +27,7 @@ impl Frontier {
     /// Puts the places that were reached of late into the heap.
     fn file(&mut self, potentials: &Potentials) -> Result<(), AllocError>
         requires { IsSound potentials.now (state_of self.old) }
-        ensures resting { OnOk result ((part : Part) (line : Network) (flow : Flow) → IsResting (setting_of part line flow potentials.now) (state_of self.old) → IsResting (setting_of part line flow potentials.now) (state_of self.new)) }
+        ensures resting { OnOk result (HasRested potentials.now (state_of self.old) (state_of self.new)) }
         ensures tight { OnOk result (self.new.tight.items ≡ self.old.tight.items) }
         ensures fresh { OnOk result (self.new.fresh.items ≡ []) }
         ensures count { OnOk result (self.new.count ≡ self.old.count) }
@@ -47,7 +44,7 @@ impl Frontier {
         requires sound { IsSound potentials.now (state_of self.old) }
         requires tight { self.old.tight.items ≡ [] }
         requires fresh { self.old.fresh.items ≡ [] }
-        ensures next { (part : Part) (line : Network) (flow : Flow) → IsSetting (setting_of part line flow potentials.now) → IsResting (setting_of part line flow potentials.now) (state_of self.old) → MatchOption result (places_of line ≤ self.old.count) (IsInHand (setting_of part line flow potentials.now) (state_of self.new)) }
+        ensures next { InEachSetting potentials.now (state_of self.old) (λ s. IsNextPlace s (state_of self.old) (state_of self.new) result) }
         ensures count { self.new.count ≡ self.old.count }
     {
         let place = self.waiting.next_unsettled(&self.ranks)?;

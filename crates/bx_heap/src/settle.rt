@@ -1,7 +1,7 @@
 //! The steps from a place that is settled.
 
 ghost use Rattle.bx_dist.specs.Search.{IsStep};
-ghost use Rattle.bx_heap.specs.Searching.{state_of, setting_of, settled_at, turn_on, row_step, HasRoom, IsInHand, IsLeft, IsResting, IsSetting, IsSettling, Takes};
+ghost use Rattle.bx_heap.specs.Searching.{state_of, setting_of, settled_at, turn_on, row_step, HasRoom, IsInHand, IsLeft, IsResting, IsSetting, IsSettling, Takes, IsSettlingFrom};
 ghost use Rattle.bx_line.specs.Flows.{IsSized};
 ghost use Rattle.bx_line.specs.Network.{places_of};
 ghost use Rattle.std.specs.Prelude.{◌≡◌, ◌≤◌, ◌<◌, ◌+◌, OnOk, length};
@@ -122,7 +122,7 @@ impl Frontier {
     ) -> Result<(), AllocError>
         requires setting { IsSetting (setting_of part line.now carried.now potentials.now) }
         requires settling { IsSettling (setting_of part line.now carried.now potentials.now) (state_of self.old) place (IsLeft line.now place (turn_on side)) }
-        ensures settling { OnOk result (IsSettling (setting_of part line.now carried.now potentials.now) (state_of self.new) place (IsLeft line.now place (turn_on side + 1))) }
+        ensures settling { OnOk result (IsSettlingFrom (setting_of part line.now carried.now potentials.now) (state_of self.new) place (turn_on side + 1)) }
         ensures count { OnOk result (self.new.count ≡ self.old.count) }
     {
         let mut next = line.first_row(place, side);

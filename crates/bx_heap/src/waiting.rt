@@ -1,9 +1,9 @@
 //! Places that wait, the nearest first.
 
-ghost use Rattle.bx_heap.specs.Nearness.{by_nearness, IsNearest};
+ghost use Rattle.bx_heap.specs.Nearness.{by_nearness, IsNearest, KeepsUnranked};
 ghost use Rattle.std.proofs.Props.{props};
 ghost use Rattle.std.specs.BinaryHeap.{IsHeap, heap_items};
-ghost use Rattle.std.specs.Prelude.{◌≡◌, ◌≤◌, ◌<◌, ◌⊎◌, ℕ, [], ◌∷◌, All, Contains, OnOk, IfSome, IfNone, IsPermutation, Some, length, slice_index};
+ghost use Rattle.std.specs.Prelude.{◌≡◌, ◌≤◌, ◌<◌, ℕ, [], ◌∷◌, All, Contains, OnOk, IfSome, IfNone, IsPermutation, Some, length};
 
 use std::alloc::{AllocError, Global};
 use std::collections::BinaryHeap;
@@ -43,7 +43,7 @@ impl Waiting {
     /// Takes the nearest place that has no rank yet, and drops those before it.
     pub(crate) fn next_unsettled(&mut self, ranks: &[u16]) -> Option<u16>
         requires { (n v : ℕ) → Contains (heap_items self.old.places) (n, v) → v < length ranks.now }
-        ensures kept { (n v : ℕ) → Contains (heap_items self.old.places) (n, v) → slice_index ranks.now v ≡ 0 → Contains (heap_items self.new.places) (n, v) ⊎ (result ≡ Some v) }
+        ensures kept { KeepsUnranked ranks.now (heap_items self.old.places) (heap_items self.new.places) result }
         ensures only { (n v : ℕ) → Contains (heap_items self.new.places) (n, v) → Contains (heap_items self.old.places) (n, v) }
         ensures nearest { IfSome result (IsNearest ranks.now (heap_items self.old.places)) }
         ensures none { IfNone result (heap_items self.new.places ≡ []) }
