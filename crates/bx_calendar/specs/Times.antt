@@ -1,5 +1,5 @@
 -- Times: `YYYY-MM-DDThh:mm:ss`, then nothing or a fraction, then `Z` or an offset.
-use Rattle.std.specs.Prelude.{unwrap_or, ◌≡◌, ◌≢◌, ◌≤◌, ℕ, ◌+◌, ◌*◌, ◌==◌, ◌&&◌, ◌||◌, not, if◌then◌else◌, Bool, true, ℤ, pos, neg_ℤ, ◌+ℤ◌, ◌-ℤ◌, ◌*ℤ◌, List, length, take, drop}
+use Rattle.std.specs.Prelude.{unwrap_or, ◌≡◌, ◌≢◌, ◌≤◌, ℕ, ◌+◌, ◌*◌, ◌==◌, ◌&&◌, ◌||◌, not, if◌then◌else◌, Bool, true, ℤ, pos, neg_ℤ, ◌+ℤ◌, ◌-ℤ◌, ◌*ℤ◌, List, length, take, drop, ◌≤ℤ◌}
 use Rattle.std.specs.List.{list_all, position}
 use Rattle.std.specs.Char.{is_ascii_digit}
 use Rattle.bx_calendar.specs.Places.{octet_at, two_at, is_below}
@@ -84,3 +84,28 @@ is_whole_time octets = is_whole (after_seconds octets)
 -- the seconds from 1970-01-01T00:00:00Z to the time
 abbrev pub instant_of : List ℕ → ℤ
 instant_of octets = day_number octets *ℤ pos 86_400 +ℤ pos (clock_seconds octets) -ℤ offset_seconds (zone_of (after_seconds octets))
+
+-- the seconds of an offset, of either sign
+abbrev pub IsOffset : List ℕ → ℤ → Type 0
+IsOffset zone seconds =
+    ((is_utc zone || is_signed zone) ≡ true)
+    × (seconds ≡ offset_seconds zone)
+    × (neg_ℤ (pos 90_000) ≤ℤ seconds)
+    × (seconds ≤ℤ pos 90_000)
+
+-- the same where that is the end of what stands after the seconds of a clock
+abbrev pub IsOffsetAfter : List ℕ → ℤ → Type 0
+IsOffsetAfter rest seconds =
+    IsTail rest
+    × (seconds ≡ offset_seconds (zone_of rest))
+    × (neg_ℤ (pos 90_000) ≤ℤ seconds)
+    × (seconds ≤ℤ pos 90_000)
+
+-- the second in which a time lies, and whether it is that second itself
+abbrev pub IsInstant : List ℕ → ℤ → Bool → Type 0
+IsInstant octets second whole =
+    IsTime octets
+    × (second ≡ instant_of octets)
+    × (whole ≡ is_whole_time octets)
+    × (neg_ℤ (pos 500_000_000_000) ≤ℤ second)
+    × (second ≤ℤ pos 500_000_000_000)

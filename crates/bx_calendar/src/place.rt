@@ -1,10 +1,10 @@
 //! Octets, digits and dates at the places of a text.
 
-ghost use Rattle.std.specs.Prelude.{◌≡◌, ◌+◌, ◌<◌, ◌≤◌, MatchOption, true, false, pos, length, drop};
+ghost use Rattle.std.specs.Prelude.{◌≡◌, ◌+◌, ◌<◌, ◌≤◌, MatchOption, false, pos, length, drop};
 ghost use Rattle.jiff.specs.Words.{epoch_day};
-ghost use Rattle.jiff_core.specs.Calendar.{IsDate, days_from_civil};
-ghost use Rattle.bx_calendar.specs.Places.{octet_at, are_two_digits, two_at, is_below};
-ghost use Rattle.bx_calendar.specs.Dates.{StartsWithDate, day_number};
+ghost use Rattle.jiff_core.specs.Calendar.{IsDate};
+ghost use Rattle.bx_calendar.specs.Places.{octet_at, are_two_digits, is_below, IsTwoDigits, IsTwoDigitsBelow};
+ghost use Rattle.bx_calendar.specs.Dates.{StartsWithDate, day_number, IsDateOn};
 
 use jiff::civil::Date;
 
@@ -29,7 +29,7 @@ pub(crate) fn after(octets: &[u8], place: usize) -> &[u8]
 /// The number that two ASCII digits from a place on write.
 pub(crate) fn two_digits(octets: &[u8], place: usize) -> Option<u8>
     requires { place ≤ 100 }
-    ensures { MatchOption result (are_two_digits octets.now place ≡ false) (λ n. (are_two_digits octets.now place ≡ true) × (n ≡ two_at octets.now place) × (n ≤ 99)) }
+    ensures { MatchOption result (are_two_digits octets.now place ≡ false) (IsTwoDigits octets.now place) }
 {
     let tens = octet_at(octets, place);
     let ones = octet_at(octets, place + 1);
@@ -43,7 +43,7 @@ pub(crate) fn two_digits(octets: &[u8], place: usize) -> Option<u8>
 /// The same, where that number is below the limit.
 pub(crate) fn two_digits_below(octets: &[u8], place: usize, limit: u8) -> Option<u8>
     requires { place ≤ 100 }
-    ensures { MatchOption result (is_below octets.now place limit ≡ false) (λ n. (is_below octets.now place limit ≡ true) × (n ≡ two_at octets.now place) × (n < limit)) }
+    ensures { MatchOption result (is_below octets.now place limit ≡ false) (IsTwoDigitsBelow octets.now place limit) }
 {
     let number = two_digits(octets, place)?;
     if number < limit { Some(number) } else { None }
@@ -52,7 +52,7 @@ pub(crate) fn two_digits_below(octets: &[u8], place: usize, limit: u8) -> Option
 /// The date of the calendar with these parts.
 fn date_of(year: u16, month: u8, day: u8) -> Option<Date>
     requires { (year ≤ 9999) × (month ≤ 99) × (day ≤ 99) }
-    ensures { MatchOption result (¬ IsDate (pos year) (pos month) (pos day)) (λ d. IsDate (pos year) (pos month) (pos day) × (epoch_day d ≡ days_from_civil (pos year) month day)) }
+    ensures { MatchOption result (¬ IsDate (pos year) (pos month) (pos day)) (λ d. IsDateOn year month day (epoch_day d)) }
 {
     match Date::new(year as i16, month as i8, day as i8) {
         Ok(date) => Some(date),

@@ -2,7 +2,7 @@
 
 ghost use Rattle.std.specs.Prelude.{◌≡◌, ◌+◌, ◌<◌, ◌≤◌, ◌||◌, ◌+ℤ◌, ◌-ℤ◌, ◌*ℤ◌, ◌≤ℤ◌, if◌then◌else◌, MatchOption, IfSome, position, true, false, length, pos, neg_ℤ};
 ghost use Rattle.jiff.specs.Words.{epoch_day};
-ghost use Rattle.bx_calendar.specs.Times.{HasClock, clock_seconds, is_no_digit, digits_in, fraction_size, is_whole, offset_size, is_utc, is_signed, offset_seconds, IsTime, is_whole_time, instant_of, IsTail, zone_of};
+ghost use Rattle.bx_calendar.specs.Times.{HasClock, clock_seconds, is_no_digit, digits_in, fraction_size, is_whole, offset_size, is_utc, is_signed, IsTime, IsTail, IsOffset, IsOffsetAfter, IsInstant};
 
 use crate::place::{after, first_date, octet_at, two_digits_below};
 use jiff::civil::{Date, date};
@@ -102,7 +102,7 @@ fn signed_size(zone: &[u8]) -> Option<u32>
 
 /// The seconds by which a clock is ahead of UTC: `Z`, or a sign and `hh:mm`.
 fn offset(zone: &[u8]) -> Option<i64>
-    ensures { MatchOption result ((is_utc zone.now || is_signed zone.now) ≡ false) (λ n. ((is_utc zone.now || is_signed zone.now) ≡ true) × (n ≡ offset_seconds zone.now) × (neg_ℤ (pos 90_000) ≤ℤ n) × (n ≤ℤ pos 90_000)) }
+    ensures { MatchOption result ((is_utc zone.now || is_signed zone.now) ≡ false) (IsOffset zone.now) }
 {
     if zone.len() == 1 && octet_at(zone, 0) == b'Z' {
         return Some(0);
@@ -125,7 +125,7 @@ fn second_of(day: i64, clock: u32, offset: i64) -> i64
 /// The seconds by which the clock is ahead of UTC, where what stands after its seconds is nothing or a fraction,
 /// and then `Z` or an offset.
 fn offset_after(rest: &[u8]) -> Option<i64>
-    ensures { MatchOption result (¬ IsTail rest.now) (λ n. IsTail rest.now × (n ≡ offset_seconds (zone_of rest.now)) × (neg_ℤ (pos 90_000) ≤ℤ n) × (n ≤ℤ pos 90_000)) }
+    ensures { MatchOption result (¬ IsTail rest.now) (IsOffsetAfter rest.now) }
 {
     let size = fraction_size(rest);
     if size == 1 || size > 10 {
@@ -137,7 +137,7 @@ fn offset_after(rest: &[u8]) -> Option<i64>
 /// The instant of a time: `YYYY-MM-DDThh:mm:ss`, then nothing or a dot and 1 to 9 digits, then `Z` or a sign and
 /// `hh:mm`.
 pub fn instant_at(octets: &[u8]) -> Option<Instant>
-    ensures { MatchOption result (¬ IsTime octets.now) (λ t. IsTime octets.now × (t.second ≡ instant_of octets.now) × (t.is_whole ≡ is_whole_time octets.now) × (neg_ℤ (pos 500_000_000_000) ≤ℤ t.second) × (t.second ≤ℤ pos 500_000_000_000)) }
+    ensures { MatchOption result (¬ IsTime octets.now) (λ t. IsInstant octets.now t.second t.is_whole) }
 {
     if octets.len() < 19 {
         return None;
