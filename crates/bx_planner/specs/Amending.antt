@@ -1,5 +1,5 @@
 -- Planning anew for the bookings of a plan, and for more: what the plan accepts is promised, and so must be held.
-use Rattle.std.specs.Prelude.{◌≡◌, ℕ, ◌<◌, ◌++◌, Bool, true, false, List, [], ◌∷◌, length, Option, is_some}
+use Rattle.std.specs.Prelude.{◌≡◌, ℕ, ◌<◌, ◌++◌, Bool, true, false, List, [], ◌∷◌, length, Option, is_some, ◌+◌, ◌≤◌}
 use Rattle.bx_base.specs.Bookings.{Row, row_of, Carries, IsLawful, pay_of}
 use Rattle.bx_base.specs.Channels.{count_of}
 use Rattle.bx_base.specs.PlanParts.{Parts}
@@ -46,3 +46,9 @@ abbrev pub IsNoAmendment : List Row → List Bool → NoAmendment → Type 0
 IsNoAmendment rows channels TooMany = MAX_BOOKINGS < length rows
 IsNoAmendment rows channels (TooManyMust moment) = IsTooManyMust rows channels moment
 IsNoAmendment rows channels Memory = Unit {0}
+
+-- both together are few enough, and this is the first moment at which too many promised and must bookings run
+abbrev pub IsFirstMustTooMany : Parts → List Row → ℕ → Type 0
+IsFirstMustTooMany plan more moment =
+    (length plan.rows + length more ≤ MAX_BOOKINGS)
+    × IsTooManyMust (amended plan.rows plan.assigned more) plan.channels moment

@@ -2,11 +2,10 @@
 
 ghost use Rattle.std.specs.Prelude.{◌≡◌, ◌≤◌, ◌<◌, ◌+◌, ◌↔◌, ℕ, IfOk, IfErr, Err, length};
 ghost use Rattle.bx_base.specs.Channels.{count_of};
-ghost use Rattle.bx_base.specs.Extending.{Extends};
 ghost use Rattle.bx_base.specs.PlanParts.{IsPlan, parts_of};
-ghost use Rattle.bx_planner.specs.Amending.{amended, IsNoAmendment, IsBestPlan, KeepsPromises};
-ghost use Rattle.bx_planner.specs.Extending.{IsBestFirstFit, StartFrom};
-ghost use Rattle.bx_planner.specs.Musts.{musts_at, IsTooManyMust};
+ghost use Rattle.bx_planner.specs.Amending.{amended, IsNoAmendment, IsBestPlan, KeepsPromises, IsFirstMustTooMany};
+ghost use Rattle.bx_planner.specs.Extending.{ExtendsWhereLater};
+ghost use Rattle.bx_planner.specs.Musts.{musts_at};
 ghost use Rattle.bx_base.specs.declared.bookings.TheConstants.{MAX_BOOKINGS};
 
 use crate::demand::Demand;
@@ -40,12 +39,12 @@ pub enum NoAmendment {
 /// `TooManyMust`, both without memory; `Memory` where memory runs out. A refusal leaves both as they are.
 pub fn amend(alloc: Global, plan: &Plan, more: &Bookings) -> Result<Plan, NoAmendment>
     ensures full { (result ≡ Err NoAmendment.TooMany) ↔ (MAX_BOOKINGS < length plan.now.bookings + length more.now) }
-    ensures musts { (t : ℕ) → (result ≡ Err (NoAmendment.TooManyMust t)) ↔ ((length plan.now.bookings + length more.now ≤ MAX_BOOKINGS) × IsTooManyMust (amended plan.now.bookings plan.now.assigned.items more.now) plan.now.channels t) }
+    ensures musts { (t : ℕ) → (result ≡ Err (NoAmendment.TooManyMust t)) ↔ IsFirstMustTooMany (parts_of plan.now) more.now t }
     ensures planned { IfOk result (λ p. IsBestPlan (amended plan.now.bookings plan.now.assigned.items more.now) plan.now.channels (parts_of p)) }
     ensures limits { IfOk result (λ p. IsPlan (parts_of p)) }
     ensures fail { IfErr result (IsNoAmendment (amended plan.now.bookings plan.now.assigned.items more.now) plan.now.channels) }
     ensures kept { IfOk result (λ p. KeepsPromises plan.now.bookings plan.now.assigned.items p.assigned.items) }
-    ensures extended { IfOk result (λ p. (m : ℕ) → IsBestFirstFit plan.now.bookings plan.now.channels plan.now.assigned.items → StartFrom m more.now → Extends m plan.now.bookings plan.now.assigned.items p.bookings p.assigned.items) }
+    ensures extended { IfOk result (λ p. ExtendsWhereLater (parts_of plan.now) more.now (parts_of p)) }
 {
     if (plan.bookings.len() + more.len()) as usize > MAX_BOOKINGS {
         return Err(NoAmendment::TooMany);

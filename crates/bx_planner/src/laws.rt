@@ -1,23 +1,14 @@
 //! Laws of plans.
 
-ghost use Rattle.std.specs.Prelude.{◌≡◌, ℕ, Bool, List, Option, Ok};
-ghost use Rattle.bx_base.specs.Bookings.{Row, AreBookings, Carries, IsLawful, pay_of};
-ghost use Rattle.bx_base.specs.Bound.{Charge};
-ghost use Rattle.bx_base.specs.Channels.{count_of};
-ghost use Rattle.bx_base.specs.Extending.{Extends};
-ghost use Rattle.bx_base.specs.PlanParts.{Parts};
-ghost use Rattle.bx_base.specs.Plans.{is_accepted, channel_at};
-ghost use Rattle.bx_check.specs.Check.{IsOutcome};
 ghost use Rattle.bx_planner.specs.Capacity.{AreGainsNeverRising, IsPriceOfChannel};
-ghost use Rattle.bx_planner.specs.Amending.{amended, IsBestPlan, KeepsPromises};
-ghost use Rattle.bx_planner.specs.Choices.{IsFirstFitPlan, ProvesBest, planned};
-ghost use Rattle.bx_planner.specs.Extending.{IsBestFirstFit, StartFrom};
+ghost use Rattle.bx_planner.specs.Extending.{AreBestPlansFirstFit, AreFirstFitPlansExtended};
 ghost use Rattle.bx_planner.specs.LeastProofs.{ArePricesUnique};
 ghost use Rattle.bx_planner.specs.Tight.{AreProofsTight};
+ghost use Rattle.bx_planner.specs.Proved.{ArePlansProved};
 
 /// What `plan` promises of a plan is what the checker says yes to, with the plan's total.
 pub fn plans_are_proved()
-    ensures { (rows : List Row) (channels : List Bool) (assigned : List (Option ℕ)) (prices : List Charge) (total : ℕ) → Carries rows channels (is_accepted assigned) (channel_at assigned) → IsLawful rows channels (is_accepted assigned) → total ≡ pay_of rows (is_accepted assigned) → ProvesBest rows (count_of channels) prices total → IsOutcome rows channels (planned rows channels assigned prices total) (Ok total) }
+    ensures { ArePlansProved }
 {}
 
 /// Quoted prices are fixed: for all bookings and channels, two price lists of which each is the least proof of some set
@@ -51,6 +42,6 @@ pub fn gains_never_rise()
 /// first-fit plan, and whose new bookings start at moment m or later, extends it from m (`extends`). What `plan` and `amend` make
 /// is best and first fit (`again`), so a day may be sold on any number of times.
 pub fn plans_are_extended()
-    ensures extends { (m : ℕ) (rows : List Row) (more : List Row) (channels : List Bool) (assigned : List (Option ℕ)) (after : List (Option ℕ)) → AreBookings rows → IsBestFirstFit rows channels assigned → IsFirstFitPlan (amended rows assigned more) channels after → Carries (amended rows assigned more) channels (is_accepted after) (channel_at after) → KeepsPromises rows assigned after → StartFrom m more → Extends m rows assigned (amended rows assigned more) after }
-    ensures again { (rows : List Row) (channels : List Bool) (plan : Parts) → IsBestPlan rows channels plan → IsBestFirstFit rows channels plan.assigned }
+    ensures extends { AreFirstFitPlansExtended }
+    ensures again { AreBestPlansFirstFit }
 {}
