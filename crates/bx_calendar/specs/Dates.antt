@@ -30,9 +30,3 @@ pub record StartsWithDate (octets : List ℕ) : Type 0 where
 pub record IsDateText (octets : List ℕ) : Type 0 where
   pub whole : length octets ≡ 10
   pub date : StartsWithDate octets
-
--- the calendar has this date, so many days from 1970-01-01
-abbrev pub IsDateOn : ℕ → ℕ → ℕ → ℤ → Type 0
-IsDateOn year month day days =
-    IsDate (pos year) (pos month) (pos day)
-    × (days ≡ days_from_civil (pos year) month day)

@@ -5,3 +5,4 @@ pub mod DayParts
 pub mod NamedDays
 pub mod Clocks
 pub mod Times
+pub mod Inside

@@ -1,5 +1,5 @@
 -- Octets and digits at the places of a text, counted from 0.
-use Rattle.std.specs.Prelude.{ℕ, ◌+◌, ◌-◌, ◌*◌, ◌&&◌, nat_lt, Bool, List, slice_index_or, ◌≡◌, ◌<◌, ◌≤◌, true}
+use Rattle.std.specs.Prelude.{ℕ, ◌+◌, ◌-◌, ◌*◌, ◌&&◌, nat_lt, Bool, List, slice_index_or}
 use Rattle.std.specs.Char.{is_ascii_digit}
 
 -- the octet at a place, and 0 beyond the end
@@ -17,17 +17,3 @@ two_at octets place = (octet_at octets place - 48) * 10 + (octet_at octets (plac
 -- whether two digits stand there, of a number below the limit
 abbrev pub is_below : List ℕ → ℕ → ℕ → Bool
 is_below octets place limit = are_two_digits octets place && nat_lt (two_at octets place) limit
-
--- the number that two digits write
-abbrev pub IsTwoDigits : List ℕ → ℕ → ℕ → Type 0
-IsTwoDigits octets place number =
-    (are_two_digits octets place ≡ true)
-    × (number ≡ two_at octets place)
-    × (number ≤ 99)
-
--- the same where it is below the limit
-abbrev pub IsTwoDigitsBelow : List ℕ → ℕ → ℕ → ℕ → Type 0
-IsTwoDigitsBelow octets place limit number =
-    (is_below octets place limit ≡ true)
-    × (number ≡ two_at octets place)
-    × (number < limit)

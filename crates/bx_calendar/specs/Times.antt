@@ -85,22 +85,6 @@ is_whole_time octets = is_whole (after_seconds octets)
 abbrev pub instant_of : List ℕ → ℤ
 instant_of octets = day_number octets *ℤ pos 86_400 +ℤ pos (clock_seconds octets) -ℤ offset_seconds (zone_of (after_seconds octets))
 
--- the seconds of an offset, of either sign
-abbrev pub IsOffset : List ℕ → ℤ → Type 0
-IsOffset zone seconds =
-    ((is_utc zone || is_signed zone) ≡ true)
-    × (seconds ≡ offset_seconds zone)
-    × (neg_ℤ (pos 90_000) ≤ℤ seconds)
-    × (seconds ≤ℤ pos 90_000)
-
--- the same where that is the end of what stands after the seconds of a clock
-abbrev pub IsOffsetAfter : List ℕ → ℤ → Type 0
-IsOffsetAfter rest seconds =
-    IsTail rest
-    × (seconds ≡ offset_seconds (zone_of rest))
-    × (neg_ℤ (pos 90_000) ≤ℤ seconds)
-    × (seconds ≤ℤ pos 90_000)
-
 -- the second in which a time lies, and whether it is that second itself
 abbrev pub IsInstant : List ℕ → ℤ → Bool → Type 0
 IsInstant octets second whole =

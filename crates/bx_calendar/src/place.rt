@@ -3,8 +3,9 @@
 ghost use Rattle.std.specs.Prelude.{◌≡◌, ◌+◌, ◌<◌, ◌≤◌, MatchOption, false, pos, length, drop};
 ghost use Rattle.jiff.specs.Words.{epoch_day};
 ghost use Rattle.jiff_core.specs.Calendar.{IsDate};
-ghost use Rattle.bx_calendar.specs.Places.{octet_at, are_two_digits, is_below, IsTwoDigits, IsTwoDigitsBelow};
-ghost use Rattle.bx_calendar.specs.Dates.{StartsWithDate, day_number, IsDateOn};
+ghost use Rattle.bx_calendar.specs.Places.{octet_at, are_two_digits, is_below};
+ghost use Rattle.bx_calendar.specs.Dates.{StartsWithDate, day_number};
+ghost use Rattle.bx_calendar.specs.Inside.{IsTwoDigits, IsTwoDigitsBelow, IsDateOn};
 
 use jiff::civil::Date;
 

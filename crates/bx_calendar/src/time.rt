@@ -2,7 +2,8 @@
 
 ghost use Rattle.std.specs.Prelude.{◌≡◌, ◌+◌, ◌<◌, ◌≤◌, ◌||◌, ◌+ℤ◌, ◌-ℤ◌, ◌*ℤ◌, ◌≤ℤ◌, if◌then◌else◌, MatchOption, IfSome, position, true, false, length, pos, neg_ℤ};
 ghost use Rattle.jiff.specs.Words.{epoch_day};
-ghost use Rattle.bx_calendar.specs.Times.{HasClock, clock_seconds, is_no_digit, digits_in, fraction_size, is_whole, offset_size, is_utc, is_signed, IsTime, IsTail, IsOffset, IsOffsetAfter, IsInstant};
+ghost use Rattle.bx_calendar.specs.Times.{HasClock, clock_seconds, is_no_digit, digits_in, fraction_size, is_whole, offset_size, is_utc, is_signed, IsTime, IsTail, IsInstant};
+ghost use Rattle.bx_calendar.specs.Inside.{IsOffset, IsOffsetAfter};
 
 use crate::place::{after, first_date, octet_at, two_digits_below};
 use jiff::civil::{Date, date};
