@@ -69,7 +69,7 @@ impl<'a, R: Read, O: Origin> Metered<'a, R, O> {
 }
 
 impl<R: Read, O: Origin> Read for Metered<'_, R, O> {
-    ghost use Rattle.bx_book.specs.Metering.{watched_of, octets_of, has_ended};
+    ghost use Rattle.bx_book.specs.Metering.{watched_of, has_stopped};
 
     ghost remaining = { λ m. R.remaining (device_of (watched_of m)) };
 
@@ -77,7 +77,7 @@ impl<R: Read, O: Origin> Read for Metered<'_, R, O> {
     fn read(&mut self, buf: &mut [u8]) -> io::Result<usize>
         ensures bound { ReadsAtMost result buf.new }
         ensures bytes { ReadConsumes (R.remaining (device_of (watched_of self.old))) (R.remaining (device_of (watched_of self.new))) result buf.new }
-        ensures reads { is_spent (has_ended self.old) (is_faulted (watched_of self.old)) (octets_of self.old) (reads_of (watched_of self.old)) ≡ false → 0 < length buf.new → reads_of (watched_of self.new) ≡ reads_of (watched_of self.old) + 1 }
+        ensures reads { has_stopped self.old ≡ false → 0 < length buf.new → reads_of (watched_of self.new) ≡ reads_of (watched_of self.old) + 1 }
     {
         if self.has_ended || buf.is_empty() {
             return Ok(0);

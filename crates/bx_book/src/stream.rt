@@ -1,14 +1,14 @@
 //! The bookings of a text that a reader gives.
 
-ghost use Rattle.std.specs.Prelude.{◌≡◌, ◌≤◌, ◌+◌, ◌⊎◌, true, false, IfOk, IfErr, IfSome, MatchOption, Err};
+ghost use Rattle.std.specs.Prelude.{◌≡◌, ◌≤◌, ◌+◌, true, false, IfOk, IfErr, IfSome, MatchOption, Err};
 ghost use Rattle.csv.specs.Reading.{strip_bom};
 ghost use Rattle.bx_devices.specs.Devices.{reading_of};
 ghost use Rattle.bx_devices.specs.Watching.{device_of, is_faulted, reads_of};
-ghost use Rattle.bx_book.specs.Passed.{HasPassed, HasNoneLeft, is_spent, reads_of_none};
+ghost use Rattle.bx_book.specs.Passed.{HasPassed, HasNoneLeft, reads_of_none};
 ghost use Rattle.bx_book.specs.Rows.{span_of};
 ghost use Rattle.bx_book.specs.Texts.{IsBook, IsBookFault};
 ghost use Rattle.bx_book.specs.Streams.{IsBookRead, IsStreamFault};
-ghost use Rattle.bx_book.specs.Told.{IsMeterFault, told_as};
+ghost use Rattle.bx_book.specs.Told.{IsMeterFault, told_as, IsReadOut};
 
 use crate::fault::BookFault;
 use crate::metered::{Metered, Origin};
@@ -91,7 +91,7 @@ fn read_metered<'a, R: Read, O: Origin>(
     ensures limit { result.octets ≤ 4194305 }
     ensures each { reads_of result.reader.now ≤ reads_of reader.old + (result.octets + reads_of_none result.has_ended (is_faulted result.reader.now)) }
     ensures ended { result.has_ended ≡ true → HasNoneLeft (R.remaining (device_of result.reader.now)) }
-    ensures over { (result.bookings ≡ Err BookFault.Memory) ⊎ (is_spent result.has_ended (is_faulted result.reader.now) result.octets (reads_of result.reader.now) ≡ true) }
+    ensures over { IsReadOut result.bookings result.has_ended result.octets result.reader.now }
     ensures ok { IfOk result.bookings (λ bookings. IfSome (R.remaining (device_of reader.old)) (λ text. IsBook (strip_bom text) (span_of day.now) bookings)) }
     ensures err { IfErr result.bookings (λ e. IfSome (R.remaining (device_of reader.old)) (λ text. IsBookFault (strip_bom text) (span_of day.now) e)) }
 {
