@@ -1,5 +1,5 @@
 -- What a quote says, and why there is none.
-use Rattle.std.specs.Prelude.{◌≡◌, ℕ, ◌+◌, ◌-◌, ◌≤◌, ◌==◌, ◌&&◌, not, true, false, List, [], ◌∷◌, ◌++◌, length}
+use Rattle.std.specs.Prelude.{◌≡◌, ℕ, ◌+◌, ◌-◌, ◌≤◌, ◌==◌, ◌&&◌, not, true, false, List, [], ◌∷◌, ◌++◌, length, ◌<◌}
 use Rattle.bx_base.specs.Bookings.{Row, row_at, IsLawful}
 use Rattle.bx_base.specs.Bound.{cost_of}
 use Rattle.bx_base.specs.PlanParts.{Parts}
@@ -52,3 +52,22 @@ IsNoExplanation plan row (Accepted named) = (named ≡ row) × IsRowOf plan row 
 IsNoExplanation plan row (NoChannel moment) = IsRefused plan row × IsNoChannel plan.rows plan.channels (row_at plan.rows (row - 1)) moment × IsNeverTaken plan.rows plan.channels (row - 1)
 IsNoExplanation plan row Memory = Unit {0}
 IsNoExplanation plan row _ = ⊥
+
+-- the plan has room for one more booking, and this is the first moment at which must rows leave that one no channel
+abbrev pub IsFirstFull : Parts → Row → ℕ → Type 0
+IsFirstFull plan booking moment =
+    (length plan.rows < MAX_BOOKINGS)
+    × IsNoChannel plan.rows plan.channels booking moment
+
+-- the row, which is named so, is one that the plan accepts
+abbrev pub IsAcceptedRow : Parts → ℕ → ℕ → Type 0
+IsAcceptedRow plan row named =
+    (named ≡ row)
+    × IsRowOf plan row
+    × (is_accepted plan.assigned (row - 1) ≡ true)
+
+-- the row is one that the plan refuses, and this is the first moment at which must rows leave it no channel
+abbrev pub IsRefusedAsFull : Parts → ℕ → ℕ → Type 0
+IsRefusedAsFull plan row moment =
+    IsRefused plan row
+    × IsNoChannel plan.rows plan.channels (row_at plan.rows (row - 1)) moment

@@ -24,6 +24,16 @@ pub record IsCutTold (rows : List Row) (plan : Parts) (i : ℕ) (text : Quote �
   pub is : IsQuote rows plan i quote
   pub written : AppendsPrefix output.before output.after (text quote)
 
+-- the text of a quote of this booking was written
+abbrev pub IsQuoteTold : Parts → Row → Writing → Type 0
+IsQuoteTold plan booking output =
+    IsTold (asked plan.rows booking) plan (length plan.rows) quote_text output
+
+-- the text of what this row has to pay was
+abbrev pub IsExplanationTold : Parts → ℕ → Writing → Type 0
+IsExplanationTold plan row output =
+    IsTold plan.rows plan (row - 1) (explained_text row (row_at plan.rows (row - 1)).pay) output
+
 -- each refusal of a quote: why there is none, and that nothing was written, or that the output failed
 abbrev pub IsQuoteRefusal : Parts → Row → Writing → QuoteFault → Type 0
 IsQuoteRefusal plan booking output (fault.Quote fail) = IsNoQuote plan booking fail × KeepsOutput output

@@ -1,12 +1,11 @@
 //! What a booking has to pay to be taken.
 
-ghost use Rattle.std.specs.Prelude.{◌≡◌, ◌≤◌, ◌<◌, ◌-◌, ◌↔◌, ℕ, true, false, Ok, Err, IfOk, IfErr, length};
-ghost use Rattle.bx_base.specs.Bookings.{row_at, is_running};
-ghost use Rattle.bx_base.specs.Channels.{count_of};
+ghost use Rattle.std.specs.Prelude.{◌≡◌, ◌≤◌, ◌<◌, ◌-◌, ◌↔◌, ℕ, false, Ok, Err, IfOk, IfErr, length};
+ghost use Rattle.bx_base.specs.Bookings.{row_at};
 ghost use Rattle.bx_base.specs.PlanParts.{parts_of};
 ghost use Rattle.bx_base.specs.Plans.{is_accepted};
 ghost use Rattle.bx_check.specs.Check.{IsOutcome};
-ghost use Rattle.bx_quote.specs.Quotes.{IsQuote, IsNoQuote, IsNoExplanation, IsRefused, IsRowOf, asked};
+ghost use Rattle.bx_quote.specs.Quotes.{IsQuote, IsNoQuote, IsNoExplanation, IsRowOf, asked, IsAcceptedRow, IsFirstFull, IsRefusedAsFull};
 ghost use Rattle.bx_quote.specs.Rooms.{IsNoChannel};
 ghost use Rattle.bx_quote.specs.Weighing.{held};
 ghost use Rattle.bx_base.specs.declared.bookings.TheConstants.{MAX_BOOKINGS};
@@ -23,7 +22,7 @@ use std::alloc::{AllocError, Global};
 pub fn quote(alloc: Global, plan: &Plan, booking: &Booking) -> Result<Quote, NoQuote>
     requires proved { IsOutcome plan.now.bookings plan.now.channels (parts_of plan.now) (Ok plan.now.total) }
     ensures full { (result ≡ Err NoQuote.TooMany) ↔ (MAX_BOOKINGS ≤ length plan.now.bookings) }
-    ensures no_channel { (t : ℕ) → (result ≡ Err (NoQuote.NoChannel t)) ↔ ((length plan.now.bookings < MAX_BOOKINGS) × IsNoChannel plan.now.bookings plan.now.channels booking.now t) }
+    ensures no_channel { (t : ℕ) → (result ≡ Err (NoQuote.NoChannel t)) ↔ IsFirstFull (parts_of plan.now) booking.now t }
     ensures quoted { IfOk result (IsQuote (asked plan.now.bookings booking.now) (parts_of plan.now) (length plan.now.bookings)) }
     ensures fail { IfErr result (IsNoQuote (parts_of plan.now) booking.now) }
 {
@@ -45,8 +44,8 @@ pub fn quote(alloc: Global, plan: &Plan, booking: &Booking) -> Result<Quote, NoQ
 pub fn explain(alloc: Global, plan: &Plan, row: u16) -> Result<Quote, NoQuote>
     requires proved { IsOutcome plan.now.bookings plan.now.channels (parts_of plan.now) (Ok plan.now.total) }
     ensures no_row { (result ≡ Err NoQuote.NoSuchRow) ↔ (¬ IsRowOf (parts_of plan.now) row) }
-    ensures accepted { (named : ℕ) → (result ≡ Err (NoQuote.Accepted named)) ↔ ((named ≡ row) × IsRowOf (parts_of plan.now) row × (is_accepted plan.now.assigned.items (row - 1) ≡ true)) }
-    ensures no_channel { (t : ℕ) → (result ≡ Err (NoQuote.NoChannel t)) ↔ (IsRefused (parts_of plan.now) row × IsNoChannel plan.now.bookings plan.now.channels (row_at plan.now.bookings (row - 1)) t) }
+    ensures accepted { (named : ℕ) → (result ≡ Err (NoQuote.Accepted named)) ↔ IsAcceptedRow (parts_of plan.now) row named }
+    ensures no_channel { (t : ℕ) → (result ≡ Err (NoQuote.NoChannel t)) ↔ IsRefusedAsFull (parts_of plan.now) row t }
     ensures explained { IfOk result (IsQuote plan.now.bookings (parts_of plan.now) (row - 1)) }
     ensures fail { IfErr result (IsNoExplanation (parts_of plan.now) row) }
 {

@@ -1,17 +1,14 @@
 //! Quotes, written.
 
-ghost use Rattle.std.specs.Prelude.{◌≡◌, ◌≤◌, ◌<◌, ◌-◌, ◌↔◌, ℕ, true, Ok, Err, IfErr, OnOk, length};
-ghost use Rattle.bx_base.specs.Bookings.{row_at};
+ghost use Rattle.std.specs.Prelude.{◌≡◌, ◌≤◌, ◌<◌, ◌-◌, ◌↔◌, ℕ, Ok, Err, IfErr, OnOk, length};
 ghost use Rattle.std.specs.Io.KnownBytes.{Appends};
 ghost use Rattle.bx_devices.specs.Devices.{writing_of};
 ghost use Rattle.bx_devices.specs.Watching.{device_of};
 ghost use Rattle.bx_base.specs.PlanParts.{parts_of};
 ghost use Rattle.bx_check.specs.Check.{IsOutcome};
-ghost use Rattle.bx_base.specs.Plans.{is_accepted};
-ghost use Rattle.bx_quote.specs.Quotes.{IsRefused, IsRowOf, asked};
-ghost use Rattle.bx_quote.specs.Rooms.{IsNoChannel};
+ghost use Rattle.bx_quote.specs.Quotes.{IsRowOf, IsAcceptedRow, IsFirstFull, IsRefusedAsFull};
 ghost use Rattle.bx_quote.specs.Texts.{quote_text, explained_text, refused_text};
-ghost use Rattle.bx_quote.specs.Writing.{IsTold, IsQuoteRefusal, IsExplainRefusal, IsListRefusal};
+ghost use Rattle.bx_quote.specs.Writing.{IsQuoteRefusal, IsExplainRefusal, IsListRefusal, IsExplanationTold, IsQuoteTold};
 ghost use Rattle.bx_quote.specs.Inside.{IsWriteFault};
 ghost use Rattle.bx_base.specs.declared.bookings.TheConstants.{MAX_BOOKINGS};
 
@@ -45,10 +42,10 @@ pub fn write_quote<W: Write>(
     output: &mut Watched<W>,
 ) -> Result<(), QuoteFault>
     requires proved { IsOutcome plan.now.bookings plan.now.channels (parts_of plan.now) (Ok plan.now.total) }
-    ensures told { OnOk result (IsTold (asked plan.now.bookings booking.now) (parts_of plan.now) (length plan.now.bookings) quote_text (writing_of W.contents output.old output.new)) }
+    ensures told { OnOk result (IsQuoteTold (parts_of plan.now) booking.now (writing_of W.contents output.old output.new)) }
     ensures refused { IfErr result (IsQuoteRefusal (parts_of plan.now) booking.now (writing_of W.contents output.old output.new)) }
     ensures too_many { (result ≡ Err (QuoteFault.Quote NoQuote.TooMany)) ↔ (MAX_BOOKINGS ≤ length plan.now.bookings) }
-    ensures no_room { (t : ℕ) → (result ≡ Err (QuoteFault.Quote (NoQuote.NoChannel t))) ↔ ((length plan.now.bookings < MAX_BOOKINGS) × IsNoChannel plan.now.bookings plan.now.channels booking.now t) }
+    ensures no_room { (t : ℕ) → (result ≡ Err (QuoteFault.Quote (NoQuote.NoChannel t))) ↔ IsFirstFull (parts_of plan.now) booking.now t }
 {
     let quote = match quote(alloc, plan, booking) {
         Ok(quote) => quote,
@@ -70,12 +67,12 @@ pub fn write_explained<W: Write>(
     output: &mut Watched<W>,
 ) -> Result<(), QuoteFault>
     requires proved { IsOutcome plan.now.bookings plan.now.channels (parts_of plan.now) (Ok plan.now.total) }
-    ensures told { OnOk result (IsTold plan.now.bookings (parts_of plan.now) (row - 1) (explained_text row (row_at plan.now.bookings (row - 1)).pay) (writing_of W.contents output.old output.new)) }
+    ensures told { OnOk result (IsExplanationTold (parts_of plan.now) row (writing_of W.contents output.old output.new)) }
     ensures refused { IfErr result (IsExplainRefusal (parts_of plan.now) row (writing_of W.contents output.old output.new)) }
     ensures row_of { OnOk result (IsRowOf (parts_of plan.now) row) }
     ensures no_row { (result ≡ Err (QuoteFault.Quote NoQuote.NoSuchRow)) ↔ (¬ IsRowOf (parts_of plan.now) row) }
-    ensures accepted { (named : ℕ) → (result ≡ Err (QuoteFault.Quote (NoQuote.Accepted named))) ↔ ((named ≡ row) × IsRowOf (parts_of plan.now) row × (is_accepted plan.now.assigned.items (row - 1) ≡ true)) }
-    ensures no_room { (t : ℕ) → (result ≡ Err (QuoteFault.Quote (NoQuote.NoChannel t))) ↔ (IsRefused (parts_of plan.now) row × IsNoChannel plan.now.bookings plan.now.channels (row_at plan.now.bookings (row - 1)) t) }
+    ensures accepted { (named : ℕ) → (result ≡ Err (QuoteFault.Quote (NoQuote.Accepted named))) ↔ IsAcceptedRow (parts_of plan.now) row named }
+    ensures no_room { (t : ℕ) → (result ≡ Err (QuoteFault.Quote (NoQuote.NoChannel t))) ↔ IsRefusedAsFull (parts_of plan.now) row t }
 {
     let Some(booking) = plan.bookings.get(row) else {
         return Err(QuoteFault::Quote(NoQuote::NoSuchRow));
