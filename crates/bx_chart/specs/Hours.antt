@@ -90,6 +90,10 @@ abbrev pub hours_below : Room → Option Clock → ℕ → List ℕ
 hours_below room clock zero = []
 hours_below room clock (suc n) = hours_below room clock n ++ (if is_drawn room n then hour_part room clock n else [])
 
--- the hours of a plan, from the day's start to the picture's last second
+-- all of them, from the day's start to the picture's last second
+abbrev pub hours_in : Room → Option Clock → List ℕ
+hours_in room clock = hours_below room clock (room.seconds / 3600 + 1)
+
+-- the hours of a plan
 abbrev pub hours : Parts → Option Clock → List ℕ
-hours plan clock = hours_below (room_of plan clock) clock ((room_of plan clock).seconds / 3600 + 1)
+hours plan clock = hours_in (room_of plan clock) clock

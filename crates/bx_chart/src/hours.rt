@@ -1,7 +1,7 @@
 //! The hours of the day, as its clock shows them.
 
 ghost use Rattle.std.specs.Prelude.{◌≡◌, ◌+◌, ◌/◌, ◌++◌, OnOk, option_copied};
-ghost use Rattle.bx_chart.specs.Hours.{band_lines, hour_part, hours_below, line, lines, name, shown_at, shown_text, tenths};
+ghost use Rattle.bx_chart.specs.Hours.{band_lines, hour_part, line, lines, name, shown_at, shown_text, tenths, hours_in};
 ghost use Rattle.bx_chart.specs.Sheets.{room};
 
 use crate::bars::add_two_digits;
@@ -17,7 +17,7 @@ pub fn add_hours(
     sheet: &Sheet,
     clock: Option<&Clock>,
 ) -> Result<(), AllocError>
-    ensures { OnOk result (picture.new.text.items ≡ picture.old.text.items ++ hours_below (room sheet.now) (option_copied clock.entry) ((room sheet.now).seconds / 3600 + 1)) }
+    ensures { OnOk result (picture.new.text.items ≡ picture.old.text.items ++ hours_in (room sheet.now) (option_copied clock.entry)) }
 {
     let apart = sheet.seconds / 93_600 + 1;
     for hour in 0..sheet.seconds / 3600 + 1 {
