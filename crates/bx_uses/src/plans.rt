@@ -1,6 +1,6 @@
 //! A best plan, and the check of anybody's.
 
-ghost use Rattle.std.specs.Prelude.{◌≡◌, ◌≤◌, ℕ, Bool, true, IfSome};
+ghost use Rattle.std.specs.Prelude.{◌≡◌, ℕ, Bool, true, IfSome};
 ghost use Rattle.bx_base.specs.Bookings.{Carries, IsLawful, pay_of};
 ghost use Rattle.bx_base.specs.Plans.{is_accepted, channel_at};
 ghost use Rattle.bx_planner.specs.Choices.{IsBest};
@@ -24,7 +24,7 @@ pub fn best_total(alloc: Global, bookings: &Bookings, channels: ChannelSet) -> O
 /// Whether a plan, whoever made it, holds for these bookings and channels, and no choice of them earns more.
 pub fn is_best(bookings: &Bookings, channels: ChannelSet, plan: &Plan) -> bool
     ensures carried { result ≡ true → Carries bookings.now channels (is_accepted plan.now.assigned.items) (channel_at plan.now.assigned.items) }
-    ensures best { result ≡ true → (set : ℕ → Bool) → IsLawful bookings.now channels set → pay_of bookings.now set ≤ pay_of bookings.now (is_accepted plan.now.assigned.items) }
+    ensures best { result ≡ true → IsBest bookings.now channels (pay_of bookings.now (is_accepted plan.now.assigned.items)) }
 {
     check(bookings, channels, plan).is_ok()
 }
