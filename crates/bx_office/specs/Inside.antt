@@ -1,13 +1,13 @@
 -- Private: what the functions of a client promise one another.
-use Rattle.std.specs.Prelude.{◌≡◌, ℕ, Bool, List, [], drop, Result, Ok, Err}
+use Rattle.std.specs.Prelude.{◌≡◌, ℕ, Bool, List, [], drop, Result, Ok, Err, ◌++◌, map, Option}
 use Rattle.httparse.specs.Grammar.{RequestHead}
-use Rattle.httparse.specs.Spans.{IsRequestAt}
+use Rattle.httparse.specs.Spans.{IsRequestAt, header_bytes}
 use Rattle.httparse.specs.declared.spans.HeaderSpan.{HeaderSpan}
 use Rattle.httparse.specs.declared.spans.RequestSpans.{RequestSpans}
 use Rattle.http1.specs.Server.{after_end}
 use Rattle.http1.specs.declared.server.Server.{Server}
 use Rattle.bx_office.specs.Gate.{query_in}
-use Rattle.bx_office.specs.Heads.{IsVerdict}
+use Rattle.bx_office.specs.Heads.{IsVerdict, first_of}
 use Rattle.bx_office.specs.Replies.{after_body, after_head}
 use Rattle.bx_office.specs.declared.client.Client.{Client}
 use Rattle.bx_office.specs.declared.client.Stage.{Stage}
@@ -15,6 +15,8 @@ use Rattle.bx_office.specs.declared.client.Stage.TheVariants.{Body, Asked}
 use Rattle.bx_office.specs.declared.gate.Place.{Place}
 use Rattle.bx_office.specs.declared.gate.Route.{Route}
 use Rattle.bx_office.specs.declared.reply.Reply.{Reply}
+use Rattle.bx_office.specs.declared.gate.Refusal.{Refusal}
+use Rattle.http1.specs.Fields.{values_named}
 
 -- no request that was let through is due
 abbrev pub IsUndue : Stage → Type 0
@@ -28,6 +30,46 @@ pub record IsBegun (place : Place) (input : List ℕ) (spans : List HeaderSpan) 
   pub query : (h : RequestHead) → IsRequestAt input spans r h → new.query.items ≡ query_in h.target
   pub unread : new.unread.items ≡ drop r.len input
   pub body : new.body.items ≡ []
+
+-- a head was taken, with what the gate answers to it
+abbrev pub IsHeadTaken : List HeaderSpan → RequestSpans → Client → Client → Result Route Refusal → Type 0
+IsHeadTaken spans r old new verdict =
+    (h : RequestHead)
+    → IsRequestAt old.unread.items spans r h
+    → IsVerdict old.place h verdict × (new.query.items ≡ query_in h.target)
+
+-- a head was let through, and its body is due
+abbrev pub IsBodyBegun : List HeaderSpan → RequestSpans → Client → Client → Type 0
+IsBodyBegun spans r old new =
+    (route : Route) × (new.stage ≡ Body route) × IsBegun old.place old.unread.items spans r route new
+
+-- the body of a request of this route is due, and nothing of it was read
+abbrev pub IsBodyDue : Route → Client → Client → Type 0
+IsBodyDue route old new =
+    (new.stage ≡ Body route)
+    × (new.body.items ≡ [])
+    × (new.unread ≡ old.unread)
+    × (new.query ≡ old.query)
+
+-- a piece of a body was read
+abbrev pub HasKept : List ℕ → Client → Client → Type 0
+HasKept piece old new =
+    (new.stage ≡ old.stage)
+    × (new.query ≡ old.query)
+    × (new.body.items ≡ old.body.items ++ piece)
+
+-- a body was read to its end: the request waits for its answer
+abbrev pub HasAsked : Client → Client → Type 0
+HasAsked old new =
+    (route : Route)
+    × (old.stage ≡ Body route)
+    × (new.stage ≡ Asked route)
+    × (new.query ≡ old.query)
+    × (new.body ≡ old.body)
+
+-- the value of the first field of this name, by the places of the fields in what was read
+abbrev pub value_at : List ℕ → List HeaderSpan → List ℕ → Option (List ℕ)
+value_at input spans name = first_of (values_named name (map (header_bytes input) spans))
 
 -- the connection after an answer
 abbrev pub after_reply : Bool → Server → Reply → Bool → Server

@@ -56,10 +56,8 @@ pub struct Client {
 impl Client {
     ghost use Rattle.std.specs.Prelude.{◌≡◌, ◌⊎◌, ◌++◌, [], drop, slice_range, true, false, IfSome};
     ghost use Rattle.bx_office.specs.Gate.{query_in};
-    ghost use Rattle.bx_office.specs.Heads.{IsVerdict};
-    ghost use Rattle.httparse.specs.Grammar.{RequestHead};
-    ghost use Rattle.httparse.specs.Spans.{IsRequestWithin, IsRequestAt};
-    ghost use Rattle.bx_office.specs.Inside.{IsUndue, IsBegun};
+    ghost use Rattle.httparse.specs.Spans.{IsRequestWithin};
+    ghost use Rattle.bx_office.specs.Inside.{IsUndue, HasAsked, IsBodyBegun, HasKept, IsBodyDue, IsHeadTaken};
     ghost use Rattle.bx_office.specs.Clients.{IsDueAfter, IsLeft, IsTaken, IsNext, is_over, is_reading, room_of};
     ghost use Rattle.bx_office.specs.Replies.{reply_text};
 
@@ -211,7 +209,7 @@ impl Client {
     ) -> Option<Result<Route, Refusal>>
         requires within { IsRequestWithin self.old.unread.items spans.now head.now }
         requires len { head.now.len ≤ length self.old.unread.items }
-        ensures taken { IfSome result (λ verdict. (h : RequestHead) → IsRequestAt self.old.unread.items spans.now head.now h → IsVerdict self.old.place h verdict × (self.new.query.items ≡ query_in h.target)) }
+        ensures taken { IfSome result (IsHeadTaken spans.now head.now self.old self.new) }
         ensures unread { self.new.unread.items ≡ drop head.now.len self.old.unread.items }
         ensures place { self.new.place ≡ self.old.place }
     {
@@ -229,7 +227,7 @@ impl Client {
     fn begin(&mut self, head: &RequestSpans, spans: &[HeaderSpan])
         requires within { IsRequestWithin self.old.unread.items spans.now head.now }
         requires len { head.now.len ≤ length self.old.unread.items }
-        ensures stage { IsUndue self.new.stage ⊎ ((route : Route) × (self.new.stage ≡ Stage.Body route) × IsBegun self.old.place self.old.unread.items spans.now head.now route self.new) }
+        ensures stage { IsUndue self.new.stage ⊎ IsBodyBegun spans.now head.now self.old self.new }
         ensures place { self.new.place ≡ self.old.place }
     {
         let Some(verdict) = self.take_head(head, spans) else {
@@ -260,7 +258,7 @@ impl Client {
 
     /// The request is let through: its body is due, where it is not too long.
     fn admit(&mut self, route: Route)
-        ensures stage { IsUndue self.new.stage ⊎ ((self.new.stage ≡ Stage.Body route) × (self.new.body.items ≡ []) × (self.new.unread ≡ self.old.unread) × (self.new.query ≡ self.old.query)) }
+        ensures stage { IsUndue self.new.stage ⊎ IsBodyDue route self.old self.new }
         ensures place { self.new.place ≡ self.old.place }
     {
         self.body.clear();
@@ -286,7 +284,7 @@ impl Client {
     /// A piece of a body was read.
     fn keep(&mut self, piece: Span)
         requires { (piece.start ≤ piece.end) × (piece.end ≤ length self.old.unread.items) }
-        ensures stage { IsUndue self.new.stage ⊎ ((self.new.stage ≡ self.old.stage) × (self.new.query ≡ self.old.query) × (self.new.body.items ≡ self.old.body.items ++ slice_range self.old.unread.items piece.start piece.end)) }
+        ensures stage { IsUndue self.new.stage ⊎ HasKept (slice_range self.old.unread.items piece.start piece.end) self.old self.new }
         ensures place { self.new.place ≡ self.old.place }
     {
         let count = piece.end - piece.start;
@@ -307,7 +305,7 @@ impl Client {
     /// The end of a body was read: the request waits for its answer, or is refused.
     fn finish(&mut self, consumed: usize)
         requires { consumed ≤ length self.old.unread.items }
-        ensures stage { IsUndue self.new.stage ⊎ ((route : Route) × (self.old.stage ≡ Stage.Body route) × (self.new.stage ≡ Stage.Asked route) × (self.new.query ≡ self.old.query) × (self.new.body ≡ self.old.body)) }
+        ensures stage { IsUndue self.new.stage ⊎ HasAsked self.old self.new }
         ensures place { self.new.place ≡ self.old.place }
     {
         self.unread.advance(consumed);

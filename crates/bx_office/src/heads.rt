@@ -1,11 +1,11 @@
 //! What the head of a request says to the gate.
 
-ghost use Rattle.std.specs.Prelude.{◌≡◌, Some, None, length, map, All, MatchOption, codes};
+ghost use Rattle.std.specs.Prelude.{◌≡◌, Some, None, length, All, MatchOption, codes};
 ghost use Rattle.std.specs.Str.{bytes_eq};
 ghost use Rattle.httparse.specs.Grammar.{RequestHead};
-ghost use Rattle.httparse.specs.Spans.{IsHeaderWithin, IsRequestWithin, IsRequestAt, header_bytes};
-ghost use Rattle.http1.specs.Fields.{values_named};
-ghost use Rattle.bx_office.specs.Heads.{IsVerdict, first_of};
+ghost use Rattle.httparse.specs.Spans.{IsHeaderWithin, IsRequestWithin, IsRequestAt};
+ghost use Rattle.bx_office.specs.Heads.{IsVerdict};
+ghost use Rattle.bx_office.specs.Inside.{value_at};
 
 use crate::gate::{Place, Refusal, Route, let_through};
 use http1::text::eq_ignore_case;
@@ -14,7 +14,7 @@ use httparse::spans::{HeaderSpan, RequestSpans};
 /// The value of the first field of this name.
 fn value_of<'a>(input: &'a [u8], spans: &[HeaderSpan], name: &[u8]) -> Option<&'a [u8]>
     requires { All (IsHeaderWithin (length input.now)) spans.now }
-    ensures { MatchOption result (first_of (values_named name.now (map (header_bytes input.now) spans.now)) ≡ None) (λ value. first_of (values_named name.now (map (header_bytes input.now) spans.now)) ≡ Some value.now) }
+    ensures { MatchOption result (value_at input.now spans.now name.now ≡ None) (λ value. value_at input.now spans.now name.now ≡ Some value.now) }
 {
     for span in spans {
         if eq_ignore_case(span.name.of(input), name) {
