@@ -132,7 +132,8 @@ pub fn check_against<'a, R: Read, W: Write>(
     ensures proved { IfOk result (IsProvedAgainst bookings.now channels (R.remaining (device_of input.old))) }
     ensures read { OnOk result (IsAtEnd (R.remaining (device_of input.new))) }
     ensures written { IfOk result (λ total. Appends (W.contents (device_of output.old)) (W.contents (device_of output.new)) (proved_line total)) }
-    ensures refused { IfErr result (IsRefusalAgainst bookings.now channels name.now (reading_of R.remaining input.old input.new) (writing_of W.contents output.old output.new)) }
+    ensures refused { IfErr result (IsRefusalAgainst bookings.now channels name.now
+        (reading_of R.remaining input.old input.new) (writing_of W.contents output.old output.new)) }
 {
     let plan = plan_from(alloc, name, input)?;
     judge(&plan, bookings, channels, output)
