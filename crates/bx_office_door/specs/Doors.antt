@@ -1,6 +1,6 @@
 -- The door: who stands at it, and how many were let in.
-use Rattle.std.specs.Prelude.{◌≡◌, ℕ, ◌≤◌, List, ◌++◌}
-use Rattle.bx_office_door.specs.Guests.{numbers_of, given_since, IsThinned}
+use Rattle.std.specs.Prelude.{◌≡◌, ℕ, ◌≤◌, List, ◌++◌, ◌+◌, min, is_some, if◌then◌else◌}
+use Rattle.bx_office_door.specs.Guests.{numbers_of, given_since, IsThinned, client_of}
 use Rattle.bx_office_door.specs.declared.door.Door.{Door}
 use Rattle.bx_office_door.specs.declared.guest.Guest.{Guest}
 
@@ -14,3 +14,8 @@ pub record IsAttended (now : ℕ) (old new : Door) : Type 0 where
   pub numbers : IsThinned (numbers_of (guests_of old) ++ given_since old.count new.count) (numbers_of (guests_of new))
   pub answers : new.answers ≡ old.answers
   pub shown : new.shown ≡ now
+
+-- how many requests were answered, once the client of this number is: one more where it is there, up to the largest number of 64 bits
+abbrev pub answers_after : ℕ → Door → ℕ
+answers_after number door =
+    if is_some (client_of number (guests_of door)) then min (door.answers + 1) 18446744073709551615 else door.answers

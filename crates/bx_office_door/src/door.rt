@@ -30,10 +30,10 @@ pub struct Door {
 }
 
 impl Door {
-    ghost use Rattle.std.specs.Prelude.{◌++◌, ◌+◌, [], None, Some, MatchOption, filter, not, is_some, min, if◌then◌else◌};
+    ghost use Rattle.std.specs.Prelude.{◌++◌, ◌+◌, [], None, Some, MatchOption, filter, not, if◌then◌else◌};
     ghost use Rattle.bx_office_door.specs.Guests.{first_asked, client_of, given_since, IsAnsweredThere};
     ghost use Rattle.bx_office_door.specs.Places.{IsFirstOf};
-    ghost use Rattle.bx_office_door.specs.Doors.{guests_of, IsAttended};
+    ghost use Rattle.bx_office_door.specs.Doors.{answers_after, guests_of, IsAttended};
 
     /// A door where nobody stands yet.
     pub fn new(alloc: Global, place: Place, listening: Listening) -> Door
@@ -159,7 +159,7 @@ impl Door {
     /// Answers just the client of this number, where it is there. It stands after the others then.
     pub fn answer(&mut self, number: u64, reply: Reply<'_>)
         ensures answered { IsAnsweredThere number reply.entry (guests_of self.old) (guests_of self.new) }
-        ensures answers { self.new.answers ≡ (if is_some (client_of number (guests_of self.old)) then min (self.old.answers + 1) 18446744073709551615 else self.old.answers) }
+        ensures answers { self.new.answers ≡ answers_after number self.old }
         ensures count { self.new.count ≡ self.old.count }
         ensures shown { self.new.shown ≡ self.old.shown }
     {
