@@ -1,11 +1,10 @@
 //! The text of a plan that keeps the promises of another.
 
-ghost use Rattle.std.specs.Prelude.{◌≡◌, ◌≤◌, ◌<◌, ◌+◌, ◌↔◌, ℕ, Err, IfOk, IfErr, length};
+ghost use Rattle.std.specs.Prelude.{◌≡◌, ◌<◌, ◌+◌, ◌↔◌, ℕ, Err, IfOk, IfErr, length};
 ghost use Rattle.bx_base.specs.PlanParts.{parts_of};
 ghost use Rattle.bx_devices.specs.Devices.{writing_of};
 ghost use Rattle.bx_plan_commands.specs.Amending.{IsAmended, IsAmendRefusal};
-ghost use Rattle.bx_planner.specs.Amending.{amended};
-ghost use Rattle.bx_planner.specs.Musts.{IsTooManyMust};
+ghost use Rattle.bx_planner.specs.Amending.{amended, IsFirstMustTooMany};
 ghost use Rattle.bx_base.specs.declared.bookings.TheConstants.{MAX_BOOKINGS};
 
 use bx_base::{Bookings, Plan};
@@ -35,10 +34,12 @@ pub fn write_amended<W: Write>(
     more: &Bookings,
     output: &mut Watched<W>,
 ) -> Result<Plan, AmendFault>
-    ensures amended { IfOk result (λ p. IsAmended (amended plan.now.bookings plan.now.assigned.items more.now) plan.now.channels (writing_of W.contents output.old output.new) (parts_of p)) }
+    ensures amended { IfOk result (λ p. IsAmended (amended plan.now.bookings plan.now.assigned.items more.now)
+        plan.now.channels (writing_of W.contents output.old output.new) (parts_of p)) }
     ensures full { (result ≡ Err (AmendFault.Amend NoAmendment.TooMany)) ↔ (MAX_BOOKINGS < length plan.now.bookings + length more.now) }
-    ensures musts { (t : ℕ) → (result ≡ Err (AmendFault.Amend (NoAmendment.TooManyMust t))) ↔ ((length plan.now.bookings + length more.now ≤ MAX_BOOKINGS) × IsTooManyMust (amended plan.now.bookings plan.now.assigned.items more.now) plan.now.channels t) }
-    ensures refused { IfErr result (IsAmendRefusal (amended plan.now.bookings plan.now.assigned.items more.now) plan.now.channels (writing_of W.contents output.old output.new)) }
+    ensures musts { (t : ℕ) → (result ≡ Err (AmendFault.Amend (NoAmendment.TooManyMust t))) ↔ IsFirstMustTooMany (parts_of plan.now) more.now t }
+    ensures refused { IfErr result (IsAmendRefusal (amended plan.now.bookings plan.now.assigned.items more.now)
+        plan.now.channels (writing_of W.contents output.old output.new)) }
 {
     let amended = match amend(alloc, plan, more) {
         Ok(amended) => amended,

@@ -25,7 +25,8 @@ pub fn capacity_file<'a, I: Inputs, W: Write>(
     bookings: &'a str,
     output: &mut Watched<W>,
 ) -> Result<(), FileFault<'a>>
-    ensures written { OnOk result (IsTableWritten (I.gives inputs.old) day.entry.0.now day.entry.1.now bookings.now (writing_of W.contents output.old output.new)) }
+    ensures written { OnOk result (IsTableWritten (I.gives inputs.old) day.entry.0.now day.entry.1.now bookings.now
+        (writing_of W.contents output.old output.new)) }
     ensures refused { IfErr result (IsTableRefusal (I.gives inputs.old) day.entry.0.now day.entry.1.now bookings.now W.contents output.old output.new) }
 {
     let day = day_of(day.0, day.1)?;

@@ -49,7 +49,8 @@ pub fn capacity_run<R: Read, W: Write>(
     day: &Day,
 ) -> Result<(), CapacityFault>
     ensures tabled { OnOk result (IsTabled (reading_of R.remaining input.old input.new) (writing_of W.contents output.old output.new) (span_of day.now)) }
-    ensures refused { IfErr result (IsCapacityRefusal (reading_of R.remaining input.old input.new) (writing_of W.contents output.old output.new) (span_of day.now)) }
+    ensures refused { IfErr result (IsCapacityRefusal (reading_of R.remaining input.old input.new)
+        (writing_of W.contents output.old output.new) (span_of day.now)) }
 {
     let bookings = match read_bookings_from(alloc, input, day) {
         Ok(bookings) => bookings,

@@ -28,7 +28,8 @@ pub fn plan_file<'a, I: Inputs, W: Write, E: Write>(
     output: &mut Watched<W>,
     errors: &mut Watched<E>,
 ) -> Result<(), FileFault<'a>>
-    ensures planned { OnOk result (IsPlanNoted (I.gives inputs.old) terms.now bookings.now (writing_of W.contents output.old output.new) (writing_of E.contents errors.old errors.new)) }
+    ensures planned { OnOk result (IsPlanNoted (I.gives inputs.old) terms.now bookings.now
+        (writing_of W.contents output.old output.new) (writing_of E.contents errors.old errors.new)) }
     ensures silent { IsErr result → errors.new ≡ errors.old }
     ensures refused { IfErr result (IsPlanRefusal (I.gives inputs.old) terms.now bookings.now W.contents output.old output.new) }
 {
@@ -85,7 +86,8 @@ pub fn amend_file<'a, I: Inputs, W: Write, E: Write>(
     output: &mut Watched<W>,
     errors: &mut Watched<E>,
 ) -> Result<(), FileFault<'a>>
-    ensures held { OnOk result (IsHeldNoted (I.gives inputs.old) day.entry.0.now day.entry.1.now plan.now bookings.now (writing_of W.contents output.old output.new) (writing_of E.contents errors.old errors.new)) }
+    ensures held { OnOk result (IsHeldNoted (I.gives inputs.old) day.entry.0.now day.entry.1.now plan.now bookings.now
+        (writing_of W.contents output.old output.new) (writing_of E.contents errors.old errors.new)) }
     ensures silent { IsErr result → errors.new ≡ errors.old }
     ensures refused { IfErr result (IsNotAmended (I.gives inputs.old) day.entry.0.now day.entry.1.now plan.now bookings.now W.contents output.old output.new) }
 {

@@ -84,8 +84,10 @@ pub fn plan_run<R: Read, W: Write>(
     day: &Day,
     channels: ChannelSet,
 ) -> Result<Plan, RunFault>
-    ensures planned { IfOk result (λ p. IsRun (reading_of R.remaining input.old input.new) (writing_of W.contents output.old output.new) (span_of day.now) channels (parts_of p)) }
-    ensures refused { IfErr result (IsRunRefusal (reading_of R.remaining input.old input.new) (writing_of W.contents output.old output.new) (span_of day.now) channels) }
+    ensures planned { IfOk result (λ p. IsRun (reading_of R.remaining input.old input.new)
+        (writing_of W.contents output.old output.new) (span_of day.now) channels (parts_of p)) }
+    ensures refused { IfErr result (IsRunRefusal (reading_of R.remaining input.old input.new)
+        (writing_of W.contents output.old output.new) (span_of day.now) channels) }
 {
     let bookings = bookings_of(alloc, input, day)?;
     let plan = plan_of(alloc, &bookings, channels)?;

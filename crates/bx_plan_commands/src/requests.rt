@@ -15,8 +15,8 @@ use bx_request::FileRequest;
 use std::alloc::Global;
 use std::io::Write;
 
-/// Does one command on files. Only `plan` and `amend` may write a note on standard error. At a refusal nothing was written, except that where the output failed a prefix of what was to be
-/// written was. The faults are those of the command's own function.
+/// Does one command on files. Only `plan` and `amend` may write a note on standard error. At a refusal nothing was written, except that
+/// where the output failed a prefix of what was to be written was. The faults are those of the command's own function.
 pub fn run_on_files<'a, I: Inputs, W: Write, E: Write>(
     alloc: Global,
     inputs: &mut I,
@@ -25,7 +25,8 @@ pub fn run_on_files<'a, I: Inputs, W: Write, E: Write>(
     errors: &mut Watched<E>,
 ) -> Result<(), FileFault<'a>>
     ensures done { OnOk result (IsDone (I.gives inputs.old) request.now (writing_of W.contents output.old output.new)) }
-    ensures told { OnOk result (IsToldOf (I.gives inputs.old) request.now (writing_of W.contents output.old output.new) (writing_of E.contents errors.old errors.new)) }
+    ensures told { OnOk result (IsToldOf (I.gives inputs.old) request.now
+        (writing_of W.contents output.old output.new) (writing_of E.contents errors.old errors.new)) }
     ensures silent { IsErr result → errors.new ≡ errors.old }
     ensures refused { IfErr result (IsRefused (I.gives inputs.old) request.now W.contents output.old output.new) }
 {
