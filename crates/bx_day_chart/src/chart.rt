@@ -47,7 +47,8 @@ fn add_day_part(
     clock: Option<&Clock>,
     sheet: &Sheet,
 ) -> Result<(), AllocError>
-    ensures { OnOk result (picture.new.text.items ≡ picture.old.text.items ++ day_part exchange.now channels.now (sight_of sight.now) (option_copied clock.entry) (room sheet.now)) }
+    ensures { OnOk result (picture.new.text.items ≡ picture.old.text.items
+        ++ day_part exchange.now channels.now (sight_of sight.now) (option_copied clock.entry) (room sheet.now)) }
 {
     let now = exchange.moment();
     let high = 10 * u64::from(sheet.lanes);
@@ -66,7 +67,8 @@ fn add_foot(
     clock: Option<&Clock>,
     sheet: &Sheet,
 ) -> Result<(), AllocError>
-    ensures { OnOk result (picture.new.text.items ≡ picture.old.text.items ++ foot exchange.now channels.now (sight_of sight.now) (option_copied clock.entry) (room sheet.now)) }
+    ensures { OnOk result (picture.new.text.items ≡ picture.old.text.items
+        ++ foot exchange.now channels.now (sight_of sight.now) (option_copied clock.entry) (room sheet.now)) }
 {
     let now = exchange.moment();
     add_starts(picture, sheet, channels, exchange.entries())?;

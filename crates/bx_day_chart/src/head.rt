@@ -156,7 +156,8 @@ pub(crate) fn add_head(
     clock: Option<&Clock>,
     sheet: &Sheet,
 ) -> Result<(), AllocError>
-    ensures { OnOk result (picture.new.text.items ≡ picture.old.text.items ++ head exchange.now (sight_of sight.now) (option_copied clock.entry) (room sheet.now)) }
+    ensures { OnOk result (picture.new.text.items ≡ picture.old.text.items
+        ++ head exchange.now (sight_of sight.now) (option_copied clock.entry) (room sheet.now)) }
 {
     let now = exchange.moment();
     let entries = exchange.entries();

@@ -109,7 +109,8 @@ pub(crate) fn add_hatches(
     clock: Option<&Clock>,
     sheet: &Sheet,
 ) -> Result<(), AllocError>
-    ensures { OnOk result (picture.new.text.items ≡ picture.old.text.items ++ hatches_below (room sheet.now) (option_copied clock.entry) exchange.now channels.now 32) }
+    ensures { OnOk result (picture.new.text.items ≡ picture.old.text.items
+        ++ hatches_below (room sheet.now) (option_copied clock.entry) exchange.now channels.now 32) }
 {
     for number in 0..32u8 {
         if let Some(channel) = broken_at(exchange, channels, number) {

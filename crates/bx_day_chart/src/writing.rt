@@ -28,8 +28,10 @@ pub fn write_day_chart<W: Write>(
     clock: Option<&Clock>,
     output: &mut Watched<W>,
 ) -> Result<(), ChartFault>
-    ensures drawn { OnOk result (IsDayDrawn exchange.now channels (sight_of sight.now) (option_copied clock.entry) (writing_of W.contents output.old output.new)) }
-    ensures refused { IfErr result (IsDayChartRefusal exchange.now channels (sight_of sight.now) (option_copied clock.entry) (writing_of W.contents output.old output.new)) }
+    ensures drawn { OnOk result (IsDayDrawn exchange.now channels (sight_of sight.now) (option_copied clock.entry)
+        (writing_of W.contents output.old output.new)) }
+    ensures refused { IfErr result (IsDayChartRefusal exchange.now channels (sight_of sight.now) (option_copied clock.entry)
+        (writing_of W.contents output.old output.new)) }
 {
     let Ok(picture) = day_chart(alloc, exchange, &channels, sight, clock) else {
         return Err(ChartFault::Memory);
