@@ -19,18 +19,22 @@ abbrev pub first_value : List ℕ → List (List ℕ × List ℕ) → Option (Li
 first_value name [] = None
 first_value name (pair ∷ more) = if bytes_eq pair.0 name then Some pair.1 else first_value name more
 
+-- the same in a query
+abbrev pub value_in : List ℕ → List ℕ → Option (List ℕ)
+value_in query name = first_value name (form.raw_pairs query)
+
 -- a field of a query names this second of the day
 pub record IsSecondOf (query name : List ℕ) (span : Span) (second : ℕ) : Type 0 where
   pub value : List ℕ
-  pub found : first_value name (form.raw_pairs query) ≡ Some value
+  pub found : value_in query name ≡ Some value
   pub text : List ℕ
   pub decoded : form.DecodesTo value text
   pub moment : IsMomentOf span text second
 
 -- why it names none
 abbrev pub IsNoSecond : List ℕ → List ℕ → Span → NoAnswer → Type 0
-IsNoSecond query name span NoTimes = first_value name (form.raw_pairs query) ≡ None
-IsNoSecond query name span (Book fault) = (value text : List ℕ) × (first_value name (form.raw_pairs query) ≡ Some value) × form.DecodesTo value text × IsTimeFault span 1 text fault
+IsNoSecond query name span NoTimes = value_in query name ≡ None
+IsNoSecond query name span (Book fault) = (value text : List ℕ) × (value_in query name ≡ Some value) × form.DecodesTo value text × IsTimeFault span 1 text fault
 IsNoSecond query name span Memory = Unit {0}
 IsNoSecond query name span _ = ⊥
 

@@ -1,10 +1,9 @@
 //! What a call would have to pay beside all that is promised.
 
-ghost use Rattle.std.specs.Prelude.{◌≡◌, ◌≤◌, List, length, ℕ, Option, Some, None, MatchOption, IfOk, IfErr};
+ghost use Rattle.std.specs.Prelude.{◌≡◌, Option, Some, None, MatchOption, IfOk, IfErr};
 ghost use Rattle.form_urlencoded.specs.Form as form;
 ghost use Rattle.bx_book.specs.Rows.{span_of};
-ghost use Rattle.bx_base.specs.PlanParts.{parts_of};
-ghost use Rattle.bx_answers.specs.Quotes.{first_value, IsSecondOf, IsNoSecond, IsCallOf, IsNoCall, IsQuoteText, IsNoQuoteText};
+ghost use Rattle.bx_answers.specs.Quotes.{IsSecondOf, IsNoSecond, IsCallOf, IsNoCall, IsQuoteText, IsNoQuoteText, value_in};
 
 use crate::fault::NoAnswer;
 use crate::promised::promised_plan;
@@ -20,7 +19,7 @@ use std::alloc::Global;
 
 /// The value of the first field of a query that has this name, as it stands there.
 fn value_of<'a>(query: &'a [u8], name: &[u8]) -> Option<&'a [u8]>
-    ensures { MatchOption result (first_value name.now (form.raw_pairs query.now) ≡ None) (λ value. first_value name.now (form.raw_pairs query.now) ≡ Some value.now) }
+    ensures { MatchOption result (value_in query.now name.now ≡ None) (λ value. value_in query.now name.now ≡ Some value.now) }
 {
     for (field, value) in raw_pairs(query) {
         if field == name {

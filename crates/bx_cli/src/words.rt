@@ -69,12 +69,22 @@ pub fn main_words<
         × IsProvedText (R.remaining (device_of input.old)) total
         × Appends (W.contents (device_of output.old)) (W.contents (device_of output.new)) (proved_line total) }
     // Else it was refused.
-    ensures refused { words.now ≡ [] → result ≢ 0 → (result ≡ 1) × (fault : CommandFault) × IsRefusal (reading_of R.remaining input.old input.new) (writing_of W.contents output.old output.new) fault }
+    ensures refused { words.now ≡ [] → result ≢ 0 → (result ≡ 1)
+        × (fault : CommandFault) × IsRefusal (reading_of R.remaining input.old input.new) (writing_of W.contents output.old output.new) fault }
     ensures status { result ≤ 2 }
-    // With words, 0 says that some command is done, whose files are apart by what the system told before one of them was opened, or that a text that was asked for was written.
-    ensures words { words.now ≢ [] → result ≡ 0 → ((request : Request) × NoFileMeets (H.tells rt.now) request × IsRequestDone H (R.remaining (device_of input.old)) request H.File.contents W.contents output.old output.new) ⊎ ((text : List ℕ) × Appends (W.contents (device_of output.old)) (W.contents (device_of output.new)) text) }
-    // And 1 says that some command of that kind is refused, or that two of its files are one and nothing was done, or such a text was not written whole, or nothing was done.
-    ensures not_done { words.now ≢ [] → result ≡ 1 → ((request : Request) × NoFileMeets (H.tells rt.now) request × IsRequestRefused H (R.remaining (device_of input.old)) request H.File.contents W.contents output.old output.new) ⊎ ((request : Request) × (met : List ℕ) × IsMet (H.tells rt.now) request met × (output.new ≡ output.old)) ⊎ ((text : List ℕ) × (is_faulted output.new ≡ true) × AppendsPrefix (W.contents (device_of output.old)) (W.contents (device_of output.new)) text) ⊎ (output.new ≡ output.old) }
+    // With words, 0 says that some command is done, whose files are apart by what the system told before one of them was opened, or that a
+    // text that was asked for was written.
+    ensures words { words.now ≢ [] → result ≡ 0 → ((request : Request) × NoFileMeets (H.tells rt.now) request
+        × IsRequestDone H (R.remaining (device_of input.old)) request H.File.contents W.contents output.old output.new)
+        ⊎ ((text : List ℕ) × Appends (W.contents (device_of output.old)) (W.contents (device_of output.new)) text) }
+    // And 1 says that some command of that kind is refused, or that two of its files are one and nothing was done, or such a text was not
+    // written whole, or nothing was done.
+    ensures not_done { words.now ≢ [] → result ≡ 1 → ((request : Request) × NoFileMeets (H.tells rt.now) request
+        × IsRequestRefused H (R.remaining (device_of input.old)) request H.File.contents W.contents output.old output.new)
+        ⊎ ((request : Request) × (met : List ℕ) × IsMet (H.tells rt.now) request met × (output.new ≡ output.old))
+        ⊎ ((text : List ℕ) × (is_faulted output.new ≡ true)
+        × AppendsPrefix (W.contents (device_of output.old)) (W.contents (device_of output.new)) text)
+        ⊎ (output.new ≡ output.old) }
 {
     let alloc = rt.alloc();
     let unread = nothing_read(is_terminal);

@@ -1,6 +1,7 @@
 //! A live day with a booking office beside it.
 
-ghost use Rattle.std.specs.Prelude.{◌≡◌, [], false, replicate};
+ghost use Rattle.std.specs.Prelude.{◌≡◌, [], false};
+ghost use Rattle.bx_office_world.specs.Uncounted.{AreUncounted};
 
 use crate::counting::{count_message, count_sold, seconds_since};
 use crate::desk::Opened;
@@ -35,7 +36,7 @@ impl<'a> Office<'a> {
     /// An office that was opened with this, at this door. Nothing was counted, and nobody was sold to.
     pub fn new(alloc: Global, door: Rc<RefCell<Door>>, opened: &'a Opened) -> Self
         ensures opened { result.desk.opened.now ≡ opened.now }
-        ensures figures { (result.desk.figures.answers ≡ 0) × (result.desk.figures.sold ≡ 0) × (result.desk.figures.alone ≡ 0) × (result.desk.figures.late ≡ 0) × (result.desk.figures.clearings ≡ replicate 128 0) }
+        ensures figures { AreUncounted result.desk.figures }
         ensures sight { (result.desk.sight.outages.spans.items ≡ []) × (result.desk.sight.is_over ≡ false) }
         ensures idle { (result.desk.is_late ≡ false) × (result.selling ≡ None) × (result.synced ≡ None) }
     {

@@ -1,0 +1,12 @@
+-- What a new office has counted.
+use Rattle.std.specs.Prelude.{◌≡◌, replicate}
+use Rattle.bx_answers.specs.declared.metrics.Figures.{Figures}
+
+-- nothing yet
+abbrev pub AreUncounted : Figures → Type 0
+AreUncounted f =
+    (f.answers ≡ 0)
+    × (f.sold ≡ 0)
+    × (f.alone ≡ 0)
+    × (f.late ≡ 0)
+    × (f.clearings ≡ replicate 128 0)
