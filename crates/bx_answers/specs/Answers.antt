@@ -19,18 +19,18 @@ use Rattle.bx_answers.specs.declared.fault.NoAnswer.TheVariants.{OutOfRange, Too
 abbrev pub promised_row : Entry → Row
 promised_row e = if is_refused e.standing then e.booking else record (e.booking) { must = true }
 
-abbrev pub promised : List Entry → List Row
-promised entries = map promised_row entries
+abbrev pub rows_promised : List Entry → List Row
+rows_promised entries = map promised_row entries
 
 -- a best plan of the bookings of the day that holds all that is promised, with the least prices that prove it
 pub record IsPromisedPlan (entries : List Entry) (channels : List Bool) (plan : Parts) : Type 0 where
-  pub proved : IsProved (promised entries) channels plan
+  pub proved : IsProved (rows_promised entries) channels plan
   pub limits : IsPlan plan
-  pub rows : plan.rows ≡ promised entries
+  pub rows : plan.rows ≡ rows_promised entries
 
 -- why there is none: the channels do not carry all that is promised, or memory runs out
 abbrev pub IsNoPromisedPlan : List Entry → List Bool → NoAnswer → Type 0
-IsNoPromisedPlan entries channels (TooManyMust moment) = IsTooManyMust (promised entries) channels moment
+IsNoPromisedPlan entries channels (TooManyMust moment) = IsTooManyMust (rows_promised entries) channels moment
 IsNoPromisedPlan entries channels Memory = Unit {0}
 IsNoPromisedPlan entries channels _ = ⊥
 

@@ -7,7 +7,7 @@ use Rattle.bx_base.specs.PlanParts.{Parts}
 use Rattle.bx_book.specs.Rows.{Span, IsMomentOf, IsTimeFault}
 use Rattle.bx_day.specs.declared.entry.Entry.{Entry}
 use Rattle.bx_quote.specs.declared.answer.Quote.{Quote}
-use Rattle.bx_quote.specs.Quotes.{IsQuote, IsNoQuote, asked}
+use Rattle.bx_quote.specs.Quotes.{IsQuote, IsNoQuote, with_asked}
 use Rattle.bx_quote.specs.Texts.{quote_text}
 use Rattle.bx_answers.specs.Answers.{IsPromisedPlan, IsNoPromisedPlan}
 use Rattle.bx_answers.specs.declared.fault.NoAnswer.{NoAnswer}
@@ -24,7 +24,7 @@ abbrev pub value_in : List ℕ → List ℕ → Option (List ℕ)
 value_in query name = first_value name (form.raw_pairs query)
 
 -- a field of a query names this second of the day
-pub record IsSecondOf (query name : List ℕ) (span : Span) (second : ℕ) : Type 0 where
+pub record IsSecondOfQuery (query name : List ℕ) (span : Span) (second : ℕ) : Type 0 where
   pub value : List ℕ
   pub found : value_in query name ≡ Some value
   pub text : List ℕ
@@ -39,30 +39,30 @@ IsNoSecond query name span Memory = Unit {0}
 IsNoSecond query name span _ = ⊥
 
 -- the call starts and ends at the times that a query names
-pub record IsCallOf (query : List ℕ) (span : Span) (call : Row) : Type 0 where
-  pub start : IsSecondOf query (codes "start") span call.start
-  pub end : IsSecondOf query (codes "end") span call.end
+pub record IsCallOfQuery (query : List ℕ) (span : Span) (call : Row) : Type 0 where
+  pub start : IsSecondOfQuery query (codes "start") span call.start
+  pub end : IsSecondOfQuery query (codes "end") span call.end
   pub turned : call.start < call.end
 
 -- both times are there, and the end is not after the start
 pub record IsTurned (query : List ℕ) (span : Span) : Type 0 where
   pub start : ℕ
   pub end : ℕ
-  pub starts : IsSecondOf query (codes "start") span start
-  pub ends : IsSecondOf query (codes "end") span end
+  pub starts : IsSecondOfQuery query (codes "start") span start
+  pub ends : IsSecondOfQuery query (codes "end") span end
   pub turned : end ≤ start
 
 -- why a query names no call: the first of its times that is none, or both are turned
-abbrev pub IsNoCall : List ℕ → Span → NoAnswer → Type 0
-IsNoCall query span (Book (EndNotAfterStart row)) = (row ≡ 1) × IsTurned query span
-IsNoCall query span why = IsNoSecond query (codes "start") span why ⊎ ((start : ℕ) × IsSecondOf query (codes "start") span start × IsNoSecond query (codes "end") span why)
+abbrev pub IsNoCallOfQuery : List ℕ → Span → NoAnswer → Type 0
+IsNoCallOfQuery query span (Book (EndNotAfterStart row)) = (row ≡ 1) × IsTurned query span
+IsNoCallOfQuery query span why = IsNoSecond query (codes "start") span why ⊎ ((start : ℕ) × IsSecondOfQuery query (codes "start") span start × IsNoSecond query (codes "end") span why)
 
 -- what the command says of the call beside the last plan
 pub record IsQuoteText (entries : List Entry) (channels : List Bool) (call : Row) (text : List ℕ) : Type 0 where
   pub plan : Parts
   pub promised : IsPromisedPlan entries channels plan
   pub quote : Quote
-  pub is : IsQuote (asked plan.rows call) plan (length plan.rows) quote
+  pub is : IsQuote (with_asked plan.rows call) plan (length plan.rows) quote
   pub are : text ≡ quote_text quote
 
 -- why it says nothing: there is no last plan, or no quote beside it

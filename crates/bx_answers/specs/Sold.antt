@@ -20,14 +20,14 @@ answer_fields (answers.Refused why) place = codes ",refused,," ++ reason_of why 
 abbrev pub answer_line : ℕ → Answer → ℕ → List ℕ
 answer_line row answer place = decimal row ++ answer_fields answer place
 
-abbrev pub is_accepted : Answer → Bool
-is_accepted answers.Accepted = true
-is_accepted (answers.Refused why) = false
+abbrev pub is_sold_answer : Answer → Bool
+is_sold_answer answers.Accepted = true
+is_sold_answer (answers.Refused why) = false
 
 -- the lines of rows of a batch, where the next row of the plan is at hand
 abbrev pub sold_lines : ℕ → ℕ → List Answer → List ℕ
 sold_lines row place [] = []
-sold_lines row place (answer ∷ more) = answer_line row answer place ++ sold_lines (row + 1) (if is_accepted answer then place + 1 else place) more
+sold_lines row place (answer ∷ more) = answer_line row answer place ++ sold_lines (row + 1) (if is_sold_answer answer then place + 1 else place) more
 
 -- after so many rows of the plan
 abbrev pub sold_text : ℕ → List Answer → List ℕ

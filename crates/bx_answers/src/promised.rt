@@ -4,7 +4,7 @@ ghost use Rattle.std.specs.Prelude.{◌≡◌, IfOk, IfErr};
 ghost use Rattle.bx_base.specs.PlanParts.{parts_of};
 ghost use Rattle.bx_day.specs.Invariant.{is_refused};
 ghost use Rattle.bx_planner.specs.Proved.{IsProved};
-ghost use Rattle.bx_answers.specs.Answers.{promised_row, promised, IsPromisedPlan, IsNoPromisedPlan, IsPlanText};
+ghost use Rattle.bx_answers.specs.Answers.{promised_row, rows_promised, IsPromisedPlan, IsNoPromisedPlan, IsPlanText};
 
 use crate::fault::NoAnswer;
 use bx_base::{Booking, Bookings, ChannelSet, Plan};
@@ -28,7 +28,7 @@ fn promised_row(entry: &Entry) -> Booking
 
 /// The bookings of the day, of which all that is promised is must.
 fn promised(alloc: Global, entries: &[Entry]) -> Result<Bookings, AllocError>
-    ensures { IfOk result (λ rows. rows ≡ promised entries.now) }
+    ensures { IfOk result (λ rows. rows ≡ rows_promised entries.now) }
 {
     let mut rows = Bookings::new(alloc);
     for entry in entries {

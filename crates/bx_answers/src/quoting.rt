@@ -3,7 +3,7 @@
 ghost use Rattle.std.specs.Prelude.{◌≡◌, Option, Some, None, MatchOption, IfOk, IfErr};
 ghost use Rattle.form_urlencoded.specs.Form as form;
 ghost use Rattle.bx_book.specs.Rows.{span_of};
-ghost use Rattle.bx_answers.specs.Quotes.{IsSecondOf, IsNoSecond, IsCallOf, IsNoCall, IsQuoteText, IsNoQuoteText, value_in};
+ghost use Rattle.bx_answers.specs.Quotes.{IsSecondOfQuery, IsNoSecond, IsCallOfQuery, IsNoCallOfQuery, IsQuoteText, IsNoQuoteText, value_in};
 
 use crate::fault::NoAnswer;
 use crate::promised::promised_plan;
@@ -31,7 +31,7 @@ fn value_of<'a>(query: &'a [u8], name: &[u8]) -> Option<&'a [u8]>
 
 /// The second of the day that a field of a query names, as a field of row 1 of a text of bookings.
 fn second_of(alloc: Global, query: &[u8], name: &[u8], day: &Day) -> Result<u32, NoAnswer>
-    ensures second { IfOk result (IsSecondOf query.now name.now (span_of day.now)) }
+    ensures second { IfOk result (IsSecondOfQuery query.now name.now (span_of day.now)) }
     ensures none { IfErr result (IsNoSecond query.now name.now (span_of day.now)) }
 {
     let Some(value) = value_of(query, name) else {
@@ -49,8 +49,8 @@ fn second_of(alloc: Global, query: &[u8], name: &[u8], day: &Day) -> Result<u32,
 /// The call that a query asks for, by its fields `start` and `end`: times of the day, as in row 1 of a text of bookings. Its number and its pay do not
 /// count. `NoTimes` where it has one of them not, `Book` where they name no call, `Memory` where memory runs out.
 pub fn call_of(alloc: Global, query: &[u8], day: &Day) -> Result<Booking, NoAnswer>
-    ensures call { IfOk result (IsCallOf query.now (span_of day.now)) }
-    ensures none { IfErr result (IsNoCall query.now (span_of day.now)) }
+    ensures call { IfOk result (IsCallOfQuery query.now (span_of day.now)) }
+    ensures none { IfErr result (IsNoCallOfQuery query.now (span_of day.now)) }
 {
     let start = second_of(alloc, query, b"start", day)?;
     let end = second_of(alloc, query, b"end", day)?;

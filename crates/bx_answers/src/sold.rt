@@ -1,7 +1,7 @@
 //! What a customer is told of a batch.
 
 ghost use Rattle.std.specs.Prelude.{◌≡◌, ◌≤◌, ◌++◌, length, IfOk, OnOk};
-ghost use Rattle.bx_answers.specs.Sold.{reason_of, is_accepted, answer_line, sold_text};
+ghost use Rattle.bx_answers.specs.Sold.{reason_of, is_sold_answer, answer_line, sold_text};
 
 use bx_market::Answer;
 use bx_sales::NoSale;
@@ -42,7 +42,7 @@ fn push_line(text: &mut Vec<u8>, row: u64, answer: Answer, place: u64) -> Result
 
 /// Whether a booking has a row in the plan now.
 fn is_accepted(answer: Answer) -> bool
-    ensures { result ≡ is_accepted answer }
+    ensures { result ≡ is_sold_answer answer }
 {
     match answer {
         Answer::Accepted => true,

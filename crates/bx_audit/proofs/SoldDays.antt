@@ -90,7 +90,7 @@ module _ (gives : List ℕ → Option (List ℕ) → Type 0) (plan journal : Lis
         before = told.before;
         given = told.given;
         events = told.through.events;
-        on_record = told.through.journal;
+        on_log = told.through.journal;
         rows_are = p.rows_are ∙ h.rows_are;
         in_service = p.in_service ∙ told.opens.in_service;
         first_fit = subst (λ (rs : List Row). IsFirstFit rs last.channels (map is_some morning.assigned ++ map (λ (row : Row). true) sold) last.assigned) (sym p.rows_are)

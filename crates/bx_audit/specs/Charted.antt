@@ -3,7 +3,7 @@ use Rattle.std.specs.Prelude.{◌≡◌, ℕ, Bool, List, Option}
 use Rattle.bx_calendar.specs.declared.clock.Clock.{Clock}
 use Rattle.bx_day.specs.Day.{Day}
 use Rattle.bx_day_chart.specs.Charts.{IsDayDrawn}
-use Rattle.bx_day_chart.specs.Counting.{is_over}
+use Rattle.bx_day_chart.specs.Counting.{is_day_over}
 use Rattle.bx_day_chart.specs.Sights.{Sight}
 use Rattle.bx_day_openings.specs.Recording.{IsClockOf}
 use Rattle.bx_day_openings.specs.TiedDays.{IsOpeningOf}
@@ -21,7 +21,7 @@ pub record IsDaySeen (gives : List ℕ → Option (List ℕ) → Type 0) (plan j
   pub before : Option (List ℕ)
   pub given : gives journal before
   pub through : IsSeenThrough channels (of_any_day digest) before opened day sight.outages
-  pub over : sight.is_over ≡ is_over day
+  pub over : sight.is_over ≡ is_day_over day
 
 -- the picture of this day was written, with the clock that the words name
 pub record IsDayCharted (gives : List ℕ → Option (List ℕ) → Type 0) (request : DayChartRequest) (output : Writing) : Type 0 where

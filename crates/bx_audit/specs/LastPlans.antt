@@ -25,7 +25,7 @@ pub record IsLastPlan (gives : List ℕ → Option (List ℕ) → Type 0) (plan 
   pub before : Option (List ℕ)
   pub given : gives journal before
   pub events : List LiveEvent
-  pub on_record : IsJournal (of_any_day digest) before events
+  pub on_log : IsJournal (of_any_day digest) before events
   pub rows_are : last.rows ≡ morning.rows ++ sold_in row_on events
   pub in_service : last.channels ≡ morning.channels
   pub first_fit : IsFirstFit last.rows last.channels (map is_some morning.assigned ++ map (λ (row : Row). true) (sold_in row_on events)) last.assigned

@@ -12,16 +12,16 @@ use Rattle.bx_devices.specs.Devices.{Writing, writing_of, KeepsOutput}
 use Rattle.bx_devices.specs.declared.watched.Watched.{Watched}
 use Rattle.bx_request.specs.declared.request.DayChartRequest.{DayChartRequest}
 use Rattle.bx_audit.specs.Charted.{IsDaySeen}
-use Rattle.bx_audit.specs.Unrecorded.{IsUntold}
+use Rattle.bx_audit.specs.Unrecorded.{IsDayUntold}
 
 -- the day is not told, or memory ran out
-abbrev pub IsUnseen : (List ℕ → Option (List ℕ) → Type 0) → List ℕ → List ℕ → DayCommandFault → Type 0
-IsUnseen gives plan journal (Command Memory) = Unit {0}
-IsUnseen gives plan journal fault = IsUntold gives plan journal fault
+abbrev pub IsDayUnseen : (List ℕ → Option (List ℕ) → Type 0) → List ℕ → List ℕ → DayCommandFault → Type 0
+IsDayUnseen gives plan journal (Command Memory) = Unit {0}
+IsDayUnseen gives plan journal fault = IsDayUntold gives plan journal fault
 
 -- what is tested first is answered: the date and the zone, the plan, the journal
 abbrev pub StopsChart : (List ℕ → Option (List ℕ) → Type 0) → DayChartRequest → DayCommandFault → Type 0
-StopsChart gives request fault = IsNoClock request.day fault ⊎ (((clock : Option Clock) × IsClockOf request.day clock) × IsUnseen gives request.plan.now request.journal.now fault)
+StopsChart gives request fault = IsNoClock request.day fault ⊎ (((clock : Option Clock) × IsClockOf request.day clock) × IsDayUnseen gives request.plan.now request.journal.now fault)
 
 -- a prefix of the picture of such a day was written, and the output failed
 pub record IsChartCut (gives : List ℕ → Option (List ℕ) → Type 0) (request : DayChartRequest) (output : Writing) : Type 0 where

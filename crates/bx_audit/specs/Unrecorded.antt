@@ -30,12 +30,12 @@ IsNoJournalOf gives name plan channels opened (Sale why) = (before : Option (Lis
 IsNoJournalOf gives name plan channels opened _ = ⊥
 
 -- there is no proved plan, or one, and no journal of it
-abbrev pub IsUntold : (List ℕ → Option (List ℕ) → Type 0) → List ℕ → List ℕ → DayCommandFault → Type 0
-IsUntold gives plan journal fault = IsNoOpening plan fault ⊎ ((opened : Day) × (channels : List Bool) × (digest : List ℕ) × IsOpeningOf gives plan opened channels digest × IsNoJournalOf gives journal digest channels opened fault)
+abbrev pub IsDayUntold : (List ℕ → Option (List ℕ) → Type 0) → List ℕ → List ℕ → DayCommandFault → Type 0
+IsDayUntold gives plan journal fault = IsNoOpening plan fault ⊎ ((opened : Day) × (channels : List Bool) × (digest : List ℕ) × IsOpeningOf gives plan opened channels digest × IsNoJournalOf gives journal digest channels opened fault)
 
 -- what is tested first is answered: the date and the zone, the plan, the journal
 abbrev pub StopsRecords : (List ℕ → Option (List ℕ) → Type 0) → RecordsRequest → DayCommandFault → Type 0
-StopsRecords gives request fault = IsNoClock request.day fault ⊎ (((clock : Option Clock) × IsClockOf request.day clock) × IsUntold gives request.plan.now request.journal.now fault)
+StopsRecords gives request fault = IsNoClock request.day fault ⊎ (((clock : Option Clock) × IsClockOf request.day clock) × IsDayUntold gives request.plan.now request.journal.now fault)
 
 -- a day was told, and why its records were not written, or not whole
 pub record IsUnrecorded (gives : List ℕ → Option (List ℕ) → Type 0) (request : RecordsRequest) (output : Writing) (fault : DayCommandFault) : Type 0 where

@@ -11,7 +11,7 @@ use Rattle.bx_planfile.specs.Text.{plan_text}
 use Rattle.bx_planfile.specs.declared.version.Version.TheVariants.{Three}
 use Rattle.bx_request.specs.declared.request.SoldRequest.{SoldRequest}
 use Rattle.bx_audit.specs.LastPlans.{IsLastPlan}
-use Rattle.bx_audit.specs.Unrecorded.{IsUntold}
+use Rattle.bx_audit.specs.Unrecorded.{IsDayUntold}
 
 -- a prefix of the text of such a plan was written
 pub record IsSoldCut (gives : List ℕ → Option (List ℕ) → Type 0) (request : SoldRequest) (output : Writing) : Type 0 where
@@ -23,7 +23,7 @@ pub record IsSoldCut (gives : List ℕ → Option (List ℕ) → Type 0) (reques
 -- the day is not told, or memory ran out
 abbrev pub IsNoLastPlan : (List ℕ → Option (List ℕ) → Type 0) → SoldRequest → DayCommandFault → Type 0
 IsNoLastPlan gives request (Command Memory) = Unit {0}
-IsNoLastPlan gives request fault = IsUntold gives request.plan.now request.journal.now fault
+IsNoLastPlan gives request fault = IsDayUntold gives request.plan.now request.journal.now fault
 
 -- nothing was written, or a prefix of it where the output failed
 abbrev pub IsSoldRefusal : {W : Type 0} → (List ℕ → Option (List ℕ) → Type 0) → SoldRequest → (W → Option (List ℕ)) → Watched W → Watched W → DayCommandFault → Type 0

@@ -4,7 +4,7 @@ ghost use Rattle.std.specs.Prelude.{IfOk, IfErr, OnOk};
 ghost use Rattle.bx_devices.specs.Devices.{writing_of};
 ghost use Rattle.bx_day_chart.specs.Sights.{sight_of};
 ghost use Rattle.bx_audit.specs.Charted.{IsDayCharted, IsDaySeen};
-ghost use Rattle.bx_audit.specs.Uncharted.{IsDayChartCommandRefusal, IsUnseen};
+ghost use Rattle.bx_audit.specs.Uncharted.{IsDayChartCommandRefusal, IsDayUnseen};
 
 use crate::charting::seen_by;
 use bx_base::ChannelSet;
@@ -35,7 +35,7 @@ fn day_seen<'a, I: Inputs>(
     journal: &'a str,
 ) -> Result<SeenDay, DayCommandFault<'a>>
     ensures seen { IfOk result (λ seen. IsDaySeen (I.gives inputs.old) plan.now journal.now seen.channels seen.exchange (sight_of seen.sight)) }
-    ensures unseen { IfErr result (IsUnseen (I.gives inputs.old) plan.now journal.now) }
+    ensures unseen { IfErr result (IsDayUnseen (I.gives inputs.old) plan.now journal.now) }
 {
     let day = day_opening(alloc, inputs, plan)?;
     let mut input = match inputs.open(journal) {

@@ -13,7 +13,7 @@ use bx_day::Exchange;
 use bx_day_chart::Outages;
 use bx_day_openings::{DayCommandFault, journal_read};
 use bx_devices::Watched;
-use bx_journal::{Follower, RecordedEvent, Wanted, read_journal};
+use bx_journal::{Follower, LoggedEvent, Wanted, read_journal};
 use bx_restart::Selling;
 use std::alloc::Global;
 use std::io::Read;
@@ -31,7 +31,7 @@ impl Follower for Charting {
 
     ghost followed = { HasFollowed };
 
-    fn follow(&mut self, event: &RecordedEvent) {
+    fn follow(&mut self, event: &LoggedEvent) {
         self.selling.follow(event);
         self.noting.follow(event);
     }

@@ -3,13 +3,13 @@
 ghost use Rattle.std.specs.Prelude.{◌≡◌, ◌∷◌, [], None};
 ghost use Rattle.bx_audit.specs.Followed.{IsCapturedLive, HasRecaptured};
 ghost use Rattle.bx_events.specs.Events.{OnLink, Tick, Receive, Sold};
-ghost use Rattle.bx_journal.specs.Events.{recorded_event};
+ghost use Rattle.bx_journal.specs.Events.{logged_event};
 
 use bx_base::ChannelSet;
 use bx_capture::Captured;
 use bx_day::Exchange;
 use bx_frames::End;
-use bx_journal::{Follower, RecordedEvent};
+use bx_journal::{Follower, LoggedEvent};
 use bx_q931::Octets;
 use bx_restart::{SaleFault, resell};
 use std::alloc::Global;
@@ -53,14 +53,14 @@ impl<W: Write> Recaptured<W> {
     }
 
     /// The next event happens, where nothing was wrong yet.
-    fn go_on(&mut self, event: &RecordedEvent)
-        ensures { self.old.sale ≡ None → HasRecaptured W.contents self.old (recorded_event event.now ∷ []) self.new }
+    fn go_on(&mut self, event: &LoggedEvent)
+        ensures { self.old.sale ≡ None → HasRecaptured W.contents self.old (logged_event event.now ∷ []) self.new }
     {
         match event {
-            RecordedEvent::Tick => pass_second(&mut self.captured),
-            RecordedEvent::Heard(octets) => hear_one(&mut self.captured, octets),
-            RecordedEvent::Down => self.captured.end.second_without_link(),
-            RecordedEvent::Sold(line) => self.take(line),
+            LoggedEvent::Tick => pass_second(&mut self.captured),
+            LoggedEvent::Heard(octets) => hear_one(&mut self.captured, octets),
+            LoggedEvent::Down => self.captured.end.second_without_link(),
+            LoggedEvent::Sold(line) => self.take(line),
         }
     }
 }
@@ -71,7 +71,7 @@ impl<W: Write> Follower for Recaptured<W> {
 
     ghost followed = { λ a events b. HasRecaptured W.contents a events b };
 
-    fn follow(&mut self, event: &RecordedEvent) {
+    fn follow(&mut self, event: &LoggedEvent) {
         if self.sale.is_none() {
             self.go_on(event);
         }

@@ -1,13 +1,13 @@
 //! The seconds without a link that a journal has, noted as they are read.
 
 ghost use Rattle.std.specs.Prelude.{◌≡◌, ◌∷◌, [], true, IfOk};
-ghost use Rattle.bx_journal.specs.Events.{recorded_event};
+ghost use Rattle.bx_journal.specs.Events.{logged_event};
 ghost use Rattle.bx_audit.specs.Noted.{next_moment};
 ghost use Rattle.bx_audit.specs.Notings.{IsFresh, IsNoted, IsSecondNoted};
 
 use bx_day_chart::Outages;
 use bx_events::LAST_MOMENT;
-use bx_journal::RecordedEvent;
+use bx_journal::LoggedEvent;
 use std::alloc::{AllocError, Global};
 
 /// The outages of a day so far, the moment to which it has come, and whether all were noted.
@@ -50,16 +50,16 @@ impl Noting {
     }
 
     /// The next event happens.
-    pub(crate) fn follow(&mut self, event: &RecordedEvent)
-        ensures { IsNoted self.old (recorded_event event.now ∷ []) self.new }
+    pub(crate) fn follow(&mut self, event: &LoggedEvent)
+        ensures { IsNoted self.old (logged_event event.now ∷ []) self.new }
     {
         match event {
-            RecordedEvent::Tick => self.pass(),
-            RecordedEvent::Down => {
+            LoggedEvent::Tick => self.pass(),
+            LoggedEvent::Down => {
                 self.note();
                 self.pass();
             }
-            RecordedEvent::Heard(_) | RecordedEvent::Sold(_) => {}
+            LoggedEvent::Heard(_) | LoggedEvent::Sold(_) => {}
         }
     }
 

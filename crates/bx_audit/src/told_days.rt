@@ -2,7 +2,7 @@
 
 ghost use Rattle.std.specs.Prelude.{IfOk, IfErr};
 ghost use Rattle.bx_audit.specs.Recorded.{IsDayTold};
-ghost use Rattle.bx_audit.specs.Unrecorded.{IsUntold};
+ghost use Rattle.bx_audit.specs.Unrecorded.{IsDayUntold};
 
 use bx_base::ChannelSet;
 use bx_check_commands::Inputs;
@@ -26,7 +26,7 @@ pub(crate) fn told_by<'a, I: Inputs>(
     journal: &'a str,
 ) -> Result<ToldDay, DayCommandFault<'a>>
     ensures told { IfOk result (λ told. IsDayTold (I.gives inputs.old) plan.now journal.now told.channels told.exchange) }
-    ensures untold { IfErr result (IsUntold (I.gives inputs.old) plan.now journal.now) }
+    ensures untold { IfErr result (IsDayUntold (I.gives inputs.old) plan.now journal.now) }
 {
     let day = day_opening(alloc, inputs, plan)?;
     let mut input = match inputs.open(journal) {

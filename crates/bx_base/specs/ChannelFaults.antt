@@ -11,5 +11,5 @@ IsFaultAt numbers k (NotABChannel n) = (n ≡ slice_index numbers k) × ¬ IsCha
 IsFaultAt numbers k (Repeated n) = (n ≡ slice_index numbers k) × Contains (take k numbers) n
 
 -- the first number that is no further channel
-abbrev pub IsFirstFault : List ℕ → ChannelFault → Type 0
-IsFirstFault numbers fault = (k : ℕ) × (k < length numbers) × AreChannels (take k numbers) × IsFaultAt numbers k fault
+abbrev pub IsFirstChannelFault : List ℕ → ChannelFault → Type 0
+IsFirstChannelFault numbers fault = (k : ℕ) × (k < length numbers) × AreChannels (take k numbers) × IsFaultAt numbers k fault

@@ -2,7 +2,7 @@
 
 ghost use Rattle.std.specs.Prelude.{◌≡◌, ◌≢◌, ◌↔◌, ◌≤◌, ◌<◌, IsTrue, ℕ, Bool, true, false, replicate, slice_set, IfOk, IfErr, IfSome, IfNone};
 ghost use Rattle.bx_base.specs.Channels.{IsChannelSet, AreChannels, HasJust, has_channel, count_of};
-ghost use Rattle.bx_base.specs.ChannelFaults.{IsFirstFault};
+ghost use Rattle.bx_base.specs.ChannelFaults.{IsFirstChannelFault};
 
 use bx_channels::Channel;
 use std::marker::Model;
@@ -52,7 +52,7 @@ impl ChannelSet {
     /// none, `Repeated` for one that stood before.
     pub fn from_numbers(numbers: &[u8]) -> Result<ChannelSet, ChannelFault>
         ensures channels { IfOk result (λ set. AreChannels numbers.now × HasJust set numbers.now) }
-        ensures fault { IfErr result (IsFirstFault numbers.now) }
+        ensures fault { IfErr result (IsFirstChannelFault numbers.now) }
     {
         let mut set = ChannelSet::empty();
         for number in numbers {

@@ -1,7 +1,7 @@
 -- What the call tables see of a message.
 use Rattle.std.specs.Prelude.{ℕ, ◌==◌, Bool, true, false, Option, Some, None}
 use Rattle.bx_q931.specs.Messages.{PlainMessage}
-use Rattle.bx_q931.specs.Values.{channel_of, state_of}
+use Rattle.bx_q931.specs.Values.{channel_element_of, state_of}
 use Rattle.bx_q931.specs.declared.kind.Kind.{Kind}
 use Rattle.bx_q931.specs.declared.channel_field.ChannelField.{ChannelField}
 use Rattle.bx_q931.specs.declared.channel_field.ChannelField.TheVariants.{Absent, Named, AnyChannel, Unread}
@@ -13,7 +13,7 @@ pub record Heard : Type 0 where
   pub state : Option ℕ
 
 abbrev pub heard_of : PlainMessage → Heard
-heard_of m = record { kind = m.kind; channel = channel_of m; state = state_of m }
+heard_of m = record { kind = m.kind; channel = channel_element_of m; state = state_of m }
 
 -- the channel identification is absent or names this channel
 abbrev pub names_channel : ChannelField → ℕ → Bool

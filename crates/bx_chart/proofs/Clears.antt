@@ -7,7 +7,7 @@ use Rattle.std.proofs.lemmas.List.Elements.{All-head, All-tail}
 use Rattle.std.specs.Char.{IsAsciiDigit}
 use Rattle.std.specs.Fmt.{decimal}
 use Rattle.std.specs.Prelude.{codes}
-use Rattle.bx_chart.specs.Barless.{begins, holds, IsBarless}
+use Rattle.bx_chart.specs.Barless.{begins_with, holds_octets, IsBarless}
 use Rattle.bx_chart.specs.Clear.{is_clear, is_fine}
 
 both : (a b : Bool) → a ≡ true → b ≡ true → (a && b) ≡ true
@@ -69,31 +69,31 @@ and_false : (a : Bool) → (a && false) ≡ false
 and_false true = refl
 and_false false = refl
 
-untitled_after : (os : List ℕ) → is_fine os ≡ true → begins (codes "title>row ") os ≡ false
+untitled_after : (os : List ℕ) → is_fine os ≡ true → begins_with (codes "title>row ") os ≡ false
 untitled_after [] h = refl
 untitled_after (a ∷ []) h = and_false (116 == a)
-untitled_after (a ∷ b ∷ os) h = no_ti (33 == a) (116 == a) (105 == b) (begins (codes "tle>row ") os) h
+untitled_after (a ∷ b ∷ os) h = no_ti (33 == a) (116 == a) (105 == b) (begins_with (codes "tle>row ") os) h
 
-uncommented_after : (os : List ℕ) → is_fine os ≡ true → begins (codes "!") os ≡ false
+uncommented_after : (os : List ℕ) → is_fine os ≡ true → begins_with (codes "!") os ≡ false
 uncommented_after [] h = refl
 uncommented_after (a ∷ []) h = absurd (false≢true h)
 uncommented_after (a ∷ b ∷ os) h = no_bang (33 == a) ((116 == a) && (105 == b)) h
 
-untitled_here : (g : Bool) (os : List ℕ) → (not g || is_fine os) ≡ true → (g && begins (codes "title>row ") os) ≡ false
+untitled_here : (g : Bool) (os : List ℕ) → (not g || is_fine os) ≡ true → (g && begins_with (codes "title>row ") os) ≡ false
 untitled_here true os h = untitled_after os h
 untitled_here false os h = refl
 
-uncommented_here : (g : Bool) (os : List ℕ) → (not g || is_fine os) ≡ true → (g && begins (codes "!") os) ≡ false
+uncommented_here : (g : Bool) (os : List ℕ) → (not g || is_fine os) ≡ true → (g && begins_with (codes "!") os) ≡ false
 uncommented_here true os h = uncommented_after os h
 uncommented_here false os h = refl
 
-untitled : (text : List ℕ) → is_clear text ≡ true → holds (codes "<title>row ") text ≡ false
+untitled : (text : List ℕ) → is_clear text ≡ true → holds_octets (codes "<title>row ") text ≡ false
 untitled [] h = refl
-untitled (o ∷ os) h = or_false (begins (codes "<title>row ") (o ∷ os)) (holds (codes "<title>row ") os) (untitled_here (60 == o) os (first_of (not (60 == o) || is_fine os) (is_clear os) h)) (untitled os (second_of (not (60 == o) || is_fine os) (is_clear os) h))
+untitled (o ∷ os) h = or_false (begins_with (codes "<title>row ") (o ∷ os)) (holds_octets (codes "<title>row ") os) (untitled_here (60 == o) os (first_of (not (60 == o) || is_fine os) (is_clear os) h)) (untitled os (second_of (not (60 == o) || is_fine os) (is_clear os) h))
 
-uncommented : (text : List ℕ) → is_clear text ≡ true → holds (codes "<!") text ≡ false
+uncommented : (text : List ℕ) → is_clear text ≡ true → holds_octets (codes "<!") text ≡ false
 uncommented [] h = refl
-uncommented (o ∷ os) h = or_false (begins (codes "<!") (o ∷ os)) (holds (codes "<!") os) (uncommented_here (60 == o) os (first_of (not (60 == o) || is_fine os) (is_clear os) h)) (uncommented os (second_of (not (60 == o) || is_fine os) (is_clear os) h))
+uncommented (o ∷ os) h = or_false (begins_with (codes "<!") (o ∷ os)) (holds_octets (codes "<!") os) (uncommented_here (60 == o) os (first_of (not (60 == o) || is_fine os) (is_clear os) h)) (uncommented os (second_of (not (60 == o) || is_fine os) (is_clear os) h))
 
 pub barless : (text : List ℕ) → is_clear text ≡ true → IsBarless text
 barless text h = record { untitled = untitled text h; uncommented = uncommented text h }

@@ -32,21 +32,21 @@ abbrev pub height_of : Row → ℕ
 height_of row = if row.must then 9 else 5
 
 -- its number and its pay
-abbrev pub pay_of : Row → List ℕ
-pay_of row = row.number ++ codes " pays " ++ decimal row.pay
+abbrev pub pay_words : Row → List ℕ
+pay_words row = row.number ++ codes " pays " ++ decimal row.pay
 
 -- the booking, in words
 abbrev pub words_of : Row → ℕ → List ℕ
-words_of row name = (codes "<title>row " ++ decimal name ++ codes ": ") ++ pay_of row
+words_of row name = (codes "<title>row " ++ decimal name ++ codes ": ") ++ pay_words row
 
 -- a second after the day's start in seconds from midnight: as the day's clock shows it, or without one, or out of its range, the same
-abbrev pub second_at : Option Clock → ℕ → ℕ
-second_at None second = second
-second_at (Some day_clock) second = unwrap_or (second_shown_by day_clock second) second
+abbrev pub clock_second_at : Option Clock → ℕ → ℕ
+clock_second_at None second = second
+clock_second_at (Some day_clock) second = unwrap_or (second_shown_by day_clock second) second
 
 -- such a second as it is told
 abbrev pub time_of : Option Clock → ℕ → List ℕ
-time_of day_clock second = clock (second_at day_clock second)
+time_of day_clock second = clock (clock_second_at day_clock second)
 
 -- its start and its end
 abbrev pub times_of : Option Clock → Row → List ℕ
@@ -60,8 +60,8 @@ abbrev pub extent : ℕ → ℕ → List ℕ
 extent wide high = codes "' width='" ++ decimal wide ++ codes "' height='" ++ decimal high
 
 -- how wide and how high a bar is
-abbrev pub size_of : Row → List ℕ
-size_of row = extent (row.end - row.start) (height_of row) ++ codes "'>"
+abbrev pub bar_size_of : Row → List ℕ
+bar_size_of row = extent (row.end - row.start) (height_of row) ++ codes "'>"
 
 -- where it begins
 abbrev pub place_of : Row → ℕ → List ℕ
@@ -69,7 +69,7 @@ place_of row lane = (codes "<rect class='" ++ class_of row) ++ corner row.start 
 
 -- the bar of a booking
 abbrev pub bar_of : Option Clock → Row → ℕ → ℕ → List ℕ
-bar_of day_clock row lane name = place_of row lane ++ size_of row ++ words_of row name ++ times_of day_clock row ++ codes "</title></rect>\n"
+bar_of day_clock row lane name = place_of row lane ++ bar_size_of row ++ words_of row name ++ times_of day_clock row ++ codes "</title></rect>\n"
 
 -- the bar of the booking at a place, or none where the plan refuses it
 abbrev pub bar_at : Parts → Option Clock → ℕ → List ℕ

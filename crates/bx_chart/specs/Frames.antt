@@ -52,8 +52,8 @@ abbrev pub sized : ℕ → List ℕ
 sized height = (codes "<svg xmlns='http://www.w3.org/2000/svg' version='1.1' width='1200' height='" ++ decimal height) ++ (codes "' viewBox='0 0 1200 " ++ decimal height)
 
 -- with what it is called
-abbrev pub opened : ℕ → List ℕ
-opened height = sized height ++ codes "'>\n<title>The plan of a day</title>\n"
+abbrev pub chart_opened : ℕ → List ℕ
+chart_opened height = sized height ++ codes "'>\n<title>The plan of a day</title>\n"
 
 -- its paper
 abbrev pub paper : ℕ → List ℕ
@@ -90,7 +90,7 @@ counts plan = total_words plan.total ++ row_words (accepted_below plan (length p
 
 -- all that stands before the gain of one more channel
 abbrev pub head : Parts → Room → List ℕ
-head plan room = opened (height room) ++ style ++ paper (height room) ++ counts plan
+head plan room = chart_opened (height room) ++ style ++ paper (height room) ++ counts plan
 
 -- what one more channel would add, in words
 abbrev pub gain_words : ℕ → List ℕ

@@ -4,7 +4,7 @@ ghost use Rattle.std.specs.Prelude.{◌≡◌, ◌+◌, ◌<◌, ◌≤◌, ◌+
 ghost use Rattle.bx_base.specs.Bookings.{IsBooking};
 ghost use Rattle.bx_base.specs.Channels.{has_channel};
 ghost use Rattle.bx_base.specs.PlanParts.{parts_of};
-ghost use Rattle.bx_chart.specs.Bars.{lane_of, two_digits, clock, class_of, corner, extent, height_of, time_of, top_of, pay_of, words_of, second_at, times_of, size_of, place_of, bar_of, bars};
+ghost use Rattle.bx_chart.specs.Bars.{lane_of, two_digits, clock, class_of, corner, extent, height_of, time_of, top_of, pay_words, words_of, clock_second_at, times_of, bar_size_of, place_of, bar_of, bars};
 
 use crate::picture::Picture;
 use bx_base::{Booking, ChannelSet, Plan};
@@ -109,7 +109,7 @@ pub fn top_of(booking: &Booking, lane: u8) -> u64
 
 /// Adds how wide and how high a bar is.
 fn add_size(picture: &mut Picture, booking: &Booking) -> Result<(), AllocError>
-    ensures { OnOk result (picture.new.text.items ≡ picture.old.text.items ++ size_of booking.now) }
+    ensures { OnOk result (picture.new.text.items ≡ picture.old.text.items ++ bar_size_of booking.now) }
 {
     add_extent(picture, booking.end() - booking.start(), height_of(booking))?;
     picture.add(b"'>")
@@ -154,7 +154,7 @@ pub fn add_words(picture: &mut Picture, booking: &Booking, row: u16) -> Result<(
 
 /// Adds the called number and what it pays.
 fn add_pay(picture: &mut Picture, booking: &Booking) -> Result<(), AllocError>
-    ensures { OnOk result (picture.new.text.items ≡ picture.old.text.items ++ pay_of booking.now) }
+    ensures { OnOk result (picture.new.text.items ≡ picture.old.text.items ++ pay_words booking.now) }
 {
     add_digits(picture, booking)?;
     picture.add_number(b" pays ", booking.pay())
@@ -191,7 +191,7 @@ pub fn add_time(picture: &mut Picture, clock: Option<&Clock>, second: u32) -> Re
 
 /// A second after the day's start in seconds from midnight on, as the day's clock shows it.
 fn second_at(clock: Option<&Clock>, second: u32) -> u32
-    ensures { result ≡ second_at (option_copied clock.entry) second }
+    ensures { result ≡ clock_second_at (option_copied clock.entry) second }
 {
     match clock {
         Some(clock) => match clock.second_shown(second) {

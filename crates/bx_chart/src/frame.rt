@@ -3,7 +3,7 @@
 ghost use Rattle.std.specs.Prelude.{◌≡◌, ◌++◌, ◌+◌, ◌*◌, ◌≤◌, length, IfOk, OnOk};
 ghost use Rattle.bx_base.specs.Channels.{count_of};
 ghost use Rattle.bx_base.specs.PlanParts.{parts_of};
-ghost use Rattle.bx_chart.specs.Frames.{accepted_below, accepted_words, counts, day_box, day_units, front, gain_words, head, lane, lane_box, lane_name, lanes_below, legend, must_below, must_words, opened, opened_day, paper, row_words, service_words, sized, style, total_words};
+ghost use Rattle.bx_chart.specs.Frames.{accepted_below, accepted_words, counts, day_box, day_units, front, gain_words, head, lane, lane_box, lane_name, lanes_below, legend, must_below, must_words, chart_opened, opened_day, paper, row_words, service_words, sized, style, total_words};
 ghost use Rattle.bx_chart.specs.Sheets.{room};
 
 use crate::bars::is_in_service;
@@ -61,7 +61,7 @@ pub(crate) fn head(alloc: Global, plan: &Plan, sheet: &Sheet) -> Result<Picture,
 
 /// Opens the whole picture, so high, and names it.
 fn open(picture: &mut Picture, height: u64) -> Result<(), AllocError>
-    ensures { OnOk result (picture.new.text.items ≡ picture.old.text.items ++ opened height) }
+    ensures { OnOk result (picture.new.text.items ≡ picture.old.text.items ++ chart_opened height) }
 {
     open_sized(picture, height)?;
     picture.add(b"'>\n<title>The plan of a day</title>\n")

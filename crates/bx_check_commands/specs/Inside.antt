@@ -23,7 +23,7 @@ IsFaulty rows channels plan (Check fault) = IsOutcome rows channels plan (Err fa
 IsFaulty rows channels plan _ = ⊥
 
 -- why a plan is not proved, or its proof not written
-abbrev pub IsJudged : List Row → List Bool → Parts → Writing → CommandFault → Type 0
-IsJudged rows channels plan output (Check fault) = IsOutcome rows channels plan (Err fault) × KeepsOutput output
-IsJudged rows channels plan output CannotWrite = (output.is_faulted ≡ true) × ((total : ℕ) × IsProvedFor rows channels plan total × AppendsPrefix output.before output.after (proved_line total))
-IsJudged rows channels plan output _ = ⊥
+abbrev pub IsPlanJudged : List Row → List Bool → Parts → Writing → CommandFault → Type 0
+IsPlanJudged rows channels plan output (Check fault) = IsOutcome rows channels plan (Err fault) × KeepsOutput output
+IsPlanJudged rows channels plan output CannotWrite = (output.is_faulted ≡ true) × ((total : ℕ) × IsProvedFor rows channels plan total × AppendsPrefix output.before output.after (proved_line total))
+IsPlanJudged rows channels plan output _ = ⊥

@@ -8,7 +8,7 @@ ghost use Rattle.bx_devices.specs.Octets.{AppendsPrefix};
 ghost use Rattle.bx_base.specs.PlanParts.{parts_of};
 ghost use Rattle.bx_check_commands.specs.Proved.{IsPlanRead, IsProvedFor, IsProvedText, IsProvedAgainst, proved_line};
 ghost use Rattle.bx_check_commands.specs.Refusals.{IsNoPlan, IsUnproved, IsRefusal, IsRefusalAgainst};
-ghost use Rattle.bx_check_commands.specs.Inside.{IsFaulty, IsJudged};
+ghost use Rattle.bx_check_commands.specs.Inside.{IsFaulty, IsPlanJudged};
 
 use crate::fault::CommandFault;
 use bx_base::{Bookings, ChannelSet, Plan};
@@ -93,7 +93,7 @@ fn judge<'a, W: Write>(
 ) -> Result<u64, CommandFault<'a>>
     ensures proved { IfOk result (IsProvedFor bookings.now channels (parts_of plan.now)) }
     ensures written { IfOk result (λ total. Appends (W.contents (device_of output.old)) (W.contents (device_of output.new)) (proved_line total)) }
-    ensures refused { IfErr result (IsJudged bookings.now channels (parts_of plan.now) (writing_of W.contents output.old output.new)) }
+    ensures refused { IfErr result (IsPlanJudged bookings.now channels (parts_of plan.now) (writing_of W.contents output.old output.new)) }
 {
     let total = checked(plan, bookings, channels)?;
     match write_proved(output, total) {

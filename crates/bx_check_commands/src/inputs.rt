@@ -99,9 +99,9 @@ pub fn proved_named<'a, I: Inputs>(
     inputs: &mut I,
     name: &'a str,
 ) -> Result<Plan, CommandFault<'a>>
+    ensures no_more { (other : List ℕ) (text : Option (List ℕ)) → I.gives inputs.new other text → I.gives inputs.old other text }
     ensures found { IfOk result (λ plan. IsProvedOf (I.gives inputs.old) name.now (parts_of plan)) }
     ensures none { IfErr result (IsNoProvedOf (I.gives inputs.old) name.now) }
-    ensures no_more { (other : List ℕ) (text : Option (List ℕ)) → I.gives inputs.new other text → I.gives inputs.old other text }
 {
     let mut input = inputs.open(name)?;
     proved_plan(alloc, name, &mut input)

@@ -1,5 +1,5 @@
 -- Files of which some have been looked at.
-use Rattle.std.proofs.Common.{◌≡◌, ◌⊎◌, ℕ, ◌+◌, ◌<◌, Bool, true, false, List, [], ◌∷◌, length, Option, Some, None, get_or, drop, drop-cons, add-one, inl, inr, sym, subst, refl}
+use Rattle.std.proofs.Common.{◌≡◌, ℕ, ◌+◌, ◌<◌, Bool, List, ◌∷◌, length, Option, Some, None, get_or, drop, drop-cons, add-one, inl, inr, sym, subst, refl}
 use Rattle.std.specs.List.{All}
 use Rattle.std.proofs.lemmas.List.Elements.{All-cons}
 use Rattle.bx_cli.specs.Locations.{Meets, MeetsAny, HaveMet, IsApart, AreApart}

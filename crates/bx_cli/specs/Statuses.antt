@@ -44,7 +44,7 @@ IsRequestDone H left (Decode octets) files contents old new = IsDecoded octets.n
 
 -- else: it was refused, by a fault that says why
 abbrev pub IsRequestRefused : {F W : Type 0} → Type 0 → Option (List ℕ) → Request → (F → Option (List ℕ)) → (W → Option (List ℕ)) → Watched W → Watched W → Type 0
-IsRequestRefused H left (Files request) files contents old new = (fault : FileFault) × plans.IsRefused (GivesStandard left) request contents old new fault
+IsRequestRefused H left (Files request) files contents old new = (fault : FileFault) × plans.IsFileRefused (GivesStandard left) request contents old new fault
 IsRequestRefused H left (Rehearsal request) files contents old new = (fault : LiveFault) × IsRehearsalRefusal files request contents old new fault
 IsRequestRefused H left (Far request) files contents old new = (fault : DayCommandFault) × IsFarRefusal files request contents old new fault
 IsRequestRefused H left (FarLine request) files contents old new = (fault : DayCommandFault) × IsFarLineRefusal H files request contents old new fault

@@ -5,7 +5,7 @@ use Rattle.std.proofs.lemmas.Bool.{cases_lt}
 use Rattle.bx_base.specs.Bookings.{Row, row_at, is_running, Overlap}
 use Rattle.bx_base.specs.Extending.{IsSameBooking, Extends}
 use Rattle.bx_base.specs.Plans.{is_accepted}
-use Rattle.bx_colour.specs.Colouring.{is_in, IsEarlier, channel_of, IsTaken, IsLowestFree, IsFirstFit}
+use Rattle.bx_colour.specs.Colouring.{is_in, IsEarlier, channel_of, IsChannelTaken, IsLowestFree, IsFirstFit}
 
 running_same : (a b : Row) (t : ℕ) → IsSameBooking a b → is_running b t ≡ is_running a t
 running_same a b t h = ap₂ (λ x y. nat_le x t && nat_lt t y) h.start h.end
@@ -56,10 +56,10 @@ module _ (m : ℕ) (rows rows' : List Row) (channels accepted accepted' : List B
         elim e [ inl less ↦ omega (arith, less, after, si, early) | inr tie ↦ omega (arith, tie.0, after, si, early) ])
   ]
 
-  taken_there : (i c : ℕ) → i < length rows → ((j : ℕ) → j < length rows → IsEarlier rows j i → Agrees j) → IsTaken rows assigned i c → IsTaken rows' assigned' i c
+  taken_there : (i c : ℕ) → i < length rows → ((j : ℕ) → j < length rows → IsEarlier rows j i → Agrees j) → IsChannelTaken rows assigned i c → IsChannelTaken rows' assigned' i c
   taken_there i c li before t = (t.0, omega (arith, t.1, h.longer), earlier_there i t.0 li t.1 t.2, overlap_there (row_at rows t.0) (row_at rows i) (row_at rows' t.0) (row_at rows' i) (h.same t.0 t.1) (h.same i li) t.3, before t.0 t.1 t.2 ∙ t.4)
 
-  taken_here : (i c : ℕ) → i < length rows → (row_at rows i).start < m → ((j : ℕ) → j < length rows → IsEarlier rows j i → Agrees j) → IsTaken rows' assigned' i c → IsTaken rows assigned i c
+  taken_here : (i c : ℕ) → i < length rows → (row_at rows i).start < m → ((j : ℕ) → j < length rows → IsEarlier rows j i → Agrees j) → IsChannelTaken rows' assigned' i c → IsChannelTaken rows assigned i c
   taken_here i c li early before t =
       let lj = old_row i t.0 li early t.1 t.2 in
       let e = earlier_here i t.0 li lj t.2 in

@@ -10,7 +10,7 @@ use Rattle.std.proofs.lemmas.List.{get_or_past}
 use Rattle.bx_base.specs.Channels.{has_channel}
 use Rattle.bx_base.specs.Bookings.{Row, row_at, AreBookings, is_running}
 use Rattle.bx_base.proofs.Overlaps.{ends_from_overlap}
-use Rattle.bx_colour.specs.Colouring.{IsEarlier, channel_of, IsTaken, IsLowestFree, IsGiven}
+use Rattle.bx_colour.specs.Colouring.{IsEarlier, channel_of, IsChannelTaken, IsLowestFree, IsGiven}
 use Rattle.bx_base.specs.Orders.{index_in as row_in}
 use Rattle.bx_colour.specs.Orders.{IsOrder}
 
@@ -46,12 +46,12 @@ module _ (rows : List Row) (assigned : List (Option ℕ)) (r channel : ℕ) wher
   other_channel : (j : ℕ) → j ≢ r → channel_of (set assigned r (Some channel)) j ≡ channel_of assigned j
   other_channel j h = get_or-set_other assigned r j (Some channel) None h
 
-  taken_after : (i n : ℕ) → (IsEarlier rows r i → ⊥) → IsTaken rows assigned i n → channel_of assigned r ≡ None → IsTaken rows (set assigned r (Some channel)) i n
+  taken_after : (i n : ℕ) → (IsEarlier rows r i → ⊥) → IsChannelTaken rows assigned i n → channel_of assigned r ≡ None → IsChannelTaken rows (set assigned r (Some channel)) i n
   taken_after i n late (j, within, before, overlap, has) none =
       let differs : j ≢ r = λ e. (let e' = ap (channel_of assigned) e in cc) in
       (j, within, before, overlap, other_channel j differs ∙ has)
 
-  taken_before : (i n : ℕ) → (IsEarlier rows r i → ⊥) → IsTaken rows (set assigned r (Some channel)) i n → IsTaken rows assigned i n
+  taken_before : (i n : ℕ) → (IsEarlier rows r i → ⊥) → IsChannelTaken rows (set assigned r (Some channel)) i n → IsChannelTaken rows assigned i n
   taken_before i n late (j, within, before, overlap, has) =
       let differs : j ≢ r = λ e. late (subst (λ m. IsEarlier rows m i) e before) in
       (j, within, before, overlap, sym (other_channel j differs) ∙ has)
@@ -92,14 +92,14 @@ module _ (rows : List Row) (channels accepted : List Bool) (order : List (ℕ ×
       let began = started_by rows j.0 next (before_next j.0 n j.1) in
       (j.0, j.1, and_from _ _ (le-leb (row_at rows j.0).start (row_at rows next).start began) (lt-ltb (row_at rows next).start (row_at rows j.0).end (omega (arith, j.2))))
 
-  taken_from_until : (n : ℕ) → (row_at rows next).start < get_or until n 0 → IsTaken rows assigned next n
+  taken_from_until : (n : ℕ) → (row_at rows next).start < get_or until n 0 → IsChannelTaken rows assigned next n
   taken_from_until n h =
       let on = running_on n h in
       let booking = bookings.each next next_within in
       let starts = and_from (nat_le (row_at rows next).start (row_at rows next).start) (nat_lt (row_at rows next).start (row_at rows next).end) (le-leb _ _ (omega arith)) (lt-ltb _ _ booking.in_order) in
       (on.0, omega (arith, has_one assigned on.0 n on.1, swept.one_each), before_next on.0 n on.1, ((row_at rows next).start, on.2, starts), on.1)
 
-  until_from_taken : (n : ℕ) → IsTaken rows assigned next n → (row_at rows next).start < get_or until n 0
+  until_from_taken : (n : ℕ) → IsChannelTaken rows assigned next n → (row_at rows next).start < get_or until n 0
   until_from_taken n (j, within, before, overlap, has) =
       omega (arith, (ends_from_overlap (row_at rows j) (row_at rows next) overlap).1, swept.ends j n has)
 

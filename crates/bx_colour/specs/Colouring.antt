@@ -27,14 +27,14 @@ abbrev pub channel_of : List (Option ℕ) → ℕ → Option ℕ
 channel_of assigned i = slice_index_or assigned i None
 
 -- an earlier row that overlaps has the channel
-abbrev pub IsTaken : List Row → List (Option ℕ) → ℕ → ℕ → Type 0
-IsTaken rows assigned i channel = (j : ℕ) × (j < length rows) × IsEarlier rows j i × Overlap (row_at rows j) (row_at rows i) × (channel_of assigned j ≡ Some channel)
+abbrev pub IsChannelTaken : List Row → List (Option ℕ) → ℕ → ℕ → Type 0
+IsChannelTaken rows assigned i channel = (j : ℕ) × (j < length rows) × IsEarlier rows j i × Overlap (row_at rows j) (row_at rows i) × (channel_of assigned j ≡ Some channel)
 
 -- the lowest channel in service that no earlier overlapping row has
 pub record IsLowestFree (rows : List Row) (channels : List Bool) (assigned : List (Option ℕ)) (i channel : ℕ) : Type 0 where
   pub in_service : has_channel channels channel ≡ true
-  pub free : ¬ IsTaken rows assigned i channel
-  pub lowest : (n : ℕ) → n < channel → has_channel channels n ≡ true → IsTaken rows assigned i n
+  pub free : ¬ IsChannelTaken rows assigned i channel
+  pub lowest : (n : ℕ) → n < channel → has_channel channels n ≡ true → IsChannelTaken rows assigned i n
 
 -- an accepted row has the lowest channel that is free for it
 abbrev pub IsGiven : List Row → List Bool → List (Option ℕ) → ℕ → Type 0

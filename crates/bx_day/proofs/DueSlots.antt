@@ -6,7 +6,7 @@ use Rattle.bx_channels.specs.ChannelNumbers.{IsChannel}
 use Rattle.bx_day.specs.Day.{Day, is_live, is_unoffered, is_free, entry_at}
 use Rattle.bx_day.specs.Invariant.{is_refused}
 use Rattle.bx_day.specs.Quiet.{never}
-use Rattle.bx_day.specs.QuietSeconds.{IsDue, tick_due, due_at}
+use Rattle.bx_day.specs.QuietSeconds.{IsFirstDue, tick_due, due_at}
 use Rattle.bx_day.specs.SlotSteps.{IsDueOn, slot_due}
 use Rattle.bx_day.specs.Reading.{IsExchange, Seated}
 use Rattle.bx_day.specs.Slots.{IsLiveOn, IsWaitingOn}
@@ -133,7 +133,7 @@ accepted_due d i h = let e = entry_at d.entries i in step e (is_free d e.channel
     step e free Refused h = refl
     step e free s h = absurd (false≢true h)
 
-pub all_below : (d : Day) (c due : ℕ) → IsExchange d → ((k : ℕ) → k < length d.entries → (entry_at d.entries k).booking.start < (entry_at d.entries k).booking.end) → 32 ≤ c → IsDueBelow d c due → IsDue d (length d.entries) due
+pub all_below : (d : Day) (c due : ℕ) → IsExchange d → ((k : ℕ) → k < length d.entries → (entry_at d.entries k).booking.start < (entry_at d.entries k).booking.end) → 32 ≤ c → IsDueBelow d c due → IsFirstDue d (length d.entries) due
 all_below d c due h order all s =
     let limit : due ≤ 300001 = s.limit in
     record {

@@ -15,7 +15,7 @@ use Rattle.bx_day.specs.Moves.{stays, over_at, follows}
 use Rattle.bx_calls.specs.Sending.{Sent}
 use Rattle.bx_day.specs.Invariant.{EntryFits}
 use Rattle.bx_day.specs.Quiet.{call_due}
-use Rattle.bx_day.specs.QuietSeconds.{later_by, IsQuietTick, tick_due, due_at, IsDue}
+use Rattle.bx_day.specs.QuietSeconds.{later_by, IsQuietTick, tick_due, due_at, IsFirstDue}
 use Rattle.bx_day.specs.Reading.{IsExchange}
 use Rattle.bx_day.specs.declared.entry.Moved.{Moved}
 use Rattle.bx_day.specs.declared.entry.Entry.{Entry}
@@ -38,7 +38,7 @@ due_quiet moment t false e Unoffered h order lt = waits_on e t false (not_offere
 due_quiet moment t free e (OnCall c a) h order lt = booking_quiet moment t free e (OnCall c a) h order lt
 due_quiet moment t free e s h order lt = refl
 
-pub quiet_until : (d : Day) (due k : ℕ) → IsExchange d → IsDue d (length d.entries) due → d.moment + k + 1 < due → IsQuietTick (later_by k d)
+pub quiet_until : (d : Day) (due k : ℕ) → IsExchange d → IsFirstDue d (length d.entries) due → d.moment + k + 1 < due → IsQuietTick (later_by k d)
 quiet_until d due k h is lt =
     tick_is (later_by k d) (let limit : due ≤ 300001 = is.limit in omega (arith, lt, limit))
     ∙ quiet_tick (later_by k d) (all_at (λ e. second_in Up (later_by k d) e ≡ stays e.standing) d.entries (λ i inside.
@@ -150,7 +150,7 @@ quiet_booking d i quiet =
     (λ later. let lt : d.moment + 1 < due_at d i = leb-false (due_at d i) (d.moment + 1) later in omega (arith, lt))
 
 -- after the quiet seconds a tick is not quiet
-pub not_quiet : (d : Day) (due k : ℕ) → IsDue d (length d.entries) due → due ≤ d.moment + k + 1 → IsQuietTick (later_by k d) → ⊥
+pub not_quiet : (d : Day) (due k : ℕ) → IsFirstDue d (length d.entries) due → due ≤ d.moment + k + 1 → IsQuietTick (later_by k d) → ⊥
 not_quiet d due k is le quiet =
     let early : d.moment + k < 300000 = quiet_early (later_by k d) quiet in
     let late : d.moment + k + 2 ≤ due = is.latest (d.moment + k + 2) (omega (arith, early)) (λ i inside. quiet_booking (later_by k d) i quiet) in

@@ -14,7 +14,7 @@ use Rattle.bx_day.specs.declared.entry.Entry.{Entry}
 use Rattle.bx_day.specs.declared.entry.Standing.{Standing}
 use Rattle.bx_day.specs.declared.entry.Standing.TheVariants.{Refused, Unoffered, OnCall, Carried, Missed}
 use Rattle.bx_day.specs.Day.{Day, entry_at, entry_of, entries_from, holds, is_live, is_unoffered}
-use Rattle.bx_day.specs.Extended.{with_standings, extended, IsKept, IsExtendedBy}
+use Rattle.bx_day.specs.Extended.{with_standings, extended, IsKeptRow, IsExtendedBy}
 use Rattle.bx_day.specs.Invariant.{EntryFits, OriginFits, Phase, Ringing, Talking, Clearing, PhaseFits, phase_of, ActivityFits, Apart, Pairs, is_refused}
 use Rattle.bx_day.specs.Linking.{AreLinks}
 use Rattle.bx_day.specs.Outlasting.{AreEarliest}
@@ -63,7 +63,7 @@ waiting_rests : (m start : ℕ) (s : Standing) → is_unoffered s ≡ true → m
 waiting_rests m start Unoffered h after = after
 waiting_rests m start s h after = absurd (false≢true h)
 
-seat_kept : (t k : ℕ) (e : Entry) (b : Row) (a : Option ℕ) → e.row ≡ k → e.booking.start < e.booking.end → (is_refused e.standing ≡ false → t < e.booking.start → is_unoffered e.standing ≡ true) → IsKept t e b a → IsSeat (t + 1) e (entry_of k b a)
+seat_kept : (t k : ℕ) (e : Entry) (b : Row) (a : Option ℕ) → e.row ≡ k → e.booking.start < e.booking.end → (is_refused e.standing ≡ false → t < e.booking.start → is_unoffered e.standing ≡ true) → IsKeptRow t e b a → IsSeat (t + 1) e (entry_of k b a)
 seat_kept t k e b None row order ahead h = record { row = sym row; start = h.same.start; end = h.same.end; number = h.same.number; inward = h.same.inward; order = order; place = inr (refused_rests (t + 1) e.booking.start e.standing (not_back false (is_refused e.standing) h.accepted)) }
 seat_kept t k e b (Some c) row order ahead h =
     let accepted : is_refused e.standing ≡ false = not_back true (is_refused e.standing) h.accepted in
@@ -80,7 +80,7 @@ seat_kept t k e b (Some c) row order ahead h =
       ];
     }
 
-frame_kept : (t k : ℕ) (e : Entry) (b : Row) (a : Option ℕ) → IsKept t e b a → IsFrame b a (with_standing (entry_of k b a) e.standing)
+frame_kept : (t k : ℕ) (e : Entry) (b : Row) (a : Option ℕ) → IsKeptRow t e b a → IsFrame b a (with_standing (entry_of k b a) e.standing)
 frame_kept t k e b None h = record { booking = refl; channel = refl; accepted = not_back false (is_refused e.standing) h.accepted }
 frame_kept t k e b (Some c) h = record { booking = refl; channel = refl; accepted = not_back true (is_refused e.standing) h.accepted }
 
@@ -277,12 +277,12 @@ module _ (d : Day) (rows : List Row) (channels : List Bool) (assigned : List (Op
 -- ---- the code
 
 -- what is tested of a day, from its parts
-pub tested : (d : Day) (rows : List Row) (assigned : List (Option ℕ)) (moment from : ℕ) (seen : List Entry) → moment ≡ d.moment → seen ≡ d.entries → from ≡ length d.entries → (length seen ≤ length rows) × ((i : ℕ) → i < length seen → IsKept moment (entry_at seen i) (row_at rows i) (slice_index_or assigned i None)) → ((i : ℕ) → from ≤ i → i < length rows → moment < (row_at rows i).start) → IsExtendedBy d rows assigned
+pub tested : (d : Day) (rows : List Row) (assigned : List (Option ℕ)) (moment from : ℕ) (seen : List Entry) → moment ≡ d.moment → seen ≡ d.entries → from ≡ length d.entries → (length seen ≤ length rows) × ((i : ℕ) → i < length seen → IsKeptRow moment (entry_at seen i) (row_at rows i) (slice_index_or assigned i None)) → ((i : ℕ) → from ≤ i → i < length rows → moment < (row_at rows i).start) → IsExtendedBy d rows assigned
 tested d rows assigned moment from seen at same count kept later =
-    let old = subst (λ (es : List Entry). (length es ≤ length rows) × ((i : ℕ) → i < length es → IsKept moment (entry_at es i) (row_at rows i) (slice_index_or assigned i None))) same kept in
+    let old = subst (λ (es : List Entry). (length es ≤ length rows) × ((i : ℕ) → i < length es → IsKeptRow moment (entry_at es i) (row_at rows i) (slice_index_or assigned i None))) same kept in
     record {
       longer = old.0;
-      kept = λ i lt. subst (λ t. IsKept t (entry_at d.entries i) (row_at rows i) (slice_index_or assigned i None)) at (old.1 i lt);
+      kept = λ i lt. subst (λ t. IsKeptRow t (entry_at d.entries i) (row_at rows i) (slice_index_or assigned i None)) at (old.1 i lt);
       later = λ i low lt. subst (λ t. t < (row_at rows i).start) at (later i (omega (arith, low, count)) lt);
     }
 

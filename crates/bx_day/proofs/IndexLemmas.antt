@@ -12,7 +12,7 @@ use Rattle.bx_day.specs.Day.{Day, is_live, is_unoffered, entry_at, entries_from,
 use Rattle.bx_day.specs.Ticks.{after_in, passed_in}
 use Rattle.bx_day.specs.Invariant.{is_refused}
 use Rattle.bx_day.specs.Linking.{AreLinks}
-use Rattle.bx_day.specs.QuietSeconds.{later_by, IsQuietTick, IsQuietFor, IsDue}
+use Rattle.bx_day.specs.QuietSeconds.{later_by, IsQuietTick, IsQuietFor, IsFirstDue}
 use Rattle.bx_day.specs.Reading.{IsExchange}
 use Rattle.bx_day.specs.Slots.{slot_at, AreSlots, IsIndexed}
 use Rattle.bx_day.specs.SlotSteps.{follower}
@@ -55,7 +55,7 @@ idle_indexed d live waiting following due lt h = skip_indexed 1 d live waiting f
 pub indexed_now : (d : Day) (live waiting following : List (Option ℕ)) → IsExchange d → AreSlots d live waiting following → IsIndexed d live waiting following 0
 indexed_now d live waiting following h s = record { exchange = h; slots = s; known = λ one. absurd (omega (arith, one)) }
 
-pub indexed_due : (d : Day) (live waiting following : List (Option ℕ)) (due due' : ℕ) → IsDue d (length d.entries) due' → IsIndexed d live waiting following due → IsIndexed d live waiting following due'
+pub indexed_due : (d : Day) (live waiting following : List (Option ℕ)) (due due' : ℕ) → IsFirstDue d (length d.entries) due' → IsIndexed d live waiting following due → IsIndexed d live waiting following due'
 indexed_due d live waiting following due due' is h = record { exchange = h.exchange; slots = h.slots; known = λ one. is }
 
 -- ---- the opening: nothing is live, and each accepted booking waits

@@ -5,7 +5,7 @@ use Rattle.std.proofs.lemmas.Bool.{true≢false, false≢true, cases_eq, cases_l
 use Rattle.bx_day.specs.Day.{Day, is_live, holds, entry_at}
 use Rattle.bx_day.specs.Invariant.{Apart, Pairs}
 use Rattle.bx_day.specs.Slots.{IsLiveOn}
-use Rattle.bx_day.specs.SlotSteps.{is_live_at, live_of}
+use Rattle.bx_day.specs.SlotSteps.{is_live_at, live_slot_of}
 use Rattle.bx_day.specs.declared.entry.Entry.{Entry}
 use Rattle.bx_day.specs.declared.entry.Moved.{Moved}
 use Rattle.bx_day.proofs.Law.{at_map_in}
@@ -101,7 +101,7 @@ live_touched link d c i a w s u t lt h =
       ]
     ]
 
-pub live_settled : (link : Link) (d : Day) (c : ℕ) (a w s u : Option ℕ) → IsTurn d c a w s u → IsLiveOn (After link d) c (live_of (After link d) a w s)
+pub live_settled : (link : Link) (d : Day) (c : ℕ) (a w s u : Option ℕ) → IsTurn d c a w s u → IsLiveOn (After link d) c (live_slot_of (After link d) a w s)
 live_settled link d c a w s u t =
     let ps : Pairs Apart (After link d) = pairs_apart link d d.entries (all_hold d.entries) t.exchange.day.pairs in
     let last = one_among (After link d) c (λ i. ⊥) s None ps (on_after link d c s (second_on d c a w s u t)) (none_among (After link d) c) in

@@ -23,7 +23,7 @@ use Rattle.bx_day.specs.declared.entry.Entry.{Entry}
 use Rattle.bx_day.specs.declared.entry.Standing.{Standing}
 use Rattle.bx_day.specs.declared.entry.Activity.{Activity}
 use Rattle.bx_day.specs.declared.entry.Standing.TheVariants.{Unoffered, OnCall, Missed}
-use Rattle.bx_day.specs.declared.entry.Activity.TheVariants.{Never, Since, Was}
+use Rattle.bx_day.specs.declared.entry.Activity.TheVariants.{Never, Since}
 use Rattle.bx_day.proofs.Tick.{by_cases, with_standing, offers}
 use Rattle.bx_day.proofs.Once.{decide}
 use Rattle.bx_day.specs.declared.entry.Link.TheVariants.{Up}

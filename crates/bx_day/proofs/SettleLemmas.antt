@@ -9,7 +9,7 @@ use Rattle.bx_day.specs.Ticks.{waits, passed_in}
 use Rattle.bx_day.specs.Invariant.{is_refused}
 use Rattle.bx_day.specs.Reading.{IsExchange}
 use Rattle.bx_day.specs.Slots.{slot_at, waits_on, IsLiveOn, IsWaitingOn, IsLater, IsFollowing, AreSlots}
-use Rattle.bx_day.specs.SlotSteps.{follower, is_waiting_at, live_of, waiting_of, IsInside}
+use Rattle.bx_day.specs.SlotSteps.{follower, is_waiting_at, live_slot_of, waiting_of, IsInside}
 use Rattle.bx_day.specs.declared.entry.Entry.{Entry}
 use Rattle.bx_day.specs.declared.entry.Moved.{Moved}
 use Rattle.bx_day.proofs.Law.{at_map_in}
@@ -121,7 +121,7 @@ turn_of d c live waiting following h s = record {
 pub record AreSettledBelow (link : Link) (d : Day) (c : ℕ) (live waiting following live' waiting' : List (Option ℕ)) : Type 0 where
   pub live_size : length live' ≡ length live
   pub waiting_size : length waiting' ≡ length waiting
-  pub done : (k : ℕ) → k < c → slot_at live' k ≡ live_of (After link d) (slot_at live k) (slot_at waiting k) (follower following (slot_at waiting k))
+  pub done : (k : ℕ) → k < c → slot_at live' k ≡ live_slot_of (After link d) (slot_at live k) (slot_at waiting k) (follower following (slot_at waiting k))
   pub found : (k : ℕ) → k < c → slot_at waiting' k ≡ waiting_of (After link d) following (slot_at waiting k) (follower following (slot_at waiting k))
   pub live_left : (k : ℕ) → c ≤ k → slot_at live' k ≡ slot_at live k
   pub waiting_left : (k : ℕ) → c ≤ k → slot_at waiting' k ≡ slot_at waiting k
@@ -153,13 +153,13 @@ all_settled link d c live waiting following live' waiting' h all s done =
       ordered = ordered_kept d.entries (After link d) seats s.ordered;
     }
   where
-    live_now : (k : ℕ) → slot_at live' k ≡ live_of (After link d) (slot_at live k) (slot_at waiting k) (follower following (slot_at waiting k))
+    live_now : (k : ℕ) → slot_at live' k ≡ live_slot_of (After link d) (slot_at live k) (slot_at waiting k) (follower following (slot_at waiting k))
     live_now k = elim (cases_lt k c) [
       | inl less ↦ done.done k less
       | inr le ↦ (
           let none : slot_at waiting k ≡ None = beyond waiting k (omega (arith, s.waiting_size, all, le)) in
           let nobody : slot_at live k ≡ None = beyond live k (omega (arith, s.live_size, all, le)) in
-          done.live_left k le ∙ nobody ∙ sym (ap (λ o. live_of (After link d) o (slot_at waiting k) (follower following (slot_at waiting k))) nobody ∙ ap (λ o. live_of (After link d) None o (follower following o)) none))
+          done.live_left k le ∙ nobody ∙ sym (ap (λ o. live_slot_of (After link d) o (slot_at waiting k) (follower following (slot_at waiting k))) nobody ∙ ap (λ o. live_slot_of (After link d) None o (follower following o)) none))
     ]
 
     waiting_now : (k : ℕ) → slot_at waiting' k ≡ waiting_of (After link d) following (slot_at waiting k) (follower following (slot_at waiting k))
@@ -183,13 +183,13 @@ none_settled link d live waiting following = record {
 }
 
 pub one_settled : (link : Link) (d : Day) (c : ℕ) (live waiting following ls ws : List (Option ℕ)) (a w : Option ℕ) → c < length live → c < length waiting
-    → a ≡ live_of (After link d) (slot_at live c) (slot_at waiting c) (follower following (slot_at waiting c)) → w ≡ waiting_of (After link d) following (slot_at waiting c) (follower following (slot_at waiting c))
+    → a ≡ live_slot_of (After link d) (slot_at live c) (slot_at waiting c) (follower following (slot_at waiting c)) → w ≡ waiting_of (After link d) following (slot_at waiting c) (follower following (slot_at waiting c))
     → AreSettledBelow link d c live waiting following ls ws → AreSettledBelow link d (c + 1) live waiting following (slice_set ls c a) (slice_set ws c w)
 one_settled link d c live waiting following ls ws a w la lw is_a is_w h = record {
   live_size = length-set ls c a ∙ h.live_size;
   waiting_size = length-set ws c w ∙ h.waiting_size;
   done = λ k lt. elim (cases_eq k c) [
-    | inl here ↦ subst (λ n. slot_at (slice_set ls c a) n ≡ live_of (After link d) (slot_at live n) (slot_at waiting n) (follower following (slot_at waiting n))) (sym here) (get_or-set_same ls c a None (omega (arith, la, h.live_size)) ∙ is_a)
+    | inl here ↦ subst (λ n. slot_at (slice_set ls c a) n ≡ live_slot_of (After link d) (slot_at live n) (slot_at waiting n) (follower following (slot_at waiting n))) (sym here) (get_or-set_same ls c a None (omega (arith, la, h.live_size)) ∙ is_a)
     | inr other ↦ get_or-set_other ls c k a None other ∙ h.done k (omega (arith, lt, other))
   ];
   found = λ k lt. elim (cases_eq k c) [

@@ -19,7 +19,7 @@ extended rows assigned d = record d { entries = with_standings d.entries (entrie
 -- ---- which plans a day goes on with
 
 -- a booking of a day at moment t as a row of a longer plan, by the channel that it is given there
-pub record IsKept (t : ℕ) (e : Entry) (row : Row) (given : Option ℕ) : Type 0 where
+pub record IsKeptRow (t : ℕ) (e : Entry) (row : Row) (given : Option ℕ) : Type 0 where
   pub same : IsSameBooking e.booking row
   pub accepted : is_some given ≡ not (is_refused e.standing)
   pub channel : is_refused e.standing ≡ false → e.booking.start ≤ t → given ≡ Some e.channel
@@ -27,5 +27,5 @@ pub record IsKept (t : ℕ) (e : Entry) (row : Row) (given : Option ℕ) : Type 
 -- the plan has the bookings of the day in their places, and new ones after them, which start after its moment
 pub record IsExtendedBy (d : Day) (rows : List Row) (assigned : List (Option ℕ)) : Type 0 where
   pub longer : length d.entries ≤ length rows
-  pub kept : (i : ℕ) → i < length d.entries → IsKept d.moment (entry_at d.entries i) (row_at rows i) (slice_index_or assigned i None)
+  pub kept : (i : ℕ) → i < length d.entries → IsKeptRow d.moment (entry_at d.entries i) (row_at rows i) (slice_index_or assigned i None)
   pub later : (i : ℕ) → length d.entries ≤ i → i < length rows → d.moment < (row_at rows i).start

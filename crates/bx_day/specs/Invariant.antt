@@ -1,5 +1,5 @@
 -- What stays true of a day of a carried plan.
-use Rattle.std.specs.Prelude.{◌≡◌, ◌≢◌, ℕ, ◌+◌, ◌≤◌, ◌<◌, Bool, true, false, List, [], ◌∷◌}
+use Rattle.std.specs.Prelude.{◌≡◌, ◌≢◌, ℕ, ◌+◌, ◌≤◌, ◌<◌, Bool, true, false, not, List, [], ◌∷◌}
 use Rattle.std.specs.List.{AllByRecursion}
 use Rattle.bx_calls.specs.PlainCalls.{PlainNetCall}
 use Rattle.bx_calls.specs.declared.net_state.NetOrigin.{NetOrigin}
@@ -82,6 +82,10 @@ EntryFits t e = StandingFits t e e.standing
 abbrev pub is_refused : Standing → Bool
 is_refused Refused = true
 is_refused _ = false
+
+-- the plan accepts it
+abbrev pub stands_accepted : Standing → Bool
+stands_accepted standing = not (is_refused standing)
 
 -- two bookings: they never run at once on one channel, and never hold one channel at once
 pub record Apart (e f : Entry) : Type 0 where

@@ -30,7 +30,7 @@ abbrev pub due_at : Day → ℕ → ℕ
 due_at d i = tick_due (entry_at d.entries i) (is_free d (entry_at d.entries i).channel) (entry_at d.entries i).standing
 
 -- the first of these ticks over the first n bookings, or the tick after the day's last
-pub record IsDue (d : Day) (n due : ℕ) : Type 0 where
+pub record IsFirstDue (d : Day) (n due : ℕ) : Type 0 where
   pub limit : due ≤ 300001
   pub ordered : (i : ℕ) → i < n → (entry_at d.entries i).booking.start ≤ (entry_at d.entries i).booking.end
   pub before : (i : ℕ) → i < n → due ≤ due_at d i

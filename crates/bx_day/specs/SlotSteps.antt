@@ -24,8 +24,8 @@ is_waiting_at es None = false
 is_waiting_at es (Some i) = is_unoffered (entry_at es i).standing
 
 -- after a tick, by what was live, what waited first, and what was after that
-abbrev pub live_of : List Entry → Option ℕ → Option ℕ → Option ℕ → Option ℕ
-live_of es a b c = if is_live_at es a then a else if is_live_at es b then b else if is_live_at es c then c else None
+abbrev pub live_slot_of : List Entry → Option ℕ → Option ℕ → Option ℕ → Option ℕ
+live_slot_of es a b c = if is_live_at es a then a else if is_live_at es b then b else if is_live_at es c then c else None
 
 abbrev pub waiting_of : List Entry → List (Option ℕ) → Option ℕ → Option ℕ → Option ℕ
 waiting_of es following a b = if is_waiting_at es a then a else if is_waiting_at es b then b else follower following b

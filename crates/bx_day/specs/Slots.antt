@@ -2,7 +2,7 @@
 use Rattle.std.specs.Prelude.{◌≡◌, ℕ, ◌<◌, ◌≤◌, ◌==◌, ◌&&◌, Bool, true, false, List, length, Option, Some, None, is_some, slice_index_or}
 use Rattle.bx_day.specs.Day.{Day, is_unoffered, holds, entry_at}
 use Rattle.bx_day.specs.Invariant.{is_refused}
-use Rattle.bx_day.specs.QuietSeconds.{IsDue}
+use Rattle.bx_day.specs.QuietSeconds.{IsFirstDue}
 use Rattle.bx_day.specs.Reading.{IsExchange}
 use Rattle.bx_day.specs.declared.entry.Entry.{Entry}
 
@@ -51,4 +51,4 @@ pub record AreSlots (d : Day) (live waiting following : List (Option ℕ)) : Typ
 pub record IsIndexed (d : Day) (live waiting following : List (Option ℕ)) (due : ℕ) : Type 0 where
   pub exchange : IsExchange d
   pub slots : AreSlots d live waiting following
-  pub known : 1 ≤ due → IsDue d (length d.entries) due
+  pub known : 1 ≤ due → IsFirstDue d (length d.entries) due

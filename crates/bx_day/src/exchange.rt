@@ -43,7 +43,8 @@ impl Model for Exchange {
 
     ghost view = { λ x. record { moment = x.moment; entries = x.entries.items; maintenance = x.maintenance } };
 
-    ghost invariant = { λ x. IsIndexed (record { moment = x.moment; entries = x.entries.items; maintenance = x.maintenance }) x.live x.waiting x.following.items x.due };
+    ghost invariant = { λ x.
+        IsIndexed (record { moment = x.moment; entries = x.entries.items; maintenance = x.maintenance }) x.live x.waiting x.following.items x.due };
 }
 
 impl Exchange {

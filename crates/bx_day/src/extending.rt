@@ -4,7 +4,7 @@ ghost use Rattle.std.specs.Prelude.{◌≡◌, ◌≤◌, ◌<◌, ◌↔◌, �
 ghost use Rattle.bx_base.specs.Bookings.{Carries, row_at};
 ghost use Rattle.bx_base.specs.Plans.{is_accepted, channel_at};
 ghost use Rattle.bx_day.specs.Day.{entries_from};
-ghost use Rattle.bx_day.specs.Extended.{with_standings, extended, IsKept, IsExtendedBy};
+ghost use Rattle.bx_day.specs.Extended.{with_standings, extended, IsKeptRow, IsExtendedBy};
 ghost use Rattle.bx_day.specs.Keeping.{KeepsPlaces};
 
 use crate::entry::{Entry, Standing};
@@ -106,7 +106,7 @@ fn are_kept(entries: &[Entry], plan: &Plan, moment: u32) -> bool
 
 /// Whether the booking is a row of a plan with this channel.
 fn is_kept(entry: &Entry, booking: &Booking, channel: Option<Channel>, moment: u32) -> bool
-    ensures { IsTrue result ↔ IsKept moment entry.now booking.now channel }
+    ensures { IsTrue result ↔ IsKeptRow moment entry.now booking.now channel }
 {
     if entry.booking.as_must() != booking.as_must() {
         return false;

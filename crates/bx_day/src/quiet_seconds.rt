@@ -1,7 +1,7 @@
 //! Seconds in which nothing happens.
 
 ghost use Rattle.std.specs.Prelude.{◌≡◌, ◌≤◌, ◌-◌, length, not, replicate};
-ghost use Rattle.bx_day.specs.QuietSeconds.{later_by, IsQuietTick, IsQuietFor, IsDue, tick_due};
+ghost use Rattle.bx_day.specs.QuietSeconds.{later_by, IsQuietTick, IsQuietFor, IsFirstDue, tick_due};
 ghost use Rattle.bx_day.specs.SlotSteps.{IsDueOn, IsInside, slot_due};
 ghost use Rattle.bx_events.specs.Events.{Tick};
 ghost use Rattle.bx_day.specs.Run.{day_after};
@@ -38,7 +38,7 @@ impl Exchange {
     /// The first tick that does something to a booking, or the one after the day's last. It is looked for only where
     /// it is not known, as after a message.
     fn known_due(&self) -> u32
-        ensures { IsDue self.now (length self.now.entries) result }
+        ensures { IsFirstDue self.now (length self.now.entries) result }
     {
         if self.due > 0 {
             self.due
@@ -49,7 +49,7 @@ impl Exchange {
 
     /// The same, channel by channel.
     pub(crate) fn next_due(&self) -> u32
-        ensures { IsDue self.now (length self.now.entries) result }
+        ensures { IsFirstDue self.now (length self.now.entries) result }
     {
         // Read for the prover alone, which learns a limit from it.
         let _moment = self.moment;

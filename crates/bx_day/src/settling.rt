@@ -2,7 +2,7 @@
 
 ghost use Rattle.std.specs.Prelude.{◌≡◌, ◌<◌, ℕ, Some, length};
 ghost use Rattle.bx_day.specs.Slots.{slot_at};
-ghost use Rattle.bx_day.specs.SlotSteps.{SettlesSlots, follower, live_of, waiting_of, is_live_at, is_waiting_at, IsInside};
+ghost use Rattle.bx_day.specs.SlotSteps.{SettlesSlots, follower, live_slot_of, waiting_of, is_live_at, is_waiting_at, IsInside};
 
 use crate::entry::{Entry, Standing};
 use bx_events::LAST_MOMENT;
@@ -59,7 +59,7 @@ fn live_of(
     requires first { IsInside entries.now first }
     requires second { IsInside entries.now second }
     requires third { IsInside entries.now third }
-    ensures { result ≡ live_of entries.now first second third }
+    ensures { result ≡ live_slot_of entries.now first second third }
 {
     if is_live_at(entries, first) {
         first

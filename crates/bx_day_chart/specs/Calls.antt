@@ -3,10 +3,11 @@ use Rattle.std.specs.Prelude.{ℕ, ◌+◌, ◌-◌, Bool, List, [], ◌++◌, c
 use Rattle.bx_base.specs.Bookings.{Row}
 use Rattle.bx_calendar.specs.declared.clock.Clock.{Clock}
 use Rattle.bx_chart.specs.Bars.{class_of, corner, extent, height_of, lane_of, times_of, top_of, words_of}
+use Rattle.bx_day.specs.Invariant.{stands_accepted}
 use Rattle.bx_day.specs.declared.entry.Entry.{Entry}
 use Rattle.bx_day.specs.declared.entry.Standing.{Standing}
 use Rattle.bx_day_chart.specs.Marks.{mark_of}
-use Rattle.bx_day_chart.specs.Standings.{carried_of, is_accepted, look_of, told_of}
+use Rattle.bx_day_chart.specs.Standings.{carried_of, look_of, fate_words_of}
 
 -- a box in a bar's lane, as high as the bar, from a second until another
 abbrev pub box_place : Row → ℕ → ℕ → ℕ → List ℕ
@@ -26,7 +27,7 @@ bar_in row standing lane now = box row (look_of standing) lane row.start row.end
 
 -- its title: the booking in words, its start and its end, and what became of it
 abbrev pub title_of : Option Clock → ℕ → Entry → List ℕ
-title_of clock now e = words_of e.booking e.row ++ times_of clock e.booking ++ told_of clock now e.standing ++ codes "</title>"
+title_of clock now e = words_of e.booking e.row ++ times_of clock e.booking ++ fate_words_of clock now e.standing ++ codes "</title>"
 
 -- a booking in a lane
 abbrev pub call_of : Option Clock → ℕ → ℕ → Entry → List ℕ
@@ -34,4 +35,4 @@ call_of clock now lane e = codes "<g>" ++ title_of clock now e ++ bar_in e.booki
 
 -- a booking in the lane of its channel, or nothing where the plan refuses it
 abbrev pub call_at : Option Clock → List Bool → ℕ → Entry → List ℕ
-call_at clock channels now e = if is_accepted e.standing then call_of clock now (lane_of channels e.channel) e else []
+call_at clock channels now e = if stands_accepted e.standing then call_of clock now (lane_of channels e.channel) e else []

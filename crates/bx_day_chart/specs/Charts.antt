@@ -10,7 +10,7 @@ use Rattle.bx_chart.specs.declared.writing.ChartFault.TheVariants as fault
 use Rattle.bx_day.specs.Day.{Day}
 use Rattle.bx_day.specs.declared.entry.Entry.{Entry}
 use Rattle.bx_day_chart.specs.Calls.{call_at}
-use Rattle.bx_day_chart.specs.Heads.{day_legend, head}
+use Rattle.bx_day_chart.specs.Heads.{day_legend, day_head}
 use Rattle.bx_day_chart.specs.Maintenance.{hatches_below}
 use Rattle.bx_day_chart.specs.Now.{now_part}
 use Rattle.bx_day_chart.specs.Outages.{outage_of}
@@ -39,7 +39,7 @@ foot d channels sight clock room = starts room channels d.entries ++ hours_below
 
 -- the whole picture in such a room
 abbrev pub chart_in : Room → Day → List Bool → Sight → Option Clock → List ℕ
-chart_in room d channels sight clock = head d sight clock room ++ lanes_below channels 32 ++ hatches_below room clock d channels 32 ++ day_part d channels sight clock room ++ foot d channels sight clock room
+chart_in room d channels sight clock = day_head d sight clock room ++ lanes_below channels 32 ++ hatches_below room clock d channels 32 ++ day_part d channels sight clock room ++ foot d channels sight clock room
 
 -- the picture of a day: this text, and LF and printable ASCII alone
 pub record IsDayChart (d : Day) (channels : List Bool) (sight : Sight) (clock : Option Clock) (text : List ℕ) : Type 0 where

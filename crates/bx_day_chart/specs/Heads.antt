@@ -6,7 +6,7 @@ use Rattle.bx_chart.specs.Frames.{height, legend, paper, sized, style}
 use Rattle.bx_chart.specs.Hours.{Room}
 use Rattle.bx_day.specs.Day.{Day}
 use Rattle.bx_day.specs.declared.entry.Entry.{Entry}
-use Rattle.bx_day_chart.specs.Counting.{count_of, pay_of}
+use Rattle.bx_day_chart.specs.Counting.{fate_count_of, fate_pay_of}
 use Rattle.bx_day_chart.specs.Sights.{Sight}
 use Rattle.bx_day_chart.specs.declared.counting.Fate.TheVariants.{Accepted, Waiting, Live, Carried, Unanswered, Missed}
 
@@ -56,21 +56,21 @@ so_far clock is_over now = if is_over then [] else codes ", as far as " ++ time_
 
 -- what carried calls pay, and of how much
 abbrev pub heading : List Entry → Option Clock → Bool → ℕ → List ℕ
-heading entries clock is_over now = pair (codes "<text class='head' x='56' y='26'>Paid ") (pay_of Carried entries) (codes " of ") (pay_of Accepted entries) ++ so_far clock is_over now ++ codes "</text>\n"
+heading entries clock is_over now = pair (codes "<text class='head' x='56' y='26'>Paid ") (fate_pay_of Carried entries) (codes " of ") (fate_pay_of Accepted entries) ++ so_far clock is_over now ++ codes "</text>\n"
 
 -- how many calls have become what
 abbrev pub tally : List Entry → List ℕ
-tally entries = pair (codes "<text x='56' y='46'>") (count_of Carried entries) (codes " of ") (count_of Accepted entries)
-    ++ pair (codes " calls carried, ") (count_of Live entries) (codes " live, ") (count_of Waiting entries)
-    ++ pair (codes " waiting, ") (count_of Unanswered entries) (codes " unanswered, ") (count_of Missed entries)
+tally entries = pair (codes "<text x='56' y='46'>") (fate_count_of Carried entries) (codes " of ") (fate_count_of Accepted entries)
+    ++ pair (codes " calls carried, ") (fate_count_of Live entries) (codes " live, ") (fate_count_of Waiting entries)
+    ++ pair (codes " waiting, ") (fate_count_of Unanswered entries) (codes " unanswered, ") (fate_count_of Missed entries)
 
 -- how many outages there were
 abbrev pub link_words : ℕ → List ℕ
 link_words outages = (codes " missed; outages of the link: " ++ decimal outages) ++ codes "</text>\n"
 
 -- all that stands above the lanes
-abbrev pub head : Day → Sight → Option Clock → Room → List ℕ
-head d sight clock room = day_opening (height room) ++ heading d.entries clock sight.is_over d.moment ++ tally d.entries ++ link_words (length sight.outages) ++ legend
+abbrev pub day_head : Day → Sight → Option Clock → Room → List ℕ
+day_head d sight clock room = day_opening (height room) ++ heading d.entries clock sight.is_over d.moment ++ tally d.entries ++ link_words (length sight.outages) ++ legend
 
 -- the legend of what became of a call, so far down
 abbrev pub day_legend : ℕ → List ℕ

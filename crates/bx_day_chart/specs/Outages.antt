@@ -14,18 +14,18 @@ abbrev pub last_of : List Outage → Outage
 last_of outages = slice_index_or outages (length outages - 1) no_outage
 
 -- whether the last outage went on up to this second
-abbrev pub goes_on : ℕ → List Outage → Bool
-goes_on second outages = nat_lt 0 (length outages) && ((last_of outages).until == second)
+abbrev pub outage_goes_on : ℕ → List Outage → Bool
+outage_goes_on second outages = nat_lt 0 (length outages) && ((last_of outages).until == second)
 
 -- the second after this one, as 32 bits have it
-abbrev pub next_second : ℕ → ℕ
-next_second second = min (second + 1) 4294967295
+abbrev pub second_after_this : ℕ → ℕ
+second_after_this second = min (second + 1) 4294967295
 
 -- with this second too: it lengthens the last outage, or is one of its own
 abbrev pub noted : ℕ → List Outage → List Outage
 noted second outages =
-    if goes_on second outages then slice_set outages (length outages - 1) (record (last_of outages) { until = next_second second })
-    else outages ++ record { from = second; until = next_second second } ∷ []
+    if outage_goes_on second outages then slice_set outages (length outages - 1) (record (last_of outages) { until = second_after_this second })
+    else outages ++ record { from = second; until = second_after_this second } ∷ []
 
 -- ---- shading
 

@@ -1,7 +1,6 @@
 -- What became of a booking, as a picture tells it.
-use Rattle.std.specs.Prelude.{ℕ, not, Bool, List, [], ◌++◌, codes, Option, Some, None}
+use Rattle.std.specs.Prelude.{ℕ, List, [], ◌++◌, codes, Option, Some, None}
 use Rattle.bx_calendar.specs.declared.clock.Clock.{Clock}
-use Rattle.bx_day.specs.Invariant.{is_refused}
 use Rattle.bx_day.specs.declared.entry.Activity.{Activity}
 use Rattle.bx_day.specs.declared.entry.Activity.TheVariants.{Never, Since, Was}
 use Rattle.bx_day.specs.declared.entry.Standing.{Standing}
@@ -18,10 +17,6 @@ abbrev pub carried_of : ℕ → Standing → Option (ℕ × ℕ)
 carried_of now (OnCall call activity) = active_in now activity
 carried_of now (Carried from until) = Some (from, until)
 carried_of now _ = None
-
--- the plan accepts it
-abbrev pub is_accepted : Standing → Bool
-is_accepted standing = not (is_refused standing)
 
 -- how its bar looks besides the bar of a plan: what is only planned is pale and dashed, and one that is live has a thick outline
 abbrev pub look_of : Standing → List ℕ
@@ -43,5 +38,5 @@ carried_words clock None = []
 carried_words clock (Some span) = codes "; carried" ++ span_words clock span.0 span.1
 
 -- what became of it, in words
-abbrev pub told_of : Option Clock → ℕ → Standing → List ℕ
-told_of clock now standing = standing_words standing ++ carried_words clock (carried_of now standing)
+abbrev pub fate_words_of : Option Clock → ℕ → Standing → List ℕ
+fate_words_of clock now standing = standing_words standing ++ carried_words clock (carried_of now standing)

@@ -2,8 +2,8 @@
 use Rattle.std.specs.Prelude.{ℕ, ◌+◌, ◌*◌, Bool, List, [], ◌++◌, codes, decimal, flat_map, if◌then◌else◌}
 use Rattle.bx_chart.specs.Bars.{lane_of}
 use Rattle.bx_chart.specs.Hours.{Room, across, tenths}
+use Rattle.bx_day.specs.Invariant.{stands_accepted}
 use Rattle.bx_day.specs.declared.entry.Entry.{Entry}
-use Rattle.bx_day_chart.specs.Standings.{is_accepted}
 
 -- a line across a lane that begins so far down
 unfoldable pub start_line : ℕ → ℕ → List ℕ
@@ -11,7 +11,7 @@ start_line place down = codes "M" ++ tenths place ++ (codes " " ++ decimal down)
 
 -- that of a booking, or nothing where the plan refuses it
 abbrev pub start_at : Room → List Bool → Entry → List ℕ
-start_at room channels e = if is_accepted e.standing then start_line (across room e.booking.start) (92 + 16 * lane_of channels e.channel + 1) else []
+start_at room channels e = if stands_accepted e.standing then start_line (across room e.booking.start) (92 + 16 * lane_of channels e.channel + 1) else []
 
 -- those of all bookings
 abbrev pub starts : Room → List Bool → List Entry → List ℕ

@@ -2,7 +2,7 @@
 
 ghost use Rattle.std.specs.Prelude.{◌≡◌, ◌≤◌, ◌==◌, ◌&&◌, length};
 ghost use Rattle.bx_base.specs.declared.bookings.TheConstants.{MAX_BOOKINGS};
-ghost use Rattle.bx_day_chart.specs.Counting.{has_become, count_of, is_over, pay_of};
+ghost use Rattle.bx_day_chart.specs.Counting.{has_become, fate_count_of, is_day_over, fate_pay_of};
 
 use crate::standings::is_accepted;
 use bx_day::{Entry, Exchange, Standing};
@@ -35,7 +35,7 @@ fn has_become(fate: Fate, standing: &Standing) -> bool
 /// Of how many of these bookings that has become.
 pub(crate) fn count_of(fate: Fate, entries: &[Entry]) -> u64
     requires { length entries.now ≤ MAX_BOOKINGS }
-    ensures { result ≡ count_of fate entries.now }
+    ensures { result ≡ fate_count_of fate entries.now }
 {
     let mut count = 0;
     for entry in entries {
@@ -49,7 +49,7 @@ pub(crate) fn count_of(fate: Fate, entries: &[Entry]) -> u64
 /// What those of which that has become pay.
 pub(crate) fn pay_of(fate: Fate, entries: &[Entry]) -> u64
     requires { length entries.now ≤ MAX_BOOKINGS }
-    ensures { result ≡ pay_of fate entries.now }
+    ensures { result ≡ fate_pay_of fate entries.now }
 {
     let mut pay = 0;
     for entry in entries {
@@ -62,7 +62,7 @@ pub(crate) fn pay_of(fate: Fate, entries: &[Entry]) -> u64
 
 /// Whether the day is over: no booking waits, and none is live.
 pub fn is_over(exchange: &Exchange) -> bool
-    ensures { result ≡ is_over exchange.now }
+    ensures { result ≡ is_day_over exchange.now }
 {
     // Read for the prover alone, which learns a limit from it.
     let _moment = exchange.moment();

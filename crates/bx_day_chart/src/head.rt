@@ -4,7 +4,7 @@ ghost use Rattle.std.specs.Prelude.{◌≡◌, ◌≤◌, ◌++◌, length, true
 ghost use Rattle.bx_base.specs.declared.bookings.TheConstants.{MAX_BOOKINGS};
 ghost use Rattle.bx_chart.specs.Plain.{is_plain};
 ghost use Rattle.bx_chart.specs.Sheets.{room};
-ghost use Rattle.bx_day_chart.specs.Heads.{day_legend, day_opening, day_style, head, heading, link_words, pair, samples, so_far, tally, titled};
+ghost use Rattle.bx_day_chart.specs.Heads.{day_legend, day_opening, day_style, day_head, heading, link_words, pair, samples, so_far, tally, titled};
 ghost use Rattle.bx_day_chart.specs.Sights.{sight_of};
 
 use crate::counting::{Fate, count_of, pay_of};
@@ -157,7 +157,7 @@ pub(crate) fn add_head(
     sheet: &Sheet,
 ) -> Result<(), AllocError>
     ensures { OnOk result (picture.new.text.items ≡ picture.old.text.items
-        ++ head exchange.now (sight_of sight.now) (option_copied clock.entry) (room sheet.now)) }
+        ++ day_head exchange.now (sight_of sight.now) (option_copied clock.entry) (room sheet.now)) }
 {
     let now = exchange.moment();
     let entries = exchange.entries();

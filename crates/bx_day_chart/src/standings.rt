@@ -1,7 +1,8 @@
 //! What became of a booking, as a picture tells it.
 
 ghost use Rattle.std.specs.Prelude.{◌≡◌, ◌++◌, OnOk, option_copied};
-ghost use Rattle.bx_day_chart.specs.Standings.{carried_of, carried_words, is_accepted, look_of, standing_words, told_of};
+ghost use Rattle.bx_day.specs.Invariant.{stands_accepted};
+ghost use Rattle.bx_day_chart.specs.Standings.{carried_of, carried_words, look_of, standing_words, fate_words_of};
 
 use crate::outages::add_span;
 use bx_calendar::Clock;
@@ -26,7 +27,7 @@ pub(crate) fn carried_of(standing: &Standing, now: u32) -> Option<(u32, u32)>
 
 /// Whether the plan accepts the booking of which this has become.
 pub(crate) fn is_accepted(standing: &Standing) -> bool
-    ensures { result ≡ is_accepted standing.now }
+    ensures { result ≡ stands_accepted standing.now }
 {
     !matches!(standing, Standing::Refused)
 }
@@ -79,7 +80,7 @@ pub(crate) fn add_told(
     standing: &Standing,
     now: u32,
 ) -> Result<(), AllocError>
-    ensures { OnOk result (picture.new.text.items ≡ picture.old.text.items ++ told_of (option_copied clock.entry) now standing.now) }
+    ensures { OnOk result (picture.new.text.items ≡ picture.old.text.items ++ fate_words_of (option_copied clock.entry) now standing.now) }
 {
     picture.add(standing_words(standing))?;
     add_carried(picture, clock, carried_of(standing, now))

@@ -1,5 +1,5 @@
 -- Why what a day needs is not opened.
-use Rattle.std.specs.Prelude.{◌≡◌, ℕ, List, Option, Some, None, MatchOption}
+use Rattle.std.specs.Prelude.{◌≡◌, ◌⊎◌, ℕ, List, Option, Some, None, MatchOption}
 use Rattle.csv.specs.Reading.{strip_bom}
 use Rattle.bx_calendar.specs.DayParts.{start_of}
 use Rattle.bx_calendar.specs.NamedDays.{IsDayOf, IsDayFault}
@@ -69,3 +69,7 @@ IsUnheard _ = ⊥
 abbrev pub IsUnconnected : DayCommandFault → Type 0
 IsUnconnected CannotConnect = Unit {0}
 IsUnconnected _ = ⊥
+
+-- there is no socket at this end's port, or it may not speak to the other
+abbrev pub IsNoLine : DayCommandFault → Type 0
+IsNoLine fault = IsUnheard fault ⊎ IsUnconnected fault

@@ -64,8 +64,8 @@ abbrev pub IsMade : {F : Type 0} → Option RecordsWords → Option (RecordsFile
 IsMade records file = (clock : Option Clock) × IsRecordsClock records clock × IsRecordsFileFor records clock file
 
 -- there is one, as far as no file tells its octets
-abbrev pub HasClock : Option RecordsWords → Type 0
-HasClock records = (clock : Option Clock) × IsRecordsClock records clock
+abbrev pub HasRecordsClock : Option RecordsWords → Type 0
+HasRecordsClock records = (clock : Option Clock) × IsRecordsClock records clock
 
 abbrev pub HasRecordsFile : Type 0 → Option RecordsWords → Type 0
 HasRecordsFile F records = (file : Option (RecordsFile F)) × IsMade records file

@@ -197,7 +197,7 @@ fn world_after(
 /// Whether just these answers are told, and each sale is on the disk by then.
 fn is_told(world: &MarketWorld, told: &[Answer]) -> bool {
     let sold = told.iter().filter(|answer| **answer == YES).count();
-    world.told.as_slice() == told && world.recorded == sold && world.synced == sold
+    world.told.as_slice() == told && world.logged == sold && world.synced == sold
 }
 
 fn is_told_so(alloc: Global, batch: &Batch) -> Option<bool> {

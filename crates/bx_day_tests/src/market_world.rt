@@ -6,7 +6,7 @@ use bx_day::Exchange;
 use bx_devices::WriteFailed;
 use bx_events::LiveEvent;
 use bx_frames::{Frame, LinkFault};
-use bx_live::{Begin, CannotRecord, Loss, World};
+use bx_live::{Begin, CannotLog, Loss, World};
 use bx_market::{Answer, Market};
 use bx_q931::Octets;
 
@@ -15,7 +15,7 @@ use bx_q931::Octets;
 pub struct MarketWorld {
     batch: Option<Bookings>,
     /// How many sales were logged, and how many of them were on the disk when the customer was told.
-    pub recorded: usize,
+    pub logged: usize,
     pub synced: usize,
     pub told: ArrayVec<Answer, 8>,
 }
@@ -25,7 +25,7 @@ impl MarketWorld {
     pub fn new(batch: Bookings) -> Self {
         MarketWorld {
             batch: Some(batch),
-            recorded: 0,
+            logged: 0,
             synced: 0,
             told: ArrayVec::new(),
         }
@@ -41,15 +41,15 @@ impl World for MarketWorld {
 
     fn drop_peer(&mut self, _loss: Loss) {}
 
-    fn record(&mut self, event: LiveEvent<'_>) -> Result<(), CannotRecord> {
+    fn log(&mut self, event: LiveEvent<'_>) -> Result<(), CannotLog> {
         if let LiveEvent::Sold(_) = event {
-            self.recorded = self.recorded.saturating_add(1);
+            self.logged = self.logged.saturating_add(1);
         }
         Ok(())
     }
 
-    fn sync(&mut self) -> Result<(), CannotRecord> {
-        self.synced = self.recorded;
+    fn sync(&mut self) -> Result<(), CannotLog> {
+        self.synced = self.logged;
         Ok(())
     }
 

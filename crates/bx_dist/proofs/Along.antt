@@ -11,7 +11,7 @@ use Rattle.bx_dist.specs.declared.step.Step.{Step}
 use Rattle.bx_dist.specs.declared.step.Step.TheVariants.{Idle, Back, Take, Give}
 use Rattle.bx_dist.specs.Passing.{IsPassed}
 use Rattle.bx_dist.specs.Residual.{IsOpen, AreSmall, height_at, row_arc, step_from, step_to}
-use Rattle.bx_dist.specs.Search.{IsSettled, Shortens}
+use Rattle.bx_dist.specs.Search.{ShortensNothing, Shortens}
 use Rattle.bx_dist.specs.Sending.{empty_flow}
 use Rattle.bx_dist.specs.Walks.{AreLeast}
 use Rattle.bx_dist.proofs.After.{row_within}
@@ -24,7 +24,7 @@ use Rattle.bx_dist.proofs.Steep.{AreSteep, steep_none, steep_more, steep_potenti
 -- lengths of walks, and the steps from the first places up to one that may shorten them yet
 pub record IsPassing (line : Network) (place : ℕ) (Left : Step → Type 0) (lengths : List ℤ) : Type 0 where
   pub bounds : AreBounds Whole line (empty_flow line) lengths
-  pub settled : (step : Step) → IsOpen Whole line (empty_flow line) step → step_from line step ≤ place → Left step ⊎ IsSettled line lengths step
+  pub settled : (step : Step) → IsOpen Whole line (empty_flow line) step → step_from line step ≤ place → Left step ⊎ ShortensNothing line lengths step
 
 -- the steps from the place that are left: along rows from this one on
 abbrev pub IsRowLeft : Network → ℕ → Option ℕ → Step → Type 0
@@ -76,18 +76,18 @@ module _ (line : Network) (network : IsNetwork line) where
   pub passed_bounds : (place : ℕ) (lengths : List ℤ) → IsPassed line place lengths → AreBounds Whole line (empty_flow line) lengths
   passed_bounds place lengths p = record { one_each = p.one_each; reached = p.reached; low = p.low }
 
-  pub passing_fewer : (place : ℕ) (Left Fewer : Step → Type 0) (lengths : List ℤ) → IsPassing line place Left lengths → ((t : Step) → IsOpen Whole line (empty_flow line) t → Left t → Fewer t ⊎ IsSettled line lengths t) → IsPassing line place Fewer lengths
+  pub passing_fewer : (place : ℕ) (Left Fewer : Step → Type 0) (lengths : List ℤ) → IsPassing line place Left lengths → ((t : Step) → IsOpen Whole line (empty_flow line) t → Left t → Fewer t ⊎ ShortensNothing line lengths t) → IsPassing line place Fewer lengths
   passing_fewer place Left Fewer lengths p fewer =
       record { bounds = p.bounds; settled = λ t o h. elim (p.settled t o h) [ inl l ↦ fewer t o l | inr q ↦ inr q ] }
 
   module _ (place : ℕ) (Left : Step → Type 0) (old : List ℤ) (passing : IsPassing line place Left old) (step : Step) (o : IsOpen Whole line (empty_flow line) step) (from : step_from line step ≡ place) where
-    shortened : (new : List ℤ) → Shortens line step old new → IsPassing line place Left new × IsSettled line new step
+    shortened : (new : List ℤ) → Shortens line step old new → IsPassing line place Left new × ShortensNothing line new step
     shortened new s =
         let later = onward step o in
         let end = new_at Whole line (empty_flow line) network old passing.bounds step o new s in
         let other : (v : ℕ) → v ≢ step_to line step → height_at new v ≡ height_at old v = λ v d. other_at Whole line (empty_flow line) network old passing.bounds step o new s v d in
         let begin = other (step_from line step) (λ e. omega (arith, e, later)) in
-        let still : (t : Step) → step_from line t ≤ place → IsSettled line old t → IsSettled line new t = λ t h q.
+        let still : (t : Step) → step_from line t ≤ place → ShortensNothing line old t → ShortensNothing line new t = λ t h q.
         (let same = other (step_from line t) (λ e. omega (arith, e, h, from, later)) in
         elim (cases_eq (step_to line t) (step_to line step)) [
           | inl e ↦ (let at = ap (height_at new) e in let was = ap (height_at old) e in omega (arith, ints, same, at, was, end, s.lower, q))
@@ -100,11 +100,11 @@ module _ (line : Network) (network : IsNetwork line) where
           omega (arith, ints, end, begin),
         )
 
-    pub passing_taken : (new : List ℤ) (b : Bool) → (b ≡ true → Shortens line step old new) → (b ≡ false → IsSettled line old step) → (b ≡ false → new ≡ old) → IsPassing line place Left new × IsSettled line new step
+    pub passing_taken : (new : List ℤ) (b : Bool) → (b ≡ true → Shortens line step old new) → (b ≡ false → ShortensNothing line old step) → (b ≡ false → new ≡ old) → IsPassing line place Left new × ShortensNothing line new step
     passing_taken new true shorter settled same = shortened new (shorter refl)
-    passing_taken new false shorter settled same = subst (λ (l : List ℤ). IsPassing line place Left l × IsSettled line l step) (sym (same refl)) (passing, settled refl)
+    passing_taken new false shorter settled same = subst (λ (l : List ℤ). IsPassing line place Left l × ShortensNothing line l step) (sym (same refl)) (passing, settled refl)
 
-  pub idle_passed : (place : ℕ) (old new : List ℤ) (b : Bool) → place + 1 < places_of line → IsPassed line place old → (b ≡ true → Shortens line (Idle place) old new) → (b ≡ false → IsSettled line old (Idle place)) → (b ≡ false → new ≡ old) → IsPassing line place (IsRowLeft line place (Some 0)) new
+  pub idle_passed : (place : ℕ) (old new : List ℤ) (b : Bool) → place + 1 < places_of line → IsPassed line place old → (b ≡ true → Shortens line (Idle place) old new) → (b ≡ false → ShortensNothing line old (Idle place)) → (b ≡ false → new ≡ old) → IsPassing line place (IsRowLeft line place (Some 0)) new
   idle_passed place old new b within passed shorter settled same =
       let begin : IsPassing line place (λ t. step_from line t ≡ place) old = record {
         bounds = passed_bounds place old passed;
@@ -113,13 +113,13 @@ module _ (line : Network) (network : IsNetwork line) where
       let after = passing_taken place (λ t. step_from line t ≡ place) old begin (Idle place) within refl new b shorter settled same in
       passing_fewer place (λ t. step_from line t ≡ place) (IsRowLeft line place (Some 0)) new after.0 (fewer after.1)
     where
-      fewer : IsSettled line new (Idle place) → (t : Step) → IsOpen Whole line (empty_flow line) t → step_from line t ≡ place → IsRowLeft line place (Some 0) t ⊎ IsSettled line new t
-      fewer done (Idle v) o e = inr (subst (λ (u : ℕ). IsSettled line new (Idle u)) (sym e) done)
+      fewer : ShortensNothing line new (Idle place) → (t : Step) → IsOpen Whole line (empty_flow line) t → step_from line t ≡ place → IsRowLeft line place (Some 0) t ⊎ ShortensNothing line new t
+      fewer done (Idle v) o e = inr (subst (λ (u : ℕ). ShortensNothing line new (Idle u)) (sym e) done)
       fewer done (Take row) o e = inl (e, omega (arith, o.there.named))
       fewer done (Back v) o e = absurd (omega (arith, o.1, nothing_idle (gaps_of line) v))
       fewer done (Give row) o e = (let none = nothing_carried (length line.arcs) (row - 1) in cc (o.state))
 
-  pub row_passed : (place row : ℕ) (old new : List ℤ) (b : Bool) → row < length line.arcs → row_place Leaving line.arcs row ≡ place → IsPassing line place (IsRowLeft line place (Some row)) old → (b ≡ true → Shortens line (Take (row + 1)) old new) → (b ≡ false → IsSettled line old (Take (row + 1))) → (b ≡ false → new ≡ old) → IsPassing line place (IsRowLeft line place (Some (row + 1))) new
+  pub row_passed : (place row : ℕ) (old new : List ℤ) (b : Bool) → row < length line.arcs → row_place Leaving line.arcs row ≡ place → IsPassing line place (IsRowLeft line place (Some row)) old → (b ≡ true → Shortens line (Take (row + 1)) old new) → (b ≡ false → ShortensNothing line old (Take (row + 1))) → (b ≡ false → new ≡ old) → IsPassing line place (IsRowLeft line place (Some (row + 1))) new
   row_passed place row old new b within at passing shorter settled same =
       let e : row + 1 - 1 ≡ row = omega arith in
       let from : (row_arc line (row + 1)).from ≡ place = ap (row_place Leaving line.arcs) e ∙ at in
@@ -127,16 +127,16 @@ module _ (line : Network) (network : IsNetwork line) where
       let after = passing_taken place (IsRowLeft line place (Some row)) old passing (Take (row + 1)) open_step from new b shorter settled same in
       passing_fewer place (IsRowLeft line place (Some row)) (IsRowLeft line place (Some (row + 1))) new after.0 (fewer after.1)
     where
-      fewer : IsSettled line new (Take (row + 1)) → (t : Step) → IsOpen Whole line (empty_flow line) t → IsRowLeft line place (Some row) t → IsRowLeft line place (Some (row + 1)) t ⊎ IsSettled line new t
+      fewer : ShortensNothing line new (Take (row + 1)) → (t : Step) → IsOpen Whole line (empty_flow line) t → IsRowLeft line place (Some row) t → IsRowLeft line place (Some (row + 1)) t ⊎ ShortensNothing line new t
       fewer done (Idle v) o l = absurd l
       fewer done (Back v) o l = absurd l
       fewer done (Give r) o l = absurd l
-      fewer done (Take r) o l = elim (cases_lt (row + 1) r) [ inl a ↦ inl (l.0, a) | inr a ↦ (let e : row + 1 ≡ r = omega (arith, a, l.1) in inr (subst (λ (q : ℕ). IsSettled line new (Take q)) e done)) ]
+      fewer done (Take r) o l = elim (cases_lt (row + 1) r) [ inl a ↦ inl (l.0, a) | inr a ↦ (let e : row + 1 ≡ r = omega (arith, a, l.1) in inr (subst (λ (q : ℕ). ShortensNothing line new (Take q)) e done)) ]
 
   pub next_passed : (place least : ℕ) (next : Option ℕ) (lengths : List ℤ) → IsFirstRow Leaving line.arcs place least next → IsPassing line place (IsRowLeft line place (Some least)) lengths → IsPassing line place (IsRowLeft line place next) lengths
   next_passed place least next lengths first passing = passing_fewer place (IsRowLeft line place (Some least)) (IsRowLeft line place next) lengths passing fewer
     where
-      fewer : (t : Step) → IsOpen Whole line (empty_flow line) t → IsRowLeft line place (Some least) t → IsRowLeft line place next t ⊎ IsSettled line lengths t
+      fewer : (t : Step) → IsOpen Whole line (empty_flow line) t → IsRowLeft line place (Some least) t → IsRowLeft line place next t ⊎ ShortensNothing line lengths t
       fewer (Idle v) o l = absurd l
       fewer (Back v) o l = absurd l
       fewer (Give r) o l = absurd l

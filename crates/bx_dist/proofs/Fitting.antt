@@ -3,7 +3,7 @@ use Rattle.std.proofs.Common.{◌≡◌, ℕ, ◌+◌, ◌-◌, ◌<◌, ◌≤�
 use Rattle.std.specs.Prelude.{int_le}
 use Rattle.std.proofs.lemmas.Int.{ints}
 use Rattle.bx_line.specs.Network.{Network, places_of}
-use Rattle.bx_line.specs.Flows.{Flow, is_carried}
+use Rattle.bx_line.specs.Flows.{Flow, carries_unit}
 use Rattle.bx_dist.specs.declared.part.Part.{Part}
 use Rattle.bx_dist.specs.declared.part.Part.TheVariants.{Whole}
 use Rattle.bx_dist.specs.declared.step.Step.{Step}
@@ -46,7 +46,7 @@ fits_from_parts line flow heights r g (Give row) o =
 
 pub RowFits-from_fits : (line : Network) (flow : Flow) (heights : List ℤ) → Fits Whole line flow heights → (row : ℕ) → 1 ≤ row → row ≤ length line.arcs → RowFits line flow heights row
 RowFits-from_fits line flow heights f row named within =
-    let at : (b : Bool) → is_carried flow (row - 1) ≡ b → IsRowAt Whole line flow row b = λ b e. record { there = record { named = named; within = within; in_part = tt }; state = e } in
+    let at : (b : Bool) → carries_unit flow (row - 1) ≡ b → IsRowAt Whole line flow row b = λ b e. record { there = record { named = named; within = within; in_part = tt }; state = e } in
     record { onward = λ e. omega (arith, ints, f (Take row) (at false e)); back = λ e. omega (arith, ints, f (Give row) (at true e)) }
 
 pub GapFits-from_fits : (line : Network) (flow : Flow) (heights : List ℤ) → Fits Whole line flow heights → (v : ℕ) → v + 1 < places_of line → GapFits flow heights v

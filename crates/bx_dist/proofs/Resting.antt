@@ -4,13 +4,13 @@ use Rattle.std.proofs.lemmas.List.{get_or-replicate, length-replicate}
 use Rattle.bx_base.specs.Sums.{sum_below}
 use Rattle.bx_base.proofs.SumLemmas.{sum_below-next, sum_below-more}
 use Rattle.bx_line.specs.Network.{Network, IsNetwork, places_of, gaps_of, arc_at, spans}
-use Rattle.bx_line.specs.Flows.{Flow, flow_of, is_carried, crossing_at, IsFlow}
+use Rattle.bx_line.specs.Flows.{Flow, flow_of, carries_unit, crossing_at, IsFlow}
 use Rattle.bx_line.proofs.Crossings.{flow_from_crosses}
 use Rattle.bx_line.proofs.Spanning.{over_to}
 
 -- one where the row carries a unit over the gap
 abbrev pub crosses : Network → Flow → ℕ → ℕ → ℕ
-crosses line flow v i = cond (is_carried flow i && spans (arc_at line i) v) 1 0
+crosses line flow v i = cond (carries_unit flow i && spans (arc_at line i) v) 1 0
 
 -- what is left idle in each gap by the first n rows
 pub record HasRest (line : Network) (flow : Flow) (n : ℕ) (idle : List ℕ) : Type 0 where
@@ -32,26 +32,26 @@ one_over b over e f = rw (e, f) refl
 
 module _ (line : Network) (flow : Flow) (n : ℕ) (idle : List ℕ) (rest : HasRest line flow n idle) where
   -- where a row that carries a unit leads, one is idle
-  pub some_idle : IsNetwork line → n < length line.arcs → ((gap : ℕ) → gap + 1 < places_of line → crossing_at line flow gap ≤ flow.units) → is_carried flow n ≡ true → (v : ℕ) → spans (arc_at line n) v ≡ true → 1 ≤ get_or idle v 0
+  pub some_idle : IsNetwork line → n < length line.arcs → ((gap : ℕ) → gap + 1 < places_of line → crossing_at line flow gap ≤ flow.units) → carries_unit flow n ≡ true → (v : ℕ) → spans (arc_at line n) v ≡ true → 1 ≤ get_or idle v 0
   some_idle network within room carried v over =
       let arc = network.arcs n within in
       let to = over_to (arc_at line n) v over in
       let here : v + 1 < places_of line = omega (arith, arc.within) in
-      let one = one_over (is_carried flow n) (spans (arc_at line n) v) carried over in
+      let one = one_over (carries_unit flow n) (spans (arc_at line n) v) carried over in
       omega (arith, rest.each v (omega arith), sum_below-next n (crosses line flow v), sum_below-more (n + 1) (length line.arcs) (crosses line flow v) (omega arith), one, room v here)
 
-  pub rest_more : (new : List ℕ) → is_carried flow n ≡ true → length new ≡ length idle → ((v : ℕ) → v < length idle → get_or new v 0 + cond (spans (arc_at line n) v) 1 0 ≡ get_or idle v 0) → HasRest line flow (n + 1) new
+  pub rest_more : (new : List ℕ) → carries_unit flow n ≡ true → length new ≡ length idle → ((v : ℕ) → v < length idle → get_or new v 0 + cond (spans (arc_at line n) v) 1 0 ≡ get_or idle v 0) → HasRest line flow (n + 1) new
   rest_more new carried size each =
       record {
         size = size ∙ rest.size;
-        each = λ v h. omega (arith, rest.each v h, each v (omega (arith, rest.size)), sum_below-next n (crosses line flow v), carried_over (is_carried flow n) (spans (arc_at line n) v) carried);
+        each = λ v h. omega (arith, rest.each v h, each v (omega (arith, rest.size)), sum_below-next n (crosses line flow v), carried_over (carries_unit flow n) (spans (arc_at line n) v) carried);
       }
 
-  pub rest_same : is_carried flow n ≡ false → HasRest line flow (n + 1) idle
+  pub rest_same : carries_unit flow n ≡ false → HasRest line flow (n + 1) idle
   rest_same left =
       record {
         size = rest.size;
-        each = λ v h. omega (arith, rest.each v h, sum_below-next n (crosses line flow v), left_over (is_carried flow n) (spans (arc_at line n) v) left);
+        each = λ v h. omega (arith, rest.each v h, sum_below-next n (crosses line flow v), left_over (carries_unit flow n) (spans (arc_at line n) v) left);
       }
 
 pub flow_from_rest : (line : Network) (flow : Flow) (n : ℕ) (idle : List ℕ) → IsNetwork line → (places_of line < 2 → flow.units ≡ 0) → length flow.accepted ≡ length line.arcs → n ≡ length line.arcs → HasRest line flow n idle → IsFlow line (flow_of flow.accepted idle flow.units)

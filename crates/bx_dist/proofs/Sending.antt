@@ -10,7 +10,7 @@ use Rattle.bx_base.specs.Sums.{sum_below}
 use Rattle.bx_base.proofs.SumLemmas.{sum_below-same, sum_below-zero}
 use Rattle.bx_line.specs.declared.arc.Arc.{Arc}
 use Rattle.bx_line.specs.Network.{Network, IsNetwork, places_of, gaps_of, arc_at, spans}
-use Rattle.bx_line.specs.Flows.{Flow, IsFlow, IsSized, is_carried, idle_at, crossing_at}
+use Rattle.bx_line.specs.Flows.{Flow, IsFlow, IsSized, carries_unit, idle_at, crossing_at}
 use Rattle.bx_line.proofs.Crossings.{crosses_from_flow, flow_from_crosses}
 use Rattle.bx_dist.specs.declared.part.Part.{Part}
 use Rattle.bx_dist.specs.declared.part.Part.TheVariants.{Whole}
@@ -58,7 +58,7 @@ empty_is_flow line network =
     flow_from_crosses line (empty_flow line) network (record {
       sized = record { rows = length-replicate {A = Bool} (length line.arcs) false; gaps = length-replicate {A = ℕ} (gaps_of line) 0 };
       crosses = λ v h.
-          let none = sum_below-zero (length line.arcs) (λ i. cond (is_carried (empty_flow line) i && spans (arc_at line i) v) 1 0) (λ i b. (let off = nothing_carried (length line.arcs) i in rw off refl)) in
+          let none = sum_below-zero (length line.arcs) (λ i. cond (carries_unit (empty_flow line) i && spans (arc_at line i) v) 1 0) (λ i b. (let off = nothing_carried (length line.arcs) i in rw off refl)) in
           omega (arith, none, nothing_idle (gaps_of line) v);
       no_gap = λ _. refl;
     })
@@ -68,12 +68,12 @@ module _ (line : Network) (network : IsNetwork line) where
     idle_same : (u n : ℕ) → u + 1 < places_of line → get_or (set flow.idle u n) u 0 ≡ n
     idle_same u n h = get_or-set_same flow.idle u n 0 (omega (arith, sized.gaps))
 
-    crossing_after : (i : ℕ) (b : Bool) (v : ℕ) → i < length line.arcs → crossing_at line (record flow { accepted = set flow.accepted i b }) v + cond (is_carried flow i && spans (arc_at line i) v) 1 0 ≡ crossing_at line flow v + cond (b && spans (arc_at line i) v) 1 0
+    crossing_after : (i : ℕ) (b : Bool) (v : ℕ) → i < length line.arcs → crossing_at line (record flow { accepted = set flow.accepted i b }) v + cond (carries_unit flow i && spans (arc_at line i) v) 1 0 ≡ crossing_at line flow v + cond (b && spans (arc_at line i) v) 1 0
     crossing_after i b v h =
         let term = λ (c : Bool) (k : ℕ). cond {A = ℕ} (c && spans (arc_at line k) v) 1 0 in
         let new = λ (k : ℕ). get_or (set flow.accepted i b) k false in
         let at : new i ≡ b = get_or-set_same flow.accepted i b false (rw sized.rows h) in
-        let change = sum_below-change (length line.arcs) (λ k. term (new k) k) (λ k. term (is_carried flow k) k) i h (λ k c d. ap (λ (x : Bool). term x k) (get_or-set_other flow.accepted i k b false d)) in
+        let change = sum_below-change (length line.arcs) (λ k. term (new k) k) (λ k. term (carries_unit flow k) k) i h (λ k c d. ap (λ (x : Bool). term x k) (get_or-set_other flow.accepted i k b false d)) in
         omega (arith, change, ap (λ (x : Bool). term x i) at)
 
     row_index : (part : Part) (row : ℕ) → HasRow part line row → row - 1 < length line.arcs
@@ -152,11 +152,11 @@ module _ (part : Part) (line : Network) (flow : Flow) where
   open_after (Take r) (Idle u) o p d = p
   open_after (Take r) (Back u) o p d = p
   open_after (Take r) (Take q) o p d = row_after r q false false true o p (λ e. d (ap (λ (n : ℕ). step_from line (Take n)) (sym (same_name r q o.there p.there e))))
-  open_after (Take r) (Give q) o p d = row_after r q false true true o p (λ e. (let s = ap (is_carried flow) e in cc (o.state, p.state)))
+  open_after (Take r) (Give q) o p d = row_after r q false true true o p (λ e. (let s = ap (carries_unit flow) e in cc (o.state, p.state)))
   open_after (Give r) (Idle u) o p d = p
   open_after (Give r) (Back u) o p d = p
   open_after (Give r) (Give q) o p d = row_after r q true true false o p (λ e. d (ap (λ (n : ℕ). step_from line (Give n)) (sym (same_name r q o.there p.there e))))
-  open_after (Give r) (Take q) o p d = row_after r q true false false o p (λ e. (let s = ap (is_carried flow) e in cc (o.state, p.state)))
+  open_after (Give r) (Take q) o p d = row_after r q true false false o p (λ e. (let s = ap (carries_unit flow) e in cc (o.state, p.state)))
 
 -- a walk stays open while a unit takes a step from a place that it does not meet
 walk_after : (part : Part) (line : Network) (flow : Flow) (step : Step) (from to : ℕ) (walk : List Step) → IsOpen part line flow step → Avoids line (step_from line step) from walk → IsWalk part line flow from to walk → IsWalk part line (after_step flow step) from to walk

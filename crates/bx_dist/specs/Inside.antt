@@ -1,7 +1,7 @@
 -- Private: what its functions promise one another.
 use Rattle.std.specs.Prelude.{◌≡◌, ℕ, ◌+◌, ◌-◌, ◌<◌, ◌≤◌, true, false, List, length, ℤ, pos, ◌+ℤ◌, ◌-ℤ◌, ◌≤ℤ◌, ◌≢◌, [], ◌∷◌}
 use Rattle.bx_line.specs.Network.{Network}
-use Rattle.bx_line.specs.Flows.{Flow, is_carried, idle_at}
+use Rattle.bx_line.specs.Flows.{Flow, carries_unit, idle_at}
 use Rattle.bx_dist.specs.declared.step.Step.{Step}
 use Rattle.bx_dist.specs.declared.step.Step.TheVariants.{Idle, Back, Take, Give}
 use Rattle.bx_dist.specs.Residual.{row_arc, height_at, step_to}
@@ -9,8 +9,8 @@ use Rattle.bx_dist.specs.Sending.{after_step}
 
 -- what fitting says of a row, and of a gap
 pub record RowFits (line : Network) (flow : Flow) (heights : List ℤ) (row : ℕ) : Type 0 where
-  pub onward : is_carried flow (row - 1) ≡ false → height_at heights (row_arc line row).to ≤ℤ (height_at heights (row_arc line row).from -ℤ pos (row_arc line row).pay)
-  pub back : is_carried flow (row - 1) ≡ true → height_at heights (row_arc line row).from ≤ℤ (height_at heights (row_arc line row).to +ℤ pos (row_arc line row).pay)
+  pub onward : carries_unit flow (row - 1) ≡ false → height_at heights (row_arc line row).to ≤ℤ (height_at heights (row_arc line row).from -ℤ pos (row_arc line row).pay)
+  pub back : carries_unit flow (row - 1) ≡ true → height_at heights (row_arc line row).from ≤ℤ (height_at heights (row_arc line row).to +ℤ pos (row_arc line row).pay)
 
 pub record GapFits (flow : Flow) (heights : List ℤ) (v : ℕ) : Type 0 where
   pub onward : height_at heights (v + 1) ≤ℤ height_at heights v

@@ -4,7 +4,7 @@ use Rattle.bx_line.specs.Network.{Network, places_of}
 use Rattle.bx_dist.specs.declared.part.Part.TheVariants.{Whole}
 use Rattle.bx_dist.specs.declared.step.Step.{Step}
 use Rattle.bx_dist.specs.Residual.{IsOpen, height_at, step_from}
-use Rattle.bx_dist.specs.Search.{IsSettled}
+use Rattle.bx_dist.specs.Search.{ShortensNothing}
 use Rattle.bx_dist.specs.Sending.{empty_flow}
 use Rattle.bx_dist.specs.Walks.{AreReached}
 
@@ -13,4 +13,4 @@ pub record IsPassed (line : Network) (place : ℕ) (lengths : List ℤ) : Type 0
   pub one_each : length lengths ≡ places_of line
   pub reached : AreReached Whole line (empty_flow line) lengths
   pub low : (v : ℕ) → height_at lengths v ≤ℤ pos 0
-  pub settled : (step : Step) → IsOpen Whole line (empty_flow line) step → step_from line step < place → IsSettled line lengths step
+  pub settled : (step : Step) → IsOpen Whole line (empty_flow line) step → step_from line step < place → ShortensNothing line lengths step

@@ -2,7 +2,7 @@
 use Rattle.std.specs.Prelude.{◌≡◌, ℕ, ◌+◌, ◌-◌, ◌<◌, ◌≤◌, Bool, true, false, List, length, ℤ, pos, neg_ℤ, nat_abs, ◌+ℤ◌, ◌≤ℤ◌, slice_index_or}
 use Rattle.bx_line.specs.declared.arc.Arc.{Arc}
 use Rattle.bx_line.specs.Network.{Network, places_of, arc_at}
-use Rattle.bx_line.specs.Flows.{Flow, IsSized, is_carried, idle_at}
+use Rattle.bx_line.specs.Flows.{Flow, IsSized, carries_unit, idle_at}
 use Rattle.bx_dist.specs.declared.part.Part.{Part}
 use Rattle.bx_dist.specs.declared.part.Part.TheVariants.{Whole, Free}
 use Rattle.bx_dist.specs.declared.step.Step.{Step}
@@ -26,7 +26,7 @@ pub record HasRow (part : Part) (line : Network) (row : ℕ) : Type 0 where
 -- the row's arc is in the part, and carries a unit or does not
 pub record IsRowAt (part : Part) (line : Network) (flow : Flow) (row : ℕ) (carried : Bool) : Type 0 where
   pub there : HasRow part line row
-  pub state : is_carried flow (row - 1) ≡ carried
+  pub state : carries_unit flow (row - 1) ≡ carried
 
 -- a step that the residual network has, which is a residual arc: forward, idle to the next place or along the arc of a row that
 -- is not carried; and backward, where a unit is idle or along the arc of a row that is carried

@@ -6,8 +6,8 @@ use Rattle.bx_dist.specs.declared.step.Step.TheVariants.{Idle, Back, Take, Give}
 use Rattle.bx_dist.specs.Residual.{step_from, step_to, step_cost, height_at}
 
 -- the step shortens nothing
-abbrev pub IsSettled : Network → List ℤ → Step → Type 0
-IsSettled line lengths step = height_at lengths (step_to line step) ≤ℤ (height_at lengths (step_from line step) +ℤ step_cost line step)
+abbrev pub ShortensNothing : Network → List ℤ → Step → Type 0
+ShortensNothing line lengths step = height_at lengths (step_to line step) ≤ℤ (height_at lengths (step_from line step) +ℤ step_cost line step)
 
 -- the step gives its end a lower number
 pub record Shortens (line : Network) (step : Step) (old new : List ℤ) : Type 0 where

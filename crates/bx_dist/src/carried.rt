@@ -2,7 +2,7 @@
 
 ghost use Rattle.std.specs.Prelude.{◌≡◌, ◌≤◌, ◌<◌, ◌+◌, ◌-◌, ◌↔◌, ℕ, IfOk, IsTrue, true, false, length, slice_index, if◌then◌else◌};
 ghost use Rattle.bx_line.specs.Network.{places_of, spans};
-ghost use Rattle.bx_line.specs.Flows.{IsFlow, IsSized, is_carried, idle_at, crossing_at};
+ghost use Rattle.bx_line.specs.Flows.{IsFlow, IsSized, carries_unit, idle_at, crossing_at};
 ghost use Rattle.bx_dist.specs.Sending.{empty_flow, sent, after_step};
 ghost use Rattle.bx_dist.specs.Inside.{CanTake};
 ghost use Rattle.bx_dist.specs.Walks.{IsPath};
@@ -73,7 +73,7 @@ impl Carried {
 
     /// Whether the row carries a unit, where rows are named 1, 2, ..; false for no such row.
     pub fn accepted(&self, row: u16) -> bool
-        ensures row { 1 ≤ row → result ≡ is_carried self.now (row - 1) }
+        ensures row { 1 ≤ row → result ≡ carries_unit self.now (row - 1) }
         ensures no_row { row ≡ 0 → result ≡ false }
     {
         row != 0 && row as usize <= self.accepted.len() && self.accepted[row as usize - 1]
@@ -82,7 +82,7 @@ impl Carried {
     /// The same of a row that there is, counted from 0.
     pub(crate) fn carries(&self, index: u16) -> bool
         requires { index < length self.now.accepted }
-        ensures { result ≡ is_carried self.now index }
+        ensures { result ≡ carries_unit self.now index }
     {
         self.accepted[index as usize]
     }

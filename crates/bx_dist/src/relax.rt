@@ -2,7 +2,7 @@
 
 ghost use Rattle.std.specs.Prelude.{◌≡◌, length, true, false};
 ghost use Rattle.bx_line.specs.Network.{places_of};
-ghost use Rattle.bx_dist.specs.Search.{IsStep, IsSettled, Shortens, AreMedium};
+ghost use Rattle.bx_dist.specs.Search.{IsStep, ShortensNothing, Shortens, AreMedium};
 
 use crate::step::Step;
 use crate::steps::ends_of;
@@ -15,7 +15,7 @@ pub fn shorten(lengths: &mut [i64], line: &Line, step: Step) -> bool
     requires one_each { length lengths.old ≡ places_of line.now }
     requires medium { AreMedium lengths.old }
     ensures shorter { result ≡ true → Shortens line.now step lengths.old lengths.new }
-    ensures settled { result ≡ false → IsSettled line.now lengths.old step }
+    ensures settled { result ≡ false → ShortensNothing line.now lengths.old step }
     ensures unchanged { result ≡ false → lengths.new ≡ lengths.old }
 {
     let (from, to, cost) = ends_of(line, step);

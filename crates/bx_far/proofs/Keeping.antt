@@ -14,15 +14,15 @@ use Rattle.bx_calls.specs.declared.user_state.UserState.TheVariants.{CallInitiat
 use Rattle.bx_calls.specs.Hearing.{Heard, names_channel, reports_null}
 use Rattle.bx_calls.specs.UserTable.{user_row, user_message, user_takes, user_answers, user_clears, user_second_row, user_second}
 use Rattle.bx_channels.specs.ChannelNumbers.{IsChannel}
-use Rattle.bx_far.specs.Seats.{IsSeat}
-use Rattle.bx_far.specs.Inside.{live_of}
+use Rattle.bx_far.specs.Seats.{IsCallSeat}
+use Rattle.bx_far.specs.Inside.{live_call_of}
 
 abbrev pub Keeps : ℕ → Next PlainUserCall → Type 0
 Keeps n (Live call) = call.channel ≡ n
 Keeps n Over = Unit {0}
 Keeps n Broken = Unit {0}
 
-pub seat_of : (n : ℕ) (next : Next PlainUserCall) → Keeps n next → IsChannel n → IsSeat n (live_of next)
+pub seat_of : (n : ℕ) (next : Next PlainUserCall) → Keeps n next → IsChannel n → IsCallSeat n (live_call_of next)
 seat_of n (Live call) keeps channel = (keeps, channel)
 seat_of n Over keeps channel = tt
 seat_of n Broken keeps channel = tt

@@ -11,15 +11,15 @@ use Rattle.bx_far.specs.declared.row.ScriptRow.{ScriptRow}
 use Rattle.bx_far.specs.declared.row.ScriptRow.TheVariants.{Follows, Calls}
 use Rattle.bx_channels.specs.Marks.{is_marked}
 use Rattle.bx_far.specs.FarDay.{FarDay, far_takes, holder, is_taken, insert_call, first_call}
-use Rattle.bx_far.specs.Seats.{live_calls, IsSeat, AreSeated, IsFar, calls_later}
-use Rattle.bx_far.specs.Inside.{slot_at}
+use Rattle.bx_far.specs.Seats.{live_calls, IsCallSeat, AreSeated, IsFar, calls_later}
+use Rattle.bx_far.specs.Inside.{call_slot_at}
 use Rattle.bx_far.proofs.Seats.{holder_is, seated_set}
 
-pub slot_read : (slots : List (Option PlainUserCall)) (k : ℕ) (r : Option PlainUserCall) → r ≡ slice_index_or slots k r → k < length slots → slot_at slots k ≡ r
+pub slot_read : (slots : List (Option PlainUserCall)) (k : ℕ) (r : Option PlainUserCall) → r ≡ slice_index_or slots k r → k < length slots → call_slot_at slots k ≡ r
 slot_read slots k r is lt = sym (is ∙ get_or_default slots k r None lt)
 
-pub rest_is : (slots : List (Option PlainUserCall)) (k : ℕ) → k < length slots → drop k slots ≡ slot_at slots k ∷ drop (k + 1) slots
-rest_is slots k lt = drop-cons slots k None lt ∙ ap (λ n. slot_at slots k ∷ drop n slots) (let q : suc k ≡ k + 1 = omega arith in q)
+pub rest_is : (slots : List (Option PlainUserCall)) (k : ℕ) → k < length slots → drop k slots ≡ call_slot_at slots k ∷ drop (k + 1) slots
+rest_is slots k lt = drop-cons slots k None lt ∙ ap (λ n. call_slot_at slots k ∷ drop n slots) (let q : suc k ≡ k + 1 = omega arith in q)
 
 pub not_some : (o : Option PlainUserCall) → ((call : PlainUserCall) → o ≡ Some call → ⊥) → o ≡ None
 not_some None h = refl
@@ -27,21 +27,21 @@ not_some (Some x) h = absurd (h x refl)
 
 -- ---- the first call that passes, slot by slot
 
-pub passes_here : (test : PlainUserCall → Bool) (slots : List (Option PlainUserCall)) (k : ℕ) (call : PlainUserCall) → k < length slots → slot_at slots k ≡ Some call → test call ≡ true
+pub passes_here : (test : PlainUserCall → Bool) (slots : List (Option PlainUserCall)) (k : ℕ) (call : PlainUserCall) → k < length slots → call_slot_at slots k ≡ Some call → test call ≡ true
     → first_call test (live_calls (drop k slots)) ≡ Some call
 passes_here test slots k call lt at passes =
     ap (λ xs. first_call test (live_calls xs)) (rest_is slots k lt)
     ∙ ap (λ o. first_call test (live_calls (o ∷ drop (k + 1) slots))) at
     ∙ ap (λ (b : Bool). if b then Some call else first_call test (live_calls (drop (k + 1) slots))) passes
 
-pub passes_not : (test : PlainUserCall → Bool) (slots : List (Option PlainUserCall)) (k : ℕ) (call : PlainUserCall) → k < length slots → slot_at slots k ≡ Some call → test call ≡ false
+pub passes_not : (test : PlainUserCall → Bool) (slots : List (Option PlainUserCall)) (k : ℕ) (call : PlainUserCall) → k < length slots → call_slot_at slots k ≡ Some call → test call ≡ false
     → first_call test (live_calls (drop k slots)) ≡ first_call test (live_calls (drop (k + 1) slots))
 passes_not test slots k call lt at passes =
     ap (λ xs. first_call test (live_calls xs)) (rest_is slots k lt)
     ∙ ap (λ o. first_call test (live_calls (o ∷ drop (k + 1) slots))) at
     ∙ ap (λ (b : Bool). if b then Some call else first_call test (live_calls (drop (k + 1) slots))) passes
 
-pub passes_none : (test : PlainUserCall → Bool) (slots : List (Option PlainUserCall)) (k : ℕ) → k < length slots → slot_at slots k ≡ None
+pub passes_none : (test : PlainUserCall → Bool) (slots : List (Option PlainUserCall)) (k : ℕ) → k < length slots → call_slot_at slots k ≡ None
     → first_call test (live_calls (drop k slots)) ≡ first_call test (live_calls (drop (k + 1) slots))
 passes_none test slots k lt at =
     ap (λ xs. first_call test (live_calls xs)) (rest_is slots k lt)
@@ -51,7 +51,7 @@ pub empty_seated : (n k : ℕ) → AreSeated k (replicate n None)
 empty_seated zero k = tt
 empty_seated (suc n) k = (tt, empty_seated n (suc k))
 
-pub holder_slot : (d : FarDay) (slots : List (Option PlainUserCall)) (c : ℕ) → live_calls slots ≡ d.calls → AreSeated 0 slots → holder d c ≡ slot_at slots c
+pub holder_slot : (d : FarDay) (slots : List (Option PlainUserCall)) (c : ℕ) → live_calls slots ≡ d.calls → AreSeated 0 slots → holder d c ≡ call_slot_at slots c
 holder_slot d slots c e h = ap (first_call (λ x. x.channel == c)) (sym e) ∙ holder_is 0 c c slots (omega arith) h
 
 or_false : (a b : Bool) → (a || b) ≡ false → a ≡ false
@@ -62,11 +62,11 @@ none_of : (o : Option PlainUserCall) → is_some o ≡ false → o ≡ None
 none_of None h = refl
 none_of (Some x) h = absurd (false≢true (sym h))
 
-pub free_slot : (d : FarDay) (slots : List (Option PlainUserCall)) (c : ℕ) → live_calls slots ≡ d.calls → AreSeated 0 slots → is_taken d c ≡ false → slot_at slots c ≡ None
+pub free_slot : (d : FarDay) (slots : List (Option PlainUserCall)) (c : ℕ) → live_calls slots ≡ d.calls → AreSeated 0 slots → is_taken d c ≡ false → call_slot_at slots c ≡ None
 free_slot d slots c e h free = sym (holder_slot d slots c e h) ∙ none_of (holder d c) (or_false (is_some (holder d c)) (is_marked d.maintenance c) free)
 
 -- a call in the slot of its channel
-pub far_with : (script : List ScriptRow) (moment next c : ℕ) (slots : List (Option PlainUserCall)) (o : Option PlainUserCall) → IsSeat c o → IsFar script moment next slots → IsFar script moment next (slice_set slots c o)
+pub far_with : (script : List ScriptRow) (moment next c : ℕ) (slots : List (Option PlainUserCall)) (o : Option PlainUserCall) → IsCallSeat c o → IsFar script moment next slots → IsFar script moment next (slice_set slots c o)
 far_with script moment next c slots o seat h = record {
   moment_limit = h.moment_limit;
   size = length-set slots c o ∙ h.size;

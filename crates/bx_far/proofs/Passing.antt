@@ -15,8 +15,8 @@ use Rattle.bx_far.specs.declared.row.ScriptRow.TheVariants.{Follows, Calls}
 use Rattle.bx_channels.specs.Marks.{is_marked}
 use Rattle.bx_far.specs.FarDay.{FarDay, far_tick, far_ticked, Begun, begin_call, begin_row, insert_call, begin_rows, no_messages, second_calls, second_maintenance, second_said, settle_maintenance, next_then, with_held}
 use Rattle.bx_calls.specs.Sending.{in_order}
-use Rattle.bx_far.specs.Seats.{live_calls, IsSeat, AreSeated, calls_later}
-use Rattle.bx_far.specs.Inside.{live_of, slot_at, calls_now}
+use Rattle.bx_far.specs.Seats.{live_calls, IsCallSeat, AreSeated, calls_later}
+use Rattle.bx_far.specs.Inside.{live_call_of, call_slot_at, calls_now}
 use Rattle.bx_far.specs.BegunTicks.{after_slot, AreSpoken, IsFree, IsBegunTick}
 use Rattle.bx_far.proofs.Seats.{seat_at, next_is, seated_set, insert_is}
 use Rattle.bx_far.proofs.Keeping.{seat_of, second_keeps}
@@ -33,18 +33,18 @@ moved_first t zero slots = slots
 moved_first t (suc n) [] = []
 moved_first t (suc n) (o ∷ os) = after_slot t o ∷ moved_first t n os
 
-pub moved_at : (t n : ℕ) (slots : List (Option PlainUserCall)) → slot_at (moved_first t n slots) n ≡ slot_at slots n
+pub moved_at : (t n : ℕ) (slots : List (Option PlainUserCall)) → call_slot_at (moved_first t n slots) n ≡ call_slot_at slots n
 moved_at t zero slots = refl
 moved_at t (suc n) [] = refl
 moved_at t (suc n) (o ∷ os) = moved_at t n os
 
-moved_next : (t n : ℕ) (o : Option PlainUserCall) (slots : List (Option PlainUserCall)) → n < length slots → after_slot t (slot_at slots n) ≡ o → slice_set (moved_first t n slots) n o ≡ moved_first t (suc n) slots
+moved_next : (t n : ℕ) (o : Option PlainUserCall) (slots : List (Option PlainUserCall)) → n < length slots → after_slot t (call_slot_at slots n) ≡ o → slice_set (moved_first t n slots) n o ≡ moved_first t (suc n) slots
 moved_next t zero o [] lt e = absurd (omega (arith, lt))
 moved_next t zero o (x ∷ xs) lt e = ap (λ y. y ∷ xs) (sym e)
 moved_next t (suc n) o [] lt e = absurd (omega (arith, lt))
 moved_next t (suc n) o (x ∷ xs) lt e = ap (λ ys. after_slot t x ∷ ys) (moved_next t n o xs (omega (arith, lt)) e)
 
-moved_past : (t n : ℕ) (slots : List (Option PlainUserCall)) → slot_at slots n ≡ None → moved_first t n slots ≡ moved_first t (suc n) slots
+moved_past : (t n : ℕ) (slots : List (Option PlainUserCall)) → call_slot_at slots n ≡ None → moved_first t n slots ≡ moved_first t (suc n) slots
 moved_past t zero [] e = refl
 moved_past t zero (x ∷ xs) e = ap (λ y. y ∷ xs) (e ∙ sym (ap (after_slot t) e))
 moved_past t (suc n) [] e = refl
@@ -64,9 +64,9 @@ seconds_are t (Some call ∷ xs) = next_is (user_second call t).next (map (after
 pub seconds_seated : (t k : ℕ) (slots : List (Option PlainUserCall)) → AreSeated k slots → AreSeated k (map (after_slot t) slots)
 seconds_seated t k [] h = tt
 seconds_seated t k (None ∷ xs) h = (tt, seconds_seated t (suc k) xs h.1)
-seconds_seated t k (Some call ∷ xs) h = (subst (λ n. IsSeat n (live_of (user_second call t).next)) h.0.0 (seat_of call.channel (user_second call t).next (second_keeps call t) (subst IsChannel (sym h.0.0) h.0.1)), seconds_seated t (suc k) xs h.1)
+seconds_seated t k (Some call ∷ xs) h = (subst (λ n. IsCallSeat n (live_call_of (user_second call t).next)) h.0.0 (seat_of call.channel (user_second call t).next (second_keeps call t) (subst IsChannel (sym h.0.0) h.0.1)), seconds_seated t (suc k) xs h.1)
 
-pub seconds_free : (t c : ℕ) (slots : List (Option PlainUserCall)) → slot_at slots c ≡ None → slot_at (map (after_slot t) slots) c ≡ None
+pub seconds_free : (t c : ℕ) (slots : List (Option PlainUserCall)) → call_slot_at slots c ≡ None → call_slot_at (map (after_slot t) slots) c ≡ None
 seconds_free t c [] e = refl
 seconds_free t zero (x ∷ xs) e = ap (after_slot t) e
 seconds_free t (suc c) (x ∷ xs) e = seconds_free t c xs e
@@ -121,7 +121,7 @@ pub none_passed : (t : ℕ) (slots : List (Option PlainUserCall)) (ms : List Boo
 none_passed t slots ms = record { moved = refl; maintenance = refl; said_is = refl; spoken = nothing_spoken 32 0; size = refl }
 
 pub passed_none : (t : ℕ) (slots : List (Option PlainUserCall)) (ms : List Bool) (i : ℕ) (now : List (Option PlainUserCall)) (left : List Bool) (said : List (Option Outgoing))
-    → i < length slots → slot_at slots i ≡ None → Passed t slots ms i now left said → Passed t slots ms (i + 1) now left said
+    → i < length slots → call_slot_at slots i ≡ None → Passed t slots ms i now left said → Passed t slots ms (i + 1) now left said
 passed_none t slots ms i now left said lt none p =
     let rest : live_calls (drop i slots) ≡ live_calls (drop (i + 1) slots) = ap live_calls (rest_is slots i lt) ∙ ap (λ o. live_calls (o ∷ drop (i + 1) slots)) none in
     let one : suc i ≡ i + 1 = omega arith in
@@ -134,8 +134,8 @@ passed_none t slots ms i now left said lt none p =
     }
 
 pub passed_call : (t : ℕ) (slots : List (Option PlainUserCall)) (ms : List Bool) (i : ℕ) (now now' : List (Option PlainUserCall)) (left left' : List Bool) (said said' : List (Option Outgoing)) (call : PlainUserCall) (step : Transition PlainUserCall) (n : ℕ)
-    → i < length slots → AreSeated 0 slots → slot_at slots i ≡ Some call → step ≡ user_second call t → n ≡ call.channel
-    → now' ≡ slice_set now n (live_of step.next) → left' ≡ settle_maintenance n step.next left → said' ≡ slice_set said i step.reply
+    → i < length slots → AreSeated 0 slots → call_slot_at slots i ≡ Some call → step ≡ user_second call t → n ≡ call.channel
+    → now' ≡ slice_set now n (live_call_of step.next) → left' ≡ settle_maintenance n step.next left → said' ≡ slice_set said i step.reply
     → Passed t slots ms i now left said → Passed t slots ms (i + 1) now' left' said'
 passed_call t slots ms i now now' left left' said said' call step n lt seated at is on now-is left-is said-is p =
     let seat = seat_at 0 i i call slots (omega arith) at seated in
@@ -143,8 +143,8 @@ passed_call t slots ms i now now' left left' said said' call step n lt seated at
     let rest : live_calls (drop i slots) ≡ call ∷ live_calls (drop (i + 1) slots) = ap live_calls (rest_is slots i lt) ∙ ap (λ o. live_calls (o ∷ drop (i + 1) slots)) at in
     let one : suc i ≡ i + 1 = omega arith in
     record {
-      moved = now-is ∙ ap₂ (λ k xs. slice_set xs k (live_of step.next)) here p.moved
-          ∙ moved_next t i (live_of step.next) slots lt (ap (after_slot t) at ∙ sym (ap (λ (s : Transition PlainUserCall). live_of s.next) is))
+      moved = now-is ∙ ap₂ (λ k xs. slice_set xs k (live_call_of step.next)) here p.moved
+          ∙ moved_next t i (live_call_of step.next) slots lt (ap (after_slot t) at ∙ sym (ap (λ (s : Transition PlainUserCall). live_call_of s.next) is))
           ∙ ap (λ k. moved_first t k slots) one;
       maintenance = ap (second_maintenance t (live_calls (drop (i + 1) slots))) (left-is ∙ ap₂ (λ k (s : Transition PlainUserCall). settle_maintenance k s.next left) on is)
           ∙ ap (λ cs. second_maintenance t cs left) (sym rest) ∙ p.maintenance;
@@ -155,7 +155,7 @@ passed_call t slots ms i now now' left left' said said' call step n lt seated at
     }
 
 pub passed_by : (t : ℕ) (slots : List (Option PlainUserCall)) (ms : List Bool) (i : ℕ) (now now' : List (Option PlainUserCall)) (left left' : List Bool) (said said' : List (Option Outgoing))
-    → i < length slots → slot_at slots i ≡ None → now' ≡ now → left' ≡ left → said' ≡ said → Passed t slots ms i now left said → Passed t slots ms (i + 1) now' left' said'
+    → i < length slots → call_slot_at slots i ≡ None → now' ≡ now → left' ≡ left → said' ≡ said → Passed t slots ms i now left said → Passed t slots ms (i + 1) now' left' said'
 passed_by t slots ms i now now' left left' said said' lt none now-is left-is said-is p =
     subst (λ xs. Passed t slots ms (i + 1) xs left' said') (sym now-is)
     (subst (λ bs. Passed t slots ms (i + 1) now bs said') (sym left-is)
@@ -183,11 +183,11 @@ all_passed t slots ms i now left said le p =
 
 -- ---- the channels that are held
 
-pub held_none : (slots : List (Option PlainUserCall)) (i : ℕ) (held ms : List Bool) → i < length slots → slot_at slots i ≡ None
+pub held_none : (slots : List (Option PlainUserCall)) (i : ℕ) (held ms : List Bool) → i < length slots → call_slot_at slots i ≡ None
     → with_held (live_calls (drop i slots)) held ≡ with_held (live_calls slots) ms → with_held (live_calls (drop (i + 1) slots)) held ≡ with_held (live_calls slots) ms
 held_none slots i held ms lt none h = ap (λ cs. with_held cs held) (sym (ap live_calls (rest_is slots i lt) ∙ ap (λ o. live_calls (o ∷ drop (i + 1) slots)) none)) ∙ h
 
-pub held_call : (slots : List (Option PlainUserCall)) (i n : ℕ) (held held' ms : List Bool) (call : PlainUserCall) → i < length slots → slot_at slots i ≡ Some call → n ≡ call.channel → held' ≡ slice_set held n true
+pub held_call : (slots : List (Option PlainUserCall)) (i n : ℕ) (held held' ms : List Bool) (call : PlainUserCall) → i < length slots → call_slot_at slots i ≡ Some call → n ≡ call.channel → held' ≡ slice_set held n true
     → with_held (live_calls (drop i slots)) held ≡ with_held (live_calls slots) ms → with_held (live_calls (drop (i + 1) slots)) held' ≡ with_held (live_calls slots) ms
 held_call slots i n held held' ms call lt at on is h =
     ap (with_held (live_calls (drop (i + 1) slots))) (is ∙ ap (λ k. slice_set held k true) on)
@@ -197,11 +197,11 @@ pub held_all : (slots : List (Option PlainUserCall)) (i : ℕ) (held ms : List B
 held_all slots i held ms le h = ap (λ xs. with_held (live_calls xs) held) (sym (drop_all i slots le)) ∙ h
 
 abbrev pub IsFreeBelow : ℕ → List (Option PlainUserCall) → List Bool → Type 0
-IsFreeBelow i slots held = (c : ℕ) → c < i → is_marked held c ≡ false → slot_at slots c ≡ None
+IsFreeBelow i slots held = (c : ℕ) → c < i → is_marked held c ≡ false → call_slot_at slots c ≡ None
 
-pub below_none : (slots : List (Option PlainUserCall)) (i : ℕ) (held : List Bool) → slot_at slots i ≡ None → IsFreeBelow i slots held → IsFreeBelow (i + 1) slots held
+pub below_none : (slots : List (Option PlainUserCall)) (i : ℕ) (held : List Bool) → call_slot_at slots i ≡ None → IsFreeBelow i slots held → IsFreeBelow (i + 1) slots held
 below_none slots i held none h c lt unset = decide (c == i)
-    (λ e. subst (λ k. slot_at slots k ≡ None) (sym (eqb-true c i e)) none)
+    (λ e. subst (λ k. call_slot_at slots k ≡ None) (sym (eqb-true c i e)) none)
     (λ e. h c (omega (arith, lt, apart c i e)) unset)
   where
     apart : (a b : ℕ) → (a == b) ≡ false → a ≢ b
@@ -212,7 +212,7 @@ below_call slots i n held held' here added others h c lt unset = decide (c == n)
     (λ e. absurd (false≢true (sym unset ∙ ap (is_marked held') (eqb-true c n e) ∙ added)))
     (λ e. let ne : c ≢ n = λ q. false≢true (sym e ∙ eq-eqb c n q) in h c (omega (arith, lt, here, ne)) (sym (others c ne) ∙ unset))
 
-past : (slots : List (Option PlainUserCall)) (c : ℕ) → length slots ≤ c → slot_at slots c ≡ None
+past : (slots : List (Option PlainUserCall)) (c : ℕ) → length slots ≤ c → call_slot_at slots c ≡ None
 past [] c le = refl
 past (x ∷ xs) zero le = absurd (omega (arith, le))
 past (x ∷ xs) (suc c) le = past xs c (omega (arith, le))
@@ -249,7 +249,7 @@ turn_begun calls said blocked blocked' next n call out channel on added others h
 }
 
 pub begin_value : (t : ℕ) (number : List ℕ) (n : ℕ) (calls : List (Option PlainUserCall)) (said : List (Option Outgoing)) (blocked blocked' : List Bool) (next : ℕ) (call : PlainUserCall) (out : Outgoing)
-    → length calls ≡ 32 → IsChannel n → AreSeated 0 calls → slot_at calls n ≡ None → call ≡ user_calling next n number t → out ≡ setup_of next n number → blocked' ≡ slice_set blocked n true
+    → length calls ≡ 32 → IsChannel n → AreSeated 0 calls → call_slot_at calls n ≡ None → call ≡ user_calling next n number t → out ≡ setup_of next n number → blocked' ≡ slice_set blocked n true
     → ◌≡◌ {A = Begun} (record { calls = live_calls (slice_set calls n (Some call)); said = slice_set said n (Some out); blocked = blocked'; next = next + 1 })
     (begin_call t number n (record { calls = live_calls calls; said = said; blocked = blocked; next = next }))
 begin_value t number n calls said blocked blocked' next call out size channel seated none call-is out-is blocked-is =

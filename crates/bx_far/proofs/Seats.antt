@@ -7,8 +7,8 @@ use Rattle.bx_calls.specs.PlainCalls.{PlainUserCall}
 use Rattle.bx_calls.specs.declared.transition.Next.{Next}
 use Rattle.bx_calls.specs.declared.transition.Next.TheVariants.{Live, Over, Broken}
 use Rattle.bx_far.specs.FarDay.{first_call, is_on, insert_call, settle_calls, next_then}
-use Rattle.bx_far.specs.Seats.{live_calls, IsSeat, AreSeated}
-use Rattle.bx_far.specs.Inside.{slot_at, live_of}
+use Rattle.bx_far.specs.Seats.{live_calls, IsCallSeat, AreSeated}
+use Rattle.bx_far.specs.Inside.{call_slot_at, live_call_of}
 
 pub none≢some : {X : Type 0} (x : X) → None ≡ Some x → ⊥
 none≢some x e = false≢true (ap is_some e)
@@ -29,7 +29,7 @@ none_on j n [] lt h = refl
 none_on j n (None ∷ xs) lt h = none_on (suc j) n xs (omega (arith, lt)) h.1
 none_on j n (Some call ∷ xs) lt h = rw (eq_false call.channel n (λ e. absurd (omega (arith, lt, e, h.0.0)))) (none_on (suc j) n xs (omega (arith, lt)) h.1)
 
-pub holder_is : (j c n : ℕ) (slots : List (Option PlainUserCall)) → n ≡ j + c → AreSeated j slots → first_call (is_on n) (live_calls slots) ≡ slot_at slots c
+pub holder_is : (j c n : ℕ) (slots : List (Option PlainUserCall)) → n ≡ j + c → AreSeated j slots → first_call (is_on n) (live_calls slots) ≡ call_slot_at slots c
 holder_is j c n [] e h = refl
 holder_is j zero n (None ∷ xs) e h = none_on (suc j) n xs (omega (arith, e)) h.1
 holder_is j (suc c) n (None ∷ xs) e h = holder_is (suc j) c n xs (omega (arith, e)) h.1
@@ -38,13 +38,13 @@ holder_is j (suc c) n (Some call ∷ xs) e h = rw (eq_false call.channel n (λ q
 
 -- ---- what became of a call
 
-pub next_is : (next : Next PlainUserCall) (xs : List (Option PlainUserCall)) → live_calls (live_of next ∷ xs) ≡ next_then next (live_calls xs)
+pub next_is : (next : Next PlainUserCall) (xs : List (Option PlainUserCall)) → live_calls (live_call_of next ∷ xs) ≡ next_then next (live_calls xs)
 next_is (Live call) xs = refl
 next_is Over xs = refl
 next_is Broken xs = refl
 
-pub settle_is : (j c n : ℕ) (next : Next PlainUserCall) (call : PlainUserCall) (slots : List (Option PlainUserCall)) → n ≡ j + c → AreSeated j slots → slot_at slots c ≡ Some call
-    → live_calls (slice_set slots c (live_of next)) ≡ settle_calls n next (live_calls slots)
+pub settle_is : (j c n : ℕ) (next : Next PlainUserCall) (call : PlainUserCall) (slots : List (Option PlainUserCall)) → n ≡ j + c → AreSeated j slots → call_slot_at slots c ≡ Some call
+    → live_calls (slice_set slots c (live_call_of next)) ≡ settle_calls n next (live_calls slots)
 settle_is j c n next call [] e h at = absurd (none≢some call at)
 settle_is j zero n next call (None ∷ xs) e h at = absurd (none≢some call at)
 settle_is j (suc c) n next call (None ∷ xs) e h at = settle_is (suc j) c n next call xs (omega (arith, e)) h.1 at
@@ -58,7 +58,7 @@ insert_first j new [] lt h = refl
 insert_first j new (None ∷ xs) lt h = insert_first (suc j) new xs (omega (arith, lt)) h.1
 insert_first j new (Some x ∷ xs) lt h = rw (lt_true new.channel x.channel (omega (arith, lt, h.0.0))) refl
 
-pub insert_is : (j c : ℕ) (new : PlainUserCall) (slots : List (Option PlainUserCall)) → new.channel ≡ j + c → c < length slots → slot_at slots c ≡ None → AreSeated j slots
+pub insert_is : (j c : ℕ) (new : PlainUserCall) (slots : List (Option PlainUserCall)) → new.channel ≡ j + c → c < length slots → call_slot_at slots c ≡ None → AreSeated j slots
     → live_calls (slice_set slots c (Some new)) ≡ insert_call new (live_calls slots)
 insert_is j c new [] e lt at h = absurd (omega (arith, lt))
 insert_is j zero new (None ∷ xs) e lt at h = sym (insert_first (suc j) new xs (omega (arith, e)) h.1)
@@ -68,12 +68,12 @@ insert_is j (suc c) new (Some x ∷ xs) e lt at h = rw (lt_false new.channel x.c
 
 -- ---- seats
 
-pub seated_set : (j c n : ℕ) (o : Option PlainUserCall) (slots : List (Option PlainUserCall)) → n ≡ j + c → IsSeat n o → AreSeated j slots → AreSeated j (slice_set slots c o)
+pub seated_set : (j c n : ℕ) (o : Option PlainUserCall) (slots : List (Option PlainUserCall)) → n ≡ j + c → IsCallSeat n o → AreSeated j slots → AreSeated j (slice_set slots c o)
 seated_set j c n o [] e seat h = h
-seated_set j zero n o (x ∷ xs) e seat h = (subst (λ k. IsSeat k o) (omega (arith, e)) seat, h.1)
+seated_set j zero n o (x ∷ xs) e seat h = (subst (λ k. IsCallSeat k o) (omega (arith, e)) seat, h.1)
 seated_set j (suc c) n o (x ∷ xs) e seat h = (h.0, seated_set (suc j) c n o xs (omega (arith, e)) seat h.1)
 
-pub seat_at : (j c n : ℕ) (call : PlainUserCall) (slots : List (Option PlainUserCall)) → n ≡ j + c → slot_at slots c ≡ Some call → AreSeated j slots → (call.channel ≡ n) × IsChannel n
+pub seat_at : (j c n : ℕ) (call : PlainUserCall) (slots : List (Option PlainUserCall)) → n ≡ j + c → call_slot_at slots c ≡ Some call → AreSeated j slots → (call.channel ≡ n) × IsChannel n
 seat_at j c n call [] e at h = absurd (none≢some call at)
-seat_at j zero n call (x ∷ xs) e at h = subst (λ k. (call.channel ≡ k) × IsChannel k) (omega (arith, e)) (subst (IsSeat j) at h.0)
+seat_at j zero n call (x ∷ xs) e at h = subst (λ k. (call.channel ≡ k) × IsChannel k) (omega (arith, e)) (subst (IsCallSeat j) at h.0)
 seat_at j (suc c) n call (x ∷ xs) e at h = seat_at (suc j) c n call xs (omega (arith, e)) at h.1

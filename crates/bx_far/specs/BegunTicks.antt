@@ -6,12 +6,12 @@ use Rattle.bx_calls.specs.PlainCalls.{PlainUserCall}
 use Rattle.bx_calls.specs.UserTable.{user_second, user_unlinked}
 use Rattle.bx_channels.specs.Marks.{is_marked}
 use Rattle.bx_far.specs.Seats.{AreSeated}
-use Rattle.bx_far.specs.Inside.{live_of, slot_at}
+use Rattle.bx_far.specs.Inside.{live_call_of, call_slot_at}
 
 -- what a second leaves in a slot
 abbrev pub after_slot : ℕ → Option PlainUserCall → Option PlainUserCall
 after_slot t None = None
-after_slot t (Some call) = live_of (user_second call t).next
+after_slot t (Some call) = live_call_of (user_second call t).next
 
 -- and what one without a link does
 abbrev pub later_slot : ℕ → Option PlainUserCall → Option PlainUserCall
@@ -29,7 +29,7 @@ AreSpoken k (o ∷ os) = IsSpoken k o × AreSpoken (suc k) os
 
 -- a channel that is not blocked is not held
 abbrev pub IsFree : List (Option PlainUserCall) → List Bool → Type 0
-IsFree calls blocked = (c : ℕ) → is_marked blocked c ≡ false → slot_at calls c ≡ None
+IsFree calls blocked = (c : ℕ) → is_marked blocked c ≡ false → call_slot_at calls c ≡ None
 
 pub record IsBegunTick (calls : List (Option PlainUserCall)) (said : List (Option Outgoing)) (blocked : List Bool) (next : ℕ) : Type 0 where
   pub size : length calls ≡ 32

@@ -4,32 +4,32 @@ use Rattle.bx_far.specs.declared.row.ScriptRow.{ScriptRow}
 use Rattle.bx_far.specs.declared.row.ScriptRow.TheVariants.{Follows, Calls}
 use Rattle.bx_far.specs.declared.fault.ScriptFault.{ScriptFault}
 use Rattle.bx_far.specs.declared.fault.ScriptFault.TheVariants as f
-use Rattle.bx_far.specs.ScriptRows.{IsRowOf, IsRowFault}
+use Rattle.bx_far.specs.ScriptRows.{IsScriptRowOf, IsScriptRowFault}
 use Rattle.bx_text.specs.declared.rows_fault.RowsFault.{RowsFault}
 use Rattle.bx_text.specs.declared.rows_fault.RowsFault.TheVariants as rows
 use Rattle.bx_calls.specs.PlainCalls.{PlainUserCall}
 use Rattle.bx_calls.specs.declared.transition.Next.{Next}
 use Rattle.bx_calls.specs.declared.transition.Next.TheVariants.{Live, Over, Broken}
 
-abbrev pub IsRowRead : ℕ → ℕ → List (List ℕ) → Result ScriptRow ScriptFault → Type 0
-IsRowRead columns row fields (Ok entry) = IsRowOf columns fields entry
-IsRowRead columns row fields (Err e) = IsRowFault columns row fields e
+abbrev pub IsScriptRowRead : ℕ → ℕ → List (List ℕ) → Result ScriptRow ScriptFault → Type 0
+IsScriptRowRead columns row fields (Ok entry) = IsScriptRowOf columns fields entry
+IsScriptRowRead columns row fields (Err e) = IsScriptRowFault columns row fields e
 
 -- a fault of rows as one of a script
-abbrev pub told_as : RowsFault ScriptFault → ScriptFault
-told_as rows.BadHeader = f.BadHeader
-told_as (rows.Row e) = e
-told_as rows.TooMany = f.TooMany
-told_as rows.Memory = f.Memory
+abbrev pub script_told_as : RowsFault ScriptFault → ScriptFault
+script_told_as rows.BadHeader = f.BadHeader
+script_told_as (rows.Row e) = e
+script_told_as rows.TooMany = f.TooMany
+script_told_as rows.Memory = f.Memory
 
-abbrev pub slot_at : List (Option PlainUserCall) → ℕ → Option PlainUserCall
-slot_at slots c = slice_index_or slots c None
+abbrev pub call_slot_at : List (Option PlainUserCall) → ℕ → Option PlainUserCall
+call_slot_at slots c = slice_index_or slots c None
 
 -- what is left in the slot of a call of which this became
-abbrev pub live_of : Next PlainUserCall → Option PlainUserCall
-live_of (Live call) = Some call
-live_of Over = None
-live_of Broken = None
+abbrev pub live_call_of : Next PlainUserCall → Option PlainUserCall
+live_call_of (Live call) = Some call
+live_call_of Over = None
+live_call_of Broken = None
 
 -- how many rows call at this moment, and how many after it
 abbrev pub calls_now : ℕ → List ScriptRow → ℕ

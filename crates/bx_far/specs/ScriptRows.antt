@@ -21,15 +21,15 @@ number_of field = if is_number field then Some field else None
 abbrev pub is_seconds : List ℕ → Bool
 is_seconds field = nat_le 1 (length field) && nat_le (length field) 6 && list_all is_ascii_digit field && nat_le (decimal_value field) 100000
 
-abbrev pub seconds_of : List ℕ → Option ℕ
-seconds_of field = if is_seconds field then Some (decimal_value field) else None
+abbrev pub script_seconds_of : List ℕ → Option ℕ
+script_seconds_of field = if is_seconds field then Some (decimal_value field) else None
 
 -- a B channel, in one or two digits
-abbrev pub names_channel : List ℕ → Bool
-names_channel field = nat_le (length field) 2 && list_all is_ascii_digit field && is_channel (decimal_value field)
+abbrev pub is_channel_text : List ℕ → Bool
+is_channel_text field = nat_le (length field) 2 && list_all is_ascii_digit field && is_channel (decimal_value field)
 
-abbrev pub channel_of : List ℕ → Option ℕ
-channel_of field = if names_channel field then Some (decimal_value field) else None
+abbrev pub script_channel_of : List ℕ → Option ℕ
+script_channel_of field = if is_channel_text field then Some (decimal_value field) else None
 
 abbrev pub policy_word : List ℕ → ℕ → Option Policy
 policy_word name seconds =
@@ -53,7 +53,7 @@ calls_at moment (Some number) (Some channel) = Some (Calls number moment channel
 calls_at moment _ _ = None
 
 abbrev pub calls_row : List ℕ → ℕ → List ℕ → Option ScriptRow
-calls_row called moment channel = if moment == 0 then None else calls_at moment (number_of called) (channel_of channel)
+calls_row called moment channel = if moment == 0 then None else calls_at moment (number_of called) (script_channel_of channel)
 
 -- the channel of a row that does not call is empty, and so is a fourth field where there is none
 abbrev pub policy_row : List (List ℕ) → ℕ → Option ScriptRow
@@ -62,23 +62,23 @@ policy_row fields seconds =
     then option_and_then (follows_row (field_of fields 0)) (policy_word (field_of fields 1) seconds)
     else None
 
-abbrev pub row_in : ℕ → List (List ℕ) → ℕ → Option ScriptRow
-row_in columns fields seconds =
+abbrev pub script_row_in : ℕ → List (List ℕ) → ℕ → Option ScriptRow
+script_row_in columns fields seconds =
     if (columns == 4) && bytes_eq (field_of fields 1) (codes "call")
     then calls_row (field_of fields 0) seconds (field_of fields 3)
     else policy_row fields seconds
 
 -- the row of these fields, under a header of this many columns
-abbrev pub row_of : ℕ → List (List ℕ) → Option ScriptRow
-row_of columns fields = option_and_then (row_in columns fields) (seconds_of (field_of fields 2))
+abbrev pub script_row_of : ℕ → List (List ℕ) → Option ScriptRow
+script_row_of columns fields = option_and_then (script_row_in columns fields) (script_seconds_of (field_of fields 2))
 
 -- the fields are those of this row
-pub record IsRowOf (columns : ℕ) (fields : List (List ℕ)) (row : ScriptRow) : Type 0 where
+pub record IsScriptRowOf (columns : ℕ) (fields : List (List ℕ)) (row : ScriptRow) : Type 0 where
   pub wide : length fields ≡ columns
-  pub row_is : row_of columns fields ≡ Some row
+  pub row_is : script_row_of columns fields ≡ Some row
 
 -- the first fault of a row
-abbrev pub IsRowFault : ℕ → ℕ → List (List ℕ) → ScriptFault → Type 0
-IsRowFault columns row fields (f.WrongColumns r) = (r ≡ row) × (length fields ≢ columns)
-IsRowFault columns row fields (f.BadEntry r) = (r ≡ row) × (length fields ≡ columns) × (row_of columns fields ≡ None)
-IsRowFault columns row fields e = ⊥
+abbrev pub IsScriptRowFault : ℕ → ℕ → List (List ℕ) → ScriptFault → Type 0
+IsScriptRowFault columns row fields (f.WrongColumns r) = (r ≡ row) × (length fields ≢ columns)
+IsScriptRowFault columns row fields (f.BadEntry r) = (r ≡ row) × (length fields ≡ columns) × (script_row_of columns fields ≡ None)
+IsScriptRowFault columns row fields e = ⊥

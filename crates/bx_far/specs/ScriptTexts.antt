@@ -5,27 +5,27 @@ use Rattle.bx_text.specs.Forms.{Form}
 use Rattle.bx_text.specs.Records.{field_of}
 use Rattle.bx_text.specs.Rows.{HasRows, IsFirstFault}
 use Rattle.bx_text.specs.declared.rows_fault.RowsFault.TheVariants as rows
-use Rattle.bx_far.specs.ScriptRows.{IsRowOf, IsRowFault}
+use Rattle.bx_far.specs.ScriptRows.{IsScriptRowOf, IsScriptRowFault}
 use Rattle.bx_far.specs.declared.row.ScriptRow.{ScriptRow}
 use Rattle.bx_far.specs.declared.fault.ScriptFault.{ScriptFault}
 use Rattle.bx_far.specs.declared.fault.ScriptFault.TheVariants as f
 
-abbrev pub has_base : List (List ℕ) → Bool
-has_base fields = bytes_eq (field_of fields 0) (codes "number") && bytes_eq (field_of fields 1) (codes "policy")
+abbrev pub has_script_base : List (List ℕ) → Bool
+has_script_base fields = bytes_eq (field_of fields 0) (codes "number") && bytes_eq (field_of fields 1) (codes "policy")
     && bytes_eq (field_of fields 2) (codes "seconds")
 
-abbrev pub has_channel : List (List ℕ) → Bool
-has_channel fields = has_base fields && bytes_eq (field_of fields 3) (codes "channel")
+abbrev pub has_channel_column : List (List ℕ) → Bool
+has_channel_column fields = has_script_base fields && bytes_eq (field_of fields 3) (codes "channel")
 
 -- how many columns the rows have under this header, if it is one
-abbrev pub header_columns : List (List ℕ) → Option ℕ
-header_columns fields =
-    if (length fields == 3) && has_base fields then Some 3
-    else (if (length fields == 4) && has_channel fields then Some 4 else None)
+abbrev pub script_columns : List (List ℕ) → Option ℕ
+script_columns fields =
+    if (length fields == 3) && has_script_base fields then Some 3
+    else (if (length fields == 4) && has_channel_column fields then Some 4 else None)
 
 -- what the rows of a script are
 abbrev pub script_form : Form ScriptRow ScriptFault
-script_form = record { columns_under = header_columns; IsRow = IsRowOf; IsRowFault = IsRowFault }
+script_form = record { columns_under = script_columns; IsRow = IsScriptRowOf; IsRowFault = IsScriptRowFault }
 
 -- the text has just these rows
 abbrev pub IsScript : List ℕ → List ScriptRow → Type 0

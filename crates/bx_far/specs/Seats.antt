@@ -13,13 +13,13 @@ live_calls (None ∷ slots) = live_calls slots
 live_calls (Some call ∷ slots) = call ∷ live_calls slots
 
 -- a call stands in the slot of its channel
-abbrev pub IsSeat : ℕ → Option PlainUserCall → Type 0
-IsSeat k None = ⊤
-IsSeat k (Some call) = (call.channel ≡ k) × IsChannel k
+abbrev pub IsCallSeat : ℕ → Option PlainUserCall → Type 0
+IsCallSeat k None = ⊤
+IsCallSeat k (Some call) = (call.channel ≡ k) × IsChannel k
 
 abbrev pub AreSeated : ℕ → List (Option PlainUserCall) → Type 0
 AreSeated k [] = ⊤
-AreSeated k (slot ∷ slots) = IsSeat k slot × AreSeated (suc k) slots
+AreSeated k (slot ∷ slots) = IsCallSeat k slot × AreSeated (suc k) slots
 
 abbrev pub calls_later : ℕ → List ScriptRow → ℕ
 calls_later t [] = 0

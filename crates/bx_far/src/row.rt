@@ -3,8 +3,8 @@
 ghost use Rattle.std.specs.Prelude.{◌≡◌};
 ghost use Rattle.std.specs.Str.{bytes_eq};
 ghost use Rattle.csv.specs.Records.{fields_of};
-ghost use Rattle.bx_far.specs.ScriptRows.{number_of, seconds_of, channel_of, policy_word, follows_row, calls_row, row_of};
-ghost use Rattle.bx_far.specs.Inside.{IsRowRead};
+ghost use Rattle.bx_far.specs.ScriptRows.{number_of, script_seconds_of, script_channel_of, policy_word, follows_row, calls_row, script_row_of};
+ghost use Rattle.bx_far.specs.Inside.{IsScriptRowRead};
 
 use crate::fault::ScriptFault;
 use bx_calls::Policy;
@@ -36,7 +36,7 @@ fn number(field: &[u8]) -> Option<Number>
 
 /// Seconds, in 1 to 6 digits: 0 to 100,000.
 fn seconds(field: &[u8]) -> Option<u32>
-    ensures { result ≡ seconds_of field.now }
+    ensures { result ≡ script_seconds_of field.now }
 {
     if field.is_empty() || field.len() > 6 || !all_digits(field) {
         return None;
@@ -51,7 +51,7 @@ fn seconds(field: &[u8]) -> Option<u32>
 
 /// A B channel, in one or two digits.
 fn channel(field: &[u8]) -> Option<Channel>
-    ensures { result ≡ channel_of field.now }
+    ensures { result ≡ script_channel_of field.now }
 {
     if field.len() > 2 || !all_digits(field) {
         return None;
@@ -127,7 +127,7 @@ fn calls(called: &[u8], moment: u32, channel_field: &[u8]) -> Option<ScriptRow>
 
 /// The row of these fields, under a header of this many columns.
 fn row_of(fields: &ByteRecord, columns: usize) -> Option<ScriptRow>
-    ensures { result ≡ row_of columns (fields_of fields.now) }
+    ensures { result ≡ script_row_of columns (fields_of fields.now) }
 {
     let called = field(fields, 0);
     let name = field(fields, 1);
@@ -149,7 +149,7 @@ pub(crate) fn script_row(
     columns: usize,
     row: u16,
 ) -> Result<ScriptRow, ScriptFault>
-    ensures { IsRowRead columns row (fields_of fields.now) result }
+    ensures { IsScriptRowRead columns row (fields_of fields.now) result }
 {
     if fields.len() != columns {
         return Err(ScriptFault::WrongColumns(row));

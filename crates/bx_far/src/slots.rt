@@ -5,7 +5,7 @@ ghost use Rattle.bx_q931.specs.Messages.{PlainMessage};
 ghost use Rattle.bx_calls.specs.Said.{said_of};
 ghost use Rattle.bx_far.specs.FarDay.{far_names, first_call, settle_maintenance};
 ghost use Rattle.bx_far.specs.Seats.{AreSeated, live_calls};
-ghost use Rattle.bx_far.specs.Inside.{live_of, slot_at};
+ghost use Rattle.bx_far.specs.Inside.{live_call_of, call_slot_at};
 
 use bx_base::ChannelSet;
 use bx_calls::{Next, UserCall};
@@ -27,7 +27,7 @@ pub(crate) fn first_named(
     requires size { length calls.now ≡ 32 }
     requires seated { AreSeated 0 calls.now }
     ensures first { (m : PlainMessage) → result ≡ first_call (far_names (said_of reference flag m)) (live_calls calls.now) }
-    ensures seat { IfSome result (λ call. slot_at calls.now call.channel ≡ Some call) }
+    ensures seat { IfSome result (λ call. call_slot_at calls.now call.channel ≡ Some call) }
 {
     for i in 0..32 {
         let slot = calls[i];
@@ -47,7 +47,7 @@ pub(crate) fn settle(
     channel: Channel,
     next: Next<UserCall>,
 )
-    ensures calls { calls.new ≡ slice_set calls.old channel (live_of next) }
+    ensures calls { calls.new ≡ slice_set calls.old channel (live_call_of next) }
     ensures maintenance { maintenance.new ≡ settle_maintenance channel next maintenance.old }
 {
     let slot = channel.number() as usize;

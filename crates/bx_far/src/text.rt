@@ -5,8 +5,8 @@ ghost use Rattle.csv.specs.Reading.{reader_state, source_of};
 ghost use Rattle.csv.specs.declared.parser.State.TheVariants as st;
 ghost use Rattle.csv.specs.Records.{fields_of};
 ghost use Rattle.bx_text.specs.Records.{IsReading};
-ghost use Rattle.bx_far.specs.ScriptTexts.{header_columns, IsScript, IsScriptFault};
-ghost use Rattle.bx_far.specs.Inside.{told_as};
+ghost use Rattle.bx_far.specs.ScriptTexts.{script_columns, IsScript, IsScriptFault};
+ghost use Rattle.bx_far.specs.Inside.{script_told_as};
 
 use crate::fault::ScriptFault;
 use crate::row::{ScriptRow, script_row};
@@ -18,7 +18,7 @@ use std::io::Read;
 
 /// How many columns the rows under this header have.
 fn columns_under(header: &ByteRecord) -> Option<usize>
-    ensures { result ≡ header_columns (fields_of header.now) }
+    ensures { result ≡ script_columns (fields_of header.now) }
 {
     let has_base = is_named(header, 0, "number")
         && is_named(header, 1, "policy")
@@ -71,7 +71,7 @@ impl RowForm for ScriptRows {
 
 /// A fault of rows as one of a script.
 fn told_as(fault: RowsFault<ScriptFault>) -> ScriptFault
-    ensures { result ≡ told_as fault }
+    ensures { result ≡ script_told_as fault }
 {
     match fault {
         RowsFault::BadHeader => ScriptFault::BadHeader,

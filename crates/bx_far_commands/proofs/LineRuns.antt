@@ -6,7 +6,7 @@ use Rattle.bx_day_openings.specs.Openings.{IsFarOpening}
 use Rattle.bx_day_openings.specs.declared.hours.Hours.{Hours}
 use Rattle.bx_devices.specs.declared.watched.Watched.{Watched}
 use Rattle.bx_far.specs.FarDay.{FarDay}
-use Rattle.bx_far_commands.specs.LineDays.{IsLineRun, IsFarLineDay, did_on, asked_turns, capture_of}
+use Rattle.bx_far_commands.specs.LineDays.{IsLineRun, IsFarLineDay, asked_turns, capture_of}
 use Rattle.bx_far_commands.specs.LineInside.{RunsSeen, RunsTo}
 use Rattle.bx_journal.specs.Files.{holds_unknown, may_leave_any, no_moment, any_since, has_failed_in}
 use Rattle.bx_journal.specs.declared.disk_files.SystemFile.{SystemFile}
@@ -14,7 +14,7 @@ use Rattle.bx_journal.specs.declared.file.FileDisk.{FileDisk}
 use Rattle.bx_line_world.proofs.Never.{never_ends}
 use Rattle.bx_line_world.specs.Days.{GoesByLine}
 use Rattle.bx_line_world.specs.Posts.{no_post}
-use Rattle.bx_line_world.specs.Wires.{WireAct}
+use Rattle.bx_line_world.specs.Wires.{WireAct, did_on}
 use Rattle.bx_line_world.specs.declared.line_world.LineWorld.{LineWorld}
 use Rattle.bx_line_world.specs.declared.udp.UdpWire.{UdpWire}
 use Rattle.bx_live.specs.Acts.{Act}
@@ -26,9 +26,9 @@ module _ {W F : Type 0} (did : W → List WireAct → W → Type 0) where
   abbrev pub Goes : LineWorld W (FileDisk (SystemFile F)) → List Act → LineWorld W (FileDisk (SystemFile F)) → Type 0
   Goes = Chain (GoesByLine did holds_unknown may_leave_any no_moment any_since has_failed_in)
 
-  pub to_moment : (H : Type 0) (contents : F → Option (List ℕ)) (wire : W) (schedule : Schedule) (turns : ℕ) (from to : FarDay) (file : Option (Watched F)) (first moment : ℕ) (is_whole : Bool) (old new : LineWorld W (FileDisk (SystemFile F))) → old.line.wire ≡ wire → old.schedule ≡ schedule → old.record.disk ≡ None → old.line.end.network ≡ false
+  pub to_moment : (H : Type 0) (contents : F → Option (List ℕ)) (wire : W) (schedule : Schedule) (turns : ℕ) (from to : FarDay) (file : Option (Watched F)) (first moment : ℕ) (is_whole : Bool) (old new : LineWorld W (FileDisk (SystemFile F))) → old.line.wire ≡ wire → old.schedule ≡ schedule → old.log.disk ≡ None → old.line.end.network ≡ false
       → old.line.post ≡ no_post → RunsSeen H Goes old new turns from to contents file first is_whole → moment ≡ to.moment → RunsTo H did contents wire schedule turns from file first moment is_whole
-  to_moment H contents wire schedule turns from to file first moment is_whole old new over scheduled unrecorded side nothing seen at = record {
+  to_moment H contents wire schedule turns from to file first moment is_whole old new over scheduled unlogged side nothing seen at = record {
     to = to;
     run = record {
       acts = seen.acts;
@@ -36,7 +36,7 @@ module _ {W F : Type 0} (did : W → List WireAct → W → Type 0) where
       new = new;
       over = over;
       scheduled = scheduled;
-      unrecorded = unrecorded;
+      unlogged = unlogged;
       side = side;
       nothing_told = nothing;
       run = seen.run;

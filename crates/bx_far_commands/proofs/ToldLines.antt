@@ -4,15 +4,15 @@ use Rattle.std.specs.Prelude.{IfErr}
 use Rattle.bx_capture.specs.Captures.{Keeps, is_unfaulted}
 use Rattle.bx_check_commands.specs.declared.fault.CommandFault.TheVariants.{CannotWrite}
 use Rattle.bx_day_openings.specs.CaptureOpenings.{IsFileFor}
-use Rattle.bx_day_openings.specs.OpeningRefusals.{IsNoFile}
+use Rattle.bx_day_openings.specs.OpeningRefusals.{IsNoFile, IsNoLine}
 use Rattle.bx_day_openings.specs.declared.fault.DayCommandFault.{DayCommandFault}
 use Rattle.bx_day_openings.specs.declared.fault.DayCommandFault.TheVariants.{Command}
 use Rattle.bx_devices.specs.Watching.{device_of}
 use Rattle.bx_devices.specs.declared.watched.Watched.{Watched}
 use Rattle.bx_far_commands.specs.LineDays.{AreCaptured, IsFarLineDone, capture_of}
-use Rattle.bx_far_commands.specs.LineRefusals.{StopsFarLine, IsNoLine, IsFarLineRefusal}
+use Rattle.bx_far_commands.specs.LineRefusals.{StopsFarLine, IsFarLineRefusal}
 use Rattle.bx_frames.specs.declared.frame.Frame.TheVariants as frames
-use Rattle.bx_live.specs.Acts.{Act, Began, Dropped, Recorded, Synced, Wrote, Read, Took, EndedDay}
+use Rattle.bx_live.specs.Acts.{Act, Began, Dropped, Logged, Synced, Wrote, Read, Took, EndedDay}
 use Rattle.bx_live_parts.specs.Chains.{Chain, chain_first}
 use Rattle.bx_request.specs.declared.request.CaptureWords.{CaptureWords}
 use Rattle.bx_request.specs.declared.request.FarLineRequest.{FarLineRequest}
@@ -49,7 +49,7 @@ module _ {W F : Type 0} (contents : F → Option (List ℕ)) where
   none_captured (Took None ∷ acts) old new chain none = let (mid, step, more) = chain_first (Captures contents) old new (Took None) acts chain in none_captured acts mid new more (step.file ∙ none)
   none_captured (Began second begin ∷ acts) old new chain none = let (mid, step, more) = chain_first (Captures contents) old new (Began second begin) acts chain in none_captured acts mid new more (step.file ∙ none)
   none_captured (Dropped loss ∷ acts) old new chain none = let (mid, step, more) = chain_first (Captures contents) old new (Dropped loss) acts chain in none_captured acts mid new more (step.file ∙ none)
-  none_captured (Recorded event done ∷ acts) old new chain none = let (mid, step, more) = chain_first (Captures contents) old new (Recorded event done) acts chain in none_captured acts mid new more (step.file ∙ none)
+  none_captured (Logged event done ∷ acts) old new chain none = let (mid, step, more) = chain_first (Captures contents) old new (Logged event done) acts chain in none_captured acts mid new more (step.file ∙ none)
   none_captured (Synced done ∷ acts) old new chain none = let (mid, step, more) = chain_first (Captures contents) old new (Synced done) acts chain in none_captured acts mid new more (step.file ∙ none)
   none_captured (EndedDay ∷ acts) old new chain none = let (mid, step, more) = chain_first (Captures contents) old new EndedDay acts chain in none_captured acts mid new more (step.file ∙ none)
 

@@ -15,7 +15,7 @@ abbrev pub ended_line : ℕ → List ℕ
 ended_line moment = codes "ended at " ++ (decimal moment ++ 10 ∷ [])
 
 -- the moment that such a day has reached after events: as many seconds as there were ticks, and no more than a day has
-pub record IsFarRun (moment : ℕ) : Type 0 where
+pub record IsFarMoment (moment : ℕ) : Type 0 where
   pub opened : FarDay
   pub opens : IsFarOpening opened
   pub events : List Event
@@ -26,17 +26,17 @@ pub record IsFarRun (moment : ℕ) : Type 0 where
 abbrev pub far_packets : ℕ → List Event → FarDay → List ℕ
 far_packets first = told far_next (packets_for far_next far_sent (λ (d : FarDay). d.moment) far_due first)
 
-abbrev pub far_packets_of : {moment : ℕ} → IsFarRun moment → ℕ → List ℕ
+abbrev pub far_packets_of : {moment : ℕ} → IsFarMoment moment → ℕ → List ℕ
 far_packets_of run first = far_packets first run.events run.opened
 
 -- this moment was written
 pub record IsFarTold (old new : Option (List ℕ)) : Type 0 where
   pub moment : ℕ
-  pub run : IsFarRun moment
+  pub run : IsFarMoment moment
   pub written : Appends old new (ended_line moment)
 
 -- or a prefix of its line
 pub record IsFarCut (old new : Option (List ℕ)) : Type 0 where
   pub moment : ℕ
-  pub run : IsFarRun moment
+  pub run : IsFarMoment moment
   pub written : AppendsPrefix old new (ended_line moment)

@@ -21,7 +21,7 @@ use Rattle.bx_journal.specs.declared.disk_files.SystemFile.{SystemFile}
 use Rattle.bx_journal.specs.declared.file.FileDisk.{FileDisk}
 use Rattle.bx_line_world.specs.Days.{GoesByLine}
 use Rattle.bx_line_world.specs.Posts.{no_post}
-use Rattle.bx_line_world.specs.Wires.{WireAct}
+use Rattle.bx_line_world.specs.Wires.{WireAct, did_on}
 use Rattle.bx_line_world.specs.declared.line_world.LineWorld.{LineWorld}
 use Rattle.bx_line_world.specs.declared.udp.UdpWire.{UdpWire}
 use Rattle.bx_live.specs.Acts.{Act, ended}
@@ -44,10 +44,6 @@ abbrev pub capture_of : FarLineRequest → Option CaptureWords
 capture_of request = option_map (λ (name : Bor (List ℕ)). record { file = name; day = Some (request.hours.date, request.hours.zone) }) request.capture
 
 -- ---- the run
-
--- what is known of what a socket did: nothing
-abbrev pub did_on : {H : Type 0} → UdpWire H → List WireAct → UdpWire H → Type 0
-did_on old acts new = Unit {0}
 
 -- A run of a far end's day over a world, from here to there: the world has gone through these acts to the end of the day. The day is the one
 -- after just the events that the acts tell, and has come to its last second, unless the world has said that no second begins any more.
@@ -75,7 +71,7 @@ pub record IsLineRun {W F : Type 0} (H : Type 0) (did : W → List WireAct → W
   pub new : LineWorld W (FileDisk (SystemFile F))
   pub over : old.line.wire ≡ wire
   pub scheduled : old.schedule ≡ schedule
-  pub unrecorded : old.record.disk ≡ None
+  pub unlogged : old.log.disk ≡ None
   pub side : old.line.end.network ≡ false
   pub nothing_told : old.line.post ≡ no_post
   pub run : IsFarRunIn (Chain (GoesByLine did holds_unknown may_leave_any no_moment any_since has_failed_in)) old acts new turns from to

@@ -2,7 +2,7 @@
 use Rattle.std.specs.Prelude.{ℕ, false, List, Option, ◌⊎◌}
 use Rattle.bx_day_openings.specs.AtHand.{HasFarEnd, HasFile}
 use Rattle.bx_day_openings.specs.Hours.{AreHours, IsNoHours}
-use Rattle.bx_day_openings.specs.OpeningRefusals.{IsNoFarEnd, IsNoFile, IsUnheard, IsUnconnected}
+use Rattle.bx_day_openings.specs.OpeningRefusals.{IsNoFarEnd, IsNoFile, IsNoLine}
 use Rattle.bx_day_openings.specs.declared.fault.DayCommandFault.{DayCommandFault}
 use Rattle.bx_day_openings.specs.declared.hours.Hours.{Hours}
 use Rattle.bx_devices.specs.Watching.{device_of}
@@ -15,10 +15,6 @@ use Rattle.bx_request.specs.declared.request.FarLineRequest.{FarLineRequest}
 -- when the day is
 abbrev pub HasHours : DayHours → Type 0
 HasHours words = (hours : Hours) × AreHours words hours
-
--- there is no socket at this end's port, or it may not speak to the other
-abbrev pub IsNoLine : DayCommandFault → Type 0
-IsNoLine fault = IsUnheard fault ⊎ IsUnconnected fault
 
 -- why it stops: what it needs is opened in this order, and what is tested first is answered
 abbrev pub StopsFarLine : {F : Type 0} → (F → Option (List ℕ)) → FarLineRequest → DayCommandFault → Type 0

@@ -10,7 +10,7 @@ use bx_far_live::run_far_live;
 use bx_journal::{FileDisk, SystemFile};
 use bx_line_world::{Line, LineWorld, Wire};
 use bx_live::World;
-use bx_live_parts::{Record, Schedule};
+use bx_live_parts::{Log, Schedule};
 use bx_world::{CapturedWorld, Telling};
 use std::fs::OpenFile;
 use std::io::Write;
@@ -75,7 +75,7 @@ pub(crate) fn run_over_wire<'h, H: Clock + Eprint, W: Wire + Drop, F: Write + Op
     ensures { RunsTo H W.did F.contents wire schedule turns far view.file view.first result.0 result.1 }
 {
     let mut far = far;
-    let kept = Record::<FileDisk<SystemFile<F>>> { disk: None };
+    let kept = Log::<FileDisk<SystemFile<F>>> { disk: None };
     let world = LineWorld::new(schedule, Line::new(false, wire), kept);
     let seen = run_seen(rt, &mut far, world, turns, view);
     (far.moment(), seen.is_whole)

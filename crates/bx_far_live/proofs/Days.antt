@@ -11,7 +11,7 @@ use Rattle.bx_live.specs.declared.world.Begin.TheVariants as begins
 use Rattle.bx_live.specs.declared.world.Loss.{Loss}
 use Rattle.bx_live.specs.Acts.{Act, Began, Wrote, Read}
 use Rattle.bx_far_live.specs.Events.{far_events}
-use Rattle.bx_far_live.specs.Runs.{Place, Between, Owing, Hearing, Losing, IsDue, IsFarRun, next, day_at, owing}
+use Rattle.bx_far_live.specs.Runs.{FarPlace, Between, Owing, Hearing, Losing, IsFarActDue, IsFarRun, far_run_next, far_day_at, far_owing}
 use Rattle.bx_far_live.proofs.Due.{by_due}
 
 -- the day after the events of acts
@@ -20,8 +20,8 @@ far_after acts d = far_live_after (far_events acts) d
 
 -- ---- the day after one act
 
-abbrev Steps : Place → Act → Type 0
-Steps p act = day_at (next p act) ≡ far_after (act ∷ []) (day_at p)
+abbrev Steps : FarPlace → Act → Type 0
+Steps p act = far_day_at (far_run_next p act) ≡ far_after (act ∷ []) (far_day_at p)
 
 begun_day : (d : FarDay) (begin : Begin) → Steps (Between d) (Began (d.moment + 1) begin)
 begun_day d begins.Late = refl
@@ -31,11 +31,11 @@ wrote_day : (d : FarDay) (room : ℕ) (text : List ℕ) (done : Bool) → Steps 
 wrote_day d room text true = refl
 wrote_day d room text false = refl
 
-owing_day : (d : FarDay) (room : ℕ) (text : List ℕ) → day_at (owing d room text) ≡ d
+owing_day : (d : FarDay) (room : ℕ) (text : List ℕ) → far_day_at (far_owing d room text) ≡ d
 owing_day d room [] = refl
 owing_day d room (octet ∷ text) = refl
 
-either_day : (b : Bool) (d : FarDay) (loss : Loss) → day_at (if b then Between d else Losing d loss) ≡ d
+either_day : (b : Bool) (d : FarDay) (loss : Loss) → far_day_at (if b then Between d else Losing d loss) ≡ d
 either_day true d loss = refl
 either_day false d loss = refl
 
@@ -45,7 +45,7 @@ heard_day d room (Ok (frames.EndOfTurn said)) = either_day (said == d.moment) d 
 heard_day d room (Ok frames.EndOfDay) = refl
 heard_day d room (Err fault) = refl
 
-pub step_day : (p : Place) (act : Act) → IsDue p act → Steps p act
+pub step_day : (p : FarPlace) (act : Act) → IsFarActDue p act → Steps p act
 step_day = by_due Steps begun_day wrote_day heard_day (λ d loss. refl) (λ d. refl) (λ d. refl)
 
 -- ---- and after more
@@ -55,6 +55,6 @@ more_taken (Began second begins.Late) acts d = refl
 more_taken (Read room (Ok frames.EndOfDay)) acts d = refl
 more_taken act acts d = refl
 
-pub run_day : (p q : Place) (acts : List Act) → IsFarRun p acts q → day_at q ≡ far_after acts (day_at p)
-run_day p q [] e = ap day_at (sym e)
-run_day p q (act ∷ acts) (due, goes) = run_day (next p act) q acts goes ∙ (ap (far_after acts) (step_day p act due) ∙ sym (more_taken act acts (day_at p)))
+pub run_day : (p q : FarPlace) (acts : List Act) → IsFarRun p acts q → far_day_at q ≡ far_after acts (far_day_at p)
+run_day p q [] e = ap far_day_at (sym e)
+run_day p q (act ∷ acts) (due, goes) = run_day (far_run_next p act) q acts goes ∙ (ap (far_after acts) (step_day p act due) ∙ sym (more_taken act acts (far_day_at p)))

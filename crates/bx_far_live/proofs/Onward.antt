@@ -12,7 +12,7 @@ use Rattle.bx_live.specs.declared.world.Begin.TheVariants as begins
 use Rattle.bx_live.specs.declared.world.Loss.{Loss}
 use Rattle.bx_live.specs.Acts.{Act, Began, Wrote, Read}
 use Rattle.bx_far_live.specs.Events.{far_events}
-use Rattle.bx_far_live.specs.Runs.{Place, Between, Owing, Hearing, Losing, IsDue, IsFarRun, next, day_at, owing}
+use Rattle.bx_far_live.specs.Runs.{FarPlace, Between, Owing, Hearing, Losing, IsFarActDue, IsFarRun, far_run_next, far_day_at, far_owing}
 use Rattle.bx_far_live.specs.Written.{IsFarWrittenFor}
 use Rattle.bx_far_live.proofs.Due.{by_due}
 use Rattle.bx_far_live.proofs.Days.{far_after, more_taken, step_day}
@@ -33,23 +33,23 @@ after_on (x ∷ xs) act d = more_taken x (xs ++ act ∷ []) d ∙ (after_on xs a
 
 -- ---- what is owed
 
-abbrev Owes : FarDay → List Act → Place → Type 0
+abbrev Owes : FarDay → List Act → FarPlace → Type 0
 Owes d acts (Owing day room text) = IsFarWrittenFor d acts text
 Owes d acts point = Unit {0}
 
-record Stands (d : FarDay) (acts : List Act) (p : Place) : Type 0 where
-  day : day_at p ≡ far_after acts d
+record Stands (d : FarDay) (acts : List Act) (p : FarPlace) : Type 0 where
+  day : far_day_at p ≡ far_after acts d
   owes : Owes d acts p
 
 module _ (d : FarDay) (acts : List Act) where
   abbrev after_act : Act → List Act
   after_act act = acts ++ act ∷ []
 
-  abbrev KeepsOwed : Place → Act → Type 0
-  KeepsOwed p act = Stands d acts p → Owes d (after_act act) (next p act)
+  abbrev KeepsOwed : FarPlace → Act → Type 0
+  KeepsOwed p act = Stands d acts p → Owes d (after_act act) (far_run_next p act)
 
   -- an event that is told by the act, by the day as it is before it
-  told_now : (p : Place) (act : Act) (event : Event) → far_events (act ∷ []) ≡ OnLink event ∷ [] → Stands d acts p → IsFarWrittenFor d (after_act act) (far_text (day_at p) event)
+  told_now : (p : FarPlace) (act : Act) (event : Event) → far_events (act ∷ []) ≡ OnLink event ∷ [] → Stands d acts p → IsFarWrittenFor d (after_act act) (far_text (far_day_at p) event)
   told_now p act event tells stands = record {
     earlier = far_events acts;
     event = event;
@@ -65,7 +65,7 @@ module _ (d : FarDay) (acts : List Act) where
   owed_wrote day room text true stands = tt
   owed_wrote day room text false stands = tt
 
-  owing_owes : (day : FarDay) (room : ℕ) (text : List ℕ) (before : List Act) → IsFarWrittenFor d before text → Owes d before (owing day room text)
+  owing_owes : (day : FarDay) (room : ℕ) (text : List ℕ) (before : List Act) → IsFarWrittenFor d before text → Owes d before (far_owing day room text)
   owing_owes day room [] before written = tt
   owing_owes day room (octet ∷ text) before written = written
 
@@ -81,23 +81,23 @@ module _ (d : FarDay) (acts : List Act) where
   owed_heard day room (Ok frames.EndOfDay) stands = tt
   owed_heard day room (Err fault) stands = tt
 
-  keeps_owed : (p : Place) (act : Act) → IsDue p act → KeepsOwed p act
+  keeps_owed : (p : FarPlace) (act : Act) → IsFarActDue p act → KeepsOwed p act
   keeps_owed = by_due KeepsOwed owed_begun owed_wrote owed_heard (λ day loss stands. tt) (λ day stands. tt) (λ day stands. tt)
 
-  stands_on : (p : Place) (act : Act) → IsDue p act → Stands d acts p → Stands d (after_act act) (next p act)
+  stands_on : (p : FarPlace) (act : Act) → IsFarActDue p act → Stands d acts p → Stands d (after_act act) (far_run_next p act)
   stands_on p act due stands = record {
     day = step_day p act due ∙ (ap (far_after (act ∷ [])) stands.day ∙ sym (after_on acts act d));
     owes = keeps_owed p act due stands;
   }
 
-  written_now : (p : Place) (octets : List ℕ) (done : Bool) → IsDue p (Wrote octets done) → Stands d acts p → IsFarWrittenFor d acts octets
+  written_now : (p : FarPlace) (octets : List ℕ) (done : Bool) → IsFarActDue p (Wrote octets done) → Stands d acts p → IsFarWrittenFor d acts octets
   written_now (Owing day room text) octets done due stands = subst (IsFarWrittenFor d acts) (sym due) stands.owes
   written_now p octets done due stands = absurd due
 
-written_after : (d : FarDay) (acts : List Act) (p : Place) → Stands d acts p → (before following : List Act) (octets : List ℕ) (done : Bool) (to : Place) → IsFarRun p (before ++ Wrote octets done ∷ following) to → IsFarWrittenFor d (acts ++ before) octets
+written_after : (d : FarDay) (acts : List Act) (p : FarPlace) → Stands d acts p → (before following : List Act) (octets : List ℕ) (done : Bool) (to : FarPlace) → IsFarRun p (before ++ Wrote octets done ∷ following) to → IsFarWrittenFor d (acts ++ before) octets
 written_after d acts p stands [] following octets done to (due, goes) = subst (λ xs. IsFarWrittenFor d xs octets) (sym (append-nil acts)) (written_now d acts p octets done due stands)
 written_after d acts p stands (act ∷ before) following octets done to (due, goes) =
-    subst (λ xs. IsFarWrittenFor d xs octets) (append_assoc acts (act ∷ []) before) (written_after d (acts ++ act ∷ []) (next p act) (stands_on d acts p act due stands) before following octets done to goes)
+    subst (λ xs. IsFarWrittenFor d xs octets) (append_assoc acts (act ∷ []) before) (written_after d (acts ++ act ∷ []) (far_run_next p act) (stands_on d acts p act due stands) before following octets done to goes)
 
-pub written_law : (d : FarDay) (before following : List Act) (octets : List ℕ) (done : Bool) (to : Place) → IsFarRun (Between d) (before ++ Wrote octets done ∷ following) to → IsFarWrittenFor d before octets
+pub written_law : (d : FarDay) (before following : List Act) (octets : List ℕ) (done : Bool) (to : FarPlace) → IsFarRun (Between d) (before ++ Wrote octets done ∷ following) to → IsFarWrittenFor d before octets
 written_law d before following octets done to run = written_after d [] (Between d) (record { day = refl; owes = tt }) before following octets done to run

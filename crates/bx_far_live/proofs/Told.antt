@@ -10,11 +10,11 @@ use Rattle.bx_far.specs.Course.{far_next, far_live_next, far_text}
 use Rattle.bx_live.specs.declared.world.Begin.{Begin}
 use Rattle.bx_live.specs.declared.world.Begin.TheVariants as begins
 use Rattle.bx_live.specs.declared.world.Loss.{Loss}
-use Rattle.bx_live.specs.Acts.{Act, Began, Recorded, Synced, Wrote, Read}
+use Rattle.bx_live.specs.Acts.{Act, Began, Logged, Synced, Wrote, Read}
 use Rattle.bx_live.specs.Written.{written, goes_well}
 use Rattle.bx_far_live.specs.Events.{far_events, told_on_link}
-use Rattle.bx_far_live.specs.Runs.{Place, Between, Owing, Hearing, Losing, IsDue, IsFarRun, next, day_at, owing}
-use Rattle.bx_far_live.specs.Written.{owed_at}
+use Rattle.bx_far_live.specs.Runs.{FarPlace, Between, Owing, Hearing, Losing, IsFarActDue, IsFarRun, far_run_next, far_day_at, far_owing}
+use Rattle.bx_far_live.specs.Written.{far_owed_at}
 use Rattle.bx_far_live.proofs.Due.{by_due}
 use Rattle.bx_far_live.proofs.Days.{far_after, step_day}
 
@@ -34,21 +34,21 @@ more_told (Read room (Ok (frames.Message octets))) acts d = ap (λ xs. xs ++ far
 more_told act acts d = refl
 
 first_well : (act : Act) (acts : List Act) → goes_well (act ∷ acts) ≡ true → goes_well (act ∷ []) ≡ true
-first_well (Recorded event false) acts e = e
+first_well (Logged event false) acts e = e
 first_well (Synced false) acts e = e
 first_well (Wrote octets false) acts e = e
 first_well act acts e = refl
 
 rest_well : (act : Act) (acts : List Act) → goes_well (act ∷ acts) ≡ true → goes_well acts ≡ true
-rest_well (Recorded event false) acts e = cc
+rest_well (Logged event false) acts e = cc
 rest_well (Synced false) acts e = cc
 rest_well (Wrote octets false) acts e = cc
 rest_well act acts e = e
 
 -- ---- what is written, and what is owed after it
 
-abbrev Tells : Place → Act → Type 0
-Tells p act = goes_well (act ∷ []) ≡ true → written (act ∷ []) ++ owed_at (next p act) ≡ owed_at p ++ far_told (act ∷ []) (day_at p)
+abbrev Tells : FarPlace → Act → Type 0
+Tells p act = goes_well (act ∷ []) ≡ true → written (act ∷ []) ++ far_owed_at (far_run_next p act) ≡ far_owed_at p ++ far_told (act ∷ []) (far_day_at p)
 
 tells_begun : (d : FarDay) (begin : Begin) → Tells (Between d) (Began (d.moment + 1) begin)
 tells_begun d begins.Joined well = sym (append-nil (far_text d Tick))
@@ -58,11 +58,11 @@ tells_wrote : (d : FarDay) (room : ℕ) (text : List ℕ) (done : Bool) → Tell
 tells_wrote d room text true well = append-nil (text ++ [])
 tells_wrote d room text false well = cc
 
-owes_text : (d : FarDay) (room : ℕ) (text : List ℕ) → owed_at (owing d room text) ≡ text ++ []
+owes_text : (d : FarDay) (room : ℕ) (text : List ℕ) → far_owed_at (far_owing d room text) ≡ text ++ []
 owes_text d room [] = refl
 owes_text d room (octet ∷ text) = sym (append-nil (octet ∷ text))
 
-either_owed : (b : Bool) (d : FarDay) (loss : Loss) → owed_at (if b then Between d else Losing d loss) ≡ []
+either_owed : (b : Bool) (d : FarDay) (loss : Loss) → far_owed_at (if b then Between d else Losing d loss) ≡ []
 either_owed true d loss = refl
 either_owed false d loss = refl
 
@@ -72,21 +72,21 @@ tells_heard d room (Ok (frames.EndOfTurn said)) well = either_owed (said == d.mo
 tells_heard d room (Ok frames.EndOfDay) well = refl
 tells_heard d room (Err fault) well = refl
 
-tells : (p : Place) (act : Act) → IsDue p act → Tells p act
+tells : (p : FarPlace) (act : Act) → IsFarActDue p act → Tells p act
 tells = by_due Tells tells_begun tells_wrote tells_heard (λ d loss well. refl) (λ d well. refl) (λ d well. refl)
 
-pub told_law : (from to : Place) (acts : List Act) → IsFarRun from acts to → goes_well acts ≡ true → written acts ++ owed_at to ≡ owed_at from ++ far_told acts (day_at from)
-told_law from to [] e well = ap owed_at (sym e) ∙ sym (append-nil (owed_at from))
+pub told_law : (from to : FarPlace) (acts : List Act) → IsFarRun from acts to → goes_well acts ≡ true → written acts ++ far_owed_at to ≡ far_owed_at from ++ far_told acts (far_day_at from)
+told_law from to [] e well = ap far_owed_at (sym e) ∙ sym (append-nil (far_owed_at from))
 told_law from to (act ∷ acts) (due, goes) well =
     let w = written (act ∷ []) in
-    let on = next from act in
-    let d = day_at from in
+    let on = far_run_next from act in
+    let d = far_day_at from in
     let here = far_told (act ∷ []) d in
-    let there = far_told acts (day_at on) in
-    ap (λ xs. xs ++ owed_at to) (more_written act acts)
-    ∙ (append_assoc w (written acts) (owed_at to)
+    let there = far_told acts (far_day_at on) in
+    ap (λ xs. xs ++ far_owed_at to) (more_written act acts)
+    ∙ (append_assoc w (written acts) (far_owed_at to)
     ∙ (ap (λ xs. w ++ xs) (told_law on to acts goes (rest_well act acts well))
-    ∙ (sym (append_assoc w (owed_at on) there)
+    ∙ (sym (append_assoc w (far_owed_at on) there)
     ∙ (ap (λ xs. xs ++ there) (tells from act due (first_well act acts well))
-    ∙ (append_assoc (owed_at from) here there
-    ∙ ap (λ xs. owed_at from ++ xs) (ap (λ (x : FarDay). here ++ far_told acts x) (step_day from act due) ∙ sym (more_told act acts d)))))))
+    ∙ (append_assoc (far_owed_at from) here there
+    ∙ ap (λ xs. far_owed_at from ++ xs) (ap (λ (x : FarDay). here ++ far_told acts x) (step_day from act due) ∙ sym (more_told act acts d)))))))

@@ -5,7 +5,7 @@ use Rattle.bx_far.specs.FarDay.{FarDay}
 use Rattle.bx_far.specs.Course.{far_live_after, far_text}
 use Rattle.bx_live.specs.Acts.{Act}
 use Rattle.bx_far_live.specs.Events.{far_events}
-use Rattle.bx_far_live.specs.Runs.{Place, Between, Owing, Hearing, Losing, Ending, Done}
+use Rattle.bx_far_live.specs.Runs.{FarPlace, Between, Owing, Hearing, Losing, Ending, Done}
 
 -- octets that are written after these acts: they are those of the last event that the acts tell, which came on a link, by the day as it was
 -- before it
@@ -16,10 +16,10 @@ pub record IsFarWrittenFor (d : FarDay) (acts : List Act) (octets : List ℕ) : 
   pub text : octets ≡ far_text (far_live_after earlier d) event
 
 -- what is still to be written
-abbrev pub owed_at : Place → List ℕ
-owed_at (Owing d room text) = text
-owed_at (Between d) = []
-owed_at (Hearing d room) = []
-owed_at (Losing d loss) = []
-owed_at (Ending d) = []
-owed_at (Done d) = []
+abbrev pub far_owed_at : FarPlace → List ℕ
+far_owed_at (Owing d room text) = text
+far_owed_at (Between d) = []
+far_owed_at (Hearing d room) = []
+far_owed_at (Losing d loss) = []
+far_owed_at (Ending d) = []
+far_owed_at (Done d) = []

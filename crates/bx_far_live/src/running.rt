@@ -5,7 +5,7 @@ ghost use Rattle.bx_events.specs.Events.{Tick};
 ghost use Rattle.bx_far.specs.Course.{far_next, far_text};
 ghost use Rattle.bx_far_live.specs.Runs.{Between, Owing};
 ghost use Rattle.bx_far_live.specs.Running.{FarRuns};
-ghost use Rattle.bx_far_live.specs.Seconds.{after_second, Rises, RisesBySecond, IsSaid};
+ghost use Rattle.bx_far_live.specs.Seconds.{far_after_second, Rises, FarRisesBySecond, IsSaid};
 ghost use Rattle.bx_far_live.specs.Inside.{or_losing};
 ghost use Rattle.bx_far_live.specs.Laws.{RunsFarDayTo};
 
@@ -38,8 +38,8 @@ fn pass_with_link<W: World>(far: &mut Far, world: &mut W)
 
 /// The next second, where one begins: it is waited for, and the far end ticks in it if there is a link.
 fn run_second<W: World>(far: &mut Far, world: &mut W) -> Second
-    ensures ran { FarRuns W.did world.old world.new (Between far.old) (after_second far.new result) }
-    ensures moment { RisesBySecond far.old far.new result }
+    ensures ran { FarRuns W.did world.old world.new (Between far.old) (far_after_second far.new result) }
+    ensures moment { FarRisesBySecond far.old far.new result }
     ensures said { IsSaid W.did world.old world.new far.old far.new result }
 {
     match world.begin(far.moment() + 1) {

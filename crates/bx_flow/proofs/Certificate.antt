@@ -8,7 +8,7 @@ use Rattle.std.proofs.lemmas.Int.{ints}
 use Rattle.bx_base.specs.Sums.{sum_below}
 use Rattle.bx_base.proofs.SumLemmas.{sum_below-le, sum_below-add, sum_below-same, sum_below-swap, sum_below-mul, sum_below-zero}
 use Rattle.bx_line.specs.Network.{Network, IsNetwork, places_of, gaps_of, arc_at, spans}
-use Rattle.bx_line.specs.Flows.{Flow, IsFlow, CrossesEachGap, is_carried, idle_at, crossing_at}
+use Rattle.bx_line.specs.Flows.{Flow, IsFlow, CrossesEachGap, carries_unit, idle_at, crossing_at}
 use Rattle.bx_line.proofs.Crossings.{crosses_from_flow}
 use Rattle.bx_dist.specs.Residual.{Fits, IsInPart, height_at, row_arc}
 use Rattle.bx_dist.specs.declared.part.Part.{Part}
@@ -35,17 +35,17 @@ module _ (line : Network) (price : ℕ → ℕ) where
   fall_of i = sum_below (gaps_of line) (λ v. cond (spans (arc_at line i) v) (price v) 0)
 
   abbrev pub row_falls : Flow → ℕ
-  row_falls flow = sum_below (length line.arcs) (λ i. cond (is_carried flow i) (fall_of i) 0)
+  row_falls flow = sum_below (length line.arcs) (λ i. cond (carries_unit flow i) (fall_of i) 0)
 
   abbrev pub idle_falls : Flow → ℕ
   idle_falls flow = sum_below (gaps_of line) (λ v. idle_at flow v * price v)
 
-  at_gap : (flow : Flow) → CrossesEachGap line flow → (v : ℕ) → v < gaps_of line → flow.units * price v ≡ idle_at flow v * price v + sum_below (length line.arcs) (λ i. cond (is_carried flow i) (cond (spans (arc_at line i) v) (price v) 0) 0)
+  at_gap : (flow : Flow) → CrossesEachGap line flow → (v : ℕ) → v < gaps_of line → flow.units * price v ≡ idle_at flow v * price v + sum_below (length line.arcs) (λ i. cond (carries_unit flow i) (cond (spans (arc_at line i) v) (price v) 0) 0)
   at_gap flow crosses v h =
       let n = length line.arcs in
       let parts = split flow.units (idle_at flow v) (crossing_at line flow v) (price v) (crosses.crosses v (omega arith)) in
-      let out = sum_below-mul n (λ i. cond (is_carried flow i && spans (arc_at line i) v) 1 0) (price v) in
-      let each = sum_below-same n (λ i. cond (is_carried flow i && spans (arc_at line i) v) 1 0 * price v) (λ i. cond (is_carried flow i) (cond (spans (arc_at line i) v) (price v) 0) 0) (λ i b. both (is_carried flow i) (spans (arc_at line i) v) (price v)) in
+      let out = sum_below-mul n (λ i. cond (carries_unit flow i && spans (arc_at line i) v) 1 0) (price v) in
+      let each = sum_below-same n (λ i. cond (carries_unit flow i && spans (arc_at line i) v) 1 0 * price v) (λ i. cond (carries_unit flow i) (cond (spans (arc_at line i) v) (price v) 0) 0) (λ i b. both (carries_unit flow i) (spans (arc_at line i) v) (price v)) in
       omega (arith, parts, out, each)
 
   -- the falls of all units of a flow
@@ -53,18 +53,18 @@ module _ (line : Network) (price : ℕ → ℕ) where
   all_falls flow crosses =
       let gaps = gaps_of line in
       let n = length line.arcs in
-      let term = λ (v i : ℕ). cond (is_carried flow i) (cond (spans (arc_at line i) v) (price v) 0) 0 in
+      let term = λ (v i : ℕ). cond (carries_unit flow i) (cond (spans (arc_at line i) v) (price v) 0) 0 in
       let each = sum_below-same gaps (λ v. flow.units * price v) (λ v. idle_at flow v * price v + sum_below n (term v)) (at_gap flow crosses) in
       let apart = sum_below-add gaps (λ v. idle_at flow v * price v) (λ v. sum_below n (term v)) in
       let swapped = sum_below-swap gaps n term in
-      let inner = sum_below-same n (λ i. sum_below gaps (λ v. term v i)) (λ i. cond (is_carried flow i) (fall_of i) 0) (λ i h. sum_of_cond gaps (is_carried flow i) (λ v. cond (spans (arc_at line i) v) (price v) 0)) in
+      let inner = sum_below-same n (λ i. sum_below gaps (λ v. term v i)) (λ i. cond (carries_unit flow i) (fall_of i) 0) (λ i h. sum_of_cond gaps (carries_unit flow i) (λ v. cond (spans (arc_at line i) v) (price v) 0)) in
       omega (arith, each, apart, swapped, inner)
 
   -- prices that leave no slack to a flow
   pub record IsTight (flow : Flow) : Type 0 where
     pub idle : (v : ℕ) → v < gaps_of line → idle_at flow v * price v ≡ 0
-    pub taken : (i : ℕ) → i < length line.arcs → is_carried flow i ≡ true → fall_of i ≤ (arc_at line i).pay
-    pub left : (i : ℕ) → i < length line.arcs → is_carried flow i ≡ false → (arc_at line i).pay ≤ fall_of i
+    pub taken : (i : ℕ) → i < length line.arcs → carries_unit flow i ≡ true → fall_of i ≤ (arc_at line i).pay
+    pub left : (i : ℕ) → i < length line.arcs → carries_unit flow i ≡ false → (arc_at line i).pay ≤ fall_of i
 
   one_row : (f g : Bool) (pay fall : ℕ) → (f ≡ true → fall ≤ pay) → (f ≡ false → pay ≤ fall) → cond g pay 0 + cond f fall 0 ≤ cond f pay 0 + cond g fall 0
   one_row true true pay fall t l = omega arith
@@ -75,9 +75,9 @@ module _ (line : Network) (price : ℕ → ℕ) where
   pub tight_pays_most : (flow other : Flow) → CrossesEachGap line flow → CrossesEachGap line other → other.units ≡ flow.units → IsTight flow → paid_by line other ≤ paid_by line flow
   tight_pays_most flow other crosses crosses' same tight =
       let n = length line.arcs in
-      let pays = λ (f : Flow) (i : ℕ). cond (is_carried f i) (arc_at line i).pay 0 in
-      let falls = λ (f : Flow) (i : ℕ). cond (is_carried f i) (fall_of i) 0 in
-      let rowwise = sum_below-le n (λ i. pays other i + falls flow i) (λ i. pays flow i + falls other i) (λ i h. one_row (is_carried flow i) (is_carried other i) (arc_at line i).pay (fall_of i) (tight.taken i h) (tight.left i h)) in
+      let pays = λ (f : Flow) (i : ℕ). cond (carries_unit f i) (arc_at line i).pay 0 in
+      let falls = λ (f : Flow) (i : ℕ). cond (carries_unit f i) (fall_of i) 0 in
+      let rowwise = sum_below-le n (λ i. pays other i + falls flow i) (λ i. pays flow i + falls other i) (λ i h. one_row (carries_unit flow i) (carries_unit other i) (arc_at line i).pay (fall_of i) (tight.taken i h) (tight.left i h)) in
       let none = sum_below-zero (gaps_of line) (λ v. idle_at flow v * price v) tight.idle in
       let units = sum_below-same (gaps_of line) (λ v. other.units * price v) (λ v. flow.units * price v) (λ v h. rw same refl) in
       omega (arith, rowwise, sum_below-add n (pays other) (falls flow), sum_below-add n (pays flow) (falls other), all_falls flow crosses, all_falls other crosses', none, units)
@@ -134,16 +134,16 @@ module _ (part : Part) (line : Network) (flow : Flow) (heights : List ℤ) (netw
   pub idle_tight : (v : ℕ) → v < gaps_of line → idle_at flow v * price_of heights v ≡ 0
   idle_tight v h = idle_none (idle_at flow v) (price_of heights v) (λ some. no_fall (height_at heights v) (height_at heights (v + 1)) (fits (Idle v) (omega arith)) (fits (Back v) (omega arith, some)))
 
-  given : (r : ℕ) → 1 ≤ r → r ≤ length line.arcs → IsInPart part (row_arc line r) → is_carried flow (r - 1) ≡ true → fall_of line (price_of heights) (r - 1) ≤ (row_arc line r).pay
+  given : (r : ℕ) → 1 ≤ r → r ≤ length line.arcs → IsInPart part (row_arc line r) → carries_unit flow (r - 1) ≡ true → fall_of line (price_of heights) (r - 1) ≤ (row_arc line r).pay
   given r named within in_part carried = taken_row _ _ (row_arc line r).pay (fall_of line (price_of heights) (r - 1)) (arc_falls (r - 1) (omega arith)) (fits (Give r) (record { there = record { named = named; within = within; in_part = in_part }; state = carried }))
 
-  taken : (r : ℕ) → 1 ≤ r → r ≤ length line.arcs → IsInPart part (row_arc line r) → is_carried flow (r - 1) ≡ false → (row_arc line r).pay ≤ fall_of line (price_of heights) (r - 1)
+  taken : (r : ℕ) → 1 ≤ r → r ≤ length line.arcs → IsInPart part (row_arc line r) → carries_unit flow (r - 1) ≡ false → (row_arc line r).pay ≤ fall_of line (price_of heights) (r - 1)
   taken r named within in_part left = left_row _ _ (row_arc line r).pay (fall_of line (price_of heights) (r - 1)) (arc_falls (r - 1) (omega arith)) (fits (Take r) (record { there = record { named = named; within = within; in_part = in_part }; state = left }))
 
-  pub row_taken : (i : ℕ) → i < length line.arcs → IsInPart part (arc_at line i) → is_carried flow i ≡ true → fall_of line (price_of heights) i ≤ (arc_at line i).pay
+  pub row_taken : (i : ℕ) → i < length line.arcs → IsInPart part (arc_at line i) → carries_unit flow i ≡ true → fall_of line (price_of heights) i ≤ (arc_at line i).pay
   row_taken i h = let e : i + 1 - 1 ≡ i = omega arith in rw e at (given (i + 1) (omega arith) (omega arith))
 
-  pub row_left : (i : ℕ) → i < length line.arcs → IsInPart part (arc_at line i) → is_carried flow i ≡ false → (arc_at line i).pay ≤ fall_of line (price_of heights) i
+  pub row_left : (i : ℕ) → i < length line.arcs → IsInPart part (arc_at line i) → carries_unit flow i ≡ false → (arc_at line i).pay ≤ fall_of line (price_of heights) i
   row_left i h = let e : i + 1 - 1 ≡ i = omega arith in rw e at (taken (i + 1) (omega arith) (omega arith))
 
 -- a flow whose residual network has fitting potentials is of least cost

@@ -9,7 +9,7 @@ use Rattle.bx_events.specs.Events.{Event}
 use Rattle.bx_frames.specs.Courses.{after, told}
 use Rattle.bx_frames.specs.Reading.{IsRead}
 use Rattle.bx_frames.specs.Talks.{Talk, with_events, stop}
-use Rattle.bx_frames.specs.Heard.{IsWhole, BreaksOff, IsHeard, IsCutShort, Tells, Goes}
+use Rattle.bx_frames.specs.Heard.{IsWholeTalk, BreaksOff, IsHeard, IsCutShort, Tells, TalksThrough}
 use Rattle.bx_frames.specs.declared.fault.LinkFault.{LinkFault}
 use Rattle.bx_frames.specs.declared.frame.Receiver.{Receiver}
 use Rattle.bx_frames.proofs.ReadAnswers.{fails_after, either_first}
@@ -132,7 +132,7 @@ module _ {D R W : Type 0} (next : D → Event → D) (text : D → Event → Lis
   }
 
   -- after what went well
-  pub then_goes : (receiver : Receiver) (result : Result Bool LinkFault) → Goes receiver next text onward remaining contents r1 r2 w1 w2 d1 d2 ys result → Goes receiver next text finds remaining contents r r2 w w2 d d2 (xs ++ ys) result
+  pub then_goes : (receiver : Receiver) (result : Result Bool LinkFault) → TalksThrough receiver next text onward remaining contents r1 r2 w1 w2 d1 d2 ys result → TalksThrough receiver next text finds remaining contents r r2 w w2 d d2 (xs ++ ys) result
   then_goes receiver result p = record {
     day = day_on p.day;
     talk = λ known e. let a = before.talk known e in heard_on finds onward xs receiver known ys result (remaining (device_of r1)) (remaining (device_of r2)) a (p.talk a.is_read.rest a.is_read.is_left);
@@ -162,7 +162,7 @@ module _ {D R W : Type 0} (next : D → Event → D) (text : D → Event → Lis
 -- nothing is to come
 module _ {D R W : Type 0} (next : D → Event → D) (text : D → Event → List ℕ) (finds onward : List ℕ → Talk) (remaining : R → Option (List ℕ)) (contents : W → Option (List ℕ))
     (r r1 : Watched R) (w w1 : Watched W) (d d1 : D) (xs : List Event) (over : (more : List ℕ) → onward more ≡ stop (Ok true) more more) where
-  is_whole : (text : List ℕ) (left : Option (List ℕ)) → IsBeyond finds onward text xs left → IsWhole (finds text) xs (Ok true) left
+  is_whole : (text : List ℕ) (left : Option (List ℕ)) → IsBeyond finds onward text xs left → IsWholeTalk (finds text) xs (Ok true) left
   is_whole text left a =
       let e : finds text ≡ with_events xs (stop (Ok true) a.is_read.rest a.is_read.rest) = ap finds a.is_read.splits ∙ a.splits a.is_read.rest ∙ ap (with_events xs) (over a.is_read.rest) in
       record {
@@ -171,7 +171,7 @@ module _ {D R W : Type 0} (next : D → Event → D) (text : D → Event → Lis
         rest = a.is_read.is_left ∙ sym (ap (λ (t : Talk). Some t.rest) e);
       }
 
-  pub all_goes : (receiver : Receiver) → SoFar next text finds onward remaining contents r r1 w w1 d d1 xs → Goes receiver next text finds remaining contents r r1 w w1 d d1 xs (Ok true)
+  pub all_goes : (receiver : Receiver) → SoFar next text finds onward remaining contents r r1 w w1 d d1 xs → TalksThrough receiver next text finds remaining contents r r1 w w1 d d1 xs (Ok true)
   all_goes receiver p = record {
     day = p.day;
     talk = λ known e. inl (is_whole known (remaining (device_of r1)) (p.talk known e));

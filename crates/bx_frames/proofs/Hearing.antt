@@ -12,7 +12,7 @@ use Rattle.bx_frames.specs.Frames.{Found, frame_in}
 use Rattle.bx_frames.specs.Talks.{Talk, stop, with_events, turn_in}
 use Rattle.bx_frames.specs.Reading.{IsFound, IsCut, Reads}
 use Rattle.bx_frames.specs.Writing.{Sends}
-use Rattle.bx_frames.specs.Heard.{IsHeard, Tells, Goes, Went, no_tick}
+use Rattle.bx_frames.specs.Heard.{IsHeard, Tells, TalksThrough, Went, no_tick}
 use Rattle.bx_frames.specs.declared.fault.LinkFault.{LinkFault}
 use Rattle.bx_frames.specs.declared.fault.LinkFault.TheVariants as link
 use Rattle.bx_frames.specs.declared.fault.LinkFault.TheVariants.{ReadFailed, WrongMoment, EndedInFrame}
@@ -97,7 +97,7 @@ module _ {D R W : Type 0} (next : D → Event → D) (text : D → Event → Lis
 
     -- or its reply not written whole
     pub reply_failed : (w1 : Watched W) (d1 : D) (f : WriteFailed) → d1 ≡ next d (Receive octets.items) → Sends contents w w1 (stopped f) (text d (Receive octets.items))
-        → Goes receiver next text FindsTurn remaining contents r r1 w w1 d d1 One_message (faulty link.WriteFailed)
+        → TalksThrough receiver next text FindsTurn remaining contents r r1 w w1 d d1 One_message (faulty link.WriteFailed)
     reply_failed w1 d1 f step writes = record {
       day = step;
       talk = λ known e.
@@ -125,7 +125,7 @@ module _ {D R W : Type 0} {next : D → Event → D} {text : D → Event → Lis
   -- another frame was read, and the turn is over
   stopped_by : (frame : Frame) → Reads remaining r r1 (gave frame) (frame_in receiver room) → (result : Result Bool LinkFault) (following : List ℕ → List ℕ)
       → ((known : List ℕ) → gave frame ≡ (frame_in receiver room known).answer → turn_in receiver moment room known ≡ stop result (frame_in receiver room known).rest (following known))
-      → (result ≡ Err ReadFailed → ⊥) → (result ≡ Err link.WriteFailed → ⊥) → Goes receiver next text (turn_in receiver moment room) remaining contents r r1 w w d d [] result
+      → (result ≡ Err ReadFailed → ⊥) → (result ≡ Err link.WriteFailed → ⊥) → TalksThrough receiver next text (turn_in receiver moment room) remaining contents r r1 w w d d [] result
   stopped_by frame reads result following so no_read no_write = record {
     day = refl;
     talk = λ known e.
@@ -138,17 +138,17 @@ module _ {D R W : Type 0} {next : D → Event → D} {text : D → Event → Lis
     unfaulted = inl (not_faulted frame (is_faulted r1 ≡ is_faulted r) reads.unfaulted);
   }
 
-  pub ended_right : {said : ℕ} → said ≡ moment → Reads remaining r r1 (end_of_turn_of said) (frame_in receiver room) → Goes receiver next text (turn_in receiver moment room) remaining contents r r1 w w d d [] (gave true)
+  pub ended_right : {said : ℕ} → said ≡ moment → Reads remaining r r1 (end_of_turn_of said) (frame_in receiver room) → TalksThrough receiver next text (turn_in receiver moment room) remaining contents r r1 w w d d [] (gave true)
   ended_right {said} h reads = stopped_by (frames.EndOfTurn said) reads (Ok true) (λ known. (frame_in receiver room known).rest) (λ known e. turn_right receiver moment known room said h e) (λ e. cc) (λ e. cc)
 
-  pub ended_wrong : {said : ℕ} → said ≢ moment → Reads remaining r r1 (end_of_turn_of said) (frame_in receiver room) → Goes receiver next text (turn_in receiver moment room) remaining contents r r1 w w d d [] (faulty WrongMoment)
+  pub ended_wrong : {said : ℕ} → said ≢ moment → Reads remaining r r1 (end_of_turn_of said) (frame_in receiver room) → TalksThrough receiver next text (turn_in receiver moment room) remaining contents r r1 w w d d [] (faulty WrongMoment)
   ended_wrong {said} h reads = stopped_by (frames.EndOfTurn said) reads (Err WrongMoment) (λ known. known) (λ known e. turn_wrong receiver moment known room said h e) (λ e. cc) (λ e. cc)
 
-  pub day_ended : Reads remaining r r1 end_of_day (frame_in receiver room) → Goes receiver next text (turn_in receiver moment room) remaining contents r r1 w w d d [] (gave false)
+  pub day_ended : Reads remaining r r1 end_of_day (frame_in receiver room) → TalksThrough receiver next text (turn_in receiver moment room) remaining contents r r1 w w d d [] (gave false)
   day_ended reads = stopped_by frames.EndOfDay reads (Ok false) (λ known. (frame_in receiver room known).rest) (λ known e. turn_day receiver moment known room e) (λ e. cc) (λ e. cc)
 
   -- a fault was found, or a read failed
-  pub frame_fault : {fault : LinkFault} → Reads remaining r r1 (faulty {A = Frame} fault) (frame_in receiver room) → Goes receiver next text (turn_in receiver moment room) remaining contents r r1 w w d d [] (faulty fault)
+  pub frame_fault : {fault : LinkFault} → Reads remaining r r1 (faulty {A = Frame} fault) (frame_in receiver room) → TalksThrough receiver next text (turn_in receiver moment room) remaining contents r r1 w w d d [] (faulty fault)
   frame_fault {fault} reads = record {
     day = refl;
     talk = λ known e. each known (reads.found known e);
@@ -177,6 +177,6 @@ none_ticked xs ys none still = omega (arith, ticks_more xs ys, none, still)
 
 module _ {D R W : Type 0} {next : D → Event → D} {text : D → Event → List ℕ} (receiver : Receiver) (moment room : ℕ) {remaining : R → Option (List ℕ)} {contents : W → Option (List ℕ)} {r r1 r2 : Watched R} {w w1 w2 : Watched W} {d d1 d2 : D} where
   abbrev pub turn_went : {xs ys : List Event} {result : Result Bool LinkFault} → SoFar next text (turn_in receiver moment 64) (turn_in receiver moment room) remaining contents r r1 w w1 d d1 xs → ticks_of xs ≡ 0
-      → Goes receiver next text (turn_in receiver moment room) remaining contents r1 r2 w1 w2 d1 d2 ys result → ticks_of ys ≡ 0 → Went receiver next text (turn_in receiver moment 64) no_tick remaining contents r r2 w w2 d d2 result
+      → TalksThrough receiver next text (turn_in receiver moment room) remaining contents r1 r2 w1 w2 d1 d2 ys result → ticks_of ys ≡ 0 → Went receiver next text (turn_in receiver moment 64) no_tick remaining contents r r2 w w2 d d2 result
   turn_went {xs} {ys} {result} so_far none p still =
       record { events = xs ++ ys; goes = then_goes next text (turn_in receiver moment 64) (turn_in receiver moment room) remaining contents r r1 r2 w w1 w2 d d1 d2 xs ys so_far receiver result p; ticks = none_ticked xs ys none still }

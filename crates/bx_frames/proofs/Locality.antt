@@ -5,7 +5,7 @@ use Rattle.std.proofs.lemmas.List.{take-append-drop, length-take-le}
 use Rattle.std.proofs.Math.Seq.{take-append_seam, drop-append_seam}
 use Rattle.std.specs.Int.{w16, from_be_bytes}
 use Rattle.arrayvec.specs.ArrayVec.{ArrayVec}
-use Rattle.bx_frames.specs.Frames.{Found, found, and_then, continue_by, octet_in, octets_in, length_in, fits, is_message, frame_of, contents_in, sized_in, kind_of, kind_in, frame_in}
+use Rattle.bx_frames.specs.Frames.{Found, found, and_then, continue_by, octet_in, octets_in, length_in, fits, is_message, frame_of, contents_in, sized_in, frame_kind_of, kind_in, frame_in}
 use Rattle.bx_frames.specs.Reading.{IsCut}
 use Rattle.bx_frames.specs.declared.fault.LinkFault.{LinkFault}
 use Rattle.bx_frames.specs.declared.fault.LinkFault.TheVariants.{EndedInFrame, BadLength, MoreThan64Messages}
@@ -114,4 +114,4 @@ kind_local None room text x e = cc
 kind_local (Some kind) room text x e = then_local length_in (sized_in kind room) length_local (sized_local kind room) text x e
 
 pub frame_local : (receiver : Receiver) (room : ℕ) → IsLocal (frame_in receiver room)
-frame_local receiver room = then_local octet_in (λ octet rest. kind_in (kind_of receiver octet) room rest) octet_local (λ octet. kind_local (kind_of receiver octet) room)
+frame_local receiver room = then_local octet_in (λ octet rest. kind_in (frame_kind_of receiver octet) room rest) octet_local (λ octet. kind_local (frame_kind_of receiver octet) room)

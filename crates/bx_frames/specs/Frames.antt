@@ -61,8 +61,8 @@ abbrev pub is_far : Receiver → Bool
 is_far Exchange = false
 is_far FarEnd = true
 
-abbrev pub kind_of : Receiver → ℕ → Option FrameKind
-kind_of receiver octet = if octet == 1 then Some kinds.Message else if octet == 2 then Some kinds.EndOfTurn else if (octet == 3) && is_far receiver then Some kinds.EndOfDay else None
+abbrev pub frame_kind_of : Receiver → ℕ → Option FrameKind
+frame_kind_of receiver octet = if octet == 1 then Some kinds.Message else if octet == 2 then Some kinds.EndOfTurn else if (octet == 3) && is_far receiver then Some kinds.EndOfDay else None
 
 -- how many octets the contents have
 abbrev pub fits : FrameKind → ℕ → Bool
@@ -99,4 +99,4 @@ kind_in (Some kind) room text = and_then (length_in text) (sized_in kind room)
 
 -- the next frame, of which this receiver is the reader
 abbrev pub frame_in : Receiver → ℕ → List ℕ → Found Frame
-frame_in receiver room text = and_then (octet_in text) (λ octet rest. kind_in (kind_of receiver octet) room rest)
+frame_in receiver room text = and_then (octet_in text) (λ octet rest. kind_in (frame_kind_of receiver octet) room rest)

@@ -15,13 +15,13 @@ use Rattle.bx_frames.specs.declared.frame.Receiver.{Receiver}
 -- ---- what was heard of a text
 
 -- all of it happened, it ended so, and this is left
-pub record IsWhole (talk : Talk) (events : List Event) (result : Result Bool LinkFault) (left : Option (List ℕ)) : Type 0 where
+pub record IsWholeTalk (talk : Talk) (events : List Event) (result : Result Bool LinkFault) (left : Option (List ℕ)) : Type 0 where
   pub all : events ≡ talk.events
   pub ending : result ≡ talk.ending
   pub rest : left ≡ Some talk.rest
 
 -- what was read holds just these events, and breaks off inside a frame
-pub record IsTorn (finds : List ℕ → Talk) (text : List ℕ) (events : List Event) (left : Option (List ℕ)) : Type 0 where
+pub record IsTornTalk (finds : List ℕ → Talk) (text : List ℕ) (events : List Event) (left : Option (List ℕ)) : Type 0 where
   pub read : List ℕ
   pub is_read : IsRead text read left
   pub all : events ≡ (finds read).events
@@ -33,7 +33,7 @@ BreaksOff receiver ending events = (ending ≡ Err EndedInFrame) ⊎ ((ending �
 
 -- what was read holds just these events, and ends after the last frame of them: before the next, or after an end of
 -- turn with whose tick the events of a far end end
-pub record IsUnread (receiver : Receiver) (finds : List ℕ → Talk) (text : List ℕ) (events : List Event) (left : Option (List ℕ)) : Type 0 where
+pub record IsTalkLeft (receiver : Receiver) (finds : List ℕ → Talk) (text : List ℕ) (events : List Event) (left : Option (List ℕ)) : Type 0 where
   pub read : List ℕ
   pub is_read : IsRead text read left
   pub all : events ≡ (finds read).events
@@ -44,7 +44,7 @@ pub record IsUnread (receiver : Receiver) (finds : List ℕ → Talk) (text : Li
 -- all was heard up to the ending; or a read failed inside the frame after these events; or a write failed, and nothing
 -- was read after them
 abbrev pub IsHeard : Receiver → (List ℕ → Talk) → List ℕ → List Event → Result Bool LinkFault → Option (List ℕ) → Type 0
-IsHeard receiver finds text events result left = IsWhole (finds text) events result left ⊎ (((result ≡ Err ReadFailed) × IsTorn finds text events left) ⊎ ((result ≡ Err WriteFailed) × IsUnread receiver finds text events left))
+IsHeard receiver finds text events result left = IsWholeTalk (finds text) events result left ⊎ (((result ≡ Err ReadFailed) × IsTornTalk finds text events left) ⊎ ((result ≡ Err WriteFailed) × IsTalkLeft receiver finds text events left))
 
 -- ---- what was written for events
 
@@ -69,7 +69,7 @@ pub record Tells {D W : Type 0} (next : D → Event → D) (text : D → Event �
 -- ---- both
 
 -- an end has gone through these events, which are what a definition finds in what was read
-pub record Goes {D R W : Type 0} (receiver : Receiver) (next : D → Event → D) (text : D → Event → List ℕ) (finds : List ℕ → Talk) (remaining : R → Option (List ℕ)) (contents : W → Option (List ℕ))
+pub record TalksThrough {D R W : Type 0} (receiver : Receiver) (next : D → Event → D) (text : D → Event → List ℕ) (finds : List ℕ → Talk) (remaining : R → Option (List ℕ)) (contents : W → Option (List ℕ))
     (r r' : Watched R) (w w' : Watched W) (d d' : D) (events : List Event) (result : Result Bool LinkFault) : Type 0 where
   pub day : d' ≡ after next events d
   pub talk : (known : List ℕ) → remaining (device_of r) ≡ Some known → IsHeard receiver finds known events result (remaining (device_of r'))
@@ -82,7 +82,7 @@ pub record Goes {D R W : Type 0} (receiver : Receiver) (next : D → Event → D
 pub record Went {D R W : Type 0} (receiver : Receiver) (next : D → Event → D) (text : D → Event → List ℕ) (finds : List ℕ → Talk) (ticking : Result Bool LinkFault → ℕ → Type 0) (remaining : R → Option (List ℕ))
     (contents : W → Option (List ℕ)) (r r' : Watched R) (w w' : Watched W) (d d' : D) (result : Result Bool LinkFault) : Type 0 where
   pub events : List Event
-  pub goes : Goes receiver next text finds remaining contents r r' w w' d d' events result
+  pub goes : TalksThrough receiver next text finds remaining contents r r' w w' d d' events result
   pub ticks : ticking result (ticks_of events)
 
 -- while an end hears, it does not tick

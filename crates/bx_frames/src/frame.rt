@@ -1,7 +1,7 @@
 //! Frames: a kind octet, the length of the contents in two octets, the high one first, and the contents.
 
 ghost use Rattle.std.specs.Prelude.{◌≡◌};
-ghost use Rattle.bx_frames.specs.Frames.{kind_of, fits};
+ghost use Rattle.bx_frames.specs.Frames.{frame_kind_of, fits};
 
 use bx_q931::Octets;
 
@@ -34,7 +34,7 @@ pub enum Frame {
 impl FrameKind {
     /// The kind of a frame that this receiver reads, by its first octet.
     pub(crate) fn of(receiver: Receiver, octet: u8) -> Option<FrameKind>
-        ensures { result ≡ kind_of receiver octet }
+        ensures { result ≡ frame_kind_of receiver octet }
     {
         match (octet, receiver) {
             (1, _) => Some(FrameKind::Message),

@@ -10,7 +10,7 @@ use Rattle.bx_dist.specs.declared.step.Step.TheVariants.{Idle}
 use Rattle.bx_dist.specs.Residual.{IsOpen, Fits, AreSmall, height_at, step_from, step_to, step_cost}
 use Rattle.bx_dist.specs.Walks.{IsWalk, walk_length, AreLeast, AreDistances, lengths_of}
 use Rattle.bx_dist.proofs.Simple.{RanksRise, pairs_from_simple, simple_from_rising}
-use Rattle.bx_dist.specs.Search.{IsSettled, Shortens}
+use Rattle.bx_dist.specs.Search.{ShortensNothing, Shortens}
 use Rattle.bx_dist.specs.Tight.{last_step}
 use Rattle.bx_dist.proofs.Small.{least_that_fit, small_distances}
 use Rattle.bx_dist.proofs.After.{first_distance, walk_and_step, length_and_step, step_within}
@@ -71,10 +71,10 @@ module _ (part : Part) (line : Network) (flow : Flow) (network : IsNetwork line)
             | inr d ↦ subst (IsLast part line flow new ranks v) (sym (get_or-set_other last (step_to line step) v step (Idle 0) d)) (kept_last v (last_step last v) d (front.by v some h (omega (arith, ints, l, other_at v d))))
           ]
 
-      pub now_settled : IsSettled line new step
+      pub now_settled : ShortensNothing line new step
       now_settled = omega (arith, ints, new_at, from_at)
 
-      still_settled : (t : Step) → 0 < get_or ranks (step_from line t) 0 → IsSettled line lengths t → IsSettled line new t
+      still_settled : (t : Step) → 0 < get_or ranks (step_from line t) 0 → ShortensNothing line lengths t → ShortensNothing line new t
       still_settled t f h =
           let begin = other_at (step_from line t) (apart (step_from line t) f) in
           elim (cases_eq (step_to line t) (step_to line step)) [
@@ -105,7 +105,7 @@ module _ (part : Part) (line : Network) (flow : Flow) (network : IsNetwork line)
           }
 
   -- the steps that are left may be fewer where the others shorten nothing
-  pub front_fewer : (Fewer : Step → Type 0) → ((t : Step) → IsOpen part line flow t → Left t → Fewer t ⊎ IsSettled line lengths t) → IsFront part line flow heights lengths last ranks level Waits Fewer
+  pub front_fewer : (Fewer : Step → Type 0) → ((t : Step) → IsOpen part line flow t → Left t → Fewer t ⊎ ShortensNothing line lengths t) → IsFront part line flow heights lengths last ranks level Waits Fewer
   front_fewer Fewer fewer =
       record { lengths_each = front.lengths_each; last_each = front.last_each; ranks_each = front.ranks_each; low = front.low; reached = front.reached; by = front.by; settled = front.settled; ahead = front.ahead; waits = front.waits; taken = λ t o f. elim (front.taken t o f) [ inl l ↦ fewer t o l | inr q ↦ inr q ] }
 

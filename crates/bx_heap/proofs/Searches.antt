@@ -8,13 +8,13 @@ use Rattle.bx_line.specs.Network.{Network, IsNetwork, places_of}
 use Rattle.bx_dist.specs.declared.step.Step.{Step}
 use Rattle.bx_dist.specs.declared.step.Step.TheVariants.{Idle, Back, Take, Give}
 use Rattle.bx_dist.specs.Residual.{IsOpen, Fits, height_at, step_from, step_to, step_cost}
-use Rattle.bx_dist.specs.Search.{IsSettled, Shortens, AreMedium}
+use Rattle.bx_dist.specs.Search.{ShortensNothing, Shortens, AreMedium}
 use Rattle.std.specs.Prelude.{◌<ℤ◌}
 use Rattle.std.proofs.lemmas.List.{get_or_past}
 use Rattle.bx_dist.proofs.Fitting.{walk_long, open_in_whole}
 use Rattle.bx_dist.proofs.After.{step_within}
 use Rattle.bx_heap.specs.Frontier.{reduced}
-use Rattle.bx_heap.specs.Searching.{State, Setting, nearness_at, IsQueued, AreQueues, HasRoom, IsSetting, IsSearch, IsResting, IsSettling, IsLeft, turn_of, Reaches, Takes}
+use Rattle.bx_heap.specs.Searching.{State, Setting, nearness_at, IsQueued, AreQueues, HasRoom, IsSetting, IsSearch, IsResting, IsSettling, IsLeftToTake, step_turn_of, ReachesStep, TakesOpenStep}
 use Rattle.bx_heap.proofs.Fronts.{apart, new_at, other_at, now_settled, front_after, front_fewer}
 
 module _ (s : Setting) (network : IsNetwork s.line) (fits : Fits s.part s.line s.flow s.heights) where
@@ -110,20 +110,20 @@ module _ (s : Setting) (network : IsNetwork s.line) (fits : Fits s.part s.line s
             waiting = old_waiting;
           })
 
-      pub settled_after : IsSettled s.line lengths step
+      pub settled_after : ShortensNothing s.line lengths step
       settled_after = now_settled s.part s.line s.flow network s.heights fits st.lengths st.last st.ranks st.level (λ v. IsQueued s st v ⊎ ⊥) Left settling.search.front step o settled_from here_from lengths sh
 
-    pub settling_reached : (t : State) → IsOpen s.part s.line s.flow step → Reaches s step st t → IsSettling s t place Left × IsSettled s.line t.lengths step
-    settling_reached t o (inl (q, e)) = subst (λ (x : State). IsSettling s x place Left × IsSettled s.line x.lengths step) (sym e) (settling, q)
-    settling_reached t o (inr (lengths, sh, inl (at, e))) = subst (λ (x : State). IsSettling s x place Left × IsSettled s.line x.lengths step) (sym e) (shortened_tight o lengths sh at, settled_after o lengths sh)
-    settling_reached t o (inr (lengths, sh, inr e)) = subst (λ (x : State). IsSettling s x place Left × IsSettled s.line x.lengths step) (sym e) (shortened_fresh o lengths sh, settled_after o lengths sh)
+    pub settling_reached : (t : State) → IsOpen s.part s.line s.flow step → ReachesStep s step st t → IsSettling s t place Left × ShortensNothing s.line t.lengths step
+    settling_reached t o (inl (q, e)) = subst (λ (x : State). IsSettling s x place Left × ShortensNothing s.line x.lengths step) (sym e) (settling, q)
+    settling_reached t o (inr (lengths, sh, inl (at, e))) = subst (λ (x : State). IsSettling s x place Left × ShortensNothing s.line x.lengths step) (sym e) (shortened_tight o lengths sh at, settled_after o lengths sh)
+    settling_reached t o (inr (lengths, sh, inr e)) = subst (λ (x : State). IsSettling s x place Left × ShortensNothing s.line x.lengths step) (sym e) (shortened_fresh o lengths sh, settled_after o lengths sh)
 
-    pub settling_taken : (t : State) → Takes s step st t → IsSettling s t place Left × (IsOpen s.part s.line s.flow step → IsSettled s.line t.lengths step)
-    settling_taken t (inl (n, e)) = subst (λ (x : State). IsSettling s x place Left × (IsOpen s.part s.line s.flow step → IsSettled s.line x.lengths step)) (sym e) (settling, λ o. absurd (n o))
+    pub settling_taken : (t : State) → TakesOpenStep s step st t → IsSettling s t place Left × (IsOpen s.part s.line s.flow step → ShortensNothing s.line t.lengths step)
+    settling_taken t (inl (n, e)) = subst (λ (x : State). IsSettling s x place Left × (IsOpen s.part s.line s.flow step → ShortensNothing s.line x.lengths step)) (sym e) (settling, λ o. absurd (n o))
     settling_taken t (inr (o, r)) = let after = settling_reached t o r in (after.0, λ p. after.1)
 
   -- the steps that are left may be fewer where the others shorten nothing
-  pub settling_fewer : (st : State) (place : ℕ) (Left Fewer : Step → Type 0) → IsSettling s st place Left → ((t : Step) → IsOpen s.part s.line s.flow t → Left t → Fewer t ⊎ IsSettled s.line st.lengths t) → IsSettling s st place Fewer
+  pub settling_fewer : (st : State) (place : ℕ) (Left Fewer : Step → Type 0) → IsSettling s st place Left → ((t : Step) → IsOpen s.part s.line s.flow t → Left t → Fewer t ⊎ ShortensNothing s.line st.lengths t) → IsSettling s st place Fewer
   settling_fewer st place Left Fewer settling fewer =
       record {
         search = record {
@@ -139,67 +139,67 @@ module _ (s : Setting) (network : IsNetwork s.line) (fits : Fits s.part s.line s
       }
 
   -- the step back to the place before
-  pub back_taken : (st t : State) (place v : ℕ) → v + 1 ≡ place → IsSettling s st place (IsLeft s.line place 0) → Takes s (Back v) st t → IsSettling s t place (IsLeft s.line place 1)
+  pub back_taken : (st t : State) (place v : ℕ) → v + 1 ≡ place → IsSettling s st place (IsLeftToTake s.line place 0) → TakesOpenStep s (Back v) st t → IsSettling s t place (IsLeftToTake s.line place 1)
   back_taken st t place v is settling takes =
-      let after = settling_taken st place (IsLeft s.line place 0) settling (Back v) is t takes in
-      settling_fewer t place (IsLeft s.line place 0) (IsLeft s.line place 1) after.0 (fewer after.1)
+      let after = settling_taken st place (IsLeftToTake s.line place 0) settling (Back v) is t takes in
+      settling_fewer t place (IsLeftToTake s.line place 0) (IsLeftToTake s.line place 1) after.0 (fewer after.1)
     where
-      fewer : (IsOpen s.part s.line s.flow (Back v) → IsSettled s.line t.lengths (Back v)) → (u : Step) → IsOpen s.part s.line s.flow u → IsLeft s.line place 0 u → IsLeft s.line place 1 u ⊎ IsSettled s.line t.lengths u
+      fewer : (IsOpen s.part s.line s.flow (Back v) → ShortensNothing s.line t.lengths (Back v)) → (u : Step) → IsOpen s.part s.line s.flow u → IsLeftToTake s.line place 0 u → IsLeftToTake s.line place 1 u ⊎ ShortensNothing s.line t.lengths u
       fewer done (Idle w) o l = inl (l.0, omega arith)
       fewer done (Take r) o l = inl (l.0, omega arith)
       fewer done (Give r) o l = inl (l.0, omega arith)
       fewer done (Back w) o l =
           let e : v ≡ w = omega (arith, l.0, is) in
-          inr (subst (λ (u : ℕ). IsOpen s.part s.line s.flow (Back u) → IsSettled s.line t.lengths (Back u)) e done o)
+          inr (subst (λ (u : ℕ). IsOpen s.part s.line s.flow (Back u) → ShortensNothing s.line t.lengths (Back u)) e done o)
 
-  pub no_back : (st : State) (place : ℕ) → place ≡ 0 → IsSettling s st place (IsLeft s.line place 0) → IsSettling s st place (IsLeft s.line place 1)
-  no_back st place is settling = settling_fewer st place (IsLeft s.line place 0) (IsLeft s.line place 1) settling fewer
+  pub no_back : (st : State) (place : ℕ) → place ≡ 0 → IsSettling s st place (IsLeftToTake s.line place 0) → IsSettling s st place (IsLeftToTake s.line place 1)
+  no_back st place is settling = settling_fewer st place (IsLeftToTake s.line place 0) (IsLeftToTake s.line place 1) settling fewer
     where
-      fewer : (u : Step) → IsOpen s.part s.line s.flow u → IsLeft s.line place 0 u → IsLeft s.line place 1 u ⊎ IsSettled s.line st.lengths u
+      fewer : (u : Step) → IsOpen s.part s.line s.flow u → IsLeftToTake s.line place 0 u → IsLeftToTake s.line place 1 u ⊎ ShortensNothing s.line st.lengths u
       fewer (Idle w) o l = inl (l.0, omega arith)
       fewer (Take r) o l = inl (l.0, omega arith)
       fewer (Give r) o l = inl (l.0, omega arith)
       fewer (Back w) o l = absurd (omega (arith, l.0, is))
 
   -- the step to the next place
-  pub idle_taken : (st t : State) (v : ℕ) → IsSettling s st v (IsLeft s.line v 3) → Takes s (Idle v) st t → IsSettling s t v (IsLeft s.line v 4)
+  pub idle_taken : (st t : State) (v : ℕ) → IsSettling s st v (IsLeftToTake s.line v 3) → TakesOpenStep s (Idle v) st t → IsSettling s t v (IsLeftToTake s.line v 4)
   idle_taken st t v settling takes =
-      let after = settling_taken st v (IsLeft s.line v 3) settling (Idle v) refl t takes in
-      settling_fewer t v (IsLeft s.line v 3) (IsLeft s.line v 4) after.0 (fewer after.1)
+      let after = settling_taken st v (IsLeftToTake s.line v 3) settling (Idle v) refl t takes in
+      settling_fewer t v (IsLeftToTake s.line v 3) (IsLeftToTake s.line v 4) after.0 (fewer after.1)
     where
-      fewer : (IsOpen s.part s.line s.flow (Idle v) → IsSettled s.line t.lengths (Idle v)) → (u : Step) → IsOpen s.part s.line s.flow u → IsLeft s.line v 3 u → IsLeft s.line v 4 u ⊎ IsSettled s.line t.lengths u
+      fewer : (IsOpen s.part s.line s.flow (Idle v) → ShortensNothing s.line t.lengths (Idle v)) → (u : Step) → IsOpen s.part s.line s.flow u → IsLeftToTake s.line v 3 u → IsLeftToTake s.line v 4 u ⊎ ShortensNothing s.line t.lengths u
       fewer done (Idle w) o l =
           let e : v ≡ w = omega (arith, l.0) in
-          inr (subst (λ (u : ℕ). IsOpen s.part s.line s.flow (Idle u) → IsSettled s.line t.lengths (Idle u)) e done o)
+          inr (subst (λ (u : ℕ). IsOpen s.part s.line s.flow (Idle u) → ShortensNothing s.line t.lengths (Idle u)) e done o)
       fewer done (Take r) o l = absurd (omega (arith, l.1))
       fewer done (Give r) o l = absurd (omega (arith, l.1))
       fewer done (Back w) o l = absurd (omega (arith, l.1))
 
-  pub no_idle : (st : State) (v : ℕ) → places_of s.line ≤ v + 1 → IsSettling s st v (IsLeft s.line v 3) → IsSettling s st v (IsLeft s.line v 4)
-  no_idle st v end settling = settling_fewer st v (IsLeft s.line v 3) (IsLeft s.line v 4) settling fewer
+  pub no_idle : (st : State) (v : ℕ) → places_of s.line ≤ v + 1 → IsSettling s st v (IsLeftToTake s.line v 3) → IsSettling s st v (IsLeftToTake s.line v 4)
+  no_idle st v end settling = settling_fewer st v (IsLeftToTake s.line v 3) (IsLeftToTake s.line v 4) settling fewer
     where
-      fewer : (u : Step) → IsOpen s.part s.line s.flow u → IsLeft s.line v 3 u → IsLeft s.line v 4 u ⊎ IsSettled s.line st.lengths u
+      fewer : (u : Step) → IsOpen s.part s.line s.flow u → IsLeftToTake s.line v 3 u → IsLeftToTake s.line v 4 u ⊎ ShortensNothing s.line st.lengths u
       fewer (Idle w) o l = absurd (omega (arith, l.0, o, end))
       fewer (Take r) o l = absurd (omega (arith, l.1))
       fewer (Give r) o l = absurd (omega (arith, l.1))
       fewer (Back w) o l = absurd (omega (arith, l.1))
 
   -- no step is left when the turn of each has come
-  pub resting_after : (st : State) (place : ℕ) → IsSettling s st place (IsLeft s.line place 4) → IsResting s st
-  resting_after st place settling = (settling_fewer st place (IsLeft s.line place 4) (λ _. ⊥) settling (λ t o l. absurd (none t l.1))).search
+  pub resting_after : (st : State) (place : ℕ) → IsSettling s st place (IsLeftToTake s.line place 4) → IsResting s st
+  resting_after st place settling = (settling_fewer st place (IsLeftToTake s.line place 4) (λ _. ⊥) settling (λ t o l. absurd (none t l.1))).search
     where
-      none : (t : Step) → 4 ≤ turn_of t → ⊥
+      none : (t : Step) → 4 ≤ step_turn_of t → ⊥
       none (Idle w) h = omega (arith, h)
       none (Take r) h = omega (arith, h)
       none (Give r) h = omega (arith, h)
       none (Back w) h = omega (arith, h)
 
-pub reaches_count : (s : Setting) (step : Step) (st t : State) → Reaches s step st t → t.count ≡ st.count
+pub reaches_count : (s : Setting) (step : Step) (st t : State) → ReachesStep s step st t → t.count ≡ st.count
 reaches_count s step st t (inl (q, e)) = ap (λ (x : State). x.count) e
 reaches_count s step st t (inr (lengths, sh, inl (at, e))) = ap (λ (x : State). x.count) e
 reaches_count s step st t (inr (lengths, sh, inr e)) = ap (λ (x : State). x.count) e
 
-pub takes_count : (s : Setting) (step : Step) (st t : State) → Takes s step st t → t.count ≡ st.count
+pub takes_count : (s : Setting) (step : Step) (st t : State) → TakesOpenStep s step st t → t.count ≡ st.count
 takes_count s step st t (inl (n, e)) = ap (λ (x : State). x.count) e
 takes_count s step st t (inr (o, r)) = reaches_count s step st t r
 

@@ -12,7 +12,7 @@ use Rattle.bx_dist.specs.declared.step.Step.TheVariants.{Idle}
 use Rattle.bx_dist.specs.Residual.{Fits, height_at, step_from}
 use Rattle.bx_dist.proofs.Ranks.{marked, marked_one, marked_none, marked_few, marks_few, ones, zero_in}
 use Rattle.bx_dist.proofs.Sending.{sum_below-change}
-use Rattle.bx_heap.specs.Searching.{State, Setting, IsQueued, IsSearch, IsResting, IsInHand, IsSettling, IsLeft, settled_at}
+use Rattle.bx_heap.specs.Searching.{State, Setting, IsQueued, IsSearch, IsResting, IsInHand, IsSettling, IsLeftToTake, settled_at}
 use Rattle.bx_heap.proofs.Fronts.{front_settled, front_fewer}
 
 -- the first place alone is reached
@@ -94,13 +94,13 @@ module _ (s : Setting) (network : IsNetwork s.line) (fits : Fits s.part s.line s
   no_more w d (inl (inr (inr q))) = inl (inr (inr q))
   no_more w d (inr e) = absurd (d e)
 
-  pub settling_begins : IsSettling s (settled_at place st) place (IsLeft s.line place 0)
+  pub settling_begins : IsSettling s (settled_at place st) place (IsLeftToTake s.line place 0)
   settling_begins =
       let front = front_settled s.part s.line s.flow network s.heights fits st.lengths st.last st.ranks st.level (λ v. IsQueued s st v ⊎ (v ≡ place)) (λ _. ⊥) hand.search.front place hand.within hand.is_reached hand.fresh hand.here st.count hand.search.low (λ v. IsQueued s (settled_at place st) v ⊎ ⊥) no_more in
       let change = sum_below-change (places_of s.line) (marked ranked) (marked st.ranks) place hand.within (λ v h d. ap (λ (r : ℕ). cond {A = ℕ} (ltb 0 r) 1 0) (same_rank v d)) in
       record {
         search = record {
-          front = front_fewer s.part s.line s.flow network s.heights fits st.lengths st.last ranked st.level (λ v. IsQueued s (settled_at place st) v ⊎ ⊥) (λ t. ⊥ ⊎ (step_from s.line t ≡ place)) front (IsLeft s.line place 0) (λ t o l. elim l [ inl n ↦ absurd n | inr e ↦ inl (e, omega arith) ]);
+          front = front_fewer s.part s.line s.flow network s.heights fits st.lengths st.last ranked st.level (λ v. IsQueued s (settled_at place st) v ⊎ ⊥) (λ t. ⊥ ⊎ (step_from s.line t ≡ place)) front (IsLeftToTake s.line place 0) (λ t o l. elim l [ inl n ↦ absurd n | inr e ↦ inl (e, omega arith) ]);
           queues = record { tight = hand.search.queues.tight; fresh = hand.search.queues.fresh; waiting = hand.search.queues.waiting };
           start = hand.search.start;
           counted = omega (arith, change, hand.search.counted, marked_one ranked place (omega (arith, new_rank)), marked_none st.ranks place hand.fresh);

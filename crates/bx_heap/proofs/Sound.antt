@@ -5,7 +5,7 @@ use Rattle.bx_line.specs.Flows.{Flow}
 use Rattle.bx_line.specs.Network.{Network}
 use Rattle.bx_dist.specs.declared.part.Part.{Part}
 use Rattle.bx_dist.specs.Search.{AreMedium}
-use Rattle.bx_heap.specs.Searching.{State, setting_of, IsResting, IsSound}
+use Rattle.bx_heap.specs.Searching.{State, setting_of, IsResting, IsSoundState}
 use Rattle.bx_heap.proofs.Searches.{search_room}
 
 pub record IsRoomy (heights : List ℤ) (st : State) : Type 0 where
@@ -16,7 +16,7 @@ pub record IsRoomy (heights : List ℤ) (st : State) : Type 0 where
   pub fresh : (v : ℕ) → Contains st.fresh v → v < length st.lengths
   pub waiting : (n v : ℕ) → Contains st.waiting (n, v) → v < length st.lengths
 
-pub roomy_from_sound : (heights : List ℤ) (st : State) → IsSound heights st → IsRoomy heights st
+pub roomy_from_sound : (heights : List ℤ) (st : State) → IsSoundState heights st → IsRoomy heights st
 roomy_from_sound heights st (part, line, flow, setting, resting) =
     let room = search_room (setting_of part line flow heights) st (λ _. ⊥) (λ _. ⊥) setting resting in
     record {
@@ -29,5 +29,5 @@ roomy_from_sound heights st (part, line, flow, setting, resting) =
     }
 
 -- what keeps each setting keeps a sound search so
-pub sound_after : (heights : List ℤ) (old new : State) → IsSound heights old → ((part : Part) (line : Network) (flow : Flow) → IsResting (setting_of part line flow heights) old → IsResting (setting_of part line flow heights) new) → IsSound heights new
+pub sound_after : (heights : List ℤ) (old new : State) → IsSoundState heights old → ((part : Part) (line : Network) (flow : Flow) → IsResting (setting_of part line flow heights) old → IsResting (setting_of part line flow heights) new) → IsSoundState heights new
 sound_after heights old new (part, line, flow, setting, resting) keeps = (part, line, flow, setting, keeps part line flow resting)

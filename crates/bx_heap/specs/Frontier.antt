@@ -6,7 +6,7 @@ use Rattle.bx_dist.specs.declared.part.Part.{Part}
 use Rattle.bx_dist.specs.declared.step.Step.{Step}
 use Rattle.bx_dist.specs.Residual.{IsOpen, height_at, step_from, step_to}
 use Rattle.bx_dist.specs.Walks.{IsWalk, walk_length}
-use Rattle.bx_dist.specs.Search.{IsSettled}
+use Rattle.bx_dist.specs.Search.{ShortensNothing}
 use Rattle.bx_dist.specs.Tight.{IsTight, last_step}
 
 -- the length of a place above its height
@@ -33,4 +33,4 @@ pub record IsFront (part : Part) (line : Network) (flow : Flow) (heights lengths
   pub settled : (v : ℕ) → 0 < slice_index ranks v → (height_at lengths v ≤ℤ pos 0) × (reduced heights lengths v ≤ℤ level)
   pub ahead : (v : ℕ) → v < places_of line → height_at lengths v ≤ℤ pos 0 → slice_index ranks v ≡ 0 → level ≤ℤ reduced heights lengths v
   pub waits : (v : ℕ) → v < places_of line → height_at lengths v ≤ℤ pos 0 → slice_index ranks v ≡ 0 → Waits v
-  pub taken : (step : Step) → IsOpen part line flow step → 0 < slice_index ranks (step_from line step) → Left step ⊎ IsSettled line lengths step
+  pub taken : (step : Step) → IsOpen part line flow step → 0 < slice_index ranks (step_from line step) → Left step ⊎ ShortensNothing line lengths step

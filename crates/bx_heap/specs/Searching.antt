@@ -10,7 +10,7 @@ use Rattle.bx_dist.specs.declared.part.Part.{Part}
 use Rattle.bx_dist.specs.declared.step.Step.{Step}
 use Rattle.bx_dist.specs.declared.step.Step.TheVariants.{Idle, Back, Take, Give}
 use Rattle.bx_dist.specs.Residual.{IsOpen, AreSmall, ArePotentials, height_at, step_from, step_to}
-use Rattle.bx_dist.specs.Search.{IsSettled, IsStep, Shortens}
+use Rattle.bx_dist.specs.Search.{ShortensNothing, IsStep, Shortens}
 use Rattle.bx_dist.specs.Tight.{last_step}
 use Rattle.bx_heap.specs.declared.frontier.Frontier.{Frontier}
 use Rattle.bx_heap.specs.Frontier.{reduced, IsFront}
@@ -26,8 +26,8 @@ pub record State : Type 0 where
   pub fresh : List ℕ
   pub waiting : List (ℕ × ℕ)
 
-abbrev pub state_of : Frontier → State
-state_of f =
+abbrev pub state_from : Frontier → State
+state_from f =
     record { lengths = f.lengths.items; last = f.last.items; ranks = f.ranks.items; count = f.count; level = f.level; tight = f.tight.items; fresh = f.fresh.items; waiting = heap_items f.waiting.places }
 
 -- what is searched: a part of the residual network of a flow, with potentials
@@ -74,8 +74,8 @@ abbrev pub IsResting : Setting → State → Type 0
 IsResting s st = IsSearch s st (λ _. ⊥) (λ _. ⊥)
 
 -- this is so in some setting with these potentials
-abbrev pub IsSound : List ℤ → State → Type 0
-IsSound heights st = (part : Part) × (line : Network) × (flow : Flow) × IsSetting (setting_of part line flow heights) × IsResting (setting_of part line flow heights) st
+abbrev pub IsSoundState : List ℤ → State → Type 0
+IsSoundState heights st = (part : Part) × (line : Network) × (flow : Flow) × IsSetting (setting_of part line flow heights) × IsResting (setting_of part line flow heights) st
 
 -- a place that is as near as any that waits is in hand
 pub record IsInHand (s : Setting) (st : State) (place : ℕ) : Type 0 where
@@ -97,15 +97,15 @@ pub record IsSettling (s : Setting) (st : State) (place : ℕ) (Left : Step → 
   pub here : reduced s.heights st.lengths place ≡ st.level
 
 -- the turn of a step among those from its place
-abbrev pub turn_of : Step → ℕ
-turn_of (Back v) = 0
-turn_of (Give row) = 1
-turn_of (Take row) = 2
-turn_of (Idle v) = 3
+abbrev pub step_turn_of : Step → ℕ
+step_turn_of (Back v) = 0
+step_turn_of (Give row) = 1
+step_turn_of (Take row) = 2
+step_turn_of (Idle v) = 3
 
 -- the steps from a place whose turn has not come yet
-abbrev pub IsLeft : Network → ℕ → ℕ → Step → Type 0
-IsLeft line place turn step = (step_from line step ≡ place) × (turn ≤ turn_of step)
+abbrev pub IsLeftToTake : Network → ℕ → ℕ → Step → Type 0
+IsLeftToTake line place turn step = (step_from line step ≡ place) × (turn ≤ step_turn_of step)
 
 -- the turn of the steps along the rows on a side of their place, and one of them
 abbrev pub turn_on : Incidence → ℕ
@@ -121,12 +121,12 @@ abbrev pub Queues : Setting → ℕ → State → State → Type 0
 Queues s v old new = ((reduced s.heights old.lengths v ≡ old.level) × (new ≡ record old { tight = old.tight ++ v ∷ [] })) ⊎ (new ≡ record old { fresh = old.fresh ++ v ∷ [] })
 
 -- the step was taken where it shortens the way to its end
-abbrev pub Reaches : Setting → Step → State → State → Type 0
-Reaches s step old new = (IsSettled s.line old.lengths step × (new ≡ old)) ⊎ ((lengths : List ℤ) × Shortens s.line step old.lengths lengths × Queues s (step_to s.line step) (record old { lengths = lengths; last = slice_set old.last (step_to s.line step) step }) new)
+abbrev pub ReachesStep : Setting → Step → State → State → Type 0
+ReachesStep s step old new = (ShortensNothing s.line old.lengths step × (new ≡ old)) ⊎ ((lengths : List ℤ) × Shortens s.line step old.lengths lengths × Queues s (step_to s.line step) (record old { lengths = lengths; last = slice_set old.last (step_to s.line step) step }) new)
 
 -- the same where the step is open
-abbrev pub Takes : Setting → Step → State → State → Type 0
-Takes s step old new = ((IsOpen s.part s.line s.flow step → ⊥) × (new ≡ old)) ⊎ (IsOpen s.part s.line s.flow step × Reaches s step old new)
+abbrev pub TakesOpenStep : Setting → Step → State → State → Type 0
+TakesOpenStep s step old new = ((IsOpen s.part s.line s.flow step → ⊥) × (new ≡ old)) ⊎ (IsOpen s.part s.line s.flow step × ReachesStep s step old new)
 
 -- each place has a length and a last step, and the lengths leave room for a step more
 pub record HasRoom (line : Network) (st : State) : Type 0 where
@@ -155,7 +155,7 @@ HasQueued line heights place old new =
 
 abbrev pub HasReached : Network → List ℤ → Step → State → State → Type 0
 HasReached line heights step old new =
-    (part : Part) (flow : Flow) → Reaches (setting_of part line flow heights) step old new
+    (part : Part) (flow : Flow) → ReachesStep (setting_of part line flow heights) step old new
 
 -- a search that rests in a setting with these potentials rests in it afterwards
 abbrev pub HasRested : List ℤ → State → State → Type 0
@@ -178,4 +178,4 @@ IsNextPlace s old new place = MatchOption place (places_of s.line ≤ old.count)
 
 -- a place was settled last, and the steps from it are left from this turn on
 abbrev pub IsSettlingFrom : Setting → State → ℕ → ℕ → Type 0
-IsSettlingFrom s st place turn = IsSettling s st place (IsLeft s.line place turn)
+IsSettlingFrom s st place turn = IsSettling s st place (IsLeftToTake s.line place turn)

@@ -2,7 +2,7 @@
 
 ghost use Rattle.bx_heap.specs.Frontier.{reduced};
 ghost use Rattle.bx_dist.specs.Search.{AreMedium, IsStep};
-ghost use Rattle.bx_heap.specs.Searching.{state_of, setting_of, HasRoom, IsResting, HasReached, HasQueued};
+ghost use Rattle.bx_heap.specs.Searching.{state_from, setting_of, HasRoom, IsResting, HasReached, HasQueued};
 ghost use Rattle.bx_dist.specs.declared.part.Part.{Part};
 ghost use Rattle.bx_line.specs.Flows.{Flow};
 ghost use Rattle.bx_line.specs.Network.{places_of};
@@ -37,7 +37,7 @@ impl Frontier {
         potentials: &Potentials,
     ) -> Result<Frontier, AllocError>
         requires { 0 < places_of line.now }
-        ensures { IfOk result (λ f. (part : Part) (flow : Flow) → IsResting (setting_of part line.now flow potentials.now) (state_of f)) }
+        ensures { IfOk result (λ f. (part : Part) (flow : Flow) → IsResting (setting_of part line.now flow potentials.now) (state_from f)) }
     {
         let places = line.places() as usize;
         let mut lengths = vec![in alloc; 1; places]?;
@@ -65,9 +65,9 @@ impl Frontier {
         step: Step,
     ) -> Result<(), AllocError>
         requires step { IsStep line.now step }
-        requires room { HasRoom line.now (state_of self.old) }
+        requires room { HasRoom line.now (state_from self.old) }
         requires one_each { length potentials.now ≡ places_of line.now }
-        ensures { OnOk result (HasReached line.now potentials.now step (state_of self.old) (state_of self.new)) }
+        ensures { OnOk result (HasReached line.now potentials.now step (state_from self.old) (state_from self.new)) }
     {
         let to = ends_of(line, step).1;
         if shorten(&mut self.lengths, line, step) {
@@ -83,7 +83,7 @@ impl Frontier {
         requires lengths { length self.old.lengths.items ≡ places_of line.now }
         requires medium { AreMedium self.old.lengths.items }
         requires one_each { length potentials.now ≡ places_of line.now }
-        ensures { OnOk result (HasQueued line.now potentials.now place (state_of self.old) (state_of self.new)) }
+        ensures { OnOk result (HasQueued line.now potentials.now place (state_from self.old) (state_from self.new)) }
     {
         // Read for the prover alone, which learns a limit from it.
         let _places = line.places();

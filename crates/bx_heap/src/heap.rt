@@ -1,6 +1,6 @@
 //! Distances by a heap of places.
 
-ghost use Rattle.bx_heap.specs.Searching.{state_of, ArePointers, IsTrail};
+ghost use Rattle.bx_heap.specs.Searching.{state_from, ArePointers, IsTrail};
 ghost use Rattle.std.specs.Prelude.{◌≡◌, IfOk};
 
 use crate::frontier::Frontier;
@@ -40,8 +40,8 @@ impl Distances for HeapDist {
 impl Frontier {
     /// The last steps from the last place back to the first, in the order in which they lead there.
     fn walk_back(&self, alloc: Global, line: &Line) -> Result<Vec<Step>, AllocError>
-        requires { ArePointers line.now (state_of self.now) }
-        ensures { IfOk result (λ v. IsTrail line.now (state_of self.now) 0 v.items) }
+        requires { ArePointers line.now (state_from self.now) }
+        ensures { IfOk result (λ v. IsTrail line.now (state_from self.now) 0 v.items) }
     {
         let mut walk = Vec::new(alloc);
         let mut place = line.places() - 1;

@@ -1,6 +1,6 @@
 //! The nearest place that is not settled yet.
 
-ghost use Rattle.bx_heap.specs.Searching.{state_of, IsSound, InEachSetting, IsNextPlace, HasRested};
+ghost use Rattle.bx_heap.specs.Searching.{state_from, IsSoundState, InEachSetting, IsNextPlace, HasRested};
 ghost use Rattle.std.specs.Prelude.{◌≡◌, ◌≤◌, ◌<◌, ◌⊎◌, ◌-ℤ◌, ℕ, [], pos, nat_abs, Contains, OnOk, IfOk, IfSome, IfNone, Some, length, slice_index};
 
 use crate::frontier::Frontier;
@@ -13,8 +13,8 @@ const FAR: i64 = 1_152_921_504_606_846_976;
 impl Frontier {
     /// The nearest place that has no rank yet, or none where all have one.
     pub(crate) fn next(&mut self, potentials: &Potentials) -> Result<Option<u16>, AllocError>
-        requires { IsSound potentials.now (state_of self.old) }
-        ensures next { InEachSetting potentials.now (state_of self.old) (λ s. IfOk result (IsNextPlace s (state_of self.old) (state_of self.new))) }
+        requires { IsSoundState potentials.now (state_from self.old) }
+        ensures next { InEachSetting potentials.now (state_from self.old) (λ s. IfOk result (IsNextPlace s (state_from self.old) (state_from self.new))) }
         ensures count { IfOk result (λ _. self.new.count ≡ self.old.count) }
     {
         if let Some(place) = next_of(&mut self.tight, &self.ranks) {
@@ -26,8 +26,8 @@ impl Frontier {
 
     /// Puts the places that were reached of late into the heap.
     fn file(&mut self, potentials: &Potentials) -> Result<(), AllocError>
-        requires { IsSound potentials.now (state_of self.old) }
-        ensures resting { OnOk result (HasRested potentials.now (state_of self.old) (state_of self.new)) }
+        requires { IsSoundState potentials.now (state_from self.old) }
+        ensures resting { OnOk result (HasRested potentials.now (state_from self.old) (state_from self.new)) }
         ensures tight { OnOk result (self.new.tight.items ≡ self.old.tight.items) }
         ensures fresh { OnOk result (self.new.fresh.items ≡ []) }
         ensures count { OnOk result (self.new.count ≡ self.old.count) }
@@ -41,10 +41,10 @@ impl Frontier {
 
     /// Takes the nearest place from the heap, where nothing waits elsewhere.
     fn next_waiting(&mut self, potentials: &Potentials) -> Option<u16>
-        requires sound { IsSound potentials.now (state_of self.old) }
+        requires sound { IsSoundState potentials.now (state_from self.old) }
         requires tight { self.old.tight.items ≡ [] }
         requires fresh { self.old.fresh.items ≡ [] }
-        ensures next { InEachSetting potentials.now (state_of self.old) (λ s. IsNextPlace s (state_of self.old) (state_of self.new) result) }
+        ensures next { InEachSetting potentials.now (state_from self.old) (λ s. IsNextPlace s (state_from self.old) (state_from self.new) result) }
         ensures count { self.new.count ≡ self.old.count }
     {
         let place = self.waiting.next_unsettled(&self.ranks)?;

@@ -1,7 +1,7 @@
 //! The steps from a place that is settled.
 
 ghost use Rattle.bx_dist.specs.Search.{IsStep};
-ghost use Rattle.bx_heap.specs.Searching.{state_of, setting_of, settled_at, turn_on, row_step, HasRoom, IsInHand, IsLeft, IsResting, IsSetting, IsSettling, Takes, IsSettlingFrom};
+ghost use Rattle.bx_heap.specs.Searching.{state_from, setting_of, settled_at, turn_on, row_step, HasRoom, IsInHand, IsLeftToTake, IsResting, IsSetting, IsSettling, TakesOpenStep, IsSettlingFrom};
 ghost use Rattle.bx_line.specs.Flows.{IsSized};
 ghost use Rattle.bx_line.specs.Network.{places_of};
 ghost use Rattle.std.specs.Prelude.{◌≡◌, ◌≤◌, ◌<◌, ◌+◌, OnOk, length};
@@ -23,8 +23,8 @@ impl Frontier {
         place: u16,
     ) -> Result<(), AllocError>
         requires setting { IsSetting (setting_of part line.now carried.now potentials.now) }
-        requires in_hand { IsInHand (setting_of part line.now carried.now potentials.now) (state_of self.old) place }
-        ensures resting { OnOk result (IsResting (setting_of part line.now carried.now potentials.now) (state_of self.new)) }
+        requires in_hand { IsInHand (setting_of part line.now carried.now potentials.now) (state_from self.old) place }
+        ensures resting { OnOk result (IsResting (setting_of part line.now carried.now potentials.now) (state_from self.new)) }
         ensures count { OnOk result (self.new.count ≡ self.old.count + 1) }
     {
         self.mark(place);
@@ -39,7 +39,7 @@ impl Frontier {
     fn mark(&mut self, place: u16)
         requires within { place < length self.old.ranks.items }
         requires few { self.old.count ≤ 8000 }
-        ensures { state_of self.new ≡ settled_at place (state_of self.old) }
+        ensures { state_from self.new ≡ settled_at place (state_from self.old) }
     {
         self.count += 1;
         self.ranks[place as usize] = self.count;
@@ -57,9 +57,9 @@ impl Frontier {
     ) -> Result<(), AllocError>
         requires step { IsStep line.now step }
         requires sized { IsSized line.now carried.now }
-        requires room { HasRoom line.now (state_of self.old) }
+        requires room { HasRoom line.now (state_from self.old) }
         requires one_each { length potentials.now ≡ places_of line.now }
-        ensures { OnOk result (Takes (setting_of part line.now carried.now potentials.now) step (state_of self.old) (state_of self.new)) }
+        ensures { OnOk result (TakesOpenStep (setting_of part line.now carried.now potentials.now) step (state_from self.old) (state_from self.new)) }
     {
         if is_there(line, carried, part, step) {
             self.reach(line, potentials, step)?;
@@ -77,8 +77,9 @@ impl Frontier {
         place: u16,
     ) -> Result<(), AllocError>
         requires setting { IsSetting (setting_of part line.now carried.now potentials.now) }
-        requires settling { IsSettling (setting_of part line.now carried.now potentials.now) (state_of self.old) place (IsLeft line.now place 0) }
-        ensures settling { OnOk result (IsSettling (setting_of part line.now carried.now potentials.now) (state_of self.new) place (IsLeft line.now place 1)) }
+        requires settling { IsSettling (setting_of part line.now carried.now potentials.now) (state_from self.old) place (IsLeftToTake line.now place 0) }
+        ensures settling { OnOk result
+            (IsSettling (setting_of part line.now carried.now potentials.now) (state_from self.new) place (IsLeftToTake line.now place 1)) }
         ensures count { OnOk result (self.new.count ≡ self.old.count) }
     {
         if place == 0 {
@@ -98,8 +99,8 @@ impl Frontier {
         place: u16,
     ) -> Result<(), AllocError>
         requires setting { IsSetting (setting_of part line.now carried.now potentials.now) }
-        requires settling { IsSettling (setting_of part line.now carried.now potentials.now) (state_of self.old) place (IsLeft line.now place 3) }
-        ensures resting { OnOk result (IsResting (setting_of part line.now carried.now potentials.now) (state_of self.new)) }
+        requires settling { IsSettling (setting_of part line.now carried.now potentials.now) (state_from self.old) place (IsLeftToTake line.now place 3) }
+        ensures resting { OnOk result (IsResting (setting_of part line.now carried.now potentials.now) (state_from self.new)) }
         ensures count { OnOk result (self.new.count ≡ self.old.count) }
     {
         if place + 1 == line.places() {
@@ -121,8 +122,9 @@ impl Frontier {
         side: Incidence,
     ) -> Result<(), AllocError>
         requires setting { IsSetting (setting_of part line.now carried.now potentials.now) }
-        requires settling { IsSettling (setting_of part line.now carried.now potentials.now) (state_of self.old) place (IsLeft line.now place (turn_on side)) }
-        ensures settling { OnOk result (IsSettlingFrom (setting_of part line.now carried.now potentials.now) (state_of self.new) place (turn_on side + 1)) }
+        requires settling { IsSettling (setting_of part line.now carried.now potentials.now) (state_from self.old) place
+            (IsLeftToTake line.now place (turn_on side)) }
+        ensures settling { OnOk result (IsSettlingFrom (setting_of part line.now carried.now potentials.now) (state_from self.new) place (turn_on side + 1)) }
         ensures count { OnOk result (self.new.count ≡ self.old.count) }
     {
         let mut next = line.first_row(place, side);

@@ -12,7 +12,7 @@ use Rattle.bx_journal.specs.declared.head.JournalDay.TheVariants.{Rehearsed, Liv
 use Rattle.bx_journal.specs.declared.head.TheConstants.{RULES}
 use Rattle.bx_journal.specs.declared.head_reading.Version.{Version}
 use Rattle.bx_journal.specs.declared.head_reading.Version.TheVariants.{Undated, Dated}
-use Rattle.bx_journal.specs.Heads.{IsDay, IsWantedDay}
+use Rattle.bx_journal.specs.Heads.{IsJournalDay, IsWantedDay}
 use Rattle.bx_journal.specs.Inside.{HasNoLf}
 use Rattle.bx_journal.specs.Numbers.{number_on, space_at}
 use Rattle.bx_journal.specs.Hex.{hex_of}
@@ -75,7 +75,7 @@ version_spelled day line v e = by_words (bytes_eq line (codes "bx-journal 1")) (
 
 -- ---- days
 
-pub day_without_lf : (day : JournalDay) → IsDay day → HasNoLf (day_line day)
+pub day_without_lf : (day : JournalDay) → IsJournalDay day → HasNoLf (day_line day)
 day_without_lf Rehearsed is = (refl, (refl, (refl, (refl, (refl, (refl, (refl, (refl, (refl, (refl, (refl, (refl, (refl, tt)))))))))))))
 day_without_lf (Live first pace) is =
     no_lf_on (codes "day live " ++ decimal first ++ codes " ") (decimal pace)
@@ -90,7 +90,7 @@ live_read first pace small some less =
     ap (drop (length (decimal first) + 1)) (sym (append_assoc (decimal first) (32 ∷ []) (decimal pace))) ∙ drop_at (decimal first ++ 32 ∷ []) (decimal pace) (length (decimal first) + 1) (length-append (decimal first) (32 ∷ [])) in
     rw (at, prefix, rest, number_read first small, number_read pace less, le-leb 1 pace some) refl
 
-pub day_read : (day : JournalDay) → IsDay day → day_on (day_line day) ≡ Some day
+pub day_read : (day : JournalDay) → IsJournalDay day → day_on (day_line day) ≡ Some day
 day_read Rehearsed is = refl
 day_read (Live first pace) is = ap live_on (append_assoc (decimal first) (32 ∷ []) (decimal pace)) ∙ live_read first pace is.0 is.1 is.2
 
@@ -100,14 +100,14 @@ some_day d e same = cc
 -- what a third line is that has a day
 pub record IsLineOfDay (line : List ℕ) (day : JournalDay) : Type 0 where
   pub spelled : line ≡ day_line day
-  pub is : IsDay day
+  pub is : IsJournalDay day
 
 record AreNumbers (text : List ℕ) (day : JournalDay) : Type 0 where
   first : ℕ
   pace : ℕ
   spelled : text ≡ decimal first ++ 32 ∷ decimal pace
   same : Live first pace ≡ day
-  is : IsDay (Live first pace)
+  is : IsJournalDay (Live first pace)
 
 live_by : (t : Bool) (first pace : ℕ) (text : List ℕ) (day : JournalDay) → leb 1 pace ≡ t → IsNumberOf (take (space_at text) text) first → IsNumberOf (drop (space_at text + 1) text) pace → cond t (Some (Live first pace)) None ≡ Some day → AreNumbers text day
 live_by true first pace text day le a b e = record { first = first; pace = pace; spelled = parted (space_parts text); same = some_day _ _ e; is = (a.small, leb-true 1 pace le, b.small) } where
@@ -164,7 +164,7 @@ wanted_by false wanted day is e = absurd cc
 pub record IsThirdLine (wanted : Option JournalDay) (line : List ℕ) : Type 0 where
   pub day : JournalDay
   pub spelled : line ≡ day_line day
-  pub is : IsDay day
+  pub is : IsJournalDay day
   pub fits : IsWantedDay wanted day
 
 third_by : (wanted o : Option JournalDay) (line : List ℕ) → day_on line ≡ o → fits_day wanted o ≡ the_ok → IsThirdLine wanted line
@@ -261,7 +261,7 @@ plan_long plan line long few =
 no_day : (line : List ℕ) (o : Option JournalDay) → day_on line ≡ o → 526 < length line → o ≡ None
 no_day line None is long = refl
 no_day line (Some day) is long = absurd (omega (arith, long, ap length (day_spelled line day is).spelled, few day (day_spelled line day is).is)) where
-  few : (day : JournalDay) → IsDay day → length (day_line day) ≤ 526
+  few : (day : JournalDay) → IsJournalDay day → length (day_line day) ≤ 526
   few Rehearsed is = omega arith
   few (Live first pace) is =
       omega (arith, decimal_short first is.0, decimal_short pace is.2, length-append (codes "day live " ++ decimal first ++ codes " ") (decimal pace), length-append (codes "day live " ++ decimal first) (codes " "), length-append (codes "day live ") (decimal first))

@@ -2,7 +2,7 @@
 use Rattle.std.proofs.Common.{◌≡◌, inl, inr, ℕ, suc, ◌+◌, ◌-◌, ◌*◌, ◌/◌, ◌%◌, ◌<◌, ◌≤◌, ◌==◌, false, List, [], ◌∷◌, length, Some, refl, arith}
 use Rattle.std.proofs.lemmas.Bool.{cases_lt, lt-ltb, le-ltb, le-leb, lt-leb, ne_eqb}
 use Rattle.bx_journal.specs.Events.{AreOctets}
-use Rattle.bx_journal.specs.Hex.{hex_digit, hex_of, hex_value, octets_in}
+use Rattle.bx_journal.specs.Hex.{hex_digit, hex_of, hex_value, octets_of_digits}
 use Rattle.bx_journal.specs.Inside.{HasNoLf}
 
 module _ (ten : ℕ) (letter : 58 ≤ ten) where
@@ -28,7 +28,7 @@ module _ (ten : ℕ) (letter : 58 ≤ ten) where
     | inr above ↦ rw (le-ltb v 10 above) (large v above lt)
   ]
 
-  pub octets_read : (octets : List ℕ) → AreOctets octets → octets_in ten (hex_of ten octets) ≡ Some octets
+  pub octets_read : (octets : List ℕ) → AreOctets octets → octets_of_digits ten (hex_of ten octets) ≡ Some octets
   octets_read [] are = refl
   octets_read (o ∷ octets) are =
       let within : o < 256 = are 0 in

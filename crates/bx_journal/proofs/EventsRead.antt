@@ -6,43 +6,43 @@ use Rattle.std.proofs.lemmas.List.{map_push, flat_map_more}
 use Rattle.bx_events.specs.Events.{Tick, Receive, LiveEvent, OnLink, WithoutLink, Sold}
 use Rattle.bx_journal.specs.Hex.{hex_of}
 use Rattle.bx_journal.proofs.Digits.{hex_length}
-use Rattle.bx_journal.specs.declared.event.RecordedEvent.{RecordedEvent}
+use Rattle.bx_journal.specs.declared.event.LoggedEvent.{LoggedEvent}
 use Rattle.bx_journal.specs.Held.{Held}
-use Rattle.bx_journal.specs.Events.{IsEvent, recorded_event}
-use Rattle.bx_journal.specs.Lines.{ended}
+use Rattle.bx_journal.specs.Events.{IsEvent, logged_event}
+use Rattle.bx_journal.specs.Lines.{line_ended}
 use Rattle.bx_journal.specs.Text.{line_of}
 use Rattle.bx_journal.specs.Reading.{event_on}
-use Rattle.bx_journal.specs.Taking.{Takes, TakesLine, TakesEvents, EventsEnd, EventsStop, EventsBreak, Ends, Stops, lines_text}
+use Rattle.bx_journal.specs.Taking.{Takes, TakesLine, TakesEvents, EventsEnd, EventsStop, EventsBreak, EndsInLine, Stops, lines_text}
 use Rattle.bx_journal.proofs.Takings.{takes_then}
 use Rattle.bx_journal.proofs.Spelled.{line_spelled}
-use Rattle.bx_journal.proofs.Recorded.{are_more}
+use Rattle.bx_journal.proofs.Logged.{are_more}
 
-pub text_on : (events : List LiveEvent) (e : LiveEvent) → lines_text (events ++ e ∷ []) ≡ lines_text events ++ ended (line_of e)
-text_on events e = ap (flat_map ended) (map_push line_of events e) ∙ sym (flat_map_more ended [] (map line_of events) (line_of e))
+pub text_on : (events : List LiveEvent) (e : LiveEvent) → lines_text (events ++ e ∷ []) ≡ lines_text events ++ line_ended (line_of e)
+text_on events e = ap (flat_map line_ended) (map_push line_of events e) ∙ sym (flat_map_more line_ended [] (map line_of events) (line_of e))
 
-read_as : (o : Option RecordedEvent) (r : RecordedEvent) (line : List ℕ) → option_map recorded_event o ≡ event_on line → o ≡ Some r → event_on line ≡ Some (recorded_event r)
-read_as o r line is some = sym is ∙ ap (option_map recorded_event) some
+read_as : (o : Option LoggedEvent) (r : LoggedEvent) (line : List ℕ) → option_map logged_event o ≡ event_on line → o ≡ Some r → event_on line ≡ Some (logged_event r)
+read_as o r line is some = sym is ∙ ap (option_map logged_event) some
 
-pub no_event_on : (o : Option RecordedEvent) (line : List ℕ) → option_map recorded_event o ≡ event_on line → o ≡ None → event_on line ≡ None
-no_event_on o line is none = sym is ∙ ap (option_map recorded_event) none
+pub no_event_on : (o : Option LoggedEvent) (line : List ℕ) → option_map logged_event o ≡ event_on line → o ≡ None → event_on line ≡ None
+no_event_on o line is none = sym is ∙ ap (option_map logged_event) none
 
 module _ {F : Type 0} (followed : F → List LiveEvent → F → Type 0) (on : (s t u : F) (xs ys : List LiveEvent) → followed s xs t → followed t ys u → followed s (xs ++ ys) u)
     (f g h : F) (first : ℕ) (before middle after : Option (List ℕ)) (old mid new : Held) (n : ℕ) where
-  pub event_more : (line : List ℕ) (o : Option RecordedEvent) (r : RecordedEvent) → TakesEvents followed f g first n before middle old mid → TakesLine middle after mid new line → option_map recorded_event o ≡ event_on line → o ≡ Some r
-      → followed g (recorded_event r ∷ []) h → TakesEvents followed f h first (n + 1) before after old new
+  pub event_more : (line : List ℕ) (o : Option LoggedEvent) (r : LoggedEvent) → TakesEvents followed f g first n before middle old mid → TakesLine middle after mid new line → option_map logged_event o ≡ event_on line → o ≡ Some r
+      → followed g (logged_event r ∷ []) h → TakesEvents followed f h first (n + 1) before after old new
   event_more line o r so_far next is some one =
-      let e = recorded_event r in
+      let e = logged_event r in
       let spelled = line_spelled line e (read_as o r line is some) in
-      let text : lines_text so_far.events ++ ended line ≡ lines_text (so_far.events ++ e ∷ []) = ap (λ (l : List ℕ). lines_text so_far.events ++ ended l) spelled.spelled ∙ sym (text_on so_far.events e) in
+      let text : lines_text so_far.events ++ line_ended line ≡ lines_text (so_far.events ++ e ∷ []) = ap (λ (l : List ℕ). lines_text so_far.events ++ line_ended l) spelled.spelled ∙ sym (text_on so_far.events e) in
       record {
         events = so_far.events ++ e ∷ [];
         are = are_more so_far.events e so_far.are spelled.octets;
-        takes = subst (Takes before after old new) text (takes_then before middle after old mid new (lines_text so_far.events) (ended line) so_far.takes next.takes);
+        takes = subst (Takes before after old new) text (takes_then before middle after old mid new (lines_text so_far.events) (line_ended line) so_far.takes next.takes);
         followed_all = on f g h so_far.events (e ∷ []) so_far.followed_all one;
         number = omega (arith, so_far.number, length-append so_far.events (e ∷ []));
       }
 
-  pub ended_by : (whole : ℕ) → whole ≡ mid.taken → TakesEvents followed f g first n before middle old mid → Ends middle after mid new → EventsEnd followed f g before after old new whole
+  pub ended_by : (whole : ℕ) → whole ≡ mid.taken → TakesEvents followed f g first n before middle old mid → EndsInLine middle after mid new → EventsEnd followed f g before after old new whole
   ended_by whole is so_far next = record {
     events = so_far.events;
     are = so_far.are;
@@ -72,7 +72,7 @@ module _ {F : Type 0} (followed : F → List LiveEvent → F → Type 0) (on : (
     followed_all = so_far.followed_all;
     line = line;
     no_lf = next.no_lf;
-    takes = takes_then before middle after old mid new (lines_text so_far.events) (ended line) so_far.takes next.takes;
+    takes = takes_then before middle after old mid new (lines_text so_far.events) (line_ended line) so_far.takes next.takes;
     no_event = bad;
     number = so_far.number;
   }

@@ -13,13 +13,13 @@ use Rattle.bx_journal.specs.declared.head.TheConstants.{RULES}
 use Rattle.bx_journal.specs.declared.head.Wanted.{Wanted}
 use Rattle.bx_journal.specs.declared.head_reading.Version.{Version}
 use Rattle.bx_journal.specs.declared.head_reading.Version.TheVariants.{Undated, Dated}
-use Rattle.bx_journal.specs.Heads.{IsDay, IsWanted}
+use Rattle.bx_journal.specs.Heads.{IsJournalDay, IsWanted}
 use Rattle.bx_journal.specs.Held.{Held}
-use Rattle.bx_journal.specs.Lines.{ended}
+use Rattle.bx_journal.specs.Lines.{line_ended}
 use Rattle.bx_journal.specs.Inside.{HasNoLf, HaveNoLf}
 use Rattle.bx_journal.specs.Text.{rules_line, plan_line, day_line}
 use Rattle.bx_journal.specs.Reading.{version_on, plan_on, plan_fault, day_on, fits_day, after_day, dated_head, after_plan, after_version, head_on}
-use Rattle.bx_journal.specs.Taking.{Takes, TakesLine, TakesLines, TakesTorn, IsJudged, IsCutShort, IsHeadLine, HeadTaken, HeadRefused, IsHead}
+use Rattle.bx_journal.specs.Taking.{Takes, TakesLine, TakesLines, TakesTorn, IsJudged, IsNoneTaken, IsHeadLine, HeadTaken, HeadRefused, IsHead}
 use Rattle.bx_journal.proofs.DayLines.{version_read, day_read, day_fits, version_spelled, third_spelled, IsLineFault, version_fault, plan_on_fault, day_fault}
 use Rattle.bx_journal.proofs.Takings.{takes_then, takes_none}
 
@@ -27,7 +27,7 @@ use Rattle.bx_journal.proofs.Takings.{takes_then, takes_none}
 
 lines_more : (before middle after : Option (List ℕ)) (old mid new : Held) (lines : List (List ℕ)) (line : List ℕ) → TakesLines before middle old mid lines → TakesLine middle after mid new line → TakesLines before after old new (lines ++ line ∷ [])
 lines_more before middle after old mid new lines line first next = record {
-  takes = subst (Takes before after old new) (flat_map_more ended [] lines line) (takes_then before middle after old mid new (flat_map ended lines) (ended line) first.takes next.takes);
+  takes = subst (Takes before after old new) (flat_map_more line_ended [] lines line) (takes_then before middle after old mid new (flat_map line_ended lines) (line_ended line) first.takes next.takes);
   no_lf = both lines first.no_lf;
 } where
   both : (lines : List (List ℕ)) → HaveNoLf lines → HaveNoLf (lines ++ line ∷ [])
@@ -36,7 +36,7 @@ lines_more before middle after old mid new lines line first next = record {
 
 torn_after : (before middle after : Option (List ℕ)) (old mid new : Held) (lines : List (List ℕ)) (torn : List ℕ) → TakesLines before middle old mid lines → Takes middle after mid new torn → HasNoLf torn → TakesTorn before after old new lines
 torn_after before middle after old mid new lines torn first next none =
-    record { torn = torn; takes = takes_then before middle after old mid new (flat_map ended lines) torn first.takes next; no_lf = first.no_lf; torn_no_lf = none }
+    record { torn = torn; takes = takes_then before middle after old mid new (flat_map line_ended lines) torn first.takes next; no_lf = first.no_lf; torn_no_lf = none }
 
 -- Lines of the head were taken, and this says what the head is by those after them.
 pub record SoFar (wanted : Wanted) (before after : Option (List ℕ)) (old new : Held) (n : ℕ) (said : List (List ℕ) → Result ℕ JournalFault) : Type 0 where
@@ -66,7 +66,7 @@ module _ {T : Type 0} (wanted : Wanted) (before middle after : Option (List ℕ)
     is = λ rest. ap (head_on wanted) (append_assoc so_far.lines (j.line ∷ []) rest) ∙ so_far.is (j.line ∷ rest) ∙ next j.line rest ∙ ap (λ (s : Result T JournalFault). following s rest) j.is;
   }
 
-  cut_short : (faulted : Bool) (f : JournalFault) → said [] ≡ Err NotBegun → IsCutShort {T = T} faulted middle after mid new (Err f) → IsHead wanted faulted before after old new (Err f)
+  cut_short : (faulted : Bool) (f : JournalFault) → said [] ≡ Err NotBegun → IsNoneTaken {T = T} faulted middle after mid new (Err f) → IsHead wanted faulted before after old new (Err f)
   cut_short faulted (BadLine k) none cut = absurd cut
   cut_short faulted OtherPlan none cut = absurd cut
   cut_short faulted OtherDay none cut = absurd cut
@@ -138,7 +138,7 @@ same xs = (bytes_eq-Decides xs xs).1 refl
 pub plan_read : (wanted plan : List ℕ) → wanted ≡ plan → plan_on wanted (plan_line plan) ≡ Ok tt
 plan_read wanted plan is = ap (λ (p : List ℕ). plan_on p (plan_line plan)) is ∙ ap (λ (b : Bool). cond b (Ok tt) (Err (plan_fault (plan_line plan)))) (same (plan_line plan))
 
-module _ (wanted : Wanted) (head : Head) (is : IsWanted wanted head) (day : IsDay head.day) where
+module _ (wanted : Wanted) (head : Head) (is : IsWanted wanted head) (day : IsJournalDay head.day) where
   abbrev plan_there : List (List ℕ) → Result ℕ JournalFault
   plan_there lines = after_plan wanted.day (plan_on wanted.plan (plan_line head.plan)) Dated lines
 
@@ -172,7 +172,7 @@ undated_refused wanted day rest some = ap (λ (d : Option JournalDay). after_ver
 pub record IsDated (wanted : Wanted) (lines : List (List ℕ)) (n : ℕ) : Type 0 where
   pub head : Head
   pub is_wanted : IsWanted wanted head
-  pub day : IsDay head.day
+  pub day : IsJournalDay head.day
   pub rest : List (List ℕ)
   pub are : lines ≡ rules_line RULES ∷ plan_line head.plan ∷ day_line head.day ∷ rest
   pub count : n ≡ 3
@@ -237,18 +237,18 @@ pub record IsPast (n taken : ℕ) : Type 0 where
   pub few : n ≤ 3
   pub past : n < taken
 
-count_by : (wanted : Wanted) (lines : List (List ℕ)) (n : ℕ) → IsDated wanted lines n ⊎ IsUndated wanted lines n → IsPast n (length (flat_map ended lines))
+count_by : (wanted : Wanted) (lines : List (List ℕ)) (n : ℕ) → IsDated wanted lines n ⊎ IsUndated wanted lines n → IsPast n (length (flat_map line_ended lines))
 count_by wanted lines n (inl d) =
-    let following = flat_map ended (plan_line d.head.plan ∷ day_line d.head.day ∷ d.rest) in
-    let long : length (flat_map ended lines) ≡ length (ended (rules_line RULES) ++ following) = ap (λ (ls : List (List ℕ)). length (flat_map ended ls)) d.are in
+    let following = flat_map line_ended (plan_line d.head.plan ∷ day_line d.head.day ∷ d.rest) in
+    let long : length (flat_map line_ended lines) ≡ length (line_ended (rules_line RULES) ++ following) = ap (λ (ls : List (List ℕ)). length (flat_map line_ended ls)) d.are in
     record {
       few = omega (arith, d.count);
-      past = omega (arith, d.count, long, length-append (ended (rules_line RULES)) following, length-append (rules_line RULES) (10 ∷ []), length-append (codes "bx-journal 2 rules ") (decimal RULES));
+      past = omega (arith, d.count, long, length-append (line_ended (rules_line RULES)) following, length-append (rules_line RULES) (10 ∷ []), length-append (codes "bx-journal 2 rules ") (decimal RULES));
     }
 count_by wanted lines n (inr u) =
-    let following = flat_map ended (plan_line wanted.plan ∷ u.rest) in
-    let long : length (flat_map ended lines) ≡ length (ended (codes "bx-journal 1") ++ following) = ap (λ (ls : List (List ℕ)). length (flat_map ended ls)) u.are in
-    record { few = omega (arith, u.count); past = omega (arith, u.count, long, length-append (ended (codes "bx-journal 1")) following) }
+    let following = flat_map line_ended (plan_line wanted.plan ∷ u.rest) in
+    let long : length (flat_map line_ended lines) ≡ length (line_ended (codes "bx-journal 1") ++ following) = ap (λ (ls : List (List ℕ)). length (flat_map line_ended ls)) u.are in
+    record { few = omega (arith, u.count); past = omega (arith, u.count, long, length-append (line_ended (codes "bx-journal 1")) following) }
 
 pub past_head : (wanted : Wanted) (before after : Option (List ℕ)) (old new : Held) (n : ℕ) → HeadTaken wanted before after old new n → IsPast n new.taken
 past_head wanted before after old new n head =

@@ -7,7 +7,7 @@ pub mod DayLines
 pub mod HeadLines
 pub mod ReadAgain
 pub mod Moments
-pub mod Recorded
+pub mod Logged
 pub mod PastContents
 pub mod Prefixes
 pub mod Spelled

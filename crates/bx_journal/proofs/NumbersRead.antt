@@ -11,7 +11,7 @@ use Rattle.std.proofs.lemmas.Str.Parse.{IsDigitsTest, IsNumeralModel, numerals_b
 use Rattle.std.proofs.lemmas.Fmt.{digits_decimal, digits_value-decimal, decimal_nonempty, length-decimal-le}
 use Rattle.bx_text.specs.Digits.{decimal_value}
 use Rattle.bx_text.proofs.DigitSteps.{and_both, digit_between, digit_from_between}
-use Rattle.bx_journal.specs.Numbers.{is_number, number_on, space_at}
+use Rattle.bx_journal.specs.Numbers.{is_number_of_32_bits, number_on, space_at}
 use Rattle.bx_journal.specs.Inside.{HasNoLf}
 
 abbrev pub AreDigits : List ℕ → Type 0
@@ -45,7 +45,7 @@ pub record IsNumberOf (ds : List ℕ) (n : ℕ) : Type 0 where
 some_inj : (x y : ℕ) → Some x ≡ Some y → x ≡ y
 some_inj x y e = cc
 
-by_form : (t : Bool) (ds : List ℕ) (n : ℕ) → is_number ds ≡ t → cond t (Some (decimal_value ds)) None ≡ Some n → IsNumberOf ds n
+by_form : (t : Bool) (ds : List ℕ) (n : ℕ) → is_number_of_32_bits ds ≡ t → cond t (Some (decimal_value ds)) None ≡ Some n → IsNumberOf ds n
 by_form true ds n e some =
     let p = and_parts (list_all is_ascii_digit ds) (ltb (decimal_value ds) 4294967296 && bytes_eq ds (decimal (decimal_value ds))) e in
     let q = and_parts (ltb (decimal_value ds) 4294967296) (bytes_eq ds (decimal (decimal_value ds))) p.1 in
@@ -53,7 +53,7 @@ by_form true ds n e some =
 by_form false ds n e some = absurd cc
 
 pub number_spelled : (ds : List ℕ) (n : ℕ) → number_on ds ≡ Some n → IsNumberOf ds n
-number_spelled ds n some = by_form (is_number ds) ds n refl some
+number_spelled ds n some = by_form (is_number_of_32_bits ds) ds n refl some
 
 -- digits of a number of 32 bits are few
 pub decimal_short : (n : ℕ) → n < 4294967296 → length (decimal n) ≤ 10

@@ -8,8 +8,8 @@ use Rattle.bx_journal.specs.declared.head.Head.{Head}
 use Rattle.bx_journal.specs.declared.head.JournalDay.{JournalDay}
 use Rattle.bx_journal.specs.declared.head.Wanted.{Wanted}
 use Rattle.bx_journal.specs.Events.{AreOctets, AreEvents}
-use Rattle.bx_journal.specs.Heads.{IsDay, IsWanted, wanted_of}
-use Rattle.bx_journal.specs.Hex.{hex_of, octets_in}
+use Rattle.bx_journal.specs.Heads.{IsJournalDay, IsWanted, wanted_of}
+use Rattle.bx_journal.specs.Hex.{hex_of, octets_of_digits}
 use Rattle.bx_journal.specs.Lines.{whole_lines}
 use Rattle.bx_journal.specs.Text.{line_of, plan_line, lines_of, journal_text, undated_lines, undated_text}
 use Rattle.bx_journal.specs.Reading.{Recovery, day_on, events_on, events_after, recovered, journal_events, journal_in}
@@ -20,7 +20,7 @@ use Rattle.bx_journal.proofs.WholeLines.{lines_whole, lines_then}
 use Rattle.bx_journal.proofs.ReadAgain.{lines_without_lf, undated_without_lf, lines_read, events_read}
 use Rattle.bx_journal.proofs.Spelled.{own_lines, own_spelled}
 
-whole : (head : Head) (es : List LiveEvent) → IsDay head.day → AreEvents es → whole_lines (journal_text head es) ≡ lines_of head es
+whole : (head : Head) (es : List LiveEvent) → IsJournalDay head.day → AreEvents es → whole_lines (journal_text head es) ≡ lines_of head es
 whole head es day are = ap whole_lines (sym (append-nil (journal_text head es))) ∙ lines_whole (lines_of head es) [] (lines_without_lf head es day are) refl
 
 abbrev the_ok : List LiveEvent → Result (List LiveEvent) JournalFault
@@ -39,19 +39,19 @@ same_head : (p q : Head) → p.plan ≡ q.plan → p.day ≡ q.day → p ≡ q
 same_head p q plan day = ap (λ (l : List ℕ). record { plan = l; day = p.day }) plan ∙ ap (λ (d : JournalDay). record { plan = q.plan; day = d }) day
 
 -- by their lines
-one_by : (p q : Head) (a b : List LiveEvent) → AreOctets p.plan → AreOctets q.plan → IsDay p.day → IsDay q.day → AreEvents a → AreEvents b → lines_of p a ≡ lines_of q b → (p ≡ q) × (a ≡ b)
+one_by : (p q : Head) (a b : List LiveEvent) → AreOctets p.plan → AreOctets q.plan → IsJournalDay p.day → IsJournalDay q.day → AreEvents a → AreEvents b → lines_of p a ≡ lines_of q b → (p ≡ q) × (a ≡ b)
 one_by p q a b p_are q_are p_day q_day a_are b_are lines =
     let digits : hex_of 97 p.plan ≡ hex_of 97 q.plan = ap (λ (ls : List (List ℕ)). drop 5 (get_or ls 1 [])) lines in
-    let plan : p.plan ≡ q.plan = same_plan p.plan q.plan (sym (octets_read 97 (omega arith) p.plan p_are) ∙ ap (octets_in 97) digits ∙ octets_read 97 (omega arith) q.plan q_are) in
+    let plan : p.plan ≡ q.plan = same_plan p.plan q.plan (sym (octets_read 97 (omega arith) p.plan p_are) ∙ ap (octets_of_digits 97) digits ∙ octets_read 97 (omega arith) q.plan q_are) in
     let day : p.day ≡ q.day = same_day p.day q.day (sym (day_read p.day p_day) ∙ ap (λ (ls : List (List ℕ)). day_on (get_or ls 2 [])) lines ∙ day_read q.day q_day) in
     let events : map line_of a ≡ map line_of b = ap (λ (ls : List (List ℕ)). drop 3 ls) lines in
     (same_head p q plan day, same_events a b (sym (events_read 4 a a_are) ∙ ap (events_on 4) events ∙ events_read 4 b b_are))
 
-pub one : (p q : Head) (a b : List LiveEvent) → AreOctets p.plan → AreOctets q.plan → IsDay p.day → IsDay q.day → AreEvents a → AreEvents b → journal_text p a ≡ journal_text q b → (p ≡ q) × (a ≡ b)
+pub one : (p q : Head) (a b : List LiveEvent) → AreOctets p.plan → AreOctets q.plan → IsJournalDay p.day → IsJournalDay q.day → AreEvents a → AreEvents b → journal_text p a ≡ journal_text q b → (p ≡ q) × (a ≡ b)
 one p q a b p_are q_are p_day q_day a_are b_are same = one_by p q a b p_are q_are p_day q_day a_are b_are (sym (whole p a p_day a_are) ∙ ap whole_lines same ∙ whole q b q_day b_are)
 
 -- what is read where a head is wanted was written with it
-pub own_head : (p q : Head) (torn : List ℕ) (es : List LiveEvent) (r : Recovery) → AreOctets p.plan → AreOctets q.plan → IsDay p.day → AreEvents es → whole_lines torn ≡ [] → journal_in (wanted_of q) (journal_text p es ++ torn) ≡ Ok r → p ≡ q
+pub own_head : (p q : Head) (torn : List ℕ) (es : List LiveEvent) (r : Recovery) → AreOctets p.plan → AreOctets q.plan → IsJournalDay p.day → AreEvents es → whole_lines torn ≡ [] → journal_in (wanted_of q) (journal_text p es ++ torn) ≡ Ok r → p ≡ q
 own_head p q torn es r p_are q_are p_day are t e =
     let read = own_spelled q (journal_text p es ++ torn) r e in
     let lines = lines_whole (lines_of p es) torn (lines_without_lf p es p_day are) t in

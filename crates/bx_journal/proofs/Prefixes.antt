@@ -8,12 +8,12 @@ use Rattle.bx_events.specs.declared.event.Event.TheVariants as plain
 use Rattle.bx_journal.specs.Disk.{LeavesOnly}
 use Rattle.bx_events.specs.Told.{live_event_of}
 use Rattle.bx_journal.specs.Lines.{whole_lines}
-use Rattle.bx_journal.specs.Heads.{IsDay, wanted_of}
+use Rattle.bx_journal.specs.Heads.{IsJournalDay, wanted_of}
 use Rattle.bx_journal.specs.Text.{lines_of, journal_text}
 use Rattle.bx_journal.specs.declared.fault.JournalFault.{JournalFault}
 use Rattle.bx_journal.specs.declared.head.Head.{Head}
 use Rattle.bx_journal.specs.Reading.{events_after, journal_events}
-use Rattle.bx_journal.specs.Recording.{IsUnbegun}
+use Rattle.bx_journal.specs.Logging.{IsUnbegun}
 use Rattle.bx_journal.proofs.WholeLines.{prefix_of}
 use Rattle.bx_journal.proofs.HeadLines.{one_line, two_lines}
 use Rattle.bx_journal.proofs.ReadAgain.{own, lines_without_lf, lines_read}
@@ -33,7 +33,7 @@ more_of events i lt =
     take_more (map live_event_of events) i WithoutLink (omega (arith, length-map events live_event_of)) ∙ ap (λ (e : LiveEvent). take i (map live_event_of events) ++ e ∷ []) (get_or-map live_event_of events i (rust.OnLink plain.Tick) WithoutLink lt)
 
 -- the first lines of a head, or all of them
-module _ (head : Head) (day : IsDay head.day) where
+module _ (head : Head) (day : IsJournalDay head.day) where
   first_lines : (k : ℕ) (octets : List ℕ) → whole_lines octets ≡ take k (lines_of head []) → k ≤ 3 → IsUnbegun head octets
   first_lines zero octets are few = inl (ap (journal_events (wanted_of head)) are)
   first_lines (suc zero) octets are few = inl (ap (journal_events (wanted_of head)) are ∙ ap (λ (r : Result ℕ JournalFault). events_after r (take 1 (lines_of head []))) (one_line (wanted_of head) head (own head) day))

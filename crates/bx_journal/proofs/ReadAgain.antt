@@ -4,9 +4,9 @@ use Rattle.std.specs.List.{flat_map, list_all}
 use Rattle.std.specs.Option.{option_map}
 use Rattle.bx_events.specs.Events.{Tick, Receive, LiveEvent, OnLink, WithoutLink, Sold}
 use Rattle.bx_journal.specs.Events.{is_printable, IsEvent, AreEvents}
-use Rattle.bx_journal.specs.Lines.{whole_lines, whole_text, ended}
+use Rattle.bx_journal.specs.Lines.{whole_lines, whole_text, line_ended}
 use Rattle.bx_journal.specs.Inside.{HasNoLf, HaveNoLf}
-use Rattle.bx_journal.specs.Heads.{IsDay, IsWanted, wanted_of}
+use Rattle.bx_journal.specs.Heads.{IsJournalDay, IsWanted, wanted_of}
 use Rattle.bx_journal.specs.Text.{line_of, plan_line, lines_of, journal_text, undated_lines}
 use Rattle.bx_journal.specs.Reading.{heard_event, event_on, events_on, events_after, journal_events, recovered, journal_in, with_whole, IsJournalText}
 use Rattle.bx_journal.specs.declared.fault.JournalFault.{JournalFault}
@@ -40,7 +40,7 @@ event_lines (e ∷ es) are = (line_without_lf e are.0, event_lines es are.1)
 pub plan_without_lf : (plan : List ℕ) → HasNoLf (plan_line plan)
 plan_without_lf plan = (refl, (refl, (refl, (refl, (refl, hex_without_lf 97 (omega arith) plan)))))
 
-pub lines_without_lf : (head : Head) (es : List LiveEvent) → IsDay head.day → AreEvents es → HaveNoLf (lines_of head es)
+pub lines_without_lf : (head : Head) (es : List LiveEvent) → IsJournalDay head.day → AreEvents es → HaveNoLf (lines_of head es)
 lines_without_lf head es day are = (our_rules_without_lf, (plan_without_lf head.plan, (day_without_lf head.day day, event_lines es are)))
 
 pub undated_without_lf : (plan : List ℕ) (es : List LiveEvent) → AreEvents es → HaveNoLf (undated_lines plan es)
@@ -59,15 +59,15 @@ events_read n (e ∷ es) are = rw (event_read e are.0, events_read (n + 1) es ar
 
 -- what lines are read as, whatever stands after them that no LF ends
 module _ (wanted : Wanted) (lines : List (List ℕ)) (es : List LiveEvent) (torn : List ℕ) (none : HaveNoLf lines) (read : journal_events wanted lines ≡ Ok es) (t : whole_lines torn ≡ []) where
-  pub lines_again : recovered wanted (flat_map ended lines ++ torn) ≡ Ok es
+  pub lines_again : recovered wanted (flat_map line_ended lines ++ torn) ≡ Ok es
   lines_again = ap (journal_events wanted) (lines_whole lines torn none t) ∙ read
 
-  pub journal_lines_again : journal_in wanted (flat_map ended lines ++ torn) ≡ Ok (record { events = es; whole = length (flat_map ended lines) })
+  pub journal_lines_again : journal_in wanted (flat_map line_ended lines ++ torn) ≡ Ok (record { events = es; whole = length (flat_map line_ended lines) })
   journal_lines_again =
-      ap (with_whole (length (whole_text (flat_map ended lines ++ torn)))) lines_again
-      ∙ ap (λ (ls : List (List ℕ)). Ok (record { events = es; whole = length (flat_map ended ls) })) (lines_whole lines torn none t)
+      ap (with_whole (length (whole_text (flat_map line_ended lines ++ torn)))) lines_again
+      ∙ ap (λ (ls : List (List ℕ)). Ok (record { events = es; whole = length (flat_map line_ended ls) })) (lines_whole lines torn none t)
 
-pub lines_read : (wanted : Wanted) (head : Head) (es : List LiveEvent) → IsWanted wanted head → IsDay head.day → AreEvents es → journal_events wanted (lines_of head es) ≡ Ok es
+pub lines_read : (wanted : Wanted) (head : Head) (es : List LiveEvent) → IsWanted wanted head → IsJournalDay head.day → AreEvents es → journal_events wanted (lines_of head es) ≡ Ok es
 lines_read wanted head es is day are = ap (λ (r : Result ℕ JournalFault). events_after r (lines_of head es)) (head_read wanted head is day (map line_of es)) ∙ events_read 4 es are
 
 pub undated_read : (wanted : Wanted) (es : List LiveEvent) → wanted.day ≡ None → AreEvents es → journal_events wanted (undated_lines wanted.plan es) ≡ Ok es
@@ -77,7 +77,7 @@ undated_read wanted es none are = ap (λ (r : Result ℕ JournalFault). events_a
 pub own : (head : Head) → IsWanted (wanted_of head) head
 own head = record { plan = refl; day = refl }
 
-module _ (head : Head) (es : List LiveEvent) (torn : List ℕ) (day : IsDay head.day) (are : AreEvents es) (t : whole_lines torn ≡ []) where
+module _ (head : Head) (es : List LiveEvent) (torn : List ℕ) (day : IsJournalDay head.day) (are : AreEvents es) (t : whole_lines torn ≡ []) where
   pub recovered_again : recovered (wanted_of head) (journal_text head es ++ torn) ≡ Ok es
   recovered_again = lines_again (wanted_of head) (lines_of head es) es torn (lines_without_lf head es day are) (lines_read (wanted_of head) head es (own head) day are) t
 

@@ -9,12 +9,12 @@ use Rattle.std.proofs.lemmas.Slice.Eq.{bytes_eq-Decides}
 use Rattle.bx_events.specs.Events.{Tick, LiveEvent, OnLink, WithoutLink, Sold}
 use Rattle.bx_journal.specs.declared.fault.JournalFault.{JournalFault}
 use Rattle.bx_journal.specs.Events.{AreOctets, IsEvent, AreEvents, is_printable}
-use Rattle.bx_journal.specs.Hex.{hex_digit, hex_of, hex_value, octet_of, octets_in, after_octet}
-use Rattle.bx_journal.specs.Lines.{whole_lines, whole_text, ended, onto}
+use Rattle.bx_journal.specs.Hex.{hex_digit, hex_of, hex_value, octet_of_digits, octets_of_digits, after_octet}
+use Rattle.bx_journal.specs.Lines.{whole_lines, whole_text, line_ended, onto}
 use Rattle.bx_journal.specs.Inside.{HasNoLf, HaveNoLf}
 use Rattle.bx_journal.specs.Text.{line_of, rules_line, plan_line, day_line, lines_of, journal_text, undated_lines}
 use Rattle.bx_journal.specs.Reading.{event_on, heard_on, heard_event, sold_on, events_on, with_event, head_on, events_after, journal_events, recovered, Recovery, journal_in, with_whole, IsJournalText}
-use Rattle.bx_journal.specs.Heads.{IsDay, IsWanted, wanted_of}
+use Rattle.bx_journal.specs.Heads.{IsJournalDay, IsWanted, wanted_of}
 use Rattle.bx_journal.specs.declared.head.Head.{Head}
 use Rattle.bx_journal.specs.declared.head.JournalDay.{JournalDay}
 use Rattle.bx_journal.specs.declared.head.TheConstants.{RULES}
@@ -29,11 +29,11 @@ pub record Split (bytes lines : List ℕ) : Type 0 where
   pub is : bytes ≡ lines ++ torn
   pub none : HasNoLf torn
 
-grow : (b : ℕ) (bytes : List ℕ) (lines : List (List ℕ)) → b == 10 ≡ false → Split bytes (flat_map ended lines) → Split (b ∷ bytes) (flat_map ended (onto b lines))
+grow : (b : ℕ) (bytes : List ℕ) (lines : List (List ℕ)) → b == 10 ≡ false → Split bytes (flat_map line_ended lines) → Split (b ∷ bytes) (flat_map line_ended (onto b lines))
 grow b bytes [] e s = record { torn = b ∷ s.torn; is = ap (λ (l : List ℕ). b ∷ l) s.is; none = (e, s.none) }
 grow b bytes (line ∷ lines) e s = record { torn = s.torn; is = ap (λ (l : List ℕ). b ∷ l) s.is; none = s.none }
 
-split_step : (t : Bool) (b : ℕ) (bytes : List ℕ) → b == 10 ≡ t → Split bytes (whole_text bytes) → Split (b ∷ bytes) (flat_map ended (cond t ([] ∷ whole_lines bytes) (onto b (whole_lines bytes))))
+split_step : (t : Bool) (b : ℕ) (bytes : List ℕ) → b == 10 ≡ t → Split bytes (whole_text bytes) → Split (b ∷ bytes) (flat_map line_ended (cond t ([] ∷ whole_lines bytes) (onto b (whole_lines bytes))))
 split_step true b bytes e s = record { torn = s.torn; is = ap (λ (x : ℕ). x ∷ bytes) (eqb-true b 10 e) ∙ ap (λ (l : List ℕ). 10 ∷ l) s.is; none = s.none }
 split_step false b bytes e s = grow b bytes (whole_lines bytes) e s
 
@@ -86,23 +86,23 @@ two ten h l ds os a b high low rest =
     }
 
 pair : (ten h l : ℕ) (ds os : List ℕ) (o p : Option ℕ) (r : Option (List ℕ)) → hex_value ten h ≡ o → hex_value ten l ≡ p → ((xs : List ℕ) → r ≡ Some xs → AreDigitsOf ten ds xs)
-    → after_octet (octet_of o p) r ≡ Some os → AreDigitsOf ten (h ∷ l ∷ ds) os
+    → after_octet (octet_of_digits o p) r ≡ Some os → AreDigitsOf ten (h ∷ l ∷ ds) os
 pair ten h l ds os None p r eh el more e = absurd cc
 pair ten h l ds os (Some a) None r eh el more e = absurd cc
 pair ten h l ds os (Some a) (Some b) None eh el more e = absurd cc
 pair ten h l ds os (Some a) (Some b) (Some xs) eh el more e =
     subst (AreDigitsOf ten (h ∷ l ∷ ds)) (some_inj _ _ e) (two ten h l ds xs a b (digit_spelled ten h a eh) (digit_spelled ten l b el) (more xs refl))
 
-pub octets_spelled : (ten : ℕ) (ds os : List ℕ) → octets_in ten ds ≡ Some os → AreDigitsOf ten ds os
+pub octets_spelled : (ten : ℕ) (ds os : List ℕ) → octets_of_digits ten ds ≡ Some os → AreDigitsOf ten ds os
 octets_spelled ten [] os e = subst (AreDigitsOf ten []) (some_inj _ _ e) (record { spelled = refl; octets = λ i. omega arith })
 octets_spelled ten (d ∷ []) os e = absurd cc
-octets_spelled ten (h ∷ l ∷ ds) os e = pair ten h l ds os (hex_value ten h) (hex_value ten l) (octets_in ten ds) refl refl (λ xs is. octets_spelled ten ds xs is) e
+octets_spelled ten (h ∷ l ∷ ds) os e = pair ten h l ds os (hex_value ten h) (hex_value ten l) (octets_of_digits ten ds) refl refl (λ xs is. octets_spelled ten ds xs is) e
 
 pub record IsLineOf (line : List ℕ) (e : LiveEvent) : Type 0 where
   pub spelled : line ≡ line_of e
   pub octets : IsEvent e
 
-heard : (line : List ℕ) (o : Option (List ℕ)) (e : LiveEvent) → length (drop 6 line) ≤ 520 → octets_in 65 (drop 6 line) ≡ o → take 6 line ≡ codes "heard " → option_map heard_event o ≡ Some e → IsLineOf line e
+heard : (line : List ℕ) (o : Option (List ℕ)) (e : LiveEvent) → length (drop 6 line) ≤ 520 → octets_of_digits 65 (drop 6 line) ≡ o → take 6 line ≡ codes "heard " → option_map heard_event o ≡ Some e → IsLineOf line e
 heard line None e few is word some = absurd cc
 heard line (Some os) e few is word some =
     let ds = octets_spelled 65 (drop 6 line) os is in
@@ -112,8 +112,8 @@ heard line (Some os) e few is word some =
       octets = (ds.octets, short);
     })
 
-limited : (few : Bool) (line : List ℕ) (e : LiveEvent) → leb (length (drop 6 line)) 520 ≡ few → take 6 line ≡ codes "heard " → cond few (option_map heard_event (octets_in 65 (drop 6 line))) None ≡ Some e → IsLineOf line e
-limited true line e few word some = heard line (octets_in 65 (drop 6 line)) e (leb-true _ _ few) refl word some
+limited : (few : Bool) (line : List ℕ) (e : LiveEvent) → leb (length (drop 6 line)) 520 ≡ few → take 6 line ≡ codes "heard " → cond few (option_map heard_event (octets_of_digits 65 (drop 6 line))) None ≡ Some e → IsLineOf line e
+limited true line e few word some = heard line (octets_of_digits 65 (drop 6 line)) e (leb-true _ _ few) refl word some
 limited false line e few word some = absurd cc
 
 sold : (fine : Bool) (line : List ℕ) (e : LiveEvent) → (nat_le (length (drop 5 line)) 120 && list_all is_printable (drop 5 line)) ≡ fine → take 5 line ≡ codes "sold " → cond fine (Some (Sold (drop 5 line))) None ≡ Some e → IsLineOf line e
@@ -162,7 +162,7 @@ lines_spelled n (line ∷ lines) es e = one n line lines es (event_on line) (eve
 pub record AreLinesDated (wanted : Wanted) (lines : List (List ℕ)) (es : List LiveEvent) : Type 0 where
   pub head : Head
   pub is_wanted : IsWanted wanted head
-  pub day : IsDay head.day
+  pub day : IsJournalDay head.day
   pub are : lines ≡ lines_of head es
   pub events : AreEvents es
 
@@ -192,23 +192,23 @@ pub all_lines : (wanted : Wanted) (lines : List (List ℕ)) (es : List LiveEvent
 all_lines wanted lines es e = by_head wanted lines es (head_on wanted lines) refl e
 
 -- the same where a head is wanted
-own_lines_by : (head : Head) (lines : List (List ℕ)) (es : List LiveEvent) → AreLines (wanted_of head) lines es → (lines ≡ lines_of head es) × IsDay head.day × AreEvents es
+own_lines_by : (head : Head) (lines : List (List ℕ)) (es : List LiveEvent) → AreLines (wanted_of head) lines es → (lines ≡ lines_of head es) × IsJournalDay head.day × AreEvents es
 own_lines_by head lines es (inl d) =
     let same : d.head ≡ head = one_head head d.head d.is_wanted.plan d.is_wanted.day in
-    (d.are ∙ ap (λ (h : Head). lines_of h es) same, subst (λ (h : Head). IsDay h.day) same d.day, d.events) where
+    (d.are ∙ ap (λ (h : Head). lines_of h es) same, subst (λ (h : Head). IsJournalDay h.day) same d.day, d.events) where
       one_head : (p q : Head) → p.plan ≡ q.plan → p.day ≡ q.day → q ≡ p
       one_head p q plan day = sym (ap (λ (l : List ℕ). record { plan = l; day = p.day }) plan ∙ ap (λ (d : JournalDay). record { plan = q.plan; day = d }) day)
 own_lines_by head lines es (inr u) = absurd (some_is_none head.day u.none) where
   some_is_none : (day : JournalDay) → Some day ≡ None → ⊥
   some_is_none day e = absurd cc
 
-pub own_lines : (head : Head) (lines : List (List ℕ)) (es : List LiveEvent) → journal_events (wanted_of head) lines ≡ Ok es → (lines ≡ lines_of head es) × IsDay head.day × AreEvents es
+pub own_lines : (head : Head) (lines : List (List ℕ)) (es : List LiveEvent) → journal_events (wanted_of head) lines ≡ Ok es → (lines ≡ lines_of head es) × IsJournalDay head.day × AreEvents es
 own_lines head lines es e = own_lines_by head lines es (all_lines (wanted_of head) lines es e)
 
 -- the text of what is read, and octets without LF after it
-text_by : (wanted : Wanted) (text : List ℕ) (lines : List (List ℕ)) (es : List LiveEvent) → text ≡ flat_map ended lines → AreLines wanted lines es → IsJournalText wanted es text × AreEvents es
-text_by wanted text lines es is (inl d) = (inl (record { head = d.head; is_wanted = d.is_wanted; is_day = d.day; is = is ∙ ap (flat_map ended) d.are }), d.events)
-text_by wanted text lines es is (inr u) = (inr (u.none, is ∙ ap (flat_map ended) u.are), u.events)
+text_by : (wanted : Wanted) (text : List ℕ) (lines : List (List ℕ)) (es : List LiveEvent) → text ≡ flat_map line_ended lines → AreLines wanted lines es → IsJournalText wanted es text × AreEvents es
+text_by wanted text lines es is (inl d) = (inl (record { head = d.head; is_wanted = d.is_wanted; is_day = d.day; is = is ∙ ap (flat_map line_ended) d.are }), d.events)
+text_by wanted text lines es is (inr u) = (inr (u.none, is ∙ ap (flat_map line_ended) u.are), u.events)
 
 pub recovered_text : (wanted : Wanted) (bytes : List ℕ) (es : List LiveEvent) → recovered wanted bytes ≡ Ok es → IsJournalText wanted es (whole_text bytes) × AreEvents es
 recovered_text wanted bytes es e = text_by wanted (whole_text bytes) (whole_lines bytes) es refl (all_lines wanted (whole_lines bytes) es e)
@@ -277,11 +277,11 @@ prefix_spelled wanted bytes r e =
 pub record IsOwn (head : Head) (bytes : List ℕ) (r : Recovery) : Type 0 where
   pub text : take r.whole bytes ≡ journal_text head r.events
   pub lines : whole_lines bytes ≡ lines_of head r.events
-  pub day : IsDay head.day
+  pub day : IsJournalDay head.day
   pub events : AreEvents r.events
 
 pub own_spelled : (head : Head) (bytes : List ℕ) (r : Recovery) → journal_in (wanted_of head) bytes ≡ Ok r → IsOwn head bytes r
 own_spelled head bytes r e =
     let p = recovery_parts (wanted_of head) bytes r e in
     let own = own_lines head (whole_lines bytes) r.events p.events in
-    record { text = taken_whole (wanted_of head) bytes r p ∙ ap (flat_map ended) own.0; lines = own.0; day = own.1; events = own.2 }
+    record { text = taken_whole (wanted_of head) bytes r p ∙ ap (flat_map line_ended) own.0; lines = own.0; day = own.1; events = own.2 }

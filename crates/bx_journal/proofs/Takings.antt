@@ -3,12 +3,12 @@ use Rattle.std.proofs.Common.{◌≡◌, inl, ℕ, ◌+◌, ◌≤◌, ◌==◌,
 use Rattle.std.proofs.lemmas.List.{append-nil}
 use Rattle.std.proofs.KnownBytes.{Consumes-nil, Consumes-trans}
 use Rattle.bx_journal.specs.Held.{Held}
-use Rattle.bx_journal.specs.Lines.{ended}
+use Rattle.bx_journal.specs.Lines.{line_ended}
 use Rattle.bx_journal.specs.Inside.{HasNoLf}
 use Rattle.bx_journal.specs.declared.pieces.CannotRead.{CannotRead}
 use Rattle.bx_journal.specs.declared.line_reading.LineEnd.{LineEnd}
 use Rattle.bx_journal.specs.declared.line_reading.LineEnd.TheVariants.{Whole, TooLong, Torn}
-use Rattle.bx_journal.specs.Taking.{Takes, TakesPart, TakesLine, Ends, Stops, IsOver, IsSkipped, IsLine}
+use Rattle.bx_journal.specs.Taking.{Takes, TakesPart, TakesLine, EndsInLine, Stops, IsOver, IsSkipped, IsLine}
 
 pub no_lf_on : (xs ys : List ℕ) → HasNoLf xs → HasNoLf ys → HasNoLf (xs ++ ys)
 no_lf_on [] ys x y = y
@@ -37,11 +37,11 @@ module _ (before middle after : Option (List ℕ)) (old mid new : Held) where
   -- the rest of a line, and its LF
   pub line_then : (xs ys : List ℕ) → TakesPart before middle old mid xs → TakesLine middle after mid new ys → TakesLine before after old new (xs ++ ys)
   line_then xs ys first second = record {
-    takes = subst (Takes before after old new) (sym (append_assoc xs ys (10 ∷ []))) (takes_then xs (ended ys) first.takes second.takes);
+    takes = subst (Takes before after old new) (sym (append_assoc xs ys (10 ∷ []))) (takes_then xs (line_ended ys) first.takes second.takes);
     no_lf = no_lf_on xs ys first.no_lf second.no_lf;
   }
 
-  pub ends_then : (xs : List ℕ) → TakesPart before middle old mid xs → Ends middle after mid new → Ends before after old new
+  pub ends_then : (xs : List ℕ) → TakesPart before middle old mid xs → EndsInLine middle after mid new → EndsInLine before after old new
   ends_then xs first second = record { torn = xs ++ second.torn; part = part_then xs second.torn first second.part; over = second.over }
 
   pub stops_then : (faulted : Bool) (xs : List ℕ) → TakesPart before middle old mid xs → Stops faulted middle after mid new → Stops faulted before after old new
@@ -71,7 +71,7 @@ module _ (before middle after : Option (List ℕ)) (old mid new : Held) where
   }
 
   -- the end, and a failed read
-  pub ends_here : (xs : List ℕ) → TakesPart before middle old mid xs → Takes middle after mid new [] × IsOver after new → Ends before after old new
+  pub ends_here : (xs : List ℕ) → TakesPart before middle old mid xs → Takes middle after mid new [] × IsOver after new → EndsInLine before after old new
   ends_here xs first last = ends_then before middle after old mid new xs first (record { torn = []; part = record { takes = last.0; no_lf = tt }; over = last.1 })
 
   pub stops_here : (faulted : Bool) (xs : List ℕ) → TakesPart before middle old mid xs → Takes middle after mid new [] × (faulted ≡ true) × (new.octets ≡ []) → Stops faulted before after old new

@@ -3,7 +3,7 @@ use Rattle.std.proofs.Common.{◌≡◌, inl, inr, ℕ, zero, suc, ◌+◌, ◌-
 use Rattle.std.proofs.lemmas.List.{take-append-le}
 use Rattle.std.proofs.lemmas.Bool.{cases_lt}
 use Rattle.std.specs.List.{flat_map}
-use Rattle.bx_journal.specs.Lines.{whole_lines, ended, onto}
+use Rattle.bx_journal.specs.Lines.{whole_lines, line_ended, onto}
 use Rattle.bx_journal.specs.Inside.{HasNoLf, HaveNoLf}
 
 pub first_line : (line rest : List ℕ) → HasNoLf line → whole_lines (line ++ 10 ∷ rest) ≡ line ∷ whole_lines rest
@@ -19,22 +19,22 @@ prefix_without_lf zero line none = tt
 prefix_without_lf (suc n) [] none = tt
 prefix_without_lf (suc n) (b ∷ line) none = (none.0, prefix_without_lf n line none.1)
 
-regroup : (line more torn : List ℕ) → (ended line ++ more) ++ torn ≡ line ++ 10 ∷ (more ++ torn)
-regroup line more torn = append_assoc (ended line) more torn ∙ append_assoc line (10 ∷ []) (more ++ torn)
+regroup : (line more torn : List ℕ) → (line_ended line ++ more) ++ torn ≡ line ++ 10 ∷ (more ++ torn)
+regroup line more torn = append_assoc (line_ended line) more torn ∙ append_assoc line (10 ∷ []) (more ++ torn)
 
-pub lines_whole : (lines : List (List ℕ)) (torn : List ℕ) → HaveNoLf lines → whole_lines torn ≡ [] → whole_lines (flat_map ended lines ++ torn) ≡ lines
+pub lines_whole : (lines : List (List ℕ)) (torn : List ℕ) → HaveNoLf lines → whole_lines torn ≡ [] → whole_lines (flat_map line_ended lines ++ torn) ≡ lines
 lines_whole [] torn none t = t
 lines_whole (line ∷ lines) torn none t =
-    ap whole_lines (regroup line (flat_map ended lines) torn) ∙ first_line line (flat_map ended lines ++ torn) none.0 ∙ ap (λ (ls : List (List ℕ)). line ∷ ls) (lines_whole lines torn none.1 t)
+    ap whole_lines (regroup line (flat_map line_ended lines) torn) ∙ first_line line (flat_map line_ended lines ++ torn) none.0 ∙ ap (λ (ls : List (List ℕ)). line ∷ ls) (lines_whole lines torn none.1 t)
 
 -- a line with its LF, before other octets
-pub line_first : (line more : List ℕ) → HasNoLf line → whole_lines (ended line ++ more) ≡ line ∷ whole_lines more
+pub line_first : (line more : List ℕ) → HasNoLf line → whole_lines (line_ended line ++ more) ≡ line ∷ whole_lines more
 line_first line more none = ap whole_lines (append_assoc line (10 ∷ []) more) ∙ first_line line more none
 
-pub lines_then : (lines : List (List ℕ)) (rest : List ℕ) → HaveNoLf lines → whole_lines (flat_map ended lines ++ rest) ≡ lines ++ whole_lines rest
+pub lines_then : (lines : List (List ℕ)) (rest : List ℕ) → HaveNoLf lines → whole_lines (flat_map line_ended lines ++ rest) ≡ lines ++ whole_lines rest
 lines_then [] rest none = refl
 lines_then (line ∷ lines) rest none =
-    ap whole_lines (append_assoc (ended line) (flat_map ended lines) rest) ∙ line_first line (flat_map ended lines ++ rest) none.0 ∙ ap (λ (ls : List (List ℕ)). line ∷ ls) (lines_then lines rest none.1)
+    ap whole_lines (append_assoc (line_ended line) (flat_map line_ended lines) rest) ∙ line_first line (flat_map line_ended lines ++ rest) none.0 ∙ ap (λ (ls : List (List ℕ)). line ∷ ls) (lines_then lines rest none.1)
 
 pub take_past : (xs ys : List ℕ) (m : ℕ) → take (length xs + m) (xs ++ ys) ≡ xs ++ take m ys
 take_past [] ys m = let e : 0 + m ≡ m = omega arith in ap (λ k. take k ys) e
@@ -50,23 +50,23 @@ pub record IsPrefixOf (lines : List (List ℕ)) (octets : List ℕ) : Type 0 whe
   pub within : count ≤ length lines
   pub are : whole_lines octets ≡ take count lines
 
-pub prefix_of : (lines : List (List ℕ)) (n : ℕ) → HaveNoLf lines → IsPrefixOf lines (take n (flat_map ended lines))
+pub prefix_of : (lines : List (List ℕ)) (n : ℕ) → HaveNoLf lines → IsPrefixOf lines (take n (flat_map line_ended lines))
 prefix_of [] n none = record { count = 0; within = omega arith; are = ap whole_lines (take_none n) }
 prefix_of (line ∷ lines) n none = elim (cases_lt (length line) n) [
   | inl whole ↦
-      let m = n - length (ended line) in
-      let split : length (ended line) + m ≡ n = omega (arith, whole, length-append line (10 ∷ [])) in
+      let m = n - length (line_ended line) in
+      let split : length (line_ended line) + m ≡ n = omega (arith, whole, length-append line (10 ∷ [])) in
       let rest = prefix_of lines m none.1 in
       record {
         count = suc rest.count;
         within = omega (arith, rest.within);
-        are = ap (λ k. whole_lines (take k (ended line ++ flat_map ended lines))) (sym split)
-            ∙ ap whole_lines (take_past (ended line) (flat_map ended lines) m)
-            ∙ line_first line (take m (flat_map ended lines)) none.0
+        are = ap (λ k. whole_lines (take k (line_ended line ++ flat_map line_ended lines))) (sym split)
+            ∙ ap whole_lines (take_past (line_ended line) (flat_map line_ended lines) m)
+            ∙ line_first line (take m (flat_map line_ended lines)) none.0
             ∙ ap (λ (ls : List (List ℕ)). line ∷ ls) rest.are;
       }
   | inr torn ↦
-      let prefix : take n (ended line ++ flat_map ended lines) ≡ take n line =
-      ap (take n) (append_assoc line (10 ∷ []) (flat_map ended lines)) ∙ take-append-le n line (10 ∷ flat_map ended lines) torn in
+      let prefix : take n (line_ended line ++ flat_map line_ended lines) ≡ take n line =
+      ap (take n) (append_assoc line (10 ∷ []) (flat_map line_ended lines)) ∙ take-append-le n line (10 ∷ flat_map line_ended lines) torn in
       record { count = 0; within = omega arith; are = ap whole_lines prefix ∙ torn_line (take n line) (prefix_without_lf n line none.0) }
 ]

@@ -6,19 +6,19 @@ use Rattle.bx_events.specs.Told.{live_event_of}
 use Rattle.bx_events.specs.declared.event.LiveEvent.TheVariants as rust
 use Rattle.bx_events.specs.declared.event.Event.TheVariants as plain
 use Rattle.bx_events.specs.declared.event.LiveEvent as rust_live
-use Rattle.bx_journal.specs.declared.event.RecordedEvent.{RecordedEvent}
-use Rattle.bx_journal.specs.declared.event.RecordedEvent.TheVariants as recorded
+use Rattle.bx_journal.specs.declared.event.LoggedEvent.{LoggedEvent}
+use Rattle.bx_journal.specs.declared.event.LoggedEvent.TheVariants as logged
 
 -- printable ASCII
 abbrev pub is_printable : ℕ → Bool
 is_printable octet = nat_le 32 octet && nat_le octet 126
 
 -- what came is no longer than the longest message, and what is sold is printable, and no longer than its line may be
-abbrev pub IsMessage : LiveEvent → Type 0
-IsMessage (OnLink Tick) = Unit {0}
-IsMessage (OnLink (Receive octets)) = length octets ≤ 260
-IsMessage WithoutLink = Unit {0}
-IsMessage (Sold booking) = (length booking ≤ 120) × (list_all is_printable booking ≡ true)
+abbrev pub IsLoggable : LiveEvent → Type 0
+IsLoggable (OnLink Tick) = Unit {0}
+IsLoggable (OnLink (Receive octets)) = length octets ≤ 260
+IsLoggable WithoutLink = Unit {0}
+IsLoggable (Sold booking) = (length booking ≤ 120) × (list_all is_printable booking ≡ true)
 
 abbrev pub AreOctets : List ℕ → Type 0
 AreOctets octets = (i : ℕ) → slice_index octets i < 256
@@ -31,7 +31,7 @@ HasOctets (Sold booking) = Unit {0}
 
 -- an event that has a line: what came are octets, and no more than a message has
 abbrev pub IsEvent : LiveEvent → Type 0
-IsEvent event = HasOctets event × IsMessage event
+IsEvent event = HasOctets event × IsLoggable event
 
 abbrev pub AreEvents : List LiveEvent → Type 0
 AreEvents [] = Unit {0}
@@ -39,11 +39,11 @@ AreEvents (event ∷ events) = IsEvent event × AreEvents events
 
 -- none of them is longer than the longest message
 abbrev pub AreMessages : List rust_live.LiveEvent → Type 0
-AreMessages events = (i : ℕ) → IsMessage (live_event_of (slice_index_or events i (rust.OnLink plain.Tick)))
+AreMessages events = (i : ℕ) → IsLoggable (live_event_of (slice_index_or events i (rust.OnLink plain.Tick)))
 
 -- an event that was read
-abbrev pub recorded_event : RecordedEvent → LiveEvent
-recorded_event recorded.Tick = OnLink Tick
-recorded_event (recorded.Heard octets) = OnLink (Receive octets.items)
-recorded_event recorded.Down = WithoutLink
-recorded_event (recorded.Sold booking) = Sold booking.items
+abbrev pub logged_event : LoggedEvent → LiveEvent
+logged_event logged.Tick = OnLink Tick
+logged_event (logged.Heard octets) = OnLink (Receive octets.items)
+logged_event logged.Down = WithoutLink
+logged_event (logged.Sold booking) = Sold booking.items

@@ -6,9 +6,9 @@ use Rattle.bx_journal.specs.declared.head.JournalDay.TheVariants.{Rehearsed, Liv
 use Rattle.bx_journal.specs.declared.head.Wanted.{Wanted}
 
 -- a day that has a line: both numbers have 32 bits, and the pace is at least 1
-abbrev pub IsDay : JournalDay → Type 0
-IsDay Rehearsed = Unit {0}
-IsDay (Live first pace) = (first < 4294967296) × (1 ≤ pace) × (pace < 4294967296)
+abbrev pub IsJournalDay : JournalDay → Type 0
+IsJournalDay Rehearsed = Unit {0}
+IsJournalDay (Live first pace) = (first < 4294967296) × (1 ≤ pace) × (pace < 4294967296)
 
 -- a journal of this plan and this day is wanted
 abbrev pub wanted_of : Head → Wanted

@@ -20,10 +20,10 @@ abbrev pub is_hex : ℕ → ℕ → Bool
 is_hex ten digit = is_some (hex_value ten digit)
 
 -- the octet of two digits
-abbrev pub octet_of : Option ℕ → Option ℕ → Option ℕ
-octet_of (Some high) (Some low) = Some (high * 16 + low)
-octet_of (Some high) None = None
-octet_of None low = None
+abbrev pub octet_of_digits : Option ℕ → Option ℕ → Option ℕ
+octet_of_digits (Some high) (Some low) = Some (high * 16 + low)
+octet_of_digits (Some high) None = None
+octet_of_digits None low = None
 
 -- these octets, and others after them
 abbrev pub following : List ℕ → Option (List ℕ) → Option (List ℕ)
@@ -35,7 +35,7 @@ after_octet (Some octet) octets = following (octet ∷ []) octets
 after_octet None octets = None
 
 -- the octets that digits spell, if they do
-abbrev pub octets_in : ℕ → List ℕ → Option (List ℕ)
-octets_in ten [] = Some []
-octets_in ten (high ∷ []) = None
-octets_in ten (high ∷ low ∷ digits) = after_octet (octet_of (hex_value ten high) (hex_value ten low)) (octets_in ten digits)
+abbrev pub octets_of_digits : ℕ → List ℕ → Option (List ℕ)
+octets_of_digits ten [] = Some []
+octets_of_digits ten (high ∷ []) = None
+octets_of_digits ten (high ∷ low ∷ digits) = after_octet (octet_of_digits (hex_value ten high) (hex_value ten low)) (octets_of_digits ten digits)

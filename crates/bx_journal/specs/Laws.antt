@@ -6,7 +6,7 @@ use Rattle.bx_journal.specs.declared.head.Head.{Head}
 use Rattle.bx_journal.specs.declared.head.JournalDay.{JournalDay}
 use Rattle.bx_journal.specs.declared.head.Wanted.{Wanted}
 use Rattle.bx_journal.specs.Events.{AreEvents, AreOctets}
-use Rattle.bx_journal.specs.Heads.{IsDay, IsWanted, wanted_of}
+use Rattle.bx_journal.specs.Heads.{IsJournalDay, IsWanted, wanted_of}
 use Rattle.bx_journal.specs.Lines.{whole_lines}
 use Rattle.bx_journal.specs.Text.{journal_text, undated_text}
 use Rattle.bx_journal.specs.Reading.{Recovery, IsJournalText, recovered, journal_in}
@@ -15,7 +15,7 @@ use Rattle.bx_journal.specs.Reading.{Recovery, IsJournalText, recovered, journal
 abbrev pub IsOwnTextReadAgain : Type 0
 IsOwnTextReadAgain =
     (head : Head) (torn : List ℕ) (events : List LiveEvent) →
-    IsDay head.day →
+    IsJournalDay head.day →
     AreEvents events →
     whole_lines torn ≡ [] →
     journal_in (wanted_of head) (journal_text head events ++ torn) ≡ Ok (record { events = events; whole = length (journal_text head events) })
@@ -42,8 +42,8 @@ HasOneHeadAndEvents =
     (p q : Head) (a b : List LiveEvent) →
     AreOctets p.plan →
     AreOctets q.plan →
-    IsDay p.day →
-    IsDay q.day →
+    IsJournalDay p.day →
+    IsJournalDay q.day →
     AreEvents a →
     AreEvents b →
     journal_text p a ≡ journal_text q b →
@@ -55,7 +55,7 @@ IsReadWithItsHeadAlone =
     (p q : Head) (torn : List ℕ) (events : List LiveEvent) (r : Recovery) →
     AreOctets p.plan →
     AreOctets q.plan →
-    IsDay p.day →
+    IsJournalDay p.day →
     AreEvents events →
     whole_lines torn ≡ [] →
     journal_in (wanted_of q) (journal_text p events ++ torn) ≡ Ok r →

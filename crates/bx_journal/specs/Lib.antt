@@ -11,7 +11,7 @@ pub mod Taking
 pub mod Follows
 pub mod Disk
 pub mod Files
-pub mod Recording
+pub mod Logging
 pub mod Past
 pub mod Memory
 pub mod Resuming

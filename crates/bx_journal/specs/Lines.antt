@@ -13,9 +13,9 @@ whole_lines [] = []
 whole_lines (octet ∷ octets) = if octet == 10 then [] ∷ whole_lines octets else onto octet (whole_lines octets)
 
 -- a line with its LF
-abbrev pub ended : List ℕ → List ℕ
-ended line = line ++ 10 ∷ []
+abbrev pub line_ended : List ℕ → List ℕ
+line_ended line = line ++ 10 ∷ []
 
 -- the prefix of a text that is whole lines
 abbrev pub whole_text : List ℕ → List ℕ
-whole_text octets = flat_map ended (whole_lines octets)
+whole_text octets = flat_map line_ended (whole_lines octets)

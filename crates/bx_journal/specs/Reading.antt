@@ -14,8 +14,8 @@ use Rattle.bx_journal.specs.declared.head.Wanted.{Wanted}
 use Rattle.bx_journal.specs.declared.head_reading.Version.{Version}
 use Rattle.bx_journal.specs.declared.head_reading.Version.TheVariants.{Undated, Dated}
 use Rattle.bx_journal.specs.Events.{is_printable}
-use Rattle.bx_journal.specs.Heads.{IsDay, IsWanted}
-use Rattle.bx_journal.specs.Hex.{octets_in, is_hex}
+use Rattle.bx_journal.specs.Heads.{IsJournalDay, IsWanted}
+use Rattle.bx_journal.specs.Hex.{octets_of_digits, is_hex}
 use Rattle.bx_journal.specs.Lines.{whole_lines, whole_text}
 use Rattle.bx_journal.specs.Numbers.{number_on, space_at}
 use Rattle.bx_journal.specs.Text.{plan_line, journal_text, undated_text}
@@ -25,7 +25,7 @@ heard_event octets = OnLink (Receive octets)
 
 -- what came, by its digits: at most those of the longest message
 abbrev pub heard_on : List ℕ → Option LiveEvent
-heard_on digits = if nat_le (length digits) 520 then option_map heard_event (octets_in 65 digits) else None
+heard_on digits = if nat_le (length digits) 520 then option_map heard_event (octets_of_digits 65 digits) else None
 
 -- what was sold
 abbrev pub sold_on : List ℕ → Option LiveEvent
@@ -185,7 +185,7 @@ events_before wanted octets = events_after_head (head_on wanted (whole_lines oct
 pub record IsOfHead (wanted : Wanted) (events : List LiveEvent) (text : List ℕ) : Type 0 where
   pub head : Head
   pub is_wanted : IsWanted wanted head
-  pub is_day : IsDay head.day
+  pub is_day : IsJournalDay head.day
   pub is : text ≡ journal_text head events
 
 -- the text of a journal that is wanted, of these events: of version 2, or, where no day is wanted, of version 1

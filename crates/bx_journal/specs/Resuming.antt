@@ -5,7 +5,7 @@ use Rattle.bx_journal.specs.declared.head.Wanted.{Wanted}
 use Rattle.bx_events.specs.Events.{LiveEvent}
 use Rattle.bx_journal.specs.Disk.{Only, LeavesOnly}
 use Rattle.bx_journal.specs.Heads.{wanted_of}
-use Rattle.bx_journal.specs.Recording.{IsSettled}
+use Rattle.bx_journal.specs.Logging.{IsSettled}
 use Rattle.bx_journal.specs.declared.head.Head.{Head}
 
 -- what a crash left has the same events in the journal, or the same fault

@@ -11,7 +11,7 @@ use Rattle.bx_journal.specs.declared.line_reading.LineEnd.{LineEnd}
 use Rattle.bx_journal.specs.declared.line_reading.LineEnd.TheVariants.{Whole, TooLong, Torn}
 use Rattle.bx_journal.specs.Held.{Held}
 use Rattle.bx_journal.specs.Events.{AreEvents}
-use Rattle.bx_journal.specs.Lines.{ended}
+use Rattle.bx_journal.specs.Lines.{line_ended}
 use Rattle.bx_journal.specs.Inside.{HasNoLf, HaveNoLf}
 use Rattle.bx_journal.specs.Reading.{event_on, head_on}
 use Rattle.bx_journal.specs.Text.{line_of}
@@ -32,7 +32,7 @@ pub record TakesPart (before after : Option (List ℕ)) (old new : Held) (part :
 
 -- the same of a line and its LF
 pub record TakesLine (before after : Option (List ℕ)) (old new : Held) (line : List ℕ) : Type 0 where
-  pub takes : Takes before after old new (ended line)
+  pub takes : Takes before after old new (line_ended line)
   pub no_lf : HasNoLf line
 
 -- nothing is left
@@ -45,7 +45,7 @@ abbrev pub HasStopped : Bool → Held → Type 0
 HasStopped faulted new = ((faulted ≡ true) × (new.octets ≡ [])) ⊎ (new.taken ≡ 18446744073709551615)
 
 -- the end inside a line, and a stop there
-pub record Ends (before after : Option (List ℕ)) (old new : Held) : Type 0 where
+pub record EndsInLine (before after : Option (List ℕ)) (old new : Held) : Type 0 where
   pub torn : List ℕ
   pub part : TakesPart before after old new torn
   pub over : IsOver after new
@@ -64,13 +64,13 @@ IsOctet faulted before after old new (Err fault) = Takes before after old new []
 abbrev pub IsSkipped : Bool → Option (List ℕ) → Option (List ℕ) → Held → Held → Result LineEnd CannotRead → Type 0
 IsSkipped faulted before after old new (Ok Whole) = ⊥
 IsSkipped faulted before after old new (Ok TooLong) = (line : List ℕ) × TakesLine before after old new line
-IsSkipped faulted before after old new (Ok Torn) = Ends before after old new
+IsSkipped faulted before after old new (Ok Torn) = EndsInLine before after old new
 IsSkipped faulted before after old new (Err fault) = Stops faulted before after old new
 
 abbrev pub IsLine : Bool → Option (List ℕ) → Option (List ℕ) → Held → Held → List ℕ → Result LineEnd CannotRead → Type 0
 IsLine faulted before after old new line (Ok Whole) = TakesLine before after old new line
 IsLine faulted before after old new line (Ok TooLong) = (long : List ℕ) × TakesLine before after old new long × (526 < length long)
-IsLine faulted before after old new line (Ok Torn) = Ends before after old new
+IsLine faulted before after old new line (Ok Torn) = EndsInLine before after old new
 IsLine faulted before after old new line (Err fault) = Stops faulted before after old new
 
 -- a line of the head was taken, and this is what is said of it
@@ -80,23 +80,23 @@ pub record IsJudged {T : Type 0} (judge : List ℕ → Result T JournalFault) (b
   pub is : judge line ≡ said
 
 -- none was taken
-abbrev pub IsCutShort : {T : Type 0} → Bool → Option (List ℕ) → Option (List ℕ) → Held → Held → Result T JournalFault → Type 0
-IsCutShort faulted before after old new (Err NotBegun) = Ends before after old new
-IsCutShort faulted before after old new (Err ReadFailed) = Stops faulted before after old new
-IsCutShort faulted before after old new said = ⊥
+abbrev pub IsNoneTaken : {T : Type 0} → Bool → Option (List ℕ) → Option (List ℕ) → Held → Held → Result T JournalFault → Type 0
+IsNoneTaken faulted before after old new (Err NotBegun) = EndsInLine before after old new
+IsNoneTaken faulted before after old new (Err ReadFailed) = Stops faulted before after old new
+IsNoneTaken faulted before after old new said = ⊥
 
 abbrev pub IsHeadLine : {T : Type 0} → (List ℕ → Result T JournalFault) → Bool → Option (List ℕ) → Option (List ℕ) → Held → Held → Result T JournalFault → Type 0
-IsHeadLine judge faulted before after old new said = IsJudged judge before after old new said ⊎ IsCutShort faulted before after old new said
+IsHeadLine judge faulted before after old new said = IsJudged judge before after old new said ⊎ IsNoneTaken faulted before after old new said
 
 -- lines of the head were taken
 pub record TakesLines (before after : Option (List ℕ)) (old new : Held) (lines : List (List ℕ)) : Type 0 where
-  pub takes : Takes before after old new (flat_map ended lines)
+  pub takes : Takes before after old new (flat_map line_ended lines)
   pub no_lf : HaveNoLf lines
 
 -- the same, and what stands after them without LF
 pub record TakesTorn (before after : Option (List ℕ)) (old new : Held) (lines : List (List ℕ)) : Type 0 where
   pub torn : List ℕ
-  pub takes : Takes before after old new (flat_map ended lines ++ torn)
+  pub takes : Takes before after old new (flat_map line_ended lines ++ torn)
   pub no_lf : HaveNoLf lines
   pub torn_no_lf : HasNoLf torn
 
@@ -138,7 +138,7 @@ IsHead wanted faulted before after old new (Err ReadFailed) = HeadStops wanted f
 
 -- the lines of events
 abbrev pub lines_text : List LiveEvent → List ℕ
-lines_text events = flat_map ended (map line_of events)
+lines_text events = flat_map line_ended (map line_of events)
 
 -- events were followed, and their lines taken, of which the next one is line n
 pub record TakesEvents {F : Type 0} (followed : F → List LiveEvent → F → Type 0) (f g : F) (first n : ℕ) (before after : Option (List ℕ)) (old new : Held) : Type 0 where
@@ -174,7 +174,7 @@ pub record EventsBreak {F : Type 0} (followed : F → List LiveEvent → F → T
   pub followed_all : followed f events g
   pub line : List ℕ
   pub no_lf : HasNoLf line
-  pub takes : Takes before after old new (lines_text events ++ ended line)
+  pub takes : Takes before after old new (lines_text events ++ line_ended line)
   pub no_event : event_on line ≡ None
   pub number : n ≡ first + length events
 

@@ -3,7 +3,7 @@ use Rattle.std.specs.Prelude.{ℕ, List, ◌∷◌, ◌++◌, map, codes, decima
 use Rattle.std.specs.List.{flat_map}
 use Rattle.bx_events.specs.Events.{Tick, Receive, LiveEvent, OnLink, WithoutLink, Sold}
 use Rattle.bx_journal.specs.Hex.{hex_of}
-use Rattle.bx_journal.specs.Lines.{ended}
+use Rattle.bx_journal.specs.Lines.{line_ended}
 use Rattle.bx_journal.specs.declared.head.Head.{Head}
 use Rattle.bx_journal.specs.declared.head.JournalDay.{JournalDay}
 use Rattle.bx_journal.specs.declared.head.JournalDay.TheVariants.{Rehearsed, Live}
@@ -34,11 +34,11 @@ abbrev pub lines_of : Head → List LiveEvent → List (List ℕ)
 lines_of head events = rules_line RULES ∷ plan_line head.plan ∷ day_line head.day ∷ map line_of events
 
 abbrev pub journal_text : Head → List LiveEvent → List ℕ
-journal_text head events = flat_map ended (lines_of head events)
+journal_text head events = flat_map line_ended (lines_of head events)
 
 -- the lines of a journal of version 1, which told no day
 abbrev pub undated_lines : List ℕ → List LiveEvent → List (List ℕ)
 undated_lines plan events = codes "bx-journal 1" ∷ plan_line plan ∷ map line_of events
 
 abbrev pub undated_text : List ℕ → List LiveEvent → List ℕ
-undated_text plan events = flat_map ended (undated_lines plan events)
+undated_text plan events = flat_map line_ended (undated_lines plan events)

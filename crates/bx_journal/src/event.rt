@@ -11,26 +11,26 @@ pub type SoldLine = ArrayVec<u8, 120>;
 
 /// An event of a live day, with the octets that came.
 #[derive(Drop)]
-pub enum RecordedEvent {
+pub enum LoggedEvent {
     Tick,
     Heard(Octets),
     Down,
     Sold(SoldLine),
 }
 
-impl RecordedEvent {
+impl LoggedEvent {
     ghost use Rattle.bx_events.specs.Told.{live_event_of};
-    ghost use Rattle.bx_journal.specs.Events.{recorded_event};
+    ghost use Rattle.bx_journal.specs.Events.{logged_event};
 
     /// The event, whose octets stay where they are.
     pub fn as_event(&self) -> LiveEvent<'_>
-        ensures { live_event_of result ≡ recorded_event self.now }
+        ensures { live_event_of result ≡ logged_event self.now }
     {
         match self {
-            RecordedEvent::Tick => LiveEvent::OnLink(Event::Tick),
-            RecordedEvent::Heard(octets) => LiveEvent::OnLink(Event::Receive(octets)),
-            RecordedEvent::Down => LiveEvent::WithoutLink,
-            RecordedEvent::Sold(booking) => LiveEvent::Sold(booking),
+            LoggedEvent::Tick => LiveEvent::OnLink(Event::Tick),
+            LoggedEvent::Heard(octets) => LiveEvent::OnLink(Event::Receive(octets)),
+            LoggedEvent::Down => LiveEvent::WithoutLink,
+            LoggedEvent::Sold(booking) => LiveEvent::Sold(booking),
         }
     }
 }

@@ -3,20 +3,20 @@
 ghost use Rattle.std.specs.Prelude.{◌≡◌};
 ghost use Rattle.std.specs.List.{list_all};
 ghost use Rattle.std.specs.Option.{option_map};
-ghost use Rattle.bx_journal.specs.Events.{is_printable, recorded_event};
+ghost use Rattle.bx_journal.specs.Events.{is_printable, logged_event};
 ghost use Rattle.bx_journal.specs.Reading.{event_on, heard_on, sold_by, sold_on};
 
-use crate::event::{RecordedEvent, SoldLine};
+use crate::event::{LoggedEvent, SoldLine};
 use crate::hex::octets_in;
 
 /// What came, by its digits.
-fn heard_on(digits: &[u8]) -> Option<RecordedEvent>
-    ensures { option_map recorded_event result ≡ heard_on digits.now }
+fn heard_on(digits: &[u8]) -> Option<LoggedEvent>
+    ensures { option_map logged_event result ≡ heard_on digits.now }
 {
     if digits.len() > 520 {
         return None;
     }
-    Some(RecordedEvent::Heard(octets_in(digits)?))
+    Some(LoggedEvent::Heard(octets_in(digits)?))
 }
 
 /// Whether each octet is printable ASCII.
@@ -32,22 +32,22 @@ pub fn are_printable(octets: &[u8]) -> bool
 }
 
 /// What was sold.
-fn sold_on(booking: &[u8]) -> Option<RecordedEvent>
-    ensures { option_map recorded_event result ≡ sold_on booking.now }
+fn sold_on(booking: &[u8]) -> Option<LoggedEvent>
+    ensures { option_map logged_event result ≡ sold_on booking.now }
 {
     let mut line = SoldLine::new();
     if booking.len() > 120 || !are_printable(booking) {
         return None;
     }
     match line.try_extend_from_slice(booking) {
-        Ok(()) => Some(RecordedEvent::Sold(line)),
+        Ok(()) => Some(LoggedEvent::Sold(line)),
         Err(_) => None,
     }
 }
 
 /// What was sold, by its line.
-fn sold_by(line: &[u8]) -> Option<RecordedEvent>
-    ensures { option_map recorded_event result ≡ sold_by line.now }
+fn sold_by(line: &[u8]) -> Option<LoggedEvent>
+    ensures { option_map logged_event result ≡ sold_by line.now }
 {
     if line.len() >= 5 && &line[..5] == b"sold ".as_slice() {
         sold_on(&line[5..])
@@ -57,13 +57,13 @@ fn sold_by(line: &[u8]) -> Option<RecordedEvent>
 }
 
 /// The event of a line, where it has one.
-pub(crate) fn event_on(line: &[u8]) -> Option<RecordedEvent>
-    ensures { option_map recorded_event result ≡ event_on line.now }
+pub(crate) fn event_on(line: &[u8]) -> Option<LoggedEvent>
+    ensures { option_map logged_event result ≡ event_on line.now }
 {
     if line == b"tick".as_slice() {
-        Some(RecordedEvent::Tick)
+        Some(LoggedEvent::Tick)
     } else if line == b"down".as_slice() {
-        Some(RecordedEvent::Down)
+        Some(LoggedEvent::Down)
     } else if line.len() >= 6 && &line[..6] == b"heard ".as_slice() {
         heard_on(&line[6..])
     } else {

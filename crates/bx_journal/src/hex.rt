@@ -2,7 +2,7 @@
 
 ghost use Rattle.std.specs.Prelude.{◌≡◌, ◌+◌, ◌*◌, ◌≤◌, ◌<◌, Some, None, length, MatchOption, IfSome};
 ghost use Rattle.arrayvec.specs.ArrayVec.{array_vec_len};
-ghost use Rattle.bx_journal.specs.Hex.{hex_value, is_hex, octets_in, octet_of};
+ghost use Rattle.bx_journal.specs.Hex.{hex_value, is_hex, octets_of_digits, octet_of_digits};
 
 use bx_q931::Octets;
 
@@ -32,7 +32,7 @@ pub(crate) fn is_hex(ten: u8, digit: u8) -> bool
 /// The octet of two digits.
 fn octet_of(ten: u8, high: u8, low: u8) -> Option<u8>
     requires { ten ≤ 97 }
-    ensures { result ≡ octet_of (hex_value ten high) (hex_value ten low) }
+    ensures { result ≡ octet_of_digits (hex_value ten high) (hex_value ten low) }
 {
     match (hex_value(ten, high), hex_value(ten, low)) {
         (Some(high), Some(low)) => Some(high * 16 + low),
@@ -44,7 +44,7 @@ fn octet_of(ten: u8, high: u8, low: u8) -> Option<u8>
 /// The octets that digits spell, with A to F.
 pub(crate) fn octets_in(digits: &[u8]) -> Option<Octets>
     requires { length digits.now ≤ 520 }
-    ensures { MatchOption result (octets_in 65 digits.now ≡ None) (λ octets. octets_in 65 digits.now ≡ Some octets.items) }
+    ensures { MatchOption result (octets_of_digits 65 digits.now ≡ None) (λ octets. octets_of_digits 65 digits.now ≡ Some octets.items) }
 {
     let mut octets = Octets::new();
     let mut at = 0;

@@ -1,7 +1,7 @@
 //! Laws of the definitions, each of which is on a function's contract.
 
 ghost use Rattle.std.specs.Prelude.{◌≡◌, ℕ, List, Err, None};
-ghost use Rattle.bx_journal.specs.Recording.{LeavesDone};
+ghost use Rattle.bx_journal.specs.Logging.{LeavesDone};
 ghost use Rattle.bx_journal.specs.Reading.{recovered};
 ghost use Rattle.bx_journal.specs.declared.fault.JournalFault.TheVariants.{OtherDay};
 ghost use Rattle.bx_journal.specs.declared.head.Wanted.{Wanted};
@@ -46,7 +46,7 @@ pub fn no_other_day()
 {}
 
 /// Whatever was logged, event by event, and whenever a crash comes: what it leaves is read as a prefix of the events, with
-/// each whose record was done. (Those of `done` were, before any moment from `mid` on.) So nothing was ever sent for an event that
+/// each whose logging was done. (Those of `done` were, before any moment from `mid` on.) So nothing was ever sent for an event that
 /// a restart does not know.
 pub fn prefix_is_left<D: Disk>()
     ensures { LeavesDone D.holds D.may_leave D.moment D.left_since }

@@ -3,11 +3,11 @@
 ghost use Rattle.std.specs.Prelude.{◌≡◌, ◌≤◌, ◌++◌, ◌∷◌, [], List, Err, ◌⊎◌};
 ghost use Rattle.bx_devices.specs.Watching.{is_faulted};
 ghost use Rattle.bx_events.specs.Events.{LiveEvent};
-ghost use Rattle.bx_journal.specs.Events.{recorded_event};
+ghost use Rattle.bx_journal.specs.Events.{logged_event};
 ghost use Rattle.bx_journal.specs.Follows.{IsFollowedFrom};
 ghost use Rattle.bx_journal.specs.Taking.{AreEventLinesFrom};
 
-use crate::event::RecordedEvent;
+use crate::event::LoggedEvent;
 use crate::event_reading::event_on;
 use crate::fault::JournalFault;
 use crate::head::Wanted;
@@ -23,8 +23,8 @@ pub trait Follower {
     ghost followed: { Self → List LiveEvent → Self → Type 0 };
 
     /// The next event happens.
-    fn follow(&mut self, event: &RecordedEvent)
-        ensures { followed self.old (recorded_event event.now ∷ []) self.new };
+    fn follow(&mut self, event: &LoggedEvent)
+        ensures { followed self.old (logged_event event.now ∷ []) self.new };
 
     ghost follows_none: { (s : Self) → followed s [] s };
 

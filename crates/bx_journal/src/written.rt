@@ -3,9 +3,9 @@
 ghost use Rattle.std.specs.Prelude.{◌≡◌, ◌+◌, ◌*◌, ◌<◌, ◌≤◌, ◌++◌, [], length, decimal};
 ghost use Rattle.arrayvec.specs.ArrayVec.{array_vec_len};
 ghost use Rattle.bx_journal.specs.Hex.{hex_digit, hex_of};
-ghost use Rattle.bx_journal.specs.Lines.{ended};
+ghost use Rattle.bx_journal.specs.Lines.{line_ended};
 ghost use Rattle.bx_events.specs.Told.{live_event_of};
-ghost use Rattle.bx_journal.specs.Events.{IsMessage, IsEvent, AreOctets};
+ghost use Rattle.bx_journal.specs.Events.{IsLoggable, IsEvent, AreOctets};
 ghost use Rattle.bx_journal.specs.Text.{line_of, plan_line, day_line, journal_text};
 
 use crate::head::{Head, JournalDay, RULES};
@@ -57,8 +57,8 @@ fn add_hex(line: &mut Line, ten: u8, octets: &[u8])
 
 /// The line of an event, with its LF.
 pub(crate) fn line_of(event: LiveEvent<'_>) -> Line
-    requires { IsMessage (live_event_of event) }
-    ensures text { result.items ≡ ended (line_of (live_event_of event.entry)) }
+    requires { IsLoggable (live_event_of event) }
+    ensures text { result.items ≡ line_ended (line_of (live_event_of event.entry)) }
     ensures octets { IsEvent (live_event_of event.entry) }
 {
     let mut line = Line::new();

@@ -1,7 +1,7 @@
 //! One disk over memory, and over memory through a buffer.
 
 use crate::worked::{ENQUIRY, HEAD, TEXT, TICK};
-use bx_journal::{Disk, DiskFile, Event, FileDisk, LiveEvent, begin, record_event, resume};
+use bx_journal::{Disk, DiskFile, Event, FileDisk, LiveEvent, begin, log_event, resume};
 use std::alloc::Global;
 use std::io::BufWriter;
 use std::test::Fail;
@@ -10,10 +10,10 @@ use std::test::Fail;
 fn went_on<F: DiskFile + Drop>(file: F) -> Option<F> {
     let mut disk = FileDisk::new(file);
     begin(&mut disk, &HEAD).ok()?;
-    record_event(&mut disk, TICK).ok()?;
+    log_event(&mut disk, TICK).ok()?;
     disk.append(b"hear").ok()?;
     resume(&mut disk, 119).ok()?;
-    record_event(&mut disk, LiveEvent::OnLink(Event::Receive(&ENQUIRY))).ok()?;
+    log_event(&mut disk, LiveEvent::OnLink(Event::Receive(&ENQUIRY))).ok()?;
     Some(disk.into_file())
 }
 

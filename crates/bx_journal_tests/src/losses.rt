@@ -5,26 +5,26 @@ use crate::told::reading;
 use crate::worked::{DOWN, ENDS, ENQUIRY, HEAD, SOLD, TEXT, TICK};
 use arrayvec::ArrayVec;
 use bx_journal::{
-    Event, JournalFault, LiveEvent, begin, commit, record_event, record_events, resume, write_event,
+    Event, JournalFault, LiveEvent, begin, commit, log_event, log_events, resume, write_event,
 };
 use std::test::Fail;
 
 /// Puts the events of the worked journal in the journal, and answers for how many that was done before a call failed.
-fn recorded(disk: &mut LosingDisk) -> u64 {
-    if begin(disk, &HEAD).is_err() || record_event(disk, TICK).is_err() {
+fn logged(disk: &mut LosingDisk) -> u64 {
+    if begin(disk, &HEAD).is_err() || log_event(disk, TICK).is_err() {
         return 0;
     }
-    if record_event(disk, LiveEvent::OnLink(Event::Receive(&ENQUIRY))).is_err() {
+    if log_event(disk, LiveEvent::OnLink(Event::Receive(&ENQUIRY))).is_err() {
         return 1;
     }
-    if record_events(disk, &[DOWN, TICK]).is_err() {
+    if log_events(disk, &[DOWN, TICK]).is_err() {
         return 2;
     }
     let nothing = LiveEvent::OnLink(Event::Receive(&[]));
     if write_event(disk, nothing).is_err() || commit(disk).is_err() {
         return 4;
     }
-    if record_event(disk, SOLD).is_err() {
+    if log_event(disk, SOLD).is_err() {
         return 5;
     }
     6
@@ -45,7 +45,7 @@ fn is_prefix(left: &[u8], least: u64) -> bool {
 /// Whether each crash after so many calls leaves a prefix.
 fn are_prefixes(calls: u32) -> bool {
     let mut disk = LosingDisk::new(ArrayVec::new(), calls);
-    let done = recorded(&mut disk);
+    let done = logged(&mut disk);
     let len = disk.octets.len();
     let mut prefixes = true;
     for kept in disk.synced..len + 1 {
@@ -64,7 +64,7 @@ fn what_a_crash_leaves_is_a_prefix(rt: HostRuntime) -> Result<(), Fail> {
     }
     assert!(rt; prefixes);
     let mut disk = LosingDisk::new(ArrayVec::new(), 14);
-    assert_eq!(rt; recorded(&mut disk), 6);
+    assert_eq!(rt; logged(&mut disk), 6);
     assert_eq!(rt; disk.octets.as_slice(), TEXT);
     assert_eq!(rt; disk.synced, 174);
     Ok(())
@@ -80,7 +80,7 @@ fn goes_on(len: usize) -> bool {
         return false;
     };
     let mut disk = LosingDisk::new(octets, 100);
-    if resume(&mut disk, whole).is_err() || record_event(&mut disk, DOWN).is_err() {
+    if resume(&mut disk, whole).is_err() || log_event(&mut disk, DOWN).is_err() {
         return false;
     }
     let rest = disk.octets.as_slice();

@@ -3,28 +3,28 @@
 use crate::told::reading;
 use crate::worked::{DOWN, ENQUIRY, HEAD, SOLD, TEXT, TICK};
 use bx_journal::{
-    Event, Head, JournalDay, LiveEvent, MemoryDisk, begin, plan_digest, record_event,
-    record_events, resume,
+    Event, Head, JournalDay, LiveEvent, MemoryDisk, begin, log_event, log_events, plan_digest,
+    resume,
 };
 use std::alloc::Global;
 use std::test::Fail;
 
 /// A disk with the worked journal, if memory did not run out.
-fn recorded(alloc: Global) -> Option<MemoryDisk> {
+fn logged(alloc: Global) -> Option<MemoryDisk> {
     let mut disk = MemoryDisk::new(alloc, Vec::new(alloc));
     begin(&mut disk, &HEAD).ok()?;
-    record_event(&mut disk, TICK).ok()?;
-    record_event(&mut disk, LiveEvent::OnLink(Event::Receive(&ENQUIRY))).ok()?;
-    record_events(&mut disk, &[DOWN, TICK]).ok()?;
-    record_event(&mut disk, LiveEvent::OnLink(Event::Receive(&[]))).ok()?;
-    record_event(&mut disk, SOLD).ok()?;
+    log_event(&mut disk, TICK).ok()?;
+    log_event(&mut disk, LiveEvent::OnLink(Event::Receive(&ENQUIRY))).ok()?;
+    log_events(&mut disk, &[DOWN, TICK]).ok()?;
+    log_event(&mut disk, LiveEvent::OnLink(Event::Receive(&[]))).ok()?;
+    log_event(&mut disk, SOLD).ok()?;
     Some(disk)
 }
 
 #[test]
 fn each_event_is_a_line(rt: HostRuntime) -> Result<(), Fail> {
     let alloc = rt.alloc();
-    let disk = recorded(alloc).expect(&rt, "no growth was refused");
+    let disk = logged(alloc).expect(&rt, "no growth was refused");
     assert_eq!(rt; disk.octets(), TEXT);
     Ok(())
 }
@@ -52,7 +52,7 @@ fn went_on(alloc: Global) -> Option<Vec<u8>> {
     let whole = reading(torn.as_slice(), &HEAD.wanted()).answer.ok()?;
     let mut disk = MemoryDisk::new(alloc, torn);
     resume(&mut disk, whole).ok()?;
-    record_event(&mut disk, TICK).ok()?;
+    log_event(&mut disk, TICK).ok()?;
     disk.octets().to_vec(alloc).ok()
 }
 

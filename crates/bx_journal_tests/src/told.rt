@@ -2,7 +2,7 @@
 
 use arrayvec::ArrayVec;
 use bx_devices::Watched;
-use bx_journal::{Follower, JournalFault, RecordedEvent, Wanted, read_journal};
+use bx_journal::{Follower, JournalFault, LoggedEvent, Wanted, read_journal};
 use std::io::Read;
 
 /// A letter for each event, `t`, `d` or `h`, and after `h` the octets that came and a full stop.
@@ -21,16 +21,16 @@ pub fn mark(marks: &mut ArrayVec<u8, 256>, octets: &[u8]) {
 impl Follower for Told {
     ghost followed = { λ s events t. Unit {0} };
 
-    fn follow(&mut self, event: &RecordedEvent) {
+    fn follow(&mut self, event: &LoggedEvent) {
         match event {
-            RecordedEvent::Tick => mark(&mut self.marks, b"t"),
-            RecordedEvent::Heard(octets) => {
+            LoggedEvent::Tick => mark(&mut self.marks, b"t"),
+            LoggedEvent::Heard(octets) => {
                 mark(&mut self.marks, b"h");
                 mark(&mut self.marks, octets);
                 mark(&mut self.marks, b".");
             }
-            RecordedEvent::Down => mark(&mut self.marks, b"d"),
-            RecordedEvent::Sold(booking) => {
+            LoggedEvent::Down => mark(&mut self.marks, b"d"),
+            LoggedEvent::Sold(booking) => {
                 mark(&mut self.marks, b"s");
                 mark(&mut self.marks, booking);
                 mark(&mut self.marks, b".");

@@ -19,10 +19,10 @@ use Rattle.bx_lapd.specs.declared.frame.Frame.{Frame}
 use Rattle.bx_lapd.specs.declared.frame.Frame.TheVariants.{Information, Numbered, Plain}
 use Rattle.bx_lapd.specs.declared.indication.Indication.{Indication}
 use Rattle.bx_lapd.specs.declared.indication.Indication.TheVariants.{LinkReleased, Delivered, LinkError}
-use Rattle.bx_lapd.specs.Links.{Link, Step, does, follows, is_valid, outstanding, numbered, establishing, begun, assigned, discarded, acknowledged, is_established, is_recovering, is_up, sendable, acknowledges, flushes, flush}
-use Rattle.bx_lapd.specs.Table.{establish, release, takes, give, is_due, enquires, expires, elapse, established_anew, hear_sabme, confirmed, hear_ua, answers, took, rejects, hear_message, timed, settled, hear_number, hear_information, is_not_ready, hear_supervised, unasked, hear_numbered, heard, hear}
-use Rattle.bx_lapd.specs.World.{World, EndEvent, Gives, Hears, Loses, Elapses, Asks, Releases, WorldEvent, AtNear, AtFar, messages_of, becomes, comes, lost, at_near, swapped, world_happens, world_after}
-use Rattle.bx_lapd.specs.Anew.{is_begun_by_sabme, is_begun_by_ua, begins_by, begins, renewed, near_since, since_happens, since_after, is_sabme, is_ua, frames_of, IsTimely, IsTimelyIn, AreTimely, SameLinks, AreIdle, Anew}
+use Rattle.bx_lapd.specs.Links.{Link, LinkStep, does, follows_step, is_valid, outstanding, numbered_frames, establishing, begun_link, assigned, discarded, acknowledged, is_established, is_recovering, is_link_up, sendable, acknowledges, flushes, flush}
+use Rattle.bx_lapd.specs.Table.{establish, release, takes_data, give, is_due, enquires, expires, elapse, established_anew, hear_sabme, confirmed, hear_ua, answers, took, rejects, hear_message, timed, settled, hear_number, hear_information, is_not_ready, hear_supervised, unasked, hear_numbered, link_heard, hear}
+use Rattle.bx_lapd.specs.World.{LinkWorld, EndEvent, Gives, Hears, Loses, Elapses, Asks, Releases, LinkWorldEvent, AtNear, AtFar, messages_of, near_becomes, comes, frames_lost, at_near, swapped, link_world_happens, link_world_after}
+use Rattle.bx_lapd.specs.Anew.{is_begun_by_sabme, is_begun_by_ua, begins_link_by, begins_link, renewed, near_since, since_happens, since_after, is_sabme, is_ua, frames_counted, IsTimely, IsTimelyIn, AreTimely, SameLinks, AreIdle, Anew}
 use Rattle.bx_lapd.proofs.Media.{Confirms}
 use Rattle.bx_lapd.proofs.Flow.{Flow}
 use Rattle.bx_lapd.proofs.Sinks.{deaf_give, deaf_elapse}
@@ -56,10 +56,10 @@ abbrev OnlyUas : List Frame → Type 0
 OnlyUas fs = AllByRecursion IsUa fs
 
 abbrev sabmes : List Frame → ℕ
-sabmes fs = frames_of is_sabme fs
+sabmes fs = frames_counted is_sabme fs
 
 abbrev uas : List Frame → ℕ
-uas fs = frames_of is_ua fs
+uas fs = frames_counted is_ua fs
 
 all_join : (P : Frame → Type 0) (xs ys : List Frame) → AllByRecursion P xs → AllByRecursion P ys → AllByRecursion P (xs ++ ys)
 all_join P [] ys h k = k
@@ -71,9 +71,9 @@ ahead_of_it a b c d q = omega (arith, q)
 none_ahead : (n : ℕ) → n ≡ 0 + n
 none_ahead n = omega arith
 
-frames_append : (test : Frame → Bool) (xs ys : List Frame) → frames_of test (xs ++ ys) ≡ frames_of test xs + frames_of test ys
-frames_append test [] ys = none_ahead (frames_of test ys)
-frames_append test (f ∷ xs) ys = ahead_of_it (if test f then 1 else 0) (frames_of test xs) (frames_of test ys) (frames_of test (xs ++ ys)) (frames_append test xs ys)
+frames_append : (test : Frame → Bool) (xs ys : List Frame) → frames_counted test (xs ++ ys) ≡ frames_counted test xs + frames_counted test ys
+frames_append test [] ys = none_ahead (frames_counted test ys)
+frames_append test (f ∷ xs) ys = ahead_of_it (if test f then 1 else 0) (frames_counted test xs) (frames_counted test ys) (frames_counted test (xs ++ ys)) (frames_append test xs ys)
 
 no_more : (n : ℕ) → n ≡ 0 → 0 + n ≡ 0
 no_more n h = omega (arith, h)
@@ -169,12 +169,12 @@ record Attempt (x y : Link) (had got : List (ArrayVec ℕ)) (out back : List Fra
   calling : 1 ≤ sabmes out + uas back → is_calling x.state ≡ true
   quiet : Quiet out
   alone : 1 ≤ uas back → OnlyUas out
-  waits : is_up y.state ≡ true → Waits y had got back
+  waits : is_link_up y.state ≡ true → Waits y had got back
 
 -- layer 3 releases no link, and an end that is down owes nothing
 record Mild (l : Link) : Type 0 where
   stays : is_leaving l.state ≡ false
-  idle : is_up l.state ≡ false → l.owed ≡ false
+  idle : is_link_up l.state ≡ false → l.owed ≡ false
 
 abbrev Both : List (ArrayVec ℕ) → List (ArrayVec ℕ) → List (ArrayVec ℕ) → List (ArrayVec ℕ) → Link → Link → List Frame → List Frame → Type 0
 Both g d k e l p out back = (n : Marks) × Joint g d k e l p out back n × (n.s ≡ n.h)
@@ -186,16 +186,16 @@ pub record Timely (g d k e : List (ArrayVec ℕ)) (l p : Link) (out back : List 
   back_polled : AllPolled back
   near_mild : Mild l
   far_mild : Mild p
-  both : is_up l.state ≡ true → is_up p.state ≡ true → Both g d k e l p out back
+  both : is_link_up l.state ≡ true → is_link_up p.state ≡ true → Both g d k e l p out back
 
-up_not_calling : (st : LinkState) → is_up st ≡ true → is_calling st ≡ true → ⊥
+up_not_calling : (st : LinkState) → is_link_up st ≡ true → is_calling st ≡ true → ⊥
 up_not_calling Established h c = false≢true c
 up_not_calling TimerRecovery h c = false≢true c
 up_not_calling Assigned h c = false≢true h
 up_not_calling AwaitingEstablishment h c = false≢true h
 up_not_calling AwaitingRelease h c = false≢true h
 
-calling_down : (st : LinkState) → is_calling st ≡ true → is_up st ≡ false
+calling_down : (st : LinkState) → is_calling st ≡ true → is_link_up st ≡ false
 calling_down AwaitingEstablishment c = refl
 calling_down Established c = absurd (false≢true c)
 calling_down TimerRecovery c = absurd (false≢true c)
@@ -209,14 +209,14 @@ calling_stays TimerRecovery c = absurd (false≢true c)
 calling_stays Assigned c = absurd (false≢true c)
 calling_stays AwaitingRelease c = absurd (false≢true c)
 
-up_stays : (st : LinkState) → is_up st ≡ true → is_leaving st ≡ false
+up_stays : (st : LinkState) → is_link_up st ≡ true → is_leaving st ≡ false
 up_stays Established h = refl
 up_stays TimerRecovery h = refl
 up_stays Assigned h = absurd (false≢true h)
 up_stays AwaitingEstablishment h = absurd (false≢true h)
 up_stays AwaitingRelease h = absurd (false≢true h)
 
-mild_up : (l : Link) → is_up l.state ≡ true → Mild l
+mild_up : (l : Link) → is_link_up l.state ≡ true → Mild l
 mild_up l h = record { stays = up_stays l.state h; idle = λ down. absurd (true≢false (sym h ∙ down)) }
 
 mild_calling : (l : Link) → is_calling l.state ≡ true → l.owed ≡ false → Mild l
@@ -226,7 +226,7 @@ none_of : (n : ℕ) → (1 ≤ n → ⊥) → n ≡ 0
 none_of n f = elim (cases_lt 0 n) [ inl lt ↦ absurd (f (omega (arith, lt))) | inr le ↦ omega (arith, le) ]
 
 -- an end that is up has no attempt
-up_none : (x y : Link) (had got : List (ArrayVec ℕ)) (out back : List Frame) → Attempt x y had got out back → is_up x.state ≡ true → sabmes out + uas back ≡ 0
+up_none : (x y : Link) (had got : List (ArrayVec ℕ)) (out back : List Frame) → Attempt x y had got out back → is_link_up x.state ≡ true → sabmes out + uas back ≡ 0
 up_none x y had got out back a h = none_of (sabmes out + uas back) (λ some. up_not_calling x.state h (a.calling some))
 
 -- what is left of the frames on the way
@@ -247,8 +247,8 @@ rest_tail f fs = record { sabme = at_least (is_sabme f) (sabmes fs); ua = at_lea
 -- ---- the near end takes a step
 
 -- it is up, and stays up
-near_stays : (g d k e g' d' : List (ArrayVec ℕ)) (l l' p : Link) (out more back left : List Frame) → is_up l.state ≡ true → is_up l'.state ≡ true → AllCounted more → Rest back left → Waits l' g' d' (out ++ more)
-    → (is_up p.state ≡ true → Both g' d' k e l' p (out ++ more) left) → Timely g d k e l p out back → Timely g' d' k e l' p (out ++ more) left
+near_stays : (g d k e g' d' : List (ArrayVec ℕ)) (l l' p : Link) (out more back left : List Frame) → is_link_up l.state ≡ true → is_link_up l'.state ≡ true → AllCounted more → Rest back left → Waits l' g' d' (out ++ more)
+    → (is_link_up p.state ≡ true → Both g' d' k e l' p (out ++ more) left) → Timely g d k e l p out back → Timely g' d' k e l' p (out ++ more) left
 near_stays g d k e g' d' l l' p out more back left was is counted r waits both t =
     let zero = up_none l p k e out back t.near was in
     let s = frames_append is_sabme out more in
@@ -321,7 +321,7 @@ near_calls g d k e g' d' l l' p out more back left zero is owes counted r t =
     }
 
 -- it is down, and says nothing
-near_still : (g d k e g' d' : List (ArrayVec ℕ)) (l l' p : Link) (out back left : List Frame) → is_up l'.state ≡ false → Mild l' → (1 ≤ sabmes out + uas left → is_calling l'.state ≡ true) → Rest back left
+near_still : (g d k e g' d' : List (ArrayVec ℕ)) (l l' p : Link) (out back left : List Frame) → is_link_up l'.state ≡ false → Mild l' → (1 ≤ sabmes out + uas left → is_calling l'.state ≡ true) → Rest back left
     → Timely g d k e l p out back → Timely g' d' k e l' p out left
 near_still g d k e g' d' l l' p out back left down mild calls r t =
     let ls = r.sabme in
@@ -350,11 +350,11 @@ near_still g d k e g' d' l l' p out back left down mild calls r t =
 
 -- ---- what a step sends
 
-record Flushed (l : Link) (s : Step) : Type 0 where
+record Flushed (l : Link) (s : LinkStep) : Type 0 where
   state : s.link.state ≡ l.state
   counted : AllCounted s.frames
 
-numbered_counted : (ns nr : ℕ) (ms : List (ArrayVec ℕ)) → AllCounted (numbered ns nr ms)
+numbered_counted : (ns nr : ℕ) (ms : List (ArrayVec ℕ)) → AllCounted (numbered_frames ns nr ms)
 numbered_counted ns nr [] = tt
 numbered_counted ns nr (m ∷ ms) = (tt, numbered_counted ((ns + 1) % 128) nr ms)
 
@@ -369,7 +369,7 @@ flushes_says l now (m ∷ ms) = record { state = refl; counted = numbered_counte
 flush_says : (l : Link) (now : ℕ) → Flushed l (flush now l)
 flush_says l now = flushes_says l now (sendable l)
 
-not_established : (st : LinkState) → is_up st ≡ false → is_established st ≡ false
+not_established : (st : LinkState) → is_link_up st ≡ false → is_established st ≡ false
 not_established Assigned h = refl
 not_established AwaitingEstablishment h = refl
 not_established AwaitingRelease h = refl
@@ -377,7 +377,7 @@ not_established Established h = absurd (true≢false h)
 not_established TimerRecovery h = absurd (true≢false h)
 
 -- an end that is down and owes nothing says nothing
-flush_idle : (l : Link) (now : ℕ) → is_up l.state ≡ false → l.owed ≡ false → flush now l ≡ does l [] []
+flush_idle : (l : Link) (now : ℕ) → is_link_up l.state ≡ false → l.owed ≡ false → flush now l ≡ does l [] []
 flush_idle l now down owes =
     let none : sendable l ≡ [] = nothing (is_established l.state) (not_established l.state down) in
     ap (flushes l now) none ∙ ap (acknowledges l) owes
@@ -387,20 +387,20 @@ flush_idle l now down owes =
     nothing false h = refl
 
 -- an end that is up hears a frame with a number: it stays up, or begins an attempt
-data Ends (s : Step) : Type 0 where
-  Stays : is_up s.link.state ≡ true → AllCounted s.frames → Ends s
+data Ends (s : LinkStep) : Type 0 where
+  Stays : is_link_up s.link.state ≡ true → AllCounted s.frames → Ends s
   Calls : is_calling s.link.state ≡ true → s.link.owed ≡ false → (more : List Frame) → s.frames ≡ more ++ Plain u.Sabme true ∷ [] → AllCounted more → Ends s
 
-ends_follows : (s : Step) (f : Link → Step) → AllCounted s.frames → Ends (f s.link) → Ends (follows s f)
+ends_follows : (s : LinkStep) (f : Link → LinkStep) → AllCounted s.frames → Ends (f s.link) → Ends (follows_step s f)
 ends_follows s f c (Stays h k) = Stays h (all_join IsCounted s.frames (f s.link).frames c k)
 ends_follows s f c (Calls st o more e k) = Calls st o (s.frames ++ more) (ap (λ ys. s.frames ++ ys) e ∙ sym (append_assoc s.frames more (Plain u.Sabme true ∷ []))) (all_join IsCounted s.frames more c k)
 
-ends_flush : (s : Step) (now : ℕ) → Ends s → Ends (follows s (flush now))
+ends_flush : (s : LinkStep) (now : ℕ) → Ends s → Ends (follows_step s (flush now))
 ends_flush s now (Stays h k) =
     let f = flush_says s.link now in
-    Stays (ap is_up f.state ∙ h) (all_join IsCounted s.frames (flush now s.link).frames k f.counted)
+    Stays (ap is_link_up f.state ∙ h) (all_join IsCounted s.frames (flush now s.link).frames k f.counted)
 ends_flush s now (Calls st o more e k) =
-    subst (λ (t : Step). Ends (record { link = t.link; frames = s.frames ++ t.frames; told = s.told ++ t.told })) (sym (flush_idle s.link now (calling_down s.link.state st) o))
+    subst (λ (t : LinkStep). Ends (record { link = t.link; frames = s.frames ++ t.frames; told = s.told ++ t.told })) (sym (flush_idle s.link now (calling_down s.link.state st) o))
     (Calls st o more (append-nil s.frames ∙ e) k)
 
 timed_state : (idle same : Bool) (l : Link) (now : ℕ) → (timed idle same l now).state ≡ l.state
@@ -412,8 +412,8 @@ settled_state : (still same : Bool) (l : Link) (now : ℕ) → (settled still sa
 settled_state true same l now = refl
 settled_state false same l now = timed_state (l.vs == l.va) same l now
 
-ends_number : (b : Bool) (l : Link) (nr now : ℕ) → is_up l.state ≡ true → Ends (hear_number b l nr now)
-ends_number true l nr now h = Stays (ap is_up (settled_state (is_recovering l.state || l.busy) (nr == l.va) (acknowledged l nr) now) ∙ h) tt
+ends_number : (b : Bool) (l : Link) (nr now : ℕ) → is_link_up l.state ≡ true → Ends (hear_number b l nr now)
+ends_number true l nr now h = Stays (ap is_link_up (settled_state (is_recovering l.state || l.busy) (nr == l.va) (acknowledged l nr) now) ∙ h) tt
 ends_number false l nr now h = Calls refl refl [] refl tt
 
 answers_says : (poll : Bool) (l : Link) (told : List Indication) → Flushed l (answers poll l told)
@@ -432,50 +432,50 @@ message_says : (b : Bool) (l : Link) (poll : Bool) (m : ArrayVec ℕ) → Flushe
 message_says true l poll m = took_says poll l (Delivered m ∷ [])
 message_says false l poll m = rejects_says l.rejected l poll
 
-ends_supervised : (b : Bool) (st : LinkState) (l : Link) (kind : Supervisory) (f : Bool) (nr now : ℕ) → l.state ≡ st → is_up st ≡ true → Ends (hear_supervised b st l kind f nr now)
+ends_supervised : (b : Bool) (st : LinkState) (l : Link) (kind : Supervisory) (f : Bool) (nr now : ℕ) → l.state ≡ st → is_link_up st ≡ true → Ends (hear_supervised b st l kind f nr now)
 ends_supervised false st l kind f nr now is h = Calls refl refl [] refl tt
-ends_supervised true TimerRecovery l kind false nr now is h = Stays (ap is_up is) tt
+ends_supervised true TimerRecovery l kind false nr now is h = Stays (ap is_link_up is) tt
 ends_supervised true TimerRecovery l ReceiveNotReady true nr now is h = Stays refl tt
 ends_supervised true TimerRecovery l ReceiveReady true nr now is h = Stays refl tt
 ends_supervised true TimerRecovery l Reject true nr now is h = Stays refl tt
-ends_supervised true Established l ReceiveReady f nr now is h = Stays (ap is_up (settled_state false (nr == l.va) (acknowledged l nr) now) ∙ ap is_up is) tt
-ends_supervised true Established l ReceiveNotReady f nr now is h = Stays (ap is_up is) tt
-ends_supervised true Established l Reject f nr now is h = Stays (ap is_up is) tt
+ends_supervised true Established l ReceiveReady f nr now is h = Stays (ap is_link_up (settled_state false (nr == l.va) (acknowledged l nr) now) ∙ ap is_link_up is) tt
+ends_supervised true Established l ReceiveNotReady f nr now is h = Stays (ap is_link_up is) tt
+ends_supervised true Established l Reject f nr now is h = Stays (ap is_link_up is) tt
 ends_supervised true Assigned l kind f nr now is h = absurd (false≢true h)
 ends_supervised true AwaitingEstablishment l kind f nr now is h = absurd (false≢true h)
 ends_supervised true AwaitingRelease l kind f nr now is h = absurd (false≢true h)
 
-ends_information : (l : Link) (poll : Bool) (ns nr : ℕ) (m : ArrayVec ℕ) (now : ℕ) → is_up l.state ≡ true → Ends (hear_information l poll ns nr m now)
+ends_information : (l : Link) (poll : Bool) (ns nr : ℕ) (m : ArrayVec ℕ) (now : ℕ) → is_link_up l.state ≡ true → Ends (hear_information l poll ns nr m now)
 ends_information l poll ns nr m now h =
     let s = message_says (ns == l.vr) l poll m in
     let k = (hear_message (ns == l.vr) l poll m).link in
-    ends_follows (hear_message (ns == l.vr) l poll m) (λ k. hear_number (is_valid k nr) k nr now) s.counted (ends_number (is_valid k nr) k nr now (ap is_up s.state ∙ h))
+    ends_follows (hear_message (ns == l.vr) l poll m) (λ k. hear_number (is_valid k nr) k nr now) s.counted (ends_number (is_valid k nr) k nr now (ap is_link_up s.state ∙ h))
 
-ends_numbered : (l : Link) (kind : Supervisory) (command poll : Bool) (nr now : ℕ) → is_up l.state ≡ true → Ends (hear_numbered l kind command poll nr now)
+ends_numbered : (l : Link) (kind : Supervisory) (command poll : Bool) (nr now : ℕ) → is_link_up l.state ≡ true → Ends (hear_numbered l kind command poll nr now)
 ends_numbered l kind command poll nr now h =
     let b : Link = record l { busy = is_not_ready kind } in
     let told = unasked (is_established l.state && not command && poll) in
     let s = answers_says (command && poll) b told in
     let k = (answers (command && poll) b told).link in
     ends_follows (answers (command && poll) b told) (λ k. hear_supervised (is_valid k nr) k.state k kind (not command && poll) nr now) s.counted
-    (ends_supervised (is_valid k nr) k.state k kind (not command && poll) nr now refl (ap is_up s.state ∙ h))
+    (ends_supervised (is_valid k nr) k.state k kind (not command && poll) nr now refl (ap is_link_up s.state ∙ h))
 
-ends_heard : (l : Link) (f : Frame) (now : ℕ) → is_up l.state ≡ true → IsCounted f → Ends (heard l f now)
+ends_heard : (l : Link) (f : Frame) (now : ℕ) → is_link_up l.state ≡ true → IsCounted f → Ends (link_heard l f now)
 ends_heard l (Information poll ns nr m) now h c = subst (λ (b : Bool). Ends (if b then hear_information l poll ns nr m now else does l [] [])) (sym h) (ends_information l poll ns nr m now h)
 ends_heard l (Numbered kind command poll nr) now h c = subst (λ (b : Bool). Ends (if b then hear_numbered l kind command poll nr now else does l [] [])) (sym h) (ends_numbered l kind command poll nr now h)
 ends_heard l (Plain kind poll) now h c = absurd c
 
-ends_hear : (l : Link) (f : Frame) (now : ℕ) → is_up l.state ≡ true → IsCounted f → Ends (hear l f now)
-ends_hear l f now h c = ends_flush (heard l f now) now (ends_heard l f now h c)
+ends_hear : (l : Link) (f : Frame) (now : ℕ) → is_link_up l.state ≡ true → IsCounted f → Ends (hear l f now)
+ends_hear l f now h c = ends_flush (link_heard l f now) now (ends_heard l f now h c)
 
 -- one that is down passes it over
-hear_idle : (l : Link) (f : Frame) (now : ℕ) → is_up l.state ≡ false → l.owed ≡ false → IsCounted f → hear l f now ≡ does l [] []
+hear_idle : (l : Link) (f : Frame) (now : ℕ) → is_link_up l.state ≡ false → l.owed ≡ false → IsCounted f → hear l f now ≡ does l [] []
 hear_idle l (Information poll ns nr m) now down owes c =
-    ap (λ (b : Bool). follows (if b then hear_information l poll ns nr m now else does l [] []) (flush now)) down
-    ∙ ap (λ (t : Step). record { link = t.link; frames = [] ++ t.frames; told = [] ++ t.told }) (flush_idle l now down owes)
+    ap (λ (b : Bool). follows_step (if b then hear_information l poll ns nr m now else does l [] []) (flush now)) down
+    ∙ ap (λ (t : LinkStep). record { link = t.link; frames = [] ++ t.frames; told = [] ++ t.told }) (flush_idle l now down owes)
 hear_idle l (Numbered kind command poll nr) now down owes c =
-    ap (λ (b : Bool). follows (if b then hear_numbered l kind command poll nr now else does l [] []) (flush now)) down
-    ∙ ap (λ (t : Step). record { link = t.link; frames = [] ++ t.frames; told = [] ++ t.told }) (flush_idle l now down owes)
+    ap (λ (b : Bool). follows_step (if b then hear_numbered l kind command poll nr now else does l [] []) (flush now)) down
+    ∙ ap (λ (t : LinkStep). record { link = t.link; frames = [] ++ t.frames; told = [] ++ t.told }) (flush_idle l now down owes)
 hear_idle l (Plain kind poll) now down owes c = absurd c
 
 -- ---- an end begins
@@ -508,7 +508,7 @@ marks_0 = record { a = 0; s = 0; h = 0; r = 0; b = 0; t = 0; q = 0 }
 nothing_0 : 0 ≤ 0
 nothing_0 = omega arith
 
-begun_flow : (x : Link) (now : ℕ) (got : List (ArrayVec ℕ)) (vr : ℕ) (back : List Frame) → got ≡ [] → vr ≡ 0 → Confirms 0 0 back → Flow x.queue got (begun x now).va (begun x now).vs (begun x now).queue vr [] back 0 0 0 0
+begun_flow : (x : Link) (now : ℕ) (got : List (ArrayVec ℕ)) (vr : ℕ) (back : List Frame) → got ≡ [] → vr ≡ 0 → Confirms 0 0 back → Flow x.queue got (begun_link x now).va (begun_link x now).vs (begun_link x now).queue vr [] back 0 0 0 0
 begun_flow x now got vr back none at c = record {
   va_is = refl;
   vs_is = refl;
@@ -523,9 +523,9 @@ begun_flow x now got vr back none at c = record {
   confirms = c;
 }
 
-began : (x : Link) (now : ℕ) → Waiting (flush now (begun x now)).link (flush now (begun x now)).link.queue [] (flush now (begun x now)).frames
+began : (x : Link) (now : ℕ) → Waiting (flush now (begun_link x now)).link (flush now (begun_link x now)).link.queue [] (flush now (begun_link x now)).frames
 began x now =
-    let b = begun x now in
+    let b = begun_link x now in
     let joint : Joint x.queue [] [] [] b fresh [] [] marks_0 = record { out = begun_flow x now [] 0 [] refl refl nothing_0; into = begun_flow fresh 0 [] 0 [] refl refl nothing_0 } in
     let f = mid_flush x.queue [] [] [] b fresh [] [] marks_0 now joint (inl refl) in
     let m = f.1 in
@@ -540,9 +540,9 @@ began x now =
     }
 
 -- and its peer has begun before it
-met : (x p : Link) (now : ℕ) (k e : List (ArrayVec ℕ)) (fs : List Frame) → Waiting p k e fs → Both (flush now (begun x now)).link.queue [] k e (flush now (begun x now)).link p (flush now (begun x now)).frames fs
+met : (x p : Link) (now : ℕ) (k e : List (ArrayVec ℕ)) (fs : List Frame) → Waiting p k e fs → Both (flush now (begun_link x now)).link.queue [] k e (flush now (begun_link x now)).link p (flush now (begun_link x now)).frames fs
 met x p now k e fs w =
-    let b = begun x now in
+    let b = begun_link x now in
     let n = w.n in
     let i = w.joint.into in
     let most = i.few in
@@ -566,17 +566,17 @@ met x p now k e fs w =
       f.2,
     )
 
-begun_up : (x : Link) (now : ℕ) → is_up (flush now (begun x now)).link.state ≡ true
-begun_up x now = ap is_up (flush_says (begun x now) now).state
+begun_up : (x : Link) (now : ℕ) → is_link_up (flush now (begun_link x now)).link.state ≡ true
+begun_up x now = ap is_link_up (flush_says (begun_link x now) now).state
 
-begun_counted : (x : Link) (now : ℕ) → AllCounted (flush now (begun x now)).frames
-begun_counted x now = (flush_says (begun x now) now).counted
+begun_counted : (x : Link) (now : ℕ) → AllCounted (flush now (begun_link x now)).frames
+begun_counted x now = (flush_says (begun_link x now) now).counted
 
 -- at a SABME, where it has no attempt: UA goes out first
 near_begins : (g d k e : List (ArrayVec ℕ)) (l x p : Link) (now : ℕ) (out left : List Frame) → is_calling l.state ≡ false → Timely g d k e l p out (Plain u.Sabme true ∷ left)
-    → Timely (flush now (begun x now)).link.queue [] k e (flush now (begun x now)).link p (out ++ Plain u.Ua true ∷ (flush now (begun x now)).frames) left
+    → Timely (flush now (begun_link x now)).link.queue [] k e (flush now (begun_link x now)).link p (out ++ Plain u.Ua true ∷ (flush now (begun_link x now)).frames) left
 near_begins g d k e l x p now out left idle t =
-    let more = (flush now (begun x now)).frames in
+    let more = (flush now (begun_link x now)).frames in
     let counted = begun_counted x now in
     let is = begun_up x now in
     let zero : sabmes out + uas (Plain u.Sabme true ∷ left) ≡ 0 = none_of (sabmes out + uas (Plain u.Sabme true ∷ left)) (λ some. true≢false (sym (t.near.calling some) ∙ idle)) in
@@ -599,11 +599,11 @@ near_begins g d k e l x p now out left idle t =
         calling = λ some. calling;
         quiet = t.far.quiet.1;
         alone = λ some. t.far.quiet.0 refl;
-        waits = λ h. waits_last (flush now (begun x now)).link (flush now (begun x now)).link.queue [] out more (omega (arith, far)) (began x now) y0;
+        waits = λ h. waits_last (flush now (begun_link x now)).link (flush now (begun_link x now)).link.queue [] out more (omega (arith, far)) (began x now) y0;
       };
       out_polled = all_join IsPolled out (Plain u.Ua true ∷ more) t.out_polled (tt, counted_polled more counted);
       back_polled = t.back_polled.1;
-      near_mild = mild_up (flush now (begun x now)).link is;
+      near_mild = mild_up (flush now (begun_link x now)).link is;
       far_mild = t.far_mild;
       both = λ _ h. absurd (up_not_calling p.state h calling);
     }
@@ -649,9 +649,9 @@ only_none (f ∷ out) o z = absurd (true≢false (sym o.0 ∙ (first_none (is_ua
 
 -- at the answer to its SABME
 near_meets : (g d k e : List (ArrayVec ℕ)) (l x p : Link) (now : ℕ) (out left : List Frame) → is_calling l.state ≡ true → Timely g d k e l p out (Plain u.Ua true ∷ left)
-    → Timely (flush now (begun x now)).link.queue [] k e (flush now (begun x now)).link p (out ++ (flush now (begun x now)).frames) left
+    → Timely (flush now (begun_link x now)).link.queue [] k e (flush now (begun_link x now)).link p (out ++ (flush now (begun_link x now)).frames) left
 near_meets g d k e l x p now out left was t =
-    let more = (flush now (begun x now)).frames in
+    let more = (flush now (begun_link x now)).frames in
     let counted = begun_counted x now in
     let is = begun_up x now in
     let s = frames_append is_sabme out more in
@@ -675,14 +675,14 @@ near_meets g d k e l x p now out left was t =
         calling = λ some. t.far.calling (omega (arith, some, same));
         quiet = t.far.quiet.1;
         alone = λ some. (t.far.alone (omega (arith, some, same))).1;
-        waits = λ h. lone (flush now (begun x now)).link (flush now (begun x now)).link.queue [] out more only (omega (arith, far)) (began x now) y0;
+        waits = λ h. lone (flush now (begun_link x now)).link (flush now (begun_link x now)).link.queue [] out more only (omega (arith, far)) (began x now) y0;
       };
       out_polled = all_join IsPolled out more t.out_polled (counted_polled more counted);
       back_polled = t.back_polled.1;
-      near_mild = mild_up (flush now (begun x now)).link is;
+      near_mild = mild_up (flush now (begun_link x now)).link is;
       far_mild = t.far_mild;
       both = λ _ h. (let none : uas out ≡ 0 = none_of (uas out) (λ some. up_not_calling p.state h (t.far.calling (omega (arith, some)))) in
-          subst (λ fs. Both (flush now (begun x now)).link.queue [] k e (flush now (begun x now)).link p (fs ++ more) left) (sym (only_none out only none)) (met x p now k e left ((t.near.waits h).0 refl)));
+          subst (λ fs. Both (flush now (begun_link x now)).link.queue [] k e (flush now (begun_link x now)).link p (fs ++ more) left) (sym (only_none out only none)) (met x p now k e left ((t.near.waits h).0 refl)));
     }
 
 -- a frame of it is lost
@@ -716,7 +716,7 @@ near_loses g d k e l p f out back t =
 
 -- ---- steps
 
-both_of : (g d k e : List (ArrayVec ℕ)) (p : Link) (out back : List Frame) (s : Step) → KeptTight g d k e p out back s → Both g (d ++ messages_of s.told) k e s.link p (out ++ s.frames) back
+both_of : (g d k e : List (ArrayVec ℕ)) (p : Link) (out back : List Frame) (s : LinkStep) → KeptTight g d k e p out back s → Both g (d ++ messages_of s.told) k e s.link p (out ++ s.frames) back
 both_of g d k e p out back s o =
     let m = o.1 in (
       o.0,
@@ -724,7 +724,7 @@ both_of g d k e p out back s o =
       o.2,
     )
 
-waiting_of : (g d : List (ArrayVec ℕ)) (t : List Frame) (s : Step) → messages_of s.told ≡ [] → d ≡ [] → KeptTight g [] [] [] fresh t [] s → Waiting s.link g (d ++ messages_of s.told) (t ++ s.frames)
+waiting_of : (g d : List (ArrayVec ℕ)) (t : List Frame) (s : LinkStep) → messages_of s.told ≡ [] → d ≡ [] → KeptTight g [] [] [] fresh t [] s → Waiting s.link g (d ++ messages_of s.told) (t ++ s.frames)
 waiting_of g d t s none was o =
     let q = both_of g [] [] [] fresh t [] s o in
     record {
@@ -734,19 +734,19 @@ waiting_of g d t s none was o =
       tight = q.2;
     }
 
-near_up : (g d k e g' d' : List (ArrayVec ℕ)) (l p : Link) (out back left : List Frame) (s : Step) → is_up l.state ≡ true → Ends s → Rest back left → (is_up s.link.state ≡ true → AllCounted s.frames → Waits s.link g' d' (out ++ s.frames))
-    → (is_up s.link.state ≡ true → is_up p.state ≡ true → Both g' d' k e s.link p (out ++ s.frames) left) → Timely g d k e l p out back → Timely g' d' k e s.link p (out ++ s.frames) left
+near_up : (g d k e g' d' : List (ArrayVec ℕ)) (l p : Link) (out back left : List Frame) (s : LinkStep) → is_link_up l.state ≡ true → Ends s → Rest back left → (is_link_up s.link.state ≡ true → AllCounted s.frames → Waits s.link g' d' (out ++ s.frames))
+    → (is_link_up s.link.state ≡ true → is_link_up p.state ≡ true → Both g' d' k e s.link p (out ++ s.frames) left) → Timely g d k e l p out back → Timely g' d' k e s.link p (out ++ s.frames) left
 near_up g d k e g' d' l p out back left s was (Stays h c) r waits both t = near_stays g d k e g' d' l s.link p out s.frames back left was h c r (waits h c) (both h) t
 near_up g d k e g' d' l p out back left s was (Calls st o more is c) r waits both t =
     subst (λ fs. Timely g' d' k e s.link p (out ++ fs) left) (sym is) (near_calls g d k e g' d' l s.link p out more back left (up_none l p k e out back t.near was) st o c r t)
 
 -- a step that says nothing
-near_silent : (g d k e g' d' : List (ArrayVec ℕ)) (l l' p : Link) (out back left : List Frame) → l'.state ≡ l.state → is_up l.state ≡ false → l'.owed ≡ l.owed → Rest back left → Timely g d k e l p out back → Timely g' d' k e l' p (out ++ []) left
+near_silent : (g d k e g' d' : List (ArrayVec ℕ)) (l l' p : Link) (out back left : List Frame) → l'.state ≡ l.state → is_link_up l.state ≡ false → l'.owed ≡ l.owed → Rest back left → Timely g d k e l p out back → Timely g' d' k e l' p (out ++ []) left
 near_silent g d k e g' d' l l' p out back left st down owes r t =
     let mild : Mild l' = record { stays = ap is_leaving st ∙ t.near_mild.stays; idle = λ _. owes ∙ t.near_mild.idle down } in
     let lu = r.ua in
     subst (λ fs. Timely g' d' k e l' p fs left) (sym (append-nil out))
-    (near_still g d k e g' d' l l' p out back left (ap is_up st ∙ down) mild (λ some. ap is_calling st ∙ t.near.calling (omega (arith, some, lu))) r t)
+    (near_still g d k e g' d' l l' p out back left (ap is_link_up st ∙ down) mild (λ some. ap is_calling st ∙ t.near.calling (omega (arith, some, lu))) r t)
 
 near_same : (g d k e : List (ArrayVec ℕ)) (l p : Link) (out back : List Frame) → Timely g d k e l p out back → Timely g (d ++ []) k e l p (out ++ []) back
 near_same g d k e l p out back t = subst (λ ys. Timely g ys k e l p (out ++ []) back) (sym (append-nil d)) (subst (λ fs. Timely g d k e l p fs back) (sym (append-nil out)) t)
@@ -754,25 +754,25 @@ near_same g d k e l p out back t = subst (λ ys. Timely g ys k e l p (out ++ [])
 -- ---- a message that is given
 
 give_says : (l : Link) (m : ArrayVec ℕ) (now : ℕ) → Flushed l (give l m now)
-give_says l m now = at (takes l.state l)
+give_says l m now = at (takes_data l.state l)
   where
     at : (b : Bool) → Flushed l (if b then flush now (record l { queue = l.queue ++ m ∷ [] }) else does l [] [])
     at true = (let f = flush_says (record l { queue = l.queue ++ m ∷ [] }) now in record { state = f.state; counted = f.counted })
     at false = record { state = refl; counted = tt }
 
-record Silent (l : Link) (s : Step) : Type 0 where
+record Silent (l : Link) (s : LinkStep) : Type 0 where
   state : s.link.state ≡ l.state
   owed : s.link.owed ≡ l.owed
   frames : s.frames ≡ []
 
-give_idle : (l : Link) (m : ArrayVec ℕ) (now : ℕ) → is_up l.state ≡ false → l.owed ≡ false → Silent l (give l m now)
-give_idle l m now down owes = at (takes l.state l)
+give_idle : (l : Link) (m : ArrayVec ℕ) (now : ℕ) → is_link_up l.state ≡ false → l.owed ≡ false → Silent l (give l m now)
+give_idle l m now down owes = at (takes_data l.state l)
   where
     at : (b : Bool) → Silent l (if b then flush now (record l { queue = l.queue ++ m ∷ [] }) else does l [] [])
     at true = subst (Silent l) (sym (flush_idle (record l { queue = l.queue ++ m ∷ [] }) now down owes)) (record { state = refl; owed = refl; frames = refl })
     at false = record { state = refl; owed = refl; frames = refl }
 
-by_up : (P : Type 0) (st : LinkState) → (is_up st ≡ true → P) → (is_up st ≡ false → P) → P
+by_up : (P : Type 0) (st : LinkState) → (is_link_up st ≡ true → P) → (is_link_up st ≡ false → P) → P
 by_up P Established f g = f refl
 by_up P TimerRecovery f g = f refl
 by_up P Assigned f g = g refl
@@ -780,28 +780,28 @@ by_up P AwaitingEstablishment f g = g refl
 by_up P AwaitingRelease f g = g refl
 
 near_gives : (g d k e : List (ArrayVec ℕ)) (l p : Link) (out back : List Frame) (m : ArrayVec ℕ) (now : ℕ) → Timely g d k e l p out back
-    → Timely (g ++ (if takes l.state l then m ∷ [] else [])) (d ++ messages_of (give l m now).told) k e (give l m now).link p (out ++ (give l m now).frames) back
+    → Timely (g ++ (if takes_data l.state l then m ∷ [] else [])) (d ++ messages_of (give l m now).told) k e (give l m now).link p (out ++ (give l m now).frames) back
 near_gives g d k e l p out back m now t = by_up (Timely g' d' k e s.link p (out ++ s.frames) back) l.state
-    (λ h. near_up g d k e g' d' l p out back back s h (Stays (ap is_up says.state ∙ h) says.counted) (rest_same back)
+    (λ h. near_up g d k e g' d' l p out back back s h (Stays (ap is_link_up says.state ∙ h) says.counted) (rest_same back)
     (λ _ c. waits_more l s.link g g' d d' out s.frames (λ x w. waiting_of g' d x s (deaf_give l m now).none w.none (kept_give g [] [] [] l fresh x [] w.n m now w.tight w.joint)) (counted_uas s.frames c) (t.far.waits h))
     (λ _ up. (let o = t.both h up in both_of g' d k e p out back s (kept_give g d k e l p out back o.0 m now o.2 o.1))) t)
     (λ down. (let q = give_idle l m now down (t.near_mild.idle down) in subst (λ fs. Timely g' d' k e s.link p (out ++ fs) back) (sym q.frames) (near_silent g d k e g' d' l s.link p out back back q.state down q.owed (rest_same back) t)))
   where
-    s : Step
+    s : LinkStep
     s = give l m now
 
     says : Flushed l s
     says = give_says l m now
 
     g' : List (ArrayVec ℕ)
-    g' = g ++ (if takes l.state l then m ∷ [] else [])
+    g' = g ++ (if takes_data l.state l then m ∷ [] else [])
 
     d' : List (ArrayVec ℕ)
     d' = d ++ messages_of s.told
 
 -- ---- time
 
-ends_expires : (st : LinkState) (l : Link) (now : ℕ) → is_up st ≡ true → Ends (expires st l now)
+ends_expires : (st : LinkState) (l : Link) (now : ℕ) → is_link_up st ≡ true → Ends (expires st l now)
 ends_expires Established l now h = Stays refl (tt, tt)
 ends_expires TimerRecovery l now h = at (nat_lt l.rc 3)
   where
@@ -812,14 +812,14 @@ ends_expires Assigned l now h = absurd (false≢true h)
 ends_expires AwaitingEstablishment l now h = absurd (false≢true h)
 ends_expires AwaitingRelease l now h = absurd (false≢true h)
 
-ends_elapse : (l : Link) (now : ℕ) → is_up l.state ≡ true → Ends (elapse l now)
+ends_elapse : (l : Link) (now : ℕ) → is_link_up l.state ≡ true → Ends (elapse l now)
 ends_elapse l now h = at (is_due l.timer now)
   where
     at : (b : Bool) → Ends (if b then expires l.state l now else does l [] [])
     at true = ends_expires l.state l now h
     at false = Stays h tt
 
-down_expires : (g d k e : List (ArrayVec ℕ)) (st : LinkState) (l p : Link) (out back : List Frame) (now : ℕ) → l.state ≡ st → is_up st ≡ false → (st ≡ AwaitingEstablishment → sabmes out + uas back ≡ 0) → Timely g d k e l p out back
+down_expires : (g d k e : List (ArrayVec ℕ)) (st : LinkState) (l p : Link) (out back : List Frame) (now : ℕ) → l.state ≡ st → is_link_up st ≡ false → (st ≡ AwaitingEstablishment → sabmes out + uas back ≡ 0) → Timely g d k e l p out back
     → Timely g (d ++ messages_of (expires st l now).told) k e (expires st l now).link p (out ++ (expires st l now).frames) back
 down_expires g d k e Assigned l p out back now is down timely t = near_same g d k e l p out back t
 down_expires g d k e AwaitingEstablishment l p out back now is down timely t = at (nat_lt l.rc 3)
@@ -827,14 +827,14 @@ down_expires g d k e AwaitingEstablishment l p out back now is down timely t = a
     zero : sabmes out + uas back ≡ 0
     zero = timely refl
 
-    again : Step
+    again : LinkStep
     again = does (record l { rc = l.rc + 1; timer = T200 (now + 1000) }) (Plain u.Sabme true ∷ []) []
 
-    given_up : Step
+    given_up : LinkStep
     given_up = does (discarded (assigned l)) [] (LinkError SabmeUnanswered ∷ LinkReleased ∷ [])
 
     at : (b : Bool) → Timely g (d ++ messages_of (if b then again else given_up).told) k e (if b then again else given_up).link p (out ++ (if b then again else given_up).frames) back
-    at true = near_calls g d k e g (d ++ []) l again.link p out [] back back zero (ap is_calling is) (t.near_mild.idle (ap is_up is)) tt (rest_same back) t
+    at true = near_calls g d k e g (d ++ []) l again.link p out [] back back zero (ap is_calling is) (t.near_mild.idle (ap is_link_up is)) tt (rest_same back) t
     at false = subst (λ fs. Timely g (d ++ []) k e given_up.link p fs back) (sym (append-nil out))
         (near_still g d k e g (d ++ []) l given_up.link p out back back refl (record { stays = refl; idle = λ _. refl }) (λ some. absurd (omega (arith, some, zero))) (rest_same back) t)
 down_expires g d k e AwaitingRelease l p out back now is down timely t = absurd (true≢false (sym (ap is_leaving is) ∙ t.near_mild.stays))
@@ -849,16 +849,16 @@ near_elapses g d k e l p out back now timely t = by_up (Timely g d' k e s.link p
     (λ up far. (let o = t.both h far in both_of g d k e p out back s (kept_elapse g d k e l p out back o.0 now h up o.2 o.1))) t)
     (λ down. at down (is_due l.timer now) refl)
   where
-    s : Step
+    s : LinkStep
     s = elapse l now
 
     d' : List (ArrayVec ℕ)
     d' = d ++ messages_of s.told
 
-    step : Bool → Step
+    step : Bool → LinkStep
     step b = if b then expires l.state l now else does l [] []
 
-    at : is_up l.state ≡ false → (b : Bool) → is_due l.timer now ≡ b → Timely g (d ++ messages_of (step b).told) k e (step b).link p (out ++ (step b).frames) back
+    at : is_link_up l.state ≡ false → (b : Bool) → is_due l.timer now ≡ b → Timely g (d ++ messages_of (step b).told) k e (step b).link p (out ++ (step b).frames) back
     at down true due = down_expires g d k e l.state l p out back now refl down (λ is. timely is due) t
     at down false due = near_same g d k e l p out back t
 
@@ -867,11 +867,11 @@ near_elapses g d k e l p out back now timely t = by_up (Timely g d' k e s.link p
 near_asks : (g d k e : List (ArrayVec ℕ)) (st : LinkState) (l p : Link) (out back : List Frame) (now : ℕ) → l.state ≡ st → Timely g d k e l p out back
     → Timely g (d ++ messages_of (establish st l now).told) k e (establish st l now).link p (out ++ (establish st l now).frames) back
 near_asks g d k e AwaitingRelease l p out back now is t = absurd (true≢false (sym (ap is_leaving is) ∙ t.near_mild.stays))
-near_asks g d k e AwaitingEstablishment l p out back now is t = near_silent g d k e g (d ++ []) l (record (discarded l) { asked = true }) p out back back refl (ap is_up is) refl (rest_same back) t
+near_asks g d k e AwaitingEstablishment l p out back now is t = near_silent g d k e g (d ++ []) l (record (discarded l) { asked = true }) p out back back refl (ap is_link_up is) refl (rest_same back) t
 near_asks g d k e Assigned l p out back now is t = near_calls g d k e g (d ++ []) l (establishing (discarded l) true now) p out [] back back
     (none_of (sabmes out + uas back) (λ some. true≢false (sym (t.near.calling some) ∙ ap is_calling is))) refl refl tt (rest_same back) t
-near_asks g d k e Established l p out back now is t = near_calls g d k e g (d ++ []) l (establishing (discarded l) true now) p out [] back back (up_none l p k e out back t.near (ap is_up is)) refl refl tt (rest_same back) t
-near_asks g d k e TimerRecovery l p out back now is t = near_calls g d k e g (d ++ []) l (establishing (discarded l) true now) p out [] back back (up_none l p k e out back t.near (ap is_up is)) refl refl tt (rest_same back) t
+near_asks g d k e Established l p out back now is t = near_calls g d k e g (d ++ []) l (establishing (discarded l) true now) p out [] back back (up_none l p k e out back t.near (ap is_link_up is)) refl refl tt (rest_same back) t
+near_asks g d k e TimerRecovery l p out back now is t = near_calls g d k e g (d ++ []) l (establishing (discarded l) true now) p out [] back back (up_none l p k e out back t.near (ap is_link_up is)) refl refl tt (rest_same back) t
 
 -- ---- a frame comes
 
@@ -886,9 +886,9 @@ near_hears g d k e l p f out left now c t = by_up (Timely g d' k e s.link p (out
     (λ h. near_up g d k e g d' l p out (f ∷ left) left s h (ends_hear l f now h c) (rest_tail f left)
     (λ up counted. waits_none s.link g d' (out ++ s.frames) (let v = frames_append is_ua out s.frames in omega (arith, v, counted_uas s.frames counted, none)))
     (λ up far. (let o = t.both h far in both_of g d k e p out left s (kept_hear g d k e l p out left o.0 f now h o.2 o.1))) t)
-    (λ down. subst (λ (x : Step). Timely g (d ++ messages_of x.told) k e x.link p (out ++ x.frames) left) (sym (hear_idle l f now down (t.near_mild.idle down) c)) (near_silent g d k e g (d ++ []) l l p out (f ∷ left) left refl down refl (rest_tail f left) t))
+    (λ down. subst (λ (x : LinkStep). Timely g (d ++ messages_of x.told) k e x.link p (out ++ x.frames) left) (sym (hear_idle l f now down (t.near_mild.idle down) c)) (near_silent g d k e g (d ++ []) l l p out (f ∷ left) left refl down refl (rest_tail f left) t))
   where
-    s : Step
+    s : LinkStep
     s = hear l f now
 
     d' : List (ArrayVec ℕ)
@@ -899,32 +899,32 @@ near_hears g d k e l p f out left now c t = by_up (Timely g d' k e s.link p (out
 
 -- ---- worlds
 
-abbrev InTime : World → Type 0
+abbrev InTime : LinkWorld → Type 0
 InTime w = Timely w.near_given w.near_got w.far_given w.far_got w.near w.far w.near_sent w.far_sent
 
-ok_of : (w : World) → Both w.near_given w.near_got w.far_given w.far_got w.near w.far w.near_sent w.far_sent → WorldOk w
+ok_of : (w : LinkWorld) → Both w.near_given w.near_got w.far_given w.far_got w.near w.far w.near_sent w.far_sent → WorldOk w
 ok_of w o = record { n = o.0; joint = o.1; tight = o.2 }
 
-anew_comes : (w : World) (rest : List Frame) (now : ℕ) (b : Bool) → is_calling w.near.state ≡ false → Timely w.near_given w.near_got w.far_given w.far_got w.near w.far w.near_sent (Plain u.Sabme true ∷ rest)
-    → InTime (renewed true (becomes (record w { far_sent = rest }) (follows (established_anew b w.near true now) (flush now))))
+anew_comes : (w : LinkWorld) (rest : List Frame) (now : ℕ) (b : Bool) → is_calling w.near.state ≡ false → Timely w.near_given w.near_got w.far_given w.far_got w.near w.far w.near_sent (Plain u.Sabme true ∷ rest)
+    → InTime (renewed true (near_becomes (record w { far_sent = rest }) (follows_step (established_anew b w.near true now) (flush now))))
 anew_comes w rest now true idle t = near_begins w.near_given w.near_got w.far_given w.far_got w.near w.near w.far now w.near_sent rest idle t
 anew_comes w rest now false idle t = near_begins w.near_given w.near_got w.far_given w.far_got w.near (discarded w.near) w.far now w.near_sent rest idle t
 
-sabme_comes : (w : World) (rest : List Frame) (now : ℕ) (st : LinkState) → w.near.state ≡ st → Timely w.near_given w.near_got w.far_given w.far_got w.near w.far w.near_sent (Plain u.Sabme true ∷ rest)
-    → InTime (renewed (is_begun_by_sabme st) (becomes (record w { far_sent = rest }) (follows (hear_sabme st w.near true now) (flush now))))
+sabme_comes : (w : LinkWorld) (rest : List Frame) (now : ℕ) (st : LinkState) → w.near.state ≡ st → Timely w.near_given w.near_got w.far_given w.far_got w.near w.far w.near_sent (Plain u.Sabme true ∷ rest)
+    → InTime (renewed (is_begun_by_sabme st) (near_becomes (record w { far_sent = rest }) (follows_step (hear_sabme st w.near true now) (flush now))))
 sabme_comes w rest now Assigned is t = near_begins w.near_given w.near_got w.far_given w.far_got w.near w.near w.far now w.near_sent rest (ap is_calling is) t
 sabme_comes w rest now AwaitingRelease is t = absurd (true≢false (sym (ap is_leaving is) ∙ t.near_mild.stays))
 sabme_comes w rest now AwaitingEstablishment is t =
-    subst (λ (x : Step). InTime (becomes (record w { far_sent = rest }) (record { link = x.link; frames = Plain u.Ua true ∷ x.frames; told = x.told }))) (sym (flush_idle w.near now (ap is_up is) (t.near_mild.idle (ap is_up is))))
+    subst (λ (x : LinkStep). InTime (near_becomes (record w { far_sent = rest }) (record { link = x.link; frames = Plain u.Ua true ∷ x.frames; told = x.told }))) (sym (flush_idle w.near now (ap is_link_up is) (t.near_mild.idle (ap is_link_up is))))
     (near_crosses w.near_given w.near_got w.far_given w.far_got w.near_given (w.near_got ++ []) w.near w.far w.near_sent rest (ap is_calling is) t)
 sabme_comes w rest now Established is t = anew_comes w rest now (w.near.vs == w.near.va) (ap is_calling is) t
 sabme_comes w rest now TimerRecovery is t = anew_comes w rest now (w.near.vs == w.near.va) (ap is_calling is) t
 
-ua_comes : (w : World) (rest : List Frame) (now : ℕ) (st : LinkState) → w.near.state ≡ st → Timely w.near_given w.near_got w.far_given w.far_got w.near w.far w.near_sent (Plain u.Ua true ∷ rest)
-    → InTime (renewed (is_begun_by_ua st) (becomes (record w { far_sent = rest }) (follows (hear_ua st w.near true now) (flush now))))
+ua_comes : (w : LinkWorld) (rest : List Frame) (now : ℕ) (st : LinkState) → w.near.state ≡ st → Timely w.near_given w.near_got w.far_given w.far_got w.near w.far w.near_sent (Plain u.Ua true ∷ rest)
+    → InTime (renewed (is_begun_by_ua st) (near_becomes (record w { far_sent = rest }) (follows_step (hear_ua st w.near true now) (flush now))))
 ua_comes w rest now AwaitingEstablishment is t = at w.near.asked (w.near.vs == w.near.va)
   where
-    at : (asked same : Bool) → InTime (renewed true (becomes (record w { far_sent = rest }) (follows (confirmed asked same w.near now) (flush now))))
+    at : (asked same : Bool) → InTime (renewed true (near_becomes (record w { far_sent = rest }) (follows_step (confirmed asked same w.near now) (flush now))))
     at true same = near_meets w.near_given w.near_got w.far_given w.far_got w.near w.near w.far now w.near_sent rest (ap is_calling is) t
     at false true = near_meets w.near_given w.near_got w.far_given w.far_got w.near w.near w.far now w.near_sent rest (ap is_calling is) t
     at false false = near_meets w.near_given w.near_got w.far_given w.far_got w.near (discarded w.near) w.far now w.near_sent rest (ap is_calling is) t
@@ -933,8 +933,8 @@ ua_comes w rest now AwaitingRelease is t = absurd (false≢true (sym (ap is_call
 ua_comes w rest now Established is t = absurd (false≢true (sym (ap is_calling is) ∙ t.near.calling (omega arith)))
 ua_comes w rest now TimerRecovery is t = absurd (false≢true (sym (ap is_calling is) ∙ t.near.calling (omega arith)))
 
-frame_comes : (w : World) (f : Frame) (rest : List Frame) (now : ℕ) → IsPolled f → Timely w.near_given w.near_got w.far_given w.far_got w.near w.far w.near_sent (f ∷ rest)
-    → InTime (renewed (begins_by f w.near.state) (becomes (record w { far_sent = rest }) (hear w.near f now)))
+frame_comes : (w : LinkWorld) (f : Frame) (rest : List Frame) (now : ℕ) → IsPolled f → Timely w.near_given w.near_got w.far_given w.far_got w.near w.far w.near_sent (f ∷ rest)
+    → InTime (renewed (begins_link_by f w.near.state) (near_becomes (record w { far_sent = rest }) (hear w.near f now)))
 frame_comes w (Information poll ns nr m) rest now c t = near_hears w.near_given w.near_got w.far_given w.far_got w.near w.far (Information poll ns nr m) w.near_sent rest now tt t
 frame_comes w (Numbered kind command poll nr) rest now c t = near_hears w.near_given w.near_got w.far_given w.far_got w.near w.far (Numbered kind command poll nr) w.near_sent rest now tt t
 frame_comes w (Plain u.Sabme true) rest now c t = sabme_comes w rest now w.near.state refl t
@@ -947,17 +947,17 @@ frame_comes w (Plain u.Frmr poll) rest now c t = absurd c
 frame_comes w (Plain u.Ui poll) rest now c t = absurd c
 frame_comes w (Plain u.Xid poll) rest now c t = absurd c
 
-time_comes : (w : World) (fs : List Frame) (now : ℕ) → w.far_sent ≡ fs → InTime w → InTime (renewed (begins w.near.state fs) (comes w fs now))
+time_comes : (w : LinkWorld) (fs : List Frame) (now : ℕ) → w.far_sent ≡ fs → InTime w → InTime (renewed (begins_link w.near.state fs) (comes w fs now))
 time_comes w [] now is t = t
 time_comes w (f ∷ rest) now is t =
     let i = subst (λ fs. Timely w.near_given w.near_got w.far_given w.far_got w.near w.far w.near_sent fs) is t in
     frame_comes w f rest now i.back_polled.0 i
 
-time_lost : (w : World) (fs : List Frame) → w.near_sent ≡ fs → InTime w → InTime (lost w fs)
+time_lost : (w : LinkWorld) (fs : List Frame) → w.near_sent ≡ fs → InTime w → InTime (frames_lost w fs)
 time_lost w [] is t = t
 time_lost w (f ∷ rest) is t = near_loses w.near_given w.near_got w.far_given w.far_got w.near w.far f rest w.far_sent (subst (λ fs. Timely w.near_given w.near_got w.far_given w.far_got w.near w.far fs w.far_sent) is t)
 
-time_near : (w : World) (e : EndEvent) → IsTimely w e → InTime w → InTime (near_since w e)
+time_near : (w : LinkWorld) (e : EndEvent) → IsTimely w e → InTime w → InTime (near_since w e)
 time_near w (Gives m now) h t = near_gives w.near_given w.near_got w.far_given w.far_got w.near w.far w.near_sent w.far_sent m now t
 time_near w (Hears now) h t = time_comes w w.far_sent now refl t
 time_near w Loses h t = time_lost w w.near_sent refl t
@@ -965,7 +965,7 @@ time_near w (Elapses now) h t = near_elapses w.near_given w.near_got w.far_given
 time_near w (Asks now) h t = near_asks w.near_given w.near_got w.far_given w.far_got w.near.state w.near w.far w.near_sent w.far_sent now refl t
 time_near w (Releases now) h t = absurd h
 
-time_swapped : (w : World) → InTime w → InTime (swapped w)
+time_swapped : (w : LinkWorld) → InTime w → InTime (swapped w)
 time_swapped w t = record {
   near = t.far;
   far = t.near;
@@ -976,11 +976,11 @@ time_swapped w t = record {
   both = λ a b. (let o = ok_swapped w (ok_of w (t.both b a)) in (o.n, o.joint, o.tight));
 }
 
-time_happens : (w : World) (e : WorldEvent) → IsTimelyIn w e → InTime w → InTime (since_happens w e)
+time_happens : (w : LinkWorld) (e : LinkWorldEvent) → IsTimelyIn w e → InTime w → InTime (since_happens w e)
 time_happens w (AtNear e) h t = time_near w e h t
 time_happens w (AtFar e) h t = time_swapped (near_since (swapped w) e) (time_near (swapped w) e h (time_swapped w t))
 
-time_after : (es : List WorldEvent) (w : World) → AreTimely es w → InTime w → InTime (since_after es w)
+time_after : (es : List LinkWorldEvent) (w : LinkWorld) → AreTimely es w → InTime w → InTime (since_after es w)
 time_after [] w h t = t
 time_after (e ∷ es) w h t = time_after es (since_happens w e) h.1 (time_happens w e h.0 t)
 
@@ -995,7 +995,7 @@ opening_attempt x y had got out back a b = record {
   waits = λ _. waits_none y had got back (ap uas b);
 }
 
-time_opening : (w : World) → AreIdle w → InTime w
+time_opening : (w : LinkWorld) → AreIdle w → InTime w
 time_opening w x =
     let n = x.unlinked.near in
     let f = x.unlinked.far in
@@ -1006,7 +1006,7 @@ time_opening w x =
       back_polled = subst AllPolled (sym x.unlinked.far_empty) tt;
       near_mild = record { stays = ap is_leaving n.state; idle = λ _. x.near };
       far_mild = record { stays = ap is_leaving f.state; idle = λ _. x.far };
-      both = λ h _. absurd (false≢true (sym (ap is_up n.state) ∙ h));
+      both = λ h _. absurd (false≢true (sym (ap is_link_up n.state) ∙ h));
     }
 
 pub anew_holds : Anew
@@ -1018,51 +1018,51 @@ anew_holds w es x h near far =
 
 -- ---- the same links, with other counts
 
-abbrev recount : World → List (ArrayVec ℕ) → List (ArrayVec ℕ) → List (ArrayVec ℕ) → List (ArrayVec ℕ) → World
+abbrev recount : LinkWorld → List (ArrayVec ℕ) → List (ArrayVec ℕ) → List (ArrayVec ℕ) → List (ArrayVec ℕ) → LinkWorld
 recount w g k d e = record w { near_given = g; far_given = k; near_got = d; far_got = e }
 
-record IsRecount (w z : World) : Type 0 where
+record IsRecount (w z : LinkWorld) : Type 0 where
   near_given : List (ArrayVec ℕ)
   far_given : List (ArrayVec ℕ)
   near_got : List (ArrayVec ℕ)
   far_got : List (ArrayVec ℕ)
   is : z ≡ recount w near_given far_given near_got far_got
 
-recount_of : (w : World) (g k d e : List (ArrayVec ℕ)) → IsRecount w (recount w g k d e)
+recount_of : (w : LinkWorld) (g k d e : List (ArrayVec ℕ)) → IsRecount w (recount w g k d e)
 recount_of w g k d e = record { near_given = g; far_given = k; near_got = d; far_got = e; is = refl }
 
-recount_comes : (w : World) (fs : List Frame) (now : ℕ) (b : Bool) (g k d e : List (ArrayVec ℕ)) → IsRecount (comes w fs now) (renewed b (comes (recount w g k d e) fs now))
+recount_comes : (w : LinkWorld) (fs : List Frame) (now : ℕ) (b : Bool) (g k d e : List (ArrayVec ℕ)) → IsRecount (comes w fs now) (renewed b (comes (recount w g k d e) fs now))
 recount_comes w [] now true g k d e = recount_of w w.near.queue k [] e
 recount_comes w [] now false g k d e = recount_of w g k d e
 recount_comes w (f ∷ rest) now true g k d e = recount_of (comes w (f ∷ rest) now) (hear w.near f now).link.queue k [] e
 recount_comes w (f ∷ rest) now false g k d e = recount_of (comes w (f ∷ rest) now) g k (d ++ messages_of (hear w.near f now).told) e
 
-recount_lost : (w : World) (fs : List Frame) (g k d e : List (ArrayVec ℕ)) → IsRecount (lost w fs) (lost (recount w g k d e) fs)
+recount_lost : (w : LinkWorld) (fs : List Frame) (g k d e : List (ArrayVec ℕ)) → IsRecount (frames_lost w fs) (frames_lost (recount w g k d e) fs)
 recount_lost w [] g k d e = recount_of w g k d e
-recount_lost w (f ∷ rest) g k d e = recount_of (lost w (f ∷ rest)) g k d e
+recount_lost w (f ∷ rest) g k d e = recount_of (frames_lost w (f ∷ rest)) g k d e
 
-recount_near : (w : World) (x : EndEvent) (g k d e : List (ArrayVec ℕ)) → IsRecount (at_near w x) (near_since (recount w g k d e) x)
-recount_near w (Gives m now) g k d e = recount_of (at_near w (Gives m now)) (g ++ (if takes w.near.state w.near then m ∷ [] else [])) k (d ++ messages_of (give w.near m now).told) e
-recount_near w (Hears now) g k d e = recount_comes w w.far_sent now (begins w.near.state w.far_sent) g k d e
+recount_near : (w : LinkWorld) (x : EndEvent) (g k d e : List (ArrayVec ℕ)) → IsRecount (at_near w x) (near_since (recount w g k d e) x)
+recount_near w (Gives m now) g k d e = recount_of (at_near w (Gives m now)) (g ++ (if takes_data w.near.state w.near then m ∷ [] else [])) k (d ++ messages_of (give w.near m now).told) e
+recount_near w (Hears now) g k d e = recount_comes w w.far_sent now (begins_link w.near.state w.far_sent) g k d e
 recount_near w Loses g k d e = recount_lost w w.near_sent g k d e
 recount_near w (Elapses now) g k d e = recount_of (at_near w (Elapses now)) g k (d ++ messages_of (elapse w.near now).told) e
 recount_near w (Asks now) g k d e = recount_of (at_near w (Asks now)) g k (d ++ messages_of (establish w.near.state w.near now).told) e
 recount_near w (Releases now) g k d e = recount_of (at_near w (Releases now)) g k (d ++ messages_of (release w.near.state w.near now).told) e
 
-recount_happens : (w : World) (x : WorldEvent) (g k d e : List (ArrayVec ℕ)) → IsRecount (world_happens w x) (since_happens (recount w g k d e) x)
+recount_happens : (w : LinkWorld) (x : LinkWorldEvent) (g k d e : List (ArrayVec ℕ)) → IsRecount (link_world_happens w x) (since_happens (recount w g k d e) x)
 recount_happens w (AtNear x) g k d e = recount_near w x g k d e
 recount_happens w (AtFar x) g k d e =
     let r = recount_near (swapped w) x k g e d in
     record { near_given = r.far_given; far_given = r.near_given; near_got = r.far_got; far_got = r.near_got; is = ap swapped r.is }
 
-recount_after : (es : List WorldEvent) (w : World) (g k d e : List (ArrayVec ℕ)) → IsRecount (world_after es w) (since_after es (recount w g k d e))
+recount_after : (es : List LinkWorldEvent) (w : LinkWorld) (g k d e : List (ArrayVec ℕ)) → IsRecount (link_world_after es w) (since_after es (recount w g k d e))
 recount_after [] w g k d e = recount_of w g k d e
 recount_after (x ∷ es) w g k d e =
     let r = recount_happens w x g k d e in
-    let o = recount_after es (world_happens w x) r.near_given r.far_given r.near_got r.far_got in
+    let o = recount_after es (link_world_happens w x) r.near_given r.far_given r.near_got r.far_got in
     record { near_given = o.near_given; far_given = o.far_given; near_got = o.near_got; far_got = o.far_got; is = ap (since_after es) r.is ∙ o.is }
 
 pub same_links : SameLinks
 same_links w es =
     let o = recount_after es w w.near_given w.far_given w.near_got w.far_got in
-    record { near = ap (λ (z : World). z.near) o.is; far = ap (λ (z : World). z.far) o.is; near_sent = ap (λ (z : World). z.near_sent) o.is; far_sent = ap (λ (z : World). z.far_sent) o.is }
+    record { near = ap (λ (z : LinkWorld). z.near) o.is; far = ap (λ (z : LinkWorld). z.far) o.is; near_sent = ap (λ (z : LinkWorld). z.near_sent) o.is; far_sent = ap (λ (z : LinkWorld). z.far_sent) o.is }

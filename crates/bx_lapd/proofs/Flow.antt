@@ -3,7 +3,7 @@ use Rattle.std.proofs.Common.{◌≡◌, ◌∙◌, ℕ, suc, ◌+◌, ◌-◌, 
 use Rattle.std.proofs.lemmas.List.{take-append-le, drop-append-le}
 use Rattle.arrayvec.specs.ArrayVec.{ArrayVec}
 use Rattle.bx_lapd.specs.declared.frame.Frame.{Frame}
-use Rattle.bx_lapd.specs.Links.{ahead, numbered}
+use Rattle.bx_lapd.specs.Links.{ahead, numbered_frames}
 use Rattle.bx_lapd.proofs.Numbers.{ahead-is, next_number, further_number}
 use Rattle.bx_lapd.proofs.Media.{message_at, take_at_next, Stand, Comes, comes_within, comes_given, comes_more, Confirms, confirms_within, confirms_more}
 
@@ -101,7 +101,7 @@ flow_given g e va vs qu vr forth back a s h r m f =
 
 -- these go out, from V(S) on
 pub flow_sent : (g e : List (ArrayVec ℕ)) (va vs : ℕ) (qu : List (ArrayVec ℕ)) (vr : ℕ) (forth back : List Frame) (a s h r nr : ℕ) (ms : List (ArrayVec ℕ)) → Flow g e va vs qu vr forth back a s h r → Stand g s ms → h ≤ s + length ms → s + length ms ≤ a + 7 → s + length ms ≤ length g
-    → Flow g e va ((vs + length ms) % 128) qu vr (forth ++ numbered vs nr ms) back a (s + length ms) (s + length ms) r
+    → Flow g e va ((vs + length ms) % 128) qu vr (forth ++ numbered_frames vs nr ms) back a (s + length ms) (s + length ms) r
 flow_sent g e va vs qu vr forth back a s h r nr ms f st x y z =
     let one = f.sent in
     let two = f.window in

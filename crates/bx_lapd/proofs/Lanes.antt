@@ -5,7 +5,7 @@ use Rattle.std.proofs.lemmas.List.{take-take}
 use Rattle.arrayvec.specs.ArrayVec.{ArrayVec}
 use Rattle.bx_lapd.specs.declared.frame.Frame.{Frame}
 use Rattle.bx_lapd.specs.declared.frame.Frame.TheVariants.{Information, Numbered, Plain}
-use Rattle.bx_lapd.specs.Links.{numbered}
+use Rattle.bx_lapd.specs.Links.{numbered_frames}
 use Rattle.bx_lapd.specs.Once.{IsPartOf}
 use Rattle.bx_lapd.proofs.Media.{message_at, at_more, take_at_next, Stand}
 
@@ -133,7 +133,7 @@ fits_base (Some c) b r i l (inl a) = inl (a, l)
 fits_base (Some c) b r i l (inr a) = inr a
 
 -- these go out from place s on, with this base
-pub lane_numbered : (g : List (ArrayVec ℕ)) (b h k s : ℕ) (ns nr : ℕ) (ms : List (ArrayVec ℕ)) (c : Option ℕ) (r : ℕ) → b ≤ s → ns ≡ (s - b) % 128 → nr < 128 → Stand g s ms → h ≤ s + 7 → h ≤ k → s + length ms ≤ k → Ends true b h c r → Lane g c r (Ends true b k) (numbered ns nr ms)
+pub lane_numbered : (g : List (ArrayVec ℕ)) (b h k s : ℕ) (ns nr : ℕ) (ms : List (ArrayVec ℕ)) (c : Option ℕ) (r : ℕ) → b ≤ s → ns ≡ (s - b) % 128 → nr < 128 → Stand g s ms → h ≤ s + 7 → h ≤ k → s + length ms ≤ k → Ends true b h c r → Lane g c r (Ends true b k) (numbered_frames ns nr ms)
 lane_numbered g b h k s ns nr [] c r bs e small st w l j x = (omega (arith, x.0), x.1)
 lane_numbered g b h k s ns nr (m ∷ ms) c r bs e small st w l j x =
     let next : ((ns + 1) % 128) ≡ ((suc s - b) % 128) = ap (λ v. (v + 1) % 128) e ∙ (let y : ((s - b) % 128 + 1) % 128 ≡ (suc s - b) % 128 = omega arith in y) in (

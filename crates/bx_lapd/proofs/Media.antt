@@ -8,7 +8,7 @@ use Rattle.arrayvec.specs.ArrayVec.{ArrayVec}
 use Rattle.bx_lapd.specs.declared.words.Supervisory.{Supervisory}
 use Rattle.bx_lapd.specs.declared.frame.Frame.{Frame}
 use Rattle.bx_lapd.specs.declared.frame.Frame.TheVariants.{Information, Numbered, Plain}
-use Rattle.bx_lapd.specs.Links.{numbered}
+use Rattle.bx_lapd.specs.Links.{numbered_frames}
 use Rattle.bx_lapd.proofs.Numbers.{next_number}
 
 -- ---- messages by their counts
@@ -97,11 +97,11 @@ comes_one g r h k s (Plain i p ∷ fs) ns nr m e f w l j c = c
 joined : (fs gs : List Frame) (f : Frame) → (fs ++ f ∷ []) ++ gs ≡ fs ++ f ∷ gs
 joined fs gs f = append_assoc fs (f ∷ []) gs
 
-pub comes_more : (g : List (ArrayVec ℕ)) (r h k s : ℕ) (fs : List Frame) (ns nr : ℕ) (ms : List (ArrayVec ℕ)) → ns ≡ s % 128 → Stand g s ms → h ≤ s + 7 → h ≤ k → s + length ms ≤ k → Comes g r h fs → Comes g r k (fs ++ numbered ns nr ms)
+pub comes_more : (g : List (ArrayVec ℕ)) (r h k s : ℕ) (fs : List Frame) (ns nr : ℕ) (ms : List (ArrayVec ℕ)) → ns ≡ s % 128 → Stand g s ms → h ≤ s + 7 → h ≤ k → s + length ms ≤ k → Comes g r h fs → Comes g r k (fs ++ numbered_frames ns nr ms)
 comes_more g r h k s fs ns nr [] e st w l j c = subst (Comes g r k) (sym (append-nil fs)) (comes_high g r h k fs l c)
 comes_more g r h k s fs ns nr (m ∷ ms) e st w l j c =
     let one = comes_one g r h (max h (suc s)) s fs ns nr m e st.0 w (omega arith) (omega arith) c in
-    subst (Comes g r k) (joined fs (numbered ((ns + 1) % 128) nr ms) (Information false ns nr m))
+    subst (Comes g r k) (joined fs (numbered_frames ((ns + 1) % 128) nr ms) (Information false ns nr m))
     (comes_more g r (max h (suc s)) k (suc s) (fs ++ Information false ns nr m ∷ []) ((ns + 1) % 128) nr ms (ap (λ x. (x + 1) % 128) e ∙ next_number s) st.1 (omega arith) (omega arith) (omega arith) one)
 
 -- ---- N(R) on the way back
@@ -142,8 +142,8 @@ confirms_one a r (Information p x y z ∷ fs) ns nr m e c = (c.0, c.1, c.2, conf
 confirms_one a r (Numbered j b p x ∷ fs) ns nr m e c = (c.0, c.1, c.2, confirms_one c.0 r fs ns nr m e c.3)
 confirms_one a r (Plain j p ∷ fs) ns nr m e c = c
 
-pub confirms_numbered : (a r : ℕ) (fs : List Frame) (ns nr : ℕ) (ms : List (ArrayVec ℕ)) → nr ≡ r % 128 → Confirms a r fs → Confirms a r (fs ++ numbered ns nr ms)
+pub confirms_numbered : (a r : ℕ) (fs : List Frame) (ns nr : ℕ) (ms : List (ArrayVec ℕ)) → nr ≡ r % 128 → Confirms a r fs → Confirms a r (fs ++ numbered_frames ns nr ms)
 confirms_numbered a r fs ns nr [] e c = subst (Confirms a r) (sym (append-nil fs)) c
 confirms_numbered a r fs ns nr (m ∷ ms) e c =
-    subst (Confirms a r) (joined fs (numbered ((ns + 1) % 128) nr ms) (Information false ns nr m))
+    subst (Confirms a r) (joined fs (numbered_frames ((ns + 1) % 128) nr ms) (Information false ns nr m))
     (confirms_numbered a r (fs ++ Information false ns nr m ∷ []) ((ns + 1) % 128) nr ms e (confirms_one a r fs ns nr m e c))

@@ -12,35 +12,35 @@ use Rattle.bx_lapd.specs.declared.words.ErrorCode.{ErrorCode}
 use Rattle.bx_lapd.specs.declared.frame.Frame.TheVariants.{Information, Numbered, Plain}
 use Rattle.bx_lapd.specs.declared.indication.Indication.{Indication}
 use Rattle.bx_lapd.specs.declared.indication.Indication.TheVariants.{Delivered}
-use Rattle.bx_lapd.specs.Links.{Link, Step, does, follows, is_valid, acknowledged, is_established, is_recovering, is_up, sendable, acknowledges, flushes, flush}
-use Rattle.bx_lapd.specs.Table.{establish, release, takes, give, is_due, expires, elapse, established_anew, hear_sabme, hear_disc, confirmed, hear_ua, hear_dm, fails, hear_plain, answers, took, rejects, hear_message, timed, settled, hear_number, hear_information, is_not_ready, guided, recovered, hear_supervised, unasked, hear_numbered, heard, hear}
+use Rattle.bx_lapd.specs.Links.{Link, LinkStep, does, follows_step, is_valid, acknowledged, is_established, is_recovering, is_link_up, sendable, acknowledges, flushes, flush}
+use Rattle.bx_lapd.specs.Table.{establish, release, takes_data, give, is_due, expires, elapse, established_anew, hear_sabme, hear_disc, confirmed, hear_ua, hear_dm, fails, hear_plain, answers, took, rejects, hear_message, timed, settled, hear_number, hear_information, is_not_ready, guided, recovered_link, hear_supervised, unasked, hear_numbered, link_heard, hear}
 use Rattle.bx_lapd.specs.World.{messages_of}
 use Rattle.bx_lapd.proofs.Steps.{messages_of-append}
 
 -- a step that delivers nothing
-abbrev pub Mute : Step → Type 0
+abbrev pub Mute : LinkStep → Type 0
 Mute s = messages_of s.told ≡ []
 
 -- a step that delivers nothing and leaves V(R)
-pub record Deaf (l : Link) (s : Step) : Type 0 where
+pub record Deaf (l : Link) (s : LinkStep) : Type 0 where
   pub vr : s.link.vr ≡ l.vr
   pub none : messages_of s.told ≡ []
 
 -- a step that delivers this message
-pub record Took (l : Link) (m : ArrayVec ℕ) (s : Step) : Type 0 where
+pub record Took (l : Link) (m : ArrayVec ℕ) (s : LinkStep) : Type 0 where
   pub vr : s.link.vr ≡ (l.vr + 1) % 128
   pub one : messages_of s.told ≡ m ∷ []
 
 both_none : (x y : List Indication) → messages_of x ≡ [] → messages_of y ≡ [] → messages_of (x ++ y) ≡ []
 both_none x y a b = messages_of-append x y ∙ ap (λ z. z ++ messages_of y) a ∙ b
 
-deaf_follows : (l : Link) (s : Step) (f : Link → Step) → Deaf l s → Deaf s.link (f s.link) → Deaf l (follows s f)
+deaf_follows : (l : Link) (s : LinkStep) (f : Link → LinkStep) → Deaf l s → Deaf s.link (f s.link) → Deaf l (follows_step s f)
 deaf_follows l s f a b = record { vr = b.vr ∙ a.vr; none = both_none s.told (f s.link).told a.none b.none }
 
-took_follows : (l : Link) (m : ArrayVec ℕ) (s : Step) (f : Link → Step) → Took l m s → Deaf s.link (f s.link) → Took l m (follows s f)
+took_follows : (l : Link) (m : ArrayVec ℕ) (s : LinkStep) (f : Link → LinkStep) → Took l m s → Deaf s.link (f s.link) → Took l m (follows_step s f)
 took_follows l m s f a b = record { vr = b.vr ∙ a.vr; one = messages_of-append s.told (f s.link).told ∙ ap (λ z. z ++ messages_of (f s.link).told) a.one ∙ ap (λ z. m ∷ z) b.none }
 
-mute_follows : (s : Step) (f : Link → Step) → Mute s → Deaf s.link (f s.link) → Mute (follows s f)
+mute_follows : (s : LinkStep) (f : Link → LinkStep) → Mute s → Deaf s.link (f s.link) → Mute (follows_step s f)
 mute_follows s f a b = both_none s.told (f s.link).told a b.none
 
 -- ---- what goes out after each row
@@ -88,7 +88,7 @@ guided_vr l ReceiveReady same now = settled_vr l false same now
 guided_vr l Reject same now = refl
 guided_vr l ReceiveNotReady same now = refl
 
-recovered_vr : (l : Link) (f : Bool) (kind : Supervisory) (now : ℕ) → (recovered f kind l now).vr ≡ l.vr
+recovered_vr : (l : Link) (f : Bool) (kind : Supervisory) (now : ℕ) → (recovered_link f kind l now).vr ≡ l.vr
 recovered_vr l false kind now = refl
 recovered_vr l true ReceiveNotReady now = refl
 recovered_vr l true ReceiveReady now = refl
@@ -114,23 +114,23 @@ deaf_numbered l kind command poll nr now =
     let one = deaf_answers b (command && poll) told (unasked_none (is_established l.state && not command && poll)) in
     deaf_follows l s (λ k. hear_supervised (is_valid k nr) k.state k kind (not command && poll) nr now) (record { vr = one.vr; none = one.none }) (deaf_supervised s.link (is_valid s.link nr) s.link.state kind (not command && poll) nr now)
 
-deaf_if : (l : Link) (b : Bool) (s : Step) → Deaf l s → Deaf l (if b then s else does l [] [])
+deaf_if : (l : Link) (b : Bool) (s : LinkStep) → Deaf l s → Deaf l (if b then s else does l [] [])
 deaf_if l true s d = d
 deaf_if l false s d = record { vr = refl; none = refl }
 
 pub deaf_hear_numbered : (l : Link) (kind : Supervisory) (command poll : Bool) (nr now : ℕ) → Deaf l (hear l (Numbered kind command poll nr) now)
 deaf_hear_numbered l kind command poll nr now =
-    let s = heard l (Numbered kind command poll nr) now in
-    deaf_follows l s (flush now) (deaf_if l (is_up l.state) (hear_numbered l kind command poll nr now) (deaf_numbered l kind command poll nr now)) (deaf_flush s.link now)
+    let s = link_heard l (Numbered kind command poll nr) now in
+    deaf_follows l s (flush now) (deaf_if l (is_link_up l.state) (hear_numbered l kind command poll nr now) (deaf_numbered l kind command poll nr now)) (deaf_flush s.link now)
 
 -- ---- I frames
 
 -- what an I frame does: it is passed over, or delivers where its number is V(R)
-pub data Hears (l : Link) (ns : ℕ) (m : ArrayVec ℕ) (s : Step) : Type 0 where
+pub data Hears (l : Link) (ns : ℕ) (m : ArrayVec ℕ) (s : LinkStep) : Type 0 where
   PassesOver : (d : Deaf l s) → Hears l ns m s
   Takes : (e : ns ≡ l.vr) (t : Took l m s) → Hears l ns m s
 
-hears_follows : (l : Link) (ns : ℕ) (m : ArrayVec ℕ) (s : Step) (f : Link → Step) → Hears l ns m s → Deaf s.link (f s.link) → Hears l ns m (follows s f)
+hears_follows : (l : Link) (ns : ℕ) (m : ArrayVec ℕ) (s : LinkStep) (f : Link → LinkStep) → Hears l ns m s → Deaf s.link (f s.link) → Hears l ns m (follows_step s f)
 hears_follows l ns m s f (PassesOver d) b = PassesOver (deaf_follows l s f d b)
 hears_follows l ns m s f (Takes e t) b = Takes e (took_follows l m s f t b)
 
@@ -143,14 +143,14 @@ hears_information l poll ns nr m now =
     let s = hear_message (ns == l.vr) l poll m in
     hears_follows l ns m s (λ k. hear_number (is_valid k nr) k nr now) (hears_message l (ns == l.vr) poll ns m refl) (deaf_number s.link (is_valid s.link nr) nr now)
 
-hears_if : (l : Link) (ns : ℕ) (m : ArrayVec ℕ) (b : Bool) (s : Step) → Hears l ns m s → Hears l ns m (if b then s else does l [] [])
+hears_if : (l : Link) (ns : ℕ) (m : ArrayVec ℕ) (b : Bool) (s : LinkStep) → Hears l ns m s → Hears l ns m (if b then s else does l [] [])
 hears_if l ns m true s d = d
 hears_if l ns m false s d = PassesOver (record { vr = refl; none = refl })
 
 pub hears_frame : (l : Link) (poll : Bool) (ns nr : ℕ) (m : ArrayVec ℕ) (now : ℕ) → Hears l ns m (hear l (Information poll ns nr m) now)
 hears_frame l poll ns nr m now =
-    let s = heard l (Information poll ns nr m) now in
-    hears_follows l ns m s (flush now) (hears_if l ns m (is_up l.state) (hear_information l poll ns nr m now) (hears_information l poll ns nr m now)) (deaf_flush s.link now)
+    let s = link_heard l (Information poll ns nr m) now in
+    hears_follows l ns m s (flush now) (hears_if l ns m (is_link_up l.state) (hear_information l poll ns nr m now) (hears_information l poll ns nr m now)) (deaf_flush s.link now)
 
 -- ---- unnumbered frames
 
@@ -210,13 +210,13 @@ mute_plain u.Sabme l poll now = mute_sabme l.state l poll now
 mute_plain u.Disc l poll now = mute_disc l.state l poll
 mute_plain u.Ua l poll now = mute_ua l.state l poll now
 mute_plain u.Dm l poll now = mute_dm l.state l poll now
-mute_plain u.Frmr l poll now = mute_fails (is_up l.state) l _ now
+mute_plain u.Frmr l poll now = mute_fails (is_link_up l.state) l _ now
 mute_plain u.Ui l poll now = refl
 mute_plain u.Xid l poll now = refl
 
 pub mute_hear_plain : (l : Link) (kind : Unnumbered) (poll : Bool) (now : ℕ) → Mute (hear l (Plain kind poll) now)
 mute_hear_plain l kind poll now =
-    let s = heard l (Plain kind poll) now in
+    let s = link_heard l (Plain kind poll) now in
     mute_follows s (flush now) (mute_plain kind l poll now) (deaf_flush s.link now)
 
 -- ---- what layer 3 asks, and time
@@ -224,7 +224,7 @@ mute_hear_plain l kind poll now =
 pub deaf_give : (l : Link) (m : ArrayVec ℕ) (now : ℕ) → Deaf l (give l m now)
 deaf_give l m now =
     let d = deaf_flush (record l { queue = l.queue ++ m ∷ [] }) now in
-    deaf_if l (takes l.state l) (flush now (record l { queue = l.queue ++ m ∷ [] })) (record { vr = d.vr; none = d.none })
+    deaf_if l (takes_data l.state l) (flush now (record l { queue = l.queue ++ m ∷ [] })) (record { vr = d.vr; none = d.none })
 
 pub deaf_establish : (st : LinkState) (l : Link) (now : ℕ) → Deaf l (establish st l now)
 deaf_establish AwaitingRelease l now = record { vr = refl; none = refl }
@@ -240,7 +240,7 @@ deaf_release Assigned l now = record { vr = refl; none = refl }
 deaf_release Established l now = record { vr = refl; none = refl }
 deaf_release TimerRecovery l now = record { vr = refl; none = refl }
 
-deaf_either : (l : Link) (b : Bool) (s t : Step) → Deaf l s → Deaf l t → Deaf l (if b then s else t)
+deaf_either : (l : Link) (b : Bool) (s t : LinkStep) → Deaf l s → Deaf l t → Deaf l (if b then s else t)
 deaf_either l true s t d e = d
 deaf_either l false s t d e = e
 

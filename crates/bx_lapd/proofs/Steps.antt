@@ -10,10 +10,10 @@ use Rattle.bx_lapd.specs.declared.words.Unnumbered.TheVariants.{Sabme}
 use Rattle.bx_lapd.specs.declared.words.ErrorCode.TheVariants.{EnquiryUnanswered}
 use Rattle.bx_lapd.specs.declared.frame.Frame.{Frame}
 use Rattle.bx_lapd.specs.declared.frame.Frame.TheVariants.{Information, Numbered, Plain}
-use Rattle.bx_lapd.specs.Links.{Link, Step, does, follows, ahead, outstanding, is_valid, final, enquiry, numbered, establishing, acknowledged, is_established, is_recovering, is_up, acknowledges, flushes, flush}
+use Rattle.bx_lapd.specs.Links.{Link, LinkStep, does, follows_step, ahead, outstanding, is_valid, final, enquiry, numbered_frames, establishing, acknowledged, is_established, is_recovering, is_link_up, acknowledges, flushes, flush}
 use Rattle.bx_lapd.specs.declared.indication.Indication.{Indication}
 use Rattle.bx_lapd.specs.declared.indication.Indication.TheVariants.{LinkEstablished, LinkReleased, Delivered, LinkError}
-use Rattle.bx_lapd.specs.Table.{takes, give, is_due, first_count, enquires, expires, elapse, answers, took, rejects, hear_message, timed, settled, hear_number, hear_information, is_not_ready, guided, recovered, hear_supervised, unasked, hear_numbered, heard, hear}
+use Rattle.bx_lapd.specs.Table.{takes_data, give, is_due, first_count, enquires, expires, elapse, answers, took, rejects, hear_message, timed, settled, hear_number, hear_information, is_not_ready, guided, recovered_link, hear_supervised, unasked, hear_numbered, link_heard, hear}
 use Rattle.bx_lapd.specs.World.{messages_of}
 use Rattle.bx_lapd.proofs.Numbers.{same_number}
 use Rattle.bx_lapd.proofs.Media.{message_at, Stand, stand_drop, comes_less, comes_within, comes_numbered_frame, Confirms, confirms_less, confirms_within, confirms_numbered_frame, confirms_numbered}
@@ -35,7 +35,7 @@ pub record Joint (g d k e : List (ArrayVec ℕ)) (l p : Link) (forth back : List
   pub into : Flow k d p.va p.vs p.queue l.vr back forth n.b n.t n.t n.q
 
 -- a step of this end
-pub record Mid (g d k e : List (ArrayVec ℕ)) (p : Link) (forth back : List Frame) (s : Step) (n : Marks) : Type 0 where
+pub record Mid (g d k e : List (ArrayVec ℕ)) (p : Link) (forth back : List Frame) (s : LinkStep) (n : Marks) : Type 0 where
   pub dd : List (ArrayVec ℕ)
   pub ff : List Frame
   pub dd_is : dd ≡ d ++ messages_of s.told
@@ -49,7 +49,7 @@ messages_of-append (LinkEstablished ∷ x) y = messages_of-append x y
 messages_of-append (LinkReleased ∷ x) y = messages_of-append x y
 messages_of-append (LinkError code ∷ x) y = messages_of-append x y
 
-mid_follows : (g d k e : List (ArrayVec ℕ)) (p : Link) (forth back : List Frame) (s : Step) (f : Link → Step) (n n2 : Marks) → (m : Mid g d k e p forth back s n) → Mid g m.dd k e p m.ff back (f s.link) n2 → Mid g d k e p forth back (follows s f) n2
+mid_follows : (g d k e : List (ArrayVec ℕ)) (p : Link) (forth back : List Frame) (s : LinkStep) (f : Link → LinkStep) (n n2 : Marks) → (m : Mid g d k e p forth back s n) → Mid g m.dd k e p m.ff back (f s.link) n2 → Mid g d k e p forth back (follows_step s f) n2
 mid_follows g d k e p forth back s f n n2 m o = record {
   dd = o.dd;
   ff = o.ff;
@@ -166,7 +166,7 @@ mid_number g d k e l p forth back n nr now j t x =
 abbrev pub Ready : Link → Marks → Type 0
 Ready l n = (n.s ≡ n.h) ⊎ ((is_established l.state && not l.busy) ≡ true)
 
-abbrev pub KeptReady : List (ArrayVec ℕ) → List (ArrayVec ℕ) → List (ArrayVec ℕ) → List (ArrayVec ℕ) → Link → List Frame → List Frame → Step → Type 0
+abbrev pub KeptReady : List (ArrayVec ℕ) → List (ArrayVec ℕ) → List (ArrayVec ℕ) → List (ArrayVec ℕ) → Link → List Frame → List Frame → LinkStep → Type 0
 KeptReady g d k e p forth back s = (n : Marks) × Mid g d k e p forth back s n × Ready s.link n
 
 joint_gone_back : (g d k e : List (ArrayVec ℕ)) (l p : Link) (forth back : List Frame) (n : Marks) → Joint g d k e l p forth back n → Joint g d k e (record l { vs = l.va }) p forth back (record n { s = n.a })
@@ -184,17 +184,17 @@ kept_guided g d k e l p forth back n Reject same now u b t j =
     (record n { s = n.a }, mid_same g d k e (guided Reject same l now) p forth back (record n { s = n.a }) (record { out = o.out; into = o.into }), inr (and_from (is_established l.state) (not l.busy) u (ap not b)))
 
 kept_recovered : (g d k e : List (ArrayVec ℕ)) (l p : Link) (forth back : List Frame) (n : Marks) (f : Bool) (kind : Supervisory) (now : ℕ) → l.busy ≡ is_not_ready kind → n.s ≡ n.h → Joint g d k e l p forth back n
-    → KeptReady g d k e p forth back (does (recovered f kind l now) [] [])
+    → KeptReady g d k e p forth back (does (recovered_link f kind l now) [] [])
 kept_recovered g d k e l p forth back n false kind now b t j = (n, mid_same g d k e l p forth back n j, inl t)
-kept_recovered g d k e l p forth back n true ReceiveNotReady now b t j = (n, mid_same g d k e (recovered true ReceiveNotReady l now) p forth back n (record { out = j.out; into = j.into }), inl t)
+kept_recovered g d k e l p forth back n true ReceiveNotReady now b t j = (n, mid_same g d k e (recovered_link true ReceiveNotReady l now) p forth back n (record { out = j.out; into = j.into }), inl t)
 kept_recovered g d k e l p forth back n true ReceiveReady now b t j =
     let o = joint_gone_back g d k e l p forth back n j in
-    (record n { s = n.a }, mid_same g d k e (recovered true ReceiveReady l now) p forth back (record n { s = n.a }) (record { out = o.out; into = o.into }), inr (ap not b))
+    (record n { s = n.a }, mid_same g d k e (recovered_link true ReceiveReady l now) p forth back (record n { s = n.a }) (record { out = o.out; into = o.into }), inr (ap not b))
 kept_recovered g d k e l p forth back n true Reject now b t j =
     let o = joint_gone_back g d k e l p forth back n j in
-    (record n { s = n.a }, mid_same g d k e (recovered true Reject l now) p forth back (record n { s = n.a }) (record { out = o.out; into = o.into }), inr (ap not b))
+    (record n { s = n.a }, mid_same g d k e (recovered_link true Reject l now) p forth back (record n { s = n.a }) (record { out = o.out; into = o.into }), inr (ap not b))
 
-kept_supervised : (g d k e : List (ArrayVec ℕ)) (l p : Link) (forth back : List Frame) (n : Marks) (st : LinkState) (kind : Supervisory) (f : Bool) (nr now : ℕ) → l.state ≡ st → is_up st ≡ true → l.busy ≡ is_not_ready kind → n.s ≡ n.h → Joint g d k e l p forth back n → Count n.r back n.a nr
+kept_supervised : (g d k e : List (ArrayVec ℕ)) (l p : Link) (forth back : List Frame) (n : Marks) (st : LinkState) (kind : Supervisory) (f : Bool) (nr now : ℕ) → l.state ≡ st → is_link_up st ≡ true → l.busy ≡ is_not_ready kind → n.s ≡ n.h → Joint g d k e l p forth back n → Count n.r back n.a nr
     → KeptReady g d k e p forth back (hear_supervised true st l kind f nr now)
 kept_supervised g d k e l p forth back n Established kind f nr now u v b t j x = kept_guided g d k e (acknowledged l nr) p forth back (record n { a = x.c }) kind (nr == l.va) now (ap is_established u) b t (joint_acknowledged g d k e l p forth back n nr j t x)
 kept_supervised g d k e l p forth back n TimerRecovery kind f nr now u v b t j x = kept_recovered g d k e (acknowledged l nr) p forth back (record n { a = x.c }) f kind now b t (joint_acknowledged g d k e l p forth back n nr j t x)
@@ -223,7 +223,7 @@ joint_next g d k e l p forth rest n kind command poll nr j =
       into = flow_forth k d p.va p.vs p.queue l.vr (Numbered kind command poll nr ∷ rest) forth n.b n.t n.t n.q rest j.into j.into.comes;
     }
 
-kept_numbered : (g d k e : List (ArrayVec ℕ)) (l p : Link) (forth rest : List Frame) (n : Marks) (kind : Supervisory) (command poll : Bool) (nr now : ℕ) → is_up l.state ≡ true → n.s ≡ n.h → Joint g d k e l p forth (Numbered kind command poll nr ∷ rest) n
+kept_numbered : (g d k e : List (ArrayVec ℕ)) (l p : Link) (forth rest : List Frame) (n : Marks) (kind : Supervisory) (command poll : Bool) (nr now : ℕ) → is_link_up l.state ≡ true → n.s ≡ n.h → Joint g d k e l p forth (Numbered kind command poll nr ∷ rest) n
     → KeptReady g d k e p forth rest (hear_numbered l kind command poll nr now)
 kept_numbered g d k e l p forth rest n kind command poll nr now u t j =
     let o = j.out.confirms in
@@ -235,7 +235,7 @@ kept_numbered g d k e l p forth rest n kind command poll nr now u t j =
     let m = (answers (command && poll) b told).link in
     let second : KeptReady g first.dd k e p first.ff rest (hear_supervised (is_valid m nr) m.state m kind (not command && poll) nr now) =
     subst (λ v. KeptReady g first.dd k e p first.ff rest (hear_supervised v m.state m kind (not command && poll) nr now)) (sym (joint_valid g first.dd k e m p first.ff rest n nr first.joint t x))
-    (kept_supervised g first.dd k e m p first.ff rest n m.state kind (not command && poll) nr now refl (ap is_up (answers_state (command && poll) b told) ∙ u) (answers_busy (command && poll) b told) t first.joint x) in
+    (kept_supervised g first.dd k e m p first.ff rest n m.state kind (not command && poll) nr now refl (ap is_link_up (answers_state (command && poll) b told) ∙ u) (answers_busy (command && poll) b told) t first.joint x) in
     (second.0, mid_follows g d k e p forth rest (answers (command && poll) b told) (λ v. hear_supervised (is_valid v nr) v.state v kind (not command && poll) nr now) n second.0 first second.1, second.2)
 
 -- ---- what goes out after each row
@@ -247,9 +247,9 @@ mid_flushes g d k e l p forth back n now [] j st x y z =
     (n, mid_acknowledges g d k e l p forth back n l.owed j, omega arith)
 mid_flushes g d k e l p forth back n now (m ∷ ms) j st x y z =
     let o = flow_sent g e l.va l.vs l.queue p.vr forth back n.a n.s n.h n.r l.vr (m ∷ ms) j.out st x y z in
-    let i = flow_back k d p.va p.vs p.queue l.vr back forth n.b n.t n.t n.q (forth ++ numbered l.vs l.vr (m ∷ ms)) j.into (confirms_numbered n.b n.q forth l.vs l.vr (m ∷ ms) j.into.vr_is j.into.confirms) in (
+    let i = flow_back k d p.va p.vs p.queue l.vr back forth n.b n.t n.t n.q (forth ++ numbered_frames l.vs l.vr (m ∷ ms)) j.into (confirms_numbered n.b n.q forth l.vs l.vr (m ∷ ms) j.into.vr_is j.into.confirms) in (
       record n { s = n.s + length (m ∷ ms); h = n.s + length (m ∷ ms) },
-      record { dd = d; ff = forth ++ numbered l.vs l.vr (m ∷ ms); dd_is = sym (append-nil d); ff_is = refl; joint = record { out = o; into = i } },
+      record { dd = d; ff = forth ++ numbered_frames l.vs l.vr (m ∷ ms); dd_is = sym (append-nil d); ff_is = refl; joint = record { out = o; into = i } },
       refl,
     )
 
@@ -282,7 +282,7 @@ mid_flush g d k e l p forth back n now j ready = mid_chosen g d k e l p forth ba
 
 -- ---- a frame
 
-abbrev pub KeptTight : List (ArrayVec ℕ) → List (ArrayVec ℕ) → List (ArrayVec ℕ) → List (ArrayVec ℕ) → Link → List Frame → List Frame → Step → Type 0
+abbrev pub KeptTight : List (ArrayVec ℕ) → List (ArrayVec ℕ) → List (ArrayVec ℕ) → List (ArrayVec ℕ) → Link → List Frame → List Frame → LinkStep → Type 0
 KeptTight g d k e p forth back s = (n : Marks) × Mid g d k e p forth back s n × (n.s ≡ n.h)
 
 kept_information : (g d k e : List (ArrayVec ℕ)) (l p : Link) (forth rest : List Frame) (n : Marks) (poll : Bool) (ns nr : ℕ) (m : ArrayVec ℕ) (now : ℕ) → n.s ≡ n.h → Joint g d k e l p forth (Information poll ns nr m ∷ rest) n
@@ -296,18 +296,18 @@ kept_information g d k e l p forth rest n poll ns nr m now t j =
     let second = mid_number g first.dd k e v p first.ff rest (record n { q = one.0 }) nr now first.joint t x in
     (record n { q = one.0; a = x.c }, mid_follows g d k e p forth rest (hear_message (ns == l.vr) l poll m) (λ u. hear_number (is_valid u nr) u nr now) (record n { q = one.0 }) (record n { q = one.0; a = x.c }) first second, inl t)
 
-kept_heard : (g d k e : List (ArrayVec ℕ)) (l p : Link) (forth rest : List Frame) (n : Marks) (f : Frame) (now : ℕ) → is_up l.state ≡ true → n.s ≡ n.h → Joint g d k e l p forth (f ∷ rest) n → KeptReady g d k e p forth rest (heard l f now)
+kept_heard : (g d k e : List (ArrayVec ℕ)) (l p : Link) (forth rest : List Frame) (n : Marks) (f : Frame) (now : ℕ) → is_link_up l.state ≡ true → n.s ≡ n.h → Joint g d k e l p forth (f ∷ rest) n → KeptReady g d k e p forth rest (link_heard l f now)
 kept_heard g d k e l p forth rest n (Information poll ns nr m) now u t j =
     subst (λ (b : Bool). KeptReady g d k e p forth rest (if b then hear_information l poll ns nr m now else does l [] [])) (sym u) (kept_information g d k e l p forth rest n poll ns nr m now t j)
 kept_heard g d k e l p forth rest n (Numbered kind command poll nr) now u t j =
     subst (λ (b : Bool). KeptReady g d k e p forth rest (if b then hear_numbered l kind command poll nr now else does l [] [])) (sym u) (kept_numbered g d k e l p forth rest n kind command poll nr now u t j)
 kept_heard g d k e l p forth rest n (Plain kind poll) now u t j = absurd j.out.confirms
 
-pub kept_hear : (g d k e : List (ArrayVec ℕ)) (l p : Link) (forth rest : List Frame) (n : Marks) (f : Frame) (now : ℕ) → is_up l.state ≡ true → n.s ≡ n.h → Joint g d k e l p forth (f ∷ rest) n → KeptTight g d k e p forth rest (hear l f now)
+pub kept_hear : (g d k e : List (ArrayVec ℕ)) (l p : Link) (forth rest : List Frame) (n : Marks) (f : Frame) (now : ℕ) → is_link_up l.state ≡ true → n.s ≡ n.h → Joint g d k e l p forth (f ∷ rest) n → KeptTight g d k e p forth rest (hear l f now)
 kept_hear g d k e l p forth rest n f now u t j =
     let one = kept_heard g d k e l p forth rest n f now u t j in
-    let two = mid_flush g one.1.dd k e (heard l f now).link p one.1.ff rest one.0 now one.1.joint one.2 in
-    (two.0, mid_follows g d k e p forth rest (heard l f now) (flush now) one.0 two.0 one.1 two.1, two.2)
+    let two = mid_flush g one.1.dd k e (link_heard l f now).link p one.1.ff rest one.0 now one.1.joint one.2 in
+    (two.0, mid_follows g d k e p forth rest (link_heard l f now) (flush now) one.0 two.0 one.1 two.1, two.2)
 
 -- ---- a message that is given, and time
 
@@ -319,34 +319,34 @@ given_if g d k e l p forth back n true m now t j =
 given_if g d k e l p forth back n false m now t j =
     subst (λ xs. KeptTight xs d k e p forth back (does l [] [])) (sym (append-nil g)) (n, mid_same g d k e l p forth back n j, t)
 
-pub kept_give : (g d k e : List (ArrayVec ℕ)) (l p : Link) (forth back : List Frame) (n : Marks) (m : ArrayVec ℕ) (now : ℕ) → n.s ≡ n.h → Joint g d k e l p forth back n → KeptTight (g ++ (if takes l.state l then m ∷ [] else [])) d k e p forth back (give l m now)
-kept_give g d k e l p forth back n m now t j = given_if g d k e l p forth back n (takes l.state l) m now t j
+pub kept_give : (g d k e : List (ArrayVec ℕ)) (l p : Link) (forth back : List Frame) (n : Marks) (m : ArrayVec ℕ) (now : ℕ) → n.s ≡ n.h → Joint g d k e l p forth back n → KeptTight (g ++ (if takes_data l.state l then m ∷ [] else [])) d k e p forth back (give l m now)
+kept_give g d k e l p forth back n m now t j = given_if g d k e l p forth back n (takes_data l.state l) m now t j
 
 kept_enquires : (g d k e : List (ArrayVec ℕ)) (l p : Link) (forth back : List Frame) (n : Marks) (rc now : ℕ) → n.s ≡ n.h → Joint g d k e l p forth back n → KeptTight g d k e p forth back (enquires l rc now)
 kept_enquires g d k e l p forth back n rc now t j =
     let more = joint_sends g d k e l p forth back n ReceiveReady true true j in
     (n, record { dd = d; ff = forth ++ enquiry l ∷ []; dd_is = sym (append-nil d); ff_is = refl; joint = record { out = more.out; into = more.into } }, t)
 
-abbrev pub asks_again : Bool → Link → ℕ → Step
+abbrev pub asks_again : Bool → Link → ℕ → LinkStep
 asks_again b l now = if b then enquires l (l.rc + 1) now else does (establishing l false now) (Plain Sabme true ∷ []) (LinkError EnquiryUnanswered ∷ [])
 
-kept_asks : (g d k e : List (ArrayVec ℕ)) (l p : Link) (forth back : List Frame) (n : Marks) (b : Bool) (now : ℕ) → is_up (asks_again b l now).link.state ≡ true → n.s ≡ n.h → Joint g d k e l p forth back n → KeptTight g d k e p forth back (asks_again b l now)
+kept_asks : (g d k e : List (ArrayVec ℕ)) (l p : Link) (forth back : List Frame) (n : Marks) (b : Bool) (now : ℕ) → is_link_up (asks_again b l now).link.state ≡ true → n.s ≡ n.h → Joint g d k e l p forth back n → KeptTight g d k e p forth back (asks_again b l now)
 kept_asks g d k e l p forth back n true now u t j = kept_enquires g d k e l p forth back n (l.rc + 1) now t j
 kept_asks g d k e l p forth back n false now u t j = absurd (false≢true u)
 
-kept_expires : (g d k e : List (ArrayVec ℕ)) (l p : Link) (forth back : List Frame) (n : Marks) (st : LinkState) (now : ℕ) → is_up st ≡ true → is_up (expires st l now).link.state ≡ true → n.s ≡ n.h → Joint g d k e l p forth back n → KeptTight g d k e p forth back (expires st l now)
+kept_expires : (g d k e : List (ArrayVec ℕ)) (l p : Link) (forth back : List Frame) (n : Marks) (st : LinkState) (now : ℕ) → is_link_up st ≡ true → is_link_up (expires st l now).link.state ≡ true → n.s ≡ n.h → Joint g d k e l p forth back n → KeptTight g d k e p forth back (expires st l now)
 kept_expires g d k e l p forth back n Established now v u t j = kept_enquires g d k e l p forth back n (first_count l.timer) now t j
 kept_expires g d k e l p forth back n TimerRecovery now v u t j = kept_asks g d k e l p forth back n (nat_lt l.rc 3) now u t j
 kept_expires g d k e l p forth back n Assigned now v u t j = absurd (false≢true v)
 kept_expires g d k e l p forth back n AwaitingEstablishment now v u t j = absurd (false≢true v)
 kept_expires g d k e l p forth back n AwaitingRelease now v u t j = absurd (false≢true v)
 
-elapse_if : (g d k e : List (ArrayVec ℕ)) (l p : Link) (forth back : List Frame) (n : Marks) (b : Bool) (now : ℕ) → is_up l.state ≡ true → is_up (if b then expires l.state l now else does l [] []).link.state ≡ true → n.s ≡ n.h → Joint g d k e l p forth back n
+elapse_if : (g d k e : List (ArrayVec ℕ)) (l p : Link) (forth back : List Frame) (n : Marks) (b : Bool) (now : ℕ) → is_link_up l.state ≡ true → is_link_up (if b then expires l.state l now else does l [] []).link.state ≡ true → n.s ≡ n.h → Joint g d k e l p forth back n
     → KeptTight g d k e p forth back (if b then expires l.state l now else does l [] [])
 elapse_if g d k e l p forth back n true now v u t j = kept_expires g d k e l p forth back n l.state now v u t j
 elapse_if g d k e l p forth back n false now v u t j = (n, mid_same g d k e l p forth back n j, t)
 
-pub kept_elapse : (g d k e : List (ArrayVec ℕ)) (l p : Link) (forth back : List Frame) (n : Marks) (now : ℕ) → is_up l.state ≡ true → is_up (elapse l now).link.state ≡ true → n.s ≡ n.h → Joint g d k e l p forth back n → KeptTight g d k e p forth back (elapse l now)
+pub kept_elapse : (g d k e : List (ArrayVec ℕ)) (l p : Link) (forth back : List Frame) (n : Marks) (now : ℕ) → is_link_up l.state ≡ true → is_link_up (elapse l now).link.state ≡ true → n.s ≡ n.h → Joint g d k e l p forth back n → KeptTight g d k e p forth back (elapse l now)
 kept_elapse g d k e l p forth back n now v u t j = elapse_if g d k e l p forth back n (is_due l.timer now) now v u t j
 
 -- ---- a frame that is lost

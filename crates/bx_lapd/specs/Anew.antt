@@ -13,11 +13,11 @@ use Rattle.bx_lapd.specs.declared.words.LinkState.TheVariants.{AwaitingEstablish
 use Rattle.bx_lapd.specs.declared.words.Unnumbered.TheVariants as u
 use Rattle.bx_lapd.specs.declared.frame.Frame.{Frame}
 use Rattle.bx_lapd.specs.declared.frame.Frame.TheVariants.{Plain}
-use Rattle.bx_lapd.specs.Links.{is_up}
+use Rattle.bx_lapd.specs.Links.{is_link_up}
 use Rattle.bx_lapd.specs.Table.{is_due}
 use Rattle.bx_lapd.specs.Law.{IsInOrder}
 use Rattle.bx_lapd.specs.Once.{AreUnlinked}
-use Rattle.bx_lapd.specs.World.{World, EndEvent, Hears, Elapses, Releases, WorldEvent, AtNear, AtFar, at_near, swapped, world_after}
+use Rattle.bx_lapd.specs.World.{LinkWorld, EndEvent, Hears, Elapses, Releases, LinkWorldEvent, AtNear, AtFar, at_near, swapped, link_world_after}
 
 -- ---- from the last establishment on
 
@@ -31,41 +31,41 @@ abbrev pub is_begun_by_ua : LinkState → Bool
 is_begun_by_ua AwaitingEstablishment = true
 is_begun_by_ua _ = false
 
-abbrev pub begins_by : Frame → LinkState → Bool
-begins_by (Plain u.Sabme poll) state = is_begun_by_sabme state
-begins_by (Plain u.Ua true) state = is_begun_by_ua state
-begins_by _ state = false
+abbrev pub begins_link_by : Frame → LinkState → Bool
+begins_link_by (Plain u.Sabme poll) state = is_begun_by_sabme state
+begins_link_by (Plain u.Ua true) state = is_begun_by_ua state
+begins_link_by _ state = false
 
-abbrev pub begins : LinkState → List Frame → Bool
-begins state [] = false
-begins state (f ∷ fs) = begins_by f state
+abbrev pub begins_link : LinkState → List Frame → Bool
+begins_link state [] = false
+begins_link state (f ∷ fs) = begins_link_by f state
 
-abbrev pub renewed : Bool → World → World
+abbrev pub renewed : Bool → LinkWorld → LinkWorld
 renewed true w = record w { near_given = w.near.queue; near_got = [] }
 renewed false w = w
 
-abbrev pub near_since : World → EndEvent → World
-near_since w (Hears now) = renewed (begins w.near.state w.far_sent) (at_near w (Hears now))
+abbrev pub near_since : LinkWorld → EndEvent → LinkWorld
+near_since w (Hears now) = renewed (begins_link w.near.state w.far_sent) (at_near w (Hears now))
 near_since w e = at_near w e
 
 -- the world, in which given and got count so
-abbrev pub since_happens : World → WorldEvent → World
+abbrev pub since_happens : LinkWorld → LinkWorldEvent → LinkWorld
 since_happens w (AtNear e) = near_since w e
 since_happens w (AtFar e) = swapped (near_since (swapped w) e)
 
-abbrev pub since_after : List WorldEvent → World → World
+abbrev pub since_after : List LinkWorldEvent → LinkWorld → LinkWorld
 since_after [] w = w
 since_after (e ∷ es) w = since_after es (since_happens w e)
 
 -- the ends and the frames on the way are those of the world as it is
-pub record IsSameLink (w z : World) : Type 0 where
+pub record IsSameLink (w z : LinkWorld) : Type 0 where
   pub near : z.near ≡ w.near
   pub far : z.far ≡ w.far
   pub near_sent : z.near_sent ≡ w.near_sent
   pub far_sent : z.far_sent ≡ w.far_sent
 
 abbrev pub SameLinks : Type 0
-SameLinks = (w : World) (events : List WorldEvent) → IsSameLink (world_after events w) (since_after events w)
+SameLinks = (w : LinkWorld) (events : List LinkWorldEvent) → IsSameLink (link_world_after events w) (since_after events w)
 
 -- ---- the premise
 
@@ -77,30 +77,30 @@ abbrev pub is_ua : Frame → Bool
 is_ua (Plain u.Ua poll) = true
 is_ua _ = false
 
-abbrev pub frames_of : (Frame → Bool) → List Frame → ℕ
-frames_of test [] = 0
-frames_of test (f ∷ fs) = (if test f then 1 else 0) + frames_of test fs
+abbrev pub frames_counted : (Frame → Bool) → List Frame → ℕ
+frames_counted test [] = 0
+frames_counted test (f ∷ fs) = (if test f then 1 else 0) + frames_counted test fs
 
-abbrev pub IsTimely : World → EndEvent → Type 0
-IsTimely w (Elapses now) = w.near.state ≡ AwaitingEstablishment → is_due w.near.timer now ≡ true → frames_of is_sabme w.near_sent + frames_of is_ua w.far_sent ≡ 0
+abbrev pub IsTimely : LinkWorld → EndEvent → Type 0
+IsTimely w (Elapses now) = w.near.state ≡ AwaitingEstablishment → is_due w.near.timer now ≡ true → frames_counted is_sabme w.near_sent + frames_counted is_ua w.far_sent ≡ 0
 IsTimely w (Releases now) = ⊥
 IsTimely w _ = Unit {0}
 
-abbrev pub IsTimelyIn : World → WorldEvent → Type 0
+abbrev pub IsTimelyIn : LinkWorld → LinkWorldEvent → Type 0
 IsTimelyIn w (AtNear e) = IsTimely w e
 IsTimelyIn w (AtFar e) = IsTimely (swapped w) e
 
-abbrev pub AreTimely : List WorldEvent → World → Type 0
+abbrev pub AreTimely : List LinkWorldEvent → LinkWorld → Type 0
 AreTimely [] w = Unit {0}
 AreTimely (e ∷ es) w = IsTimelyIn w e × AreTimely es (since_happens w e)
 
 -- ---- the law
 
 -- neither end owes an acknowledgement
-pub record AreIdle (w : World) : Type 0 where
+pub record AreIdle (w : LinkWorld) : Type 0 where
   pub unlinked : AreUnlinked w
   pub near : w.near.owed ≡ false
   pub far : w.far.owed ≡ false
 
 abbrev pub Anew : Type 0
-Anew = (w : World) (events : List WorldEvent) → AreIdle w → AreTimely events w → is_up (since_after events w).near.state ≡ true → is_up (since_after events w).far.state ≡ true → IsInOrder (since_after events w) × IsInOrder (swapped (since_after events w))
+Anew = (w : LinkWorld) (events : List LinkWorldEvent) → AreIdle w → AreTimely events w → is_link_up (since_after events w).near.state ≡ true → is_link_up (since_after events w).far.state ≡ true → IsInOrder (since_after events w) × IsInOrder (swapped (since_after events w))

@@ -5,15 +5,15 @@ use Rattle.arrayvec.specs.ArrayVec.{ArrayVec}
 use Rattle.bx_lapd.specs.declared.words.ErrorCode.{ErrorCode}
 use Rattle.bx_lapd.specs.declared.frame.Frame.{Frame}
 use Rattle.bx_lapd.specs.declared.frame.Frame.TheVariants.{Information, Numbered, Plain}
-use Rattle.bx_lapd.specs.Links.{Link, Step, outstanding, is_up}
+use Rattle.bx_lapd.specs.Links.{Link, LinkStep, outstanding, is_link_up}
 use Rattle.bx_lapd.specs.Table.{establish, release, give, elapse, hear, hear_fault}
 
 -- N201: a message has at most 260 octets, so a frame has at most 264 before its check sequence
-abbrev pub IsMessage : ArrayVec ℕ → Type 0
-IsMessage m = length m.items ≤ 260
+abbrev pub IsShortEnough : ArrayVec ℕ → Type 0
+IsShortEnough m = length m.items ≤ 260
 
 abbrev pub IsFrame : Frame → Type 0
-IsFrame (Information poll ns nr m) = (ns < 128) × (nr < 128) × IsMessage m
+IsFrame (Information poll ns nr m) = (ns < 128) × (nr < 128) × IsShortEnough m
 IsFrame (Numbered kind command poll nr) = nr < 128
 IsFrame (Plain kind poll) = Unit {0}
 
@@ -24,23 +24,23 @@ pub record IsLink (l : Link) : Type 0 where
   pub rc : l.rc ≤ 3
   -- at most k = 7 I frames are outstanding, and while the link is up all of them are kept
   pub window : outstanding l ≤ 7
-  pub held : is_up l.state ≡ true → outstanding l ≤ length l.queue
+  pub held : is_link_up l.state ≡ true → outstanding l ≤ length l.queue
   pub few : length l.queue ≤ 32
-  pub messages : AllByRecursion IsMessage l.queue
+  pub messages : AllByRecursion IsShortEnough l.queue
 
-pub record IsStep (s : Step) : Type 0 where
+pub record IsBoundedStep (s : LinkStep) : Type 0 where
   pub link : IsLink s.link
   pub frames : AllByRecursion IsFrame s.frames
   pub few : length s.frames ≤ 9
 
 -- what each call does with a link within its limits
 pub record StaysWithin (l : Link) (now : ℕ) : Type 0 where
-  pub establish : IsStep (establish l.state l now)
-  pub release : IsStep (release l.state l now)
-  pub give : (m : ArrayVec ℕ) → IsMessage m → IsStep (give l m now)
-  pub elapse : IsStep (elapse l now)
-  pub hear : (f : Frame) → IsFrame f → IsStep (hear l f now)
-  pub hear_fault : (code : ErrorCode) → IsStep (hear_fault l code now)
+  pub establish : IsBoundedStep (establish l.state l now)
+  pub release : IsBoundedStep (release l.state l now)
+  pub give : (m : ArrayVec ℕ) → IsShortEnough m → IsBoundedStep (give l m now)
+  pub elapse : IsBoundedStep (elapse l now)
+  pub hear : (f : Frame) → IsFrame f → IsBoundedStep (hear l f now)
+  pub hear_fault : (code : ErrorCode) → IsBoundedStep (hear_fault l code now)
 
 abbrev pub Within : Type 0
 Within = (l : Link) (now : ℕ) → IsLink l → StaysWithin l now

@@ -17,11 +17,11 @@ use Rattle.arrayvec.specs.ArrayVec.{ArrayVec}
 use Rattle.bx_lapd.specs.declared.words.LinkState.TheVariants.{Established}
 use Rattle.bx_lapd.specs.declared.frame.Frame.{Frame}
 use Rattle.bx_lapd.specs.declared.frame.Frame.TheVariants.{Information, Numbered, Plain}
-use Rattle.bx_lapd.specs.Links.{Link, outstanding, is_valid, is_up}
-use Rattle.bx_lapd.specs.World.{World, WorldEvent, world_happens, world_after, swapped}
+use Rattle.bx_lapd.specs.Links.{Link, outstanding, is_valid, is_link_up}
+use Rattle.bx_lapd.specs.World.{LinkWorld, LinkWorldEvent, link_world_happens, link_world_after, swapped}
 
 -- an end that has just been established
-pub record IsBegun (l : Link) (given got : List (ArrayVec ℕ)) : Type 0 where
+pub record IsJustEstablished (l : Link) (given got : List (ArrayVec ℕ)) : Type 0 where
   pub state : l.state ≡ Established
   pub vs : l.vs ≡ 0
   pub va : l.va ≡ 0
@@ -29,16 +29,16 @@ pub record IsBegun (l : Link) (given got : List (ArrayVec ℕ)) : Type 0 where
   pub waiting : l.queue ≡ given
   pub nothing : got ≡ []
 
-pub record IsOpening (w : World) : Type 0 where
-  pub near : IsBegun w.near w.near_given w.near_got
-  pub far : IsBegun w.far w.far_given w.far_got
+pub record IsLinkOpening (w : LinkWorld) : Type 0 where
+  pub near : IsJustEstablished w.near w.near_given w.near_got
+  pub far : IsJustEstablished w.far w.far_given w.far_got
   pub near_empty : w.near_sent ≡ []
   pub far_empty : w.far_sent ≡ []
 
 -- neither end leaves states 7 and 8
-abbrev pub StaysUp : List WorldEvent → World → Type 0
+abbrev pub StaysUp : List LinkWorldEvent → LinkWorld → Type 0
 StaysUp [] w = Unit {0}
-StaysUp (e ∷ es) w = (is_up (world_happens w e).near.state ≡ true) × (is_up (world_happens w e).far.state ≡ true) × StaysUp es (world_happens w e)
+StaysUp (e ∷ es) w = (is_link_up (link_world_happens w e).near.state ≡ true) × (is_link_up (link_world_happens w e).far.state ≡ true) × StaysUp es (link_world_happens w e)
 
 abbrev pub IsFirstValid : Link → List Frame → Type 0
 IsFirstValid l [] = Unit {0}
@@ -47,11 +47,11 @@ IsFirstValid l (Numbered kind command poll nr ∷ fs) = is_valid l nr ≡ true
 IsFirstValid l (Plain kind poll ∷ fs) = ⊥
 
 -- of the messages from the near end to the far end
-pub record IsInOrder (w : World) : Type 0 where
+pub record IsInOrder (w : LinkWorld) : Type 0 where
   pub prefix : w.far_got ≡ take (length w.far_got) w.near_given
   pub kept : (a : ℕ) × (w.near.queue ≡ drop a w.near_given) × (a ≤ length w.far_got)
   pub few : outstanding w.near ≤ 7
   pub valid : IsFirstValid w.near w.far_sent
 
 abbrev pub InOrder : Type 0
-InOrder = (w : World) (events : List WorldEvent) → IsOpening w → StaysUp events w → IsInOrder (world_after events w) × IsInOrder (swapped (world_after events w))
+InOrder = (w : LinkWorld) (events : List LinkWorldEvent) → IsLinkOpening w → StaysUp events w → IsInOrder (link_world_after events w) × IsInOrder (swapped (link_world_after events w))

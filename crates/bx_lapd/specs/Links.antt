@@ -65,23 +65,23 @@ pub record Did : Type 0 where
   pub told : List Indication
 
 -- what a row does: the link after it, the frames that it sends, and what it tells
-pub record Step : Type 0 where
+pub record LinkStep : Type 0 where
   pub link : Link
   pub frames : List Frame
   pub told : List Indication
 
-abbrev pub does : Link → List Frame → List Indication → Step
+abbrev pub does : Link → List Frame → List Indication → LinkStep
 does l frames told = record { link = l; frames = frames; told = told }
 
 -- a call has taken just this step
-pub record Makes (s : Step) (l : Link) (d : Did) : Type 0 where
+pub record Makes (s : LinkStep) (l : Link) (d : Did) : Type 0 where
   pub link : l ≡ s.link
   pub frames : d.frames ≡ s.frames
   pub told : d.told ≡ s.told
 
 -- one row, and then another
-abbrev pub follows : Step → (Link → Step) → Step
-follows s f = record { link = (f s.link).link; frames = s.frames ++ (f s.link).frames; told = s.told ++ (f s.link).told }
+abbrev pub follows_step : LinkStep → (Link → LinkStep) → LinkStep
+follows_step s f = record { link = (f s.link).link; frames = s.frames ++ (f s.link).frames; told = s.told ++ (f s.link).told }
 
 -- ---- numbers modulo 128
 
@@ -108,9 +108,9 @@ abbrev pub enquiry : Link → Frame
 enquiry l = Numbered ReceiveReady true true l.vr
 
 -- the messages as I frames with the numbers from this on
-abbrev pub numbered : ℕ → ℕ → List (ArrayVec ℕ) → List Frame
-numbered ns nr [] = []
-numbered ns nr (m ∷ ms) = Information false ns nr m ∷ numbered ((ns + 1) % 128) nr ms
+abbrev pub numbered_frames : ℕ → ℕ → List (ArrayVec ℕ) → List Frame
+numbered_frames ns nr [] = []
+numbered_frames ns nr (m ∷ ms) = Information false ns nr m ∷ numbered_frames ((ns + 1) % 128) nr ms
 
 -- ---- links that change
 
@@ -118,12 +118,12 @@ numbered ns nr (m ∷ ms) = Information false ns nr m ∷ numbered ((ns + 1) % 1
 abbrev pub establishing : Link → Bool → ℕ → Link
 establishing l asked now = record l { state = AwaitingEstablishment; rc = 0; asked = asked; busy = false; rejected = false; owed = false; timer = T200 (now + t200) }
 
-abbrev pub establishes : Link → Bool → ℕ → Step
+abbrev pub establishes : Link → Bool → ℕ → LinkStep
 establishes l asked now = does (establishing l asked now) (Plain Sabme true ∷ []) []
 
 -- multiple frame operation begins
-abbrev pub begun : Link → ℕ → Link
-begun l now = record l { state = Established; vs = 0; va = 0; vr = 0; busy = false; rejected = false; owed = false; timer = T203 (now + t203) }
+abbrev pub begun_link : Link → ℕ → Link
+begun_link l now = record l { state = Established; vs = 0; va = 0; vr = 0; busy = false; rejected = false; owed = false; timer = T203 (now + t203) }
 
 abbrev pub assigned : Link → Link
 assigned l = record l { state = Assigned; busy = false; rejected = false; owed = false; timer = Stopped }
@@ -136,7 +136,7 @@ abbrev pub acknowledged : Link → ℕ → Link
 acknowledged l nr = record l { va = nr; queue = drop (ahead l.va nr) l.queue }
 
 -- N(R) error recovery (5.8.5)
-abbrev pub wrong_number : Link → ℕ → Step
+abbrev pub wrong_number : Link → ℕ → LinkStep
 wrong_number l now = does (establishing l false now) (Plain Sabme true ∷ []) (LinkError WrongNumber ∷ [])
 
 abbrev pub is_established : LinkState → Bool
@@ -148,10 +148,10 @@ is_recovering TimerRecovery = true
 is_recovering _ = false
 
 -- states 7 and 8
-abbrev pub is_up : LinkState → Bool
-is_up Established = true
-is_up TimerRecovery = true
-is_up _ = false
+abbrev pub is_link_up : LinkState → Bool
+is_link_up Established = true
+is_link_up TimerRecovery = true
+is_link_up _ = false
 
 -- T200 is started where it does not run
 abbrev pub running : Timer → ℕ → Timer
@@ -165,13 +165,13 @@ abbrev pub sendable : Link → List (ArrayVec ℕ)
 sendable l = if is_established l.state && not l.busy then take (7 - outstanding l) (drop (outstanding l) l.queue) else []
 
 -- an acknowledgement that no I frame carried
-abbrev pub acknowledges : Link → Bool → Step
+abbrev pub acknowledges : Link → Bool → LinkStep
 acknowledges l true = does (record l { owed = false }) (Numbered ReceiveReady false false l.vr ∷ []) []
 acknowledges l false = does l [] []
 
-abbrev pub flushes : Link → ℕ → List (ArrayVec ℕ) → Step
+abbrev pub flushes : Link → ℕ → List (ArrayVec ℕ) → LinkStep
 flushes l now [] = acknowledges l l.owed
-flushes l now (m ∷ ms) = does (record l { vs = (l.vs + length (m ∷ ms)) % 128; owed = false; timer = running l.timer now }) (numbered l.vs l.vr (m ∷ ms)) []
+flushes l now (m ∷ ms) = does (record l { vs = (l.vs + length (m ∷ ms)) % 128; owed = false; timer = running l.timer now }) (numbered_frames l.vs l.vr (m ∷ ms)) []
 
-abbrev pub flush : ℕ → Link → Step
+abbrev pub flush : ℕ → Link → LinkStep
 flush now l = flushes l now (sendable l)

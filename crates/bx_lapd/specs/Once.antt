@@ -10,7 +10,7 @@ use Rattle.std.specs.Prelude.{◌≡◌, ◌⊎◌, ℕ, ◌<◌, List, [], ◌�
 use Rattle.arrayvec.specs.ArrayVec.{ArrayVec}
 use Rattle.bx_lapd.specs.declared.words.LinkState.TheVariants.{Assigned}
 use Rattle.bx_lapd.specs.Links.{Link}
-use Rattle.bx_lapd.specs.World.{World, WorldEvent, world_after}
+use Rattle.bx_lapd.specs.World.{LinkWorld, LinkWorldEvent, link_world_after}
 
 -- the first list is a part of the second one, in its order
 abbrev pub IsPartOf : List (ArrayVec ℕ) → List (ArrayVec ℕ) → Type 0
@@ -26,11 +26,11 @@ pub record IsUnlinked (l : Link) (given got : List (ArrayVec ℕ)) : Type 0 wher
   pub none_given : given ≡ []
   pub none_got : got ≡ []
 
-pub record AreUnlinked (w : World) : Type 0 where
+pub record AreUnlinked (w : LinkWorld) : Type 0 where
   pub near : IsUnlinked w.near w.near_given w.near_got
   pub far : IsUnlinked w.far w.far_given w.far_got
   pub near_empty : w.near_sent ≡ []
   pub far_empty : w.far_sent ≡ []
 
 abbrev pub Once : Type 0
-Once = (w : World) (events : List WorldEvent) → AreUnlinked w → IsPartOf (world_after events w).far_got (world_after events w).near_given × IsPartOf (world_after events w).near_got (world_after events w).far_given
+Once = (w : LinkWorld) (events : List LinkWorldEvent) → AreUnlinked w → IsPartOf (link_world_after events w).far_got (link_world_after events w).near_given × IsPartOf (link_world_after events w).near_got (link_world_after events w).far_given

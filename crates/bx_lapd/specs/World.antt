@@ -4,12 +4,12 @@
 use Rattle.std.specs.Prelude.{ℕ, List, [], ◌∷◌, ◌++◌, if◌then◌else◌}
 use Rattle.arrayvec.specs.ArrayVec.{ArrayVec}
 use Rattle.bx_lapd.specs.declared.frame.Frame.{Frame}
-use Rattle.bx_lapd.specs.Links.{Link, Step}
+use Rattle.bx_lapd.specs.Links.{Link, LinkStep}
 use Rattle.bx_lapd.specs.declared.indication.Indication.{Indication}
 use Rattle.bx_lapd.specs.declared.indication.Indication.TheVariants.{LinkEstablished, LinkReleased, Delivered, LinkError}
-use Rattle.bx_lapd.specs.Table.{establish, release, takes, give, hear, elapse}
+use Rattle.bx_lapd.specs.Table.{establish, release, takes_data, give, hear, elapse}
 
-pub record World : Type 0 where
+pub record LinkWorld : Type 0 where
   pub near : Link
   pub far : Link
   -- what each sent and has not come: the first is the oldest
@@ -29,9 +29,9 @@ pub data EndEvent : Type 0 where
   Asks : (now : ℕ) → EndEvent
   Releases : (now : ℕ) → EndEvent
 
-pub data WorldEvent : Type 0 where
-  AtNear : (e : EndEvent) → WorldEvent
-  AtFar : (e : EndEvent) → WorldEvent
+pub data LinkWorldEvent : Type 0 where
+  AtNear : (e : EndEvent) → LinkWorldEvent
+  AtFar : (e : EndEvent) → LinkWorldEvent
 
 abbrev pub messages_of : List Indication → List (ArrayVec ℕ)
 messages_of [] = []
@@ -41,32 +41,32 @@ messages_of (LinkReleased ∷ told) = messages_of told
 messages_of (LinkError code ∷ told) = messages_of told
 
 -- the near end has done this
-abbrev pub becomes : World → Step → World
-becomes w s = record w { near = s.link; near_sent = w.near_sent ++ s.frames; near_got = w.near_got ++ messages_of s.told }
+abbrev pub near_becomes : LinkWorld → LinkStep → LinkWorld
+near_becomes w s = record w { near = s.link; near_sent = w.near_sent ++ s.frames; near_got = w.near_got ++ messages_of s.told }
 
-abbrev pub comes : World → List Frame → ℕ → World
+abbrev pub comes : LinkWorld → List Frame → ℕ → LinkWorld
 comes w [] now = w
-comes w (f ∷ rest) now = becomes (record w { far_sent = rest }) (hear w.near f now)
+comes w (f ∷ rest) now = near_becomes (record w { far_sent = rest }) (hear w.near f now)
 
-abbrev pub lost : World → List Frame → World
-lost w [] = w
-lost w (f ∷ rest) = record w { near_sent = rest }
+abbrev pub frames_lost : LinkWorld → List Frame → LinkWorld
+frames_lost w [] = w
+frames_lost w (f ∷ rest) = record w { near_sent = rest }
 
-abbrev pub at_near : World → EndEvent → World
-at_near w (Gives m now) = becomes (record w { near_given = w.near_given ++ (if takes w.near.state w.near then m ∷ [] else []) }) (give w.near m now)
+abbrev pub at_near : LinkWorld → EndEvent → LinkWorld
+at_near w (Gives m now) = near_becomes (record w { near_given = w.near_given ++ (if takes_data w.near.state w.near then m ∷ [] else []) }) (give w.near m now)
 at_near w (Hears now) = comes w w.far_sent now
-at_near w Loses = lost w w.near_sent
-at_near w (Elapses now) = becomes w (elapse w.near now)
-at_near w (Asks now) = becomes w (establish w.near.state w.near now)
-at_near w (Releases now) = becomes w (release w.near.state w.near now)
+at_near w Loses = frames_lost w w.near_sent
+at_near w (Elapses now) = near_becomes w (elapse w.near now)
+at_near w (Asks now) = near_becomes w (establish w.near.state w.near now)
+at_near w (Releases now) = near_becomes w (release w.near.state w.near now)
 
-abbrev pub swapped : World → World
+abbrev pub swapped : LinkWorld → LinkWorld
 swapped w = record { near = w.far; far = w.near; near_sent = w.far_sent; far_sent = w.near_sent; near_given = w.far_given; far_given = w.near_given; near_got = w.far_got; far_got = w.near_got }
 
-abbrev pub world_happens : World → WorldEvent → World
-world_happens w (AtNear e) = at_near w e
-world_happens w (AtFar e) = swapped (at_near (swapped w) e)
+abbrev pub link_world_happens : LinkWorld → LinkWorldEvent → LinkWorld
+link_world_happens w (AtNear e) = at_near w e
+link_world_happens w (AtFar e) = swapped (at_near (swapped w) e)
 
-abbrev pub world_after : List WorldEvent → World → World
-world_after [] w = w
-world_after (e ∷ es) w = world_after es (world_happens w e)
+abbrev pub link_world_after : List LinkWorldEvent → LinkWorld → LinkWorld
+link_world_after [] w = w
+link_world_after (e ∷ es) w = link_world_after es (link_world_happens w e)

@@ -3,7 +3,7 @@
 ghost use Rattle.std.specs.Prelude.{◌≡◌, ◌<◌, ◌≤◌, ◌^◌, ◌+◌, length, [], true};
 ghost use Rattle.bx_lapd.specs.Rows.{IsRow};
 ghost use Rattle.bx_lapd.specs.Links.{Makes};
-ghost use Rattle.bx_lapd.specs.Table.{establish, release, takes, give, is_due, due_of, enquires, expires, elapse, heard, hear, hear_fault};
+ghost use Rattle.bx_lapd.specs.Table.{establish, release, takes_data, give, is_due, due_of, enquires, expires, elapse, link_heard, hear, hear_fault};
 
 use crate::data_link::{DataLink, T200};
 use crate::done::Done;
@@ -80,7 +80,7 @@ impl DataLink {
 
     /// Whether a message would be taken: the link is up or comes back by itself, and fewer than 32 wait.
     pub fn takes(&self) -> bool
-        ensures { result ≡ takes self.now.state self.now }
+        ensures { result ≡ takes_data self.now.state self.now }
     {
         match self.state {
             LinkState::Established | LinkState::TimerRecovery => self.queue.len() < 32,
@@ -204,7 +204,7 @@ impl DataLink {
         requires now { now < 2 ^ 62 }
         requires frames { out.old.frames ≡ [] }
         requires told { out.old.told ≡ [] }
-        ensures step { Makes (heard self.old frame now) self.new out.new }
+        ensures step { Makes (link_heard self.old frame now) self.new out.new }
         ensures few { length out.new.frames ≤ 2 }
     {
         match frame {

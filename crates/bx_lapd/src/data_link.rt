@@ -68,7 +68,7 @@ pub(crate) fn copied(message: &Octets) -> Octets
 }
 
 impl DataLink {
-    ghost use Rattle.bx_lapd.specs.Links.{outstanding, is_valid, establishing, begun, assigned, discarded, acknowledged};
+    ghost use Rattle.bx_lapd.specs.Links.{outstanding, is_valid, establishing, begun_link, assigned, discarded, acknowledged};
     ghost use Rattle.bx_lapd.specs.Bounds.{IsLink};
     ghost use Rattle.bx_lapd.specs.Once.{IsUnlinked};
 
@@ -121,7 +121,7 @@ impl DataLink {
 
     pub(crate) fn begin(&mut self, now: u64)
         requires { now < 2 ^ 62 }
-        ensures { self.new ≡ begun self.old now }
+        ensures { self.new ≡ begun_link self.old now }
     {
         self.state = LinkState::Established;
         self.vs = 0;

@@ -1,8 +1,8 @@
 //! An end of a D channel: a link with the octets of its frames.
 
 ghost use Rattle.std.specs.Prelude.{◌≡◌, ◌+◌, ◌<◌, ◌≤◌, ◌^◌, [], min, length};
-ghost use Rattle.bx_lapd.specs.Links.{Makes, is_up};
-ghost use Rattle.bx_lapd.specs.Table.{establish, release, takes, give, elapse, due_of};
+ghost use Rattle.bx_lapd.specs.Links.{Makes, is_link_up};
+ghost use Rattle.bx_lapd.specs.Table.{establish, release, takes_data, give, elapse, due_of};
 ghost use Rattle.bx_lapd.specs.Codec.{read_octets};
 ghost use Rattle.bx_lapd.specs.Endpoints.{hear_octets, is_dropped};
 ghost use Rattle.bx_lapd.specs.Once.{IsUnlinked};
@@ -63,7 +63,7 @@ impl Endpoint {
 
     /// Whether the link is up: states 7 and 8.
     pub fn is_up(&self) -> bool
-        ensures { result ≡ is_up self.now.link.state }
+        ensures { result ≡ is_link_up self.now.link.state }
     {
         self.link.is_up()
     }
@@ -95,7 +95,7 @@ impl Endpoint {
 
     /// Whether a message would be taken.
     pub fn takes(&self) -> bool
-        ensures { result ≡ takes self.now.link.state self.now.link }
+        ensures { result ≡ takes_data self.now.link.state self.now.link }
     {
         self.link.takes()
     }

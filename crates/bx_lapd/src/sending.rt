@@ -1,7 +1,7 @@
 //! What goes out after each row: the messages that the window has room for, or an acknowledgement.
 
 ghost use Rattle.std.specs.Prelude.{◌≡◌, ◌+◌, ◌<◌, ◌≤◌, ◌^◌, ◌++◌, length, take, drop};
-ghost use Rattle.bx_lapd.specs.Links.{numbered, running, sendable, flush};
+ghost use Rattle.bx_lapd.specs.Links.{numbered_frames, running, sendable, flush};
 
 use crate::data_link::{DataLink, T200, copied};
 use crate::done::Done;
@@ -12,7 +12,7 @@ use bx_q931::Octets;
 /// The messages as I frames with the numbers from this on.
 fn send_numbered(messages: &[Octets], sent: u8, received: u8, out: &mut Done)
     requires { length out.old.frames + length messages.now ≤ 9 }
-    ensures frames { out.new.frames ≡ out.old.frames ++ numbered sent received messages.now }
+    ensures frames { out.new.frames ≡ out.old.frames ++ numbered_frames sent received messages.now }
     ensures told { out.new.told ≡ out.old.told }
 {
     let mut next = sent;

@@ -2,8 +2,8 @@
 
 ghost use Rattle.std.specs.Prelude.{◌≡◌, ◌+◌, ◌<◌, ◌^◌, ◌==◌, ◌&&◌, not, true, []};
 ghost use Rattle.bx_lapd.specs.Rows.{IsRow};
-ghost use Rattle.bx_lapd.specs.Links.{is_valid, is_up};
-ghost use Rattle.bx_lapd.specs.Table.{answers, unasked, is_not_ready, guided, recovered, hear_supervised};
+ghost use Rattle.bx_lapd.specs.Links.{is_valid, is_link_up};
+ghost use Rattle.bx_lapd.specs.Table.{answers, unasked, is_not_ready, guided, recovered_link, hear_supervised};
 
 use crate::data_link::{DataLink, T200, T203};
 use crate::indication::Indication;
@@ -53,7 +53,7 @@ impl DataLink {
     /// State 8, after the acknowledgement.
     fn recover(&mut self, last: bool, kind: Supervisory, now: u64)
         requires { now < 2 ^ 62 }
-        ensures { self.new ≡ recovered last kind self.old now }
+        ensures { self.new ≡ recovered_link last kind self.old now }
     {
         match (last, kind) {
             (false, _) => {}

@@ -2,7 +2,7 @@
 
 ghost use Rattle.std.specs.Prelude.{◌≡◌, ◌<◌, ◌^◌, ◌==◌, true};
 ghost use Rattle.bx_lapd.specs.Rows.{IsRow};
-ghost use Rattle.bx_lapd.specs.Links.{is_up};
+ghost use Rattle.bx_lapd.specs.Links.{is_link_up};
 ghost use Rattle.bx_lapd.specs.Table.{established_anew, confirmed, hear_sabme, hear_disc, hear_ua, hear_dm, fails, hear_plain, hear_fault};
 
 use crate::data_link::DataLink;
@@ -13,7 +13,7 @@ use crate::words::{ErrorCode, LinkState, Unnumbered};
 impl DataLink {
     /// States 7 and 8.
     pub fn is_up(&self) -> bool
-        ensures { result ≡ is_up self.now.state }
+        ensures { result ≡ is_link_up self.now.state }
     {
         match self.state {
             LinkState::Established | LinkState::TimerRecovery => true,

@@ -10,14 +10,14 @@ use Rattle.bx_base.specs.Sums.{sum_below}
 use Rattle.bx_base.proofs.SumLemmas.{sum_below-add, sum_below-same, sum_below-zero}
 use Rattle.bx_line.specs.declared.arc.Arc.{Arc}
 use Rattle.bx_line.specs.Network.{Network, IsNetwork, places_of, arc_at, spans}
-use Rattle.bx_line.specs.Flows.{Flow, IsFlow, CrossesEachGap, is_carried, idle_at, out_of, into, crossing_at}
+use Rattle.bx_line.specs.Flows.{Flow, IsFlow, CrossesEachGap, carries_unit, idle_at, out_of, into, crossing_at}
 
 -- how many carried rows start at a place, and how many end there
 abbrev pub starts_at : Network → Flow → ℕ → ℕ
-starts_at line flow v = sum_below (length line.arcs) (λ i. cond (is_carried flow i && eqb (arc_at line i).from v) 1 0)
+starts_at line flow v = sum_below (length line.arcs) (λ i. cond (carries_unit flow i && eqb (arc_at line i).from v) 1 0)
 
 abbrev pub ends_at : Network → Flow → ℕ → ℕ
-ends_at line flow v = sum_below (length line.arcs) (λ i. cond (is_carried flow i && eqb (arc_at line i).to v) 1 0)
+ends_at line flow v = sum_below (length line.arcs) (λ i. cond (carries_unit flow i && eqb (arc_at line i).to v) 1 0)
 
 one_arc : (b : Bool) (arc : Arc) (v : ℕ) → arc.from < arc.to → cond (b && spans arc (v + 1)) 1 0 + cond (b && eqb arc.to (v + 1)) 1 0 ≡ cond (b && spans arc v) 1 0 + cond (b && eqb arc.from (v + 1)) 1 0
 one_arc true arc v h = grind (arith, nat_tests)
@@ -47,17 +47,17 @@ module _ (line : Network) (flow : Flow) (network : IsNetwork line) where
   next_gap : (v : ℕ) → crossing_at line flow (v + 1) + ends_at line flow (v + 1) ≡ crossing_at line flow v + starts_at line flow (v + 1)
   next_gap v =
       let n = length line.arcs in
-      let over = λ (u i : ℕ). cond {A = ℕ} (is_carried flow i && spans (arc_at line i) u) 1 0 in
-      let start = λ (i : ℕ). cond {A = ℕ} (is_carried flow i && eqb (arc_at line i).from (v + 1)) 1 0 in
-      let end = λ (i : ℕ). cond {A = ℕ} (is_carried flow i && eqb (arc_at line i).to (v + 1)) 1 0 in
-      let each = sum_below-same n (λ i. over (v + 1) i + end i) (λ i. over v i + start i) (λ i h. one_arc (is_carried flow i) (arc_at line i) v (network.arcs i h).rising) in
+      let over = λ (u i : ℕ). cond {A = ℕ} (carries_unit flow i && spans (arc_at line i) u) 1 0 in
+      let start = λ (i : ℕ). cond {A = ℕ} (carries_unit flow i && eqb (arc_at line i).from (v + 1)) 1 0 in
+      let end = λ (i : ℕ). cond {A = ℕ} (carries_unit flow i && eqb (arc_at line i).to (v + 1)) 1 0 in
+      let each = sum_below-same n (λ i. over (v + 1) i + end i) (λ i. over v i + start i) (λ i h. one_arc (carries_unit flow i) (arc_at line i) v (network.arcs i h).rising) in
       omega (arith, each, sum_below-add n (over (v + 1)) end, sum_below-add n (over v) start)
 
   first_gap : crossing_at line flow 0 ≡ starts_at line flow 0
-  first_gap = sum_below-same (length line.arcs) (λ i. cond (is_carried flow i && spans (arc_at line i) 0) 1 0) (λ i. cond (is_carried flow i && eqb (arc_at line i).from 0) 1 0) (λ i h. first_arc (is_carried flow i) (arc_at line i) (network.arcs i h).rising)
+  first_gap = sum_below-same (length line.arcs) (λ i. cond (carries_unit flow i && spans (arc_at line i) 0) 1 0) (λ i. cond (carries_unit flow i && eqb (arc_at line i).from 0) 1 0) (λ i h. first_arc (carries_unit flow i) (arc_at line i) (network.arcs i h).rising)
 
   last_gap : (v : ℕ) → places_of line ≡ v + 2 → crossing_at line flow v ≡ ends_at line flow (v + 1)
-  last_gap v e = sum_below-same (length line.arcs) (λ i. cond (is_carried flow i && spans (arc_at line i) v) 1 0) (λ i. cond (is_carried flow i && eqb (arc_at line i).to (v + 1)) 1 0) (λ i h. last_arc (is_carried flow i) (arc_at line i) v (network.arcs i h).rising (subst (λ n. (arc_at line i).to < n) e (network.arcs i h).within))
+  last_gap v e = sum_below-same (length line.arcs) (λ i. cond (carries_unit flow i && spans (arc_at line i) v) 1 0) (λ i. cond (carries_unit flow i && eqb (arc_at line i).to (v + 1)) 1 0) (λ i h. last_arc (carries_unit flow i) (arc_at line i) v (network.arcs i h).rising (subst (λ n. (arc_at line i).to < n) e (network.arcs i h).within))
 
   -- a line with fewer than two places has no rows
   no_rows : places_of line < 2 → (i : ℕ) → i < length line.arcs → ⊥
@@ -78,7 +78,7 @@ module _ (line : Network) (flow : Flow) (network : IsNetwork line) where
         crosses = crossed f;
         no_gap = λ few.
             let idle = cond-false (ltb (0 + 1) (places_of line)) (idle_at flow 0) 0 (grind (arith, nat_tests)) in
-            let rows = sum_below-zero (length line.arcs) (λ i. cond (is_carried flow i && eqb (arc_at line i).from 0) 1 0) (λ i h. absurd (no_rows few i h)) in
+            let rows = sum_below-zero (length line.arcs) (λ i. cond (carries_unit flow i && eqb (arc_at line i).from 0) 1 0) (λ i h. absurd (no_rows few i h)) in
             omega (arith, f.leaves, idle, rows);
       }
 
@@ -87,7 +87,7 @@ module _ (line : Network) (flow : Flow) (network : IsNetwork line) where
       elim (cases_lt (places_of line) 2) [
         | inl few ↦ (
             let idle = cond-false (ltb (0 + 1) (places_of line)) (idle_at flow 0) 0 (grind (arith, nat_tests)) in
-            let rows = sum_below-zero (length line.arcs) (λ i. cond (is_carried flow i && eqb (arc_at line i).from 0) 1 0) (λ i h. absurd (no_rows few i h)) in
+            let rows = sum_below-zero (length line.arcs) (λ i. cond (carries_unit flow i && eqb (arc_at line i).from 0) 1 0) (λ i h. absurd (no_rows few i h)) in
             omega (arith, f.no_gap few, idle, rows))
         | inr many ↦ omega (arith, out_is line flow 0 (omega arith), first_gap, f.crosses 0 (omega arith))
       ]
@@ -97,7 +97,7 @@ module _ (line : Network) (flow : Flow) (network : IsNetwork line) where
       elim (cases_lt (places_of line) 2) [
         | inl few ↦ (
             let idle = cond-false (ltb 0 (places_of line - 1)) (idle_at flow (places_of line - 1 - 1)) 0 (grind (arith, nat_tests)) in
-            let rows = sum_below-zero (length line.arcs) (λ i. cond (is_carried flow i && eqb (arc_at line i).to (places_of line - 1)) 1 0) (λ i h. absurd (no_rows few i h)) in
+            let rows = sum_below-zero (length line.arcs) (λ i. cond (carries_unit flow i && eqb (arc_at line i).to (places_of line - 1)) 1 0) (λ i h. absurd (no_rows few i h)) in
             omega (arith, f.no_gap few, idle, rows))
         | inr many ↦ (
             let v = places_of line - 2 in

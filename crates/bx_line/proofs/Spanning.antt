@@ -11,7 +11,7 @@ use Rattle.bx_base.proofs.SumLemmas.{sum_below-le, sum_below-same, sum_below-zer
 use Rattle.bx_line.specs.declared.arc.Arc.{Arc}
 use Rattle.bx_line.specs.declared.incidence.Incidence.TheVariants.{Leaving, Arriving}
 use Rattle.bx_line.specs.Network.{Network, IsNetwork, places_of, arc_at, spans}
-use Rattle.bx_line.specs.Flows.{Flow, IsFlow, is_carried, idle_at, crossing_at}
+use Rattle.bx_line.specs.Flows.{Flow, IsFlow, carries_unit, idle_at, crossing_at}
 use Rattle.bx_line.specs.Cliques.{AreCliques, IsShortened, counted_arc, is_growing}
 use Rattle.bx_line.proofs.CliquesRise.{counts_rise, has_row-from, start_grows, ended_or_grows, ends_apart, rise_few}
 use Rattle.bx_line.proofs.Crossings.{crosses_from_flow}
@@ -45,7 +45,7 @@ crossing_few : (line : Network) (flow : Flow) → IsNetwork line → IsFlow line
 crossing_few line flow network is_flow gap =
     elim (cases_lt (gap + 1) (places_of line)) [
       | inl h ↦ omega (arith, (crosses_from_flow line flow network is_flow).crosses gap h)
-      | inr h ↦ (let none = sum_below-zero (length line.arcs) (λ i. cond (is_carried flow i && spans (arc_at line i) gap) 1 0) (λ i b. none_over (is_carried flow i) (arc_at line i) gap (let arc = network.arcs i b in omega (arith, arc.within))) in omega (arith, none))
+      | inr h ↦ (let none = sum_below-zero (length line.arcs) (λ i. cond (carries_unit flow i && spans (arc_at line i) gap) 1 0) (λ i b. none_over (carries_unit flow i) (arc_at line i) gap (let arc = network.arcs i b in omega (arith, arc.within))) in omega (arith, none))
     ]
 
 -- the same rows over a gap
@@ -87,8 +87,8 @@ module _ (line : Network) (counts : List ℕ) (shorter : Network) (network : IsN
     crossing_below : (v gap : ℕ) → ((i : ℕ) → i < length line.arcs → spans (arc_at line i) v ≡ true → spans (arc_at shorter i) gap ≡ true) → crossing_at line flow v ≤ crossing_at shorter flow gap
     crossing_below v gap over =
         let n = length line.arcs in
-        let most = sum_below-le n (λ i. cond (is_carried flow i && spans (arc_at line i) v) 1 0) (λ i. cond (is_carried flow i && spans (arc_at shorter i) gap) 1 0) (λ i h. at_most (is_carried flow i) (spans (arc_at line i) v) (spans (arc_at shorter i) gap) (over i h)) in
-        let same = ap (λ (m : ℕ). sum_below m (λ i. cond {A = ℕ} (is_carried flow i && spans (arc_at shorter i) gap) 1 0)) shortened.arcs.one_each in
+        let most = sum_below-le n (λ i. cond (carries_unit flow i && spans (arc_at line i) v) 1 0) (λ i. cond (carries_unit flow i && spans (arc_at shorter i) gap) 1 0) (λ i h. at_most (carries_unit flow i) (spans (arc_at line i) v) (spans (arc_at shorter i) gap) (over i h)) in
+        let same = ap (λ (m : ℕ). sum_below m (λ i. cond {A = ℕ} (carries_unit flow i && spans (arc_at shorter i) gap) 1 0)) shortened.arcs.one_each in
         omega (arith, most, same)
 
     below_units : (v : ℕ) → IsNetwork shorter → IsFlow shorter flow → v + 1 < places_of line → (b : Bool) → is_growing line (v + 1) ≡ b → crossing_at line flow v ≤ flow.units
@@ -147,8 +147,8 @@ module _ (line : Network) (counts : List ℕ) (shorter : Network) (network : IsN
     crossing_equal : (flow : Flow) → crossing_at line flow v ≡ crossing_at shorter flow (count v)
     crossing_equal flow =
         let n = length line.arcs in
-        let each = sum_below-same n (λ i. cond (is_carried flow i && spans (arc_at line i) v) 1 0) (λ i. cond (is_carried flow i && spans (arc_at shorter i) (count v)) 1 0) (λ i h. ap (λ (b : Bool). cond {A = ℕ} (is_carried flow i && b) 1 0) (one_truth (spans (arc_at line i) v) (spans (arc_at shorter i) (count v)) (over_both i h) (over_back i h))) in
-        let same = ap (λ (m : ℕ). sum_below m (λ i. cond {A = ℕ} (is_carried flow i && spans (arc_at shorter i) (count v)) 1 0)) shortened.arcs.one_each in
+        let each = sum_below-same n (λ i. cond (carries_unit flow i && spans (arc_at line i) v) 1 0) (λ i. cond (carries_unit flow i && spans (arc_at shorter i) (count v)) 1 0) (λ i h. ap (λ (b : Bool). cond {A = ℕ} (carries_unit flow i && b) 1 0) (one_truth (spans (arc_at line i) v) (spans (arc_at shorter i) (count v)) (over_both i h) (over_back i h))) in
+        let same = ap (λ (m : ℕ). sum_below m (λ i. cond {A = ℕ} (carries_unit flow i && spans (arc_at shorter i) (count v)) 1 0)) shortened.arcs.one_each in
         omega (arith, each, same)
 
     -- as many units are idle there

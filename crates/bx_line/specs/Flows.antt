@@ -16,8 +16,8 @@ abbrev pub flow_of : List Bool → List ℕ → ℕ → Flow
 flow_of accepted idle units = record { accepted = accepted; idle = idle; units = units }
 
 -- whether the row of this index carries a unit
-abbrev pub is_carried : Flow → ℕ → Bool
-is_carried flow i = is_marked flow.accepted i
+abbrev pub carries_unit : Flow → ℕ → Bool
+carries_unit flow i = is_marked flow.accepted i
 
 -- how many idle units cross a gap
 abbrev pub idle_at : Flow → ℕ → ℕ
@@ -25,11 +25,11 @@ idle_at flow gap = slice_index flow.idle gap
 
 -- units that leave a place
 abbrev pub out_of : Network → Flow → ℕ → ℕ
-out_of line flow v = (if nat_lt (v + 1) (places_of line) then idle_at flow v else 0) + sum_below (length line.arcs) (λ i. if is_carried flow i && (arc_at line i).from == v then 1 else 0)
+out_of line flow v = (if nat_lt (v + 1) (places_of line) then idle_at flow v else 0) + sum_below (length line.arcs) (λ i. if carries_unit flow i && (arc_at line i).from == v then 1 else 0)
 
 -- units that come into a place
 abbrev pub into : Network → Flow → ℕ → ℕ
-into line flow v = (if nat_lt 0 v then idle_at flow (v - 1) else 0) + sum_below (length line.arcs) (λ i. if is_carried flow i && (arc_at line i).to == v then 1 else 0)
+into line flow v = (if nat_lt 0 v then idle_at flow (v - 1) else 0) + sum_below (length line.arcs) (λ i. if carries_unit flow i && (arc_at line i).to == v then 1 else 0)
 
 -- it says of each row whether it carries a unit, and of each gap how many are idle
 pub record IsSized (line : Network) (flow : Flow) : Type 0 where
@@ -45,7 +45,7 @@ pub record IsFlow (line : Network) (flow : Flow) : Type 0 where
 
 -- how many rows carry a unit over a gap
 abbrev pub crossing_at : Network → Flow → ℕ → ℕ
-crossing_at line flow gap = sum_below (length line.arcs) (λ i. if is_carried flow i && spans (arc_at line i) gap then 1 else 0)
+crossing_at line flow gap = sum_below (length line.arcs) (λ i. if carries_unit flow i && spans (arc_at line i) gap then 1 else 0)
 
 -- the same by cuts: all units cross each gap, idle or with a row
 pub record CrossesEachGap (line : Network) (flow : Flow) : Type 0 where

@@ -5,23 +5,23 @@ use Rattle.arrayvec.specs.ArrayVec.{ArrayVec}
 use Rattle.bx_frames.specs.declared.fault.LinkFault.{LinkFault}
 use Rattle.bx_frames.specs.declared.frame.Frame.{Frame}
 use Rattle.bx_frames.specs.declared.frame.Frame.TheVariants as frames
-use Rattle.bx_lapd.specs.Links.{Step}
+use Rattle.bx_lapd.specs.Links.{LinkStep}
 use Rattle.bx_lapd.specs.Once.{IsPartOf}
 use Rattle.bx_lapd.specs.World.{messages_of}
 use Rattle.bx_lapd.specs.declared.indication.Indication.{Indication}
 use Rattle.bx_lapd.specs.declared.indication.Indication.TheVariants.{Delivered, LinkError}
-use Rattle.bx_live.specs.Acts.{Act, Began, Dropped, Recorded, Synced, Wrote, Read, Took, EndedDay}
+use Rattle.bx_live.specs.Acts.{Act, Began, Dropped, Logged, Synced, Wrote, Read, Took, EndedDay}
 use Rattle.bx_live.specs.declared.world.Begin.{Begin}
 use Rattle.bx_live.specs.declared.world.Begin.TheVariants.{Late, Ended}
 use Rattle.bx_live.specs.declared.world.Loss.{Loss}
 use Rattle.bx_live.specs.declared.world.Loss.TheVariants as losses
 use Rattle.bx_live_parts.specs.Chains.{Chain, chain_first}
-use Rattle.bx_live_parts.specs.Schedules.{instant_of}
+use Rattle.bx_live_parts.specs.Schedules.{instant_of_second}
 use Rattle.bx_line_world.specs.Wires.{WireAct}
 use Rattle.bx_line_world.specs.Posts.{with_messages, reset, put, told_to, all_told_to, begun_by, dropped_by}
-use Rattle.bx_line_world.specs.Lines.{LineEvent, Asked, Given, Elapsed, Quiet, Serves, acts_of, step_of, passed_after, shown_by}
-use Rattle.bx_line_world.specs.Serving.{IsWait, Slice, Served, Polls, Asks, Gives, is_idle}
-use Rattle.bx_line_world.specs.Days.{GoesByLine, IsTextOf, Reads, ReadsFor, Takes}
+use Rattle.bx_line_world.specs.Lines.{LineEvent, Asked, Given, Elapsed, Quiet, Serves, wire_acts_of, step_of, passed_after, shown_by}
+use Rattle.bx_line_world.specs.Serving.{IsWait, Slice, Served, Polls, AsksLink, GivesMessage, is_idle}
+use Rattle.bx_line_world.specs.Days.{GoesByLine, IsTextOfMessages, ReadsTurn, ReadsFor, TakesMessage}
 use Rattle.bx_line_world.specs.Joined.{LinkEnd, end_of, line_at, after_event, after_events, wire_acts, delivered, given_in, read_in, AreWritten, GoesOverLink}
 use Rattle.bx_line_world.specs.declared.line.Line.{Line}
 use Rattle.bx_line_world.specs.declared.line_world.LineWorld.{LineWorld}
@@ -100,7 +100,7 @@ after_on u (x ∷ xs) ys = after_on (after_event u x) xs ys
 
 acts_on : (u : LinkEnd) (xs ys : List LineEvent) → wire_acts u (xs ++ ys) ≡ wire_acts u xs ++ wire_acts (after_events u xs) ys
 acts_on u [] ys = refl
-acts_on u (x ∷ xs) ys = ap (λ zs. acts_of (line_at u) x ++ zs) (acts_on (after_event u x) xs ys) ∙ sym (append_assoc (acts_of (line_at u) x) (wire_acts (after_event u x) xs) (wire_acts (after_events (after_event u x) xs) ys))
+acts_on u (x ∷ xs) ys = ap (λ zs. wire_acts_of (line_at u) x ++ zs) (acts_on (after_event u x) xs ys) ∙ sym (append_assoc (wire_acts_of (line_at u) x) (wire_acts (after_event u x) xs) (wire_acts (after_events (after_event u x) xs) ys))
 
 delivered_on : (u : LinkEnd) (xs ys : List LineEvent) → delivered u (xs ++ ys) ≡ delivered u xs ++ delivered (after_events u xs) ys
 delivered_on u [] ys = refl
@@ -122,7 +122,7 @@ pub record Went {W : Type 0} (did : W → List WireAct → W → Type 0) (s t : 
   pub gave : given_in events ≡ given
   pub came : IsPartOf (read ++ t.post.messages.items) (s.post.messages.items ++ delivered (end_of s) events)
 
-same_acts : {W : Type 0} (s : Line W) (e : LineEvent) → acts_of s e ≡ acts_of (line_at (end_of s)) e
+same_acts : {W : Type 0} (s : Line W) (e : LineEvent) → wire_acts_of s e ≡ wire_acts_of (line_at (end_of s)) e
 same_acts s (Quiet until) = refl
 same_acts s e = refl
 
@@ -138,17 +138,17 @@ module _ {W : Type 0} {did : W → List WireAct → W → Type 0} where
   end_by : (s t : Line W) (e : LineEvent) → Serves did s e t → end_of t ≡ after_event (end_of s) e
   end_by s t e sv =
       ap (λ n. record { network = n; link = t.end.link; shown = t.shown; passed = t.passed }) sv.network
-      ∙ (ap (λ l. record { network = s.end.network; link = l; shown = t.shown; passed = t.passed }) (sv.link ∙ ap (λ (x : Step). x.link) (same_step s e))
+      ∙ (ap (λ l. record { network = s.end.network; link = l; shown = t.shown; passed = t.passed }) (sv.link ∙ ap (λ (x : LinkStep). x.link) (same_step s e))
       ∙ (ap (λ n. record { network = s.end.network; link = (step_of (line_at (end_of s)) e).link; shown = n; passed = t.passed }) sv.shown
       ∙ ap (λ n. record { network = s.end.network; link = (step_of (line_at (end_of s)) e).link; shown = shown_by s.shown e; passed = n }) (sv.passed ∙ same_passed s e)))
 
   pub went_one : {s t : Line W} (e : LineEvent) → Serves did s e t → Went did s t (given_in (e ∷ [])) []
   went_one {s} {t} e sv =
       let told = (step_of (line_at (end_of s)) e).told in
-      let post : t.post ≡ all_told_to s.post told = sv.post ∙ ap (λ (x : Step). all_told_to s.post x.told) (same_step s e) in
+      let post : t.post ≡ all_told_to s.post told = sv.post ∙ ap (λ (x : LinkStep). all_told_to s.post x.told) (same_step s e) in
       record {
         events = e ∷ [];
-        wire = subst (λ xs. did s.wire xs t.wire) (same_acts s e ∙ sym (append-nil (acts_of (line_at (end_of s)) e))) sv.wire;
+        wire = subst (λ xs. did s.wire xs t.wire) (same_acts s e ∙ sym (append-nil (wire_acts_of (line_at (end_of s)) e))) sv.wire;
         link = end_by s t e sv;
         gave = refl;
         came = subst (λ (p : Post). IsPartOf p.messages.items (s.post.messages.items ++ (messages_of told ++ []))) (sym post)
@@ -226,13 +226,13 @@ module _ {W : Type 0} {did : W → List WireAct → W → Type 0} where
         let (mid, step, rest) = chain_first (Polls did) s t one came chain in
         went_on (went_waited 0 one step.is_wait step.waited) (went_polled mid t came nothing rest)
 
-    went_given : (s t : Line W) (ms : List (ArrayVec ℕ)) → ((w : W) → did w [] w) → Chain (Gives did) s ms t → Went did s t ms []
+    went_given : (s t : Line W) (ms : List (ArrayVec ℕ)) → ((w : W) → did w [] w) → Chain (GivesMessage did) s ms t → Went did s t ms []
     went_given s t [] nothing e = subst (λ (x : Line W). Went did s x [] []) e (went_none nothing s)
     went_given s t (m ∷ ms) nothing chain =
-        let (mid, step, rest) = chain_first (Gives did) s t m ms chain in
+        let (mid, step, rest) = chain_first (GivesMessage did) s t m ms chain in
         went_on (went_one (Given m step.0) step.1) (went_given mid t ms nothing rest)
 
-    went_asked : (b : Bool) (s t : Line W) → ((w : W) → did w [] w) → Asks did b s t → Went did s t [] []
+    went_asked : (b : Bool) (s t : Line W) → ((w : W) → did w [] w) → AsksLink did b s t → Went did s t [] []
     went_asked true s t nothing a = went_one (Asked a.0) a.1
     went_asked false s t nothing same = subst (λ (x : Line W). Went did s x [] []) (sym same) (went_none nothing s)
 
@@ -268,12 +268,12 @@ module _ {W D : Type 0} (did : W → List WireAct → W → Type 0) (holds may_l
       let b = g.line in
       subst (λ (x : Line W). Went did s.line x [] []) (sym b.line)
       (with_post (begun_by b.waited.post begin) (begun_same more b.waited.post begin)
-      (went_on more (went_asked more (is_idle s.line.end.link) s.line b.asked nothing b.asks) (went_served more (instant_of s.schedule second) false b.asked b.waited nothing b.served)))
+      (went_on more (went_asked more (is_idle s.line.end.link) s.line b.asked nothing b.asks) (went_served more (instant_of_second s.schedule second) false b.asked b.waited nothing b.served)))
 
   went_read : (s t : LineWorld W D) (room until second left : ℕ) (answer : Result Frame LinkFault) → ReadsFor did room until second left answer s.line t.line → Went did s.line t.line [] (read_in (Read room answer ∷ []))
   went_read s t zero until second left answer (is, same) = subst (λ (a : Result Frame LinkFault). Went did s.line t.line [] (read_in (Read zero a ∷ []))) (sym is) (unmoved s t same)
   went_read s t (suc room) until second left answer reads = by_answer answer reads where
-    by_answer : (answer : Result Frame LinkFault) → Reads did until second left answer s.line t.line → Went did s.line t.line [] (read_in (Read (suc room) answer ∷ []))
+    by_answer : (answer : Result Frame LinkFault) → ReadsTurn did until second left answer s.line t.line → Went did s.line t.line [] (read_in (Read (suc room) answer ∷ []))
     by_answer (Ok (frames.Message m)) r =
         let (whole, rest, are, fits, new) = r.answers in
         subst (λ (x : Line W). Went did s.line x [] (m ∷ [])) (sym new) (took_first m rest are (went_served more until true s.line r.waited nothing r.served))
@@ -281,7 +281,7 @@ module _ {W D : Type 0} (did : W → List WireAct → W → Type 0) (holds may_l
     by_answer (Ok frames.EndOfDay) r = absurd r.answers
     by_answer (Err fault) r = subst (λ (x : Line W). Went did s.line x [] []) (sym r.answers.1) (went_served more until true s.line r.waited nothing r.served)
 
-  went_took : (s t : LineWorld W D) (left : ℕ) (message : Option (ArrayVec ℕ)) → Takes did left message s.line t.line → Went did s.line t.line [] (read_in (Took message ∷ []))
+  went_took : (s t : LineWorld W D) (left : ℕ) (message : Option (ArrayVec ℕ)) → TakesMessage did left message s.line t.line → Went did s.line t.line [] (read_in (Took message ∷ []))
   went_took s t left (Some m) r =
       let (whole, rest, are, fits, new) = r.takes in
       subst (λ (x : Line W). Went did s.line x [] (m ∷ [])) (sym new) (took_first m rest are (went_polled more s.line r.polled r.polls.came nothing r.polls.run))
@@ -291,13 +291,13 @@ module _ {W D : Type 0} (did : W → List WireAct → W → Type 0) (holds may_l
   went_act s t (Began second begin) g = quiet s t (Began second begin) refl refl (went_begun s t second begin g)
   went_act s t (Dropped loss) g =
       quiet s t (Dropped loss) refl refl (subst (λ (x : Line W). Went did s.line x [] []) (sym g.line) (with_post (dropped_by s.line.post loss) (dropped_same more s.line.post loss) (went_none nothing s.line)))
-  went_act s t (Recorded event done) g = quiet s t (Recorded event done) refl refl (unmoved s t g.line)
+  went_act s t (Logged event done) g = quiet s t (Logged event done) refl refl (unmoved s t g.line)
   went_act s t (Synced done) g = quiet s t (Synced done) refl refl (unmoved s t g.line)
   went_act s t (Wrote octets done) g =
       let w = g.line in
       record {
         gives = w.gives.given;
-        written = (w.gives.given, w.gives.rest, [], subst (λ ms. IsTextOf ms octets) w.gives.all w.text, w.gives.whole, sym (append-nil w.gives.given), refl);
+        written = (w.gives.given, w.gives.rest, [], subst (λ ms. IsTextOfMessages ms octets) w.gives.all w.text, w.gives.whole, sym (append-nil w.gives.given), refl);
         went = went_given more s.line t.line w.gives.given nothing w.gives.run;
       }
   went_act s t (Read room answer) g = record { gives = []; written = refl; went = went_read s t room _ s.second _ answer g.line }

@@ -4,10 +4,10 @@ use Rattle.std.proofs.lemmas.List.{append-nil, append_assoc}
 use Rattle.arrayvec.specs.ArrayVec.{ArrayVec}
 use Rattle.bx_lapd.specs.declared.frame.Frame.{Frame}
 use Rattle.bx_lapd.specs.Endpoints.{hear_read}
-use Rattle.bx_lapd.specs.Links.{Link, Step}
+use Rattle.bx_lapd.specs.Links.{Link, LinkStep}
 use Rattle.bx_lapd.specs.Once.{IsPartOf}
-use Rattle.bx_lapd.specs.Table.{establish, takes, give, elapse, hear}
-use Rattle.bx_lapd.specs.World.{World, WorldEvent, AtNear, AtFar, EndEvent, Gives, Hears, Loses, Elapses, Asks, messages_of, becomes, comes, lost, swapped, world_after, world_happens, at_near}
+use Rattle.bx_lapd.specs.Table.{establish, takes_data, give, elapse, hear}
+use Rattle.bx_lapd.specs.World.{LinkWorld, LinkWorldEvent, AtNear, AtFar, EndEvent, Gives, Hears, Loses, Elapses, Asks, messages_of, near_becomes, comes, frames_lost, swapped, link_world_after, link_world_happens, at_near}
 use Rattle.bx_lapd.proofs.Lines.{once_holds}
 use Rattle.bx_live.specs.Acts.{Act}
 use Rattle.bx_line_world.specs.Wires.{WireAct}
@@ -34,7 +34,7 @@ idle_is u (Heard until octets shown) (why, is) =
 idle_is u e idle = absurd idle
 
 -- the near end after an event, where its link was this
-record IsOne (u : LinkEnd) (w after : World) (e : LineEvent) : Type 0 where
+record IsOne (u : LinkEnd) (w after : LinkWorld) (e : LineEvent) : Type 0 where
   link : (after_event u e).link ≡ after.near
   gave : List (ArrayVec ℕ)
   given : after.near_given ≡ w.near_given ++ gave
@@ -42,20 +42,20 @@ record IsOne (u : LinkEnd) (w after : World) (e : LineEvent) : Type 0 where
   got : after.near_got ≡ w.near_got ++ messages_of (step_of (line_at u) e).told
 
 -- what takes a step of the table alone
-by_step : (u : LinkEnd) (w : World) (e : LineEvent) (s : Step) → step_of (line_at u) e ≡ s → IsOne u w (becomes w s) e
+by_step : (u : LinkEnd) (w : LinkWorld) (e : LineEvent) (s : LinkStep) → step_of (line_at u) e ≡ s → IsOne u w (near_becomes w s) e
 by_step u w e s is = record {
-  link = ap (λ (x : Step). x.link) is;
+  link = ap (λ (x : LinkStep). x.link) is;
   gave = [];
   given = sym (append-nil w.near_given);
   part = tt;
-  got = ap (λ (x : Step). w.near_got ++ messages_of x.told) (sym is);
+  got = ap (λ (x : LinkStep). w.near_got ++ messages_of x.told) (sym is);
 }
 
 taken_part : (b : Bool) (m message : ArrayVec ℕ) → message ≡ m → IsPartOf (if b then message ∷ [] else []) (m ∷ [])
 taken_part true m message is = inl (is, tt)
 taken_part false m message is = tt
 
-same_is : (u : LinkEnd) (w : World) (e : LineEvent) (x : EndEvent) → u.link ≡ w.near → IsSame u w e x → IsOne u w (at_near w x) e
+same_is : (u : LinkEnd) (w : LinkWorld) (e : LineEvent) (x : EndEvent) → u.link ≡ w.near → IsSame u w e x → IsOne u w (at_near w x) e
 same_is u w (Asked shown) (Asks now) link is =
     by_step u w (Asked shown) (establish w.near.state w.near now) (ap (λ (l : Link). establish l.state l (time_at (line_at u) shown)) link ∙ ap (λ t. establish w.near.state w.near t) (sym is))
 same_is u w (Elapsed shown) (Elapses now) link is =
@@ -63,43 +63,43 @@ same_is u w (Elapsed shown) (Elapses now) link is =
 same_is u w (Given m shown) (Gives message now) link (same, is) =
     let step : step_of (line_at u) (Given m shown) ≡ give w.near message now = ap (λ (l : Link). give l m (time_at (line_at u) shown)) link ∙ (ap (λ x. give w.near x (time_at (line_at u) shown)) (sym same) ∙ ap (λ t. give w.near message t) (sym is)) in
     record {
-      link = ap (λ (x : Step). x.link) step;
-      gave = if takes w.near.state w.near then message ∷ [] else [];
+      link = ap (λ (x : LinkStep). x.link) step;
+      gave = if takes_data w.near.state w.near then message ∷ [] else [];
       given = refl;
-      part = taken_part (takes w.near.state w.near) m message same;
-      got = ap (λ (x : Step). w.near_got ++ messages_of x.told) (sym step);
+      part = taken_part (takes_data w.near.state w.near) m message same;
+      got = ap (λ (x : LinkStep). w.near_got ++ messages_of x.told) (sym step);
     }
 same_is u w (Heard until octets shown) (Hears now) link (is, (f, rest, first, read)) =
     let t = time_at (line_at u) shown in
     let step : step_of (line_at u) (Heard until octets shown) ≡ hear w.near f now = ap (λ r. hear_read r u.link t) read ∙ (ap (λ (l : Link). hear l f t) link ∙ ap (λ n. hear w.near f n) (sym is)) in
     subst (λ fs. IsOne u w (comes w fs now) (Heard until octets shown)) (sym first) (record {
-      link = ap (λ (x : Step). x.link) step;
+      link = ap (λ (x : LinkStep). x.link) step;
       gave = [];
       given = sym (append-nil w.near_given);
       part = tt;
-      got = ap (λ (x : Step). w.near_got ++ messages_of x.told) (sym step);
+      got = ap (λ (x : LinkStep). w.near_got ++ messages_of x.told) (sym step);
     })
 same_is u w e x link is = absurd is
 
 -- what happens elsewhere leaves the near end
-record Leaves (w after : World) : Type 0 where
+record Leaves (w after : LinkWorld) : Type 0 where
   near : after.near ≡ w.near
   given : after.near_given ≡ w.near_given
   got : after.near_got ≡ w.near_got
 
-far_comes : (w : World) (fs : List Frame) (now : ℕ) → Leaves w (swapped (comes (swapped w) fs now))
+far_comes : (w : LinkWorld) (fs : List Frame) (now : ℕ) → Leaves w (swapped (comes (swapped w) fs now))
 far_comes w [] now = record { near = refl; given = refl; got = refl }
 far_comes w (f ∷ fs) now = record { near = refl; given = refl; got = refl }
 
-far_lost : (w : World) (fs : List Frame) → Leaves w (swapped (lost (swapped w) fs))
+far_lost : (w : LinkWorld) (fs : List Frame) → Leaves w (swapped (frames_lost (swapped w) fs))
 far_lost w [] = record { near = refl; given = refl; got = refl }
 far_lost w (f ∷ fs) = record { near = refl; given = refl; got = refl }
 
-near_lost : (w : World) (fs : List Frame) → Leaves w (lost w fs)
+near_lost : (w : LinkWorld) (fs : List Frame) → Leaves w (frames_lost w fs)
 near_lost w [] = record { near = refl; given = refl; got = refl }
 near_lost w (f ∷ fs) = record { near = refl; given = refl; got = refl }
 
-theirs_leaves : (w : World) (x : WorldEvent) → IsTheirs x → Leaves w (world_happens w x)
+theirs_leaves : (w : LinkWorld) (x : LinkWorldEvent) → IsTheirs x → Leaves w (link_world_happens w x)
 theirs_leaves w (AtFar (Hears now)) is = far_comes w w.near_sent now
 theirs_leaves w (AtFar Loses) is = far_lost w w.far_sent
 theirs_leaves w (AtNear Loses) is = near_lost w w.near_sent
@@ -108,13 +108,13 @@ theirs_leaves w (AtFar x) is = record { near = refl; given = refl; got = refl }
 
 -- ---- all of them
 
-record Agrees (u : LinkEnd) (w : World) (events : List Shared) : Type 0 where
+record Agrees (u : LinkEnd) (w : LinkWorld) (events : List Shared) : Type 0 where
   gave : List (ArrayVec ℕ)
-  given : (world_after (all_events events) w).near_given ≡ w.near_given ++ gave
+  given : (link_world_after (all_events events) w).near_given ≡ w.near_given ++ gave
   part : IsPartOf gave (given_in (our_events events))
-  got : (world_after (all_events events) w).near_got ≡ w.near_got ++ delivered u (our_events events)
+  got : (link_world_after (all_events events) w).near_got ≡ w.near_got ++ delivered u (our_events events)
 
-agree : (u : LinkEnd) (w : World) (events : List Shared) → u.link ≡ w.near → AreShared u w events → Agrees u w events
+agree : (u : LinkEnd) (w : LinkWorld) (events : List Shared) → u.link ≡ w.near → AreShared u w events → Agrees u w events
 agree u w [] link are = record { gave = []; given = sym (append-nil w.near_given); part = tt; got = sym (append-nil w.near_got) }
 agree u w (Idle e ∷ more) link (idle, are) =
     let n = idle_is u e idle in
@@ -136,7 +136,7 @@ agree u w (Ours e x ∷ more) link (same, are) =
     }
 agree u w (Theirs x ∷ more) link (is, are) =
     let l = theirs_leaves w x is in
-    let a = agree u (world_happens w x) more (link ∙ sym l.near) are in
+    let a = agree u (link_world_happens w x) more (link ∙ sym l.near) are in
     record {
       gave = a.gave;
       given = a.given ∙ ap (λ ms. ms ++ a.gave) l.given;
@@ -147,7 +147,7 @@ agree u w (Theirs x ∷ more) link (is, are) =
 pub once_over : {W D : Type 0} (did : W → List WireAct → W → Type 0) (old new : LineWorld W D) (acts : List Act) → IsOnce did old new acts
 once_over did old new acts day w events unlinked link are shared =
     let u = end_of old.line in
-    let z = world_after (all_events events) w in
+    let z = link_world_after (all_events events) w in
     let a = agree u w events (sym link) shared in
     let once = once_holds w (all_events events) unlinked in
     let waiting = old.line.post.messages.items in

@@ -4,20 +4,19 @@ use Rattle.std.proofs.lemmas.List.{take_more, take-append-drop}
 use Rattle.arrayvec.specs.ArrayVec.{ArrayVec}
 use Rattle.bx_lapd.specs.declared.frame.Frame.{Frame}
 use Rattle.bx_lapd.specs.declared.indication.Indication.{Indication}
-use Rattle.bx_lapd.specs.Links.{Step, Did, Makes}
+use Rattle.bx_lapd.specs.Links.{LinkStep, Did, Makes}
 use Rattle.bx_lapd.specs.Codec.{sent_octets}
 use Rattle.bx_lapd.specs.Endpoints.{PlainEndpoint}
 use Rattle.bx_live_parts.specs.Chains.{Chain, chain_more}
 use Rattle.bx_line_world.specs.Wires.{WireAct, Shown, Sent}
 use Rattle.bx_line_world.specs.Posts.{told_to, all_told_to, is_lost}
-use Rattle.bx_line_world.specs.Lines.{LineEvent, Serves, IsTaken, passed_by, instant_in, time_at, step_of, asked_of, shown_by, passed_after, sent_as}
-use Rattle.bx_line_world.specs.Serving.{Slice, Sliced, Gives, Polls, Polled, has_come, ends_quiet}
-use Rattle.bx_frames.specs.declared.frame.Frame.{Frame as LinkFrame}
+use Rattle.bx_line_world.specs.Lines.{LineEvent, Serves, IsEventTaken, passed_by, instant_in, time_at, step_of, asked_of, shown_by, passed_after, sent_as}
+use Rattle.bx_line_world.specs.Serving.{Slice, Sliced, GivesMessage, Polls, Polled, has_come, ends_quiet}
 use Rattle.bx_frames.specs.declared.frame.Frame.TheVariants as frames
 use Rattle.bx_frames.specs.declared.fault.LinkFault.{LinkFault}
-use Rattle.bx_lapd.specs.Table.{takes}
+use Rattle.bx_lapd.specs.Table.{takes_data}
 use Rattle.bx_line_world.specs.Days.{GivesAll, TakesWaiting}
-use Rattle.bx_line_world.specs.Steps.{Looks, keeps, Carries, GivesWhere, PolledBy, TakesFirst}
+use Rattle.bx_line_world.specs.Steps.{Looks, keeps, CarriesOut, GivesWhere, PolledBy, TakesFirst}
 use Rattle.bx_line_world.specs.declared.line.Line.{Line}
 use Rattle.bx_line_world.specs.declared.post.Post.{Post}
 
@@ -68,25 +67,25 @@ module _ {W : Type 0} {did : W → List WireAct → W → Type 0} where
         subst (λ ys. did a ys c) (sym acts) (more a b c (map (sent_as network) (take i xs)) (Sent (sent_octets network x) ∷ []) so_far one)
 
     -- a look at the clock, a call of the end by the table, and what it wants
-    pub served_by : (o a b d : Line W) (e : PlainEndpoint) (done : Did) (event : LineEvent) (first : List WireAct) (table : PlainEndpoint → ℕ → Step) (now : ℕ)
+    pub served_by : (o a b d : Line W) (e : PlainEndpoint) (done : Did) (event : LineEvent) (first : List WireAct) (table : PlainEndpoint → ℕ → LinkStep) (now : ℕ)
         → a ≡ record o { wire = a.wire } → did o.wire first a.wire → Looks did a b → now ≡ instant_in b.passed
-        → asked_of o event ≡ first ++ Shown b.shown ∷ [] → shown_by o.shown event ≡ b.shown → passed_after o event ≡ passed_by o.passed o.shown b.shown → step_of o event ≡ table o.end (time_at o b.shown) → IsTaken o event
-        → Makes (table b.end now) e.link done → e.network ≡ b.end.network → Carries did done (record b { end = e }) d → Serves did o event d
+        → asked_of o event ≡ first ++ Shown b.shown ∷ [] → shown_by o.shown event ≡ b.shown → passed_after o event ≡ passed_by o.passed o.shown b.shown → step_of o event ≡ table o.end (time_at o b.shown) → IsEventTaken o event
+        → Makes (table b.end now) e.link done → e.network ≡ b.end.network → CarriesOut did done (record b { end = e }) d → Serves did o event d
     served_by o a b d e done event first table now ea before looks is_now asks is_shown is_passed is_step taken makes network carries =
         let end_b : b.end ≡ o.end = ap (λ (x : Line W). x.end) looks.rest ∙ ap (λ (x : Line W). x.end) ea in
         let post_b : b.post ≡ o.post = ap (λ (x : Line W). x.post) looks.rest ∙ ap (λ (x : Line W). x.post) ea in
         let passed_b : b.passed ≡ passed_by o.passed o.shown b.shown = ap (λ (x : Line W). x.passed) looks.rest ∙ ap (λ (x : Line W). passed_by x.passed x.shown b.shown) ea in
         let step : table b.end now ≡ step_of o event = ap (λ x. table x now) end_b ∙ (ap (λ t. table o.end t) (is_now ∙ ap instant_in passed_b) ∙ sym is_step) in
         let side : e.network ≡ o.end.network = network ∙ ap (λ (x : PlainEndpoint). x.network) end_b in
-        let frames : done.frames ≡ (step_of o event).frames = makes.frames ∙ ap (λ (s : Step). s.frames) step in
-        let told : done.told ≡ (step_of o event).told = makes.told ∙ ap (λ (s : Step). s.told) step in
+        let frames : done.frames ≡ (step_of o event).frames = makes.frames ∙ ap (λ (s : LinkStep). s.frames) step in
+        let told : done.told ≡ (step_of o event).told = makes.told ∙ ap (λ (s : LinkStep). s.told) step in
         let looked : did o.wire (first ++ Shown b.shown ∷ []) b.wire = more o.wire a.wire b.wire first (Shown b.shown ∷ []) before looks.wire in
         let sent : did b.wire (map (sent_as o.end.network) (step_of o event).frames) d.wire =
         subst (λ fs. did b.wire (map (sent_as o.end.network) fs) d.wire) frames (subst (λ n. did b.wire (map (sent_as n) done.frames) d.wire) side carries.wire) in
         record {
           wire = more o.wire b.wire d.wire (asked_of o event) (map (sent_as o.end.network) (step_of o event).frames) (subst (λ xs. did o.wire xs b.wire) (sym asks) looked) sent;
           network = ap (λ (x : Line W). x.end.network) carries.rest ∙ side;
-          link = ap (λ (x : Line W). x.end.link) carries.rest ∙ (makes.link ∙ ap (λ (s : Step). s.link) step);
+          link = ap (λ (x : Line W). x.end.link) carries.rest ∙ (makes.link ∙ ap (λ (s : LinkStep). s.link) step);
           post = ap (λ (x : Line W). x.post) carries.rest ∙ (ap (λ p. all_told_to p done.told) post_b ∙ ap (λ t. all_told_to o.post t) told);
           shown = ap (λ (x : Line W). x.shown) carries.rest ∙ sym is_shown;
           passed = ap (λ (x : Line W). x.passed) carries.rest ∙ (passed_b ∙ sym is_passed);
@@ -121,21 +120,21 @@ module _ {W : Type 0} {did : W → List WireAct → W → Type 0} where
     over = inr (inl (quiet_following s.came came none));
   }
 
-  pub given_more : (a : Line W) (xs : List (ArrayVec ℕ)) (i : ℕ) (x : ArrayVec ℕ) (b c : Line W) → i < length xs → get_or xs i x ≡ x → Chain (Gives did) a (take i xs) b → Gives did b x c → Chain (Gives did) a (take (i + 1) xs) c
+  pub given_more : (a : Line W) (xs : List (ArrayVec ℕ)) (i : ℕ) (x : ArrayVec ℕ) (b c : Line W) → i < length xs → get_or xs i x ≡ x → Chain (GivesMessage did) a (take i xs) b → GivesMessage did b x c → Chain (GivesMessage did) a (take (i + 1) xs) c
   given_more a xs i x b c here is so_far one =
       let prefix : take (i + 1) xs ≡ take i xs ++ x ∷ [] = subst (λ y. take (i + 1) xs ≡ take i xs ++ y ∷ []) is (take_more xs i x here) in
-      subst (λ ys. Chain (Gives did) a ys c) (sym prefix) (chain_more (Gives did) a b c (take i xs) (x ∷ []) so_far one)
+      subst (λ ys. Chain (GivesMessage did) a ys c) (sym prefix) (chain_more (GivesMessage did) a b c (take i xs) (x ∷ []) so_far one)
 
   pub one_given : (m : ArrayVec ℕ) (ok : Bool) (a b : Line W) → GivesWhere did m ok a b → GivesAll did (m ∷ []) ok a b
   one_given m true a b given = record { given = m ∷ []; rest = []; all = refl; run = given; whole = λ e. refl; refused = λ e. absurd (cc) }
-  one_given m false a b (same, full) = record { given = []; rest = m ∷ []; all = refl; run = sym same; whole = λ e. absurd (cc); refused = λ e. subst (λ (x : Line W). takes x.end.link.state x.end.link ≡ false) (sym same) full }
+  one_given m false a b (same, full) = record { given = []; rest = m ∷ []; all = refl; run = sym same; whole = λ e. absurd (cc); refused = λ e. subst (λ (x : Line W). takes_data x.end.link.state x.end.link ≡ false) (sym same) full }
 
-  pub refused_at : (a : Line W) (xs : List (ArrayVec ℕ)) (i : ℕ) (b c : Line W) → Chain (Gives did) a (take i xs) b → (c ≡ b) × (takes b.end.link.state b.end.link ≡ false) → GivesAll did xs false a c
+  pub refused_at : (a : Line W) (xs : List (ArrayVec ℕ)) (i : ℕ) (b c : Line W) → Chain (GivesMessage did) a (take i xs) b → (c ≡ b) × (takes_data b.end.link.state b.end.link ≡ false) → GivesAll did xs false a c
   refused_at a xs i b c run (same, full) = record {
     given = take i xs;
     rest = drop i xs;
     all = sym (take-append-drop i xs);
-    run = subst (λ (x : Line W). Chain (Gives did) a (take i xs) x) (sym same) run;
+    run = subst (λ (x : Line W). Chain (GivesMessage did) a (take i xs) x) (sym same) run;
     whole = λ e. absurd (cc);
-    refused = λ e. subst (λ (x : Line W). takes x.end.link.state x.end.link ≡ false) (sym same) full;
+    refused = λ e. subst (λ (x : Line W). takes_data x.end.link.state x.end.link ≡ false) (sym same) full;
   }

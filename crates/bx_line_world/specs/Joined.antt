@@ -8,8 +8,8 @@ use Rattle.bx_lapd.specs.World.{messages_of}
 use Rattle.bx_live.specs.Acts.{Act, Wrote, Read, Took}
 use Rattle.bx_line_world.specs.Wires.{WireAct}
 use Rattle.bx_line_world.specs.Posts.{no_post}
-use Rattle.bx_line_world.specs.Lines.{LineEvent, Given, acts_of, step_of, shown_by, passed_after}
-use Rattle.bx_line_world.specs.Days.{IsTextOf}
+use Rattle.bx_line_world.specs.Lines.{LineEvent, Given, wire_acts_of, step_of, shown_by, passed_after}
+use Rattle.bx_line_world.specs.Days.{IsTextOfMessages}
 use Rattle.bx_line_world.specs.declared.line.Line.{Line}
 use Rattle.bx_line_world.specs.declared.line_world.LineWorld.{LineWorld}
 
@@ -38,7 +38,7 @@ after_events u (e ∷ es) = after_events (after_event u e) es
 -- the clock readings, waits and frames of events, one after another
 abbrev pub wire_acts : LinkEnd → List LineEvent → List WireAct
 wire_acts u [] = []
-wire_acts u (e ∷ es) = acts_of (line_at u) e ++ wire_acts (after_event u e) es
+wire_acts u (e ∷ es) = wire_acts_of (line_at u) e ++ wire_acts (after_event u e) es
 
 -- the messages that the link delivers at events
 abbrev pub delivered : LinkEnd → List LineEvent → List (ArrayVec ℕ)
@@ -62,7 +62,7 @@ read_in (act ∷ acts) = read_in acts
 abbrev pub AreWritten : List Act → List (ArrayVec ℕ) → Type 0
 AreWritten [] given = given ≡ []
 AreWritten (Wrote octets done ∷ acts) given =
-    (here : List (ArrayVec ℕ)) × (rest : List (ArrayVec ℕ)) × (more : List (ArrayVec ℕ)) × IsTextOf (here ++ rest) octets × (done ≡ true → rest ≡ []) × (given ≡ here ++ more) × AreWritten acts more
+    (here : List (ArrayVec ℕ)) × (rest : List (ArrayVec ℕ)) × (more : List (ArrayVec ℕ)) × IsTextOfMessages (here ++ rest) octets × (done ≡ true → rest ≡ []) × (given ≡ here ++ more) × AreWritten acts more
 AreWritten (act ∷ acts) given = AreWritten acts given
 
 -- A day has gone over a link: at these events, of which the table of the link says all, just this went over the wire. Given to the link is

@@ -3,13 +3,13 @@ use Rattle.std.specs.Prelude.{◌≡◌, ℕ, ◌≤◌, Bool, true, false, List
 use Rattle.bx_day.specs.Day.{Day}
 use Rattle.bx_day.specs.Outages.{live_day_after}
 use Rattle.bx_live.specs.declared.world.Begin.{Begin}
-use Rattle.bx_live.specs.declared.world.CannotRecord.{CannotRecord}
-use Rattle.bx_live.specs.Acts.{Act, Began, recorded, ended, begins_none}
+use Rattle.bx_live.specs.declared.world.CannotLog.{CannotLog}
+use Rattle.bx_live.specs.Acts.{Act, Began, logged_by, ended, begins_none}
 use Rattle.bx_live.specs.Held.{AreHeld}
 use Rattle.bx_live.specs.Runs.{Between, Done}
 use Rattle.bx_live.specs.Running.{Runs, or_over}
 use Rattle.bx_live_parts.specs.Chains.{Chain}
-use Rattle.bx_live_parts.specs.Records.{OnDisk}
+use Rattle.bx_live_parts.specs.Logs.{OnDisk}
 use Rattle.bx_line_world.specs.Wires.{WireAct}
 use Rattle.bx_line_world.specs.Days.{GoesByLine, octets_read}
 use Rattle.bx_line_world.specs.Joined.{GoesOverLink}
@@ -30,8 +30,8 @@ ReadsSoMuch {W} {D} did holds may_leave moment left_since has_failed =
 abbrev pub DiskGoesAlong : {W D : Type 0} → (did : W → List WireAct → W → Type 0) (holds may_leave : D → List ℕ → Type 0) (moment : D → ℕ) (left_since : D → ℕ → List ℕ → Type 0) (has_failed : D → Bool) → Type 0
 DiskGoesAlong {W} {D} did holds may_leave moment left_since has_failed =
     (old new : LineWorld W D) (acts : List Act) (first : D) → Chain (GoesByLine did holds may_leave moment left_since has_failed) old acts new
-    → old.record.disk ≡ Some first
-    → (last : D) × (new.record.disk ≡ Some last) × Chain (OnDisk holds may_leave moment left_since has_failed) first acts last
+    → old.log.disk ≡ Some first
+    → (last : D) × (new.log.disk ≡ Some last) × Chain (OnDisk holds may_leave moment left_since has_failed) first acts last
 
 -- the acts go over a data link
 abbrev pub AllGoOverLink : {W D : Type 0} → (did : W → List WireAct → W → Type 0) (holds may_leave : D → List ℕ → Type 0) (moment : D → ℕ) (left_since : D → ℕ → List ℕ → Type 0) (has_failed : D → Bool) → Type 0
@@ -39,7 +39,7 @@ AllGoOverLink {W} {D} did holds may_leave moment left_since has_failed =
     (old new : LineWorld W D) (acts : List Act) → Chain (GoesByLine did holds may_leave moment left_since has_failed) old acts new → GoesOverLink did old new acts
 
 -- the rest of a day was run, and is the one after the logged events
-abbrev pub RunsOverLine : {W D : Type 0} → (did : W → List WireAct → W → Type 0) (holds may_leave : D → List ℕ → Type 0) (moment : D → ℕ) (left_since : D → ℕ → List ℕ → Type 0) (has_failed : D → Bool) → LineWorld W D → LineWorld W D → ℕ → Day → Day → Result (Unit {0}) CannotRecord → Type 0
+abbrev pub RunsOverLine : {W D : Type 0} → (did : W → List WireAct → W → Type 0) (holds may_leave : D → List ℕ → Type 0) (moment : D → ℕ) (left_since : D → ℕ → List ℕ → Type 0) (has_failed : D → Bool) → LineWorld W D → LineWorld W D → ℕ → Day → Day → Result (Unit {0}) CannotLog → Type 0
 RunsOverLine did holds may_leave moment left_since has_failed old new last d d1 result =
     (ran : Runs (Chain (GoesByLine did holds may_leave moment left_since has_failed)) old new (Between d) (or_over (Done d1) d1 result))
-    × (d1 ≡ live_day_after (recorded ran.acts) d) × AreHeld last d ran.acts
+    × (d1 ≡ live_day_after (logged_by ran.acts) d) × AreHeld last d ran.acts

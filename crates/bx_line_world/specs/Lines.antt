@@ -3,8 +3,8 @@ use Rattle.std.specs.Prelude.{◌≡◌, ℕ, ◌+◌, ◌-◌, ◌*◌, ◌/◌
 use Rattle.arrayvec.specs.ArrayVec.{ArrayVec}
 use Rattle.bx_lapd.specs.declared.frame.Frame.{Frame}
 use Rattle.bx_lapd.specs.Codec.{sent_octets}
-use Rattle.bx_lapd.specs.Links.{Step, does}
-use Rattle.bx_lapd.specs.Table.{establish, takes, give, elapse, due_of}
+use Rattle.bx_lapd.specs.Links.{LinkStep, does}
+use Rattle.bx_lapd.specs.Table.{establish, takes_data, give, elapse, due_of}
 use Rattle.bx_lapd.specs.Endpoints.{hear_octets}
 use Rattle.bx_line_world.specs.Wires.{WireAct, Shown, Sent, Waited}
 use Rattle.bx_line_world.specs.Posts.{all_told_to, is_full}
@@ -51,7 +51,7 @@ slice_of s until = max 50_000 (min (until - s.shown) (min (left_until (due_of s.
 -- ---- what an event does
 
 -- by the table of the link
-abbrev pub step_of : {W : Type 0} → Line W → LineEvent → Step
+abbrev pub step_of : {W : Type 0} → Line W → LineEvent → LinkStep
 step_of s (Asked shown) = establish s.end.link.state s.end.link (time_at s shown)
 step_of s (Given m shown) = give s.end.link m (time_at s shown)
 step_of s (Elapsed shown) = elapse s.end.link (time_at s shown)
@@ -72,8 +72,8 @@ abbrev pub sent_as : Bool → Frame → WireAct
 sent_as network f = Sent (sent_octets network f)
 
 -- and then the frames that the table sends
-abbrev pub acts_of : {W : Type 0} → Line W → LineEvent → List WireAct
-acts_of s event = asked_of s event ++ map (sent_as s.end.network) (step_of s event).frames
+abbrev pub wire_acts_of : {W : Type 0} → Line W → LineEvent → List WireAct
+wire_acts_of s event = asked_of s event ++ map (sent_as s.end.network) (step_of s event).frames
 
 abbrev pub shown_by : ℕ → LineEvent → ℕ
 shown_by before (Asked shown) = shown
@@ -102,18 +102,18 @@ abbrev pub is_passed : Post → List ℕ → Bool
 is_passed p octets = is_full p && is_information octets
 
 -- a message is given only where the link takes it, and one that comes is heard where there is room for it
-abbrev pub IsTaken : {W : Type 0} → Line W → LineEvent → Type 0
-IsTaken s (Given m shown) = takes s.end.link.state s.end.link ≡ true
-IsTaken s (Heard until octets shown) = is_passed s.post octets ≡ false
-IsTaken s (Passed until octets) = is_passed s.post octets ≡ true
-IsTaken s event = Unit {0}
+abbrev pub IsEventTaken : {W : Type 0} → Line W → LineEvent → Type 0
+IsEventTaken s (Given m shown) = takes_data s.end.link.state s.end.link ≡ true
+IsEventTaken s (Heard until octets shown) = is_passed s.post octets ≡ false
+IsEventTaken s (Passed until octets) = is_passed s.post octets ≡ true
+IsEventTaken s event = Unit {0}
 
 -- an event has happened: just this went over the wire, and the link has taken just this step
 pub record Serves {W : Type 0} (did : W → List WireAct → W → Type 0) (old : Line W) (event : LineEvent) (new : Line W) : Type 0 where
-  pub wire : did old.wire (acts_of old event) new.wire
+  pub wire : did old.wire (wire_acts_of old event) new.wire
   pub network : new.end.network ≡ old.end.network
   pub link : new.end.link ≡ (step_of old event).link
   pub post : new.post ≡ all_told_to old.post (step_of old event).told
   pub shown : new.shown ≡ shown_by old.shown event
   pub passed : new.passed ≡ passed_after old event
-  pub taken : IsTaken old event
+  pub taken : IsEventTaken old event

@@ -1,7 +1,7 @@
 -- A data link that is served while an instant is waited for.
 use Rattle.std.specs.Prelude.{◌≡◌, ◌⊎◌, ℕ, nat_le, ◌&&◌, ◌||◌, not, Bool, true, false, List, [], ◌∷◌, length, is_some}
 use Rattle.arrayvec.specs.ArrayVec.{ArrayVec}
-use Rattle.bx_lapd.specs.Links.{Link, is_up}
+use Rattle.bx_lapd.specs.Links.{Link, is_link_up}
 use Rattle.bx_lapd.specs.Table.{due_of}
 use Rattle.bx_live_parts.specs.Chains.{Chain}
 use Rattle.bx_line_world.specs.Wires.{WireAct}
@@ -15,8 +15,8 @@ abbrev pub has_news : Post → Bool
 has_news p = is_lost p.lost || is_any p.messages.items
 
 -- the instant has come; or, in a turn, there is news
-abbrev pub is_over : {W : Type 0} → Line W → ℕ → Bool → Bool
-is_over s until in_turn = nat_le until s.shown || (in_turn && has_news s.post)
+abbrev pub is_wait_over : {W : Type 0} → Line W → ℕ → Bool → Bool
+is_wait_over s until in_turn = nat_le until s.shown || (in_turn && has_news s.post)
 
 abbrev pub IsWait : ℕ → LineEvent → Type 0
 IsWait until (Heard end octets shown) = end ≡ until
@@ -29,7 +29,7 @@ pub record Slice {W : Type 0} (did : W → List WireAct → W → Type 0) (until
   pub between : Line W
   pub shown : ℕ
   pub looked : Serves did old (Elapsed shown) between
-  pub goes_on : is_over between until in_turn ≡ false
+  pub goes_on : is_wait_over between until in_turn ≡ false
   pub is_wait : IsWait until came
   pub waited : Serves did between came new
 
@@ -69,16 +69,16 @@ pub record Served {W : Type 0} (did : W → List WireAct → W → Type 0) (unti
   pub sliced : Sliced did until in_turn old before count
   pub shown : ℕ
   pub looked : Serves did before (Elapsed shown) new
-  pub over : (is_over new until in_turn ≡ true) ⊎ (count ≡ 18446744073709551615)
+  pub over : (is_wait_over new until in_turn ≡ true) ⊎ (count ≡ 18446744073709551615)
 
 -- a link that is not there, and for which no attempt runs, is asked for
 abbrev pub is_idle : Link → Bool
-is_idle l = not (is_up l.state) && not (is_some (due_of l.timer))
+is_idle l = not (is_link_up l.state) && not (is_some (due_of l.timer))
 
-abbrev pub Asks : {W : Type 0} → (W → List WireAct → W → Type 0) → Bool → Line W → Line W → Type 0
-Asks did true old new = (shown : ℕ) × Serves did old (Asked shown) new
-Asks did false old new = new ≡ old
+abbrev pub AsksLink : {W : Type 0} → (W → List WireAct → W → Type 0) → Bool → Line W → Line W → Type 0
+AsksLink did true old new = (shown : ℕ) × Serves did old (Asked shown) new
+AsksLink did false old new = new ≡ old
 
 -- a message was given
-abbrev pub Gives : {W : Type 0} → (W → List WireAct → W → Type 0) → Line W → ArrayVec ℕ → Line W → Type 0
-Gives did old message new = (shown : ℕ) × Serves did old (Given message shown) new
+abbrev pub GivesMessage : {W : Type 0} → (W → List WireAct → W → Type 0) → Line W → ArrayVec ℕ → Line W → Type 0
+GivesMessage did old message new = (shown : ℕ) × Serves did old (Given message shown) new

@@ -4,11 +4,11 @@ use Rattle.arrayvec.specs.ArrayVec.{ArrayVec}
 use Rattle.bx_lapd.specs.declared.frame.Frame.{Frame}
 use Rattle.bx_lapd.specs.declared.indication.Indication.{Indication}
 use Rattle.bx_lapd.specs.Links.{Did}
-use Rattle.bx_lapd.specs.Table.{takes}
+use Rattle.bx_lapd.specs.Table.{takes_data}
 use Rattle.bx_line_world.specs.Wires.{WireAct, Shown}
 use Rattle.bx_line_world.specs.Posts.{all_told_to, with_messages, IsNoneWithin}
 use Rattle.bx_line_world.specs.Lines.{LineEvent, Elapsed, Serves, passed_by, sent_as}
-use Rattle.bx_line_world.specs.Serving.{Gives, IsWait, Slice, Polls, has_come, is_over}
+use Rattle.bx_line_world.specs.Serving.{GivesMessage, IsWait, Slice, Polls, has_come, is_wait_over}
 use Rattle.bx_live_parts.specs.Chains.{Chain}
 use Rattle.bx_line_world.specs.declared.line.Line.{Line}
 use Rattle.bx_line_world.specs.declared.post.Post.{Post}
@@ -22,7 +22,7 @@ abbrev pub with_wire : {W : Type 0} → Line W → W → Line W
 with_wire s wire = record s { wire = wire }
 
 -- frames were sent
-pub record Sends {W : Type 0} (did : W → List WireAct → W → Type 0) (frames : List Frame) (old new : Line W) : Type 0 where
+pub record SendsFrames {W : Type 0} (did : W → List WireAct → W → Type 0) (frames : List Frame) (old new : Line W) : Type 0 where
   pub wire : did old.wire (map (sent_as old.end.network) frames) new.wire
   pub rest : new ≡ record old { wire = new.wire }
 
@@ -30,14 +30,14 @@ pub record Sends {W : Type 0} (did : W → List WireAct → W → Type 0) (frame
 abbrev pub keeps : {W : Type 0} → Line W → List Indication → Line W
 keeps old told = record old { post = all_told_to old.post told }
 
-pub record Carries {W : Type 0} (did : W → List WireAct → W → Type 0) (done : Did) (old new : Line W) : Type 0 where
+pub record CarriesOut {W : Type 0} (did : W → List WireAct → W → Type 0) (done : Did) (old new : Line W) : Type 0 where
   pub wire : did old.wire (map (sent_as old.end.network) done.frames) new.wire
   pub rest : new ≡ record old { wire = new.wire; post = all_told_to old.post done.told }
 
 -- a message was given, or is not taken
 abbrev pub GivesWhere : {W : Type 0} → (W → List WireAct → W → Type 0) → ArrayVec ℕ → Bool → Line W → Line W → Type 0
-GivesWhere did message true old new = Gives did old message new
-GivesWhere did message false old new = (new ≡ old) × (takes old.end.link.state old.end.link ≡ false)
+GivesWhere did message true old new = GivesMessage did old message new
+GivesWhere did message false old new = (new ≡ old) × (takes_data old.end.link.state old.end.link ≡ false)
 
 -- a frame was waited for, and came or did not
 abbrev pub Waits : {W : Type 0} → (W → List WireAct → W → Type 0) → ℕ → Bool → Line W → Line W → Type 0
@@ -50,9 +50,9 @@ pub record PolledBy {W : Type 0} (did : W → List WireAct → W → Type 0) (co
   pub counted : length came ≡ count
 
 -- one look and one wait, or a look at which the wait is over
-abbrev pub GoesOn : {W : Type 0} → (W → List WireAct → W → Type 0) → ℕ → Bool → Bool → Line W → Line W → Type 0
-GoesOn did until in_turn true old new = (shown : ℕ) × Serves did old (Elapsed shown) new × (is_over new until in_turn ≡ true)
-GoesOn did until in_turn false old new = (came : LineEvent) × Slice did until in_turn old came new
+abbrev pub GoesOnWaiting : {W : Type 0} → (W → List WireAct → W → Type 0) → ℕ → Bool → Bool → Line W → Line W → Type 0
+GoesOnWaiting did until in_turn true old new = (shown : ℕ) × Serves did old (Elapsed shown) new × (is_wait_over new until in_turn ≡ true)
+GoesOnWaiting did until in_turn false old new = (came : LineEvent) × Slice did until in_turn old came new
 
 -- the first message is taken, where one is there that has at most so many octets
 abbrev pub TakesFirst : ℕ → Post → Option (ArrayVec ℕ) → Post → Type 0

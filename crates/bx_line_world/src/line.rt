@@ -3,8 +3,8 @@
 ghost use Rattle.std.specs.Prelude.{◌≡◌, ◌∷◌, [], ℕ, ◌<◌, ◌^◌, is_ok};
 ghost use Rattle.bx_line_world.specs.Posts.{no_post};
 ghost use Rattle.bx_line_world.specs.Lines.{Elapsed, Serves, instant_in, slice_of, sent_as, is_information, is_passed};
-ghost use Rattle.bx_line_world.specs.Serving.{Asks, is_idle, is_over};
-ghost use Rattle.bx_line_world.specs.Steps.{Looks, with_wire, Sends, keeps, Carries, GivesWhere, Waits};
+ghost use Rattle.bx_line_world.specs.Serving.{AsksLink, is_idle, is_wait_over};
+ghost use Rattle.bx_line_world.specs.Steps.{Looks, with_wire, SendsFrames, keeps, CarriesOut, GivesWhere, Waits};
 
 use crate::post::Post;
 use crate::wire::Wire;
@@ -73,7 +73,7 @@ impl<W> Line<W> {
 
     /// Whether a wait is over.
     pub(crate) fn is_over(&self, until: u128, in_turn: bool) -> bool
-        ensures { result ≡ is_over self.now until in_turn }
+        ensures { result ≡ is_wait_over self.now until in_turn }
     {
         until <= self.shown || (in_turn && self.post.has_news())
     }
@@ -122,7 +122,7 @@ impl<W: Wire> Line<W> {
 
     /// Sends frames.
     fn send(&mut self, frames: &[Frame])
-        ensures { Sends W.did frames.now self.old self.new }
+        ensures { SendsFrames W.did frames.now self.old self.new }
     {
         let network = self.end.is_network();
         for frame in frames {
@@ -141,7 +141,7 @@ impl<W: Wire> Line<W> {
 
     /// Does what the link wants.
     fn carry_out(&mut self, done: &Done)
-        ensures { Carries W.did done.now self.old self.new }
+        ensures { CarriesOut W.did done.now self.old self.new }
     {
         self.send(done.frames());
         self.keep(done.told());
@@ -149,7 +149,7 @@ impl<W: Wire> Line<W> {
 
     /// Asks for a link where there is none, and no attempt runs.
     pub(crate) fn ask(&mut self)
-        ensures { Asks W.did (is_idle self.old.end.link) self.old self.new }
+        ensures { AsksLink W.did (is_idle self.old.end.link) self.old self.new }
     {
         if self.is_idle() {
             self.look();

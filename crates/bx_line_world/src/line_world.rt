@@ -1,7 +1,7 @@
 //! A live day over a data link: by the clock, towards whoever is at the other end of the wire.
 
 ghost use Rattle.std.specs.Prelude.{◌≡◌, is_ok, Ok};
-ghost use Rattle.bx_line_world.specs.Days.{IsBegun, Begins, GivesAll, Takes, Reads, octets_in};
+ghost use Rattle.bx_line_world.specs.Days.{IsSecondBegun, Begins, GivesAll, TakesMessage, ReadsTurn, octets_of_message};
 
 use crate::line::Line;
 use crate::post::copied;
@@ -10,11 +10,11 @@ use bx_devices::WriteFailed;
 use bx_events::LiveEvent;
 use bx_frames::{Frame, LinkFault};
 use bx_journal::Disk;
-use bx_live::{Begin, CannotRecord, Loss, World};
-use bx_live_parts::{Record, SECOND, Schedule};
+use bx_live::{Begin, CannotLog, Loss, World};
+use bx_live_parts::{Log, SECOND, Schedule};
 use bx_q931::Octets;
 
-/// A world with a data link over a wire, whose seconds begin by the clock beside it, and a record.
+/// A world with a data link over a wire, whose seconds begin by the clock beside it, and a journal.
 #[derive(Drop)]
 pub struct LineWorld<W, D: Disk> {
     pub schedule: Schedule,
@@ -22,7 +22,7 @@ pub struct LineWorld<W, D: Disk> {
     /// The second that began last, and the octets of the messages that it has taken.
     pub second: u32,
     pub taken: u32,
-    pub record: Record<D>,
+    pub log: Log<D>,
 }
 
 /// The octets of messages that a second takes at most: what a line of 64 kbit/s carries in it.
@@ -30,7 +30,7 @@ const MOST_OCTETS: u32 = 8000;
 
 /// The octets of a message that was read.
 fn octets_in(frame: &Frame) -> u32
-    ensures { result ≡ octets_in (Ok frame.now) }
+    ensures { result ≡ octets_of_message (Ok frame.now) }
 {
     match frame {
         Frame::Message(message) => message.len() as u32,
@@ -40,17 +40,17 @@ fn octets_in(frame: &Frame) -> u32
 
 impl<W, D: Disk> LineWorld<W, D> {
     /// A world whose seconds begin by the schedule.
-    pub fn new(schedule: Schedule, line: Line<W>, kept: Record<D>) -> Self
+    pub fn new(schedule: Schedule, line: Line<W>, kept: Log<D>) -> Self
         ensures schedule { result.schedule ≡ schedule }
         ensures line { result.line ≡ line }
-        ensures kept { result.record ≡ kept }
+        ensures kept { result.log ≡ kept }
     {
         LineWorld {
             schedule,
             line,
             second: 0,
             taken: 0,
-            record: kept,
+            log: kept,
         }
     }
 }
@@ -58,7 +58,7 @@ impl<W, D: Disk> LineWorld<W, D> {
 impl<W: Wire> Line<W> {
     /// How a second begins whose instant was waited for.
     fn begun(&self, instant: u128) -> Begin
-        ensures { IsBegun result instant self.now }
+        ensures { IsSecondBegun result instant self.now }
     {
         if self.shown.saturating_sub(instant) > SECOND {
             return Begin::Late;
@@ -96,7 +96,7 @@ impl<W: Wire> Line<W> {
 
     /// The first message of those that are there already.
     fn take_waiting(&mut self, left: u32) -> Option<Octets>
-        ensures { Takes W.did left result self.old self.new }
+        ensures { TakesMessage W.did left result self.old self.new }
     {
         self.poll();
         if self.post.lost.is_some() {
@@ -107,7 +107,7 @@ impl<W: Wire> Line<W> {
 
     /// The next message of a turn that lasts until an instant, or its end. One that has more octets than are left waits for the next turn.
     fn next(&mut self, until: u128, second: u32, left: u32) -> Result<Frame, LinkFault>
-        ensures { Reads W.did until second left result self.old self.new }
+        ensures { ReadsTurn W.did until second left result self.old self.new }
     {
         self.serve(until, true);
         match self.post.lost {
@@ -138,12 +138,12 @@ impl<W: Wire, D: Disk> World for LineWorld<W, D> {
         self.line.post.drop_link(loss);
     }
 
-    fn record(&mut self, event: LiveEvent<'_>) -> Result<(), CannotRecord> {
-        self.record.record(event)
+    fn log(&mut self, event: LiveEvent<'_>) -> Result<(), CannotLog> {
+        self.log.log(event)
     }
 
-    fn sync(&mut self) -> Result<(), CannotRecord> {
-        self.record.sync()
+    fn sync(&mut self) -> Result<(), CannotLog> {
+        self.log.sync()
     }
 
     fn write_turn(&mut self, sent: &[Octets], _moment: u32) -> Result<(), WriteFailed> {

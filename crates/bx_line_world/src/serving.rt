@@ -1,7 +1,7 @@
 //! A data link that is served while an instant is waited for.
 
 ghost use Rattle.bx_line_world.specs.Serving.{Served, Polled};
-ghost use Rattle.bx_line_world.specs.Steps.{GoesOn};
+ghost use Rattle.bx_line_world.specs.Steps.{GoesOnWaiting};
 
 use crate::line::Line;
 use crate::wire::Wire;
@@ -15,7 +15,7 @@ const MOST_POLLED: u32 = 64;
 impl<W: Wire> Line<W> {
     /// Looks at the timer, and waits for a frame where the wait is not over. Answers whether it is.
     fn serve_once(&mut self, until: u128, in_turn: bool) -> bool
-        ensures { GoesOn W.did until in_turn result self.old self.new }
+        ensures { GoesOnWaiting W.did until in_turn result self.old self.new }
     {
         self.elapse();
         if self.is_over(until, in_turn) {

@@ -6,7 +6,7 @@ use Rattle.bx_events.specs.Events.{Event, Tick, Receive}
 use Rattle.bx_far.specs.FarDay.{FarDay}
 use Rattle.bx_frames.specs.Courses.{ticks_of, ticks_last}
 use Rattle.bx_frames.specs.Talks.{Talk, stop, with_events}
-use Rattle.bx_link.specs.Talking.{talk_in, follow}
+use Rattle.bx_link.specs.Talking.{talk_in, follow_talk}
 use Rattle.bx_link.specs.Hearing.{TakesTurn, Opens, Hears}
 use Rattle.bx_link.specs.Days.{EndsDay, FarTalks, TalksToEnd}
 use Rattle.bx_link.specs.BothEnds.{NearWaits, AreOpened, passage}
@@ -92,7 +92,7 @@ module _ {R W : Type 0} {remaining : R → Option (List ℕ)} {contents : W → 
         talk = λ known e.
             let b = so_far.talk known e in
             let same : talk_in all d b.read ≡ with_events events (stop (Err EndedInFrame) [] []) =
-            ap (talk_in all d) (sym (append-nil b.read)) ∙ b.splits [] ∙ ap (λ (t : Talk). with_events events (follow t (Onward turns d2) t)) (turn_nothing Exchange d2.moment 64) in
+            ap (talk_in all d) (sym (append-nil b.read)) ∙ b.splits [] ∙ ap (λ (t : Talk). with_events events (follow_talk t (Onward turns d2) t)) (turn_nothing Exchange d2.moment 64) in
             record {
               read = b.read;
               is_read = b.is_read;

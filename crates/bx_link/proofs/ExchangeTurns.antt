@@ -12,8 +12,8 @@ use Rattle.bx_day.specs.Course.{exchange_next, exchange_text}
 use Rattle.bx_frames.specs.Frames.{is_far, day_frame}
 use Rattle.bx_frames.specs.Writing.{Sends}
 use Rattle.bx_frames.specs.Talks.{Talk, stop, with_events}
-use Rattle.bx_link.specs.Talking.{exchange_turn, talk_in, follow}
-use Rattle.bx_frames.specs.Heard.{Goes, Went, no_tick}
+use Rattle.bx_link.specs.Talking.{exchange_turn, talk_in, follow_talk}
+use Rattle.bx_frames.specs.Heard.{TalksThrough, Went, no_tick}
 use Rattle.bx_link.specs.Hearing.{Opens, Hears}
 use Rattle.bx_link.specs.Days.{Talks, EndsDay}
 use Rattle.bx_frames.specs.declared.fault.LinkFault.{LinkFault}
@@ -52,16 +52,16 @@ Onward turns d1 events = talk_in turns (after exchange_next events d1)
 
 -- after the tick
 abbrev pub Open : ℕ → Day → List ℕ → Talk
-Open turns d1 text = follow (exchange_turn d1 text) (Onward turns d1) (exchange_turn d1 text)
+Open turns d1 text = follow_talk (exchange_turn d1 text) (Onward turns d1) (exchange_turn d1 text)
 
 module _ {R W : Type 0} (remaining : R → Option (List ℕ)) (contents : W → Option (List ℕ)) (turns : ℕ) (r : Watched R) (w w1 : Watched W) (d d1 : Day) where
   by_tick : d1 ≡ exchange_next d Tick → (text : List ℕ) → talk_in (suc turns) d text ≡ with_events (Tick ∷ []) (Open turns d1 text)
   unfolding talk_in
-  by_tick e text = ap (λ (x : Day). with_events (Tick ∷ []) (follow (exchange_turn x text) (λ events. talk_in turns (after exchange_next events x)) (exchange_turn x text))) (sym e)
+  by_tick e text = ap (λ (x : Day). with_events (Tick ∷ []) (follow_talk (exchange_turn x text) (λ events. talk_in turns (after exchange_next events x)) (exchange_turn x text))) (sym e)
 
   -- nothing has come
   not_yet : d1 ≡ exchange_next d Tick → talk_in (suc turns) d [] ≡ with_events (Tick ∷ []) (stop (Err EndedInFrame) [] [])
-  not_yet e = by_tick e [] ∙ ap (λ (t : Talk). with_events (Tick ∷ []) (follow t (Onward turns d1) t)) (turn_nothing Exchange d1.moment 64)
+  not_yet e = by_tick e [] ∙ ap (λ (t : Talk). with_events (Tick ∷ []) (follow_talk t (Onward turns d1) t)) (turn_nothing Exchange d1.moment 64)
 
   -- the tick was written
   pub turn_opened : Opens contents w w1 d d1 over → SoFar exchange_next exchange_text (talk_in (suc turns) d) (Open turns d1) remaining contents r r w w1 d d1 (Tick ∷ [])
@@ -75,7 +75,7 @@ module _ {R W : Type 0} (remaining : R → Option (List ℕ)) (contents : W → 
   }
 
   -- or not whole
-  pub open_failed : (fault : LinkFault) → Opens contents w w1 d d1 (broken fault) → Goes Exchange exchange_next exchange_text (talk_in (suc turns) d) remaining contents r r w w1 d d1 (Tick ∷ []) (faulty fault)
+  pub open_failed : (fault : LinkFault) → Opens contents w w1 d d1 (broken fault) → TalksThrough Exchange exchange_next exchange_text (talk_in (suc turns) d) remaining contents r r w w1 d d1 (Tick ∷ []) (faulty fault)
   open_failed fault p =
       let write = only_write fault p.answer in
       record {
@@ -109,7 +109,7 @@ module _ {R W : Type 0} (remaining : R → Option (List ℕ)) (contents : W → 
 
   -- or it had a fault
   pub close_failed : (fault : LinkFault) (hears : Hears remaining contents r r1 w w1 d1 d2 (broken fault))
-      → Goes Exchange exchange_next exchange_text (Open turns d1) remaining contents r r1 w w1 d1 d2 hears.events (faulty fault)
+      → TalksThrough Exchange exchange_next exchange_text (Open turns d1) remaining contents r r1 w w1 d1 d2 hears.events (faulty fault)
   close_failed fault hears =
       follow_fault Exchange (exchange_turn d1) (Onward turns d1) (exchange_turn d1) exchange_next exchange_text remaining contents r r1 w w1 d1 d2 hears.events fault
       (λ last. absurd (no_last hears.events hears.ticks last)) hears.goes

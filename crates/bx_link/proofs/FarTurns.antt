@@ -8,8 +8,8 @@ use Rattle.bx_frames.specs.Courses.{after, ticks_of}
 use Rattle.bx_far.specs.Course.{far_next, far_text}
 use Rattle.bx_frames.specs.Writing.{Sends}
 use Rattle.bx_frames.specs.Talks.{Talk, stop}
-use Rattle.bx_link.specs.Talking.{far_hears, far_turn, ticked, closed_before, far_talk_in, follow, follow_by}
-use Rattle.bx_frames.specs.Heard.{Goes, Went, no_tick}
+use Rattle.bx_link.specs.Talking.{far_hears, far_turn, ticked_talk, closed_before, far_talk_in, follow_talk, follow_by}
+use Rattle.bx_frames.specs.Heard.{TalksThrough, Went, no_tick}
 use Rattle.bx_link.specs.Hearing.{TakesTurn}
 use Rattle.bx_link.specs.Days.{FarTalks}
 use Rattle.bx_frames.specs.declared.fault.LinkFault.{LinkFault}
@@ -34,7 +34,7 @@ module _ {R W : Type 0} (remaining : R → Option (List ℕ)) (contents : W → 
   HearsFar result = Went FarEnd far_next far_text (far_hears d) no_tick remaining contents r r1 w w1 d d1 result
 
   abbrev Afterwards : List Event → List ℕ → Talk
-  Afterwards events = ticked
+  Afterwards events = ticked_talk
 
   -- there is no tick
   abbrev pub turn_stopped : (fault : LinkFault) → HearsFar (faulty fault) → TakesTurn remaining contents r r1 w w1 d d1 (faulty fault)
@@ -53,7 +53,7 @@ module _ {R W : Type 0} (remaining : R → Option (List ℕ)) (contents : W → 
 
   -- a tick, whose messages were written, or a prefix of them
   module _ (hears : HearsFar (gave true)) (w2 : Watched W) (d2 : FarDay) (step : d2 ≡ far_next d1 Tick) where
-    pub at_tick : SoFar far_next far_text (far_turn d) ticked remaining contents r r1 w w1 d d1 hears.events
+    pub at_tick : SoFar far_next far_text (far_turn d) ticked_talk remaining contents r r1 w w1 d d1 hears.events
     at_tick = follow_on FarEnd (far_hears d) Afterwards (far_hears d) far_next far_text remaining contents r r1 w w1 d d1 hears.events (turn_local FarEnd (min (d.moment + 1) 300000) 64) hears.goes
 
     pub one_tick : ticks_of (hears.events ++ Tick ∷ []) ≡ 1
@@ -62,7 +62,7 @@ module _ {R W : Type 0} (remaining : R → Option (List ℕ)) (contents : W → 
     abbrev pub turn_ticked : Sends contents w1 w2 done (far_text d1 Tick) → TakesTurn remaining contents r r1 w w2 d d2 (gave true)
     turn_ticked writes = record {
       events = hears.events ++ Tick ∷ [];
-      goes = then_goes far_next far_text (far_turn d) ticked remaining contents r r1 r1 w w1 w2 d d1 d2 hears.events (Tick ∷ []) at_tick FarEnd (gave true) (record {
+      goes = then_goes far_next far_text (far_turn d) ticked_talk remaining contents r r1 r1 w w1 w2 d d1 d2 hears.events (Tick ∷ []) at_tick FarEnd (gave true) (record {
         day = step;
         talk = λ known e. inl (record { all = refl; ending = refl; rest = e });
         written = one_told far_next far_text contents w1 w2 d1 Tick true writes;
@@ -76,7 +76,7 @@ module _ {R W : Type 0} (remaining : R → Option (List ℕ)) (contents : W → 
     abbrev pub tick_failed : (f : Failed) → Sends contents w1 w2 (stopped f) (far_text d1 Tick) → TakesTurn remaining contents r r1 w w2 d d2 (faulty WriteFailed)
     tick_failed f writes = record {
       events = hears.events ++ Tick ∷ [];
-      goes = then_goes far_next far_text (far_turn d) ticked remaining contents r r1 r1 w w1 w2 d d1 d2 hears.events (Tick ∷ []) at_tick FarEnd (faulty WriteFailed) (record {
+      goes = then_goes far_next far_text (far_turn d) ticked_talk remaining contents r r1 r1 w w1 w2 d d1 d2 hears.events (Tick ∷ []) at_tick FarEnd (faulty WriteFailed) (record {
         day = step;
         talk = λ known e. inr (inr (refl, record { read = []; is_read = record { rest = known; splits = refl; is_left = e }; all = refl; following = refl; rest = refl; cut = inr (refl, refl, refl) }));
         written = one_failed far_next far_text contents w1 w2 d1 Tick f writes;
@@ -90,15 +90,15 @@ module _ {R W : Type 0} (remaining : R → Option (List ℕ)) (contents : W → 
 -- ---- a turn that ended depends on what was read alone
 
 module _ (d : FarDay) (text : List ℕ) (b : Bool) where
-  by_ending : (a : Result Bool LinkFault) → (far_hears d text).ending ≡ a → gave b ≡ (follow_by a (far_hears d text) (λ events. ticked) (far_hears d text)).ending
-      → IsEnded (far_turn d) text b (follow_by a (far_hears d text) (λ events. ticked) (far_hears d text))
+  by_ending : (a : Result Bool LinkFault) → (far_hears d text).ending ≡ a → gave b ≡ (follow_by a (far_hears d text) (λ events. ticked_talk) (far_hears d text)).ending
+      → IsEnded (far_turn d) text b (follow_by a (far_hears d text) (λ events. ticked_talk) (far_hears d text))
   by_ending (Ok true) s e =
       let i = turn_local FarEnd (min (d.moment + 1) 300000) 64 text true (sym s) in
       let same : true ≡ b = cc in
       record {
         read = i.read;
         splits = i.splits;
-        onward = λ more. ap (λ (t : Talk). follow t (λ events. ticked) (far_hears d (i.read ++ more))) (i.onward more)
+        onward = λ more. ap (λ (t : Talk). follow_talk t (λ events. ticked_talk) (far_hears d (i.read ++ more))) (i.onward more)
             ∙ ap (λ (c : Bool). record { events = (far_hears d text).events ++ Tick ∷ []; ending = Ok c; rest = more; following = more }) same;
       }
   by_ending (Ok false) s e =
@@ -107,7 +107,7 @@ module _ (d : FarDay) (text : List ℕ) (b : Bool) where
       record {
         read = i.read;
         splits = i.splits;
-        onward = λ more. ap (λ (t : Talk). follow t (λ events. ticked) t) (i.onward more) ∙ ap (λ (c : Bool). record { events = (far_hears d text).events; ending = Ok c; rest = more; following = more }) same;
+        onward = λ more. ap (λ (t : Talk). follow_talk t (λ events. ticked_talk) t) (i.onward more) ∙ ap (λ (c : Bool). record { events = (far_hears d text).events; ending = Ok c; rest = more; following = more }) same;
       }
   by_ending (Err fault) s e = cc
 
@@ -123,7 +123,7 @@ abbrev Over : ℕ → FarDay → List ℕ → Talk
 Over turns d text = closed_before turns (far_turn d text)
 
 abbrev FollowsFar : ℕ → FarDay → List ℕ → Talk
-FollowsFar turns d text = follow (far_turn d text) (Next turns d) (Over turns d text)
+FollowsFar turns d text = follow_talk (far_turn d text) (Next turns d) (Over turns d text)
 
 pub no_turn : (d : FarDay) (text : List ℕ) → far_talk_in 0 d text ≡ stop (Ok true) text text
 unfolding far_talk_in
@@ -137,11 +137,11 @@ far_quiet : (turns : ℕ) (d : FarDay) → IsQuiet (far_talk_in turns d [])
 unfolding far_talk_in
 far_quiet zero d = inl refl
 far_quiet (suc turns) d =
-    inr (ap (λ (t : Talk). follow (follow t (λ events. ticked) t) (Next turns d) (closed_before turns (follow t (λ events. ticked) t))) (turn_nothing FarEnd (min (d.moment + 1) 300000) 64))
+    inr (ap (λ (t : Talk). follow_talk (follow_talk t (λ events. ticked_talk) t) (Next turns d) (closed_before turns (follow_talk t (λ events. ticked_talk) t))) (turn_nothing FarEnd (min (d.moment + 1) 300000) 64))
 
 module _ {R W : Type 0} (remaining : R → Option (List ℕ)) (contents : W → Option (List ℕ)) (turns : ℕ) (r r1 : Watched R) (w w1 : Watched W) (d d1 : FarDay) where
   abbrev GoesFar : ℕ → List Event → Result Bool LinkFault → Type 0
-  GoesFar n events result = Goes FarEnd far_next far_text (far_talk_in n d) remaining contents r r1 w w1 d d1 events result
+  GoesFar n events result = TalksThrough FarEnd far_next far_text (far_talk_in n d) remaining contents r r1 w w1 d d1 events result
 
   pub next_went : (turn : TakesTurn remaining contents r r1 w w1 d d1 (gave true)) → SoFar far_next far_text (far_talk_in (suc turns) d) (far_talk_in turns d1) remaining contents r r1 w w1 d d1 turn.events
   next_went turn =
@@ -151,20 +151,20 @@ module _ {R W : Type 0} (remaining : R → Option (List ℕ)) (contents : W → 
 
   pub next_failed : (fault : LinkFault) (turn : TakesTurn remaining contents r r1 w w1 d d1 (faulty fault)) → GoesFar (suc turns) turn.events (faulty fault)
   next_failed fault turn =
-      subst (λ (f : List ℕ → Talk). Goes FarEnd far_next far_text f remaining contents r r1 w w1 d d1 turn.events (faulty fault)) (sym (next_turn turns d))
+      subst (λ (f : List ℕ → Talk). TalksThrough FarEnd far_next far_text f remaining contents r r1 w w1 d d1 turn.events (faulty fault)) (sym (next_turn turns d))
       (follow_fault FarEnd (far_turn d) (Next turns d) (Over turns d) far_next far_text remaining contents r r1 w w1 d d1 turn.events fault (λ last. far_quiet turns (after far_next turn.events d)) turn.goes)
 
 module _ {R W : Type 0} (remaining : R → Option (List ℕ)) (contents : W → Option (List ℕ)) (r r1 : Watched R) (w w1 : Watched W) (d d1 : FarDay) (turn : TakesTurn remaining contents r r1 w w1 d d1 (gave false)) where
   -- the end of the day, as the last turn
-  pub last_went : Goes FarEnd far_next far_text (far_talk_in 1 d) remaining contents r r1 w w1 d d1 turn.events (gave false)
+  pub last_went : TalksThrough FarEnd far_next far_text (far_talk_in 1 d) remaining contents r r1 w w1 d d1 turn.events (gave false)
   last_went =
-      subst (λ (f : List ℕ → Talk). Goes FarEnd far_next far_text f remaining contents r r1 w w1 d d1 turn.events (gave false)) (sym (next_turn 0 d))
+      subst (λ (f : List ℕ → Talk). TalksThrough FarEnd far_next far_text f remaining contents r r1 w w1 d d1 turn.events (gave false)) (sym (next_turn 0 d))
       (follow_day FarEnd (far_turn d) (Next 0 d) (Over 0 d) far_next far_text remaining contents r r1 w w1 d d1 turn.events (gave false) (λ e. cc) (λ e. cc) (λ known e. ended_so (far_turn d known) false e) turn.goes)
 
   -- or with another after it
-  pub closed_went : (turns : ℕ) → Goes FarEnd far_next far_text (far_talk_in (suc (suc turns)) d) remaining contents r r1 w w1 d d1 turn.events (faulty Closed)
+  pub closed_went : (turns : ℕ) → TalksThrough FarEnd far_next far_text (far_talk_in (suc (suc turns)) d) remaining contents r r1 w w1 d d1 turn.events (faulty Closed)
   closed_went turns =
-      subst (λ (f : List ℕ → Talk). Goes FarEnd far_next far_text f remaining contents r r1 w w1 d d1 turn.events (faulty Closed)) (sym (next_turn (suc turns) d))
+      subst (λ (f : List ℕ → Talk). TalksThrough FarEnd far_next far_text f remaining contents r r1 w w1 d d1 turn.events (faulty Closed)) (sym (next_turn (suc turns) d))
       (follow_day FarEnd (far_turn d) (Next (suc turns) d) (Over (suc turns) d) far_next far_text remaining contents r r1 w w1 d d1 turn.events (faulty Closed) (λ e. cc) (λ e. cc) (λ known e. refl) turn.goes)
 
 -- ---- a session
@@ -195,14 +195,14 @@ module _ {R W : Type 0} (remaining : R → Option (List ℕ)) (contents : W → 
       let same : count + 0 ≡ count = omega arith in
       record {
         events = p.events;
-        goes = subst (λ (n : ℕ). Goes FarEnd far_next far_text (far_talk_in n d) remaining contents r r1 w w1 d d1 p.events (gave true)) same
+        goes = subst (λ (n : ℕ). TalksThrough FarEnd far_next far_text (far_talk_in n d) remaining contents r r1 w w1 d d1 p.events (gave true)) same
             (all_goes far_next far_text (far_talk_in (count + 0) d) (far_talk_in 0 d1) remaining contents r r1 w w1 d d1 p.events (no_turn d1) FarEnd (p.so_far 0));
         ticks = p.ticks;
       }
 
   module _ (r2 : Watched R) (w2 : Watched W) (d2 : FarDay) where
-    pub following : (n : ℕ) (events : List Event) (result : Result Bool LinkFault) → Goes FarEnd far_next far_text (far_talk_in n d1) remaining contents r1 r2 w1 w2 d1 d2 events result
-        → Goes FarEnd far_next far_text (far_talk_in (count + n) d) remaining contents r r2 w w2 d d2 (p.events ++ events) result
+    pub following : (n : ℕ) (events : List Event) (result : Result Bool LinkFault) → TalksThrough FarEnd far_next far_text (far_talk_in n d1) remaining contents r1 r2 w1 w2 d1 d2 events result
+        → TalksThrough FarEnd far_next far_text (far_talk_in (count + n) d) remaining contents r r2 w w2 d d2 (p.events ++ events) result
     following n events result q = then_goes far_next far_text (far_talk_in (count + n) d) (far_talk_in n d1) remaining contents r r1 r2 w w1 w2 d d1 d2 p.events events (p.so_far n) FarEnd result q
 
     abbrev pub far_goes_on : TakesTurn remaining contents r1 r2 w1 w2 d1 d2 (gave true) → FarSoFar remaining contents (count + 1) r r2 w w2 d d2

@@ -8,8 +8,8 @@ use Rattle.bx_frames.specs.Courses.{told, ticks_last}
 use Rattle.bx_frames.specs.Frames.{is_far}
 use Rattle.bx_frames.specs.Reading.{IsRead}
 use Rattle.bx_frames.specs.Talks.{Talk, stop, with_events}
-use Rattle.bx_link.specs.Talking.{follow, follow_by}
-use Rattle.bx_frames.specs.Heard.{IsWhole, BreaksOff, IsUnread, IsHeard, Goes}
+use Rattle.bx_link.specs.Talking.{follow_talk, follow_by}
+use Rattle.bx_frames.specs.Heard.{IsWholeTalk, BreaksOff, IsTalkLeft, IsHeard, TalksThrough}
 use Rattle.bx_frames.specs.declared.fault.LinkFault.{LinkFault}
 use Rattle.bx_frames.specs.declared.fault.LinkFault.TheVariants.{ReadFailed, WriteFailed, EndedInFrame}
 use Rattle.bx_frames.specs.declared.frame.Receiver.{Receiver}
@@ -19,7 +19,7 @@ use Rattle.bx_frames.proofs.ReadingSteps.{not_faulted}
 use Rattle.bx_frames.proofs.Turns.{IsLocalTalk}
 
 -- what went well was heard whole
-pub heard_whole : (receiver : Receiver) (finds : List ℕ → Talk) (text : List ℕ) (events : List Event) (b : Bool) (left : Option (List ℕ)) → IsHeard receiver finds text events (gave b) left → IsWhole (finds text) events (gave b) left
+pub heard_whole : (receiver : Receiver) (finds : List ℕ → Talk) (text : List ℕ) (events : List Event) (b : Bool) (left : Option (List ℕ)) → IsHeard receiver finds text events (gave b) left → IsWholeTalk (finds text) events (gave b) left
 heard_whole receiver finds text events b left (inl whole) = whole
 heard_whole receiver finds text events b left (inr (inl (e, torn))) = cc
 heard_whole receiver finds text events b left (inr (inr (e, unread))) = cc
@@ -38,7 +38,7 @@ IsQuiet talk = (talk ≡ stop (Ok true) [] []) ⊎ (talk ≡ stop (Err EndedInFr
 
 module _ (receiver : Receiver) (finds : List ℕ → Talk) (next : List Event → List ℕ → Talk) (over : List ℕ → Talk) where
   abbrev Follows : List ℕ → Talk
-  Follows text = follow (finds text) next (over text)
+  Follows text = follow_talk (finds text) next (over text)
 
   by_fault : (text : List ℕ) (fault : LinkFault) → (finds text).ending ≡ Err fault → Follows text ≡ finds text
   by_fault text fault e = ap (λ (x : Result Bool LinkFault). follow_by x (finds text) next (over text)) e
@@ -50,18 +50,18 @@ module _ (receiver : Receiver) (finds : List ℕ → Talk) (next : List Event �
   by_day text e = ap (λ (x : Result Bool LinkFault). follow_by x (finds text) next (over text)) e
 
   -- a turn that has ended, and what comes after it
-  beyond : (text : List ℕ) (events : List Event) (left : Option (List ℕ)) → IsLocalTalk finds → IsWhole (finds text) events (gave true) left → IsBeyond Follows (next events) text events left
+  beyond : (text : List ℕ) (events : List Event) (left : Option (List ℕ)) → IsLocalTalk finds → IsWholeTalk (finds text) events (gave true) left → IsBeyond Follows (next events) text events left
   beyond text events left is_local whole =
       let i = is_local text true whole.ending in
       record {
         read = i.read;
         is_read = record { rest = (finds text).rest; splits = i.splits; is_left = whole.rest };
-        splits = λ more. ap (λ (t : Talk). follow t next (over (i.read ++ more))) (i.onward more) ∙ ap (λ (l : List Event). with_events l (next l more)) (sym whole.all);
+        splits = λ more. ap (λ (t : Talk). follow_talk t next (over (i.read ++ more))) (i.onward more) ∙ ap (λ (l : List Event). with_events l (next l more)) (sym whole.all);
       }
 
   module _ (text : List ℕ) (events : List Event) (fault : LinkFault) (left : Option (List ℕ)) (quiet : ticks_last false events ≡ true → IsQuiet (next events [])) where
     unread_so : (read : List ℕ) → IsRead text read left → (talk : Talk) → Follows read ≡ talk → events ≡ talk.events → talk.following ≡ [] → talk.rest ≡ []
-        → BreaksOff receiver talk.ending events → IsUnread receiver Follows text events left
+        → BreaksOff receiver talk.ending events → IsTalkLeft receiver Follows text events left
     unread_so read is_read talk e all following rest cut = record {
       read = read;
       is_read = is_read;
@@ -74,12 +74,12 @@ module _ (receiver : Receiver) (finds : List ℕ → Talk) (next : List Event �
       cut_so (inl f) = inl (ap (λ (t : Talk). t.ending) e ∙ f)
       cut_so (inr (f, last, far)) = inr (ap (λ (t : Talk). t.ending) e ∙ f, last, far)
 
-    after_tick : (u : IsUnread receiver finds text events left) → (finds u.read).ending ≡ Ok true → ticks_last false events ≡ true → is_far receiver ≡ true → IsQuiet (next events []) → IsUnread receiver Follows text events left
+    after_tick : (u : IsTalkLeft receiver finds text events left) → (finds u.read).ending ≡ Ok true → ticks_last false events ≡ true → is_far receiver ≡ true → IsQuiet (next events []) → IsTalkLeft receiver Follows text events left
     after_tick u ended last far q =
         let e : Follows u.read ≡ with_events events (next events []) =
         by_end u.read ended ∙ ap (λ (l : List ℕ). with_events (finds u.read).events (next (finds u.read).events l)) u.rest ∙ ap (λ (l : List Event). with_events l (next l [])) (sym u.all) in
         by_quiet e q where
-          by_quiet : Follows u.read ≡ with_events events (next events []) → IsQuiet (next events []) → IsUnread receiver Follows text events left
+          by_quiet : Follows u.read ≡ with_events events (next events []) → IsQuiet (next events []) → IsTalkLeft receiver Follows text events left
           by_quiet e (inl q) = unread_so u.read u.is_read (with_events events (stop (Ok true) [] [])) (e ∙ ap (with_events events) q) (sym (append-nil events)) refl refl (inr (refl, last, far))
           by_quiet e (inr q) = unread_so u.read u.is_read (with_events events (stop (Err EndedInFrame) [] [])) (e ∙ ap (with_events events) q) (sym (append-nil events)) refl refl (inl refl)
 
@@ -91,13 +91,13 @@ module _ (receiver : Receiver) (finds : List ℕ → Talk) (next : List Event �
         let e = by_fault torn.read EndedInFrame torn.cut in
         inr (inl (failed, record { read = torn.read; is_read = torn.is_read; all = torn.all ∙ sym (ap (λ (t : Talk). t.events) e); cut = ap (λ (t : Talk). t.ending) e ∙ torn.cut }))
     stopped (inr (inr (failed, u))) = inr (inr (failed, by_cut u.cut)) where
-      by_cut : BreaksOff receiver (finds u.read).ending events → IsUnread receiver Follows text events left
+      by_cut : BreaksOff receiver (finds u.read).ending events → IsTalkLeft receiver Follows text events left
       by_cut (inl cut) = unread_so u.read u.is_read (finds u.read) (by_fault u.read EndedInFrame cut) u.all u.following u.rest (inl cut)
       by_cut (inr (ended, last, far)) = after_tick u ended last far (quiet last)
 
   module _ {D R W : Type 0} (step : D → Event → D) (text : D → Event → List ℕ) (remaining : R → Option (List ℕ)) (contents : W → Option (List ℕ)) (r r1 : Watched R) (w w1 : Watched W) (d d1 : D) (events : List Event) where
     abbrev GoesBy : (List ℕ → Talk) → Result Bool LinkFault → Type 0
-    GoesBy talk result = Goes receiver step text talk remaining contents r r1 w w1 d d1 events result
+    GoesBy talk result = TalksThrough receiver step text talk remaining contents r r1 w w1 d d1 events result
 
     pub follow_on : IsLocalTalk finds → GoesBy finds (gave true) → SoFar step text Follows (next events) remaining contents r r1 w w1 d d1 events
     follow_on is_local p = record {

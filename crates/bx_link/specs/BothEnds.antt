@@ -9,7 +9,7 @@ use Rattle.bx_far.specs.FarDay.{FarDay}
 use Rattle.bx_frames.specs.Courses.{after, told, ticks_of, ticks_last}
 use Rattle.bx_day.specs.Course.{exchange_next, exchange_text}
 use Rattle.bx_link.specs.Talking.{talk_in}
-use Rattle.bx_frames.specs.Heard.{IsUnread}
+use Rattle.bx_frames.specs.Heard.{IsTalkLeft}
 use Rattle.bx_link.specs.Days.{Talks, TalksToEnd, FarTalks}
 use Rattle.bx_link.specs.declared.connection.Connection.{Connection}
 use Rattle.bx_frames.specs.declared.fault.LinkFault.{LinkFault}
@@ -46,7 +46,7 @@ NearEnded turns p ending = TalksToEnd p.remaining p.contents turns p.old.reader 
 pub record NearWaits {R W : Type 0} (turns opened : ℕ) (p : Passage Day R W) : Type 0 where
   pub events : List Event
   pub day : p.reached ≡ after exchange_next events p.opened
-  pub talk : (known : List ℕ) → p.remaining (device_of p.old.reader) ≡ Some known → IsUnread Exchange (talk_in turns p.opened) known events (p.remaining (device_of p.new.reader))
+  pub talk : (known : List ℕ) → p.remaining (device_of p.old.reader) ≡ Some known → IsTalkLeft Exchange (talk_in turns p.opened) known events (p.remaining (device_of p.new.reader))
   pub written : Appends (p.contents (device_of p.old.writer)) (p.contents (device_of p.new.writer)) (told exchange_next exchange_text events p.opened)
   pub reader : is_faulted p.new.reader ≡ is_faulted p.old.reader
   pub writer : is_faulted p.new.writer ≡ is_faulted p.old.writer

@@ -57,14 +57,14 @@ events_of_day (inr (stopped, talks)) = talks.events
 -- ---- several turns of the far end
 
 -- of so many turns each had its tick, but for one that was the end of the day or had a fault
-abbrev pub taken : ℕ → Result Bool LinkFault → ℕ → Type 0
-taken turns (Ok true) n = n ≡ turns
-taken turns (Ok false) n = n + 1 ≡ turns
-taken turns (Err fault) n = (0 < turns) × (n ≤ turns)
+abbrev pub turns_taken : ℕ → Result Bool LinkFault → ℕ → Type 0
+turns_taken turns (Ok true) n = n ≡ turns
+turns_taken turns (Ok false) n = n + 1 ≡ turns
+turns_taken turns (Err fault) n = (0 < turns) × (n ≤ turns)
 
 -- a far end took so many turns of a session
 abbrev pub FarTalks : {R W : Type 0} → (R → Option (List ℕ)) → (W → Option (List ℕ)) → ℕ → Watched R → Watched R → Watched W → Watched W → FarDay → FarDay → Result Bool LinkFault → Type 0
-FarTalks remaining contents turns r r' w w' d d' result = Went FarEnd far_next far_text (far_talk_in turns d) (taken turns) remaining contents r r' w w' d d' result
+FarTalks remaining contents turns r r' w w' d d' result = Went FarEnd far_next far_text (far_talk_in turns d) (turns_taken turns) remaining contents r r' w w' d d' result
 
 -- the most turns that are counted
 abbrev pub most_turns : ℕ

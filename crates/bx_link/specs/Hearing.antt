@@ -40,6 +40,6 @@ abbrev pub TakesTurn : {R W : Type 0} → (R → Option (List ℕ)) → (W → O
 TakesTurn remaining contents r r' w w' d d' result = Went FarEnd far_next far_text (far_turn d) tick_after remaining contents r r' w w' d d' result
 
 -- more turns may follow
-abbrev pub goes_on : Result Bool LinkFault → Bool
-goes_on (Ok b) = b
-goes_on (Err fault) = false
+abbrev pub session_goes_on : Result Bool LinkFault → Bool
+session_goes_on (Ok b) = b
+session_goes_on (Err fault) = false

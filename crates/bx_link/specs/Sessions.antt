@@ -9,9 +9,9 @@ abbrev pub is_in_turn : Stage → Bool
 is_in_turn InTurn = true
 is_in_turn _ = false
 
-abbrev pub is_over : Stage → Bool
-is_over Over = true
-is_over _ = false
+abbrev pub is_session_over : Stage → Bool
+is_session_over Over = true
+is_session_over _ = false
 
 -- a turn is open
 abbrev pub is_turn_open : Session → Bool
@@ -19,7 +19,7 @@ is_turn_open session = is_in_turn session.stage
 
 -- a fault has closed it
 abbrev pub is_closed : Session → Bool
-is_closed session = is_over session.stage
+is_closed session = is_session_over session.stage
 
 -- a fault or the end of the day has closed the far end's session
 abbrev pub is_far_over : FarSession → Bool

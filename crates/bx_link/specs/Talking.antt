@@ -19,8 +19,8 @@ follow_by (Ok false) first next over = over
 follow_by (Err fault) first next over = first
 
 -- what happens after an end of turn, by what happened before it; and what there is where the day ended
-abbrev pub follow : Talk → (List Event → List ℕ → Talk) → Talk → Talk
-follow first next over = follow_by first.ending first next over
+abbrev pub follow_talk : Talk → (List Event → List ℕ → Talk) → Talk → Talk
+follow_talk first next over = follow_by first.ending first next over
 
 -- ---- the exchange
 
@@ -33,7 +33,7 @@ unfoldable pub talk_in : ℕ → Day → List ℕ → Talk
 talk_in zero d text = stop (Ok true) text text
 talk_in (suc turns) d text =
     let first = exchange_turn (exchange_next d Tick) text in
-    with_events (Tick ∷ []) (follow first (λ events. talk_in turns (after exchange_next events (exchange_next d Tick))) first)
+    with_events (Tick ∷ []) (follow_talk first (λ events. talk_in turns (after exchange_next events (exchange_next d Tick))) first)
 
 -- ---- the far end
 
@@ -41,11 +41,11 @@ talk_in (suc turns) d text =
 abbrev pub far_hears : FarDay → List ℕ → Talk
 far_hears d text = turn_in FarEnd (far_due d) 64 text
 
-abbrev pub ticked : List ℕ → Talk
-ticked text = record { events = Tick ∷ []; ending = Ok true; rest = text; following = text }
+abbrev pub ticked_talk : List ℕ → Talk
+ticked_talk text = record { events = Tick ∷ []; ending = Ok true; rest = text; following = text }
 
 abbrev pub far_turn : FarDay → List ℕ → Talk
-far_turn d text = follow (far_hears d text) (λ events. ticked) (far_hears d text)
+far_turn d text = follow_talk (far_hears d text) (λ events. ticked_talk) (far_hears d text)
 
 -- where more turns were to come, the end of the day has closed the session
 abbrev pub closed_before : ℕ → Talk → Talk
@@ -55,4 +55,4 @@ closed_before (suc turns) talk = record talk { ending = Err Closed }
 -- so many turns of a session from a day on; the last of them may be the end of the day
 unfoldable pub far_talk_in : ℕ → FarDay → List ℕ → Talk
 far_talk_in zero d text = stop (Ok true) text text
-far_talk_in (suc turns) d text = follow (far_turn d text) (λ events. far_talk_in turns (after far_next events d)) (closed_before turns (far_turn d text))
+far_talk_in (suc turns) d text = follow_talk (far_turn d text) (λ events. far_talk_in turns (after far_next events d)) (closed_before turns (far_turn d text))

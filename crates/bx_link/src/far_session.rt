@@ -2,7 +2,7 @@
 //! day.
 
 ghost use Rattle.std.specs.Prelude.{◌≡◌, not, true, false, Err};
-ghost use Rattle.bx_link.specs.Hearing.{goes_on};
+ghost use Rattle.bx_link.specs.Hearing.{session_goes_on};
 ghost use Rattle.bx_link.specs.Sessions.{is_far_over};
 ghost use Rattle.bx_frames.specs.declared.fault.LinkFault.TheVariants.{Closed};
 ghost use Rattle.bx_link.specs.Kept.{TakesTurnKept, TakesTurnIfOpen};
@@ -56,7 +56,7 @@ impl FarSession {
         ensures far { is_far_over self.old ≡ true → far.new ≡ far.old }
         ensures reader { is_far_over self.old ≡ true → reader.new ≡ reader.old }
         ensures writer { is_far_over self.old ≡ true → writer.new ≡ writer.old }
-        ensures over { is_far_over self.new ≡ not (goes_on result) }
+        ensures over { is_far_over self.new ≡ not (session_goes_on result) }
     {
         if self.is_over() {
             return Err(LinkFault::Closed);
@@ -69,7 +69,7 @@ impl FarSession {
 
 /// Whether more turns may follow one that ended so.
 fn may_go_on(ended: &Result<bool, LinkFault>) -> bool
-    ensures { result ≡ goes_on ended.now }
+    ensures { result ≡ session_goes_on ended.now }
 {
     match ended {
         Ok(goes_on) => *goes_on,

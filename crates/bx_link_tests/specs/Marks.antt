@@ -3,8 +3,8 @@ use Rattle.std.specs.Prelude.{◌≡◌, List, [], ◌++◌, map}
 use Rattle.std.proofs.Common.{sym, ap, ◌∙◌}
 use Rattle.std.proofs.lemmas.List.{append-nil, append_assoc}
 use Rattle.bx_events.specs.Events.{Tick, Receive, LiveEvent, OnLink, WithoutLink, Sold}
-use Rattle.bx_live.specs.Acts.{Act, recorded}
-use Rattle.bx_live.proofs.Onward.{recorded_on}
+use Rattle.bx_live.specs.Acts.{Act, logged_by}
+use Rattle.bx_live.proofs.Onward.{logged_on}
 use Rattle.bx_link_tests.specs.declared.journal.Mark.{Mark}
 use Rattle.bx_link_tests.specs.declared.journal.Mark.TheVariants as marks
 
@@ -14,12 +14,12 @@ event_in (marks.Heard octets) = OnLink (Receive octets.items)
 event_in marks.Down = WithoutLink
 event_in (marks.Bought line) = Sold line.items
 
-abbrev pub events_in : List Mark → List LiveEvent
-events_in kept = map event_in kept
+abbrev pub events_marked : List Mark → List LiveEvent
+events_marked kept = map event_in kept
 
-pub none_added : (before : List LiveEvent) → before ≡ before ++ recorded []
+pub none_added : (before : List LiveEvent) → before ≡ before ++ logged_by []
 none_added before = sym (append-nil before)
 
-pub more_added : (first second third : List LiveEvent) (xs ys : List Act) → second ≡ first ++ recorded xs → third ≡ second ++ recorded ys → third ≡ first ++ recorded (xs ++ ys)
+pub more_added : (first second third : List LiveEvent) (xs ys : List Act) → second ≡ first ++ logged_by xs → third ≡ second ++ logged_by ys → third ≡ first ++ logged_by (xs ++ ys)
 more_added first second third xs ys e f =
-    f ∙ (ap (λ es. es ++ recorded ys) e ∙ (append_assoc first (recorded xs) (recorded ys) ∙ ap (λ es. first ++ es) (sym (recorded_on xs ys))))
+    f ∙ (ap (λ es. es ++ logged_by ys) e ∙ (append_assoc first (logged_by xs) (logged_by ys) ∙ ap (λ es. first ++ es) (sym (logged_on xs ys))))

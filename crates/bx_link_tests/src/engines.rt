@@ -6,7 +6,7 @@ use bx_devices::Watched;
 use bx_frames::LinkFault;
 use bx_link::{Connection, run_day};
 use bx_live::run_live;
-use bx_live_parts::Record;
+use bx_live_parts::Log;
 use bx_worked_days::exchange;
 use bx_world::Rehearsal;
 use std::alloc::Global;
@@ -101,7 +101,7 @@ fn by_run(alloc: Global, turns: u32, said: &[u8]) -> Option<Ended> {
             reader: Watched::new(said),
             writer: Watched::new(Vec::new(alloc)),
         },
-        record: Record::<LetterDisk> { disk: None },
+        log: Log::<LetterDisk> { disk: None },
         lost: None,
     };
     run_live(&mut exchange, &mut world, turns).ok()?;

@@ -4,7 +4,7 @@ use crate::wire::{Manner, MemoryWire};
 use bx_day::Outcome;
 use bx_journal::MemoryDisk;
 use bx_line_world::{Line, LineWorld, run_by_line};
-use bx_live_parts::{Record, Schedule};
+use bx_live_parts::{Log, Schedule};
 use bx_worked_days::{Row, exchange_of, far_end};
 use std::alloc::Global;
 
@@ -65,12 +65,12 @@ fn run(alloc: Global, count: u32) -> Option<(Heard, Outcome)> {
         jump: None,
     };
     let wire = MemoryWire::new(alloc, far_end(alloc)?, manner);
-    let record = Record {
+    let log = Log {
         disk: Some(MemoryDisk::new(alloc, Vec::new(alloc))),
     };
-    let mut world = LineWorld::new(Schedule::new(0, 1), Line::new(true, wire), record);
+    let mut world = LineWorld::new(Schedule::new(0, 1), Line::new(true, wire), log);
     run_by_line(&mut exchange, &mut world, 20).ok()?;
-    Some((heard_in(world.record.disk?.octets()), exchange.outcome(1)?))
+    Some((heard_in(world.log.disk?.octets()), exchange.outcome(1)?))
 }
 
 #[test]

@@ -2,12 +2,12 @@
 
 ghost use Rattle.std.specs.Prelude.{◌≡◌, ◌++◌, ◌∷◌, [], is_ok, IfSome};
 ghost use Rattle.bx_events.specs.Told.{live_event_of};
-ghost use Rattle.bx_live.specs.Acts.{Recorded, recorded};
-ghost use Rattle.bx_link_tests.specs.Marks.{event_in, events_in};
+ghost use Rattle.bx_live.specs.Acts.{Logged, logged_by};
+ghost use Rattle.bx_link_tests.specs.Marks.{event_in, events_marked};
 
 use arrayvec::ArrayVec;
 use bx_events::{Event, LiveEvent};
-use bx_live::CannotRecord;
+use bx_live::CannotLog;
 use bx_q931::Octets;
 use std::alloc::Global;
 
@@ -55,21 +55,21 @@ impl Journal {
     }
 
     /// Adds the line of an event.
-    pub fn add(&mut self, event: LiveEvent<'_>) -> Result<(), CannotRecord>
-        ensures { events_in self.new.marks.items ≡ events_in self.old.marks.items ++ recorded (Recorded (live_event_of event.entry) (is_ok result) ∷ []) }
+    pub fn add(&mut self, event: LiveEvent<'_>) -> Result<(), CannotLog>
+        ensures { events_marked self.new.marks.items ≡ events_marked self.old.marks.items ++ logged_by (Logged (live_event_of event.entry) (is_ok result) ∷ []) }
     {
         if self.room == 0 {
-            return Err(CannotRecord);
+            return Err(CannotLog);
         }
         let Some(mark) = mark_of(event) else {
-            return Err(CannotRecord);
+            return Err(CannotLog);
         };
         match self.marks.push(mark) {
             Ok(()) => {
                 self.room -= 1;
                 Ok(())
             }
-            Err(_) => Err(CannotRecord),
+            Err(_) => Err(CannotLog),
         }
     }
 }

@@ -5,7 +5,7 @@ use crate::wire::{Manner, MemoryWire};
 use bx_day::Outcome;
 use bx_journal::MemoryDisk;
 use bx_line_world::{Line, LineWorld, run_by_line};
-use bx_live_parts::{Record, Schedule};
+use bx_live_parts::{Log, Schedule};
 use bx_worked_days::{Row, exchange_of, far_end};
 use std::alloc::Global;
 
@@ -101,12 +101,12 @@ fn run(alloc: Global, losses: &Losses, jump: Jump) -> Option<(Vec<u8>, Outcome, 
         jump,
     };
     let wire = MemoryWire::new(alloc, far_end(alloc)?, manner);
-    let record = Record {
+    let log = Log {
         disk: Some(MemoryDisk::new(alloc, Vec::new(alloc))),
     };
-    let mut world = LineWorld::new(Schedule::new(0, 1), Line::new(true, wire), record);
+    let mut world = LineWorld::new(Schedule::new(0, 1), Line::new(true, wire), log);
     run_by_line(&mut exchange, &mut world, 12).ok()?;
-    let letters = letters_of(alloc, world.record.disk?.octets())?;
+    let letters = letters_of(alloc, world.log.disk?.octets())?;
     let outcome = exchange.outcome(1)?;
     Some((letters, outcome, world.line.wire.lost, exchange.moment()))
 }
@@ -216,12 +216,12 @@ fn stops(alloc: Global, calls: u32, moment: u32, letters: &[u8]) -> Option<bool>
         jump: None,
     };
     let wire = MemoryWire::new(alloc, far_end(alloc)?, manner);
-    let record = Record {
+    let log = Log {
         disk: Some(LetterDisk::new(calls)),
     };
-    let mut world = LineWorld::new(Schedule::new(0, 1), Line::new(true, wire), record);
+    let mut world = LineWorld::new(Schedule::new(0, 1), Line::new(true, wire), log);
     let is_stopped = run_by_line(&mut exchange, &mut world, 12).is_err();
-    let is_kept = world.record.disk?.letters.as_slice() == letters;
+    let is_kept = world.log.disk?.letters.as_slice() == letters;
     Some(is_stopped && is_kept && exchange.moment() == moment)
 }
 

@@ -4,7 +4,7 @@ use crate::journal::Mark;
 use crate::memory_world::{MemoryWorld, Scene};
 use bx_day::Exchange;
 use bx_frames::LinkFault;
-use bx_live::{Begin, CannotRecord, Loss, run_live};
+use bx_live::{Begin, CannotLog, Loss, run_live};
 use bx_worked_days::exchange;
 use std::alloc::Global;
 
@@ -83,11 +83,7 @@ fn has_lines(world: &MemoryWorld, letters: &[u8]) -> bool {
 }
 
 /// Runs the seconds with room for so many lines and so many syncs: how it ended, the moment, and the world after it.
-fn run(
-    alloc: Global,
-    lines: u32,
-    syncs: u32,
-) -> Option<(Result<(), CannotRecord>, u32, MemoryWorld)> {
+fn run(alloc: Global, lines: u32, syncs: u32) -> Option<(Result<(), CannotLog>, u32, MemoryWorld)> {
     let mut exchange = exchange(alloc)?;
     let mut world = MemoryWorld::new(alloc, &SECONDS, lines);
     world.syncs_left = syncs;
@@ -125,7 +121,7 @@ fn stops(
     written: usize,
 ) -> Option<bool> {
     let (done, moment, world) = run(alloc, lines, syncs)?;
-    let is_stopped = done == Err(CannotRecord) && moment == at && !world.is_over;
+    let is_stopped = done == Err(CannotLog) && moment == at && !world.is_over;
     let is_kept = has_lines(&world, letters);
     Some(is_stopped && is_kept && world.into_written().len() == written)
 }
@@ -156,7 +152,7 @@ fn no_second_begins_any_more(rt: HostRuntime) {
 }
 
 #[test]
-fn a_record_fails(rt: HostRuntime) {
+fn a_log_fails(rt: HostRuntime) {
     let alloc = rt.alloc();
     assert!(rt; stops(alloc, 0, 100, 0, b"", 0) == Some(true));
     assert!(rt; stops(alloc, 1, 100, 1, b"t", 32) == Some(true));

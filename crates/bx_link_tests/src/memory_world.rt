@@ -8,7 +8,7 @@ use bx_events::LiveEvent;
 use bx_frames::{
     Frame, LinkFault, Receiver, read_frame, write_end_of_turn, write_message, write_messages,
 };
-use bx_live::{Begin, CannotRecord, Loss, World};
+use bx_live::{Begin, CannotLog, Loss, World};
 use bx_q931::Octets;
 use std::alloc::Global;
 
@@ -89,10 +89,10 @@ impl MemoryWorld {
 
 impl World for MemoryWorld {
     ghost use Rattle.std.specs.Prelude.{◌≡◌, ◌++◌};
-    ghost use Rattle.bx_live.specs.Acts.{recorded};
-    ghost use Rattle.bx_link_tests.specs.Marks.{events_in, none_added, more_added};
+    ghost use Rattle.bx_live.specs.Acts.{logged_by};
+    ghost use Rattle.bx_link_tests.specs.Marks.{events_marked, none_added, more_added};
 
-    ghost did = { λ s acts t. events_in t.journal.marks.items ≡ events_in s.journal.marks.items ++ recorded acts };
+    ghost did = { λ s acts t. events_marked t.journal.marks.items ≡ events_marked s.journal.marks.items ++ logged_by acts };
 
     fn begin(&mut self, second: u32) -> Begin {
         let index = second as usize;
@@ -109,13 +109,13 @@ impl World for MemoryWorld {
         self.lost = Some(loss);
     }
 
-    fn record(&mut self, event: LiveEvent<'_>) -> Result<(), CannotRecord> {
+    fn log(&mut self, event: LiveEvent<'_>) -> Result<(), CannotLog> {
         self.journal.add(event)
     }
 
-    fn sync(&mut self) -> Result<(), CannotRecord> {
+    fn sync(&mut self) -> Result<(), CannotLog> {
         if self.syncs_left == 0 {
-            return Err(CannotRecord);
+            return Err(CannotLog);
         }
         self.syncs_left -= 1;
         self.synced = self.journal.marks.len();
@@ -170,7 +170,7 @@ impl World for MemoryWorld {
         self.is_over = true;
     }
 
-    ghost did_nothing = { λ s. none_added (events_in s.journal.marks.items) };
+    ghost did_nothing = { λ s. none_added (events_marked s.journal.marks.items) };
 
-    ghost did_more = { λ s t u xs ys p q. more_added (events_in s.journal.marks.items) (events_in t.journal.marks.items) (events_in u.journal.marks.items) xs ys p q };
+    ghost did_more = { λ s t u xs ys p q. more_added (events_marked s.journal.marks.items) (events_marked t.journal.marks.items) (events_marked u.journal.marks.items) xs ys p q };
 }

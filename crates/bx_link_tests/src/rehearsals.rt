@@ -6,7 +6,7 @@ use bx_devices::Watched;
 use bx_frames::LinkFault;
 use bx_link::Connection;
 use bx_live::run_live;
-use bx_live_parts::Record;
+use bx_live_parts::Log;
 use bx_worked_days::{exchange, far_end};
 use bx_world::{BothEnds, CapturedWorld, FarEnd, Rehearsal};
 use std::alloc::Global;
@@ -24,8 +24,8 @@ static TOLD: &[u8] = &[
     0x08, 0x02, 0x00, 0x01, 0x0F, 2, 0, 4, 0, 0, 0, 2, 3, 0, 0,
 ];
 
-fn record_of(calls: u32) -> Record<LetterDisk> {
-    Record {
+fn log_of(calls: u32) -> Log<LetterDisk> {
+    Log {
         disk: Some(LetterDisk::new(calls)),
     }
 }
@@ -44,7 +44,7 @@ fn rehearsed(alloc: Global, last: u32) -> Option<(Exchange, Captured<'static>)> 
     let mut exchange = exchange(alloc)?;
     let rehearsal = Rehearsal {
         peer: connection(alloc, INPUT),
-        record: record_of(1000),
+        log: log_of(1000),
         lost: None,
     };
     let file = Watched::new(Vec::new(alloc));
@@ -70,7 +70,7 @@ fn ends(
     let is_kept = is_whole && file.into_inner().len() == captured;
     let rehearsal = world.into_world();
     let is_ended = rehearsal.lost == fault && exchange.moment() as usize + 1 == letters.len();
-    let disk = rehearsal.record.disk?;
+    let disk = rehearsal.log.disk?;
     Some(is_kept && is_ended && disk.letters.as_slice() == letters)
 }
 
@@ -100,7 +100,7 @@ fn goes_both(alloc: Global, answered: &'static [u8], told: &'static [u8]) -> Opt
     let far = far_end(alloc)?;
     let mut world = Rehearsal {
         peer: BothEnds::new(connection(alloc, answered), far, connection(alloc, told)),
-        record: record_of(1000),
+        log: log_of(1000),
         lost: None,
     };
     let done = run_live(&mut exchange, &mut world, 1);

@@ -5,7 +5,7 @@ use bx_frames::{Frame, LinkFault};
 use bx_journal::MemoryDisk;
 use bx_line_world::{Line, LineWorld};
 use bx_live::{Begin, Loss, World};
-use bx_live_parts::{Record, Schedule};
+use bx_live_parts::{Log, Schedule};
 use bx_q931::Octets;
 use bx_worked_days::far_end;
 use std::alloc::Global;
@@ -79,7 +79,7 @@ fn told(alloc: Global, reset: &Reset) -> Option<[Told; 4]> {
     };
     let wire = MemoryWire::new(alloc, far_end(alloc)?, manner);
     let line = Line::new(true, wire);
-    let mut world = LineWorld::new(Schedule::new(0, 1), line, Record { disk: None });
+    let mut world = LineWorld::new(Schedule::new(0, 1), line, Log { disk: None });
     Some([
         second(&mut world, 1, reset.3)?,
         second(&mut world, 2, reset.3)?,

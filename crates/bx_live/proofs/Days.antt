@@ -10,10 +10,10 @@ use Rattle.bx_events.specs.Events.{Receive, LiveEvent, OnLink}
 use Rattle.bx_day.specs.Outages.{live_day_after}
 use Rattle.bx_live.specs.declared.world.Begin.{Begin}
 use Rattle.bx_live.specs.declared.world.Begin.TheVariants as begins
-use Rattle.bx_live.specs.declared.world.CannotRecord.{CannotRecord}
+use Rattle.bx_live.specs.declared.world.CannotLog.{CannotLog}
 use Rattle.bx_live.specs.declared.world.Loss.{Loss}
-use Rattle.bx_live.specs.Acts.{Act, Began, Recorded, recorded, ended}
-use Rattle.bx_live.specs.Runs.{Place, Between, Recording, Losing, Over, Done, IsDue, IsRun, next, day_at, owing, with_reply, replying, writing, begun, heard}
+use Rattle.bx_live.specs.Acts.{Act, Began, Logged, logged_by, ended}
+use Rattle.bx_live.specs.Runs.{Place, Between, Logging, Losing, Over, Done, IsDue, IsRun, next, day_at, owing, with_reply, replying, writing, begun, heard}
 use Rattle.bx_live.specs.Running.{or_over}
 use Rattle.bx_live.proofs.Due.{by_answers}
 
@@ -43,27 +43,27 @@ heard_day d room answer = refl
 
 -- the day after one act
 abbrev pub Steps : Place → Act → Type 0
-Steps p act = day_at (next p act) ≡ live_day_after (recorded (act ∷ [])) (day_at p)
+Steps p act = day_at (next p act) ≡ live_day_after (logged_by (act ∷ [])) (day_at p)
 
-recorded_day : (d : Day) (room : ℕ) (event : LiveEvent) (done : Bool) → Steps (Recording d room event) (Recorded event done)
-recorded_day d room (OnLink e) true = owing_day (exchange_next d e) room (exchange_sent d e) (exchange_text d e)
-recorded_day d room event false = refl
-recorded_day d room event true = refl
+logged_day : (d : Day) (room : ℕ) (event : LiveEvent) (done : Bool) → Steps (Logging d room event) (Logged event done)
+logged_day d room (OnLink e) true = owing_day (exchange_next d e) room (exchange_sent d e) (exchange_text d e)
+logged_day d room event false = refl
+logged_day d room event true = refl
 
 pub step_day : (p : Place) (act : Act) → IsDue p act → Steps p act
-step_day = by_answers Steps begun_day recorded_day
+step_day = by_answers Steps begun_day logged_day
     (λ d room owed octets. (replying_day (exchange_next d (Receive octets)) (with_reply owed (exchange_text d (Receive octets))) room, refl))
     (λ d room owed. ((λ message. refl), refl)) (λ d room texts. (refl, refl)) (λ d room text texts. (writing_day d room texts, refl))
     heard_day (λ d. (refl, λ fault. refl)) (λ d. (refl, refl)) (λ d. (refl, refl)) (λ d. refl)
 
--- the recorded events of one act, and of more
-more_recorded : (act : Act) (acts : List Act) (d : Day) → live_day_after (recorded (act ∷ acts)) d ≡ live_day_after (recorded acts) (live_day_after (recorded (act ∷ [])) d)
-more_recorded (Recorded event true) acts d = refl
-more_recorded act acts d = refl
+-- the logged events of one act, and of more
+more_logged : (act : Act) (acts : List Act) (d : Day) → live_day_after (logged_by (act ∷ acts)) d ≡ live_day_after (logged_by acts) (live_day_after (logged_by (act ∷ [])) d)
+more_logged (Logged event true) acts d = refl
+more_logged act acts d = refl
 
-pub run_day : (p q : Place) (acts : List Act) → IsRun p acts q → day_at q ≡ live_day_after (recorded acts) (day_at p)
+pub run_day : (p q : Place) (acts : List Act) → IsRun p acts q → day_at q ≡ live_day_after (logged_by acts) (day_at p)
 run_day p q [] e = ap day_at (sym e)
-run_day p q (act ∷ acts) (due, goes) = run_day (next p act) q acts goes ∙ (ap (live_day_after (recorded acts)) (step_day p act due) ∙ sym (more_recorded act acts (day_at p)))
+run_day p q (act ∷ acts) (due, goes) = run_day (next p act) q acts goes ∙ (ap (live_day_after (logged_by acts)) (step_day p act due) ∙ sym (more_logged act acts (day_at p)))
 
 -- what was said among these acts was said
 pub ended_inside : (xs ys zs : List Act) → ended ys ≡ true → ended (xs ++ (ys ++ zs)) ≡ true
@@ -84,6 +84,6 @@ at_any (Ok a) p = p
 at_any (Err e) p = tt
 
 -- the day of a run that is closed, or could not be
-pub closed_day_is : (p : Place) (d : Day) (r : Result (Unit {0}) CannotRecord) (acts : List Act) → IsRun p acts (or_over (Done d) d r) → d ≡ live_day_after (recorded acts) (day_at p)
+pub closed_day_is : (p : Place) (d : Day) (r : Result (Unit {0}) CannotLog) (acts : List Act) → IsRun p acts (or_over (Done d) d r) → d ≡ live_day_after (logged_by acts) (day_at p)
 closed_day_is p d (Ok done) acts goes = run_day p (Done d) acts goes
 closed_day_is p d (Err fault) acts goes = run_day p (Over d) acts goes

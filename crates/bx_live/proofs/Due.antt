@@ -8,13 +8,13 @@ use Rattle.bx_events.specs.Events.{LiveEvent, OnLink, Receive}
 use Rattle.bx_live.specs.declared.world.Begin.{Begin}
 use Rattle.bx_live.specs.declared.world.Loss.{Loss}
 use Rattle.bx_live.specs.declared.world.Loss.TheVariants.{Late, Fault}
-use Rattle.bx_live.specs.Acts.{Act, Began, Dropped, Recorded, Synced, Wrote, Read, Took, EndedDay}
-use Rattle.bx_live.specs.Runs.{Place, Between, Recording, Receiving, Taking, Owing, Hearing, Losing, Closing, Ending, IsDue}
+use Rattle.bx_live.specs.Acts.{Act, Began, Dropped, Logged, Synced, Wrote, Read, Took, EndedDay}
+use Rattle.bx_live.specs.Runs.{Place, Between, Logging, Receiving, Taking, Owing, Hearing, Losing, Closing, Ending, IsDue}
 
 module _ (P : Place → Act → Type 0)
     (began : (d : Day) (begin : Begin) → P (Between d) (Began (d.moment + 1) begin))
-    (recording : (d : Day) (room : ℕ) (event : LiveEvent) (done : Bool) → P (Recording d room event) (Recorded event done))
-    (receiving : (d : Day) (room : ℕ) (owed : List (List ℕ)) (octets : List ℕ) (done : Bool) → P (Receiving d room owed octets) (Recorded (OnLink (Receive octets)) done))
+    (logging : (d : Day) (room : ℕ) (event : LiveEvent) (done : Bool) → P (Logging d room event) (Logged event done))
+    (receiving : (d : Day) (room : ℕ) (owed : List (List ℕ)) (octets : List ℕ) (done : Bool) → P (Receiving d room owed octets) (Logged (OnLink (Receive octets)) done))
     (taking : (d : Day) (room : ℕ) (owed : List (List ℕ)) (message : Option (ArrayVec ℕ)) → P (Taking d room owed) (Took message))
     (syncing : (d : Day) (room : ℕ) (texts : List (List ℕ)) (done : Bool) → P (Owing d room true texts) (Synced done))
     (writing : (d : Day) (room : ℕ) (text : List ℕ) (texts : List (List ℕ)) (done : Bool) → P (Owing d room false (text ∷ texts)) (Wrote text done))
@@ -26,8 +26,8 @@ module _ (P : Place → Act → Type 0)
   pub by_due : (p : Place) (act : Act) → IsDue p act → P p act
   by_due (Between d) (Began second begin) due = subst (λ x. P (Between d) (Began x begin)) (sym due) (began d begin)
   by_due (Between d) (Synced done) due = closing d done
-  by_due (Recording d room event) (Recorded e done) due = subst (λ x. P (Recording d room event) (Recorded x done)) (sym due) (recording d room event done)
-  by_due (Receiving d room owed octets) (Recorded e done) due = subst (λ x. P (Receiving d room owed octets) (Recorded x done)) (sym due) (receiving d room owed octets done)
+  by_due (Logging d room event) (Logged e done) due = subst (λ x. P (Logging d room event) (Logged x done)) (sym due) (logging d room event done)
+  by_due (Receiving d room owed octets) (Logged e done) due = subst (λ x. P (Receiving d room owed octets) (Logged x done)) (sym due) (receiving d room owed octets done)
   by_due (Taking d room owed) (Took message) due = taking d room owed message
   by_due (Owing d room true texts) (Synced done) due = syncing d room texts done
   by_due (Owing d room false (text ∷ texts)) (Wrote octets done) due = subst (λ x. P (Owing d room false (text ∷ texts)) (Wrote x done)) (sym due) (writing d room text texts done)
@@ -40,8 +40,8 @@ module _ (P : Place → Act → Type 0)
 -- the same, by what an act can answer
 module _ (P : Place → Act → Type 0)
     (began : (d : Day) (begin : Begin) → P (Between d) (Began (d.moment + 1) begin))
-    (recording : (d : Day) (room : ℕ) (event : LiveEvent) (done : Bool) → P (Recording d room event) (Recorded event done))
-    (receiving : (d : Day) (room : ℕ) (owed : List (List ℕ)) (octets : List ℕ) → P (Receiving d room owed octets) (Recorded (OnLink (Receive octets)) true) × P (Receiving d room owed octets) (Recorded (OnLink (Receive octets)) false))
+    (logging : (d : Day) (room : ℕ) (event : LiveEvent) (done : Bool) → P (Logging d room event) (Logged event done))
+    (receiving : (d : Day) (room : ℕ) (owed : List (List ℕ)) (octets : List ℕ) → P (Receiving d room owed octets) (Logged (OnLink (Receive octets)) true) × P (Receiving d room owed octets) (Logged (OnLink (Receive octets)) false))
     (taking : (d : Day) (room : ℕ) (owed : List (List ℕ)) → ((message : ArrayVec ℕ) → P (Taking d room owed) (Took (Some message))) × P (Taking d room owed) (Took None))
     (syncing : (d : Day) (room : ℕ) (texts : List (List ℕ)) → P (Owing d room true texts) (Synced true) × P (Owing d room true texts) (Synced false))
     (writing : (d : Day) (room : ℕ) (text : List ℕ) (texts : List (List ℕ)) → P (Owing d room false (text ∷ texts)) (Wrote text true) × P (Owing d room false (text ∷ texts)) (Wrote text false))
@@ -63,8 +63,8 @@ module _ (P : Place → Act → Type 0)
   lost Q both (Fault fault) = both.1 fault
 
   pub by_answers : (p : Place) (act : Act) → IsDue p act → P p act
-  by_answers = by_due P began recording
-      (λ d room owed octets. either (λ done. P (Receiving d room owed octets) (Recorded (OnLink (Receive octets)) done)) (receiving d room owed octets))
+  by_answers = by_due P began logging
+      (λ d room owed octets. either (λ done. P (Receiving d room owed octets) (Logged (OnLink (Receive octets)) done)) (receiving d room owed octets))
       (λ d room owed. taken (λ message. P (Taking d room owed) (Took message)) (taking d room owed))
       (λ d room texts. either (λ done. P (Owing d room true texts) (Synced done)) (syncing d room texts))
       (λ d room text texts. either (λ done. P (Owing d room false (text ∷ texts)) (Wrote text done)) (writing d room text texts))

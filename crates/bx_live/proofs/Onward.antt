@@ -12,8 +12,8 @@ use Rattle.bx_day.specs.Outages.{live_day_after}
 use Rattle.bx_live.specs.declared.world.Begin.{Begin}
 use Rattle.bx_live.specs.declared.world.Begin.TheVariants as begins
 use Rattle.bx_live.specs.declared.world.Loss.{Loss}
-use Rattle.bx_live.specs.Acts.{Act, Began, Recorded, Synced, Wrote, Read, Took, recorded}
-use Rattle.bx_live.specs.Runs.{Place, Between, Recording, Receiving, Taking, Owing, Losing, IsDue, IsRun, next, day_at, owing, with_reply, replying, writing, begun, heard}
+use Rattle.bx_live.specs.Acts.{Act, Began, Logged, Synced, Wrote, Read, Took, logged_by}
+use Rattle.bx_live.specs.Runs.{Place, Between, Logging, Receiving, Taking, Owing, Losing, IsDue, IsRun, next, day_at, owing, with_reply, replying, writing, begun, heard}
 use Rattle.bx_live.specs.Written.{Filed, filed, filed_by, AreHeard, IsWrittenFor}
 use Rattle.bx_live.proofs.Due.{by_answers}
 use Rattle.bx_live.proofs.Days.{step_day}
@@ -26,27 +26,27 @@ days_on (OnLink e ∷ xs) ys d = days_on xs ys (exchange_next d e)
 days_on (WithoutLink ∷ xs) ys d = days_on xs ys _
 days_on (Sold line ∷ xs) ys d = days_on xs ys d
 
-pub recorded_on : (xs ys : List Act) → recorded (xs ++ ys) ≡ recorded xs ++ recorded ys
-recorded_on [] ys = refl
-recorded_on (Recorded event true ∷ xs) ys = ap (λ es. event ∷ es) (recorded_on xs ys)
-recorded_on (x ∷ xs) ys = recorded_on xs ys
+pub logged_on : (xs ys : List Act) → logged_by (xs ++ ys) ≡ logged_by xs ++ logged_by ys
+logged_on [] ys = refl
+logged_on (Logged event true ∷ xs) ys = ap (λ es. event ∷ es) (logged_on xs ys)
+logged_on (x ∷ xs) ys = logged_on xs ys
 
 pub filed_on : (xs ys : List Act) (f : Filed) → filed_by (xs ++ ys) f ≡ filed_by ys (filed_by xs f)
 filed_on [] ys f = refl
-filed_on (Recorded event true ∷ xs) ys f = filed_on xs ys (record { disk = f.disk; more = f.more ++ event ∷ [] })
+filed_on (Logged event true ∷ xs) ys f = filed_on xs ys (record { disk = f.disk; more = f.more ++ event ∷ [] })
 filed_on (Synced true ∷ xs) ys f = filed_on xs ys (record { disk = f.disk ++ f.more; more = [] })
 filed_on (x ∷ xs) ys f = filed_on xs ys f
 
 -- all that is logged is on the disk, or after the last sync
-all_filed : (xs : List Act) (f : Filed) → (filed_by xs f).disk ++ (filed_by xs f).more ≡ (f.disk ++ f.more) ++ recorded xs
+all_filed : (xs : List Act) (f : Filed) → (filed_by xs f).disk ++ (filed_by xs f).more ≡ (f.disk ++ f.more) ++ logged_by xs
 all_filed [] f = sym (append-nil (f.disk ++ f.more))
-all_filed (Recorded event true ∷ xs) f =
+all_filed (Logged event true ∷ xs) f =
     all_filed xs (record { disk = f.disk; more = f.more ++ event ∷ [] })
-    ∙ (ap (λ es. es ++ recorded xs) (sym (append_assoc f.disk f.more (event ∷ []))) ∙ append_assoc (f.disk ++ f.more) (event ∷ []) (recorded xs))
-all_filed (Synced true ∷ xs) f = all_filed xs (record { disk = f.disk ++ f.more; more = [] }) ∙ ap (λ es. es ++ recorded xs) (append-nil (f.disk ++ f.more))
+    ∙ (ap (λ es. es ++ logged_by xs) (sym (append_assoc f.disk f.more (event ∷ []))) ∙ append_assoc (f.disk ++ f.more) (event ∷ []) (logged_by xs))
+all_filed (Synced true ∷ xs) f = all_filed xs (record { disk = f.disk ++ f.more; more = [] }) ∙ ap (λ es. es ++ logged_by xs) (append-nil (f.disk ++ f.more))
 all_filed (x ∷ xs) f = all_filed xs f
 
-pub filed_law : (acts : List Act) → (filed acts).disk ++ (filed acts).more ≡ recorded acts
+pub filed_law : (acts : List Act) → (filed acts).disk ++ (filed acts).more ≡ logged_by acts
 filed_law acts = all_filed acts (record { disk = []; more = [] })
 
 -- ---- what is owed
@@ -55,7 +55,7 @@ record IsOwed (d : Day) (acts : List Act) (unsynced : Bool) (text : List ℕ) : 
   earlier : List LiveEvent
   event : Event
   later : List LiveEvent
-  on_record : recorded acts ≡ earlier ++ OnLink event ∷ later
+  on_log : logged_by acts ≡ earlier ++ OnLink event ∷ later
   heard : AreHeard later
   is_text : text ≡ exchange_text (live_day_after earlier d) event
   synced : (unsynced ≡ true) ⊎ ((exchange_sent (live_day_after earlier d) event ≡ []) ⊎ ((filed acts).more ≡ []))
@@ -71,7 +71,7 @@ Owes d acts (Owing day room unsynced texts) = AreOwed d acts unsynced texts
 Owes d acts p = Unit {0}
 
 record Stands (d : Day) (acts : List Act) (p : Place) : Type 0 where
-  day : day_at p ≡ live_day_after (recorded acts) d
+  day : day_at p ≡ live_day_after (logged_by acts) d
   owes : Owes d acts p
 
 heard_after : (events : List LiveEvent) (octets : List ℕ) → AreHeard events → AreHeard (events ++ OnLink (Receive octets) ∷ [])
@@ -101,11 +101,11 @@ module _ (d : Day) (acts : List Act) where
   writing_owes day room [] owed = tt
   writing_owes day room (text ∷ texts) are = are
 
-  owing_owes : (d1 : Day) (room : ℕ) (earlier : List LiveEvent) (event : Event) (sent : List (ArrayVec ℕ)) (text : List ℕ) → recorded acts ≡ earlier ++ OnLink event ∷ []
+  owing_owes : (d1 : Day) (room : ℕ) (earlier : List LiveEvent) (event : Event) (sent : List (ArrayVec ℕ)) (text : List ℕ) → logged_by acts ≡ earlier ++ OnLink event ∷ []
       → sent ≡ exchange_sent (live_day_after earlier d) event → text ≡ exchange_text (live_day_after earlier d) event → Owes d acts (owing d1 room sent text)
   owing_owes d1 room earlier event [] [] on messages octets = tt
-  owing_owes d1 room earlier event [] (octet ∷ text) on messages octets = (record { earlier = earlier; event = event; later = []; on_record = on; heard = tt; is_text = octets; synced = inr (inl (sym messages)) }, tt)
-  owing_owes d1 room earlier event (message ∷ sent) text on messages octets = (record { earlier = earlier; event = event; later = []; on_record = on; heard = tt; is_text = octets; synced = inl refl }, tt)
+  owing_owes d1 room earlier event [] (octet ∷ text) on messages octets = (record { earlier = earlier; event = event; later = []; on_log = on; heard = tt; is_text = octets; synced = inr (inl (sym messages)) }, tt)
+  owing_owes d1 room earlier event (message ∷ sent) text on messages octets = (record { earlier = earlier; event = event; later = []; on_log = on; heard = tt; is_text = octets; synced = inl refl }, tt)
 
   begun_owes : (day : Day) (begin : Begin) → Owes d acts (begun day begin)
   begun_owes day begins.Ended = tt
@@ -127,23 +127,23 @@ module _ (d : Day) (acts : List Act) where
   abbrev KeepsOwed : Place → Act → Type 0
   KeepsOwed p act = Stands d acts p → Owes d (after_act act) (next p act)
 
-  owed_recorded : (day : Day) (room : ℕ) (event : LiveEvent) (done : Bool) → KeepsOwed (Recording day room event) (Recorded event done)
-  owed_recorded day room (OnLink e) true stands =
-      owing_owes d (after_act (Recorded (OnLink e) true)) (exchange_next day e) room (recorded acts) e (exchange_sent day e) (exchange_text day e)
-      (recorded_on acts (Recorded (OnLink e) true ∷ [])) (ap (λ x. exchange_sent x e) stands.day) (ap (λ x. exchange_text x e) stands.day)
-  owed_recorded day room event false stands = tt
-  owed_recorded day room event true stands = tt
+  owed_logged : (day : Day) (room : ℕ) (event : LiveEvent) (done : Bool) → KeepsOwed (Logging day room event) (Logged event done)
+  owed_logged day room (OnLink e) true stands =
+      owing_owes d (after_act (Logged (OnLink e) true)) (exchange_next day e) room (logged_by acts) e (exchange_sent day e) (exchange_text day e)
+      (logged_on acts (Logged (OnLink e) true ∷ [])) (ap (λ x. exchange_sent x e) stands.day) (ap (λ x. exchange_text x e) stands.day)
+  owed_logged day room event false stands = tt
+  owed_logged day room event true stands = tt
 
-  owed_received : (day : Day) (room : ℕ) (owed : List (List ℕ)) (octets : List ℕ) → KeepsOwed (Receiving day room owed octets) (Recorded (OnLink (Receive octets)) true)
+  owed_received : (day : Day) (room : ℕ) (owed : List (List ℕ)) (octets : List ℕ) → KeepsOwed (Receiving day room owed octets) (Logged (OnLink (Receive octets)) true)
   owed_received day room owed octets stands =
       let e = Receive octets in
-      let act = Recorded (OnLink e) true in
+      let act = Logged (OnLink e) true in
       let text = exchange_text day e in
       let one : IsOwed d (after_act act) true text = record {
-        earlier = recorded acts;
+        earlier = logged_by acts;
         event = e;
         later = [];
-        on_record = recorded_on acts (act ∷ []);
+        on_log = logged_on acts (act ∷ []);
         heard = tt;
         is_text = ap (λ x. exchange_text x e) stands.day;
         synced = inl refl;
@@ -153,19 +153,19 @@ module _ (d : Day) (acts : List Act) where
         earlier = o.earlier;
         event = o.event;
         later = o.later ++ OnLink e ∷ [];
-        on_record = recorded_on acts (act ∷ []) ∙ (ap (λ es. es ++ OnLink e ∷ []) o.on_record ∙ append_assoc o.earlier (OnLink o.event ∷ o.later) (OnLink e ∷ []));
+        on_log = logged_on acts (act ∷ []) ∙ (ap (λ es. es ++ OnLink e ∷ []) o.on_log ∙ append_assoc o.earlier (OnLink o.event ∷ o.later) (OnLink e ∷ []));
         heard = heard_after o.later octets o.heard;
         is_text = o.is_text;
         synced = inl refl;
       }) owed stands.owes) (λ some. one))
 
   -- an act that puts nothing in the journal
-  quiet_owed : (act : Act) → recorded (act ∷ []) ≡ [] → (owed : List (List ℕ)) → AreOwed d acts true owed → AreOwed d (after_act act) true owed
+  quiet_owed : (act : Act) → logged_by (act ∷ []) ≡ [] → (owed : List (List ℕ)) → AreOwed d acts true owed → AreOwed d (after_act act) true owed
   quiet_owed act none owed are = owed_map d acts (after_act act) true true (λ t o. record {
     earlier = o.earlier;
     event = o.event;
     later = o.later;
-    on_record = recorded_on acts (act ∷ []) ∙ (ap (λ es. recorded acts ++ es) none ∙ (append-nil (recorded acts) ∙ o.on_record));
+    on_log = logged_on acts (act ∷ []) ∙ (ap (λ es. logged_by acts ++ es) none ∙ (append-nil (logged_by acts) ∙ o.on_log));
     heard = o.heard;
     is_text = o.is_text;
     synced = inl refl;
@@ -176,7 +176,7 @@ module _ (d : Day) (acts : List Act) where
     earlier = o.earlier;
     event = o.event;
     later = o.later;
-    on_record = recorded_on acts (Synced true ∷ []) ∙ (append-nil (recorded acts) ∙ o.on_record);
+    on_log = logged_on acts (Synced true ∷ []) ∙ (append-nil (logged_by acts) ∙ o.on_log);
     heard = o.heard;
     is_text = o.is_text;
     synced = inr (inr (ap (λ (f : Filed). f.more) (filed_on acts (Synced true ∷ []) (record { disk = []; more = [] }))));
@@ -187,7 +187,7 @@ module _ (d : Day) (acts : List Act) where
     earlier = o.earlier;
     event = o.event;
     later = o.later;
-    on_record = recorded_on acts (Wrote text true ∷ []) ∙ (append-nil (recorded acts) ∙ o.on_record);
+    on_log = logged_on acts (Wrote text true ∷ []) ∙ (append-nil (logged_by acts) ∙ o.on_log);
     heard = o.heard;
     is_text = o.is_text;
     synced = still_synced o.synced;
@@ -199,7 +199,7 @@ module _ (d : Day) (acts : List Act) where
 
   keeps_owed : (p : Place) (act : Act) → IsDue p act → KeepsOwed p act
   keeps_owed = by_answers KeepsOwed
-      (λ day begin stands. begun_owes d (after_act (Began (day.moment + 1) begin)) day begin) owed_recorded
+      (λ day begin stands. begun_owes d (after_act (Began (day.moment + 1) begin)) day begin) owed_logged
       (λ day room owed octets. (owed_received day room owed octets, λ stands. tt))
       (λ day room owed. ((λ message stands. quiet_owed (Took (Some message)) refl owed stands.owes), (λ stands. quiet_owed (Took None) refl owed stands.owes)))
       (λ day room texts. (owed_synced day room texts, λ stands. tt)) (λ day room text texts. (owed_written day room text texts, λ stands. tt))
@@ -208,7 +208,7 @@ module _ (d : Day) (acts : List Act) where
 
   stands_on : (p : Place) (act : Act) → IsDue p act → Stands d acts p → Stands d (after_act act) (next p act)
   stands_on p act due stands = record {
-    day = step_day p act due ∙ (ap (live_day_after (recorded (act ∷ []))) stands.day ∙ (sym (days_on (recorded acts) (recorded (act ∷ [])) d) ∙ ap (λ es. live_day_after es d) (sym (recorded_on acts (act ∷ [])))));
+    day = step_day p act due ∙ (ap (live_day_after (logged_by (act ∷ []))) stands.day ∙ (sym (days_on (logged_by acts) (logged_by (act ∷ [])) d) ∙ ap (λ es. live_day_after es d) (sym (logged_on acts (act ∷ [])))));
     owes = keeps_owed p act due stands;
   }
 
@@ -219,7 +219,7 @@ module _ (d : Day) (acts : List Act) where
         earlier = o.earlier;
         event = o.event;
         later = o.later;
-        on_record = o.on_record;
+        on_log = o.on_log;
         heard = o.heard;
         text = due ∙ o.is_text;
         synced = not_unsynced o.synced;

@@ -71,4 +71,4 @@ writing_some d room (text ∷ owed) some run = run
 -- a turn that stopped, by either name
 pub stopped_with : (d : Day) (left : ℕ) (stop : Stop) → or_stopped {A = Unit {0}} (Hearing d left) d (Err stop) ≡ heard_with d (Err stop)
 stopped_with d left (stops.Link fault) = refl
-stopped_with d left stops.Record = refl
+stopped_with d left stops.Log = refl

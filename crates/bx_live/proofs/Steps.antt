@@ -11,15 +11,15 @@ use Rattle.bx_frames.specs.declared.frame.Frame.TheVariants as frames
 use Rattle.bx_live.specs.declared.world.Loss.TheVariants as losses
 use Rattle.bx_live.specs.declared.turn.Stop.{Stop}
 use Rattle.bx_live.specs.declared.turn.Stop.TheVariants as stops
-use Rattle.bx_live.specs.Acts.{Act, Began, Recorded, ended, begins_none}
-use Rattle.bx_live.specs.Runs.{Place, Between, begun, heard, Recording, Receiving, with_reply, replying, Losing, Over, IsDue, next, IsRun, owing, happened}
+use Rattle.bx_live.specs.Acts.{Act, Began, Logged, ended, begins_none}
+use Rattle.bx_live.specs.Runs.{Place, Between, begun, heard, Logging, Receiving, with_reply, replying, Losing, Over, IsDue, next, IsRun, owing, happened}
 use Rattle.bx_live.specs.Running.{Runs, RunsInside}
-use Rattle.bx_live.specs.Seconds.{after_second, IsSecond}
+use Rattle.bx_live.specs.Seconds.{after_second, IsSecondRun}
 use Rattle.bx_live.specs.declared.running.Second.{Second}
 use Rattle.bx_live.specs.declared.running.Second.TheVariants.{Ended}
 use Rattle.bx_live.specs.declared.world.Begin.{Begin}
 use Rattle.bx_live.specs.declared.world.Begin.TheVariants as begins
-use Rattle.bx_live.specs.declared.world.CannotRecord.{CannotRecord}
+use Rattle.bx_live.specs.declared.world.CannotLog.{CannotLog}
 use Rattle.bx_live.specs.Inside.{or_stopped}
 
 pub run_more : (p q r : Place) (xs ys : List Act) → IsRun p xs q → IsRun q ys r → IsRun p (xs ++ ys) r
@@ -52,15 +52,15 @@ module _ {W : Type 0} {did : W → List Act → W → Type 0} where
   one_done p act inside done due = record { acts = act ∷ []; done = done; goes = (due, refl); inside = inside }
 
   -- an event was logged
-  pub on_record : {u v : W} (d d1 : Day) (room : ℕ) (e : Event) (sent : List (ArrayVec ℕ)) (text : List ℕ) → did u (Recorded (OnLink e) true ∷ []) v → d1 ≡ exchange_next d e → sent ≡ exchange_sent d e → text ≡ exchange_text d e
-      → RunsInside did u v (Recording d room (OnLink e)) (owing d1 room sent text)
-  on_record d d1 room e sent text done day messages octets = record { acts = Recorded (OnLink e) true ∷ []; done = done; goes = (refl, owed d d1 room e sent text day messages octets); inside = refl }
+  pub on_log : {u v : W} (d d1 : Day) (room : ℕ) (e : Event) (sent : List (ArrayVec ℕ)) (text : List ℕ) → did u (Logged (OnLink e) true ∷ []) v → d1 ≡ exchange_next d e → sent ≡ exchange_sent d e → text ≡ exchange_text d e
+      → RunsInside did u v (Logging d room (OnLink e)) (owing d1 room sent text)
+  on_log d d1 room e sent text done day messages octets = record { acts = Logged (OnLink e) true ∷ []; done = done; goes = (refl, owed d d1 room e sent text day messages octets); inside = refl }
 
   -- octets that came were logged
-  pub received_on : {u v : W} (d d1 : Day) (room : ℕ) (owed : List (List ℕ)) (octets text : List ℕ) → did u (Recorded (OnLink (Receive octets)) true ∷ []) v → d1 ≡ exchange_next d (Receive octets) → text ≡ exchange_text d (Receive octets)
+  pub received_on : {u v : W} (d d1 : Day) (room : ℕ) (owed : List (List ℕ)) (octets text : List ℕ) → did u (Logged (OnLink (Receive octets)) true ∷ []) v → d1 ≡ exchange_next d (Receive octets) → text ≡ exchange_text d (Receive octets)
       → RunsInside did u v (Receiving d room owed octets) (replying d1 (with_reply owed text) room)
   received_on d d1 room owed octets text done day is = record {
-    acts = Recorded (OnLink (Receive octets)) true ∷ [];
+    acts = Logged (OnLink (Receive octets)) true ∷ [];
     done = done;
     goes = (refl, ap (λ (x : Day). replying x (with_reply owed (exchange_text d (Receive octets))) room) (sym day) ∙ ap (λ (t : List ℕ). replying d1 (with_reply owed t) room) (sym is));
     inside = refl;
@@ -74,8 +74,8 @@ module _ {W : Type 0} {did : W → List Act → W → Type 0} where
     then_done {u} {v} {w} {p} {q} {r} a b = record { acts = a.acts ++ b.acts; done = more u v w a.acts b.acts a.done b.done; goes = run_more p q r a.acts b.acts a.goes b.goes; inside = begins_on a.acts b.acts a.inside b.inside }
 
     -- a second began, and was gone through
-    pub second_done : {u v w : W} (d d1 : Day) (begin : Begin) (r : Result Second CannotRecord) → did u (Began (d.moment + 1) begin ∷ []) v → RunsInside did v w (begun d begin) (after_second d1 r)
-        → (r ≡ Ok Ended → ended (Began (d.moment + 1) begin ∷ []) ≡ true) → IsSecond did u w d d1 r
+    pub second_done : {u v w : W} (d d1 : Day) (begin : Begin) (r : Result Second CannotLog) → did u (Began (d.moment + 1) begin ∷ []) v → RunsInside did v w (begun d begin) (after_second d1 r)
+        → (r ≡ Ok Ended → ended (Began (d.moment + 1) begin ∷ []) ≡ true) → IsSecondRun did u w d d1 r
     second_done {u} {v} {w} d d1 begin r began rest said = record {
       run = record { acts = Began (d.moment + 1) begin ∷ rest.acts; done = more u v w (Began (d.moment + 1) begin ∷ []) rest.acts began rest.done; goes = (refl, rest.goes) };
       one = record { begin = begin; following = rest.acts; are = refl; one = rest.inside };
@@ -87,9 +87,9 @@ module _ {W : Type 0} {did : W → List Act → W → Type 0} where
 
 -- ---- how a turn stops
 
-pub by_record : (place : Place) (d : Day) (r : Result (Unit {0}) Stop) → IsErr r × IsErrAnd r (λ stop. stop ≡ stops.Record) → Over d ≡ or_stopped place d r
-by_record place d (Ok done) p = let e = p.0 in cc
-by_record place d (Err stop) p = ap (λ (x : Stop). or_stopped {A = Unit {0}} place d (Err x)) (sym p.1)
+pub by_log : (place : Place) (d : Day) (r : Result (Unit {0}) Stop) → IsErr r × IsErrAnd r (λ stop. stop ≡ stops.Log) → Over d ≡ or_stopped place d r
+by_log place d (Ok done) p = let e = p.0 in cc
+by_log place d (Err stop) p = ap (λ (x : Stop). or_stopped {A = Unit {0}} place d (Err x)) (sym p.1)
 
 pub by_write : (place : Place) (d : Day) (r : Result (Unit {0}) Stop) → IsErr r × IsErrAnd r (λ stop. stop ≡ stops.Link WriteFailed) → Losing d (losses.Fault WriteFailed) ≡ or_stopped place d r
 by_write place d (Ok done) p = let e = p.0 in cc

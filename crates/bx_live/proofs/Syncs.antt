@@ -8,8 +8,8 @@ use Rattle.bx_frames.specs.declared.fault.LinkFault.{LinkFault}
 use Rattle.bx_frames.specs.declared.fault.LinkFault.TheVariants.{WrongMoment}
 use Rattle.bx_frames.specs.declared.frame.Frame.{Frame}
 use Rattle.bx_frames.specs.declared.frame.Frame.TheVariants as frames
-use Rattle.bx_live.specs.Acts.{Act, Began, Recorded, Read}
-use Rattle.bx_live.specs.Runs.{Place, Between, Recording, Receiving, Taking, Owing, Hearing, Losing, Over, Ending, Done, IsDue, IsRun, next, owing, with_reply, replying, writing}
+use Rattle.bx_live.specs.Acts.{Act, Began, Logged, Read}
+use Rattle.bx_live.specs.Runs.{Place, Between, Logging, Receiving, Taking, Owing, Hearing, Losing, Over, Ending, Done, IsDue, IsRun, next, owing, with_reply, replying, writing}
 use Rattle.bx_live.specs.Syncs.{sync_in, syncs_in, wait_in, waits_in}
 use Rattle.bx_live.specs.declared.world.Begin.{Begin}
 use Rattle.bx_live.specs.declared.world.Begin.TheVariants as begins
@@ -18,7 +18,7 @@ use Rattle.bx_live.proofs.Due.{by_answers}
 
 -- how many syncs_in may come before the next wait, and after the last one
 abbrev left_at : Place → ℕ
-left_at (Recording d room event) = 2
+left_at (Logging d room event) = 2
 left_at (Receiving d room owed octets) = 2
 left_at (Taking d room owed) = 2
 left_at (Owing d room true texts) = 2
@@ -32,7 +32,7 @@ abbrev Spends : Place → Act → Type 0
 Spends p act = sync_in act + left_at (next p act) ≤ left_at p + wait_in act
 
 spends : (p : Place) (act : Act) → IsDue p act → Spends p act
-spends = by_answers Spends on_begun on_recorded
+spends = by_answers Spends on_begun on_logged
     (λ d room owed octets. (
       (let l = replying_left (exchange_next d (Receive octets)) (with_reply owed (exchange_text d (Receive octets))) room in omega (arith, l)),
       omega (arith),
@@ -48,10 +48,10 @@ spends = by_answers Spends on_begun on_recorded
       owing_left d room [] (octet ∷ text) = omega (arith)
       owing_left d room sent text = omega (arith)
 
-      on_recorded : (d : Day) (room : ℕ) (event : LiveEvent) (done : Bool) → Spends (Recording d room event) (Recorded event done)
-      on_recorded d room event false = omega (arith)
-      on_recorded d room (OnLink event) true = let l = owing_left (exchange_next d event) room (exchange_sent d event) (exchange_text d event) in omega (arith, l)
-      on_recorded d room event true = omega (arith)
+      on_logged : (d : Day) (room : ℕ) (event : LiveEvent) (done : Bool) → Spends (Logging d room event) (Logged event done)
+      on_logged d room event false = omega (arith)
+      on_logged d room (OnLink event) true = let l = owing_left (exchange_next d event) room (exchange_sent d event) (exchange_text d event) in omega (arith, l)
+      on_logged d room event true = omega (arith)
 
       replying_left : (d : Day) (owed : List (List ℕ)) (room : ℕ) → left_at (replying d owed room) ≤ 2
       replying_left d (text ∷ owed) zero = omega (arith)

@@ -14,8 +14,8 @@ use Rattle.bx_day.specs.Outages.{live_happens, live_day_after}
 use Rattle.bx_live.specs.declared.world.Begin.{Begin}
 use Rattle.bx_live.specs.declared.world.Begin.TheVariants as begins
 use Rattle.bx_live.specs.declared.world.Loss.{Loss}
-use Rattle.bx_live.specs.Acts.{Act, Began, Recorded, Synced, Wrote, Read, recorded}
-use Rattle.bx_live.specs.Runs.{Place, Between, Recording, Hearing, Losing, IsDue, IsRun, next, day_at, owing, with_reply, replying, writing}
+use Rattle.bx_live.specs.Acts.{Act, Began, Logged, Synced, Wrote, Read, logged_by}
+use Rattle.bx_live.specs.Runs.{Place, Between, Logging, Hearing, Losing, IsDue, IsRun, next, day_at, owing, with_reply, replying, writing}
 use Rattle.bx_live.specs.Written.{live_text, live_told, written, goes_well, owed_at}
 use Rattle.bx_live.proofs.Due.{by_answers}
 use Rattle.bx_live.proofs.Days.{step_day}
@@ -26,18 +26,18 @@ more_written : (act : Act) (acts : List Act) → written (act ∷ acts) ≡ writ
 more_written (Wrote octets true) acts = ap (λ xs. xs ++ written acts) (sym (append-nil octets))
 more_written act acts = refl
 
-more_told : (act : Act) (acts : List Act) (d : Day) → live_told (recorded (act ∷ acts)) d ≡ live_told (recorded (act ∷ [])) d ++ live_told (recorded acts) (live_day_after (recorded (act ∷ [])) d)
-more_told (Recorded event true) acts d = ap (λ xs. xs ++ live_told (recorded acts) (live_happens d event).day) (sym (append-nil (live_text d event)))
+more_told : (act : Act) (acts : List Act) (d : Day) → live_told (logged_by (act ∷ acts)) d ≡ live_told (logged_by (act ∷ [])) d ++ live_told (logged_by acts) (live_day_after (logged_by (act ∷ [])) d)
+more_told (Logged event true) acts d = ap (λ xs. xs ++ live_told (logged_by acts) (live_happens d event).day) (sym (append-nil (live_text d event)))
 more_told act acts d = refl
 
 first_well : (act : Act) (acts : List Act) → goes_well (act ∷ acts) ≡ true → goes_well (act ∷ []) ≡ true
-first_well (Recorded event false) acts e = e
+first_well (Logged event false) acts e = e
 first_well (Synced false) acts e = e
 first_well (Wrote octets false) acts e = e
 first_well act acts e = refl
 
 rest_well : (act : Act) (acts : List Act) → goes_well (act ∷ acts) ≡ true → goes_well acts ≡ true
-rest_well (Recorded event false) acts e = cc
+rest_well (Logged event false) acts e = cc
 rest_well (Synced false) acts e = cc
 rest_well (Wrote octets false) acts e = cc
 rest_well act acts e = e
@@ -45,7 +45,7 @@ rest_well act acts e = e
 -- ---- what is written, and what is owed after it
 
 abbrev Tells : Place → Act → Type 0
-Tells p act = goes_well (act ∷ []) ≡ true → written (act ∷ []) ++ owed_at (next p act) ≡ owed_at p ++ live_told (recorded (act ∷ [])) (day_at p)
+Tells p act = goes_well (act ∷ []) ≡ true → written (act ∷ []) ++ owed_at (next p act) ≡ owed_at p ++ live_told (logged_by (act ∷ [])) (day_at p)
 
 owes_text : (d : Day) (room : ℕ) (sent : List (ArrayVec ℕ)) (text : List ℕ) → owed_at (owing d room sent text) ≡ text ++ []
 owes_text d room [] (octet ∷ text) = refl
@@ -67,10 +67,10 @@ tells_begun : (d : Day) (begin : Begin) → Tells (Between d) (Began (d.moment +
 tells_begun d begins.Ended well = refl
 tells_begun d begin well = refl
 
-tells_recorded : (d : Day) (room : ℕ) (event : LiveEvent) (done : Bool) → Tells (Recording d room event) (Recorded event done)
-tells_recorded d room (OnLink e) true well = owes_text (exchange_next d e) room (exchange_sent d e) (exchange_text d e)
-tells_recorded d room event false well = cc
-tells_recorded d room event true well = refl
+tells_logged : (d : Day) (room : ℕ) (event : LiveEvent) (done : Bool) → Tells (Logging d room event) (Logged event done)
+tells_logged d room (OnLink e) true well = owes_text (exchange_next d e) room (exchange_sent d e) (exchange_text d e)
+tells_logged d room event false well = cc
+tells_logged d room event true well = refl
 
 either_owed : (b : Bool) (d : Day) (loss : Loss) → owed_at (if b then Between d else Losing d loss) ≡ []
 either_owed true d loss = refl
@@ -81,7 +81,7 @@ tells_heard d room (Ok (frames.EndOfTurn said)) well = either_owed (said == d.mo
 tells_heard d room answer well = refl
 
 tells : (p : Place) (act : Act) → IsDue p act → Tells p act
-tells = by_answers Tells tells_begun tells_recorded
+tells = by_answers Tells tells_begun tells_logged
     (λ d room owed octets. (
       (λ well.
           let text = exchange_text d (Receive octets) in
@@ -96,18 +96,18 @@ tells = by_answers Tells tells_begun tells_recorded
     ))
     tells_heard (λ d. ((λ well. refl), (λ fault well. refl))) (λ d. ((λ well. refl), (λ well. refl))) (λ d. ((λ well. refl), (λ well. refl))) (λ d well. refl)
 
-pub told_law : (from to : Place) (acts : List Act) → IsRun from acts to → goes_well acts ≡ true → written acts ++ owed_at to ≡ owed_at from ++ live_told (recorded acts) (day_at from)
+pub told_law : (from to : Place) (acts : List Act) → IsRun from acts to → goes_well acts ≡ true → written acts ++ owed_at to ≡ owed_at from ++ live_told (logged_by acts) (day_at from)
 told_law from to [] e well = ap owed_at (sym e) ∙ sym (append-nil (owed_at from))
 told_law from to (act ∷ acts) (due, goes) well =
     let w = written (act ∷ []) in
     let on = next from act in
     let d = day_at from in
-    let here = live_told (recorded (act ∷ [])) d in
-    let there = live_told (recorded acts) (day_at on) in
+    let here = live_told (logged_by (act ∷ [])) d in
+    let there = live_told (logged_by acts) (day_at on) in
     ap (λ xs. xs ++ owed_at to) (more_written act acts)
     ∙ (append_assoc w (written acts) (owed_at to)
     ∙ (ap (λ xs. w ++ xs) (told_law on to acts goes (rest_well act acts well))
     ∙ (sym (append_assoc w (owed_at on) there)
     ∙ (ap (λ xs. xs ++ there) (tells from act due (first_well act acts well))
     ∙ (append_assoc (owed_at from) here there
-    ∙ ap (λ xs. owed_at from ++ xs) (ap (λ (x : Day). here ++ live_told (recorded acts) x) (step_day from act due) ∙ sym (more_told act acts d)))))))
+    ∙ ap (λ xs. owed_at from ++ xs) (ap (λ (x : Day). here ++ live_told (logged_by acts) x) (step_day from act due) ∙ sym (more_told act acts d)))))))

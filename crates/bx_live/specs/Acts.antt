@@ -14,7 +14,7 @@ pub data Act : Type 0 where
   -- the peer was dropped, if there was one
   Dropped : (loss : Loss) → Act
   -- an event was logged, or could not be
-  Recorded : (event : LiveEvent) (done : Bool) → Act
+  Logged : (event : LiveEvent) (done : Bool) → Act
   -- what was logged is on the disk, or could not be brought there
   Synced : (done : Bool) → Act
   -- octets were written to the peer, or not all of them
@@ -27,10 +27,10 @@ pub data Act : Type 0 where
   EndedDay : Act
 
 -- the events that are logged
-abbrev pub recorded : List Act → List LiveEvent
-recorded [] = []
-recorded (Recorded event true ∷ acts) = event ∷ recorded acts
-recorded (act ∷ acts) = recorded acts
+abbrev pub logged_by : List Act → List LiveEvent
+logged_by [] = []
+logged_by (Logged event true ∷ acts) = event ∷ logged_by acts
+logged_by (act ∷ acts) = logged_by acts
 
 -- whether the world said that no second begins any more
 abbrev pub ended : List Act → Bool

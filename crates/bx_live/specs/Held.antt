@@ -5,8 +5,8 @@ use Rattle.bx_day.specs.Day.{Day, is_live}
 use Rattle.bx_day.specs.Outages.{live_happens, live_day_after}
 use Rattle.bx_day.specs.declared.entry.Entry.{Entry}
 use Rattle.bx_events.specs.declared.moment.TheConstants.{LAST_MOMENT}
-use Rattle.bx_live.specs.declared.world.CannotRecord.{CannotRecord}
-use Rattle.bx_live.specs.Acts.{Act, Began, Recorded, recorded, ended}
+use Rattle.bx_live.specs.declared.world.CannotLog.{CannotLog}
+use Rattle.bx_live.specs.Acts.{Act, Began, Logged, logged_by, ended}
 use Rattle.bx_live.specs.Runs.{Between, Done}
 use Rattle.bx_live.specs.Running.{Runs, or_over}
 
@@ -22,7 +22,7 @@ has_call d = list_any is_up d.entries
 abbrev pub AreHeld : ℕ → Day → List Act → Type 0
 AreHeld last d [] = Unit {0}
 AreHeld last d (Began second begin ∷ acts) = (second ≤ LAST_MOMENT) × (last < second → has_call d ≡ true) × AreHeld last d acts
-AreHeld last d (Recorded event true ∷ acts) = AreHeld last (live_happens d event).day acts
+AreHeld last d (Logged event true ∷ acts) = AreHeld last (live_happens d event).day acts
 AreHeld last d (act ∷ acts) = AreHeld last d acts
 
 -- the last second has come, and no call is up; or there are no more seconds
@@ -32,12 +32,12 @@ pub record IsHeldOut (last : ℕ) (d : Day) : Type 0 where
 
 -- The day of a run that is held open is the one after just the logged events. Unless the world has said that no second begins any
 -- more, it is held out
-pub record IsHeldRun (last : ℕ) (d d1 : Day) (acts : List Act) (result : Result (Unit {0}) CannotRecord) : Type 0 where
-  pub after : d1 ≡ live_day_after (recorded acts) d
+pub record IsHeldRun (last : ℕ) (d d1 : Day) (acts : List Act) (result : Result (Unit {0}) CannotLog) : Type 0 where
+  pub after : d1 ≡ live_day_after (logged_by acts) d
   pub held : AreHeld last d acts
   pub out : OnOk result (ended acts ≡ false → IsHeldOut last d1)
 
 -- the rest of a day that is held open was run
-abbrev pub RunsHeld : {W : Type 0} → (W → List Act → W → Type 0) → W → W → ℕ → Day → Day → Result (Unit {0}) CannotRecord → Type 0
+abbrev pub RunsHeld : {W : Type 0} → (W → List Act → W → Type 0) → W → W → ℕ → Day → Day → Result (Unit {0}) CannotLog → Type 0
 RunsHeld did old new last d d1 result =
     (ran : Runs did old new (Between d) (or_over (Done d1) d1 result)) × IsHeldRun last d d1 ran.acts result

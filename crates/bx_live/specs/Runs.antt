@@ -13,14 +13,14 @@ use Rattle.bx_live.specs.declared.world.Begin.{Begin}
 use Rattle.bx_live.specs.declared.world.Begin.TheVariants as begins
 use Rattle.bx_live.specs.declared.world.Loss.{Loss}
 use Rattle.bx_live.specs.declared.world.Loss.TheVariants as losses
-use Rattle.bx_live.specs.Acts.{Act, Began, Dropped, Recorded, Synced, Wrote, Read, Took, EndedDay}
+use Rattle.bx_live.specs.Acts.{Act, Began, Dropped, Logged, Synced, Wrote, Read, Took, EndedDay}
 
 -- where a run stands, with the day as far as it has come
 pub data Place : Type 0 where
   -- after one second, and before the next
   Between : (d : Day) → Place
   -- this event comes, and has to be logged; then so many messages may come in the turn
-  Recording : (d : Day) (room : ℕ) (event : LiveEvent) → Place
+  Logging : (d : Day) (room : ℕ) (event : LiveEvent) → Place
   -- these octets came, and have to be logged; replies are owed for those that came before them
   Receiving : (d : Day) (room : ℕ) (owed : List (List ℕ)) (octets : List ℕ) → Place
   -- replies are owed, and before they are written what is there already is heard
@@ -43,7 +43,7 @@ pub data Place : Type 0 where
 -- the day as far as a run has come
 abbrev pub day_at : Place → Day
 day_at (Between d) = d
-day_at (Recording d room event) = d
+day_at (Logging d room event) = d
 day_at (Receiving d room owed octets) = d
 day_at (Taking d room owed) = d
 day_at (Owing d room unsynced texts) = d
@@ -60,8 +60,8 @@ IsDue (Between d) (Began second begin) = second ≡ d.moment + 1
 IsDue (Between d) (Synced done) = Unit {0}
 IsDue (Closing d) (Synced done) = Unit {0}
 IsDue (Ending d) EndedDay = Unit {0}
-IsDue (Recording d room event) (Recorded e done) = e ≡ event
-IsDue (Receiving d room owed octets) (Recorded e done) = e ≡ OnLink (Receive octets)
+IsDue (Logging d room event) (Logged e done) = e ≡ event
+IsDue (Receiving d room owed octets) (Logged e done) = e ≡ OnLink (Receive octets)
 IsDue (Taking d room owed) (Took message) = Unit {0}
 IsDue (Owing d room true texts) (Synced done) = Unit {0}
 IsDue (Owing d room false (text ∷ texts)) (Wrote octets done) = octets ≡ text
@@ -110,8 +110,8 @@ writing d room (text ∷ texts) = Owing d room false (text ∷ texts)
 -- begins any more, the day is closed
 abbrev pub begun : Day → Begin → Place
 begun d begins.Late = Losing d losses.Late
-begun d begins.Alone = Recording d 0 WithoutLink
-begun d begins.Joined = Recording d 64 (OnLink Tick)
+begun d begins.Alone = Logging d 0 WithoutLink
+begun d begins.Joined = Logging d 64 (OnLink Tick)
 begun d begins.Ended = Closing d
 
 -- the peer's turn ends with its end of turn, which has the moment
@@ -123,7 +123,7 @@ heard d room (Err fault) = Losing d (losses.Fault fault)
 
 -- without its peer a second that has begun late is one without a link; and a turn is over
 abbrev pub lost : Day → Loss → Place
-lost d losses.Late = Recording d 0 WithoutLink
+lost d losses.Late = Logging d 0 WithoutLink
 lost d (losses.Fault fault) = Between d
 
 -- where the run is after the act that was due
@@ -132,8 +132,8 @@ next (Between d) (Began second begin) = begun d begin
 next (Between d) (Synced done) = if done then Ending d else Over d
 next (Closing d) (Synced done) = if done then Ending d else Over d
 next (Ending d) EndedDay = Done d
-next (Recording d room event) (Recorded e done) = if done then happened d room event else Over d
-next (Receiving d room owed octets) (Recorded e done) = if done then received d room owed octets else Over d
+next (Logging d room event) (Logged e done) = if done then happened d room event else Over d
+next (Receiving d room owed octets) (Logged e done) = if done then received d room owed octets else Over d
 next (Taking d room owed) (Took message) = taken d room owed message
 next (Owing d room true texts) (Synced done) = if done then Owing d room false texts else Over d
 next (Owing d room false (text ∷ texts)) (Wrote octets done) = if done then writing d room texts else Losing d (losses.Fault WriteFailed)

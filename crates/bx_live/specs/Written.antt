@@ -5,7 +5,7 @@ use Rattle.bx_events.specs.Events.{Event, Receive, LiveEvent, OnLink, WithoutLin
 use Rattle.bx_day.specs.Day.{Day}
 use Rattle.bx_day.specs.Course.{exchange_sent, exchange_text}
 use Rattle.bx_day.specs.Outages.{live_happens, live_day_after}
-use Rattle.bx_live.specs.Acts.{Act, Recorded, Synced, Wrote, recorded}
+use Rattle.bx_live.specs.Acts.{Act, Logged, Synced, Wrote, logged_by}
 use Rattle.bx_live.specs.Runs.{Place, Between, Receiving, Taking, Owing, IsRun, day_at}
 
 -- the events that are on the disk, and those that were logged after the last sync
@@ -15,7 +15,7 @@ pub record Filed : Type 0 where
 
 abbrev pub filed_by : List Act → Filed → Filed
 filed_by [] f = f
-filed_by (Recorded event true ∷ acts) f = filed_by acts (record { disk = f.disk; more = f.more ++ event ∷ [] })
+filed_by (Logged event true ∷ acts) f = filed_by acts (record { disk = f.disk; more = f.more ++ event ∷ [] })
 filed_by (Synced true ∷ acts) f = filed_by acts (record { disk = f.disk ++ f.more; more = [] })
 filed_by (act ∷ acts) f = filed_by acts f
 
@@ -34,7 +34,7 @@ pub record IsWrittenFor (d : Day) (acts : List Act) (octets : List ℕ) : Type 0
   pub earlier : List LiveEvent
   pub event : Event
   pub later : List LiveEvent
-  pub on_record : recorded acts ≡ earlier ++ OnLink event ∷ later
+  pub on_log : logged_by acts ≡ earlier ++ OnLink event ∷ later
   pub heard : AreHeard later
   pub text : octets ≡ exchange_text (live_day_after earlier d) event
   pub synced : (exchange_sent (live_day_after earlier d) event ≡ []) ⊎ ((filed acts).more ≡ [])
@@ -57,10 +57,10 @@ written [] = []
 written (Wrote octets true ∷ acts) = octets ++ written acts
 written (act ∷ acts) = written acts
 
--- no record, sync or write failed
+-- no logging, sync or write failed
 abbrev pub goes_well : List Act → Bool
 goes_well [] = true
-goes_well (Recorded event done ∷ acts) = done && goes_well acts
+goes_well (Logged event done ∷ acts) = done && goes_well acts
 goes_well (Synced done ∷ acts) = done && goes_well acts
 goes_well (Wrote octets done ∷ acts) = done && goes_well acts
 goes_well (act ∷ acts) = goes_well acts
@@ -84,4 +84,4 @@ AllIsOnRecord =
 abbrev pub AllIsWritten : Type 0
 AllIsWritten =
     (from to : Place) (acts : List Act) → IsRun from acts to → goes_well acts ≡ true
-    → written acts ++ owed_at to ≡ owed_at from ++ live_told (recorded acts) (day_at from)
+    → written acts ++ owed_at to ≡ owed_at from ++ live_told (logged_by acts) (day_at from)

@@ -5,7 +5,7 @@ ghost use Rattle.bx_day.specs.Day.{is_live};
 ghost use Rattle.bx_live.specs.Held.{has_call, RunsHeld};
 
 use crate::running::{Second, close_day, run_second};
-use crate::world::{CannotRecord, World};
+use crate::world::{CannotLog, World};
 use bx_day::{Exchange, Standing};
 use bx_events::LAST_MOMENT;
 
@@ -45,12 +45,12 @@ pub fn goes_on(exchange: &Exchange, last: u32) -> bool
 
 /// Runs the day as `run_live` does, and after its last second on while a call is up, so that each call that is begun is cleared and
 /// can be billed: until none is up, or up to `LAST_MOMENT`, or until the world says that the day is over. No second begins after
-/// the last one but for a call that is up. At its end all of it is on the disk. At `CannotRecord` nothing more is done.
+/// the last one but for a call that is up. At its end all of it is on the disk. At `CannotLog` nothing more is done.
 pub fn run_held<W: World>(
     exchange: &mut Exchange,
     world: &mut W,
     last: u32,
-) -> Result<(), CannotRecord>
+) -> Result<(), CannotLog>
     ensures { RunsHeld W.did world.old world.new last exchange.old exchange.new result }
 {
     for _second in exchange.moment()..LAST_MOMENT {

@@ -2,19 +2,19 @@
 
 ghost use Rattle.std.specs.Prelude.{◌≡◌, ◌≤◌, ◌+◌, ◌++◌, ◌∷◌, List};
 ghost use Rattle.bx_day.specs.Day.{Day};
-ghost use Rattle.bx_live.specs.Acts.{Act, recorded};
+ghost use Rattle.bx_live.specs.Acts.{Act, logged_by};
 ghost use Rattle.bx_live.specs.Runs.{Place, Between, IsRun};
 ghost use Rattle.bx_live.specs.Syncs.{syncs_in, waits_in};
 ghost use Rattle.bx_live.specs.Written.{filed, written, AllIsOnRecord, AllIsWritten};
 
 /// Whatever is written to a peer is what the exchange sends for the last event in the journal; where messages are sent for it, all that
 /// is logged is on the disk by then. What is logged is on the disk, or after the last sync.
-pub fn written_on_record()
+pub fn written_is_logged()
     ensures written { AllIsOnRecord }
-    ensures filed { (acts : List Act) → (filed acts).disk ++ (filed acts).more ≡ recorded acts }
+    ensures filed { (acts : List Act) → (filed acts).disk ++ (filed acts).more ≡ logged_by acts }
 {}
 
-/// From one place of a run to another, where no record, sync or write fails: what is written is just what the day's definition
+/// From one place of a run to another, where no logging, sync or write fails: what is written is just what the day's definition
 /// gives for the logged events, in order and once, but for what is still owed.
 pub fn all_is_written()
     ensures { AllIsWritten }

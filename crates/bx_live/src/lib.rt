@@ -11,4 +11,4 @@ mod world;
 
 pub use holding::{goes_on, has_call, run_held};
 pub use running::{Second, close_day, run_live, run_second};
-pub use world::{Begin, CannotRecord, Loss, World};
+pub use world::{Begin, CannotLog, Loss, World};

@@ -8,7 +8,7 @@ ghost use Rattle.bx_live.specs.Running.{RunsInside};
 ghost use Rattle.bx_live.specs.Inside.{or_lost, texts_of, heard_with, HearsOne, HearsFrom, WritesReplies};
 
 use crate::turn::Stop;
-use crate::world::{CannotRecord, World};
+use crate::world::{CannotLog, World};
 use arrayvec::ArrayVec;
 use bx_day::Exchange;
 use bx_devices::WriteFailed;
@@ -25,13 +25,13 @@ fn hear<W: World>(
     world: &mut W,
     message: &Octets,
     replies: &mut Replies,
-) -> Result<(), CannotRecord>
+) -> Result<(), CannotLog>
     requires { length replies.old.items < 64 }
     ensures ran { HearsOne W.did world.old world.new exchange.old replies.old.items message.now.items exchange.new replies.new.items result }
     ensures moment { exchange.new.moment ≡ exchange.old.moment }
     ensures few { length replies.new.items ≤ length replies.old.items + 1 }
 {
-    world.record(LiveEvent::OnLink(Event::Receive(message.as_slice())))?;
+    world.log(LiveEvent::OnLink(Event::Receive(message.as_slice())))?;
     match End::<Exchange>::hear(exchange, message) {
         Some(reply) => {
             replies.push(reply);
@@ -48,7 +48,7 @@ fn gather<W: World>(
     first: &Octets,
     room: u32,
     replies: &mut Replies,
-) -> Result<u32, CannotRecord>
+) -> Result<u32, CannotLog>
     requires room { room < 64 }
     requires none { replies.old.items ≡ [] }
     ensures ran { HearsFrom W.did world.old world.new exchange.old room first.now.items exchange.new replies.new.items result }

@@ -3,15 +3,15 @@
 ghost use Rattle.std.specs.Prelude.{◌≡◌, ℕ, ◌≤◌, min, max, Ok, OnOk};
 ghost use Rattle.bx_events.specs.Events.{Tick, OnLink, WithoutLink};
 ghost use Rattle.bx_day.specs.Day.{Day};
-ghost use Rattle.bx_live.specs.Runs.{Recording, Hearing, Between, Closing, Done, Losing};
+ghost use Rattle.bx_live.specs.Runs.{Logging, Hearing, Between, Closing, Done, Losing};
 ghost use Rattle.bx_live.specs.Running.{RunsInside, or_over};
 ghost use Rattle.bx_live.specs.declared.running.Second.TheVariants.{Ended};
-ghost use Rattle.bx_live.specs.Seconds.{after_second, RisesBySecond, IsSecond, RunsUpTo};
+ghost use Rattle.bx_live.specs.Seconds.{after_second, RisesBySecond, IsSecondRun, RunsUpTo};
 ghost use Rattle.bx_live.specs.Inside.{or_stopped, RisesByTurn};
 
 use crate::hearing::hear_turn;
 use crate::turn::{Stop, open_turn};
-use crate::world::{Begin, CannotRecord, Loss, World};
+use crate::world::{Begin, CannotLog, Loss, World};
 use bx_day::Exchange;
 use bx_events::{LAST_MOMENT, LiveEvent};
 
@@ -25,22 +25,19 @@ pub enum Second {
 }
 
 /// The next second, as one without a link.
-fn pass_without_link<W: World>(
-    exchange: &mut Exchange,
-    world: &mut W,
-) -> Result<Second, CannotRecord>
-    ensures ran { RunsInside W.did world.old world.new (Recording exchange.old 0 WithoutLink) (after_second exchange.new result) }
+fn pass_without_link<W: World>(exchange: &mut Exchange, world: &mut W) -> Result<Second, CannotLog>
+    ensures ran { RunsInside W.did world.old world.new (Logging exchange.old 0 WithoutLink) (after_second exchange.new result) }
     ensures moment { RisesBySecond exchange.old exchange.new result }
     ensures passes { ¬ (result ≡ Ok Ended) }
 {
-    world.record(LiveEvent::WithoutLink)?;
+    world.log(LiveEvent::WithoutLink)?;
     exchange.second_without_link();
     Ok(Second::Passed)
 }
 
 /// Both halves of a turn.
 fn run_turn<W: World>(exchange: &mut Exchange, world: &mut W) -> Result<(), Stop>
-    ensures ran { RunsInside W.did world.old world.new (Recording exchange.old 64 (OnLink Tick)) (or_stopped (Between exchange.new) exchange.new result) }
+    ensures ran { RunsInside W.did world.old world.new (Logging exchange.old 64 (OnLink Tick)) (or_stopped (Between exchange.new) exchange.new result) }
     ensures moment { RisesByTurn exchange.old exchange.new result }
 {
     open_turn(exchange, world)?;
@@ -48,8 +45,8 @@ fn run_turn<W: World>(exchange: &mut Exchange, world: &mut W) -> Result<(), Stop
 }
 
 /// The next second with a peer. A fault of the link drops it.
-fn pass_with_peer<W: World>(exchange: &mut Exchange, world: &mut W) -> Result<Second, CannotRecord>
-    ensures ran { RunsInside W.did world.old world.new (Recording exchange.old 64 (OnLink Tick)) (after_second exchange.new result) }
+fn pass_with_peer<W: World>(exchange: &mut Exchange, world: &mut W) -> Result<Second, CannotLog>
+    ensures ran { RunsInside W.did world.old world.new (Logging exchange.old 64 (OnLink Tick)) (after_second exchange.new result) }
     ensures moment { RisesBySecond exchange.old exchange.new result }
     ensures passes { ¬ (result ≡ Ok Ended) }
 {
@@ -59,14 +56,14 @@ fn pass_with_peer<W: World>(exchange: &mut Exchange, world: &mut W) -> Result<Se
             world.drop_peer(Loss::Fault(fault));
             Ok(Second::Passed)
         }
-        Err(Stop::Record) => Err(CannotRecord),
+        Err(Stop::Log) => Err(CannotLog),
     }
 }
 
 /// The next second, where one begins, and no other: it is waited for, and what happens in it is logged before it happens, and on the
-/// disk before messages are written for it. At a fault of the link the peer is dropped. At `CannotRecord` nothing more is to be done.
-pub fn run_second<W: World>(exchange: &mut Exchange, world: &mut W) -> Result<Second, CannotRecord>
-    ensures ran { IsSecond W.did world.old world.new exchange.old exchange.new result }
+/// disk before messages are written for it. At a fault of the link the peer is dropped. At `CannotLog` nothing more is to be done.
+pub fn run_second<W: World>(exchange: &mut Exchange, world: &mut W) -> Result<Second, CannotLog>
+    ensures ran { IsSecondRun W.did world.old world.new exchange.old exchange.new result }
     ensures moment { RisesBySecond exchange.old exchange.new result }
 {
     match world.begin(exchange.moment() + 1) {
@@ -81,7 +78,7 @@ pub fn run_second<W: World>(exchange: &mut Exchange, world: &mut W) -> Result<Se
 }
 
 /// The end of a day: all of it is on the disk, then the peer is told.
-pub fn close_day<W: World>(world: &mut W) -> Result<(), CannotRecord>
+pub fn close_day<W: World>(world: &mut W) -> Result<(), CannotLog>
     ensures at_last { (d : Day) → RunsInside W.did world.old world.new (Between d) (or_over (Done d) d result) }
     ensures at_ended { (d : Day) → RunsInside W.did world.old world.new (Closing d) (or_over (Done d) d result) }
 {
@@ -92,13 +89,13 @@ pub fn close_day<W: World>(world: &mut W) -> Result<(), CannotRecord>
 
 /// Runs the day up to a second of it, or to `LAST_MOMENT` where that is earlier, or until the world says that it is over. Each
 /// second is waited for. In one with a peer each event is logged before it happens, and on the disk before messages are written
-/// for it. At a fault of the link the peer is dropped, and the day goes on. At its end all of it is on the disk. At `CannotRecord`,
+/// for it. At a fault of the link the peer is dropped, and the day goes on. At its end all of it is on the disk. At `CannotLog`,
 /// where something could not be logged or synced, nothing more is done.
 pub fn run_live<W: World>(
     exchange: &mut Exchange,
     world: &mut W,
     last: u32,
-) -> Result<(), CannotRecord>
+) -> Result<(), CannotLog>
     ensures ran { RunsUpTo W.did world.old world.new last exchange.old exchange.new result }
     ensures whole { OnOk result (exchange.new.moment ≤ max exchange.old.moment (min last LAST_MOMENT)) }
 {

@@ -2,11 +2,11 @@
 
 ghost use Rattle.std.specs.Prelude.{◌≡◌, ◌++◌, ◌∷◌};
 ghost use Rattle.bx_events.specs.Events.{Tick, OnLink};
-ghost use Rattle.bx_live.specs.Runs.{Recording, Hearing};
+ghost use Rattle.bx_live.specs.Runs.{Logging, Hearing};
 ghost use Rattle.bx_live.specs.Running.{RunsInside};
 ghost use Rattle.bx_live.specs.Inside.{or_stopped, RisesByTurn, SyncsBefore};
 
-use crate::world::{CannotRecord, World};
+use crate::world::{CannotLog, World};
 use bx_day::Exchange;
 use bx_devices::WriteFailed;
 use bx_events::{Event, LiveEvent};
@@ -17,17 +17,17 @@ use bx_q931::Octets;
 #[derive(Clone, Copy)]
 pub(crate) enum Stop {
     Link(LinkFault),
-    Record,
+    Log,
 }
 
-impl From<CannotRecord> for Stop {
+impl From<CannotLog> for Stop {
     ghost use Rattle.std.specs.Prelude.{◌≡◌};
-    ghost use Rattle.bx_live.specs.declared.turn.Stop.TheVariants.{Record};
+    ghost use Rattle.bx_live.specs.declared.turn.Stop.TheVariants.{Log};
 
-    ghost from_gives = { λ _ stop. stop ≡ Record };
+    ghost from_gives = { λ _ stop. stop ≡ Log };
 
-    fn from(_e: CannotRecord) -> Stop {
-        Stop::Record
+    fn from(_e: CannotLog) -> Stop {
+        Stop::Log
     }
 }
 
@@ -44,7 +44,7 @@ impl From<WriteFailed> for Stop {
 }
 
 /// What was logged is on the disk before messages are written.
-fn sync_before<W: World>(world: &mut W, sent: &[Octets]) -> Result<(), CannotRecord>
+fn sync_before<W: World>(world: &mut W, sent: &[Octets]) -> Result<(), CannotLog>
     ensures { SyncsBefore W.did world.old world.new sent.now result }
 {
     if sent.is_empty() {
@@ -55,10 +55,10 @@ fn sync_before<W: World>(world: &mut W, sent: &[Octets]) -> Result<(), CannotRec
 
 /// The next second, and what is sent in it.
 pub(crate) fn open_turn<W: World>(exchange: &mut Exchange, world: &mut W) -> Result<(), Stop>
-    ensures ran { RunsInside W.did world.old world.new (Recording exchange.old 64 (OnLink Tick)) (or_stopped (Hearing exchange.new 64) exchange.new result) }
+    ensures ran { RunsInside W.did world.old world.new (Logging exchange.old 64 (OnLink Tick)) (or_stopped (Hearing exchange.new 64) exchange.new result) }
     ensures moment { RisesByTurn exchange.old exchange.new result }
 {
-    world.record(LiveEvent::OnLink(Event::Tick))?;
+    world.log(LiveEvent::OnLink(Event::Tick))?;
     let sent = exchange.next_second();
     let messages = sent.as_slice();
     sync_before(world, messages)?;

@@ -1,11 +1,11 @@
-//! The world outside a live day: its clock, its peers and its record.
+//! The world outside a live day: its clock, its peers and its journal.
 
 ghost use Rattle.std.specs.Prelude.{◌≡◌, ◌++◌, ◌∷◌, [], List, is_ok, IfOk};
 ghost use Rattle.bx_events.specs.Told.{live_event_of};
 ghost use Rattle.bx_frames.specs.Frames.{message_frame, turn_frame, frames_of};
 ghost use Rattle.bx_frames.specs.Reading.{MayCome};
 ghost use Rattle.bx_frames.specs.declared.frame.Receiver.TheVariants.{Exchange};
-ghost use Rattle.bx_live.specs.Acts.{Act, Began, Dropped, Recorded, Synced, Wrote, Read, Took, EndedDay};
+ghost use Rattle.bx_live.specs.Acts.{Act, Began, Dropped, Logged, Synced, Wrote, Read, Took, EndedDay};
 
 use bx_devices::WriteFailed;
 use bx_events::LiveEvent;
@@ -36,7 +36,7 @@ pub enum Loss {
 
 /// An event could not be logged, or what was logged not synced.
 #[derive(Clone, Copy, Debug, PartialEq, Eq)]
-pub struct CannotRecord;
+pub struct CannotLog;
 
 /// The world outside. What it was asked and what it answered is a list of acts, in their order: `did` says which may lie
 /// between two states of it.
@@ -51,12 +51,12 @@ pub trait World {
     fn drop_peer(&mut self, loss: Loss)
         ensures { did self.old (Dropped loss ∷ []) self.new };
 
-    /// Logs an event. It need not be on the disk before the next sync. `CannotRecord` where that failed.
-    fn record(&mut self, event: LiveEvent<'_>) -> Result<(), CannotRecord>
-        ensures { did self.old (Recorded (live_event_of event.entry) (is_ok result) ∷ []) self.new };
+    /// Logs an event. It need not be on the disk before the next sync. `CannotLog` where that failed.
+    fn log(&mut self, event: LiveEvent<'_>) -> Result<(), CannotLog>
+        ensures { did self.old (Logged (live_event_of event.entry) (is_ok result) ∷ []) self.new };
 
-    /// What was logged is on the disk. `CannotRecord` where it may not be.
-    fn sync(&mut self) -> Result<(), CannotRecord>
+    /// What was logged is on the disk. `CannotLog` where it may not be.
+    fn sync(&mut self) -> Result<(), CannotLog>
         ensures { did self.old (Synced (is_ok result) ∷ []) self.new };
 
     /// Writes the messages of a second to the peer, and the end of the turn with its moment. `WriteFailed` where not all of it was

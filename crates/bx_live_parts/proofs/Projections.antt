@@ -1,8 +1,8 @@
 -- What a chain of acts is to a part of its world.
 use Rattle.std.proofs.Common.{◌≡◌, List, [], ◌∷◌, refl, sym, ap, subst, Option, Some, None, ℕ, Bool}
-use Rattle.bx_live.specs.Acts.{Act, Began, Dropped, Recorded, Synced, Wrote, Read, Took, EndedDay}
+use Rattle.bx_live.specs.Acts.{Act, Began, Dropped, Logged, Synced, Wrote, Read, Took, EndedDay}
 use Rattle.bx_live_parts.specs.Chains.{Chain, chain_one, chain_first}
-use Rattle.bx_live_parts.specs.Records.{OnRecord, OnDisk}
+use Rattle.bx_live_parts.specs.Logs.{OnLog, OnDisk}
 
 pub chain_map : {W V : Type 0} (step : W → Act → W → Type 0) (part : V → Act → V → Type 0) (f : W → V) → ((s t : W) (act : Act) → step s act t → part (f s) act (f t)) → (s t : W) (acts : List Act) → Chain step s acts t → Chain part (f s) acts (f t)
 chain_map step part f so s t [] e = ap f e
@@ -13,14 +13,14 @@ chain_map step part f so s t (act ∷ after ∷ acts) (mid, p, more) = (f mid, s
 
 module _ {D : Type 0} (holds may_leave : D → List ℕ → Type 0) (moment : D → ℕ) (left_since : D → ℕ → List ℕ → Type 0) (has_failed : D → Bool) where
   abbrev Kept : Option D → Act → Option D → Type 0
-  Kept = OnRecord holds may_leave moment left_since has_failed
+  Kept = OnLog holds may_leave moment left_since has_failed
 
   abbrev Step : D → Act → D → Type 0
   Step = OnDisk holds may_leave moment left_since has_failed
 
   kept_by : (old : D) (act : Act) (o : Option D) → Kept (Some old) act o → (new : D) × (o ≡ Some new) × Step old act new
-  kept_by old (Recorded event done) (Some new) p = (new, refl, p)
-  kept_by old (Recorded event done) None p = absurd p
+  kept_by old (Logged event done) (Some new) p = (new, refl, p)
+  kept_by old (Logged event done) None p = absurd p
   kept_by old (Synced done) (Some new) p = (new, refl, p)
   kept_by old (Synced done) None p = absurd p
   kept_by old (Began second begin) o p = (old, sym p, refl)

@@ -1,3 +1,3 @@
 pub mod Chains
-pub mod Records
+pub mod Logs
 pub mod Schedules

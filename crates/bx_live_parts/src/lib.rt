@@ -1,8 +1,8 @@
 //! What the worlds of a live day share: when its seconds begin, and what it logs.
 #![tactic(auto)]
 
-mod record;
+mod log;
 mod schedule;
 
-pub use record::Record;
+pub use log::Log;
 pub use schedule::{SECOND, Schedule};

@@ -21,13 +21,13 @@ pub struct Schedule {
 }
 
 impl Schedule {
-    ghost use Rattle.bx_live_parts.specs.Schedules.{instant_of, turn_of, first_of, pace_of};
+    ghost use Rattle.bx_live_parts.specs.Schedules.{instant_of_second, turn_of, first_instant_of, pace_of};
 
     /// The schedule of a day whose moment 0 is this second of the clock, and of which so many seconds, at least one, are one of the
     /// clock.
     pub fn new(first: u64, pace: u32) -> Self
         requires { 1 ≤ pace }
-        ensures first { first_of result ≡ first }
+        ensures first { first_instant_of result ≡ first }
         ensures pace { pace_of result ≡ pace }
     {
         Schedule { first, pace }
@@ -35,7 +35,7 @@ impl Schedule {
 
     /// The instant of a second of the day, in nanoseconds since 1970-01-01T00:00:00Z.
     pub fn instant(&self, second: u32) -> u128
-        ensures { result ≡ instant_of self.now second }
+        ensures { result ≡ instant_of_second self.now second }
     {
         u128::from(self.first) * SECOND + u128::from(second) * SECOND / u128::from(self.pace)
     }

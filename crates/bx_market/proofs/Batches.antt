@@ -4,8 +4,8 @@ use Rattle.std.proofs.lemmas.Bool.{cases_lt}
 use Rattle.bx_base.specs.Bookings.{Row, row_at}
 use Rattle.bx_day.specs.Day.{Day}
 use Rattle.bx_events.specs.Events.{Sold}
-use Rattle.bx_live.specs.declared.world.CannotRecord.{CannotRecord}
-use Rattle.bx_live.specs.Acts.{Act, Recorded}
+use Rattle.bx_live.specs.declared.world.CannotLog.{CannotLog}
+use Rattle.bx_live.specs.Acts.{Act, Logged}
 use Rattle.bx_live.specs.Runs.{Over}
 use Rattle.bx_planfile.specs.OneBooking.{booking_text, booking_on, row_on, row_or_none}
 use Rattle.bx_sales.specs.Selling.{IsSold}
@@ -51,15 +51,15 @@ none_sold_of (row ∷ batch) (Refused why ∷ answers) none = none_sold_of batch
 -- ---- one booking
 
 module _ {W : Type 0} {did : W → List Act → W → Type 0} {dealt : W → List Deal → W → Type 0} (channels : List Bool) (by : (v w : W) (acts : List Act) → did v acts w → dealt v (all_ran acts) w) (u v : W) (shown d d1 : Day) (batch sold : List Row) where
-  pub sold_on_record : (row : Row) (line : List ℕ) → did u (Recorded (Sold line) true ∷ []) v → line ≡ booking_text row → booking_on (booking_text row) ≡ Some row → IsSold channels row d d1
+  pub sold_is_logged : (row : Row) (line : List ℕ) → did u (Logged (Sold line) true ∷ []) v → line ≡ booking_text row → booking_on (booking_text row) ≡ Some row → IsSold channels row d d1
       → Asks dealt channels u v (Filing shown d batch sold) (Filing shown d1 batch (sold ++ row ∷ []))
-  sold_on_record row line done text again is =
+  sold_is_logged row line done text again is =
       let same : row ≡ row_on line = sym (ap row_on text ∙ ap row_or_none again) in
-      one_inside channels by (Filing shown d batch sold) (Filing shown d1 batch (sold ++ row ∷ [])) (Recorded (Sold line) true) done
+      one_inside channels by (Filing shown d batch sold) (Filing shown d1 batch (sold ++ row ∷ [])) (Logged (Sold line) true) done
       (d1, subst (λ (r : Row). IsSold channels r d d1) same is, ap (λ (r : Row). Filing shown d1 batch (sold ++ r ∷ [])) same) refl
 
-  pub not_on_record : (line : List ℕ) → did u (Recorded (Sold line) false ∷ []) v → Asks dealt channels u v (Filing shown d batch sold) (Within (Over d))
-  not_on_record line done = one_inside channels by (Filing shown d batch sold) (Within (Over d)) (Recorded (Sold line) false) done refl refl
+  pub not_logged : (line : List ℕ) → did u (Logged (Sold line) false ∷ []) v → Asks dealt channels u v (Filing shown d batch sold) (Within (Over d))
+  not_logged line done = one_inside channels by (Filing shown d batch sold) (Within (Over d)) (Logged (Sold line) false) done refl refl
 
 module _ {W : Type 0} {did : W → List Act → W → Type 0} {dealt : W → List Deal → W → Type 0} (channels : List Bool) (by : (v w : W) (acts : List Act) → did v acts w → dealt v (all_ran acts) w) (none : (w : W) → did w [] w) where
   pub not_sold : (u : W) (shown d d1 : Day) (batch sold : List Row) → d1 ≡ d → Asks dealt channels u u (Filing shown d batch sold) (Filing shown d1 batch sold) × (d1 ≡ d)
@@ -76,7 +76,7 @@ module _ {W : Type 0} {dealt : W → List Deal → W → Type 0} (channels : Lis
       at_stand (Filing shown d1 batch (sold_of batch answers)) (Filing shown d1 batch (sold_of batch (answers ++ Refused why ∷ []))) (ap (Filing shown d1 batch) (sym (sold_same batch answers why))) run
 
 -- a run that goes on well, or does not
-pub or_more : {W A : Type 0} {dealt : W → List Deal → W → Type 0} (channels : List Bool) (more : (u v w : W) (xs ys : List Deal) → dealt u xs v → dealt v ys w → dealt u (xs ++ ys) w) (u v w : W) (p q s : Stand) (r : Result A CannotRecord)
+pub or_more : {W A : Type 0} {dealt : W → List Deal → W → Type 0} (channels : List Bool) (more : (u v w : W) (xs ys : List Deal) → dealt u xs v → dealt v ys w → dealt u (xs ++ ys) w) (u v w : W) (p q s : Stand) (r : Result A CannotLog)
     → Asks dealt channels u v p q → OrOver dealt channels v w q s r → OrOver dealt channels u w p s r
 or_more channels more u v w p q s (Ok a) run on = then_asked more run on
 or_more channels more u v w p q s (Err fault) run (over, on) = (over, then_asked more run on)

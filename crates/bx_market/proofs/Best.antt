@@ -10,12 +10,12 @@ use Rattle.bx_sales.specs.declared.selling.NoSale.TheVariants.{Late, OtherChanne
 use Rattle.bx_market.specs.declared.market.Answer.{Answer}
 use Rattle.bx_market.specs.declared.market.Answer.TheVariants.{Accepted, Refused}
 use Rattle.bx_market.specs.Answers.{answer_at, IsToldOf, AreToldByChoice, AreToldOfMemory, AreTold}
-use Rattle.bx_market.specs.Choices.{IsBestChoice}
+use Rattle.bx_market.specs.Choices.{IsBestBatch}
 use Rattle.bx_market.specs.Deals.{Deal, Answered}
-use Rattle.bx_market.specs.Stands.{Stand, Within, Filing, Telling, Goes, IsMarketRun}
+use Rattle.bx_market.specs.Stands.{Stand, Within, Filing, Telling, GoesByDeal, IsMarketRun}
 use Rattle.bx_market.specs.Told.{is_sold, IsUnhindered, IsToldOfBest}
 use Rattle.bx_market.proofs.Eligible.{eligible_later}
-use Rattle.bx_market.proofs.Records.{AreSold, Stands, stands}
+use Rattle.bx_market.proofs.Logs.{AreSold, Stands, stands}
 
 -- marks that are one by one those of these answers
 same_marks : (answers : List Answer) (marks : List Bool) → length answers ≡ length marks → ((i : ℕ) → i < length answers → is_in marks i ≡ is_sold (answer_at answers i)) → marks ≡ map is_sold answers
@@ -32,13 +32,13 @@ module _ (channels : List Bool) (d : Day) (batch : List Row) where
   chosen_sold chosen i b a told fine = absurd told
 
   module _ (answers : List Answer) (fine : (i : ℕ) → i < length batch → IsUnhindered (answer_at answers i)) where
-    by_choice : AreToldByChoice channels d batch answers → IsBestChoice channels d batch (map is_sold answers)
+    by_choice : AreToldByChoice channels d batch answers → IsBestBatch channels d batch (map is_sold answers)
     by_choice told =
         let count = told.best.one_each in
         let same : told.chosen ≡ map is_sold answers = same_marks answers told.chosen (told.one_each ∙ sym count) (λ i lt.
         let inside : i < length batch = omega (arith, lt, told.one_each) in
         chosen_sold told.chosen i (is_in told.chosen i) (answer_at answers i) (told.each i inside) (fine i inside)) in
-        subst (IsBestChoice channels d batch) same told.best
+        subst (IsBestBatch channels d batch) same told.best
 
     -- where all are late
     all_late : AreToldOfMemory d batch answers → (i : ℕ) → i < length batch → (row_at batch i).start ≤ d.moment
@@ -58,7 +58,7 @@ module _ (channels : List Bool) (d : Day) (batch : List Row) where
       by_place (inl lt) = true≢false (sym h ∙ at answers i (told.late i lt (all_late told i lt)))
       by_place (inr beyond) = true≢false (sym h ∙ get_or_past (map is_sold answers) i false (let n = length-map answers is_sold in let m = told.one_each in omega (arith, beyond, n, m)))
 
-    of_memory : AreToldOfMemory d batch answers → IsBestChoice channels d batch (map is_sold answers)
+    of_memory : AreToldOfMemory d batch answers → IsBestBatch channels d batch (map is_sold answers)
     of_memory told = record {
       one_each = length-map answers is_sold ∙ told.one_each;
       eligible = λ i h. absurd (none_sold told i h);
@@ -70,14 +70,14 @@ module _ (channels : List Bool) (d : Day) (batch : List Row) where
           omega (arith, zero_paid);
     }
 
-    best_of : AreTold channels d batch answers → IsBestChoice channels d batch (map is_sold answers)
+    best_of : AreTold channels d batch answers → IsBestBatch channels d batch (map is_sold answers)
     best_of (inl told) = by_choice told
     best_of (inr told) = of_memory told
 
 of_best : (channels : List Bool) (deals : List Deal) (shown : Day) (batch sold : List Row) (answers : List Answer) → AreSold deals shown batch sold → AreTold channels shown batch answers → IsToldOfBest channels deals answers
 of_best channels deals shown batch sold answers s told = record { shown = shown; batch = batch; before = s.before; since = s.since; are = s.are; told = told; best = λ fine. best_of channels shown batch answers fine told }
 
-told_at : (channels : List Bool) (deals : List Deal) (from to : Stand) (answers : List Answer) → Stands deals from → Goes channels from (Answered answers) to → IsToldOfBest channels deals answers
+told_at : (channels : List Bool) (deals : List Deal) (from to : Stand) (answers : List Answer) → Stands deals from → GoesByDeal channels from (Answered answers) to → IsToldOfBest channels deals answers
 told_at channels deals (Within p) to answers s e = absurd e
 told_at channels deals (Filing shown d batch sold) to answers s (none, are, told, e) = of_best channels deals shown batch sold answers s told
 told_at channels deals (Telling shown d batch sold) to answers s (are, told, e) = of_best channels deals shown batch sold answers s.sold_since told

@@ -17,7 +17,7 @@ use Rattle.bx_planner.specs.Musts.{IsTooManyMust}
 use Rattle.bx_planner.specs.Tight.{runs_at}
 use Rattle.bx_planner.proofs.Rooms.{carried_from_room}
 use Rattle.bx_sales.specs.Selling.{rows_of, marks_of}
-use Rattle.bx_market.specs.Choices.{eligible_marks, IsChoice, IsBestChoice}
+use Rattle.bx_market.specs.Choices.{eligible_marks, IsChoice, IsBestBatch}
 use Rattle.bx_market.specs.Choosing.{promised, free_row, free_rows, chosen_marks}
 use Rattle.bx_market.proofs.Totals.{all_marks, pays_more, total, marked, all_of, pays, runs, marked-total, total-append, marked-append, running_marked, running_total}
 use Rattle.bx_market.proofs.Eligible.{all_free_total, eligible_count, chosen_count, chosen_eligible, chosen_total, picked, picked_total, free_rows_free}
@@ -127,7 +127,7 @@ module _ (channels : List Bool) (d : Day) (batch : List Row) where
             omega (arith, same, most);
       }
 
-      pub chosen_best : AreBookings plan_rows → (most : ℕ) → most ≡ pay_of plan_rows (is_accepted assigned) → IsBest plan_rows channels most → IsBestChoice channels d batch chosen
+      pub chosen_best : AreBookings plan_rows → (most : ℕ) → most ≡ pay_of plan_rows (is_accepted assigned) → IsBest plan_rows channels most → IsBestBatch channels d batch chosen
       chosen_best bookings most paid best = record {
         one_each = chosen_each;
         eligible = chosen_eligible parts assigned (length kept);
@@ -142,7 +142,7 @@ module _ (channels : List Bool) (d : Day) (batch : List Row) where
       }
 
   -- where what is promised is not carried, nothing is chosen
-  pub none_best : (t place : ℕ) → IsTooManyMust plan_rows channels t → IsBestChoice channels d batch (chosen_marks parts [] place)
+  pub none_best : (t place : ℕ) → IsTooManyMust plan_rows channels t → IsBestBatch channels d batch (chosen_marks parts [] place)
   none_best t place many = record {
     one_each = chosen_count parts [] place ∙ eligible_each;
     eligible = chosen_eligible parts [] place;
@@ -151,7 +151,7 @@ module _ (channels : List Bool) (d : Day) (batch : List Row) where
   }
 
   -- where all of them fit, they are the best choice
-  all_best : FitsChannels plan_rows (replicate (length plan_rows) true) channels → IsBestChoice channels d batch parts
+  all_best : FitsChannels plan_rows (replicate (length plan_rows) true) channels → IsBestBatch channels d batch parts
   all_best fit = record {
     one_each = eligible_each;
     eligible = λ i h. h;
@@ -177,18 +177,18 @@ module _ (channels : List Bool) (d : Day) (batch : List Row) where
     same_chosen : chosen_found ≡ chosen_marks parts assigned (length kept)
     same_chosen = chosen_are ∙ ap₂ (λ (p : List Bool) (k : ℕ). chosen_marks p assigned k) parts_are (place_is ∙ ap length first_are)
 
-    pub found_best : AreBookings rows → (most : ℕ) → IsLawful rows channels (is_accepted assigned) → most ≡ pay_of rows (is_accepted assigned) → IsBest rows channels most → IsBestChoice channels d batch chosen_found
+    pub found_best : AreBookings rows → (most : ℕ) → IsLawful rows channels (is_accepted assigned) → most ≡ pay_of rows (is_accepted assigned) → IsBest rows channels most → IsBestBatch channels d batch chosen_found
     found_best bookings most lawful paid best =
-        subst (IsBestChoice channels d batch) (sym same_chosen)
+        subst (IsBestBatch channels d batch) (sym same_chosen)
         (chosen_best assigned (subst (λ (rs : List Row). IsLawful rs channels (is_accepted assigned)) same_rows lawful) (subst AreBookings same_rows bookings) most
         (paid ∙ ap (λ (rs : List Row). pay_of rs (is_accepted assigned)) same_rows) (subst (λ (rs : List Row). IsBest rs channels most) same_rows best))
 
-    pub found_none : assigned ≡ [] → (t : ℕ) → IsTooManyMust rows channels t → IsBestChoice channels d batch chosen_found
+    pub found_none : assigned ≡ [] → (t : ℕ) → IsTooManyMust rows channels t → IsBestBatch channels d batch chosen_found
     found_none none t many =
-        subst (IsBestChoice channels d batch) (sym (same_chosen ∙ ap (λ (a : List (Option ℕ)). chosen_marks parts a (length kept)) none))
+        subst (IsBestBatch channels d batch) (sym (same_chosen ∙ ap (λ (a : List (Option ℕ)). chosen_marks parts a (length kept)) none))
         (none_best t (length kept) (subst (λ (rs : List Row). IsTooManyMust rs channels t) same_rows many))
 
-  pub found_all : (parts_found chosen_found : List Bool) (rows_first rows : List Row) → parts_found ≡ parts → rows_first ≡ kept → rows ≡ rows_first ++ free_rows batch parts_found → chosen_found ≡ parts_found → FitsChannels rows (replicate (length rows) true) channels → IsBestChoice channels d batch chosen_found
+  pub found_all : (parts_found chosen_found : List Bool) (rows_first rows : List Row) → parts_found ≡ parts → rows_first ≡ kept → rows ≡ rows_first ++ free_rows batch parts_found → chosen_found ≡ parts_found → FitsChannels rows (replicate (length rows) true) channels → IsBestBatch channels d batch chosen_found
   found_all parts_found chosen_found rows_first rows parts_are first_are rows_are chosen_are fit =
       let same = rows_are ∙ ap₂ (λ (a : List Row) (p : List Bool). a ++ free_rows batch p) first_are parts_are in
-      subst (IsBestChoice channels d batch) (sym (chosen_are ∙ parts_are)) (all_best (subst (λ (rs : List Row). FitsChannels rs (replicate (length rs) true) channels) same fit))
+      subst (IsBestBatch channels d batch) (sym (chosen_are ∙ parts_are)) (all_best (subst (λ (rs : List Row). FitsChannels rs (replicate (length rs) true) channels) same fit))

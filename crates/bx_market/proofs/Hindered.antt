@@ -5,7 +5,7 @@ use Rattle.bx_base.specs.Bookings.{Row, row_at}
 use Rattle.bx_colour.specs.Colouring.{is_in}
 use Rattle.bx_day.specs.Day.{Day}
 use Rattle.bx_events.specs.Events.{LiveEvent, Sold}
-use Rattle.bx_live.specs.Acts.{recorded}
+use Rattle.bx_live.specs.Acts.{logged_by}
 use Rattle.bx_live.specs.Runs.{Between}
 use Rattle.bx_planfile.specs.OneBooking.{row_on}
 use Rattle.bx_sales.specs.Journal.{RunsThrough}
@@ -16,7 +16,7 @@ use Rattle.bx_market.specs.declared.market.Answer.{Answer}
 use Rattle.bx_market.specs.declared.market.Answer.TheVariants.{Refused}
 use Rattle.bx_market.specs.Answers.{answer_at, IsToldOf, HasOtherChannels, AreTold}
 use Rattle.bx_market.specs.Deals.{Deal, Asked, Answered, acts_of}
-use Rattle.bx_market.specs.Stands.{Stand, Within, Goes, IsMarketRun, stand_day}
+use Rattle.bx_market.specs.Stands.{Stand, Within, GoesByDeal, IsMarketRun, stand_day}
 use Rattle.bx_market.proofs.Eligible.{eligible_later}
 use Rattle.bx_market.proofs.Best.{told_of_best}
 use Rattle.bx_market.proofs.Through.{run_through}
@@ -59,7 +59,7 @@ module _ (channels : List Bool) (d : Day) (batch : List Row) (first : IsFirstFit
     by_order (inl later) = let is = told.memory i (omega (arith, lt, told.one_each)) later in cc
     by_order (inr late) = let is = told.late i (omega (arith, lt, told.one_each)) late in cc
 
-at_asked : (channels : List Bool) (shown : Day) (batch : List Row) (q r : Stand) → IsFirstFitDay channels (stand_day q) → Goes channels q (Asked shown (Some batch)) r → IsFirstFitDay channels shown
+at_asked : (channels : List Bool) (shown : Day) (batch : List Row) (q r : Stand) → IsFirstFitDay channels (stand_day q) → GoesByDeal channels q (Asked shown (Some batch)) r → IsFirstFitDay channels shown
 at_asked channels shown batch (Within (Between e)) r there (same, is) = subst (IsFirstFitDay channels) (sym same) there
 at_asked channels shown batch q r there goes = absurd goes
 
@@ -67,7 +67,7 @@ at_asked channels shown batch q r there goes = absurd goes
 shown_first_fit : (channels : List Bool) (d shown : Day) (batch : List Row) (before since : List Deal) (to : Stand) → IsFirstFitDay channels d → IsMarketRun channels (Within (Between d)) (before ++ Asked shown (Some batch) ∷ since) to → IsFirstFitDay channels shown
 shown_first_fit channels d shown batch before since to first run =
     let s = run_split channels (Within (Between d)) to before (Asked shown (Some batch) ∷ since) run in
-    let there = first_fit_through channels (recorded (acts_of before)) d (stand_day s.at) first (run_through channels (Within (Between d)) s.at before tt s.before) in
+    let there = first_fit_through channels (logged_by (acts_of before)) d (stand_day s.at) first (run_through channels (Within (Between d)) s.at before tt s.before) in
     let following = s.following in
     at_asked channels shown batch s.at following.0 there following.1
 

@@ -2,7 +2,7 @@ pub mod Steps
 pub mod Through
 pub mod Batches
 pub mod Seconds
-pub mod Records
+pub mod Logs
 mod WrittenEvents
 pub mod LastPlan
 mod Totals

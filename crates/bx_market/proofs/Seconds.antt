@@ -2,13 +2,13 @@
 use Rattle.std.proofs.Common.{◌≡◌, ◌⊎◌, inl, inr, ℕ, ◌+◌, ◌<◌, Bool, true, false, true≢false, List, [], ◌∷◌, ◌++◌, Result, Ok, Err, refl, sym, ap, ◌∙◌, subst, arith}
 use Rattle.std.proofs.lemmas.List.{append-nil}
 use Rattle.bx_day.specs.Day.{Day}
-use Rattle.bx_live.specs.declared.world.CannotRecord.{CannotRecord}
+use Rattle.bx_live.specs.declared.world.CannotLog.{CannotLog}
 use Rattle.bx_live.specs.declared.running.Second.TheVariants.{Ended}
 use Rattle.bx_live.specs.Acts.{Act, Began, ended, begins_none}
 use Rattle.bx_live.specs.Held.{has_call, IsHeldOut}
 use Rattle.bx_live.specs.Runs.{Place, Between, Over, Closing, Done, IsRun, next}
 use Rattle.bx_live.specs.Running.{Runs, RunsInside, or_over}
-use Rattle.bx_live.specs.Seconds.{IsOneSecond, IsSecond}
+use Rattle.bx_live.specs.Seconds.{IsOneSecond, IsSecondRun}
 use Rattle.bx_live.proofs.Days.{ended_inside}
 use Rattle.bx_live.proofs.Steps.{as_run}
 use Rattle.bx_market.specs.Deals.{Deal, Ran, acts_of, all_ran}
@@ -77,7 +77,7 @@ module _ {W : Type 0} {did : W → List Act → W → Type 0} {dealt : W → Lis
   close_held p q close = (by_run channels by (as_run close), inside_held channels last p q close.acts close.goes close.inside)
 
   -- a run that is closed, or could not be
-  pub closes : {u v w : W} (d d1 : Day) (p : Place) (r : Result (Unit {0}) CannotRecord) (so_far : HeldTo u v (Within (Between d)) (Within p)) (close : RunsInside did v w p (or_over (Done d1) d1 r))
+  pub closes : {u v w : W} (d d1 : Day) (p : Place) (r : Result (Unit {0}) CannotLog) (so_far : HeldTo u v (Within (Between d)) (Within p)) (close : RunsInside did v w p (or_over (Done d1) d1 r))
       → ((ended (acts_of so_far.0.deals) ≡ true) ⊎ IsHeldOut last d1) → IsSaleRun dealt channels u w d d1 last r
   closes d d1 p (Ok done) so_far close out =
       let h = then_held so_far (close_held p (Done d1) close) in
@@ -95,7 +95,7 @@ module _ {W : Type 0} {did : W → List Act → W → Type 0} {dealt : W → Lis
       record { over = d1; run = h.0; through = run_through channels (Within (Between d)) (Within (Over d1)) h.0.deals tt h.0.goes; held = h.1 }
 
   -- no second begins any more
-  pub ends : {u v w x : W} (d d1 d2 : Day) (r : Result (Unit {0}) CannotRecord) → HeldTo u v (Within (Between d)) (Within (Between d1)) → (second : IsSecond did v w d1 d2 (Ok Ended)) → d1.moment < 300000 → (d1.moment < last) ⊎ (has_call d1 ≡ true)
+  pub ends : {u v w x : W} (d d1 d2 : Day) (r : Result (Unit {0}) CannotLog) → HeldTo u v (Within (Between d)) (Within (Between d1)) → (second : IsSecondRun did v w d1 d2 (Ok Ended)) → d1.moment < 300000 → (d1.moment < last) ⊎ (has_call d1 ≡ true)
       → RunsInside did w x (Closing d2) (or_over (Done d2) d2 r) → IsSaleRun dealt channels u x d d2 last r
   ends d d1 d2 r so_far second early wanted close =
       let after = one_second d1 (Closing d2) second.run second.one early wanted in
@@ -104,7 +104,7 @@ module _ {W : Type 0} {did : W → List Act → W → Type 0} {dealt : W → Lis
         said xs e = ap ended (acts_more xs (all_ran second.run.acts)) ∙ ended_after (acts_of xs) (acts_of (all_ran second.run.acts)) e
 
   -- a run that broke off
-  pub breaks : {u w : W} (d d2 over : Day) (r : Result (Unit {0}) CannotRecord) (fault : CannotRecord) → r ≡ Err fault → HeldTo u w (Within (Between d)) (Within (Over over)) → IsSaleRun dealt channels u w d d2 last r
+  pub breaks : {u w : W} (d d2 over : Day) (r : Result (Unit {0}) CannotLog) (fault : CannotLog) → r ≡ Err fault → HeldTo u w (Within (Between d)) (Within (Over over)) → IsSaleRun dealt channels u w d d2 last r
   breaks {u} {w} d d2 over r fault e h =
-      subst (λ (x : Result (Unit {0}) CannotRecord). IsSaleRun dealt channels u w d d2 last x) (sym e)
+      subst (λ (x : Result (Unit {0}) CannotLog). IsSaleRun dealt channels u w d d2 last x) (sym e)
       (record { over = over; run = h.0; through = run_through channels (Within (Between d)) (Within (Over over)) h.0.deals tt h.0.goes; held = h.1 })

@@ -8,7 +8,7 @@ use Rattle.bx_base.proofs.SumLemmas.{sum_below-le, sum_below-more, sum_below-nex
 use Rattle.bx_colour.specs.Colouring.{is_in, running_at, FitsChannels}
 use Rattle.bx_day.specs.Day.{Day}
 use Rattle.bx_day.specs.declared.entry.Entry.{Entry}
-use Rattle.bx_live.specs.declared.world.CannotRecord.{CannotRecord}
+use Rattle.bx_live.specs.declared.world.CannotLog.{CannotLog}
 use Rattle.bx_planner.proofs.AllMusts.{short_sum}
 use Rattle.bx_sales.specs.Selling.{rows_of, marks_of, rows_with, marks_with, IsSold}
 use Rattle.bx_sales.specs.Sold.{Bought, GoesThrough}
@@ -17,15 +17,15 @@ use Rattle.bx_sales.specs.declared.selling.NoSale.TheVariants.{Late, Full, NoCha
 use Rattle.bx_market.specs.declared.market.Answer.{Answer}
 use Rattle.bx_market.specs.declared.market.Answer.TheVariants.{Accepted, Refused}
 use Rattle.bx_market.specs.Answers.{answer_at, IsToldOf, AreTold}
-use Rattle.bx_market.specs.Choices.{eligible_marks, is_eligible, IsBestChoice, HasNoRoom}
+use Rattle.bx_market.specs.Choices.{eligible_marks, is_eligible, IsBestBatch, HasNoRoom}
 use Rattle.bx_market.specs.Deals.{Deal, sold_of}
-use Rattle.bx_market.specs.Offers.{IsOffered, IsSettled, why_not}
+use Rattle.bx_market.specs.Offers.{IsOffered, IsOfferSettled, why_not}
 use Rattle.bx_market.proofs.Batches.{sold_none, sold_more, sold_same}
 use Rattle.bx_market.proofs.Totals.{pays_more, total, all_of, runs, one, sum_below-first, marked-total, total-append, running_total}
 use Rattle.bx_market.proofs.Eligible.{eligible_later, eligible_places}
 use Rattle.bx_market.proofs.Chosen.{all_count, marks_count}
 
-abbrev as_result : Answer → Result Answer CannotRecord
+abbrev as_result : Answer → Result Answer CannotLog
 as_result a = Ok a
 
 -- ---- what is sold is among what is chosen
@@ -78,7 +78,7 @@ none_settled channels d batch chosen answers none =
       each = λ i lt. let n = ap length none in absurd (omega (arith, lt, n));
     }
 
-module _ (channels : List Bool) (d : Day) (batch : List Row) (chosen : List Bool) (best : IsBestChoice channels d batch chosen) where
+module _ (channels : List Bool) (d : Day) (batch : List Row) (chosen : List Bool) (best : IsBestBatch channels d batch chosen) where
   no_room : AreBookings batch → (i : ℕ) → i < length batch → is_in chosen i ≡ false → HasNoRoom channels d batch chosen i
   no_room bookings i lt out other choice has = false_from_ne_true (is_in other i) (λ in_it.
       let most = best.best other choice in
@@ -144,7 +144,7 @@ module _ (channels : List Bool) (d : Day) (batch : List Row) (chosen : List Bool
           let sum = length-append (rows_of d) sold in
           omega (arith, places, few, before, count, now, was, rows, sum)
 
-      told_chosen : (d2 : Day) (a : Answer) → IsSettled channels (row_at batch i) d1 d2 (Ok a) → IsToldOf channels d batch chosen i true a
+      told_chosen : (d2 : Day) (a : Answer) → IsOfferSettled channels (row_at batch i) d1 d2 (Ok a) → IsToldOf channels d batch chosen i true a
       told_chosen d2 (Refused Late) s = let later = eligible_later d.moment (length d.entries) batch i (best.eligible i in_choice) in absurd (omega (arith, s, later, settled.moment))
       told_chosen d2 (Refused Full) s = absurd (omega (arith, s, next_has_place))
       told_chosen d2 (Refused NoChannel) s = absurd (s next_fits)
@@ -158,7 +158,7 @@ module _ (channels : List Bool) (d : Day) (batch : List Row) (chosen : List Bool
       before : leb (row_at batch i).start d1.moment ≡ false → d.moment < (row_at batch i).start
       before h = grind (arith, h, settled.moment)
 
-    pub told_next : AreBookings batch → (d2 : Day) (a : Answer) (b : Bool) → is_in chosen i ≡ b → (b ≡ true → IsSettled channels (row_at batch i) d1 d2 (Ok a)) → (b ≡ false → as_result a ≡ as_result (Refused (why_not d1.moment (row_at batch i) (is_eligible d batch i)))) → IsToldOf channels d batch chosen i b a
+    pub told_next : AreBookings batch → (d2 : Day) (a : Answer) (b : Bool) → is_in chosen i ≡ b → (b ≡ true → IsOfferSettled channels (row_at batch i) d1 d2 (Ok a)) → (b ≡ false → as_result a ≡ as_result (Refused (why_not d1.moment (row_at batch i) (is_eligible d batch i)))) → IsToldOf channels d batch chosen i b a
     told_next bookings d2 a true e chosen_so left_out = told_chosen e d2 a (chosen_so refl)
     told_next bookings d2 a false e chosen_so left_out =
         let is : a ≡ Refused (why_not d1.moment (row_at batch i) (is_eligible d batch i)) = cc (left_out refl) in
@@ -204,16 +204,16 @@ module _ (channels : List Bool) (d : Day) (batch : List Row) (chosen : List Bool
           subst (λ (j : ℕ). IsToldOf channels d batch chosen j (is_in chosen j) (answer_at (answers ++ a ∷ []) j)) here (subst (IsToldOf channels d batch chosen i (is_in chosen i)) (sym is) told)
 
     -- so it is, by what is known of the booking
-    pub after_of : {W : Type 0} (dealt : W → List Deal → W → Type 0) (u v : W) (d2 : Day) (a : Answer) (b : Bool) → IsToldOf channels d batch chosen i b a → (b ≡ true → IsSettled channels (row_at batch i) d1 d2 (Ok a)) → IsOffered dealt channels u v d batch sold (row_at batch i) d1 d2 (Ok a) → IsFollowing d2 a
+    pub after_of : {W : Type 0} (dealt : W → List Deal → W → Type 0) (u v : W) (d2 : Day) (a : Answer) (b : Bool) → IsToldOf channels d batch chosen i b a → (b ≡ true → IsOfferSettled channels (row_at batch i) d1 d2 (Ok a)) → IsOffered dealt channels u v d batch sold (row_at batch i) d1 d2 (Ok a) → IsFollowing d2 a
     after_of dealt u v d2 Accepted true told settled_so offered = settled_so refl
     after_of dealt u v d2 Accepted false told settled_so offered = absurd told
     after_of dealt u v d2 (Refused why) b told settled_so offered = offered.1
 
     -- one booking more is settled
     pub step : AreBookings batch → {W : Type 0} (dealt : W → List Deal → W → Type 0) (u v : W) (d2 : Day) (a : Answer) (row : Row) (eligible is_chosen : Bool) → row ≡ row_at batch i → eligible ≡ is_eligible d batch i → is_chosen ≡ is_in chosen i → d2.moment ≡ d1.moment
-        → IsOffered dealt channels u v d batch (sold_of batch answers) row d1 d2 (Ok a) → (is_chosen ≡ true → IsSettled channels row d1 d2 (Ok a)) → (is_chosen ≡ false → as_result a ≡ as_result (Refused (why_not d1.moment row eligible))) → AreSettled channels d batch chosen d2 (answers ++ a ∷ [])
+        → IsOffered dealt channels u v d batch (sold_of batch answers) row d1 d2 (Ok a) → (is_chosen ≡ true → IsOfferSettled channels row d1 d2 (Ok a)) → (is_chosen ≡ false → as_result a ≡ as_result (Refused (why_not d1.moment row eligible))) → AreSettled channels d batch chosen d2 (answers ++ a ∷ [])
     step bookings dealt u v d2 a row eligible is_chosen row_is eligible_is chosen_is moment offered settled_so left_out =
-        let so : is_in chosen i ≡ true → IsSettled channels (row_at batch i) d1 d2 (Ok a) = λ h. subst (λ (r : Row). IsSettled channels r d1 d2 (Ok a)) row_is (settled_so (chosen_is ∙ h)) in
+        let so : is_in chosen i ≡ true → IsOfferSettled channels (row_at batch i) d1 d2 (Ok a) = λ h. subst (λ (r : Row). IsOfferSettled channels r d1 d2 (Ok a)) row_is (settled_so (chosen_is ∙ h)) in
         let left : is_in chosen i ≡ false → as_result a ≡ as_result (Refused (why_not d1.moment (row_at batch i) (is_eligible d batch i))) = λ h. left_out (chosen_is ∙ h) ∙ ap₂ (λ (r : Row) (e : Bool). as_result (Refused (why_not d1.moment r e))) row_is eligible_is in
         let told = told_next bookings d2 a (is_in chosen i) refl so left in
         settled_next d2 a moment told (after_of dealt u v d2 a (is_in chosen i) told so (subst (λ (r : Row). IsOffered dealt channels u v d batch (sold_of batch answers) r d1 d2 (Ok a)) row_is offered))

@@ -5,7 +5,7 @@ use Rattle.bx_live.specs.Runs.{Place, IsRun, next}
 use Rattle.bx_live.specs.Running.{Runs}
 use Rattle.bx_market.specs.Deals.{Deal, Ran, acts_of, all_ran}
 use Rattle.bx_market.specs.Offers.{Asks}
-use Rattle.bx_market.specs.Stands.{Stand, Within, Goes, IsMarketRun, Deals}
+use Rattle.bx_market.specs.Stands.{Stand, Within, GoesByDeal, IsMarketRun, Deals}
 use Rattle.bx_live.proofs.Steps.{begins_on}
 
 pub run_more : (channels : List Bool) (p q r : Stand) (xs ys : List Deal) → IsMarketRun channels p xs q → IsMarketRun channels q ys r → IsMarketRun channels p (xs ++ ys) r
@@ -40,7 +40,7 @@ module _ {W : Type 0} {did : W → List Act → W → Type 0} {dealt : W → Lis
 -- ---- the same where no second begins
 
 module _ {W : Type 0} {dealt : W → List Deal → W → Type 0} {channels : List Bool} where
-  abbrev pub one_asked : {u v : W} (p q : Stand) (deal : Deal) → dealt u (deal ∷ []) v → Goes channels p deal q → begins_none (acts_of (deal ∷ [])) ≡ true → Asks dealt channels u v p q
+  abbrev pub one_asked : {u v : W} (p q : Stand) (deal : Deal) → dealt u (deal ∷ []) v → GoesByDeal channels p deal q → begins_none (acts_of (deal ∷ [])) ≡ true → Asks dealt channels u v p q
   one_asked p q deal done goes inside = record { deals = deal ∷ []; done = done; goes = (q, goes, refl); inside = inside }
 
   abbrev pub as_deals : {u v : W} {p q : Stand} → Asks dealt channels u v p q → Deals dealt channels u v p q
@@ -56,7 +56,7 @@ module _ {W : Type 0} {dealt : W → List Deal → W → Type 0} {channels : Lis
     }
 
 module _ {W : Type 0} {did : W → List Act → W → Type 0} {dealt : W → List Deal → W → Type 0} (channels : List Bool) (by : (v w : W) (acts : List Act) → did v acts w → dealt v (all_ran acts) w) where
-  abbrev pub one_inside : {u v : W} (p q : Stand) (act : Act) → did u (act ∷ []) v → Goes channels p (Ran act) q → begins_none (act ∷ []) ≡ true → Asks dealt channels u v p q
+  abbrev pub one_inside : {u v : W} (p q : Stand) (act : Act) → did u (act ∷ []) v → GoesByDeal channels p (Ran act) q → begins_none (act ∷ []) ≡ true → Asks dealt channels u v p q
   one_inside {u} {v} p q act done goes inside = record { deals = Ran act ∷ []; done = by u v (act ∷ []) done; goes = (q, goes, refl); inside = inside }
 
   abbrev pub none_asked : ((w : W) → did w [] w) → (w : W) (p : Stand) → Asks dealt channels w w p p

@@ -10,22 +10,22 @@ use Rattle.bx_frames.specs.declared.frame.Frame.TheVariants as frames
 use Rattle.bx_live.specs.declared.world.Begin.{Begin}
 use Rattle.bx_live.specs.declared.world.Begin.TheVariants as begins
 use Rattle.bx_live.specs.declared.world.Loss.{Loss}
-use Rattle.bx_live.specs.Acts.{Act, Began, Dropped, Recorded, Synced, Read, Took, recorded}
-use Rattle.bx_live.specs.Runs.{Place, Between, Recording, Receiving, Owing, Hearing, Losing, Over, IsDue, next, day_at, owing, with_reply, replying, writing}
+use Rattle.bx_live.specs.Acts.{Act, Began, Logged, Synced, Read, logged_by}
+use Rattle.bx_live.specs.Runs.{Place, Between, Logging, Receiving, Owing, Hearing, Losing, Over, IsDue, next, day_at, owing, with_reply, replying, writing}
 use Rattle.bx_live.proofs.Due.{by_answers}
 use Rattle.bx_live.proofs.Days.{step_day}
-use Rattle.bx_live.proofs.Onward.{recorded_on}
+use Rattle.bx_live.proofs.Onward.{logged_on}
 use Rattle.bx_planfile.specs.OneBooking.{row_on}
 use Rattle.bx_sales.specs.Journal.{RunsThrough}
 use Rattle.bx_sales.proofs.Journal.{through_more}
 use Rattle.bx_market.specs.Deals.{Deal, Ran, Asked, Answered, acts_of}
-use Rattle.bx_market.specs.Stands.{Stand, Within, Filing, Telling, Goes, IsMarketRun, stand_day}
+use Rattle.bx_market.specs.Stands.{Stand, Within, Filing, Telling, GoesByDeal, IsMarketRun, stand_day}
 use Rattle.bx_market.proofs.Steps.{acts_more}
 
 -- ---- the run by the clock sells nothing
 
 abbrev pub IsLinkPlace : Place → Type 0
-IsLinkPlace (Recording d room (Sold line)) = ⊥
+IsLinkPlace (Logging d room (Sold line)) = ⊥
 IsLinkPlace _ = Unit {0}
 
 abbrev Links : Place → Act → Type 0
@@ -40,10 +40,10 @@ begun_links : (d : Day) (begin : Begin) → Links (Between d) (Began (d.moment +
 begun_links d begins.Ended = tt
 begun_links d begin = tt
 
-recorded_links : (d : Day) (room : ℕ) (event : LiveEvent) (done : Bool) → Links (Recording d room event) (Recorded event done)
-recorded_links d room (OnLink e) true = owing_links (exchange_next d e) room (exchange_sent d e) (exchange_text d e)
-recorded_links d room event false = tt
-recorded_links d room event true = tt
+logged_links : (d : Day) (room : ℕ) (event : LiveEvent) (done : Bool) → Links (Logging d room event) (Logged event done)
+logged_links d room (OnLink e) true = owing_links (exchange_next d e) room (exchange_sent d e) (exchange_text d e)
+logged_links d room event false = tt
+logged_links d room event true = tt
 
 replying_links : (d : Day) (owed : List (List ℕ)) (room : ℕ) → IsLinkPlace (replying d owed room)
 replying_links d [] room = tt
@@ -63,13 +63,13 @@ heard_links d room (Ok (frames.EndOfTurn said)) = either_links (said == d.moment
 heard_links d room answer = tt
 
 pub links : (p : Place) (act : Act) → IsDue p act → Links p act
-links = by_answers Links begun_links recorded_links
+links = by_answers Links begun_links logged_links
     (λ d room owed octets. (replying_links (exchange_next d (Receive octets)) (with_reply owed (exchange_text d (Receive octets))) room, tt))
     (λ d room owed. ((λ message. tt), tt)) (λ d room texts. (tt, tt)) (λ d room text texts. (writing_links d room texts, tt))
     heard_links (λ d. (tt, λ fault. tt)) (λ d. (tt, tt)) (λ d. (tt, tt)) (λ d. tt)
 
-pub no_sale : (p : Place) (line : List ℕ) (done : Bool) → IsLinkPlace p → IsDue p (Recorded (Sold line) done) → ⊥
-no_sale (Recording d room event) line done link due = subst (λ (e : LiveEvent). IsLinkPlace (Recording d room e)) (sym due) link
+pub no_sale : (p : Place) (line : List ℕ) (done : Bool) → IsLinkPlace p → IsDue p (Logged (Sold line) done) → ⊥
+no_sale (Logging d room event) line done link due = subst (λ (e : LiveEvent). IsLinkPlace (Logging d room e)) (sym due) link
 no_sale (Receiving d room owed octets) line done link due = cc
 no_sale (Owing d room false (text ∷ texts)) line done link due = due
 no_sale p line done link due = due
@@ -80,9 +80,9 @@ module _ (channels : List Bool) where
   abbrev pub Through : List LiveEvent → Day → Day → Type 0
   Through events d d1 = RunsThrough channels row_on events d d1
 
-  act_through : (p : Place) (act : Act) → IsLinkPlace p → IsDue p act → Through (recorded (act ∷ [])) (day_at p) (day_at (next p act))
-  act_through p (Recorded event false) link due = step_day p (Recorded event false) due
-  act_through p (Recorded (Sold line) true) link due = absurd (no_sale p line true link due)
+  act_through : (p : Place) (act : Act) → IsLinkPlace p → IsDue p act → Through (logged_by (act ∷ [])) (day_at p) (day_at (next p act))
+  act_through p (Logged event false) link due = step_day p (Logged event false) due
+  act_through p (Logged (Sold line) true) link due = absurd (no_sale p line true link due)
   act_through p act link due = step_day p act due
 
   abbrev pub IsLinkStand : Stand → Type 0
@@ -91,23 +91,23 @@ module _ (channels : List Bool) where
 
   pub record Keeps (from : Stand) (deal : Deal) (to : Stand) : Type 0 where
     pub links : IsLinkStand to
-    pub through : Through (recorded (acts_of (deal ∷ []))) (stand_day from) (stand_day to)
+    pub through : Through (logged_by (acts_of (deal ∷ []))) (stand_day from) (stand_day to)
 
-  quiet : (from to named : Stand) (deal : Deal) → recorded (acts_of (deal ∷ [])) ≡ [] → to ≡ named → IsLinkStand named → stand_day named ≡ stand_day from → Keeps from deal to
+  quiet : (from to named : Stand) (deal : Deal) → logged_by (acts_of (deal ∷ [])) ≡ [] → to ≡ named → IsLinkStand named → stand_day named ≡ stand_day from → Keeps from deal to
   quiet from to named deal none e link same = record {
     links = subst IsLinkStand (sym e) link;
     through = subst (λ (es : List LiveEvent). Through es (stand_day from) (stand_day to)) (sym none) (ap stand_day e ∙ same);
   }
 
-  pub keeps : (from to : Stand) (deal : Deal) → IsLinkStand from → Goes channels from deal to → Keeps from deal to
+  pub keeps : (from to : Stand) (deal : Deal) → IsLinkStand from → GoesByDeal channels from deal to → Keeps from deal to
   keeps (Within p) to (Ran act) link (due, e) = record {
     links = subst IsLinkStand (sym e) (links p act due);
-    through = subst (λ (s : Stand). Through (recorded (act ∷ [])) (day_at p) (stand_day s)) (sym e) (act_through p act link due);
+    through = subst (λ (s : Stand). Through (logged_by (act ∷ [])) (day_at p) (stand_day s)) (sym e) (act_through p act link due);
   }
   keeps (Within (Between d)) to (Asked shown None) link (at, e) = quiet _ to (Within (Between d)) _ refl e tt refl
   keeps (Within (Between d)) to (Asked shown (Some batch)) link (at, e) = quiet _ to (Filing d d batch []) _ refl e tt refl
-  keeps (Filing shown d batch sold) to (Ran (Recorded (Sold line) true)) link (d1, is, e) = record { links = subst IsLinkStand (sym e) tt; through = (d1, is, ap stand_day e) }
-  keeps (Filing shown d batch sold) to (Ran (Recorded (Sold line) false)) link e = quiet _ to (Within (Over d)) _ refl e tt refl
+  keeps (Filing shown d batch sold) to (Ran (Logged (Sold line) true)) link (d1, is, e) = record { links = subst IsLinkStand (sym e) tt; through = (d1, is, ap stand_day e) }
+  keeps (Filing shown d batch sold) to (Ran (Logged (Sold line) false)) link e = quiet _ to (Within (Over d)) _ refl e tt refl
   keeps (Filing shown d batch sold) to (Ran (Synced true)) link e = quiet _ to (Telling shown d batch sold) _ refl e tt refl
   keeps (Filing shown d batch sold) to (Ran (Synced false)) link e = quiet _ to (Within (Over d)) _ refl e tt refl
   keeps (Filing shown d batch sold) to (Answered answers) link (none, are, told, e) = quiet _ to (Within (Between d)) _ refl e tt refl
@@ -116,12 +116,12 @@ module _ (channels : List Bool) where
 
   -- ---- all deals
 
-  first_recorded : (deal : Deal) (deals : List Deal) → recorded (acts_of (deal ∷ deals)) ≡ recorded (acts_of (deal ∷ [])) ++ recorded (acts_of deals)
-  first_recorded deal deals = ap recorded (acts_more (deal ∷ []) deals) ∙ recorded_on (acts_of (deal ∷ [])) (acts_of deals)
+  first_logged : (deal : Deal) (deals : List Deal) → logged_by (acts_of (deal ∷ deals)) ≡ logged_by (acts_of (deal ∷ [])) ++ logged_by (acts_of deals)
+  first_logged deal deals = ap logged_by (acts_more (deal ∷ []) deals) ∙ logged_on (acts_of (deal ∷ [])) (acts_of deals)
 
-  pub run_through : (from to : Stand) (deals : List Deal) → IsLinkStand from → IsMarketRun channels from deals to → Through (recorded (acts_of deals)) (stand_day from) (stand_day to)
+  pub run_through : (from to : Stand) (deals : List Deal) → IsLinkStand from → IsMarketRun channels from deals to → Through (logged_by (acts_of deals)) (stand_day from) (stand_day to)
   run_through from to [] link e = ap stand_day (sym e)
   run_through from to (deal ∷ deals) link (mid, goes, rest) =
       let k = keeps from mid deal link goes in
-      subst (λ (es : List LiveEvent). Through es (stand_day from) (stand_day to)) (sym (first_recorded deal deals))
-      (through_more channels row_on (recorded (acts_of (deal ∷ []))) (recorded (acts_of deals)) (stand_day from) (stand_day mid) (stand_day to) k.through (run_through mid to deals k.links rest))
+      subst (λ (es : List LiveEvent). Through es (stand_day from) (stand_day to)) (sym (first_logged deal deals))
+      (through_more channels row_on (logged_by (acts_of (deal ∷ []))) (logged_by (acts_of deals)) (stand_day from) (stand_day mid) (stand_day to) k.through (run_through mid to deals k.links rest))

@@ -4,16 +4,16 @@ use Rattle.std.proofs.lemmas.List.{append-nil}
 use Rattle.bx_day.specs.Day.{Day}
 use Rattle.bx_day.specs.Outages.{live_happens, live_day_after}
 use Rattle.bx_events.specs.Events.{LiveEvent, OnLink, Sold}
-use Rattle.bx_live.specs.Acts.{Act, Recorded, Synced, Wrote, recorded}
+use Rattle.bx_live.specs.Acts.{Act, Logged, Synced, Wrote, logged_by}
 use Rattle.bx_live.specs.Runs.{Place, Between, Over, IsDue, IsRun, next}
 use Rattle.bx_live.specs.Written.{Filed, filed, filed_by, IsWrittenFor}
-use Rattle.bx_live.proofs.Onward.{filed_on, recorded_on, written_law}
+use Rattle.bx_live.proofs.Onward.{filed_on, logged_on, written_law}
 use Rattle.bx_live.proofs.Steps as live
 use Rattle.bx_planfile.specs.OneBooking.{row_on}
 use Rattle.bx_sales.specs.Journal.{RunsThrough}
 use Rattle.bx_sales.proofs.Journal.{through_more}
 use Rattle.bx_market.specs.Deals.{Deal, Ran, Asked, Answered, acts_of}
-use Rattle.bx_market.specs.Stands.{Stand, Within, Filing, Telling, Goes, IsMarketRun, stand_day}
+use Rattle.bx_market.specs.Stands.{Stand, Within, Filing, Telling, GoesByDeal, IsMarketRun, stand_day}
 use Rattle.bx_market.specs.Told.{IsWrittenForEvent}
 use Rattle.bx_market.proofs.Steps.{acts_more}
 use Rattle.bx_market.proofs.Through.{IsLinkPlace, IsLinkStand, Through, keeps, links, no_sale}
@@ -25,12 +25,12 @@ AreUnsold [] = Unit {0}
 AreUnsold (Sold line ∷ events) = ⊥
 AreUnsold (x ∷ events) = AreUnsold events
 
-one_unsold : (p : Place) (act : Act) (acts : List Act) → IsLinkPlace p → IsDue p act → AreUnsold (recorded acts) → AreUnsold (recorded (act ∷ acts))
-one_unsold p (Recorded event false) acts link due rest = rest
-one_unsold p (Recorded (Sold line) true) acts link due rest = no_sale p line true link due
+one_unsold : (p : Place) (act : Act) (acts : List Act) → IsLinkPlace p → IsDue p act → AreUnsold (logged_by acts) → AreUnsold (logged_by (act ∷ acts))
+one_unsold p (Logged event false) acts link due rest = rest
+one_unsold p (Logged (Sold line) true) acts link due rest = no_sale p line true link due
 one_unsold p act acts link due rest = rest
 
-all_unsold : (p q : Place) (acts : List Act) → IsLinkPlace p → IsRun p acts q → AreUnsold (recorded acts)
+all_unsold : (p q : Place) (acts : List Act) → IsLinkPlace p → IsRun p acts q → AreUnsold (logged_by acts)
 all_unsold p q [] link e = tt
 all_unsold p q (act ∷ acts) link (due, goes) = one_unsold p act acts link due (all_unsold (next p act) q acts (links p act due) goes)
 
@@ -49,16 +49,16 @@ unsold_through channels (x ∷ events) d are = unsold_through channels events (l
 
 same_unsynced : (acts : List Act) (f g : Filed) → f.more ≡ g.more → (filed_by acts f).more ≡ (filed_by acts g).more
 same_unsynced [] f g e = e
-same_unsynced (Recorded event true ∷ acts) f g e = same_unsynced acts (record { disk = f.disk; more = f.more ++ event ∷ [] }) (record { disk = g.disk; more = g.more ++ event ∷ [] }) (ap (λ (es : List LiveEvent). es ++ event ∷ []) e)
+same_unsynced (Logged event true ∷ acts) f g e = same_unsynced acts (record { disk = f.disk; more = f.more ++ event ∷ [] }) (record { disk = g.disk; more = g.more ++ event ∷ [] }) (ap (λ (es : List LiveEvent). es ++ event ∷ []) e)
 same_unsynced (Synced true ∷ acts) f g e = same_unsynced acts (record { disk = f.disk ++ f.more; more = [] }) (record { disk = g.disk ++ g.more; more = [] }) refl
 same_unsynced (x ∷ acts) f g e = same_unsynced acts f g e
 
 -- where some events were logged that are on the disk, so is all that was logged before them
-all_on_disk : (acts : List Act) (f g : Filed) → ¬ (f.more ++ recorded acts ≡ []) → (filed_by acts f).more ≡ [] → (filed_by acts g).more ≡ []
+all_on_disk : (acts : List Act) (f g : Filed) → ¬ (f.more ++ logged_by acts ≡ []) → (filed_by acts f).more ≡ [] → (filed_by acts g).more ≡ []
 all_on_disk [] f g some none = absurd (some (append-nil f.more ∙ none))
-all_on_disk (Recorded event true ∷ acts) f g some none =
+all_on_disk (Logged event true ∷ acts) f g some none =
     all_on_disk acts (record { disk = f.disk; more = f.more ++ event ∷ [] }) (record { disk = g.disk; more = g.more ++ event ∷ [] })
-    (λ e. some (sym (append_assoc f.more (event ∷ []) (recorded acts)) ∙ e)) none
+    (λ e. some (sym (append_assoc f.more (event ∷ []) (logged_by acts)) ∙ e)) none
 all_on_disk (Synced true ∷ acts) f g some none = same_unsynced acts (record { disk = g.disk ++ g.more; more = [] }) (record { disk = f.disk ++ f.more; more = [] }) refl ∙ none
 all_on_disk (x ∷ acts) f g some none = all_on_disk acts f g some none
 
@@ -78,7 +78,7 @@ module _ (channels : List Bool) (d : Day) where
     since : List Act
     start : Day
     are : acts ≡ before ++ since
-    through : Through channels (recorded before) d start
+    through : Through channels (logged_by before) d start
     goes : IsRun (Between start) since p
 
   -- nothing is written any more once something could not be logged
@@ -88,7 +88,7 @@ module _ (channels : List Bool) (d : Day) where
 
   record StandsThere (acts : List Act) (from : Stand) : Type 0 where
     link : IsLinkStand channels from
-    through : Through channels (recorded acts) d (stand_day from)
+    through : Through channels (logged_by acts) d (stand_day from)
     since : HasRunSince acts from
 
   named : (acts : List Act) (to other : Stand) → to ≡ other → HasRunSince acts other → HasRunSince acts to
@@ -98,7 +98,7 @@ module _ (channels : List Bool) (d : Day) where
   same_acts acts s h = subst (λ (l : List Act). HasRunSince l s) (sym (append-nil acts)) h
 
   -- it begins anew between two seconds
-  begins_anew : (acts : List Act) (day : Day) → Through channels (recorded acts) d day → IsRunSince (acts ++ []) (Between day)
+  begins_anew : (acts : List Act) (day : Day) → Through channels (logged_by acts) d day → IsRunSince (acts ++ []) (Between day)
   begins_anew acts day through = record { before = acts; since = []; start = day; are = refl; through = through; goes = refl }
 
   none_due : (p : Place) (act : Act) (over : Day) → p ≡ Over over → IsDue p act → ⊥
@@ -115,25 +115,25 @@ module _ (channels : List Bool) (d : Day) where
     goes = live.run_more (Between s.start) p (next p act) s.since (act ∷ []) s.goes (due, refl);
   })
 
-  since_there : (acts : List Act) (from to : Stand) (deal : Deal) → StandsThere acts from → Goes channels from deal to → HasRunSince (acts ++ acts_of (deal ∷ [])) to
+  since_there : (acts : List Act) (from to : Stand) (deal : Deal) → StandsThere acts from → GoesByDeal channels from deal to → HasRunSince (acts ++ acts_of (deal ∷ [])) to
   since_there acts (Within p) to (Ran act) s (due, e) = named _ to _ e (one_act acts p act s.since due)
   since_there acts (Within (Between day)) to (Asked shown None) s (at, e) = named _ to (Within (Between day)) e (same_acts acts (Within (Between day)) s.since)
   since_there acts (Within (Between day)) to (Asked shown (Some batch)) s (at, e) = named _ to (Filing day day batch []) e tt
-  since_there acts (Filing shown day batch sold) to (Ran (Recorded (Sold line) true)) s (d1, is, e) = named _ to (Filing shown d1 batch (sold ++ row_on line ∷ [])) e tt
-  since_there acts (Filing shown day batch sold) to (Ran (Recorded (Sold line) false)) s e = named _ to (Within (Over day)) e (inr (day, refl))
+  since_there acts (Filing shown day batch sold) to (Ran (Logged (Sold line) true)) s (d1, is, e) = named _ to (Filing shown d1 batch (sold ++ row_on line ∷ [])) e tt
+  since_there acts (Filing shown day batch sold) to (Ran (Logged (Sold line) false)) s e = named _ to (Within (Over day)) e (inr (day, refl))
   since_there acts (Filing shown day batch sold) to (Ran (Synced true)) s e = named _ to (Telling shown day batch sold) e tt
   since_there acts (Filing shown day batch sold) to (Ran (Synced false)) s e = named _ to (Within (Over day)) e (inr (day, refl))
   since_there acts (Filing shown day batch sold) to (Answered answers) s (none, are, told, e) = named _ to (Within (Between day)) e (inl (begins_anew acts day s.through))
   since_there acts (Telling shown day batch sold) to (Answered answers) s (are, told, e) = named _ to (Within (Between day)) e (inl (begins_anew acts day s.through))
   since_there acts from to deal s e = absurd e
 
-  stands_there : (acts : List Act) (from to : Stand) (deal : Deal) → StandsThere acts from → Goes channels from deal to → StandsThere (acts ++ acts_of (deal ∷ [])) to
+  stands_there : (acts : List Act) (from to : Stand) (deal : Deal) → StandsThere acts from → GoesByDeal channels from deal to → StandsThere (acts ++ acts_of (deal ∷ [])) to
   stands_there acts from to deal s goes =
       let k = keeps channels from to deal s.link goes in
       record {
         link = k.links;
-        through = subst (λ (es : List LiveEvent). Through channels es d (stand_day to)) (sym (recorded_on acts (acts_of (deal ∷ []))))
-            (through_more channels row_on (recorded acts) (recorded (acts_of (deal ∷ []))) d (stand_day from) (stand_day to) s.through k.through);
+        through = subst (λ (es : List LiveEvent). Through channels es d (stand_day to)) (sym (logged_on acts (acts_of (deal ∷ []))))
+            (through_more channels row_on (logged_by acts) (logged_by (acts_of (deal ∷ []))) d (stand_day from) (stand_day to) s.through k.through);
         since = since_there acts from to deal s goes;
       }
 
@@ -141,15 +141,15 @@ module _ (channels : List Bool) (d : Day) where
 
   written_since : (acts : List Act) (p : Place) (octets : List ℕ) (s : IsRunSince acts p) → IsWrittenFor s.start s.since octets → IsWrittenForEvent channels d acts octets
   written_since acts p octets s w =
-      let events : recorded acts ≡ recorded s.before ++ recorded s.since = ap recorded s.are ∙ recorded_on s.before s.since in
-      let unsold : AreUnsold w.earlier = first_unsold w.earlier (OnLink w.event ∷ w.later) (subst AreUnsold w.on_record (all_unsold (Between s.start) p s.since tt s.goes)) in
+      let events : logged_by acts ≡ logged_by s.before ++ logged_by s.since = ap logged_by s.are ∙ logged_on s.before s.since in
+      let unsold : AreUnsold w.earlier = first_unsold w.earlier (OnLink w.event ∷ w.later) (subst AreUnsold w.on_log (all_unsold (Between s.start) p s.since tt s.goes)) in
       record {
-        earlier = recorded s.before ++ w.earlier;
+        earlier = logged_by s.before ++ w.earlier;
         event = w.event;
         later = w.later;
-        logged = events ∙ (ap (λ (es : List LiveEvent). recorded s.before ++ es) w.on_record ∙ sym (append_assoc (recorded s.before) w.earlier (OnLink w.event ∷ w.later)));
+        logged = events ∙ (ap (λ (es : List LiveEvent). logged_by s.before ++ es) w.on_log ∙ sym (append_assoc (logged_by s.before) w.earlier (OnLink w.event ∷ w.later)));
         day = live_day_after w.earlier s.start;
-        through = through_more channels row_on (recorded s.before) w.earlier d s.start (live_day_after w.earlier s.start) s.through (unsold_through channels w.earlier s.start unsold);
+        through = through_more channels row_on (logged_by s.before) w.earlier d s.start (live_day_after w.earlier s.start) s.through (unsold_through channels w.earlier s.start unsold);
         heard = w.heard;
         text = w.text;
         synced = on_disk w.synced;
@@ -157,11 +157,11 @@ module _ (channels : List Bool) (d : Day) where
         on_disk : {A : Type 0} → A ⊎ ((filed s.since).more ≡ []) → A ⊎ ((filed acts).more ≡ [])
         on_disk (inl none) = inl none
         on_disk (inr none) =
-            let some : ¬ (recorded s.since ≡ []) = λ e. some_logged w.earlier w.later (OnLink w.event) (sym w.on_record ∙ e) in
+            let some : ¬ (logged_by s.since ≡ []) = λ e. some_logged w.earlier w.later (OnLink w.event) (sym w.on_log ∙ e) in
             let rest = all_on_disk s.since nothing_filed (filed_by s.before nothing_filed) some none in
             inr (ap (λ (l : List Act). (filed l).more) s.are ∙ (ap (λ (f : Filed). f.more) (filed_on s.before s.since nothing_filed) ∙ rest))
 
-  written_there : (acts : List Act) (from to : Stand) (octets : List ℕ) (done : Bool) → StandsThere acts from → Goes channels from (Ran (Wrote octets done)) to → IsWrittenForEvent channels d acts octets
+  written_there : (acts : List Act) (from to : Stand) (octets : List ℕ) (done : Bool) → StandsThere acts from → GoesByDeal channels from (Ran (Wrote octets done)) to → IsWrittenForEvent channels d acts octets
   written_there acts (Within p) to octets done s (due, e) = at_place s.since where
     at_place : HasRunSince acts (Within p) → IsWrittenForEvent channels d acts octets
     at_place (inr (over, is)) = absurd (none_due p (Wrote octets done) over is due)

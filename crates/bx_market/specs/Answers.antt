@@ -9,7 +9,7 @@ use Rattle.bx_sales.specs.declared.selling.NoSale.{NoSale}
 use Rattle.bx_sales.specs.declared.selling.NoSale.TheVariants.{Late, Full, NoChannel, OtherChannels, Memory}
 use Rattle.bx_market.specs.declared.market.Answer.{Answer}
 use Rattle.bx_market.specs.declared.market.Answer.TheVariants.{Accepted, Refused}
-use Rattle.bx_market.specs.Choices.{is_eligible, IsBestChoice, HasNoRoom}
+use Rattle.bx_market.specs.Choices.{is_eligible, IsBestBatch, HasNoRoom}
 
 abbrev pub answer_at : List Answer → ℕ → Answer
 answer_at answers i = slice_index_or answers i (Refused Memory)
@@ -42,7 +42,7 @@ IsToldOf channels d batch chosen i false (Refused why) = IsWhyNot channels d bat
 -- a best choice was made, and each booking is told what becomes of it
 pub record AreToldByChoice (channels : List Bool) (d : Day) (batch : List Row) (answers : List Answer) : Type 0 where
   pub chosen : List Bool
-  pub best : IsBestChoice channels d batch chosen
+  pub best : IsBestBatch channels d batch chosen
   pub one_each : length answers ≡ length batch
   pub each : (i : ℕ) → i < length batch → IsToldOf channels d batch chosen i (is_in chosen i) (answer_at answers i)
 

@@ -21,7 +21,7 @@ pub record IsChoice (channels : List Bool) (d : Day) (batch : List Row) (chosen 
   pub fits : FitsChannels (rows_of d ++ batch) (marks_of d ++ chosen) channels
 
 -- the choice that pays most; where the channels do not even carry what is promised, nothing is chosen
-pub record IsBestChoice (channels : List Bool) (d : Day) (batch : List Row) (chosen : List Bool) : Type 0 where
+pub record IsBestBatch (channels : List Bool) (d : Day) (batch : List Row) (chosen : List Bool) : Type 0 where
   pub one_each : length chosen ≡ length batch
   pub eligible : (i : ℕ) → is_in chosen i ≡ true → is_eligible d batch i ≡ true
   pub fits : (i : ℕ) → is_in chosen i ≡ true → FitsChannels (rows_of d ++ batch) (marks_of d ++ chosen) channels

@@ -4,7 +4,7 @@ use Rattle.bx_base.specs.Bookings.{Row}
 use Rattle.bx_base.specs.declared.bookings.TheConstants.{MAX_BOOKINGS}
 use Rattle.bx_colour.specs.Colouring.{FitsChannels}
 use Rattle.bx_day.specs.Day.{Day}
-use Rattle.bx_live.specs.declared.world.CannotRecord.{CannotRecord}
+use Rattle.bx_live.specs.declared.world.CannotLog.{CannotLog}
 use Rattle.bx_live.specs.Acts.{begins_none}
 use Rattle.bx_live.specs.Runs.{Over, Between}
 use Rattle.bx_sales.specs.Selling.{rows_with, marks_with, IsSold, IsOtherPlan}
@@ -25,23 +25,23 @@ pub record Asks {W : Type 0} (dealt : W → List Deal → W → Type 0) (channel
 
 module _ {W : Type 0} (dealt : W → List Deal → W → Type 0) (channels : List Bool) (old new : W) where
   -- the run stands there; or something could not be logged, and nothing more is done, at the day that is logged
-  abbrev pub OrOver : {A : Type 0} → Stand → Stand → Result A CannotRecord → Type 0
+  abbrev pub OrOver : {A : Type 0} → Stand → Stand → Result A CannotLog → Type 0
   OrOver from to (Ok _) = Asks dealt channels old new from to
   OrOver from to (Err fault) = (d : Day) × Asks dealt channels old new from (Within (Over d))
 
   -- a booking of a batch was offered: it is sold and in the journal, or refused, and nothing changed
-  abbrev pub IsOffered : Day → List Row → List Row → Row → Day → Day → Result Answer CannotRecord → Type 0
+  abbrev pub IsOffered : Day → List Row → List Row → Row → Day → Day → Result Answer CannotLog → Type 0
   IsOffered shown batch sold row d d1 (Ok Accepted) = Asks dealt channels old new (Filing shown d batch sold) (Filing shown d1 batch (sold ++ row ∷ []))
   IsOffered shown batch sold row d d1 (Ok (Refused why)) = Asks dealt channels old new (Filing shown d batch sold) (Filing shown d1 batch sold) × (d1 ≡ d)
   IsOffered shown batch sold row d d1 (Err fault) = (over : Day) × Asks dealt channels old new (Filing shown d batch sold) (Within (Over over))
 
   -- in any batch, whatever was sold of it before
-  abbrev pub IsOfferedInAny : Row → Day → Day → Result Answer CannotRecord → Type 0
+  abbrev pub IsOfferedInAny : Row → Day → Day → Result Answer CannotLog → Type 0
   IsOfferedInAny row d d1 result = (shown : Day) (batch sold : List Row) → IsOffered shown batch sold row d d1 result
 
 module _ {W : Type 0} (dealt : W → List Deal → W → Type 0) (old new : W) where
   -- the customer of any batch is told, to whom this may be told; what is sold of it is on the disk by then
-  abbrev pub TellsOfAny : List Answer → Bool → Result (Unit {0}) CannotRecord → Type 0
+  abbrev pub TellsOfAny : List Answer → Bool → Result (Unit {0}) CannotLog → Type 0
   TellsOfAny answers is_any_sold result =
       (channels : List Bool) (shown d : Day) (batch : List Row) → AreTold channels shown batch answers
       → (is_any_sold ≡ false → sold_of batch answers ≡ [])
@@ -52,14 +52,14 @@ module _ {W : Type 0} (dealt : W → List Deal → W → Type 0) (old new : W) w
   TellsOfMemory d batch = (channels : List Bool) → Asks dealt channels old new (Filing d d batch []) (Within (Between d))
 
 -- what has become of a booking that was offered: it is sold; or why it is not
-abbrev pub IsSettled : List Bool → Row → Day → Day → Result Answer CannotRecord → Type 0
-IsSettled channels row d d1 (Ok Accepted) = IsSold channels row d d1
-IsSettled channels row d d1 (Ok (Refused Late)) = row.start ≤ d.moment
-IsSettled channels row d d1 (Ok (Refused Full)) = MAX_BOOKINGS ≤ length d.entries
-IsSettled channels row d d1 (Ok (Refused NoChannel)) = ¬ FitsChannels (rows_with d row) (marks_with d) channels
-IsSettled channels row d d1 (Ok (Refused OtherChannels)) = IsOtherPlan channels row d
-IsSettled channels row d d1 (Ok (Refused Memory)) = Unit {0}
-IsSettled channels row d d1 (Err fault) = Unit {0}
+abbrev pub IsOfferSettled : List Bool → Row → Day → Day → Result Answer CannotLog → Type 0
+IsOfferSettled channels row d d1 (Ok Accepted) = IsSold channels row d d1
+IsOfferSettled channels row d d1 (Ok (Refused Late)) = row.start ≤ d.moment
+IsOfferSettled channels row d d1 (Ok (Refused Full)) = MAX_BOOKINGS ≤ length d.entries
+IsOfferSettled channels row d d1 (Ok (Refused NoChannel)) = ¬ FitsChannels (rows_with d row) (marks_with d) channels
+IsOfferSettled channels row d d1 (Ok (Refused OtherChannels)) = IsOtherPlan channels row d
+IsOfferSettled channels row d d1 (Ok (Refused Memory)) = Unit {0}
+IsOfferSettled channels row d d1 (Err fault) = Unit {0}
 
 -- why a booking is not chosen, where it is eligible or not
 abbrev pub why_not : ℕ → Row → Bool → NoSale

@@ -4,7 +4,7 @@ use Rattle.bx_base.specs.Bookings.{Row}
 use Rattle.bx_day.specs.Day.{Day}
 use Rattle.bx_events.specs.Events.{Sold}
 use Rattle.bx_events.specs.declared.moment.TheConstants.{LAST_MOMENT}
-use Rattle.bx_live.specs.Acts.{Began, Recorded, Synced}
+use Rattle.bx_live.specs.Acts.{Began, Logged, Synced}
 use Rattle.bx_live.specs.Held.{has_call}
 use Rattle.bx_live.specs.Runs.{Place, Between, Over, IsDue, next, day_at}
 use Rattle.bx_planfile.specs.OneBooking.{row_on}
@@ -28,34 +28,34 @@ stand_day (Filing shown d batch sold) = d
 stand_day (Telling shown d batch sold) = d
 
 -- one booking more is sold and in the journal; or it could not be logged, and nothing more is done
-abbrev pub Filed : List Bool → Day → Day → List Row → List Row → Row → Bool → Stand → Type 0
-Filed channels shown d batch sold row true to = (d1 : Day) × IsSold channels row d d1 × (to ≡ Filing shown d1 batch (sold ++ row ∷ []))
-Filed channels shown d batch sold row false to = to ≡ Within (Over d)
+abbrev pub FiledSale : List Bool → Day → Day → List Row → List Row → Row → Bool → Stand → Type 0
+FiledSale channels shown d batch sold row true to = (d1 : Day) × IsSold channels row d d1 × (to ≡ Filing shown d1 batch (sold ++ row ∷ []))
+FiledSale channels shown d batch sold row false to = to ≡ Within (Over d)
 
 -- all that is sold of the batch is on the disk; or it may not be, and nothing more is done
 abbrev pub synced : Day → Day → List Row → List Row → Bool → Stand
 synced shown d batch sold true = Telling shown d batch sold
 synced shown d batch sold false = Within (Over d)
 
-abbrev pub asked : Day → Option (List Row) → Stand
-asked d None = Within (Between d)
-asked d (Some batch) = Filing d d batch []
+abbrev pub asked_stand : Day → Option (List Row) → Stand
+asked_stand d None = Within (Between d)
+asked_stand d (Some batch) = Filing d d batch []
 
 -- A deal leads from one stand to another. Between two seconds the market is shown the day so far, and asked. Each booking that is sold is logged, one sync
 -- follows, and only then the customer is answered, of the best choice among the batch; where nothing is sold, no sync is wanted.
-abbrev pub Goes : List Bool → Stand → Deal → Stand → Type 0
-Goes channels (Within p) (Ran act) to = IsDue p act × (to ≡ Within (next p act))
-Goes channels (Within (Between d)) (Asked shown batch) to = (shown ≡ d) × (to ≡ asked d batch)
-Goes channels (Filing shown d batch sold) (Ran (Recorded (Sold line) done)) to = Filed channels shown d batch sold (row_on line) done to
-Goes channels (Filing shown d batch sold) (Ran (Synced done)) to = to ≡ synced shown d batch sold done
-Goes channels (Filing shown d batch sold) (Answered answers) to = (sold ≡ []) × (sold_of batch answers ≡ []) × AreTold channels shown batch answers × (to ≡ Within (Between d))
-Goes channels (Telling shown d batch sold) (Answered answers) to = (sold_of batch answers ≡ sold) × AreTold channels shown batch answers × (to ≡ Within (Between d))
-Goes _ _ _ _ = ⊥
+abbrev pub GoesByDeal : List Bool → Stand → Deal → Stand → Type 0
+GoesByDeal channels (Within p) (Ran act) to = IsDue p act × (to ≡ Within (next p act))
+GoesByDeal channels (Within (Between d)) (Asked shown batch) to = (shown ≡ d) × (to ≡ asked_stand d batch)
+GoesByDeal channels (Filing shown d batch sold) (Ran (Logged (Sold line) done)) to = FiledSale channels shown d batch sold (row_on line) done to
+GoesByDeal channels (Filing shown d batch sold) (Ran (Synced done)) to = to ≡ synced shown d batch sold done
+GoesByDeal channels (Filing shown d batch sold) (Answered answers) to = (sold ≡ []) × (sold_of batch answers ≡ []) × AreTold channels shown batch answers × (to ≡ Within (Between d))
+GoesByDeal channels (Telling shown d batch sold) (Answered answers) to = (sold_of batch answers ≡ sold) × AreTold channels shown batch answers × (to ≡ Within (Between d))
+GoesByDeal _ _ _ _ = ⊥
 
 -- the deals of a run from one stand to another
 abbrev pub IsMarketRun : List Bool → Stand → List Deal → Stand → Type 0
 IsMarketRun channels from [] to = from ≡ to
-IsMarketRun channels from (deal ∷ deals) to = (mid : Stand) × Goes channels from deal mid × IsMarketRun channels mid deals to
+IsMarketRun channels from (deal ∷ deals) to = (mid : Stand) × GoesByDeal channels from deal mid × IsMarketRun channels mid deals to
 
 -- no second begins after `LAST_MOMENT`, and after the last one that was asked for one begins only while a call is up, by the day as it is then
 abbrev pub IsHeldAt : ℕ → Deal → Stand → Type 0
@@ -65,7 +65,7 @@ IsHeldAt last deal stand = Unit {0}
 -- the deals of a run that is held open
 abbrev pub IsHeldMarketRun : List Bool → ℕ → Stand → List Deal → Stand → Type 0
 IsHeldMarketRun channels last from [] to = from ≡ to
-IsHeldMarketRun channels last from (deal ∷ deals) to = (mid : Stand) × Goes channels from deal mid × IsHeldAt last deal from × IsHeldMarketRun channels last mid deals to
+IsHeldMarketRun channels last from (deal ∷ deals) to = (mid : Stand) × GoesByDeal channels from deal mid × IsHeldAt last deal from × IsHeldMarketRun channels last mid deals to
 
 -- the world has gone through the deals of a run
 pub record Deals {W : Type 0} (dealt : W → List Deal → W → Type 0) (channels : List Bool) (old new : W) (from to : Stand) : Type 0 where

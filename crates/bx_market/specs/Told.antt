@@ -7,7 +7,7 @@ use Rattle.bx_day.specs.Course.{exchange_sent, exchange_text}
 use Rattle.bx_day.specs.Day.{Day, opening}
 use Rattle.bx_day.specs.Outages.{live_day_after}
 use Rattle.bx_events.specs.Events.{Event, LiveEvent, OnLink}
-use Rattle.bx_live.specs.Acts.{Act, Wrote, recorded}
+use Rattle.bx_live.specs.Acts.{Act, Wrote, logged_by}
 use Rattle.bx_live.specs.Written.{filed, AreHeard}
 use Rattle.bx_live.specs.Runs.{Between}
 use Rattle.bx_planfile.specs.OneBooking.{row_on}
@@ -17,19 +17,19 @@ use Rattle.bx_sales.specs.declared.selling.NoSale.TheVariants.{Memory, OtherChan
 use Rattle.bx_market.specs.declared.market.Answer.{Answer}
 use Rattle.bx_market.specs.declared.market.Answer.TheVariants.{Accepted, Refused}
 use Rattle.bx_market.specs.Answers.{answer_at, AreTold}
-use Rattle.bx_market.specs.Choices.{IsBestChoice}
+use Rattle.bx_market.specs.Choices.{IsBestBatch}
 use Rattle.bx_market.specs.Deals.{Deal, Ran, Asked, Answered, acts_of, sold_of}
 use Rattle.bx_market.specs.Stands.{Stand, Within, IsMarketRun, stand_day}
 
 -- what a customer is told after these deals is logged: since the batch was asked for, just those of its bookings were logged as
 -- sold that are answered as accepted; where there are such, all that is logged is on the disk
-pub record IsToldOnRecord (deals : List Deal) (answers : List Answer) : Type 0 where
+pub record IsToldOnLog (deals : List Deal) (answers : List Answer) : Type 0 where
   pub shown : Day
   pub batch : List Row
   pub before : List Deal
   pub since : List Deal
   pub are : deals ≡ before ++ Asked shown (Some batch) ∷ since
-  pub sold : sold_in row_on (recorded (acts_of since)) ≡ sold_of batch answers
+  pub sold : sold_in row_on (logged_by (acts_of since)) ≡ sold_of batch answers
   pub on_disk : (sold_of batch answers ≡ []) ⊎ ((filed (acts_of deals)).more ≡ [])
 
 -- whether a booking is told as accepted
@@ -50,15 +50,15 @@ pub record IsToldOfBest (channels : List Bool) (deals : List Deal) (answers : Li
   pub since : List Deal
   pub are : deals ≡ before ++ Asked shown (Some batch) ∷ since
   pub told : AreTold channels shown batch answers
-  pub best : ((i : ℕ) → i < length batch → IsUnhindered (answer_at answers i)) → IsBestChoice channels shown batch (map is_sold answers)
+  pub best : ((i : ℕ) → i < length batch → IsUnhindered (answer_at answers i)) → IsBestBatch channels shown batch (map is_sold answers)
 
 abbrev pub IsBestOfEachBatch : Type 0
 IsBestOfEachBatch = (channels : List Bool) (d : Day) (before following : List Deal) (answers : List Answer) (to : Stand) →
     IsMarketRun channels (Within (Between d)) (before ++ Answered answers ∷ following) to → IsToldOfBest channels before answers
 
-abbrev pub IsNothingOffRecord : Type 0
-IsNothingOffRecord = (channels : List Bool) (d : Day) (before following : List Deal) (answers : List Answer) (to : Stand) →
-    IsMarketRun channels (Within (Between d)) (before ++ Answered answers ∷ following) to → IsToldOnRecord before answers
+abbrev pub IsNothingOffLog : Type 0
+IsNothingOffLog = (channels : List Bool) (d : Day) (before following : List Deal) (answers : List Answer) (to : Stand) →
+    IsMarketRun channels (Within (Between d)) (before ++ Answered answers ∷ following) to → IsToldOnLog before answers
 
 -- where the day at which a run begins is that of a first-fit plan, no customer is told of other channels
 abbrev pub IsNeverOfOtherChannels : Type 0
@@ -72,8 +72,8 @@ IsDayOfTheLastPlan = (channels : List Bool) (rows : List Row) (accepted : List B
     length accepted ≡ length rows → AreBookings rows → Carries rows channels (is_accepted assigned) (channel_at assigned) → IsFirstFit rows channels accepted assigned →
     d ≡ live_day_after earlier (opening rows assigned) → IsMarketRun channels (Within (Between d)) deals to →
     (last : List (Option ℕ)) →
-    IsFirstFit (rows ++ sold_in row_on (recorded (acts_of deals))) channels (accepted ++ map (λ (row : Row). true) (sold_in row_on (recorded (acts_of deals)))) last →
-    stand_day to ≡ live_day_after (earlier ++ recorded (acts_of deals)) (opening (rows ++ sold_in row_on (recorded (acts_of deals))) last)
+    IsFirstFit (rows ++ sold_in row_on (logged_by (acts_of deals))) channels (accepted ++ map (λ (row : Row). true) (sold_in row_on (logged_by (acts_of deals)))) last →
+    stand_day to ≡ live_day_after (earlier ++ logged_by (acts_of deals)) (opening (rows ++ sold_in row_on (logged_by (acts_of deals))) last)
 
 -- Octets that are written after these acts: they are those of an event that is logged, on the day that went through what was logged before it. No second has
 -- begun and nothing was sold since, and where messages are among them all that is logged is on the disk
@@ -81,7 +81,7 @@ pub record IsWrittenForEvent (channels : List Bool) (d : Day) (acts : List Act) 
   pub earlier : List LiveEvent
   pub event : Event
   pub later : List LiveEvent
-  pub logged : recorded acts ≡ earlier ++ OnLink event ∷ later
+  pub logged : logged_by acts ≡ earlier ++ OnLink event ∷ later
   pub day : Day
   pub through : RunsThrough channels row_on earlier d day
   pub heard : AreHeard later

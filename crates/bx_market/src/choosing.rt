@@ -5,7 +5,7 @@ ghost use Rattle.bx_base.specs.Plans.{is_accepted};
 ghost use Rattle.bx_base.specs.declared.bookings.TheConstants.{MAX_BOOKINGS};
 ghost use Rattle.bx_colour.specs.Colouring.{is_in, FitsChannels};
 ghost use Rattle.bx_day.specs.Invariant.{is_refused};
-ghost use Rattle.bx_market.specs.Choices.{eligible_marks, IsBestChoice};
+ghost use Rattle.bx_market.specs.Choices.{eligible_marks, IsBestBatch};
 ghost use Rattle.bx_market.specs.Choosing.{promised, free_row, free_rows, chosen_marks};
 
 use bx_base::{Booking, Bookings, ChannelSet, MAX_BOOKINGS};
@@ -165,7 +165,7 @@ pub(crate) fn choose(
     batch: &Bookings,
 ) -> Result<Choice, AllocError>
     ensures eligible { IfOk result (λ c. c.eligible.items ≡ eligible_marks exchange.now.moment (length exchange.now.entries) batch.now) }
-    ensures best { IfOk result (λ c. IsBestChoice channels exchange.now batch.now c.chosen.items) }
+    ensures best { IfOk result (λ c. IsBestBatch channels exchange.now batch.now c.chosen.items) }
 {
     // Read for the prover alone, which learns a limit from it.
     let _wanted = batch.len();

@@ -1,11 +1,11 @@
 //! What holds of every run with sales.
 
-ghost use Rattle.bx_market.specs.Told.{IsNothingOffRecord, IsBestOfEachBatch, IsNeverOfOtherChannels, IsDayOfTheLastPlan, IsAllWrittenForEvents};
+ghost use Rattle.bx_market.specs.Told.{IsNothingOffLog, IsBestOfEachBatch, IsNeverOfOtherChannels, IsDayOfTheLastPlan, IsAllWrittenForEvents};
 
 /// Nothing is sold outside the journal: what a customer is told was logged since the batch was asked for, neither more nor less,
 /// and is on the disk.
-pub fn nothing_off_record()
-    ensures { IsNothingOffRecord }
+pub fn nothing_off_log()
+    ensures { IsNothingOffLog }
 {}
 
 /// Of each batch the best choice is sold: of its bookings that start later, no other set that is carried beside all that was promised
@@ -30,6 +30,6 @@ pub fn day_of_the_last_plan()
 /// Whatever is written to a peer is what the exchange sends for an event that is logged, on the day that went through just the events and
 /// sales that were logged before it. After it only messages that came are logged; where messages are sent for it, all that is logged is on
 /// the disk by then.
-pub fn written_on_record()
+pub fn written_is_logged()
     ensures { IsAllWrittenForEvents }
 {}

@@ -2,9 +2,9 @@
 
 ghost use Rattle.std.specs.Prelude.{◌≡◌, ◌≤◌, ◌<◌, [], true, false, length, Ok, OnOk};
 ghost use Rattle.bx_live.specs.Runs.{Between};
-ghost use Rattle.bx_market.specs.Choices.{eligible_marks, IsBestChoice};
+ghost use Rattle.bx_market.specs.Choices.{eligible_marks, IsBestBatch};
 ghost use Rattle.bx_market.specs.Stands.{Within, Filing};
-ghost use Rattle.bx_market.specs.Offers.{IsSettled, OrOver, why_not, IsOfferedInAny, TellsOfAny, TellsOfMemory};
+ghost use Rattle.bx_market.specs.Offers.{IsOfferSettled, OrOver, why_not, IsOfferedInAny, TellsOfAny, TellsOfMemory};
 
 use crate::choosing::{Choice, choose};
 use crate::market::{Answer, Market};
@@ -12,7 +12,7 @@ use arrayvec::ArrayVec;
 use bx_base::{Booking, Bookings, ChannelSet};
 use bx_day::Exchange;
 use bx_events::LiveEvent;
-use bx_live::CannotRecord;
+use bx_live::CannotLog;
 use bx_planfile::spell_booking;
 use bx_sales::{NoSale, sell};
 use std::alloc::{AllocError, Global};
@@ -24,15 +24,15 @@ fn offer<W: Market>(
     world: &mut W,
     channels: ChannelSet,
     booking: Booking,
-) -> Result<Answer, CannotRecord>
+) -> Result<Answer, CannotLog>
     ensures offered { IsOfferedInAny W.dealt channels world.old world.new booking exchange.old exchange.new result }
     ensures moment { exchange.new.moment ≡ exchange.old.moment }
-    ensures settled { IsSettled channels booking exchange.old exchange.new result }
+    ensures settled { IsOfferSettled channels booking exchange.old exchange.new result }
 {
     match sell(alloc, exchange, channels, &booking) {
         Ok(()) => {
             let line = spell_booking(booking);
-            world.record(LiveEvent::Sold(&line))?;
+            world.log(LiveEvent::Sold(&line))?;
             Ok(Answer::Accepted)
         }
         Err(why) => Ok(Answer::Refused(why)),
@@ -61,10 +61,10 @@ fn settle<W: Market>(
     booking: Booking,
     is_eligible: bool,
     is_chosen: bool,
-) -> Result<Answer, CannotRecord>
+) -> Result<Answer, CannotLog>
     ensures offered { IsOfferedInAny W.dealt channels world.old world.new booking exchange.old exchange.new result }
     ensures moment { exchange.new.moment ≡ exchange.old.moment }
-    ensures chosen { is_chosen ≡ true → IsSettled channels booking exchange.old exchange.new result }
+    ensures chosen { is_chosen ≡ true → IsOfferSettled channels booking exchange.old exchange.new result }
     ensures left_out { is_chosen ≡ false → result ≡ Ok (Answer.Refused (why_not exchange.old.moment booking is_eligible)) }
 {
     if is_chosen {
@@ -85,7 +85,7 @@ fn is_sold_now(was: bool, answer: Answer) -> bool
 }
 
 /// Tells the customer. Where something is sold, it is on the disk by then.
-fn tell<W: Market>(world: &mut W, answers: &[Answer], is_any_sold: bool) -> Result<(), CannotRecord>
+fn tell<W: Market>(world: &mut W, answers: &[Answer], is_any_sold: bool) -> Result<(), CannotLog>
     ensures { TellsOfAny W.dealt world.old world.new answers.now is_any_sold result }
 {
     if !is_any_sold {
@@ -105,9 +105,9 @@ fn sell_chosen<W: Market>(
     channels: ChannelSet,
     batch: &Bookings,
     choice: &Choice,
-) -> Result<(), CannotRecord>
+) -> Result<(), CannotLog>
     requires eligible { choice.now.eligible.items ≡ eligible_marks exchange.old.moment (length exchange.old.entries) batch.now }
-    requires best { IsBestChoice channels exchange.old batch.now choice.now.chosen.items }
+    requires best { IsBestBatch channels exchange.old batch.now choice.now.chosen.items }
     ensures sold { OrOver W.dealt channels world.old world.new (Filing exchange.old exchange.old batch.now []) (Within (Between exchange.new)) result }
     ensures moment { OnOk result (exchange.new.moment ≡ exchange.old.moment) }
 {
@@ -161,7 +161,7 @@ pub(crate) fn offer_all<W: Market>(
     world: &mut W,
     channels: ChannelSet,
     batch: &Bookings,
-) -> Result<(), CannotRecord>
+) -> Result<(), CannotLog>
     ensures sold { OrOver W.dealt channels world.old world.new (Filing exchange.old exchange.old batch.now []) (Within (Between exchange.new)) result }
     ensures moment { OnOk result (exchange.new.moment ≡ exchange.old.moment) }
 {

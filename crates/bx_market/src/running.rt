@@ -11,7 +11,7 @@ use crate::offering::offer_all;
 use bx_base::ChannelSet;
 use bx_day::Exchange;
 use bx_events::LAST_MOMENT;
-use bx_live::{CannotRecord, Second, close_day, goes_on, run_second};
+use bx_live::{CannotLog, Second, close_day, goes_on, run_second};
 use std::alloc::Global;
 
 /// The most batches that are taken between two seconds.
@@ -23,7 +23,7 @@ fn ask_once<W: Market>(
     exchange: &mut Exchange,
     world: &mut W,
     channels: ChannelSet,
-) -> Result<bool, CannotRecord>
+) -> Result<bool, CannotLog>
     ensures sold { OrOver W.dealt channels world.old world.new (Within (Between exchange.old)) (Within (Between exchange.new)) result }
     ensures moment { OnOk result (exchange.new.moment ≡ exchange.old.moment) }
 {
@@ -42,7 +42,7 @@ fn ask_all<W: Market>(
     exchange: &mut Exchange,
     world: &mut W,
     channels: ChannelSet,
-) -> Result<(), CannotRecord>
+) -> Result<(), CannotLog>
     ensures sold { OrOver W.dealt channels world.old world.new (Within (Between exchange.old)) (Within (Between exchange.new)) result }
     ensures moment { OnOk result (exchange.new.moment ≡ exchange.old.moment) }
 {
@@ -58,15 +58,15 @@ fn ask_all<W: Market>(
 /// Runs the day up to a second of it, and after that on while a call is up, so that each call that is begun is cleared and can be billed: until none is up,
 /// or up to `LAST_MOMENT`, or until the world says that it is over. Before each second the market is shown the exchange and asked for batches of bookings, at
 /// most 16 times: of each batch the best choice is sold beside all that is promised (`laws::best_of_each_batch`), row by row, logged, brought to the disk by
-/// one sync, and only then answered. So the day is the one of the last plan over the logged events (`laws::day_of_the_last_plan`). At `CannotRecord` nothing more is done, and nothing is answered: the exchange is to
-/// be dropped, and the day that is logged is read again.
+/// one sync, and only then answered. So the day is the one of the last plan over the logged events (`laws::day_of_the_last_plan`). At
+/// `CannotLog` nothing more is done, and nothing is answered: the exchange is to be dropped, and the day that is logged is read again.
 pub fn run_market<W: Market>(
     alloc: Global,
     exchange: &mut Exchange,
     world: &mut W,
     channels: ChannelSet,
     last: u32,
-) -> Result<(), CannotRecord>
+) -> Result<(), CannotLog>
     ensures { IsSaleRun W.dealt channels world.old world.new exchange.old exchange.new last result }
 {
     for _second in exchange.moment()..LAST_MOMENT {

@@ -1,5 +1,5 @@
 -- The fields of an answer, and its head by what is written of it.
-use Rattle.std.proofs.Common.{◌≡◌, subst, sym, ap, ◌∙◌, refl, ℕ, List, [], ◌∷◌}
+use Rattle.std.proofs.Common.{◌≡◌, subst, ap, ◌∙◌, refl, ℕ, List, [], ◌∷◌}
 use Rattle.http1.specs.declared.head.Header as Sent
 use Rattle.http1.specs.Fields.{Header}
 use Rattle.http1.specs.Head.{header_parts, pairs}

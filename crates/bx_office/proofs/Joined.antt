@@ -1,5 +1,5 @@
 -- A text of two parts.
-use Rattle.std.proofs.Common.{◌≡◌, refl, sym, subst, ap, ◌∙◌, ℕ, ◌<◌, ◌≤◌, List, ◌++◌, take, drop, length, arith, ◌+◌, []}
+use Rattle.std.proofs.Common.{◌≡◌, refl, sym, ap, ◌∙◌, ℕ, ◌<◌, ◌≤◌, List, ◌++◌, take, drop, length, arith, ◌+◌, []}
 use Rattle.std.proofs.lemmas.List.{take-append-drop, take_at, drop_at, drop_all, length-append}
 
 pub is_long : (text prefix back : List ℕ) → text ≡ prefix ++ back → length text < length prefix → ⊥

@@ -1,13 +1,13 @@
 -- What the gate answers to the parts of a head is its answer to the head.
-use Rattle.std.proofs.Common.{◌≡◌, subst, sym, ap, ◌∙◌, refl, ℕ, List, Option, Some, None, MatchOption, Result, map, take, codes}
+use Rattle.std.proofs.Common.{◌≡◌, subst, sym, ap, ◌∙◌, ℕ, List, Option, Some, None, MatchOption, Result, map, take, codes}
 use Rattle.std.specs.Borrow.{Bor}
 use Rattle.httparse.specs.Grammar.{RequestHead}
-use Rattle.httparse.specs.Spans.{IsRequestAt, header_bytes, name_and_value, span_bytes}
+use Rattle.httparse.specs.Spans.{IsRequestAt, header_bytes, span_bytes}
 use Rattle.httparse.specs.declared.spans.HeaderSpan.{HeaderSpan}
 use Rattle.httparse.specs.declared.spans.RequestSpans.{RequestSpans}
 use Rattle.http1.specs.Fields.{Header, values_named}
 use Rattle.bx_office.specs.Gate.{IsGated, text_of}
-use Rattle.bx_office.specs.Heads.{IsVerdict, first_of, field_of}
+use Rattle.bx_office.specs.Heads.{IsVerdict, first_field_of, header_value_of}
 use Rattle.bx_office.specs.declared.gate.Place.{Place}
 use Rattle.bx_office.specs.declared.gate.Refusal.{Refusal}
 use Rattle.bx_office.specs.declared.gate.Route.{Route}
@@ -24,10 +24,10 @@ gated_so place m m' t t' h h' o o' c c' result em et eh eo ec g =
 
 pub verdict_is : (place : Place) (input : List ℕ) (spans : List HeaderSpan) (r : RequestSpans) (h : RequestHead) (method target : List ℕ) (host origin content : Option (List ℕ)) (result : Result Route Refusal)
     → IsRequestAt input spans r h → method ≡ span_bytes input r.method → target ≡ span_bytes input r.path
-    → host ≡ first_of (values_named (codes "host") (map (header_bytes input) (take r.headers spans)))
-    → origin ≡ first_of (values_named (codes "origin") (map (header_bytes input) (take r.headers spans)))
-    → content ≡ first_of (values_named (codes "content-type") (map (header_bytes input) (take r.headers spans)))
+    → host ≡ first_field_of (values_named (codes "host") (map (header_bytes input) (take r.headers spans)))
+    → origin ≡ first_field_of (values_named (codes "origin") (map (header_bytes input) (take r.headers spans)))
+    → content ≡ first_field_of (values_named (codes "content-type") (map (header_bytes input) (take r.headers spans)))
     → IsGated place method target host origin content result → IsVerdict place h result
 verdict_is place input spans r h method target host origin content result at em et eh eo ec g =
-    let by : (name : List ℕ) → first_of (values_named name (map (header_bytes input) (take r.headers spans))) ≡ field_of name h = λ name. ap (λ (fs : List Header). first_of (values_named name fs)) at.fields in
+    let by : (name : List ℕ) → first_field_of (values_named name (map (header_bytes input) (take r.headers spans))) ≡ header_value_of name h = λ name. ap (λ (fs : List Header). first_field_of (values_named name fs)) at.fields in
     gated_so place method h.method target h.target host _ origin _ content _ result (em ∙ at.method) (et ∙ at.path) (eh ∙ by (codes "host")) (eo ∙ by (codes "origin")) (ec ∙ by (codes "content-type")) g

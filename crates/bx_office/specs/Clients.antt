@@ -1,18 +1,13 @@
 -- A client's connection: what is let through, and what is kept of it.
-use Rattle.std.specs.Prelude.{◌≡◌, ◌⊎◌, ℕ, ◌≤◌, ◌-◌, ◌==◌, ◌&&◌, ◌||◌, not, if◌then◌else◌, Bool, true, false, List, [], ◌∷◌, ◌++◌, length, map, drop, codes, Option, Some, None, Result, Ok, Err}
-use Rattle.httparse.specs.Grammar.{RequestHead, print_request}
-use Rattle.httparse.specs.Spans.{IsRequestAt}
-use Rattle.httparse.specs.declared.spans.HeaderSpan.{HeaderSpan}
-use Rattle.httparse.specs.declared.spans.RequestSpans.{RequestSpans}
+use Rattle.std.specs.Prelude.{◌≡◌, ◌⊎◌, ℕ, ◌-◌, ◌==◌, ◌&&◌, ◌||◌, not, if◌then◌else◌, Bool, true, false, List, [], ◌++◌, length, Ok}
+use Rattle.httparse.specs.Grammar.{RequestHead}
 use Rattle.http1.specs.declared.framing.Framing.{Framing}
 use Rattle.http1.specs.Message.{AcceptsRequest}
 use Rattle.bx_office.specs.Gate.{query_in}
 use Rattle.bx_office.specs.Heads.{IsVerdict}
 use Rattle.bx_office.specs.declared.client.Client.{Client}
 use Rattle.bx_office.specs.declared.client.Stage.{Stage}
-use Rattle.bx_office.specs.declared.client.Stage.TheVariants.{Head, Body, Refused, Asked, Last}
-use Rattle.bx_office.specs.declared.gate.Place.{Place}
-use Rattle.bx_office.specs.declared.gate.Refusal.{Refusal}
+use Rattle.bx_office.specs.declared.client.Stage.TheVariants.{Head, Body, Asked, Last}
 use Rattle.bx_office.specs.declared.gate.Route.{Route}
 
 -- a request was let through: its head stood first in what came, and the gate let it through
@@ -52,19 +47,19 @@ abbrev pub is_over : Client → Bool
 is_over c = is_last c.stage && (length c.out.items == 0)
 
 -- a whole request waits for its answer, or nothing more is read
-abbrev pub is_held : Stage → Bool
-is_held (Asked route) = true
-is_held Last = true
-is_held _ = false
+abbrev pub holds_request : Stage → Bool
+holds_request (Asked route) = true
+holds_request Last = true
+holds_request _ = false
 
 abbrev pub is_reading : Client → Bool
-is_reading c = (length c.out.items == 0) && not (is_held c.stage)
+is_reading c = (length c.out.items == 0) && not (holds_request c.stage)
 
-abbrev pub room_of : Client → ℕ
-room_of c = if c.has_ended || not (is_reading c) then 0 else 16384 - length c.unread.items
+abbrev pub room_to_read : Client → ℕ
+room_to_read c = if c.has_ended || not (is_reading c) then 0 else 16384 - length c.unread.items
 
 -- octets were taken, and nothing else has changed
-pub record IsTaken (octets : List ℕ) (old new : Client) : Type 0 where
+pub record AreOctetsTaken (octets : List ℕ) (old new : Client) : Type 0 where
   pub unread : new.unread.items ≡ old.unread.items ++ octets
   pub stage : new.stage ≡ old.stage
   pub place : new.place ≡ old.place
@@ -74,7 +69,7 @@ pub record IsTaken (octets : List ℕ) (old new : Client) : Type 0 where
   pub out : new.out ≡ old.out
 
 -- after an answer the next head is due, or nothing more is read
-abbrev pub IsNext : Stage → Type 0
-IsNext Head = Unit {0}
-IsNext Last = Unit {0}
-IsNext _ = ⊥
+abbrev pub IsAfterAnswer : Stage → Type 0
+IsAfterAnswer Head = Unit {0}
+IsAfterAnswer Last = Unit {0}
+IsAfterAnswer _ = ⊥

@@ -8,14 +8,14 @@ use Rattle.bx_office.specs.declared.gate.Place.{Place}
 use Rattle.bx_office.specs.declared.gate.Refusal.{Refusal}
 use Rattle.bx_office.specs.declared.gate.Route.{Route}
 
-abbrev pub first_of : List (List ℕ) → Option (List ℕ)
-first_of [] = None
-first_of (value ∷ more) = Some value
+abbrev pub first_field_of : List (List ℕ) → Option (List ℕ)
+first_field_of [] = None
+first_field_of (value ∷ more) = Some value
 
 -- the value of the first field of this name
-abbrev pub field_of : List ℕ → RequestHead → Option (List ℕ)
-field_of name h = first_of (values_named name (map name_and_value h.fields))
+abbrev pub header_value_of : List ℕ → RequestHead → Option (List ℕ)
+header_value_of name h = first_field_of (values_named name (map name_and_value h.fields))
 
 -- what the gate answers to a head
 abbrev pub IsVerdict : Place → RequestHead → Result Route Refusal → Type 0
-IsVerdict place h verdict = IsGated place h.method h.target (field_of (codes "host") h) (field_of (codes "origin") h) (field_of (codes "content-type") h) verdict
+IsVerdict place h verdict = IsGated place h.method h.target (header_value_of (codes "host") h) (header_value_of (codes "origin") h) (header_value_of (codes "content-type") h) verdict

@@ -1,5 +1,5 @@
 -- Private: what the functions of a client promise one another.
-use Rattle.std.specs.Prelude.{◌≡◌, ℕ, Bool, List, [], drop, Result, Ok, Err, ◌++◌, map, Option}
+use Rattle.std.specs.Prelude.{◌≡◌, ℕ, Bool, List, [], drop, Result, Ok, ◌++◌, map, Option}
 use Rattle.httparse.specs.Grammar.{RequestHead}
 use Rattle.httparse.specs.Spans.{IsRequestAt, header_bytes}
 use Rattle.httparse.specs.declared.spans.HeaderSpan.{HeaderSpan}
@@ -7,7 +7,7 @@ use Rattle.httparse.specs.declared.spans.RequestSpans.{RequestSpans}
 use Rattle.http1.specs.Server.{after_end}
 use Rattle.http1.specs.declared.server.Server.{Server}
 use Rattle.bx_office.specs.Gate.{query_in}
-use Rattle.bx_office.specs.Heads.{IsVerdict, first_of}
+use Rattle.bx_office.specs.Heads.{IsVerdict, first_field_of}
 use Rattle.bx_office.specs.Replies.{after_body, after_head}
 use Rattle.bx_office.specs.declared.client.Client.{Client}
 use Rattle.bx_office.specs.declared.client.Stage.{Stage}
@@ -69,7 +69,7 @@ HasAsked old new =
 
 -- the value of the first field of this name, by the places of the fields in what was read
 abbrev pub value_at : List ℕ → List HeaderSpan → List ℕ → Option (List ℕ)
-value_at input spans name = first_of (values_named name (map (header_bytes input) spans))
+value_at input spans name = first_field_of (values_named name (map (header_bytes input) spans))
 
 -- the connection after an answer
 abbrev pub after_reply : Bool → Server → Reply → Bool → Server

@@ -1,10 +1,10 @@
 -- What an answer is as octets.
-use Rattle.std.specs.Prelude.{◌≡◌, ℕ, Bool, true, false, List, [], ◌∷◌, ◌++◌, length, codes, if◌then◌else◌}
+use Rattle.std.specs.Prelude.{ℕ, Bool, true, false, List, [], ◌∷◌, ◌++◌, length, codes, if◌then◌else◌}
 use Rattle.http1.specs.declared.conn.BodySize.TheVariants.{Known}
 use Rattle.http1.specs.declared.server.Server.{Server}
 use Rattle.http1.specs.Conn.{data_text, after_data, finish_text}
 use Rattle.http1.specs.Fields.{Header}
-use Rattle.http1.specs.Server.{writing, with_writing, after_end, planned_response, after_response}
+use Rattle.http1.specs.Server.{writing, with_writing, planned_response, after_response}
 use Rattle.bx_office.specs.declared.reply.Status.{Status}
 use Rattle.bx_office.specs.declared.reply.Status.TheVariants as Statuses
 use Rattle.bx_office.specs.declared.reply.Kind.{Kind}
@@ -26,18 +26,18 @@ code_of Statuses.HeadTooLarge = 431
 code_of Statuses.NotImplemented = 501
 code_of Statuses.Unavailable = 503
 
-abbrev pub reason_of : Status → List ℕ
-reason_of Statuses.Fine = codes "OK"
-reason_of Statuses.BadRequest = codes "Bad Request"
-reason_of Statuses.Forbidden = codes "Forbidden"
-reason_of Statuses.NotFound = codes "Not Found"
-reason_of Statuses.MethodNotAllowed = codes "Method Not Allowed"
-reason_of Statuses.ContentTooLarge = codes "Content Too Large"
-reason_of Statuses.UriTooLong = codes "URI Too Long"
-reason_of Statuses.UnsupportedMediaType = codes "Unsupported Media Type"
-reason_of Statuses.HeadTooLarge = codes "Request Header Fields Too Large"
-reason_of Statuses.NotImplemented = codes "Not Implemented"
-reason_of Statuses.Unavailable = codes "Service Unavailable"
+abbrev pub reason_phrase_of : Status → List ℕ
+reason_phrase_of Statuses.Fine = codes "OK"
+reason_phrase_of Statuses.BadRequest = codes "Bad Request"
+reason_phrase_of Statuses.Forbidden = codes "Forbidden"
+reason_phrase_of Statuses.NotFound = codes "Not Found"
+reason_phrase_of Statuses.MethodNotAllowed = codes "Method Not Allowed"
+reason_phrase_of Statuses.ContentTooLarge = codes "Content Too Large"
+reason_phrase_of Statuses.UriTooLong = codes "URI Too Long"
+reason_phrase_of Statuses.UnsupportedMediaType = codes "Unsupported Media Type"
+reason_phrase_of Statuses.HeadTooLarge = codes "Request Header Fields Too Large"
+reason_phrase_of Statuses.NotImplemented = codes "Not Implemented"
+reason_phrase_of Statuses.Unavailable = codes "Service Unavailable"
 
 abbrev pub type_of : Kind → List ℕ
 type_of Kinds.Text = codes "text/plain; charset=utf-8"
@@ -57,16 +57,16 @@ allowed_of Methods.Unsaid = (codes "vary", codes "origin")
 allowed_of Methods.Post = (codes "allow", codes "POST")
 allowed_of Methods.Get = (codes "allow", codes "GET, HEAD")
 
-abbrev pub fields_of : Reply → Bool → List Header
-fields_of reply is_last = (codes "content-type", type_of reply.kind) ∷ (codes "cache-control", codes "no-store") ∷ (codes "x-content-type-options", codes "nosniff")
+abbrev pub header_fields_of : Reply → Bool → List Header
+header_fields_of reply is_last = (codes "content-type", type_of reply.kind) ∷ (codes "cache-control", codes "no-store") ∷ (codes "x-content-type-options", codes "nosniff")
     ∷ (codes "content-security-policy", policy) ∷ allowed_of reply.allowed ∷ (if is_last then (codes "connection", codes "close") ∷ [] else [])
 
 -- the head of an answer, and the connection after it
 abbrev pub head_text : Server → Reply → Bool → List ℕ
-head_text s reply is_last = planned_response s (code_of reply.status) (reason_of reply.status) (Known (length reply.body.now)) (fields_of reply is_last)
+head_text s reply is_last = planned_response s (code_of reply.status) (reason_phrase_of reply.status) (Known (length reply.body.now)) (header_fields_of reply is_last)
 
 abbrev pub after_head : Server → Reply → Bool → Server
-after_head s reply is_last = after_response s (code_of reply.status) (Known (length reply.body.now)) (fields_of reply is_last)
+after_head s reply is_last = after_response s (code_of reply.status) (Known (length reply.body.now)) (header_fields_of reply is_last)
 
 -- its body: one to `HEAD` has none
 abbrev pub body_text : Bool → Server → List ℕ → List ℕ

@@ -58,7 +58,7 @@ impl Client {
     ghost use Rattle.bx_office.specs.Gate.{query_in};
     ghost use Rattle.httparse.specs.Spans.{IsRequestWithin};
     ghost use Rattle.bx_office.specs.Inside.{IsUndue, HasAsked, IsBodyBegun, HasKept, IsBodyDue, IsHeadTaken};
-    ghost use Rattle.bx_office.specs.Clients.{IsDueAfter, IsLeft, IsTaken, IsNext, is_over, is_reading, room_of};
+    ghost use Rattle.bx_office.specs.Clients.{IsDueAfter, IsLeft, AreOctetsTaken, IsAfterAnswer, is_over, is_reading, room_to_read};
     ghost use Rattle.bx_office.specs.Replies.{reply_text};
 
     /// A client that has sent nothing yet. Takes no memory.
@@ -105,7 +105,7 @@ impl Client {
 
     /// How many octets it takes now.
     pub fn room(&self) -> usize
-        ensures { result ≡ room_of self.now }
+        ensures { result ≡ room_to_read self.now }
     {
         if self.has_ended || !self.is_reading() {
             return 0;
@@ -115,8 +115,8 @@ impl Client {
 
     /// Takes octets that came, no more than there is room for. Where memory runs out the client is given up.
     pub fn take(&mut self, octets: &[u8])
-        requires { length octets.now ≤ room_of self.old }
-        ensures taken { IsLeft self.new ⊎ IsTaken octets.now self.old self.new }
+        requires { length octets.now ≤ room_to_read self.old }
+        ensures taken { IsLeft self.new ⊎ AreOctetsTaken octets.now self.old self.new }
         ensures marks { (self.new.is_head ≡ self.old.is_head) × (self.new.has_ended ≡ self.old.has_ended) }
     {
         if self.unread.extend_from_slice(octets).is_err() {
@@ -331,7 +331,7 @@ impl Client {
     /// Answers the request that waits.
     pub fn answer(&mut self, reply: Reply<'_>)
         ensures said { IsLeft self.new ⊎ (self.new.out.items ≡ self.old.out.items ++ reply_text self.old.is_head self.old.server reply.entry false) }
-        ensures next { IsNext self.new.stage }
+        ensures next { IsAfterAnswer self.new.stage }
         ensures place { self.new.place ≡ self.old.place }
         ensures ended { self.new.has_ended ≡ self.old.has_ended }
     {
@@ -341,7 +341,7 @@ impl Client {
     /// Writes an answer. After the last one nothing is read.
     fn send(&mut self, reply: Reply<'_>, is_last: bool)
         ensures said { IsLeft self.new ⊎ (self.new.out.items ≡ self.old.out.items ++ reply_text self.old.is_head self.old.server reply.entry is_last) }
-        ensures next { IsNext self.new.stage }
+        ensures next { IsAfterAnswer self.new.stage }
         ensures place { self.new.place ≡ self.old.place }
         ensures ended { self.new.has_ended ≡ self.old.has_ended }
     {

@@ -2,7 +2,7 @@
 
 ghost use Rattle.std.specs.Prelude.{◌≡◌, ◌++◌, OnOk};
 ghost use Rattle.http1.specs.Head.{header_parts};
-ghost use Rattle.bx_office.specs.Replies.{code_of, reason_of, type_of, allowed_of, head_text, after_head, body_text, after_body, reply_text};
+ghost use Rattle.bx_office.specs.Replies.{code_of, reason_phrase_of, type_of, allowed_of, head_text, after_head, body_text, after_body, reply_text};
 ghost use Rattle.bx_office.specs.Inside.{after_reply};
 
 use bytes::BytesMut;
@@ -46,7 +46,7 @@ impl Status {
 
     /// Its words.
     pub fn reason(self) -> &'static str
-        ensures { result.now ≡ reason_of self }
+        ensures { result.now ≡ reason_phrase_of self }
     {
         match self {
             Status::Fine => "OK",

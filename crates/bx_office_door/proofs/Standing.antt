@@ -4,8 +4,8 @@ use Rattle.std.proofs.lemmas.Bool.Decides.{nat_tests}
 use Rattle.std.proofs.lemmas.List.{take_more, append_assoc, take-append-drop}
 use Rattle.bx_office.specs.declared.client.Client.{Client}
 use Rattle.bx_office.specs.declared.reply.Reply.{Reply}
-use Rattle.bx_office_door.specs.Places.{IsFirstOf}
-use Rattle.bx_office_door.specs.Guests.{client_of, numbers_of, are_given, IsTold, IsAnswered, IsAnsweredThere}
+use Rattle.bx_office_door.specs.Places.{IsFirstGuest}
+use Rattle.bx_office_door.specs.Guests.{client_of, numbers_of, are_given, IsGuestTold, IsAnswered, IsAnsweredThere}
 use Rattle.bx_office_door.specs.declared.guest.Guest.{Guest}
 use Rattle.bx_office_door.proofs.GivenNumbers.{guests_moved}
 
@@ -38,13 +38,13 @@ cut_at xs i g lt is =
     sym (take-append-drop (i + 1) xs) ∙ ap (λ (ys : List Guest). ys ++ drop (i + 1) xs) prefix ∙ append_assoc (take i xs) (g ∷ []) (drop (i + 1) xs)
 
 -- it is found there
-pub is_found : (n : ℕ) (gs : List Guest) (i : ℕ) (g : Guest) → IsFirstOf n gs i → g ≡ get_or gs i g → is_some (client_of n gs) ≡ true
+pub is_found : (n : ℕ) (gs : List Guest) (i : ℕ) (g : Guest) → IsFirstGuest n gs i → g ≡ get_or gs i g → is_some (client_of n gs) ≡ true
 is_found n gs i g f is =
     let named : g.number ≡ n = ap (λ (x : Guest). x.number) is ∙ f.here g in
     ap (λ (xs : List Guest). is_some (client_of n xs)) (cut_at gs i g f.inside is) ∙ ap is_some (client_of-append n (take i gs) (g ∷ drop (i + 1) gs) f.before) ∙ ap (λ (b : Bool). is_some (if b then Some g.client else client_of n (drop (i + 1) gs))) (equal g.number n named)
 
 -- it is taken out, answered, and put after the others
-pub answered : (n : ℕ) (reply : Reply) (gs gs' gs'' : List Guest) (i : ℕ) (g h : Guest) → IsFirstOf n gs i → g ≡ get_or gs i g → gs' ≡ take i gs ++ drop (i + 1) gs → IsTold reply g h → gs'' ≡ gs' ++ h ∷ [] → IsAnswered n reply gs gs''
+pub answered : (n : ℕ) (reply : Reply) (gs gs' gs'' : List Guest) (i : ℕ) (g h : Guest) → IsFirstGuest n gs i → g ≡ get_or gs i g → gs' ≡ take i gs ++ drop (i + 1) gs → IsGuestTold reply g h → gs'' ≡ gs' ++ h ∷ [] → IsAnswered n reply gs gs''
 answered n reply gs gs' gs'' i g h f is out told back = record {
   before = take i gs;
   guest = g;
@@ -58,7 +58,7 @@ answered n reply gs gs' gs'' i g h f is out told back = record {
 }
 
 -- then each number is still given once
-pub still_given : (c : ℕ) (reply : Reply) (gs gs' gs'' : List Guest) (i : ℕ) (g h : Guest) → i < length gs → g ≡ get_or gs i g → gs' ≡ take i gs ++ drop (i + 1) gs → IsTold reply g h → gs'' ≡ gs' ++ h ∷ [] → are_given c (numbers_of gs) ≡ true → are_given c (numbers_of gs'') ≡ true
+pub still_given : (c : ℕ) (reply : Reply) (gs gs' gs'' : List Guest) (i : ℕ) (g h : Guest) → i < length gs → g ≡ get_or gs i g → gs' ≡ take i gs ++ drop (i + 1) gs → IsGuestTold reply g h → gs'' ≡ gs' ++ h ∷ [] → are_given c (numbers_of gs) ≡ true → are_given c (numbers_of gs'') ≡ true
 still_given c reply gs gs' gs'' i g h lt is out told back e =
     let before : are_given c (numbers_of (take i gs ++ g ∷ drop (i + 1) gs)) ≡ true = sym (ap (λ (xs : List Guest). are_given c (numbers_of xs)) (cut_at gs i g lt is)) ∙ e in
     ap (λ (xs : List Guest). are_given c (numbers_of xs)) (back ∙ ap (λ (xs : List Guest). xs ++ h ∷ []) out) ∙ guests_moved c (take i gs) (drop (i + 1) gs) g h told.number before

@@ -1,8 +1,8 @@
 -- A wait that goes on slice by slice.
-use Rattle.std.proofs.Common.{◌≡◌, refl, sym, subst, ◌⊎◌, ℕ, ◌-◌, ◌≤◌, ◌<◌, List, [], ◌∷◌, ◌++◌, Option, Some, None, is_some, true, arith}
+use Rattle.std.proofs.Common.{◌≡◌, refl, sym, subst, ◌⊎◌, ℕ, ◌-◌, ◌≤◌, ◌<◌, List, [], ◌∷◌, ◌++◌, Option, None, is_some, true, arith}
 use Rattle.std.proofs.lemmas.List.{append_assoc, append-nil}
 use Rattle.bx_line_world.specs.Wires.{WireAct, Waited}
-use Rattle.bx_office_door.specs.Sliced.{IsSliced, IsFolded, DidInside}
+use Rattle.bx_office_door.specs.Sliced.{IsSliced, DidInside}
 
 -- one slice more
 slice_more : (left : ℕ) (came : Option (List ℕ)) (more : List WireAct) → 10000000 < left → IsSliced (left - 10000000) came more → IsSliced left came (Waited 10000000 None ∷ more)

@@ -1,7 +1,7 @@
 -- Who stands at the door: clients with their numbers, in their order.
 use Rattle.std.specs.Prelude.{◌≡◌, ◌⊎◌, ℕ, ◌+◌, ◌-◌, ◌==◌, ◌&&◌, ◌||◌, nat_le, not, if◌then◌else◌, Bool, true, false, List, [], ◌∷◌, ◌++◌, map, Option, Some, None}
 use Rattle.std.specs.List.{range_with_len}
-use Rattle.bx_office.specs.Clients.{IsLeft, IsNext}
+use Rattle.bx_office.specs.Clients.{IsLeft, IsAfterAnswer}
 use Rattle.bx_office.specs.Replies.{reply_text}
 use Rattle.bx_office.specs.declared.client.Client.{Client}
 use Rattle.bx_office.specs.declared.client.Stage.{Stage}
@@ -36,11 +36,11 @@ client_of number (g ∷ more) = if g.number == number then Some g.client else cl
 -- what an answer makes of a client
 pub record IsReplied (reply : Reply) (old new : Client) : Type 0 where
   pub said : IsLeft new ⊎ (new.out.items ≡ old.out.items ++ reply_text old.is_head old.server reply false)
-  pub next : IsNext new.stage
+  pub next : IsAfterAnswer new.stage
   pub place : new.place ≡ old.place
 
 -- .. and of who stands at the door, and stays there
-pub record IsTold (reply : Reply) (old new : Guest) : Type 0 where
+pub record IsGuestTold (reply : Reply) (old new : Guest) : Type 0 where
   pub number : new.number ≡ old.number
   pub is_shut : new.is_shut ≡ old.is_shut
   pub is_gone : new.is_gone ≡ old.is_gone
@@ -56,7 +56,7 @@ pub record IsAnswered (number : ℕ) (reply : Reply) (old new : List Guest) : Ty
   pub stood : old ≡ before ++ guest ∷ following
   pub first : client_of number before ≡ None
   pub named : guest.number ≡ number
-  pub is : IsTold reply guest told
+  pub is : IsGuestTold reply guest told
   pub stands : new ≡ before ++ following ++ told ∷ []
 
 -- .. where it is there; else all stand as they stood

@@ -1,5 +1,5 @@
 -- A wait for a frame that is cut into slices.
-use Rattle.std.specs.Prelude.{◌≡◌, ◌⊎◌, ℕ, ◌-◌, ◌≤◌, List, [], ◌∷◌, ◌++◌, Option, Some, None, is_some, true}
+use Rattle.std.specs.Prelude.{◌≡◌, ◌⊎◌, ℕ, ◌-◌, ◌≤◌, List, [], ◌∷◌, ◌++◌, Option, None, is_some, true}
 use Rattle.bx_line_world.specs.Wires.{WireAct, Shown, Sent, Waited}
 
 -- the last slice of a wait: it lasts as long as is left, or a frame came

@@ -32,7 +32,7 @@ pub struct Door {
 impl Door {
     ghost use Rattle.std.specs.Prelude.{◌++◌, ◌+◌, [], None, Some, MatchOption, filter, not, if◌then◌else◌};
     ghost use Rattle.bx_office_door.specs.Guests.{first_asked, client_of, given_since, IsAnsweredThere};
-    ghost use Rattle.bx_office_door.specs.Places.{IsFirstOf};
+    ghost use Rattle.bx_office_door.specs.Places.{IsFirstGuest};
     ghost use Rattle.bx_office_door.specs.Doors.{answers_after, guests_of, IsAttended};
 
     /// A door where nobody stands yet.
@@ -146,7 +146,7 @@ impl Door {
 
     /// Where the client of this number stands.
     fn place_of(&self, number: u64) -> Option<usize>
-        ensures { MatchOption result (client_of number (guests_of self.now) ≡ None) (IsFirstOf number (guests_of self.now)) }
+        ensures { MatchOption result (client_of number (guests_of self.now) ≡ None) (IsFirstGuest number (guests_of self.now)) }
     {
         for index in 0..self.guests.len() {
             if self.guests[index].number() == number {

@@ -1,7 +1,7 @@
 //! A client at the door.
 
 ghost use Rattle.std.specs.Prelude.{◌≡◌, false, Some};
-ghost use Rattle.bx_office_door.specs.Guests.{IsTold};
+ghost use Rattle.bx_office_door.specs.Guests.{IsGuestTold};
 
 use crate::stream::{Came, Stream};
 use bx_office::{Client, Place, Reply, Stage, page};
@@ -70,7 +70,7 @@ impl Guest {
 
     /// Answers its request. However long that has waited, there is time to send the answer.
     pub fn answer(&mut self, reply: Reply<'_>)
-        ensures { IsTold reply.entry self.old self.new }
+        ensures { IsGuestTold reply.entry self.old self.new }
     {
         self.client.answer(reply);
         self.since = None;

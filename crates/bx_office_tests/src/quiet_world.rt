@@ -4,7 +4,7 @@ use bx_cases::messages::FAR_RELEASE_COMPLETE_17;
 use bx_devices::WriteFailed;
 use bx_events::LiveEvent;
 use bx_frames::{Frame, LinkFault};
-use bx_live::{Begin, CannotRecord, Loss, World};
+use bx_live::{Begin, CannotLog, Loss, World};
 use bx_office_door::Door;
 use bx_q931::Octets;
 use std::cell::RefCell;
@@ -67,14 +67,14 @@ impl<'a> World for QuietWorld<'a> {
 
     fn drop_peer(&mut self, _loss: Loss) {}
 
-    fn record(&mut self, event: LiveEvent<'_>) -> Result<(), CannotRecord> {
+    fn log(&mut self, event: LiveEvent<'_>) -> Result<(), CannotLog> {
         if let LiveEvent::Sold(_) = event {
             self.sold = self.sold.saturating_add(1);
         }
         Ok(())
     }
 
-    fn sync(&mut self) -> Result<(), CannotRecord> {
+    fn sync(&mut self) -> Result<(), CannotLog> {
         self.synced = self.sold;
         Ok(())
     }

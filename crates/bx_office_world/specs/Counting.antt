@@ -14,14 +14,14 @@ use Rattle.bx_q931.specs.declared.kind.Kind.{Kind}
 use Rattle.bx_q931.specs.declared.kind.Kind.TheVariants as kinds
 
 -- one more, up to the largest number of 64 bits
-abbrev pub one_more : ℕ → ℕ
-one_more n = min (n + 1) 18446744073709551615
+abbrev pub count_one_more : ℕ → ℕ
+count_one_more n = min (n + 1) 18446744073709551615
 
 -- a second by how it begins
-abbrev pub begun : Begin → Figures → Figures
-begun begins.Alone f = record f { alone = one_more f.alone }
-begun begins.Late f = record f { late = one_more f.late }
-begun _ f = f
+abbrev pub begin_counted : Begin → Figures → Figures
+begin_counted begins.Alone f = record f { alone = count_one_more f.alone }
+begin_counted begins.Late f = record f { late = count_one_more f.late }
+begin_counted _ f = f
 
 abbrev pub is_late : Begin → Bool
 is_late begins.Late = true
@@ -33,9 +33,9 @@ is_without_link begins.Late = true
 is_without_link _ = false
 
 -- a second without a link is noted, or there was no memory for it; any other changes nothing
-abbrev pub IsNoted : Bool → ℕ → List Outage → List Outage → Type 0
-IsNoted true second old new = (new ≡ noted second old) ⊎ (new ≡ old)
-IsNoted false second old new = new ≡ old
+abbrev pub IsOutageNoted : Bool → ℕ → List Outage → List Outage → Type 0
+IsOutageNoted true second old new = (new ≡ noted second old) ⊎ (new ≡ old)
+IsOutageNoted false second old new = new ≡ old
 
 -- a message that clears a call
 abbrev pub clears : Kind → Bool
@@ -53,13 +53,13 @@ cleared_in octets = cleared_by (message_at octets)
 
 abbrev pub cleared : Option ℕ → Figures → Figures
 cleared None f = f
-cleared (Some cause) f = record f { clearings = slice_set f.clearings cause (one_more (slice_index f.clearings cause)) }
+cleared (Some cause) f = record f { clearings = slice_set f.clearings cause (count_one_more (slice_index f.clearings cause)) }
 
 -- how many were sold, with those of a batch
-abbrev pub sold_in : ℕ → List Answer → ℕ
-sold_in sold [] = sold
-sold_in sold (answers.Accepted ∷ more) = sold_in (one_more sold) more
-sold_in sold (answers.Refused why ∷ more) = sold_in sold more
+abbrev pub sold_in_batch : ℕ → List Answer → ℕ
+sold_in_batch sold [] = sold
+sold_in_batch sold (answers.Accepted ∷ more) = sold_in_batch (count_one_more sold) more
+sold_in_batch sold (answers.Refused why ∷ more) = sold_in_batch sold more
 
 -- whole seconds between two readings of a clock, in nanoseconds
 abbrev pub seconds_since : Option ℕ → ℕ → Option ℕ

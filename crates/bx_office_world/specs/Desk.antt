@@ -2,7 +2,7 @@
 use Rattle.std.specs.Prelude.{◌≡◌, ◌⊎◌, ℕ, List, []}
 use Rattle.bx_answers.specs.Answers.{IsPlanText, IsNoPromisedPlan, IsNoRecords}
 use Rattle.bx_answers.specs.Metrics.{metrics_text}
-use Rattle.bx_answers.specs.Quotes.{IsCallOf, IsNoCall, IsQuoteText, IsNoQuoteText}
+use Rattle.bx_answers.specs.Quotes.{IsCallOfQuery, IsNoCallOfQuery, IsQuoteText, IsNoQuoteText}
 use Rattle.bx_answers.specs.declared.fault.NoAnswer.{NoAnswer}
 use Rattle.bx_answers.specs.declared.fault.NoAnswer.TheVariants.{Memory}
 use Rattle.bx_answers.specs.declared.metrics.Figures.{Figures}
@@ -21,9 +21,9 @@ use Rattle.bx_records.specs.Records.{IsRecordsText}
 use Rattle.bx_office_world.specs.declared.desk.Opened.{Opened}
 
 -- the quote of the call that a query asks for
-pub record IsQuoted (opened : Opened) (query : List ℕ) (entries : List Entry) (text : List ℕ) : Type 0 where
+pub record IsQuoteAnswered (opened : Opened) (query : List ℕ) (entries : List Entry) (text : List ℕ) : Type 0 where
   pub call : Row
-  pub is : IsCallOf query (span_of opened.day) call
+  pub is : IsCallOfQuery query (span_of opened.day) call
   pub quoted : IsQuoteText entries opened.channels call text
 
 -- each path has just what its command says of the day as it stands
@@ -31,21 +31,21 @@ abbrev pub IsWritten : Opened → Day → Figures → Sight → List ℕ → Rou
 IsWritten opened d figures sight query routes.Plan kind text = (kind ≡ kinds.Text) × IsPlanText d.entries opened.channels text
 IsWritten opened d figures sight query routes.Outcomes kind text = (kind ≡ kinds.Text) × (text ≡ outcomes_text d)
 IsWritten opened d figures sight query routes.Records kind text = (kind ≡ kinds.Csv) × IsRecordsText opened.clock d.entries text
-IsWritten opened d figures sight query routes.Quote kind text = (kind ≡ kinds.Text) × IsQuoted opened query d.entries text
+IsWritten opened d figures sight query routes.Quote kind text = (kind ≡ kinds.Text) × IsQuoteAnswered opened query d.entries text
 IsWritten opened d figures sight query routes.Chart kind text = (kind ≡ kinds.Picture) × IsDayChart d opened.channels sight opened.clock text
 IsWritten opened d figures sight query routes.Metrics kind text = (kind ≡ kinds.Metrics) × (text ≡ metrics_text d figures)
 IsWritten opened d figures sight query _ kind text = (kind ≡ kinds.Text) × (text ≡ [])
 
 -- why there is no quote: the query names no call, or there is none for the call that it names
-abbrev pub IsUnquoted : Opened → List ℕ → List Entry → NoAnswer → Type 0
-IsUnquoted opened query entries why = IsNoCall query (span_of opened.day) why ⊎ ((call : Row) × IsCallOf query (span_of opened.day) call × IsNoQuoteText entries opened.channels call why)
+abbrev pub IsQuoteUnanswered : Opened → List ℕ → List Entry → NoAnswer → Type 0
+IsQuoteUnanswered opened query entries why = IsNoCallOfQuery query (span_of opened.day) why ⊎ ((call : Row) × IsCallOfQuery query (span_of opened.day) call × IsNoQuoteText entries opened.channels call why)
 
 -- why nothing stands at a path: just what its command is refused for, or memory runs out
 abbrev pub IsUnanswered : Opened → Day → List ℕ → Route → NoAnswer → Type 0
 IsUnanswered opened d query routes.Plan why = IsNoPromisedPlan d.entries opened.channels why
 IsUnanswered opened d query routes.Outcomes why = why ≡ Memory
 IsUnanswered opened d query routes.Records why = IsNoRecords opened.clock why
-IsUnanswered opened d query routes.Quote why = IsUnquoted opened query d.entries why
+IsUnanswered opened d query routes.Quote why = IsQuoteUnanswered opened query d.entries why
 IsUnanswered opened d query routes.Chart why = why ≡ Memory
 IsUnanswered opened d query routes.Metrics why = why ≡ Memory
 IsUnanswered opened d query _ why = ⊥

@@ -29,12 +29,12 @@ use Rattle.bx_quote.specs.declared.answer.NoQuote.TheVariants as quotes
 
 -- ---- how answers begin
 
-abbrev pub status_of : NoAnswer → Status
-status_of (no.Book fault) = statuses.BadRequest
-status_of no.NoTimes = statuses.BadRequest
-status_of (no.Quote (quotes.NoChannel moment)) = statuses.Fine
-status_of (no.Quote quotes.TooMany) = statuses.Fine
-status_of _ = statuses.Unavailable
+abbrev pub reply_status_of : NoAnswer → Status
+reply_status_of (no.Book fault) = statuses.BadRequest
+reply_status_of no.NoTimes = statuses.BadRequest
+reply_status_of (no.Quote (quotes.NoChannel moment)) = statuses.Fine
+reply_status_of (no.Quote quotes.TooMany) = statuses.Fine
+reply_status_of _ = statuses.Unavailable
 
 abbrev pub book_status : BookFault → Status
 book_status book.Memory = statuses.Unavailable
@@ -66,7 +66,7 @@ pub record IsShown (desk : Desk) (d : Day) (query : List ℕ) (route : Route) (r
 
 abbrev pub IsReplyTo : Bool → Desk → Day → List ℕ → Route → Reply → Type 0
 IsReplyTo true desk d query route reply = IsPlain statuses.Unavailable reply × (reply.body.now ≡ codes "late\n")
-IsReplyTo false desk d query route reply = IsShown desk d query route reply ⊎ ((why : NoAnswer) × IsUnanswered desk.opened.now d query route why × IsPlain (status_of why) reply)
+IsReplyTo false desk d query route reply = IsShown desk d query route reply ⊎ ((why : NoAnswer) × IsUnanswered desk.opened.now d query route why × IsPlain (reply_status_of why) reply)
 
 -- just the client of this number is told it
 pub record IsServedThere (desk : Desk) (d : Day) (number : ℕ) (route : Route) (old new : List Guest) : Type 0 where

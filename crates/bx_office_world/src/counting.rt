@@ -1,7 +1,7 @@
 //! What is counted while the day runs.
 
 ghost use Rattle.std.specs.Prelude.{◌≡◌, ◌-◌, ◌/◌, min, option_map};
-ghost use Rattle.bx_office_world.specs.Counting.{begun, is_late, is_without_link, cleared_in, cleared, sold_in, seconds_since};
+ghost use Rattle.bx_office_world.specs.Counting.{begin_counted, is_late, is_without_link, cleared_in, cleared, sold_in_batch, seconds_since};
 
 use bx_answers::Figures;
 use bx_live::Begin;
@@ -33,7 +33,7 @@ pub(crate) fn is_without_link(begin: Begin) -> bool
 
 /// Counts a second by how it begins.
 pub(crate) fn count_begin(figures: &mut Figures, begin: Begin)
-    ensures { figures.new ≡ begun begin figures.old }
+    ensures { figures.new ≡ begin_counted begin figures.old }
 {
     match begin {
         Begin::Alone => figures.alone = figures.alone.saturating_add(1),
@@ -69,7 +69,7 @@ pub(crate) fn count_message(figures: &mut Figures, octets: &[u8])
 
 /// Counts what was sold of a batch.
 pub(crate) fn count_sold(figures: &mut Figures, answers: &[Answer])
-    ensures { figures.new ≡ record figures.old { sold = sold_in figures.old.sold answers.now } }
+    ensures { figures.new ≡ record figures.old { sold = sold_in_batch figures.old.sold answers.now } }
 {
     for answer in answers {
         if matches!(answer, Answer::Accepted) {

@@ -3,7 +3,7 @@
 ghost use Rattle.std.specs.Prelude.{◌≡◌, Ok, Err, IfOk, IfErr};
 ghost use Rattle.bx_day_chart.specs.Charts.{IsDayChart};
 ghost use Rattle.bx_day_chart.specs.Sights.{sight_of};
-ghost use Rattle.bx_office_world.specs.Desk.{IsQuoted, IsWritten, IsUnquoted, IsUnanswered};
+ghost use Rattle.bx_office_world.specs.Desk.{IsQuoteAnswered, IsWritten, IsQuoteUnanswered, IsUnanswered};
 
 use bx_answers::{
     Figures, NoAnswer, call_of, chart_text, metrics_text, outcomes_text, plan_text, quote_text,
@@ -49,8 +49,8 @@ fn quoted(
     exchange: &Exchange,
     query: &[u8],
 ) -> Result<Vec<u8>, NoAnswer>
-    ensures text { IfOk result (λ text. IsQuoted opened.now query.now exchange.now.entries text.items) }
-    ensures none { IfErr result (IsUnquoted opened.now query.now exchange.now.entries) }
+    ensures text { IfOk result (λ text. IsQuoteAnswered opened.now query.now exchange.now.entries text.items) }
+    ensures none { IfErr result (IsQuoteUnanswered opened.now query.now exchange.now.entries) }
 {
     let call = call_of(alloc, query, &opened.day)?;
     match quote_text(alloc, exchange, opened.channels, &call) {

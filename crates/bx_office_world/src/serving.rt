@@ -1,9 +1,9 @@
 //! Who waits at the door is answered.
 
 ghost use Rattle.std.specs.Prelude.{◌≡◌, ◌-◌};
-ghost use Rattle.bx_office_world.specs.Counting.{begun, is_late, is_without_link, IsNoted};
+ghost use Rattle.bx_office_world.specs.Counting.{begin_counted, is_late, is_without_link, IsOutageNoted};
 ghost use Rattle.bx_office_door.specs.Doors.{guests_of};
-ghost use Rattle.bx_office_world.specs.Serving.{status_of, book_status, is_late_for, IsRefusing, IsServed, IsBatchRead, IsServing, IsToldSold};
+ghost use Rattle.bx_office_world.specs.Serving.{reply_status_of, book_status, is_late_for, IsRefusing, IsServed, IsBatchRead, IsServing, IsToldSold};
 
 use crate::counting::{count_begin, is_late, is_without_link};
 use crate::desk::{Opened, Written, answer_of};
@@ -53,7 +53,7 @@ fn reply_of(status: Status, kind: Kind, body: &[u8]) -> Reply<'_>
 
 /// How an answer that is none begins: a quote that there is not is one too.
 fn status_of(why: NoAnswer) -> Status
-    ensures { result ≡ status_of why }
+    ensures { result ≡ reply_status_of why }
 {
     match why {
         NoAnswer::Book(_) | NoAnswer::NoTimes => Status::BadRequest,
@@ -85,9 +85,9 @@ fn refuse<F: Display + Drop>(alloc: Global, door: &mut Door, number: u64, status
 impl Desk<'_> {
     /// Notes how a second begins, after which the day has come to this moment.
     pub(crate) fn note(&mut self, moment: u32, begin: Begin)
-        ensures figures { self.new.figures ≡ begun begin self.old.figures }
+        ensures figures { self.new.figures ≡ begin_counted begin self.old.figures }
         ensures late { self.new.is_late ≡ is_late begin }
-        ensures outages { IsNoted (is_without_link begin) (moment - 1) self.old.sight.outages.spans.items self.new.sight.outages.spans.items }
+        ensures outages { IsOutageNoted (is_without_link begin) (moment - 1) self.old.sight.outages.spans.items self.new.sight.outages.spans.items }
         ensures opened { self.new.opened ≡ self.old.opened }
     {
         count_begin(&mut self.figures, begin);

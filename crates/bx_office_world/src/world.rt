@@ -13,7 +13,7 @@ use bx_day_chart::{DaySight, Outages};
 use bx_devices::WriteFailed;
 use bx_events::LiveEvent;
 use bx_frames::{Frame, LinkFault};
-use bx_live::{Begin, CannotRecord, Loss, World};
+use bx_live::{Begin, CannotLog, Loss, World};
 use bx_market::{Answer, Market};
 use bx_office_door::Door;
 use bx_q931::Octets;
@@ -98,11 +98,11 @@ impl<'a, W: World> World for OfficeWorld<'a, W> {
         self.world.drop_peer(loss);
     }
 
-    fn record(&mut self, event: LiveEvent<'_>) -> Result<(), CannotRecord> {
-        self.world.record(event)
+    fn log(&mut self, event: LiveEvent<'_>) -> Result<(), CannotLog> {
+        self.world.log(event)
     }
 
-    fn sync(&mut self) -> Result<(), CannotRecord> {
+    fn sync(&mut self) -> Result<(), CannotLog> {
         self.world.sync()?;
         self.office.synced = match self.office.seen() {
             Some((_, shown)) => Some(shown),

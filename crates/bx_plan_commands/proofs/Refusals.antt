@@ -13,7 +13,7 @@ use Rattle.bx_book.specs.declared.stream.StreamFault.TheVariants as stream
 use Rattle.bx_devices.specs.Devices.{Reading, Writing}
 use Rattle.bx_devices.specs.declared.watched.Watched.{Watched}
 use Rattle.bx_plan_commands.specs.FileRefusals.{IsWithoutMore, IsNotAmended}
-use Rattle.bx_plan_commands.specs.Inside.{told_of}
+use Rattle.bx_plan_commands.specs.Inside.{capacity_told_of}
 use Rattle.bx_plan_commands.specs.Tables.{IsTableFault}
 use Rattle.bx_plan_commands.specs.declared.fault.FileFault.{FileFault}
 use Rattle.bx_plan_commands.specs.declared.fault.FileFault.TheVariants as files
@@ -36,7 +36,7 @@ errors_alike f g P (there, back) = ((λ e. there (cc e)), (λ p. cc (back p)))
 pub same_fault : (input : Reading) (span : Span) (found told : StreamFault) → found ≡ told → IsStreamFault input span found → IsStreamFault input span told
 same_fault input span found told e why = subst (IsStreamFault input span) e why
 
-pub table_fault : (name : Bor (List ℕ)) (input : Reading) (output : Writing) (span : Span) (fault : CapacityFault) → IsCapacityRefusal input output span fault → IsTableFault name.now input output span (told_of name fault)
+pub table_fault : (name : Bor (List ℕ)) (input : Reading) (output : Writing) (span : Span) (fault : CapacityFault) → IsCapacityRefusal input output span fault → IsTableFault name.now input output span (capacity_told_of name fault)
 table_fault name input output span (Unread stream.ReadFailed) why = (refl, inl why)
 table_fault name input output span (Unread stream.TooLong) why = (refl, inr why)
 table_fault name input output span (Unread (stream.Book fault)) why = why

@@ -6,15 +6,15 @@ use Rattle.bx_devices.specs.Devices.{Writing}
 use Rattle.bx_base.specs.PlanParts.{Parts}
 use Rattle.bx_check_commands.specs.Inputs.{IsProvedOf}
 use Rattle.bx_plan_commands.specs.Calls.{IsCallOf}
-use Rattle.bx_quote.specs.Quotes.{asked}
+use Rattle.bx_quote.specs.Quotes.{with_asked}
 use Rattle.bx_quote.specs.Texts.{quote_text, explained_text, refused_text}
-use Rattle.bx_quote.specs.Writing.{IsTold}
+use Rattle.bx_quote.specs.Writing.{IsToldOfRow}
 use Rattle.bx_request.specs.declared.request.Call.{Call}
 
 -- all that it refuses, or a row of it
 abbrev pub IsExplanation : Option ℕ → Parts → Writing → Type 0
 IsExplanation None plan output = Appends output.before output.after (refused_text plan)
-IsExplanation (Some row) plan output = IsTold plan.rows plan (row - 1) (explained_text row (row_at plan.rows (row - 1)).pay) output
+IsExplanation (Some row) plan output = IsToldOfRow plan.rows plan (row - 1) (explained_text row (row_at plan.rows (row - 1)).pay) output
 
 -- that was written of the plan that an input of this name gave, which is proved for its own bookings and channels
 abbrev pub IsExplained : (List ℕ → Option (List ℕ) → Type 0) → Option ℕ → List ℕ → Writing → Type 0
@@ -26,4 +26,4 @@ pub record IsQuoted (gives : List ℕ → Option (List ℕ) → Type 0) (call : 
   pub proved_of : IsProvedOf gives name plan
   pub booking : Row
   pub call_of : IsCallOf call booking
-  pub told : IsTold (asked plan.rows booking) plan (length plan.rows) quote_text output
+  pub told : IsToldOfRow (with_asked plan.rows booking) plan (length plan.rows) quote_text output

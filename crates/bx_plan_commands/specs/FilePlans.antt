@@ -10,8 +10,8 @@ use Rattle.bx_book.specs.Rows.{span_of}
 use Rattle.bx_book.specs.Streams.{IsBookRead}
 use Rattle.bx_calendar.specs.declared.day.Day.{Day}
 use Rattle.bx_plan_commands.specs.Amending.{IsAmended}
-use Rattle.bx_plan_commands.specs.Notes.{IsNoted}
-use Rattle.bx_plan_commands.specs.Planning.{IsRun}
+use Rattle.bx_plan_commands.specs.Notes.{IsNoteWritten}
+use Rattle.bx_plan_commands.specs.Planning.{IsPlanRun}
 use Rattle.bx_check_commands.specs.Inputs.{IsReadOf, IsPlanOf}
 use Rattle.bx_check_commands.specs.Proved.{IsProvedAgainst, proved_line}
 use Rattle.bx_planner.specs.Amending.{amended}
@@ -41,7 +41,7 @@ pub record IsInputFor (gives : List ℕ → Option (List ℕ) → Type 0) (terms
 pub record IsPlanned (gives : List ℕ → Option (List ℕ) → Type 0) (terms : Terms) (bookings : List ℕ) (output : Writing) : Type 0 where
   pub given : IsInputFor gives terms bookings
   pub plan : Parts
-  pub run : IsRun given.input output (span_of given.day) given.channels plan
+  pub run : IsPlanRun given.input output (span_of given.day) given.channels plan
 
 -- what such an input gave to its end are bookings of that day
 pub record AreRowsFor (gives : List ℕ → Option (List ℕ) → Type 0) (terms : Terms) (bookings : List ℕ) : Type 0 where
@@ -62,7 +62,7 @@ pub record IsChecked (gives : List ℕ → Option (List ℕ) → Type 0) (terms 
   pub written : Appends output.before output.after (proved_line total)
 
 -- the words name a day, and an input gave an earlier plan
-pub record IsEarlier (gives : List ℕ → Option (List ℕ) → Type 0) (date zone plan : List ℕ) : Type 0 where
+pub record IsEarlierPlan (gives : List ℕ → Option (List ℕ) → Type 0) (date zone plan : List ℕ) : Type 0 where
   pub day : Day
   pub day_of : IsDayOf date zone day
   pub earlier : Parts
@@ -71,7 +71,7 @@ pub record IsEarlier (gives : List ℕ → Option (List ℕ) → Type 0) (date z
 -- a plan and more bookings were read, and the text of a best plan was written that holds all that it accepts, for its bookings
 -- and for these
 pub record IsHeld (gives : List ℕ → Option (List ℕ) → Type 0) (date zone plan bookings : List ℕ) (output : Writing) : Type 0 where
-  pub given : IsEarlier gives date zone plan
+  pub given : IsEarlierPlan gives date zone plan
   pub more : List Row
   pub more_of : AreBookingsOf gives bookings given.day more
   pub longer : Parts
@@ -80,8 +80,8 @@ pub record IsHeld (gives : List ℕ → Option (List ℕ) → Type 0) (date zone
 -- and what was written on standard error is the note on bookings of the same plan that no day carries, where there are some
 pub record IsPlanNoted (gives : List ℕ → Option (List ℕ) → Type 0) (terms : Terms) (bookings : List ℕ) (output errors : Writing) : Type 0 where
   pub planned : IsPlanned gives terms bookings output
-  pub noted : IsNoted planned.plan errors
+  pub noted : IsNoteWritten planned.plan errors
 
 pub record IsHeldNoted (gives : List ℕ → Option (List ℕ) → Type 0) (date zone plan bookings : List ℕ) (output errors : Writing) : Type 0 where
   pub held : IsHeld gives date zone plan bookings output
-  pub noted : IsNoted held.longer errors
+  pub noted : IsNoteWritten held.longer errors

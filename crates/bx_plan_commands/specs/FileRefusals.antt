@@ -2,7 +2,7 @@
 use Rattle.std.specs.Prelude.{◌≡◌, ◌↔◌, ◌<◌, ◌≤◌, ◌+◌, ℕ, Bool, List, Option, length, ◌⊎◌}
 use Rattle.bx_base.specs.Bookings.{Row}
 use Rattle.bx_base.specs.Channels.{AreChannels}
-use Rattle.bx_base.specs.ChannelFaults.{IsFirstFault}
+use Rattle.bx_base.specs.ChannelFaults.{IsFirstChannelFault}
 use Rattle.bx_devices.specs.Devices.{Reading, Writing, writing_of}
 use Rattle.bx_base.specs.PlanParts.{Parts}
 use Rattle.bx_devices.specs.declared.watched.Watched.{Watched}
@@ -11,7 +11,7 @@ use Rattle.bx_book.specs.Rows.{Span, span_of}
 use Rattle.bx_book.specs.Streams.{IsStreamFault}
 use Rattle.bx_calendar.specs.declared.day.Day.{Day}
 use Rattle.bx_book.specs.declared.stream.StreamFault.TheVariants as stream
-use Rattle.bx_plan_commands.specs.FilePlans.{AreTerms, AreBookingsOf, AreRowsFor, IsEarlier, IsInputFor}
+use Rattle.bx_plan_commands.specs.FilePlans.{AreTerms, AreBookingsOf, AreRowsFor, IsEarlierPlan, IsInputFor}
 use Rattle.bx_plan_commands.specs.declared.fault.FileFault.{FileFault}
 use Rattle.bx_plan_commands.specs.declared.fault.FileFault.TheVariants as files
 use Rattle.bx_plan_commands.specs.Amending.{IsAmendRefusal}
@@ -39,7 +39,7 @@ IsNoDay date zone _ = ⊥
 
 -- the words name no channels, or they do and name no day, with the first fault of their own
 abbrev pub AreNoTerms : Terms → FileFault → Type 0
-AreNoTerms terms (files.Channels fault) = IsFirstFault terms.channels.items fault
+AreNoTerms terms (files.Channels fault) = IsFirstChannelFault terms.channels.items fault
 AreNoTerms terms (files.Day fault) = AreChannels terms.channels.items × IsDayFault terms.date.now terms.zone.now fault
 AreNoTerms terms _ = ⊥
 
@@ -98,17 +98,17 @@ IsCheckRefusal gives terms bookings plan contents old new fault =
 -- ---- amendments
 
 -- each fault of an amendment that can be seen is told, and no other in its place
-pub record IsToldOf (earlier : Parts) (more : List Row) (fault : AmendFault) : Type 0 where
+pub record IsAmendmentTold (earlier : Parts) (more : List Row) (fault : AmendFault) : Type 0 where
   pub full : (fault ≡ amend.Amend TooMany) ↔ (MAX_BOOKINGS < length earlier.rows + length more)
   pub musts : (t : ℕ) → (fault ≡ amend.Amend (TooManyMust t)) ↔ ((length earlier.rows + length more ≤ MAX_BOOKINGS) × IsTooManyMust (amended earlier.rows earlier.assigned more) earlier.channels t)
 
 -- nothing was amended
 pub record IsUnamended (gives : List ℕ → Option (List ℕ) → Type 0) (date zone plan bookings : List ℕ) (output : Writing) (fault : AmendFault) : Type 0 where
-  pub given : IsEarlier gives date zone plan
+  pub given : IsEarlierPlan gives date zone plan
   pub more : List Row
   pub more_of : AreBookingsOf gives bookings given.day more
   pub refused : IsAmendRefusal (amended given.earlier.rows given.earlier.assigned more) given.earlier.channels output fault
-  pub told : IsToldOf given.earlier more fault
+  pub told : IsAmendmentTold given.earlier more fault
 
 -- the words name a day
 abbrev pub IsSomeDay : List ℕ → List ℕ → Type 0
@@ -116,7 +116,7 @@ IsSomeDay date zone = (day : Day) × IsDayOf date zone day
 
 -- the earlier plan was read, and no more bookings
 abbrev pub IsWithoutMore : (List ℕ → Option (List ℕ) → Type 0) → List ℕ → List ℕ → List ℕ → List ℕ → FileFault → Type 0
-IsWithoutMore gives date zone plan bookings fault = (given : IsEarlier gives date zone plan) × HasNoBookings gives bookings given.day fault
+IsWithoutMore gives date zone plan bookings fault = (given : IsEarlierPlan gives date zone plan) × HasNoBookings gives bookings given.day fault
 
 abbrev pub IsNotAmended : {W : Type 0} → (List ℕ → Option (List ℕ) → Type 0) → List ℕ → List ℕ → List ℕ → List ℕ → (W → Option (List ℕ)) → Watched W → Watched W → FileFault → Type 0
 IsNotAmended gives date zone plan bookings contents old new (files.Amend fault) = IsUnamended gives date zone plan bookings (writing_of contents old new) fault

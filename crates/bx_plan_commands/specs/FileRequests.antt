@@ -23,21 +23,21 @@ IsDone gives (Quote plan call) output = IsQuoted gives call plan.now output
 IsDone gives (Chart plan day) output = IsPictured gives day plan.now output
 
 -- and what on standard error: a note of `plan` and `amend`, and else nothing
-abbrev pub IsToldOf : (List ℕ → Option (List ℕ) → Type 0) → FileRequest → Writing → Writing → Type 0
-IsToldOf gives (Plan terms bookings) output errors = IsPlanNoted gives terms bookings.now output errors
-IsToldOf gives (Amend date zone plan bookings) output errors = IsHeldNoted gives date.now zone.now plan.now bookings.now output errors
-IsToldOf gives (Check terms bookings plan) output errors = KeepsOutput errors
-IsToldOf gives (Capacity date zone bookings) output errors = KeepsOutput errors
-IsToldOf gives (Explain plan row) output errors = KeepsOutput errors
-IsToldOf gives (Quote plan call) output errors = KeepsOutput errors
-IsToldOf gives (Chart plan day) output errors = KeepsOutput errors
+abbrev pub IsAmendmentTold : (List ℕ → Option (List ℕ) → Type 0) → FileRequest → Writing → Writing → Type 0
+IsAmendmentTold gives (Plan terms bookings) output errors = IsPlanNoted gives terms bookings.now output errors
+IsAmendmentTold gives (Amend date zone plan bookings) output errors = IsHeldNoted gives date.now zone.now plan.now bookings.now output errors
+IsAmendmentTold gives (Check terms bookings plan) output errors = KeepsOutput errors
+IsAmendmentTold gives (Capacity date zone bookings) output errors = KeepsOutput errors
+IsAmendmentTold gives (Explain plan row) output errors = KeepsOutput errors
+IsAmendmentTold gives (Quote plan call) output errors = KeepsOutput errors
+IsAmendmentTold gives (Chart plan day) output errors = KeepsOutput errors
 
 -- why it did not, and what it did to its output then
-abbrev pub IsRefused : {W : Type 0} → (List ℕ → Option (List ℕ) → Type 0) → FileRequest → (W → Option (List ℕ)) → Watched W → Watched W → FileFault → Type 0
-IsRefused gives (Plan terms bookings) contents old new fault = IsPlanRefusal gives terms bookings.now contents old new fault
-IsRefused gives (Check terms bookings plan) contents old new fault = IsCheckRefusal gives terms bookings.now plan.now contents old new fault
-IsRefused gives (Amend date zone plan bookings) contents old new fault = IsNotAmended gives date.now zone.now plan.now bookings.now contents old new fault
-IsRefused gives (Capacity date zone bookings) contents old new fault = IsTableRefusal gives date.now zone.now bookings.now contents old new fault
-IsRefused gives (Explain plan row) contents old new fault = IsNotExplained gives row plan.now contents old new fault
-IsRefused gives (Quote plan call) contents old new fault = IsNotQuoted gives call plan.now contents old new fault
-IsRefused gives (Chart plan day) contents old new fault = IsNotPictured gives day plan.now contents old new fault
+abbrev pub IsFileRefused : {W : Type 0} → (List ℕ → Option (List ℕ) → Type 0) → FileRequest → (W → Option (List ℕ)) → Watched W → Watched W → FileFault → Type 0
+IsFileRefused gives (Plan terms bookings) contents old new fault = IsPlanRefusal gives terms bookings.now contents old new fault
+IsFileRefused gives (Check terms bookings plan) contents old new fault = IsCheckRefusal gives terms bookings.now plan.now contents old new fault
+IsFileRefused gives (Amend date zone plan bookings) contents old new fault = IsNotAmended gives date.now zone.now plan.now bookings.now contents old new fault
+IsFileRefused gives (Capacity date zone bookings) contents old new fault = IsTableRefusal gives date.now zone.now bookings.now contents old new fault
+IsFileRefused gives (Explain plan row) contents old new fault = IsNotExplained gives row plan.now contents old new fault
+IsFileRefused gives (Quote plan call) contents old new fault = IsNotQuoted gives call plan.now contents old new fault
+IsFileRefused gives (Chart plan day) contents old new fault = IsNotPictured gives day plan.now contents old new fault

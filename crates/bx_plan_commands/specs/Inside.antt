@@ -9,9 +9,9 @@ use Rattle.bx_plan_commands.specs.declared.earning.CapacityFault.{CapacityFault}
 use Rattle.bx_plan_commands.specs.declared.earning.CapacityFault.TheVariants as capacity
 
 -- why what each count of channels would earn was not written, of an input of this name
-abbrev pub told_of : Bor (List ℕ) → CapacityFault → FileFault
-told_of name (capacity.Unread (stream.Book fault)) = files.Book fault
-told_of name (capacity.Unread stream.Memory) = files.Command Memory
-told_of name (capacity.Unread _) = files.Command (CannotRead name)
-told_of name capacity.WriteFailed = files.Command CannotWrite
-told_of name capacity.Memory = files.Command Memory
+abbrev pub capacity_told_of : Bor (List ℕ) → CapacityFault → FileFault
+capacity_told_of name (capacity.Unread (stream.Book fault)) = files.Book fault
+capacity_told_of name (capacity.Unread stream.Memory) = files.Command Memory
+capacity_told_of name (capacity.Unread _) = files.Command (CannotRead name)
+capacity_told_of name capacity.WriteFailed = files.Command CannotWrite
+capacity_told_of name capacity.Memory = files.Command Memory

@@ -41,17 +41,17 @@ is_begun plan zero = false
 is_begun plan (suc n) = is_begun plan n || is_too_short plan n
 
 -- the prefix of the note, with those of the first n rows that are to be noted
-abbrev pub noted : Parts → ℕ → List ℕ
-noted plan zero = []
-noted plan (suc n) = noted plan n ++ (if is_too_short plan n then row_text (is_begun plan n) (n + 1) else [])
+abbrev pub note_below : Parts → ℕ → List ℕ
+note_below plan zero = []
+note_below plan (suc n) = note_below plan n ++ (if is_too_short plan n then row_text (is_begun plan n) (n + 1) else [])
 
 abbrev pub note_end : Bool → List ℕ
 note_end is_begun = if is_begun then codes " last one second behind another on their channel, or in second 0\n" else []
 
 -- the whole of it; nothing where no row is to be noted
 abbrev pub note_text : Parts → List ℕ
-note_text plan = noted plan (length plan.rows) ++ note_end (is_begun plan (length plan.rows))
+note_text plan = note_below plan (length plan.rows) ++ note_end (is_begun plan (length plan.rows))
 
 -- it was written, or a prefix of it where that failed
-abbrev pub IsNoted : Parts → Writing → Type 0
-IsNoted plan errors = Appends errors.before errors.after (note_text plan) ⊎ ((errors.is_faulted ≡ true) × AppendsPrefix errors.before errors.after (note_text plan))
+abbrev pub IsNoteWritten : Parts → Writing → Type 0
+IsNoteWritten plan errors = Appends errors.before errors.after (note_text plan) ⊎ ((errors.is_faulted ≡ true) × AppendsPrefix errors.before errors.after (note_text plan))

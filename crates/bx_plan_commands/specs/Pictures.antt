@@ -19,15 +19,15 @@ use Rattle.bx_check_commands.specs.declared.fault.CommandFault.{CommandFault}
 use Rattle.bx_check_commands.specs.declared.fault.CommandFault.TheVariants.{Memory}
 
 -- the clock of the date and the zone that are named, and none where none are
-abbrev pub IsClockOf : Option (Bor (List ℕ) × Bor (List ℕ)) → Option Clock → Type 0
-IsClockOf None None = Unit {0}
-IsClockOf (Some (date, zone)) (Some clock) = IsClock date.now zone.now clock
-IsClockOf _ _ = ⊥
+abbrev pub IsPictureClock : Option (Bor (List ℕ) × Bor (List ℕ)) → Option Clock → Type 0
+IsPictureClock None None = Unit {0}
+IsPictureClock (Some (date, zone)) (Some clock) = IsClock date.now zone.now clock
+IsPictureClock _ _ = ⊥
 
 -- a date and a zone are named, and name no day
-abbrev pub IsNoClock : Option (Bor (List ℕ) × Bor (List ℕ)) → FileFault → Type 0
-IsNoClock None fault = ⊥
-IsNoClock (Some (date, zone)) fault = IsNoDay date.now zone.now fault
+abbrev pub IsNoPictureClock : Option (Bor (List ℕ) × Bor (List ℕ)) → FileFault → Type 0
+IsNoPictureClock None fault = ⊥
+IsNoPictureClock (Some (date, zone)) fault = IsNoDay date.now zone.now fault
 
 -- the plan that an input of this name gave, which is proved for its own bookings and channels, what one more channel would add to its total, and that
 -- clock
@@ -37,7 +37,7 @@ pub record IsDrawable (gives : List ℕ → Option (List ℕ) → Type 0) (day :
   pub gain : ℕ
   pub gain_of : IsEarning plan.rows (count_of plan.channels) (Most plan.total gain)
   pub clock : Option Clock
-  pub clock_of : IsClockOf day clock
+  pub clock_of : IsPictureClock day clock
 
 -- a picture of such a plan was written, with that gain and the hours of that clock
 abbrev pub IsPictured : (List ℕ → Option (List ℕ) → Type 0) → Option (Bor (List ℕ) × Bor (List ℕ)) → List ℕ → Writing → Type 0
@@ -49,7 +49,7 @@ IsUndrawn gives day name output fault = (sight : IsDrawable gives day name) × I
 
 -- the words name a clock, or none
 abbrev pub IsSomeClock : Option (Bor (List ℕ) × Bor (List ℕ)) → Type 0
-IsSomeClock day = (clock : Option Clock) × IsClockOf day clock
+IsSomeClock day = (clock : Option Clock) × IsPictureClock day clock
 
 -- there is no such plan of the input, or memory ran out before anything was drawn of it
 abbrev pub IsUnpictured : (List ℕ → Option (List ℕ) → Type 0) → List ℕ → CommandFault → Type 0
@@ -58,4 +58,4 @@ IsUnpictured gives name fault = IsNoProvedOf gives name fault
 
 abbrev pub IsNotPictured : {W : Type 0} → (List ℕ → Option (List ℕ) → Type 0) → Option (Bor (List ℕ) × Bor (List ℕ)) → List ℕ → (W → Option (List ℕ)) → Watched W → Watched W → FileFault → Type 0
 IsNotPictured gives day name contents old new (Chart fault) = IsUndrawn gives day name (writing_of contents old new) fault
-IsNotPictured gives day name contents old new fault = (IsNoClock day fault ⊎ (IsSomeClock day × IsFileFault (IsUnpictured gives name) fault)) × (new ≡ old)
+IsNotPictured gives day name contents old new fault = (IsNoPictureClock day fault ⊎ (IsSomeClock day × IsFileFault (IsUnpictured gives name) fault)) × (new ≡ old)

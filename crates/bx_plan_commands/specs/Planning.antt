@@ -16,7 +16,7 @@ use Rattle.bx_plan_commands.specs.declared.planning.RunFault.TheVariants.{ReadFa
 use Rattle.bx_planner.specs.Proved.{IsProved}
 
 -- the input was read to its end, this is such a plan of its bookings, and its text was written
-pub record IsRun (input : Reading) (output : Writing) (span : Span) (channels : List Bool) (plan : Parts) : Type 0 where
+pub record IsPlanRun (input : Reading) (output : Writing) (span : Span) (channels : List Bool) (plan : Parts) : Type 0 where
   pub rows : List Row
   pub read : IsBookRead input span rows
   pub limits : IsPlan plan
@@ -24,7 +24,7 @@ pub record IsRun (input : Reading) (output : Writing) (span : Span) (channels : 
   pub written : Appends output.before output.after (plan_text Three plan)
 
 -- a prefix of the text of such a plan was written
-pub record IsCut (input : Reading) (output : Writing) (span : Span) (channels : List Bool) : Type 0 where
+pub record IsPlanCut (input : Reading) (output : Writing) (span : Span) (channels : List Bool) : Type 0 where
   pub rows : List Row
   pub read : IsBookRead input span rows
   pub plan : Parts
@@ -38,5 +38,5 @@ IsRunRefusal input output span channels ReadFailed = IsStreamFault input span st
 IsRunRefusal input output span channels TooLong = IsStreamFault input span stream.TooLong × KeepsOutput output
 IsRunRefusal input output span channels (Book fault) = IsStreamFault input span (stream.Book fault) × KeepsOutput output
 IsRunRefusal input output span channels (TooManyMust moment) = ((rows : List Row) × IsBookRead input span rows × IsTooManyMust rows channels moment) × KeepsOutput output
-IsRunRefusal input output span channels WriteFailed = (output.is_faulted ≡ true) × IsCut input output span channels
+IsRunRefusal input output span channels WriteFailed = (output.is_faulted ≡ true) × IsPlanCut input output span channels
 IsRunRefusal input output span channels Memory = ((input.is_faulted ≡ false) × ReadsWithin input.before input.after 4_194_304) × KeepsOutput output

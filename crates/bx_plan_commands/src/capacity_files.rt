@@ -2,7 +2,7 @@
 
 ghost use Rattle.std.specs.Prelude.{◌≡◌, IfErr, OnOk};
 ghost use Rattle.bx_devices.specs.Devices.{writing_of};
-ghost use Rattle.bx_plan_commands.specs.Inside.{told_of};
+ghost use Rattle.bx_plan_commands.specs.Inside.{capacity_told_of};
 ghost use Rattle.bx_plan_commands.specs.Tables.{IsTableRefusal, IsTableWritten};
 
 use crate::fault::FileFault;
@@ -42,7 +42,7 @@ pub fn capacity_file<'a, I: Inputs, W: Write>(
 
 /// The fault of this command, with the input's name.
 fn fault_of<'a>(bookings: &'a str, fault: CapacityFault) -> FileFault<'a>
-    ensures { result ≡ told_of bookings.entry fault }
+    ensures { result ≡ capacity_told_of bookings.entry fault }
 {
     match fault {
         CapacityFault::Unread(StreamFault::Book(fault)) => FileFault::Book(fault),

@@ -2,7 +2,7 @@
 
 ghost use Rattle.std.specs.Prelude.{IfOk, IfErr, OnOk};
 ghost use Rattle.bx_devices.specs.Devices.{writing_of};
-ghost use Rattle.bx_plan_commands.specs.Pictures.{IsClockOf, IsNoClock, IsPictured, IsNotPictured};
+ghost use Rattle.bx_plan_commands.specs.Pictures.{IsPictureClock, IsNoPictureClock, IsPictured, IsNotPictured};
 
 use crate::fault::FileFault;
 use bx_calendar::Clock;
@@ -15,8 +15,8 @@ use std::io::Write;
 
 /// The clock of the day that these words name, where one is named.
 fn clock_of<'a>(day: Option<(&str, &str)>) -> Result<Option<Clock>, FileFault<'a>>
-    ensures clock { IfOk result (IsClockOf day.entry) }
-    ensures none { IfErr result (IsNoClock day.entry) }
+    ensures clock { IfOk result (IsPictureClock day.entry) }
+    ensures none { IfErr result (IsNoPictureClock day.entry) }
 {
     let Some((date, zone)) = day else {
         return Ok(None);

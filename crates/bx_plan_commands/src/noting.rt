@@ -4,7 +4,7 @@ ghost use Rattle.std.specs.Prelude.{◌≡◌, ◌<◌, ◌≤◌, ◌+◌, leng
 ghost use Rattle.bx_base.specs.PlanParts.{parts_of};
 ghost use Rattle.bx_devices.specs.Devices.{writing_of};
 ghost use Rattle.bx_text.specs.Gathering.{Gathers, held};
-ghost use Rattle.bx_plan_commands.specs.Notes.{ends_so, some_ends, is_too_short, row_text, note_text, IsNoted};
+ghost use Rattle.bx_plan_commands.specs.Notes.{ends_so, some_ends, is_too_short, row_text, note_text, IsNoteWritten};
 ghost use Rattle.bx_base.specs.Bookings.{row_at};
 ghost use Rattle.bx_base.specs.declared.bookings.TheConstants.{MAX_BOOKINGS};
 
@@ -91,7 +91,7 @@ fn put_note<W: Write>(plan: &Plan, block: &mut Block, w: &mut Watched<W>) -> Res
 /// Writes the note on the accepted bookings that last one second, in second 0 or right after another on their channel: no day
 /// carries them. Nothing where there are none. What becomes of the note changes nothing.
 pub(crate) fn note_too_short<E: Write>(plan: &Plan, errors: &mut Watched<E>)
-    ensures { IsNoted (parts_of plan.now) (writing_of E.contents errors.old errors.new) }
+    ensures { IsNoteWritten (parts_of plan.now) (writing_of E.contents errors.old errors.new) }
 {
     let mut block = Block::new();
     if put_note(plan, &mut block, errors).is_ok() {

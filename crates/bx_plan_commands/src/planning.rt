@@ -5,7 +5,7 @@ ghost use Rattle.bx_base.specs.PlanParts.{IsPlan, parts_of};
 ghost use Rattle.bx_devices.specs.Devices.{reading_of, writing_of};
 ghost use Rattle.bx_book.specs.Rows.{span_of};
 ghost use Rattle.bx_book.specs.Streams.{IsBookRead};
-ghost use Rattle.bx_plan_commands.specs.Planning.{IsRun, IsRunRefusal};
+ghost use Rattle.bx_plan_commands.specs.Planning.{IsPlanRun, IsRunRefusal};
 ghost use Rattle.bx_plan_commands.specs.Unplanned.{AreUnread, IsWithoutPlan};
 ghost use Rattle.bx_planner.specs.Proved.{IsProved};
 
@@ -84,7 +84,7 @@ pub fn plan_run<R: Read, W: Write>(
     day: &Day,
     channels: ChannelSet,
 ) -> Result<Plan, RunFault>
-    ensures planned { IfOk result (λ p. IsRun (reading_of R.remaining input.old input.new)
+    ensures planned { IfOk result (λ p. IsPlanRun (reading_of R.remaining input.old input.new)
         (writing_of W.contents output.old output.new) (span_of day.now) channels (parts_of p)) }
     ensures refused { IfErr result (IsRunRefusal (reading_of R.remaining input.old input.new)
         (writing_of W.contents output.old output.new) (span_of day.now) channels) }

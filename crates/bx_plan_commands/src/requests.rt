@@ -2,7 +2,7 @@
 
 ghost use Rattle.std.specs.Prelude.{◌≡◌, IfErr, IsErr, OnOk};
 ghost use Rattle.bx_devices.specs.Devices.{writing_of};
-ghost use Rattle.bx_plan_commands.specs.FileRequests.{IsDone, IsToldOf, IsRefused};
+ghost use Rattle.bx_plan_commands.specs.FileRequests.{IsDone, IsAmendmentTold, IsFileRefused};
 
 use crate::capacity_files::capacity_file;
 use crate::chart_files::chart_file;
@@ -25,10 +25,10 @@ pub fn run_on_files<'a, I: Inputs, W: Write, E: Write>(
     errors: &mut Watched<E>,
 ) -> Result<(), FileFault<'a>>
     ensures done { OnOk result (IsDone (I.gives inputs.old) request.now (writing_of W.contents output.old output.new)) }
-    ensures told { OnOk result (IsToldOf (I.gives inputs.old) request.now
+    ensures told { OnOk result (IsAmendmentTold (I.gives inputs.old) request.now
         (writing_of W.contents output.old output.new) (writing_of E.contents errors.old errors.new)) }
     ensures silent { IsErr result → errors.new ≡ errors.old }
-    ensures refused { IfErr result (IsRefused (I.gives inputs.old) request.now W.contents output.old output.new) }
+    ensures refused { IfErr result (IsFileRefused (I.gives inputs.old) request.now W.contents output.old output.new) }
 {
     match request {
         FileRequest::Plan { terms, bookings } => {

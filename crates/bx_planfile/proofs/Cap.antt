@@ -6,11 +6,11 @@ use Rattle.std.proofs.lemmas.Bool.{cases_lt, ltb-true, leb-true, lt-ltb, le-ltb,
 use Rattle.std.proofs.lemmas.Bool.Decides.{nat_tests}
 use Rattle.bx_base.specs.Bound.{Charge}
 use Rattle.bx_planfile.specs.declared.fault.PlanTextFault.TheVariants.{BadLine, OutOfLimits}
-use Rattle.bx_planfile.specs.Forms.{Entry, is_channel, is_assignable, is_within, is_charge}
+use Rattle.bx_planfile.specs.Forms.{Entry, is_channel_number, is_assignable, is_within, is_charge}
 use Rattle.bx_planfile.specs.Capped.{capped_entry, capped_charge}
 use Rattle.bx_text.specs.Digits.{capped}
 use Rattle.bx_planfile.specs.Reading.{◌>>=◌, or_fault, where_holds}
-use Rattle.bx_planfile.specs.Inside.{Answers}
+use Rattle.bx_planfile.specs.Inside.{AnswersRead}
 use Rattle.bx_text.proofs.DigitSteps.{and_both}
 
 pub leb-capped : (n limit : ℕ) → limit < 2 ^ 64 - 1 → leb (capped n) limit ≡ leb n limit
@@ -30,11 +30,11 @@ low-capped n limit lt =
 pub capped_is : (n limit : ℕ) → limit < 2 ^ 64 - 1 → n ≤ limit → capped n ≡ n
 capped_is n limit lt le = omega arith
 
-pub is_channel-capped : (n : ℕ) → is_channel (capped n) ≡ is_channel n
+pub is_channel-capped : (n : ℕ) → is_channel_number (capped n) ≡ is_channel_number n
 is_channel-capped n =
     elim (cases_lt 31 n) [
       | inl high ↦ grind (arith, nat_tests)
-      | inr low ↦ ap is_channel (capped_is n 31 (lit< tt) low)
+      | inr low ↦ ap is_channel_number (capped_is n 31 (lit< tt) low)
     ]
 
 pub is_assignable-capped : (c : Option ℕ) → is_assignable (option_map capped c) ≡ is_assignable c
@@ -120,7 +120,7 @@ charge_is p within =
 module _ {X : Type 0} (cap : X → X) (fits : X → Bool) (same : (x : X) → fits (cap x) ≡ fits x) (stays : (x : X) → fits x ≡ true → cap x ≡ x) where
   pub capped_gives : {Y : Type 0} (view : Y → X) (form : Option X) (n : ℕ) (values : X) (r : Option Y) → Some values ≡ option_map cap form
       → MatchOption r (fits values ≡ false) (λ y. (fits values ≡ true) × (view y ≡ values))
-      → Answers view (ok_or r (OutOfLimits n)) (or_fault (BadLine n) form >>= λ x. where_holds (fits x) (OutOfLimits n) x)
+      → AnswersRead view (ok_or r (OutOfLimits n)) (or_fault (BadLine n) form >>= λ x. where_holds (fits x) (OutOfLimits n) x)
   capped_gives view None n values r e h = absurd cc
   capped_gives view (Some x) n values None e h =
       let v : values ≡ cap x = cc in

@@ -6,13 +6,13 @@ use Rattle.std.proofs.lemmas.Bool.Decides.{nat_tests}
 use Rattle.bx_channels.specs.ChannelNumbers.{IsChannel}
 use Rattle.bx_base.specs.Channels.{IsChannelSet}
 use Rattle.bx_text.specs.Lines.{members_from}
-use Rattle.bx_planfile.specs.Forms.{is_channel, with_channels, channel_set}
+use Rattle.bx_planfile.specs.Forms.{is_channel_number, with_channels, channel_set}
 use Rattle.bx_text.proofs.DigitSteps.{and_both}
 
-pub IsChannel-from_test : (n : ℕ) → is_channel n ≡ true → IsChannel n
+pub IsChannel-from_test : (n : ℕ) → is_channel_number n ≡ true → IsChannel n
 IsChannel-from_test n e = grind (arith, nat_tests)
 
-pub test_from_channel : (n : ℕ) → IsChannel n → is_channel n ≡ true
+pub test_from_channel : (n : ℕ) → IsChannel n → is_channel_number n ≡ true
 test_from_channel n h = grind (arith, nat_tests)
 
 -- no place from i on is in the set
@@ -77,8 +77,8 @@ numbers_added [] bs after last h none e =
     let same : bs ≡ after = cc in
     record { listed = sym (ap (members_from 0) same) ∙ sym (append-nil (members_from 0 bs)); channels = subst IsChannelSet same h; small = λ i. omega arith }
 numbers_added (n ∷ ns) bs after last h none e =
-    let t = taken_branch (ltb last n && is_channel n) (with_channels (set bs n true) n ns) after e in
-    let tests = and_both (ltb last n) (is_channel n) t.0 in
+    let t = taken_branch (ltb last n && is_channel_number n) (with_channels (set bs n true) n ns) after e in
+    let tests = and_both (ltb last n) (is_channel_number n) t.0 in
     let less : last < n = ltb-true _ _ tests.0 in
     let channel = IsChannel-from_test n tests.1 in
     let within : n < length bs = omega (arith, h.slots) in
@@ -107,7 +107,7 @@ numbers_give xs (true ∷ ys) last only low =
     let channel = only n (get_or_at xs true ys false n refl) in
     let less : last < n = elim low [ inl z ↦ omega (arith, z, channel.0) | inr lt ↦ lt ] in
     let first : ltb last n ≡ true = lt-ltb last n less in
-    let second : is_channel n ≡ true = test_from_channel n channel in
+    let second : is_channel_number n ≡ true = test_from_channel n channel in
     let longer : length (xs ++ true ∷ []) ≡ n + 1 = length-append xs (true ∷ []) in
     let whole : (xs ++ true ∷ []) ++ ys ≡ xs ++ true ∷ ys = append_assoc xs (true ∷ []) ys in
     let more = numbers_give (xs ++ true ∷ []) ys n (λ m has. only m (ap (λ (l : List Bool). get_or l m false) (sym whole) ∙ has)) (inr (omega (arith, longer))) in

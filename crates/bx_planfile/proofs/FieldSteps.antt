@@ -3,7 +3,7 @@ use Rattle.std.proofs.Common.{◌≡◌, ℕ, ◌+◌, ◌-◌, Bool, true, fals
 use Rattle.std.specs.List.{position}
 use Rattle.std.proofs.lemmas.List.{nil_from_length, take_rest}
 use Rattle.std.proofs.lemmas.Bool.Decides.{nat_tests}
-use Rattle.bx_planfile.specs.Lines.{is_space, first, others, fields_of}
+use Rattle.bx_planfile.specs.Lines.{is_space, first, other_fields, fields_of}
 use Rattle.bx_planfile.specs.Forms.{is_nothing}
 use Rattle.bx_planfile.specs.FieldsInside.{left_of}
 use Rattle.bx_planfile.proofs.Cuts.{split_at, split_whole, some_part, position_within}
@@ -17,16 +17,16 @@ done_is false rest v e =
 
 -- a field with a space after it
 pub taken : (done : Bool) (rest : List ℕ) (v : List (List ℕ)) (k : ℕ) → (done ≡ true → length rest ≡ 0) → left_of done rest ≡ v → position is_space rest ≡ Some k
-    → (take k rest ≡ first v) × (left_of done (take (length rest - (k + 1)) (drop (k + 1) rest)) ≡ others v)
+    → (take k rest ≡ first v) × (left_of done (take (length rest - (k + 1)) (drop (k + 1) rest)) ≡ other_fields v)
 taken true rest v k inv e at = absurd (omega (arith, inv refl, (position_within is_space rest k at).0))
 taken false rest v k inv e at =
     let parts = sym (split_at is_space rest 0 k at) ∙ e in
-    (ap first parts, ap fields_of (take_rest rest (k + 1)) ∙ ap others parts)
+    (ap first parts, ap fields_of (take_rest rest (k + 1)) ∙ ap other_fields parts)
 
 -- the last field
 pub last_taken : (done : Bool) (rest : List ℕ) (v : List (List ℕ)) → (done ≡ true → length rest ≡ 0) → left_of done rest ≡ v → position is_space rest ≡ None
-    → (rest ≡ first v) × (◌≡◌ {A = List (List ℕ)} [] (others v))
-last_taken true rest v inv e at = (nil_from_length rest (inv refl) ∙ ap first e, ap others e)
+    → (rest ≡ first v) × (◌≡◌ {A = List (List ℕ)} [] (other_fields v))
+last_taken true rest v inv e at = (nil_from_length rest (inv refl) ∙ ap first e, ap other_fields e)
 last_taken false rest v inv e at =
     let parts = sym (split_whole is_space rest at) ∙ e in
-    (ap first parts, ap others parts)
+    (ap first parts, ap other_fields parts)

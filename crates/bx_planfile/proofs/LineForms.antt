@@ -14,8 +14,8 @@ use Rattle.bx_planfile.specs.declared.version.Version.{Version}
 use Rattle.bx_planfile.specs.declared.version.Version.TheVariants.{One, Two, Three}
 use Rattle.bx_planfile.specs.Lines.{field, fields_from}
 use Rattle.bx_text.specs.Lines.{members_from, named}
-use Rattle.bx_planfile.specs.Text.{version_field, channel_field, must_field, direction_field, mark_fields, booking_fields, price_fields, IsTold}
-use Rattle.bx_planfile.specs.Forms.{Entry, Marks, marks, is_nothing, is_digits, is_decimal, version_of, header_form, named_form, channels_form, channel_set, is_channel_field, channel_of, is_must_field, is_direction_field, marks_form, entry_of, marked, booking_form, is_assignable, is_within, price_form, is_charge, is_end}
+use Rattle.bx_planfile.specs.Text.{version_field, channel_field, must_field, direction_field, mark_fields, booking_fields, price_fields, IsTellable}
+use Rattle.bx_planfile.specs.Forms.{Entry, Marks, marks, is_nothing, is_digits, is_decimal, version_of, header_form, named_form, channels_form, channel_set, is_channel_field, channel_field_of, is_must_field, is_direction_field, marks_form, file_entry_of, marked, booking_form, is_assignable, is_within, price_form, is_charge, is_end}
 use Rattle.bx_text.specs.Digits.{decimal_value}
 use Rattle.bx_text.proofs.DigitSteps.{and_both}
 use Rattle.bx_planfile.proofs.DecimalLaws.{is_decimal-decimal, value-decimal, decimal-value, some_digits, digits_from_decimal, digits-decimal}
@@ -169,7 +169,7 @@ some_direction false = lit< tt
 -- the marks of a row are those of its fields
 pub record IsMarked (version : Version) (fs : List (List ℕ)) (row : Row) : Type 0 where
   pub spelled : fs ≡ mark_fields version row
-  pub told : IsTold version row
+  pub told : IsTellable version row
 
 marks_take : (version : Version) (fs : List (List ℕ)) (m : Marks) (row : Row) → marks_form version fs ≡ Some m → row.must ≡ m.must → row.inward ≡ m.inward → IsMarked version fs row
 marks_take One fs m row e must inward =
@@ -199,7 +199,7 @@ marks_take Three fs m row e must inward =
     let some : 0 < length (field 1 fs) = rw way (some_direction row.inward) in
     record { spelled = two_fields fs some ∙ rw (mark, way, nothing_is (fields_from 2 fs) t.1) refl; told = tt }
 
-marks_again : (version : Version) (row : Row) → IsTold version row → marks_form version (mark_fields version row) ≡ Some (marks row.must row.inward)
+marks_again : (version : Version) (row : Row) → IsTellable version row → marks_form version (mark_fields version row) ≡ Some (marks row.must row.inward)
 marks_again One row told = rw (told.0, told.1) refl
 marks_again Two row told = rw told (elim row.must as (λ b. marks_form Two (must_field b ∷ []) ≡ Some (marks b false)) [ true ↦ refl | false ↦ refl ])
 marks_again Three row told =
@@ -211,11 +211,11 @@ marks_again Three row told =
 -- what the line of a booking within its limits is
 pub record IsBookingLine (version : Version) (fs : List (List ℕ)) (e : Entry) : Type 0 where
   pub spelled : fs ≡ booking_fields version e.row e.channel
-  pub told : IsTold version e.row
+  pub told : IsTellable version e.row
   pub booking : IsBooking e.row
   pub channel : is_assignable e.channel ≡ true
 
-marks_found : (fs : List (List ℕ)) (o : Option Marks) (e : Entry) → marked fs o ≡ Some e → (m : Marks) × (o ≡ Some m) × (entry_of fs m ≡ e)
+marks_found : (fs : List (List ℕ)) (o : Option Marks) (e : Entry) → marked fs o ≡ Some e → (m : Marks) × (o ≡ Some m) × (file_entry_of fs m ≡ e)
 marks_found fs None e h = absurd cc
 marks_found fs (Some m) e h = (m, refl, cc)
 
@@ -229,7 +229,7 @@ booking_takes version fs e form within =
     let t1 = and_both (is_decimal (field 0 fs)) (is_decimal (field 1 fs)) t2.0 in
     let found = marks_found fs (marks_form version (fields_from 5 fs)) e c.1 in
     let m = found.0 in
-    let made = entry_of fs m in
+    let made = file_entry_of fs m in
     let fits : is_within made ≡ true = ap is_within found.2 ∙ within in
     let limits = from_within made t3.1 fits in
     let booking = limits.0 in
@@ -248,7 +248,7 @@ no_dash n small = false_from_not (bytes_eq (decimal n) (codes "-")) (λ e.
     let digits : false ≡ true = rw same at (digits-decimal n small) in
     absurd cc)
 
-channel_again : (c : Option ℕ) → is_assignable c ≡ true → (is_channel_field (channel_field c) ≡ true) × (channel_of (channel_field c) ≡ c)
+channel_again : (c : Option ℕ) → is_assignable c ≡ true → (is_channel_field (channel_field c) ≡ true) × (channel_field_of (channel_field c) ≡ c)
 channel_again None h = (refl, refl)
 channel_again (Some n) h =
     let channel = IsChannel-from_test n h in
@@ -256,7 +256,7 @@ channel_again (Some n) h =
     let dash = no_dash n small in
     (rw (dash, is_decimal-decimal n small) refl, rw (dash, value-decimal n small) refl)
 
-pub booking_again : (version : Version) (e : Entry) → IsBooking e.row → IsTold version e.row → is_assignable e.channel ≡ true → booking_form version (booking_fields version e.row e.channel) ≡ Some e
+pub booking_again : (version : Version) (e : Entry) → IsBooking e.row → IsTellable version e.row → is_assignable e.channel ≡ true → booking_form version (booking_fields version e.row e.channel) ≡ Some e
 unfolding booking_form
 booking_again version e booking told assigned =
     let start : e.row.start < 2 ^ 64 = omega (arith, booking.in_order, booking.in_day) in

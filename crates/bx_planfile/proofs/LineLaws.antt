@@ -12,7 +12,7 @@ use Rattle.bx_planfile.specs.declared.version.Version.TheVariants.{One, Two, Thr
 use Rattle.bx_planfile.specs.declared.fault.PlanTextFault.{PlanTextFault}
 use Rattle.bx_planfile.specs.declared.fault.PlanTextFault.TheVariants.{BadLine, BadCount, OutOfLimits, Trailing}
 use Rattle.bx_text.specs.Lines.{named}
-use Rattle.bx_planfile.specs.Text.{version_field, channel_field, must_field, direction_field, mark_fields, booking_fields, price_fields, IsTold}
+use Rattle.bx_planfile.specs.Text.{version_field, channel_field, must_field, direction_field, mark_fields, booking_fields, price_fields, IsTellable}
 use Rattle.bx_planfile.specs.Forms.{Entry, named_form, booking_form, is_assignable, is_within, price_form, is_charge, is_end}
 use Rattle.bx_planfile.specs.Reading.{◌>>=◌, or_fault, where_holds, read_count, read_booking, read_price, read_total, read_end}
 use Rattle.bx_text.proofs.DigitSteps.{and_both}
@@ -73,7 +73,7 @@ entry_takes version n fs e read =
     let h = holds_ok (is_within a.0) (OutOfLimits n) a.0 e a.2 in
     booking_takes version fs e (or_ok (BadLine n) (booking_form version fs) a.0 a.1 ∙ ap Some h.1) (ap is_within (sym h.1) ∙ h.0)
 
-pub entry_again : (version : Version) (n : ℕ) (e : Entry) → IsBooking e.row → IsTold version e.row → is_assignable e.channel ≡ true → read_booking version n (booking_fields version e.row e.channel) ≡ Ok e
+pub entry_again : (version : Version) (n : ℕ) (e : Entry) → IsBooking e.row → IsTellable version e.row → is_assignable e.channel ≡ true → read_booking version n (booking_fields version e.row e.channel) ≡ Ok e
 unfolding read_booking
 entry_again version n e booking told assigned = rw (booking_again version e booking told assigned, within_from e booking assigned) refl
 

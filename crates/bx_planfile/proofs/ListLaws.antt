@@ -7,7 +7,7 @@ use Rattle.bx_base.specs.Bookings.{Row, IsBooking, row_at}
 use Rattle.bx_base.specs.Bound.{Charge, IsCharge, price_at}
 use Rattle.bx_planfile.specs.declared.version.Version.{Version}
 use Rattle.bx_text.specs.Lines.{line_text}
-use Rattle.bx_planfile.specs.Text.{channel_field, mark_fields, booking_fields, price_fields, booking_lines, IsTold}
+use Rattle.bx_planfile.specs.Text.{channel_field, mark_fields, booking_fields, price_fields, booking_lines, IsTellable}
 use Rattle.bx_planfile.specs.Forms.{Entry, is_assignable}
 use Rattle.bx_planfile.specs.Reading.{◌>>=◌, Entries, entries, read_line, read_booking, read_price, read_bookings, read_prices}
 use Rattle.bx_planfile.proofs.PlainLines.{line_again, line_takes}
@@ -20,7 +20,7 @@ pub record ReadsBookings (version : Version) (count : ℕ) (bytes : List ℕ) (x
   pub rows : length x.rows ≡ count
   pub assigned : length x.assigned ≡ count
   pub bookings : (i : ℕ) → i < length x.rows → IsBooking (row_at x.rows i)
-  pub told : (i : ℕ) → i < length x.rows → IsTold version (row_at x.rows i)
+  pub told : (i : ℕ) → i < length x.rows → IsTellable version (row_at x.rows i)
   pub channels : (i c : ℕ) → get_or x.assigned i None ≡ Some c → IsChannel c
 
 pub each_more : (P : Row → Type 0) (r : Row) (rows : List Row) → P r → ((i : ℕ) → i < length rows → P (row_at rows i)) → (i : ℕ) → i < length (r ∷ rows) → P (row_at (r ∷ rows) i)
@@ -44,7 +44,7 @@ module _ (version : Version) (count n : ℕ) (bytes after : List ℕ) (fields : 
         rows = ap suc more.rows;
         assigned = ap suc more.assigned;
         bookings = each_more IsBooking e.row x.rows first.booking more.bookings;
-        told = each_more (IsTold version) e.row x.rows first.told more.told;
+        told = each_more (IsTellable version) e.row x.rows first.told more.told;
         channels = channels_more e.channel x.assigned first.channel more.channels;
       }
 
@@ -67,7 +67,7 @@ assigned_here None h = refl
 assigned_here (Some c) h = test_from_channel c (h c refl)
 
 pub bookings_again : (version : Version) (rows : List Row) (assigned : List (Option ℕ)) (n : ℕ) (rest : List ℕ) → length assigned ≡ length rows
-    → ((i : ℕ) → i < length rows → IsBooking (row_at rows i)) → ((i : ℕ) → i < length rows → IsTold version (row_at rows i)) → ((i c : ℕ) → get_or assigned i None ≡ Some c → IsChannel c)
+    → ((i : ℕ) → i < length rows → IsBooking (row_at rows i)) → ((i : ℕ) → i < length rows → IsTellable version (row_at rows i)) → ((i c : ℕ) → get_or assigned i None ≡ Some c → IsChannel c)
     → read_bookings version (length rows) n (flat_map line_text (booking_lines version rows assigned) ++ rest) ≡ Ok (entries rows assigned rest)
 unfolding read_bookings
 bookings_again version [] [] n rest len bookings told channels = refl
@@ -76,7 +76,7 @@ bookings_again version (r ∷ rows) [] n rest len bookings told channels = absur
 bookings_again version (r ∷ rows) (a ∷ assigned) n rest len bookings told channels =
     let e : Entry = record { row = r; channel = a } in
     let booking : IsBooking r = bookings 0 (omega arith) in
-    let told_so : IsTold version r = told 0 (omega arith) in
+    let told_so : IsTellable version r = told 0 (omega arith) in
     let channel : is_assignable a ≡ true = assigned_here a (λ c. channels 0 c) in
     let following = flat_map line_text (booking_lines version rows assigned) in
     let fields = booking_fields version r a in

@@ -12,7 +12,7 @@ use Rattle.bx_base.specs.PlanParts.{parts_of}
 use Rattle.bx_planfile.specs.declared.version.Version.TheVariants.{Three}
 use Rattle.bx_planfile.specs.Text.{booking_fields, booking_lines, price_fields, plan_text}
 use Rattle.bx_planfile.specs.Writing.{head_lines, foot_lines}
-use Rattle.bx_text.specs.Gathering.{Held, Gathers}
+use Rattle.bx_text.specs.Gathering.{HeldBlock, Gathers}
 use Rattle.bx_text.proofs.GatheringSteps.{done, puts_then, puts_failed}
 
 abbrev pub Written : Type 0
@@ -58,8 +58,8 @@ module _ (plan : Plan) where
       ∙ ap (λ (r : List ℕ). head_text ++ (rows_text ++ (count_text ++ r))) (flat_map-append line_text (map price_fields plan.prices.items) (foot_lines plan))
 
 -- a part is put after another, or it fails before others, and so does the text
-module _ {W : Type 0} {contents : W → Option (List ℕ)} {a b : Held W} where
-  pub following : {d : Held W} {r : Written} {s t : List ℕ} → Gathers contents a b (done {E = PlanWriteFault}) s → Gathers contents b d r t → Gathers contents a d r (s ++ t)
+module _ {W : Type 0} {contents : W → Option (List ℕ)} {a b : HeldBlock W} where
+  pub following : {d : HeldBlock W} {r : Written} {s t : List ℕ} → Gathers contents a b (done {E = PlanWriteFault}) s → Gathers contents b d r t → Gathers contents a d r (s ++ t)
   following {d} {r} {s} {t} p q = puts_then contents a b d r s t p q
 
   pub failing : {e f : PlanWriteFault} {s : List ℕ} (rest : List ℕ) → Gathers {T = Unit {0}} contents a b (Err e) s → Gathers {T = Unit {0}} contents a b (Err f) (s ++ rest)

@@ -49,13 +49,13 @@ channels_form fields =
     then Some (map decimal_value (fields_from 1 fields)) else None
 
 -- the number of a B channel
-abbrev pub is_channel : ℕ → Bool
-is_channel n = nat_lt 0 n && nat_lt n 32 && not (n == 16)
+abbrev pub is_channel_number : ℕ → Bool
+is_channel_number n = nat_lt 0 n && nat_lt n 32 && not (n == 16)
 
 -- a set, and these channels, each above the last one before it
 abbrev pub with_channels : List Bool → ℕ → List ℕ → Option (List Bool)
 with_channels set last [] = Some set
-with_channels set last (n ∷ ns) = if nat_lt last n && is_channel n then with_channels (slice_set set n true) n ns else None
+with_channels set last (n ∷ ns) = if nat_lt last n && is_channel_number n then with_channels (slice_set set n true) n ns else None
 
 unfoldable pub channel_set : List ℕ → Option (List Bool)
 channel_set numbers = with_channels (replicate 32 false) 0 numbers
@@ -70,8 +70,8 @@ pub record Entry : Type 0 where
 abbrev pub is_channel_field : List ℕ → Bool
 is_channel_field field = bytes_eq field (codes "-") || is_decimal field
 
-abbrev pub channel_of : List ℕ → Option ℕ
-channel_of field = if bytes_eq field (codes "-") then None else Some (decimal_value field)
+abbrev pub channel_field_of : List ℕ → Option ℕ
+channel_field_of field = if bytes_eq field (codes "-") then None else Some (decimal_value field)
 
 abbrev pub is_must_field : List ℕ → Bool
 is_must_field field = bytes_eq field (codes "must") || bytes_eq field (codes "free")
@@ -96,15 +96,15 @@ marks_form Three fields =
     if is_must_field (field 0 fields) && is_direction_field (field 1 fields) && is_nothing (fields_from 2 fields)
     then Some (marks (bytes_eq (field 0 fields) (codes "must")) (bytes_eq (field 1 fields) (codes "in"))) else None
 
-abbrev pub entry_of : List (List ℕ) → Marks → Entry
-entry_of fields marks = record {
+abbrev pub file_entry_of : List (List ℕ) → Marks → Entry
+file_entry_of fields marks = record {
   row = row_of (decimal_value (field 0 fields)) (decimal_value (field 1 fields)) (decimal_value (field 2 fields)) (field 3 fields) marks.must marks.inward;
-  channel = channel_of (field 4 fields);
+  channel = channel_field_of (field 4 fields);
 }
 
 abbrev pub marked : List (List ℕ) → Option Marks → Option Entry
 marked fields None = None
-marked fields (Some marks) = Some (entry_of fields marks)
+marked fields (Some marks) = Some (file_entry_of fields marks)
 
 unfoldable pub booking_form : Version → List (List ℕ) → Option Entry
 booking_form version fields =
@@ -113,7 +113,7 @@ booking_form version fields =
 
 abbrev pub is_assignable : Option ℕ → Bool
 is_assignable None = true
-is_assignable (Some channel) = is_channel channel
+is_assignable (Some channel) = is_channel_number channel
 
 -- a booking within its limits, on a B channel where it is accepted
 unfoldable pub is_within : Entry → Bool

@@ -26,15 +26,15 @@ first [] = []
 first (field ∷ fields) = field
 
 -- the fields after the first
-abbrev pub others : List (List ℕ) → List (List ℕ)
-others [] = []
-others (field ∷ fields) = fields
+abbrev pub other_fields : List (List ℕ) → List (List ℕ)
+other_fields [] = []
+other_fields (field ∷ fields) = fields
 
 -- the field of a place, counted from 0, and the fields from there on
 abbrev pub field : ℕ → List (List ℕ) → List ℕ
 field zero fields = first fields
-field (suc k) fields = field k (others fields)
+field (suc k) fields = field k (other_fields fields)
 
 abbrev pub fields_from : ℕ → List (List ℕ) → List (List ℕ)
 fields_from zero fields = fields
-fields_from (suc k) fields = fields_from k (others fields)
+fields_from (suc k) fields = fields_from k (other_fields fields)

@@ -57,14 +57,14 @@ abbrev pub plan_text : Version → Parts → List ℕ
 plan_text version parts = flat_map line_text (plan_lines version parts)
 
 -- a row that a version can tell: the first knows no must rows, and the first two no inward ones
-abbrev pub IsTold : Version → Row → Type 0
-IsTold One row = (row.must ≡ false) × (row.inward ≡ false)
-IsTold Two row = row.inward ≡ false
-IsTold Three row = Unit {0}
+abbrev pub IsTellable : Version → Row → Type 0
+IsTellable One row = (row.must ≡ false) × (row.inward ≡ false)
+IsTellable Two row = row.inward ≡ false
+IsTellable Three row = Unit {0}
 
 -- a plan that has a text in a version
 abbrev pub HasText : Version → Parts → Type 0
-HasText version parts = (i : ℕ) → i < length parts.rows → IsTold version (row_at parts.rows i)
+HasText version parts = (i : ℕ) → i < length parts.rows → IsTellable version (row_at parts.rows i)
 
 -- the octets are the plan's text in one of the versions
 abbrev pub IsTextOf : List ℕ → Parts → Type 0

@@ -6,9 +6,9 @@ ghost use Rattle.std.specs.Str.{bytes_eq};
 ghost use Rattle.bx_base.specs.Bookings.{IsBooking};
 ghost use Rattle.bx_planfile.specs.Forms.{is_digits, is_channel_field, is_must_field, is_direction_field, marks, marks_form, booking_form, is_assignable, is_within};
 ghost use Rattle.bx_planfile.specs.Capped.{capped_entry};
-ghost use Rattle.bx_planfile.specs.Values.{entry_of_values, entry_of, IsChannelRead, IsWithin};
+ghost use Rattle.bx_planfile.specs.Values.{entry_of_values, file_entry_of, IsChannelRead, IsWithin};
 ghost use Rattle.bx_planfile.specs.Reading.{read_booking};
-ghost use Rattle.bx_planfile.specs.Inside.{Answers};
+ghost use Rattle.bx_planfile.specs.Inside.{AnswersRead};
 
 use crate::decimals::{decimal, is_digits};
 use crate::fault::PlanTextFault;
@@ -154,7 +154,7 @@ impl BookingValues<'_> {
     #[tactic(auto, using(crate::proofs::Limits::no_booking, crate::proofs::Limits::no_channel, crate::proofs::Limits::both_within))]
     fn within_limits(&self) -> Option<(Booking, Option<Channel>)>
         requires { is_digits self.now.number.now ≡ true }
-        ensures { MatchOption result (is_within (entry_of_values self.now) ≡ false) (λ x. IsWithin (entry_of_values self.now) (entry_of x.0 x.1)) }
+        ensures { MatchOption result (is_within (entry_of_values self.now) ≡ false) (λ x. IsWithin (entry_of_values self.now) (file_entry_of x.0 x.1)) }
     {
         let booking = self.booking()?;
         Some((booking, self.assigned()?))
@@ -168,7 +168,7 @@ pub(crate) fn booking_of(
     fields: Fields<'_>,
     n: u32,
 ) -> Result<(Booking, Option<Channel>), PlanTextFault>
-    ensures { Answers (λ x. entry_of x.0 x.1) result (read_booking version n fields.entry) }
+    ensures { AnswersRead (λ x. file_entry_of x.0 x.1) result (read_booking version n fields.entry) }
 {
     let values = values_of(version, fields).ok_or(PlanTextFault::BadLine(n))?;
     values.within_limits().ok_or(PlanTextFault::OutOfLimits(n))

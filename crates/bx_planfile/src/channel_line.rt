@@ -5,7 +5,7 @@ ghost use Rattle.std.specs.List.{list_all};
 ghost use Rattle.bx_planfile.specs.Forms.{is_decimal, channel_set, channels_form};
 ghost use Rattle.bx_text.specs.Digits.{decimal_value};
 ghost use Rattle.bx_planfile.specs.Reading.{read_channels};
-ghost use Rattle.bx_planfile.specs.Inside.{Answers};
+ghost use Rattle.bx_planfile.specs.Inside.{AnswersRead};
 
 use crate::decimals::decimal;
 use crate::fault::PlanTextFault;
@@ -46,7 +46,7 @@ fn rising_channels(mut fields: Fields<'_>) -> Option<ChannelSet>
 /// The channels in the fields of line `n`.
 #[tactic(auto, unfolding(crate::specs::Reading::read_channels, crate::specs::Forms::channels_form))]
 pub(crate) fn channels_of(mut fields: Fields<'_>, n: u32) -> Result<ChannelSet, PlanTextFault>
-    ensures { Answers (λ x. x) result (read_channels n fields.entry) }
+    ensures { AnswersRead (λ x. x) result (read_channels n fields.entry) }
 {
     if fields.take() != b"channels".as_slice() || !all_decimals(fields.again()) {
         return Err(PlanTextFault::BadLine(n));

@@ -1,10 +1,10 @@
 //! Lines, and the fields of a line.
 
 ghost use Rattle.std.specs.Prelude.{◌≡◌, ◌==◌, position, List, true};
-ghost use Rattle.bx_planfile.specs.Lines.{first, others, fields_of};
+ghost use Rattle.bx_planfile.specs.Lines.{first, other_fields, fields_of};
 ghost use Rattle.bx_planfile.specs.Forms.{is_nothing};
 ghost use Rattle.bx_planfile.specs.Reading.{read_line};
-ghost use Rattle.bx_planfile.specs.Inside.{Answers};
+ghost use Rattle.bx_planfile.specs.Inside.{AnswersRead};
 
 use crate::fault::PlanTextFault;
 use std::marker::Model;
@@ -49,7 +49,7 @@ impl<'a> Fields<'a> {
     /// The next field, or an empty one where none is left: no field that is asked for is empty.
     pub(crate) fn take(&mut self) -> &'a [u8]
         ensures value { result.now ≡ first self.old }
-        ensures rest { self.new ≡ others self.old }
+        ensures rest { self.new ≡ other_fields self.old }
     {
         let rest = self.rest;
         match place_of(rest, b' ') {
@@ -86,7 +86,7 @@ impl<'a> Fields<'a> {
 /// The fields of the first line, which is line `n` of the text, and what stands after its LF.
 #[tactic(auto, unfolding(crate::specs::Reading::read_line))]
 pub(crate) fn line_of(bytes: &[u8], n: u32) -> Result<(Fields<'_>, &[u8]), PlanTextFault>
-    ensures { Answers (λ x. (x.0, x.1.now)) result (read_line n bytes.now) }
+    ensures { AnswersRead (λ x. (x.0, x.1.now)) result (read_line n bytes.now) }
 {
     match place_of(bytes, b'\n') {
         Some(end) => Ok((Fields::of(&bytes[..end]), &bytes[end + 1..])),

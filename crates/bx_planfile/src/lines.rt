@@ -7,7 +7,7 @@ ghost use Rattle.bx_planfile.specs.Capped.{capped_charge};
 ghost use Rattle.bx_text.specs.Digits.{capped};
 ghost use Rattle.bx_planfile.specs.Values.{charge_of_values, IsChargeWithin};
 ghost use Rattle.bx_planfile.specs.Reading.{read_header, read_count, read_total, read_end, read_price};
-ghost use Rattle.bx_planfile.specs.Inside.{Answers};
+ghost use Rattle.bx_planfile.specs.Inside.{AnswersRead};
 ghost use Rattle.bx_base.specs.declared.plan.TheConstants.{MAX_TOTAL};
 
 use crate::decimals::decimal;
@@ -40,7 +40,7 @@ fn version_of(mut fields: Fields<'_>) -> Option<Version>
 /// The version in the fields of line `n`.
 #[tactic(auto, unfolding(crate::specs::Reading::read_header))]
 pub(crate) fn header_of(fields: Fields<'_>, n: u32) -> Result<Version, PlanTextFault>
-    ensures { Answers (λ x. x) result (read_header n fields.entry) }
+    ensures { AnswersRead (λ x. x) result (read_header n fields.entry) }
 {
     version_of(fields).ok_or(PlanTextFault::BadLine(n))
 }
@@ -65,7 +65,7 @@ pub(crate) fn count_of(
     fields: Fields<'_>,
     n: u32,
 ) -> Result<u16, PlanTextFault>
-    ensures value { Answers (λ x. x) result (read_count word.now most n fields.entry) }
+    ensures value { AnswersRead (λ x. x) result (read_count word.now most n fields.entry) }
     ensures few { IfOk result (λ x. x ≤ most) }
 {
     let count = number_after(word, fields).ok_or(PlanTextFault::BadLine(n))?;
@@ -78,7 +78,7 @@ pub(crate) fn count_of(
 /// The total in the fields of line `n`.
 #[tactic(auto, unfolding(crate::specs::Reading::read_total))]
 pub(crate) fn total_of(fields: Fields<'_>, n: u32) -> Result<u64, PlanTextFault>
-    ensures value { Answers (λ x. x) result (read_total n fields.entry) }
+    ensures value { AnswersRead (λ x. x) result (read_total n fields.entry) }
     ensures limit { IfOk result (λ x. x ≤ MAX_TOTAL) }
 {
     let total = number_after(b"total", fields).ok_or(PlanTextFault::BadLine(n))?;
@@ -95,7 +95,7 @@ pub(crate) fn ends<'a>(
     rest: &'a [u8],
     n: u32,
 ) -> Result<&'a [u8], PlanTextFault>
-    ensures { Answers (λ x. x.now) result (read_end n fields.entry rest.now) }
+    ensures { AnswersRead (λ x. x.now) result (read_end n fields.entry rest.now) }
 {
     if fields.take() != b"end".as_slice() || !fields.is_done() {
         return Err(PlanTextFault::BadLine(n));
@@ -138,7 +138,7 @@ impl PriceValues {
 /// The price in the fields of line `n`.
 #[tactic(auto, unfolding(crate::specs::Reading::read_price))]
 pub(crate) fn price_of(fields: Fields<'_>, n: u32) -> Result<Price, PlanTextFault>
-    ensures { Answers (λ x. x) result (read_price n fields.entry) }
+    ensures { AnswersRead (λ x. x) result (read_price n fields.entry) }
 {
     let values = price_values(fields).ok_or(PlanTextFault::BadLine(n))?;
     values.within_limits().ok_or(PlanTextFault::OutOfLimits(n))

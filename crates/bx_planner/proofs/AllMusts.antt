@@ -12,7 +12,7 @@ use Rattle.bx_base.specs.Bookings.{Row, row_at, is_running, AreBookings}
 use Rattle.bx_colour.specs.Colouring.{is_in}
 use Rattle.bx_line.specs.declared.arc.Arc.{Arc}
 use Rattle.bx_line.specs.Network.{Network, IsNetwork, AreArcsOf, places_of, gaps_of, arc_at, no_arc, spans}
-use Rattle.bx_line.specs.Flows.{Flow, flow_of, is_carried, idle_at, crossing_at, CrossesEachGap}
+use Rattle.bx_line.specs.Flows.{Flow, flow_of, carries_unit, idle_at, crossing_at, CrossesEachGap}
 use Rattle.bx_line.proofs.Crossings.{flow_from_crosses}
 use Rattle.bx_flow.specs.Costs.{paid_by, IsLeastCost}
 use Rattle.bx_planner.specs.Musts.{musts_at}
@@ -39,7 +39,7 @@ musts_cross line v = sum_below (length line.arcs) (λ i. cond ((arc_at line i).m
 abbrev musts_flow : Network → ℕ → Flow
 musts_flow line units = flow_of (map (λ (a : Arc). a.must) line.arcs) (map (λ (v : ℕ). units - musts_cross line v) (range_with_len 0 (gaps_of line))) units
 
-carried_musts : (line : Network) (units i : ℕ) → i < length line.arcs → is_carried (musts_flow line units) i ≡ (arc_at line i).must
+carried_musts : (line : Network) (units i : ℕ) → i < length line.arcs → carries_unit (musts_flow line units) i ≡ (arc_at line i).must
 carried_musts line units i h = get_or-map (λ (a : Arc). a.must) line.arcs i no_arc false h
 
 idle_musts : (line : Network) (units v : ℕ) → v < gaps_of line → idle_at (musts_flow line units) v ≡ units - musts_cross line v
@@ -47,7 +47,7 @@ idle_musts line units v h = get_or-map-range_with_len (λ (v : ℕ). units - mus
 
 crossing_musts : (line : Network) (units v : ℕ) → crossing_at line (musts_flow line units) v ≡ musts_cross line v
 crossing_musts line units v =
-    sum_below-same (length line.arcs) (λ i. cond (is_carried (musts_flow line units) i && spans (arc_at line i) v) 1 0) (λ i. cond ((arc_at line i).must && spans (arc_at line i) v) 1 0) (λ i h. rw (carried_musts line units i h) refl)
+    sum_below-same (length line.arcs) (λ i. cond (carries_unit (musts_flow line units) i && spans (arc_at line i) v) 1 0) (λ i. cond ((arc_at line i).must && spans (arc_at line i) v) 1 0) (λ i h. rw (carried_musts line units i h) refl)
 
 pays_within : (carried must : Bool) (pay arc : ℕ) → arc ≡ cond must (pay + 5000000000000) pay → cond carried arc 0 ≤ cond must 5000000000000 0 + pay
 pays_within true true pay arc e = omega (arith, e)
@@ -77,23 +77,23 @@ module _ (rows : List Row) (line : Network) (network : IsNetwork line) (bookings
         no_gap = λ few. let two = network.two_ends some in absurd (omega (arith, two, few));
       }
 
-  left_out : (flow : Flow) → IsLeastCost line flow → flow.units ≡ units → (k : ℕ) → k < length rows → (row_at rows k).must ≡ true → is_carried flow k ≡ false → ⊥
+  left_out : (flow : Flow) → IsLeastCost line flow → flow.units ≡ units → (k : ℕ) → k < length rows → (row_at rows k).must ≡ true → carries_unit flow k ≡ false → ⊥
   left_out flow least same k h must left =
       let n = length line.arcs in
-      let pays = λ (i : ℕ). cond (is_carried flow i) (arc_at line i).pay 0 in
+      let pays = λ (i : ℕ). cond (carries_unit flow i) (arc_at line i).pay 0 in
       let raise : ℕ → ℕ = λ i. cond (row_at rows i).must 5000000000000 0 in
       let pay = λ (i : ℕ). (row_at rows i).pay in
-      let within = λ (i : ℕ) (b : i < n). pays_within (is_carried flow i) (row_at rows i).must (row_at rows i).pay (arc_at line i).pay (arcs.each i (omega (arith, b, arcs.one_each))).pay in
+      let within = λ (i : ℕ) (b : i < n). pays_within (carries_unit flow i) (row_at rows i).must (row_at rows i).pay (arc_at line i).pay (arcs.each i (omega (arith, b, arcs.one_each))).pay in
       let here : pays k + 5000000000000 ≤ raise k + pay k = rw (left, must) (omega arith) in
       let short = short_sum n pays (λ i. raise i + pay i) k 5000000000000 within (omega (arith, h, arcs.one_each)) here in
       let low = sum_of_few n pay 1000000000 (λ i b. (bookings.each i (omega (arith, b, arcs.one_each))).pay_limit) in
-      let mine = sum_below-le n raise (λ i. cond (is_carried (musts_flow line units) i) (arc_at line i).pay 0) (λ i b. rw (carried_musts line units i b, (arcs.each i (omega (arith, b, arcs.one_each))).must) (must_pays (row_at rows i).must (row_at rows i).pay (arc_at line i).pay (arcs.each i (omega (arith, b, arcs.one_each))).pay)) in
+      let mine = sum_below-le n raise (λ i. cond (carries_unit (musts_flow line units) i) (arc_at line i).pay 0) (λ i b. rw (carried_musts line units i b, (arcs.each i (omega (arith, b, arcs.one_each))).must) (must_pays (row_at rows i).must (row_at rows i).pay (arc_at line i).pay (arcs.each i (omega (arith, b, arcs.one_each))).pay)) in
       let other = paid_order (paid_by line flow) (paid_by line (musts_flow line units)) (least.least (musts_flow line units) (flow_from_crosses line (musts_flow line units) network musts_cross_each) (sym same)) in
       omega (arith, short, sum_below-add n raise pay, low, mine, other, arcs.one_each, bookings.few)
 
-  by_cases : (flow : Flow) → IsLeastCost line flow → flow.units ≡ units → (k : ℕ) → k < length rows → (row_at rows k).must ≡ true → (b : Bool) → is_carried flow k ≡ b → is_carried flow k ≡ true
+  by_cases : (flow : Flow) → IsLeastCost line flow → flow.units ≡ units → (k : ℕ) → k < length rows → (row_at rows k).must ≡ true → (b : Bool) → carries_unit flow k ≡ b → carries_unit flow k ≡ true
   by_cases flow least same k h must true e = e
   by_cases flow least same k h must false e = absurd (left_out flow least same k h must e)
 
-  pub all_musts : (flow : Flow) → IsLeastCost line flow → flow.units ≡ units → (k : ℕ) → k < length rows → (row_at rows k).must ≡ true → is_carried flow k ≡ true
-  all_musts flow least same k h must = by_cases flow least same k h must (is_carried flow k) refl
+  pub all_musts : (flow : Flow) → IsLeastCost line flow → flow.units ≡ units → (k : ℕ) → k < length rows → (row_at rows k).must ≡ true → carries_unit flow k ≡ true
+  all_musts flow least same k h must = by_cases flow least same k h must (carries_unit flow k) refl

@@ -5,7 +5,7 @@ use Rattle.bx_base.specs.Bookings.{Row, row_at, no_row, Carries, IsLawful, pay_o
 use Rattle.bx_base.specs.Plans.{is_accepted, channel_at}
 use Rattle.bx_base.specs.Channels.{count_of}
 use Rattle.bx_base.specs.PlanParts.{Parts}
-use Rattle.bx_planner.specs.Amending.{promised, promised_rows, amended, IsBestPlan, KeepsPromises}
+use Rattle.bx_planner.specs.Amending.{promised_in_plan, promised_rows, amended, IsBestPlan, KeepsPromises}
 use Rattle.bx_planner.specs.Choices.{IsFirstFitPlan, ProvesBest}
 use Rattle.bx_planner.specs.Inside.{IsLeastBound}
 use Rattle.bx_base.proofs.SumLemmas.{sum_below-same}
@@ -21,7 +21,7 @@ length_promised (row ∷ rows) (c ∷ assigned) = omega (arith, length_promised 
 pub length_amended : (rows : List Row) (assigned : List (Option ℕ)) (more : List Row) → length (amended rows assigned more) ≡ length rows + length more
 length_amended rows assigned more = omega (arith, length-append (promised_rows rows assigned) more, length_promised rows assigned)
 
-pub row_promised : (rows : List Row) (assigned : List (Option ℕ)) (i : ℕ) → i < length rows → row_at (promised_rows rows assigned) i ≡ promised (row_at rows i) (is_accepted assigned i)
+pub row_promised : (rows : List Row) (assigned : List (Option ℕ)) (i : ℕ) → i < length rows → row_at (promised_rows rows assigned) i ≡ promised_in_plan (row_at rows i) (is_accepted assigned i)
 unfolding promised_rows
 row_promised [] assigned i h = absurd (omega arith)
 row_promised (row ∷ rows) [] zero h = refl
@@ -30,7 +30,7 @@ row_promised (row ∷ rows) (c ∷ assigned) zero h = refl
 row_promised (row ∷ rows) (c ∷ assigned) (suc i) h = row_promised rows assigned i (omega arith)
 
 -- a row of the plan
-pub row_earlier : (rows : List Row) (assigned : List (Option ℕ)) (more : List Row) (i : ℕ) → i < length rows → row_at (amended rows assigned more) i ≡ promised (row_at rows i) (is_accepted assigned i)
+pub row_earlier : (rows : List Row) (assigned : List (Option ℕ)) (more : List Row) (i : ℕ) → i < length rows → row_at (amended rows assigned more) i ≡ promised_in_plan (row_at rows i) (is_accepted assigned i)
 row_earlier rows assigned more i h =
     get_or_append_left (promised_rows rows assigned) more no_row i (omega (arith, h, length_promised rows assigned)) ∙ row_promised rows assigned i h
 
@@ -39,10 +39,10 @@ pub row_later : (rows : List Row) (assigned : List (Option ℕ)) (more : List Ro
 row_later rows assigned more i h = get_or-append_right (promised_rows rows assigned) more (length rows) i no_row (length_promised rows assigned) h
 
 -- what stands at a place, put together from what was read there
-pub same_row : (rows : List Row) (assigned : List (Option ℕ)) (more whole : List Row) (i : ℕ) (row : Row) (accepted : Bool) (result : Row) → whole ≡ amended rows assigned more → i < length rows → row ≡ row_at rows i → accepted ≡ is_accepted assigned i → result ≡ promised row accepted → result ≡ row_at whole i
+pub same_row : (rows : List Row) (assigned : List (Option ℕ)) (more whole : List Row) (i : ℕ) (row : Row) (accepted : Bool) (result : Row) → whole ≡ amended rows assigned more → i < length rows → row ≡ row_at rows i → accepted ≡ is_accepted assigned i → result ≡ promised_in_plan row accepted → result ≡ row_at whole i
 same_row rows assigned more whole i row accepted result e h a b r =
     let here = row_earlier rows assigned more i h in
-    r ∙ (ap (λ (x : Row). promised x accepted) a ∙ (ap (λ (x : Bool). promised (row_at rows i) x) b ∙ (sym here ∙ ap (λ (x : List Row). row_at x i) (sym e))))
+    r ∙ (ap (λ (x : Row). promised_in_plan x accepted) a ∙ (ap (λ (x : Bool). promised_in_plan (row_at rows i) x) b ∙ (sym here ∙ ap (λ (x : List Row). row_at x i) (sym e))))
 
 -- a lawful choice among the rows that are planned anew keeps each promise
 pub keeps : (rows : List Row) (assigned : List (Option ℕ)) (more : List Row) (channels : List Bool) (after : List (Option ℕ)) → IsLawful (amended rows assigned more) channels (is_accepted after) → KeepsPromises rows assigned after

@@ -14,7 +14,7 @@ use Rattle.bx_base.proofs.Duality.{pay-le-bound}
 use Rattle.bx_colour.specs.Colouring.{is_in}
 use Rattle.bx_line.specs.Moments.{IsMoment, HasJustMoments}
 use Rattle.bx_line.specs.Network.{Network, IsNetwork, AreArcsOf, places_of, gaps_of, arc_at}
-use Rattle.bx_line.specs.Flows.{Flow, is_carried}
+use Rattle.bx_line.specs.Flows.{Flow, carries_unit}
 use Rattle.bx_line.proofs.Crossings.{crosses_from_flow}
 use Rattle.bx_dist.specs.Residual.{height_at}
 use Rattle.bx_dist.specs.Walks.{AreLeast}
@@ -85,7 +85,7 @@ module _ (rows : List Row) (line : Network) (flow : Flow) (heights : List ℤ) (
   placed_each : HasJustMoments rows line.moments → (v : ℕ) → v < gaps_of line → IsMoment rows (get_or line.moments v 0)
   placed_each just v h = (just (get_or line.moments v 0)).0 (Contains-get_or line.moments v 0 (omega arith))
 
-  has_musts : ((s : ℕ) → musts_at rows s ≤ count) → (i : ℕ) → i < length rows → (row_at rows i).must ≡ true → is_carried flow i ≡ true
+  has_musts : ((s : ℕ) → musts_at rows s ≤ count) → (i : ℕ) → i < length rows → (row_at rows i).must ≡ true → carries_unit flow i ≡ true
   has_musts room i h must =
       let some : 0 < places_of line = (let b = (arcs.each i h).from_within in omega (arith, b)) in
       all_musts rows line network bookings arcs count room some flow least (same some) i h must
@@ -112,7 +112,7 @@ module _ (rows : List Row) (line : Network) (flow : Flow) (heights : List ℤ) (
         least = least_bound rows line flow network arcs heights count bookings crosses same lengths just (flow_has_room rows line network arcs flow crosses count (λ some. let e = same some in omega (arith, e))) (has_musts room);
       }
 
-  pub chosen_marks : HasJustMoments rows line.moments → ((s : ℕ) → musts_at rows s ≤ count) → Deep → (accepted : List Bool) → length accepted ≡ length rows → ((i : ℕ) → i < length rows → is_in accepted i ≡ is_carried flow i) → IsBestChoice rows count accepted (charges line.moments heights (gaps_of line))
+  pub chosen_marks : HasJustMoments rows line.moments → ((s : ℕ) → musts_at rows s ≤ count) → Deep → (accepted : List Bool) → length accepted ≡ length rows → ((i : ℕ) → i < length rows → is_in accepted i ≡ carries_unit flow i) → IsBestChoice rows count accepted (charges line.moments heights (gaps_of line))
   chosen_marks just room deep accepted size each =
       let marks : accepted ≡ flow.accepted = ext_get_or false accepted flow.accepted (size ∙ (sym arcs.one_each ∙ sym least.is_flow.sized.rows)) (λ i h. each i (omega (arith, h, size))) in
       rw marks (chosen just room deep)

@@ -10,7 +10,7 @@ use Rattle.bx_base.specs.Bound.{Charge, sum_of_prices, cost_of, bound_of}
 use Rattle.bx_base.specs.Sides.{gain_of, loss_of}
 use Rattle.bx_base.proofs.Duality.{bound_and_losses}
 use Rattle.bx_line.specs.Network.{Network, IsNetwork, AreArcsOf, places_of, gaps_of, arc_at, spans}
-use Rattle.bx_line.specs.Flows.{Flow, CrossesEachGap, is_carried, idle_at}
+use Rattle.bx_line.specs.Flows.{Flow, CrossesEachGap, carries_unit, idle_at}
 use Rattle.bx_dist.specs.Residual.{Fits}
 use Rattle.bx_dist.specs.declared.part.Part.TheVariants.{Free}
 use Rattle.bx_flow.proofs.Certificate.{fall_of, all_falls, idle_tight, row_taken, row_left}
@@ -44,7 +44,7 @@ module _ (rows : List Row) (line : Network) (flow : Flow) (heights : List ℤ) (
   sum_is_falls = sum_of_charges (λ p. p.amount) (λ p e. e) line.moments heights (gaps_of line)
 
   -- all units at all prices cost what the rows of the flow cost
-  units_cost : flow.units * sum_of_prices (charges line.moments heights (gaps_of line)) ≡ sum_below (length rows) (λ i. cond (is_carried flow i) (cost_of (charges line.moments heights (gaps_of line)) (row_at rows i)) 0)
+  units_cost : flow.units * sum_of_prices (charges line.moments heights (gaps_of line)) ≡ sum_below (length rows) (λ i. cond (carries_unit flow i) (cost_of (charges line.moments heights (gaps_of line)) (row_at rows i)) 0)
   units_cost =
       let gaps = gaps_of line in
       let price = fall_at heights in
@@ -53,8 +53,8 @@ module _ (rows : List Row) (line : Network) (flow : Flow) (heights : List ℤ) (
       let out = sum_below-mul gaps price flow.units in
       let whole = all_falls line price flow crosses in
       let idle = sum_below-zero gaps (λ v. idle_at flow v * price v) (idle_tight Free line flow heights network fits) in
-      let row_costs = sum_below-same (length rows) (λ i. cond (is_carried flow i) (fall_of line price i) 0) (λ i. cond (is_carried flow i) (cost_of prices (row_at rows i)) 0) (λ i h. rw (cost_is_fall i h) refl) in
-      let sized = ap (λ (n : ℕ). sum_below n (λ i. cond (is_carried flow i) (fall_of line price i) 0)) arcs.one_each in
+      let row_costs = sum_below-same (length rows) (λ i. cond (carries_unit flow i) (fall_of line price i) 0) (λ i. cond (carries_unit flow i) (cost_of prices (row_at rows i)) 0) (λ i h. rw (cost_is_fall i h) refl) in
+      let sized = ap (λ (n : ℕ). sum_below n (λ i. cond (carries_unit flow i) (fall_of line price i) 0)) arcs.one_each in
       let scaled : flow.units * sum_of_prices prices ≡ sum_below gaps price * flow.units = rw sum_is_falls (omega arith) in
       omega (arith, turned, out, whole, idle, row_costs, sized, scaled)
 
@@ -72,23 +72,23 @@ module _ (rows : List Row) (line : Network) (flow : Flow) (heights : List ℤ) (
   free_pay : (i : ℕ) → i < length rows → (row_at rows i).must ≡ false → (arc_at line i).pay ≡ (row_at rows i).pay
   free_pay i h free = let a = (arcs.each i h).pay in a ∙ rw free refl
 
-  exact_row : (i : ℕ) → i < length rows → ((row_at rows i).must ≡ true → is_carried flow i ≡ true) → cond (is_carried flow i) (row_at rows i).pay 0 + loss_of (charges line.moments heights (gaps_of line)) (row_at rows i) ≡ cond (is_carried flow i) (cost_of (charges line.moments heights (gaps_of line)) (row_at rows i)) 0 + gain_of (charges line.moments heights (gaps_of line)) (row_at rows i)
+  exact_row : (i : ℕ) → i < length rows → ((row_at rows i).must ≡ true → carries_unit flow i ≡ true) → cond (carries_unit flow i) (row_at rows i).pay 0 + loss_of (charges line.moments heights (gaps_of line)) (row_at rows i) ≡ cond (carries_unit flow i) (cost_of (charges line.moments heights (gaps_of line)) (row_at rows i)) 0 + gain_of (charges line.moments heights (gaps_of line)) (row_at rows i)
   exact_row i h musts =
       let within : i < length line.arcs = omega (arith, h, arcs.one_each) in
       let must = (arcs.each i h).must in
-      one_exact (charges line.moments heights (gaps_of line)) (row_at rows i) (is_carried flow i) musts
+      one_exact (charges line.moments heights (gaps_of line)) (row_at rows i) (carries_unit flow i) musts
       (λ free carried. let fit = row_taken Free line flow heights network fits i within (must ∙ free) carried in omega (arith, fit, cost_is_fall i h, free_pay i h free))
       (λ free left. let fit = row_left Free line flow heights network fits i within (must ∙ free) left in omega (arith, fit, cost_is_fall i h, free_pay i h free))
       (row_at rows i).must refl
 
-  pub bound_is_pay : (count : ℕ) → (0 < places_of line → flow.units ≡ count) → ((i : ℕ) → i < length rows → (row_at rows i).must ≡ true → is_carried flow i ≡ true) → bound_of rows count (charges line.moments heights (gaps_of line)) ≡ pos (pay_of rows (is_carried flow))
+  pub bound_is_pay : (count : ℕ) → (0 < places_of line → flow.units ≡ count) → ((i : ℕ) → i < length rows → (row_at rows i).must ≡ true → carries_unit flow i ≡ true) → bound_of rows count (charges line.moments heights (gaps_of line)) ≡ pos (pay_of rows (carries_unit flow))
   bound_is_pay count same musts =
       let n = length rows in
       let prices = charges line.moments heights (gaps_of line) in
-      let pays : ℕ → ℕ = λ i. cond (is_carried flow i) (row_at rows i).pay 0 in
+      let pays : ℕ → ℕ = λ i. cond (carries_unit flow i) (row_at rows i).pay 0 in
       let losses : ℕ → ℕ = λ i. loss_of prices (row_at rows i) in
-      let costs : ℕ → ℕ = λ i. cond (is_carried flow i) (cost_of prices (row_at rows i)) 0 in
+      let costs : ℕ → ℕ = λ i. cond (carries_unit flow i) (cost_of prices (row_at rows i)) 0 in
       let gains : ℕ → ℕ = λ i. gain_of prices (row_at rows i) in
       let rowwise = sum_below-same n (λ i. pays i + losses i) (λ i. costs i + gains i) (λ i h. exact_row i h (musts i h)) in
-      let enough : pay_of rows (is_carried flow) + sum_below n losses ≡ count * sum_of_prices prices + sum_below n gains = omega (arith, rowwise, sum_below-add n pays losses, sum_below-add n costs gains, units_cost, count_or_none count same) in
-      exact_whole (pay_of rows (is_carried flow)) (sum_below n losses) (count * sum_of_prices prices + sum_below n gains) (bound_of rows count prices) (bound_and_losses rows count prices) enough
+      let enough : pay_of rows (carries_unit flow) + sum_below n losses ≡ count * sum_of_prices prices + sum_below n gains = omega (arith, rowwise, sum_below-add n pays losses, sum_below-add n costs gains, units_cost, count_or_none count same) in
+      exact_whole (pay_of rows (carries_unit flow)) (sum_below n losses) (count * sum_of_prices prices + sum_below n gains) (bound_of rows count prices) (bound_and_losses rows count prices) enough

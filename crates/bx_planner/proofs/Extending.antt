@@ -8,7 +8,7 @@ use Rattle.bx_base.specs.PlanParts.{Parts}
 use Rattle.bx_base.specs.Plans.{is_accepted, channel_at}
 use Rattle.bx_colour.specs.Colouring.{is_in}
 use Rattle.bx_colour.proofs.FirstFitStays.{extends}
-use Rattle.bx_planner.specs.Amending.{promised, amended, IsBestPlan, KeepsPromises}
+use Rattle.bx_planner.specs.Amending.{promised_in_plan, amended, IsBestPlan, KeepsPromises}
 use Rattle.bx_planner.specs.Choices.{IsBest, IsFirstFitPlan}
 use Rattle.bx_planner.specs.Extending.{IsBestFirstFit, StartFrom}
 use Rattle.bx_planner.proofs.AllMusts.{short_sum}
@@ -40,7 +40,7 @@ module _ (m : ℕ) (rows more : List Row) (channels : List Bool) (assigned after
   same_row i lt = subst (IsSameBooking (row_at rows i)) (sym (row_earlier rows assigned more i lt)) (record { start = refl; end = refl; pay = refl; number = refl; inward = refl })
 
   overlap_there : (i j : ℕ) → i < length rows → j < length rows → Overlap (row_at rows i) (row_at rows j) → Overlap (row_at all i) (row_at all j)
-  overlap_there i j li lj o = subst (λ (a : Row). Overlap a (row_at all j)) (sym (row_earlier rows assigned more i li)) (subst (Overlap (promised (row_at rows i) (is_accepted assigned i))) (sym (row_earlier rows assigned more j lj)) o)
+  overlap_there i j li lj o = subst (λ (a : Row). Overlap a (row_at all j)) (sym (row_earlier rows assigned more i li)) (subst (Overlap (promised_in_plan (row_at rows i) (is_accepted assigned i))) (sym (row_earlier rows assigned more j lj)) o)
 
   -- what the longer plan accepts of the old rows is a lawful choice of them
   old_lawful : IsLawful rows channels (is_accepted after)

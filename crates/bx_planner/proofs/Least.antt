@@ -13,7 +13,7 @@ use Rattle.bx_base.specs.Bookings.{Row, row_at, is_running, pay_of, AreBookings}
 use Rattle.bx_base.specs.Bound.{Charge, cost_of, sum_of_prices}
 use Rattle.bx_line.specs.Moments.{IsMoment, HasJustMoments}
 use Rattle.bx_line.specs.Network.{Network, IsNetwork, AreArcsOf, places_of, gaps_of, arc_at, spans}
-use Rattle.bx_line.specs.Flows.{Flow, CrossesEachGap, is_carried, idle_at, crossing_at}
+use Rattle.bx_line.specs.Flows.{Flow, CrossesEachGap, carries_unit, idle_at, crossing_at}
 use Rattle.bx_line.proofs.MomentLemmas.{never_falls}
 use Rattle.bx_dist.specs.Residual.{IsOpen, step_from, step_to, step_cost, height_at, row_arc}
 use Rattle.bx_dist.specs.Walks.{IsWalk, walk_length, AreLeast}
@@ -24,7 +24,7 @@ use Rattle.bx_dist.specs.declared.step.Step.TheVariants.{Idle, Back, Take, Give}
 use Rattle.bx_dist.proofs.After.{distances_fit}
 use Rattle.bx_planner.specs.Prices.{fall_at, charges}
 use Rattle.bx_planner.specs.Inside.{IsLeastBound}
-use Rattle.bx_planner.specs.Tight.{runs_at, IsTight}
+use Rattle.bx_planner.specs.Tight.{runs_at, AreTightPrices}
 use Rattle.bx_planner.proofs.Tightness.{tight}
 use Rattle.bx_planner.proofs.Placed.{same_tests}
 use Rattle.bx_flow.proofs.Certificate.{before}
@@ -66,12 +66,12 @@ module _ (rows : List Row) (line : Network) (flow : Flow) (network : IsNetwork l
       (λ k. let x = never_falls line.moments network.rising arc.to v k (omega arith) in omega (arith, x, a.to, low))
 
   -- at each moment inside a gap, the rows of the flow that run are those that cross the gap
-  running_in_gap : (v m : ℕ) → v + 1 < places_of line → get_or line.moments v 0 ≤ m → m < get_or line.moments (v + 1) 0 → runs_at rows (is_carried flow) m ≡ crossing_at line flow v
+  running_in_gap : (v m : ℕ) → v + 1 < places_of line → get_or line.moments v 0 ≤ m → m < get_or line.moments (v + 1) 0 → runs_at rows (carries_unit flow) m ≡ crossing_at line flow v
   running_in_gap v m b low high =
-      let same = sum_below-same (length rows) (λ i. cond (runs rows (is_carried flow) m i) 1 0) (λ i. cond (is_carried flow i && spans (arc_at line i) v) 1 0) (λ i h. rw (runs_in_gap i v m h b low high) refl) in
-      same ∙ ap (λ (n : ℕ). sum_below n (λ i. cond (is_carried flow i && spans (arc_at line i) v) 1 0)) (sym arcs.one_each)
+      let same = sum_below-same (length rows) (λ i. cond (runs rows (carries_unit flow) m i) 1 0) (λ i. cond (carries_unit flow i && spans (arc_at line i) v) 1 0) (λ i h. rw (runs_in_gap i v m h b low high) refl) in
+      same ∙ ap (λ (n : ℕ). sum_below n (λ i. cond (carries_unit flow i && spans (arc_at line i) v) 1 0)) (sym arcs.one_each)
 
-  module _ (count : ℕ) (crosses : CrossesEachGap line flow) (same : 0 < places_of line → flow.units ≡ count) (bookings : AreBookings rows) (other : List Charge) (is_tight : IsTight rows count (is_carried flow) other) where
+  module _ (count : ℕ) (crosses : CrossesEachGap line flow) (same : 0 < places_of line → flow.units ≡ count) (bookings : AreBookings rows) (other : List Charge) (is_tight : AreTightPrices rows count (carries_unit flow) other) where
     -- what the charges come to before a place
     abbrev sum_at : ℕ → ℕ
     sum_at v = sum_before other (get_or line.moments v 0)
@@ -99,10 +99,10 @@ module _ (rows : List Row) (line : Network) (flow : Flow) (network : IsNetwork l
     free_pay : (i : ℕ) → i < length rows → (arc_at line i).must ≡ false → (arc_at line i).pay ≡ (row_at rows i).pay
     free_pay i h free = let a = arcs.each i h in let m = sym a.must ∙ free in a.pay ∙ rw m refl
 
-    row_taken : (i : ℕ) → i < length rows → (arc_at line i).must ≡ false → is_carried flow i ≡ true → sum_at (arc_at line i).to ≤ sum_at (arc_at line i).from + (arc_at line i).pay
+    row_taken : (i : ℕ) → i < length rows → (arc_at line i).must ≡ false → carries_unit flow i ≡ true → sum_at (arc_at line i).to ≤ sum_at (arc_at line i).from + (arc_at line i).pay
     row_taken i h free s = let a = arcs.each i h in omega (arith, is_tight.taken i h (sym a.must ∙ free) s, row_sums i h, free_pay i h free)
 
-    row_left : (i : ℕ) → i < length rows → (arc_at line i).must ≡ false → is_carried flow i ≡ false → sum_at (arc_at line i).from + (arc_at line i).pay ≤ sum_at (arc_at line i).to
+    row_left : (i : ℕ) → i < length rows → (arc_at line i).must ≡ false → carries_unit flow i ≡ false → sum_at (arc_at line i).from + (arc_at line i).pay ≤ sum_at (arc_at line i).to
     row_left i h free s = let a = arcs.each i h in omega (arith, is_tight.left i h (sym a.must ∙ free) s, row_sums i h, free_pay i h free)
 
     -- minus what the charges come to before the places fits the residual network
@@ -142,9 +142,9 @@ module _ (rows : List Row) (line : Network) (flow : Flow) (network : IsNetwork l
           ]
 
   -- the prices from the distances are the least whose bound is what the rows of the flow pay
-  pub least_bound : (heights : List ℤ) (count : ℕ) → AreBookings rows → CrossesEachGap line flow → (0 < places_of line → flow.units ≡ count) → AreLeast Free line flow heights → HasJustMoments rows line.moments → ((t : ℕ) → runs_at rows (is_carried flow) t ≤ count) → ((i : ℕ) → i < length rows → (row_at rows i).must ≡ true → is_carried flow i ≡ true) → IsLeastBound rows count (charges line.moments heights (gaps_of line)) (pay_of rows (is_carried flow))
+  pub least_bound : (heights : List ℤ) (count : ℕ) → AreBookings rows → CrossesEachGap line flow → (0 < places_of line → flow.units ≡ count) → AreLeast Free line flow heights → HasJustMoments rows line.moments → ((t : ℕ) → runs_at rows (carries_unit flow) t ≤ count) → ((i : ℕ) → i < length rows → (row_at rows i).must ≡ true → carries_unit flow i ≡ true) → IsLeastBound rows count (charges line.moments heights (gaps_of line)) (pay_of rows (carries_unit flow))
   least_bound heights count bookings crosses same lengths just enough musts =
       record {
-        before = λ other exact. least_before count crosses same bookings other (tight rows count (is_carried flow) enough other musts exact) heights lengths just;
-        whole = λ other exact. least_whole count crosses same bookings other (tight rows count (is_carried flow) enough other musts exact) heights lengths;
+        before = λ other exact. least_before count crosses same bookings other (tight rows count (carries_unit flow) enough other musts exact) heights lengths just;
+        whole = λ other exact. least_whole count crosses same bookings other (tight rows count (carries_unit flow) enough other musts exact) heights lengths;
       }

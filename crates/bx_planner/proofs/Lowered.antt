@@ -16,7 +16,7 @@ use Rattle.bx_check.specs.Before.{sum_before}
 use Rattle.bx_check.proofs.Before.{cost_between}
 use Rattle.bx_dist.specs.Residual.{height_at}
 use Rattle.bx_planner.specs.Prices.{fall_at, charges}
-use Rattle.bx_planner.specs.Tight.{runs_at, IsTight}
+use Rattle.bx_planner.specs.Tight.{runs_at, AreTightPrices}
 use Rattle.bx_planner.proofs.Before.{before_rises, charges_before}
 use Rattle.bx_planner.proofs.Priced.{sum_of_charges, all_charges, charges_rise}
 use Rattle.bx_planner.proofs.Slack.{bound_from_tight}
@@ -69,7 +69,7 @@ pub record AreClosed (rows : List Row) (count : ℕ) (set : ℕ → Bool) (price
 
 module _ (rows : List Row) (count : ℕ) (set : ℕ → Bool) (prices : List Charge) (last : ℕ)
     (ordered : (i : ℕ) → i < length rows → (row_at rows i).start < (row_at rows i).end) (ends : (i : ℕ) → i < length rows → (row_at rows i).end ≤ last)
-    (enough : (t : ℕ) → runs_at rows set t ≤ count) (musts : (i : ℕ) → i < length rows → (row_at rows i).must ≡ true → set i ≡ true) (tight : IsTight rows count set prices)
+    (enough : (t : ℕ) → runs_at rows set t ≤ count) (musts : (i : ℕ) → i < length rows → (row_at rows i).must ≡ true → set i ≡ true) (tight : AreTightPrices rows count set prices)
     (full : (m : ℕ) → IsCharged prices m → count ≤ runs_at rows set m)
     (seen : ℕ → Bool) (closed : AreClosed rows count set prices last seen) where
   -- what comes before a place, less by one where it was not seen
@@ -150,7 +150,7 @@ module _ (rows : List Row) (count : ℕ) (set : ℕ → Bool) (prices : List Cha
       let same = free_edge (sum_before prices v) (sum_before prices (v + 1)) (seen v) (seen (v + 1)) free (λ s t. (let c = closed.wait v h s t in omega (arith, c, free))) (λ s t. (let c = closed.go_back v h s t in omega (arith, c, room))) in
       omega (arith, fall_is v h, same)
 
-  tight_still : IsTight rows count set lowered
+  tight_still : AreTightPrices rows count set lowered
   tight_still =
       record {
         idle = all_charges (λ p. runs_at rows set p.moment < count → p.amount ≡ 0) moments heights last (λ v h some room. idle_still v h (subst (λ (t : ℕ). runs_at rows set t < count) (moment_is v (omega arith)) room));

@@ -16,7 +16,7 @@ use Rattle.bx_check.specs.Before.{sum_before}
 use Rattle.bx_planner.specs.Capacity.{IsMostPaid}
 use Rattle.bx_planner.specs.Choices.{IsBest}
 use Rattle.bx_planner.specs.LeastProofs.{IsLeastProof}
-use Rattle.bx_planner.specs.Tight.{runs_at, IsTight}
+use Rattle.bx_planner.specs.Tight.{runs_at, AreTightPrices}
 use Rattle.bx_planner.proofs.Before.{before_same}
 use Rattle.bx_planner.proofs.Tightness.{proof_is_tight}
 use Rattle.bx_planner.proofs.Slack.{bound_from_tight}
@@ -72,7 +72,7 @@ module _ (rows : List Row) (channels more : List Bool) (prices : List Charge) (s
   late : (i : ℕ) → i < length rows → (row_at rows i).end ≤ last
   late i h = let e = ends i h in omega (arith, e)
 
-  tight : IsTight rows (count_of channels) set prices
+  tight : AreTightPrices rows (count_of channels) set prices
   tight = proof_is_tight rows channels prices set least.proves
 
   enough : (t : ℕ) → runs_at rows set t ≤ count_of channels
@@ -184,7 +184,7 @@ module _ (rows : List Row) (channels more : List Bool) (prices : List Charge) (s
           | inr none ↦ omega (arith, none)
         ]
 
-    tight_now : IsTight rows (count_of more) now prices
+    tight_now : AreTightPrices rows (count_of more) now prices
     tight_now = record { idle = none_charged; taken = taken_now; left = left_now }
 
     pays_now : pay_of rows now ≡ pay_of rows set + sum_of_prices prices

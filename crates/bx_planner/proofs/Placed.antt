@@ -9,7 +9,7 @@ use Rattle.bx_base.specs.Bookings.{Row, row_at, is_running}
 use Rattle.bx_colour.specs.Colouring.{is_in, running_at}
 use Rattle.bx_colour.proofs.RunningLemmas.{room_from_starts}
 use Rattle.bx_line.specs.Network.{Network, IsNetwork, AreArcsOf, places_of, arc_at, spans}
-use Rattle.bx_line.specs.Flows.{Flow, is_carried, crossing_at, CrossesEachGap}
+use Rattle.bx_line.specs.Flows.{Flow, carries_unit, crossing_at, CrossesEachGap}
 use Rattle.bx_line.proofs.MomentLemmas.{never_falls}
 
 pub same_tests : (a v s m e to : ℕ) → (a ≤ v → s ≤ m) → (v < a → m < s) → (v < to → m < e) → (to ≤ v → e ≤ m) → (leb s m && ltb m e) ≡ (leb a v && ltb v to)
@@ -34,8 +34,8 @@ module _ (rows : List Row) (line : Network) (network : IsNetwork line) (arcs : A
   -- the marked rows that run at the moment of a place are those that cross the gap after it
   pub running_crosses : (flow : Flow) (v : ℕ) → v < places_of line → running_at rows flow.accepted (get_or line.moments v 0) ≡ crossing_at line flow v
   running_crosses flow v b =
-      let same = sum_below-same (length rows) (λ i. cond (is_in flow.accepted i && is_running (row_at rows i) (get_or line.moments v 0)) 1 0) (λ i. cond (is_carried flow i && spans (arc_at line i) v) 1 0) (λ i h. rw (runs_where_spans i v h b) refl) in
-      same ∙ ap (λ (n : ℕ). sum_below n (λ i. cond (is_carried flow i && spans (arc_at line i) v) 1 0)) (sym arcs.one_each)
+      let same = sum_below-same (length rows) (λ i. cond (is_in flow.accepted i && is_running (row_at rows i) (get_or line.moments v 0)) 1 0) (λ i. cond (carries_unit flow i && spans (arc_at line i) v) 1 0) (λ i h. rw (runs_where_spans i v h b) refl) in
+      same ∙ ap (λ (n : ℕ). sum_below n (λ i. cond (carries_unit flow i && spans (arc_at line i) v) 1 0)) (sym arcs.one_each)
 
   -- a flow of no more units than channels has room for its rows at each moment
   pub flow_has_room : (flow : Flow) → CrossesEachGap line flow → (count : ℕ) → (0 < places_of line → flow.units ≤ count) → (t : ℕ) → running_at rows flow.accepted t ≤ count

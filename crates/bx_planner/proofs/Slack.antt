@@ -12,7 +12,7 @@ use Rattle.bx_base.specs.Bound.{Charge, sum_of_prices, cost_of, bound_of}
 use Rattle.bx_base.specs.Sides.{gain_of, loss_of}
 use Rattle.bx_base.proofs.SumLemmas.{sum_below-same, sum_below-add, sum_by-mul}
 use Rattle.bx_base.proofs.Duality.{bound_and_losses}
-use Rattle.bx_planner.specs.Tight.{runs_at, IsTight}
+use Rattle.bx_planner.specs.Tight.{runs_at, AreTightPrices}
 use Rattle.bx_planner.proofs.Tightness.{at_price, price_counts, costs_by_prices}
 use Rattle.bx_planner.proofs.Exact.{one_exact, exact_whole}
 
@@ -27,7 +27,7 @@ whole_price running count a enough free =
       | inr h ↦ (let e : running ≡ count = omega (arith, enough, h) in rw e refl)
     ]
 
-pub bound_from_tight : (rows : List Row) (count : ℕ) (set : ℕ → Bool) (prices : List Charge) → ((t : ℕ) → runs_at rows set t ≤ count) → ((i : ℕ) → i < length rows → (row_at rows i).must ≡ true → set i ≡ true) → IsTight rows count set prices → bound_of rows count prices ≡ pos (pay_of rows set)
+pub bound_from_tight : (rows : List Row) (count : ℕ) (set : ℕ → Bool) (prices : List Charge) → ((t : ℕ) → runs_at rows set t ≤ count) → ((i : ℕ) → i < length rows → (row_at rows i).must ≡ true → set i ≡ true) → AreTightPrices rows count set prices → bound_of rows count prices ≡ pos (pay_of rows set)
 bound_from_tight rows count set prices enough musts tight =
     let n = length rows in
     let pays : ℕ → ℕ = λ i. cond (set i) (row_at rows i).pay 0 in

@@ -12,7 +12,7 @@ use Rattle.bx_base.specs.Sides.{gain_of, loss_of}
 use Rattle.bx_base.proofs.SumLemmas.{sum_below-add, sum_below-mul, sum_below-same, sum_below-sum_by, sum_by-le_each, sum_by-mul, sum_below-same_terms, sum_by-same_terms}
 use Rattle.bx_base.specs.Channels.{count_of}
 use Rattle.bx_base.proofs.Duality.{runs, cost_by_prices, one_row, bound_and_losses, running-le-count}
-use Rattle.bx_planner.specs.Tight.{runs_at, IsTight}
+use Rattle.bx_planner.specs.Tight.{runs_at, AreTightPrices}
 
 cond-mul : (b : Bool) (a : ℕ) → cond b a 0 ≡ cond b 1 0 * a
 cond-mul true a = omega arith
@@ -97,7 +97,7 @@ module _ (rows : List Row) (count : ℕ) (set : ℕ → Bool) (enough : (t : ℕ
         let same = sum_by-same_terms at_price (λ p. count * p.amount) prices price_most enough_costs k d b in
         no_amount (runs_at rows set p.moment) count p.amount (omega (arith, same, price_counts p)) h
 
-    pub tight : IsTight rows count set prices
+    pub tight : AreTightPrices rows count set prices
     tight = record {
       idle = no_charge_where_free;
       taken = λ i h free s. taken_of prices (row_at rows i) (set i) free s (row_same i h);
@@ -105,6 +105,6 @@ module _ (rows : List Row) (count : ℕ) (set : ℕ → Bool) (enough : (t : ℕ
     }
 
 -- prices that prove a set are tight for it: as many of it run as its channels carry
-pub proof_is_tight : (rows : List Row) (channels : List Bool) (prices : List Charge) (set : ℕ → Bool) → Proves rows channels prices set → IsTight rows (count_of channels) set prices
+pub proof_is_tight : (rows : List Row) (channels : List Bool) (prices : List Charge) (set : ℕ → Bool) → Proves rows channels prices set → AreTightPrices rows (count_of channels) set prices
 proof_is_tight rows channels prices set proves =
     tight rows (count_of channels) set (λ t. running-le-count rows channels set proves.lawful.carried.0 proves.lawful.carried.1 t) prices proves.lawful.has_musts proves.exact

@@ -12,14 +12,14 @@ use Rattle.bx_planner.specs.Choices.{IsBest, IsFirstFitPlan, ProvesBest}
 use Rattle.bx_base.specs.declared.bookings.TheConstants.{MAX_BOOKINGS}
 
 -- a row of a plan as it is planned anew: must just where the plan accepts it
-abbrev pub promised : Row → Bool → Row
-promised row accepted = row_of row.start row.end row.pay row.number accepted row.inward
+abbrev pub promised_in_plan : Row → Bool → Row
+promised_in_plan row accepted = row_of row.start row.end row.pay row.number accepted row.inward
 
 -- the rows of a plan so, by the channels that it gives them
 unfoldable pub promised_rows : List Row → List (Option ℕ) → List Row
 promised_rows [] assigned = []
-promised_rows (row ∷ rows) [] = promised row false ∷ promised_rows rows []
-promised_rows (row ∷ rows) (channel ∷ assigned) = promised row (is_some channel) ∷ promised_rows rows assigned
+promised_rows (row ∷ rows) [] = promised_in_plan row false ∷ promised_rows rows []
+promised_rows (row ∷ rows) (channel ∷ assigned) = promised_in_plan row (is_some channel) ∷ promised_rows rows assigned
 
 -- the rows that are planned anew: those of the plan, and then more with their own marks
 abbrev pub amended : List Row → List (Option ℕ) → List Row → List Row

@@ -7,7 +7,7 @@ ghost use Rattle.bx_dist.specs.Residual.{height_at};
 ghost use Rattle.bx_dist.specs.Walks.{AreLeast};
 ghost use Rattle.bx_dist.specs.declared.part.Part.TheVariants.{Free};
 ghost use Rattle.bx_flow.specs.Costs.{IsLeastCost, free_pays};
-ghost use Rattle.bx_line.specs.Flows.{is_carried};
+ghost use Rattle.bx_line.specs.Flows.{carries_unit};
 ghost use Rattle.bx_line.specs.Moments.{HasJustMoments};
 ghost use Rattle.bx_line.specs.Network.{AreArcsOf, places_of};
 ghost use Rattle.bx_planner.specs.Musts.{musts_at};
@@ -74,7 +74,7 @@ pub(crate) fn choice_of(
 fn marks_of(alloc: Global, carried: &Carried, rows: u16) -> Result<Vec<bool>, AllocError>
     requires { rows ≤ MAX_BOOKINGS }
     ensures one_each { IfOk result (λ v. length v.items ≡ rows) }
-    ensures each { IfOk result (λ v. (i : ℕ) → i < rows → is_in v.items i ≡ is_carried carried.now i) }
+    ensures each { IfOk result (λ v. (i : ℕ) → i < rows → is_in v.items i ≡ carries_unit carried.now i) }
 {
     let mut marks = Vec::new(alloc);
     for row in 0..rows {

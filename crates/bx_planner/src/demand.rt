@@ -2,7 +2,7 @@
 
 ghost use Rattle.std.specs.Prelude.{◌≡◌, ◌≤◌, ◌<◌, IfOk, length};
 ghost use Rattle.bx_base.specs.Bookings.{IsBooking, row_at};
-ghost use Rattle.bx_planner.specs.Amending.{promised, amended};
+ghost use Rattle.bx_planner.specs.Amending.{promised_in_plan, amended};
 ghost use Rattle.bx_base.specs.declared.bookings.TheConstants.{MAX_BOOKINGS};
 
 use bx_base::{Booking, Bookings, Plan};
@@ -94,7 +94,7 @@ impl<'a> Demand<'a> {
 
 /// The booking as it is planned anew: it has to be held just where it was accepted.
 fn promised(booking: &Booking, accepted: bool) -> Booking
-    ensures { result ≡ promised booking.now accepted }
+    ensures { result ≡ promised_in_plan booking.now accepted }
 {
     let (start, end) = (booking.start(), booking.end());
     let Some(free) = Booking::new(start, end, booking.pay(), booking.number()) else {

@@ -8,7 +8,7 @@ use Rattle.bx_q931.specs.Items.{PlainItem, item_octets, all_items}
 use Rattle.bx_q931.specs.Kinds.{kind_of}
 use Rattle.bx_q931.specs.References.{reference_of}
 use Rattle.bx_q931.specs.Messages.{PlainMessage, plain_message, whole_message, kind_at, body_at, reference_at, discriminated_at, message_at}
-use Rattle.bx_q931.specs.Grammar.{IsSpelled, IsMessage, IsBadLength, EndsEarly, IsNotQ931, HasBadLength, IsTorn, IsFirstFault}
+use Rattle.bx_q931.specs.Grammar.{IsSpelled, IsMessage, IsBadLength, EndsEarly, IsNotQ931, HasBadLength, IsTornMessage, IsMessageFaultOf}
 use Rattle.bx_q931.specs.declared.kind.Kind.{Kind}
 use Rattle.bx_q931.specs.declared.reference.Reference.{Reference}
 use Rattle.bx_q931.specs.declared.fault.MessageFault.{MessageFault}
@@ -118,8 +118,8 @@ message_is_read octets m (reference, octet, s) = spelled_read octets reference o
 
 -- ---- a fault that is answered is the first
 
-fault_is : (octets : List ℕ) (a e : MessageFault) → ◌≡◌ {A = Read} (Err a) (Err e) → IsFirstFault octets a → IsFirstFault octets e
-fault_is octets a e q h = let same : a ≡ e = cc in subst (IsFirstFault octets) same h
+fault_is : (octets : List ℕ) (a e : MessageFault) → ◌≡◌ {A = Read} (Err a) (Err e) → IsMessageFaultOf octets a → IsMessageFaultOf octets e
+fault_is octets a e q h = let same : a ≡ e = cc in subst (IsMessageFaultOf octets) same h
 
 some_none : (items : List PlainItem) (found : Option (List PlainItem)) → found ≡ None → found ≡ Some items → ⊥
 some_none items found n s = cc
@@ -128,16 +128,16 @@ whole_err : (reference : Reference) (kind : Kind) (found : Option (List PlainIte
 whole_err reference kind None e q = (refl, cc)
 whole_err reference kind (Some items) e q = cc
 
-torn : (reference : List ℕ) (octet : ℕ) (after octets : List ℕ) (e : MessageFault) → length octets ≤ 260 → length reference ≤ 2 → octets ≡ 8 ∷ length reference ∷ reference ++ octet ∷ after → whole_message (reference_of reference) (kind_of octet) (all_items after) ≡ Err e → IsFirstFault octets e
+torn : (reference : List ℕ) (octet : ℕ) (after octets : List ℕ) (e : MessageFault) → length octets ≤ 260 → length reference ≤ 2 → octets ≡ 8 ∷ length reference ∷ reference ++ octet ∷ after → whole_message (reference_of reference) (kind_of octet) (all_items after) ≡ Err e → IsMessageFaultOf octets e
 torn reference octet after octets e few h spelled q =
     let w = whole_err (reference_of reference) (kind_of octet) (all_items after) e q in
-    subst (IsFirstFault octets) w.1 (few, (reference, octet, after, spelled, h, λ items are. some_none items (all_items after) w.0 (items_read after items are)))
+    subst (IsMessageFaultOf octets) w.1 (few, (reference, octet, after, spelled, h, λ items are. some_none items (all_items after) w.0 (items_read after items are)))
 
-kind_err : (reference rest octets : List ℕ) (e : MessageFault) → length octets ≤ 260 → length reference ≤ 2 → octets ≡ 8 ∷ length reference ∷ reference ++ rest → 0 < length rest → kind_at (reference_of reference) rest ≡ Err e → IsFirstFault octets e
+kind_err : (reference rest octets : List ℕ) (e : MessageFault) → length octets ≤ 260 → length reference ≤ 2 → octets ≡ 8 ∷ length reference ∷ reference ++ rest → 0 < length rest → kind_at (reference_of reference) rest ≡ Err e → IsMessageFaultOf octets e
 kind_err reference [] octets e few h spelled some q = absurd (omega (arith, some))
 kind_err reference (octet ∷ after) octets e few h spelled some q = torn reference octet after octets e few h spelled q
 
-body_err : (len : ℕ) (rest : List ℕ) (e : MessageFault) → length (8 ∷ len ∷ rest) ≤ 260 → len ≤ 2 → body_at len rest ≡ Err e → IsFirstFault (8 ∷ len ∷ rest) e
+body_err : (len : ℕ) (rest : List ℕ) (e : MessageFault) → length (8 ∷ len ∷ rest) ≤ 260 → len ≤ 2 → body_at len rest ≡ Err e → IsMessageFaultOf (8 ∷ len ∷ rest) e
 body_err len rest e few h q = elim (chosen (nat_le (length rest) len) (Err TooShort) (kind_at (reference_of (take len rest)) (drop len rest)) (Err e) q) [
   | inl t ↦ fault_is (8 ∷ len ∷ rest) TooShort e t.1 (few, inr (inr (len, rest, refl, good_length len h, leb-true (length rest) len t.0)))
   | inr f ↦
@@ -148,21 +148,21 @@ body_err len rest e few h q = elim (chosen (nat_le (length rest) len) (Err TooSh
       (omega (arith, length-drop len rest, more)) f.1
 ]
 
-reference_err : (rest : List ℕ) (e : MessageFault) → length (8 ∷ rest) ≤ 260 → reference_at rest ≡ Err e → IsFirstFault (8 ∷ rest) e
+reference_err : (rest : List ℕ) (e : MessageFault) → length (8 ∷ rest) ≤ 260 → reference_at rest ≡ Err e → IsMessageFaultOf (8 ∷ rest) e
 reference_err [] e few q = fault_is (8 ∷ []) TooShort e q (few, inr (inl refl))
 reference_err (len ∷ rest) e few q = elim (chosen (nat_lt 2 len) (Err BadCallReference) (body_at len rest) (Err e) q) [
   | inl t ↦ fault_is (8 ∷ len ∷ rest) BadCallReference e t.1 (few, (len, rest, refl, bad_length len (ltb-true 2 len t.0)))
   | inr f ↦ body_err len rest e few (ltb-false 2 len f.0) f.1
 ]
 
-discriminated_err : (octets : List ℕ) (e : MessageFault) → length octets ≤ 260 → discriminated_at octets ≡ Err e → IsFirstFault octets e
+discriminated_err : (octets : List ℕ) (e : MessageFault) → length octets ≤ 260 → discriminated_at octets ≡ Err e → IsMessageFaultOf octets e
 discriminated_err [] e few q = fault_is [] TooShort e q (few, inl refl)
 discriminated_err (first ∷ rest) e few q = elim (chosen (first == 8) (reference_at rest) (Err NotQ931) (Err e) q) [
-  | inl t ↦ subst (λ n. IsFirstFault (n ∷ rest) e) (sym (eqb-true first 8 t.0)) (reference_err rest e few t.1)
+  | inl t ↦ subst (λ n. IsMessageFaultOf (n ∷ rest) e) (sym (eqb-true first 8 t.0)) (reference_err rest e few t.1)
   | inr f ↦ fault_is (first ∷ rest) NotQ931 e f.1 (few, (first, rest, refl, eqb-false first 8 f.0))
 ]
 
-pub fault_is_first : (octets : List ℕ) (e : MessageFault) → message_at octets ≡ Err e → IsFirstFault octets e
+pub fault_is_first : (octets : List ℕ) (e : MessageFault) → message_at octets ≡ Err e → IsMessageFaultOf octets e
 fault_is_first octets e q = elim (chosen (nat_lt 260 (length octets)) (Err TooLong) (discriminated_at octets) (Err e) q) [
   | inl t ↦ fault_is octets TooLong e t.1 (ltb-true 260 (length octets) t.0)
   | inr f ↦ discriminated_err octets e (ltb-false 260 (length octets) f.0) f.1
@@ -191,14 +191,14 @@ whole_none : (reference : Reference) (kind : Kind) (found : Option (List PlainIt
 whole_none reference kind None h = refl
 whole_none reference kind (Some items) h = absurd (h items refl)
 
-torn_read : (octets : List ℕ) → length octets ≤ 260 → IsTorn octets → message_at octets ≡ Err TornElement
+torn_read : (octets : List ℕ) → length octets ≤ 260 → IsTornMessage octets → message_at octets ≡ Err TornElement
 torn_read octets few (reference, octet, rest, e, h, none) =
     ap message_at e
     ∙ (opened (length reference) (reference ++ octet ∷ rest) (subst (λ l. length l ≤ 260) e few) h
     ∙ (body_again reference octet rest
     ∙ whole_none (reference_of reference) (kind_of octet) (all_items rest) (λ items q. none items (items_are rest items q))))
 
-pub first_fault_is_read : (octets : List ℕ) (e : MessageFault) → IsFirstFault octets e → message_at octets ≡ Err e
+pub first_fault_is_read : (octets : List ℕ) (e : MessageFault) → IsMessageFaultOf octets e → message_at octets ≡ Err e
 first_fault_is_read octets TooLong h = rw (lt-ltb 260 (length octets) h) refl
 first_fault_is_read octets TooShort h = early_read octets h.0 h.1
 first_fault_is_read octets NotQ931 h = other_read octets h.0 h.1

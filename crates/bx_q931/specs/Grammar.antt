@@ -45,16 +45,16 @@ abbrev pub HasBadLength : List ℕ → Type 0
 HasBadLength octets = (len : ℕ) × (rest : List ℕ) × (octets ≡ 8 ∷ len ∷ rest) × IsBadLength len
 
 -- up to the type all is well, and what follows is no list of items
-abbrev pub IsTorn : List ℕ → Type 0
-IsTorn octets =
+abbrev pub IsTornMessage : List ℕ → Type 0
+IsTornMessage octets =
     (reference : List ℕ) × (type_octet : ℕ) × (rest : List ℕ)
     × (octets ≡ 8 ∷ length reference ∷ reference ++ type_octet ∷ rest)
     × (length reference ≤ 2) × ((items : List PlainItem) → ¬ AreItems rest items)
 
 -- the one fault of octets that are no message: one of too many octets comes before all others
-abbrev pub IsFirstFault : List ℕ → MessageFault → Type 0
-IsFirstFault octets TooLong = 260 < length octets
-IsFirstFault octets TooShort = (length octets ≤ 260) × EndsEarly octets
-IsFirstFault octets NotQ931 = (length octets ≤ 260) × IsNotQ931 octets
-IsFirstFault octets BadCallReference = (length octets ≤ 260) × HasBadLength octets
-IsFirstFault octets TornElement = (length octets ≤ 260) × IsTorn octets
+abbrev pub IsMessageFaultOf : List ℕ → MessageFault → Type 0
+IsMessageFaultOf octets TooLong = 260 < length octets
+IsMessageFaultOf octets TooShort = (length octets ≤ 260) × EndsEarly octets
+IsMessageFaultOf octets NotQ931 = (length octets ≤ 260) × IsNotQ931 octets
+IsMessageFaultOf octets BadCallReference = (length octets ≤ 260) × HasBadLength octets
+IsMessageFaultOf octets TornElement = (length octets ≤ 260) × IsTornMessage octets

@@ -96,5 +96,5 @@ abbrev pub channel_if_there : Option (List ℕ) → ChannelField
 channel_if_there None = Absent
 channel_if_there (Some contents) = channel_in contents
 
-abbrev pub channel_of : PlainMessage → ChannelField
-channel_of m = channel_if_there (first_of 0x18 m)
+abbrev pub channel_element_of : PlainMessage → ChannelField
+channel_element_of m = channel_if_there (first_of 0x18 m)

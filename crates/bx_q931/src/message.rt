@@ -5,7 +5,7 @@ ghost use Rattle.bx_q931.specs.Items.{all_items, items_in};
 ghost use Rattle.bx_q931.specs.Elements.{elements_of};
 ghost use Rattle.bx_q931.specs.References.{IsReference};
 ghost use Rattle.bx_q931.specs.Messages.{plain_message};
-ghost use Rattle.bx_q931.specs.Values.{first_of, cause_of, state_of, called_of, channel_of};
+ghost use Rattle.bx_q931.specs.Values.{first_of, cause_of, state_of, called_of, channel_element_of};
 
 use crate::channel_field::ChannelField;
 use crate::elements::Elements;
@@ -98,7 +98,7 @@ impl<'a> Message<'a> {
 
     /// What the message says of a channel (ITU-T Q.931, 4.5.13).
     pub fn channel(&self) -> ChannelField
-        ensures { result ≡ channel_of self.now }
+        ensures { result ≡ channel_element_of self.now }
     {
         match self.first(CHANNEL_IDENTIFICATION) {
             Some(contents) => ChannelField::of(contents),

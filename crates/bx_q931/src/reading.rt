@@ -1,7 +1,7 @@
 //! Reading a message.
 
 ghost use Rattle.std.specs.Prelude.{◌≡◌, ◌↔◌, ◌≤◌};
-ghost use Rattle.bx_q931.specs.Grammar.{IsMessage, IsFirstFault};
+ghost use Rattle.bx_q931.specs.Grammar.{IsMessage, IsMessageFaultOf};
 ghost use Rattle.bx_q931.specs.Messages.{PlainMessage, body_at, message_at};
 
 use crate::fault::MessageFault;
@@ -62,7 +62,7 @@ fn message(octets: &[u8]) -> Result<Message<'_>, MessageFault>
 pub fn read(octets: &[u8]) -> Result<Message<'_>, MessageFault>
     ensures exact { result ≡ message_at octets.now }
     ensures message { (m : PlainMessage) → (result ≡ Ok m) ↔ IsMessage octets.now m }
-    ensures fault { (e : MessageFault) → (result ≡ Err e) ↔ IsFirstFault octets.now e }
+    ensures fault { (e : MessageFault) → (result ≡ Err e) ↔ IsMessageFaultOf octets.now e }
 {
     message(octets)
 }

@@ -10,7 +10,7 @@ use Rattle.bx_base.proofs.SumLemmas.{sum_below-le, sum_below-same, sum_below-nex
 use Rattle.bx_planner.specs.Musts.{musts_at, IsTooManyMust}
 use Rattle.bx_planner.proofs.FewMusts.{in_set, few_musts}
 use Rattle.bx_quote.specs.Rooms.{IsNoChannel}
-use Rattle.bx_quote.specs.Weighing.{held}
+use Rattle.bx_quote.specs.Weighing.{rows_held}
 use Rattle.bx_quote.proofs.Places.{sum_split}
 
 -- one row more, which is counted where it is marked, beside one of its own
@@ -63,15 +63,15 @@ below_where true m n h = omega arith
 below_where false m n h = h
 
 module _ (rows : List Row) (i : ℕ) (inside : i < length rows) (free : (row_at rows i).must ≡ false) where
-  one_left : (t j : ℕ) → ◌≡◌ {A = ℕ} (cond (eqb j i) 0 (cond ((row_at (held rows i) j).must && is_running (row_at (held rows i) j) t) 1 0)) (cond (eqb j i) 0 (cond ((row_at rows j).must && is_running (row_at rows j) t) 1 0))
+  one_left : (t j : ℕ) → ◌≡◌ {A = ℕ} (cond (eqb j i) 0 (cond ((row_at (rows_held rows i) j).must && is_running (row_at (rows_held rows i) j) t) 1 0)) (cond (eqb j i) 0 (cond ((row_at rows j).must && is_running (row_at rows j) t) 1 0))
   one_left t j =
       elim (cases_eq j i) [ inl s ↦ (rw (eq-eqb j i s) refl) | inr d ↦ (rw (get_or-set_other rows i j (record (row_at rows i) { must = true }) no_row d) refl) ]
 
   -- the row that is held is one must row more
-  musts_held : (t : ℕ) → musts_at (held rows i) t ≡ musts_at rows t + cond (is_running (row_at rows i) t) 1 0
+  musts_held : (t : ℕ) → musts_at (rows_held rows i) t ≡ musts_at rows t + cond (is_running (row_at rows i) t) 1 0
   musts_held t =
       let row = record (row_at rows i) { must = true } in
-      let f = λ (j : ℕ). cond {A = ℕ} ((row_at (held rows i) j).must && is_running (row_at (held rows i) j) t) 1 0 in
+      let f = λ (j : ℕ). cond {A = ℕ} ((row_at (rows_held rows i) j).must && is_running (row_at (rows_held rows i) j) t) 1 0 in
       let g = λ (j : ℕ). cond {A = ℕ} ((row_at rows j).must && is_running (row_at rows j) t) 1 0 in
       let many = length-set rows i row in
       let split = sum_split (length rows) f i inside in
@@ -82,7 +82,7 @@ module _ (rows : List Row) (i : ℕ) (inside : i < length rows) (free : (row_at 
       rw many (omega (arith, split, other, rest, here, none))
 
   -- with room for the row, a plan can hold it
-  pub none_crowded : (channels : List Bool) (set : ℕ → Bool) → IsLawful rows channels set → ((s : ℕ) → is_running (row_at rows i) s ≡ true → musts_at rows s < count_of channels) → (t : ℕ) → IsTooManyMust (held rows i) channels t → ⊥
+  pub none_crowded : (channels : List Bool) (set : ℕ → Bool) → IsLawful rows channels set → ((s : ℕ) → is_running (row_at rows i) s ≡ true → musts_at rows s < count_of channels) → (t : ℕ) → IsTooManyMust (rows_held rows i) channels t → ⊥
   none_crowded channels set lawful room t too =
       let sum = musts_held t in
       let crowded = too.here in

@@ -8,7 +8,7 @@ use Rattle.bx_base.specs.Sums.{sum_ints_below}
 use Rattle.bx_base.specs.Bookings.{Row, row_at, no_row, IsLawful, pay_of}
 use Rattle.bx_base.specs.Bound.{Charge, cost_of, term_of, bound_of, sum_of_prices}
 use Rattle.bx_base.proofs.SumLemmas.{sum_below-same}
-use Rattle.bx_quote.specs.Weighing.{held, freed}
+use Rattle.bx_quote.specs.Weighing.{rows_held, freed}
 use Rattle.bx_quote.proofs.Places.{SameTimes, times_back, same_times, field_kept, lawful_along}
 
 set_twice : (rows : List Row) (i : ℕ) (a b : Row) → i < length rows → slice_set (slice_set rows i a) i b ≡ slice_set rows i b
@@ -25,45 +25,45 @@ free_itself : (row : Row) → row.must ≡ false → ◌≡◌ {A = Row} (record
 free_itself row h = ap (λ (m : Bool). record row { must = m }) (sym h)
 
 -- a free row that is held and freed again
-pub freed_held : (rows : List Row) (i : ℕ) → i < length rows → (row_at rows i).must ≡ false → freed (held rows i) i ≡ rows
+pub freed_held : (rows : List Row) (i : ℕ) → i < length rows → (row_at rows i).must ≡ false → freed (rows_held rows i) i ≡ rows
 freed_held rows i h free =
     let row = row_at rows i in
     let must = record row { must = true } in
-    let here : row_at (held rows i) i ≡ must = get_or-set_same rows i must no_row h in
-    let again = ap (λ (r : Row). slice_set (held rows i) i (record r { must = false })) here in
+    let here : row_at (rows_held rows i) i ≡ must = get_or-set_same rows i must no_row h in
+    let again = ap (λ (r : Row). slice_set (rows_held rows i) i (record r { must = false })) here in
     let back = ap (λ (r : Row). slice_set rows i r) (free_itself row free) in
     again ∙ (set_twice rows i must (record row { must = false }) h ∙ (back ∙ set-get_or rows i no_row))
 
 module _ (rows : List Row) (i : ℕ) (inside : i < length rows) where
-  pub held_times : SameTimes (held rows i) rows
+  pub held_times : SameTimes (rows_held rows i) rows
   held_times = same_times rows i (record (row_at rows i) { must = true }) inside refl refl
 
-  held_musts : (j : ℕ) → (row_at rows j).must ≡ true → (row_at (held rows i) j).must ≡ true
+  held_musts : (j : ℕ) → (row_at rows j).must ≡ true → (row_at (rows_held rows i) j).must ≡ true
   held_musts j m =
       elim (cases_eq j i) [
         | inl s ↦ (rw s (ap (λ (r : Row). r.must) (get_or-set_same rows i (record (row_at rows i) { must = true }) no_row inside)))
         | inr d ↦ (ap (λ (r : Row). r.must) (get_or-set_other rows i j (record (row_at rows i) { must = true }) no_row d) ∙ m)
       ]
 
-  pub lawful_from_held : (channels : List Bool) (set : ℕ → Bool) → IsLawful (held rows i) channels set → IsLawful rows channels set
+  pub lawful_from_held : (channels : List Bool) (set : ℕ → Bool) → IsLawful (rows_held rows i) channels set → IsLawful rows channels set
   lawful_from_held channels set lawful =
-      lawful_along (held rows i) rows channels set held_times (λ j h m. lawful.has_musts j (omega (arith, h, held_times.many)) (held_musts j m)) lawful
+      lawful_along (rows_held rows i) rows channels set held_times (λ j h m. lawful.has_musts j (omega (arith, h, held_times.many)) (held_musts j m)) lawful
 
-  pub holds_held : (channels : List Bool) (set : ℕ → Bool) → IsLawful (held rows i) channels set → set i ≡ true
+  pub holds_held : (channels : List Bool) (set : ℕ → Bool) → IsLawful (rows_held rows i) channels set → set i ≡ true
   holds_held channels set lawful =
       lawful.has_musts i (omega (arith, inside, held_times.many)) (ap (λ (r : Row). r.must) (get_or-set_same rows i (record (row_at rows i) { must = true }) no_row inside))
 
-  pub lawful_held : (channels : List Bool) (set : ℕ → Bool) → IsLawful rows channels set → set i ≡ true → IsLawful (held rows i) channels set
+  pub lawful_held : (channels : List Bool) (set : ℕ → Bool) → IsLawful rows channels set → set i ≡ true → IsLawful (rows_held rows i) channels set
   lawful_held channels set lawful holds =
-      lawful_along rows (held rows i) channels set (times_back (held rows i) rows held_times) (λ j h m. elim (cases_eq j i) [
+      lawful_along rows (rows_held rows i) channels set (times_back (rows_held rows i) rows held_times) (λ j h m. elim (cases_eq j i) [
         | inl s ↦ (rw s holds)
         | inr d ↦ lawful.has_musts j (omega (arith, h, held_times.many)) (ap (λ (r : Row). r.must) (sym (get_or-set_other rows i j (record (row_at rows i) { must = true }) no_row d)) ∙ m)
       ]) lawful
 
-  pub pay_held : (set : ℕ → Bool) → pay_of (held rows i) set ≡ pay_of rows set
+  pub pay_held : (set : ℕ → Bool) → pay_of (rows_held rows i) set ≡ pay_of rows set
   pay_held set =
       let pays = field_kept (λ (r : Row). r.pay) rows i (record (row_at rows i) { must = true }) inside refl in
-      let same = sum_below-same (length rows) (λ j. cond (set j) (row_at (held rows i) j).pay 0) (λ j. cond (set j) (row_at rows j).pay 0) (λ j h. rw (pays j) refl) in
+      let same = sum_below-same (length rows) (λ j. cond (set j) (row_at (rows_held rows i) j).pay 0) (λ j. cond (set j) (row_at rows j).pay 0) (λ j h. rw (pays j) refl) in
       rw (held_times.many) same
 
 pub ints_same : (n : ℕ) (f g : ℕ → ℤ) → ((j : ℕ) → j < n → f j ≡ g j) → sum_ints_below n f ≡ sum_ints_below n g

@@ -10,7 +10,7 @@ use Rattle.std.proofs.lemmas.List.Elements.{All-nil, All-push}
 use Rattle.std.proofs.lemmas.List.Quantifiers.{all_pairs_push}
 use Rattle.bx_base.specs.Sums.{sum_below}
 use Rattle.bx_base.specs.Bookings.{Row, row_at}
-use Rattle.bx_quote.specs.Named.{AreRows, pay_of_rows, is_named, traded, picked}
+use Rattle.bx_quote.specs.Named.{AreRowsThatPass, pay_of_rows, is_named, traded, picked}
 use Rattle.bx_quote.specs.Inside.{is_apart}
 
 all_with : (P : ℕ → Type 0) (xs : List ℕ) (x : ℕ) (b : Bool) → All P xs → (b ≡ true → P x) → All P (xs ++ cond b (x ∷ []) [])
@@ -33,7 +33,7 @@ pub rising_picked : (test : ℕ → Bool) (n : ℕ) → IsStrictlyIncreasing (pi
 rising_picked test n = λ k b. pairs_picked test n k (k + 1) 0 (omega arith) b
 
 -- the names are those of rows that pass another test
-pub are_rows : (count : ℕ) (test other : ℕ → Bool) (n : ℕ) → ((j : ℕ) → j < n → test j ≡ true → (j < count) × (other j ≡ true)) → AreRows count other (picked test n)
+pub are_rows : (count : ℕ) (test other : ℕ → Bool) (n : ℕ) → ((j : ℕ) → j < n → test j ≡ true → (j < count) × (other j ≡ true)) → AreRowsThatPass count other (picked test n)
 are_rows count test other n h =
     record {
       rising = rising_picked test n;

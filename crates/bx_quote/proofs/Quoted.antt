@@ -10,7 +10,7 @@ use Rattle.bx_quote.specs.declared.answer.Quote.{Quote}
 use Rattle.bx_quote.specs.Named.{picked}
 use Rattle.bx_quote.specs.Inside.{is_apart}
 use Rattle.bx_quote.specs.Quotes.{IsQuote}
-use Rattle.bx_quote.specs.Weighing.{IsSettled, held, freed}
+use Rattle.bx_quote.specs.Weighing.{IsSettledRow, rows_held, freed}
 use Rattle.bx_quote.proofs.Deciding.{threshold_decides}
 use Rattle.bx_quote.proofs.Holding.{cost_alike}
 use Rattle.bx_quote.proofs.Weighed.{threshold_is, cost_below, instead_named, besides_named, trade_lawful, trade_settles, not_less}
@@ -28,7 +28,7 @@ pub named_as : (a b c d : List (Option ℕ)) (i m n : ℕ) (named : List ℕ) �
 named_as a b c d i m n named h s t e =
     h ∙ (ap (λ (x : List (Option ℕ)). picked (is_apart (is_accepted x) (is_accepted b) i) m) s ∙ (ap (λ (x : List (Option ℕ)). picked (is_apart (is_accepted c) (is_accepted x) i) m) t ∙ ap (λ (k : ℕ). picked (is_apart (is_accepted c) (is_accepted d) i) k) e))
 
-module _ (plan best : Parts) (rows : List Row) (i : ℕ) (settled : IsSettled plan (freed rows i) i) (marked : rows ≡ held (freed rows i) i) (is_best : IsBestPlan rows plan.channels best) where
+module _ (plan best : Parts) (rows : List Row) (i : ℕ) (settled : IsSettledRow plan (freed rows i) i) (marked : rows ≡ rows_held (freed rows i) i) (is_best : IsBestPlan rows plan.channels best) where
   abbrev all : List Row
   all = freed rows i
 
@@ -38,7 +38,7 @@ module _ (plan best : Parts) (rows : List Row) (i : ℕ) (settled : IsSettled pl
   there : row_at all i ≡ record (row_at rows i) { must = false }
   there = get_or-set_same rows i (record (row_at rows i) { must = false }) no_row (let inside = settled.inside in omega (arith, inside, many))
 
-  best_held : IsBestPlan (held all i) plan.channels best
+  best_held : IsBestPlan (rows_held all i) plan.channels best
   best_held = subst (λ (list : List Row). IsBestPlan list plan.channels best) marked is_best
 
   same_pay : (row_at all i).pay ≡ (row_at rows i).pay

@@ -16,13 +16,13 @@ use Rattle.bx_check.specs.Check.{IsOutcome}
 use Rattle.bx_check.proofs.Sound.{sound-lawful_itself}
 use Rattle.bx_planner.specs.Musts.{musts_at}
 use Rattle.bx_planner.proofs.Tightness.{proof_is_tight}
-use Rattle.bx_quote.specs.Quotes.{asked}
+use Rattle.bx_quote.specs.Quotes.{with_asked}
 use Rattle.bx_quote.specs.Thresholds.{offered}
-use Rattle.bx_quote.specs.Weighing.{IsSettled, held, freed}
+use Rattle.bx_quote.specs.Weighing.{IsSettledRow, rows_held, freed}
 use Rattle.bx_quote.proofs.Holding.{ints_same, bound_change}
 
 pub is_free : (plan : Parts) (i : ℕ) → IsOutcome plan.rows plan.channels plan (Ok plan.total) → i < length plan.rows → is_accepted plan.assigned i ≡ false → (row_at plan.rows i).must ≡ false
-is_free plan i outcome h out = false_from_ne_true (row_at plan.rows i).must (λ m. let held = (sound-lawful_itself plan.rows plan.channels plan outcome.0).has_musts i h m in cc)
+is_free plan i outcome h out = false_from_ne_true (row_at plan.rows i).must (λ m. let rows_held = (sound-lawful_itself plan.rows plan.channels plan outcome.0).has_musts i h m in cc)
 
 same_bound : (a b x y : ℤ) (total : ℕ) → a +ℤ x ≡ b +ℤ y → x ≡ y → b ≡ pos total → a ≡ pos total
 same_bound a b x y total e s t = omega (arith, ints)
@@ -34,7 +34,7 @@ dear_term prices row free dear = rw free (ap (λ (n : ℕ). pos n) (none_left ro
     none_left p c h = omega arith
 
 -- a row that the plan refuses
-pub settle_refused : (plan : Parts) (i : ℕ) → IsOutcome plan.rows plan.channels plan (Ok plan.total) → i < length plan.rows → is_accepted plan.assigned i ≡ false → IsSettled plan plan.rows i
+pub settle_refused : (plan : Parts) (i : ℕ) → IsOutcome plan.rows plan.channels plan (Ok plan.total) → i < length plan.rows → is_accepted plan.assigned i ≡ false → IsSettledRow plan plan.rows i
 settle_refused plan i outcome h out =
     let lawful = sound-lawful_itself plan.rows plan.channels plan outcome.0 in
     let row = row_at plan.rows i in
@@ -126,7 +126,7 @@ module _ (plan : Parts) (booking : Row) (outcome : IsOutcome plan.rows plan.chan
   left_out : is_accepted plan.assigned (length plan.rows) ≡ false
   left_out = ap (λ (o : Option ℕ). is_some o) (get_or_past plan.assigned (length plan.rows) None (omega (arith, one_each)))
 
-  pub settle_asked : IsSettled plan (asked plan.rows booking) (length plan.rows)
+  pub settle_asked : IsSettledRow plan (with_asked plan.rows booking) (length plan.rows)
   settle_asked =
       let n = length plan.rows in
       let many = length_push plan.rows more in
@@ -136,8 +136,8 @@ module _ (plan : Parts) (booking : Row) (outcome : IsOutcome plan.rows plan.chan
       let none : ◌≡◌ {A = ℕ} (cond (set n) more.pay 0) 0 = rw left_out refl in
       let right = outcome.1 in
       let nothing = record more { pay = 0 } in
-      let seam : offered (asked plan.rows booking) n 0 ≡ plan.rows ++ nothing ∷ [] =
-      ap (λ (r : Row). slice_set (asked plan.rows booking) n (record r { pay = 0 })) last ∙ set-append_seam plan.rows more [] nothing in
+      let seam : offered (with_asked plan.rows booking) n 0 ≡ plan.rows ++ nothing ∷ [] =
+      ap (λ (r : Row). slice_set (with_asked plan.rows booking) n (record r { pay = 0 })) last ∙ set-append_seam plan.rows more [] nothing in
       let bound = bound_more plan.rows nothing (count_of plan.channels) plan.prices in
       let term = dear_term plan.prices nothing refl (omega arith) in
       record {
@@ -154,19 +154,19 @@ module _ (plan : Parts) (booking : Row) (outcome : IsOutcome plan.rows plan.chan
       nothing_more z = omega (arith, ints)
 
 -- a free booking after them is no must row
-pub musts_asked : (rows : List Row) (booking : Row) (t : ℕ) → musts_at (asked rows booking) t ≡ musts_at rows t
+pub musts_asked : (rows : List Row) (booking : Row) (t : ℕ) → musts_at (with_asked rows booking) t ≡ musts_at rows t
 musts_asked rows booking t =
     let more = record booking { must = false } in
     let sum = sum_more rows more (λ r j. cond (r.must && is_running r t) 1 0) in
     omega (arith, sum)
 
 -- the same booking as one that has to be held
-pub held_asked : (rows : List Row) (booking : Row) → held (asked rows booking) (length rows) ≡ rows ++ record booking { must = true } ∷ []
+pub held_asked : (rows : List Row) (booking : Row) → rows_held (with_asked rows booking) (length rows) ≡ rows ++ record booking { must = true } ∷ []
 held_asked rows booking =
     let more = record booking { must = false } in
-    ap (λ (r : Row). slice_set (asked rows booking) (length rows) (record r { must = true })) (row_last rows more) ∙ set-append_seam rows more [] (record booking { must = true })
+    ap (λ (r : Row). slice_set (with_asked rows booking) (length rows) (record r { must = true })) (row_last rows more) ∙ set-append_seam rows more [] (record booking { must = true })
 
-pub freed_asked : (rows : List Row) (booking : Row) → freed (rows ++ record booking { must = true } ∷ []) (length rows) ≡ asked rows booking
+pub freed_asked : (rows : List Row) (booking : Row) → freed (rows ++ record booking { must = true } ∷ []) (length rows) ≡ with_asked rows booking
 freed_asked rows booking =
     let must = record booking { must = true } in
     ap (λ (r : Row). slice_set (rows ++ must ∷ []) (length rows) (record r { must = false })) (row_last rows must) ∙ set-append_seam rows must [] (record booking { must = false })

@@ -18,13 +18,13 @@ use Rattle.bx_quote.specs.declared.writing.QuoteFault.TheVariants as fault
 use Rattle.bx_quote.specs.Named.{picked}
 use Rattle.bx_quote.specs.Quotes.{IsQuote}
 use Rattle.bx_quote.specs.Texts.{refused_line, refused_rows}
-use Rattle.bx_quote.specs.Writing.{IsTold}
+use Rattle.bx_quote.specs.Writing.{IsToldOfRow}
 use Rattle.bx_quote.specs.Inside.{IsWriteFault}
 
 abbrev pub Put : Type 0
 Put = Result (Unit {0}) QuoteFault
 
-pub told : (r : Put) (rows : List Row) (plan : Parts) (i : ℕ) (text : Quote → List ℕ) (quote : Quote) (output : Writing) (octets : List ℕ) → IsQuote rows plan i quote → octets ≡ text quote → OnOk r (Appends output.before output.after octets) → OnOk r (IsTold rows plan i text output)
+pub told : (r : Put) (rows : List Row) (plan : Parts) (i : ℕ) (text : Quote → List ℕ) (quote : Quote) (output : Writing) (octets : List ℕ) → IsQuote rows plan i quote → octets ≡ text quote → OnOk r (Appends output.before output.after octets) → OnOk r (IsToldOfRow rows plan i text output)
 told (Ok x) rows plan i text quote output octets is same written = record { quote = quote; is = is; written = subst (λ (t : List ℕ). Appends output.before output.after t) same written }
 told (Err e) rows plan i text quote output octets is same written = tt
 

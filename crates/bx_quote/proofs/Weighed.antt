@@ -12,10 +12,10 @@ use Rattle.bx_base.specs.Plans.{is_accepted}
 use Rattle.bx_base.proofs.Duality.{pay-le-bound}
 use Rattle.bx_base.proofs.SumLemmas.{sum_below-same, sum_below-add}
 use Rattle.bx_planner.specs.Amending.{IsBestPlan}
-use Rattle.bx_quote.specs.Named.{AreRows, pay_of_rows, traded, picked}
+use Rattle.bx_quote.specs.Named.{AreRowsThatPass, pay_of_rows, traded, picked}
 use Rattle.bx_quote.specs.Inside.{is_apart}
 use Rattle.bx_quote.specs.Thresholds.{others, offered, IsThreshold}
-use Rattle.bx_quote.specs.Weighing.{IsSettled, held}
+use Rattle.bx_quote.specs.Weighing.{IsSettledRow, rows_held}
 use Rattle.bx_quote.proofs.Places.{pay_offered, pay_split, lawful_offered}
 use Rattle.bx_quote.proofs.Holding.{lawful_from_held, holds_held, lawful_held, pay_held, bound_change}
 use Rattle.bx_quote.proofs.Picking.{are_rows, pay_picked, trade_is_other}
@@ -53,7 +53,7 @@ one_pay true false pay = omega arith
 one_pay false true pay = omega arith
 one_pay false false pay = omega arith
 
-module _ (plan : Parts) (rows : List Row) (i : ℕ) (settled : IsSettled plan rows i) where
+module _ (plan : Parts) (rows : List Row) (i : ℕ) (settled : IsSettledRow plan rows i) where
   -- what lawful sets pay beside the row is no more than the plan's total
   most_beside : (set : ℕ → Bool) → IsLawful rows plan.channels set → pay_of rows (others set i) ≤ plan.total
   most_beside set lawful =
@@ -72,23 +72,23 @@ module _ (plan : Parts) (rows : List Row) (i : ℕ) (settled : IsSettled plan ro
       let inside : i < length free = (let many = length-set rows i row in omega (arith, settled.inside, many)) in
       let is_free : (row_at free i).must ≡ false = ap (λ (r : Row). r.must) there ∙ settled.free in
       let is_nothing : (row_at free i).pay ≡ 0 = ap (λ (r : Row). r.pay) there in
-      let weak = pay-le-bound (held free i) plan.channels plan.prices set (lawful_held free i inside plan.channels set (lawful_offered rows i settled.inside plan.channels 0 set lawful) holds) in
+      let weak = pay-le-bound (rows_held free i) plan.channels plan.prices set (lawful_held free i inside plan.channels set (lawful_offered rows i settled.inside plan.channels 0 set lawful) holds) in
       let change = bound_change free i (record (row_at free i) { must = true }) (count_of plan.channels) plan.prices inside in
       let term : term_of plan.prices (row_at free i) ≡ pos 0 = free_term plan.prices (row_at free i) is_free is_nothing in
       let new : term_of plan.prices (record (row_at free i) { must = true }) ≡ pos 0 -ℤ pos (cost_of plan.prices (row_at rows i)) = rw there refl in
       let same = pay_held free i inside set in
       let e = pay_offered rows i settled.inside 0 set in
-      let less = cost_order (pay_of (held free i) set) (cost_of plan.prices (row_at rows i)) plan.total (bound_of free (count_of plan.channels) plan.prices) (bound_of (held free i) (count_of plan.channels) plan.prices) weak (ap (λ (z : ℤ). bound_of (held free i) (count_of plan.channels) plan.prices +ℤ z) (sym term) ∙ (change ∙ ap (λ (z : ℤ). bound_of free (count_of plan.channels) plan.prices +ℤ z) new)) settled.proved in
+      let less = cost_order (pay_of (rows_held free i) set) (cost_of plan.prices (row_at rows i)) plan.total (bound_of free (count_of plan.channels) plan.prices) (bound_of (rows_held free i) (count_of plan.channels) plan.prices) weak (ap (λ (z : ℤ). bound_of (rows_held free i) (count_of plan.channels) plan.prices +ℤ z) (sym term) ∙ (change ∙ ap (λ (z : ℤ). bound_of free (count_of plan.channels) plan.prices +ℤ z) new)) settled.proved in
       omega (arith, less, same, e)
 
-  module _ (best : Parts) (is_best : IsBestPlan (held rows i) plan.channels best) where
+  module _ (best : Parts) (is_best : IsBestPlan (rows_held rows i) plan.channels best) where
     taken_lawful : IsLawful rows plan.channels (is_accepted best.assigned)
     taken_lawful = lawful_from_held rows i settled.inside plan.channels (is_accepted best.assigned) is_best.lawful
 
     taken_holds : is_accepted best.assigned i ≡ true
     taken_holds = holds_held rows i settled.inside plan.channels (is_accepted best.assigned) is_best.lawful
 
-    pays_holding : (set : ℕ → Bool) → set i ≡ true → pay_of (held rows i) set ≡ pay_of rows (others set i) + (row_at rows i).pay
+    pays_holding : (set : ℕ → Bool) → set i ≡ true → pay_of (rows_held rows i) set ≡ pay_of rows (others set i) + (row_at rows i).pay
     pays_holding set holds =
         let e = pay_split rows i settled.inside set in
         let one : ◌≡◌ {A = ℕ} (cond (set i) (row_at rows i).pay 0) (row_at rows i).pay = rw holds refl in
@@ -146,11 +146,11 @@ module _ (plan : Parts) (rows : List Row) (i : ℕ) (settled : IsSettled plan ro
         let differs = not-true (eqb j i) both.0 in
         (λ s. (let e = eq-eqb j i s in cc), inner.0, not-true (other j) inner.1)
 
-    pub instead_named : AreRows (length plan.rows) accepted (picked (is_apart accepted taken i) (length rows))
+    pub instead_named : AreRowsThatPass (length plan.rows) accepted (picked (is_apart accepted taken i) (length rows))
     instead_named =
         are_rows (length plan.rows) (is_apart accepted taken i) accepted (length rows) (λ j h e. let p = apart_parts accepted taken j e in (settled.others_known j h p.0, p.1))
 
-    pub besides_named : AreRows (length plan.rows) (λ j. not (eqb j i) && not (accepted j)) (picked (is_apart taken accepted i) (length rows))
+    pub besides_named : AreRowsThatPass (length plan.rows) (λ j. not (eqb j i) && not (accepted j)) (picked (is_apart taken accepted i) (length rows))
     besides_named =
         are_rows (length plan.rows) (is_apart taken accepted i) (λ j. not (eqb j i) && not (accepted j)) (length rows) (λ j h e.
         let p = apart_parts taken accepted j e in

@@ -5,7 +5,7 @@ use Rattle.std.specs.List.Sorted.{IsStrictlyIncreasing}
 use Rattle.bx_base.specs.Bookings.{Row, row_at}
 
 -- names of rows that pass a test of their places, of so many rows, in rising order
-pub record AreRows (count : ℕ) (test : ℕ → Bool) (named : List ℕ) : Type 0 where
+pub record AreRowsThatPass (count : ℕ) (test : ℕ → Bool) (named : List ℕ) : Type 0 where
   pub rising : IsStrictlyIncreasing named
   pub each : All (λ row. (1 ≤ row) × (row ≤ count) × (test (row - 1) ≡ true)) named
 

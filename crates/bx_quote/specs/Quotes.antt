@@ -7,14 +7,14 @@ use Rattle.bx_base.specs.Plans.{is_accepted}
 use Rattle.bx_quote.specs.declared.answer.Quote.{Quote}
 use Rattle.bx_quote.specs.declared.answer.NoQuote.{NoQuote}
 use Rattle.bx_quote.specs.declared.answer.NoQuote.TheVariants.{TooMany, NoChannel, NoSuchRow, Accepted, Memory}
-use Rattle.bx_quote.specs.Named.{AreRows, pay_of_rows, traded}
+use Rattle.bx_quote.specs.Named.{AreRowsThatPass, pay_of_rows, traded}
 use Rattle.bx_quote.specs.Rooms.{IsNoChannel, IsNeverTaken}
 use Rattle.bx_quote.specs.Thresholds.{IsThreshold, Decides}
 use Rattle.bx_base.specs.declared.bookings.TheConstants.{MAX_BOOKINGS}
 
 -- the rows with one more after them, which a plan is free to leave out
-abbrev pub asked : List Row → Row → List Row
-asked rows row = rows ++ record row { must = false } ∷ []
+abbrev pub with_asked : List Row → Row → List Row
+with_asked rows row = rows ++ record row { must = false } ∷ []
 
 -- what a quote of the row at i among these rows says beside a plan of them, or of those before the last of them
 pub record IsQuote (rows : List Row) (plan : Parts) (i : ℕ) (quote : Quote) : Type 0 where
@@ -24,31 +24,31 @@ pub record IsQuote (rows : List Row) (plan : Parts) (i : ℕ) (quote : Quote) : 
   pub costs : quote.cost ≡ cost_of plan.prices (row_at rows i)
   pub bound : quote.cost ≤ quote.threshold
   -- one best set with it leaves out these accepted rows, and takes these refused rows and the row itself
-  pub instead_rows : AreRows (length plan.rows) (is_accepted plan.assigned) quote.instead.items
-  pub besides_rows : AreRows (length plan.rows) (λ j. not (j == i) && not (is_accepted plan.assigned j)) quote.besides.items
+  pub instead_rows : AreRowsThatPass (length plan.rows) (is_accepted plan.assigned) quote.instead.items
+  pub besides_rows : AreRowsThatPass (length plan.rows) (λ j. not (j == i) && not (is_accepted plan.assigned j)) quote.besides.items
   pub lawful : IsLawful rows plan.channels (traded (is_accepted plan.assigned) i quote.instead.items quote.besides.items)
   pub settled : quote.threshold + pay_of_rows rows quote.besides.items ≡ pay_of_rows rows quote.instead.items
 
 -- a row of the plan
-abbrev pub IsRowOf : Parts → ℕ → Type 0
-IsRowOf plan row = (1 ≤ row) × (row ≤ length plan.rows)
+abbrev pub IsRowOfPlan : Parts → ℕ → Type 0
+IsRowOfPlan plan row = (1 ≤ row) × (row ≤ length plan.rows)
 
 -- a row that the plan refuses
 pub record IsRefused (plan : Parts) (row : ℕ) : Type 0 where
-  pub row_of : IsRowOf plan row
+  pub row_of : IsRowOfPlan plan row
   pub left_out : is_accepted plan.assigned (row - 1) ≡ false
 
 -- why a booking has no quote
 abbrev pub IsNoQuote : Parts → Row → NoQuote → Type 0
 IsNoQuote plan booking TooMany = MAX_BOOKINGS ≤ length plan.rows
-IsNoQuote plan booking (NoChannel moment) = IsNoChannel plan.rows plan.channels booking moment × IsNeverTaken (asked plan.rows booking) plan.channels (length plan.rows)
+IsNoQuote plan booking (NoChannel moment) = IsNoChannel plan.rows plan.channels booking moment × IsNeverTaken (with_asked plan.rows booking) plan.channels (length plan.rows)
 IsNoQuote plan booking Memory = Unit {0}
 IsNoQuote plan booking _ = ⊥
 
 -- why a row has none
 abbrev pub IsNoExplanation : Parts → ℕ → NoQuote → Type 0
-IsNoExplanation plan row NoSuchRow = ¬ IsRowOf plan row
-IsNoExplanation plan row (Accepted named) = (named ≡ row) × IsRowOf plan row × (is_accepted plan.assigned (row - 1) ≡ true)
+IsNoExplanation plan row NoSuchRow = ¬ IsRowOfPlan plan row
+IsNoExplanation plan row (Accepted named) = (named ≡ row) × IsRowOfPlan plan row × (is_accepted plan.assigned (row - 1) ≡ true)
 IsNoExplanation plan row (NoChannel moment) = IsRefused plan row × IsNoChannel plan.rows plan.channels (row_at plan.rows (row - 1)) moment × IsNeverTaken plan.rows plan.channels (row - 1)
 IsNoExplanation plan row Memory = Unit {0}
 IsNoExplanation plan row _ = ⊥
@@ -63,7 +63,7 @@ IsFirstFull plan booking moment =
 abbrev pub IsAcceptedRow : Parts → ℕ → ℕ → Type 0
 IsAcceptedRow plan row named =
     (named ≡ row)
-    × IsRowOf plan row
+    × IsRowOfPlan plan row
     × (is_accepted plan.assigned (row - 1) ≡ true)
 
 -- the row is one that the plan refuses, and this is the first moment at which must rows leave it no channel

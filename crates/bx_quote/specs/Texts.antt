@@ -13,12 +13,12 @@ abbrev pub number_line : List ℕ → ℕ → List ℕ
 number_line words number = words ++ decimal number ++ 10 ∷ []
 
 -- rows by their names, each after a space, or none
-abbrev pub names : List ℕ → List ℕ
-names [] = codes " none"
-names (row ∷ rows) = flat_map (λ r. 32 ∷ decimal r) (row ∷ rows)
+abbrev pub row_names : List ℕ → List ℕ
+row_names [] = codes " none"
+row_names (row ∷ rows) = flat_map (λ r. 32 ∷ decimal r) (row ∷ rows)
 
 abbrev pub names_line : List ℕ → List ℕ → List ℕ
-names_line words rows = words ++ names rows ++ 10 ∷ []
+names_line words rows = words ++ row_names rows ++ 10 ∷ []
 
 -- what a quote says
 abbrev pub quote_text : Quote → List ℕ

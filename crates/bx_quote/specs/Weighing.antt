@@ -8,15 +8,15 @@ use Rattle.bx_base.specs.Plans.{is_accepted}
 use Rattle.bx_quote.specs.Thresholds.{offered}
 
 -- the rows, of which each plan has to hold the one at i
-abbrev pub held : List Row → ℕ → List Row
-held rows i = slice_set rows i (record (row_at rows i) { must = true })
+abbrev pub rows_held : List Row → ℕ → List Row
+rows_held rows i = slice_set rows i (record (row_at rows i) { must = true })
 
 -- the rows, of which a plan is free to leave out the one at i
 abbrev pub freed : List Row → ℕ → List Row
 freed rows i = slice_set rows i (record (row_at rows i) { must = false })
 
 -- a choice that leaves out the free row at i, and prices that prove it best whatever that row pays up to its cost
-pub record IsSettled (plan : Parts) (rows : List Row) (i : ℕ) : Type 0 where
+pub record IsSettledRow (plan : Parts) (rows : List Row) (i : ℕ) : Type 0 where
   pub inside : i < length rows
   pub free : (row_at rows i).must ≡ false
   pub left_out : is_accepted plan.assigned i ≡ false

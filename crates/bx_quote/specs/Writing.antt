@@ -9,11 +9,11 @@ use Rattle.bx_quote.specs.declared.answer.Quote.{Quote}
 use Rattle.bx_quote.specs.declared.answer.NoQuote.TheVariants.{Memory}
 use Rattle.bx_quote.specs.declared.writing.QuoteFault.{QuoteFault}
 use Rattle.bx_quote.specs.declared.writing.QuoteFault.TheVariants as fault
-use Rattle.bx_quote.specs.Quotes.{IsQuote, IsNoQuote, IsNoExplanation, asked}
+use Rattle.bx_quote.specs.Quotes.{IsQuote, IsNoQuote, IsNoExplanation, with_asked}
 use Rattle.bx_quote.specs.Texts.{quote_text, explained_text, refused_text}
 
 -- the text of a quote of the row at i was written
-pub record IsTold (rows : List Row) (plan : Parts) (i : ℕ) (text : Quote → List ℕ) (output : Writing) : Type 0 where
+pub record IsToldOfRow (rows : List Row) (plan : Parts) (i : ℕ) (text : Quote → List ℕ) (output : Writing) : Type 0 where
   pub quote : Quote
   pub is : IsQuote rows plan i quote
   pub written : Appends output.before output.after (text quote)
@@ -27,17 +27,17 @@ pub record IsCutTold (rows : List Row) (plan : Parts) (i : ℕ) (text : Quote �
 -- the text of a quote of this booking was written
 abbrev pub IsQuoteTold : Parts → Row → Writing → Type 0
 IsQuoteTold plan booking output =
-    IsTold (asked plan.rows booking) plan (length plan.rows) quote_text output
+    IsToldOfRow (with_asked plan.rows booking) plan (length plan.rows) quote_text output
 
 -- the text of what this row has to pay was
 abbrev pub IsExplanationTold : Parts → ℕ → Writing → Type 0
 IsExplanationTold plan row output =
-    IsTold plan.rows plan (row - 1) (explained_text row (row_at plan.rows (row - 1)).pay) output
+    IsToldOfRow plan.rows plan (row - 1) (explained_text row (row_at plan.rows (row - 1)).pay) output
 
 -- each refusal of a quote: why there is none, and that nothing was written, or that the output failed
 abbrev pub IsQuoteRefusal : Parts → Row → Writing → QuoteFault → Type 0
 IsQuoteRefusal plan booking output (fault.Quote fail) = IsNoQuote plan booking fail × KeepsOutput output
-IsQuoteRefusal plan booking output fault.WriteFailed = (output.is_faulted ≡ true) × IsCutTold (asked plan.rows booking) plan (length plan.rows) quote_text output
+IsQuoteRefusal plan booking output fault.WriteFailed = (output.is_faulted ≡ true) × IsCutTold (with_asked plan.rows booking) plan (length plan.rows) quote_text output
 
 -- the same of a row of the plan
 abbrev pub IsExplainRefusal : Parts → ℕ → Writing → QuoteFault → Type 0

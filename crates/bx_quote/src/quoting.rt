@@ -5,9 +5,9 @@ ghost use Rattle.bx_base.specs.Bookings.{row_at};
 ghost use Rattle.bx_base.specs.PlanParts.{parts_of};
 ghost use Rattle.bx_base.specs.Plans.{is_accepted};
 ghost use Rattle.bx_check.specs.Check.{IsOutcome};
-ghost use Rattle.bx_quote.specs.Quotes.{IsQuote, IsNoQuote, IsNoExplanation, IsRowOf, asked, IsAcceptedRow, IsFirstFull, IsRefusedAsFull};
+ghost use Rattle.bx_quote.specs.Quotes.{IsQuote, IsNoQuote, IsNoExplanation, IsRowOfPlan, with_asked, IsAcceptedRow, IsFirstFull, IsRefusedAsFull};
 ghost use Rattle.bx_quote.specs.Rooms.{IsNoChannel};
-ghost use Rattle.bx_quote.specs.Weighing.{held};
+ghost use Rattle.bx_quote.specs.Weighing.{rows_held};
 ghost use Rattle.bx_base.specs.declared.bookings.TheConstants.{MAX_BOOKINGS};
 
 use crate::answer::{NoQuote, Quote};
@@ -23,7 +23,7 @@ pub fn quote(alloc: Global, plan: &Plan, booking: &Booking) -> Result<Quote, NoQ
     requires proved { IsOutcome plan.now.bookings plan.now.channels (parts_of plan.now) (Ok plan.now.total) }
     ensures full { (result ≡ Err NoQuote.TooMany) ↔ (MAX_BOOKINGS ≤ length plan.now.bookings) }
     ensures no_channel { (t : ℕ) → (result ≡ Err (NoQuote.NoChannel t)) ↔ IsFirstFull (parts_of plan.now) booking.now t }
-    ensures quoted { IfOk result (IsQuote (asked plan.now.bookings booking.now) (parts_of plan.now) (length plan.now.bookings)) }
+    ensures quoted { IfOk result (IsQuote (with_asked plan.now.bookings booking.now) (parts_of plan.now) (length plan.now.bookings)) }
     ensures fail { IfErr result (IsNoQuote (parts_of plan.now) booking.now) }
 {
     if plan.bookings.len() as usize >= MAX_BOOKINGS {
@@ -43,7 +43,7 @@ pub fn quote(alloc: Global, plan: &Plan, booking: &Booking) -> Result<Quote, NoQ
 /// runs out.
 pub fn explain(alloc: Global, plan: &Plan, row: u16) -> Result<Quote, NoQuote>
     requires proved { IsOutcome plan.now.bookings plan.now.channels (parts_of plan.now) (Ok plan.now.total) }
-    ensures no_row { (result ≡ Err NoQuote.NoSuchRow) ↔ (¬ IsRowOf (parts_of plan.now) row) }
+    ensures no_row { (result ≡ Err NoQuote.NoSuchRow) ↔ (¬ IsRowOfPlan (parts_of plan.now) row) }
     ensures accepted { (named : ℕ) → (result ≡ Err (NoQuote.Accepted named)) ↔ IsAcceptedRow (parts_of plan.now) row named }
     ensures no_channel { (t : ℕ) → (result ≡ Err (NoQuote.NoChannel t)) ↔ IsRefusedAsFull (parts_of plan.now) row t }
     ensures explained { IfOk result (IsQuote plan.now.bookings (parts_of plan.now) (row - 1)) }
@@ -69,7 +69,7 @@ fn quoted(alloc: Global, plan: &Plan, booking: &Booking) -> Result<Quote, AllocE
     requires proved { IsOutcome plan.now.bookings plan.now.channels (parts_of plan.now) (Ok plan.now.total) }
     requires few { length plan.now.bookings < MAX_BOOKINGS }
     requires room { (t : ℕ) → ¬ IsNoChannel plan.now.bookings plan.now.channels booking.now t }
-    ensures { IfOk result (IsQuote (asked plan.now.bookings booking.now) (parts_of plan.now) (length plan.now.bookings)) }
+    ensures { IfOk result (IsQuote (with_asked plan.now.bookings booking.now) (parts_of plan.now) (length plan.now.bookings)) }
 {
     let mut rows = plan.bookings.copy()?;
     match rows.push(booking.as_must()) {
@@ -94,7 +94,7 @@ fn explained(alloc: Global, plan: &Plan, index: u16) -> Result<Quote, AllocError
 /// The bookings, of which each plan has to hold the one at this place.
 fn with_must(alloc: Global, bookings: &Bookings, index: u16) -> Result<Bookings, AllocError>
     requires { index < length bookings.now }
-    ensures { IfOk result (λ b. b ≡ held bookings.now index) }
+    ensures { IfOk result (λ b. b ≡ rows_held bookings.now index) }
 {
     let mut rows = Bookings::new(alloc);
     for place in 0..bookings.len() {

@@ -6,7 +6,7 @@ ghost use Rattle.bx_check.specs.Check.{IsRising};
 ghost use Rattle.bx_planner.specs.Amending.{IsBestPlan};
 ghost use Rattle.bx_planner.specs.Musts.{IsTooManyMust};
 ghost use Rattle.bx_quote.specs.Quotes.{IsQuote};
-ghost use Rattle.bx_quote.specs.Weighing.{IsSettled, freed, held};
+ghost use Rattle.bx_quote.specs.Weighing.{IsSettledRow, freed, rows_held};
 
 use crate::answer::Quote;
 use crate::naming::apart;
@@ -23,8 +23,8 @@ pub(crate) fn weighed(
     rows: &Bookings,
     index: u16,
 ) -> Result<Quote, AllocError>
-    requires settled { IsSettled (parts_of earlier.now) (freed rows.now index) index }
-    requires marked { rows.now ≡ held (freed rows.now index) index }
+    requires settled { IsSettledRow (parts_of earlier.now) (freed rows.now index) index }
+    requires marked { rows.now ≡ rows_held (freed rows.now index) index }
     requires rising { IsRising earlier.now.prices.items }
     requires room { (t : ℕ) → ¬ IsTooManyMust rows.now earlier.now.channels t }
     ensures { IfOk result (IsQuote (freed rows.now index) (parts_of earlier.now) index) }

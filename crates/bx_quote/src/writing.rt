@@ -6,7 +6,7 @@ ghost use Rattle.bx_devices.specs.Devices.{writing_of};
 ghost use Rattle.bx_devices.specs.Watching.{device_of};
 ghost use Rattle.bx_base.specs.PlanParts.{parts_of};
 ghost use Rattle.bx_check.specs.Check.{IsOutcome};
-ghost use Rattle.bx_quote.specs.Quotes.{IsRowOf, IsAcceptedRow, IsFirstFull, IsRefusedAsFull};
+ghost use Rattle.bx_quote.specs.Quotes.{IsRowOfPlan, IsAcceptedRow, IsFirstFull, IsRefusedAsFull};
 ghost use Rattle.bx_quote.specs.Texts.{quote_text, explained_text, refused_text};
 ghost use Rattle.bx_quote.specs.Writing.{IsQuoteRefusal, IsExplainRefusal, IsListRefusal, IsExplanationTold, IsQuoteTold};
 ghost use Rattle.bx_quote.specs.Inside.{IsWriteFault};
@@ -69,8 +69,8 @@ pub fn write_explained<W: Write>(
     requires proved { IsOutcome plan.now.bookings plan.now.channels (parts_of plan.now) (Ok plan.now.total) }
     ensures told { OnOk result (IsExplanationTold (parts_of plan.now) row (writing_of W.contents output.old output.new)) }
     ensures refused { IfErr result (IsExplainRefusal (parts_of plan.now) row (writing_of W.contents output.old output.new)) }
-    ensures row_of { OnOk result (IsRowOf (parts_of plan.now) row) }
-    ensures no_row { (result ≡ Err (QuoteFault.Quote NoQuote.NoSuchRow)) ↔ (¬ IsRowOf (parts_of plan.now) row) }
+    ensures row_of { OnOk result (IsRowOfPlan (parts_of plan.now) row) }
+    ensures no_row { (result ≡ Err (QuoteFault.Quote NoQuote.NoSuchRow)) ↔ (¬ IsRowOfPlan (parts_of plan.now) row) }
     ensures accepted { (named : ℕ) → (result ≡ Err (QuoteFault.Quote (NoQuote.Accepted named))) ↔ IsAcceptedRow (parts_of plan.now) row named }
     ensures no_room { (t : ℕ) → (result ≡ Err (QuoteFault.Quote (NoQuote.NoChannel t))) ↔ IsRefusedAsFull (parts_of plan.now) row t }
 {

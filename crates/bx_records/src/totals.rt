@@ -3,10 +3,10 @@
 ghost use Rattle.std.specs.Prelude.{◌≡◌, ◌≤◌, length, not, IsTrue, OnOk, OnErr};
 ghost use Rattle.std.specs.Io.KnownBytes.{Appends};
 ghost use Rattle.bx_base.specs.declared.bookings.TheConstants.{MAX_BOOKINGS};
-ghost use Rattle.bx_day.specs.Invariant.{is_refused};
+ghost use Rattle.bx_day.specs.Invariant.{is_refused, stands_accepted};
 ghost use Rattle.bx_devices.specs.Octets.{AppendsPrefix};
 ghost use Rattle.bx_devices.specs.Watching.{device_of, is_faulted};
-ghost use Rattle.bx_records.specs.Totals.{is_carried, is_accepted, totals_text};
+ghost use Rattle.bx_records.specs.Totals.{is_carried, totals_text};
 ghost use Rattle.bx_records.specs.Inside.{totals_line};
 ghost use Rattle.bx_records.specs.Tallies.{IsTallyOf};
 
@@ -25,7 +25,7 @@ struct Totals {
 
 /// Whether the plan accepts the booking of which this has become.
 fn accepted(standing: &Standing) -> bool
-    ensures { result ≡ is_accepted standing.now }
+    ensures { result ≡ stands_accepted standing.now }
 {
     !matches!(standing, Standing::Refused)
 }
@@ -40,7 +40,7 @@ fn carried(standing: &Standing) -> bool
 /// The totals of a day's bookings.
 fn totals_of(entries: &[Entry]) -> Totals
     requires { length entries.now ≤ MAX_BOOKINGS }
-    ensures accepted { IsTallyOf is_accepted entries.now result.accepted }
+    ensures accepted { IsTallyOf stands_accepted entries.now result.accepted }
     ensures carried { IsTallyOf is_carried entries.now result.carried }
 {
     let mut totals = Totals {

@@ -13,9 +13,9 @@ use Rattle.bx_journal.specs.Reading.{Recovery, recovered, journal_in, with_whole
 use Rattle.bx_journal.specs.Lines.{whole_text}
 use Rattle.bx_journal.specs.Follows.{WasRefused, IsFollowed}
 use Rattle.bx_journal.specs.Heads.{IsWanted}
-use Rattle.bx_journal.specs.Recording.{IsPrefix}
+use Rattle.bx_journal.specs.Logging.{IsPrefix}
 use Rattle.bx_journal.proofs.OneText.{with_less}
-use Rattle.bx_recovery.specs.Recovered.{goes_on, IsDayBefore, IsRecovered, IsPrefixDay}
+use Rattle.bx_recovery.specs.Recovered.{goes_on_by, IsDayBefore, IsRecovered, IsPrefixDay}
 
 pub record Splits (text read : List ℕ) : Type 0 where
   pub rest : List ℕ
@@ -30,7 +30,7 @@ whole text read None c e = absurd c
 whole text read (Some rest) c e = c ∙ ap (λ (l : List ℕ). read ++ l) e ∙ append-nil read
 
 module _ (wanted : Wanted) (text : List ℕ) (after : Option (List ℕ)) (old new : Day) where
-  before_fault : (fault : JournalFault) → WasRefused goes_on (Some text) after wanted old new fault → IsDayBefore wanted text old new fault
+  before_fault : (fault : JournalFault) → WasRefused goes_on_by (Some text) after wanted old new fault → IsDayBefore wanted text old new fault
   before_fault fault r =
       let s = splits text r.read after r.consumed in
       record {
@@ -38,7 +38,7 @@ module _ (wanted : Wanted) (text : List ℕ) (after : Option (List ℕ)) (old ne
         day = r.followed_all ∙ ap (λ (es : List LiveEvent). live_day_after es old) (sym (ap (events_before wanted) s.is ∙ r.are s.rest));
       }
 
-  known : (faulted : Bool) (result : Result ℕ JournalFault) → IsFollowed goes_on faulted (Some text) after wanted old new result → IsRecovered wanted text old new result
+  known : (faulted : Bool) (result : Result ℕ JournalFault) → IsFollowed goes_on_by faulted (Some text) after wanted old new result → IsRecovered wanted text old new result
   known faulted (Ok n) r = record { events = r.events; is = ap (journal_in wanted) (whole text r.text after r.consumed r.at_end) ∙ r.is; day = r.followed_all }
   known faulted (Err (BadLine n)) r = before_fault (BadLine n) r
   known faulted (Err OtherPlan) r = before_fault OtherPlan r
@@ -49,8 +49,8 @@ module _ (wanted : Wanted) (text : List ℕ) (after : Option (List ℕ)) (old ne
       let s = splits text (r.read ++ r.held) after r.consumed in
       record { prefix = r.read; rest = r.held ++ s.rest; splits = s.is ∙ append_assoc r.read r.held s.rest; events = r.events; is = r.is; day = r.followed_all }
 
-pub day_known : (wanted : Wanted) (text : List ℕ) (before after : Option (List ℕ)) (old new : Day) (faulted : Bool) (result : Result ℕ JournalFault) → before ≡ Some text → IsFollowed goes_on faulted before after wanted old new result → IsRecovered wanted text old new result
-day_known wanted text before after old new faulted result is r = known wanted text after old new faulted result (subst (λ (b : Option (List ℕ)). IsFollowed goes_on faulted b after wanted old new result) is r)
+pub day_known : (wanted : Wanted) (text : List ℕ) (before after : Option (List ℕ)) (old new : Day) (faulted : Bool) (result : Result ℕ JournalFault) → before ≡ Some text → IsFollowed goes_on_by faulted before after wanted old new result → IsRecovered wanted text old new result
+day_known wanted text before after old new faulted result is r = known wanted text after old new faulted result (subst (λ (b : Option (List ℕ)). IsFollowed goes_on_by faulted b after wanted old new result) is r)
 
 -- the events of a recovery
 pub the_events : (n m : ℕ) (read : Result (List LiveEvent) JournalFault) (events : List LiveEvent) → with_whole n read ≡ Ok (record { events = events; whole = m }) → read ≡ Ok events
@@ -85,12 +85,12 @@ pub prefix_day : (wanted : Wanted) (head : Head) (text : List ℕ) (old new : Da
 prefix_day wanted head text old new result before more is r f = prefix_by wanted text old new result before more r (f.0, f.1, with_less head wanted text (before ++ take f.0 more) is f.2)
 
 -- what a follower has followed, said of its day
-module _ {F : Type 0} (followed : F → List LiveEvent → F → Type 0) (day : F → Day) (goes : (f g : F) (events : List LiveEvent) → followed f events g → goes_on (day f) events (day g))
+module _ {F : Type 0} (followed : F → List LiveEvent → F → Type 0) (day : F → Day) (goes : (f g : F) (events : List LiveEvent) → followed f events g → goes_on_by (day f) events (day g))
     (faulted : Bool) (before after : Option (List ℕ)) (wanted : Wanted) (f g : F) where
-  refused_day : (fault : JournalFault) → WasRefused followed before after wanted f g fault → WasRefused goes_on before after wanted (day f) (day g) fault
+  refused_day : (fault : JournalFault) → WasRefused followed before after wanted f g fault → WasRefused goes_on_by before after wanted (day f) (day g) fault
   refused_day fault r = record { read = r.read; consumed = r.consumed; is = r.is; events = r.events; are = r.are; followed_all = goes f g r.events r.followed_all }
 
-  pub followed_day : (result : Result ℕ JournalFault) → IsFollowed followed faulted before after wanted f g result → IsFollowed goes_on faulted before after wanted (day f) (day g) result
+  pub followed_day : (result : Result ℕ JournalFault) → IsFollowed followed faulted before after wanted f g result → IsFollowed goes_on_by faulted before after wanted (day f) (day g) result
   followed_day (Ok n) r = record { text = r.text; consumed = r.consumed; at_end = r.at_end; events = r.events; is = r.is; followed_all = goes f g r.events r.followed_all }
   followed_day (Err (BadLine n)) r = refused_day (BadLine n) r
   followed_day (Err OtherPlan) r = refused_day OtherPlan r

@@ -8,15 +8,15 @@ use Rattle.bx_journal.specs.declared.fault.JournalFault.TheVariants.{BadLine, Ot
 use Rattle.bx_journal.specs.declared.head.Wanted.{Wanted}
 use Rattle.bx_journal.specs.Reading.{recovered, journal_in, events_before}
 use Rattle.bx_journal.specs.Heads.{IsWanted}
-use Rattle.bx_journal.specs.Recording.{IsPrefix}
+use Rattle.bx_journal.specs.Logging.{IsPrefix}
 use Rattle.bx_journal.specs.declared.head.Head.{Head}
 
 -- what follows a journal: the day goes on by its events
-abbrev pub goes_on : Day → List LiveEvent → Day → Type 0
-goes_on d events d' = d' ≡ live_day_after events d
+abbrev pub goes_on_by : Day → List LiveEvent → Day → Type 0
+goes_on_by d events d' = d' ≡ live_day_after events d
 
 -- the day after the events of this text, of which so many octets are whole lines
-pub record IsDayOf (wanted : Wanted) (text : List ℕ) (old new : Day) (whole : ℕ) : Type 0 where
+pub record IsDayByText (wanted : Wanted) (text : List ℕ) (old new : Day) (whole : ℕ) : Type 0 where
   pub events : List LiveEvent
   pub is : journal_in wanted text ≡ Ok (record { events = events; whole = whole })
   pub day : new ≡ live_day_after events old
@@ -36,7 +36,7 @@ pub record IsDayOfPrefix (wanted : Wanted) (text : List ℕ) (old new : Day) : T
   pub day : new ≡ live_day_after events old
 
 abbrev pub IsRecovered : Wanted → List ℕ → Day → Day → Result ℕ JournalFault → Type 0
-IsRecovered wanted text old new (Ok whole) = IsDayOf wanted text old new whole
+IsRecovered wanted text old new (Ok whole) = IsDayByText wanted text old new whole
 IsRecovered wanted text old new (Err (BadLine n)) = IsDayBefore wanted text old new (BadLine n)
 IsRecovered wanted text old new (Err OtherPlan) = IsDayBefore wanted text old new OtherPlan
 IsRecovered wanted text old new (Err OtherDay) = IsDayBefore wanted text old new OtherDay

@@ -1,7 +1,7 @@
 //! An exchange that follows a journal.
 
 use bx_day::Exchange;
-use bx_journal::{Follower, RecordedEvent};
+use bx_journal::{Follower, LoggedEvent};
 
 /// An exchange to which the events of a journal happen. What it sends for them was sent before, so it goes nowhere.
 #[derive(Drop)]
@@ -17,17 +17,17 @@ impl Follower for Following {
 
     ghost followed = { λ f events g. g.exchange ≡ live_day_after events f.exchange };
 
-    fn follow(&mut self, event: &RecordedEvent) {
+    fn follow(&mut self, event: &LoggedEvent) {
         match event {
-            RecordedEvent::Tick => {
+            LoggedEvent::Tick => {
                 let _sent = self.exchange.tick();
             }
-            RecordedEvent::Heard(octets) => {
+            LoggedEvent::Heard(octets) => {
                 let _reply = self.exchange.receive(octets);
             }
-            RecordedEvent::Down => self.exchange.second_without_link(),
+            LoggedEvent::Down => self.exchange.second_without_link(),
             // The plan that the exchange was opened with has it.
-            RecordedEvent::Sold(_) => {}
+            LoggedEvent::Sold(_) => {}
         }
     }
 

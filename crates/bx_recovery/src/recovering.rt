@@ -3,7 +3,7 @@
 ghost use Rattle.std.specs.Prelude.{◌≡◌, ◌⊎◌, ℕ, List, Some, Err};
 ghost use Rattle.bx_devices.specs.Watching.{device_of, is_faulted};
 ghost use Rattle.bx_journal.specs.Follows.{IsFollowedFrom};
-ghost use Rattle.bx_recovery.specs.Recovered.{goes_on, IsRecovered, IsPrefixRecovered};
+ghost use Rattle.bx_recovery.specs.Recovered.{goes_on_by, IsRecovered, IsPrefixRecovered};
 
 use crate::following::Following;
 use bx_day::Exchange;
@@ -27,10 +27,10 @@ pub fn recover_day<R: Read>(
     exchange: Exchange,
 ) -> Recovered
     // Of a device that does not tell its octets: some text was read of it, and the day is the one after the events of that.
-    ensures read { IsFollowedFrom goes_on R.remaining device.old device.new wanted.now exchange result.exchange result.whole }
+    ensures read { IsFollowedFrom goes_on_by R.remaining device.old device.new wanted.now exchange result.exchange result.whole }
     ensures day { (text : List ℕ) → R.remaining (device_of device.old) ≡ Some text → IsRecovered wanted.now text exchange result.exchange result.whole }
     // After a crash while events were logged, in the journal of a head that is wanted, it is the day after a prefix of them, with each
-    // whose record was done.
+    // whose logging was done.
     ensures prefix { IsPrefixRecovered wanted.now (R.remaining (device_of device.old)) exchange result.exchange result.whole }
     ensures unfaulted { (is_faulted device.new ≡ is_faulted device.old) ⊎ (result.whole ≡ Err JournalFault.ReadFailed) }
 {

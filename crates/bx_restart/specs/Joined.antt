@@ -7,7 +7,6 @@ use Rattle.bx_planfile.specs.OneBooking.{row_on}
 use Rattle.bx_sales.proofs.Journal.{through_more}
 use Rattle.bx_restart.specs.declared.reselling.SaleFault.{SaleFault}
 use Rattle.bx_restart.specs.declared.selling.Selling.{Selling}
-use Rattle.bx_restart.specs.Sales.{SaleIn}
 use Rattle.bx_restart.specs.Going.{IsStopped, Goes, GoesFrom}
 use Rattle.bx_restart.specs.Selling.{day_goes, IsAfter}
 

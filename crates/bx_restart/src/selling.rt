@@ -2,13 +2,13 @@
 
 ghost use Rattle.std.specs.Prelude.{◌≡◌, ◌∷◌, [], None, Some, IfOk, IfErr};
 ghost use Rattle.bx_events.specs.Events.{Sold};
-ghost use Rattle.bx_journal.specs.Events.{recorded_event};
+ghost use Rattle.bx_journal.specs.Events.{logged_event};
 ghost use Rattle.bx_restart.specs.Selling.{IsAfter};
 
 use crate::reselling::{SaleFault, resell};
 use bx_base::ChannelSet;
 use bx_day::Exchange;
-use bx_journal::{Follower, RecordedEvent};
+use bx_journal::{Follower, LoggedEvent};
 use std::alloc::Global;
 
 /// An exchange to which the events of a journal happen, and which sells again what the journal says was sold, on the channels in
@@ -58,18 +58,18 @@ impl Selling {
     }
 
     /// The next event happens, where nothing was wrong yet.
-    fn go_on(&mut self, event: &RecordedEvent)
-        ensures { self.old.sale ≡ None → IsAfter self.old (recorded_event event.now ∷ []) self.new }
+    fn go_on(&mut self, event: &LoggedEvent)
+        ensures { self.old.sale ≡ None → IsAfter self.old (logged_event event.now ∷ []) self.new }
     {
         match event {
-            RecordedEvent::Tick => {
+            LoggedEvent::Tick => {
                 let _sent = self.exchange.tick();
             }
-            RecordedEvent::Heard(octets) => {
+            LoggedEvent::Heard(octets) => {
                 let _reply = self.exchange.receive(octets);
             }
-            RecordedEvent::Down => self.exchange.second_without_link(),
-            RecordedEvent::Sold(line) => self.take(line),
+            LoggedEvent::Down => self.exchange.second_without_link(),
+            LoggedEvent::Sold(line) => self.take(line),
         }
     }
 }
@@ -80,7 +80,7 @@ impl Follower for Selling {
 
     ghost followed = { IsAfter };
 
-    fn follow(&mut self, event: &RecordedEvent) {
+    fn follow(&mut self, event: &LoggedEvent) {
         if self.sale.is_none() {
             self.go_on(event);
         }

@@ -12,7 +12,7 @@ use Rattle.bx_dist.specs.Tight.{IsTight, last_step}
 use Rattle.bx_dist.proofs.Ranks.{marked, marked_one, marked_none, marks_few, zero_in}
 use Rattle.bx_dist.proofs.Sending.{sum_below-change}
 use Rattle.bx_dist.proofs.Simple.{RanksRise, pairs_from_simple, simple_from_rising}
-use Rattle.bx_rounds.specs.Rounds.{IsTightWalk, AreMarks, IsLastStep, Extends, IsFound}
+use Rattle.bx_rounds.specs.Rounds.{IsTightWalk, AreMarks, IsLastStep, ExtendsWalk, IsFoundWalk}
 
 pub first_marks : (line : Network) (steps : List Step) (lengths : List ℤ) → 0 < places_of line → AreMarks line steps lengths (set (replicate (places_of line) 0) 0 1) (replicate (places_of line) (Idle 0)) 1
 first_marks line steps lengths some =
@@ -87,7 +87,7 @@ module _ (line : Network) (steps : List Step) (lengths : List ℤ) (ranks : List
         }
 
   -- where no step leads further, each place that a tight walk reaches is marked
-  pub all_marked : ((step : Step) → Contains steps step → Extends line lengths ranks step) → (from to : ℕ) (walk : List Step) → 0 < get_or ranks from 0 → IsTightWalk line steps lengths from to walk → 0 < get_or ranks to 0
+  pub all_marked : ((step : Step) → Contains steps step → ExtendsWalk line lengths ranks step) → (from to : ℕ) (walk : List Step) → 0 < get_or ranks from 0 → IsTightWalk line steps lengths from to walk → 0 < get_or ranks to 0
   all_marked done from to [] h w = subst (λ (v : ℕ). 0 < get_or ranks v 0) w h
   all_marked done from to (step ∷ walk) h w =
       all_marked done (step_to line step) to walk (done step w.0 w.1 (subst (λ (v : ℕ). 0 < get_or ranks v 0) (sym w.2) h)) w.3
@@ -116,6 +116,6 @@ module _ (line : Network) (steps : List Step) (lengths : List ℤ) (ranks : List
   pub some_place : 0 < places_of line
   some_place = elim (cases_lt 0 (places_of line)) [ inl h ↦ h | inr h ↦ absurd (omega (arith, marks.first, get_or_past ranks 0 0 (omega (arith, marks.ranks_each)))) ]
 
-  pub found_back : (walk : List Step) → IsBack line steps lengths ranks 0 walk → IsFound line steps lengths walk
+  pub found_back : (walk : List Step) → IsBack line steps lengths ranks 0 walk → IsFoundWalk line steps lengths walk
   found_back walk b =
       record { leads = b.leads; once = pairs_from_simple line 0 walk (simple_from_rising line ranks 0 walk b.rises); few = omega (arith, b.few, marks.low (places_of line - 1), count_few) }

@@ -2,7 +2,7 @@
 use Rattle.std.proofs.Common.{◌≡◌, ℕ, ◌+◌, ◌-◌, ◌*◌, ◌<◌, ◌≤◌, arith, ◌⊎◌, inl, inr}
 use Rattle.std.proofs.lemmas.Bool.{cases_lt}
 use Rattle.std.proofs.Math.Nat.{mul-le-mul_right}
-use Rattle.bx_rounds.specs.Rounds.{IsNext}
+use Rattle.bx_rounds.specs.Rounds.{IsNextOnCircle}
 
 -- one of the last n places passed before `at`, in a circle of so many
 abbrev pub IsPassed : ℕ → ℕ → ℕ → ℕ → Type 0
@@ -15,13 +15,13 @@ passed_none at size j h (inr p) = omega (arith, p.0, p.1)
 pub passed_all : (at n size j : ℕ) → at < size → size ≤ n → IsPassed at n size j
 passed_all at n size j h l = elim (cases_lt j at) [ inl a ↦ inl (a, omega arith) | inr a ↦ inr (a, omega arith) ]
 
-pub passed_before : (at n size next j : ℕ) → at < size → j < size → IsNext at size next → IsPassed next (n + 1) size j → (j ≡ at) ⊎ IsPassed at n size j
+pub passed_before : (at n size next j : ℕ) → at < size → j < size → IsNextOnCircle at size next → IsPassed next (n + 1) size j → (j ≡ at) ⊎ IsPassed at n size j
 passed_before at n size next j a h (inl s) (inl p) = elim (cases_lt j at) [ inl b ↦ inr (inl (b, omega (arith, p.1, s.1))) | inr b ↦ inl (omega (arith, p.0, s.1)) ]
 passed_before at n size next j a h (inl s) (inr p) = inr (inr (omega (arith, p.0, s.1), omega (arith, p.1, s.1)))
 passed_before at n size next j a h (inr s) (inl p) = absurd (omega (arith, p.0, s.1))
 passed_before at n size next j a h (inr s) (inr p) = elim (cases_lt j at) [ inl b ↦ inr (inl (b, omega (arith, p.1, s.1, s.0))) | inr b ↦ inl (omega (arith, s.0)) ]
 
-pub next_within : (at size next : ℕ) → at < size → IsNext at size next → next < size
+pub next_within : (at size next : ℕ) → at < size → IsNextOnCircle at size next → next < size
 next_within at size next a (inl s) = omega (arith, s.0, s.1)
 next_within at size next a (inr s) = omega (arith, s.1)
 

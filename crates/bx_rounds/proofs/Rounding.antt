@@ -14,12 +14,12 @@ use Rattle.bx_dist.specs.declared.part.Part.{Part}
 use Rattle.bx_dist.specs.declared.step.Step.{Step}
 use Rattle.bx_dist.specs.Residual.{IsOpen, Fits, ArePotentials, AreSmall, height_at, step_to}
 use Rattle.bx_dist.specs.Walks.{IsWalk, walk_length, AreLeast, AreDistances, lengths_of}
-use Rattle.bx_dist.specs.Search.{IsSettled, Shortens, AreMedium}
+use Rattle.bx_dist.specs.Search.{ShortensNothing, Shortens, AreMedium}
 use Rattle.bx_dist.specs.Tight.{AreSteps}
 use Rattle.bx_dist.proofs.After.{first_distance, step_within, tight_from_least, AllTight}
 use Rattle.bx_dist.proofs.Bounds.{AreBounds, bounds_after, new_at, other_at, above, open_is_step}
 use Rattle.bx_dist.proofs.Small.{least_that_fit, small_distances}
-use Rattle.bx_rounds.specs.Rounds.{AreOpenSteps, IsTightWalk, Reaches, IsFound}
+use Rattle.bx_rounds.specs.Rounds.{AreOpenSteps, IsTightWalk, Reaches, IsFoundWalk}
 
 -- how far the lengths are together above what the potentials show that no walk can go below
 abbrev pub excess_at : List ℤ → List ℤ → ℕ → ℕ
@@ -80,7 +80,7 @@ module _ (part : Part) (line : Network) (flow : Flow) where
     walk_is_tight lengths from to [] w t = w
     walk_is_tight lengths from to (step ∷ walk) w t = (are_open.all step w.0, t.0, w.1, walk_is_tight lengths (step_to line step) to walk w.2 t.1)
 
-    module _ (some : 0 < places_of line) (lengths : List ℤ) (bounds : AreBounds part line flow lengths) (settled : (step : Step) → Contains steps step → IsSettled line lengths step) where
+    module _ (some : 0 < places_of line) (lengths : List ℤ) (bounds : AreBounds part line flow lengths) (settled : (step : Step) → Contains steps step → ShortensNothing line lengths step) where
       settled_fits : Fits part line flow lengths
       settled_fits step o = settled step (are_open.all step o)
 
@@ -95,7 +95,7 @@ module _ (part : Part) (line : Network) (flow : Flow) where
           let r = bounds.reached (places_of line - 1) last_within in
           (r.0, walk_is_tight lengths 0 (places_of line - 1) r.0 r.1 (tight_from_least part line flow lengths settled_fits 0 (places_of line - 1) r.0 r.1 (omega (arith, ints, r.2, bounds.low 0))))
 
-      module _ (walk : List Step) (found : IsFound line steps lengths walk) where
+      module _ (walk : List Step) (found : IsFoundWalk line steps lengths walk) where
         is_walk : IsWalk part line flow 0 (places_of line - 1) walk
         is_walk = tight_is_walk lengths 0 (places_of line - 1) walk found.leads
 

@@ -16,7 +16,7 @@ pub record AreOpenSteps (part : Part) (line : Network) (flow : Flow) (steps : Li
   pub all : (step : Step) → IsOpen part line flow step → Contains steps step
 
 -- the list has just the open steps from the places below v to the next, and those of the first n rows
-pub record AreListed (part : Part) (line : Network) (flow : Flow) (v n : ℕ) (steps : List Step) : Type 0 where
+pub record ListsOpenSteps (part : Part) (line : Network) (flow : Flow) (v n : ℕ) (steps : List Step) : Type 0 where
   pub open_alone : (step : Step) → Contains steps step → IsOpen part line flow step
   pub idle : (u : ℕ) → u + 1 < v → IsOpen part line flow (Idle u) → Contains steps (Idle u)
   pub back : (u : ℕ) → u + 1 < v → IsOpen part line flow (Back u) → Contains steps (Back u)
@@ -56,15 +56,15 @@ abbrev pub Reaches : Network → List Step → List ℤ → ℕ → Type 0
 Reaches line steps lengths v = (walk : List Step) × IsTightWalk line steps lengths 0 v walk
 
 -- where the step is tight and begins at a place that was reached, its end was reached too
-abbrev pub Extends : Network → List ℤ → List ℕ → Step → Type 0
-Extends line lengths ranks step = IsTight line lengths step → 0 < slice_index ranks (step_from line step) → 0 < slice_index ranks (step_to line step)
+abbrev pub ExtendsWalk : Network → List ℤ → List ℕ → Step → Type 0
+ExtendsWalk line lengths ranks step = IsTight line lengths step → 0 < slice_index ranks (step_from line step) → 0 < slice_index ranks (step_to line step)
 
 -- a walk of tight steps from the list to the last place that meets no place twice
-pub record IsFound (line : Network) (steps : List Step) (lengths : List ℤ) (walk : List Step) : Type 0 where
+pub record IsFoundWalk (line : Network) (steps : List Step) (lengths : List ℤ) (walk : List Step) : Type 0 where
   pub leads : IsTightWalk line steps lengths 0 (places_of line - 1) walk
   pub once : AllPairs (λ a b. a ≢ b) (places_met line 0 walk)
   pub few : length walk ≤ places_of line
 
 -- the next place in a circle of so many
-abbrev pub IsNext : ℕ → ℕ → ℕ → Type 0
-IsNext at size next = ((at + 1 < size) × (next ≡ at + 1)) ⊎ ((size ≤ at + 1) × (next ≡ 0))
+abbrev pub IsNextOnCircle : ℕ → ℕ → ℕ → Type 0
+IsNextOnCircle at size next = ((at + 1 < size) × (next ≡ at + 1)) ⊎ ((size ≤ at + 1) × (next ≡ 0))

@@ -7,7 +7,7 @@ ghost use Rattle.bx_line.specs.Network.{places_of};
 ghost use Rattle.bx_dist.specs.declared.step.Step.{Step};
 ghost use Rattle.bx_dist.specs.Search.{IsStep, AreMedium};
 ghost use Rattle.bx_dist.specs.Tight.{IsTight, AreSteps};
-ghost use Rattle.bx_rounds.specs.Rounds.{AreMarks, Reaches, Extends, IsFound};
+ghost use Rattle.bx_rounds.specs.Rounds.{AreMarks, Reaches, ExtendsWalk, IsFoundWalk};
 
 use crate::circle::next_in;
 use bx_dist::{Step, ends_of};
@@ -54,7 +54,7 @@ fn extend(marks: &mut Marks, line: &Line, steps: &[Step], lengths: &[i64], step:
     ensures places { AreMarks line.now steps.now lengths.now marks.new.ranks.items marks.new.last.items marks.new.count }
     ensures more { result ≡ true → marks.new.count ≡ marks.old.count + 1 }
     ensures same { result ≡ false → marks.new ≡ marks.old }
-    ensures done { result ≡ false → Extends line.now lengths.now marks.old.ranks.items step }
+    ensures done { result ≡ false → ExtendsWalk line.now lengths.now marks.old.ranks.items step }
 {
     // Read for the prover alone, which learns a limit from it.
     let _places = line.places();
@@ -94,7 +94,7 @@ pub(crate) fn least_walk(
     requires one_each { length lengths.now ≡ places_of line.now }
     requires medium { AreMedium lengths.now }
     requires there { Reaches line.now steps.now lengths.now (places_of line.now - 1) }
-    ensures { IfOk result (λ v. IsFound line.now steps.now lengths.now v.items) }
+    ensures { IfOk result (λ v. IsFoundWalk line.now steps.now lengths.now v.items) }
 {
     let mut marks = first_mark(alloc, line, steps, lengths)?;
     let mut at = 0;
@@ -121,7 +121,7 @@ fn walk_back(
     requires steps { AreSteps line.now steps.now }
     requires places { AreMarks line.now steps.now lengths.now marks.now.ranks.items marks.now.last.items marks.now.count }
     requires reached { 0 < slice_index marks.now.ranks.items (places_of line.now - 1) }
-    ensures { IfOk result (λ v. IsFound line.now steps.now lengths.now v.items) }
+    ensures { IfOk result (λ v. IsFoundWalk line.now steps.now lengths.now v.items) }
 {
     let mut walk = Vec::new(alloc);
     let mut place = line.places() - 1;

@@ -2,7 +2,7 @@
 
 ghost use Rattle.std.specs.Prelude.{IfOk, OnOk};
 ghost use Rattle.bx_line.specs.Network.{places_of};
-ghost use Rattle.bx_rounds.specs.Rounds.{AreOpenSteps, AreListed, AddsOpen};
+ghost use Rattle.bx_rounds.specs.Rounds.{AreOpenSteps, ListsOpenSteps, AddsOpen};
 
 use bx_dist::{Carried, Part, Step, is_open};
 use bx_line::Line;
@@ -57,7 +57,7 @@ fn gap_steps(
     carried: &Carried,
     part: Part,
 ) -> Result<Vec<Step>, AllocError>
-    ensures { IfOk result (λ v. AreListed part line.now carried.now (places_of line.now) 0 v.items) }
+    ensures { IfOk result (λ v. ListsOpenSteps part line.now carried.now (places_of line.now) 0 v.items) }
 {
     let mut steps = Vec::new(alloc);
     for v in 1..line.places() {

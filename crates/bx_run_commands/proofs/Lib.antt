@@ -2,7 +2,7 @@ mod Runs
 mod RunCaptured
 mod Refused
 mod Unkept
-mod Recorded
+mod Logged
 mod Stopped
 mod LineRuns
 mod SaleStops

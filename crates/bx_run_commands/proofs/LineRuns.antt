@@ -2,37 +2,33 @@
 use Rattle.std.proofs.Common.{◌≡◌, ◌∙◌, ℕ, Bool, false, true, is_some, List, Option, Some, None, Result, Ok, Err, OnOk, ap, refl, sym, subst}
 use Rattle.std.specs.Borrow.{Bor}
 use Rattle.bx_day.specs.Day.{Day}
-use Rattle.bx_day_openings.specs.declared.fault.DayCommandFault.{DayCommandFault}
-use Rattle.bx_day.specs.Outages.{live_day_after}
 use Rattle.bx_events.specs.Events.{LiveEvent}
 use Rattle.bx_journal.specs.Follows.{IsFollowed}
 use Rattle.bx_journal.specs.Heads.{wanted_of}
 use Rattle.bx_journal.specs.Reading.{journal_in}
-use Rattle.bx_journal.specs.Recording.{IsSettled}
+use Rattle.bx_journal.specs.Logging.{IsSettled}
 use Rattle.bx_journal.specs.declared.file.FileDisk.{FileDisk}
 use Rattle.bx_journal.specs.declared.fault.JournalFault.{JournalFault}
 use Rattle.bx_journal.specs.declared.head.Head.{Head}
 use Rattle.bx_journal.specs.declared.head.Wanted.{Wanted}
-use Rattle.bx_day_openings.specs.Followed.{IsFollowedWhole}
-use Rattle.bx_day_openings.specs.Journals.{IsJournal}
 use Rattle.bx_line_world.specs.Days.{GoesByLine}
 use Rattle.bx_line_world.specs.Posts.{no_post}
 use Rattle.bx_line_world.specs.Wires.{WireAct}
 use Rattle.bx_line_world.specs.declared.line_world.LineWorld.{LineWorld}
 use Rattle.bx_line_world.proofs.Never.{never_ends}
-use Rattle.bx_live.specs.Acts.{Act, recorded, ended}
+use Rattle.bx_live.specs.Acts.{Act, ended}
 use Rattle.bx_live.specs.Held.{IsHeldOut, IsHeldRun}
 use Rattle.bx_live.specs.Runs.{Between, Done, Over, IsRun}
 use Rattle.bx_live.specs.Running.{Runs, or_over}
-use Rattle.bx_live.specs.declared.world.CannotRecord.{CannotRecord}
+use Rattle.bx_live.specs.declared.world.CannotLog.{CannotLog}
 use Rattle.bx_live_parts.specs.Chains.{Chain}
-use Rattle.bx_live_parts.specs.Records.{OnRecord}
+use Rattle.bx_live_parts.specs.Logs.{OnLog}
 use Rattle.bx_live_parts.proofs.Projections.{chain_map}
-use Rattle.bx_live_parts.specs.declared.record.Record.{Record}
+use Rattle.bx_live_parts.specs.declared.log.Log.{Log}
 use Rattle.bx_live_parts.specs.declared.schedule.Schedule.{Schedule}
 use Rattle.bx_restart.specs.Selling.{day_goes}
 use Rattle.bx_run_commands.specs.Resuming.{IsFollowedBy, IsKeptOn, IsKeptBy}
-use Rattle.bx_run_commands.proofs.Recorded.{over_of}
+use Rattle.bx_run_commands.proofs.Logged.{over_of}
 use Rattle.bx_run_commands.proofs.Unkept.{none_keeps}
 use Rattle.bx_run_commands.specs.Readying.{IsReady}
 use Rattle.bx_run_commands.specs.LiveRuns.{RunsByLine, StopsByLine}
@@ -42,7 +38,7 @@ module _ {W D : Type 0} (did : W → List WireAct → W → Type 0) (holds may_l
   abbrev Goes : LineWorld W D → List Act → LineWorld W D → Type 0
   Goes = Chain (GoesByLine did holds may_leave moment left_since has_failed)
 
-  pub by_line : (wire : W) (schedule : Schedule) (kept : Record D) (turns : ℕ) (from to : Day) (old new : LineWorld W D) (done : Result (Unit {0}) CannotRecord) → done ≡ Ok tt → old.line.wire ≡ wire → old.schedule ≡ schedule → old.record ≡ kept → old.line.end.network ≡ true → old.line.post ≡ no_post
+  pub by_line : (wire : W) (schedule : Schedule) (kept : Log D) (turns : ℕ) (from to : Day) (old new : LineWorld W D) (done : Result (Unit {0}) CannotLog) → done ≡ Ok tt → old.line.wire ≡ wire → old.schedule ≡ schedule → old.log ≡ kept → old.line.end.network ≡ true → old.line.post ≡ no_post
       → (ran : Runs Goes old new (Between from) (or_over (Done to) to done)) → IsHeldRun turns from to ran.acts done
       → RunsByLine did holds may_leave moment left_since has_failed wire schedule kept turns from to
   by_line wire schedule kept turns from to old new done is over scheduled by side nothing ran held = record {
@@ -55,31 +51,31 @@ module _ {W D : Type 0} (did : W → List WireAct → W → Type 0) (holds may_l
     side = side;
     nothing_told = nothing;
     went = ran.done;
-    run = subst (λ (r : Result (Unit {0}) CannotRecord). IsRun (Between from) ran.acts (or_over (Done to) to r)) is ran.goes;
+    run = subst (λ (r : Result (Unit {0}) CannotLog). IsRun (Between from) ran.acts (or_over (Done to) to r)) is ran.goes;
     after = held.after;
     held = held.held;
-    out = subst (λ (r : Result (Unit {0}) CannotRecord). OnOk r (ended ran.acts ≡ false → IsHeldOut turns to)) is held.out (never_ends did holds may_leave moment left_since has_failed old new ran.acts ran.done);
+    out = subst (λ (r : Result (Unit {0}) CannotLog). OnOk r (ended ran.acts ≡ false → IsHeldOut turns to)) is held.out (never_ends did holds may_leave moment left_since has_failed old new ran.acts ran.done);
   }
 
   -- a run that is over before its end has a journal
-  pub kept_on : (from to : Day) (kept : Record D) (old new : LineWorld W D) (acts : List Act) (o : Option D) → old.record ≡ kept → kept.disk ≡ o → Goes old acts new → IsRun (Between from) acts (Over to) → is_some o ≡ true
+  pub kept_on : (from to : Day) (kept : Log D) (old new : LineWorld W D) (acts : List Act) (o : Option D) → old.log ≡ kept → kept.disk ≡ o → Goes old acts new → IsRun (Between from) acts (Over to) → is_some o ≡ true
   kept_on from to kept old new acts (Some disk) by is chain run = refl
   kept_on from to kept old new acts None by is chain run =
-      let mapped = chain_map (GoesByLine did holds may_leave moment left_since has_failed) (OnRecord holds may_leave moment left_since has_failed) (λ w. w.record.disk) (λ s t act p. p.recorded) old new acts chain in
-      let start : old.record.disk ≡ None = ap (λ (r : Record D). r.disk) by ∙ is in
-      absurd (over_of (Between from) to acts (none_keeps holds may_leave moment left_since has_failed acts new.record.disk (subst (λ (x : Option D). Chain (OnRecord holds may_leave moment left_since has_failed) x acts new.record.disk) start mapped)) run)
+      let mapped = chain_map (GoesByLine did holds may_leave moment left_since has_failed) (OnLog holds may_leave moment left_since has_failed) (λ w. w.log.disk) (λ s t act p. p.logged) old new acts chain in
+      let start : old.log.disk ≡ None = ap (λ (r : Log D). r.disk) by ∙ is in
+      absurd (over_of (Between from) to acts (none_keeps holds may_leave moment left_since has_failed acts new.log.disk (subst (λ (x : Option D). Chain (OnLog holds may_leave moment left_since has_failed) x acts new.log.disk) start mapped)) run)
 
-  pub failed_line : (from to : Day) (kept : Record D) (old new : LineWorld W D) (done : Result (Unit {0}) CannotRecord) (fault : CannotRecord) → done ≡ Err fault → old.record ≡ kept → Runs Goes old new (Between from) (or_over (Done to) to done) → is_some kept.disk ≡ true
+  pub failed_line : (from to : Day) (kept : Log D) (old new : LineWorld W D) (done : Result (Unit {0}) CannotLog) (fault : CannotLog) → done ≡ Err fault → old.log ≡ kept → Runs Goes old new (Between from) (or_over (Done to) to done) → is_some kept.disk ≡ true
   failed_line from to kept old new done fault is by ran =
-      kept_on from to kept old new ran.acts kept.disk by refl ran.done (subst (λ (r : Result (Unit {0}) CannotRecord). IsRun (Between from) ran.acts (or_over (Done to) to r)) is ran.goes)
+      kept_on from to kept old new ran.acts kept.disk by refl ran.done (subst (λ (r : Result (Unit {0}) CannotLog). IsRun (Between from) ran.acts (or_over (Done to) to r)) is ran.goes)
 
   -- and its disk has failed
-  pub stopped_line : (wire : W) (schedule : Schedule) (kept : Record D) (from to : Day) (old new : LineWorld W D) (done : Result (Unit {0}) CannotRecord) (fault : CannotRecord) → done ≡ Err fault → old.line.wire ≡ wire → old.schedule ≡ schedule → old.record ≡ kept
+  pub stopped_line : (wire : W) (schedule : Schedule) (kept : Log D) (from to : Day) (old new : LineWorld W D) (done : Result (Unit {0}) CannotLog) (fault : CannotLog) → done ≡ Err fault → old.line.wire ≡ wire → old.schedule ≡ schedule → old.log ≡ kept
       → Runs Goes old new (Between from) (or_over (Done to) to done) → StopsByLine did holds may_leave moment left_since has_failed wire schedule kept from
   stopped_line wire schedule kept from to old new done fault is over scheduled by ran =
-      let run = subst (λ (r : Result (Unit {0}) CannotRecord). IsRun (Between from) ran.acts (or_over (Done to) to r)) is ran.goes in
-      let stopped = stopped_by holds may_leave moment left_since has_failed (Between from) to ran.acts old.record.disk new.record.disk (λ none. none) run
-      (chain_map (GoesByLine did holds may_leave moment left_since has_failed) (OnRecord holds may_leave moment left_since has_failed) (λ w. w.record.disk) (λ s t act p. p.recorded) old new ran.acts ran.done) in
+      let run = subst (λ (r : Result (Unit {0}) CannotLog). IsRun (Between from) ran.acts (or_over (Done to) to r)) is ran.goes in
+      let stopped = stopped_by holds may_leave moment left_since has_failed (Between from) to ran.acts old.log.disk new.log.disk (λ none. none) run
+      (chain_map (GoesByLine did holds may_leave moment left_since has_failed) (OnLog holds may_leave moment left_since has_failed) (λ w. w.log.disk) (λ s t act p. p.logged) old new ran.acts ran.done) in
       record {
         acts = ran.acts;
         old = old;
@@ -103,14 +99,14 @@ ready_on holds may_leave head whole old new w is resumed = record {
   begun = λ text fault same held. absurd cc;
 }
 
--- ---- how a journal was followed, and on what its record is kept
+-- ---- how a journal was followed, and where its log is kept
 
 pub followed_by : (head : Head) (channels : List Bool) (wanted : Wanted) (faulted : Bool) (before after : Option (List ℕ)) (opened day : Day) (whole : Result ℕ JournalFault) → wanted ≡ wanted_of head → IsFollowed (day_goes channels) faulted before after wanted opened day whole → IsFollowedBy head channels before opened day whole
 followed_by head channels wanted faulted before after opened day whole same f = (faulted, after, subst (λ (w : Wanted). IsFollowed (day_goes channels) faulted before after w opened day whole) same f)
 
-pub kept_by : {F : Type 0} (head : Head) (channels : List Bool) (before : Option (List ℕ)) (opened day : Day) (kept : Record (FileDisk F)) (o : Option (Bor (List ℕ))) (name : Bor (List ℕ)) → o ≡ Some name → IsKeptOn (λ file. None) false head channels before opened day kept → IsKeptBy head channels o opened day kept
+pub kept_by : {F : Type 0} (head : Head) (channels : List Bool) (before : Option (List ℕ)) (opened day : Day) (kept : Log (FileDisk F)) (o : Option (Bor (List ℕ))) (name : Bor (List ℕ)) → o ≡ Some name → IsKeptOn (λ file. None) false head channels before opened day kept → IsKeptBy head channels o opened day kept
 kept_by {F = F} head channels before opened day kept o name is k = subst (λ (x : Option (Bor (List ℕ))). IsKeptBy {F = F} head channels x opened day kept) (sym is) (before, k)
 
-pub journal_kept_by : {F : Type 0} (head : Head) (channels : List Bool) (opened day : Day) (kept : Record (FileDisk F)) (o : Option (Bor (List ℕ))) → IsKeptBy head channels o opened day kept → is_some kept.disk ≡ true → is_some o ≡ true
+pub journal_kept_by : {F : Type 0} (head : Head) (channels : List Bool) (opened day : Day) (kept : Log (FileDisk F)) (o : Option (Bor (List ℕ))) → IsKeptBy head channels o opened day kept → is_some kept.disk ≡ true → is_some o ≡ true
 journal_kept_by head channels opened day kept (Some name) k there = refl
 journal_kept_by {F = F} head channels opened day kept None k there = subst (λ (x : Option (FileDisk F)). is_some x ≡ true) k there

@@ -9,7 +9,7 @@ use Rattle.bx_live.specs.Held.{has_call, IsHeldOut}
 use Rattle.bx_request.specs.declared.request.LiveRequest.{LiveRequest}
 use Rattle.bx_run_commands.specs.LiveDays.{IsAtHand, IsLiveDay, has_office}
 use Rattle.bx_line_world.specs.Wires.{WireAct}
-use Rattle.bx_live_parts.specs.declared.record.Record.{Record}
+use Rattle.bx_live_parts.specs.declared.log.Log.{Log}
 use Rattle.bx_live_parts.specs.declared.schedule.Schedule.{Schedule}
 use Rattle.bx_run_commands.specs.FirstFits.{IsFirstFitOpening}
 use Rattle.bx_run_commands.specs.LiveInside.{IsOpenAt, RunsWith, StopsWith}
@@ -20,7 +20,7 @@ pub is_open_at : (is_open : Bool) (channels : List Bool) (premises : Option Prem
 is_open_at is_open channels None closed = sym closed
 is_open_at is_open channels (Some premises) (wanted, same) = sym wanted
 
-module _ {W D : Type 0} (did : W → List WireAct → W → Type 0) (holds may_leave : D → List ℕ → Type 0) (moment : D → ℕ) (left_since : D → ℕ → List ℕ → Type 0) (has_failed : D → Bool) (wire : W) (schedule : Schedule) (kept : Record D) (turns : ℕ) (from : Day) where
+module _ {W D : Type 0} (did : W → List WireAct → W → Type 0) (holds may_leave : D → List ℕ → Type 0) (moment : D → ℕ) (left_since : D → ℕ → List ℕ → Type 0) (has_failed : D → Bool) (wire : W) (schedule : Schedule) (kept : Log D) (turns : ℕ) (from : Day) where
   pub runs_on : (is_open : Bool) (channels : List Bool) (premises : Option Premises) (to : Day) → IsOpenAt is_open channels premises → RunsWith premises did holds may_leave moment left_since has_failed wire schedule kept turns from to
       → RunsOn is_open did holds may_leave moment left_since has_failed wire schedule kept channels turns from to
   runs_on is_open channels None to closed ran = subst (λ (b : Bool). RunsOn b did holds may_leave moment left_since has_failed wire schedule kept channels turns from to) (sym closed) ran

@@ -16,7 +16,7 @@ use Rattle.bx_records.specs.declared.fault.RecordsFault.{RecordsFault}
 use Rattle.bx_records.specs.declared.fault.RecordsFault.TheVariants.{OutOfRange}
 use Rattle.bx_request.specs.declared.request.CaptureWords.{CaptureWords}
 use Rattle.bx_request.specs.declared.request.RecordsWords.{RecordsWords}
-use Rattle.bx_run_commands.specs.OpeningFaults.{IsUnrecorded}
+use Rattle.bx_run_commands.specs.OpeningFaults.{IsUnlogged}
 use Rattle.bx_run_commands.specs.RunCaptures.{IsRunKept}
 use Rattle.bx_run_commands.specs.Telling.{IsTold, IsNotToldWhole}
 use Rattle.bx_run_commands.specs.declared.fault.LiveFault.TheVariants.{Day as OfDay}
@@ -42,8 +42,8 @@ not_output name OutOfRange same = cc
 not_output name cause same = cc
 
 no_cut : {F : Type 0} (files : F → Option (List ℕ)) (entries : List Entry) (records : Option (RecordsFile F)) → IsRecording files entries records (Err (Command CannotWrite)) → ⊥
-no_cut files entries None unrecorded = unrecorded
-no_cut files entries (Some file) unrecorded = not_output file.name unrecorded.cause unrecorded.answered
+no_cut files entries None unlogged = unlogged
+no_cut files entries (Some file) unlogged = not_output file.name unlogged.cause unlogged.answered
 
 unkept_output : {F : Type 0} (files : F → Option (List ℕ)) (capture : Option CaptureWords) (is_whole : Bool) (entries : List Entry) (records : Option (RecordsFile F)) (recorded : Result (Unit {0}) DayCommandFault)
     → IsRecording files entries records recorded → IsUnkept capture is_whole recorded (Command CannotWrite) → ⊥
@@ -63,6 +63,6 @@ no_clock (Some words) none = none
 
 -- ---- a journal that can't be written is not the output
 
-pub no_output : (journal : Option (Bor (List ℕ))) → IsUnrecorded journal (OfDay (Command CannotWrite)) → ⊥
+pub no_output : (journal : Option (Bor (List ℕ))) → IsUnlogged journal (OfDay (Command CannotWrite)) → ⊥
 no_output None none = none
 no_output (Some name) none = none

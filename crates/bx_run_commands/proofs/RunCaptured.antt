@@ -7,7 +7,7 @@ use Rattle.bx_capture.specs.Keeping.{keeps_nil, keeps_more}
 use Rattle.bx_capture.specs.declared.packet.Direction.TheVariants.{Received}
 use Rattle.bx_devices.specs.declared.watched.Watched.{Watched}
 use Rattle.bx_frames.specs.declared.frame.Frame.TheVariants as frames
-use Rattle.bx_live.specs.Acts.{Act, Began, Dropped, Recorded, Synced, Wrote, Read, Took, EndedDay}
+use Rattle.bx_live.specs.Acts.{Act, Began, Dropped, Logged, Synced, Wrote, Read, Took, EndedDay}
 use Rattle.bx_world.specs.Captures.{Captures}
 use Rattle.bx_live_parts.specs.Chains.{Chain, chain_first}
 use Rattle.bx_world.specs.declared.captured.CapturedWorld.{CapturedWorld}
@@ -77,8 +77,8 @@ module _ {W F : Type 0} (contents : F → Option (List ℕ)) where
       let (mid, step, more) = chain_first (Captures contents) old new (Took None) acts chain in still old mid acts new.file (Took None) step.file step.second step.first (λ first second packets p. p) (taken_on acts mid new more)
   taken_on (Dropped loss ∷ acts) old new chain =
       let (mid, step, more) = chain_first (Captures contents) old new (Dropped loss) acts chain in still old mid acts new.file (Dropped loss) step.file step.second step.first (λ first second packets p. p) (taken_on acts mid new more)
-  taken_on (Recorded event done ∷ acts) old new chain =
-      let (mid, step, more) = chain_first (Captures contents) old new (Recorded event done) acts chain in still old mid acts new.file (Recorded event done) step.file step.second step.first (λ first second packets p. p) (taken_on acts mid new more)
+  taken_on (Logged event done ∷ acts) old new chain =
+      let (mid, step, more) = chain_first (Captures contents) old new (Logged event done) acts chain in still old mid acts new.file (Logged event done) step.file step.second step.first (λ first second packets p. p) (taken_on acts mid new more)
   taken_on (Synced done ∷ acts) old new chain =
       let (mid, step, more) = chain_first (Captures contents) old new (Synced done) acts chain in still old mid acts new.file (Synced done) step.file step.second step.first (λ first second packets p. p) (taken_on acts mid new more)
   taken_on (EndedDay ∷ acts) old new chain =

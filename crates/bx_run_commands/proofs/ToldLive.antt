@@ -9,23 +9,23 @@ use Rattle.bx_journal.specs.declared.head.Head.{Head}
 use Rattle.bx_request.specs.declared.request.LiveRequest.{LiveRequest}
 use Rattle.bx_run_commands.specs.Heads.{live_head}
 use Rattle.bx_run_commands.specs.LiveRefusals.{StopsLive, IsLiveRefusal}
-use Rattle.bx_run_commands.specs.OpeningFaults.{IsUnrecorded}
-use Rattle.bx_run_commands.specs.Resuming.{IsNoRecord}
+use Rattle.bx_run_commands.specs.OpeningFaults.{IsUnlogged}
+use Rattle.bx_run_commands.specs.Resuming.{IsNoLog}
 use Rattle.bx_run_commands.specs.declared.fault.LiveFault.{LiveFault}
 use Rattle.bx_run_commands.specs.declared.fault.LiveFault.TheVariants.{Day as OfDay, StillUp}
 use Rattle.bx_run_commands.proofs.Refused.{no_output}
 
-no_journal : (journal : Option (Bor (List ℕ))) (head : Head) (channels : List Bool) (opened : Day) → IsNoRecord journal head channels opened (OfDay (Command commands.CannotWrite)) → ⊥
+no_journal : (journal : Option (Bor (List ℕ))) (head : Head) (channels : List Bool) (opened : Day) → IsNoLog journal head channels opened (OfDay (Command commands.CannotWrite)) → ⊥
 no_journal None head channels opened none = none
 no_journal (Some name) head channels opened none = none
 
-no_journal_still : (journal : Option (Bor (List ℕ))) (head : Head) (channels : List Bool) (opened : Day) → IsNoRecord journal head channels opened StillUp → ⊥
+no_journal_still : (journal : Option (Bor (List ℕ))) (head : Head) (channels : List Bool) (opened : Day) → IsNoLog journal head channels opened StillUp → ⊥
 no_journal_still None head channels opened none = none
 no_journal_still (Some name) head channels opened none = none
 
-recorded_still : (journal : Option (Bor (List ℕ))) → IsUnrecorded journal StillUp → ⊥
-recorded_still None none = none
-recorded_still (Some name) none = none
+logged_still : (journal : Option (Bor (List ℕ))) → IsUnlogged journal StillUp → ⊥
+logged_still None none = none
+logged_still (Some name) none = none
 
 module _ (H F : Type 0) (request : LiveRequest) where
   writes : StopsLive H F request (OfDay (Command commands.CannotWrite)) → ⊥
@@ -35,7 +35,7 @@ module _ (H F : Type 0) (request : LiveRequest) where
   writes (inr (inr (inl (at_hand, inr unconnected)))) = unconnected
   writes (inr (inr (inr (inl (at_hand, wanted, none))))) = none
   writes (inr (inr (inr (inr (at_hand, inl journal))))) = no_journal request.journal (live_head at_hand.digest at_hand.hours) at_hand.channels at_hand.opened journal
-  writes (inr (inr (inr (inr (at_hand, inr (unrecorded, stopped)))))) = no_output request.journal unrecorded
+  writes (inr (inr (inr (inr (at_hand, inr (unlogged, stopped)))))) = no_output request.journal unlogged
 
   still : StopsLive H F request StillUp → ⊥
   still (inl hours) = hours
@@ -43,7 +43,7 @@ module _ (H F : Type 0) (request : LiveRequest) where
   still (inr (inr (inl (at_hand, none)))) = none
   still (inr (inr (inr (inl (at_hand, wanted, none))))) = none
   still (inr (inr (inr (inr (at_hand, inl journal))))) = no_journal_still request.journal (live_head at_hand.digest at_hand.hours) at_hand.channels at_hand.opened journal
-  still (inr (inr (inr (inr (at_hand, inr (unrecorded, stopped)))))) = recorded_still request.journal unrecorded
+  still (inr (inr (inr (inr (at_hand, inr (unlogged, stopped)))))) = logged_still request.journal unlogged
 
   pub live_stopped : {W : Type 0} (files : F → Option (List ℕ)) (contents : W → Option (List ℕ)) (output : Watched W) (fault : LiveFault) → StopsLive H F request fault → IsLiveRefusal H files request contents output output fault
   live_stopped files contents output (OfDay (Command commands.CannotWrite)) stops = absurd (writes stops)

@@ -12,10 +12,10 @@ use Rattle.bx_devices.specs.Octets.{AppendsPrefix}
 use Rattle.bx_journal.specs.declared.file.FileDisk.{FileDisk}
 use Rattle.bx_day_openings.specs.Openings.{AreDayTurns}
 use Rattle.bx_line_world.specs.declared.udp.UdpWire.{UdpWire}
-use Rattle.bx_line_world.specs.Wires.{WireAct}
+use Rattle.bx_line_world.specs.Wires.{did_on}
 use Rattle.bx_live.specs.Held.{has_call}
 use Rattle.bx_events.specs.declared.moment.TheConstants.{LAST_MOMENT}
-use Rattle.bx_live_parts.specs.declared.record.Record.{Record}
+use Rattle.bx_live_parts.specs.declared.log.Log.{Log}
 use Rattle.bx_request.specs.declared.request.LiveRequest.{LiveRequest}
 use Rattle.bx_run_commands.specs.FirstFits.{IsFirstFitOpening}
 use Rattle.bx_run_commands.specs.Heads.{live_head}
@@ -23,10 +23,6 @@ use Rattle.bx_journal.specs.Files.{holds_unknown, may_leave_any, no_moment, any_
 use Rattle.bx_run_commands.specs.OfficeRuns.{RunsOn, StopsOn}
 use Rattle.bx_run_commands.specs.declared.named_file.NamedFile.{NamedFile}
 use Rattle.bx_run_commands.specs.Resuming.{GoesOnBy, IsKeptBy}
-
--- what is known of what a socket did: nothing
-abbrev pub did_on : {H : Type 0} → UdpWire H → List WireAct → UdpWire H → Type 0
-did_on old acts new = Unit {0}
 
 -- a booking office stands at the day that the words want: nothing is sold outside the journal, so there is none without a journal
 abbrev pub has_office : LiveRequest → Bool
@@ -52,7 +48,7 @@ pub record IsAtHand (request : LiveRequest) : Type 0 where
 pub record IsGoingOn (H F : Type 0) (request : LiveRequest) : Type 0 where
   pub at_hand : IsAtHand request
   pub resumed : Day
-  pub kept : Record (FileDisk (NamedFile H F))
+  pub kept : Log (FileDisk (NamedFile H F))
   pub goes_on : GoesOnBy (live_head at_hand.digest at_hand.hours) at_hand.channels request.journal at_hand.opened resumed
   pub is_kept : IsKeptBy (live_head at_hand.digest at_hand.hours) at_hand.channels request.journal at_hand.opened resumed kept
 

@@ -6,7 +6,7 @@ use Rattle.bx_day_openings.specs.declared.hours.Hours.{Hours}
 use Rattle.bx_day_openings.specs.declared.plan_opening.DayOpening.{DayOpening}
 use Rattle.bx_request.specs.declared.request.LiveRequest.{LiveRequest}
 use Rattle.bx_line_world.specs.Wires.{WireAct}
-use Rattle.bx_live_parts.specs.declared.record.Record.{Record}
+use Rattle.bx_live_parts.specs.declared.log.Log.{Log}
 use Rattle.bx_live_parts.specs.declared.schedule.Schedule.{Schedule}
 use Rattle.bx_run_commands.specs.LiveRuns.{RunsByLine, StopsByLine}
 use Rattle.bx_run_commands.specs.OfficeRuns.{SellsByLine, StopsSelling}
@@ -14,8 +14,8 @@ use Rattle.bx_run_commands.specs.declared.by_office.Premises.{Premises}
 use Rattle.bx_run_commands.specs.FirstFits.{IsFirstFitOpening}
 use Rattle.bx_run_commands.specs.Heads.{live_head}
 use Rattle.bx_run_commands.specs.LiveDays.{IsLiveDay, IsLiveStopped, has_office}
-use Rattle.bx_run_commands.specs.OpeningFaults.{IsUnrecorded}
-use Rattle.bx_run_commands.specs.Resuming.{IsNoRecord}
+use Rattle.bx_run_commands.specs.OpeningFaults.{IsUnlogged}
+use Rattle.bx_run_commands.specs.Resuming.{IsNoLog}
 use Rattle.bx_run_commands.specs.declared.fault.LiveFault.{LiveFault}
 
 -- an office is opened where one is wanted, and sells on these channels
@@ -32,13 +32,13 @@ IsLiveRun H files request hours opening premises day =
 abbrev pub StopsRun : Type 0 → Type 0 → LiveRequest → Hours → DayOpening → Option Premises → LiveFault → Type 0
 StopsRun H F request hours opening premises fault =
     AreHours request.hours hours → IsFirstFitOpening opening.exchange opening.channels opening.digest → IsOpenAt (has_office request) opening.channels premises
-    → IsNoRecord request.journal (live_head opening.digest hours) opening.channels opening.exchange fault ⊎ (IsUnrecorded request.journal fault × IsLiveStopped H F request)
+    → IsNoLog request.journal (live_head opening.digest hours) opening.channels opening.exchange fault ⊎ (IsUnlogged request.journal fault × IsLiveStopped H F request)
 
 -- the rest of a day, with this office or without
-abbrev pub RunsWith : {W D : Type 0} → Option Premises → (W → List WireAct → W → Type 0) → (D → List ℕ → Type 0) → (D → List ℕ → Type 0) → (D → ℕ) → (D → ℕ → List ℕ → Type 0) → (D → Bool) → W → Schedule → Record D → ℕ → Day → Day → Type 0
+abbrev pub RunsWith : {W D : Type 0} → Option Premises → (W → List WireAct → W → Type 0) → (D → List ℕ → Type 0) → (D → List ℕ → Type 0) → (D → ℕ) → (D → ℕ → List ℕ → Type 0) → (D → Bool) → W → Schedule → Log D → ℕ → Day → Day → Type 0
 RunsWith None did holds may_leave moment left_since has_failed wire schedule kept turns from to = RunsByLine did holds may_leave moment left_since has_failed wire schedule kept turns from to
 RunsWith (Some premises) did holds may_leave moment left_since has_failed wire schedule kept turns from to = SellsByLine did holds may_leave moment left_since has_failed wire schedule kept premises.channels turns from to
 
-abbrev pub StopsWith : {W D : Type 0} → Option Premises → (W → List WireAct → W → Type 0) → (D → List ℕ → Type 0) → (D → List ℕ → Type 0) → (D → ℕ) → (D → ℕ → List ℕ → Type 0) → (D → Bool) → W → Schedule → Record D → ℕ → Day → Type 0
+abbrev pub StopsWith : {W D : Type 0} → Option Premises → (W → List WireAct → W → Type 0) → (D → List ℕ → Type 0) → (D → List ℕ → Type 0) → (D → ℕ) → (D → ℕ → List ℕ → Type 0) → (D → Bool) → W → Schedule → Log D → ℕ → Day → Type 0
 StopsWith None did holds may_leave moment left_since has_failed wire schedule kept turns from = StopsByLine did holds may_leave moment left_since has_failed wire schedule kept from
 StopsWith (Some premises) did holds may_leave moment left_since has_failed wire schedule kept turns from = StopsSelling did holds may_leave moment left_since has_failed wire schedule kept premises.channels turns from

@@ -2,7 +2,7 @@
 use Rattle.std.specs.Prelude.{◌≡◌, ◌⊎◌, ℕ, true, List, Option}
 use Rattle.bx_check_commands.specs.declared.fault.CommandFault.TheVariants.{CannotWrite, Memory}
 use Rattle.bx_day_openings.specs.Hours.{IsNoHours}
-use Rattle.bx_day_openings.specs.OpeningRefusals.{IsUnheard, IsUnconnected}
+use Rattle.bx_day_openings.specs.OpeningRefusals.{IsUnheard, IsNoLine}
 use Rattle.bx_day_openings.specs.declared.fault.DayCommandFault.{DayCommandFault}
 use Rattle.bx_day_openings.specs.declared.fault.DayCommandFault.TheVariants.{Command}
 use Rattle.bx_devices.specs.Watching.{device_of, is_faulted}
@@ -11,14 +11,10 @@ use Rattle.bx_request.specs.declared.request.LiveRequest.{LiveRequest}
 use Rattle.bx_run_commands.specs.FirstFits.{IsNoFirstFitOpening}
 use Rattle.bx_run_commands.specs.Heads.{live_head}
 use Rattle.bx_run_commands.specs.LiveDays.{IsAtHand, IsLiveCut, IsLiveStopped, IsLiveUp, has_office}
-use Rattle.bx_run_commands.specs.OpeningFaults.{OfOpening, IsUnrecorded}
-use Rattle.bx_run_commands.specs.Resuming.{IsNoRecord}
+use Rattle.bx_run_commands.specs.OpeningFaults.{OfOpening, IsUnlogged}
+use Rattle.bx_run_commands.specs.Resuming.{IsNoLog}
 use Rattle.bx_run_commands.specs.declared.fault.LiveFault.{LiveFault}
 use Rattle.bx_run_commands.specs.declared.fault.LiveFault.TheVariants.{Day as OfDay, StillUp}
-
--- there is no socket at this end's port, or it may not speak to the other
-abbrev pub IsNoLine : DayCommandFault → Type 0
-IsNoLine fault = IsUnheard fault ⊎ IsUnconnected fault
 
 -- nobody can be let in at the office, or memory runs out
 abbrev pub IsNoOffice : DayCommandFault → Type 0
@@ -33,7 +29,7 @@ StopsLive H F request fault =
     ⊎ IsNoFirstFitOpening request.plan.now fault
     ⊎ (IsAtHand request × OfOpening IsNoLine fault)
     ⊎ (IsAtHand request × (has_office request ≡ true) × OfOpening IsNoOffice fault)
-    ⊎ ((at_hand : IsAtHand request) × (IsNoRecord request.journal (live_head at_hand.digest at_hand.hours) at_hand.channels at_hand.opened fault ⊎ (IsUnrecorded request.journal fault × IsLiveStopped H F request)))
+    ⊎ ((at_hand : IsAtHand request) × (IsNoLog request.journal (live_head at_hand.digest at_hand.hours) at_hand.channels at_hand.opened fault ⊎ (IsUnlogged request.journal fault × IsLiveStopped H F request)))
 
 -- the output has failed, and a prefix of what was to be told was; or all of it was told, and calls are up; or the day stopped, and the
 -- output is as it was

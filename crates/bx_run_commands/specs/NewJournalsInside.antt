@@ -19,8 +19,8 @@ IsNoNewJournal name length (OfDay (Command Memory)) = length ≡ Ok 0
 IsNoNewJournal name length fault = IsNotNew name length fault
 
 -- the file of this name is not opened, is no plain file, or another program writes it
-abbrev pub IsUnopened : Bor (List ℕ) → LiveFault → Type 0
-IsUnopened name (CannotRecord n) = n.now ≡ name.now
-IsUnopened name (InUse n) = n.now ≡ name.now
-IsUnopened name (NotAFile n) = n.now ≡ name.now
-IsUnopened name _ = ⊥
+abbrev pub IsUnopenedJournal : Bor (List ℕ) → LiveFault → Type 0
+IsUnopenedJournal name (CannotRecord n) = n.now ≡ name.now
+IsUnopenedJournal name (InUse n) = n.now ≡ name.now
+IsUnopenedJournal name (NotAFile n) = n.now ≡ name.now
+IsUnopenedJournal name _ = ⊥

@@ -16,6 +16,6 @@ OfOpening reason StillUp = ⊥
 OfOpening reason NotFirstFit = ⊥
 
 -- something can't be logged in the journal of this name
-abbrev pub IsUnrecorded : Option (Bor (List ℕ)) → LiveFault → Type 0
-IsUnrecorded (Some name) (CannotRecord named) = named.now ≡ name.now
-IsUnrecorded name fault = ⊥
+abbrev pub IsUnlogged : Option (Bor (List ℕ)) → LiveFault → Type 0
+IsUnlogged (Some name) (CannotRecord named) = named.now ≡ name.now
+IsUnlogged name fault = ⊥

@@ -3,7 +3,7 @@ use Rattle.std.specs.Prelude.{◌≡◌, ◌⊎◌, ⊤, ℕ, Bool, true, List, 
 use Rattle.bx_check_commands.specs.declared.fault.CommandFault.TheVariants.{CannotWrite}
 use Rattle.bx_day.specs.Day.{Day}
 use Rattle.bx_day_openings.specs.AtHand.{HasFirst, HasFarEnd, HasFile}
-use Rattle.bx_day_openings.specs.Recording.{HasClock, HasRecordsFile, IsNoRecordsClock, IsNoRecordsFile, IsUnkept as IsNotKept}
+use Rattle.bx_day_openings.specs.Recording.{HasRecordsClock, HasRecordsFile, IsNoRecordsClock, IsNoRecordsFile, IsUnkept as IsNotKept}
 use Rattle.bx_day_openings.specs.OpeningRefusals.{IsNoFirst, IsNoOpening, IsNoFarEnd, IsNoFile, IsUnheard, IsUnconnected}
 use Rattle.bx_day_openings.specs.declared.fault.DayCommandFault.{DayCommandFault}
 use Rattle.bx_day_openings.specs.declared.fault.DayCommandFault.TheVariants.{Command, Link}
@@ -13,7 +13,7 @@ use Rattle.bx_request.specs.declared.request.Peer.{Peer}
 use Rattle.bx_request.specs.declared.request.Peer.TheVariants.{Script, At}
 use Rattle.bx_request.specs.declared.request.RehearsalRequest.{RehearsalRequest}
 use Rattle.bx_day_openings.specs.TiedDays.{IsTiedDay}
-use Rattle.bx_run_commands.specs.OpeningFaults.{OfOpening, IsUnrecorded}
+use Rattle.bx_run_commands.specs.OpeningFaults.{OfOpening, IsUnlogged}
 use Rattle.bx_run_commands.specs.NewJournals.{HasNoNewJournal}
 use Rattle.bx_run_commands.specs.RehearsedDays.{IsRehearsal, IsRehearsalTold, IsRehearsalCut}
 use Rattle.bx_run_commands.specs.JournalDisks.{JournalDisk}
@@ -50,7 +50,7 @@ StopsAfterPeer {F = F} files peer request fault =
     HasNoNewJournal request.journal fault
     ⊎ OfOpening (IsNoFile request.sight.capture) fault
     ⊎ (HasFile files request.sight.capture × OfOpening (IsNoRecordsFile request.records) fault)
-    ⊎ (HasFile files request.sight.capture × HasRecordsFile F request.records × (OfOpening (IsUnmet peer) fault ⊎ IsUnrecorded request.journal fault))
+    ⊎ (HasFile files request.sight.capture × HasRecordsFile F request.records × (OfOpening (IsUnmet peer) fault ⊎ IsUnlogged request.journal fault))
 
 abbrev pub StopsAtPeer : {F : Type 0} → (F → Option (List ℕ)) → Peer → RehearsalRequest → LiveFault → Type 0
 StopsAtPeer files peer request fault = OfOpening (IsNoPeer peer) fault ⊎ (HasPeer peer × StopsAfterPeer files peer request fault)
@@ -62,8 +62,8 @@ IsUnseen request fault = IsNoFirst request.sight.capture fault ⊎ (HasFirst req
 abbrev pub StopsRehearsal : {F : Type 0} → (F → Option (List ℕ)) → RehearsalRequest → LiveFault → Type 0
 StopsRehearsal files request fault =
     OfOpening (IsUnseen request) fault
-    ⊎ (HasFirst request.sight.capture × HasClock request.records × OfOpening (IsNoOpening request.plan.now) fault)
-    ⊎ (HasFirst request.sight.capture × HasClock request.records × HasTiedDay request.turns × StopsAtPeer files request.peer request fault)
+    ⊎ (HasFirst request.sight.capture × HasRecordsClock request.records × OfOpening (IsNoOpening request.plan.now) fault)
+    ⊎ (HasFirst request.sight.capture × HasRecordsClock request.records × HasTiedDay request.turns × StopsAtPeer files request.peer request fault)
     ⊎ IsLost files request fault
 
 -- all was told, but the capture or the records were not written whole

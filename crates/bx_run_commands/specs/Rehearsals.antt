@@ -5,16 +5,16 @@ use Rattle.bx_events.specs.Events.{LiveEvent}
 use Rattle.bx_devices.specs.declared.watched.Watched.{Watched}
 use Rattle.bx_frames.specs.declared.fault.LinkFault.{LinkFault}
 use Rattle.bx_frames.specs.declared.frame.Frame.{Frame}
-use Rattle.bx_journal.specs.Heads.{IsDay}
+use Rattle.bx_journal.specs.Heads.{IsJournalDay}
 use Rattle.bx_journal.specs.declared.head.Head.{Head}
-use Rattle.bx_journal.specs.Recording.{IsSettled}
-use Rattle.bx_live.specs.Acts.{Act, recorded}
+use Rattle.bx_journal.specs.Logging.{IsSettled}
+use Rattle.bx_live.specs.Acts.{Act, logged_by}
 use Rattle.bx_live.specs.Runs.{Between, Done, IsRun}
 use Rattle.bx_live_parts.specs.Chains.{Chain}
 use Rattle.bx_world.specs.Rehearsals.{Rehearses}
 use Rattle.bx_world.specs.declared.rehearsal.Rehearsal.{Rehearsal}
 use Rattle.bx_run_commands.specs.RunCaptures.{IsRunKept}
-use Rattle.bx_run_commands.specs.WaitingDisks.{waiting_holds, no_crash, no_moment, none_left, waiting_failed, HasBegun}
+use Rattle.bx_run_commands.specs.WaitingDisks.{waiting_holds, no_crash, no_waiting_moment, none_left, waiting_failed, HasBegun}
 use Rattle.bx_run_commands.specs.declared.rehearsing.Opened.{Opened}
 use Rattle.bx_run_commands.specs.declared.rehearsing.Rehearsed.{Rehearsed}
 use Rattle.bx_run_commands.specs.declared.waiting.WaitingDisk.{WaitingDisk}
@@ -24,15 +24,15 @@ use Rattle.bx_events.specs.declared.moment.TheConstants.{LAST_MOMENT}
 abbrev pub IsJournalOf : {D : Type 0} → (D → List ℕ → Type 0) → (D → List ℕ → Type 0) → Option D → Option D → Head → List LiveEvent → Type 0
 IsJournalOf holds may_leave None closed head events = closed ≡ None
 IsJournalOf holds may_leave (Some disk) None head events = ⊥
-IsJournalOf holds may_leave (Some disk) (Some closed) head events = IsDay head.day → holds disk [] → IsSettled holds may_leave closed head events
+IsJournalOf holds may_leave (Some disk) (Some closed) head events = IsJournalDay head.day → holds disk [] → IsSettled holds may_leave closed head events
 
 -- The acts of a whole run of a day. It is the one after just the events that happened, as a journal has them on the disk, where one is
 -- kept; where its link was not lost it has reached the turn that was asked for; and its messages were captured.
-pub record IsOnRecord {D F : Type 0} (holds may_leave : D → List ℕ → Type 0) (files : F → Option (List ℕ)) (opened : Opened D) (file : Option (Watched F)) (first : ℕ) (rehearsed : Rehearsed D) (acts : List Act) : Type 0 where
+pub record IsOnLog {D F : Type 0} (holds may_leave : D → List ℕ → Type 0) (files : F → Option (List ℕ)) (opened : Opened D) (file : Option (Watched F)) (first : ℕ) (rehearsed : Rehearsed D) (acts : List Act) : Type 0 where
   pub run : IsRun (Between opened.exchange) acts (Done rehearsed.exchange)
-  pub after : rehearsed.exchange ≡ live_day_after (recorded acts) opened.exchange
+  pub after : rehearsed.exchange ≡ live_day_after (logged_by acts) opened.exchange
   pub reached : rehearsed.lost ≡ None → rehearsed.exchange.moment ≡ max opened.exchange.moment (min opened.turns LAST_MOMENT)
-  pub journal : IsJournalOf holds may_leave opened.disk rehearsed.disk opened.head (recorded acts)
+  pub journal : IsJournalOf holds may_leave opened.disk rehearsed.disk opened.head (logged_by acts)
   pub captured : IsRunKept files file first acts rehearsed.is_whole
 
 -- a world of this peer, with a journal that has begun, where one is kept, has gone through such acts
@@ -41,8 +41,8 @@ pub record RehearsesTowards {P D F : Type 0} (wrote : P → List ℕ → Bool �
   pub old : Rehearsal P (WaitingDisk D)
   pub new : Rehearsal P (WaitingDisk D)
   pub peer_is : old.peer ≡ peer
-  pub begun : HasBegun holds opened.head opened.disk old.record.disk
+  pub begun : HasBegun holds opened.head opened.disk old.log.disk
   pub unlost : old.lost ≡ None
-  pub went : Chain (Rehearses wrote gave parted (waiting_holds holds) no_crash no_moment none_left (waiting_failed has_failed)) old acts new
+  pub went : Chain (Rehearses wrote gave parted (waiting_holds holds) no_crash no_waiting_moment none_left (waiting_failed has_failed)) old acts new
   pub lost : new.lost ≡ rehearsed.lost
-  pub day : IsOnRecord holds may_leave files opened file first rehearsed acts
+  pub day : IsOnLog holds may_leave files opened file first rehearsed acts

@@ -5,7 +5,7 @@ use Rattle.bx_journal.specs.Files.{holds_in, may_leave_in}
 use Rattle.bx_journal.specs.Follows.{IsFollowed}
 use Rattle.bx_journal.specs.declared.fault.JournalFault.{JournalFault}
 use Rattle.bx_journal.specs.declared.file.FileDisk.{FileDisk}
-use Rattle.bx_live_parts.specs.declared.record.Record.{Record}
+use Rattle.bx_live_parts.specs.declared.log.Log.{Log}
 use Rattle.bx_restart.specs.Selling.{day_goes}
 use Rattle.bx_run_commands.specs.Readying.{IsReady}
 use Rattle.bx_day_openings.specs.Replays.{IsDayThrough, HasNoReplay}
@@ -23,9 +23,9 @@ GoesOn head channels before opened day = IsDayThrough channels (wanted_of head) 
 abbrev pub IsFollowedBy : Head → List Bool → Option (List ℕ) → Day → Day → Result ℕ JournalFault → Type 0
 IsFollowedBy head channels before opened day whole = (faulted : Bool) × (after : Option (List ℕ)) × IsFollowed (day_goes channels) faulted before after (wanted_of head) opened day whole
 
--- The record is kept on the disk of the journal, which was made ready from what the reading left of it, as it was read: what is torn is
+-- The log is kept on the disk of the journal, which was made ready from what the reading left of it, as it was read: what is torn is
 -- cut off, what was logged stays, and one that was not begun begins.
-pub record IsKeptOn {F : Type 0} (contents : F → Option (List ℕ)) (is_told : Bool) (head : Head) (channels : List Bool) (before : Option (List ℕ)) (opened day : Day) (kept : Record (FileDisk F)) : Type 0 where
+pub record IsKeptOn {F : Type 0} (contents : F → Option (List ℕ)) (is_told : Bool) (head : Head) (channels : List Bool) (before : Option (List ℕ)) (opened day : Day) (kept : Log (FileDisk F)) : Type 0 where
   pub whole : Result ℕ JournalFault
   pub followed : IsFollowedBy head channels before opened day whole
   pub left : FileDisk F
@@ -34,7 +34,7 @@ pub record IsKeptOn {F : Type 0} (contents : F → Option (List ℕ)) (is_told :
   pub ready : IsReady (holds_in contents) (may_leave_in is_told) head whole left disk
 
 -- the same of the journal in a file that tells nothing of what it holds, where there is one; else nothing is kept
-abbrev pub IsKeptBy : {F : Type 0} → Head → List Bool → Option (Bor (List ℕ)) → Day → Day → Record (FileDisk F) → Type 0
+abbrev pub IsKeptBy : {F : Type 0} → Head → List Bool → Option (Bor (List ℕ)) → Day → Day → Log (FileDisk F) → Type 0
 IsKeptBy head channels None opened day kept = kept.disk ≡ None
 IsKeptBy head channels (Some name) opened day kept = (before : Option (List ℕ)) × IsKeptOn (λ file. None) false head channels before opened day kept
 
@@ -54,8 +54,8 @@ IsNotResumed name head channels opened StillUp = ⊥
 IsNotResumed name head channels opened NotFirstFit = ⊥
 
 -- or it is no plain file, or another program writes it
-abbrev pub IsNoRecord : Option (Bor (List ℕ)) → Head → List Bool → Day → LiveFault → Type 0
-IsNoRecord None head channels opened fault = ⊥
-IsNoRecord (Some name) head channels opened (InUse n) = n.now ≡ name.now
-IsNoRecord (Some name) head channels opened (NotAFile n) = n.now ≡ name.now
-IsNoRecord (Some name) head channels opened fault = IsNotResumed name.now head channels opened fault
+abbrev pub IsNoLog : Option (Bor (List ℕ)) → Head → List Bool → Day → LiveFault → Type 0
+IsNoLog None head channels opened fault = ⊥
+IsNoLog (Some name) head channels opened (InUse n) = n.now ≡ name.now
+IsNoLog (Some name) head channels opened (NotAFile n) = n.now ≡ name.now
+IsNoLog (Some name) head channels opened fault = IsNotResumed name.now head channels opened fault

@@ -24,7 +24,7 @@ pub record IsToldWhole {F : Type 0} (files : F → Option (List ℕ)) (capture :
   pub kept : IsAllKept capture ended.is_whole (Ok tt)
 
 -- a prefix of what became of the bookings was written, and the records, or not
-pub record IsCut {F : Type 0} (files : F → Option (List ℕ)) (ended : Ended F) (output : Writing) : Type 0 where
+pub record IsTellingCut {F : Type 0} (files : F → Option (List ℕ)) (ended : Ended F) (output : Writing) : Type 0 where
   pub faulted : output.is_faulted ≡ true
   pub written : AppendsPrefix output.before output.after (outcomes_text ended.exchange)
   pub recorded : Result (Unit {0}) DayCommandFault
@@ -37,6 +37,6 @@ pub record IsUnwhole {F : Type 0} (files : F → Option (List ℕ)) (capture : O
   pub unkept : IsUnkept capture ended.is_whole recorded fault
 
 abbrev pub IsNotToldWhole : {F : Type 0} → (F → Option (List ℕ)) → Option CaptureWords → Ended F → Writing → LiveFault → Type 0
-IsNotToldWhole files capture ended output (OfDay (Command CannotWrite)) = IsCut files ended output
+IsNotToldWhole files capture ended output (OfDay (Command CannotWrite)) = IsTellingCut files ended output
 IsNotToldWhole files capture ended output (OfDay fault) = IsUnwhole files capture ended output fault
 IsNotToldWhole files capture ended output fault = ⊥

@@ -8,7 +8,7 @@ use crate::running::clock_of;
 use bx_day::Exchange;
 use bx_journal::Disk;
 use bx_line_world::{Line, LineWorld, Wire};
-use bx_live::{CannotRecord, run_held};
+use bx_live::{CannotLog, run_held};
 use bx_live_parts::Schedule;
 use bx_world::Telling;
 use std::rt::Clock;
@@ -22,7 +22,7 @@ pub struct Told<'a> {
 }
 
 /// Runs the rest of a day up to a turn of it, and after that on while a call is up, by the clock, as the network's end of a data link
-/// over the wire. Answers the exchange at the end of the day. `CannotRecord` where an event cannot be logged, since the journal's disk has
+/// over the wire. Answers the exchange at the end of the day. `CannotLog` where an event cannot be logged, since the journal's disk has
 /// failed: nothing more is done then.
 pub fn run_by_clock<'a, 'h, H: Clock + Eprint, W: Wire + Drop, D: Disk + Drop>(
     rt: &'h H,
@@ -31,16 +31,13 @@ pub fn run_by_clock<'a, 'h, H: Clock + Eprint, W: Wire + Drop, D: Disk + Drop>(
     schedule: Schedule,
     turns: u32,
     told: Told<'a>,
-) -> Result<Exchange, CannotRecord>
-    ensures failed { OnErr result (is_some resumed.record.disk ≡ true) }
-    ensures stopped { OnErr result (StopsByLine W.did D.holds D.may_leave D.moment D.left_since D.has_failed wire schedule resumed.record resumed.exchange) }
-    ensures ran { IfOk result (RunsByLine W.did D.holds D.may_leave D.moment D.left_since D.has_failed wire schedule resumed.record turns resumed.exchange) }
+) -> Result<Exchange, CannotLog>
+    ensures failed { OnErr result (is_some resumed.log.disk ≡ true) }
+    ensures stopped { OnErr result (StopsByLine W.did D.holds D.may_leave D.moment D.left_since D.has_failed wire schedule resumed.log resumed.exchange) }
+    ensures ran { IfOk result (RunsByLine W.did D.holds D.may_leave D.moment D.left_since D.has_failed wire schedule resumed.log turns resumed.exchange) }
 {
-    let Resumed {
-        mut exchange,
-        record,
-    } = resumed;
-    let world = LineWorld::new(schedule, Line::new(true, wire), record);
+    let Resumed { mut exchange, log } = resumed;
+    let world = LineWorld::new(schedule, Line::new(true, wire), log);
     let mut telling = Telling::new(rt, world, clock_of(Some(told.day)), told.is_shown);
     let done = run_held(&mut exchange, &mut telling, turns);
     telling.clear();

@@ -11,7 +11,7 @@ use bx_calendar::Day;
 use bx_day::Exchange;
 use bx_journal::Disk;
 use bx_line_world::{Line, LineWorld, Wire};
-use bx_live::CannotRecord;
+use bx_live::CannotLog;
 use bx_live_parts::Schedule;
 use bx_market::run_market;
 use bx_office_door::{Door, OfficeWire};
@@ -31,7 +31,7 @@ pub struct Premises {
 }
 
 /// Runs the rest of a day as `run_by_clock` does, and between two seconds answers who stands at the door: what is sold is logged, and on
-/// the disk, before its customer is told. Answers the exchange at the end of the day, with all that was sold. `CannotRecord` where something cannot be
+/// the disk, before its customer is told. Answers the exchange at the end of the day, with all that was sold. `CannotLog` where something cannot be
 /// logged, since the journal's disk has failed: nothing more is done or told then.
 pub fn run_with_office<'a, 'h, H: Clock + Eprint + AllocGlobal, W: Wire + Drop, D: Disk + Drop>(
     rt: &'h H,
@@ -41,17 +41,14 @@ pub fn run_with_office<'a, 'h, H: Clock + Eprint + AllocGlobal, W: Wire + Drop, 
     turns: u32,
     told: Told<'a>,
     premises: Premises,
-) -> Result<Exchange, CannotRecord>
-    ensures failed { OnErr result (is_some resumed.record.disk ≡ true) }
+) -> Result<Exchange, CannotLog>
+    ensures failed { OnErr result (is_some resumed.log.disk ≡ true) }
     ensures stopped { OnErr result
-        (StopsSelling W.did D.holds D.may_leave D.moment D.left_since D.has_failed wire schedule resumed.record premises.channels turns resumed.exchange) }
+        (StopsSelling W.did D.holds D.may_leave D.moment D.left_since D.has_failed wire schedule resumed.log premises.channels turns resumed.exchange) }
     ensures ran { IfOk result
-        (SellsByLine W.did D.holds D.may_leave D.moment D.left_since D.has_failed wire schedule resumed.record premises.channels turns resumed.exchange) }
+        (SellsByLine W.did D.holds D.may_leave D.moment D.left_since D.has_failed wire schedule resumed.log premises.channels turns resumed.exchange) }
 {
-    let Resumed {
-        mut exchange,
-        record,
-    } = resumed;
+    let Resumed { mut exchange, log } = resumed;
     let Premises {
         door,
         beside,
@@ -59,7 +56,7 @@ pub fn run_with_office<'a, 'h, H: Clock + Eprint + AllocGlobal, W: Wire + Drop, 
         day,
     } = premises;
     let wire = OfficeWire::new(wire, beside);
-    let world = LineWorld::new(schedule, Line::new(true, wire), record);
+    let world = LineWorld::new(schedule, Line::new(true, wire), log);
     let clock = clock_of(Some(told.day));
     let telling = Telling::new(rt, world, clock, told.is_shown);
     let opened = Opened {

@@ -1,7 +1,7 @@
 //! Why a day that is logged was not run to its end.
 
 ghost use Rattle.std.specs.Prelude.{◌≡◌, true, is_some};
-ghost use Rattle.bx_run_commands.specs.OpeningFaults.{IsUnrecorded};
+ghost use Rattle.bx_run_commands.specs.OpeningFaults.{IsUnlogged};
 
 use bx_day_openings::DayCommandFault;
 use thiserror::Error;
@@ -44,9 +44,9 @@ impl<'a> From<DayCommandFault<'a>> for LiveFault<'a> {
 }
 
 /// The fault by which something cannot be logged in a journal that is kept.
-pub(crate) fn unrecorded<'a>(journal: Option<&'a str>) -> LiveFault<'a>
+pub(crate) fn unlogged<'a>(journal: Option<&'a str>) -> LiveFault<'a>
     requires { is_some journal ≡ true }
-    ensures { IsUnrecorded journal.entry result }
+    ensures { IsUnlogged journal.entry result }
 {
     match journal {
         Some(name) => LiveFault::CannotRecord(name),

@@ -9,7 +9,7 @@ ghost use Rattle.bx_run_commands.specs.LiveRefusals.{StopsLive, IsLiveRefusal};
 
 use crate::by_line::{Told, run_by_clock};
 use crate::by_office::{Premises, run_with_office};
-use crate::fault::{LiveFault, unrecorded};
+use crate::fault::{LiveFault, unlogged};
 use crate::host::Host;
 use crate::office::{live_turns, premises_of};
 use crate::resuming::{Resumed, resume_named};
@@ -21,7 +21,7 @@ use bx_day_openings::{
 use bx_devices::Watched;
 use bx_journal::{Disk, Head, JournalDay};
 use bx_line_world::{UdpWire, Wire};
-use bx_live::{CannotRecord, has_call};
+use bx_live::{CannotLog, has_call};
 use bx_live_parts::Schedule;
 use bx_request::LiveRequest;
 use bx_sales::is_first_fit;
@@ -72,12 +72,12 @@ fn run_rest<'a, 'h, H: Clock + Eprint + AllocGlobal, W: Wire + Drop, D: Disk + D
     turns: u32,
     told: Told<'a>,
     premises: Option<Premises>,
-) -> Result<Exchange, CannotRecord>
-    ensures failed { OnErr result (is_some resumed.record.disk ≡ true) }
+) -> Result<Exchange, CannotLog>
+    ensures failed { OnErr result (is_some resumed.log.disk ≡ true) }
     ensures stopped { OnErr result
-        (StopsWith premises W.did D.holds D.may_leave D.moment D.left_since D.has_failed wire schedule resumed.record turns resumed.exchange) }
+        (StopsWith premises W.did D.holds D.may_leave D.moment D.left_since D.has_failed wire schedule resumed.log turns resumed.exchange) }
     ensures ran { IfOk result
-        (RunsWith premises W.did D.holds D.may_leave D.moment D.left_since D.has_failed wire schedule resumed.record turns resumed.exchange) }
+        (RunsWith premises W.did D.holds D.may_leave D.moment D.left_since D.has_failed wire schedule resumed.log turns resumed.exchange) }
 {
     match premises {
         None => run_by_clock(rt, resumed, wire, schedule, turns, told),
@@ -113,7 +113,7 @@ fn run_on_socket<'a, H: Host>(
     let wire = UdpWire::new(rt, socket);
     match run_rest(rt, resumed, wire, hours.schedule, turns, told, premises) {
         Ok(exchange) => Ok(exchange),
-        Err(_) => Err(unrecorded(request.journal)),
+        Err(_) => Err(unlogged(request.journal)),
     }
 }
 

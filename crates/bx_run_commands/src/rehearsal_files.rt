@@ -4,7 +4,7 @@ ghost use Rattle.std.specs.Prelude.{◌≡◌, ◌≤◌, ◌&&◌, not, is_some
 ghost use Rattle.bx_day_openings.specs.CaptureOpenings.{IsFirstOf};
 ghost use Rattle.bx_day_openings.specs.Recording.{IsRecordsClock, IsRecordsFileFor, IsMade};
 ghost use Rattle.bx_journal.specs.Files.{holds_unknown, may_leave_any, has_failed_in};
-ghost use Rattle.bx_run_commands.specs.OpeningFaults.{IsUnrecorded};
+ghost use Rattle.bx_run_commands.specs.OpeningFaults.{IsUnlogged};
 ghost use Rattle.bx_run_commands.specs.Rehearsals.{RehearsesTowards};
 ghost use Rattle.bx_run_commands.specs.ReadyInside.{IsReadied, IsNotReadied, IsEnded, IsLostBy};
 ghost use Rattle.bx_run_commands.specs.RehearsedDays.{IsRehearsedDay, IsRehearsalDone};
@@ -12,7 +12,7 @@ ghost use Rattle.bx_run_commands.specs.RehearsalRefusals.{IsUnseen, StopsRehears
 ghost use Rattle.bx_run_commands.specs.PeersInside.{IsRehearsedFrom, StopsAtPeerByClock, StopsAfterPeerByClock};
 ghost use Rattle.bx_devices.specs.Devices.{writing_of};
 
-use crate::fault::{LiveFault, unrecorded};
+use crate::fault::{LiveFault, unlogged};
 use crate::host::Host;
 use crate::new_journal::{JournalDisk, new_journal};
 use crate::rehearsing::{Opened, Rehearsed, rehearse};
@@ -116,11 +116,11 @@ fn rehearse_named<'a, 'h, H: Host, P: Peer + Drop>(
     requires kept { is_some opened.disk ≡ is_some journal }
     ensures ran { IfOk result
         (RehearsesTowards P.wrote P.gave P.parted holds_unknown may_leave_any has_failed_in H.File.contents opened peer view.entry.file view.entry.first) }
-    ensures stopped { IfErr result (IsUnrecorded journal.entry) }
+    ensures stopped { IfErr result (IsUnlogged journal.entry) }
 {
     match rehearse(rt, opened, peer, view) {
         Ok(rehearsed) => Ok(rehearsed),
-        Err(_) => Err(unrecorded(journal)),
+        Err(_) => Err(unlogged(journal)),
     }
 }
 

@@ -10,8 +10,8 @@ use crate::waiting::WaitingDisk;
 use bx_day::Exchange;
 use bx_frames::LinkFault;
 use bx_journal::{Disk, Head, begin};
-use bx_live::CannotRecord;
-use bx_live_parts::Record;
+use bx_live::CannotLog;
+use bx_live_parts::Log;
 use bx_world::{Peer, Rehearsal};
 use std::io::Write;
 use std::rt::Clock;
@@ -38,27 +38,24 @@ pub struct Rehearsed<D> {
 }
 
 /// Begins a journal on an empty disk, where there is one. It is synced once it is put away.
-fn begun<D: Disk + Drop>(
-    disk: Option<D>,
-    head: &Head,
-) -> Result<Record<WaitingDisk<D>>, CannotRecord>
+fn begun<D: Disk + Drop>(disk: Option<D>, head: &Head) -> Result<Log<WaitingDisk<D>>, CannotLog>
     ensures begun { IfOk result (λ kept. HasBegun D.holds head.now disk kept.disk) }
     ensures failed { OnErr result (is_some disk ≡ true) }
 {
     let Some(disk) = disk else {
-        return Ok(Record { disk: None });
+        return Ok(Log { disk: None });
     };
     let mut waiting = WaitingDisk::new(disk);
     match begin(&mut waiting, head) {
-        Ok(()) => Ok(Record {
+        Ok(()) => Ok(Log {
             disk: Some(waiting),
         }),
-        Err(_) => Err(CannotRecord),
+        Err(_) => Err(CannotLog),
     }
 }
 
 /// The disk of a journal, with all that is logged, where one was kept.
-fn put_away<D: Disk + Drop>(kept: Record<WaitingDisk<D>>) -> Result<Option<D>, CannotRecord>
+fn put_away<D: Disk + Drop>(kept: Log<WaitingDisk<D>>) -> Result<Option<D>, CannotLog>
     ensures away { IfOk result (IsPutAway D.holds D.may_leave kept.disk) }
     ensures failed { OnErr result (is_some kept.disk ≡ true) }
 {
@@ -67,19 +64,19 @@ fn put_away<D: Disk + Drop>(kept: Record<WaitingDisk<D>>) -> Result<Option<D>, C
     };
     match waiting.put_away() {
         Ok(disk) => Ok(Some(disk)),
-        Err(_) => Err(CannotRecord),
+        Err(_) => Err(CannotLog),
     }
 }
 
 /// Rehearses a day towards a peer. Where a journal is kept, each event is logged before it happens, and all of it is on the disk at
 /// the end, also where a fault of the link has ended the day; where something cannot be logged there, nothing more is done, and
-/// `CannotRecord` is answered. The first second of the view is at most 4,294,667,295.
+/// `CannotLog` is answered. The first second of the view is at most 4,294,667,295.
 pub fn rehearse<'a, 'h, H: Clock + Eprint, P: Peer + Drop, D: Disk + Drop, F: Write + Drop>(
     rt: &'h H,
     opened: Opened<D>,
     peer: P,
     view: View<'a, F>,
-) -> Result<Rehearsed<D>, CannotRecord>
+) -> Result<Rehearsed<D>, CannotLog>
     requires { view.first ≤ 4294667295 }
     ensures failed { OnErr result (is_some opened.disk ≡ true) }
     ensures ran { IfOk result
@@ -94,7 +91,7 @@ pub fn rehearse<'a, 'h, H: Clock + Eprint, P: Peer + Drop, D: Disk + Drop, F: Wr
     let kept = begun(disk, &head)?;
     let rehearsal = Rehearsal {
         peer,
-        record: kept,
+        log: kept,
         lost: None,
     };
     let Ran {
@@ -105,7 +102,7 @@ pub fn rehearse<'a, 'h, H: Clock + Eprint, P: Peer + Drop, D: Disk + Drop, F: Wr
     done?;
     let Rehearsal {
         peer: _,
-        record: kept,
+        log: kept,
         lost,
     } = world;
     let disk = put_away(kept)?;

@@ -2,8 +2,8 @@
 
 ghost use Rattle.std.specs.Prelude.{◌≡◌, IfOk, IfErr, OnOk};
 ghost use Rattle.bx_run_commands.specs.Readying.{IsReady};
-ghost use Rattle.bx_run_commands.specs.NewJournalsInside.{IsUnopened};
-ghost use Rattle.bx_run_commands.specs.Resuming.{GoesOn, GoesOnBy, IsKeptOn, IsKeptBy, IsNotResumed, IsNoRecord};
+ghost use Rattle.bx_run_commands.specs.NewJournalsInside.{IsUnopenedJournal};
+ghost use Rattle.bx_run_commands.specs.Resuming.{GoesOn, GoesOnBy, IsKeptOn, IsKeptBy, IsNotResumed, IsNoLog};
 
 use crate::fault::LiveFault;
 use crate::folder::sync_entry;
@@ -15,7 +15,7 @@ use bx_day::Exchange;
 use bx_day_openings::{DayOpening, replay_journal};
 use bx_devices::Watched;
 use bx_journal::{Disk, DiskFailed, DiskFile, FileDisk, Head, JournalFault, begin, resume};
-use bx_live_parts::Record;
+use bx_live_parts::Log;
 use std::alloc::Global;
 use std::fs::{File, Files, OpenFile};
 use std::io;
@@ -25,7 +25,7 @@ use std::io::Read;
 #[derive(Drop)]
 pub struct Resumed<D: Disk> {
     pub exchange: Exchange,
-    pub record: Record<D>,
+    pub log: Log<D>,
 }
 
 /// Makes a journal that was read so ready to go on: what is torn is cut off, and one that was not begun begins.
@@ -58,7 +58,7 @@ pub fn resume_on<'a, F: Read + DiskFile + Drop>(
     ensures resumed { IfOk result (λ resumed. GoesOn head.now opening.channels (F.remaining file) opening.exchange resumed.exchange) }
     // What happens from then on is logged after what was read.
     ensures kept { IfOk result (λ resumed.
-        IsKeptOn F.contents F.is_told head.now opening.channels (F.remaining file) opening.exchange resumed.exchange resumed.record) }
+        IsKeptOn F.contents F.is_told head.now opening.channels (F.remaining file) opening.exchange resumed.exchange resumed.log) }
     ensures refused { IfErr result (IsNotResumed name.now head.now opening.channels opening.exchange) }
 {
     let mut journal = Watched::new(file);
@@ -76,7 +76,7 @@ pub fn resume_on<'a, F: Read + DiskFile + Drop>(
     match make_ready(&mut disk, head, replayed.whole) {
         Ok(()) => Ok(Resumed {
             exchange: replayed.exchange,
-            record: Record { disk: Some(disk) },
+            log: Log { disk: Some(disk) },
         }),
         Err(_) => Err(LiveFault::CannotRecord(name)),
     }
@@ -102,7 +102,7 @@ fn measured<'a, H: Eprint, F: OpenFile>(
     name: &'a str,
     file: &F,
 ) -> Result<u64, LiveFault<'a>>
-    ensures { IfErr result (IsUnopened name.entry) }
+    ensures { IfErr result (IsUnopenedJournal name.entry) }
 {
     match length_of(file) {
         Ok(length) => Ok(length),
@@ -117,7 +117,7 @@ pub(crate) fn journal_file<'a, H: Files + Locks + Eprint>(
     rt: &H,
     name: &'a str,
 ) -> Result<H::File, LiveFault<'a>>
-    ensures { IfErr result (IsUnopened name.entry) }
+    ensures { IfErr result (IsUnopenedJournal name.entry) }
 {
     let opened = File::options()
         .read(true)
@@ -149,14 +149,14 @@ pub(crate) fn resume_named<'a, H: Files + Locks + Standing + AllocGlobal + Eprin
     is_shown: bool,
 ) -> Result<Resumed<FileDisk<NamedFile<'a, H, H::File>>>, LiveFault<'a>>
     ensures resumed { IfOk result (λ resumed. GoesOnBy head.now opening.channels name.entry opening.exchange resumed.exchange) }
-    ensures kept { IfOk result (λ resumed. IsKeptBy head.now opening.channels name.entry opening.exchange resumed.exchange resumed.record) }
-    ensures refused { IfErr result (IsNoRecord name.entry head.now opening.channels opening.exchange) }
+    ensures kept { IfOk result (λ resumed. IsKeptBy head.now opening.channels name.entry opening.exchange resumed.exchange resumed.log) }
+    ensures refused { IfErr result (IsNoLog name.entry head.now opening.channels opening.exchange) }
 {
     let Some(name) = name else {
         let DayOpening { exchange, .. } = opening;
         return Ok(Resumed {
             exchange,
-            record: Record { disk: None },
+            log: Log { disk: None },
         });
     };
     let file = journal_file(rt, name)?;

@@ -6,7 +6,7 @@ ghost use Rattle.bx_run_commands.specs.Runs.{RunsIn};
 use bx_calendar::Clock as DayClock;
 use bx_day::Exchange;
 use bx_devices::Watched;
-use bx_live::{CannotRecord, World, run_live};
+use bx_live::{CannotLog, World, run_live};
 use bx_world::{CapturedWorld, Telling};
 use std::io::Write;
 use std::rt::Clock;
@@ -25,7 +25,7 @@ pub struct View<'a, F> {
 #[derive(Drop)]
 pub struct Ran<W> {
     pub world: W,
-    pub done: Result<(), CannotRecord>,
+    pub done: Result<(), CannotLog>,
     pub is_whole: bool,
 }
 

@@ -7,7 +7,7 @@ use Rattle.bx_base.specs.Plans.{is_accepted, channel_at}
 use Rattle.bx_events.specs.Events.{LiveEvent}
 use Rattle.bx_day.specs.declared.entry.Entry.{Entry}
 use Rattle.bx_day.specs.Day.{Day, entry_at, entries_from, opening}
-use Rattle.bx_day.specs.Extended.{extended, IsKept, IsExtendedBy}
+use Rattle.bx_day.specs.Extended.{extended, IsKeptRow, IsExtendedBy}
 use Rattle.bx_day.specs.Invariant.{is_refused}
 use Rattle.bx_day.specs.Outages.{live_day_after}
 use Rattle.bx_day.proofs.Extended.{AreSeats, run_over}
@@ -64,7 +64,7 @@ module _ (rows : List Row) (channels : List Bool) (assigned : List (Option ℕ))
   frame_at i lt = fits.framed.0 i lt
 
   module _ (rows' : List Row) (assigned' : List (Option ℕ)) where
-    kept_channel : (t : ℕ) (e : Entry) (b b' : Row) (a a' : Option ℕ) → IsFrame b a e → IsKept t e b' a' → b.start < t + 1 → a' ≡ a
+    kept_channel : (t : ℕ) (e : Entry) (b b' : Row) (a a' : Option ℕ) → IsFrame b a e → IsKeptRow t e b' a' → b.start < t + 1 → a' ≡ a
     kept_channel t e b b' a a' f k early = decide (is_refused e.standing)
         (λ out. none_both a a' (sym (twice_not (is_some a)) ∙ ap not (sym f.accepted ∙ out)) (k.accepted ∙ ap not out))
         (λ accepted. k.channel accepted (let start : e.booking.start ≡ b.start = ap (λ (x : Row). x.start) f.booking in omega (arith, early, start))

@@ -6,7 +6,7 @@ use Rattle.bx_colour.specs.Colouring.{IsFirstFit}
 use Rattle.bx_day.specs.Day.{Day, opening}
 use Rattle.bx_day.specs.Outages.{live_happens, live_day_after}
 use Rattle.bx_events.specs.Events.{LiveEvent, OnLink, WithoutLink, Sold}
-use Rattle.bx_sales.specs.Sold.{Item, Happened, Bought, events_in, bought_in, GoesThrough}
+use Rattle.bx_sales.specs.Sold.{Item, Happened, Bought, events_logged_in, bought_in, GoesThrough}
 use Rattle.bx_sales.specs.Journal.{sold_in, RunsThrough}
 use Rattle.bx_sales.proofs.Told.{told}
 
@@ -22,7 +22,7 @@ same_sold row_on (Sold line ∷ events) = ap (λ rows. row_on line ∷ rows) (sa
 same_sold row_on (OnLink event ∷ events) = same_sold row_on events
 same_sold row_on (WithoutLink ∷ events) = same_sold row_on events
 
-same_day : (row_on : List ℕ → Row) (events : List LiveEvent) (d : Day) → live_day_after (events_in (items_of row_on events)) d ≡ live_day_after events d
+same_day : (row_on : List ℕ → Row) (events : List LiveEvent) (d : Day) → live_day_after (events_logged_in (items_of row_on events)) d ≡ live_day_after events d
 same_day row_on [] d = refl
 same_day row_on (Sold line ∷ events) d = same_day row_on events d
 same_day row_on (OnLink event ∷ events) d = same_day row_on events (live_happens d (OnLink event)).day

@@ -7,7 +7,7 @@ use Rattle.bx_day.specs.Day.{opening}
 use Rattle.bx_day.specs.Extended.{extended, IsExtendedBy}
 use Rattle.bx_day.specs.Outages.{live_day_after, live_happens}
 use Rattle.bx_events.specs.Events.{LiveEvent}
-use Rattle.bx_sales.specs.Sales.{Step, sold_day_after, events_of_steps, last_rows, last_assigned, AreSales}
+use Rattle.bx_sales.specs.Sales.{SaleStep, sold_day_after, events_of_steps, last_rows, last_assigned, AreSales}
 
 -- ---- a plan that extends another from moment m
 
@@ -55,7 +55,7 @@ GoesOnAsLonger =
 -- the day of steps is that of the last plan over their events alone
 abbrev pub IsDayOfLastPlan : Type 0
 IsDayOfLastPlan =
-    (channels : List Bool) (rows : List Row) (assigned : List (Option ℕ)) (steps : List Step) →
+    (channels : List Bool) (rows : List Row) (assigned : List (Option ℕ)) (steps : List SaleStep) →
     AreBookings rows →
     Carries rows channels (is_accepted assigned) (channel_at assigned) →
     AreSales channels steps (opening rows assigned) →
@@ -64,7 +64,7 @@ IsDayOfLastPlan =
 -- the rows of the last plan are bookings
 abbrev pub HasBookingsLast : Type 0
 HasBookingsLast =
-    (channels : List Bool) (rows : List Row) (assigned : List (Option ℕ)) (steps : List Step) →
+    (channels : List Bool) (rows : List Row) (assigned : List (Option ℕ)) (steps : List SaleStep) →
     AreBookings rows →
     AreSales channels steps (opening rows assigned) →
     AreBookings (last_rows rows steps)
@@ -72,7 +72,7 @@ HasBookingsLast =
 -- the channels carry the last plan
 abbrev pub IsLastPlanCarried : Type 0
 IsLastPlanCarried =
-    (channels : List Bool) (rows : List Row) (assigned : List (Option ℕ)) (steps : List Step) →
+    (channels : List Bool) (rows : List Row) (assigned : List (Option ℕ)) (steps : List SaleStep) →
     Carries rows channels (is_accepted assigned) (channel_at assigned) →
     AreSales channels steps (opening rows assigned) →
     Carries (last_rows rows steps) channels (is_accepted (last_assigned assigned steps)) (channel_at (last_assigned assigned steps))

@@ -14,10 +14,10 @@ pub data Item : Type 0 where
   Bought : (row : Row) → Item
 
 -- the logged events
-abbrev pub events_in : List Item → List LiveEvent
-events_in [] = []
-events_in (Happened event ∷ items) = event ∷ events_in items
-events_in (Bought row ∷ items) = events_in items
+abbrev pub events_logged_in : List Item → List LiveEvent
+events_logged_in [] = []
+events_logged_in (Happened event ∷ items) = event ∷ events_logged_in items
+events_logged_in (Bought row ∷ items) = events_logged_in items
 
 -- the bookings that were sold
 abbrev pub bought_in : List Item → List Row
@@ -32,12 +32,12 @@ GoesThrough channels (Happened event ∷ items) old new = GoesThrough channels i
 GoesThrough channels (Bought row ∷ items) old new = (sold : Day) × IsSold channels row old sold × GoesThrough channels items sold new
 
 -- the plan of the morning, with all that was sold after it and accepted, coloured once, has the day that went through these
-abbrev pub IsToldByRecord : Type 0
-IsToldByRecord = (channels : List Bool) (rows : List Row) (accepted : List Bool) (assigned : List (Option ℕ)) (items : List Item) (d : Day) →
+abbrev pub IsToldByLog : Type 0
+IsToldByLog = (channels : List Bool) (rows : List Row) (accepted : List Bool) (assigned : List (Option ℕ)) (items : List Item) (d : Day) →
     length accepted ≡ length rows → AreBookings rows → Carries rows channels (is_accepted assigned) (channel_at assigned) → IsFirstFit rows channels accepted assigned →
     GoesThrough channels items (opening rows assigned) d →
     (last : List (Option ℕ)) → IsFirstFit (rows ++ bought_in items) channels (accepted ++ map (λ (row : Row). true) (bought_in items)) last →
-    d ≡ live_day_after (events_in items) (opening (rows ++ bought_in items) last)
+    d ≡ live_day_after (events_logged_in items) (opening (rows ++ bought_in items) last)
 
 -- where the day's plan is first fit, the first-fit plan with one booking more that starts later is one that it goes on with
 abbrev pub IsFirstFitSold : Type 0

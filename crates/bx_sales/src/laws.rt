@@ -1,13 +1,13 @@
 //! Laws of a day on which bookings are sold.
 
 ghost use Rattle.bx_sales.specs.Journal.{IsToldByJournal, AreRowsSold};
-ghost use Rattle.bx_sales.specs.Sold.{IsFirstFitSold, IsToldByRecord, StaysFirstFit};
+ghost use Rattle.bx_sales.specs.Sold.{IsFirstFitSold, IsToldByLog, StaysFirstFit};
 ghost use Rattle.bx_sales.specs.Laws.{IsExtendedUpTo, HasSameSentUpTo, IsExtensionTested, GoesOnAsLonger, IsDayOfLastPlan, HasBookingsLast, IsLastPlanCarried};
 
-/// The record tells the day: where the plan of the morning is first fit, a day that went through events and sales, in whatever order,
+/// The journal tells the day: where the plan of the morning is first fit, a day that went through events and sales, in whatever order,
 /// is the day of one plan over these events alone: of the morning's bookings with all that was sold after them, coloured once.
-pub fn told_by_record()
-    ensures { IsToldByRecord }
+pub fn told_by_log()
+    ensures { IsToldByLog }
 {}
 
 /// A day whose plan is first fit is never refused as `OtherChannels`: the plan with one booking more is one that it goes on with.

@@ -13,7 +13,7 @@ use Rattle.std.specs.Prelude.{OnOk, OnErr, IsTrue}
 use Rattle.bx_devices.proofs.OctetLemmas.{AppendsPrefix-more, AppendsPrefix-after}
 use Rattle.bx_text.specs.Lines.{line_text}
 use Rattle.bx_text.specs.Writing.{Writes}
-use Rattle.bx_text.specs.Gathering.{Held, Gathers, held, octets_of}
+use Rattle.bx_text.specs.Gathering.{HeldBlock, Gathers, held, octets_of}
 
 -- ---- what waits, and what is put
 
@@ -30,11 +30,11 @@ done = Ok tt
 
 module _ {W E : Type 0} (contents : W → Option (List ℕ)) where
   -- nothing was put yet
-  pub nothing_put : (a : Held W) → Gathers contents a a (done {E = E}) []
+  pub nothing_put : (a : HeldBlock W) → Gathers contents a a (done {E = E}) []
   nothing_put a = record { put = ([], Appends-nil (contents (device_of a.writer)), append-nil a.waiting); prefix = tt; faulted = tt; unfaulted = refl; reads = refl }
 
   -- a text after one that was put
-  pub puts_then : {F : Type 0} (a b d : Held W) (r : Result (Unit {0}) E) (s t : List ℕ) → Gathers contents a b (done {E = F}) s → Gathers contents b d r t → Gathers contents a d r (s ++ t)
+  pub puts_then : {F : Type 0} (a b d : HeldBlock W) (r : Result (Unit {0}) E) (s t : List ℕ) → Gathers contents a b (done {E = F}) s → Gathers contents b d r t → Gathers contents a d r (s ++ t)
   puts_then a b d (Ok x) s t p q = record {
     put = (
       p.put.0 ++ q.put.0,
@@ -70,7 +70,7 @@ module _ {W E : Type 0} (contents : W → Option (List ℕ)) where
 
 -- a text that was to be the prefix of another, where its writing failed
 module _ {W E F : Type 0} (contents : W → Option (List ℕ)) where
-  pub puts_failed : (a b : Held W) (e : E) (f : F) (s rest whole : List ℕ) → whole ≡ s ++ rest → Gathers {T = Unit {0}} contents a b (Err e) s → Gathers {T = Unit {0}} contents a b (Err f) whole
+  pub puts_failed : (a b : HeldBlock W) (e : E) (f : F) (s rest whole : List ℕ) → whole ≡ s ++ rest → Gathers {T = Unit {0}} contents a b (Err e) s → Gathers {T = Unit {0}} contents a b (Err f) whole
   puts_failed a b e f s rest whole same p = record {
     put = tt;
     prefix = subst (AppendsPrefix (contents (device_of a.writer)) (contents (device_of b.writer))) (append_assoc a.waiting s rest ∙ ap (λ (l : List ℕ). a.waiting ++ l) (sym same))
@@ -101,14 +101,14 @@ pub lines_split : (lines : List (List (List ℕ))) (n : ℕ) → flat_map line_t
 lines_split lines n = ap (flat_map line_text) (sym (take-append-drop n lines)) ∙ flat_map-append line_text (take n lines) (drop n lines)
 
 module _ {W E : Type 0} (contents : W → Option (List ℕ)) (lines : List (List (List ℕ))) (i : ℕ) where
-  pub line_put : (a b d : Held W) (fields : List (List ℕ)) (text : List ℕ) → i < length lines → get_or lines i [] ≡ fields → text ≡ line_text fields
+  pub line_put : (a b d : HeldBlock W) (fields : List (List ℕ)) (text : List ℕ) → i < length lines → get_or lines i [] ≡ fields → text ≡ line_text fields
       → Gathers contents a b (done {E = E}) (flat_map line_text (take i lines)) → Gathers contents b d (done {E = E}) text
       → Gathers contents a d (done {E = E}) (flat_map line_text (take (i + 1) lines))
   line_put a b d fields text lt at same so_far next =
       let both = puts_then contents a b d (done {E = E}) (flat_map line_text (take i lines)) (line_text fields) so_far (rw same at next) in
       subst (λ (t : List ℕ). Gathers contents a d (done {E = E}) t) (sym (lines_more lines i fields lt at)) both
 
-  pub line_failed : (a b d : Held W) (e f : E) (fields : List (List ℕ)) (text : List ℕ) → i < length lines → get_or lines i [] ≡ fields → text ≡ line_text fields
+  pub line_failed : (a b d : HeldBlock W) (e f : E) (fields : List (List ℕ)) (text : List ℕ) → i < length lines → get_or lines i [] ≡ fields → text ≡ line_text fields
       → Gathers contents a b (done {E = E}) (flat_map line_text (take i lines)) → Gathers {T = Unit {0}} contents b d (Err e) text
       → Gathers {T = Unit {0}} contents a d (Err f) (flat_map line_text lines)
   line_failed a b d e f fields text lt at same so_far next =
@@ -117,5 +117,5 @@ module _ {W E : Type 0} (contents : W → Option (List ℕ)) (lines : List (List
       = lines_split lines (i + 1) ∙ ap (λ (t : List ℕ). t ++ flat_map line_text (drop (i + 1) lines)) (lines_more lines i fields lt at) in
       puts_failed contents a d e f (flat_map line_text (take i lines) ++ line_text fields) (flat_map line_text (drop (i + 1) lines)) (flat_map line_text lines) whole both
 
-  pub lines_put : (a b : Held W) → length lines ≤ i → Gathers contents a b (done {E = E}) (flat_map line_text (take i lines)) → Gathers contents a b (done {E = E}) (flat_map line_text lines)
+  pub lines_put : (a b : HeldBlock W) → length lines ≤ i → Gathers contents a b (done {E = E}) (flat_map line_text (take i lines)) → Gathers contents a b (done {E = E}) (flat_map line_text lines)
   lines_put a b le so_far = subst (λ (l : List (List (List ℕ))). Gathers contents a b (done {E = E}) (flat_map line_text l)) (take_all i lines le) so_far

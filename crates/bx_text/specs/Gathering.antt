@@ -11,11 +11,11 @@ abbrev pub octets_of : Block → List ℕ
 octets_of block = block.octets.items
 
 -- a writer, and the octets that wait to be written to it
-pub record Held (W : Type 0) : Type 0 where
+pub record HeldBlock (W : Type 0) : Type 0 where
   pub writer : Watched W
   pub waiting : List ℕ
 
-abbrev pub held : {W : Type 0} → Watched W → Block → Held W
+abbrev pub held : {W : Type 0} → Watched W → Block → HeldBlock W
 held w block = record { writer = w; waiting = octets_of block }
 
 -- known octets grew by a prefix of a text, and the rest of it waits
@@ -24,7 +24,7 @@ Leaves old new text waiting = (leading : List ℕ) × Appends old new leading ×
 
 -- a text is put: what is written by that, followed by what waits, is what waited before followed by the text; or a write
 -- fails, and a prefix of that is written
-pub record Gathers {W T E : Type 0} (contents : W → Option (List ℕ)) (old new : Held W) (result : Result T E) (text : List ℕ) : Type 0 where
+pub record Gathers {W T E : Type 0} (contents : W → Option (List ℕ)) (old new : HeldBlock W) (result : Result T E) (text : List ℕ) : Type 0 where
   pub put : OnOk result (Leaves (contents (device_of old.writer)) (contents (device_of new.writer)) (old.waiting ++ text) new.waiting)
   pub prefix : OnErr result (AppendsPrefix (contents (device_of old.writer)) (contents (device_of new.writer)) (old.waiting ++ text))
   pub faulted : OnErr result (IsTrue (is_faulted new.writer))

@@ -22,10 +22,10 @@ use Rattle.bx_calls.specs.declared.net_state.NetState.{NetState}
 use Rattle.bx_calls.specs.declared.net_state.NetState.TheVariants.{OutgoingCallProceeding, CallPresent, IncomingCallProceeding, CallReceived, Active, Enquiring, DisconnectIndication, ReleaseRequest}
 use Rattle.bx_calls.specs.declared.transition.Transition.{Transition}
 use Rattle.bx_base.specs.Bookings.{Row}
-use Rattle.bx_two_ends.specs.Answering.{said_by, said_read, said_in, tells, is_told, is_connect, is_release, clears_by, is_ringing_in, is_ringing, is_clearing, is_enquired, contradicts, Spares, SparesAll, Answers}
+use Rattle.bx_two_ends.specs.Answering.{said_by, said_read, said_in_octets, tells, is_told, is_connect, is_release, clears_by, is_ringing_in, is_ringing, is_clearing, is_enquired, contradicts, Spares, SparesAll, Answers}
 use Rattle.bx_two_ends.specs.Asking.{is_asked}
 use Rattle.bx_day.specs.Day.{Day, entry_at, is_live, no_entry}
-use Rattle.bx_two_ends.specs.Earning.{heard_in, is_settled, is_settled_in, is_going, IsAnswered}
+use Rattle.bx_two_ends.specs.Earning.{heard_in, is_settled, is_settled_in, is_going, IsAllAnswered}
 use Rattle.bx_day.specs.Law.{OnLive, standing_at}
 use Rattle.bx_day.specs.Moves.{follows}
 use Rattle.bx_day.specs.Reading.{IsExchange}
@@ -225,7 +225,7 @@ abbrev receive_said : Day → Option Said → Answered Day
 receive_said d None = unchanged d None
 receive_said d (Some m) = receive d m
 
-said_day : (d : Day) (octets : List ℕ) → receive_octets d octets ≡ receive_said d (said_in octets)
+said_day : (d : Day) (octets : List ℕ) → receive_octets d octets ≡ receive_said d (said_in_octets octets)
 said_day d octets = read (message_at octets)
   where
     from : (m : PlainMessage) (r : Reference) → receive_from d m r ≡ receive_said d (said_by m r)
@@ -252,7 +252,7 @@ begun_day Q d m Setup q g = by_cases m.flag _ _ (λ (x : Answered Day). Q x.day)
 begun_day Q d m k q g = q
 
 once_octets : (d : Day) (octets : List ℕ) → IsNamedOnce d → IsNamedOnce (receive_octets d octets).day
-once_octets d octets once = subst (λ (x : Answered Day). IsNamedOnce x.day) (sym (said_day d octets)) (said (said_in octets))
+once_octets d octets once = subst (λ (x : Answered Day). IsNamedOnce x.day) (sym (said_day d octets)) (said (said_in_octets octets))
   where
     at : (m : Said) (o : Option ℕ) → position (names m) d.entries ≡ o → IsNamedOnce (received_at d m o).day
     at m None none = begun_day IsNamedOnce d m m.heard.kind once (λ bare i op. once_taken d m i bare none once)
@@ -270,7 +270,7 @@ hears_next rows assigned t d octets h = record {
   once = once_octets d octets h.once;
 }
 
-pub heard_here : (rows : List Row) (assigned : List (Option ℕ)) (t : ℕ) (d : Day) (octets : List ℕ) (i : ℕ) (m : Said) → IsHearing rows assigned t d → said_in octets ≡ Some m → names m (entry_at d.entries i) ≡ true → entry_at (receive_octets d octets).day.entries i ≡ with_standing (entry_at d.entries i) (hears m t (standing_at d i)).standing
+pub heard_here : (rows : List Row) (assigned : List (Option ℕ)) (t : ℕ) (d : Day) (octets : List ℕ) (i : ℕ) (m : Said) → IsHearing rows assigned t d → said_in_octets octets ≡ Some m → names m (entry_at d.entries i) ≡ true → entry_at (receive_octets d octets).day.entries i ≡ with_standing (entry_at d.entries i) (hears m t (standing_at d i)).standing
 heard_here rows assigned t d octets i m h is named =
     let y : Entry = with_standing (entry_at d.entries i) (hears m d.moment (standing_at d i)).standing in
     let lt = live_inside d.entries i (names_live m (standing_at d i) named) in
@@ -279,7 +279,7 @@ heard_here rows assigned t d octets i m h is named =
     ∙ ap (λ n. with_standing (entry_at d.entries i) (hears m n (standing_at d i)).standing) h.turn.moment
 
 -- a message that does not name a booking's call leaves it, or begins one for it
-pub heard_other : (P : Entry → Type 0) (d : Day) (octets : List ℕ) (i : ℕ) (m : Said) → said_in octets ≡ Some m → names m (entry_at d.entries i) ≡ false → P (entry_at d.entries i) → (is_open d (entry_at d.entries i) ≡ true → P (with_standing (entry_at d.entries i) (takes_call m (entry_at d.entries i)).standing)) → P (entry_at (receive_octets d octets).day.entries i)
+pub heard_other : (P : Entry → Type 0) (d : Day) (octets : List ℕ) (i : ℕ) (m : Said) → said_in_octets octets ≡ Some m → names m (entry_at d.entries i) ≡ false → P (entry_at d.entries i) → (is_open d (entry_at d.entries i) ≡ true → P (with_standing (entry_at d.entries i) (takes_call m (entry_at d.entries i)).standing)) → P (entry_at (receive_octets d octets).day.entries i)
 heard_other P d octets i m is unnamed p taken =
     subst (λ (x : Answered Day). P (entry_at x.day.entries i)) (sym (said_day d octets ∙ ap (receive_said d) is)) (at (position (names m) d.entries) refl)
   where
@@ -288,12 +288,12 @@ heard_other P d octets i m is unnamed p taken =
         (λ k op. set_at P d.entries k i _ (λ same lt. subst (λ n. P (with_standing (entry_at d.entries n) (takes_call m (entry_at d.entries n)).standing)) (sym same) (taken (subst (λ n. is_open d (entry_at d.entries n) ≡ true) same op))) p)
     at (Some j) found = set_at P d.entries j i _ (λ same lt. absurd (true≢false (sym (position-Some (names m) d.entries j no_entry found).1 ∙ ap (λ n. names m (entry_at d.entries n)) same ∙ unnamed))) p
 
-pub heard_none : (P : Entry → Type 0) (d : Day) (octets : List ℕ) (i : ℕ) → said_in octets ≡ None → P (entry_at d.entries i) → P (entry_at (receive_octets d octets).day.entries i)
+pub heard_none : (P : Entry → Type 0) (d : Day) (octets : List ℕ) (i : ℕ) → said_in_octets octets ≡ None → P (entry_at d.entries i) → P (entry_at (receive_octets d octets).day.entries i)
 heard_none P d octets i is p = subst (λ (x : Answered Day). P (entry_at x.day.entries i)) (sym (said_day d octets ∙ ap (receive_said d) is)) p
 
 -- ---- what is left to be told
 
-pub told_rest : (test : Heard → Bool) (e0 : Entry) (octets : List ℕ) (rest : List (List ℕ)) (o : Option Said) → said_in octets ≡ o → tells test e0 o ≡ false → is_told test e0 (octets ∷ rest) ≡ true → is_told test e0 rest ≡ true
+pub told_rest : (test : Heard → Bool) (e0 : Entry) (octets : List ℕ) (rest : List (List ℕ)) (o : Option Said) → said_in_octets octets ≡ o → tells test e0 o ≡ false → is_told test e0 (octets ∷ rest) ≡ true → is_told test e0 rest ≡ true
 told_rest test e0 octets rest o is none h = sym (ap (λ b. b || is_told test e0 rest) (ap (tells test e0) is ∙ none)) ∙ h
 
 and_rest : (x y z : Bool) → x ≡ true → (x && y) ≡ z → y ≡ z
@@ -379,7 +379,7 @@ up_hears t e m (OnCall c a) fits spared h = heard_by (λ (x : Transition PlainNe
 up_hears t e m s fits spared h = absurd (false≢true h)
 
 -- one that rings
-rings_hears : (t : ℕ) (e0 e : Entry) (m : Said) (octets : List ℕ) (rest : List (List ℕ)) (s : Standing) → StandingFits t e s → said_in octets ≡ Some m → clears_by e.channel m.heard m.heard.kind ≡ false → is_ringing s ≡ true → ((x : Said) → names_call x s ≡ names x e0) → is_told (λ x. is_connect x.kind) e0 (octets ∷ rest) ≡ true → GoesOnTo e0 rest (with_standing e (hears m t s).standing)
+rings_hears : (t : ℕ) (e0 e : Entry) (m : Said) (octets : List ℕ) (rest : List (List ℕ)) (s : Standing) → StandingFits t e s → said_in_octets octets ≡ Some m → clears_by e.channel m.heard m.heard.kind ≡ false → is_ringing s ≡ true → ((x : Said) → names_call x s ≡ names x e0) → is_told (λ x. is_connect x.kind) e0 (octets ∷ rest) ≡ true → GoesOnTo e0 rest (with_standing e (hears m t s).standing)
 rings_hears t e0 e m octets rest (OnCall c a) fits is spared rings named told =
     let x = net_awake_state c.state in
     let p = ringing_going (OnCall (call_of c.reference c.channel c.origin x) a) (awake_ringing c.state rings) in
@@ -433,16 +433,16 @@ unsettled_from s p q = refl
 pub fits_now : (rows : List Row) (assigned : List (Option ℕ)) (t i : ℕ) (d : Day) → IsHearing rows assigned t d → StandingFits t (entry_at d.entries i) (standing_at d i)
 fits_now rows assigned t i d h = subst (λ n. StandingFits n (entry_at d.entries i) (standing_at d i)) h.turn.moment (fits_at d i h.turn.fits.day)
 
-spared_both : (d : Day) (octets : List ℕ) (i : ℕ) (m : Said) → Spares octets d → said_in octets ≡ Some m → is_going (standing_at d i) ≡ true → names m (entry_at d.entries i) ≡ true → (clears_by (entry_at d.entries i).channel m.heard m.heard.kind ≡ false) × (contradicts (standing_at d i) m.heard ≡ false)
+spared_both : (d : Day) (octets : List ℕ) (i : ℕ) (m : Said) → Spares octets d → said_in_octets octets ≡ Some m → is_going (standing_at d i) ≡ true → names m (entry_at d.entries i) ≡ true → (clears_by (entry_at d.entries i).channel m.heard m.heard.kind ≡ false) × (contradicts (standing_at d i) m.heard ≡ false)
 spared_both d octets i m spares is going named =
     let test : Heard → Bool = λ x. clears_by (entry_at d.entries i).channel x x.kind || contradicts (standing_at d i) x in
     or_parts (clears_by (entry_at d.entries i).channel m.heard m.heard.kind) (contradicts (standing_at d i) m.heard)
     (and_rest (names m (entry_at d.entries i)) (test m.heard) false named (sym (ap (tells test (entry_at d.entries i)) is) ∙ spares i going))
 
-pub spared_now : (d : Day) (octets : List ℕ) (i : ℕ) (m : Said) → Spares octets d → said_in octets ≡ Some m → is_going (standing_at d i) ≡ true → names m (entry_at d.entries i) ≡ true → clears_by (entry_at d.entries i).channel m.heard m.heard.kind ≡ false
+pub spared_now : (d : Day) (octets : List ℕ) (i : ℕ) (m : Said) → Spares octets d → said_in_octets octets ≡ Some m → is_going (standing_at d i) ≡ true → names m (entry_at d.entries i) ≡ true → clears_by (entry_at d.entries i).channel m.heard m.heard.kind ≡ false
 spared_now d octets i m spares is going named = (spared_both d octets i m spares is going named).0
 
-pub spared_report : (d : Day) (octets : List ℕ) (i : ℕ) (m : Said) → Spares octets d → said_in octets ≡ Some m → is_going (standing_at d i) ≡ true → names m (entry_at d.entries i) ≡ true → contradicts (standing_at d i) m.heard ≡ false
+pub spared_report : (d : Day) (octets : List ℕ) (i : ℕ) (m : Said) → Spares octets d → said_in_octets octets ≡ Some m → is_going (standing_at d i) ≡ true → names m (entry_at d.entries i) ≡ true → contradicts (standing_at d i) m.heard ≡ false
 spared_report d octets i m spares is going named = (spared_both d octets i m spares is going named).1
 
 pub live_not_open : (d : Day) (e : Entry) → is_live e.standing ≡ true → is_open d e ≡ true → ⊥
@@ -453,12 +453,12 @@ live_not_open d e live op = no (e.standing) live (is_open_unoffered d e op)
     no s l u = false≢true l
 
 going_octets : (rows : List Row) (assigned : List (Option ℕ)) (t i : ℕ) (e0 : Entry) (octets : List ℕ) (rest : List (List ℕ)) (d : Day) → IsHearing rows assigned t d → Spares octets d → GoesOnTo e0 (octets ∷ rest) (entry_at d.entries i) → GoesOnTo e0 rest (entry_at (receive_octets d octets).day.entries i)
-going_octets rows assigned t i e0 octets rest d h spares g = at (said_in octets) refl g
+going_octets rows assigned t i e0 octets rest d h spares g = at (said_in_octets octets) refl g
   where
     e : Entry
     e = entry_at d.entries i
 
-    at : (o : Option Said) → said_in octets ≡ o → GoesOnTo e0 (octets ∷ rest) e → GoesOnTo e0 rest (entry_at (receive_octets d octets).day.entries i)
+    at : (o : Option Said) → said_in_octets octets ≡ o → GoesOnTo e0 (octets ∷ rest) e → GoesOnTo e0 rest (entry_at (receive_octets d octets).day.entries i)
     at None is (Settled up) = heard_none (GoesOnTo e0 rest) d octets i is (Settled up)
     at None is (Rings rings named told) = heard_none (GoesOnTo e0 rest) d octets i is (Rings rings named (told_rest (λ x. is_connect x.kind) e0 octets rest None is refl told))
     at None is (Asked asked named told) = heard_none (GoesOnTo e0 rest) d octets i is (Asked asked named (told_rest (λ x. true) e0 octets rest None is refl told))
@@ -487,7 +487,7 @@ clearing_live : (s : Standing) → is_clearing s ≡ true → is_live s ≡ true
 clearing_live (OnCall c a) h = refl
 clearing_live s h = absurd (false≢true h)
 
-pub clears_hears : (t : ℕ) (e0 e : Entry) (m : Said) (octets : List ℕ) (rest : List (List ℕ)) (s : Standing) → said_in octets ≡ Some m → is_clearing s ≡ true → ((x : Said) → names_call x s ≡ names x e0) → is_told (λ x. is_release x.kind) e0 (octets ∷ rest) ≡ true → Passes e0 rest (with_standing e (hears m t s).standing)
+pub clears_hears : (t : ℕ) (e0 e : Entry) (m : Said) (octets : List ℕ) (rest : List (List ℕ)) (s : Standing) → said_in_octets octets ≡ Some m → is_clearing s ≡ true → ((x : Said) → names_call x s ≡ names x e0) → is_told (λ x. is_release x.kind) e0 (octets ∷ rest) ≡ true → Passes e0 rest (with_standing e (hears m t s).standing)
 clears_hears t e0 e m octets rest (OnCall c a) is clearing named told =
     let g : GetsCleared c.reference c.origin m.heard.kind (hears m t (OnCall c a)).standing = heard_by (λ (x : Transition PlainNetCall). GetsCleared c.reference c.origin m.heard.kind (follows a t x).standing) c m.heard t c.state m.heard.kind
     (λ asked due is q. absurd (false≢true (subst (λ (s : NetState). net_is_clearing s ≡ true) is clearing)))
@@ -502,12 +502,12 @@ clears_hears t e0 e m octets rest Refused is clearing named told = absurd (false
 clears_hears t e0 e m octets rest s is clearing named told = absurd (false≢true clearing)
 
 pub passing_octets : (rows : List Row) (assigned : List (Option ℕ)) (t i : ℕ) (e0 : Entry) (octets : List ℕ) (rest : List (List ℕ)) (d : Day) → IsHearing rows assigned t d → Spares octets d → Passes e0 (octets ∷ rest) (entry_at d.entries i) → Passes e0 rest (entry_at (receive_octets d octets).day.entries i)
-passing_octets rows assigned t i e0 octets rest d h spares g = at (said_in octets) refl g
+passing_octets rows assigned t i e0 octets rest d h spares g = at (said_in_octets octets) refl g
   where
     e : Entry
     e = entry_at d.entries i
 
-    at : (o : Option Said) → said_in octets ≡ o → Passes e0 (octets ∷ rest) e → Passes e0 rest (entry_at (receive_octets d octets).day.entries i)
+    at : (o : Option Said) → said_in_octets octets ≡ o → Passes e0 (octets ∷ rest) e → Passes e0 rest (entry_at (receive_octets d octets).day.entries i)
     at None is (Idle idle) = heard_none (Passes e0 rest) d octets i is (Idle idle)
     at None is (Called up) = heard_none (Passes e0 rest) d octets i is (Called up)
     at None is (Clears clearing named told) = heard_none (Passes e0 rest) d octets i is (Clears clearing named (told_rest (λ x. is_release x.kind) e0 octets rest None is refl told))
@@ -566,7 +566,7 @@ left_at rows assigned t i received d h ok third = decide (is_going (standing_at 
     passing_left other (Called up) = record { settled = up_settled (standing_at left i) up; kept = λ going. absurd (true≢false (sym going ∙ other)) }
     passing_left other (Clears clearing named told) = absurd (false≢true told)
 
-pub turn_answered : (rows : List Row) (assigned : List (Option ℕ)) (t : ℕ) (received : List (List ℕ)) (d : Day) → IsHearing rows assigned t d → Answers d received → ((i : ℕ) → is_third_call (standing_at d i) ≡ false) → IsAnswered d (heard_in received d)
+pub turn_answered : (rows : List Row) (assigned : List (Option ℕ)) (t : ℕ) (received : List (List ℕ)) (d : Day) → IsHearing rows assigned t d → Answers d received → ((i : ℕ) → is_third_call (standing_at d i) ≡ false) → IsAllAnswered d (heard_in received d)
 turn_answered rows assigned t received d h ok third = record {
   settled = λ i. (left_at rows assigned t i received d h ok (third i)).settled;
   kept = λ i going. (left_at rows assigned t i received d h ok (third i)).kept going;

@@ -14,7 +14,7 @@ use Rattle.bx_calls.specs.declared.transition.Transition.{Transition}
 use Rattle.bx_two_ends.specs.Answering.{Clears, Answers, EachHeard, ClearsAll, AnswersAll}
 use Rattle.bx_two_ends.proofs.Sparing.{turn_cleared}
 use Rattle.bx_day.specs.Day.{Day, entry_of, entries_from, entry_at, is_free, is_live, opening}
-use Rattle.bx_two_ends.specs.Earning.{LiveSecond, Linked, Unlinked, heard_in, second_after, AreAnswered, IsAnswered, IsCleared, EachTurn, AreCleared}
+use Rattle.bx_two_ends.specs.Earning.{LiveSecond, Linked, Unlinked, heard_in, second_after, AreAnswered, IsAllAnswered, IsCleared, EachTurn, AreCleared}
 use Rattle.bx_day.specs.Moves.{follows}
 use Rattle.bx_day.specs.Outages.{without_link}
 use Rattle.bx_day.specs.Reading.{IsExchange}
@@ -108,7 +108,7 @@ each_run rows assigned P Q f g (Unlinked ∷ ss) d h ok few =
     let is : without_link d ≡ (passed_in Down d).day = without_is d early in
     subst (EachTurn Q ss) (sym is) (each_run rows assigned P Q f g ss (passed_in Down d).day (unlinked_between rows assigned d early h) (subst (EachHeard P ss) is ok) (omega (arith, few)))
 
-answered_turn : (rows : List Row) (assigned : List (Option ℕ)) (d : Day) (received : List (List ℕ)) → d.moment < 300000 → IsBetween rows assigned d → Answers (passed_in Up d).day received → IsAnswered (passed_in Up d).day (heard_in received (passed_in Up d).day)
+answered_turn : (rows : List Row) (assigned : List (Option ℕ)) (d : Day) (received : List (List ℕ)) → d.moment < 300000 → IsBetween rows assigned d → Answers (passed_in Up d).day received → IsAllAnswered (passed_in Up d).day (heard_in received (passed_in Up d).day)
 answered_turn rows assigned d received early h ok = turn_answered rows assigned (d.moment + 1) received (passed_in Up d).day (hearing_at rows assigned d early h) ok (λ j. let e = entry_at d.entries j in subst IsOther (sym (after_standing Up d j)) (other_tick (d.moment + 1) e (is_free d e.channel) e.standing))
 
 cleared_turn : (rows : List Row) (assigned : List (Option ℕ)) (d : Day) (received : List (List ℕ)) → d.moment < 300000 → IsBetween rows assigned d → Clears (passed_in Up d).day received → IsCleared (passed_in Up d).day (heard_in received (passed_in Up d).day)
@@ -134,7 +134,7 @@ opening_between rows channels assigned b set h = record {
 }
 
 pub answered_by : (rows : List Row) (channels : List Bool) (assigned : List (Option ℕ)) (seconds : List LiveSecond) → AreBookings rows → IsChannelSet channels → Carries rows channels (is_accepted assigned) (channel_at assigned) → length seconds ≤ 300000 → AnswersAll seconds (opening rows assigned) → AreAnswered seconds (opening rows assigned)
-answered_by rows channels assigned seconds b set h few ok = each_run rows assigned Answers IsAnswered (answered_turn rows assigned) answered_cleared seconds (opening rows assigned) (opening_between rows channels assigned b set h) ok (omega (arith, few))
+answered_by rows channels assigned seconds b set h few ok = each_run rows assigned Answers IsAllAnswered (answered_turn rows assigned) answered_cleared seconds (opening rows assigned) (opening_between rows channels assigned b set h) ok (omega (arith, few))
 
 pub cleared_by : (rows : List Row) (channels : List Bool) (assigned : List (Option ℕ)) (seconds : List LiveSecond) → AreBookings rows → IsChannelSet channels → Carries rows channels (is_accepted assigned) (channel_at assigned) → length seconds ≤ 300000 → ClearsAll seconds (opening rows assigned) → AreCleared seconds (opening rows assigned)
 cleared_by rows channels assigned seconds b set h few ok = each_run rows assigned Clears IsCleared (cleared_turn rows assigned) (λ c l k. k) seconds (opening rows assigned) (opening_between rows channels assigned b set h) ok (omega (arith, few))

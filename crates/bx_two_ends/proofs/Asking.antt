@@ -31,7 +31,7 @@ use Rattle.bx_day.specs.Moves.{is_active, follows, over_at}
 use Rattle.bx_day.specs.Ticks.{after_in, second_at, waits}
 use Rattle.bx_day.specs.Receipts.{hears, takes_call, takes_or, takes_preferred, called_on, called, stray, received_at, opens, lowest_open, names, with_moved}
 use Rattle.bx_day.specs.Run.{receive_from, receive_read, happens, day_after}
-use Rattle.bx_two_ends.specs.Asking.{next_second, call_after, is_up, is_asked, StandingUnasked, EntryUnasked, DayUnasked}
+use Rattle.bx_two_ends.specs.Asking.{next_second, call_after, is_call_up, is_asked, StandingUnasked, EntryUnasked, DayUnasked}
 use Rattle.bx_day.specs.declared.entry.Activity.{Activity}
 use Rattle.bx_day.specs.declared.entry.Activity.TheVariants.{Never}
 use Rattle.bx_day.specs.declared.entry.Entry.{Entry}
@@ -74,12 +74,12 @@ clearing_calm Active h = absurd (false≢true h)
 clearing_calm (Enquiring asked due) h = absurd (false≢true h)
 clearing_calm s h = refl
 
-not_up : (x : Next PlainNetCall) → is_cleared x ≡ true → is_up x ≡ false
+not_up : (x : Next PlainNetCall) → is_cleared x ≡ true → is_call_up x ≡ false
 not_up (Live c) h = clearing_calm c.state h
 not_up Over h = refl
 not_up Broken h = refl
 
-cleared_after : (n t end : ℕ) (x : Next PlainNetCall) → is_cleared x ≡ true → is_up (call_after n t end x) ≡ false
+cleared_after : (n t end : ℕ) (x : Next PlainNetCall) → is_cleared x ≡ true → is_call_up (call_after n t end x) ≡ false
 cleared_after zero t end x h = not_up x h
 cleared_after (suc n) t end x h = cleared_after n (t + 1) end (next_second (t + 1) end x) (cleared_next (t + 1) end x h)
 
@@ -95,9 +95,9 @@ given_up Once due = due + 4
 given_up Twice due = due
 
 abbrev IsDown : ℕ → ℕ → ℕ → Transition PlainNetCall → Type 0
-IsDown n t end step = is_up (call_after n t end step.next) ≡ false
+IsDown n t end step = is_call_up (call_after n t end step.next) ≡ false
 
-asked_after : (n t end : ℕ) (c : PlainNetCall) (asked : Asked) (due : ℕ) → t < due → given_up asked due ≤ t + n → is_up (call_after n t end (Live (asked_as c asked due))) ≡ false
+asked_after : (n t end : ℕ) (c : PlainNetCall) (asked : Asked) (due : ℕ) → t < due → given_up asked due ≤ t + n → is_call_up (call_after n t end (Live (asked_as c asked due))) ≡ false
 asked_after zero t end c NotYet due waits fit = absurd (omega (arith, waits, fit))
 asked_after zero t end c asked due waits fit = absurd (omega (arith, waits, fit))
 asked_after (suc n) t end c NotYet due waits fit =
@@ -135,7 +135,7 @@ lost_at c (CallReceived due) t end h = absurd (false≢true h)
 lost_at c (DisconnectIndication cause due) t end h = absurd (false≢true h)
 lost_at c (ReleaseRequest again cause due) t end h = absurd (false≢true h)
 
-pub asked_in_vain : (c : PlainNetCall) (t end : ℕ) → is_active c.state ≡ true → is_up (call_after 9 t end (net_unlinked 1 c t end).next) ≡ false
+pub asked_in_vain : (c : PlainNetCall) (t end : ℕ) → is_active c.state ≡ true → is_call_up (call_after 9 t end (net_unlinked 1 c t end).next) ≡ false
 asked_in_vain c t end h = lost_at c c.state t end h
 
 -- ---- a report of a state that does not fit
@@ -145,15 +145,15 @@ is_null true c p q = refl
 is_null false true p q = absurd (true≢false q)
 is_null false false p q = absurd (true≢false p)
 
-report_ends : (c : PlainNetCall) (m : Heard) (t n : ℕ) (s : NetState) → is_asked s ≡ true → m.state ≡ Some n → fits_active c.origin n ≡ false → is_up (net_heard c m t s Status).next ≡ false
-report_ends c m t n (Enquiring asked due) a state unfit = by_cases (reports_other c.origin m.state) _ _ (λ (x : Transition PlainNetCall). is_up x.next ≡ false)
+report_ends : (c : PlainNetCall) (m : Heard) (t n : ℕ) (s : NetState) → is_asked s ≡ true → m.state ≡ Some n → fits_active c.origin n ≡ false → is_call_up (net_heard c m t s Status).next ≡ false
+report_ends c m t n (Enquiring asked due) a state unfit = by_cases (reports_other c.origin m.state) _ _ (λ (x : Transition PlainNetCall). is_call_up x.next ≡ false)
     (λ _. refl)
     (λ q. (let null : reports_null m.state ≡ true = ap reports_null state ∙ is_null (n == 0) (fits_active c.origin n) (sym (ap (reports_other c.origin) state) ∙ q) unfit in
-    by_cases (reports_null m.state) _ _ (λ (x : Transition PlainNetCall). is_up x.next ≡ false) (λ _. refl) (λ p. absurd (true≢false (sym null ∙ p)))))
+    by_cases (reports_null m.state) _ _ (λ (x : Transition PlainNetCall). is_call_up x.next ≡ false) (λ _. refl) (λ p. absurd (true≢false (sym null ∙ p)))))
 report_ends c m t n s a state unfit = absurd (false≢true a)
 
-pub reported_down : (c : PlainNetCall) (m : Heard) (t n : ℕ) → is_asked c.state ≡ true → m.kind ≡ Status → m.state ≡ Some n → fits_active c.origin n ≡ false → is_up (net_message c m t).next ≡ false
-reported_down c m t n a kind state unfit = subst (λ (k : Kind). is_up (net_heard c m t c.state k).next ≡ false) (sym kind) (report_ends c m t n c.state a state unfit)
+pub reported_down : (c : PlainNetCall) (m : Heard) (t n : ℕ) → is_asked c.state ≡ true → m.kind ≡ Status → m.state ≡ Some n → fits_active c.origin n ≡ false → is_call_up (net_message c m t).next ≡ false
+reported_down c m t n a kind state unfit = subst (λ (k : Kind). is_call_up (net_heard c m t c.state k).next ≡ false) (sym kind) (report_ends c m t n c.state a state unfit)
 
 -- a call that is not asked for does as the table of messages says
 pub unasked_row : (c : PlainNetCall) (m : Heard) (t : ℕ) → is_asked c.state ≡ false → net_message c m t ≡ net_row c m t c.state m.kind

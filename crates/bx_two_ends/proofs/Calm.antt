@@ -11,7 +11,7 @@ use Rattle.bx_events.specs.Events.{Tick}
 use Rattle.bx_base.specs.Plans.{channel_at}
 use Rattle.bx_day.specs.Day.{Day, entry_at, is_live, is_held, is_free}
 use Rattle.bx_two_ends.specs.Asking.{StandingUnasked}
-use Rattle.bx_two_ends.specs.Earning.{LiveSecond, Linked, Unlinked, heard_in, second_after, seconds_after, is_linked, has_link, is_settled, is_going, IsCleared, IsAnswered, AreCleared, AreAnswered, IsAlone, IsCarriedBy}
+use Rattle.bx_two_ends.specs.Earning.{LiveSecond, Linked, Unlinked, heard_in, second_after, seconds_after, is_linked, has_link, is_settled, is_going, IsCleared, IsAllAnswered, AreCleared, AreAnswered, IsAlone, IsCarriedBy}
 use Rattle.bx_day.specs.Law.{OnLive, standing_at}
 use Rattle.bx_day.specs.Moves.{is_active}
 use Rattle.bx_day.specs.Outages.{without_link}
@@ -47,7 +47,7 @@ pub settled_awake : (s : Standing) → OnLive s (λ call a. is_settled call ≡ 
 settled_awake (OnCall c a) h = settled_unasked c h
 settled_awake s h = tt
 
-pub answered_cleared : (called left : Day) → IsAnswered called left → IsCleared called left
+pub answered_cleared : (called left : Day) → IsAllAnswered called left → IsCleared called left
 answered_cleared called left h = record { cleared = λ i. settled_cleared (standing_at left i) (h.settled i); awake = λ i. settled_awake (standing_at left i) (h.settled i); kept = h.kept }
 
 -- ---- between two turns
@@ -272,7 +272,7 @@ link_over_at rows assigned i cleared offered ended d received b s h le = elim (c
   | inr past ↦ link_over rows assigned i offered d received h (s.over past)
 ]
 
-link_stands : (rows : List Row) (assigned : List (Option ℕ)) (i cleared offered ended : ℕ) (d : Day) (received : List (List ℕ)) → d.moment < 300000 → IsBooked rows assigned i cleared offered ended → Stands rows assigned i cleared offered ended d → IsAnswered (passed_in Up d).day (following d received) → Stands rows assigned i cleared offered ended (following d received)
+link_stands : (rows : List Row) (assigned : List (Option ℕ)) (i cleared offered ended : ℕ) (d : Day) (received : List (List ℕ)) → d.moment < 300000 → IsBooked rows assigned i cleared offered ended → Stands rows assigned i cleared offered ended d → IsAllAnswered (passed_in Up d).day (following d received) → Stands rows assigned i cleared offered ended (following d received)
 link_stands rows assigned i cleared offered ended d received early b s ok =
     let called : Day = (passed_in Up d).day in
     let left : Day = following d received in
@@ -376,7 +376,7 @@ booked_run rows assigned i cleared offered ended (Linked received ∷ ss) d b s 
     let early : d.moment < 300000 = omega (arith, few) in
     let left : Day = following d received in
     let is : second_after (Linked received) d ≡ left = day_linked d received early in
-    let next = link_stands rows assigned i cleared offered ended d received early b s (turn_linked IsAnswered d received early ok.0) in
+    let next = link_stands rows assigned i cleared offered ended d received early b s (turn_linked IsAllAnswered d received early ok.0) in
     let first = called_turn rows assigned d early s.calm in
     let at : left.moment ≡ d.moment + 1 = (heard_turn rows assigned (d.moment + 1) received (passed_in Up d).day first).moment in
     subst (λ x. IsCarriedBy offered (row_at rows i).end (standing_at (seconds_after ss x) i)) (sym is)

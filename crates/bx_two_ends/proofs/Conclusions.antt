@@ -22,7 +22,7 @@ use Rattle.bx_day.specs.Law.{OnLive, standing_at}
 use Rattle.bx_day.proofs.Law.{held_apart}
 use Rattle.bx_day.proofs.Receive.{all_at}
 use Rattle.bx_two_ends.specs.World.{World}
-use Rattle.bx_two_ends.specs.TwoEnds.{IsTwoEnds, IsUserActive, far_holds, acknowledges}
+use Rattle.bx_two_ends.specs.TwoEnds.{IsTwoEnds, IsUserActive, far_holds, acknowledges_call}
 use Rattle.bx_two_ends.proofs.UserRows.{is_talking}
 use Rattle.bx_two_ends.proofs.History.{from_other, clears, found, other_parts}
 use Rattle.bx_two_ends.proofs.Outward.{OutwardStanding, OutwardCall, Kept, Holds, Maintained, Cleared, OutwardReply, OfferedCall, KeepsOutward}
@@ -75,6 +75,6 @@ says_two_ends rows assigned w k = record {
   held = λ i lt. on_live (standing_at w.exchange i) _ (λ c a at outward active. held rows assigned w i k c a at outward active);
   apart = λ i j lt _. held_apart rows assigned w.exchange k.run i j lt;
   far_apart = k.apart;
-  acknowledged = all_calls (λ c. user_flag c.origin ≡ true → OfferedCall assigned w.sent c) (λ c. user_flag c.origin ≡ true → IsUserActive c.state → list_any (acknowledges c.reference) w.sent ≡ true)
+  acknowledged = all_calls (λ c. user_flag c.origin ≡ true → OfferedCall assigned w.sent c) (λ c. user_flag c.origin ≡ true → IsUserActive c.state → list_any (acknowledges_call c.reference) w.sent ≡ true)
       (λ c h f active. (h f).active (talks c.state active)) w.far.calls k.calls;
 }

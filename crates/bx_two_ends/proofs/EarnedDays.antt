@@ -6,7 +6,7 @@ use Rattle.bx_base.specs.Bookings.{Row, row_at, is_running, AreBookings, Carries
 use Rattle.bx_base.specs.Plans.{is_accepted, channel_at}
 use Rattle.bx_events.specs.Events.{LiveEvent, OnLink, WithoutLink, Sold, Tick, Receive}
 use Rattle.bx_day.specs.Day.{Day, opening, entry_of, entries_from, entry_at, is_live, is_held}
-use Rattle.bx_two_ends.specs.Earning.{LiveSecond, Linked, Unlinked, events_in, events_of, heard_in, second_after, seconds_after, has_link, AreAnswered, AreCleared, IsAlone, HasSeconds, IsCalled, IsTalking, IsLongEnough, IsPunctual, IsCarriedBy, IsDayOf, is_linked}
+use Rattle.bx_two_ends.specs.Earning.{LiveSecond, Linked, Unlinked, events_in, events_of, heard_in, second_after, seconds_after, has_link, AreAnswered, AreCleared, IsAlone, HasSeconds, IsCalled, IsTalking, IsLongEnough, IsPunctual, IsCarriedBy, IsDayOfPlan, is_linked}
 use Rattle.bx_day.specs.Law.{standing_at}
 use Rattle.bx_calls.specs.Sending.{Sent}
 use Rattle.bx_day.specs.Outages.{without_link, live_happens, live_day_after}
@@ -245,7 +245,7 @@ size_after rows (OnLink (Receive octets) ∷ es) d h = size_after rows es (recei
 size_after rows (WithoutLink ∷ es) d h = size_after rows es (without_link d) (by_cases (nat_le 300000 d.moment) _ _ (λ (x : Day). length x.entries ≡ length rows) (λ _. h) (λ _. map_size Down d d.entries ∙ h))
 size_after rows (Sold booking ∷ es) d h = size_after rows es d h
 
-pub stays_plan : (rows : List Row) (channels : List Bool) (assigned : List (Option ℕ)) (events : List LiveEvent) → AreBookings rows → Carries rows channels (is_accepted assigned) (channel_at assigned) → IsDayOf rows assigned (live_day_after events (opening rows assigned))
+pub stays_plan : (rows : List Row) (channels : List Bool) (assigned : List (Option ℕ)) (events : List LiveEvent) → AreBookings rows → Carries rows channels (is_accepted assigned) (channel_at assigned) → IsDayOfPlan rows assigned (live_day_after events (opening rows assigned))
 stays_plan rows channels assigned events b h =
     let fits : RunFits rows assigned (live_day_after events (opening rows assigned)) = live_run rows assigned events (opening rows assigned) (record { day = opening_fits rows channels assigned b h; framed = (opening_framed 1 rows assigned, opening_placed rows assigned) }) in
     record {

@@ -11,7 +11,7 @@ use Rattle.bx_devices.specs.Watching.{device_of}
 use Rattle.bx_devices.specs.declared.watched.Watched.{Watched}
 use Rattle.bx_events.specs.Events.{Event, Tick, Receive, OnLink, WithoutLink, Sold}
 use Rattle.bx_frames.specs.Courses.{after, told}
-use Rattle.bx_frames.specs.Frames.{found, continue_by, octets_in, length_in, fits, is_message, frame_of, sized_in, kind_of, kind_in, day_frame, frame_in}
+use Rattle.bx_frames.specs.Frames.{found, continue_by, octets_in, length_in, fits, is_message, frame_of, sized_in, frame_kind_of, kind_in, day_frame, frame_in}
 use Rattle.bx_frames.specs.declared.frame.FrameKind.{FrameKind}
 use Rattle.bx_frames.specs.declared.frame.FrameKind.TheVariants as kinds
 use Rattle.bx_frames.proofs.Locality.{sized_by}
@@ -34,15 +34,15 @@ use Rattle.bx_far.specs.Course.{far_next, far_text}
 use Rattle.bx_far.specs.FarDay.{FarDay}
 use Rattle.bx_link.specs.Sessions.{is_far_over}
 use Rattle.bx_link.specs.Talking.{talk_in, far_turn, far_talk_in, follow_by, closed_before}
-use Rattle.bx_live.specs.Acts.{Act, Began, Dropped, Recorded, Synced, Wrote, Read, Took, EndedDay}
+use Rattle.bx_live.specs.Acts.{Act, Began, Dropped, Logged, Synced, Wrote, Read, Took, EndedDay}
 use Rattle.bx_live.specs.Written.{owed_at}
-use Rattle.bx_live.specs.Runs.{Place, day_at, Between, Recording, Receiving, Taking, Owing, Hearing, Losing, Over, Closing, Ending, Done, IsRun, owing, with_reply, replying, taken, writing, begun, heard}
+use Rattle.bx_live.specs.Runs.{Place, day_at, Between, Logging, Receiving, Taking, Owing, Hearing, Losing, Over, Closing, Ending, Done, IsRun, owing, with_reply, replying, taken, writing, begun, heard}
 use Rattle.bx_live.specs.declared.world.Begin.{Begin}
 use Rattle.bx_live.specs.declared.world.Begin.TheVariants as begins
 use Rattle.bx_live.specs.declared.world.Loss.{Loss}
 use Rattle.bx_live_parts.specs.Chains.{Chain, chain_first}
 use Rattle.bx_live.specs.declared.world.Loss.TheVariants as losses
-use Rattle.bx_world.specs.BothEnds.{WroteNear, GaveBoth, PartedBoth, FarTurn, ReadsAfter, lost_by}
+use Rattle.bx_world.specs.BothEnds.{WroteNear, GaveBoth, PartedBoth, FarTurn, ReadsAfter, far_lost_by}
 use Rattle.bx_world.specs.Rehearsals.{Rehearses, OnPeer, OnLost, begins_by}
 use Rattle.bx_world.specs.declared.both_ends.BothEnds.{BothEnds}
 use Rattle.bx_world.specs.declared.rehearsal.Rehearsal.{Rehearsal}
@@ -64,7 +64,7 @@ onward_first n d octets talk = go talk.ending refl
 -- a message comes only where there is room for one
 no_room : (text : List ℕ) (octets : ArrayVec ℕ) → Ok (frames.Message octets) ≡ (frame_in Exchange 0 text).answer → ⊥
 no_room [] octets e = cc
-no_room (octet ∷ text) octets e = by_kind (kind_of Exchange octet) e
+no_room (octet ∷ text) octets e = by_kind (frame_kind_of Exchange octet) e
   where
     sized : (kind : FrameKind) (n : ℕ) (b c : Bool) (rest : List ℕ) → (is_message kind ≡ true → c ≡ true) → Ok (frames.Message octets) ≡ (sized_by b c kind n rest).answer → ⊥
     sized kind n true c rest m p = cc
@@ -174,7 +174,7 @@ module _ {R W S T D : Type 0} (remaining : R → Option (List ℕ)) (contents : 
   -- what is heard from a place on, in so many turns after this one
   abbrev talk_at : Place → List ℕ → ℕ → Talk
   talk_at (Between d) t n = talk_in n d t
-  talk_at (Recording d room (OnLink e)) t n = with_events (e ∷ []) (Onward n (exchange_next d e) (turn_in Exchange (exchange_next d e).moment room t))
+  talk_at (Logging d room (OnLink e)) t n = with_events (e ∷ []) (Onward n (exchange_next d e) (turn_in Exchange (exchange_next d e).moment room t))
   talk_at (Receiving d room owed octets) t n = with_events (Receive octets ∷ []) (Onward n (exchange_next d (Receive octets)) (turn_in Exchange (exchange_next d (Receive octets)).moment room t))
   talk_at (Taking d room owed) t n = Onward n d (turn_in Exchange d.moment room t)
   talk_at (Owing d room unsynced texts) t n = Onward n d (turn_in Exchange d.moment room t)
@@ -182,14 +182,14 @@ module _ {R W S T D : Type 0} (remaining : R → Option (List ℕ)) (contents : 
   talk_at place t n = stop (Ok true) t t
 
   abbrev moment_at : Place → ℕ
-  moment_at (Recording d room (OnLink e)) = (exchange_next d e).moment
+  moment_at (Logging d room (OnLink e)) = (exchange_next d e).moment
   moment_at (Receiving d room owed octets) = (exchange_next d (Receive octets)).moment
   moment_at place = (day_at place).moment
 
   -- a place of a run that goes well, before its end
   abbrev IsWell : Place → Type 0
   IsWell (Between d) = Unit {0}
-  IsWell (Recording d room (OnLink e)) = Unit {0}
+  IsWell (Logging d room (OnLink e)) = Unit {0}
   IsWell (Receiving d room [] octets) = Unit {0}
   IsWell (Taking d room owed) = Unit {0}
   IsWell (Owing d room unsynced texts) = Unit {0}
@@ -333,7 +333,7 @@ module _ {R W S T D : Type 0} (remaining : R → Option (List ℕ)) (contents : 
         → Ran (λ n. talk_in n d t) d d' d.moment [] s.peer.near.writer new.peer.near.writer s.peer.distant new.peer.distant u
     begun_ran acts d begin s new t u is none again run =
         let joined : begin ≡ begins.Joined = is ∙ ap begins_by none in
-        let r = again (Recording d 64 (OnLink Tick)) tt (subst (λ (b : Begin). IsRun (begun d b) acts (Done d')) joined run) in
+        let r = again (Logging d 64 (OnLink Tick)) tt (subst (λ (b : Begin). IsRun (begun d b) acts (Done d')) joined run) in
         record {
           turns = suc r.turns;
           near = subst (λ (talk : Talk). NearPart talk d d' [] s.peer.near.writer new.peer.near.writer) (sym (talk_step r.turns d t)) r.near;
@@ -360,7 +360,7 @@ module _ {R W S T D : Type 0} (remaining : R → Option (List ℕ)) (contents : 
         let lost : mid.lost ≡ None = ap (λ (w : World). w.lost) over.1 ∙ none in
         by_end lost over.0 over.1 (subst (λ (l : Option LinkFault). OnPeer (WroteNear contents) (GaveBoth remaining far_remaining far_contents) (PartedBoth contents far_remaining far_contents) s.peer l EndedDay mid.peer mid.lost) was step.peer)
       where
-        by_turn : (turned : Result Bool LinkFault) → mid.lost ≡ None → d ≡ d' → Appends (contents (device_of s.peer.near.writer)) (contents (device_of mid.peer.near.writer)) day_frame → FarTurn far_remaining far_contents s.peer.distant mid.peer.distant turned → mid.lost ≡ lost_by turned → Ran (λ n. stop (Ok true) t t) d d' d.moment [] s.peer.near.writer mid.peer.near.writer s.peer.distant mid.peer.distant u
+        by_turn : (turned : Result Bool LinkFault) → mid.lost ≡ None → d ≡ d' → Appends (contents (device_of s.peer.near.writer)) (contents (device_of mid.peer.near.writer)) day_frame → FarTurn far_remaining far_contents s.peer.distant mid.peer.distant turned → mid.lost ≡ far_lost_by turned → Ran (λ n. stop (Ok true) t t) d d' d.moment [] s.peer.near.writer mid.peer.near.writer s.peer.distant mid.peer.distant u
         by_turn (Ok true) lost same put turn is = absurd (let e = sym is ∙ lost in cc)
         by_turn (Err fault) lost same put turn is = absurd (let e = sym is ∙ lost in cc)
         by_turn (Ok false) lost same put turn is =
@@ -425,7 +425,7 @@ module _ {R W S T D : Type 0} (remaining : R → Option (List ℕ)) (contents : 
 
     pub ran : (acts : List Act) (place : Place) (s new : World) (t u : List ℕ) → Known s t u → Chain Goes s acts new → new.lost ≡ None → RunsOn acts place s new t u
     ran [] (Between d) s new t u k chain none well run = absurd cc
-    ran [] (Recording d room (OnLink e)) s new t u k chain none well run = absurd cc
+    ran [] (Logging d room (OnLink e)) s new t u k chain none well run = absurd cc
     ran [] (Receiving d room [] octets) s new t u k chain none well run = absurd cc
     ran [] (Taking d room owed) s new t u k chain none well run = absurd cc
     ran [] (Owing d room true texts) s new t u k chain none well run = absurd cc
@@ -440,17 +440,17 @@ module _ {R W S T D : Type 0} (remaining : R → Option (List ℕ)) (contents : 
     ran (Synced done ∷ acts) (Between d) s new t u k chain none well run =
         let (mid, step, more) = chain_first Goes s new (Synced done) acts chain in
         quiet s mid (ap (λ (p : Peer). p.near.writer) step.peer) (ap (λ (p : Peer). p.distant) step.peer) (closing_ran acts d done mid new t u (λ place well'. ran acts place mid new t u (known_same s mid t u (ap (λ (p : Peer). p.near.reader) step.peer) (ap (λ (p : Peer). p.distant) step.peer) k) more none well') run.1)
-    ran (Recorded event true ∷ acts) (Recording d room (OnLink e)) s new t u k chain none well run =
-        let (mid, step, more) = chain_first Goes s new (Recorded event true) acts chain in
+    ran (Logged event true ∷ acts) (Logging d room (OnLink e)) s new t u k chain none well run =
+        let (mid, step, more) = chain_first Goes s new (Logged event true) acts chain in
         quiet s mid (ap (λ (p : Peer). p.near.writer) step.peer) (ap (λ (p : Peer). p.distant) step.peer) (event_first e (λ n. Onward n (exchange_next d e) (turn_in Exchange (exchange_next d e).moment room t)) d d' mid.peer.near.writer new.peer.near.writer mid.peer.distant new.peer.distant u
         (by_owed acts (exchange_next d e) room mid new t u (λ place well'. ran acts place mid new t u (known_same s mid t u (ap (λ (p : Peer). p.near.reader) step.peer) (ap (λ (p : Peer). p.distant) step.peer) k) more none well') (exchange_sent d e) (exchange_text d e) run.1))
-    ran (Recorded event false ∷ acts) (Recording d room (OnLink e)) s new t u k chain none well run = absurd (over_never acts d d' run.1)
-    ran (Recorded event true ∷ acts) (Receiving d room [] octets) s new t u k chain none well run =
-        let (mid, step, more) = chain_first Goes s new (Recorded event true) acts chain in
+    ran (Logged event false ∷ acts) (Logging d room (OnLink e)) s new t u k chain none well run = absurd (over_never acts d d' run.1)
+    ran (Logged event true ∷ acts) (Receiving d room [] octets) s new t u k chain none well run =
+        let (mid, step, more) = chain_first Goes s new (Logged event true) acts chain in
         let e : Event = Receive octets in
         quiet s mid (ap (λ (p : Peer). p.near.writer) step.peer) (ap (λ (p : Peer). p.distant) step.peer) (event_first e (λ n. Onward n (exchange_next d e) (turn_in Exchange (exchange_next d e).moment room t)) d d' mid.peer.near.writer new.peer.near.writer mid.peer.distant new.peer.distant u
         (by_reply acts (exchange_next d e) room mid new t u (λ place well'. ran acts place mid new t u (known_same s mid t u (ap (λ (p : Peer). p.near.reader) step.peer) (ap (λ (p : Peer). p.distant) step.peer) k) more none well') (exchange_text d e) run.1))
-    ran (Recorded event false ∷ acts) (Receiving d room [] octets) s new t u k chain none well run = absurd (over_never acts d d' run.1)
+    ran (Logged event false ∷ acts) (Receiving d room [] octets) s new t u k chain none well run = absurd (over_never acts d d' run.1)
     ran (Took message ∷ acts) (Taking d room owed) s new t u k chain none well run =
         let (mid, step, more) = chain_first Goes s new (Took message) acts chain in
         quiet s mid (ap (λ (p : Peer). p.near.writer) step.peer.1) (ap (λ (p : Peer). p.distant) step.peer.1)
@@ -488,18 +488,18 @@ module _ {R W S T D : Type 0} (remaining : R → Option (List ℕ)) (contents : 
         let (mid, step, more) = chain_first Goes s new EndedDay acts chain in
         ended_ran acts d s mid new t u k (not_lost (EndedDay ∷ acts) s new chain none) step run.1 more none
     ran (Dropped loss ∷ acts) (Between d) s new t u k chain none well run = absurd run.0
-    ran (Recorded event done ∷ acts) (Between d) s new t u k chain none well run = absurd run.0
+    ran (Logged event done ∷ acts) (Between d) s new t u k chain none well run = absurd run.0
     ran (Wrote octets done ∷ acts) (Between d) s new t u k chain none well run = absurd run.0
     ran (Read most answer ∷ acts) (Between d) s new t u k chain none well run = absurd run.0
     ran (Took message ∷ acts) (Between d) s new t u k chain none well run = absurd run.0
     ran (EndedDay ∷ acts) (Between d) s new t u k chain none well run = absurd run.0
-    ran (Began second begin ∷ acts) (Recording d room (OnLink e)) s new t u k chain none well run = absurd run.0
-    ran (Dropped loss ∷ acts) (Recording d room (OnLink e)) s new t u k chain none well run = absurd run.0
-    ran (Synced done ∷ acts) (Recording d room (OnLink e)) s new t u k chain none well run = absurd run.0
-    ran (Wrote octets done ∷ acts) (Recording d room (OnLink e)) s new t u k chain none well run = absurd run.0
-    ran (Read most answer ∷ acts) (Recording d room (OnLink e)) s new t u k chain none well run = absurd run.0
-    ran (Took message ∷ acts) (Recording d room (OnLink e)) s new t u k chain none well run = absurd run.0
-    ran (EndedDay ∷ acts) (Recording d room (OnLink e)) s new t u k chain none well run = absurd run.0
+    ran (Began second begin ∷ acts) (Logging d room (OnLink e)) s new t u k chain none well run = absurd run.0
+    ran (Dropped loss ∷ acts) (Logging d room (OnLink e)) s new t u k chain none well run = absurd run.0
+    ran (Synced done ∷ acts) (Logging d room (OnLink e)) s new t u k chain none well run = absurd run.0
+    ran (Wrote octets done ∷ acts) (Logging d room (OnLink e)) s new t u k chain none well run = absurd run.0
+    ran (Read most answer ∷ acts) (Logging d room (OnLink e)) s new t u k chain none well run = absurd run.0
+    ran (Took message ∷ acts) (Logging d room (OnLink e)) s new t u k chain none well run = absurd run.0
+    ran (EndedDay ∷ acts) (Logging d room (OnLink e)) s new t u k chain none well run = absurd run.0
     ran (Began second begin ∷ acts) (Receiving d room [] octets) s new t u k chain none well run = absurd run.0
     ran (Dropped loss ∷ acts) (Receiving d room [] octets) s new t u k chain none well run = absurd run.0
     ran (Synced done ∷ acts) (Receiving d room [] octets) s new t u k chain none well run = absurd run.0
@@ -509,28 +509,28 @@ module _ {R W S T D : Type 0} (remaining : R → Option (List ℕ)) (contents : 
     ran (EndedDay ∷ acts) (Receiving d room [] octets) s new t u k chain none well run = absurd run.0
     ran (Began second begin ∷ acts) (Taking d room owed) s new t u k chain none well run = absurd run.0
     ran (Dropped loss ∷ acts) (Taking d room owed) s new t u k chain none well run = absurd run.0
-    ran (Recorded event done ∷ acts) (Taking d room owed) s new t u k chain none well run = absurd run.0
+    ran (Logged event done ∷ acts) (Taking d room owed) s new t u k chain none well run = absurd run.0
     ran (Synced done ∷ acts) (Taking d room owed) s new t u k chain none well run = absurd run.0
     ran (Wrote octets done ∷ acts) (Taking d room owed) s new t u k chain none well run = absurd run.0
     ran (Read most answer ∷ acts) (Taking d room owed) s new t u k chain none well run = absurd run.0
     ran (EndedDay ∷ acts) (Taking d room owed) s new t u k chain none well run = absurd run.0
     ran (Began second begin ∷ acts) (Owing d room true texts) s new t u k chain none well run = absurd run.0
     ran (Dropped loss ∷ acts) (Owing d room true texts) s new t u k chain none well run = absurd run.0
-    ran (Recorded event done ∷ acts) (Owing d room true texts) s new t u k chain none well run = absurd run.0
+    ran (Logged event done ∷ acts) (Owing d room true texts) s new t u k chain none well run = absurd run.0
     ran (Wrote octets done ∷ acts) (Owing d room true texts) s new t u k chain none well run = absurd run.0
     ran (Read most answer ∷ acts) (Owing d room true texts) s new t u k chain none well run = absurd run.0
     ran (Took message ∷ acts) (Owing d room true texts) s new t u k chain none well run = absurd run.0
     ran (EndedDay ∷ acts) (Owing d room true texts) s new t u k chain none well run = absurd run.0
     ran (Began second begin ∷ acts) (Owing d room false (text ∷ texts)) s new t u k chain none well run = absurd run.0
     ran (Dropped loss ∷ acts) (Owing d room false (text ∷ texts)) s new t u k chain none well run = absurd run.0
-    ran (Recorded event done ∷ acts) (Owing d room false (text ∷ texts)) s new t u k chain none well run = absurd run.0
+    ran (Logged event done ∷ acts) (Owing d room false (text ∷ texts)) s new t u k chain none well run = absurd run.0
     ran (Synced done ∷ acts) (Owing d room false (text ∷ texts)) s new t u k chain none well run = absurd run.0
     ran (Read most answer ∷ acts) (Owing d room false (text ∷ texts)) s new t u k chain none well run = absurd run.0
     ran (Took message ∷ acts) (Owing d room false (text ∷ texts)) s new t u k chain none well run = absurd run.0
     ran (EndedDay ∷ acts) (Owing d room false (text ∷ texts)) s new t u k chain none well run = absurd run.0
     ran (Began second begin ∷ acts) (Owing d room false []) s new t u k chain none well run = absurd run.0
     ran (Dropped loss ∷ acts) (Owing d room false []) s new t u k chain none well run = absurd run.0
-    ran (Recorded event done ∷ acts) (Owing d room false []) s new t u k chain none well run = absurd run.0
+    ran (Logged event done ∷ acts) (Owing d room false []) s new t u k chain none well run = absurd run.0
     ran (Synced done ∷ acts) (Owing d room false []) s new t u k chain none well run = absurd run.0
     ran (Wrote octets done ∷ acts) (Owing d room false []) s new t u k chain none well run = absurd run.0
     ran (Read most answer ∷ acts) (Owing d room false []) s new t u k chain none well run = absurd run.0
@@ -538,20 +538,20 @@ module _ {R W S T D : Type 0} (remaining : R → Option (List ℕ)) (contents : 
     ran (EndedDay ∷ acts) (Owing d room false []) s new t u k chain none well run = absurd run.0
     ran (Began second begin ∷ acts) (Hearing d room) s new t u k chain none well run = absurd run.0
     ran (Dropped loss ∷ acts) (Hearing d room) s new t u k chain none well run = absurd run.0
-    ran (Recorded event done ∷ acts) (Hearing d room) s new t u k chain none well run = absurd run.0
+    ran (Logged event done ∷ acts) (Hearing d room) s new t u k chain none well run = absurd run.0
     ran (Synced done ∷ acts) (Hearing d room) s new t u k chain none well run = absurd run.0
     ran (Wrote octets done ∷ acts) (Hearing d room) s new t u k chain none well run = absurd run.0
     ran (Took message ∷ acts) (Hearing d room) s new t u k chain none well run = absurd run.0
     ran (EndedDay ∷ acts) (Hearing d room) s new t u k chain none well run = absurd run.0
     ran (Began second begin ∷ acts) (Ending d) s new t u k chain none well run = absurd run.0
     ran (Dropped loss ∷ acts) (Ending d) s new t u k chain none well run = absurd run.0
-    ran (Recorded event done ∷ acts) (Ending d) s new t u k chain none well run = absurd run.0
+    ran (Logged event done ∷ acts) (Ending d) s new t u k chain none well run = absurd run.0
     ran (Synced done ∷ acts) (Ending d) s new t u k chain none well run = absurd run.0
     ran (Wrote octets done ∷ acts) (Ending d) s new t u k chain none well run = absurd run.0
     ran (Read most answer ∷ acts) (Ending d) s new t u k chain none well run = absurd run.0
     ran (Took message ∷ acts) (Ending d) s new t u k chain none well run = absurd run.0
-    ran acts (Recording d room WithoutLink) s new t u k chain none well run = absurd well
-    ran acts (Recording d room (Sold line)) s new t u k chain none well run = absurd well
+    ran acts (Logging d room WithoutLink) s new t u k chain none well run = absurd well
+    ran acts (Logging d room (Sold line)) s new t u k chain none well run = absurd well
     ran acts (Receiving d room (text ∷ owed) octets) s new t u k chain none well run = absurd well
     ran acts (Losing d loss) s new t u k chain none well run = absurd well
     ran acts (Over d) s new t u k chain none well run = absurd well

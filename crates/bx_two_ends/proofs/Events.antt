@@ -19,7 +19,7 @@ use Rattle.bx_day.proofs.Tick.{by_cases}
 use Rattle.bx_far.specs.FarDay.{FarDay, far_ticked, far_unlinked, far_receive}
 use Rattle.bx_two_ends.specs.World.{World, WorldEvent, TickExchange, TickFar, WithoutLink, FarWithoutLink, ToExchange, ToFar, exchange_becomes, far_becomes, comes_to_exchange, comes_to_far, message_nth, world_happens}
 use Rattle.bx_two_ends.specs.Scripts.{IsScriptRow}
-use Rattle.bx_two_ends.specs.TwoEnds.{acknowledges, AreOnTheirOwn}
+use Rattle.bx_two_ends.specs.TwoEnds.{acknowledges_call, AreOnTheirOwn}
 use Rattle.bx_two_ends.proofs.Delivery.{Sendable, said_from, receive_sent, far_receive_sent}
 use Rattle.bx_two_ends.proofs.History.{sets_up, clears, has_more, all_map, all_both, all_in, IsIn, IfMessage, nth_holds}
 use Rattle.bx_two_ends.proofs.Outward.{Seats, OutwardSent, OutwardSents, OutwardStanding, OutwardStandings, Kept, Holds, Maintained, Cleared, OutwardReply, OutwardReplies, OfferedCall, OfferedCalls, KeepsOutward}
@@ -50,7 +50,7 @@ exchange_step rows assigned w d more k run seats sents standings = record {
   replies = all_map (λ o. o.flag ≡ true → OutwardReply assigned w.sent w.far o) (λ o. o.flag ≡ true → OutwardReply assigned (w.sent ++ more) w.far o)
       (λ o p q. record { known = has_more (sets_up o.reference) w.sent more (p q).known; kept = λ c. kept_more assigned w.sent more w.far o.reference ((p q).kept c) }) w.far_sent k.replies;
   calls = all_calls (λ c. user_flag c.origin ≡ true → OfferedCall assigned w.sent c) (λ c. user_flag c.origin ≡ true → OfferedCall assigned (w.sent ++ more) c)
-      (λ c p q. record { known = has_more (sets_up c.reference) w.sent more (p q).known; channel = (p q).channel; in_service = (p q).in_service; offered = (p q).offered; active = λ a. has_more (acknowledges c.reference) w.sent more ((p q).active a) }) w.far.calls k.calls;
+      (λ c p q. record { known = has_more (sets_up c.reference) w.sent more (p q).known; channel = (p q).channel; in_service = (p q).in_service; offered = (p q).offered; active = λ a. has_more (acknowledges_call c.reference) w.sent more ((p q).active a) }) w.far.calls k.calls;
   apart = k.apart;
   size = k.size;
   places = k.places;

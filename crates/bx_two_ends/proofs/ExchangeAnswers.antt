@@ -21,7 +21,7 @@ use Rattle.bx_calls.specs.declared.unknown_reference.Side.TheVariants.{Network}
 use Rattle.bx_calls.specs.declared.net_state.NetState.{NetState}
 use Rattle.bx_calls.specs.declared.net_state.NetState.TheVariants as net
 use Rattle.bx_calls.specs.declared.transition.Transition.{Transition}
-use Rattle.bx_two_ends.specs.Answering.{is_ringing, is_clearing, is_enquired, said_in, said_read, tells, clears_by, contradicts, Spares, SparesAll}
+use Rattle.bx_two_ends.specs.Answering.{is_ringing, is_clearing, is_enquired, said_in_octets, said_read, tells, clears_by, contradicts, Spares, SparesAll}
 use Rattle.bx_day.specs.Day.{Day, entry_at, is_live}
 use Rattle.bx_two_ends.specs.Earning.{heard_in, is_going}
 use Rattle.bx_day.specs.Invariant.{StandingFits}
@@ -79,7 +79,7 @@ stays_x c i j o rest said more s ref ne h = record {
 
 -- ---- a message as it is heard
 
-pub said_again : (o : Outgoing) → Sendable o → said_in (out_octets o) ≡ Some (said_from o)
+pub said_again : (o : Outgoing) → Sendable o → said_in_octets (out_octets o) ≡ Some (said_from o)
 said_again o h =
     ap said_read (written_again o h.out h.called)
     ∙ ap (λ (b : Bool). if b then None else Some (said_of o.reference o.flag (message_of o))) (not_zero o.reference h.out.reference.0)

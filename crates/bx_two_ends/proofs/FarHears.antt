@@ -26,7 +26,7 @@ use Rattle.bx_calls.specs.Sending.{reply_list, Answered, unchanged}
 use Rattle.bx_day.proofs.Said.{OfSaid}
 use Rattle.bx_far.specs.FarDay.{FarDay, far_names, far_follow, far_refuses, far_takes, far_called_on, far_called, far_stray, far_received_by, far_receive, first_call, is_taken, holder, insert_call, settle_maintenance}
 use Rattle.bx_far.specs.Policies.{policy_of}
-use Rattle.bx_two_ends.specs.TwoEnds.{offered_as, acknowledges, is_acknowledge, AreOnTheirOwn}
+use Rattle.bx_two_ends.specs.TwoEnds.{offered_as, acknowledges_call, is_acknowledge, AreOnTheirOwn}
 use Rattle.bx_two_ends.proofs.Delivery.{said_from}
 use Rattle.bx_two_ends.proofs.NetworkRows.{clears_as}
 use Rattle.bx_two_ends.proofs.UserRows.{Moves, UserSpeaks, row_moves, row_speaks, is_talking, is_calling}
@@ -116,7 +116,7 @@ settle_size c Broken ms = length-set ms c true
 -- what is known of a step of a call of the far end; ack and cleared say what came
 pub record CallStep (sent : List Outgoing) (call : PlainUserCall) (ack cleared : Bool) (step : Transition PlainUserCall) : Type 0 where
   pub moves : Moves call.reference call.channel call.origin call.state ack cleared step.next
-  pub acked : user_flag call.origin ≡ true → ack ≡ true → list_any (acknowledges call.reference) sent ≡ true
+  pub acked : user_flag call.origin ≡ true → ack ≡ true → list_any (acknowledges_call call.reference) sent ≡ true
   pub over : user_flag call.origin ≡ true → cleared ≡ true → list_any (clears call.reference) sent ≡ true
 
 pub after_call : (assigned : List (Option ℕ)) (sent : List Outgoing) (call : PlainUserCall) (ack cleared : Bool) (step : Transition PlainUserCall) → CallStep sent call ack cleared step → (user_flag call.origin ≡ true → OfferedCall assigned sent call) → (n : Next PlainUserCall) → Moves call.reference call.channel call.origin call.state ack cleared n → OnLive (λ c. user_flag c.origin ≡ true → OfferedCall assigned sent c) n
@@ -128,7 +128,7 @@ after_call assigned sent call ack cleared step s old (Live c) g = λ f.
       channel = g.channel ∙ h.channel ∙ ap (λ x. channel_at assigned (x - 1)) (sym g.reference);
       in_service = subst IsChannel (sym g.channel) h.in_service;
       offered = implied_false (is_calling c.state) (is_calling call.state) g.calling h.offered;
-      active = λ q. subst (λ n. list_any (acknowledges n) sent ≡ true) (sym g.reference) (elim (or_three (is_talking call.state) ack (is_calling call.state) (g.active q) h.offered) [
+      active = λ q. subst (λ n. list_any (acknowledges_call n) sent ≡ true) (sym g.reference) (elim (or_three (is_talking call.state) ack (is_calling call.state) (g.active q) h.offered) [
         | inl k ↦ h.active k
         | inr k ↦ s.acked f' k
       ]);
@@ -229,7 +229,7 @@ heard_keeps assigned sent far_sent f o call b first is_in =
     follow_keeps assigned sent far_sent f (far_names (said_from o)) call (is_acknowledge o.kind) (clears_as o.kind o.state) (user_message call (said_from o).heard f.moment) b first
     (record {
       moves = row_moves call.reference call.channel call.origin f.moment (said_from o).heard call.state o.kind;
-      acked = λ u k. is_in (acknowledges call.reference) (and_from (from_beginner call.reference o) (is_acknowledge o.kind) (is_from_beginner call.reference o r (flags_meet (user_flag call.origin) o.flag p.1 u)) k);
+      acked = λ u k. is_in (acknowledges_call call.reference) (and_from (from_beginner call.reference o) (is_acknowledge o.kind) (is_from_beginner call.reference o r (flags_meet (user_flag call.origin) o.flag p.1 u)) k);
       over = λ u k. is_in (clears call.reference) (and_from (from_beginner call.reference o) (clears_as o.kind o.state) (is_from_beginner call.reference o r (flags_meet (user_flag call.origin) o.flag p.1 u)) k);
     })
     (said_map (UserSpeaks call.reference call.origin (user_message call (said_from o).heard f.moment).next) (λ x. (x.reference ≡ call.reference) × (x.flag ≡ user_flag call.origin)) (λ x u. (u.reference, u.flag)) (user_message call (said_from o).heard f.moment).reply (row_speaks call.reference call.channel call.origin f.moment (said_from o).heard call.state o.kind))

@@ -22,9 +22,9 @@ use Rattle.bx_day.specs.Ticks.{tick}
 use Rattle.bx_far.specs.Course.{far_next, far_text, far_due}
 use Rattle.bx_far.specs.FarDay.{FarDay, far_tick, far_ticked}
 use Rattle.bx_far.specs.FarRun.{far_receive_octets}
-use Rattle.bx_link.specs.Talking.{follow_by, exchange_turn, talk_in, far_hears, far_talk_in, closed_before, ticked}
+use Rattle.bx_link.specs.Talking.{follow_by, exchange_turn, talk_in, far_hears, far_talk_in, closed_before, ticked_talk}
 use Rattle.bx_two_ends.specs.Earning.{heard_in, seconds_after}
-use Rattle.bx_two_ends.specs.Lockstep.{Ends, far_heard, far_says, exchange_says, received_in, octets_in, replies_in, far_called, turns_from}
+use Rattle.bx_two_ends.specs.Lockstep.{Ends, far_heard, far_says, exchange_says, received_in, octets_received, replies_in, far_after_calls, turns_from}
 use Rattle.bx_two_ends.proofs.Delivery.{Sendable}
 use Rattle.bx_two_ends.proofs.ExchangeLimits.{tick_sendable, tick_within}
 use Rattle.bx_two_ends.proofs.ExchangeTicks.{tick_seats}
@@ -135,7 +135,7 @@ abbrev pub Onward : ℕ → Day → Talk → Talk
 Onward n d1 first = follow_by first.ending first (λ events. talk_in n (after exchange_next events d1)) first
 
 abbrev FarTurned : Talk → Talk
-FarTurned heard = follow_by heard.ending heard (λ events. ticked) heard
+FarTurned heard = follow_by heard.ending heard (λ events. ticked_talk) heard
 
 abbrev FarOnward : ℕ → FarDay → Talk → Talk
 FarOnward k f heard = follow_by (FarTurned heard).ending (FarTurned heard) (λ events. far_talk_in k (after far_next events f)) (closed_before k (FarTurned heard))
@@ -175,7 +175,7 @@ module _ (assigned : List (Option ℕ)) (n k : ℕ) (d : Day) (f : FarDay) (r : 
   E = ends_of d f r
 
   abbrev G : FarDay
-  G = far_called E
+  G = far_after_calls E
 
   abbrev F1 : FarDay
   F1 = (far_tick G).day
@@ -184,7 +184,7 @@ module _ (assigned : List (Option ℕ)) (n k : ℕ) (d : Day) (f : FarDay) (r : 
   R = received_in E
 
   abbrev D2 : Day
-  D2 = heard_in (octets_in E) D1
+  D2 = heard_in (octets_received E) D1
 
   abbrev R1 : List Outgoing
   R1 = replies_in E
@@ -265,7 +265,7 @@ module _ (assigned : List (Option ℕ)) (n k : ℕ) (d : Day) (f : FarDay) (r : 
   far_first : far_hears f FarText ≡ FarHeards
   far_first =
       let ended = follow_ends (FarTurned (far_hears f FarText)) (closed_before k (FarTurned (far_hears f FarText))) (λ events. far_talk_in k (after far_next events f)) false (c.far_ending ∙ ap (λ (t : Talk). t.ending) (far_talk_step k f FarText)) in
-      let heard = follow_ends (far_hears f FarText) (far_hears f FarText) (λ events. ticked) ended.0 ended.1 in
+      let heard = follow_ends (far_hears f FarText) (far_hears f FarText) (λ events. ticked_talk) ended.0 ended.1 in
       let same : far_hears f FarText ≡ turn_in FarEnd D1.moment 64 FarTurnText = ap (λ (m : ℕ). turn_in FarEnd m 64 FarText) due ∙ ap (turn_in FarEnd D1.moment 64) to_far in
       same ∙ turn_again FarEnd D1.moment few (Said1 ++ far_more) 64 (spelled (r ++ S)) heard.0 (all_short (r ++ S) (all_joined Sendable r S h.said near_said)) (heard.1 ∙ ap (λ (t : Talk). t.ending) same)
 

@@ -11,7 +11,7 @@ use Rattle.bx_events.specs.Events.{Event}
 use Rattle.bx_frames.specs.Courses.{after, told}
 use Rattle.bx_frames.specs.Frames.{day_frame}
 use Rattle.bx_frames.specs.Talks.{Talk}
-use Rattle.bx_frames.specs.Heard.{IsWhole, IsHeard}
+use Rattle.bx_frames.specs.Heard.{IsWholeTalk, IsHeard}
 use Rattle.bx_frames.specs.declared.fault.LinkFault.{LinkFault}
 use Rattle.bx_frames.specs.declared.frame.Receiver.{Receiver}
 use Rattle.bx_frames.specs.declared.frame.Receiver.TheVariants.{Exchange, FarEnd}
@@ -27,7 +27,7 @@ use Rattle.bx_link.specs.BothEnds.{Passage}
 use Rattle.bx_link.specs.Talking.{talk_in, far_talk_in}
 use Rattle.bx_two_ends.specs.Earning.{LiveSecond, Linked, events_of, seconds_after, IsLongEnough, IsCarriedBy, AreAnswered}
 use Rattle.bx_two_ends.specs.Joined.{IsJoinedDay}
-use Rattle.bx_two_ends.specs.Lockstep.{Ends, octets_in, ends_after, turns_from, ends_opening, AnswersAtOnce}
+use Rattle.bx_two_ends.specs.Lockstep.{Ends, octets_received, ends_after, turns_from, ends_opening, AnswersAtOnce}
 use Rattle.bx_two_ends.specs.Scripts.{AreScriptRows}
 use Rattle.bx_two_ends.proofs.AnsweringDays.{answered_by}
 use Rattle.bx_two_ends.proofs.EarnedDays.{seconds_are, carried_unbroken, on_link, on_link_size}
@@ -40,7 +40,7 @@ use Rattle.bx_two_ends.proofs.Points.{opening_standing}
 -- ---- what one end was given and wrote
 
 -- all that there was to be heard was heard, since the end went on to the end
-pub whole_heard : (receiver : Receiver) (finds : List ℕ → Talk) (text : List ℕ) (events : List Event) (b : Bool) (left : Option (List ℕ)) → IsHeard receiver finds text events (Ok b) left → IsWhole (finds text) events (Ok b) left
+pub whole_heard : (receiver : Receiver) (finds : List ℕ → Talk) (text : List ℕ) (events : List Event) (b : Bool) (left : Option (List ℕ)) → IsHeard receiver finds text events (Ok b) left → IsWholeTalk (finds text) events (Ok b) left
 whole_heard receiver finds text events b left (inl w) = w
 whole_heard receiver finds text events b left (inr (inl p)) = absurd (let f = p.0 in cc)
 whole_heard receiver finds text events b left (inr (inr p)) = absurd (let f = p.0 in cc)
@@ -81,7 +81,7 @@ module _ {R W S T : Type 0} (rows : List Row) (channels : List Bool) (assigned :
   abbrev Heard : List ℕ
   Heard = j.joined.far_said ++ j.joined.following
 
-  near_whole : IsWhole (talk_in turns near.opened Heard) j.done.near_side.talks.events (Ok true) (near.remaining (device_of near.new.reader))
+  near_whole : IsWholeTalk (talk_in turns near.opened Heard) j.done.near_side.talks.events (Ok true) (near.remaining (device_of near.new.reader))
   near_whole = whole_heard Exchange (talk_in turns near.opened) Heard _ true _ (j.done.near_side.talks.goes.talk Heard j.joined.hears)
 
   near_written : Appends (near.contents (device_of near.old.writer)) (near.contents (device_of near.new.writer)) (told exchange_next exchange_text j.done.near_side.talks.events near.opened ++ day_frame)
@@ -94,7 +94,7 @@ module _ {R W S T : Type 0} (rows : List Row) (channels : List Bool) (assigned :
   said_is : j.joined.said ≡ Told ++ day_frame
   said_is = same_text (near.contents (device_of near.old.writer)) (near.contents (device_of near.new.writer)) j.joined.held j.joined.said (Told ++ day_frame) j.joined.holds j.joined.writes near_written
 
-  far_whole : IsWhole (far_talk_in (turns + 1) far.opened (j.joined.said ++ j.joined.far_following)) j.done.far_side.events (Ok false) (far.remaining (device_of far.new.reader))
+  far_whole : IsWholeTalk (far_talk_in (turns + 1) far.opened (j.joined.said ++ j.joined.far_following)) j.done.far_side.events (Ok false) (far.remaining (device_of far.new.reader))
   far_whole = whole_heard FarEnd (far_talk_in (turns + 1) far.opened) (j.joined.said ++ j.joined.far_following) j.done.far_side.events false _ (j.done.far_side.goes.talk (j.joined.said ++ j.joined.far_following) j.joined.far_hears)
 
   far_said_is : j.joined.far_said ≡ told far_next far_text j.done.far_side.events far.opened
@@ -127,12 +127,12 @@ module _ {R W S T : Type 0} (rows : List Row) (channels : List Bool) (assigned :
 
 pub heard_by : ℕ → Ends → List (List (List ℕ))
 heard_by zero e = []
-heard_by (suc n) e = octets_in e ∷ heard_by n (ends_after e)
+heard_by (suc n) e = octets_received e ∷ heard_by n (ends_after e)
 
 turns_heard : (n : ℕ) (e : Ends) → turns_from n e ≡ on_link (heard_by n e)
 unfolding heard_by
 turns_heard zero e = refl
-turns_heard (suc n) e = ap (λ (ss : List LiveSecond). Linked (octets_in e) ∷ ss) (turns_heard n (ends_after e))
+turns_heard (suc n) e = ap (λ (ss : List LiveSecond). Linked (octets_received e) ∷ ss) (turns_heard n (ends_after e))
 
 heard_size : (n : ℕ) (e : Ends) → length (heard_by n e) ≡ n
 unfolding heard_by

@@ -17,9 +17,9 @@ use Rattle.bx_calls.specs.declared.net_state.NetOrigin.{NetOrigin}
 use Rattle.bx_calls.specs.declared.net_state.NetState.{NetState}
 use Rattle.bx_calls.specs.declared.net_state.NetState.TheVariants as net
 use Rattle.bx_calls.specs.declared.user_state.UserState.{UserState}
-use Rattle.bx_two_ends.specs.Answering.{is_ringing_in, is_ringing, is_clearing, is_enquired, said_in, tells, is_told, is_connect, is_release, Answers, EachHeard, AnswersAll}
+use Rattle.bx_two_ends.specs.Answering.{is_ringing_in, is_ringing, is_clearing, is_enquired, said_in_octets, tells, is_told, is_connect, is_release, Answers, EachHeard, AnswersAll}
 use Rattle.bx_day.specs.Day.{Day, opening, entry_at, entries_from, is_live}
-use Rattle.bx_two_ends.specs.Earning.{heard_in, is_settled_in, IsAnswered}
+use Rattle.bx_two_ends.specs.Earning.{heard_in, is_settled_in, IsAllAnswered}
 use Rattle.bx_day.specs.Law.{standing_at}
 use Rattle.bx_day.specs.Reading.{IsExchange}
 use Rattle.bx_day.specs.Receipts.{names}
@@ -195,9 +195,9 @@ pub told_from : (c : Day) (test : Heard → Bool) (p : Outgoing → Bool) (e : E
 told_from c test p e [] f all h = absurd (false≢true h)
 told_from c test p e (o ∷ os) f all h = go (p o) refl h (told_from c test p e os f all.1)
   where
-    go : (b : Bool) → p o ≡ b → (b || list_any p os) ≡ true → (list_any p os ≡ true → is_told test e (map (λ x. out_octets x) os) ≡ true) → (tells test e (said_in (out_octets o)) || is_told test e (map (λ x. out_octets x) os)) ≡ true
-    go true is q rest = or_left (tells test e (said_in (out_octets o))) (is_told test e (map (λ x. out_octets x) os)) (ap (tells test e) (said_again o all.0.sendable) ∙ f o all.0 is)
-    go false is q rest = or_right (tells test e (said_in (out_octets o))) (is_told test e (map (λ x. out_octets x) os)) (rest q)
+    go : (b : Bool) → p o ≡ b → (b || list_any p os) ≡ true → (list_any p os ≡ true → is_told test e (map (λ x. out_octets x) os) ≡ true) → (tells test e (said_in_octets (out_octets o)) || is_told test e (map (λ x. out_octets x) os)) ≡ true
+    go true is q rest = or_left (tells test e (said_in_octets (out_octets o))) (is_told test e (map (λ x. out_octets x) os)) (ap (tells test e) (said_again o all.0.sendable) ∙ f o all.0 is)
+    go false is q rest = or_right (tells test e (said_in_octets (out_octets o))) (is_told test e (map (λ x. out_octets x) os)) (rest q)
 
 -- each call of a list without two on a channel holds its channel
 own_holder : (cs : List PlainUserCall) → AreOnTheirOwn cs → AllByRecursion (λ (x : PlainUserCall). held_by x.channel cs ≡ Some x) cs
@@ -311,7 +311,7 @@ turn_by rows assigned d f pending early h =
           and_from (names (said_from o) (entry_at c.entries i)) (is_connect o.kind) (names_outward PresentIn i (said_from o) (standing_at c i) (new_rings i (is_live (standing_at d i)) (standing_at c i) (stands i) r).1 b.0 b.1) (connect_is o.kind p.1))) from_far (connects i r);
     } in
     let l : Day = left_by (ticked d) f pending in
-    let answered : IsAnswered c l = turn_answered rows assigned t (map (λ o. out_octets o) received) c hearing answers (λ i. third_of i (is_live (standing_at d i)) (standing_at c i) (stands i)) in
+    let answered : IsAllAnswered c l = turn_answered rows assigned t (map (λ o. out_octets o) received) c hearing answers (λ i. third_of i (is_live (standing_at d i)) (standing_at c i) (stands i)) in
     let replies = replies_by (ticked d) f pending in
     let f1 : FarDay = (far_tick (far_heard sent f)).day in
     let acked : (i : ℕ) → is_ringing (standing_at c i) ≡ true → OutwardIn ActiveIn i (standing_at l i) × (list_any (acks_as (suc i)) replies ≡ true) = λ i r. elim ((ha.left.calls i).ringing r) [ inl p ↦ absurd (false≢true p.1) | inr p ↦ p ] in

@@ -47,7 +47,7 @@ use Rattle.bx_day.proofs.Law.{RunFits}
 use Rattle.bx_far.specs.FarDay.{FarDay}
 use Rattle.bx_two_ends.specs.World.{World}
 use Rattle.bx_two_ends.specs.Scripts.{IsScriptRow}
-use Rattle.bx_two_ends.specs.TwoEnds.{far_holds, acknowledges, AreOnTheirOwn}
+use Rattle.bx_two_ends.specs.TwoEnds.{far_holds, acknowledges_call, AreOnTheirOwn}
 use Rattle.bx_two_ends.proofs.NetworkRows.{is_proceeding}
 use Rattle.bx_two_ends.proofs.UserRows.{is_talking, is_calling}
 use Rattle.bx_two_ends.proofs.History.{sets_up, clears}
@@ -119,7 +119,7 @@ pub record OfferedCall (assigned : List (Option ℕ)) (sent : List Outgoing) (c 
   pub channel : c.channel ≡ channel_at assigned (c.reference - 1)
   pub in_service : IsChannel c.channel
   pub offered : is_calling c.state ≡ false
-  pub active : is_talking c.state ≡ true → list_any (acknowledges c.reference) sent ≡ true
+  pub active : is_talking c.state ≡ true → list_any (acknowledges_call c.reference) sent ≡ true
 
 abbrev pub OfferedCalls : List (Option ℕ) → List Outgoing → List PlainUserCall → Type 0
 OfferedCalls assigned sent cs = AllByRecursion (λ (c : PlainUserCall). user_flag c.origin ≡ true → OfferedCall assigned sent c) cs

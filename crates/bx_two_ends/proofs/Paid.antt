@@ -5,13 +5,13 @@ use Rattle.bx_base.specs.Bookings.{Row, row_at, pay_of}
 use Rattle.bx_base.specs.Plans as plan
 use Rattle.bx_base.specs.Sums.{sum_below}
 use Rattle.bx_day.specs.Day.{Day, entry_at}
-use Rattle.bx_two_ends.specs.Earning.{IsDayOf, IsCarriedBy}
-use Rattle.bx_day.specs.Invariant.{is_refused}
+use Rattle.bx_two_ends.specs.Earning.{IsDayOfPlan, IsCarriedBy}
+use Rattle.bx_day.specs.Invariant.{is_refused, stands_accepted}
 use Rattle.bx_day.specs.Law.{standing_at}
 use Rattle.bx_day.specs.declared.entry.Entry.{Entry}
 use Rattle.bx_day.specs.declared.entry.Standing.{Standing}
 use Rattle.bx_day.specs.declared.entry.Standing.TheVariants.{Refused, Carried}
-use Rattle.bx_records.specs.Totals.{is_accepted, is_carried, pays_of}
+use Rattle.bx_records.specs.Totals.{is_carried, pays_of}
 
 -- the pay of a place
 abbrev paid_at : (Standing → Bool) → List Entry → ℕ → ℕ
@@ -37,12 +37,12 @@ not_not false = refl
 pay_if : (b c : Bool) (p q : ℕ) → b ≡ c → p ≡ q → (if b then p else 0) ≡ (if c then q else 0)
 pay_if b c p q same is = ap (λ x. if x then p else 0) same ∙ ap (λ n. if c then n else 0) is
 
-pub accepted_pay : (rows : List Row) (assigned : List (Option ℕ)) (d : Day) → IsDayOf rows assigned d → pays_of is_accepted d.entries ≡ pay_of rows (plan.is_accepted assigned)
+pub accepted_pay : (rows : List Row) (assigned : List (Option ℕ)) (d : Day) → IsDayOfPlan rows assigned d → pays_of stands_accepted d.entries ≡ pay_of rows (plan.is_accepted assigned)
 accepted_pay rows assigned d h =
-    pays_sum is_accepted d.entries
-    ∙ ap (λ n. sum_below n (paid_at is_accepted d.entries)) h.size
-    ∙ sum_same (length rows) (paid_at is_accepted d.entries) (λ i. if plan.is_accepted assigned i then (row_at rows i).pay else 0) (λ i lt.
-    pay_if (is_accepted (standing_at d i)) (plan.is_accepted assigned i) (entry_at d.entries i).booking.pay (row_at rows i).pay (ap not (h.accepted i lt) ∙ not_not (plan.is_accepted assigned i)) (ap (λ (b : Row). b.pay) (h.booking i lt)))
+    pays_sum stands_accepted d.entries
+    ∙ ap (λ n. sum_below n (paid_at stands_accepted d.entries)) h.size
+    ∙ sum_same (length rows) (paid_at stands_accepted d.entries) (λ i. if plan.is_accepted assigned i then (row_at rows i).pay else 0) (λ i lt.
+    pay_if (stands_accepted (standing_at d i)) (plan.is_accepted assigned i) (entry_at d.entries i).booking.pay (row_at rows i).pay (ap not (h.accepted i lt) ∙ not_not (plan.is_accepted assigned i)) (ap (λ (b : Row). b.pay) (h.booking i lt)))
 
 carried_is : (u end : ℕ) (s : Standing) → IsCarriedBy u end s → is_carried s ≡ true
 carried_is u end (Carried from until) h = refl
@@ -60,7 +60,7 @@ carried_or_not : (a : Bool) (s : Standing) → is_refused s ≡ not a → (a ≡
 carried_or_not true s h f = f refl
 carried_or_not false s h f = refused_none s h
 
-pub carried_pay : (rows : List Row) (assigned : List (Option ℕ)) (d : Day) → IsDayOf rows assigned d → AllCarried rows assigned d → pays_of is_carried d.entries ≡ pay_of rows (plan.is_accepted assigned)
+pub carried_pay : (rows : List Row) (assigned : List (Option ℕ)) (d : Day) → IsDayOfPlan rows assigned d → AllCarried rows assigned d → pays_of is_carried d.entries ≡ pay_of rows (plan.is_accepted assigned)
 carried_pay rows assigned d h all =
     pays_sum is_carried d.entries
     ∙ ap (λ n. sum_below n (paid_at is_carried d.entries)) h.size

@@ -13,7 +13,7 @@ use Rattle.bx_calls.specs.declared.user_state.Policy.{Policy}
 use Rattle.bx_text.specs.Records.{field_of}
 use Rattle.bx_text.specs.Rows.{AreRows}
 use Rattle.bx_day.proofs.Tick.{by_cases}
-use Rattle.bx_far.specs.ScriptRows.{number_of, names_channel, channel_of, seconds_of, policy_word, follows_row, calls_at, calls_row, policy_row, row_in, row_of, IsRowOf}
+use Rattle.bx_far.specs.ScriptRows.{number_of, is_channel_text, script_channel_of, script_seconds_of, policy_word, follows_row, calls_at, calls_row, policy_row, script_row_in, script_row_of, IsScriptRowOf}
 use Rattle.bx_far.specs.ScriptTexts.{IsScript}
 use Rattle.bx_far.specs.declared.row.ScriptRow.{ScriptRow}
 use Rattle.bx_far.specs.declared.row.ScriptRow.TheVariants.{Follows}
@@ -31,8 +31,8 @@ made P f h (Some x) = h x
 number_fits : (field : List ℕ) → Where IsNumber (number_of field)
 number_fits field = by_cases (is_number field) _ _ (Where IsNumber) (λ q. (number_decides field).0 q) (λ _. tt)
 
-channel_fits : (field : List ℕ) → Where IsChannel (channel_of field)
-channel_fits field = by_cases (names_channel field) _ _ (Where IsChannel)
+channel_fits : (field : List ℕ) → Where IsChannel (script_channel_of field)
+channel_fits field = by_cases (is_channel_text field) _ _ (Where IsChannel)
     (λ q.
     let n = digits_value 10 field in
     let p = and_parts (nat_le (length field) 2 && list_all is_ascii_digit field) (is_channel n) q in
@@ -58,14 +58,14 @@ policy_fits fields seconds = by_cases (length (field_of fields 3) == 0) _ _ (Whe
     (λ _. made IsScriptRow (follows_row (field_of fields 0)) (follows_fit (field_of fields 0)) (policy_word (field_of fields 1) seconds)) (λ _. tt)
 
 calling_fits : (called : List ℕ) (moment : ℕ) (channel : List ℕ) → Where IsScriptRow (calls_row called moment channel)
-calling_fits called moment channel = by_cases (moment == 0) _ _ (Where IsScriptRow) (λ _. tt) (λ _. calls_fit moment (number_of called) (channel_of channel) (number_fits called) (channel_fits channel))
+calling_fits called moment channel = by_cases (moment == 0) _ _ (Where IsScriptRow) (λ _. tt) (λ _. calls_fit moment (number_of called) (script_channel_of channel) (number_fits called) (channel_fits channel))
 
-row_fits : (columns : ℕ) (fields : List (List ℕ)) → Where IsScriptRow (row_of columns fields)
-row_fits columns fields = made IsScriptRow (row_in columns fields)
+row_fits : (columns : ℕ) (fields : List (List ℕ)) → Where IsScriptRow (script_row_of columns fields)
+row_fits columns fields = made IsScriptRow (script_row_in columns fields)
     (λ seconds. by_cases ((columns == 4) && bytes_eq (field_of fields 1) (codes "call")) _ _ (Where IsScriptRow)
-    (λ _. calling_fits (field_of fields 0) seconds (field_of fields 3)) (λ _. policy_fits fields seconds)) (seconds_of (field_of fields 2))
+    (λ _. calling_fits (field_of fields 0) seconds (field_of fields 3)) (λ _. policy_fits fields seconds)) (script_seconds_of (field_of fields 2))
 
-rows_fit : (columns : ℕ) (records : List (List (List ℕ))) (rows : List ScriptRow) → AreRows (IsRowOf columns) records rows → AllByRecursion IsScriptRow rows
+rows_fit : (columns : ℕ) (records : List (List (List ℕ))) (rows : List ScriptRow) → AreRows (IsScriptRowOf columns) records rows → AllByRecursion IsScriptRow rows
 rows_fit columns [] [] h = tt
 rows_fit columns [] (b ∷ bs) h = absurd h
 rows_fit columns (r ∷ rs) [] h = absurd h

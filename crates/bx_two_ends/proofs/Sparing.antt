@@ -12,7 +12,7 @@ use Rattle.bx_calls.specs.declared.net_state.NetState.{NetState}
 use Rattle.bx_calls.specs.declared.net_state.NetState.TheVariants.{OutgoingCallProceeding, Enquiring}
 use Rattle.bx_calls.specs.declared.transition.Transition.{Transition}
 use Rattle.bx_base.specs.Bookings.{Row}
-use Rattle.bx_two_ends.specs.Answering.{said_in, is_told, is_release, clears_by, is_clearing, is_enquired, contradicts, Spares, SparesAll, Clears}
+use Rattle.bx_two_ends.specs.Answering.{said_in_octets, is_told, is_release, clears_by, is_clearing, is_enquired, contradicts, Spares, SparesAll, Clears}
 use Rattle.bx_two_ends.specs.Asking.{is_asked, StandingUnasked}
 use Rattle.bx_day.specs.Day.{Day, entry_at, is_live}
 use Rattle.bx_two_ends.specs.Earning.{heard_in, is_going, IsCleared}
@@ -62,12 +62,12 @@ abbrev IsGoing : Entry → Type 0
 IsGoing e = is_going e.standing ≡ true
 
 going_octets : (rows : List Row) (assigned : List (Option ℕ)) (t i : ℕ) (octets : List ℕ) (d : Day) → IsHearing rows assigned t d → Spares octets d → IsGoing (entry_at d.entries i) → IsGoing (entry_at (receive_octets d octets).day.entries i)
-going_octets rows assigned t i octets d h spares g = at (said_in octets) refl
+going_octets rows assigned t i octets d h spares g = at (said_in_octets octets) refl
   where
     e : Entry
     e = entry_at d.entries i
 
-    at : (o : Option Said) → said_in octets ≡ o → IsGoing (entry_at (receive_octets d octets).day.entries i)
+    at : (o : Option Said) → said_in_octets octets ≡ o → IsGoing (entry_at (receive_octets d octets).day.entries i)
     at None is = heard_none IsGoing d octets i is g
     at (Some m) is = decide (names m e)
         (λ here. subst IsGoing (sym (heard_here rows assigned t d octets i m h is here)) (going_hears t e m e.standing (fits_now rows assigned t i d h) (spared_now d octets i m spares is g here) (spared_report d octets i m spares is g here) g))
@@ -103,12 +103,12 @@ by_passes e0 rest e (Called up) = Begun (up_going e.standing up) (up_unasked e.s
 by_passes e0 rest e (answering.Clears clearing named told) = Cleared clearing named told
 
 goes_octets : (rows : List Row) (assigned : List (Option ℕ)) (t i : ℕ) (e0 : Entry) (octets : List ℕ) (rest : List (List ℕ)) (d : Day) → IsHearing rows assigned t d → Spares octets d → GoesBy e0 (octets ∷ rest) (entry_at d.entries i) → GoesBy e0 rest (entry_at (receive_octets d octets).day.entries i)
-goes_octets rows assigned t i e0 octets rest d h spares g = at (said_in octets) refl g
+goes_octets rows assigned t i e0 octets rest d h spares g = at (said_in_octets octets) refl g
   where
     e : Entry
     e = entry_at d.entries i
 
-    at : (o : Option Said) → said_in octets ≡ o → GoesBy e0 (octets ∷ rest) e → GoesBy e0 rest (entry_at (receive_octets d octets).day.entries i)
+    at : (o : Option Said) → said_in_octets octets ≡ o → GoesBy e0 (octets ∷ rest) e → GoesBy e0 rest (entry_at (receive_octets d octets).day.entries i)
     at None is (None_on idle) = heard_none (GoesBy e0 rest) d octets i is (None_on idle)
     at None is (Begun going awake) = heard_none (GoesBy e0 rest) d octets i is (Begun going awake)
     at None is (Enquired asked named told) = heard_none (GoesBy e0 rest) d octets i is (Enquired asked named (told_rest (λ x. true) e0 octets rest None is refl told))

@@ -36,8 +36,8 @@ abbrev pub said_read : Result PlainMessage MessageFault → Option Said
 said_read (Err fault) = None
 said_read (Ok m) = said_by m m.reference
 
-abbrev pub said_in : List ℕ → Option Said
-said_in octets = said_read (message_at octets)
+abbrev pub said_in_octets : List ℕ → Option Said
+said_in_octets octets = said_read (message_at octets)
 
 -- whether this is said to the call of a booking, and passes a test
 abbrev pub tells : (Heard → Bool) → Entry → Option Said → Bool
@@ -46,7 +46,7 @@ tells test e (Some m) = names m e && test m.heard
 
 -- whether one of these is
 abbrev pub is_told : (Heard → Bool) → Entry → List (List ℕ) → Bool
-is_told test e received = list_any (λ octets. tells test e (said_in octets)) received
+is_told test e received = list_any (λ octets. tells test e (said_in_octets octets)) received
 
 -- ---- kinds of answers
 
@@ -100,7 +100,7 @@ contradicts _ m = false
 
 -- octets that clear no call which goes on
 abbrev pub Spares : List ℕ → Day → Type 0
-Spares octets d = (i : ℕ) → is_going (standing_at d i) ≡ true → tells (λ m. clears_by (entry_at d.entries i).channel m m.kind || contradicts (standing_at d i) m) (entry_at d.entries i) (said_in octets) ≡ false
+Spares octets d = (i : ℕ) → is_going (standing_at d i) ≡ true → tells (λ m. clears_by (entry_at d.entries i).channel m m.kind || contradicts (standing_at d i) m) (entry_at d.entries i) (said_in_octets octets) ≡ false
 
 -- each of these, as they come
 abbrev pub SparesAll : List (List ℕ) → Day → Type 0

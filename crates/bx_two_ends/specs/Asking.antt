@@ -25,9 +25,9 @@ abbrev pub call_after : ℕ → ℕ → ℕ → Next PlainNetCall → Next Plain
 call_after zero t end next = next
 call_after (suc n) t end next = call_after n (t + 1) end (next_second (t + 1) end next)
 
-abbrev pub is_up : Next PlainNetCall → Bool
-is_up (Live call) = is_active call.state
-is_up _ = false
+abbrev pub is_call_up : Next PlainNetCall → Bool
+is_call_up (Live call) = is_active call.state
+is_call_up _ = false
 
 -- the user is asked, or is to be
 abbrev pub is_asked : NetState → Bool

@@ -17,8 +17,8 @@ use Rattle.bx_q931.specs.declared.kind.Kind.TheVariants.{Status}
 use Rattle.bx_records.specs.Totals as totals
 use Rattle.bx_records.specs.Totals.{pays_of}
 use Rattle.bx_two_ends.specs.Answering.{AnswersAll, ClearsAll}
-use Rattle.bx_two_ends.specs.Asking.{call_after, is_up, is_asked}
-use Rattle.bx_two_ends.specs.Earning.{LiveSecond, Linked, events_of, AreAnswered, AreCleared, HasSeconds, IsSettledDay, HasSecondsFrom, IsCalled, IsTalking, IsLongEnough, IsPunctual, IsCarriedBy, IsDayOf, HaveSeconds, AreLongEnough}
+use Rattle.bx_two_ends.specs.Asking.{call_after, is_call_up, is_asked}
+use Rattle.bx_two_ends.specs.Earning.{LiveSecond, Linked, events_of, AreAnswered, AreCleared, HasSeconds, IsSettledDay, HasSecondsFrom, IsCalled, IsTalking, IsLongEnough, IsPunctual, IsCarriedBy, IsDayOfPlan, HaveSeconds, AreLongEnough}
 
 -- ---- calls that are asked for
 
@@ -27,7 +27,7 @@ abbrev pub IsGivenUpInVain : Type 0
 IsGivenUpInVain =
     (call : PlainNetCall) (t end : ℕ) →
     is_active call.state ≡ true →
-    is_up (call_after 9 t end (net_unlinked 1 call t end).next) ≡ false
+    is_call_up (call_after 9 t end (net_unlinked 1 call t end).next) ≡ false
 
 -- where the far end reports a call state that does not fit N10, the call that is asked for is given up at once
 abbrev pub IsGivenUpAsReported : Type 0
@@ -37,7 +37,7 @@ IsGivenUpAsReported =
     m.kind ≡ Status →
     m.state ≡ Some state →
     fits_active call.origin state ≡ false →
-    is_up (net_message call m t).next ≡ false
+    is_call_up (net_message call m t).next ≡ false
 
 -- ---- the plan
 
@@ -47,7 +47,7 @@ KeepsPlan =
     (rows : List Row) (channels : List Bool) (assigned : List (Option ℕ)) (events : List LiveEvent) →
     AreBookings rows →
     Carries rows channels (is_accepted assigned) (channel_at assigned) →
-    IsDayOf rows assigned (live_day_after events (opening rows assigned))
+    IsDayOfPlan rows assigned (live_day_after events (opening rows assigned))
 
 -- ---- what is planned is carried
 

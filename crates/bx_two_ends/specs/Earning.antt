@@ -82,7 +82,7 @@ pub record IsCleared (called left : Day) : Type 0 where
   pub kept : (i : ℕ) → is_going (standing_at called i) ≡ true → is_live (standing_at left i) ≡ true
 
 -- and no SETUP waits for its answer
-pub record IsAnswered (called left : Day) : Type 0 where
+pub record IsAllAnswered (called left : Day) : Type 0 where
   pub settled : (i : ℕ) → OnLive (standing_at left i) (λ call a. is_settled call ≡ true)
   pub kept : (i : ℕ) → is_going (standing_at called i) ≡ true → is_live (standing_at left i) ≡ true
 
@@ -96,7 +96,7 @@ abbrev pub AreCleared : List LiveSecond → Day → Type 0
 AreCleared seconds d = EachTurn IsCleared seconds d
 
 abbrev pub AreAnswered : List LiveSecond → Day → Type 0
-AreAnswered seconds d = EachTurn IsAnswered seconds d
+AreAnswered seconds d = EachTurn IsAllAnswered seconds d
 
 -- ---- an outward booking that can be carried
 
@@ -198,7 +198,7 @@ IsCarriedBy moment end (Carried from until) = (from ≤ moment) × (until ≡ en
 IsCarriedBy moment end _ = ⊥
 
 -- what no event changes of a day: the bookings of the plan, and which of them it accepts
-pub record IsDayOf (rows : List Row) (assigned : List (Option ℕ)) (d : Day) : Type 0 where
+pub record IsDayOfPlan (rows : List Row) (assigned : List (Option ℕ)) (d : Day) : Type 0 where
   pub size : length d.entries ≡ length rows
   pub booking : (i : ℕ) → i < length rows → (entry_at d.entries i).booking ≡ row_at rows i
   pub accepted : (i : ℕ) → i < length rows → is_refused (standing_at d i) ≡ not (is_accepted assigned i)

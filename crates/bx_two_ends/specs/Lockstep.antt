@@ -40,18 +40,18 @@ pub record Ends : Type 0 where
   pub pending : List Outgoing
 
 -- the far end after the messages of the exchange's tick, and after its own
-abbrev pub far_called : Ends → FarDay
-far_called e = far_heard (tick e.exchange).sent e.far
+abbrev pub far_after_calls : Ends → FarDay
+far_after_calls e = far_heard (tick e.exchange).sent e.far
 
 abbrev pub far_turned : Ends → FarDay
-far_turned e = (far_tick (far_called e)).day
+far_turned e = (far_tick (far_after_calls e)).day
 
 -- what comes to the exchange in a turn
 abbrev pub received_in : Ends → List Outgoing
-received_in e = e.pending ++ (far_says (tick e.exchange).sent e.far ++ (far_tick (far_called e)).sent)
+received_in e = e.pending ++ (far_says (tick e.exchange).sent e.far ++ (far_tick (far_after_calls e)).sent)
 
-abbrev pub octets_in : Ends → List (List ℕ)
-octets_in e = map (λ o. out_octets o) (received_in e)
+abbrev pub octets_received : Ends → List (List ℕ)
+octets_received e = map (λ o. out_octets o) (received_in e)
 
 -- and what it says to that
 abbrev pub replies_in : Ends → List Outgoing
@@ -59,7 +59,7 @@ replies_in e = exchange_says (received_in e) (tick e.exchange).day
 
 abbrev pub ends_after : Ends → Ends
 ends_after e = record {
-  exchange = heard_in (octets_in e) (tick e.exchange).day;
+  exchange = heard_in (octets_received e) (tick e.exchange).day;
   far = far_heard (replies_in e) (far_turned e);
   pending = far_says (replies_in e) (far_turned e);
 }
@@ -67,7 +67,7 @@ ends_after e = record {
 -- what comes in so many turns
 abbrev pub turns_from : ℕ → Ends → List LiveSecond
 turns_from zero e = []
-turns_from (suc n) e = Linked (octets_in e) ∷ turns_from n (ends_after e)
+turns_from (suc n) e = Linked (octets_received e) ∷ turns_from n (ends_after e)
 
 abbrev pub ends_opening : List Row → List (Option ℕ) → List ScriptRow → Ends
 ends_opening rows assigned script = record { exchange = opening rows assigned; far = far_opening script; pending = [] }

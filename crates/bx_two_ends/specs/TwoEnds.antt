@@ -56,8 +56,8 @@ abbrev pub is_acknowledge : Kind → Bool
 is_acknowledge ConnectAcknowledge = true
 is_acknowledge _ = false
 
-abbrev pub acknowledges : ℕ → Outgoing → Bool
-acknowledges r o = (o.reference == r) && not o.flag && is_acknowledge o.kind
+abbrev pub acknowledges_call : ℕ → Outgoing → Bool
+acknowledges_call r o = (o.reference == r) && not o.flag && is_acknowledge o.kind
 
 -- no two of these calls are on one channel
 abbrev pub AreOnTheirOwn : List PlainUserCall → Type 0
@@ -75,7 +75,7 @@ pub record IsTwoEnds (rows : List Row) (w : World) : Type 0 where
   pub apart : (i j : ℕ) → i < j → j < length rows → OnLive (standing_at w.exchange i) (λ call a. OnLive (standing_at w.exchange j) (λ other b. call.channel ≢ other.channel))
   pub far_apart : AreOnTheirOwn w.far.calls
   -- a call that the exchange began is Active at the far end only where the exchange acknowledged its CONNECT
-  pub acknowledged : AllByRecursion (λ (call : PlainUserCall). user_flag call.origin ≡ true → IsUserActive call.state → list_any (acknowledges call.reference) w.sent ≡ true) w.far.calls
+  pub acknowledged : AllByRecursion (λ (call : PlainUserCall). user_flag call.origin ≡ true → IsUserActive call.state → list_any (acknowledges_call call.reference) w.sent ≡ true) w.far.calls
 
 -- of every carried plan, every script, and every list of events
 abbrev pub TwoEnds : Type 0

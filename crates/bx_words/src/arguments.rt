@@ -89,7 +89,7 @@ pub const JOURNAL: Argument = Argument {
     help: "The file of the journal of the plan's day",
 };
 
-pub const RECORDED_JOURNAL: Argument = Argument {
+pub const LOGGED_JOURNAL: Argument = Argument {
     name: "journal",
     value: "JOURNAL",
     form: Form::Place,
@@ -299,7 +299,7 @@ pub const QUIET: Argument = Argument {
     help: "Show no progress, which else stands on standard error where that is a terminal",
 };
 
-pub const RECORDED_DAY: Argument = Argument {
+pub const LOGGED_DAY: Argument = Argument {
     name: "date",
     value: "DATE",
     form: Form::Optional,

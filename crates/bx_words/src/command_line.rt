@@ -2,10 +2,10 @@
 
 use crate::arguments::{
     Argument, BOOKINGS, CAPTURE, CAPTURED_DAY, CHANNELS, DATE, DAY, DAY_ZONE, DRAWN_JOURNAL, END,
-    FAR_DAY, FAR_LINE, FAR_PACE, FAR_TURNS, INWARD, JOURNAL, KEPT_JOURNAL, LIVE, NEW_JOURNAL,
-    NO_TOTALS, OCTETS, OFFICE, OFFICE_PORT, PACE, PICTURED_DAY, PLAN, PORT, QUIET, RECORDED_DAY,
-    RECORDED_JOURNAL, RECORDS, ROW, SCRIPT, SEEN_DAY, SERVED_DAY, SERVED_LINE, SOCKET, START,
-    TURNS, ZONE, arg_of,
+    FAR_DAY, FAR_LINE, FAR_PACE, FAR_TURNS, INWARD, JOURNAL, KEPT_JOURNAL, LIVE, LOGGED_DAY,
+    LOGGED_JOURNAL, NEW_JOURNAL, NO_TOTALS, OCTETS, OFFICE, OFFICE_PORT, PACE, PICTURED_DAY, PLAN,
+    PORT, QUIET, RECORDS, ROW, SCRIPT, SEEN_DAY, SERVED_DAY, SERVED_LINE, SOCKET, START, TURNS,
+    ZONE, arg_of,
 };
 use clap::Command;
 use std::alloc::{AllocError, Global};
@@ -142,12 +142,12 @@ static DAY_COMMANDS: [Words; 7] = [
     Words {
         name: "records",
         about: "Print the records of a proved plan's day by its journal, as CSV for bills and spreadsheets, and their totals",
-        arguments: &[PLAN, RECORDED_JOURNAL, RECORDED_DAY, DAY_ZONE, NO_TOTALS],
+        arguments: &[PLAN, LOGGED_JOURNAL, LOGGED_DAY, DAY_ZONE, NO_TOTALS],
     },
     Words {
         name: "sold",
         about: "Print the last plan of a proved plan's day by its journal: its bookings, and after them those that were sold while it ran",
-        arguments: &[PLAN, RECORDED_JOURNAL],
+        arguments: &[PLAN, LOGGED_JOURNAL],
     },
     Words {
         name: "decode",

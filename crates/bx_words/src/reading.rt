@@ -337,14 +337,6 @@ fn records_request<'a>(matches: &ArgMatches<'a>) -> RecordsRequest<'a> {
     }
 }
 
-/// The last plan that these words want of a day by its journal.
-fn sold_request<'a>(matches: &ArgMatches<'a>) -> SoldRequest<'a> {
-    SoldRequest {
-        plan: word(matches, "plan"),
-        journal: word(matches, "journal"),
-    }
-}
-
 /// The picture that these words want of a day by its journal, where they name one.
 fn day_chart_request<'a>(matches: &ArgMatches<'a>) -> Option<Request<'a>> {
     let journal = matches.get_str("journal")?;
@@ -353,6 +345,14 @@ fn day_chart_request<'a>(matches: &ArgMatches<'a>) -> Option<Request<'a>> {
         journal,
         day: day_of(matches),
     }))
+}
+
+/// The last plan that these words want of a day by its journal.
+fn sold_request<'a>(matches: &ArgMatches<'a>) -> SoldRequest<'a> {
+    SoldRequest {
+        plan: word(matches, "plan"),
+        journal: word(matches, "journal"),
+    }
 }
 
 /// The command on a plan's day that has this name and these words, where it is one.

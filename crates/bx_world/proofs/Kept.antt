@@ -4,26 +4,26 @@ use Rattle.std.proofs.lemmas.List.{append-nil, append_assoc, take-append-le}
 use Rattle.bx_events.specs.Events.{LiveEvent, OnLink, Receive}
 use Rattle.bx_day.specs.Day.{Day}
 use Rattle.bx_journal.specs.Disk.{LeavesOnly}
-use Rattle.bx_journal.specs.Recording.{IsSettled, IsPending, IsPrefix}
+use Rattle.bx_journal.specs.Logging.{IsSettled, IsPending, IsPrefix}
 use Rattle.bx_journal.proofs.Prefixes.{leaves_then}
 use Rattle.bx_journal.proofs.Moments.{started, weaker}
-use Rattle.bx_journal.proofs.Recorded.{pending}
+use Rattle.bx_journal.proofs.Logged.{pending}
 use Rattle.bx_journal.specs.declared.head.Head.{Head}
-use Rattle.bx_live.specs.Acts.{Act, Began, Dropped, Recorded, Synced, Wrote, Read, Took, EndedDay, recorded}
-use Rattle.bx_live.specs.Runs.{Place, Between, Recording, Receiving, Taking, Owing, Over, Closing, IsDue, IsRun, next}
+use Rattle.bx_live.specs.Acts.{Act, Began, Dropped, Logged, Synced, Wrote, Read, Took, EndedDay, logged_by}
+use Rattle.bx_live.specs.Runs.{Place, Between, Logging, Receiving, Owing, Over, Closing, IsDue, IsRun, next}
 use Rattle.bx_live.specs.Written.{Filed, filed, filed_by}
 use Rattle.bx_live.proofs.Due.{by_due}
 use Rattle.bx_live.proofs.Onward.{filed_law, written_law}
 use Rattle.bx_live_parts.specs.Chains.{Chain, chain_one, chain_first}
-use Rattle.bx_world.specs.Kept.{keeps_record, asked, Knows, IsSafe}
-use Rattle.bx_live_parts.specs.Records.{OnDisk}
+use Rattle.bx_world.specs.Kept.{keeps_log, asked, Knows, IsSafe}
+use Rattle.bx_live_parts.specs.Logs.{OnDisk}
 
 -- ---- what failed is the last act of a run
 
 abbrev LastFails : List Act → Type 0
 LastFails [] = Unit {0}
-LastFails (Recorded event true ∷ acts) = LastFails acts
-LastFails (Recorded event false ∷ acts) = acts ≡ []
+LastFails (Logged event true ∷ acts) = LastFails acts
+LastFails (Logged event false ∷ acts) = acts ≡ []
 LastFails (Synced true ∷ acts) = LastFails acts
 LastFails (Synced false ∷ acts) = acts ≡ []
 LastFails (act ∷ acts) = LastFails acts
@@ -32,7 +32,7 @@ over_none : (d : Day) (acts : List Act) (to : Place) → IsRun (Over d) acts to 
 over_none d [] to e = refl
 over_none d (Began second begin ∷ acts) to (due, goes) = absurd due
 over_none d (Dropped loss ∷ acts) to (due, goes) = absurd due
-over_none d (Recorded event done ∷ acts) to (due, goes) = absurd due
+over_none d (Logged event done ∷ acts) to (due, goes) = absurd due
 over_none d (Synced done ∷ acts) to (due, goes) = absurd due
 over_none d (Wrote octets done ∷ acts) to (due, goes) = absurd due
 over_none d (Read room answer ∷ acts) to (due, goes) = absurd due
@@ -41,17 +41,17 @@ over_none d (EndedDay ∷ acts) to (due, goes) = absurd due
 
 -- a failed act leads to where nothing is due
 abbrev pub Stops : Place → Act → Type 0
-Stops p (Recorded event false) = (d : Day) × (next p (Recorded event false) ≡ Over d)
+Stops p (Logged event false) = (d : Day) × (next p (Logged event false) ≡ Over d)
 Stops p (Synced false) = (d : Day) × (next p (Synced false) ≡ Over d)
 Stops p act = Unit {0}
 
 pub stops : (p : Place) (act : Act) → IsDue p act → Stops p act
-stops = by_due Stops (λ d begin. tt) stops_recorded stops_received (λ d room owed message. tt) stops_synced (λ d room text texts done. tt) (λ d room answer. tt) (λ d loss. tt) stops_closed stops_ended (λ d. tt) where
-  stops_recorded : (d : Day) (room : ℕ) (event : LiveEvent) (done : Bool) → Stops (Recording d room event) (Recorded event done)
-  stops_recorded d room event true = tt
-  stops_recorded d room event false = (d, refl)
+stops = by_due Stops (λ d begin. tt) stops_logged stops_received (λ d room owed message. tt) stops_synced (λ d room text texts done. tt) (λ d room answer. tt) (λ d loss. tt) stops_closed stops_ended (λ d. tt) where
+  stops_logged : (d : Day) (room : ℕ) (event : LiveEvent) (done : Bool) → Stops (Logging d room event) (Logged event done)
+  stops_logged d room event true = tt
+  stops_logged d room event false = (d, refl)
 
-  stops_received : (d : Day) (room : ℕ) (owed : List (List ℕ)) (octets : List ℕ) (done : Bool) → Stops (Receiving d room owed octets) (Recorded (OnLink (Receive octets)) done)
+  stops_received : (d : Day) (room : ℕ) (owed : List (List ℕ)) (octets : List ℕ) (done : Bool) → Stops (Receiving d room owed octets) (Logged (OnLink (Receive octets)) done)
   stops_received d room owed octets true = tt
   stops_received d room owed octets false = (d, refl)
 
@@ -72,8 +72,8 @@ stopped p act acts to d e goes = over_none d acts to (subst (λ (x : Place). IsR
 
 last_fails : (p to : Place) (acts : List Act) → IsRun p acts to → LastFails acts
 last_fails p to [] e = tt
-last_fails p to (Recorded event true ∷ acts) (due, goes) = last_fails (next p (Recorded event true)) to acts goes
-last_fails p to (Recorded event false ∷ acts) (due, goes) = let s = stops p (Recorded event false) due in stopped p (Recorded event false) acts to s.0 s.1 goes
+last_fails p to (Logged event true ∷ acts) (due, goes) = last_fails (next p (Logged event true)) to acts goes
+last_fails p to (Logged event false ∷ acts) (due, goes) = let s = stops p (Logged event false) due in stopped p (Logged event false) acts to s.0 s.1 goes
 last_fails p to (Synced true ∷ acts) (due, goes) = last_fails (next p (Synced true)) to acts goes
 last_fails p to (Synced false ∷ acts) (due, goes) = let s = stops p (Synced false) due in stopped p (Synced false) acts to s.0 s.1 goes
 last_fails p to (Began second begin ∷ acts) (due, goes) = last_fails (next p (Began second begin)) to acts goes
@@ -84,10 +84,10 @@ last_fails p to (Took message ∷ acts) (due, goes) = last_fails (next p (Took m
 last_fails p to (EndedDay ∷ acts) (due, goes) = last_fails (next p EndedDay) to acts goes
 
 -- the same of what stands after some acts
-after_fails : (before following : List Act) → LastFails (before ++ following) → keeps_record before ≡ true → LastFails following
+after_fails : (before following : List Act) → LastFails (before ++ following) → keeps_log before ≡ true → LastFails following
 after_fails [] following fails kept = fails
-after_fails (Recorded event true ∷ before) following fails kept = after_fails before following fails kept
-after_fails (Recorded event false ∷ before) following fails kept = cc
+after_fails (Logged event true ∷ before) following fails kept = after_fails before following fails kept
+after_fails (Logged event false ∷ before) following fails kept = cc
 after_fails (Synced true ∷ before) following fails kept = after_fails before following fails kept
 after_fails (Synced false ∷ before) following fails kept = cc
 after_fails (Began second begin ∷ before) following fails kept = after_fails before following fails kept
@@ -102,10 +102,10 @@ not_none [] ys y e = cc
 not_none (x ∷ xs) ys y e = cc
 
 -- where something follows, nothing failed
-kept_before : (before following : List Act) (act : Act) → LastFails (before ++ act ∷ following) → keeps_record before ≡ true
+kept_before : (before following : List Act) (act : Act) → LastFails (before ++ act ∷ following) → keeps_log before ≡ true
 kept_before [] following act fails = refl
-kept_before (Recorded event true ∷ before) following act fails = kept_before before following act fails
-kept_before (Recorded event false ∷ before) following act fails = absurd (not_none before following act fails)
+kept_before (Logged event true ∷ before) following act fails = kept_before before following act fails
+kept_before (Logged event false ∷ before) following act fails = absurd (not_none before following act fails)
 kept_before (Synced true ∷ before) following act fails = kept_before before following act fails
 kept_before (Synced false ∷ before) following act fails = absurd (not_none before following act fails)
 kept_before (Began second begin ∷ before) following act fails = kept_before before following act fails
@@ -156,12 +156,12 @@ module _ {D : Type 0} (holds may_leave : D → List ℕ → Type 0) (moment : D 
   synced_holds : (f : Filed) (disk : D) → IsPending holds may_leave disk head ((earlier ++ f.disk) ++ f.more) [] → Holds (record { disk = f.disk ++ f.more; more = [] }) disk
   synced_holds f disk p = subst (λ (es : List LiveEvent). IsPending holds may_leave disk head es []) (append_assoc earlier f.disk f.more) p
 
-  held_on : (acts : List Act) (f : Filed) (u v : D) → keeps_record acts ≡ true → Chain Step u acts v → Holds f u → Holds (filed_by acts f) v
+  held_on : (acts : List Act) (f : Filed) (u v : D) → keeps_log acts ≡ true → Chain Step u acts v → Holds f u → Holds (filed_by acts f) v
   held_on [] f u v kept e h = subst (λ (x : D). Holds f x) e h
-  held_on (Recorded event true ∷ acts) f u v kept chain h =
-      let (mid, writes, more) = chain_first Step u v (Recorded event true) acts chain in
+  held_on (Logged event true ∷ acts) f u v kept chain h =
+      let (mid, writes, more) = chain_first Step u v (Logged event true) acts chain in
       held_on acts (record { disk = f.disk; more = f.more ++ event ∷ [] }) mid v kept more (writes.written refl head (earlier ++ f.disk) f.more h)
-  held_on (Recorded event false ∷ acts) f u v kept chain h = cc
+  held_on (Logged event false ∷ acts) f u v kept chain h = cc
   held_on (Synced true ∷ acts) f u v kept chain h =
       let (mid, commits, more) = chain_first Step u v (Synced true) acts chain in
       held_on acts (record { disk = f.disk ++ f.more; more = [] }) mid v kept more (synced_holds f mid (commits.committed refl head (earlier ++ f.disk) f.more h))
@@ -182,14 +182,14 @@ module _ {D : Type 0} (holds may_leave : D → List ℕ → Type 0) (moment : D 
 
   leaves_on : (acts : List Act) (f : Filed) (u v : D) → LastFails acts → Chain Step u acts v → Holds f u → Leaves f acts u v
   leaves_on [] f u v fails e h = subst (λ (x : D). LeavesOnly moment left_since u x (IsPrefix head (earlier ++ f.disk) (f.more ++ []))) e (weaker moment left_since u u _ _ (at_once f u h) (λ c prefix. longer_by head (earlier ++ f.disk) f.more [] c prefix))
-  leaves_on (Recorded event true ∷ acts) f u v fails chain h =
-      let (mid, writes, more) = chain_first Step u v (Recorded event true) acts chain in
+  leaves_on (Logged event true ∷ acts) f u v fails chain h =
+      let (mid, writes, more) = chain_first Step u v (Logged event true) acts chain in
       let rest = leaves_on acts (record { disk = f.disk; more = f.more ++ event ∷ [] }) mid v fails more (writes.written refl head (earlier ++ f.disk) f.more h) in
       let all : (f.more ++ event ∷ []) ++ asked acts ≡ f.more ++ event ∷ asked acts = append_assoc f.more (event ∷ []) (asked acts) in
       subst (λ (es : List LiveEvent). LeavesOnly moment left_since u v (IsPrefix head (earlier ++ f.disk) es)) all
       (leaves_then moment left_since u mid v _ _ (weaker moment left_since u mid _ _ (writes.any_moment head (earlier ++ f.disk) f.more h) (λ c prefix. longer_by head (earlier ++ f.disk) (f.more ++ event ∷ []) (asked acts) c prefix)) rest (λ c prefix. prefix))
-  leaves_on (Recorded event false ∷ acts) f u v fails chain h =
-      let writes = subst (λ (xs : List Act). Chain Step u (Recorded event false ∷ xs) v) fails chain in
+  leaves_on (Logged event false ∷ acts) f u v fails chain h =
+      let writes = subst (λ (xs : List Act). Chain Step u (Logged event false ∷ xs) v) fails chain in
       subst (λ (xs : List Act). LeavesOnly moment left_since u v (IsPrefix head (earlier ++ f.disk) (f.more ++ event ∷ asked xs))) (sym fails) (writes.any_moment head (earlier ++ f.disk) f.more h)
   leaves_on (Synced true ∷ acts) f u v fails chain h =
       let (mid, commits, more) = chain_first Step u v (Synced true) acts chain in
@@ -224,24 +224,24 @@ module _ {D : Type 0} (holds may_leave : D → List ℕ → Type 0) (moment : D 
   at_first : (first : D) → IsSettled holds may_leave first head earlier → Holds nothing_filed first
   at_first first settled = subst (λ (es : List LiveEvent). IsPending holds may_leave first head es []) (sym (append-nil earlier)) (pending holds may_leave first head earlier settled)
 
-  pub prefix_law : (first mid last : D) (before following : List Act) (d : Day) (to : Place) → IsSettled holds may_leave first head earlier → IsRun (Between d) (before ++ following) to → keeps_record before ≡ true
+  pub prefix_law : (first mid last : D) (before following : List Act) (d : Day) (to : Place) → IsSettled holds may_leave first head earlier → IsRun (Between d) (before ++ following) to → keeps_log before ≡ true
       → Chain Step first before mid → Chain Step mid following last → LeavesOnly moment left_since mid last (IsPrefix head (earlier ++ (filed before).disk) ((filed before).more ++ asked following))
   prefix_law first mid last before following d to settled run kept so_far rest =
       leaves_on following (filed before) mid last (after_fails before following (last_fails (Between d) to (before ++ following) run) kept) rest (held_on before nothing_filed first mid kept so_far (at_first first settled))
 
-  pub moments_law : (first last : D) (before following : List Act) (d : Day) (to : Place) → IsSettled holds may_leave first head earlier → IsRun (Between d) (before ++ following) to → keeps_record before ≡ true
+  pub moments_law : (first last : D) (before following : List Act) (d : Day) (to : Place) → IsSettled holds may_leave first head earlier → IsRun (Between d) (before ++ following) to → keeps_log before ≡ true
       → Chain Step first (before ++ following) last → (mid : D) × Chain Step first before mid × LeavesOnly moment left_since mid last (IsPrefix head (earlier ++ (filed before).disk) ((filed before).more ++ asked following))
   moments_law first last before following d to settled run kept chain =
       let cut = chain_split Step first last before following chain in
       (cut.0, cut.1, prefix_law first cut.0 last before following d to settled run kept cut.1 cut.2)
 
-  known_all : (u v : D) (acts more : List Act) → (filed acts).more ≡ [] → LeavesOnly moment left_since u v (IsPrefix head (earlier ++ (filed acts).disk) ((filed acts).more ++ asked more)) → LeavesOnly moment left_since u v (Knows head (earlier ++ recorded acts))
+  known_all : (u v : D) (acts more : List Act) → (filed acts).more ≡ [] → LeavesOnly moment left_since u v (IsPrefix head (earlier ++ (filed acts).disk) ((filed acts).more ++ asked more)) → LeavesOnly moment left_since u v (Knows head (earlier ++ logged_by acts))
   known_all u v acts more none leaves =
-      let all : (filed acts).disk ≡ recorded acts = sym (append-nil (filed acts).disk) ∙ (ap (λ (es : List LiveEvent). (filed acts).disk ++ es) (sym none) ∙ filed_law acts) in
+      let all : (filed acts).disk ≡ logged_by acts = sym (append-nil (filed acts).disk) ∙ (ap (λ (es : List LiveEvent). (filed acts).disk ++ es) (sym none) ∙ filed_law acts) in
       weaker moment left_since u v _ _ leaves (λ c prefix. subst (λ (es : List LiveEvent). Knows head (earlier ++ es) c) all (known head (earlier ++ (filed acts).disk) ((filed acts).more ++ asked more) c prefix))
 
   pub safe_law : (first mid last : D) (before following : List Act) (octets : List ℕ) (done : Bool) (d : Day) (to : Place) → IsSettled holds may_leave first head earlier → IsRun (Between d) (before ++ Wrote octets done ∷ following) to
-      → Chain Step first before mid → Chain Step mid (Wrote octets done ∷ following) last → IsSafe d before octets (LeavesOnly moment left_since mid last (Knows head (earlier ++ recorded before)))
+      → Chain Step first before mid → Chain Step mid (Wrote octets done ∷ following) last → IsSafe d before octets (LeavesOnly moment left_since mid last (Knows head (earlier ++ logged_by before)))
   safe_law first mid last before following octets done d to settled run so_far rest =
       let belongs = written_law d before following octets done to run in
       let fails = last_fails (Between d) to (before ++ Wrote octets done ∷ following) run in

@@ -2,14 +2,14 @@
 use Rattle.std.proofs.Common.{◌≡◌, List, [], ◌∷◌, refl, sym, subst, false, Option, Some, None}
 use Rattle.bx_frames.specs.declared.fault.LinkFault.{LinkFault}
 use Rattle.bx_live.specs.declared.world.Begin.{Begin}
-use Rattle.bx_live.specs.Acts.{Act, Began, Dropped, Recorded, Synced, Wrote, Read, Took, EndedDay, ended}
+use Rattle.bx_live.specs.Acts.{Act, Began, Dropped, Logged, Synced, Wrote, Read, Took, EndedDay, ended}
 use Rattle.bx_live_parts.specs.Chains.{Chain, chain_first}
 use Rattle.bx_world.specs.Rehearsals.{OnLost, fault_of}
 
 still : (was : LinkFault) (act : Act) (lost : Option LinkFault) → OnLost (Some was) act lost → (fault : LinkFault) × (lost ≡ Some fault)
 still was (Began second begin) lost p = (was, p.0)
 still was (Dropped loss) lost p = (fault_of loss, p)
-still was (Recorded event done) lost p = (was, p)
+still was (Logged event done) lost p = (was, p)
 still was (Synced done) lost p = (was, p)
 still was (Wrote octets done) lost p = (was, p)
 still was (Read room answer) lost p = (was, p)
@@ -31,8 +31,8 @@ none_ended None lost (Began second begin ∷ acts) chain none =
     subst (λ (b : Begin). ended (Began second b ∷ acts) ≡ false) (sym step.1) (none_ended mid lost acts more none)
 none_ended None lost (Dropped loss ∷ acts) chain none =
     let (mid, step, more) = chain_first OnLost None lost (Dropped loss) acts chain in none_ended mid lost acts more none
-none_ended None lost (Recorded event done ∷ acts) chain none =
-    let (mid, step, more) = chain_first OnLost None lost (Recorded event done) acts chain in none_ended mid lost acts more none
+none_ended None lost (Logged event done ∷ acts) chain none =
+    let (mid, step, more) = chain_first OnLost None lost (Logged event done) acts chain in none_ended mid lost acts more none
 none_ended None lost (Synced done ∷ acts) chain none =
     let (mid, step, more) = chain_first OnLost None lost (Synced done) acts chain in none_ended mid lost acts more none
 none_ended None lost (Wrote octets done ∷ acts) chain none =

@@ -7,20 +7,20 @@ use Rattle.bx_day.specs.Outages.{live_day_after}
 use Rattle.bx_journal.specs.Heads.{wanted_of}
 use Rattle.bx_journal.specs.Reading.{recovered}
 use Rattle.bx_journal.specs.declared.head.Head.{Head}
-use Rattle.bx_live.specs.Acts.{Act, Recorded, Synced}
+use Rattle.bx_live.specs.Acts.{Act, Logged, Synced}
 use Rattle.bx_live.specs.Written.{IsWrittenFor}
 
 -- no event could not be logged, and no sync failed
-abbrev pub keeps_record : List Act → Bool
-keeps_record [] = true
-keeps_record (Recorded event done ∷ acts) = done && keeps_record acts
-keeps_record (Synced done ∷ acts) = done && keeps_record acts
-keeps_record (act ∷ acts) = keeps_record acts
+abbrev pub keeps_log : List Act → Bool
+keeps_log [] = true
+keeps_log (Logged event done ∷ acts) = done && keeps_log acts
+keeps_log (Synced done ∷ acts) = done && keeps_log acts
+keeps_log (act ∷ acts) = keeps_log acts
 
 -- the events that were to be logged
 abbrev pub asked : List Act → List LiveEvent
 asked [] = []
-asked (Recorded event done ∷ acts) = event ∷ asked acts
+asked (Logged event done ∷ acts) = event ∷ asked acts
 asked (act ∷ acts) = asked acts
 
 -- what a crash left has these events at its start

@@ -5,14 +5,14 @@ use Rattle.bx_day.specs.Day.{Day}
 use Rattle.bx_frames.specs.declared.fault.LinkFault.{LinkFault}
 use Rattle.bx_frames.specs.declared.frame.Frame.{Frame}
 use Rattle.bx_journal.specs.Disk.{LeavesOnly}
-use Rattle.bx_journal.specs.Recording.{IsSettled, IsPrefix}
+use Rattle.bx_journal.specs.Logging.{IsSettled, IsPrefix}
 use Rattle.bx_journal.specs.declared.head.Head.{Head}
-use Rattle.bx_live.specs.Acts.{Act, Wrote, recorded, ended}
+use Rattle.bx_live.specs.Acts.{Act, Wrote, logged_by, ended}
 use Rattle.bx_live.specs.Runs.{Place, Between, IsRun}
 use Rattle.bx_live.specs.Written.{filed}
 use Rattle.bx_live_parts.specs.Chains.{Chain}
-use Rattle.bx_live_parts.specs.Records.{OnDisk}
-use Rattle.bx_world.specs.Kept.{keeps_record, asked, Knows, IsSafe}
+use Rattle.bx_live_parts.specs.Logs.{OnDisk}
+use Rattle.bx_world.specs.Kept.{keeps_log, asked, Knows, IsSafe}
 use Rattle.bx_world.specs.Rehearsals.{Rehearses}
 use Rattle.bx_world.specs.declared.rehearsal.Rehearsal.{Rehearsal}
 
@@ -24,7 +24,7 @@ LeavesPrefixOfRun {D} holds may_leave moment left_since has_failed =
     (head : Head) (earlier : List LiveEvent) (first mid last : D) (before following : List Act) (d : Day) (to : Place) →
     IsSettled holds may_leave first head earlier →
     IsRun (Between d) (before ++ following) to →
-    keeps_record before ≡ true →
+    keeps_log before ≡ true →
     Chain (OnDisk holds may_leave moment left_since has_failed) first before mid →
     Chain (OnDisk holds may_leave moment left_since has_failed) mid following last →
     LeavesOnly moment left_since mid last (IsPrefix head (earlier ++ (filed before).disk) ((filed before).more ++ asked following))
@@ -36,7 +36,7 @@ HasMomentOfRun {D} holds may_leave moment left_since has_failed =
     (head : Head) (earlier : List LiveEvent) (first last : D) (before following : List Act) (d : Day) (to : Place) →
     IsSettled holds may_leave first head earlier →
     IsRun (Between d) (before ++ following) to →
-    keeps_record before ≡ true →
+    keeps_log before ≡ true →
     Chain (OnDisk holds may_leave moment left_since has_failed) first (before ++ following) last →
     (mid : D) ×
     Chain (OnDisk holds may_leave moment left_since has_failed) first before mid ×
@@ -51,7 +51,7 @@ KnowsWhatWasSent {D} holds may_leave moment left_since has_failed =
     IsRun (Between d) (before ++ Wrote octets done ∷ following) to →
     Chain (OnDisk holds may_leave moment left_since has_failed) first before mid →
     Chain (OnDisk holds may_leave moment left_since has_failed) mid (Wrote octets done ∷ following) last →
-    IsSafe d before octets (LeavesOnly moment left_since mid last (Knows head (earlier ++ recorded before)))
+    IsSafe d before octets (LeavesOnly moment left_since mid last (Knows head (earlier ++ logged_by before)))
 
 -- ---- a rehearsal towards one peer
 
@@ -72,5 +72,5 @@ abbrev pub KeepsDiskThrough : {P D : Type 0} →
 KeepsDiskThrough {P} {D} wrote gave parted holds may_leave moment left_since has_failed =
     (old new : Rehearsal P D) (acts : List Act) (first : D) →
     Chain (Rehearses wrote gave parted holds may_leave moment left_since has_failed) old acts new →
-    old.record.disk ≡ Some first →
-    (last : D) × (new.record.disk ≡ Some last) × Chain (OnDisk holds may_leave moment left_since has_failed) first acts last
+    old.log.disk ≡ Some first →
+    (last : D) × (new.log.disk ≡ Some last) × Chain (OnDisk holds may_leave moment left_since has_failed) first acts last

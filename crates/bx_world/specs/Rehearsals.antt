@@ -8,7 +8,7 @@ use Rattle.bx_live.specs.declared.world.Begin.TheVariants.{Joined, Ended}
 use Rattle.bx_live.specs.declared.world.Loss.{Loss}
 use Rattle.bx_live.specs.declared.world.Loss.TheVariants.{Late, Fault}
 use Rattle.bx_live.specs.Acts.{Act, Began, Dropped, Wrote, Read, Took, EndedDay}
-use Rattle.bx_live_parts.specs.Records.{OnRecord}
+use Rattle.bx_live_parts.specs.Logs.{OnLog}
 use Rattle.bx_world.specs.declared.rehearsal.Rehearsal.{Rehearsal}
 
 -- what an act does to the peer, of which no message is taken but where one is waited for; one that was lost is not told of the end of the day
@@ -38,6 +38,6 @@ OnLost was act lost = lost ≡ was
 
 -- one act of it
 pub record Rehearses {P D : Type 0} (wrote : P → List ℕ → Bool → P → Type 0) (gave : P → ℕ → Result Frame LinkFault → P → Type 0) (parted : P → Option LinkFault → P → Type 0) (holds may_leave : D → List ℕ → Type 0) (moment : D → ℕ) (left_since : D → ℕ → List ℕ → Type 0) (has_failed : D → Bool) (old : Rehearsal P D) (act : Act) (new : Rehearsal P D) : Type 0 where
-  pub recorded : OnRecord holds may_leave moment left_since has_failed old.record.disk act new.record.disk
+  pub logged : OnLog holds may_leave moment left_since has_failed old.log.disk act new.log.disk
   pub peer : OnPeer wrote gave parted old.peer old.lost act new.peer new.lost
   pub lost : OnLost old.lost act new.lost

@@ -8,7 +8,7 @@ use bx_capture::{Direction, is_whole, keep, keep_sent};
 use bx_devices::{Watched, WriteFailed};
 use bx_events::{LAST_MOMENT, LiveEvent};
 use bx_frames::{Frame, LinkFault};
-use bx_live::{Begin, CannotRecord, Loss, World};
+use bx_live::{Begin, CannotLog, Loss, World};
 use bx_q931::Octets;
 use std::io::Write;
 
@@ -82,11 +82,11 @@ impl<W: World, F: Write> World for CapturedWorld<W, F> {
         self.world.drop_peer(loss);
     }
 
-    fn record(&mut self, event: LiveEvent<'_>) -> Result<(), CannotRecord> {
-        self.world.record(event)
+    fn log(&mut self, event: LiveEvent<'_>) -> Result<(), CannotLog> {
+        self.world.log(event)
     }
 
-    fn sync(&mut self) -> Result<(), CannotRecord> {
+    fn sync(&mut self) -> Result<(), CannotLog> {
         self.world.sync()
     }
 

@@ -8,15 +8,15 @@ use bx_devices::WriteFailed;
 use bx_events::LiveEvent;
 use bx_frames::{Frame, LinkFault};
 use bx_journal::Disk;
-use bx_live::{Begin, CannotRecord, Loss, World};
-use bx_live_parts::Record;
+use bx_live::{Begin, CannotLog, Loss, World};
+use bx_live_parts::Log;
 use bx_q931::Octets;
 
 /// A world of one peer and no clock. A fault of its link ends the day.
 #[derive(Drop)]
 pub struct Rehearsal<P: Peer, D: Disk> {
     pub peer: P,
-    pub record: Record<D>,
+    pub log: Log<D>,
     /// The fault that ended the day, where one did.
     pub lost: Option<LinkFault>,
 }
@@ -56,12 +56,12 @@ impl<P: Peer, D: Disk> World for Rehearsal<P, D> {
         self.lost = Some(fault_of(loss));
     }
 
-    fn record(&mut self, event: LiveEvent<'_>) -> Result<(), CannotRecord> {
-        self.record.record(event)
+    fn log(&mut self, event: LiveEvent<'_>) -> Result<(), CannotLog> {
+        self.log.log(event)
     }
 
-    fn sync(&mut self) -> Result<(), CannotRecord> {
-        self.record.sync()
+    fn sync(&mut self) -> Result<(), CannotLog> {
+        self.log.sync()
     }
 
     fn write_turn(&mut self, sent: &[Octets], moment: u32) -> Result<(), WriteFailed> {

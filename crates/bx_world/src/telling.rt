@@ -6,7 +6,7 @@ use bx_calendar::Clock as DayClock;
 use bx_devices::WriteFailed;
 use bx_events::LiveEvent;
 use bx_frames::{Frame, LinkFault};
-use bx_live::{Begin, CannotRecord, Loss, World};
+use bx_live::{Begin, CannotLog, Loss, World};
 use bx_q931::Octets;
 use std::rt::Clock;
 use std::time::{Duration, Instant};
@@ -178,11 +178,11 @@ impl<'a, W: World, H: Clock + Eprint> World for Telling<'a, W, H> {
         }
     }
 
-    fn record(&mut self, event: LiveEvent<'_>) -> Result<(), CannotRecord> {
-        self.world.record(event)
+    fn log(&mut self, event: LiveEvent<'_>) -> Result<(), CannotLog> {
+        self.world.log(event)
     }
 
-    fn sync(&mut self) -> Result<(), CannotRecord> {
+    fn sync(&mut self) -> Result<(), CannotLog> {
         self.world.sync()
     }
 

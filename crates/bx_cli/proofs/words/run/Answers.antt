@@ -21,7 +21,7 @@ returns-in-Files-clause-done g c zero =
 pub returns-in-Files-clause-refused : goal.returns-in-Files-clause-refused
 returns-in-Files-clause-refused g c some =
     subst (λ (r : Request). IsRequestRefused g.row.H.Denot (g.R.Read.remaining (device_of c.args.input.now)) r g.H.File.Write.contents g.W.Write.contents c.args.output.now c.run_on_files-done.new.output) (sym c.in-Files.is)
-    (refused_by _ _ _ c.new-inputs.ensures (λ gives. plans.IsRefused gives c.in-Files.request g.W.Write.contents c.args.output.now c.run_on_files-done.new.output) c.run_on_files-done.result c.status_of.result c.status_of.ensures.done c.run_on_files-done.ensures.refused some)
+    (refused_by _ _ _ c.new-inputs.ensures (λ gives. plans.IsFileRefused gives c.in-Files.request g.W.Write.contents c.args.output.now c.run_on_files-done.new.output) c.run_on_files-done.result c.status_of.result c.status_of.ensures.done c.run_on_files-done.ensures.refused some)
 
 pub returns-in-Records-clause-done : goal.returns-in-Records-clause-done
 returns-in-Records-clause-done g c zero =

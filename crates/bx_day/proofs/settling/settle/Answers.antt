@@ -1,7 +1,7 @@
 use Rattle.std.proofs.Common.{◌≡◌, List, map, sym, ap, ap₂, ◌∙◌, arith, refl}
 use Rattle.bx_day.specs.Ticks.{after_in}
 use Rattle.bx_day.specs.Slots.{slot_at}
-use Rattle.bx_day.specs.SlotSteps.{follower, live_of, waiting_of}
+use Rattle.bx_day.specs.SlotSteps.{follower, live_slot_of, waiting_of}
 use Rattle.bx_day.specs.declared.entry.Entry.{Entry}
 use Rattle.bx_day.proofs.SettleLemmas.{none_settled, one_settled, one_less, all_settled}
 use Rattle.bx_day.proofs.settling.settle.Goals as goal
@@ -44,7 +44,7 @@ loop-number-preserved c =
       left = one_less n c.args.live.now c.args.waiting.now c.loop-number.live c.loop-number.waiting c.live_of.result c.waiting_of.result left;
       settled = λ link d is.
           one_settled link d n c.args.live.now c.args.waiting.now following c.loop-number.live c.loop-number.waiting c.live_of.result c.waiting_of.result (omega (arith, c.loop-number-test.true, c.told-live)) (omega (arith, c.loop-number-test.true, c.told-waiting))
-          (c.live_of.ensures ∙ ap (λ (es : List Entry). live_of es (slot_at c.loop-number.live n) (slot_at c.loop-number.waiting n) c.follower-second.result) is ∙ ap₂ (λ x y. live_of (map (after_in link d) d.entries) x y c.follower-second.result) live waiting ∙ ap (live_of (map (after_in link d) d.entries) a w) second)
+          (c.live_of.ensures ∙ ap (λ (es : List Entry). live_slot_of es (slot_at c.loop-number.live n) (slot_at c.loop-number.waiting n) c.follower-second.result) is ∙ ap₂ (λ x y. live_slot_of (map (after_in link d) d.entries) x y c.follower-second.result) live waiting ∙ ap (live_slot_of (map (after_in link d) d.entries) a w) second)
           (c.waiting_of.ensures ∙ ap (λ (es : List Entry). waiting_of es following (slot_at c.loop-number.waiting n) c.follower-second.result) is ∙ ap₂ (waiting_of (map (after_in link d) d.entries) following) waiting second)
           (c.loop-number.invariant.settled link d is);
     }

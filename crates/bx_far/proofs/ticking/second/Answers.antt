@@ -1,6 +1,6 @@
 use Rattle.std.proofs.Common.{◌≡◌, ◌<◌, Option, List, length, arith, sym, ap, ◌∙◌}
 use Rattle.bx_calls.specs.PlainCalls.{PlainUserCall}
-use Rattle.bx_far.specs.Inside.{slot_at}
+use Rattle.bx_far.specs.Inside.{call_slot_at}
 use Rattle.bx_far.proofs.Kept.{slot_read, not_some}
 use Rattle.bx_far.proofs.Passing.{none_passed, passed_call, passed_by, all_passed, moved_at, moved_size}
 use Rattle.bx_far.proofs.ticking.second.Goals.{in-Some, in_default}
@@ -17,7 +17,7 @@ loop-i-preserved c =
     let lt : i < length slots = omega (arith, c.loop-i-test.true, c.requires.size) in
     let size = ap length c.loop-i.invariant.moved ∙ moved_size t i slots in
     let lt' : i < length c.loop-i.calls = omega (arith, lt, size) in
-    let read : slot_at slots i ≡ c.index-calls-i.result = sym (ap (λ (xs : List (Option PlainUserCall)). slot_at xs i) c.loop-i.invariant.moved ∙ moved_at t i slots) ∙ slot_read c.loop-i.calls i c.index-calls-i.result c.index-calls-i.is lt' in
+    let read : call_slot_at slots i ≡ c.index-calls-i.result = sym (ap (λ (xs : List (Option PlainUserCall)). call_slot_at xs i) c.loop-i.invariant.moved ∙ moved_at t i slots) ∙ slot_read c.loop-i.calls i c.index-calls-i.result c.index-calls-i.is lt' in
     elim c.match-slot.branch [
       | in-Some w ↦ passed_call t slots c.args.maintenance.now i c.loop-i.calls c.match-slot.calls c.loop-i.maintenance c.match-slot.maintenance c.loop-i.said c.match-slot.said w.in-Some.call w.on_second-step.result w.channel.result lt c.requires.seated
           (read ∙ c.index-calls-i.is ∙ w.in-Some.is) w.on_second-step.ensures w.channel.ensures

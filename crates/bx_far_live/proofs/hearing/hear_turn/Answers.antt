@@ -4,7 +4,7 @@ use Rattle.bx_frames.specs.declared.frame.Frame.TheVariants as frames
 use Rattle.bx_frames.specs.declared.fault.LinkFault.TheVariants.{WrongMoment}
 use Rattle.bx_live.specs.declared.world.Loss.TheVariants as losses
 use Rattle.bx_live.specs.Acts.{Read}
-use Rattle.bx_far_live.specs.Runs.{Hearing, Between, Losing, heard}
+use Rattle.bx_far_live.specs.Runs.{Hearing, Between, Losing, far_run_heard}
 use Rattle.bx_far_live.proofs.Steps.{none_done, one_done, then_done, at_place, ended_right, ended_wrong}
 use Rattle.bx_far_live.proofs.Moments.{hearing_stays}
 use Rattle.bx_far_live.proofs.hearing.hear_turn.Goals as goal
@@ -61,7 +61,7 @@ returns-then-said-moment-clause-ran g c =
     let said = c.in-EndOfTurn.said in
     let frame = rw c.in-EndOfTurn.is at c.in_ok-octets.ensures in
     then_done g.met.W.World.did_more l.invariant.so_far
-    (at_place (heard l.far l.room (Ok (frames.EndOfTurn said))) (Between l.far) (ended_right l.far l.room said (c.if-said-moment.true ∙ sym l.invariant.reached))
+    (at_place (far_run_heard l.far l.room (Ok (frames.EndOfTurn said))) (Between l.far) (ended_right l.far l.room said (c.if-said-moment.true ∙ sym l.invariant.reached))
     (one_done (Hearing l.far l.room) (Read l.room (Ok (frames.EndOfTurn said))) frame.read refl))
 
 pub returns-else-said-moment-clause-ran : goal.returns-else-said-moment-clause-ran
@@ -70,5 +70,5 @@ returns-else-said-moment-clause-ran g c =
     let said = c.in-EndOfTurn.said in
     let frame = rw c.in-EndOfTurn.is at c.in_ok-octets.ensures in
     then_done g.met.W.World.did_more l.invariant.so_far
-    (at_place (heard l.far l.room (Ok (frames.EndOfTurn said))) (Losing l.far (losses.Fault WrongMoment)) (ended_wrong l.far l.room said (λ e. c.if-said-moment.false (e ∙ l.invariant.reached)))
+    (at_place (far_run_heard l.far l.room (Ok (frames.EndOfTurn said))) (Losing l.far (losses.Fault WrongMoment)) (ended_wrong l.far l.room said (λ e. c.if-said-moment.false (e ∙ l.invariant.reached)))
     (one_done (Hearing l.far l.room) (Read l.room (Ok (frames.EndOfTurn said))) frame.read refl))

@@ -1,16 +1,16 @@
 use Rattle.std.proofs.Common.{◌⊎◌, inl, inr, ⊎_elim, ◌≡◌, [], ℕ, List, take, ap, sym, ◌∙◌, subst}
 use Rattle.bx_journal.specs.Disk.{Only, IsTorn}
 use Rattle.bx_journal.specs.declared.head.Head.{Head}
-use Rattle.bx_journal.specs.Heads.{IsDay}
+use Rattle.bx_journal.specs.Heads.{IsJournalDay}
 use Rattle.bx_journal.specs.Text.{journal_text}
-use Rattle.bx_journal.specs.Recording.{IsUnbegun}
+use Rattle.bx_journal.specs.Logging.{IsUnbegun}
 use Rattle.bx_journal.proofs.Moments.{started, goes_on}
-use Rattle.bx_journal.proofs.Recorded.{ok_then}
+use Rattle.bx_journal.proofs.Logged.{ok_then}
 use Rattle.bx_journal.proofs.Prefixes.{head_prefix}
 use Rattle.bx_journal.proofs.beginning.begin.Goals as goal
 
 -- what the write of the head may leave
-leaves : (head : Head) (text c : List ℕ) → IsDay head.day → text ≡ journal_text head [] → (c ≡ []) ⊎ IsTorn text [] c → IsUnbegun head c
+leaves : (head : Head) (text c : List ℕ) → IsJournalDay head.day → text ≡ journal_text head [] → (c ≡ []) ⊎ IsTorn text [] c → IsUnbegun head c
 leaves head text c day is (inl none) = subst (IsUnbegun head) (sym none) (head_prefix head day 0)
 leaves head text c day is (inr torn) = subst (IsUnbegun head) (sym (torn.1 ∙ ap (λ (h : List ℕ). take torn.0 h) is)) (head_prefix head day torn.0)
 

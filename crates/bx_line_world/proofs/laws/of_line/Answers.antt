@@ -10,8 +10,8 @@ returns-clause-begins g c = λ old new acts chain.
 
 pub returns-clause-kept : goal.returns-clause-kept
 returns-clause-kept g c = λ old new acts first chain is.
-    kept_in g.D.Disk.holds g.D.Disk.may_leave g.D.Disk.moment g.D.Disk.left_since g.D.Disk.has_failed (GoesByLine g.W.Wire.did g.D.Disk.holds g.D.Disk.may_leave g.D.Disk.moment g.D.Disk.left_since g.D.Disk.has_failed) (λ w. w.record.disk)
-    (λ s t act p. p.recorded) old new acts first chain is
+    kept_in g.D.Disk.holds g.D.Disk.may_leave g.D.Disk.moment g.D.Disk.left_since g.D.Disk.has_failed (GoesByLine g.W.Wire.did g.D.Disk.holds g.D.Disk.may_leave g.D.Disk.moment g.D.Disk.left_since g.D.Disk.has_failed) (λ w. w.log.disk)
+    (λ s t act p. p.logged) old new acts first chain is
 
 pub returns-clause-second : goal.returns-clause-second
 returns-clause-second g c = λ old new second begin acts chain none.

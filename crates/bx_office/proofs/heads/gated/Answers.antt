@@ -1,4 +1,3 @@
-use Rattle.std.proofs.Common.{codes}
 use Rattle.bx_office.specs.Gate.{text_of}
 use Rattle.bx_office.proofs.Verdicts.{found, verdict_is}
 use Rattle.bx_office.proofs.heads.gated.Goals as goal

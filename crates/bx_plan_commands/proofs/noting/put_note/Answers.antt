@@ -6,7 +6,7 @@ use Rattle.bx_devices.specs.declared.octets.WriteFailed.{WriteFailed}
 use Rattle.bx_text.proofs.GatheringSteps.{done, puts_then, puts_failed}
 use Rattle.bx_text.specs.Gathering.{Gathers, held}
 use Rattle.bx_plan_commands.proofs.NotedRows.{begun_here, begun_as_before, noted_here, noted_as_before, note_prefix}
-use Rattle.bx_plan_commands.specs.Notes.{is_begun, is_too_short, row_text, noted, note_end, note_text}
+use Rattle.bx_plan_commands.specs.Notes.{is_begun, is_too_short, row_text, note_below, note_end, note_text}
 use Rattle.bx_plan_commands.proofs.noting.put_note.Goals as goal
 use Rattle.bx_plan_commands.proofs.noting.put_note.Goals.{then-is_too_short+in_ok-put, else-is_too_short}
 
@@ -18,9 +18,9 @@ returns-in_err-put g c =
     let short : is_too_short plan i ≡ true = sym c.is_too_short.ensures ∙ c.if-is_too_short.true in
     let piece : c.deref.result.now ≡ row_text (is_begun plan i) (i + 1) = c.deref.ensures.0 ∙ c.row_text.ensures ∙ ap (λ (b : Bool). row_text b (i + 1)) c.loop-index.invariant.begun in
     let leading = note_prefix plan (i + 1) (omega (arith, c.loop-index-test.true, c.len-index-end.ensures.count)) in
-    let whole : note_text plan ≡ (noted plan i ++ row_text (is_begun plan i) (i + 1)) ++ leading.0 = leading.1 ∙ ap (λ (l : List ℕ). l ++ leading.0) (noted_here plan i short) in
-    let failed = puts_then g.W.Write.contents (held c.args.w.now c.args.block.now) (held c.loop-index.w c.loop-index.block) (held c.put.new.w c.put.new.self) (Err c.in_err-put.field-0.0) (noted plan i) (row_text (is_begun plan i) (i + 1)) c.loop-index.invariant.text (rw piece at c.in_err-put.ensures) in
-    rw p.1 (puts_failed g.W.Write.contents (held c.args.w.now c.args.block.now) (held c.put.new.w c.put.new.self) c.in_err-put.field-0.0 p.0 (noted plan i ++ row_text (is_begun plan i) (i + 1)) leading.0 (note_text plan) whole failed)
+    let whole : note_text plan ≡ (note_below plan i ++ row_text (is_begun plan i) (i + 1)) ++ leading.0 = leading.1 ∙ ap (λ (l : List ℕ). l ++ leading.0) (noted_here plan i short) in
+    let failed = puts_then g.W.Write.contents (held c.args.w.now c.args.block.now) (held c.loop-index.w c.loop-index.block) (held c.put.new.w c.put.new.self) (Err c.in_err-put.field-0.0) (note_below plan i) (row_text (is_begun plan i) (i + 1)) c.loop-index.invariant.text (rw piece at c.in_err-put.ensures) in
+    rw p.1 (puts_failed g.W.Write.contents (held c.args.w.now c.args.block.now) (held c.put.new.w c.put.new.self) c.in_err-put.field-0.0 p.0 (note_below plan i ++ row_text (is_begun plan i) (i + 1)) leading.0 (note_text plan) whole failed)
 
 pub loop-index-preserved : goal.loop-index-preserved
 loop-index-preserved g c =
@@ -30,7 +30,7 @@ loop-index-preserved g c =
       | then-is_too_short+in_ok-put w ↦
           let short : is_too_short plan i ≡ true = sym c.is_too_short.ensures ∙ w.if-is_too_short.true in
           let piece : w.deref.result.now ≡ row_text (is_begun plan i) (i + 1) = w.deref.ensures.0 ∙ w.row_text.ensures ∙ ap (λ (b : Bool). row_text b (i + 1)) c.loop-index.invariant.begun in
-          let both = puts_then g.W.Write.contents (held c.args.w.now c.args.block.now) (held c.loop-index.w c.loop-index.block) (held w.put.new.w w.put.new.self) (done {E = WriteFailed}) (noted plan i) (row_text (is_begun plan i) (i + 1)) c.loop-index.invariant.text (rw piece at w.in_ok-put.ensures) in
+          let both = puts_then g.W.Write.contents (held c.args.w.now c.args.block.now) (held c.loop-index.w c.loop-index.block) (held w.put.new.w w.put.new.self) (done {E = WriteFailed}) (note_below plan i) (row_text (is_begun plan i) (i + 1)) c.loop-index.invariant.text (rw piece at w.in_ok-put.ensures) in
           rw (w.block-is, w.w-is, w.is_begun-is) (record {
             begun = sym (begun_here plan i short);
             text = subst (λ (t : List ℕ). Gathers g.W.Write.contents (held c.args.w.now c.args.block.now) (held w.put.new.w w.put.new.self) (done {E = WriteFailed}) t) (sym (noted_here plan i short)) both;
@@ -49,6 +49,6 @@ returns g c =
     let all : c.loop-index.index ≡ length c.args.plan.now.bookings = omega (arith, c.loop-index-test.false, c.loop-index.auto.index-end, c.len-index-end.ensures.count) in
     let begun : is_begun plan (length plan.rows) ≡ true = ap (is_begun plan) (sym all) ∙ sym c.loop-index.invariant.begun ∙ c.if-not-is_begun.false in
     let tail : List ℕ = codes " last one second behind another on their channel, or in second 0\n" in
-    let both = puts_then g.W.Write.contents (held c.args.w.now c.args.block.now) (held c.loop-index.w c.loop-index.block) (held c.put-2.new.w c.put-2.new.self) c.put-2.result (noted plan c.loop-index.index) tail c.loop-index.invariant.text c.put-2.ensures in
+    let both = puts_then g.W.Write.contents (held c.args.w.now c.args.block.now) (held c.loop-index.w c.loop-index.block) (held c.put-2.new.w c.put-2.new.self) c.put-2.result (note_below plan c.loop-index.index) tail c.loop-index.invariant.text c.put-2.ensures in
     subst (λ (t : List ℕ). Gathers g.W.Write.contents (held c.args.w.now c.args.block.now) (held c.put-2.new.w c.put-2.new.self) c.put-2.result t)
-    (ap (λ (n : ℕ). noted plan n ++ tail) all ∙ ap (λ (b : Bool). noted plan (length plan.rows) ++ note_end b) (sym begun)) both
+    (ap (λ (n : ℕ). note_below plan n ++ tail) all ∙ ap (λ (b : Bool). note_below plan (length plan.rows) ++ note_end b) (sym begun)) both

@@ -2,7 +2,7 @@ use Rattle.std.proofs.Common.{◌≡◌, ◌++◌, ◌∷◌, ◌+◌, [], lengt
 use Rattle.std.proofs.lemmas.Result.{err_from_is_err_and}
 use Rattle.std.proofs.lemmas.List.{length_push}
 use Rattle.bx_planfile.specs.Reading.{read_line, read_booking, read_bookings}
-use Rattle.bx_planfile.specs.Values.{entry_of}
+use Rattle.bx_planfile.specs.Values.{file_entry_of}
 use Rattle.bx_planfile.proofs.Loops.{no_entries, booking_follows, booking_line_fails, booking_fails, bookings_done, bookings_grow, fails_from}
 use Rattle.bx_planfile.proofs.Refusals.{line_never, booking_never, not_memory}
 use Rattle.bx_planfile.proofs.lists.bookings_of.Goals as goal
@@ -40,12 +40,12 @@ returns-in_err-booking-clause-memory c = λ m. not_memory (booking_never _ _ _) 
 pub returns-in_err-add-clause-memory : goal.returns-in_err-add-clause-memory
 returns-in_err-add-clause-memory c = λ m.
     bookings_grow c.args.version c.args.count c.loop-i.i c.args.n c.args.bytes.now c.loop-i.rest.now c.loop-i.bookings c.loop-i.assigned.items c.loop-i.invariant.so_far
-    c.in_ok-fields.fields c.in_ok-fields.after.now (entry_of c.in_ok-booking.booking c.in_ok-booking.channel) c.loop-i-test.true (rw c.from.ensures at c.in_ok-fields.ensures) (rw c.from.ensures at c.in_ok-booking.ensures)
+    c.in_ok-fields.fields c.in_ok-fields.after.now (file_entry_of c.in_ok-booking.booking c.in_ok-booking.channel) c.loop-i-test.true (rw c.from.ensures at c.in_ok-fields.ensures) (rw c.from.ensures at c.in_ok-booking.ensures)
 
 pub returns-then-is_err-clause-memory : goal.returns-then-is_err-clause-memory
 returns-then-is_err-clause-memory c = λ m.
     bookings_grow c.args.version c.args.count c.loop-i.i c.args.n c.args.bytes.now c.loop-i.rest.now c.loop-i.bookings c.loop-i.assigned.items c.loop-i.invariant.so_far
-    c.in_ok-fields.fields c.in_ok-fields.after.now (entry_of c.in_ok-booking.booking c.in_ok-booking.channel) c.loop-i-test.true (rw c.from.ensures at c.in_ok-fields.ensures) (rw c.from.ensures at c.in_ok-booking.ensures)
+    c.in_ok-fields.fields c.in_ok-fields.after.now (file_entry_of c.in_ok-booking.booking c.in_ok-booking.channel) c.loop-i-test.true (rw c.from.ensures at c.in_ok-fields.ensures) (rw c.from.ensures at c.in_ok-booking.ensures)
 
 pub loop-i-preserved : goal.loop-i-preserved
 loop-i-preserved c =
@@ -58,7 +58,7 @@ loop-i-preserved c =
       assigned = len ∙ ap (λ n. n + 1) c.loop-i.invariant.assigned;
       so_far = λ m le. rw (items, added) (booking_follows c.args.version m c.loop-i.i c.args.n c.loop-i.rest.now c.loop-i.bookings c.loop-i.assigned.items
           (read_bookings c.args.version m c.args.n c.args.bytes.now) (c.loop-i.invariant.so_far m (omega arith))
-          c.in_ok-fields.fields c.in_ok-fields.after.now (entry_of c.in_ok-booking.booking c.in_ok-booking.channel) (omega arith)
+          c.in_ok-fields.fields c.in_ok-fields.after.now (file_entry_of c.in_ok-booking.booking c.in_ok-booking.channel) (omega arith)
           (rw c.from.ensures at c.in_ok-fields.ensures) (rw c.from.ensures at c.in_ok-booking.ensures));
     }
 

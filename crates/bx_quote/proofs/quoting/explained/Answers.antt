@@ -3,13 +3,13 @@ use Rattle.bx_base.specs.Bookings.{Row, row_at}
 use Rattle.bx_base.specs.PlanParts.{parts_of}
 use Rattle.bx_base.specs.Plans.{is_accepted}
 use Rattle.bx_planner.specs.Musts.{IsTooManyMust}
-use Rattle.bx_quote.specs.Weighing.{IsSettled, held, freed}
+use Rattle.bx_quote.specs.Weighing.{IsSettledRow, rows_held, freed}
 use Rattle.bx_quote.proofs.Crowding.{has_room, none_crowded}
 use Rattle.bx_quote.proofs.Holding.{freed_held}
 use Rattle.bx_quote.proofs.Settling.{is_free, settle_refused}
 use Rattle.bx_quote.proofs.quoting.explained.Goals as goal
 
-same_rows : (rows marked : List Row) (i : ℕ) → marked ≡ held rows i → freed (held rows i) i ≡ rows → freed marked i ≡ rows
+same_rows : (rows marked : List Row) (i : ℕ) → marked ≡ rows_held rows i → freed (rows_held rows i) i ≡ rows → freed marked i ≡ rows
 same_rows rows marked i e h = ap (λ (list : List Row). freed list i) e ∙ h
 
 pub weighed-requires-clause-settled : goal.weighed-requires-clause-settled
@@ -17,14 +17,14 @@ weighed-requires-clause-settled c =
     let plan = parts_of c.args.plan.now in
     let free = is_free plan c.args.index c.requires.proved c.requires.inside c.requires.refused in
     let same = same_rows plan.rows c.in_ok-rows.rows c.args.index c.in_ok-rows.ensures (freed_held plan.rows c.args.index c.requires.inside free) in
-    subst (λ (rows : List Row). IsSettled plan rows c.args.index) (sym same) (settle_refused plan c.args.index c.requires.proved c.requires.inside c.requires.refused)
+    subst (λ (rows : List Row). IsSettledRow plan rows c.args.index) (sym same) (settle_refused plan c.args.index c.requires.proved c.requires.inside c.requires.refused)
 
 pub weighed-requires-clause-marked : goal.weighed-requires-clause-marked
 weighed-requires-clause-marked c =
     let plan = parts_of c.args.plan.now in
     let free = is_free plan c.args.index c.requires.proved c.requires.inside c.requires.refused in
     let same = same_rows plan.rows c.in_ok-rows.rows c.args.index c.in_ok-rows.ensures (freed_held plan.rows c.args.index c.requires.inside free) in
-    c.in_ok-rows.ensures ∙ ap (λ (rows : List Row). held rows c.args.index) (sym same)
+    c.in_ok-rows.ensures ∙ ap (λ (rows : List Row). rows_held rows c.args.index) (sym same)
 
 pub weighed-requires-clause-room : goal.weighed-requires-clause-room
 weighed-requires-clause-room c =

@@ -5,7 +5,7 @@ use Rattle.bx_check.proofs.Sound.{sound-lawful_itself}
 use Rattle.bx_planner.proofs.FewMusts.{few_musts}
 use Rattle.bx_quote.proofs.Crowding.{never_taken}
 use Rattle.bx_quote.proofs.Settling.{settle_asked, row_last, musts_asked}
-use Rattle.bx_quote.specs.Quotes.{asked}
+use Rattle.bx_quote.specs.Quotes.{with_asked}
 use Rattle.bx_base.specs.Bookings.{Row, is_running}
 use Rattle.bx_quote.proofs.quoting.quote.Goals as goal
 
@@ -29,5 +29,5 @@ returns-in-Some-clause-fail c =
     let last = row_last plan.rows (record booking { must = false }) in
     let full = found.full in (
       found,
-      never_taken (asked plan.rows booking) (length plan.rows) settled.inside settled.free plan.channels c.in-Some.moment (ap (λ (row : Row). is_running row c.in-Some.moment) last ∙ found.running) (omega (arith, full, musts_asked plan.rows booking c.in-Some.moment)),
+      never_taken (with_asked plan.rows booking) (length plan.rows) settled.inside settled.free plan.channels c.in-Some.moment (ap (λ (row : Row). is_running row c.in-Some.moment) last ∙ found.running) (omega (arith, full, musts_asked plan.rows booking c.in-Some.moment)),
     )

@@ -1,7 +1,7 @@
 use Rattle.std.proofs.Common.{arith}
-use Rattle.bx_records.specs.Totals.{is_accepted}
+use Rattle.bx_day.specs.Invariant.{stands_accepted}
 use Rattle.bx_records.proofs.Counted.{all_counted}
 use Rattle.bx_records.proofs.totals.totals_of.Goals as goal
 
 pub returns-clause-accepted : goal.returns-clause-accepted
-returns-clause-accepted c = all_counted is_accepted c.args.entries.now c.loop-entry.entry-index c.loop-entry.totals.accepted (omega (arith, c.loop-entry-test.false, c.loop-entry.auto.entry-index-end)) c.loop-entry.invariant.0
+returns-clause-accepted c = all_counted stands_accepted c.args.entries.now c.loop-entry.entry-index c.loop-entry.totals.accepted (omega (arith, c.loop-entry-test.false, c.loop-entry.auto.entry-index-end)) c.loop-entry.invariant.0

@@ -6,7 +6,7 @@ use Rattle.bx_line.specs.Network.{places_of}
 use Rattle.bx_dist.specs.declared.step.Step.{Step}
 use Rattle.bx_dist.specs.declared.step.Step.TheVariants.{Idle}
 use Rattle.bx_rounds.specs.declared.marks.Marks.{Marks}
-use Rattle.bx_rounds.specs.Rounds.{Extends}
+use Rattle.bx_rounds.specs.Rounds.{ExtendsWalk}
 use Rattle.bx_rounds.proofs.Passes.{IsPassed, passed_none, passed_all, passed_before, next_within, less_after_change, less_after_pass, work_left}
 use Rattle.bx_rounds.proofs.Marking.{all_marked, count_few}
 use Rattle.bx_rounds.proofs.marks.least_walk.Goals as goal
@@ -29,7 +29,7 @@ loop-settled-preserved c =
       }
       | else-extend w ↦ (
           let same = ap (λ (m : Marks). m.ranks.items) (c.extend.ensures.same w.if-extend.false) in
-          let keep = λ (s : Step) (e : Extends c.args.line.now c.args.lengths.now c.loop-settled.marks.ranks.items s). subst (λ (r : List ℕ). Extends c.args.line.now c.args.lengths.now r s) (sym same) e in
+          let keep = λ (s : Step) (e : ExtendsWalk c.args.line.now c.args.lengths.now c.loop-settled.marks.ranks.items s). subst (λ (r : List ℕ). ExtendsWalk c.args.line.now c.args.lengths.now r s) (sym same) e in
           record {
             marks = c.extend.ensures.places;
             within = λ _. next_within c.loop-settled.at size next here c.next_in-at.ensures;
@@ -62,8 +62,8 @@ pub walk_back-requires-clause-reached : goal.walk_back-requires-clause-reached
 walk_back-requires-clause-reached c =
     let m = c.loop-settled.marks in
     let steps = c.args.steps.now in
-    let done : (step : Step) → Contains steps step → Extends c.args.line.now c.args.lengths.now m.ranks.items step = λ step k.
+    let done : (step : Step) → Contains steps step → ExtendsWalk c.args.line.now c.args.lengths.now m.ranks.items step = λ step k.
     (let within = c.loop-settled.invariant.within (omega (arith, k.1)) in
     let here = c.loop-settled.invariant.passed k.0 k.1 (passed_all c.loop-settled.at c.loop-settled.settled (length steps) k.0 within (omega arith)) in
-    subst (Extends c.args.line.now c.args.lengths.now m.ranks.items) (get_or_default steps k.0 (Idle 0) step k.1 ∙ k.2) here) in
+    subst (ExtendsWalk c.args.line.now c.args.lengths.now m.ranks.items) (get_or_default steps k.0 (Idle 0) step k.1 ∙ k.2) here) in
     all_marked c.args.line.now steps c.args.lengths.now m.ranks.items m.last.items m.count c.loop-settled.invariant.marks done 0 (places_of c.args.line.now - 1) c.requires.there.0 c.loop-settled.invariant.marks.first c.requires.there.1

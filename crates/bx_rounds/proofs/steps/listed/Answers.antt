@@ -1,6 +1,6 @@
 use Rattle.std.proofs.Common.{◌≡◌, ℕ, length, subst, arith}
 use Rattle.bx_line.specs.Network.{places_of}
-use Rattle.bx_rounds.specs.Rounds.{AreListed}
+use Rattle.bx_rounds.specs.Rounds.{ListsOpenSteps}
 use Rattle.bx_rounds.proofs.Listing.{listed_row, listed_all}
 use Rattle.bx_rounds.proofs.steps.listed.Goals as goal
 
@@ -11,4 +11,4 @@ loop-i-preserved c =
 pub returns : goal.returns
 returns c =
     let all : c.loop-i.i ≡ length c.args.line.now.arcs = omega arith in
-    listed_all c.args.part c.args.line.now c.args.carried.now c.loop-i.steps.items (subst (λ (n : ℕ). AreListed c.args.part c.args.line.now c.args.carried.now (places_of c.args.line.now) n c.loop-i.steps.items) all c.loop-i.invariant)
+    listed_all c.args.part c.args.line.now c.args.carried.now c.loop-i.steps.items (subst (λ (n : ℕ). ListsOpenSteps c.args.part c.args.line.now c.args.carried.now (places_of c.args.line.now) n c.loop-i.steps.items) all c.loop-i.invariant)

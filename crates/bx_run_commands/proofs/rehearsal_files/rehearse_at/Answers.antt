@@ -1,4 +1,4 @@
-use Rattle.std.proofs.Common.{◌∙◌, sym, subst}
+use Rattle.std.proofs.Common.{sym, subst}
 use Rattle.bx_request.specs.declared.request.Peer.TheVariants.{At}
 use Rattle.bx_request.specs.declared.request.Place.{Place}
 use Rattle.bx_run_commands.specs.RehearsedDays.{RehearsalWith}

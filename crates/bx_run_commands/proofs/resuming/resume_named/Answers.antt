@@ -4,4 +4,4 @@ use Rattle.bx_run_commands.proofs.resuming.resume_named.Goals as goal
 
 pub returns-clause-kept : goal.returns-clause-kept
 returns-clause-kept g c =
-    if_ok c.resume_on.result _ _ (λ resumed k. kept_by c.args.head.now c.args.opening.channels _ c.args.opening.exchange resumed.exchange resumed.record c.args.name c.in-Some.name c.in-Some.is k) c.resume_on.ensures.kept
+    if_ok c.resume_on.result _ _ (λ resumed k. kept_by c.args.head.now c.args.opening.channels _ c.args.opening.exchange resumed.exchange resumed.log c.args.name c.in-Some.name c.in-Some.is k) c.resume_on.ensures.kept

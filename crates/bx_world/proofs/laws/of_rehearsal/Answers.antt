@@ -10,4 +10,4 @@ returns-clause-stays g c = λ old new acts chain none.
 pub returns-clause-kept : goal.returns-clause-kept
 returns-clause-kept g c = λ old new acts first chain is.
     kept_in g.D.Disk.holds g.D.Disk.may_leave g.D.Disk.moment g.D.Disk.left_since g.D.Disk.has_failed (Rehearses g.P.Peer.wrote g.P.Peer.gave g.P.Peer.parted g.D.Disk.holds g.D.Disk.may_leave g.D.Disk.moment g.D.Disk.left_since g.D.Disk.has_failed)
-    (λ w. w.record.disk) (λ s t act p. p.recorded) old new acts first chain is
+    (λ w. w.log.disk) (λ s t act p. p.logged) old new acts first chain is

@@ -1,4 +1,4 @@
-use Rattle.std.proofs.Common.{◌+ℤ◌, ◌≡◌, ◌∙◌, ap, ℤ}
+use Rattle.std.proofs.Common.{◌+ℤ◌, ◌∙◌, ap, ℤ}
 use Rattle.jiff_core.specs.Timestamp.{nanos_of_seconds}
 use Rattle.jiff_tz.specs.Zone.{offset_at}
 use Rattle.bx_calendar.specs.Clocks.{clock_zone, whole_minutes}

@@ -5,7 +5,7 @@ use Rattle.bx_calls.specs.Sending.{Sent, spelled}
 use Rattle.bx_day.specs.Passing.{day_of}
 use Rattle.bx_day.specs.Reading.{IsExchange}
 use Rattle.bx_day.proofs.IndexLemmas.{idle_now, idle_indexed, indexed_due}
-use Rattle.bx_day.specs.QuietSeconds.{IsDue}
+use Rattle.bx_day.specs.QuietSeconds.{IsFirstDue}
 use Rattle.bx_day.proofs.Passing.{few_somes, sent_is, tick_is}
 use Rattle.bx_day.proofs.Once.{says_once}
 use Rattle.bx_day.proofs.exchange.Exchange.tick.Goals as goal
@@ -39,7 +39,7 @@ pub invariant_of-self-2 : goal.invariant_of-self-2
 invariant_of-self-2 c =
     let x = c.self-2.inside in
     let d = day_of x.moment x.entries.items x.maintenance in
-    indexed_due d x.live x.waiting x.following.items x.due c.next_due-self-inside.result (subst (λ (y : Day). IsDue y (length y.entries) c.next_due-self-inside.result) (sym c.self-2.view_is) c.next_due-self-inside.ensures) c.self-2.invariant
+    indexed_due d x.live x.waiting x.following.items x.due c.next_due-self-inside.result (subst (λ (y : Day). IsFirstDue y (length y.entries) c.next_due-self-inside.result) (sym c.self-2.view_is) c.next_due-self-inside.ensures) c.self-2.invariant
 
 pub returns-clause-sent : goal.returns-clause-sent
 returns-clause-sent c =

@@ -2,7 +2,7 @@ use Rattle.std.proofs.Common.{◌≡◌, ◌<◌, ◌-◌, ℕ, true, false, Lis
 use Rattle.std.proofs.Common.{Vec, Global}
 use Rattle.std.specs.List.{each_same}
 use Rattle.std.proofs.lemmas.List.{with_items_is}
-use Rattle.bx_line.specs.Flows.{Flow, is_carried}
+use Rattle.bx_line.specs.Flows.{Flow, carries_unit}
 use Rattle.bx_dist.proofs.Resting.{rest_first, rest_more, rest_same, some_idle, flow_from_rest}
 use Rattle.bx_dist.proofs.carried.Carried.along.Goals.{then-carries, else-carries}
 use Rattle.bx_dist.proofs.carried.Carried.along.Goals as goal
@@ -14,7 +14,7 @@ take_over-requires c =
     let rest = c.loop-row.invariant in
     let network = c.rows-row-end.ensures.limits in
     let within : c.loop-row.row < length line.arcs = omega (arith, c.rows-row-end.ensures.count) in
-    let carried : is_carried flow c.loop-row.row ≡ true = sym c.carries.ensures ∙ c.if-carries.true in
+    let carried : carries_unit flow c.loop-row.row ≡ true = sym c.carries.ensures ∙ c.if-carries.true in
     rw (c.deref_mut.ensures.value) (record {
       rising = c.arc.ensures.limits.rising;
       within = omega (arith, c.arc.ensures.limits.within, rest.size);
@@ -30,13 +30,13 @@ loop-row-preserved c =
     let rest = c.loop-row.invariant in
     elim c.if-carries.branch [
       | then-carries w ↦ (
-          let carried : is_carried flow c.loop-row.row ≡ true = sym c.carries.ensures ∙ w.if-carries.true in
+          let carried : carries_unit flow c.loop-row.row ≡ true = sym c.carries.ensures ∙ w.if-carries.true in
           let size : length w.take_over.new.idle ≡ length old = w.take_over.ensures.size ∙ ap (λ (xs : List ℕ). length xs) w.deref_mut.ensures.value in
           let write : new ≡ w.take_over.new.idle = ap (λ (v : Vec ℕ Global). v.items) w.idle-is ∙ with_items_is c.loop-row.idle w.take_over.new.idle (size ∙ sym c.loop-row.idle.ok.0) in
           let each = rw (w.deref_mut.ensures.value, w.arc.ensures.value) at w.take_over.ensures.each in
           rw write (rest_more line flow c.loop-row.row old rest w.take_over.new.idle carried size each))
       | else-carries w ↦ (
-          let left : is_carried flow c.loop-row.row ≡ false = sym c.carries.ensures ∙ w.if-carries.false in
+          let left : carries_unit flow c.loop-row.row ≡ false = sym c.carries.ensures ∙ w.if-carries.false in
           let same : new ≡ old = search rules in
           rw same (rest_same line flow c.loop-row.row old rest left))
     ]

@@ -1,7 +1,7 @@
 use Rattle.std.proofs.Common.{◌≡◌, ℕ, ◌-◌, ◌≤◌, ◌↔◌, true, false, List, ℤ, pos, nat_abs, ◌+ℤ◌, ◌-ℤ◌, ◌≤ℤ◌, ap, sym, ◌∙◌, subst}
 use Rattle.bx_line.specs.declared.arc.Arc.{Arc}
 use Rattle.bx_line.specs.Network.{Network}
-use Rattle.bx_line.specs.Flows.{Flow, is_carried}
+use Rattle.bx_line.specs.Flows.{Flow, carries_unit}
 use Rattle.bx_dist.specs.Residual.{height_at, row_arc}
 use Rattle.bx_dist.specs.Inside.{RowFits}
 use Rattle.bx_dist.proofs.Fitting.{test_up, test_down}
@@ -11,10 +11,10 @@ module _ (line : Network) (flow : Flow) (heights : List ℤ) (row : ℕ) (arc : 
   ends : (from ≡ height_at heights (row_arc line row).from) × (to ≡ height_at heights (row_arc line row).to) × (arc.pay ≡ (row_arc line row).pay)
   ends = (from_is ∙ ap (λ (a : Arc). height_at heights a.from) arc_is, to_is ∙ ap (λ (a : Arc). height_at heights a.to) arc_is, ap (λ (a : Arc). a.pay) arc_is)
 
-  taken_fits : is_carried flow (row - 1) ≡ true → (from ≤ℤ (to +ℤ pos arc.pay)) ↔ RowFits line flow heights row
+  taken_fits : carries_unit flow (row - 1) ≡ true → (from ≤ℤ (to +ℤ pos arc.pay)) ↔ RowFits line flow heights row
   taken_fits e = (λ h. record { onward = λ n. cc; back = λ _. rw (← ends.0, ← ends.1, ← ends.2) h }, λ r. rw (ends.0, ends.1, ends.2) (r.back e))
 
-  free_fits : is_carried flow (row - 1) ≡ false → (to ≤ℤ (from -ℤ pos arc.pay)) ↔ RowFits line flow heights row
+  free_fits : carries_unit flow (row - 1) ≡ false → (to ≤ℤ (from -ℤ pos arc.pay)) ↔ RowFits line flow heights row
   free_fits e = (λ h. record { onward = λ _. rw (← ends.0, ← ends.1, ← ends.2) h; back = λ n. cc }, λ r. rw (ends.0, ends.1, ends.2) (r.onward e))
 
 small_at : (heights : List ℤ) (v : ℕ) (z : ℤ) → ((v : ℕ) → nat_abs (height_at heights v) ≤ 100000000000000000) → z ≡ height_at heights v → nat_abs z ≤ 100000000000000000

@@ -4,7 +4,7 @@ use Rattle.bx_calls.specs.Saying.{setup_of}
 use Rattle.bx_calls.specs.UserTable.{user_calling}
 use Rattle.bx_channels.specs.Marks.{is_marked}
 use Rattle.bx_far.specs.FarDay.{Begun, begin_call}
-use Rattle.bx_far.specs.Inside.{slot_at}
+use Rattle.bx_far.specs.Inside.{call_slot_at}
 use Rattle.bx_far.proofs.Passing.{turn_begun, begin_value}
 use Rattle.bx_far.proofs.begun_tick.BegunTick.begin.Goals as goal
 
@@ -26,7 +26,7 @@ returns c =
     let t = c.args.moment in
     let n = c.number-slot.result in
     let same : n ≡ c.args.channel = c.number-slot.ensures.value in
-    let free : slot_at x.calls n ≡ None = c.self.invariant.free n (ap (is_marked x.blocked) same ∙ ap (λ (b : Begun). is_marked b.blocked c.args.channel) c.self.view_is ∙ c.requires.free) in
+    let free : call_slot_at x.calls n ≡ None = c.self.invariant.free n (ap (is_marked x.blocked) same ∙ ap (λ (b : Begun). is_marked b.blocked c.args.channel) c.self.view_is ∙ c.requires.free) in
     let call = subst (λ k. c.calling-call.result.0 ≡ user_calling x.next k c.args.number t) (sym same) c.calling-call.ensures.call in
     let out = subst (λ k. c.calling-call.result.1 ≡ setup_of x.next k c.args.number) (sym same) c.calling-call.ensures.out in
     let blocked = subst (λ k. c.with-self-inside.result ≡ slice_set x.blocked k true) (sym same) c.with-self-inside.ensures.value in

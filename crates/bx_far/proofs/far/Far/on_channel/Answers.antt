@@ -3,7 +3,7 @@ use Rattle.bx_calls.specs.PlainCalls.{PlainUserCall}
 use Rattle.bx_calls.specs.States.{user_state}
 use Rattle.bx_calls.specs.declared.call_state.CallState.{CallState}
 use Rattle.bx_far.specs.FarDay.{FarDay, holder}
-use Rattle.bx_far.specs.Inside.{slot_at}
+use Rattle.bx_far.specs.Inside.{call_slot_at}
 use Rattle.bx_far.proofs.Kept.{slot_read, holder_slot}
 use Rattle.bx_far.proofs.far.Far.on_channel.Goals as goal
 
@@ -15,7 +15,7 @@ returns-in-Some c =
     let d = c.args.self.now in
     let slots = c.self.inside.calls in
     let lt : c.number.result < length slots = omega (arith, c.number.ensures.channel.1, c.self.invariant.size) in
-    let here : slot_at slots c.args.channel ≡ c.index-self-number.result = subst (λ n. slot_at slots n ≡ c.index-self-number.result) c.number.ensures.value (slot_read slots c.number.result c.index-self-number.result c.index-self-number.is lt) in
+    let here : call_slot_at slots c.args.channel ≡ c.index-self-number.result = subst (λ n. call_slot_at slots n ≡ c.index-self-number.result) c.number.ensures.value (slot_read slots c.number.result c.index-self-number.result c.index-self-number.is lt) in
     let held : holder d c.args.channel ≡ Some c.in-Some.call = holder_slot d slots c.args.channel (ap (λ (x : FarDay). x.calls) c.self.view_is) c.self.invariant.seated ∙ here ∙ c.index-self-number.is ∙ c.in-Some.is in
     ap₂ (λ (r : ℕ) (s : CallState). Some (r, s)) c.reference.ensures.value c.state.ensures ∙ sym (ap (option_map told) held)
 
@@ -24,6 +24,6 @@ returns-in-None c =
     let d = c.args.self.now in
     let slots = c.self.inside.calls in
     let lt : c.number.result < length slots = omega (arith, c.number.ensures.channel.1, c.self.invariant.size) in
-    let here : slot_at slots c.args.channel ≡ c.index-self-number.result = subst (λ n. slot_at slots n ≡ c.index-self-number.result) c.number.ensures.value (slot_read slots c.number.result c.index-self-number.result c.index-self-number.is lt) in
+    let here : call_slot_at slots c.args.channel ≡ c.index-self-number.result = subst (λ n. call_slot_at slots n ≡ c.index-self-number.result) c.number.ensures.value (slot_read slots c.number.result c.index-self-number.result c.index-self-number.is lt) in
     let held : holder d c.args.channel ≡ None = holder_slot d slots c.args.channel (ap (λ (x : FarDay). x.calls) c.self.view_is) c.self.invariant.seated ∙ here ∙ c.index-self-number.is ∙ c.in-None.is in
     sym (ap (option_map told) held)

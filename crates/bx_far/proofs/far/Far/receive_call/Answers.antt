@@ -8,7 +8,7 @@ use Rattle.bx_calls.specs.UserTable.{user_message}
 use Rattle.bx_calls.specs.declared.transition.Transition.{Transition}
 use Rattle.bx_far.specs.FarDay.{FarDay, first_call, far_names, far_follow, far_received_by, settle_calls, settle_maintenance}
 use Rattle.bx_far.specs.Seats.{live_calls, IsFar}
-use Rattle.bx_far.specs.Inside.{live_of}
+use Rattle.bx_far.specs.Inside.{live_call_of}
 use Rattle.bx_far.proofs.Seats.{seat_at, settle_is}
 use Rattle.bx_far.proofs.Keeping.{Keeps, seat_of, message_keeps}
 use Rattle.bx_far.proofs.Kept.{far_with}
@@ -21,8 +21,8 @@ invariant_of-self c =
     let step = c.on_message-step.result in
     let seat : IsChannel call.channel = (seat_at 0 call.channel call.channel call x.calls (omega arith) c.in-Some.ensures.seat c.self.invariant.seated).1 in
     let keeps : Keeps call.channel step.next = subst (λ (s : Transition PlainUserCall). Keeps call.channel s.next) (sym c.on_message-step.ensures) (message_keeps call (heard_of c.args.message.now) x.moment) in
-    subst (IsFar x.script x.moment x.next) (sym (c.settle.ensures.calls ∙ ap (λ n. slice_set x.calls n (live_of step.next)) c.channel.ensures))
-    (far_with x.script x.moment x.next call.channel x.calls (live_of step.next) (seat_of call.channel step.next keeps seat) c.self.invariant)
+    subst (IsFar x.script x.moment x.next) (sym (c.settle.ensures.calls ∙ ap (λ n. slice_set x.calls n (live_call_of step.next)) c.channel.ensures))
+    (far_with x.script x.moment x.next call.channel x.calls (live_call_of step.next) (seat_of call.channel step.next keeps seat) c.self.invariant)
 
 pub returns-clause-day : goal.returns-clause-day
 returns-clause-day c =
@@ -34,7 +34,7 @@ returns-clause-day c =
     let call = c.in-Some.call in
     let step = c.on_message-step.result in
     let settled : live_calls c.settle.new.calls ≡ settle_calls call.channel step.next (live_calls x.calls) =
-    ap live_calls (c.settle.ensures.calls ∙ ap (λ n. slice_set x.calls n (live_of step.next)) c.channel.ensures)
+    ap live_calls (c.settle.ensures.calls ∙ ap (λ n. slice_set x.calls n (live_call_of step.next)) c.channel.ensures)
     ∙ settle_is 0 call.channel call.channel step.next call x.calls (omega arith) c.self.invariant.seated c.in-Some.ensures.seat in
     let found : first_call (far_names m) d.calls ≡ Some call = ap (λ (y : FarDay). first_call (far_names m) y.calls) (sym c.self.view_is) ∙ sym (c.in-Some.ensures.first c.args.message.now) in
     ap (λ (cs : List PlainUserCall). record v { calls = cs; maintenance = c.settle.new.maintenance }) settled

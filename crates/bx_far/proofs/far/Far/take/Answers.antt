@@ -6,7 +6,7 @@ use Rattle.bx_calls.specs.UserTable.{user_offered}
 use Rattle.bx_far.specs.FarDay.{FarDay, insert_call}
 use Rattle.bx_calls.specs.Sending.{Answered}
 use Rattle.bx_far.specs.Seats.{live_calls}
-use Rattle.bx_far.specs.Inside.{slot_at}
+use Rattle.bx_far.specs.Inside.{call_slot_at}
 use Rattle.bx_far.proofs.Seats.{insert_is}
 use Rattle.bx_far.proofs.Kept.{far_with, free_slot, takes_other}
 use Rattle.bx_far.proofs.far.Far.take.Goals as goal
@@ -25,7 +25,7 @@ returns-in_default c =
     let call = c.offered-call.result in
     let on : call.channel ≡ c.number.result = ap (λ (k : PlainUserCall). k.channel) c.offered-call.ensures ∙ sym c.number.ensures.value in
     let lt : c.number.result < length x.calls = omega (arith, c.number.ensures.channel.1, c.self.invariant.size) in
-    let free : slot_at x.calls c.number.result ≡ None = subst (λ n. slot_at x.calls n ≡ None) (sym c.number.ensures.value) (free_slot d x.calls c.args.channel (ap (λ (y : FarDay). y.calls) c.self.view_is) c.self.invariant.seated c.requires.free) in
+    let free : call_slot_at x.calls c.number.result ≡ None = subst (λ n. call_slot_at x.calls n ≡ None) (sym c.number.ensures.value) (free_slot d x.calls c.args.channel (ap (λ (y : FarDay). y.calls) c.self.view_is) c.self.invariant.seated c.requires.free) in
     let inserted : live_calls (slice_set x.calls c.number.result (Some call)) ≡ insert_call call (live_calls x.calls) = insert_is 0 c.number.result call x.calls (omega (arith, on)) lt free c.self.invariant.seated in
     let other = λ (flag : Bool) (m : PlainMessage). takes_other d (said_of c.args.reference flag m) c.args.channel c.args.policy c.in_default.not-Busy c.in_default.not-Silent in
     record {

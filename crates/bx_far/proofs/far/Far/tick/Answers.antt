@@ -4,7 +4,7 @@ use Rattle.bx_far.specs.declared.row.ScriptRow.{ScriptRow}
 use Rattle.bx_far.specs.FarDay.{FarDay, Begun, begin_rows, far_begun, far_tick, no_messages, second_said, second_maintenance, with_held}
 use Rattle.bx_calls.specs.Sending.{Sent, in_order, spelled}
 use Rattle.bx_far.specs.Seats.{AreSeated, live_calls}
-use Rattle.bx_far.specs.Inside.{calls_now, slot_at}
+use Rattle.bx_far.specs.Inside.{calls_now, call_slot_at}
 use Rattle.bx_far.specs.BegunTicks.{after_slot}
 use Rattle.bx_far.proofs.Passing.{few, started, early, ticked_is, later_split, rows_room, seconds_size, seconds_seated, seconds_free}
 use Rattle.bx_far.proofs.far.Far.tick.Goals.{After-spell}
@@ -21,7 +21,7 @@ invariant_of-turn c =
       seated = subst (AreSeated 0) (sym now) (seconds_seated t 0 x.calls c.self.invariant.seated);
       slots = c.second-said.ensures.slots;
       spoken = c.second-said.ensures.spoken;
-      free = λ k unset. ap (λ (xs : List (Option PlainUserCall)). slot_at xs k) now ∙ seconds_free t k x.calls (subst (λ (xs : List (Option PlainUserCall)). slot_at xs k ≡ None) was (c.held-blocked.ensures.free k unset));
+      free = λ k unset. ap (λ (xs : List (Option PlainUserCall)). call_slot_at xs k) now ∙ seconds_free t k x.calls (subst (λ (xs : List (Option PlainUserCall)). call_slot_at xs k ≡ None) was (c.held-blocked.ensures.free k unset));
       first = c.self.invariant.first;
     }
 

@@ -6,7 +6,7 @@ use Rattle.bx_line.specs.Network.{Network}
 use Rattle.bx_dist.specs.declared.step.Step.{Step}
 use Rattle.bx_dist.specs.Search.{IsStep}
 use Rattle.bx_dist.proofs.Rows.{fewer_left}
-use Rattle.bx_heap.specs.Searching.{state_of, setting_of, row_step, turn_on, IsLeft, IsSettling, Takes}
+use Rattle.bx_heap.specs.Searching.{state_from, setting_of, row_step, turn_on, IsLeftToTake, IsSettling, TakesOpenStep}
 use Rattle.bx_heap.proofs.Searches.{search_room, fits_part, takes_count}
 use Rattle.bx_heap.proofs.Rows.{IsStillLeft, rows_begin, rows_next, row_taken}
 use Rattle.bx_heap.proofs.frontier.Frontier.take_rows.Goals as goal
@@ -20,7 +20,7 @@ loop-next-init c =
     let s = setting_of c.args.part c.args.line.now c.args.carried.now c.args.potentials.now in
     let limits = c.requires.setting.limits in
     let fits = fits_part s c.requires.setting in
-    let st = state_of c.args.self.now in
+    let st = state_from c.args.self.now in
     let first = c.first_row-next.ensures in
     record {
       there = λ r e. (let t = first.there r e in (t.1, t.2));
@@ -38,7 +38,7 @@ take_step-requires-clause-step c =
 pub take_step-requires-clause-room : goal.take_step-requires-clause-room
 take_step-requires-clause-room c =
     let s = setting_of c.args.part c.args.line.now c.args.carried.now c.args.potentials.now in
-    search_room s (state_of c.loop-next.self) (λ _. ⊥) (λ t. IsLeft c.args.line.now c.args.place (turn_on c.args.side) t × IsStillLeft c.args.side c.loop-next.next t) c.requires.setting c.loop-next.invariant.settling.search
+    search_room s (state_from c.loop-next.self) (λ _. ⊥) (λ t. IsLeftToTake c.args.line.now c.args.place (turn_on c.args.side) t × IsStillLeft c.args.side c.loop-next.next t) c.requires.setting c.loop-next.invariant.settling.search
 
 pub loop-next-smaller : goal.loop-next-smaller
 loop-next-smaller c =
@@ -55,11 +55,11 @@ loop-next-preserved c =
     let side = c.args.side in
     let row = c.in-Some.row in
     let next = c.next_row-next.result in
-    let before = state_of c.loop-next.self in
-    let after = state_of c.take_step.new.self in
+    let before = state_from c.loop-next.self in
+    let after = state_from c.take_step.new.self in
     let at : row_place side c.args.line.now.arcs row ≡ place = (c.loop-next.invariant.there row c.in-Some.is).1 in
-    let settling = subst (λ (o : Option ℕ). IsSettling s before place (λ t. IsLeft s.line place (turn_on side) t × IsStillLeft side o t)) c.in-Some.is c.loop-next.invariant.settling in
-    let takes = subst (λ (u : Step). Takes s u before after) c.step_along.ensures c.in_ok-take_step.ensures in
+    let settling = subst (λ (o : Option ℕ). IsSettling s before place (λ t. IsLeftToTake s.line place (turn_on side) t × IsStillLeft side o t)) c.in-Some.is c.loop-next.invariant.settling in
+    let takes = subst (λ (u : Step). TakesOpenStep s u before after) c.step_along.ensures c.in_ok-take_step.ensures in
     let first = subst (λ (v : ℕ). IsFirstRow side c.args.line.now.arcs v (row + 1) next) at c.next_row-next.ensures in
     record {
       there = λ r e. (let t = first.there r e in (t.1, t.2));

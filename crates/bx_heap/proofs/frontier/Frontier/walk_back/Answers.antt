@@ -4,7 +4,7 @@ use Rattle.bx_dist.specs.declared.step.Step.TheVariants.{Idle}
 use Rattle.bx_dist.specs.Residual.{step_from}
 use Rattle.bx_dist.specs.Search.{IsStep}
 use Rattle.bx_dist.specs.Tight.{last_step}
-use Rattle.bx_heap.specs.Searching.{state_of, IsTrail}
+use Rattle.bx_heap.specs.Searching.{state_from, IsTrail}
 use Rattle.bx_heap.proofs.Trails.{trail_more}
 use Rattle.bx_heap.proofs.frontier.Frontier.walk_back.Goals as goal
 
@@ -21,7 +21,7 @@ ends_of-place-requires c =
 
 pub loop-place-preserved : goal.loop-place-preserved
 loop-place-preserved c =
-    let st = state_of c.args.self.now in
+    let st = state_from c.args.self.now in
     let place = c.loop-place.place in
     let step_is : c.index-step.result.now ≡ last_step st.last place = c.index-step.ensures ∙ get_or_default st.last place c.index-step.result.now (Idle 0) (omega (arith, c.requires.last_each, c.loop-place.invariant.within)) in
     let from_is = c.ends_of-place.ensures.from ∙ ap (step_from c.args.line.now) step_is in
@@ -33,7 +33,7 @@ loop-place-preserved c =
 
 pub loop-place-smaller : goal.loop-place-smaller
 loop-place-smaller c =
-    let st = state_of c.args.self.now in
+    let st = state_from c.args.self.now in
     let place = c.loop-place.place in
     let step_is : c.index-step.result.now ≡ last_step st.last place = c.index-step.ensures ∙ get_or_default st.last place c.index-step.result.now (Idle 0) (omega (arith, c.requires.last_each, c.loop-place.invariant.within)) in
     let from_is = c.ends_of-place.ensures.from ∙ ap (step_from c.args.line.now) step_is in
@@ -41,4 +41,4 @@ loop-place-smaller c =
 
 pub returns : goal.returns
 returns c =
-    rw c.reverse.ensures.items (subst (λ (v : ℕ). IsTrail c.args.line.now (state_of c.args.self.now) v (reverse c.loop-place.walk.items)) c.loop-place-test.false c.loop-place.invariant.trail)
+    rw c.reverse.ensures.items (subst (λ (v : ℕ). IsTrail c.args.line.now (state_from c.args.self.now) v (reverse c.loop-place.walk.items)) c.loop-place-test.false c.loop-place.invariant.trail)

@@ -12,7 +12,7 @@ returns g c =
     let done = is_ok c.give.result in
     let gives = subst (λ x. GivesWhere g.W.Wire.did x done o c.give.new.self) c.copied.ensures c.give.ensures in
     record {
-      recorded = refl;
+      logged = refl;
       schedule = refl;
       line = record { messages = m ∷ []; text = inl (sym (append-nil (message_frame m.items))); gives = one_given m done o c.give.new.self gives };
       second = (refl, refl);

@@ -1,4 +1,4 @@
-use Rattle.std.proofs.Common.{arith, rules, ◌≡◌, ap, ◌∙◌, ◌<◌, ◌++◌, ◌∷◌, [], inr, Bool, true, is_ok, if◌then◌else◌, vec_len, vec_capacity}
+use Rattle.std.proofs.Common.{arith, rules, ◌≡◌, ◌<◌, ◌++◌, ◌∷◌, [], inr, vec_len, vec_capacity}
 use Rattle.bx_office_door.proofs.Standing.{answered, still_given, is_found}
 use Rattle.bx_office_door.proofs.door.Door.answer.Goals as goal
 

@@ -1,6 +1,6 @@
-use Rattle.std.proofs.Common.{◌≡◌, ap, ◌∙◌, ℕ, List, slice_set}
+use Rattle.std.proofs.Common.{ap, ◌∙◌}
 use Rattle.bx_office_door.specs.declared.guest.Guest.{Guest}
-use Rattle.bx_office_door.specs.Guests.{numbers_of, are_given}
+use Rattle.bx_office_door.specs.Guests.{are_given}
 use Rattle.bx_office_door.proofs.GivenNumbers.{numbers-set}
 use Rattle.bx_office_door.proofs.door.Door.go_on.Goals as goal
 

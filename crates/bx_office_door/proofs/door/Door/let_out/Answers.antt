@@ -1,7 +1,6 @@
 use Rattle.std.proofs.Common.{rules, arith, ◌≡◌, not, filter}
 use Rattle.std.proofs.lemmas.Fn.{filter_same}
 use Rattle.bx_office_door.specs.declared.guest.Guest.{Guest}
-use Rattle.bx_office_door.specs.Guests.{numbers_of}
 use Rattle.bx_office_door.proofs.GivenNumbers.{thinned_filter, given_thinned}
 use Rattle.bx_office_door.proofs.door.Door.let_out.Goals as goal
 

@@ -1,4 +1,4 @@
-use Rattle.std.proofs.Common.{arith, sym, ◌∙◌}
+use Rattle.std.proofs.Common.{arith, ◌∙◌}
 use Rattle.bx_office_door.proofs.Standing.{none_more}
 use Rattle.bx_office_door.proofs.door.Door.place_of.Goals as goal
 

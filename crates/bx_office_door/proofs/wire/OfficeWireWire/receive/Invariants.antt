@@ -1,4 +1,4 @@
-use Rattle.std.proofs.Common.{◌≡◌, ◌-◌, ◌≤◌, length}
+use Rattle.std.proofs.Common.{◌≡◌, ◌-◌, length}
 use Rattle.bx_office_door.proofs.Waits.{Waiting}
 use Rattle.bx_office_door.proofs.wire.OfficeWireWire.receive.Given as goal
 

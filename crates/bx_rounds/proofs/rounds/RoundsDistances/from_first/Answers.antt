@@ -7,7 +7,7 @@ use Rattle.std.proofs.lemmas.List.Elements.{Contains-get_or}
 use Rattle.bx_dist.specs.Walks.{AreDistances, lengths_of}
 use Rattle.bx_dist.specs.Search.{IsStep}
 use Rattle.bx_dist.proofs.Bounds.{zeros_are_bounds}
-use Rattle.bx_rounds.specs.Rounds.{IsNext}
+use Rattle.bx_rounds.specs.Rounds.{IsNextOnCircle}
 use Rattle.bx_rounds.proofs.Passes.{less_after_pass, work_left}
 use Rattle.bx_rounds.proofs.Rounding.{excess, are_steps, medium, settled_reaches, found_distances, found_small}
 use Rattle.bx_rounds.proofs.RoundSteps.{IsRound, step_at, round_first, round_changed, less_changed, round_same, all_settled}
@@ -56,7 +56,7 @@ turned c =
     let here = c.loop-settled.invariant.within (omega arith) in
     let step_is : c.index.result.now ≡ step_at steps c.loop-settled.at = c.index.ensures ∙ get_or_default steps c.loop-settled.at c.index.result.now (Idle 0) here in
     let size : c.len-in-loop-settled.result ≡ length steps = omega (arith, c.in_ok-steps.steps.ok) in
-    let is_next = subst (λ (n : ℕ). IsNext c.loop-settled.at n c.next_in-at.result) size c.next_in-at.ensures in
+    let is_next = subst (λ (n : ℕ). IsNextOnCircle c.loop-settled.at n c.next_in-at.result) size c.next_in-at.ensures in
     let is_new = whole new lengths c.loop-settled.lengths.len (omega (arith, c.deref_mut.ensures.len, c.loop-settled.lengths.ok)) in
     elim c.if-shorten.branch [
       | then-shorten w ↦ (
