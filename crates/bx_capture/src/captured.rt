@@ -8,6 +8,7 @@ ghost use Rattle.bx_frames.specs.Frames.{frame_with, turn_frame};
 ghost use Rattle.bx_capture.specs.Packets.{packet};
 ghost use Rattle.bx_capture.specs.Captures.{packet_sent, is_unfaulted, IsKept, Keeps};
 ghost use Rattle.bx_capture.specs.Keeping.{captured_nothing, captured_on};
+ghost use Rattle.bx_capture.specs.declared.start.TheConstants.{LAST_START};
 ghost use Rattle.bx_capture.specs.declared.packet.Direction.TheVariants.{Sent, Received};
 
 use crate::packet::{Direction, write_packet};
@@ -24,7 +25,7 @@ pub struct Captured<E, W> {
     pub end: E,
     pub file: Option<Watched<W>>,
     pub first: u32,
-    ghost limit: { first ≤ 4294667295 },
+    ghost limit: { first ≤ LAST_START },
 }
 
 /// Writes the packet of a message, unless a write failed before.

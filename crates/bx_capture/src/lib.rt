@@ -9,4 +9,4 @@ mod start;
 pub use captured::{Captured, is_whole, keep, keep_sent};
 pub use fault::BeyondCapture;
 pub use packet::{Direction, write_file_header, write_packet};
-pub use start::first_second;
+pub use start::{LAST_START, first_second};

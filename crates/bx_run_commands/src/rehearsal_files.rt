@@ -1,6 +1,7 @@
 //! The command that rehearses a day.
 
 ghost use Rattle.std.specs.Prelude.{◌≡◌, ◌≤◌, ◌&&◌, not, is_some, Ok, IfOk, IfErr, OnOk};
+ghost use Rattle.bx_capture.specs.declared.start.TheConstants.{LAST_START};
 ghost use Rattle.bx_day_openings.specs.CaptureOpenings.{IsFirstOf};
 ghost use Rattle.bx_day_openings.specs.Recording.{IsRecordsClock, IsRecordsFileFor, IsMade};
 ghost use Rattle.bx_journal.specs.Files.{holds_unknown, may_leave_any, has_failed_in};
@@ -112,7 +113,7 @@ fn rehearse_named<'a, 'h, H: Host, P: Peer + Drop>(
     view: View<'a, H::File>,
     journal: Option<&'a str>,
 ) -> Result<Rehearsed<JournalDisk<H::File>>, LiveFault<'a>>
-    requires limit { view.first ≤ 4294667295 }
+    requires limit { view.first ≤ LAST_START }
     requires kept { is_some opened.disk ≡ is_some journal }
     ensures ran { IfOk result
         (RehearsesTowards P.wrote P.gave P.parted holds_unknown may_leave_any has_failed_in H.File.contents opened peer view.entry.file view.entry.first) }
@@ -133,7 +134,7 @@ fn rehearse_script<'a, H: Host, I: Inputs>(
     opening: Opening,
     seen: Seen,
 ) -> Result<Run<'a, H::File>, LiveFault<'a>>
-    requires { seen.first ≤ 4294667295 }
+    requires { seen.first ≤ LAST_START }
     ensures ran { IfOk result (λ run. IsRehearsedFrom H.File.contents (Asked.Script script.entry) request.entry seen.first opening run.rehearsed) }
     ensures records { IfOk result (λ run. IsRecordsFileFor request.entry.records seen.clock run.records) }
     ensures stopped { IfErr result (λ fault. StopsAtPeerByClock H.File.contents (Asked.Script script.entry) request.entry seen.clock fault) }
@@ -163,7 +164,7 @@ fn rehearse_at<'a, H: Host>(
     opening: Opening,
     seen: Seen,
 ) -> Result<Run<'a, H::File>, LiveFault<'a>>
-    requires { seen.first ≤ 4294667295 }
+    requires { seen.first ≤ LAST_START }
     ensures ran { IfOk result (λ run. IsRehearsedFrom H.File.contents (Asked.At place.entry) request.entry seen.first opening run.rehearsed) }
     ensures records { IfOk result (λ run. IsRecordsFileFor request.entry.records seen.clock run.records) }
     ensures stopped { IfErr result (λ fault. StopsAfterPeerByClock H.File.contents (Asked.At place.entry) request.entry seen.clock fault) }
@@ -195,7 +196,7 @@ fn rehearse_with_peer<'a, H: Host, I: Inputs>(
     opening: Opening,
     seen: Seen,
 ) -> Result<Run<'a, H::File>, LiveFault<'a>>
-    requires { seen.first ≤ 4294667295 }
+    requires { seen.first ≤ LAST_START }
     ensures ran { IfOk result (λ run. IsRehearsedFrom H.File.contents request.entry.peer request.entry seen.first opening run.rehearsed) }
     ensures records { IfOk result (λ run. IsRecordsFileFor request.entry.records seen.clock run.records) }
     ensures stopped { IfErr result (λ fault. StopsAtPeerByClock H.File.contents request.entry.peer request.entry seen.clock fault) }
@@ -228,7 +229,7 @@ fn seen_of<'a>(
     is_terminal: bool,
 ) -> Result<Seen, DayCommandFault<'a>>
     ensures first { IfOk result (λ seen. IsFirstOf request.entry.sight.capture seen.first) }
-    ensures limit { IfOk result (λ seen. seen.first ≤ 4294667295) }
+    ensures limit { IfOk result (λ seen. seen.first ≤ LAST_START) }
     ensures clock { IfOk result (λ seen. IsRecordsClock request.entry.records seen.clock) }
     ensures shown { IfOk result (λ seen. seen.is_shown ≡ (is_terminal && not request.entry.sight.is_quiet)) }
     ensures refused { IfErr result (IsUnseen request.entry) }

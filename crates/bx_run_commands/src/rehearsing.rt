@@ -1,6 +1,7 @@
 //! A day that is opened, rehearsed: as fast as its peer goes.
 
 ghost use Rattle.std.specs.Prelude.{◌≡◌, ◌≤◌, true, is_some, IfOk, OnErr};
+ghost use Rattle.bx_capture.specs.declared.start.TheConstants.{LAST_START};
 ghost use Rattle.bx_run_commands.specs.RehearsalsInside.{IsPutAway};
 ghost use Rattle.bx_run_commands.specs.Rehearsals.{RehearsesTowards};
 ghost use Rattle.bx_run_commands.specs.WaitingDisks.{HasBegun};
@@ -77,7 +78,7 @@ pub fn rehearse<'a, 'h, H: Clock + Eprint, P: Peer + Drop, D: Disk + Drop, F: Wr
     peer: P,
     view: View<'a, F>,
 ) -> Result<Rehearsed<D>, CannotLog>
-    requires { view.first ≤ 4294667295 }
+    requires { view.first ≤ LAST_START }
     ensures failed { OnErr result (is_some opened.disk ≡ true) }
     ensures ran { IfOk result
         (RehearsesTowards P.wrote P.gave P.parted D.holds D.may_leave D.has_failed F.contents opened peer view.entry.file view.entry.first) }

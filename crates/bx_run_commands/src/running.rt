@@ -1,6 +1,7 @@
 //! A day that is opened, run over a world.
 
 ghost use Rattle.std.specs.Prelude.{◌≤◌};
+ghost use Rattle.bx_capture.specs.declared.start.TheConstants.{LAST_START};
 ghost use Rattle.bx_run_commands.specs.Runs.{RunsIn};
 
 use bx_calendar::Clock as DayClock;
@@ -43,7 +44,7 @@ pub fn run_in<'a, 'h, H: Clock + Eprint, W: World, F: Write + Drop>(
     turns: u32,
     view: View<'a, F>,
 ) -> Ran<W>
-    requires { view.first ≤ 4294667295 }
+    requires { view.first ≤ LAST_START }
     ensures { RunsIn W.did world result.world turns exchange.old exchange.new result.done F.contents view.entry.file view.entry.first result.is_whole }
 {
     let View {
