@@ -14,8 +14,8 @@ event_in (marks.Heard octets) = OnLink (Receive octets.items)
 event_in marks.Down = WithoutLink
 event_in (marks.Bought line) = Sold line.items
 
-abbrev pub events_marked : List Mark → List LiveEvent
-events_marked kept = map event_in kept
+abbrev pub events_kept : List Mark → List LiveEvent
+events_kept kept = map event_in kept
 
 pub none_added : (before : List LiveEvent) → before ≡ before ++ logged_by []
 none_added before = sym (append-nil before)

@@ -3,7 +3,7 @@
 ghost use Rattle.std.specs.Prelude.{◌≡◌, ◌++◌, ◌∷◌, [], is_ok, IfSome};
 ghost use Rattle.bx_events.specs.Told.{live_event_of};
 ghost use Rattle.bx_live.specs.Acts.{Logged, logged_by};
-ghost use Rattle.bx_link_tests.specs.Marks.{event_in, events_marked};
+ghost use Rattle.bx_link_tests.specs.Marks.{event_in, events_kept};
 
 use arrayvec::ArrayVec;
 use bx_events::{Event, LiveEvent};
@@ -56,7 +56,7 @@ impl Journal {
 
     /// Adds the line of an event.
     pub fn add(&mut self, event: LiveEvent<'_>) -> Result<(), CannotLog>
-        ensures { events_marked self.new.marks.items ≡ events_marked self.old.marks.items ++ logged_by (Logged (live_event_of event.entry) (is_ok result) ∷ []) }
+        ensures { events_kept self.new.marks.items ≡ events_kept self.old.marks.items ++ logged_by (Logged (live_event_of event.entry) (is_ok result) ∷ []) }
     {
         if self.room == 0 {
             return Err(CannotLog);

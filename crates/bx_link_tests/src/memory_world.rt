@@ -90,9 +90,9 @@ impl MemoryWorld {
 impl World for MemoryWorld {
     ghost use Rattle.std.specs.Prelude.{◌≡◌, ◌++◌};
     ghost use Rattle.bx_live.specs.Acts.{logged_by};
-    ghost use Rattle.bx_link_tests.specs.Marks.{events_marked, none_added, more_added};
+    ghost use Rattle.bx_link_tests.specs.Marks.{events_kept, none_added, more_added};
 
-    ghost did = { λ s acts t. events_marked t.journal.marks.items ≡ events_marked s.journal.marks.items ++ logged_by acts };
+    ghost did = { λ s acts t. events_kept t.journal.marks.items ≡ events_kept s.journal.marks.items ++ logged_by acts };
 
     fn begin(&mut self, second: u32) -> Begin {
         let index = second as usize;
@@ -170,7 +170,8 @@ impl World for MemoryWorld {
         self.is_over = true;
     }
 
-    ghost did_nothing = { λ s. none_added (events_marked s.journal.marks.items) };
+    ghost did_nothing = { λ s. none_added (events_kept s.journal.marks.items) };
 
-    ghost did_more = { λ s t u xs ys p q. more_added (events_marked s.journal.marks.items) (events_marked t.journal.marks.items) (events_marked u.journal.marks.items) xs ys p q };
+    ghost did_more = { λ s t u xs ys p q.
+        more_added (events_kept s.journal.marks.items) (events_kept t.journal.marks.items) (events_kept u.journal.marks.items) xs ys p q };
 }
