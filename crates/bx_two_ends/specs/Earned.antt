@@ -8,6 +8,7 @@ use Rattle.bx_calls.specs.NetTable.{fits_active, net_message, net_unlinked}
 use Rattle.bx_calls.specs.PlainCalls.{PlainNetCall}
 use Rattle.bx_channels.specs.Marks.{is_marked}
 use Rattle.bx_day.specs.Day.{opening}
+use Rattle.bx_day.specs.Invariant.{stands_accepted}
 use Rattle.bx_day.specs.Law.{standing_at}
 use Rattle.bx_day.specs.Moves.{is_active}
 use Rattle.bx_day.specs.Outages.{live_day_after}
@@ -162,7 +163,7 @@ IsAcceptedAsPlanned =
     (rows : List Row) (channels : List Bool) (assigned : List (Option ℕ)) (events : List LiveEvent) →
     AreBookings rows →
     Carries rows channels (is_accepted assigned) (channel_at assigned) →
-    pays_of totals.is_accepted (live_day_after events (opening rows assigned)).entries ≡ pay_of rows (is_accepted assigned)
+    pays_of stands_accepted (live_day_after events (opening rows assigned)).entries ≡ pay_of rows (is_accepted assigned)
 
 -- where each turn is answered, and each accepted booking has its seconds or is called, the totals have as much as carried
 abbrev pub IsPaidAsPlanned : Type 0
