@@ -1,9 +1,10 @@
 //! The arguments that commands take.
 
+use clap::builder::ValueParser;
 use clap::{Arg, ArgAction, value_parser};
 use std::alloc::{AllocError, Global};
 
-/// How an argument is written.
+/// How an argument is written. The names in a list are those of the arguments beside which alone it stands.
 pub enum Form {
     /// A word at its place, which has to be there.
     Place,
@@ -11,32 +12,24 @@ pub enum Form {
     Number,
     /// An option that has to be there.
     Needed,
-    /// An option that stands for this where it is not there.
-    Default(&'static str),
+    /// An option that stands for this value where it is not there.
+    Default(&'static [&'static str]),
     /// An option that may be left out.
-    Optional,
-    /// An option that may be left out, and stands only beside another.
-    Beside(&'static str),
+    Optional(&'static [&'static str]),
     /// An option without a value.
-    Flag,
+    Flag(&'static [&'static str]),
     /// An option for a number of seconds of a day, from 1 on.
-    Seconds,
-    /// The same, which stands only beside another.
-    SecondsBeside(&'static str),
+    Seconds(&'static [&'static str]),
+    /// An option for how many seconds of a day go by in one of the clock, 1 to 1,000.
+    Pace(&'static [&'static str]),
     /// An option for a port, which has to be there, or a socket or a line in its place.
     Port,
+    /// An option for a port that may be left out, and stands in place of others.
+    PortBeside(&'static [&'static str], &'static [&'static str]),
     /// An option for a socket in place of a port.
     Socket,
-    /// An option for a line in place of a port, which stands only beside others.
+    /// An option for a line in place of a port.
     Line(&'static [&'static str]),
-    /// An option without a value that stands only beside another.
-    FlagBeside(&'static str),
-    /// An option for how many seconds of a day go by in one of the clock, 1 to 1,000, that stands only beside another.
-    Pace(&'static str),
-    /// An option that stands only beside others.
-    BesideAll(&'static [&'static str]),
-    /// An option for a port that stands only beside others, and in place of another.
-    PortBeside(&'static [&'static str], &'static str),
 }
 
 /// An argument: its name, what stands for its value in the help, its form, and its help.
@@ -58,7 +51,7 @@ pub const DATE: Argument = Argument {
 pub const ZONE: Argument = Argument {
     name: "zone",
     value: "RULE",
-    form: Form::Default("UTC0"),
+    form: Form::Default(&["UTC0"]),
     help: "\
         The zone of its midnights, as a POSIX rule like CET-1CEST,M3.5.0,M10.5.0/3",
 };
@@ -66,7 +59,7 @@ pub const ZONE: Argument = Argument {
 pub const CHANNELS: Argument = Argument {
     name: "channels",
     value: "LIST",
-    form: Form::Default("1-15,17-31"),
+    form: Form::Default(&["1-15,17-31"]),
     help: "\
         The B channels in service: numbers and ranges separated by commas, or none",
 };
@@ -114,7 +107,7 @@ pub const SCRIPT: Argument = Argument {
 pub const TURNS: Argument = Argument {
     name: "turns",
     value: "N",
-    form: Form::Seconds,
+    form: Form::Seconds(&[]),
     help: "\
         Seconds of the day to run, 1 to 300000 [default: until 38 s after the end of the last accepted booking]",
 };
@@ -155,7 +148,7 @@ pub const FAR_LINE: Argument = Argument {
 pub const LIVE: Argument = Argument {
     name: "live",
     value: "",
-    form: Form::FlagBeside("line"),
+    form: Form::Flag(&["line"]),
     help: "\
         Run the day by the clock, over a data link: its first second is the midnight of --date",
 };
@@ -163,7 +156,7 @@ pub const LIVE: Argument = Argument {
 pub const SERVED_DAY: Argument = Argument {
     name: "date",
     value: "DATE",
-    form: Form::Optional,
+    form: Form::Optional(&[]),
     help: "\
         The day, as YYYY-MM-DD: that of a live day, or of the times of a capture and of records, which else are seconds of the day",
 };
@@ -171,7 +164,7 @@ pub const SERVED_DAY: Argument = Argument {
 pub const FAR_PACE: Argument = Argument {
     name: "pace",
     value: "N",
-    form: Form::Pace("line"),
+    form: Form::Pace(&["line"]),
     help: "\
         Seconds of the day in one of the clock, 1 to 1000 [default: 1]",
 };
@@ -179,7 +172,7 @@ pub const FAR_PACE: Argument = Argument {
 pub const FAR_TURNS: Argument = Argument {
     name: "turns",
     value: "N",
-    form: Form::SecondsBeside("line"),
+    form: Form::Seconds(&["line"]),
     help: "\
         Seconds of the day to run, 1 to 300000 [default: until 38 s after the end of the day]",
 };
@@ -187,7 +180,7 @@ pub const FAR_TURNS: Argument = Argument {
 pub const PACE: Argument = Argument {
     name: "pace",
     value: "N",
-    form: Form::Pace("live"),
+    form: Form::Pace(&["live"]),
     help: "\
         Seconds of a live day in one of the clock, 1 to 1000 [default: 1]",
 };
@@ -195,7 +188,7 @@ pub const PACE: Argument = Argument {
 pub const NEW_JOURNAL: Argument = Argument {
     name: "journal",
     value: "FILE",
-    form: Form::Optional,
+    form: Form::Optional(&[]),
     help: "\
         Log each event in this file, which has to be new or empty, before anything is sent for it",
 };
@@ -203,7 +196,7 @@ pub const NEW_JOURNAL: Argument = Argument {
 pub const KEPT_JOURNAL: Argument = Argument {
     name: "journal",
     value: "FILE",
-    form: Form::Optional,
+    form: Form::Optional(&[]),
     help: "\
         Log each event in this file before anything is sent for it: a new or empty one; a live day goes on from what stands there",
 };
@@ -211,7 +204,7 @@ pub const KEPT_JOURNAL: Argument = Argument {
 pub const OFFICE: Argument = Argument {
     name: "office",
     value: "PATH",
-    form: Form::BesideAll(&["live", "journal"]),
+    form: Form::Optional(&["live", "journal"]),
     help: "\
         The path of a Unix socket for a booking office over HTTP: quotes, sales and the state of a live day while it runs",
 };
@@ -219,7 +212,7 @@ pub const OFFICE: Argument = Argument {
 pub const OFFICE_PORT: Argument = Argument {
     name: "office-port",
     value: "P",
-    form: Form::PortBeside(&["live", "journal"], "office"),
+    form: Form::PortBeside(&["live", "journal"], &["office"]),
     help: "\
         The TCP port on 127.0.0.1 for it, in place of a socket",
 };
@@ -227,7 +220,7 @@ pub const OFFICE_PORT: Argument = Argument {
 pub const DRAWN_JOURNAL: Argument = Argument {
     name: "journal",
     value: "FILE",
-    form: Form::Optional,
+    form: Form::Optional(&[]),
     help: "\
         The file of the journal of the plan's day, or - for standard input: draw the day as it went",
 };
@@ -235,7 +228,7 @@ pub const DRAWN_JOURNAL: Argument = Argument {
 pub const RECORDS: Argument = Argument {
     name: "records",
     value: "FILE",
-    form: Form::Optional,
+    form: Form::Optional(&[]),
     help: "\
         When the day has ended write its records into this file, as CSV for bills and spreadsheets",
 };
@@ -275,7 +268,7 @@ pub const END: Argument = Argument {
 pub const INWARD: Argument = Argument {
     name: "inward",
     value: "",
-    form: Form::Flag,
+    form: Form::Flag(&[]),
     help: "\
         The far end makes the call",
 };
@@ -283,7 +276,7 @@ pub const INWARD: Argument = Argument {
 pub const DAY: Argument = Argument {
     name: "date",
     value: "DATE",
-    form: Form::Optional,
+    form: Form::Optional(&[]),
     help: "\
         The day of the plan, as YYYY-MM-DD, where START and END are times",
 };
@@ -291,7 +284,7 @@ pub const DAY: Argument = Argument {
 pub const PICTURED_DAY: Argument = Argument {
     name: "date",
     value: "DATE",
-    form: Form::Optional,
+    form: Form::Optional(&[]),
     help: "\
         The day of the plan, as YYYY-MM-DD: the picture is as long as it",
 };
@@ -299,7 +292,7 @@ pub const PICTURED_DAY: Argument = Argument {
 pub const CAPTURE: Argument = Argument {
     name: "capture",
     value: "FILE",
-    form: Form::Optional,
+    form: Form::Optional(&[]),
     help: "\
         Write each message that goes over the link into this capture file, which Wireshark reads",
 };
@@ -307,7 +300,7 @@ pub const CAPTURE: Argument = Argument {
 pub const SEEN_DAY: Argument = Argument {
     name: "date",
     value: "DATE",
-    form: Form::Optional,
+    form: Form::Optional(&[]),
     help: "\
         The day, as YYYY-MM-DD: the times of the capture and of the records are its own, and not seconds of the day",
 };
@@ -315,7 +308,7 @@ pub const SEEN_DAY: Argument = Argument {
 pub const CAPTURED_DAY: Argument = Argument {
     name: "date",
     value: "DATE",
-    form: Form::Beside("capture"),
+    form: Form::Optional(&["capture"]),
     help: "\
         The day, as YYYY-MM-DD: the time stamps of the capture are its instants, and not seconds of the day",
 };
@@ -323,7 +316,7 @@ pub const CAPTURED_DAY: Argument = Argument {
 pub const FAR_DAY: Argument = Argument {
     name: "date",
     value: "DATE",
-    form: Form::Optional,
+    form: Form::Optional(&[]),
     help: "\
         The day, as YYYY-MM-DD: that of a day by the clock, or of the time stamps of a capture, which else are seconds of the day",
 };
@@ -331,7 +324,7 @@ pub const FAR_DAY: Argument = Argument {
 pub const QUIET: Argument = Argument {
     name: "quiet",
     value: "",
-    form: Form::Flag,
+    form: Form::Flag(&[]),
     help: "\
         Show no progress, which else stands on standard error where that is a terminal",
 };
@@ -339,7 +332,7 @@ pub const QUIET: Argument = Argument {
 pub const LOGGED_DAY: Argument = Argument {
     name: "date",
     value: "DATE",
-    form: Form::Optional,
+    form: Form::Optional(&[]),
     help: "\
         The day, as YYYY-MM-DD: moments are its local times, and not seconds of the day",
 };
@@ -347,7 +340,7 @@ pub const LOGGED_DAY: Argument = Argument {
 pub const NO_TOTALS: Argument = Argument {
     name: "quiet",
     value: "",
-    form: Form::Flag,
+    form: Form::Flag(&[]),
     help: "\
         Print no totals, which else stand on standard error",
 };
@@ -355,68 +348,94 @@ pub const NO_TOTALS: Argument = Argument {
 pub const DAY_ZONE: Argument = Argument {
     name: "zone",
     value: "RULE",
-    form: Form::Beside("date"),
+    form: Form::Optional(&["date"]),
     help: "\
         The zone of its midnights, as a POSIX rule like CET-1CEST,M3.5.0,M10.5.0/3 [default: UTC0]",
 };
 
-/// An argument for a word, as `clap` knows it.
-fn word_of<'a>(arg: Arg<'a>, argument: &Argument) -> Result<Arg<'a>, AllocError> {
-    match argument.form {
-        Form::Place => Ok(arg.required(true)),
-        Form::Needed => Ok(arg.long(argument.name).required(true)),
-        Form::Default(value) => Ok(arg.long(argument.name).default_value(value)),
-        Form::Beside(other) => arg.long(argument.name).requires_arg(other),
-        Form::BesideAll(others) => arg.long(argument.name).requires_all(others),
-        Form::Socket => arg.long(argument.name).conflicts_with("port"),
-        Form::Line(others) => arg
-            .long(argument.name)
-            .conflicts_with_all(&["port", "socket"])?
-            .requires_all(others),
-        _ => Ok(arg.long(argument.name)),
+/// The arguments beside which alone one of this form stands.
+fn needs_of(form: &Form) -> &'static [&'static str] {
+    match form {
+        Form::Optional(others)
+        | Form::Flag(others)
+        | Form::Seconds(others)
+        | Form::Pace(others)
+        | Form::PortBeside(others, _)
+        | Form::Line(others) => others,
+        _ => &[],
     }
 }
 
-/// An option for a port, as `clap` knows it.
-fn port_of<'a>(arg: Arg<'a>, argument: &Argument) -> Result<Arg<'a>, AllocError> {
-    let arg = arg
-        .long(argument.name)
-        .value_parser(value_parser!(u16).range(1..));
-    match argument.form {
-        Form::PortBeside(others, instead) => arg.requires_all(others)?.conflicts_with(instead),
-        _ => arg.required_unless_present_any(&["socket", "line"]),
+/// The arguments in place of which one of this form stands.
+fn conflicts_of(form: &Form) -> &'static [&'static str] {
+    match form {
+        Form::Socket => &["port"],
+        Form::Line(_) => &["port", "socket"],
+        Form::PortBeside(_, others) => others,
+        _ => &[],
     }
 }
 
-/// An option for a number of seconds of a day, as `clap` knows it.
-fn seconds_of<'a>(arg: Arg<'a>, argument: &Argument) -> Result<Arg<'a>, AllocError> {
-    let arg = arg.long(argument.name);
-    match argument.form {
-        Form::Pace(other) => arg
-            .value_parser(value_parser!(u32).range(1..=1_000))
-            .requires_arg(other),
-        Form::SecondsBeside(other) => arg
-            .value_parser(value_parser!(u32).range(1..=300_000))
-            .requires_arg(other),
-        _ => Ok(arg.value_parser(value_parser!(u32).range(1..=300_000))),
+/// The arguments of which one has to be there where one of this form is not.
+fn stand_ins_of(form: &Form) -> &'static [&'static str] {
+    match form {
+        Form::Port => &["socket", "line"],
+        _ => &[],
     }
+}
+
+/// What stands for the value of one of this form that is not there.
+fn defaults_of(form: &Form) -> &'static [&'static str] {
+    match form {
+        Form::Default(values) => values,
+        _ => &[],
+    }
+}
+
+/// What a value of this form has to be.
+fn parser_of(form: &Form) -> ValueParser<'static> {
+    match form {
+        Form::Flag(_) => ValueParser::Bool,
+        Form::Number => value_parser!(u16).into(),
+        Form::Port | Form::PortBeside(..) => value_parser!(u16).range(1..).into(),
+        Form::Seconds(_) => value_parser!(u32).range(1..=300_000).into(),
+        Form::Pace(_) => value_parser!(u32).range(1..=1_000).into(),
+        _ => ValueParser::String,
+    }
+}
+
+/// What a use of one of this form does.
+fn action_of(form: &Form) -> ArgAction {
+    match form {
+        Form::Flag(_) => ArgAction::SetTrue,
+        _ => ArgAction::Set,
+    }
+}
+
+/// The argument as an option, where it is one.
+fn named<'a>(arg: Arg<'a>, argument: &Argument) -> Arg<'a> {
+    match argument.form {
+        Form::Place | Form::Number => arg,
+        _ => arg.long(argument.name),
+    }
+}
+
+/// The argument with what others ask of it.
+fn related<'a>(arg: Arg<'a>, form: &Form) -> Result<Arg<'a>, AllocError> {
+    arg.requires_all(needs_of(form))?
+        .conflicts_with_all(conflicts_of(form))?
+        .required_unless_present_any(stand_ins_of(form))
 }
 
 /// The argument as `clap` knows it.
 pub(crate) fn arg_of<'a>(alloc: Global, argument: &Argument) -> Result<Arg<'a>, AllocError> {
-    let arg = Arg::new(alloc, argument.name).help(argument.help);
-    let flag = ArgAction::SetTrue;
-    match argument.form {
-        Form::Flag => Ok(arg.long(argument.name).action(flag)),
-        Form::FlagBeside(other) => arg.long(argument.name).action(flag).requires_arg(other),
-        Form::Number => Ok(
-            arg.value_name(argument.value)
-                .value_parser(value_parser!(u16)),
-        ),
-        Form::Port | Form::PortBeside(..) => port_of(arg.value_name(argument.value), argument),
-        Form::Seconds | Form::SecondsBeside(_) | Form::Pace(_) => {
-            seconds_of(arg.value_name(argument.value), argument)
-        }
-        _ => word_of(arg.value_name(argument.value), argument),
-    }
+    let form = &argument.form;
+    let arg = Arg::new(alloc, argument.name)
+        .help(argument.help)
+        .value_name(argument.value)
+        .required(matches!(form, Form::Place | Form::Needed))
+        .action(action_of(form))
+        .value_parser(parser_of(form))
+        .default_values(defaults_of(form));
+    related(named(arg, argument), form)
 }

@@ -127,46 +127,65 @@ fn call_of<'a>(matches: &ArgMatches<'a>) -> Call<'a> {
     }
 }
 
-/// The command on files that has this name and these words, where it is one.
-fn file_request<'a>(
-    alloc: Global,
-    name: &str,
-    matches: &ArgMatches<'a>,
-) -> Result<Option<FileRequest<'a>>, Refusal> {
-    match name {
-        "plan" => Ok(Some(FileRequest::Plan {
-            terms: terms_of(alloc, matches)?,
-            bookings: word(matches, "bookings"),
-        })),
-        "check" => Ok(Some(FileRequest::Check {
-            terms: terms_of(alloc, matches)?,
-            bookings: word(matches, "bookings"),
-            plan: word(matches, "plan"),
-        })),
-        "amend" => Ok(Some(FileRequest::Amend {
-            date: word(matches, "date"),
-            zone: word(matches, "zone"),
-            plan: word(matches, "plan"),
-            bookings: word(matches, "bookings"),
-        })),
-        "capacity" => Ok(Some(FileRequest::Capacity {
-            date: word(matches, "date"),
-            zone: word(matches, "zone"),
-            bookings: word(matches, "bookings"),
-        })),
-        "explain" => Ok(Some(FileRequest::Explain {
-            plan: word(matches, "plan"),
-            row: matches.get_one::<u16>("row"),
-        })),
-        "quote" => Ok(Some(FileRequest::Quote {
-            plan: word(matches, "plan"),
-            call: call_of(matches),
-        })),
-        "chart" => Ok(Some(FileRequest::Chart {
-            plan: word(matches, "plan"),
-            day: day_of(matches),
-        })),
-        _ => Ok(None),
+/// The plan that these words want.
+fn plan_request<'a>(alloc: Global, matches: &ArgMatches<'a>) -> Result<Request<'a>, Refusal> {
+    let terms = terms_of(alloc, matches)?;
+    let bookings = word(matches, "bookings");
+    Ok(Request::Files(FileRequest::Plan { terms, bookings }))
+}
+
+/// The check of a plan that these words want.
+fn check_request<'a>(alloc: Global, matches: &ArgMatches<'a>) -> Result<Request<'a>, Refusal> {
+    let terms = terms_of(alloc, matches)?;
+    Ok(Request::Files(FileRequest::Check {
+        terms,
+        bookings: word(matches, "bookings"),
+        plan: word(matches, "plan"),
+    }))
+}
+
+/// The plan for more bookings that these words want.
+fn amend_request<'a>(matches: &ArgMatches<'a>) -> Request<'a> {
+    Request::Files(FileRequest::Amend {
+        date: word(matches, "date"),
+        zone: word(matches, "zone"),
+        plan: word(matches, "plan"),
+        bookings: word(matches, "bookings"),
+    })
+}
+
+/// What other numbers of channels earn, which these words want.
+fn capacity_request<'a>(matches: &ArgMatches<'a>) -> Request<'a> {
+    Request::Files(FileRequest::Capacity {
+        date: word(matches, "date"),
+        zone: word(matches, "zone"),
+        bookings: word(matches, "bookings"),
+    })
+}
+
+/// What these words want explained.
+fn explain_request<'a>(matches: &ArgMatches<'a>) -> Request<'a> {
+    Request::Files(FileRequest::Explain {
+        plan: word(matches, "plan"),
+        row: matches.get_one::<u16>("row"),
+    })
+}
+
+/// The quote that these words want.
+fn quote_request<'a>(matches: &ArgMatches<'a>) -> Request<'a> {
+    Request::Files(FileRequest::Quote {
+        plan: word(matches, "plan"),
+        call: call_of(matches),
+    })
+}
+
+/// The picture that these words want: of a day by its journal, where they name one, and else of a plan.
+fn chart_request<'a>(matches: &ArgMatches<'a>) -> Request<'a> {
+    let plan = word(matches, "plan");
+    let day = day_of(matches);
+    match matches.get_str("journal") {
+        Some(journal) => Request::DayChart(DayChartRequest { plan, journal, day }),
+        None => Request::Files(FileRequest::Chart { plan, day }),
     }
 }
 
@@ -232,22 +251,24 @@ fn office_of<'a>(alloc: Global, matches: &ArgMatches<'a>) -> Result<Option<Place
 }
 
 /// The day that these words want to be run by the clock.
-fn live_request<'a>(alloc: Global, matches: &ArgMatches<'a>) -> Result<LiveRequest<'a>, Refusal> {
+fn live_request<'a>(alloc: Global, matches: &ArgMatches<'a>) -> Result<Request<'a>, Refusal> {
     if matches.get_str("capture").is_some() || matches.get_str("records").is_some() {
         return Err(wrong(
             alloc,
             "'--capture <FILE>' and '--records <FILE>' do not stand beside '--live': `bx audit --capture` and `bx records` make both by the journal, at any time",
         ));
     }
-    Ok(LiveRequest {
+    let line = line_of(alloc, word(matches, "line"))?;
+    let office = office_of(alloc, matches)?;
+    Ok(Request::Live(LiveRequest {
         plan: word(matches, "plan"),
-        line: line_of(alloc, word(matches, "line"))?,
+        line,
         hours: hours_of(matches),
         journal: matches.get_str("journal"),
-        office: office_of(alloc, matches)?,
+        office,
         turns: matches.get_one::<u32>("turns"),
         is_quiet: matches.get_flag("quiet"),
-    })
+    }))
 }
 
 /// Whether a day is named, and nothing that needs it.
@@ -272,7 +293,7 @@ fn day_request<'a>(alloc: Global, matches: &ArgMatches<'a>) -> Result<Request<'a
 /// What these words want of an exchange that serves.
 fn serve_request<'a>(alloc: Global, matches: &ArgMatches<'a>) -> Result<Request<'a>, Refusal> {
     if matches.get_flag("live") {
-        return Ok(Request::Live(live_request(alloc, matches)?));
+        return live_request(alloc, matches);
     }
     if is_date_alone(matches) {
         return Err(wrong(
@@ -290,9 +311,10 @@ fn far_line_request<'a>(
     matches: &ArgMatches<'a>,
     line: &str,
 ) -> Result<Request<'a>, Refusal> {
+    let line = line_of(alloc, line)?;
     Ok(Request::FarLine(FarLineRequest {
         script: word(matches, "script"),
-        line: line_of(alloc, line)?,
+        line,
         hours: hours_of(matches),
         turns: matches.get_one::<u32>("turns"),
         capture: matches.get_str("capture"),
@@ -311,65 +333,45 @@ fn far_request<'a>(alloc: Global, matches: &ArgMatches<'a>) -> Result<Request<'a
             "'--date <DATE>' stands only beside '--line <HERE:THERE>' or '--capture <FILE>'",
         ));
     }
+    let place = place_of(alloc, matches)?;
     Ok(Request::Far(FarRequest {
         script: word(matches, "script"),
-        place: place_of(alloc, matches)?,
+        place,
         sight: sight_of(matches),
     }))
 }
 
 /// The day that these words want to be told by its journal.
-fn audit_request<'a>(matches: &ArgMatches<'a>) -> AuditRequest<'a> {
-    AuditRequest {
+fn audit_request<'a>(matches: &ArgMatches<'a>) -> Request<'a> {
+    Request::Audit(AuditRequest {
         plan: word(matches, "plan"),
         journal: word(matches, "journal"),
         capture: capture_of(matches),
-    }
+    })
 }
 
 /// The records that these words want of a day by its journal.
-fn records_request<'a>(matches: &ArgMatches<'a>) -> RecordsRequest<'a> {
-    RecordsRequest {
+fn records_request<'a>(matches: &ArgMatches<'a>) -> Request<'a> {
+    Request::Records(RecordsRequest {
         plan: word(matches, "plan"),
         journal: word(matches, "journal"),
         day: day_of(matches),
         is_quiet: matches.get_flag("quiet"),
-    }
-}
-
-/// The picture that these words want of a day by its journal, where they name one.
-fn day_chart_request<'a>(matches: &ArgMatches<'a>) -> Option<Request<'a>> {
-    let journal = matches.get_str("journal")?;
-    Some(Request::DayChart(DayChartRequest {
-        plan: word(matches, "plan"),
-        journal,
-        day: day_of(matches),
-    }))
+    })
 }
 
 /// The last plan that these words want of a day by its journal.
-fn sold_request<'a>(matches: &ArgMatches<'a>) -> SoldRequest<'a> {
-    SoldRequest {
+fn sold_request<'a>(matches: &ArgMatches<'a>) -> Request<'a> {
+    Request::Sold(SoldRequest {
         plan: word(matches, "plan"),
         journal: word(matches, "journal"),
-    }
+    })
 }
 
-/// The command on a plan's day that has this name and these words, where it is one.
-fn request_for_day<'a>(
-    alloc: Global,
-    name: &str,
-    matches: &ArgMatches<'a>,
-) -> Result<Option<Request<'a>>, Refusal> {
-    match name {
-        "day" => Ok(Some(day_request(alloc, matches)?)),
-        "serve" => Ok(Some(serve_request(alloc, matches)?)),
-        "far" => Ok(Some(far_request(alloc, matches)?)),
-        "audit" => Ok(Some(Request::Audit(audit_request(matches)))),
-        "records" => Ok(Some(Request::Records(records_request(matches)))),
-        "sold" => Ok(Some(Request::Sold(sold_request(matches)))),
-        "chart" => Ok(day_chart_request(matches)),
-        _ => Ok(None),
+/// The message that these words want decoded.
+fn decode_request<'a>(matches: &ArgMatches<'a>) -> Request<'a> {
+    Request::Decode {
+        octets: word(matches, "octets"),
     }
 }
 
@@ -379,14 +381,21 @@ fn request_of<'a>(
     name: &str,
     matches: &ArgMatches<'a>,
 ) -> Result<Request<'a>, Refusal> {
-    if let Some(request) = request_for_day(alloc, name, matches)? {
-        return Ok(request);
-    }
-    match file_request(alloc, name, matches)? {
-        Some(request) => Ok(Request::Files(request)),
-        None => Ok(Request::Decode {
-            octets: word(matches, "octets"),
-        }),
+    match name {
+        "plan" => plan_request(alloc, matches),
+        "check" => check_request(alloc, matches),
+        "amend" => Ok(amend_request(matches)),
+        "capacity" => Ok(capacity_request(matches)),
+        "explain" => Ok(explain_request(matches)),
+        "quote" => Ok(quote_request(matches)),
+        "chart" => Ok(chart_request(matches)),
+        "day" => day_request(alloc, matches),
+        "serve" => serve_request(alloc, matches),
+        "far" => far_request(alloc, matches),
+        "audit" => Ok(audit_request(matches)),
+        "records" => Ok(records_request(matches)),
+        "sold" => Ok(sold_request(matches)),
+        _ => Ok(decode_request(matches)),
     }
 }
 
