@@ -22,10 +22,10 @@ use Rattle.bx_day.specs.Course.{exchange_next, exchange_sent}
 use Rattle.bx_day.specs.Outages.{live_happens}
 use Rattle.bx_planfile.specs.OneBooking.{row_on}
 use Rattle.bx_sales.specs.Selling.{IsSold}
-use Rattle.bx_restart.specs.Going.{IsStopped, GoesFrom}
-use Rattle.bx_restart.specs.Sales.{IsBadSale}
-use Rattle.bx_restart.specs.Selling.{day_goes}
-use Rattle.bx_restart.specs.declared.reselling.SaleFault.{SaleFault}
+use Rattle.bx_day_openings.specs.Going.{IsStopped, GoesFrom}
+use Rattle.bx_day_openings.specs.Sales.{IsBadSale}
+use Rattle.bx_day_openings.specs.Selling.{day_goes}
+use Rattle.bx_day_openings.specs.declared.reselling.SaleFault.{SaleFault}
 use Rattle.bx_audit.specs.Followed.{IsLiveCaptured, Taken, IsTaken, IsRecaptured, taken_of}
 use Rattle.bx_audit.specs.LiveCaptures.{live_packets_for, CapturesThrough}
 

@@ -10,7 +10,7 @@ use Rattle.bx_day_openings.specs.declared.fault.DayCommandFault.{DayCommandFault
 use Rattle.bx_day_openings.specs.declared.fault.DayCommandFault.TheVariants as faults
 use Rattle.bx_events.specs.Events.{LiveEvent}
 use Rattle.bx_journal.specs.declared.head.Wanted.{Wanted}
-use Rattle.bx_restart.specs.Selling.{day_goes}
+use Rattle.bx_day_openings.specs.Selling.{day_goes}
 use Rattle.bx_audit.specs.Chartings.{HasFollowed, IsNotSeen}
 use Rattle.bx_audit.specs.Noted.{outages_from}
 use Rattle.bx_audit.specs.Notings.{IsFresh, IsNoted}

@@ -14,7 +14,7 @@ use Rattle.bx_planner.specs.Choices.{IsBest, planned}
 use Rattle.bx_planner.specs.Musts.{IsTooManyMust}
 use Rattle.bx_planner.proofs.Checked.{plan_is_proved}
 use Rattle.bx_planner.proofs.FewMusts.{few_musts}
-use Rattle.bx_restart.specs.Selling.{day_goes}
+use Rattle.bx_day_openings.specs.Selling.{day_goes}
 use Rattle.bx_sales.specs.Journal.{sold_in, HasSoldRows}
 use Rattle.bx_sales.specs.Selling.{rows_of, marks_of}
 use Rattle.bx_sales.proofs.Fitting.{fitting}

@@ -7,7 +7,7 @@ use Rattle.bx_day_openings.specs.declared.fault.DayCommandFault.{DayCommandFault
 use Rattle.bx_day_openings.specs.declared.fault.DayCommandFault.TheVariants.{Command}
 use Rattle.bx_events.specs.Events.{LiveEvent}
 use Rattle.bx_journal.specs.declared.head.Wanted.{Wanted}
-use Rattle.bx_restart.specs.Selling.{IsAfter}
+use Rattle.bx_day_openings.specs.Selling.{IsAfter}
 use Rattle.bx_audit.specs.Notings.{IsNoted}
 use Rattle.bx_audit.specs.declared.charting.Charting.{Charting}
 use Rattle.bx_devices.specs.Devices.{Reading}

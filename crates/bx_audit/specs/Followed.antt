@@ -5,8 +5,8 @@ use Rattle.bx_day.specs.Day.{Day}
 use Rattle.bx_day.specs.Outages.{live_day_after}
 use Rattle.bx_devices.specs.declared.watched.Watched.{Watched}
 use Rattle.bx_events.specs.Events.{LiveEvent}
-use Rattle.bx_restart.specs.Going.{GoesFrom}
-use Rattle.bx_restart.specs.declared.reselling.SaleFault.{SaleFault}
+use Rattle.bx_day_openings.specs.Going.{GoesFrom}
+use Rattle.bx_day_openings.specs.declared.reselling.SaleFault.{SaleFault}
 use Rattle.bx_audit.specs.LiveCaptures.{live_packets, CapturesThrough}
 use Rattle.bx_capture.specs.declared.captured.Captured.{Captured}
 use Rattle.bx_audit.specs.declared.following.Recaptured.{Recaptured}

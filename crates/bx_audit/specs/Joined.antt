@@ -4,9 +4,9 @@ use Rattle.bx_events.specs.Events.{LiveEvent, OnLink, WithoutLink, Sold}
 use Rattle.bx_capture.specs.Keeping.{keeps_nil, keeps_more}
 use Rattle.bx_day.specs.Day.{Day}
 use Rattle.bx_day.specs.Outages.{live_happens}
-use Rattle.bx_restart.specs.Going.{GoesFrom}
-use Rattle.bx_restart.specs.Joined.{goes_nothing, goes_more}
-use Rattle.bx_restart.specs.declared.reselling.SaleFault.{SaleFault}
+use Rattle.bx_day_openings.specs.Going.{GoesFrom}
+use Rattle.bx_day_openings.specs.Joined.{goes_nothing, goes_more}
+use Rattle.bx_day_openings.specs.declared.reselling.SaleFault.{SaleFault}
 use Rattle.bx_audit.specs.Followed.{Taken, IsTaken, IsRecaptured, taken_from, HasRecaptured}
 use Rattle.bx_audit.specs.LiveCaptures.{live_packets_for, CapturesThrough}
 use Rattle.bx_audit.specs.declared.following.Recaptured.{Recaptured}

@@ -7,7 +7,7 @@ use Rattle.bx_day.specs.Outages.{live_day_after}
 use Rattle.bx_events.specs.Events.{Event, LiveEvent, OnLink}
 use Rattle.bx_frames.specs.Courses.{told}
 use Rattle.bx_planfile.specs.OneBooking.{row_on}
-use Rattle.bx_restart.specs.Selling.{day_goes}
+use Rattle.bx_day_openings.specs.Selling.{day_goes}
 use Rattle.bx_sales.specs.Journal.{sold_in}
 use Rattle.bx_audit.specs.LiveCaptures.{live_packets, CapturesThrough}
 

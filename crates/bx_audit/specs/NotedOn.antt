@@ -2,7 +2,7 @@
 use Rattle.std.proofs.Common.{◌≡◌, ◌∙◌, ℕ, List, [], ◌∷◌, ◌++◌, refl, ap, ap₂, sym}
 use Rattle.bx_day_chart.specs.declared.outages.Outage.{Outage}
 use Rattle.bx_events.specs.Events.{Tick, Receive, LiveEvent, OnLink, WithoutLink, Sold}
-use Rattle.bx_restart.specs.Joined.{after_nothing, after_more}
+use Rattle.bx_day_openings.specs.Joined.{after_nothing, after_more}
 use Rattle.bx_audit.specs.Chartings.{HasFollowed}
 use Rattle.bx_audit.specs.Noted.{next_moment, noted_at, outages_from}
 use Rattle.bx_audit.specs.Notings.{IsNoted, moment_after}

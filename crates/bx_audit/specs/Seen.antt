@@ -5,7 +5,7 @@ use Rattle.bx_day_chart.specs.declared.outages.Outage.{Outage}
 use Rattle.bx_day_openings.specs.Journals.{IsJournal}
 use Rattle.bx_events.specs.Events.{LiveEvent}
 use Rattle.bx_journal.specs.declared.head.Wanted.{Wanted}
-use Rattle.bx_restart.specs.Selling.{day_goes}
+use Rattle.bx_day_openings.specs.Selling.{day_goes}
 use Rattle.bx_audit.specs.Noted.{outages_in}
 
 -- just the events of a journal happened, each of its sales was sold again where it stands, and these are the outages of its link

@@ -11,10 +11,9 @@ use bx_base::ChannelSet;
 use bx_check_commands::CommandFault;
 use bx_day::Exchange;
 use bx_day_chart::Outages;
-use bx_day_openings::{DayCommandFault, journal_read};
+use bx_day_openings::{DayCommandFault, Selling, journal_read};
 use bx_devices::Watched;
 use bx_journal::{Follower, LoggedEvent, Wanted, read_journal};
-use bx_restart::Selling;
 use std::alloc::Global;
 use std::io::Read;
 

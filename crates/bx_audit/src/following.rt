@@ -8,10 +8,10 @@ ghost use Rattle.bx_journal.specs.Events.{logged_event};
 use bx_base::ChannelSet;
 use bx_capture::Captured;
 use bx_day::Exchange;
+use bx_day_openings::{SaleFault, resell};
 use bx_frames::End;
 use bx_journal::{Follower, LoggedEvent};
 use bx_q931::Octets;
-use bx_restart::{SaleFault, resell};
 use std::alloc::Global;
 use std::io::Write;
 

@@ -32,7 +32,7 @@ pub enum StreamFault {
     #[error("G2 TooLong")]
     TooLong,
     /// The text was read to its end, and has this first fault.
-    #[error("{0}")]
+    #[error(transparent)]
     Book(BookFault),
     /// Memory ran out.
     #[error("Memory")]

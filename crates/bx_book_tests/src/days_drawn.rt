@@ -2,10 +2,11 @@
 
 use bx_base::ChannelSet;
 use bx_calendar::Clock;
+use bx_cases::Failing;
 use bx_chart::ChartFault;
 use bx_day::Exchange;
 use bx_day_chart::{DaySight, Outages, write_day_chart};
-use bx_devices::{Failing, Watched};
+use bx_devices::Watched;
 use bx_worked_days::{Row, exchange_of};
 use std::alloc::Global;
 

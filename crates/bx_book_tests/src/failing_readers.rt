@@ -5,7 +5,8 @@ use crate::printed_faults::is_read_as;
 use bx_base::{Booking, Bookings};
 use bx_book::{StreamFault, read_bookings_from};
 use bx_calendar::Day;
-use bx_devices::{Failing, Watched};
+use bx_cases::Failing;
+use bx_devices::Watched;
 use std::alloc::Global;
 use std::test::Fail;
 

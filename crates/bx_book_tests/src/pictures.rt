@@ -3,9 +3,10 @@
 use crate::small_picture::SMALL;
 use bx_base::{Booking, Bookings, ChannelSet, Plan, Price};
 use bx_calendar::Clock;
+use bx_cases::Failing;
 use bx_channels::{Channel, Number};
 use bx_chart::{ChartFault, write_chart};
-use bx_devices::{Failing, Watched};
+use bx_devices::Watched;
 use std::alloc::Global;
 use std::test::Fail;
 

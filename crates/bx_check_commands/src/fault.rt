@@ -16,16 +16,16 @@ pub enum CommandFault<'a> {
     #[error("F2 CannotWrite")]
     CannotWrite,
     /// What was read is no plan text.
-    #[error("{0}")]
+    #[error(transparent)]
     Plan(PlanTextFault),
     /// The plan is not proved.
-    #[error("{0}")]
+    #[error(transparent)]
     Check(CheckFault),
     /// The word is not pairs of hexadecimal digits.
     #[error("H1 NotHex")]
     NotHex,
     /// The octets are no message.
-    #[error("{0}")]
+    #[error(transparent)]
     Message(MessageFault),
     /// Memory ran out.
     #[error("Memory")]

@@ -86,14 +86,38 @@ pub fn main_words<
         × AppendsPrefix (W.contents (device_of output.old)) (W.contents (device_of output.new)) text)
         ⊎ (output.new ≡ output.old) }
 {
-    let alloc = rt.alloc();
-    let unread = nothing_read(is_terminal);
     if words.is_empty() {
+        let alloc = rt.alloc();
         return match check_self(alloc, input, output) {
             Ok(_) => 0,
             Err(fault) => refused(alloc, &fault, plan_read(is_terminal), errors),
         };
     }
+    run_words(rt, words, input, output, errors, is_terminal)
+}
+
+/// Does what words ask for, and answers the status.
+fn run_words<'a, H: Host + Locates, R: Read, W: Write, E: Write>(
+    rt: &'a H,
+    words: &'a [&'a str],
+    input: &mut Watched<R>,
+    output: &mut Watched<W>,
+    errors: &mut Watched<E>,
+    is_terminal: bool,
+) -> u8
+    ensures status { result ≤ 2 }
+    ensures done { result ≡ 0 → ((request : Request) × NoFileMeets (H.tells rt.now) request
+        × IsRequestDone H (R.remaining (device_of input.old)) request H.File.contents W.contents output.old output.new)
+        ⊎ ((text : List ℕ) × Appends (W.contents (device_of output.old)) (W.contents (device_of output.new)) text) }
+    ensures not_done { result ≡ 1 → ((request : Request) × NoFileMeets (H.tells rt.now) request
+        × IsRequestRefused H (R.remaining (device_of input.old)) request H.File.contents W.contents output.old output.new)
+        ⊎ ((request : Request) × (met : List ℕ) × IsMet (H.tells rt.now) request met × (output.new ≡ output.old))
+        ⊎ ((text : List ℕ) × (is_faulted output.new ≡ true)
+        × AppendsPrefix (W.contents (device_of output.old)) (W.contents (device_of output.new)) text)
+        ⊎ (output.new ≡ output.old) }
+{
+    let alloc = rt.alloc();
+    let unread = nothing_read(is_terminal);
     match read_words(alloc, words) {
         Ok(request) => match met_file(rt, &request) {
             None => run(rt, request, input, output, errors, is_terminal),

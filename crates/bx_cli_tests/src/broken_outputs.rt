@@ -1,8 +1,9 @@
 //! Words while standard input, standard output or standard error fails.
 
 use crate::worked_texts::ONE;
+use bx_cases::Failing;
 use bx_cli::main_words;
-use bx_devices::{Failing, Watched};
+use bx_devices::Watched;
 
 /// Words with their name, and their status.
 static CASES: [(&str, &[&str], u8); 4] = [

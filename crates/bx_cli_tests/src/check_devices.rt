@@ -1,8 +1,9 @@
 //! The check of a plan, and a message decoded, over readers and writers that fail at each place.
 
 use crate::worked_texts::ONE;
+use bx_cases::Failing;
 use bx_check_commands::{CommandFault, check_against, check_self, decode, proved_plan};
-use bx_devices::{Failing, Watched};
+use bx_devices::Watched;
 use std::alloc::{AllocError, Global};
 use std::test::Fail;
 

@@ -3,7 +3,8 @@
 use bx_base::{ChannelSet, Plan};
 use bx_book::BookFault;
 use bx_calendar::Day;
-use bx_devices::{Failing, Watched};
+use bx_cases::Failing;
+use bx_devices::Watched;
 use bx_plan_commands::{RunFault, plan_run};
 use std::alloc::Global;
 use std::test::Fail;

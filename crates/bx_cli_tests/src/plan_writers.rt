@@ -1,8 +1,9 @@
 //! A plan written to outputs that fail at each place.
 
 use crate::files::{folder, placed};
+use bx_cases::Failing;
 use bx_cli::main_words;
-use bx_devices::{Failing, Watched};
+use bx_devices::Watched;
 use std::fs;
 use std::test::Fail;
 

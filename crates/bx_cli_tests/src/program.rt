@@ -1,7 +1,8 @@
 //! The program on words and an input, in memory.
 
+use bx_cases::Failing;
 use bx_cli::main_words;
-use bx_devices::{Failing, Watched};
+use bx_devices::Watched;
 
 /// What the program does: its status, standard output and standard error.
 #[derive(Drop)]

@@ -4,3 +4,4 @@ mod Recordings
 mod Texts
 pub mod ToldJournals
 pub mod Replays
+mod Sold

@@ -19,11 +19,11 @@ use Rattle.bx_journal.specs.Reading.{recovered, events_before}
 use Rattle.bx_journal.specs.declared.fault.JournalFault.{JournalFault}
 use Rattle.bx_journal.specs.declared.fault.JournalFault.TheVariants.{BadLine, OtherPlan, OtherDay, OtherRules, NotBegun, ReadFailed}
 use Rattle.bx_journal.specs.declared.head.Wanted.{Wanted}
-use Rattle.bx_recovery.proofs.KnownText.{the_events}
-use Rattle.bx_restart.specs.Going.{IsStopped, GoesFrom}
-use Rattle.bx_restart.specs.Selling.{day_goes, IsAfter}
-use Rattle.bx_restart.specs.declared.reselling.SaleFault.{SaleFault}
-use Rattle.bx_restart.specs.declared.selling.Selling.{Selling}
+use Rattle.bx_journal.proofs.Recoveries.{the_events}
+use Rattle.bx_day_openings.specs.Going.{IsStopped, GoesFrom}
+use Rattle.bx_day_openings.specs.Selling.{day_goes, IsAfter}
+use Rattle.bx_day_openings.specs.declared.reselling.SaleFault.{SaleFault}
+use Rattle.bx_day_openings.specs.declared.selling.Selling.{Selling}
 
 -- ---- what was followed, said of a part of it
 

@@ -11,10 +11,10 @@ use Rattle.bx_journal.specs.Reading.{recovered}
 use Rattle.bx_journal.specs.declared.fault.JournalFault.{JournalFault}
 use Rattle.bx_journal.specs.declared.fault.JournalFault.TheVariants.{BadLine, OtherPlan, OtherDay, OtherRules, NotBegun, ReadFailed}
 use Rattle.bx_journal.specs.declared.head.Wanted.{Wanted}
-use Rattle.bx_recovery.proofs.KnownText.{the_events}
+use Rattle.bx_journal.proofs.Recoveries.{the_events}
 use Rattle.bx_day_openings.specs.JournalRefusals.{IsNoJournalText, IsNoJournal, IsCutOff}
 use Rattle.bx_day_openings.specs.Answers.{told_of}
-use Rattle.bx_day_openings.specs.Followed.{IsFollowedWhole, IsFollowedSoFar}
+use Rattle.bx_day_openings.specs.Followed.{IsFollowedWhole}
 
 text_told : (before after : Option (List ℕ)) (text : List ℕ) → Consumes before after text → IsAtEnd after → (known : List ℕ) → before ≡ Some known → text ≡ known
 text_told None after text consumed end known is = absurd cc
@@ -54,16 +54,8 @@ module _ {F : Type 0} (followed : F → List LiveEvent → F → Type 0) (faulte
     refused_if (Err OtherRules) r = faulty_text wanted r.read before after OtherRules r.consumed r.is
     refused_if (Err ReadFailed) r = (refl, cut_off r)
 
-    so_far_if : (whole : Result ℕ JournalFault) → IsFollowed followed faulted before after wanted f g whole → IfErr (told_of name whole) (λ fault. IsFollowedSoFar followed f g)
-    so_far_if (Ok n) r = tt
-    so_far_if (Err NotBegun) r = tt
-    so_far_if whole r = (r.events, r.followed_all)
-
     pub followed_whole : (whole : Result ℕ JournalFault) (result : Result (Unit {0}) DayCommandFault) → result ≡ told_of name whole → IsFollowed followed faulted before after wanted f g whole → OnOk result (IsFollowedWhole followed wanted before f g)
     followed_whole whole result same r = subst (λ (x : Result (Unit {0}) DayCommandFault). OnOk x (IsFollowedWhole followed wanted before f g)) (sym same) (whole_if whole r)
 
     pub not_followed : (whole : Result ℕ JournalFault) (result : Result (Unit {0}) DayCommandFault) → result ≡ told_of name whole → IsFollowed followed faulted before after wanted f g whole → IfErr result (IsNoJournal name.now wanted before after faulted)
     not_followed whole result same r = subst (λ (x : Result (Unit {0}) DayCommandFault). IfErr x (IsNoJournal name.now wanted before after faulted)) (sym same) (refused_if whole r)
-
-    pub followed_so_far : (whole : Result ℕ JournalFault) (result : Result (Unit {0}) DayCommandFault) → result ≡ told_of name whole → IsFollowed followed faulted before after wanted f g whole → IfErr result (λ fault. IsFollowedSoFar followed f g)
-    followed_so_far whole result same r = subst (λ (x : Result (Unit {0}) DayCommandFault). IfErr x (λ fault. IsFollowedSoFar followed f g)) (sym same) (so_far_if whole r)

@@ -1,4 +1,4 @@
--- How a journal was followed.
+-- Private: how a journal was followed.
 use Rattle.std.specs.Prelude.{ℕ, List, Option}
 use Rattle.bx_events.specs.Events.{LiveEvent}
 use Rattle.bx_journal.specs.declared.head.Wanted.{Wanted}
@@ -9,7 +9,3 @@ pub record IsFollowedWhole {F : Type 0} (followed : F → List LiveEvent → F �
   pub events : List LiveEvent
   pub journal : IsJournal wanted before events
   pub all : followed old events new
-
--- some were, in order, from the first on
-abbrev pub IsFollowedSoFar : {F : Type 0} → (F → List LiveEvent → F → Type 0) → F → F → Type 0
-IsFollowedSoFar followed old new = (events : List LiveEvent) × followed old events new

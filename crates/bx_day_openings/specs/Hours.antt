@@ -7,7 +7,7 @@ use Rattle.bx_capture.specs.Starts.{IsNameable}
 use Rattle.bx_day_openings.specs.declared.fault.DayCommandFault.{DayCommandFault}
 use Rattle.bx_day_openings.specs.declared.fault.DayCommandFault.TheVariants as faults
 use Rattle.bx_day_openings.specs.declared.hours.Hours.{Hours}
-use Rattle.bx_live_parts.specs.Schedules.{first_instant_of, pace_of}
+use Rattle.bx_live.specs.Schedules.{first_instant_of, pace_of}
 use Rattle.bx_request.specs.declared.request.DayHours.{DayHours}
 
 -- the day is that of the date in the zone, moment 0 its midnight, and so many seconds of it, but at least one, go by in one of the clock; the

@@ -8,7 +8,6 @@ use Rattle.bx_journal.specs.Reading.{recovered}
 use Rattle.bx_journal.specs.declared.fault.JournalFault.{JournalFault}
 use Rattle.bx_journal.specs.declared.fault.JournalFault.TheVariants.{BadLine, OtherPlan, OtherDay, OtherRules}
 use Rattle.bx_journal.specs.declared.head.Wanted.{Wanted}
-use Rattle.bx_devices.specs.Devices.{Reading}
 
 -- this is the first fault of the text that was to be read, which is what there was to read where the journal tells it
 pub record IsNoJournalText (wanted : Wanted) (before : Option (List ℕ)) (fault : JournalFault) : Type 0 where
@@ -37,7 +36,3 @@ HasNoJournal name wanted (Journal OtherDay) = IsNoJournalText wanted None OtherD
 HasNoJournal name wanted (Journal OtherRules) = IsNoJournalText wanted None OtherRules
 HasNoJournal name wanted (Command (CannotRead n)) = n.now ≡ name
 HasNoJournal name wanted _ = ⊥
-
--- the same of what was read
-abbrev pub IsNoJournalAsRead : List ℕ → Wanted → Reading → DayCommandFault → Type 0
-IsNoJournalAsRead name wanted reading = IsNoJournal name wanted reading.before reading.after reading.is_faulted

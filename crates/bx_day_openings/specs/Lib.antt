@@ -13,3 +13,7 @@ pub mod Journals
 pub mod JournalRefusals
 pub mod Followed
 pub mod Replays
+pub mod Sales
+pub mod Going
+pub mod Selling
+pub mod Joined

@@ -8,9 +8,9 @@ use Rattle.bx_day_openings.specs.Journals.{IsJournal}
 use Rattle.bx_events.specs.Events.{LiveEvent}
 use Rattle.bx_journal.specs.Reading.{recovered, events_before}
 use Rattle.bx_journal.specs.declared.head.Wanted.{Wanted}
-use Rattle.bx_restart.specs.Sales.{SaleIn, IsBadSale}
-use Rattle.bx_restart.specs.Selling.{day_goes}
-use Rattle.bx_restart.specs.declared.reselling.SaleFault.{SaleFault}
+use Rattle.bx_day_openings.specs.Sales.{SaleIn, IsBadSale}
+use Rattle.bx_day_openings.specs.Selling.{day_goes}
+use Rattle.bx_day_openings.specs.declared.reselling.SaleFault.{SaleFault}
 use Rattle.bx_devices.specs.Devices.{Reading}
 
 -- just the events of a journal happened, and each of its sales was sold again where it stands

@@ -1,34 +1,34 @@
 //! Why a day was not run, or not told.
 
+use crate::reselling::SaleFault;
 use bx_calendar::DayFault;
 use bx_capture::BeyondCapture;
 use bx_check_commands::CommandFault;
 use bx_far::ScriptFault;
 use bx_frames::LinkFault;
 use bx_journal::JournalFault;
-use bx_restart::SaleFault;
 use thiserror::Error;
 
 /// The refusal of a command that runs a day, or tells one from its journal.
 #[derive(Clone, Copy, Debug, PartialEq, Eq, Error)]
 pub enum DayCommandFault<'a> {
     /// A file of this name was not opened or not read, it holds no plan or none that is proved, the output failed, or memory ran out.
-    #[error("{0}")]
+    #[error(transparent)]
     Command(CommandFault<'a>),
     /// What was read is no script.
-    #[error("{0}")]
+    #[error(transparent)]
     Script(ScriptFault),
     /// The date and the zone of a capture or of records name no day.
-    #[error("{0}")]
+    #[error(transparent)]
     Day(DayFault),
     /// A capture cannot name the seconds of the day.
-    #[error("{0}")]
+    #[error(transparent)]
     Capture(BeyondCapture),
     /// What was read is no journal of the plan.
-    #[error("{0}")]
+    #[error(transparent)]
     Journal(JournalFault),
     /// The journal has a sale that is none of its day.
-    #[error("{0}")]
+    #[error(transparent)]
     Sale(SaleFault),
     /// The port or the socket cannot be listened on, or no peer can be accepted.
     #[error("F3 CannotListen")]
@@ -40,6 +40,6 @@ pub enum DayCommandFault<'a> {
     #[error("F5 CannotWrite {0}")]
     CannotWriteFile(&'a str),
     /// The session of the day ended before the day did.
-    #[error("{0}")]
+    #[error(transparent)]
     Link(LinkFault),
 }

@@ -7,7 +7,7 @@ ghost use Rattle.bx_day_openings.specs.HoursInside.{IsBegunAt, IsUnnamed};
 use crate::fault::DayCommandFault;
 use bx_calendar::Day;
 use bx_capture::first_second;
-use bx_live_parts::Schedule;
+use bx_live::Schedule;
 use bx_request::DayHours;
 
 /// When the seconds of a day begin by the clock.

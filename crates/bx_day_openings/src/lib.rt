@@ -1,5 +1,6 @@
 //! What a command that runs a day or tells of one opens: the plan, with the digest that ties a journal to it, the exchange and the far end at
-//! their openings, how long the day is, the journal, the connection, the captured file and the moment that is shown.
+//! their openings, how long the day is, the journal, of which each event happens and each sale is sold again as it is read, the connection, the
+//! captured file and the moment that is shown.
 #![tactic(auto)]
 
 mod capturing;
@@ -14,6 +15,8 @@ mod plan_opening;
 mod progress;
 mod recording;
 mod replaying;
+mod reselling;
+mod selling;
 mod sockets;
 mod system;
 mod tied;
@@ -21,7 +24,7 @@ mod tied;
 pub use capturing::{captured, file_of, first_of};
 pub use causes::unheard;
 pub use fault::DayCommandFault;
-pub use following::{follow_to_end, journal_read};
+pub use following::journal_read;
 pub use hours::{Hours, hours_of};
 pub use line::line_between;
 pub use loopback::{accepted, connected, connected_ends};
@@ -32,6 +35,8 @@ pub use recording::{
     RecordsFile, clock_of, kept, record, records_clock_of, records_file_of, unrecorded,
 };
 pub use replaying::{Replayed, day_turns, replay_journal};
+pub use reselling::{SaleFault, resell};
+pub use selling::Selling;
 pub use sockets::{accepted_at, connected_at, listener_at};
 pub use system::System;
 pub use tied::{TiedPlan, tied_named, tied_plan};

@@ -8,17 +8,17 @@ ghost use Rattle.bx_day_openings.specs.Openings.{IsLastOfDay, AreDayTurns};
 ghost use Rattle.bx_day_openings.specs.Replays.{IsDayThrough, IsNoReplayAsRead};
 ghost use Rattle.bx_devices.specs.Watching.{device_of};
 ghost use Rattle.bx_journal.specs.Follows.{IsFollowedFrom};
-ghost use Rattle.bx_restart.specs.Selling.{day_goes};
+ghost use Rattle.bx_day_openings.specs.Selling.{day_goes};
 ghost use Rattle.bx_devices.specs.Devices.{reading_of};
 
 use crate::fault::DayCommandFault;
 use crate::following::journal_read;
 use crate::openings::AFTER_THE_LAST;
+use crate::selling::Selling;
 use bx_base::ChannelSet;
 use bx_day::{Entry, Exchange, Standing};
 use bx_devices::Watched;
 use bx_journal::{JournalFault, Wanted, read_journal};
-use bx_restart::Selling;
 use std::alloc::Global;
 use std::io::Read;
 

@@ -1,7 +1,8 @@
 //! Outcomes on writers that fail at each place.
 
+use bx_cases::Failing;
 use bx_day::Exchange;
-use bx_devices::{Failing, Watched};
+use bx_devices::Watched;
 use bx_worked_days::{Row, exchange_of};
 use std::alloc::Global;
 use std::test::Fail;

@@ -1,4 +1,3 @@
 pub mod Watching
 pub mod Octets
-pub mod FailingDevice
 pub mod Devices

@@ -18,8 +18,8 @@ use Rattle.bx_line_world.specs.Wires.{WireAct, did_on}
 use Rattle.bx_line_world.specs.declared.line_world.LineWorld.{LineWorld}
 use Rattle.bx_line_world.specs.declared.udp.UdpWire.{UdpWire}
 use Rattle.bx_live.specs.Acts.{Act}
-use Rattle.bx_live_parts.specs.Chains.{Chain}
-use Rattle.bx_live_parts.specs.declared.schedule.Schedule.{Schedule}
+use Rattle.bx_live.specs.Chains.{Chain}
+use Rattle.bx_live.specs.declared.schedule.Schedule.{Schedule}
 use Rattle.bx_request.specs.declared.request.FarLineRequest.{FarLineRequest}
 
 module _ {W F : Type 0} (did : W → List WireAct → W → Type 0) where

@@ -13,7 +13,7 @@ use Rattle.bx_far_commands.specs.LineDays.{AreCaptured, IsFarLineDone, capture_o
 use Rattle.bx_far_commands.specs.LineRefusals.{StopsFarLine, IsFarLineRefusal}
 use Rattle.bx_frames.specs.declared.frame.Frame.TheVariants as frames
 use Rattle.bx_live.specs.Acts.{Act, Began, Dropped, Logged, Synced, Wrote, Read, Took, EndedDay}
-use Rattle.bx_live_parts.specs.Chains.{Chain, chain_first}
+use Rattle.bx_live.specs.Chains.{Chain, chain_first}
 use Rattle.bx_request.specs.declared.request.CaptureWords.{CaptureWords}
 use Rattle.bx_request.specs.declared.request.FarLineRequest.{FarLineRequest}
 use Rattle.bx_world.specs.Captures.{Captures}

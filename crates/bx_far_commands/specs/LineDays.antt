@@ -14,8 +14,8 @@ use Rattle.bx_far.specs.FarDay.{FarDay}
 use Rattle.bx_far.specs.Course.{far_live_after}
 use Rattle.bx_far_commands.specs.Days.{ended_line}
 use Rattle.bx_far_commands.specs.declared.line_files.TheConstants.{WHOLE_DAY}
-use Rattle.bx_far_live.specs.Events.{far_events}
-use Rattle.bx_far_live.specs.Runs.{Between, Done, IsFarRun}
+use Rattle.bx_link.specs.Events.{far_events}
+use Rattle.bx_link.specs.Runs.{Between, Done, IsFarRun}
 use Rattle.bx_journal.specs.Files.{holds_unknown, may_leave_any, no_moment, any_since, has_failed_in}
 use Rattle.bx_journal.specs.declared.disk_files.SystemFile.{SystemFile}
 use Rattle.bx_journal.specs.declared.file.FileDisk.{FileDisk}
@@ -25,8 +25,8 @@ use Rattle.bx_line_world.specs.Wires.{WireAct, did_on}
 use Rattle.bx_line_world.specs.declared.line_world.LineWorld.{LineWorld}
 use Rattle.bx_line_world.specs.declared.udp.UdpWire.{UdpWire}
 use Rattle.bx_live.specs.Acts.{Act, ended}
-use Rattle.bx_live_parts.specs.Chains.{Chain}
-use Rattle.bx_live_parts.specs.declared.schedule.Schedule.{Schedule}
+use Rattle.bx_live.specs.Chains.{Chain}
+use Rattle.bx_live.specs.declared.schedule.Schedule.{Schedule}
 use Rattle.bx_request.specs.declared.request.CaptureWords.{CaptureWords}
 use Rattle.bx_request.specs.declared.request.FarLineRequest.{FarLineRequest}
 use Rattle.bx_world.specs.Captures.{Captures, first_second}

@@ -5,7 +5,7 @@ use Rattle.bx_far.specs.FarDay.{FarDay}
 use Rattle.bx_far_commands.specs.LineDays.{IsFarRunIn, AreCaptured, IsLineRun}
 use Rattle.bx_line_world.specs.Wires.{WireAct}
 use Rattle.bx_live.specs.Acts.{Act}
-use Rattle.bx_live_parts.specs.declared.schedule.Schedule.{Schedule}
+use Rattle.bx_live.specs.declared.schedule.Schedule.{Schedule}
 use Rattle.bx_world.specs.declared.telling.Telling.{Telling}
 
 -- a day was run over a world, and captured

@@ -15,4 +15,4 @@ pub use fault::LinkFault;
 pub use frame::{Frame, Receiver};
 pub use frame_reading::read_frame;
 pub use frame_writing::{write_end_of_day, write_end_of_turn, write_message, write_messages};
-pub use turn::{hear_turn, write_tick};
+pub use turn::{MAX_MESSAGES, hear_turn, write_tick};

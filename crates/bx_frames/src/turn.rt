@@ -15,8 +15,8 @@ use bx_devices::{Watched, WriteFailed};
 use bx_q931::Octets;
 use std::io::{Read, Write};
 
-/// The most messages that come in one turn.
-const MAX_MESSAGES: u32 = 64;
+/// The most messages that come in one turn, of a session or of a second of a live day.
+pub const MAX_MESSAGES: u32 = 64;
 
 /// Writes what is sent in a turn, and the end of the turn.
 fn write_turn<W: Write>(

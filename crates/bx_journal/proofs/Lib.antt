@@ -16,3 +16,4 @@ pub mod AnyDay
 pub mod EventsRead
 pub mod JournalRead
 pub mod Runs
+pub mod Recoveries

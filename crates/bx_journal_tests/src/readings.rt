@@ -4,7 +4,7 @@ use crate::plain_reading::plain_reading;
 use crate::told::reading;
 use crate::worked::{HEAD, PLAN, REHEARSED, TEXT, UNDATED};
 use arrayvec::ArrayVec;
-use bx_devices::Failing;
+use bx_cases::Failing;
 use bx_journal::{JournalFault, Wanted, plan_digest};
 use std::alloc::Global;
 use std::test::Fail;

@@ -15,8 +15,8 @@ use Rattle.bx_live.specs.declared.world.Begin.{Begin}
 use Rattle.bx_live.specs.declared.world.Begin.TheVariants.{Late, Ended}
 use Rattle.bx_live.specs.declared.world.Loss.{Loss}
 use Rattle.bx_live.specs.declared.world.Loss.TheVariants as losses
-use Rattle.bx_live_parts.specs.Chains.{Chain, chain_first}
-use Rattle.bx_live_parts.specs.Schedules.{instant_of_second}
+use Rattle.bx_live.specs.Chains.{Chain, chain_first}
+use Rattle.bx_live.specs.Schedules.{instant_of_second}
 use Rattle.bx_line_world.specs.Wires.{WireAct}
 use Rattle.bx_line_world.specs.Posts.{with_messages, reset, put, told_to, all_told_to, begun_by, dropped_by}
 use Rattle.bx_line_world.specs.Lines.{LineEvent, Asked, Given, Elapsed, Quiet, Serves, wire_acts_of, step_of, passed_after, shown_by}

@@ -2,7 +2,7 @@
 use Rattle.std.proofs.Common.{◌≡◌, ℕ, List, [], ◌∷◌, refl, false, Result, Ok, Err, OnOk, Bool}
 use Rattle.bx_live.specs.declared.world.Begin.TheVariants.{Ended}
 use Rattle.bx_live.specs.Acts.{Act, Began, Dropped, Synced, Took, ended}
-use Rattle.bx_live_parts.specs.Chains.{Chain, chain_first}
+use Rattle.bx_live.specs.Chains.{Chain, chain_first}
 use Rattle.bx_line_world.specs.Wires.{WireAct}
 use Rattle.bx_line_world.specs.Days.{GoesByLine}
 use Rattle.bx_line_world.specs.declared.line_world.LineWorld.{LineWorld}

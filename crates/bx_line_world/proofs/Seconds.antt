@@ -6,7 +6,7 @@ use Rattle.bx_frames.specs.declared.frame.Frame.{Frame}
 use Rattle.bx_frames.specs.declared.frame.Frame.TheVariants as frames
 use Rattle.bx_live.specs.Acts.{Act, Began, Logged, Wrote, Read, Took, begins_none}
 use Rattle.bx_live.specs.declared.world.Begin.{Begin}
-use Rattle.bx_live_parts.specs.Chains.{Chain, chain_first}
+use Rattle.bx_live.specs.Chains.{Chain, chain_first}
 use Rattle.bx_line_world.specs.Wires.{WireAct}
 use Rattle.bx_line_world.specs.Days.{GoesByLine, ReadsTurn, ReadsFor, TakesMessage, octets_of_message, octets_taken, octets_read}
 use Rattle.bx_line_world.specs.declared.line.Line.{Line}

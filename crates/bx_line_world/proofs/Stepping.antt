@@ -7,7 +7,7 @@ use Rattle.bx_lapd.specs.declared.indication.Indication.{Indication}
 use Rattle.bx_lapd.specs.Links.{LinkStep, Did, Makes}
 use Rattle.bx_lapd.specs.Codec.{sent_octets}
 use Rattle.bx_lapd.specs.Endpoints.{PlainEndpoint}
-use Rattle.bx_live_parts.specs.Chains.{Chain, chain_more}
+use Rattle.bx_live.specs.Chains.{Chain, chain_more}
 use Rattle.bx_line_world.specs.Wires.{WireAct, Shown, Sent}
 use Rattle.bx_line_world.specs.Posts.{told_to, all_told_to, is_lost}
 use Rattle.bx_line_world.specs.Lines.{LineEvent, Serves, IsEventTaken, passed_by, instant_in, time_at, step_of, asked_of, shown_by, passed_after, sent_as}

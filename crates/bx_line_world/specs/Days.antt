@@ -10,9 +10,9 @@ use Rattle.bx_lapd.specs.Table.{takes_data}
 use Rattle.bx_live.specs.declared.world.Begin.{Begin}
 use Rattle.bx_live.specs.declared.world.Begin.TheVariants.{Late, Alone, Joined, Ended}
 use Rattle.bx_live.specs.Acts.{Act, Began, Dropped, Logged, Synced, Wrote, Read, Took, EndedDay}
-use Rattle.bx_live_parts.specs.Chains.{Chain}
-use Rattle.bx_live_parts.specs.Logs.{OnLog}
-use Rattle.bx_live_parts.specs.Schedules.{instant_of_second}
+use Rattle.bx_live.specs.Chains.{Chain}
+use Rattle.bx_live.specs.Logs.{OnLog}
+use Rattle.bx_live.specs.Schedules.{instant_of_second}
 use Rattle.bx_line_world.specs.Wires.{WireAct}
 use Rattle.bx_line_world.specs.Posts.{with_messages, begun_by, dropped_by, is_lost, IsNoneWithin}
 use Rattle.bx_line_world.specs.Serving.{Served, Polled, AsksLink, GivesMessage, is_idle}

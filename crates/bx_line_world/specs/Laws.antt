@@ -8,8 +8,8 @@ use Rattle.bx_live.specs.Acts.{Act, Began, logged_by, ended, begins_none}
 use Rattle.bx_live.specs.Held.{AreHeld}
 use Rattle.bx_live.specs.Runs.{Between, Done}
 use Rattle.bx_live.specs.Running.{Runs, or_over}
-use Rattle.bx_live_parts.specs.Chains.{Chain}
-use Rattle.bx_live_parts.specs.Logs.{OnDisk}
+use Rattle.bx_live.specs.Chains.{Chain}
+use Rattle.bx_live.specs.Logs.{OnDisk}
 use Rattle.bx_line_world.specs.Wires.{WireAct}
 use Rattle.bx_line_world.specs.Days.{GoesByLine, octets_read}
 use Rattle.bx_line_world.specs.Joined.{GoesOverLink}

@@ -3,7 +3,7 @@ use Rattle.std.specs.Prelude.{◌≡◌, ◌⊎◌, ℕ, nat_le, ◌&&◌, ◌||
 use Rattle.arrayvec.specs.ArrayVec.{ArrayVec}
 use Rattle.bx_lapd.specs.Links.{Link, is_link_up}
 use Rattle.bx_lapd.specs.Table.{due_of}
-use Rattle.bx_live_parts.specs.Chains.{Chain}
+use Rattle.bx_live.specs.Chains.{Chain}
 use Rattle.bx_line_world.specs.Wires.{WireAct}
 use Rattle.bx_line_world.specs.Posts.{is_lost, is_any}
 use Rattle.bx_line_world.specs.Lines.{LineEvent, Asked, Given, Elapsed, Heard, Passed, Quiet, Serves}

@@ -9,7 +9,7 @@ use Rattle.bx_line_world.specs.Wires.{WireAct, Shown}
 use Rattle.bx_line_world.specs.Posts.{all_told_to, with_messages, IsNoneWithin}
 use Rattle.bx_line_world.specs.Lines.{LineEvent, Elapsed, Serves, passed_by, sent_as}
 use Rattle.bx_line_world.specs.Serving.{GivesMessage, IsWait, Slice, Polls, has_come, is_wait_over}
-use Rattle.bx_live_parts.specs.Chains.{Chain}
+use Rattle.bx_live.specs.Chains.{Chain}
 use Rattle.bx_line_world.specs.declared.line.Line.{Line}
 use Rattle.bx_line_world.specs.declared.post.Post.{Post}
 

@@ -10,8 +10,7 @@ use bx_devices::WriteFailed;
 use bx_events::LiveEvent;
 use bx_frames::{Frame, LinkFault};
 use bx_journal::Disk;
-use bx_live::{Begin, CannotLog, Loss, World};
-use bx_live_parts::{Log, SECOND, Schedule};
+use bx_live::{Begin, CannotLog, Log, Loss, SECOND, Schedule, World};
 use bx_q931::Octets;
 
 /// A world with a data link over a wire, whose seconds begin by the clock beside it, and a journal.
@@ -122,7 +121,7 @@ impl<W: Wire> Line<W> {
 }
 
 impl<W: Wire, D: Disk> World for LineWorld<W, D> {
-    ghost use Rattle.bx_live_parts.specs.Chains.{Chain, chain_more};
+    ghost use Rattle.bx_live.specs.Chains.{Chain, chain_more};
     ghost use Rattle.bx_line_world.specs.Days.{GoesByLine};
     ghost use Rattle.std.proofs.Common.{refl};
 

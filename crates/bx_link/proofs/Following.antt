@@ -18,6 +18,13 @@ use Rattle.bx_frames.proofs.Composing.{IsBeyond, SoFar}
 use Rattle.bx_frames.proofs.ReadingSteps.{not_faulted}
 use Rattle.bx_frames.proofs.Turns.{IsLocalTalk}
 
+-- done, or not
+abbrev pub over : Result (Unit {0}) LinkFault
+over = Ok tt
+
+abbrev pub broken : LinkFault → Result (Unit {0}) LinkFault
+broken fault = Err fault
+
 -- what went well was heard whole
 pub heard_whole : (receiver : Receiver) (finds : List ℕ → Talk) (text : List ℕ) (events : List Event) (b : Bool) (left : Option (List ℕ)) → IsHeard receiver finds text events (gave b) left → IsWholeTalk (finds text) events (gave b) left
 heard_whole receiver finds text events b left (inl whole) = whole

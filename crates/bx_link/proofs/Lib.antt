@@ -1,5 +1,9 @@
 pub mod Following
-pub mod ExchangeTurns
 pub mod FarTurns
-pub mod BothEnds
 pub mod FarMoments
+pub mod Steps
+pub mod Due
+pub mod Days
+pub mod Told
+pub mod Onward
+pub mod Moments

@@ -1,7 +1,12 @@
 pub mod Talking
 pub mod Hearing
 pub mod Days
-pub mod BothEnds
 pub mod Sessions
 pub mod Kept
-pub mod TalkingInside
+pub mod Runs
+pub mod Running
+pub mod Events
+pub mod Seconds
+pub mod Written
+pub mod Inside
+pub mod Laws

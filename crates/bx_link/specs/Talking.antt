@@ -1,15 +1,13 @@
 -- Turns and days: what each end hears in the octets that come.
 use Rattle.std.specs.Prelude.{ℕ, zero, suc, Bool, true, false, List, [], ◌∷◌, Result, Ok, Err}
-use Rattle.bx_day.specs.Day.{Day}
 use Rattle.bx_events.specs.Events.{Event, Tick}
 use Rattle.bx_far.specs.FarDay.{FarDay}
 use Rattle.bx_frames.specs.Courses.{after}
 use Rattle.bx_frames.specs.Talks.{Talk, stop, with_events, turn_in}
-use Rattle.bx_day.specs.Course.{exchange_next}
 use Rattle.bx_far.specs.Course.{far_next, far_due}
 use Rattle.bx_frames.specs.declared.fault.LinkFault.{LinkFault}
 use Rattle.bx_frames.specs.declared.fault.LinkFault.TheVariants.{Closed}
-use Rattle.bx_frames.specs.declared.frame.Receiver.TheVariants.{Exchange, FarEnd}
+use Rattle.bx_frames.specs.declared.frame.Receiver.TheVariants.{FarEnd}
 
 -- ---- one after another
 
@@ -21,19 +19,6 @@ follow_by (Err fault) first next over = first
 -- what happens after an end of turn, by what happened before it; and what there is where the day ended
 abbrev pub follow_talk : Talk → (List Event → List ℕ → Talk) → Talk → Talk
 follow_talk first next over = follow_by first.ending first next over
-
--- ---- the exchange
-
--- what it hears when its turn is open
-abbrev pub exchange_turn : Day → List ℕ → Talk
-exchange_turn d text = turn_in Exchange d.moment 64 text
-
--- so many turns from a day on, each opened by a tick
-unfoldable pub talk_in : ℕ → Day → List ℕ → Talk
-talk_in zero d text = stop (Ok true) text text
-talk_in (suc turns) d text =
-    let first = exchange_turn (exchange_next d Tick) text in
-    with_events (Tick ∷ []) (follow_talk first (λ events. talk_in turns (after exchange_next events (exchange_next d Tick))) first)
 
 -- ---- the far end
 

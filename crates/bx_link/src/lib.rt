@@ -1,16 +1,15 @@
-//! The link between the exchange and the far end: sessions of turns, and days of both.
+//! The far end of the link: sessions of its turns, and its days, as fast as they go and by the clock.
 #![tactic(auto)]
 
-mod both_ends;
 mod connection;
-mod day;
 mod far_day;
 mod far_session;
-mod session;
+mod hearing;
+pub mod laws;
+mod running;
+mod turn;
 
-pub use both_ends::run_both_ends;
 pub use connection::Connection;
-pub use day::run_day;
 pub use far_day::run_far_day;
 pub use far_session::FarSession;
-pub use session::Session;
+pub use running::run_far_live;

@@ -7,7 +7,8 @@ use crate::frames::{
 use bx_day::Exchange;
 use bx_devices::Watched;
 use bx_far::Far;
-use bx_link::{FarSession, Session, run_both_ends};
+use bx_link::FarSession;
+use bx_sessions::{Session, run_both_ends};
 use bx_worked_days::{exchange, far_end};
 use std::alloc::Global;
 use std::mem;

@@ -3,10 +3,12 @@
 use crate::captured_octets::packet;
 use bx_calls::CallState;
 use bx_capture::{Captured, Direction};
+use bx_cases::Failing;
 use bx_cases::messages::{CONNECT_ACKNOWLEDGE, CONNECT_CHANNEL_1, SETUP};
 use bx_channels::Channel;
-use bx_devices::{Failing, Watched};
-use bx_link::{run_day, run_far_day};
+use bx_devices::Watched;
+use bx_link::run_far_day;
+use bx_sessions::run_day;
 use bx_worked_days::{exchange, far_end};
 use std::alloc::Global;
 

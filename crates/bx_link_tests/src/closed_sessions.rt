@@ -2,11 +2,12 @@
 
 use crate::frames::{CONNECT, TORN};
 use bx_calls::CallState;
+use bx_cases::Failing;
 use bx_channels::Channel;
 use bx_day::Exchange;
-use bx_devices::{Failing, Watched};
+use bx_devices::Watched;
 use bx_frames::LinkFault;
-use bx_link::Session;
+use bx_sessions::Session;
 use bx_worked_days::exchange;
 use std::alloc::Global;
 

@@ -1,7 +1,8 @@
 //! A turn of the far end over readers that give one octet a read and writers that take one, which fail at each place.
 
 use crate::frames::{END_OF_TURN, FAR_REFUSAL, FAR_STRAY, repeated};
-use bx_devices::{Failing, Watched};
+use bx_cases::Failing;
+use bx_devices::Watched;
 use bx_frames::LinkFault;
 use bx_link::FarSession;
 use bx_worked_days::far_end;

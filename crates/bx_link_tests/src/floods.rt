@@ -4,7 +4,7 @@ use crate::wire::{Manner, MemoryWire};
 use bx_day::Outcome;
 use bx_journal::MemoryDisk;
 use bx_line_world::{Line, LineWorld, run_by_line};
-use bx_live_parts::{Log, Schedule};
+use bx_live::{Log, Schedule};
 use bx_worked_days::{Row, exchange_of, far_end};
 use std::alloc::Global;
 

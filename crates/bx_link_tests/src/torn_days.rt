@@ -1,9 +1,11 @@
 //! Days of both ends over connections that do not carry what the other end writes.
 
 use crate::frames::{CONNECT, END_OF_DAY, END_OF_TURN, OPENED, connection, joined};
-use bx_devices::{Failing, Watched};
+use bx_cases::Failing;
+use bx_devices::Watched;
 use bx_frames::LinkFault;
-use bx_link::{Connection, run_both_ends, run_far_day};
+use bx_link::{Connection, run_far_day};
+use bx_sessions::run_both_ends;
 use bx_worked_days::{exchange, far_end};
 use std::alloc::Global;
 

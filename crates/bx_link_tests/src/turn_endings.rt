@@ -3,7 +3,7 @@
 use crate::frames::{END_OF_TURN, OPENED, REFUSAL, STRAY, repeated};
 use bx_devices::Watched;
 use bx_frames::LinkFault;
-use bx_link::Session;
+use bx_sessions::Session;
 use bx_worked_days::exchange;
 use std::alloc::Global;
 

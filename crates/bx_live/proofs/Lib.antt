@@ -7,3 +7,4 @@ pub mod Told
 pub mod Replies
 pub mod HeldRuns
 pub mod Syncs
+pub mod Projections

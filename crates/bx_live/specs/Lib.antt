@@ -1,4 +1,7 @@
 pub mod Acts
+pub mod Chains
+pub mod Logs
+pub mod Schedules
 pub mod Runs
 pub mod Running
 pub mod Seconds

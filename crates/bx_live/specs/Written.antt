@@ -75,8 +75,8 @@ owed_at p = []
 -- ---- of every run
 
 -- whatever is written, at any place of it
-abbrev pub AllIsOnRecord : Type 0
-AllIsOnRecord =
+abbrev pub AllIsLogged : Type 0
+AllIsLogged =
     (d : Day) (before following : List Act) (octets : List ℕ) (done : Bool) (to : Place)
     → IsRun (Between d) (before ++ Wrote octets done ∷ following) to → IsWrittenFor d before octets
 

@@ -9,10 +9,7 @@ use crate::replying::hear_together;
 use crate::turn::Stop;
 use crate::world::World;
 use bx_day::Exchange;
-use bx_frames::{Frame, LinkFault};
-
-/// The most messages that come in one turn.
-pub(crate) const MAX_MESSAGES: u32 = 64;
+use bx_frames::{Frame, LinkFault, MAX_MESSAGES};
 
 /// Hears the messages of a turn up to its end. What is replied to those that came together is written before more is waited for.
 pub(crate) fn hear_turn<W: World>(exchange: &mut Exchange, world: &mut W) -> Result<(), Stop>

@@ -5,12 +5,12 @@ ghost use Rattle.bx_day.specs.Day.{Day};
 ghost use Rattle.bx_live.specs.Acts.{Act, logged_by};
 ghost use Rattle.bx_live.specs.Runs.{Place, Between, IsRun};
 ghost use Rattle.bx_live.specs.Syncs.{syncs_in, waits_in};
-ghost use Rattle.bx_live.specs.Written.{filed, written, AllIsOnRecord, AllIsWritten};
+ghost use Rattle.bx_live.specs.Written.{filed, written, AllIsLogged, AllIsWritten};
 
 /// Whatever is written to a peer is what the exchange sends for the last event in the journal; where messages are sent for it, all that
 /// is logged is on the disk by then. What is logged is on the disk, or after the last sync.
 pub fn written_is_logged()
-    ensures written { AllIsOnRecord }
+    ensures written { AllIsLogged }
     ensures filed { (acts : List Act) → (filed acts).disk ++ (filed acts).more ≡ logged_by acts }
 {}
 

@@ -15,7 +15,7 @@ use Rattle.bx_day.specs.declared.entry.Entry.{Entry}
 use Rattle.bx_planner.specs.Choices.{IsBest}
 use Rattle.bx_planner.specs.Musts.{IsTooManyMust}
 use Rattle.bx_planner.specs.Tight.{runs_at}
-use Rattle.bx_planner.proofs.Rooms.{carried_from_room}
+use Rattle.bx_planner.proofs.EnoughRoom.{carried_from_room}
 use Rattle.bx_sales.specs.Selling.{rows_of, marks_of}
 use Rattle.bx_market.specs.Choices.{eligible_marks, IsChoice, IsBestBatch}
 use Rattle.bx_market.specs.Choosing.{promised, free_row, free_rows, chosen_marks}

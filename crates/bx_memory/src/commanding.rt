@@ -6,7 +6,7 @@ use bx_check::check;
 use bx_check_commands::{CommandFault, check_against, check_self, decode};
 use bx_devices::Watched;
 use bx_plan_commands::{CapacityFault, RunFault, capacity_run, plan_run};
-use bx_quote::{NoQuote, QuoteFault, write_explained, write_refused};
+use bx_planner::{NoQuote, QuoteFault, write_explained, write_refused};
 use std::alloc::Global;
 
 /// A writer that has room for all that is written here, and does not grow.

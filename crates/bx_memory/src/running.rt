@@ -4,8 +4,7 @@ use crate::world::{Answer, World};
 use bx_base::Booking;
 use bx_check::check;
 use bx_day::Exchange;
-use bx_planner::next_gain;
-use bx_quote::{NoQuote, Quote, explain, quote};
+use bx_planner::{NoQuote, Quote, explain, next_gain, quote};
 use bx_recovery::{Event, replay};
 use std::alloc::Global;
 

@@ -1,9 +1,5 @@
 //! What is answered of a day that runs, each text whole.
 
-use bx_answers::{
-    Figures, NoAnswer, call_of, metrics_text, outcomes_text, plan_text, quote_text, records_text,
-    sold_text,
-};
 use bx_base::ChannelSet;
 use bx_book::BookFault;
 use bx_calendar::Day;
@@ -12,7 +8,11 @@ use bx_cases::messages::{
 };
 use bx_day::Exchange;
 use bx_market::Answer;
-use bx_quote::NoQuote;
+use bx_office_world::{
+    Figures, NoAnswer, call_of, metrics_text, outcomes_text, plan_text, quote_text, records_text,
+    sold_text,
+};
+use bx_planner::NoQuote;
 use bx_sales::NoSale;
 use bx_worked_days::{Row, TICK, exchange_of, goes_through};
 use std::alloc::Global;

@@ -1,2 +1,5 @@
 pub mod Turns
 pub mod Replies
+pub mod Built
+pub mod CallTimes
+pub mod Pieces

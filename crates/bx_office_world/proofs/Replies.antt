@@ -1,7 +1,7 @@
 -- What a client is told.
 use Rattle.std.proofs.Common.{◌≡◌, sym, subst, ap, ◌∙◌, ℕ, Bool, List, length, take, min, arith}
 use Rattle.std.proofs.lemmas.List.{take_min}
-use Rattle.bx_answers.specs.declared.metrics.Figures.{Figures}
+use Rattle.bx_office_world.specs.declared.metrics.Figures.{Figures}
 use Rattle.bx_day.specs.Day.{Day}
 use Rattle.bx_day_chart.specs.Sights.{Sight}
 use Rattle.bx_office.specs.declared.gate.Route.{Route}

@@ -1,6 +1,6 @@
 -- Private: what is counted while the day runs.
 use Rattle.std.specs.Prelude.{◌≡◌, ◌⊎◌, ℕ, ◌+◌, ◌-◌, ◌/◌, min, Bool, true, false, if◌then◌else◌, List, [], ◌∷◌, slice_set, slice_index, Option, Some, None, option_map, Result, Ok, Err}
-use Rattle.bx_answers.specs.declared.metrics.Figures.{Figures}
+use Rattle.bx_office_world.specs.declared.metrics.Figures.{Figures}
 use Rattle.bx_day_chart.specs.Outages.{noted}
 use Rattle.bx_day_chart.specs.declared.outages.Outage.{Outage}
 use Rattle.bx_live.specs.declared.world.Begin.{Begin}

@@ -1,11 +1,11 @@
 -- What stands at each path now.
 use Rattle.std.specs.Prelude.{◌≡◌, ◌⊎◌, ℕ, List, []}
-use Rattle.bx_answers.specs.Answers.{IsPlanText, IsNoPromisedPlan, IsNoRecords}
-use Rattle.bx_answers.specs.Metrics.{metrics_text}
-use Rattle.bx_answers.specs.Quotes.{IsCallOfQuery, IsNoCallOfQuery, IsQuoteText, IsNoQuoteText}
-use Rattle.bx_answers.specs.declared.fault.NoAnswer.{NoAnswer}
-use Rattle.bx_answers.specs.declared.fault.NoAnswer.TheVariants.{Memory}
-use Rattle.bx_answers.specs.declared.metrics.Figures.{Figures}
+use Rattle.bx_office_world.specs.Answers.{IsPlanText, IsNoPromisedPlan, IsNoRecords}
+use Rattle.bx_office_world.specs.Metrics.{metrics_text}
+use Rattle.bx_office_world.specs.Quotes.{IsCallOfQuery, IsNoCallOfQuery, IsQuoteText, IsNoQuoteText}
+use Rattle.bx_office_world.specs.declared.fault.NoAnswer.{NoAnswer}
+use Rattle.bx_office_world.specs.declared.fault.NoAnswer.TheVariants.{Memory}
+use Rattle.bx_office_world.specs.declared.metrics.Figures.{Figures}
 use Rattle.bx_base.specs.Bookings.{Row}
 use Rattle.bx_book.specs.Rows.{span_of}
 use Rattle.bx_day.specs.Day.{Day}

@@ -3,3 +3,9 @@ pub mod Serving
 pub mod Counting
 pub mod Dealt
 pub mod Uncounted
+pub mod Answers
+pub mod Maintenance
+pub mod Metrics
+pub mod Quotes
+pub mod Sold
+pub mod Tallies

@@ -1,8 +1,8 @@
 -- Private: what each is told who waits at the door.
 use Rattle.std.specs.Prelude.{◌≡◌, ◌⊎◌, ℕ, ◌≤◌, Bool, true, false, List, [], ◌∷◌, take, length, codes, Option, Some, None}
-use Rattle.bx_answers.specs.Sold.{sold_text}
-use Rattle.bx_answers.specs.declared.fault.NoAnswer.{NoAnswer}
-use Rattle.bx_answers.specs.declared.fault.NoAnswer.TheVariants as no
+use Rattle.bx_office_world.specs.Sold.{sold_text}
+use Rattle.bx_office_world.specs.declared.fault.NoAnswer.{NoAnswer}
+use Rattle.bx_office_world.specs.declared.fault.NoAnswer.TheVariants as no
 use Rattle.bx_base.specs.Bookings.{Row}
 use Rattle.bx_book.specs.Texts.{IsBook, IsBookFault}
 use Rattle.csv.specs.Reading.{strip_bom}
@@ -25,7 +25,7 @@ use Rattle.bx_office_door.specs.declared.guest.Guest.{Guest}
 use Rattle.bx_office_world.specs.Desk.{IsWritten, IsUnanswered}
 use Rattle.bx_office_world.specs.declared.serving.Desk.{Desk}
 use Rattle.bx_office_world.specs.declared.serving.Selling.{Selling}
-use Rattle.bx_quote.specs.declared.answer.NoQuote.TheVariants as quotes
+use Rattle.bx_planner.specs.declared.answer.NoQuote.TheVariants as quotes
 
 -- ---- how answers begin
 

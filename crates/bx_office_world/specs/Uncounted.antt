@@ -1,6 +1,6 @@
 -- What a new office has counted.
 use Rattle.std.specs.Prelude.{◌≡◌, replicate}
-use Rattle.bx_answers.specs.declared.metrics.Figures.{Figures}
+use Rattle.bx_office_world.specs.declared.metrics.Figures.{Figures}
 
 -- nothing yet
 abbrev pub AreUncounted : Figures → Type 0

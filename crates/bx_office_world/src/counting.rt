@@ -3,7 +3,7 @@
 ghost use Rattle.std.specs.Prelude.{◌≡◌, ◌-◌, ◌/◌, min, option_map};
 ghost use Rattle.bx_office_world.specs.Counting.{begin_counted, is_late, is_without_link, cleared_in, cleared, sold_in_batch, seconds_since};
 
-use bx_answers::Figures;
+use crate::metrics::Figures;
 use bx_live::Begin;
 use bx_market::Answer;
 use bx_q931::{Kind, read};

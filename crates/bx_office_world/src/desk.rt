@@ -5,10 +5,12 @@ ghost use Rattle.bx_day_chart.specs.Charts.{IsDayChart};
 ghost use Rattle.bx_day_chart.specs.Sights.{sight_of};
 ghost use Rattle.bx_office_world.specs.Desk.{IsQuoteAnswered, IsWritten, IsQuoteUnanswered, IsUnanswered};
 
-use bx_answers::{
-    Figures, NoAnswer, call_of, chart_text, metrics_text, outcomes_text, plan_text, quote_text,
-    records_text,
-};
+use crate::drawing::chart_text;
+use crate::fault::NoAnswer;
+use crate::metrics::{Figures, metrics_text};
+use crate::promised::plan_text;
+use crate::quoting::{call_of, quote_text};
+use crate::texts::{outcomes_text, records_text};
 use bx_base::ChannelSet;
 use bx_calendar::{Clock, Day};
 use bx_day::Exchange;

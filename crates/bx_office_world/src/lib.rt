@@ -1,10 +1,26 @@
-//! A live day with a booking office beside it.
+//! A live day with a booking office beside it, and what the office answers: texts of the day, a pure function each of the exchange.
 #![tactic(auto)]
 
 mod counting;
 mod desk;
+mod drawing;
+mod fault;
+mod maintenance;
+mod metrics;
+mod promised;
+mod quoting;
 mod serving;
+mod sold;
+mod tallies;
+mod texts;
 mod world;
 
 pub use desk::{Opened, Written, answer_of};
+pub use drawing::chart_text;
+pub use fault::NoAnswer;
+pub use metrics::{Figures, metrics_text};
+pub use promised::{plan_text, promised_plan};
+pub use quoting::{call_of, quote_text};
+pub use sold::sold_text;
+pub use texts::{outcomes_text, records_text};
 pub use world::{Office, OfficeWorld};

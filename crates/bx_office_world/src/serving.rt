@@ -7,7 +7,9 @@ ghost use Rattle.bx_office_world.specs.Serving.{reply_status_of, book_status, is
 
 use crate::counting::{count_begin, is_late, is_without_link};
 use crate::desk::{Opened, Written, answer_of};
-use bx_answers::{Figures, NoAnswer, sold_text};
+use crate::fault::NoAnswer;
+use crate::metrics::Figures;
+use crate::sold::sold_text;
 use bx_base::Bookings;
 use bx_book::{BookFault, read_bookings};
 use bx_day::Exchange;
@@ -16,7 +18,7 @@ use bx_live::Begin;
 use bx_market::Answer;
 use bx_office::{Allowed, Kind, Reply, Route, Status};
 use bx_office_door::Door;
-use bx_quote::NoQuote;
+use bx_planner::NoQuote;
 use std::alloc::Global;
 use std::fmt::Display;
 

@@ -5,8 +5,8 @@ ghost use Rattle.bx_office_world.specs.Uncounted.{AreUncounted};
 
 use crate::counting::{count_message, count_sold, seconds_since};
 use crate::desk::Opened;
+use crate::metrics::Figures;
 use crate::serving::{Desk, Selling, tell_sold};
-use bx_answers::Figures;
 use bx_base::Bookings;
 use bx_day::Exchange;
 use bx_day_chart::{DaySight, Outages};

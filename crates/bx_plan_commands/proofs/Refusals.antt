@@ -3,8 +3,8 @@ use Rattle.std.proofs.Common.{◌≡◌, ◌↔◌, ℕ, List, Option, Some, Non
 use Rattle.std.specs.Prelude.{IfErr}
 use Rattle.bx_base.specs.PlanParts.{Parts}
 use Rattle.bx_plan_commands.specs.PlanRefusals.{IsUntold}
-use Rattle.bx_quote.specs.Writing.{IsExplainRefusal, IsListRefusal}
-use Rattle.bx_quote.specs.declared.writing.QuoteFault.{QuoteFault}
+use Rattle.bx_planner.specs.Writing.{IsExplainRefusal, IsListRefusal}
+use Rattle.bx_planner.specs.declared.writing.QuoteFault.{QuoteFault}
 use Rattle.std.specs.Borrow.{Bor}
 use Rattle.bx_book.specs.Rows.{Span}
 use Rattle.bx_book.specs.Streams.{IsStreamFault}

@@ -6,9 +6,9 @@ use Rattle.bx_devices.specs.Devices.{Writing}
 use Rattle.bx_base.specs.PlanParts.{Parts}
 use Rattle.bx_check_commands.specs.Inputs.{IsProvedOf}
 use Rattle.bx_plan_commands.specs.Calls.{IsCallOf}
-use Rattle.bx_quote.specs.Quotes.{with_asked}
-use Rattle.bx_quote.specs.Texts.{quote_text, explained_text, refused_text}
-use Rattle.bx_quote.specs.Writing.{IsToldOfRow}
+use Rattle.bx_planner.specs.Quotes.{with_asked}
+use Rattle.bx_planner.specs.Texts.{quote_text, explained_text, refused_text}
+use Rattle.bx_planner.specs.Writing.{IsToldOfRow}
 use Rattle.bx_request.specs.declared.request.Call.{Call}
 
 -- all that it refuses, or a row of it

@@ -9,8 +9,8 @@ use Rattle.bx_plan_commands.specs.FileRefusals.{IsFileFault}
 use Rattle.bx_plan_commands.specs.declared.fault.FileFault.{FileFault}
 use Rattle.bx_plan_commands.specs.declared.fault.FileFault.TheVariants as files
 use Rattle.bx_check_commands.specs.Inputs.{IsProvedOf, IsNoProvedOf}
-use Rattle.bx_quote.specs.Writing.{IsQuoteRefusal, IsExplainRefusal, IsListRefusal}
-use Rattle.bx_quote.specs.declared.writing.QuoteFault.{QuoteFault}
+use Rattle.bx_planner.specs.Writing.{IsQuoteRefusal, IsExplainRefusal, IsListRefusal}
+use Rattle.bx_planner.specs.declared.writing.QuoteFault.{QuoteFault}
 use Rattle.bx_request.specs.declared.request.Call.{Call}
 
 -- ---- what a plan refuses

@@ -19,7 +19,7 @@ use thiserror::Error;
 #[derive(Clone, Copy, Debug, PartialEq, Eq, Error)]
 pub enum AmendFault {
     /// There is none.
-    #[error("{0}")]
+    #[error(transparent)]
     Amend(NoAmendment),
     /// A write failed, or took none of what it was given: a prefix of the plan's text was written.
     #[error("F2 CannotWrite")]

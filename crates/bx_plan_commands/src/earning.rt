@@ -19,7 +19,7 @@ use thiserror::Error;
 #[derive(Clone, Copy, Debug, PartialEq, Eq, Error)]
 pub enum CapacityFault {
     /// The reader gave no bookings of the day.
-    #[error("{0}")]
+    #[error(transparent)]
     Unread(StreamFault),
     /// A write failed, or took none of what it was given: a prefix of the lines was written.
     #[error("F2 CannotWrite")]

@@ -6,34 +6,34 @@ use bx_book::BookFault;
 use bx_calendar::DayFault;
 use bx_chart::ChartFault;
 use bx_check_commands::CommandFault;
-use bx_quote::QuoteFault;
+use bx_planner::QuoteFault;
 use thiserror::Error;
 
 /// The refusal of a command on files.
 #[derive(Clone, Copy, Debug, PartialEq, Eq, Error)]
 pub enum FileFault<'a> {
     /// A file of this name was not opened or not read, it holds no plan or none that is proved, the output failed, or memory ran out.
-    #[error("{0}")]
+    #[error(transparent)]
     Command(CommandFault<'a>),
     /// A number of the list of channels is no B channel, or stands there twice.
-    #[error("{0}")]
+    #[error(transparent)]
     Channels(ChannelFault),
     /// The date and the zone name no day.
-    #[error("{0}")]
+    #[error(transparent)]
     Day(DayFault),
     /// What was read is no booking text of the day.
-    #[error("{0}")]
+    #[error(transparent)]
     Book(BookFault),
     /// The planning run was refused.
-    #[error("{0}")]
+    #[error(transparent)]
     Run(RunFault),
     /// The plan was not amended.
-    #[error("{0}")]
+    #[error(transparent)]
     Amend(AmendFault),
     /// No quote was written.
-    #[error("{0}")]
+    #[error(transparent)]
     Quote(QuoteFault),
     /// No picture was written.
-    #[error("{0}")]
+    #[error(transparent)]
     Chart(ChartFault),
 }

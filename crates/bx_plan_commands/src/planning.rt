@@ -29,7 +29,7 @@ pub enum RunFault {
     #[error("G2 TooLong")]
     TooLong,
     /// What was read is no booking text of the day.
-    #[error("{0}")]
+    #[error(transparent)]
     Book(BookFault),
     /// A write failed, or took none of what it was given: a prefix of the plan's text was written.
     #[error("G4 WriteFailed")]

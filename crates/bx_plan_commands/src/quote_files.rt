@@ -17,7 +17,7 @@ use bx_channels::Number;
 use bx_check_commands::{Inputs, proved_named};
 use bx_devices::Watched;
 use bx_planfile::decimal;
-use bx_quote::{write_explained, write_quote, write_refused};
+use bx_planner::{write_explained, write_quote, write_refused};
 use bx_request::Call;
 use std::alloc::Global;
 use std::io::Write;

@@ -19,7 +19,7 @@ use Rattle.bx_planner.specs.Musts.{musts_at}
 use Rattle.bx_planner.proofs.Chosen.{best_from_proof}
 use Rattle.bx_planner.proofs.FewMusts.{few_musts}
 use Rattle.bx_planner.proofs.SamePrices.{least_proof}
-use Rattle.bx_planner.proofs.Rooms.{carried_from_room}
+use Rattle.bx_planner.proofs.EnoughRoom.{carried_from_room}
 use Rattle.bx_planner.proofs.MostPaid.{most_paid}
 
 module _ (rows : List Row) (accepted : List Bool) (prices : List Charge) (bookings : AreBookings rows) (channels : List Bool) (choice : IsBestChoice rows (count_of channels) accepted prices) where

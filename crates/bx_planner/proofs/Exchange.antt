@@ -14,7 +14,7 @@ use Rattle.bx_flow.proofs.Falls.{spanned}
 use Rattle.bx_planner.specs.Capacity.{IsMostPaid, AreGainsNeverRising}
 use Rattle.bx_planner.specs.Tight.{runs_at}
 use Rattle.bx_planner.proofs.Moves.{at_most_one, Standing, Closed, Explored, explored}
-use Rattle.bx_planner.proofs.Rooms.{carried_from_room}
+use Rattle.bx_planner.proofs.EnoughRoom.{carried_from_room}
 
 -- a row is in just one of two sets
 abbrev differs : Bool → Bool → Bool

@@ -1,7 +1,7 @@
 pub mod Placed
 pub mod AllMusts
 pub mod FewMusts
-pub mod Rooms
+pub mod EnoughRoom
 pub mod Falling
 pub mod Priced
 pub mod Exact
@@ -21,3 +21,12 @@ pub mod Proved
 pub mod NotLeast
 pub mod Amended
 pub mod Extending
+pub mod Places
+pub mod Deciding
+pub mod Picking
+pub mod Crowding
+pub mod Holding
+pub mod Weighed
+pub mod Settling
+pub mod Quoted
+pub mod Told

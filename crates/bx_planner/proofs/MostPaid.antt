@@ -20,7 +20,7 @@ use Rattle.bx_planner.specs.Tight.{runs_at, AreTightPrices}
 use Rattle.bx_planner.proofs.Before.{before_same}
 use Rattle.bx_planner.proofs.Tightness.{proof_is_tight}
 use Rattle.bx_planner.proofs.Slack.{bound_from_tight}
-use Rattle.bx_planner.proofs.Rooms.{carried_from_room}
+use Rattle.bx_planner.proofs.EnoughRoom.{carried_from_room}
 use Rattle.bx_planner.proofs.Moves.{at_most_one, Standing, Explored, explored}
 use Rattle.bx_planner.proofs.Lowered.{IsCharged, AreClosed, lowered, lowered_list, lowered_exact, lowered_less}
 

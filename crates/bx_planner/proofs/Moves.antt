@@ -11,7 +11,7 @@ use Rattle.bx_base.specs.Bookings.{Row, row_at, is_running}
 use Rattle.bx_dist.proofs.Sending.{sum_below-change}
 use Rattle.bx_planner.specs.Tight.{runs_at}
 use Rattle.bx_planner.proofs.AllMusts.{short_sum}
-use Rattle.bx_planner.proofs.Rooms.{one_or_all, with, with_same, with_other}
+use Rattle.bx_planner.proofs.EnoughRoom.{one_or_all, with, with_same, with_other}
 
 over : (s m e : ℕ) → s < e → ◌≡◌ {A = ℕ} (cond (leb s m && ltb m e) 1 0 + cond (ltb m s) 1 0) (cond (ltb m e) 1 0)
 over s m e h = grind (arith, nat_tests)

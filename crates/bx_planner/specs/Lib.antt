@@ -9,3 +9,11 @@ pub mod Proved
 pub mod Capacity
 pub mod Earnings
 pub mod Extending
+pub mod Thresholds
+pub mod Rooms
+pub mod Named
+pub mod QuotesInside
+pub mod Weighing
+pub mod Quotes
+pub mod Texts
+pub mod Writing

@@ -1,6 +1,7 @@
 //! Writers that take little, and readers that give little.
 
-use bx_devices::{Failing, ReadFault, Watched, read_octets, write_octets};
+use bx_cases::Failing;
+use bx_devices::{ReadFault, Watched, read_octets, write_octets};
 use std::alloc::{AllocError, Global};
 
 /// How many writes succeed, how much each takes at most, and how much of the text is then written.

@@ -1,7 +1,8 @@
 //! Plan files on writers that fail.
 
 use bx_base::Plan;
-use bx_devices::{Failing, Watched};
+use bx_cases::Failing;
+use bx_devices::Watched;
 use bx_planfile::{PlanWriteFault, read_plan, write_plan};
 use std::alloc::Global;
 use std::test::Fail;

@@ -9,7 +9,7 @@ use crate::sets::{
 use bx_base::Price;
 use bx_cases::SHARE;
 use bx_channels::Channel;
-use bx_quote::{NoQuote, Quote, explain, quote};
+use bx_planner::{NoQuote, Quote, explain, quote};
 use std::alloc::Global;
 
 /// Six rows on so many channels, of which the one at this index is asked for and free. The plan is for the first rows:

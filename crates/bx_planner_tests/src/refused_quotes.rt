@@ -2,7 +2,7 @@
 
 use crate::proved_plans::plan_of;
 use crate::rows::{Row, booking_of};
-use bx_quote::{NoQuote, explain, quote};
+use bx_planner::{NoQuote, explain, quote};
 use std::alloc::Global;
 use std::test::Fail;
 

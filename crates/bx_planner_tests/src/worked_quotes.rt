@@ -2,7 +2,7 @@
 
 use crate::proved_plans::plan_of;
 use crate::rows::{Row, booking_of};
-use bx_quote::{NoQuote, Quote, explain, quote};
+use bx_planner::{NoQuote, Quote, explain, quote};
 use std::alloc::Global;
 
 /// What is asked for.

@@ -9,12 +9,13 @@ use Rattle.bx_journal.specs.declared.fault.JournalFault.{JournalFault}
 use Rattle.bx_journal.specs.declared.fault.JournalFault.TheVariants.{BadLine, OtherPlan, OtherDay, OtherRules, NotBegun, ReadFailed}
 use Rattle.bx_journal.specs.declared.head.Head.{Head}
 use Rattle.bx_journal.specs.declared.head.Wanted.{Wanted}
-use Rattle.bx_journal.specs.Reading.{Recovery, recovered, journal_in, with_whole, events_before}
+use Rattle.bx_journal.specs.Reading.{recovered, journal_in, events_before}
 use Rattle.bx_journal.specs.Lines.{whole_text}
 use Rattle.bx_journal.specs.Follows.{WasRefused, IsFollowed}
 use Rattle.bx_journal.specs.Heads.{IsWanted}
 use Rattle.bx_journal.specs.Logging.{IsPrefix}
 use Rattle.bx_journal.proofs.OneText.{with_less}
+use Rattle.bx_journal.proofs.Recoveries.{the_events}
 use Rattle.bx_recovery.specs.Recovered.{goes_on_by, IsDayBefore, IsRecovered, IsPrefixDay}
 
 pub record Splits (text read : List ℕ) : Type 0 where
@@ -51,13 +52,6 @@ module _ (wanted : Wanted) (text : List ℕ) (after : Option (List ℕ)) (old ne
 
 pub day_known : (wanted : Wanted) (text : List ℕ) (before after : Option (List ℕ)) (old new : Day) (faulted : Bool) (result : Result ℕ JournalFault) → before ≡ Some text → IsFollowed goes_on_by faulted before after wanted old new result → IsRecovered wanted text old new result
 day_known wanted text before after old new faulted result is r = known wanted text after old new faulted result (subst (λ (b : Option (List ℕ)). IsFollowed goes_on_by faulted b after wanted old new result) is r)
-
--- the events of a recovery
-pub the_events : (n m : ℕ) (read : Result (List LiveEvent) JournalFault) (events : List LiveEvent) → with_whole n read ≡ Ok (record { events = events; whole = m }) → read ≡ Ok events
-the_events n m (Ok es) events e =
-    let same : record { events = es; whole = n } ≡ record { events = events; whole = m } = cc in
-    ap (λ (r : Recovery). Ok r.events) same
-the_events n m (Err f) events e = absurd cc
 
 ok_events : (xs ys : List LiveEvent) (r : Result (List LiveEvent) JournalFault) → r ≡ Ok xs → r ≡ Ok ys → xs ≡ ys
 ok_events xs ys r a b = cc

@@ -21,12 +21,12 @@ use Rattle.bx_live.specs.Held.{IsHeldOut, IsHeldRun}
 use Rattle.bx_live.specs.Runs.{Between, Done, Over, IsRun}
 use Rattle.bx_live.specs.Running.{Runs, or_over}
 use Rattle.bx_live.specs.declared.world.CannotLog.{CannotLog}
-use Rattle.bx_live_parts.specs.Chains.{Chain}
-use Rattle.bx_live_parts.specs.Logs.{OnLog}
-use Rattle.bx_live_parts.proofs.Projections.{chain_map}
-use Rattle.bx_live_parts.specs.declared.log.Log.{Log}
-use Rattle.bx_live_parts.specs.declared.schedule.Schedule.{Schedule}
-use Rattle.bx_restart.specs.Selling.{day_goes}
+use Rattle.bx_live.specs.Chains.{Chain}
+use Rattle.bx_live.specs.Logs.{OnLog}
+use Rattle.bx_live.proofs.Projections.{chain_map}
+use Rattle.bx_live.specs.declared.log.Log.{Log}
+use Rattle.bx_live.specs.declared.schedule.Schedule.{Schedule}
+use Rattle.bx_day_openings.specs.Selling.{day_goes}
 use Rattle.bx_run_commands.specs.Resuming.{IsFollowedBy, IsKeptOn, IsKeptBy}
 use Rattle.bx_run_commands.proofs.Logged.{over_of}
 use Rattle.bx_run_commands.proofs.Unkept.{none_keeps}

@@ -23,11 +23,11 @@ use Rattle.bx_live.specs.Runs.{Place, Between, Logging, Receiving, Taking, Owing
 use Rattle.bx_live.specs.Written.{Filed, filed_by}
 use Rattle.bx_live.proofs.Due.{by_due}
 use Rattle.bx_live.proofs.Onward.{filed_law}
-use Rattle.bx_live_parts.specs.Chains.{Chain, chain_first}
+use Rattle.bx_live.specs.Chains.{Chain, chain_first}
 use Rattle.bx_world.proofs.Kept.{stops, stopped}
 use Rattle.bx_world.specs.Kept.{keeps_log}
-use Rattle.bx_live_parts.specs.Logs.{OnLog, OnDisk}
-use Rattle.bx_live_parts.proofs.Projections.{kept_on}
+use Rattle.bx_live.specs.Logs.{OnLog, OnDisk}
+use Rattle.bx_live.proofs.Projections.{kept_on}
 use Rattle.bx_run_commands.proofs.Unkept.{none_on, none_keeps}
 use Rattle.bx_run_commands.specs.Rehearsals.{IsJournalOf}
 use Rattle.bx_run_commands.specs.RehearsalsInside.{IsPutAway}

@@ -9,8 +9,8 @@ use Rattle.bx_live.specs.Held.{has_call, IsHeldOut}
 use Rattle.bx_request.specs.declared.request.LiveRequest.{LiveRequest}
 use Rattle.bx_run_commands.specs.LiveDays.{IsAtHand, IsLiveDay, has_office}
 use Rattle.bx_line_world.specs.Wires.{WireAct}
-use Rattle.bx_live_parts.specs.declared.log.Log.{Log}
-use Rattle.bx_live_parts.specs.declared.schedule.Schedule.{Schedule}
+use Rattle.bx_live.specs.declared.log.Log.{Log}
+use Rattle.bx_live.specs.declared.schedule.Schedule.{Schedule}
 use Rattle.bx_run_commands.specs.FirstFits.{IsFirstFitOpening}
 use Rattle.bx_run_commands.specs.LiveInside.{IsOpenAt, RunsWith, StopsWith}
 use Rattle.bx_run_commands.specs.OfficeRuns.{RunsOn, StopsOn, SellsByLine, StopsSelling}

@@ -7,12 +7,12 @@ use Rattle.bx_frames.specs.declared.frame.Frame.{Frame}
 use Rattle.bx_journal.specs.declared.head.Head.{Head}
 use Rattle.bx_live.specs.Acts.{Act}
 use Rattle.bx_live.specs.declared.world.CannotLog.{CannotLog}
-use Rattle.bx_live_parts.specs.Chains.{Chain}
-use Rattle.bx_live_parts.specs.Logs.{OnLog}
+use Rattle.bx_live.specs.Chains.{Chain}
+use Rattle.bx_live.specs.Logs.{OnLog}
 use Rattle.bx_world.specs.Rehearsals.{Rehearses, OnLost}
-use Rattle.bx_live_parts.specs.declared.log.Log.{Log}
+use Rattle.bx_live.specs.declared.log.Log.{Log}
 use Rattle.bx_world.specs.declared.rehearsal.Rehearsal.{Rehearsal}
-use Rattle.bx_live_parts.proofs.Projections.{chain_map}
+use Rattle.bx_live.proofs.Projections.{chain_map}
 use Rattle.bx_world.proofs.Losing.{none_ended}
 use Rattle.bx_run_commands.specs.Runs.{RunsIn}
 use Rattle.bx_run_commands.specs.Rehearsals.{IsOnLog, RehearsesTowards}

@@ -9,7 +9,7 @@ use Rattle.bx_devices.specs.declared.watched.Watched.{Watched}
 use Rattle.bx_frames.specs.declared.frame.Frame.TheVariants as frames
 use Rattle.bx_live.specs.Acts.{Act, Began, Dropped, Logged, Synced, Wrote, Read, Took, EndedDay}
 use Rattle.bx_world.specs.Captures.{Captures}
-use Rattle.bx_live_parts.specs.Chains.{Chain, chain_first}
+use Rattle.bx_live.specs.Chains.{Chain, chain_first}
 use Rattle.bx_world.specs.declared.captured.CapturedWorld.{CapturedWorld}
 use Rattle.bx_run_commands.specs.RunCaptures.{ArePackets, IsRunKept}
 

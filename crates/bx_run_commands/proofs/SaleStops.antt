@@ -11,11 +11,11 @@ use Rattle.bx_line_world.specs.declared.line_world.LineWorld.{LineWorld}
 use Rattle.bx_live.specs.Acts.{Act, Began, Dropped, Logged, Synced, Wrote, Read, Took, EndedDay}
 use Rattle.bx_live.specs.Runs.{Place, Between, Over, next}
 use Rattle.bx_live.specs.declared.world.CannotLog.{CannotLog}
-use Rattle.bx_live_parts.proofs.Projections.{chain_map}
-use Rattle.bx_live_parts.specs.Chains.{Chain, chain_first}
-use Rattle.bx_live_parts.specs.Logs.{OnLog}
-use Rattle.bx_live_parts.specs.declared.log.Log.{Log}
-use Rattle.bx_live_parts.specs.declared.schedule.Schedule.{Schedule}
+use Rattle.bx_live.proofs.Projections.{chain_map}
+use Rattle.bx_live.specs.Chains.{Chain, chain_first}
+use Rattle.bx_live.specs.Logs.{OnLog}
+use Rattle.bx_live.specs.declared.log.Log.{Log}
+use Rattle.bx_live.specs.declared.schedule.Schedule.{Schedule}
 use Rattle.bx_market.specs.declared.market.Answer.{Answer}
 use Rattle.bx_market.specs.Deals.{Deal, Ran, Asked, Answered, acts_of}
 use Rattle.bx_market.specs.SaleRuns.{IsSaleRun, IsWholeSaleRun, IsBrokenRun}

@@ -5,8 +5,8 @@ use Rattle.bx_events.specs.Events.{LiveEvent}
 use Rattle.bx_journal.specs.Events.{IsLoggable}
 use Rattle.bx_live.specs.Acts.{Act, Began, Dropped, Logged, Synced, Wrote, Read, Took, EndedDay}
 use Rattle.bx_live.specs.Runs.{Place, Over, IsRun, next}
-use Rattle.bx_live_parts.specs.Chains.{Chain, chain_first}
-use Rattle.bx_live_parts.specs.Logs.{OnLog}
+use Rattle.bx_live.specs.Chains.{Chain, chain_first}
+use Rattle.bx_live.specs.Logs.{OnLog}
 use Rattle.bx_world.proofs.Kept.{stops, stopped}
 use Rattle.bx_run_commands.proofs.Logged.{IsOver, goes_on}
 use Rattle.bx_run_commands.specs.LiveRuns.{EndsWithNoEvent}

@@ -1,8 +1,8 @@
 -- Without a journal nothing fails to be logged.
 use Rattle.std.proofs.Common.{◌≡◌, ℕ, true, false, List, [], ◌∷◌, Option, Some, None, refl, sym, subst, Bool}
 use Rattle.bx_live.specs.Acts.{Act, Logged, Synced}
-use Rattle.bx_live_parts.specs.Chains.{Chain, chain_first}
-use Rattle.bx_live_parts.specs.Logs.{OnLog}
+use Rattle.bx_live.specs.Chains.{Chain, chain_first}
+use Rattle.bx_live.specs.Logs.{OnLog}
 use Rattle.bx_world.specs.Kept.{keeps_log}
 
 module _ {D : Type 0} (holds may_leave : D → List ℕ → Type 0) (moment : D → ℕ) (left_since : D → ℕ → List ℕ → Type 0) (has_failed : D → Bool) where

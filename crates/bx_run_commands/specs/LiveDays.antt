@@ -15,7 +15,7 @@ use Rattle.bx_line_world.specs.declared.udp.UdpWire.{UdpWire}
 use Rattle.bx_line_world.specs.Wires.{did_on}
 use Rattle.bx_live.specs.Held.{has_call}
 use Rattle.bx_events.specs.declared.moment.TheConstants.{LAST_MOMENT}
-use Rattle.bx_live_parts.specs.declared.log.Log.{Log}
+use Rattle.bx_live.specs.declared.log.Log.{Log}
 use Rattle.bx_request.specs.declared.request.LiveRequest.{LiveRequest}
 use Rattle.bx_run_commands.specs.FirstFits.{IsFirstFitOpening}
 use Rattle.bx_run_commands.specs.Heads.{live_head}

@@ -6,8 +6,8 @@ use Rattle.bx_day_openings.specs.declared.hours.Hours.{Hours}
 use Rattle.bx_day_openings.specs.declared.plan_opening.DayOpening.{DayOpening}
 use Rattle.bx_request.specs.declared.request.LiveRequest.{LiveRequest}
 use Rattle.bx_line_world.specs.Wires.{WireAct}
-use Rattle.bx_live_parts.specs.declared.log.Log.{Log}
-use Rattle.bx_live_parts.specs.declared.schedule.Schedule.{Schedule}
+use Rattle.bx_live.specs.declared.log.Log.{Log}
+use Rattle.bx_live.specs.declared.schedule.Schedule.{Schedule}
 use Rattle.bx_run_commands.specs.LiveRuns.{RunsByLine, StopsByLine}
 use Rattle.bx_run_commands.specs.OfficeRuns.{SellsByLine, StopsSelling}
 use Rattle.bx_run_commands.specs.declared.by_office.Premises.{Premises}

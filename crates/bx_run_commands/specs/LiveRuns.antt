@@ -10,9 +10,9 @@ use Rattle.bx_line_world.specs.declared.line_world.LineWorld.{LineWorld}
 use Rattle.bx_live.specs.Acts.{Act, Logged, logged_by}
 use Rattle.bx_live.specs.Held.{AreHeld, IsHeldOut}
 use Rattle.bx_live.specs.Runs.{Between, Done, Over, IsRun}
-use Rattle.bx_live_parts.specs.Chains.{Chain}
-use Rattle.bx_live_parts.specs.declared.log.Log.{Log}
-use Rattle.bx_live_parts.specs.declared.schedule.Schedule.{Schedule}
+use Rattle.bx_live.specs.Chains.{Chain}
+use Rattle.bx_live.specs.declared.log.Log.{Log}
+use Rattle.bx_live.specs.declared.schedule.Schedule.{Schedule}
 
 -- A world with the network's end of a data link over this wire, with this schedule and this journal, has gone through the acts of a run of a day from
 -- here to its end. The day is the one after just the logged events. It has come to its last second, whatever the line did, and has gone on after it

@@ -6,9 +6,9 @@ use Rattle.bx_line_world.specs.Posts.{no_post}
 use Rattle.bx_line_world.specs.Wires.{WireAct}
 use Rattle.bx_line_world.specs.declared.line_world.LineWorld.{LineWorld}
 use Rattle.bx_live.specs.Held.{IsHeldOut}
-use Rattle.bx_live_parts.specs.Chains.{Chain}
-use Rattle.bx_live_parts.specs.declared.log.Log.{Log}
-use Rattle.bx_live_parts.specs.declared.schedule.Schedule.{Schedule}
+use Rattle.bx_live.specs.Chains.{Chain}
+use Rattle.bx_live.specs.declared.log.Log.{Log}
+use Rattle.bx_live.specs.declared.schedule.Schedule.{Schedule}
 use Rattle.bx_market.specs.Deals.{Deal, acts_of}
 use Rattle.bx_market.specs.SaleRuns.{IsWholeSaleRun, IsBrokenRun}
 use Rattle.bx_office_door.specs.Sliced.{DidInside}

@@ -10,7 +10,7 @@ use Rattle.bx_journal.specs.declared.head.Head.{Head}
 use Rattle.bx_journal.specs.Logging.{IsSettled}
 use Rattle.bx_live.specs.Acts.{Act, logged_by}
 use Rattle.bx_live.specs.Runs.{Between, Done, IsRun}
-use Rattle.bx_live_parts.specs.Chains.{Chain}
+use Rattle.bx_live.specs.Chains.{Chain}
 use Rattle.bx_world.specs.Rehearsals.{Rehearses}
 use Rattle.bx_world.specs.declared.rehearsal.Rehearsal.{Rehearsal}
 use Rattle.bx_run_commands.specs.RunCaptures.{IsRunKept}

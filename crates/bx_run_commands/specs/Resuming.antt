@@ -5,8 +5,8 @@ use Rattle.bx_journal.specs.Files.{holds_in, may_leave_in}
 use Rattle.bx_journal.specs.Follows.{IsFollowed}
 use Rattle.bx_journal.specs.declared.fault.JournalFault.{JournalFault}
 use Rattle.bx_journal.specs.declared.file.FileDisk.{FileDisk}
-use Rattle.bx_live_parts.specs.declared.log.Log.{Log}
-use Rattle.bx_restart.specs.Selling.{day_goes}
+use Rattle.bx_live.specs.declared.log.Log.{Log}
+use Rattle.bx_day_openings.specs.Selling.{day_goes}
 use Rattle.bx_run_commands.specs.Readying.{IsReady}
 use Rattle.bx_day_openings.specs.Replays.{IsDayThrough, HasNoReplay}
 use Rattle.bx_journal.specs.Heads.{wanted_of}

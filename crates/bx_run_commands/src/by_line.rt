@@ -8,8 +8,7 @@ use crate::running::clock_of;
 use bx_day::Exchange;
 use bx_journal::Disk;
 use bx_line_world::{Line, LineWorld, Wire};
-use bx_live::{CannotLog, run_held};
-use bx_live_parts::Schedule;
+use bx_live::{CannotLog, Schedule, run_held};
 use bx_world::Telling;
 use std::rt::Clock;
 

@@ -10,7 +10,7 @@ use thiserror::Error;
 #[derive(Clone, Copy, Debug, PartialEq, Eq, Error)]
 pub enum LiveFault<'a> {
     /// What is needed was not opened, or the day was not told.
-    #[error("{0}")]
+    #[error(transparent)]
     Day(DayCommandFault<'a>),
     /// The plan of a live day is not first fit: a booking that is sold might take the channel of a call that is up.
     #[error("D1 NotFirstFit")]

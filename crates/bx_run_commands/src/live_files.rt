@@ -21,8 +21,7 @@ use bx_day_openings::{
 use bx_devices::Watched;
 use bx_journal::{Disk, Head, JournalDay};
 use bx_line_world::{UdpWire, Wire};
-use bx_live::{CannotLog, has_call};
-use bx_live_parts::Schedule;
+use bx_live::{CannotLog, Schedule, has_call};
 use bx_request::LiveRequest;
 use bx_sales::is_first_fit;
 use std::alloc::Global;

@@ -15,7 +15,7 @@ use bx_day::Exchange;
 use bx_day_openings::{DayOpening, replay_journal};
 use bx_devices::Watched;
 use bx_journal::{Disk, DiskFailed, DiskFile, FileDisk, Head, JournalFault, begin, resume};
-use bx_live_parts::Log;
+use bx_live::Log;
 use std::alloc::Global;
 use std::fs::{File, Files, OpenFile};
 use std::io;

@@ -33,14 +33,15 @@ use Rattle.std.proofs.lemmas.Bool.{true≢false}
 use Rattle.bx_far.specs.Course.{far_next, far_text}
 use Rattle.bx_far.specs.FarDay.{FarDay}
 use Rattle.bx_link.specs.Sessions.{is_far_over}
-use Rattle.bx_link.specs.Talking.{talk_in, far_turn, far_talk_in, follow_by, closed_before}
+use Rattle.bx_link.specs.Talking.{far_turn, far_talk_in, follow_by, closed_before}
+use Rattle.bx_sessions.specs.Talking.{talk_in}
 use Rattle.bx_live.specs.Acts.{Act, Began, Dropped, Logged, Synced, Wrote, Read, Took, EndedDay}
 use Rattle.bx_live.specs.Written.{owed_at}
 use Rattle.bx_live.specs.Runs.{Place, day_at, Between, Logging, Receiving, Taking, Owing, Hearing, Losing, Over, Closing, Ending, Done, IsRun, owing, with_reply, replying, taken, writing, begun, heard}
 use Rattle.bx_live.specs.declared.world.Begin.{Begin}
 use Rattle.bx_live.specs.declared.world.Begin.TheVariants as begins
 use Rattle.bx_live.specs.declared.world.Loss.{Loss}
-use Rattle.bx_live_parts.specs.Chains.{Chain, chain_first}
+use Rattle.bx_live.specs.Chains.{Chain, chain_first}
 use Rattle.bx_live.specs.declared.world.Loss.TheVariants as losses
 use Rattle.bx_world.specs.BothEnds.{WroteNear, GaveBoth, PartedBoth, FarTurn, ReadsAfter, far_lost_by}
 use Rattle.bx_world.specs.Rehearsals.{Rehearses, OnPeer, OnLost, begins_by}

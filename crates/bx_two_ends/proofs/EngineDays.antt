@@ -12,7 +12,8 @@ use Rattle.bx_day.specs.Outages.{live_day_after}
 use Rattle.bx_far.specs.Course.{far_next, far_text}
 use Rattle.bx_far.specs.FarDay.{FarDay}
 use Rattle.bx_far.specs.declared.row.ScriptRow.{ScriptRow}
-use Rattle.bx_link.specs.Talking.{talk_in, far_talk_in}
+use Rattle.bx_link.specs.Talking.{far_talk_in}
+use Rattle.bx_sessions.specs.Talking.{talk_in}
 use Rattle.bx_live.specs.Runs.{Between}
 use Rattle.bx_world.specs.declared.both_ends.BothEnds.{BothEnds}
 use Rattle.bx_world.specs.declared.rehearsal.Rehearsal.{Rehearsal}

@@ -22,7 +22,8 @@ use Rattle.bx_day.specs.Ticks.{tick}
 use Rattle.bx_far.specs.Course.{far_next, far_text, far_due}
 use Rattle.bx_far.specs.FarDay.{FarDay, far_tick, far_ticked}
 use Rattle.bx_far.specs.FarRun.{far_receive_octets}
-use Rattle.bx_link.specs.Talking.{follow_by, exchange_turn, talk_in, far_hears, far_talk_in, closed_before, ticked_talk}
+use Rattle.bx_link.specs.Talking.{follow_by, far_hears, far_talk_in, closed_before, ticked_talk}
+use Rattle.bx_sessions.specs.Talking.{exchange_turn, talk_in}
 use Rattle.bx_two_ends.specs.Earning.{heard_in, seconds_after}
 use Rattle.bx_two_ends.specs.Lockstep.{Ends, far_heard, far_says, exchange_says, received_in, octets_received, replies_in, far_after_calls, turns_from}
 use Rattle.bx_two_ends.proofs.Delivery.{Sendable}

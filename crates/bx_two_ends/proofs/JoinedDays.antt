@@ -23,8 +23,9 @@ use Rattle.bx_far.specs.Course.{far_next, far_text}
 use Rattle.bx_far.specs.FarDay.{FarDay, far_opening}
 use Rattle.bx_far.specs.declared.row.ScriptRow.{ScriptRow}
 use Rattle.bx_far.proofs.Kept.{later_few}
-use Rattle.bx_link.specs.BothEnds.{Passage}
-use Rattle.bx_link.specs.Talking.{talk_in, far_talk_in}
+use Rattle.bx_sessions.specs.BothEnds.{Passage}
+use Rattle.bx_link.specs.Talking.{far_talk_in}
+use Rattle.bx_sessions.specs.Talking.{talk_in}
 use Rattle.bx_two_ends.specs.Earning.{LiveSecond, Linked, events_of, seconds_after, IsLongEnough, IsCarriedBy, AreAnswered}
 use Rattle.bx_two_ends.specs.Joined.{IsJoinedDay}
 use Rattle.bx_two_ends.specs.Lockstep.{Ends, octets_received, ends_after, turns_from, ends_opening, AnswersAtOnce}

@@ -8,12 +8,12 @@ use Rattle.bx_events.specs.declared.moment.TheConstants.{LAST_MOMENT}
 use Rattle.bx_far.specs.FarDay.{FarDay, far_opening}
 use Rattle.bx_far.specs.declared.row.ScriptRow.{ScriptRow}
 use Rattle.bx_frames.specs.declared.fault.LinkFault.{LinkFault}
-use Rattle.bx_link.specs.BothEnds.{Passage, BothDone}
+use Rattle.bx_sessions.specs.BothEnds.{Passage, BothDone}
 use Rattle.bx_link.specs.Sessions.{is_far_over}
 use Rattle.bx_link.specs.declared.connection.Connection.{Connection}
 use Rattle.bx_live.specs.Acts.{Act}
 use Rattle.bx_live.specs.Runs.{Between, Done, IsRun}
-use Rattle.bx_live_parts.specs.Chains.{Chain}
+use Rattle.bx_live.specs.Chains.{Chain}
 use Rattle.bx_world.specs.BothEnds.{WroteNear, GaveBoth, PartedBoth}
 use Rattle.bx_world.specs.Rehearsals.{Rehearses}
 use Rattle.bx_world.specs.declared.both_ends.BothEnds.{BothEnds}

@@ -9,7 +9,7 @@ use Rattle.bx_day.specs.Outages.{live_day_after}
 use Rattle.bx_events.specs.declared.moment.TheConstants.{LAST_MOMENT}
 use Rattle.bx_far.specs.FarDay.{FarDay}
 use Rattle.bx_far.specs.declared.row.ScriptRow.{ScriptRow}
-use Rattle.bx_link.specs.BothEnds.{Passage}
+use Rattle.bx_sessions.specs.BothEnds.{Passage}
 use Rattle.bx_records.specs.Totals as totals
 use Rattle.bx_records.specs.Totals.{pays_of}
 use Rattle.bx_two_ends.specs.Earning.{events_of, IsLongEnough, AreLongEnough, IsCarriedBy}

@@ -14,9 +14,9 @@ use Rattle.bx_live.specs.Runs.{Place, Between, Logging, Receiving, Owing, Over, 
 use Rattle.bx_live.specs.Written.{Filed, filed, filed_by}
 use Rattle.bx_live.proofs.Due.{by_due}
 use Rattle.bx_live.proofs.Onward.{filed_law, written_law}
-use Rattle.bx_live_parts.specs.Chains.{Chain, chain_one, chain_first}
+use Rattle.bx_live.specs.Chains.{Chain, chain_one, chain_first}
 use Rattle.bx_world.specs.Kept.{keeps_log, asked, Knows, IsSafe}
-use Rattle.bx_live_parts.specs.Logs.{OnDisk}
+use Rattle.bx_live.specs.Logs.{OnDisk}
 
 -- ---- what failed is the last act of a run
 

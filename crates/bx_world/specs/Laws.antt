@@ -10,8 +10,8 @@ use Rattle.bx_journal.specs.declared.head.Head.{Head}
 use Rattle.bx_live.specs.Acts.{Act, Wrote, logged_by, ended}
 use Rattle.bx_live.specs.Runs.{Place, Between, IsRun}
 use Rattle.bx_live.specs.Written.{filed}
-use Rattle.bx_live_parts.specs.Chains.{Chain}
-use Rattle.bx_live_parts.specs.Logs.{OnDisk}
+use Rattle.bx_live.specs.Chains.{Chain}
+use Rattle.bx_live.specs.Logs.{OnDisk}
 use Rattle.bx_world.specs.Kept.{keeps_log, asked, Knows, IsSafe}
 use Rattle.bx_world.specs.Rehearsals.{Rehearses}
 use Rattle.bx_world.specs.declared.rehearsal.Rehearsal.{Rehearsal}

@@ -8,7 +8,7 @@ use Rattle.bx_live.specs.declared.world.Begin.TheVariants.{Joined, Ended}
 use Rattle.bx_live.specs.declared.world.Loss.{Loss}
 use Rattle.bx_live.specs.declared.world.Loss.TheVariants.{Late, Fault}
 use Rattle.bx_live.specs.Acts.{Act, Began, Dropped, Wrote, Read, Took, EndedDay}
-use Rattle.bx_live_parts.specs.Logs.{OnLog}
+use Rattle.bx_live.specs.Logs.{OnLog}
 use Rattle.bx_world.specs.declared.rehearsal.Rehearsal.{Rehearsal}
 
 -- what an act does to the peer, of which no message is taken but where one is waited for; one that was lost is not told of the end of the day

@@ -67,7 +67,7 @@ impl<W, F: Write> CapturedWorld<W, F> {
 }
 
 impl<W: World, F: Write> World for CapturedWorld<W, F> {
-    ghost use Rattle.bx_live_parts.specs.Chains.{Chain, chain_more};
+    ghost use Rattle.bx_live.specs.Chains.{Chain, chain_more};
     ghost use Rattle.bx_world.specs.Captures.{Captures};
     ghost use Rattle.std.proofs.Common.{refl};
 

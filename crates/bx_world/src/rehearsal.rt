@@ -8,8 +8,7 @@ use bx_devices::WriteFailed;
 use bx_events::LiveEvent;
 use bx_frames::{Frame, LinkFault};
 use bx_journal::Disk;
-use bx_live::{Begin, CannotLog, Loss, World};
-use bx_live_parts::Log;
+use bx_live::{Begin, CannotLog, Log, Loss, World};
 use bx_q931::Octets;
 
 /// A world of one peer and no clock. A fault of its link ends the day.
@@ -42,7 +41,7 @@ fn begins_by(lost: Option<LinkFault>) -> Begin
 }
 
 impl<P: Peer, D: Disk> World for Rehearsal<P, D> {
-    ghost use Rattle.bx_live_parts.specs.Chains.{Chain, chain_more};
+    ghost use Rattle.bx_live.specs.Chains.{Chain, chain_more};
     ghost use Rattle.bx_world.specs.Rehearsals.{Rehearses};
     ghost use Rattle.std.proofs.Common.{refl};
 

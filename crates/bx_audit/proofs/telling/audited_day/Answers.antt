@@ -12,7 +12,7 @@ use Rattle.bx_journal.proofs.AnyDay.{never_other_day}
 use Rattle.bx_day_openings.specs.JournalRefusals.{IsNoJournal}
 use Rattle.bx_day_openings.proofs.ToldJournals.{not_followed, followed_whole}
 use Rattle.bx_day_openings.proofs.Replays.{followed_as, bad_sale, no_replay}
-use Rattle.bx_restart.specs.declared.reselling.SaleFault.{SaleFault}
+use Rattle.bx_day_openings.specs.declared.reselling.SaleFault.{SaleFault}
 use Rattle.bx_audit.specs.Followed.{Taken, IsTaken, taken_of}
 use Rattle.bx_audit.proofs.Audited.{audited, kept_so_far, same_taken, followed_some, taken_whole, taken_to, stopped_day}
 use Rattle.bx_audit.proofs.telling.audited_day.Goals as goal

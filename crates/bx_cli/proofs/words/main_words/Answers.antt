@@ -7,8 +7,5 @@ returns-in-Ok-clause-done g c none done = (c.in-Ok.field-0, c.in-Ok.ensures.prov
 pub returns-in-Err-clause-refused : goal.returns-in-Err-clause-refused
 returns-in-Err-clause-refused g c none some = (c.refused.ensures, c.in-Err.fault, c.in-Err.ensures.refused)
 
-pub returns-in-Err-Wrong-clause-status : goal.returns-in-Err-Wrong-clause-status
-returns-in-Err-Wrong-clause-status g c = omega arith
-
 pub returns-in-Err-clause-done : goal.returns-in-Err-clause-done
 returns-in-Err-clause-done g c none done = absurd (omega (arith, done, c.refused.ensures))

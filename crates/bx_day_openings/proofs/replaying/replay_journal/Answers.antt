@@ -1,8 +1,8 @@
 use Rattle.std.proofs.Common.{Err, refl}
 use Rattle.std.proofs.lemmas.Result.{err_from_is_err_and}
 use Rattle.bx_devices.specs.Watching.{device_of, is_faulted}
-use Rattle.bx_restart.specs.Selling.{day_goes, IsAfter}
-use Rattle.bx_restart.specs.declared.selling.Selling.{Selling}
+use Rattle.bx_day_openings.specs.Selling.{day_goes, IsAfter}
+use Rattle.bx_day_openings.specs.declared.selling.Selling.{Selling}
 use Rattle.bx_day_openings.proofs.ToldJournals.{not_followed, followed_whole}
 use Rattle.bx_day_openings.proofs.Replays.{followed_as, bad_sale, went, stopped, goes_on, no_replay}
 use Rattle.bx_day_openings.proofs.replaying.replay_journal.Goals as goal

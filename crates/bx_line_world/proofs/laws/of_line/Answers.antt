@@ -1,4 +1,4 @@
-use Rattle.bx_live_parts.proofs.Projections.{kept_in}
+use Rattle.bx_live.proofs.Projections.{kept_in}
 use Rattle.bx_line_world.specs.Days.{GoesByLine}
 use Rattle.bx_line_world.proofs.Never.{never_ends}
 use Rattle.bx_line_world.proofs.Seconds.{second_within}

@@ -2,7 +2,7 @@ use Rattle.std.proofs.Common.{◌+◌, true, false, refl, arith, inl, inr}
 use Rattle.std.proofs.lemmas.Result.{err_from_is_err_and}
 use Rattle.bx_frames.proofs.ReadAnswers.{gave, faulty}
 use Rattle.bx_frames.specs.declared.fault.LinkFault.TheVariants.{Closed}
-use Rattle.bx_link.proofs.ExchangeTurns.{over, broken}
+use Rattle.bx_link.proofs.Following.{over, broken}
 use Rattle.bx_link.proofs.FarMoments.{runs_so}
 use Rattle.bx_link.proofs.FarTurns.{no_turn_yet, far_stands, far_goes_on, far_failed, far_ended}
 use Rattle.bx_link.proofs.far_day.run_far_day.Goals as goal

@@ -1,5 +1,5 @@
 use Rattle.std.proofs.Common.{inl, ◌∙◌, ap, take, ℕ}
-use Rattle.bx_answers.specs.Sold.{sold_text}
+use Rattle.bx_office_world.specs.Sold.{sold_text}
 use Rattle.bx_office_world.proofs.Replies.{most}
 use Rattle.bx_office_world.proofs.serving.tell_sold.Goals as goal
 

@@ -1,5 +1,5 @@
 use Rattle.bx_world.specs.Rehearsals.{Rehearses, OnLost}
-use Rattle.bx_live_parts.proofs.Projections.{chain_map, kept_in}
+use Rattle.bx_live.proofs.Projections.{chain_map, kept_in}
 use Rattle.bx_world.proofs.Losing.{none_ended}
 use Rattle.bx_world.proofs.laws.of_rehearsal.Goals as goal
 

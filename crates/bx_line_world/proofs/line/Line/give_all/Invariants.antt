@@ -1,5 +1,5 @@
 use Rattle.std.proofs.Common.{take}
-use Rattle.bx_live_parts.specs.Chains.{Chain}
+use Rattle.bx_live.specs.Chains.{Chain}
 use Rattle.bx_line_world.specs.Serving.{GivesMessage}
 use Rattle.bx_line_world.proofs.line.Line.give_all.Given as goal
 

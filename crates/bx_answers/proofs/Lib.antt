@@ -1,3 +1,0 @@
-pub mod Built
-pub mod CallTimes
-pub mod Pieces

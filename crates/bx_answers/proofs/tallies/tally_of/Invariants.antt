@@ -1,6 +1,0 @@
-use Rattle.bx_answers.specs.Tallies.{is_such}
-use Rattle.bx_records.specs.Tallies.{IsTallySoFar}
-use Rattle.bx_answers.proofs.tallies.tally_of.Given as goal
-
-abbrev pub invariant-loop-entry : goal.invariant-loop-entry
-invariant-loop-entry l = IsTallySoFar (is_such l.became) l.entries l.entry-index l.tally

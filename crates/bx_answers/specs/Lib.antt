@@ -1,6 +1,0 @@
-pub mod Answers
-pub mod Maintenance
-pub mod Metrics
-pub mod Quotes
-pub mod Sold
-pub mod Tallies

@@ -1,0 +1,49 @@
+-- Events and sales one after another.
+use Rattle.std.specs.Prelude.{Bool, List, [], ◌∷◌, ◌++◌, Option, Some, None}
+use Rattle.std.proofs.Common.{refl, sym, ap, ◌∙◌, subst, append_assoc}
+use Rattle.bx_day.specs.Day.{Day}
+use Rattle.bx_events.specs.Events.{LiveEvent, Sold}
+use Rattle.bx_planfile.specs.OneBooking.{row_on}
+use Rattle.bx_sales.proofs.Journal.{through_more}
+use Rattle.bx_day_openings.specs.declared.reselling.SaleFault.{SaleFault}
+use Rattle.bx_day_openings.specs.declared.selling.Selling.{Selling}
+use Rattle.bx_day_openings.specs.Going.{IsStopped, Goes, GoesFrom}
+use Rattle.bx_day_openings.specs.Selling.{day_goes, IsAfter}
+
+module _ {S : Type 0} (goes : S → List LiveEvent → S → Type 0) (day : S → Day) (channels : List Bool) where
+  pub goes_nothing : ((s : S) → goes s [] s) → (sale : Option SaleFault) (s : S) → GoesFrom goes day channels sale s [] s sale
+  goes_nothing none None s = none s
+  goes_nothing none (Some fault) s = (refl, refl)
+
+  module _ (more : (s t u : S) (xs ys : List LiveEvent) → goes s xs t → goes t ys u → goes s (xs ++ ys) u) where
+    later_stop : (s t u : S) (xs ys : List LiveEvent) (fault : SaleFault) → goes s xs t → IsStopped goes day channels t ys u fault → IsStopped goes day channels s (xs ++ ys) u fault
+    later_stop s t u xs ys fault went stop = record {
+      sale = record { before = xs ++ stop.sale.before; line = stop.sale.line; following = stop.sale.following; are = ap (λ (l : List LiveEvent). xs ++ l) stop.sale.are ∙ sym (append_assoc xs stop.sale.before (Sold stop.sale.line ∷ stop.sale.following)) };
+      went = more s t u xs stop.sale.before went stop.went;
+      why = stop.why;
+    }
+
+    from_here : (s t u : S) (xs ys : List LiveEvent) (a b : Option SaleFault) → Goes goes day channels s xs t a → GoesFrom goes day channels a t ys u b → Goes goes day channels s (xs ++ ys) u b
+    from_here s t u xs ys None None went next = more s t u xs ys went next
+    from_here s t u xs ys None (Some fault) went next = later_stop s t u xs ys fault went next
+    from_here s t u xs ys (Some fault) b stop (same, still) =
+        subst (λ (x : Option SaleFault). Goes goes day channels s (xs ++ ys) u x) (sym still)
+        (subst (λ (x : S). IsStopped goes day channels s (xs ++ ys) x fault) (sym same) (record {
+          sale = record { before = stop.sale.before; line = stop.sale.line; following = stop.sale.following ++ ys; are = ap (λ (l : List LiveEvent). l ++ ys) stop.sale.are ∙ append_assoc stop.sale.before (Sold stop.sale.line ∷ stop.sale.following) ys };
+          went = stop.went;
+          why = stop.why;
+        }))
+
+    pub goes_more : (s t u : S) (xs ys : List LiveEvent) (a b c : Option SaleFault) → GoesFrom goes day channels a s xs t b → GoesFrom goes day channels b t ys u c → GoesFrom goes day channels a s (xs ++ ys) u c
+    goes_more s t u xs ys None b c p q = from_here s t u xs ys b c p q
+    goes_more s t u xs ys (Some fault) b c (same, still) q = then_stopped (subst (λ (x : Option SaleFault). GoesFrom goes day channels x t ys u c) still q) where
+      then_stopped : GoesFrom goes day channels (Some fault) t ys u c → GoesFrom goes day channels (Some fault) s (xs ++ ys) u c
+      then_stopped (on, again) = (on ∙ same, again)
+
+pub after_nothing : (a : Selling) → IsAfter a [] a
+after_nothing a = (refl, goes_nothing (day_goes a.channels) (λ (d : Day). d) a.channels (λ d. refl) a.sale a.exchange)
+
+pub after_more : (a b c : Selling) (xs ys : List LiveEvent) → IsAfter a xs b → IsAfter b ys c → IsAfter a (xs ++ ys) c
+after_more a b c xs ys (same, p) (again, q) =
+    let on = subst (λ (cs : List Bool). GoesFrom (day_goes cs) (λ (d : Day). d) cs b.sale b.exchange ys c.exchange c.sale) same q in
+    (again ∙ same, goes_more (day_goes a.channels) (λ (d : Day). d) a.channels (λ d e f us vs p q. through_more a.channels row_on us vs d e f p q) a.exchange b.exchange c.exchange xs ys a.sale b.sale c.sale p on)

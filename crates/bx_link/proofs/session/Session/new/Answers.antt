@@ -1,5 +1,0 @@
-use Rattle.std.proofs.Common.{rules}
-use Rattle.bx_link.proofs.session.Session.new.Goals as goal
-
-pub returns-clause-turn : goal.returns-clause-turn
-returns-clause-turn c = search rules steps 60000

@@ -1,9 +1,0 @@
-pub mod Places
-pub mod Deciding
-pub mod Picking
-pub mod Crowding
-pub mod Holding
-pub mod Weighed
-pub mod Settling
-pub mod Quoted
-pub mod Told

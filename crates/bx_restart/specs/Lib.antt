@@ -1,4 +1,0 @@
-pub mod Sales
-pub mod Going
-pub mod Selling
-pub mod Joined

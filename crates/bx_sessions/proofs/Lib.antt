@@ -1,0 +1,2 @@
+pub mod ExchangeTurns
+pub mod BothEnds
