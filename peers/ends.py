@@ -5,10 +5,44 @@ import shutil
 import socket
 import struct
 import subprocess
+import tempfile
+import threading
 import time
 
 TOP = os.path.dirname(os.path.dirname(os.path.abspath(__file__)))
 BX = f"{TOP}/crates/bx/out/bx"
+
+
+class Standstills(threading.Thread):
+    """Notes when this process got no processor for a while: the exchange, the far end and the line of a day may have stood still then too, for
+    they run beside it."""
+
+    STEP, LEAST = 0.01, 0.05
+
+    def __init__(self):
+        super().__init__(daemon=True)
+        self.noted = []
+        self.start()
+
+    def run(self):
+        last = time.time()
+        while True:
+            time.sleep(self.STEP)
+            now = time.time()
+            if now - last > self.LEAST:
+                self.noted.append((last, now))
+            last = now
+
+    def longest(self, begin, end):
+        """The longest one between two instants of the clock, in seconds."""
+        return max((until - since for since, until in self.noted if since < end and begin < until), default=0.0)
+
+
+def folder_in_memory():
+    """A folder that goes with its block; in memory where there is such a file system, since a disk with much to write may hold a sync up for
+    seconds, and a second of a day at a pace of 20 is over in a twentieth of one."""
+    memory = "/dev/shm"
+    return tempfile.TemporaryDirectory(dir=memory if os.access(memory, os.W_OK) else None)
 
 
 def build(scratch, name):

@@ -5,12 +5,13 @@
 //     line HERE:THERE MIDNIGHT PACE SECONDS POLICY [offer M NUMBER CHANNEL]...
 //
 // HERE and THERE are UDP ports on 127.0.0.1, this end's and the other's. MIDNIGHT is when the day begins, in seconds since 1970;
-// PACE is how many of its seconds one of the clock has; it is over after SECONDS. The timers of libpri run by the clock, whatever
+// PACE is how many of its seconds one of the clock has; it is over after SECONDS, or once SIGTERM came. The timers of libpri run by the clock, whatever
 // the pace. POLICY and `offer` are those of rehearsal.c. It prints what it counted, and how often the data link came up and went.
 
 #include "calls.h"
 #include <arpa/inet.h>
 #include <poll.h>
+#include <signal.h>
 #include <sys/socket.h>
 #include <sys/time.h>
 #include <unistd.h>
@@ -18,6 +19,12 @@
 static int line_fd;
 static unsigned ups, downs;
 static double midnight, pace;
+static volatile sig_atomic_t is_over;
+
+static void end_day(int signal_number) {
+    (void)signal_number;
+    is_over = 1;
+}
 
 static double now(void) {
     struct timeval time;
@@ -95,7 +102,7 @@ static int time_to_wait(struct pri *pri) {
 
 static void run_day(struct pri *pri, uint32_t seconds) {
     struct pollfd line = {.fd = line_fd, .events = POLLIN};
-    while (moment_now() < seconds) {
+    while (!is_over && moment_now() < seconds) {
         do_what_is_due(pri, moment_now());
         int came = poll(&line, 1, time_to_wait(pri));
         hear(pri, came > 0 ? pri_check_event(pri) : pri_schedule_run(pri));
@@ -112,6 +119,7 @@ int main(int count, char **words) {
     midnight = atof(words[2]);
     pace = atof(words[3]);
     policy = words[5];
+    signal(SIGTERM, end_day);
     pri_set_message(print_message);
     pri_set_error(print_message);
     struct pri *pri = pri_new_cb(line_fd, PRI_CPE, PRI_SWITCH_EUROISDN_E1, read_frame, write_frame, NULL);
