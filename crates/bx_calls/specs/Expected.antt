@@ -25,11 +25,11 @@ every_state_row call m status released _ = None
 
 -- what answers RELEASE, where the call has not sent one itself
 abbrev pub net_released : PlainNetCall → NetState → Option Outgoing
-net_released c (net.ReleaseRequest again cause due) = None
+net_released c (net.ReleaseRequest sent cause due) = None
 net_released c _ = Some (net_says c ReleaseComplete)
 
 abbrev pub user_released : PlainUserCall → UserState → Option Outgoing
-user_released c (user.ReleaseRequest again cause due) = None
+user_released c (user.ReleaseRequest sent cause due) = None
 user_released c _ = Some (user_says c ReleaseComplete)
 
 -- the call, asked no more

@@ -1,19 +1,20 @@
 -- What the call tables see of a message.
-use Rattle.std.specs.Prelude.{ℕ, ◌==◌, Bool, true, false, Option, Some, None}
+use Rattle.std.specs.Prelude.{ℕ, ◌==◌, ◌||◌, Bool, true, false, Option, Some, None}
 use Rattle.bx_q931.specs.Messages.{PlainMessage}
-use Rattle.bx_q931.specs.Values.{channel_element_of, state_of}
+use Rattle.bx_q931.specs.Values.{channel_element_of, cause_of, state_of}
 use Rattle.bx_q931.specs.declared.kind.Kind.{Kind}
 use Rattle.bx_q931.specs.declared.channel_field.ChannelField.{ChannelField}
 use Rattle.bx_q931.specs.declared.channel_field.ChannelField.TheVariants.{Absent, Named, AnyChannel, Unread}
 
--- its type, what it says of a channel, and the call state that it reports
+-- its type, what it says of a channel, its cause, and the call state that it reports
 pub record Heard : Type 0 where
   pub kind : Kind
   pub channel : ChannelField
+  pub cause : Option ℕ
   pub state : Option ℕ
 
 abbrev pub heard_of : PlainMessage → Heard
-heard_of m = record { kind = m.kind; channel = channel_element_of m; state = state_of m }
+heard_of m = record { kind = m.kind; channel = channel_element_of m; cause = cause_of m; state = state_of m }
 
 -- the channel identification is absent or names this channel
 abbrev pub names_channel : ChannelField → ℕ → Bool
@@ -26,3 +27,8 @@ names_channel Unread channel = false
 abbrev pub reports_null : Option ℕ → Bool
 reports_null None = false
 reports_null (Some n) = n == 0
+
+-- a cause that passes: temporary failure, congestion, channel not available, resource unavailable, recovery on timer expiry
+abbrev pub is_passing : Option ℕ → Bool
+is_passing None = false
+is_passing (Some n) = n == 41 || (n == 42 || (n == 44 || (n == 47 || n == 102)))

@@ -9,14 +9,16 @@ use Rattle.bx_q931.specs.declared.kind.Kind.TheVariants.{Alerting, CallProceedin
 use Rattle.bx_calls.specs.declared.transition.Transition.{Transition}
 use Rattle.bx_calls.specs.declared.net_state.NetOrigin.{NetOrigin}
 use Rattle.bx_calls.specs.declared.net_state.NetOrigin.TheVariants.{Outward, Inward}
-use Rattle.bx_calls.specs.declared.net_state.Asked.{Asked}
-use Rattle.bx_calls.specs.declared.net_state.Asked.TheVariants.{NotYet, Once, Twice}
+use Rattle.bx_calls.specs.declared.times.Times.{Times}
+use Rattle.bx_calls.specs.declared.times.Times.TheVariants.{NotYet, Once, Twice}
+use Rattle.bx_calls.specs.declared.net_state.Offer.{Offer}
+use Rattle.bx_calls.specs.declared.net_state.Offer.TheVariants.{First, Second, Anew, PutOff, Unlinked, Asked}
 use Rattle.bx_calls.specs.declared.net_state.NetState.{NetState}
 use Rattle.bx_calls.specs.declared.net_state.NetState.TheVariants.{OutgoingCallProceeding, CallPresent, IncomingCallProceeding, CallReceived, Active, Enquiring, DisconnectIndication, ReleaseRequest}
 use Rattle.bx_calls.specs.Timers.{t301, t303, t305, t308, t310, t322}
 use Rattle.bx_calls.specs.PlainCalls.{PlainNetCall}
 use Rattle.bx_calls.specs.States.{net_state}
-use Rattle.bx_calls.specs.Hearing.{Heard, names_channel, reports_null}
+use Rattle.bx_calls.specs.Hearing.{Heard, names_channel, reports_null, is_passing}
 use Rattle.bx_calls.specs.Saying.{network, with_cause, with_kept_cause, with_channel, status_of, setup_of}
 use Rattle.bx_calls.specs.Steps.{goes_on, ends, breaks}
 
@@ -36,10 +38,14 @@ net_says_cause c kind cause = with_cause network cause (net_says c kind)
 abbrev pub net_status : PlainNetCall → ℕ → Outgoing
 net_status c cause = status_of c.reference (net_flag c.origin) network cause (net_state c.state)
 
+-- how a first SETUP is sent; is_back says that there was no link in the second before
+abbrev pub first_offer : Bool → Offer
+first_offer is_back = if is_back then Anew else First
+
 -- a call that this side begins, and one that the user began
-abbrev pub net_offered : ℕ → ℕ → List ℕ → ℕ → PlainNetCall
-net_offered reference channel number moment =
-    record { reference = reference; channel = channel; origin = Outward number; state = CallPresent false (moment + t303) }
+abbrev pub net_offered : ℕ → ℕ → List ℕ → Bool → ℕ → PlainNetCall
+net_offered reference channel number is_back moment =
+    record { reference = reference; channel = channel; origin = Outward number; state = CallPresent (first_offer is_back) (moment + t303) }
 
 abbrev pub net_answered : ℕ → ℕ → PlainNetCall
 net_answered reference channel =
@@ -57,9 +63,9 @@ abbrev pub net_to : PlainNetCall → Option Outgoing → NetState → Transition
 net_to c reply state = goes_on (record c { state = state }) reply
 
 -- RELEASE with this cause or none, N19, T308
-abbrev pub net_releases : PlainNetCall → Bool → Option ℕ → ℕ → Transition PlainNetCall
-net_releases c again cause t =
-    net_to c (Some (with_kept_cause network cause (net_says c Release))) (ReleaseRequest again cause (t + t308))
+abbrev pub net_releases : PlainNetCall → Times → Option ℕ → ℕ → Transition PlainNetCall
+net_releases c sent cause t =
+    net_to c (Some (with_kept_cause network cause (net_says c Release))) (ReleaseRequest sent cause (t + t308))
 
 -- DISCONNECT with this cause, N12, T305
 abbrev pub net_disconnects : PlainNetCall → ℕ → ℕ → Transition PlainNetCall
@@ -71,14 +77,18 @@ abbrev pub net_setup_again : PlainNetCall → NetOrigin → Option Outgoing
 net_setup_again c (Outward called) = Some (setup_of c.reference c.channel called)
 net_setup_again c Inward = None
 
+-- with T303
+abbrev pub net_offers : PlainNetCall → Offer → ℕ → Transition PlainNetCall
+net_offers c offer t = net_to c (net_setup_again c c.origin) (CallPresent offer (t + t303))
+
 -- STATUS ENQUIRY, T322
-abbrev pub net_asks : PlainNetCall → Asked → ℕ → Transition PlainNetCall
+abbrev pub net_asks : PlainNetCall → Times → ℕ → Transition PlainNetCall
 net_asks c asked t = net_to c (Some (net_says c StatusEnquiry)) (Enquiring asked (t + t322))
 
 -- a row that stands where the channel identification is absent or names the channel of the call; else
 -- RELEASE with cause 6, channel unacceptable (profile)
 abbrev pub net_on_channel : PlainNetCall → Heard → ℕ → Transition PlainNetCall → Transition PlainNetCall
-net_on_channel c m t row = if names_channel m.channel c.channel then row else net_releases c false (Some 6) t
+net_on_channel c m t row = if names_channel m.channel c.channel then row else net_releases c Once (Some 6) t
 
 -- CONNECT ACKNOWLEDGE in N10
 abbrev pub net_acknowledged : PlainNetCall → NetOrigin → Transition PlainNetCall
@@ -94,15 +104,15 @@ net_row c m t _ StatusEnquiry = net_same c (Some (net_status c 30))
 net_row c m t _ Status = if reports_null m.state then ends None else net_same c None
 net_row c m t _ Setup = net_same c None
 -- clearing (5.3.3, 5.3.4, 5.3.5)
-net_row c m t (ReleaseRequest again cause due) Release = ends None
+net_row c m t (ReleaseRequest sent cause due) Release = ends None
 net_row c m t _ Release = ends (Some (net_says c ReleaseComplete))
-net_row c m t (ReleaseRequest again cause due) _ = net_same c None
-net_row c m t _ Disconnect = net_releases c false None t
+net_row c m t (ReleaseRequest sent cause due) _ = net_same c None
+net_row c m t _ Disconnect = net_releases c Once None t
 net_row c m t (DisconnectIndication cause due) _ = net_same c None
 -- N6: the channel is looked at (5.2.3)
-net_row c m t (CallPresent again due) CallProceeding = net_on_channel c m t (net_to c None (IncomingCallProceeding (t + t310)))
-net_row c m t (CallPresent again due) Alerting = net_on_channel c m t (net_to c None (CallReceived (t + t301)))
-net_row c m t (CallPresent again due) Connect = net_on_channel c m t (net_to c (Some (net_says c ConnectAcknowledge)) Active)
+net_row c m t (CallPresent offer due) CallProceeding = net_on_channel c m t (net_to c None (IncomingCallProceeding (t + t310)))
+net_row c m t (CallPresent offer due) Alerting = net_on_channel c m t (net_to c None (CallReceived (t + t301)))
+net_row c m t (CallPresent offer due) Connect = net_on_channel c m t (net_to c (Some (net_says c ConnectAcknowledge)) Active)
 -- N9 and N7: it is not looked at (5.2.5, 5.2.7, 5.2.8)
 net_row c m t (IncomingCallProceeding due) Alerting = net_to c None (CallReceived (t + t301))
 net_row c m t (IncomingCallProceeding due) Connect = net_to c (Some (net_says c ConnectAcknowledge)) Active
@@ -134,6 +144,37 @@ abbrev pub net_is_contradicted : NetState → NetOrigin → Heard → Kind → B
 net_is_contradicted (Enquiring asked due) o m Status = reports_other o m.state
 net_is_contradicted _ o m _ = false
 
+-- the user was asked, and by STATUS reports that it waits for CONNECT ACKNOWLEDGE, which was lost, as CONNECT was in N6
+abbrev pub waits_for_acknowledge : Option ℕ → Bool
+waits_for_acknowledge None = false
+waits_for_acknowledge (Some n) = n == 8
+
+abbrev pub has_connected : Option ℕ → Bool
+has_connected None = false
+has_connected (Some n) = n == 8 || n == 10
+
+abbrev pub net_is_unacknowledged : NetState → NetOrigin → Heard → Kind → Bool
+net_is_unacknowledged (Enquiring asked due) (Outward called) m Status = waits_for_acknowledge m.state
+net_is_unacknowledged (CallPresent Asked due) o m Status = has_connected m.state
+net_is_unacknowledged _ o m _ = false
+
+-- the offer is one after seconds without a link
+abbrev pub is_after_outage : Offer → Bool
+is_after_outage First = false
+is_after_outage Second = false
+is_after_outage _ = true
+
+-- such an offer is refused by a cause that passes, or the user was asked, and by STATUS reports that it has no such call
+abbrev pub net_is_put_off : NetState → Heard → Kind → Bool
+net_is_put_off (CallPresent offer due) m ReleaseComplete = is_after_outage offer && is_passing m.cause
+net_is_put_off (CallPresent Asked due) m Status = reports_null m.state
+net_is_put_off _ m _ = false
+
+-- SETUP is due a second later
+abbrev pub net_put_off : ℕ → NetState → NetState
+net_put_off t (CallPresent PutOff due) = CallPresent PutOff due
+net_put_off t _ = CallPresent PutOff (t + 1)
+
 -- any other message of the call shows that it is up (5.8.10)
 abbrev pub net_awake_state : NetState → NetState
 net_awake_state (Enquiring asked due) = Active
@@ -142,7 +183,9 @@ net_awake_state state = state
 -- a call in this state, whether the user was asked or not
 abbrev pub net_heard : PlainNetCall → Heard → ℕ → NetState → Kind → Transition PlainNetCall
 net_heard c m t s k =
-    if net_is_contradicted s c.origin m k then net_releases c false (Some 101) t
+    if net_is_contradicted s c.origin m k then net_releases c Once (Some 101) t
+    else if net_is_unacknowledged s c.origin m k then net_to c (Some (net_says c ConnectAcknowledge)) Active
+    else if net_is_put_off s m k then net_to c None (net_put_off t s)
     else net_row (record c { state = net_awake_state s }) m t (net_awake_state s) k
 
 abbrev pub net_message : PlainNetCall → Heard → ℕ → Transition PlainNetCall
@@ -153,23 +196,36 @@ net_message c m t = net_heard c m t c.state m.kind
 -- the call is being cleared
 abbrev pub net_is_clearing : NetState → Bool
 net_is_clearing (DisconnectIndication cause due) = true
-net_is_clearing (ReleaseRequest again cause due) = true
+net_is_clearing (ReleaseRequest sent cause due) = true
 net_is_clearing _ = false
+
+-- N6, whose timer is due
+abbrev pub net_offer_due : PlainNetCall → ℕ → Offer → Transition PlainNetCall
+net_offer_due c t First = net_offers c Second t
+net_offer_due c t Second = ends (Some (net_says_cause c ReleaseComplete 102))
+net_offer_due c t Anew = net_offers c Second t
+net_offer_due c t PutOff = net_offers c First t
+net_offer_due c t Unlinked = net_to c (Some (net_says c StatusEnquiry)) (CallPresent Asked (t + t322))
+net_offer_due c t Asked = net_offers c First t
+
+-- N19, whose timer is due
+abbrev pub net_release_due : PlainNetCall → ℕ → Times → Option ℕ → Transition PlainNetCall
+net_release_due c t NotYet cause = net_releases c Once cause t
+net_release_due c t Once cause = net_releases c Twice cause t
+net_release_due c t Twice cause = breaks
 
 -- by its timer, which is due at a moment
 abbrev pub net_timer : PlainNetCall → ℕ → NetState → Transition PlainNetCall
 net_timer c t OutgoingCallProceeding = net_to c (Some (with_channel c.channel (net_says c Connect))) Active
-net_timer c t (CallPresent false due) = if nat_le due t then net_to c (net_setup_again c c.origin) (CallPresent true (t + t303)) else net_same c None
-net_timer c t (CallPresent true due) = if nat_le due t then ends (Some (net_says_cause c ReleaseComplete 102)) else net_same c None
+net_timer c t (CallPresent offer due) = if nat_le due t then net_offer_due c t offer else net_same c None
 net_timer c t (IncomingCallProceeding due) = if nat_le due t then net_disconnects c 102 t else net_same c None
 net_timer c t (CallReceived due) = if nat_le due t then net_disconnects c 102 t else net_same c None
 net_timer c t Active = net_same c None
 net_timer c t (Enquiring NotYet due) = if nat_le due t then net_asks c Once t else net_same c None
 net_timer c t (Enquiring Once due) = if nat_le due t then net_asks c Twice t else net_same c None
 net_timer c t (Enquiring Twice due) = if nat_le due t then net_disconnects c 41 t else net_same c None
-net_timer c t (DisconnectIndication cause due) = if nat_le due t then net_releases c false (Some cause) t else net_same c None
-net_timer c t (ReleaseRequest false cause due) = if nat_le due t then net_releases c true cause t else net_same c None
-net_timer c t (ReleaseRequest true cause due) = if nat_le due t then breaks else net_same c None
+net_timer c t (DisconnectIndication cause due) = if nat_le due t then net_releases c Once (Some cause) t else net_same c None
+net_timer c t (ReleaseRequest sent cause due) = if nat_le due t then net_release_due c t sent cause else net_same c None
 
 -- the end of the booking comes before the timer
 abbrev pub net_second : PlainNetCall → ℕ → ℕ → Transition PlainNetCall
@@ -180,28 +236,28 @@ net_second c t end =
 -- the moment at which the timer is due
 abbrev pub net_due : NetState → Option ℕ
 net_due OutgoingCallProceeding = None
-net_due (CallPresent again due) = Some due
+net_due (CallPresent offer due) = Some due
 net_due (IncomingCallProceeding due) = Some due
 net_due (CallReceived due) = Some due
 net_due Active = None
 net_due (Enquiring asked due) = Some due
 net_due (DisconnectIndication cause due) = Some due
-net_due (ReleaseRequest again cause due) = Some due
+net_due (ReleaseRequest sent cause due) = Some due
 
 -- ---- n seconds without a link to the user, of which the last comes to moment t
 
 -- the state after one such second or more: the timers of calls that are set up stand still. In the next second with a
--- link the user is asked whether a call in N10 is still up (5.8.9, 5.8.10), and a call that is being cleared says RELEASE;
--- one that had said it is given up T308 later.
+-- link the user is asked whether it has a call in N6, and whether one in N10 is still up (5.8.9, 5.8.10), and a call that is
+-- being cleared says RELEASE, as if for the first time.
 abbrev pub net_lost : ℕ → ℕ → NetState → NetState
 net_lost n t OutgoingCallProceeding = OutgoingCallProceeding
-net_lost n t (CallPresent again due) = CallPresent again (due + n)
+net_lost n t (CallPresent offer due) = CallPresent Unlinked (t + 1)
 net_lost n t (IncomingCallProceeding due) = IncomingCallProceeding (due + n)
 net_lost n t (CallReceived due) = CallReceived (due + n)
 net_lost n t Active = Enquiring NotYet (t + 1)
 net_lost n t (Enquiring asked due) = Enquiring NotYet (t + 1)
 net_lost n t (DisconnectIndication cause due) = DisconnectIndication cause (t + 1)
-net_lost n t (ReleaseRequest again cause due) = ReleaseRequest false cause (t + 1)
+net_lost n t (ReleaseRequest sent cause due) = ReleaseRequest NotYet cause (t + 1)
 
 abbrev pub net_later : ℕ → ℕ → NetState → NetState
 net_later n t state = if n == 0 then state else net_lost n t state

@@ -22,13 +22,13 @@ state_value call.ReleaseRequest = 19
 
 abbrev pub net_state : NetState → CallState
 net_state net.OutgoingCallProceeding = call.OutgoingCallProceeding
-net_state (net.CallPresent again due) = call.CallPresent
+net_state (net.CallPresent offer due) = call.CallPresent
 net_state (net.IncomingCallProceeding due) = call.IncomingCallProceeding
 net_state (net.CallReceived due) = call.CallReceived
 net_state net.Active = call.Active
 net_state (net.Enquiring asked due) = call.Active
 net_state (net.DisconnectIndication cause due) = call.DisconnectIndication
-net_state (net.ReleaseRequest again cause due) = call.ReleaseRequest
+net_state (net.ReleaseRequest sent cause due) = call.ReleaseRequest
 
 abbrev pub user_state : UserState → CallState
 user_state (user.CallInitiated again due) = call.CallInitiated
@@ -39,4 +39,4 @@ user_state (user.ConnectRequest due) = call.ConnectRequest
 user_state user.IncomingCallProceeding = call.IncomingCallProceeding
 user_state (user.Active since) = call.Active
 user_state (user.DisconnectRequest cause due) = call.DisconnectRequest
-user_state (user.ReleaseRequest again cause due) = call.ReleaseRequest
+user_state (user.ReleaseRequest sent cause due) = call.ReleaseRequest

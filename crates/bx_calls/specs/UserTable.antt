@@ -7,6 +7,8 @@ use Rattle.bx_q931.specs.Outgoing.{Outgoing, plain}
 use Rattle.bx_q931.specs.declared.kind.Kind.{Kind}
 use Rattle.bx_q931.specs.declared.kind.Kind.TheVariants.{Alerting, CallProceeding, Progress, Setup, Connect, ConnectAcknowledge, Disconnect, Release, ReleaseComplete, Notify, StatusEnquiry, Information, Status, Other}
 use Rattle.bx_calls.specs.declared.transition.Transition.{Transition}
+use Rattle.bx_calls.specs.declared.times.Times.{Times}
+use Rattle.bx_calls.specs.declared.times.Times.TheVariants.{NotYet, Once, Twice}
 use Rattle.bx_calls.specs.declared.user_state.Policy.{Policy}
 use Rattle.bx_calls.specs.declared.user_state.Policy.TheVariants.{Answer, Alert, Proceed, Clear}
 use Rattle.bx_calls.specs.declared.user_state.UserOrigin.{UserOrigin}
@@ -57,9 +59,9 @@ abbrev pub user_to : PlainUserCall → Option Outgoing → UserState → Transit
 user_to c reply state = goes_on (record c { state = state }) reply
 
 -- RELEASE with this cause or none, U19, T308
-abbrev pub user_releases : PlainUserCall → Bool → Option ℕ → ℕ → Transition PlainUserCall
-user_releases c again cause t =
-    user_to c (Some (with_kept_cause user cause (user_says c Release))) (ReleaseRequest again cause (t + t308))
+abbrev pub user_releases : PlainUserCall → Times → Option ℕ → ℕ → Transition PlainUserCall
+user_releases c sent cause t =
+    user_to c (Some (with_kept_cause user cause (user_says c Release))) (ReleaseRequest sent cause (t + t308))
 
 -- DISCONNECT with this cause, U11, T305
 abbrev pub user_disconnects : PlainUserCall → ℕ → ℕ → Transition PlainUserCall
@@ -78,7 +80,7 @@ user_setup_again c (Offered policy at) = None
 -- a row that stands where the channel identification is absent or names the channel of the call; else
 -- RELEASE with cause 6, channel unacceptable (profile)
 abbrev pub user_on_channel : PlainUserCall → Heard → ℕ → Transition PlainUserCall → Transition PlainUserCall
-user_on_channel c m t row = if names_channel m.channel c.channel then row else user_releases c false (Some 6) t
+user_on_channel c m t row = if names_channel m.channel c.channel then row else user_releases c Once (Some 6) t
 
 -- ---- messages: a call c in this state, a message m of this type, moment t
 
@@ -89,10 +91,10 @@ user_row c m t _ StatusEnquiry = user_same c (Some (user_status c 30))
 user_row c m t _ Status = if reports_null m.state then ends None else user_same c None
 user_row c m t _ Setup = user_same c None
 -- clearing (5.3.3, 5.3.4, 5.3.5)
-user_row c m t (ReleaseRequest again cause due) Release = ends None
+user_row c m t (ReleaseRequest sent cause due) Release = ends None
 user_row c m t _ Release = ends (Some (user_says c ReleaseComplete))
-user_row c m t (ReleaseRequest again cause due) _ = user_same c None
-user_row c m t _ Disconnect = user_releases c false None t
+user_row c m t (ReleaseRequest sent cause due) _ = user_same c None
+user_row c m t _ Disconnect = user_releases c Once None t
 user_row c m t (DisconnectRequest cause due) _ = user_same c None
 -- U8: the network has acknowledged (5.2.8)
 user_row c m t (ConnectRequest due) ConnectAcknowledge = user_to c None (Active t)
@@ -130,6 +132,12 @@ abbrev pub user_clears : PlainUserCall → ℕ → ℕ → UserOrigin → Transi
 user_clears c t since (Offered (Clear n) at) = if nat_le (since + max n 1) t then user_disconnects c 16 t else user_same c None
 user_clears c t since _ = user_same c None
 
+-- U19, whose timer is due
+abbrev pub user_release_due : PlainUserCall → ℕ → Times → Option ℕ → Transition PlainUserCall
+user_release_due c t NotYet cause = user_releases c Once cause t
+user_release_due c t Once cause = user_releases c Twice cause t
+user_release_due c t Twice cause = breaks
+
 abbrev pub user_second_row : PlainUserCall → ℕ → UserState → Transition PlainUserCall
 user_second_row c t CallPresent = user_takes c t c.origin
 user_second_row c t CallReceived = user_answers c t c.origin
@@ -139,9 +147,8 @@ user_second_row c t IncomingCallProceeding = user_same c None
 user_second_row c t (CallInitiated false due) = if nat_le due t then user_to c (user_setup_again c c.origin) (CallInitiated true (t + t303)) else user_same c None
 user_second_row c t (CallInitiated true due) = if nat_le due t then ends (Some (user_says_cause c ReleaseComplete 102)) else user_same c None
 user_second_row c t (OutgoingCallProceeding due) = if nat_le due t then user_disconnects c 102 t else user_same c None
-user_second_row c t (DisconnectRequest cause due) = if nat_le due t then user_releases c false (Some cause) t else user_same c None
-user_second_row c t (ReleaseRequest false cause due) = if nat_le due t then user_releases c true cause t else user_same c None
-user_second_row c t (ReleaseRequest true cause due) = if nat_le due t then breaks else user_same c None
+user_second_row c t (DisconnectRequest cause due) = if nat_le due t then user_releases c Once (Some cause) t else user_same c None
+user_second_row c t (ReleaseRequest sent cause due) = if nat_le due t then user_release_due c t sent cause else user_same c None
 
 abbrev pub user_second : PlainUserCall → ℕ → Transition PlainUserCall
 user_second c t = user_second_row c t c.state
@@ -153,13 +160,13 @@ abbrev pub due_later : ℕ → ℕ
 due_later due = min (due + 1) 4294967295
 
 -- nothing is said in it, and the timers of calls that are set up stand still. In the next second with a link a call that is being
--- cleared says RELEASE; one that had said it is given up T308 later.
+-- cleared says RELEASE, as if for the first time, and the network has all of T313 to acknowledge a CONNECT.
 abbrev pub user_later : ℕ → UserState → UserState
 user_later t (CallInitiated again due) = CallInitiated again (due_later due)
 user_later t (OutgoingCallProceeding due) = OutgoingCallProceeding (due_later due)
-user_later t (ConnectRequest due) = ConnectRequest (due_later due)
+user_later t (ConnectRequest due) = ConnectRequest (t + t313)
 user_later t (DisconnectRequest cause due) = DisconnectRequest cause (t + 1)
-user_later t (ReleaseRequest again cause due) = ReleaseRequest false cause (t + 1)
+user_later t (ReleaseRequest sent cause due) = ReleaseRequest NotYet cause (t + 1)
 user_later t CallPresent = CallPresent
 user_later t CallReceived = CallReceived
 user_later t IncomingCallProceeding = IncomingCallProceeding

@@ -5,12 +5,13 @@ ghost use Rattle.bx_q931.specs.Kinds.{IsNamed};
 ghost use Rattle.bx_q931.specs.Outgoing.{IsCallReference};
 ghost use Rattle.bx_calls.specs.States.{net_state};
 ghost use Rattle.bx_calls.specs.Saying.{network, setup_of, with_kept_cause};
-ghost use Rattle.bx_calls.specs.NetTable.{net_flag, net_says, net_says_cause, net_status, net_offered, net_answered, proceeding_of, net_same, net_to, net_releases, net_disconnects, net_setup_again, net_row, net_message, net_is_clearing, net_timer, net_second, net_due};
+ghost use Rattle.bx_calls.specs.NetTable.{net_flag, net_says, net_says_cause, net_status, net_offered, net_answered, proceeding_of, net_same, net_to, net_releases, net_disconnects, net_setup_again, net_offers, net_row, net_message, net_is_clearing, net_timer, net_second, net_due};
 
 use crate::call_state::CallState;
-use crate::net_state::{NetOrigin, NetState};
+use crate::net_state::{NetOrigin, NetState, Offer};
 use crate::outgoing::{plain, setup};
 use crate::timers::{T303, T305, T308};
+use crate::times::Times;
 use crate::transition::Transition;
 use bx_channels::{Channel, Number};
 use bx_events::LAST_MOMENT;
@@ -41,12 +42,18 @@ impl Model for NetCall {
 }
 
 impl NetCall {
-    /// A call that the network begins at this moment, and its SETUP (ITU-T Q.931, 5.2.1). It is in N6. The reference is 1 to
-    /// 32,767, and the moment at most `LAST_MOMENT`.
-    pub fn offered(reference: u16, channel: Channel, number: Number, moment: u32) -> (NetCall, Out)
+    /// A call that the network begins at this moment, and its SETUP (ITU-T Q.931, 5.2.1). It is in N6. `is_back` says that there
+    /// was no link in the second before. The reference is 1 to 32,767, and the moment at most `LAST_MOMENT`.
+    pub fn offered(
+        reference: u16,
+        channel: Channel,
+        number: Number,
+        is_back: bool,
+        moment: u32,
+    ) -> (NetCall, Out)
         requires reference { IsCallReference reference }
         requires moment { moment ≤ LAST_MOMENT }
-        ensures call { result.0 ≡ net_offered reference channel number moment }
+        ensures call { result.0 ≡ net_offered reference channel number is_back moment }
         ensures out { result.1 ≡ setup_of reference channel number }
     {
         let call = NetCall {
@@ -54,7 +61,7 @@ impl NetCall {
             channel,
             origin: NetOrigin::Outward { called: number },
             state: NetState::CallPresent {
-                again: false,
+                offer: Offer::at_first(is_back),
                 due: moment + T303,
             },
         };
@@ -176,15 +183,34 @@ impl NetCall {
         self.goes(Some(reply), NetState::DisconnectIndication { cause, due })
     }
 
-    pub(crate) fn releases(self, again: bool, cause: Option<u8>, moment: u32) -> Transition<NetCall>
+    /// SETUP again, where this side began the call, and T303.
+    pub(crate) fn offers(self, offer: Offer, moment: u32) -> Transition<NetCall>
         requires moment { moment ≤ LAST_MOMENT }
-        ensures { result ≡ net_releases self again cause moment }
+        ensures { result ≡ net_offers self offer moment }
+    {
+        let due = moment + T303;
+        let reply = self.setup_again();
+        self.goes(reply, NetState::CallPresent { offer, due })
+    }
+
+    fn setup_again(&self) -> Option<Out>
+        ensures { result ≡ net_setup_again self.now self.now.origin }
+    {
+        match self.origin {
+            NetOrigin::Outward { called } => Some(setup(self.reference, self.channel, called)),
+            NetOrigin::Inward => None,
+        }
+    }
+
+    pub(crate) fn releases(self, sent: Times, cause: Option<u8>, moment: u32) -> Transition<NetCall>
+        requires moment { moment ≤ LAST_MOMENT }
+        ensures { result ≡ net_releases self sent cause moment }
     {
         let due = moment + T308;
         let reply = match cause {
             Some(value) => self.says_cause(Kind::Release, value),
             None => self.says(Kind::Release),
         };
-        self.goes(Some(reply), NetState::ReleaseRequest { again, cause, due })
+        self.goes(Some(reply), NetState::ReleaseRequest { sent, cause, due })
     }
 }

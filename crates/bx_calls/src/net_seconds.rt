@@ -1,12 +1,12 @@
 //! What a second does to a call at the network side.
 
 ghost use Rattle.std.specs.Prelude.{◌≡◌, ◌≤◌, ◌+◌, ℕ, None};
-ghost use Rattle.bx_calls.specs.NetTable.{net_to, net_is_clearing, net_setup_again, net_asks, net_timer, net_second, net_lost, net_later, net_unlinked, IsDueBy, IfDueFits};
+ghost use Rattle.bx_calls.specs.NetTable.{net_to, net_is_clearing, net_offer_due, net_release_due, net_asks, net_timer, net_second, net_lost, net_later, net_unlinked, IsDueBy, IfDueFits};
 
 use crate::net_call::NetCall;
-use crate::net_state::{Asked, NetOrigin, NetState};
-use crate::outgoing::setup;
-use crate::timers::{T303, T322};
+use crate::net_state::{NetState, Offer};
+use crate::timers::T322;
+use crate::times::Times;
 use crate::transition::Transition;
 use bx_events::LAST_MOMENT;
 use bx_q931::cause::{NORMAL_CALL_CLEARING, RECOVERY_ON_TIMER_EXPIRY, TEMPORARY_FAILURE};
@@ -61,50 +61,66 @@ impl NetCall {
                 let reply = self.says(Kind::Connect).with_channel(self.channel, true);
                 self.goes(Some(reply), NetState::Active)
             }
-            NetState::CallPresent { again: false, due } if due <= moment => {
-                let due = moment + T303;
-                let reply = self.setup_again();
-                self.goes(reply, NetState::CallPresent { again: true, due })
-            }
-            NetState::CallPresent { again: true, due } if due <= moment => {
-                Transition::over(Some(self.says_cause(
-                    Kind::ReleaseComplete,
-                    RECOVERY_ON_TIMER_EXPIRY,
-                )))
-            }
+            NetState::CallPresent { offer, due } if due <= moment => self.on_offer(offer, moment),
             NetState::IncomingCallProceeding { due } | NetState::CallReceived { due }
                 if due <= moment => self.disconnects(RECOVERY_ON_TIMER_EXPIRY, moment),
             NetState::Enquiring {
-                asked: Asked::NotYet,
+                asked: Times::NotYet,
                 due,
-            } if due <= moment => self.asks(Asked::Once, moment),
+            } if due <= moment => self.asks(Times::Once, moment),
             NetState::Enquiring {
-                asked: Asked::Once,
+                asked: Times::Once,
                 due,
-            } if due <= moment => self.asks(Asked::Twice, moment),
+            } if due <= moment => self.asks(Times::Twice, moment),
             NetState::Enquiring {
-                asked: Asked::Twice,
+                asked: Times::Twice,
                 due,
             } if due <= moment => self.disconnects(TEMPORARY_FAILURE, moment),
             NetState::DisconnectIndication { cause, due } if due <= moment => {
-                self.releases(false, Some(cause), moment)
+                self.releases(Times::Once, Some(cause), moment)
             }
-            NetState::ReleaseRequest {
-                again: false,
-                cause,
-                due,
-            } if due <= moment => self.releases(true, cause, moment),
-            NetState::ReleaseRequest {
-                again: true,
-                due,
-                ..
-            } if due <= moment => Transition::broken(),
+            NetState::ReleaseRequest { sent, cause, due } if due <= moment => {
+                self.on_release(sent, cause, moment)
+            }
             _ => self.stays(None),
         }
     }
 
+    /// The rows of N6, whose timer is due.
+    fn on_offer(self, offer: Offer, moment: u32) -> Transition<NetCall>
+        requires moment { moment ≤ LAST_MOMENT }
+        ensures { result ≡ net_offer_due self moment offer }
+    {
+        match offer {
+            Offer::First | Offer::Anew => self.offers(Offer::Second, moment),
+            Offer::PutOff | Offer::Asked => self.offers(Offer::First, moment),
+            Offer::Unlinked => {
+                let reply = self.says(Kind::StatusEnquiry);
+                let due = moment + T322;
+                let offer = Offer::Asked;
+                self.goes(Some(reply), NetState::CallPresent { offer, due })
+            }
+            Offer::Second => Transition::over(Some(self.says_cause(
+                Kind::ReleaseComplete,
+                RECOVERY_ON_TIMER_EXPIRY,
+            ))),
+        }
+    }
+
+    /// The rows of N19, whose timer is due.
+    fn on_release(self, sent: Times, cause: Option<u8>, moment: u32) -> Transition<NetCall>
+        requires moment { moment ≤ LAST_MOMENT }
+        ensures { result ≡ net_release_due self moment sent cause }
+    {
+        match sent {
+            Times::NotYet => self.releases(Times::Once, cause, moment),
+            Times::Once => self.releases(Times::Twice, cause, moment),
+            Times::Twice => Transition::broken(),
+        }
+    }
+
     /// STATUS ENQUIRY, and T322.
-    fn asks(self, asked: Asked, moment: u32) -> Transition<NetCall>
+    fn asks(self, asked: Times, moment: u32) -> Transition<NetCall>
         requires moment { moment ≤ LAST_MOMENT }
         ensures { result ≡ net_asks self asked moment }
     {
@@ -120,15 +136,6 @@ impl NetCall {
             self.state,
             NetState::DisconnectIndication { .. } | NetState::ReleaseRequest { .. }
         )
-    }
-
-    fn setup_again(&self) -> Option<Out>
-        ensures { result ≡ net_setup_again self.now self.now.origin }
-    {
-        match self.origin {
-            NetOrigin::Outward { called } => Some(setup(self.reference, self.channel, called)),
-            NetOrigin::Inward => None,
-        }
     }
 }
 
@@ -151,9 +158,9 @@ fn standing_still(state: NetState, seconds: u32, moment: u32) -> NetState
 {
     match state {
         NetState::OutgoingCallProceeding => NetState::OutgoingCallProceeding,
-        NetState::CallPresent { again, due } => NetState::CallPresent {
-            again,
-            due: later(due, seconds),
+        NetState::CallPresent { .. } => NetState::CallPresent {
+            offer: Offer::Unlinked,
+            due: moment + 1,
         },
         NetState::IncomingCallProceeding { due } => NetState::IncomingCallProceeding {
             due: later(due, seconds),
@@ -162,7 +169,7 @@ fn standing_still(state: NetState, seconds: u32, moment: u32) -> NetState
             due: later(due, seconds),
         },
         NetState::Active | NetState::Enquiring { .. } => NetState::Enquiring {
-            asked: Asked::NotYet,
+            asked: Times::NotYet,
             due: moment + 1,
         },
         NetState::DisconnectIndication { cause, .. } => NetState::DisconnectIndication {
@@ -170,7 +177,7 @@ fn standing_still(state: NetState, seconds: u32, moment: u32) -> NetState
             due: moment + 1,
         },
         NetState::ReleaseRequest { cause, .. } => NetState::ReleaseRequest {
-            again: false,
+            sent: Times::NotYet,
             cause,
             due: moment + 1,
         },

@@ -10,6 +10,7 @@ ghost use Rattle.bx_calls.specs.UserTable.{user_flag, user_says, user_says_chann
 use crate::call_state::CallState;
 use crate::outgoing::{plain, setup};
 use crate::timers::{T303, T305, T308, T313};
+use crate::times::Times;
 use crate::transition::Transition;
 use crate::user_state::{Policy, UserOrigin, UserState};
 use bx_channels::{Channel, Number};
@@ -177,18 +178,18 @@ impl UserCall {
 
     pub(crate) fn releases(
         self,
-        again: bool,
+        sent: Times,
         cause: Option<u8>,
         moment: u32,
     ) -> Transition<UserCall>
         requires moment { moment ≤ LAST_MOMENT }
-        ensures { result ≡ user_releases self again cause moment }
+        ensures { result ≡ user_releases self sent cause moment }
     {
         let due = moment + T308;
         let reply = match cause {
             Some(value) => self.says_cause(Kind::Release, value),
             None => self.says(Kind::Release),
         };
-        self.goes(Some(reply), UserState::ReleaseRequest { again, cause, due })
+        self.goes(Some(reply), UserState::ReleaseRequest { sent, cause, due })
     }
 }

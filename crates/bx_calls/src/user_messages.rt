@@ -8,6 +8,7 @@ ghost use Rattle.bx_calls.specs.UserTable.{user_row, user_message};
 use crate::every_state::in_every_state;
 use crate::hearing::names_channel;
 use crate::timers::T310_USER;
+use crate::times::Times;
 use crate::transition::Transition;
 use crate::user_call::UserCall;
 use crate::user_state::UserState::{
@@ -52,14 +53,14 @@ impl UserCall {
     {
         match (self.state, kind) {
             (ReleaseRequest { .. }, _) => self.stays(None),
-            (_, Kind::Disconnect) => self.releases(false, None, moment),
+            (_, Kind::Disconnect) => self.releases(Times::Once, None, moment),
             (DisconnectRequest { .. }, _) => self.stays(None),
             (ConnectRequest { .. }, Kind::ConnectAcknowledge) => {
                 self.goes(None, Active { since: moment })
             }
             (CallInitiated { .. }, Kind::CallProceeding | Kind::Connect)
                 if !names_channel(message.channel(), self.channel) => {
-                self.releases(false, Some(CHANNEL_UNACCEPTABLE), moment)
+                self.releases(Times::Once, Some(CHANNEL_UNACCEPTABLE), moment)
             }
             (CallInitiated { .. }, Kind::CallProceeding) => {
                 let due = moment + T310_USER;

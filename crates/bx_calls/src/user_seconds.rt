@@ -1,10 +1,11 @@
 //! What a second does to a call at the user side.
 
 ghost use Rattle.std.specs.Prelude.{◌≡◌, ◌≤◌};
-ghost use Rattle.bx_calls.specs.UserTable.{user_setup_again, user_takes, user_answers, user_clears, user_second_row, user_second, user_later, user_unlinked, due_later};
+ghost use Rattle.bx_calls.specs.UserTable.{user_setup_again, user_takes, user_answers, user_clears, user_release_due, user_second_row, user_second, user_later, user_unlinked, due_later};
 
 use crate::outgoing::setup;
-use crate::timers::T303;
+use crate::timers::{T303, T313};
+use crate::times::Times;
 use crate::transition::Transition;
 use crate::user_call::UserCall;
 use crate::user_state::{Policy, UserOrigin, UserState};
@@ -36,24 +37,17 @@ impl UserCall {
             UserState::ConnectRequest { due } | UserState::OutgoingCallProceeding { due }
                 if due <= moment => self.disconnects(RECOVERY_ON_TIMER_EXPIRY, moment),
             UserState::DisconnectRequest { cause, due } if due <= moment => {
-                self.releases(false, Some(cause), moment)
+                self.releases(Times::Once, Some(cause), moment)
             }
-            UserState::ReleaseRequest {
-                again: false,
-                cause,
-                due,
-            } if due <= moment => self.releases(true, cause, moment),
-            UserState::ReleaseRequest {
-                again: true,
-                due,
-                ..
-            } if due <= moment => Transition::broken(),
+            UserState::ReleaseRequest { sent, cause, due } if due <= moment => {
+                self.on_release(sent, cause, moment)
+            }
             _ => self.stays(None),
         }
     }
 
     /// What the call is after a second without a link to the network, which comes to this moment: nothing is said in it, and its
-    /// timer stands still while it is set up. In the next second with a link RELEASE is due for one that is being cleared. A
+    /// timer stands still while it is set up, but for T313, which begins anew. In the next second with a link RELEASE is due for one that is being cleared. A
     /// timer that would be due after the last moment of a `u32` is due at that. The moment is at most `LAST_MOMENT`.
     pub fn on_second_unlinked(self, moment: u32) -> UserCall
         requires moment { moment ≤ LAST_MOMENT }
@@ -61,6 +55,18 @@ impl UserCall {
     {
         let state = following(self.state, moment);
         UserCall { state, ..self }
+    }
+
+    /// The rows of U19, whose timer is due.
+    fn on_release(self, sent: Times, cause: Option<u8>, moment: u32) -> Transition<UserCall>
+        requires moment { moment ≤ LAST_MOMENT }
+        ensures { result ≡ user_release_due self moment sent cause }
+    {
+        match sent {
+            Times::NotYet => self.releases(Times::Once, cause, moment),
+            Times::Once => self.releases(Times::Twice, cause, moment),
+            Times::Twice => Transition::broken(),
+        }
     }
 
     /// U6: the first tick to a call that was offered.
@@ -144,17 +150,17 @@ fn following(state: UserState, moment: u32) -> UserState
         UserState::OutgoingCallProceeding { due } => UserState::OutgoingCallProceeding {
             due: later(due),
         },
-        UserState::ConnectRequest { due } => UserState::ConnectRequest { due: later(due) },
+        UserState::ConnectRequest { due: _ } => UserState::ConnectRequest { due: moment + T313 },
         UserState::DisconnectRequest { cause, due: _ } => UserState::DisconnectRequest {
             cause,
             due: moment + 1,
         },
         UserState::ReleaseRequest {
-            again: _,
+            sent: _,
             cause,
             due: _,
         } => UserState::ReleaseRequest {
-            again: false,
+            sent: Times::NotYet,
             cause,
             due: moment + 1,
         },

@@ -1,5 +1,6 @@
 //! The states of a call at the user side.
 
+use crate::times::Times;
 use bx_channels::Number;
 
 /// What the user does with a call that it is offered.
@@ -28,7 +29,7 @@ pub enum UserOrigin {
 }
 
 /// The states of the user side (ITU-T Q.931, 2.1.1). A state with a timer has the moment at which it is
-/// due; `again` says that the message that is waited for was asked for twice.
+/// due; `again` says that SETUP was sent twice.
 #[derive(Clone, Copy)]
 pub enum UserState {
     /// U1, T303: SETUP was sent, once or twice.
@@ -59,9 +60,9 @@ pub enum UserState {
         cause: u8,
         due: u32,
     },
-    /// U19, T308: RELEASE was sent, once or twice, with this cause.
+    /// U19, T308: RELEASE was sent so often since there is a link again, with this cause.
     ReleaseRequest {
-        again: bool,
+        sent: Times,
         cause: Option<u8>,
         due: u32,
     },

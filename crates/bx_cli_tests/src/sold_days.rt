@@ -17,54 +17,54 @@ static FILES: [(&str, &str); 13] = [
     ),
     (
         "sold.journal",
-        "bx-journal 2 rules 1\nplan 7c35ee9492f27e9c9fec6d438270c41290c5bc10066cef31da15ea69a39e4bae\nday live 1577836800 1\ntick\nheard 0802800107\nsold 30 50 6 5678 - free out\nsold 60 90 2 99 - must out\ntick\ntick\ntick\ntick\ntick\ntick\ntick\ntick\ntick\ntick\ntick\ntick\ntick\ntick\ntick\ntick\ntick\ntick\ntick\ntick\ntick\ntick\ntick\ntick\ntick\ntick\ntick\ntick\ntick\nheard 0802800407\n",
+        "bx-journal 2 rules 2\nplan 7c35ee9492f27e9c9fec6d438270c41290c5bc10066cef31da15ea69a39e4bae\nday live 1577836800 1\ntick\nheard 0802800107\nsold 30 50 6 5678 - free out\nsold 60 90 2 99 - must out\ntick\ntick\ntick\ntick\ntick\ntick\ntick\ntick\ntick\ntick\ntick\ntick\ntick\ntick\ntick\ntick\ntick\ntick\ntick\ntick\ntick\ntick\ntick\ntick\ntick\ntick\ntick\ntick\ntick\nheard 0802800407\n",
     ),
     ("front.journal", PREFIX),
     (
         "unsold.journal",
-        "bx-journal 2 rules 1\nplan 7c35ee9492f27e9c9fec6d438270c41290c5bc10066cef31da15ea69a39e4bae\nday live 1577836800 1\ntick\n",
+        "bx-journal 2 rules 2\nplan 7c35ee9492f27e9c9fec6d438270c41290c5bc10066cef31da15ea69a39e4bae\nday live 1577836800 1\ntick\n",
     ),
     (
         "bad.journal",
-        "bx-journal 2 rules 1\nplan 7c35ee9492f27e9c9fec6d438270c41290c5bc10066cef31da15ea69a39e4bae\nday live 1577836800 1\ntick\nsold nonsense\nbroken\n",
+        "bx-journal 2 rules 2\nplan 7c35ee9492f27e9c9fec6d438270c41290c5bc10066cef31da15ea69a39e4bae\nday live 1577836800 1\ntick\nsold nonsense\nbroken\n",
     ),
     (
         "given.journal",
-        "bx-journal 2 rules 1\nplan 7c35ee9492f27e9c9fec6d438270c41290c5bc10066cef31da15ea69a39e4bae\nday live 1577836800 1\nsold 30 50 6 5678 2 free out\n",
+        "bx-journal 2 rules 2\nplan 7c35ee9492f27e9c9fec6d438270c41290c5bc10066cef31da15ea69a39e4bae\nday live 1577836800 1\nsold 30 50 6 5678 2 free out\n",
     ),
     (
         "broken.journal",
-        "bx-journal 2 rules 1\nplan 7c35ee9492f27e9c9fec6d438270c41290c5bc10066cef31da15ea69a39e4bae\nday live 1577836800 1\ntick\nbroken\nsold nonsense\n",
+        "bx-journal 2 rules 2\nplan 7c35ee9492f27e9c9fec6d438270c41290c5bc10066cef31da15ea69a39e4bae\nday live 1577836800 1\ntick\nbroken\nsold nonsense\n",
     ),
     (
         "late.journal",
-        "bx-journal 2 rules 1\nplan 7c35ee9492f27e9c9fec6d438270c41290c5bc10066cef31da15ea69a39e4bae\nday live 1577836800 1\ntick\nsold 1 60 7 5678 - free out\n",
+        "bx-journal 2 rules 2\nplan 7c35ee9492f27e9c9fec6d438270c41290c5bc10066cef31da15ea69a39e4bae\nday live 1577836800 1\ntick\nsold 1 60 7 5678 - free out\n",
     ),
     (
         "full.journal",
-        "bx-journal 2 rules 1\nplan 7c35ee9492f27e9c9fec6d438270c41290c5bc10066cef31da15ea69a39e4bae\nday live 1577836800 1\ntick\nsold 19 21 7 5678 - free out\n",
+        "bx-journal 2 rules 2\nplan 7c35ee9492f27e9c9fec6d438270c41290c5bc10066cef31da15ea69a39e4bae\nday live 1577836800 1\ntick\nsold 19 21 7 5678 - free out\n",
     ),
     (
         "hand.journal",
-        "bx-journal 2 rules 1\nplan 0ff099e32eb798fba570fdff4d9ec7fe7ce093238c3b5f4a4285f72034822534\nday live 1577836800 1\ntick\nsold 60 90 7 5678 - free out\n",
+        "bx-journal 2 rules 2\nplan 0ff099e32eb798fba570fdff4d9ec7fe7ce093238c3b5f4a4285f72034822534\nday live 1577836800 1\ntick\nsold 60 90 7 5678 - free out\n",
     ),
     (
         "outage.journal",
-        "bx-journal 2 rules 1\nplan 7c35ee9492f27e9c9fec6d438270c41290c5bc10066cef31da15ea69a39e4bae\nday live 1577836800 1\ntick\nheard 0802800107\ntick\ndown\ndown\ndown\ntick\ntick\ndown\n",
+        "bx-journal 2 rules 2\nplan 7c35ee9492f27e9c9fec6d438270c41290c5bc10066cef31da15ea69a39e4bae\nday live 1577836800 1\ntick\nheard 0802800107\ntick\ndown\ndown\ndown\ntick\ntick\ndown\n",
     ),
     (
         "empty.journal",
-        "bx-journal 2 rules 1\nplan f1c4bdbd2170909011bcbfb1e2a2796df8052fa76528b23fbd4c6ad235334272\nday live 1577836800 1\ntick\n",
+        "bx-journal 2 rules 2\nplan f1c4bdbd2170909011bcbfb1e2a2796df8052fa76528b23fbd4c6ad235334272\nday live 1577836800 1\ntick\n",
     ),
     ("same.journal", SAME),
 ];
 
 /// The journal in `front.journal`, and that in `same.journal`.
 const PREFIX: &str =
-    "bx-journal 2 rules 1\nplan 7c35ee9492f27e9c9fec6d438270c41290c5bc10066cef31da15ea69a39e4bae\nday live 1577836800 1\ndown\nsold 30 50 6 5678 - free out\nsold 60 90 2 99 - must out\n";
+    "bx-journal 2 rules 2\nplan 7c35ee9492f27e9c9fec6d438270c41290c5bc10066cef31da15ea69a39e4bae\nday live 1577836800 1\ndown\nsold 30 50 6 5678 - free out\nsold 60 90 2 99 - must out\n";
 
 const SAME: &str =
-    "bx-journal 2 rules 1\nplan 0ff099e32eb798fba570fdff4d9ec7fe7ce093238c3b5f4a4285f72034822534\nday live 1577836800 1\ntick\n";
+    "bx-journal 2 rules 2\nplan 0ff099e32eb798fba570fdff4d9ec7fe7ce093238c3b5f4a4285f72034822534\nday live 1577836800 1\ntick\n";
 
 /// What the journals tell of their days.
 static CASES: [Case; 21] = [

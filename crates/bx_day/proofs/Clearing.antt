@@ -1,13 +1,13 @@
 -- Clearing takes 38 seconds at most after the end of a booking, and each second without a link, and T308 for each outage: every event keeps that.
 use Rattle.std.proofs.Common.{◌≡◌, ℕ, ◌+◌, ◌*◌, ◌≤◌, ◌<◌, Bool, true, false, List, [], ◌∷◌, map, Option, Some, None, arith, refl, sym, ap, ◌∙◌, ◌&&◌, subst, inl, inr, nat_le, nat_lt, if◌then◌else◌, Result, Ok, Err, ◌==◌}
 use Rattle.std.specs.List.{AllByRecursion, position}
-use Rattle.std.proofs.lemmas.Bool.{leb-false, leb-true, le-leb, lt-ltb, le-ltb, and_from, and_right, cases_lt, true≢false}
+use Rattle.std.proofs.lemmas.Bool.{false≢true, leb-false, leb-true, le-leb, lt-ltb, le-ltb, and_from, and_right, cases_lt, true≢false}
 use Rattle.bx_q931.specs.Outgoing.{Outgoing}
 use Rattle.bx_events.specs.Events.{Event, Tick, Receive, LiveEvent, OnLink, WithoutLink, Sold}
 use Rattle.bx_q931.specs.Messages.{PlainMessage, message_at}
 use Rattle.bx_q931.specs.declared.fault.MessageFault.{MessageFault}
 use Rattle.bx_q931.specs.declared.kind.Kind.{Kind}
-use Rattle.bx_q931.specs.declared.kind.Kind.TheVariants.{Setup, Disconnect, Release, ReleaseComplete, Status}
+use Rattle.bx_q931.specs.declared.kind.Kind.TheVariants.{ConnectAcknowledge, Setup, Disconnect, Release, ReleaseComplete, Status}
 use Rattle.bx_q931.specs.declared.channel_field.ChannelField.{ChannelField}
 use Rattle.bx_q931.specs.declared.channel_field.ChannelField.TheVariants.{Named, Unread}
 use Rattle.bx_q931.specs.declared.reference.Reference.{Reference}
@@ -18,14 +18,15 @@ use Rattle.bx_calls.specs.declared.transition.Next.TheVariants.{Live}
 use Rattle.bx_calls.specs.declared.transition.Transition.{Transition}
 use Rattle.bx_calls.specs.PlainCalls.{PlainNetCall}
 use Rattle.bx_calls.specs.declared.net_state.NetOrigin.{NetOrigin}
-use Rattle.bx_calls.specs.declared.net_state.Asked.{Asked}
+use Rattle.bx_calls.specs.declared.net_state.Offer.TheVariants.{Asked}
+use Rattle.bx_calls.specs.declared.times.Times.TheVariants.{NotYet, Once, Twice}
 use Rattle.bx_calls.specs.declared.net_state.NetState.{NetState}
-use Rattle.bx_calls.specs.declared.net_state.NetState.TheVariants.{Enquiring, DisconnectIndication, ReleaseRequest}
+use Rattle.bx_calls.specs.declared.net_state.NetState.TheVariants.{Active, CallPresent, Enquiring, DisconnectIndication, ReleaseRequest}
 use Rattle.bx_calls.specs.Hearing.{Heard, reports_null}
-use Rattle.bx_calls.specs.NetTable.{net_awake_state, net_heard, net_releases, net_row, net_second, net_unlinked}
+use Rattle.bx_calls.specs.NetTable.{net_awake_state, net_heard, net_put_off, net_releases, net_row, net_says, net_to, net_second, net_unlinked}
 use Rattle.bx_calls.specs.Said.{Said, said_of}
 use Rattle.bx_calls.specs.Sending.{Sent, Answered}
-use Rattle.bx_day.specs.Day.{Day, entry_at, is_free, opening, entry_of, entries_from, every_channel}
+use Rattle.bx_day.specs.Day.{Day, entry_at, is_back, is_free, opening, entry_of, entries_from, every_channel}
 use Rattle.bx_day.specs.Moves.{follow, follows, over_at}
 use Rattle.bx_day.specs.Ticks.{after_in, second_at, waits, unlinked_at}
 use Rattle.bx_day.specs.Receipts.{hears, takes_call, takes_or, takes_preferred, called_on, called, stray, received_at, opens, lowest_open, names, with_moved}
@@ -44,21 +45,23 @@ use Rattle.bx_day.proofs.Hear.{awake_fits, heard_by}
 use Rattle.bx_day.proofs.Second.{call_of}
 use Rattle.bx_day.proofs.Tick.{by_cases, with_standing, offers, all_weaker}
 use Rattle.bx_day.proofs.Receive.{all_at}
+use Rattle.bx_day.proofs.Once.{decide}
 use Rattle.bx_day.proofs.Law.{RunFits, all_update, live_fits}
 
 -- ---- one more second without a link
 
 grows : (x : Lost) → added x + 1 ≤ added (one_more x)
-grows x = by_cases x.lasts _ _ (λ (n : ℕ). added x + 1 ≤ x.seconds + 1 + 4 * n) (λ _. omega arith) (λ _. omega arith)
+grows x = by_cases x.lasts _ _ (λ (n : ℕ). added x + 1 ≤ x.seconds + 1 + 8 * n) (λ _. omega arith) (λ _. omega arith)
 
-begins : (x : Lost) → x.lasts ≡ false → added x + 5 ≤ added (one_more x)
-begins x first = by_cases x.lasts _ _ (λ (n : ℕ). added x + 5 ≤ x.seconds + 1 + 4 * n) (λ lasts. absurd (true≢false (sym lasts ∙ first))) (λ _. omega arith)
+begins : (x : Lost) → x.lasts ≡ false → added x + 9 ≤ added (one_more x)
+begins x first = by_cases x.lasts _ _ (λ (n : ℕ). added x + 9 ≤ x.seconds + 1 + 8 * n) (λ lasts. absurd (true≢false (sym lasts ∙ first))) (λ _. omega arith)
 
 -- a link after it
 linked_state : (lasts : Bool) (m : ℕ) (s : NetState) → ClearsBy lasts m s → ClearsBy false m s
-linked_state lasts m (DisconnectIndication cause due) h = h
-linked_state lasts m (ReleaseRequest false cause due) h = h
-linked_state lasts m (ReleaseRequest true cause due) h = (refl, h.1)
+linked_state lasts m (DisconnectIndication cause due) h = (λ q. absurd (false≢true q), h.1)
+linked_state lasts m (ReleaseRequest NotYet cause due) h = h
+linked_state lasts m (ReleaseRequest Once cause due) h = (λ q. absurd (false≢true q), h.1)
+linked_state lasts m (ReleaseRequest Twice cause due) h = (refl, h.1)
 linked_state lasts m s h = tt
 
 abbrev linked : Lost → Lost
@@ -108,47 +111,61 @@ next_within t end n due k room c lt le late = elim (cases_lt t end) [
 
 second_clears : (x : Lost) (t : ℕ) (e : Entry) (r ch : ℕ) (o : NetOrigin) (s : NetState) (a : Activity) → CallFits t e (call_of r ch o s) a → (e.booking.end ≤ t → ClearsBy x.lasts (e.booking.end + added x) s) → StepClears (linked x) (t + 1) e a (net_second (call_of r ch o s) (t + 1) e.booking.end)
 second_clears x t e r ch o (DisconnectIndication cause due) a h c =
-    clears_test (nat_le due (t + 1)) (linked x) (t + 1) e a _ _ (λ _ late. next_within t e.booking.end (added x) due 30 30 c h.due.0 (omega arith) late) (λ _ late. within t e.booking.end (added x) due 30 30 c h.due.1 (omega arith) late)
-second_clears x t e r ch o (ReleaseRequest false cause due) a h c =
-    clears_test (nat_le due (t + 1)) (linked x) (t + 1) e a _ _ (λ _ late. (refl, next_within t e.booking.end (added x) due 4 34 c h.due.0 (omega arith) late)) (λ _ late. within t e.booking.end (added x) due 4 34 c h.due.1 (omega arith) late)
-second_clears x t e r ch o (ReleaseRequest true cause due) a h c =
+    clears_test (nat_le due (t + 1)) (linked x) (t + 1) e a _ _
+    (λ _ late. (λ q. absurd (false≢true q), next_within t e.booking.end (added x) due 30 30 (λ over. (c over).1) h.due.0 (omega arith) late))
+    (λ _ late. (λ q. absurd (false≢true q), within t e.booking.end (added x) due 30 30 (λ over. (c over).1) h.due.1 (omega arith) late))
+second_clears x t e r ch o (ReleaseRequest NotYet cause due) a h c =
+    clears_test (nat_le due (t + 1)) (linked x) (t + 1) e a _ _
+    (λ _ late. (λ q. absurd (false≢true q), next_within t e.booking.end (added x) due 4 30 c h.due.0 (omega arith) late))
+    (λ _ late. within t e.booking.end (added x) due 4 30 c h.due.1 (omega arith) late)
+second_clears x t e r ch o (ReleaseRequest Once cause due) a h c =
+    clears_test (nat_le due (t + 1)) (linked x) (t + 1) e a _ _
+    (λ _ late. (refl, next_within t e.booking.end (added x) due 4 34 (λ over. (c over).1) h.due.0 (omega arith) late))
+    (λ _ late. (λ q. absurd (false≢true q), within t e.booking.end (added x) due 4 34 (λ over. (c over).1) h.due.1 (omega arith) late))
+second_clears x t e r ch o (ReleaseRequest Twice cause due) a h c =
     clears_test (nat_le due (t + 1)) (linked x) (t + 1) e a _ _ (λ _. over_clears (linked x) (t + 1) (t + 1) e.booking a) (λ _ late. (refl, within t e.booking.end (added x) due 4 38 (λ over. (c over).1) h.due.1 (omega arith) late))
-second_clears x t e r ch o s a h c = at_end (linked x) t e a _ _ (λ late. omega (arith, h.phase.1))
-
--- a second without a link: RELEASE is due in the next. Of those after the end, what is added is one more, and T308 in the first of an
--- outage
-still_clears_at : (t end n n' due room : ℕ) → (end ≤ t → n + 1 ≤ n') → (end ≤ t → due ≤ end + n + room) → t < due → 1 ≤ room → end ≤ t + 1 → t + 1 + 1 ≤ end + n' + room
-still_clears_at t end n n' due room more c waits some late = elim (cases_lt t end) [
-  | inl less ↦ omega (arith, less, some)
-  | inr over ↦ up (c over) (more over)
-]
-  where
-    up : due ≤ end + n + room → n + 1 ≤ n' → t + 1 + 1 ≤ end + n' + room
-    up p q = omega (arith, p, q, waits)
+second_clears x t e r ch o s a h c = at_end (linked x) t e a _ _ (λ late. (λ q. absurd (false≢true q), omega (arith, h.phase.1)))
 
 -- what a second without a link adds, of a booking that had ended
 record IsAdded (x y : Lost) : Type 0 where
   second : added x + 1 ≤ added y
-  outage : x.lasts ≡ false → added x + 5 ≤ added y
+  outage : x.lasts ≡ false → added x + 9 ≤ added y
 
-still_clears : (x y : Lost) (t : ℕ) (e : Entry) (r ch : ℕ) (o : NetOrigin) (s : NetState) (a : Activity) → (e.booking.end ≤ t → IsAdded x y) → CallFits t e (call_of r ch o s) a → (e.booking.end ≤ t → ClearsBy x.lasts (e.booking.end + added x) s) → StepClears y (t + 1) e a (net_unlinked 1 (call_of r ch o s) (t + 1) e.booking.end)
-still_clears x y t e r ch o (DisconnectIndication cause due) a more h c = λ late. still_clears_at t e.booking.end (added x) (added y) due 30 (λ over. (more over).second) c h.due.0 (omega arith) late
-still_clears x y t e r ch o (ReleaseRequest false cause due) a more h c = λ late. still_clears_at t e.booking.end (added x) (added y) due 34 (λ over. (more over).second) c h.due.0 (omega arith) late
-still_clears x y t e r ch o (ReleaseRequest true cause due) a more h c = λ late. elim (cases_lt t e.booking.end) [
-  | inl less ↦ omega (arith, less)
-  | inr over ↦ up (c over).1 ((more over).outage (c over).0)
+-- a second without a link: RELEASE is due in the next. Of those after the end, what is added is one more, and twice T308 in the first of
+-- an outage. What was left, by whether the last second had a link, is at most what is left then
+still_clears_at : (x y : Lost) (t end due room less room' : ℕ) → (end ≤ t → IsAdded x y) → t < due → 1 ≤ room'
+    → (end ≤ t → (x.lasts ≡ true → due ≤ end + added x + less) × (due ≤ end + added x + room)) → less ≤ room' → room ≤ room' + 8 → end ≤ t + 1 → t + 1 + 1 ≤ end + added y + room'
+still_clears_at x y t end due room less room' more waits some c low high late = elim (cases_lt t end) [
+  | inl early ↦ omega (arith, early, some)
+  | inr over ↦ decide x.lasts
+      (λ lasts. up (added x) (added y) ((c over).0 lasts) (more over).second)
+      (λ first. first_up (added x) (added y) (c over).1 ((more over).outage first))
 ]
   where
-    up : due ≤ e.booking.end + added x + 38 → added x + 5 ≤ added y → t + 1 + 1 ≤ e.booking.end + added y + 34
-    up p q = omega (arith, p, q, h.due.0)
-still_clears x y t e r ch o s a more h c = at_end y t e a _ _ (λ late. omega (arith, h.phase.1))
+    up : (n n' : ℕ) → due ≤ end + n + less → n + 1 ≤ n' → t + 1 + 1 ≤ end + n' + room'
+    up n n' p q = omega (arith, p, q, waits, low)
+
+    first_up : (n n' : ℕ) → due ≤ end + n + room → n + 9 ≤ n' → t + 1 + 1 ≤ end + n' + room'
+    first_up n n' p q = omega (arith, p, q, waits, high)
+
+still_clears : (x y : Lost) (t : ℕ) (e : Entry) (r ch : ℕ) (o : NetOrigin) (s : NetState) (a : Activity) → (e.booking.end ≤ t → IsAdded x y) → CallFits t e (call_of r ch o s) a → (e.booking.end ≤ t → ClearsBy x.lasts (e.booking.end + added x) s) → StepClears y (t + 1) e a (net_unlinked 1 (call_of r ch o s) (t + 1) e.booking.end)
+still_clears x y t e r ch o (DisconnectIndication cause due) a more h c = λ late.
+    let most : t + 1 + 1 ≤ e.booking.end + added y + 26 = still_clears_at x y t e.booking.end due 30 26 26 more h.due.0 (omega arith) (λ over. (less (c over).0, (c over).1)) (omega arith) (omega arith) late in
+    (λ _. omega (arith, most), omega (arith, most))
+  where
+    less : (x.lasts ≡ true → due + 4 ≤ e.booking.end + added x + 30) → x.lasts ≡ true → due ≤ e.booking.end + added x + 26
+    less p q = omega (arith, p q)
+still_clears x y t e r ch o (ReleaseRequest NotYet cause due) a more h c = λ late. still_clears_at x y t e.booking.end due 30 30 30 more h.due.0 (omega arith) (λ over. (λ _. c over, c over)) (omega arith) (omega arith) late
+still_clears x y t e r ch o (ReleaseRequest Once cause due) a more h c = λ late. still_clears_at x y t e.booking.end due 34 30 30 more h.due.0 (omega arith) (λ over. c over) (omega arith) (omega arith) late
+still_clears x y t e r ch o (ReleaseRequest Twice cause due) a more h c = λ late. still_clears_at x y t e.booking.end due 38 30 30 more h.due.0 (omega arith) (λ over. (λ lasts. absurd (true≢false (sym lasts ∙ (c over).0)), (c over).1)) (omega arith) (omega arith) late
+still_clears x y t e r ch o s a more h c = at_end y t e a _ _ (λ late. (λ _. omega (arith, h.phase.1), omega (arith, h.phase.1)))
 
 -- a message, row by row
 row_clears : (x : Lost) (t : ℕ) (e : Entry) (r ch : ℕ) (o : NetOrigin) (a : Activity) (m : Heard) (s : NetState) (k : Kind) → CallFits t e (call_of r ch o s) a → (e.booking.end ≤ t → ClearsBy x.lasts (e.booking.end + added x) s) → StepClears x t e a (net_row (call_of r ch o s) m t s k)
 row_clears x t e r ch o a m (DisconnectIndication cause due) ReleaseComplete h c = over_clears x t t e.booking a
 row_clears x t e r ch o a m (DisconnectIndication cause due) Release h c = over_clears x t t e.booking a
 row_clears x t e r ch o a m (DisconnectIndication cause due) Status h c = clears_test (reports_null m.state) x t e a _ _ (λ _. over_clears x t t e.booking a) (λ _. c)
-row_clears x t e r ch o a m (DisconnectIndication cause due) Disconnect h c = λ late. omega (arith, h.due.0, c late)
+row_clears x t e r ch o a m (DisconnectIndication cause due) Disconnect h c = λ late. (λ lasts. omega (arith, h.due.0, (c late).0 lasts), omega (arith, h.due.0, (c late).1))
 row_clears x t e r ch o a m (DisconnectIndication cause due) k h c = c
 row_clears x t e r ch o a m (ReleaseRequest again cause due) ReleaseComplete h c = over_clears x t t e.booking a
 row_clears x t e r ch o a m (ReleaseRequest again cause due) Release h c = over_clears x t t e.booking a
@@ -163,27 +180,32 @@ awake_clears lasts m end t s c = c
 
 heard_clears : (x : Lost) (t : ℕ) (e : Entry) (r ch : ℕ) (o : NetOrigin) (a : Activity) (m : Heard) (s : NetState) (k : Kind) → CallFits t e (call_of r ch o s) a → (e.booking.end ≤ t → ClearsBy x.lasts (e.booking.end + added x) s) → StepClears x t e a (net_heard (call_of r ch o s) m t s k)
 heard_clears x t e r ch o a m s k h c = heard_by (StepClears x t e a) (call_of r ch o s) m t s k
-    (λ asked due is q. early_clears x t e a (net_releases (call_of r ch o s) false (Some 101) t) (runs_on asked due is))
+    (record {
+      contradicted = λ asked due is q. early_clears x t e a (net_releases (call_of r ch o s) Once (Some 101) t) (runs_on (Enquiring asked due) is (λ p. p.1));
+      unacknowledged = λ asked due is q. early_clears x t e a (net_to (call_of r ch o s) (Some (net_says (call_of r ch o s) ConnectAcknowledge)) Active) (runs_on (Enquiring asked due) is (λ p. p.1));
+      connected = λ due is q. early_clears x t e a (net_to (call_of r ch o s) (Some (net_says (call_of r ch o s) ConnectAcknowledge)) Active) (runs_on (CallPresent Asked due) is (λ p. p.1));
+      put_off = λ offer due is q. early_clears x t e a (net_to (call_of r ch o s) None (net_put_off t (CallPresent offer due))) (runs_on (CallPresent offer due) is (λ p. p.1));
+    })
     (row_clears x t e r ch o a m (net_awake_state s) k (awake_fits t e r ch o s a h) (awake_clears x.lasts (e.booking.end + added x) e.booking.end t s c))
   where
-    runs_on : (asked : Asked) (due : ℕ) → s ≡ Enquiring asked due → t < e.booking.end
-    runs_on asked due is = (subst (λ (x : NetState). PhaseFits t e.booking (phase_of x)) is h.phase).1
+    runs_on : (y : NetState) → s ≡ y → (PhaseFits t e.booking (phase_of y) → t < e.booking.end) → t < e.booking.end
+    runs_on y is f = f (subst (λ (z : NetState). PhaseFits t e.booking (phase_of z)) is h.phase)
 
 -- ---- a booking
 
-waits_clears : (x : Lost) (t : ℕ) (e : Entry) (free : Bool) → StandingClears x t e.booking (waits e t free).standing
-waits_clears x t e free =
+waits_clears : (x : Lost) (t : ℕ) (e : Entry) (back free : Bool) → StandingClears x t e.booking (waits e t back free).standing
+waits_clears x t e back free =
     let P : Moved → Type 0 = λ m. StandingClears x t e.booking m.standing in
     by_cases (offers e t free) _ _ P (λ _ _. tt) (λ _. by_cases (nat_le e.booking.end t) _ _ P (λ _. tt) (λ _. tt))
 
-tick_clears_at : (x : Lost) (t : ℕ) (e : Entry) (free : Bool) (s : Standing) → EntryFits t (with_standing e s) → StandingClears x t e.booking s → StandingClears (linked x) (t + 1) e.booking (second_at e (t + 1) free s).standing
-tick_clears_at x t e free (OnCall c a) h k = second_clears x t (with_standing e (OnCall c a)) c.reference c.channel c.origin c.state a h k
-tick_clears_at x t e free Unoffered h k = waits_clears (linked x) (t + 1) e free
-tick_clears_at x t e free s h k = tt
+tick_clears_at : (x : Lost) (t : ℕ) (e : Entry) (back free : Bool) (s : Standing) → EntryFits t (with_standing e s) → StandingClears x t e.booking s → StandingClears (linked x) (t + 1) e.booking (second_at e (t + 1) back free s).standing
+tick_clears_at x t e back free (OnCall c a) h k = second_clears x t (with_standing e (OnCall c a)) c.reference c.channel c.origin c.state a h k
+tick_clears_at x t e back free Unoffered h k = waits_clears (linked x) (t + 1) e back free
+tick_clears_at x t e back free s h k = tt
 
 unlinked_clears_at : (x y : Lost) (t : ℕ) (e : Entry) (s : Standing) → (e.booking.end ≤ t → IsAdded x y) → EntryFits t (with_standing e s) → StandingClears x t e.booking s → StandingClears y (t + 1) e.booking (unlinked_at e (t + 1) s).standing
 unlinked_clears_at x y t e (OnCall c a) more h k = still_clears x y t (with_standing e (OnCall c a)) c.reference c.channel c.origin c.state a more h k
-unlinked_clears_at x y t e Unoffered more h k = waits_clears y (t + 1) e false
+unlinked_clears_at x y t e Unoffered more h k = waits_clears y (t + 1) e false false
 unlinked_clears_at x y t e s more h k = tt
 
 hears_clears : (x : Lost) (t : ℕ) (m : Said) (e : Entry) (s : Standing) → EntryFits t (with_standing e s) → StandingClears x t e.booking s → StandingClears x t e.booking (hears m t s).standing
@@ -194,7 +216,7 @@ hears_clears x t m e s h k = tt
 
 up_clears : (lost : ℕ → Lost) (d : Day) (es : List Entry) → AllByRecursion (EntryFits d.moment) es → AllByRecursion (EntryClears lost d.moment) es → AllByRecursion (EntryClears (λ m. linked (lost m)) (d.moment + 1)) (map (after_in Up d) es)
 up_clears lost d [] h k = tt
-up_clears lost d (e ∷ es) h k = (tick_clears_at (lost e.booking.end) d.moment e (is_free d e.channel) e.standing h.0 k.0, up_clears lost d es h.1 k.1)
+up_clears lost d (e ∷ es) h k = (tick_clears_at (lost e.booking.end) d.moment e (is_back d) (is_free d e.channel) e.standing h.0 k.0, up_clears lost d es h.1 k.1)
 
 still_linked : (lost : ℕ → Lost) (t : ℕ) (es : List Entry) → AllByRecursion (EntryClears lost t) es → AllByRecursion (EntryClears (λ m. linked (lost m)) t) es
 still_linked lost t es h = all_weaker (EntryClears lost t) (EntryClears (λ m. linked (lost m)) t) (λ e p. linked_standing (lost e.booking.end) t e.booking e.standing p) es h

@@ -29,9 +29,9 @@ use Rattle.bx_day.specs.declared.entry.Link.TheVariants.{Up, Down}
 use Rattle.bx_day.specs.declared.entry.Moved.{Moved}
 use Rattle.bx_day.specs.declared.entry.Standing.{Standing}
 use Rattle.bx_day.specs.declared.entry.Standing.TheVariants.{Refused, Unoffered, OnCall, Missed}
-use Rattle.bx_day.specs.Day.{Day, entry_at, no_entry, holds, is_held, is_free, is_live, is_unoffered, every_channel}
+use Rattle.bx_day.specs.Day.{is_back, Day, entry_at, no_entry, holds, is_held, is_free, is_live, is_unoffered, every_channel}
 use Rattle.bx_day.specs.Moves.{becomes, stays, follows}
-use Rattle.bx_day.specs.Ticks.{waits, second_by, second_in, after_in, said_in, breaks_in, maintained_in, passed_in, tick}
+use Rattle.bx_day.specs.Ticks.{unlinked_after, waits, second_by, second_in, after_in, said_in, breaks_in, maintained_in, passed_in, tick}
 use Rattle.bx_day.specs.Receipts.{names, names_call, is_open, opens, or_else, lowest_open, with_moved, hears, takes_call, takes_or, takes_preferred, called_on, called, stray, received_at, receive}
 use Rattle.bx_day.specs.Run.{receive_from, receive_read, happens}
 use Rattle.bx_day.specs.Outages.{without_link, live_happens, live_day_after}
@@ -102,40 +102,40 @@ free_over m c d ns h = ap (λ b. not b && not (is_marked d.maintenance c)) (held
 
 -- ---- what a second does to one booking
 
-abbrev waits_of : ℕ → ℕ → Bool → List ℕ → ℕ → ℕ → ℕ → Bool → Moved
-waits_of start end inward number row channel t free =
+abbrev waits_of : ℕ → ℕ → Bool → List ℕ → ℕ → ℕ → ℕ → Bool → Bool → Moved
+waits_of start end inward number row channel t back free =
     if (nat_le start t && nat_lt t end) && not inward && free
-    then becomes (OnCall (net_offered row channel number t) Never) (Some (setup_of row channel number))
+    then becomes (OnCall (net_offered row channel number back t) Never) (Some (setup_of row channel number))
     else if nat_le end t then stays Missed else stays Unoffered
 
-waits_seat : (m : ℕ) (e n : Entry) (s : Standing) (t : ℕ) (free : Bool) → IsSeat m e n → n.channel ≡ e.channel → waits (with_standing n s) t free ≡ waits e t free
-waits_seat m e n s t free h q =
-    ap (λ x. waits_of x n.booking.end n.booking.inward n.booking.number n.row n.channel t free) h.start
-    ∙ ap (λ x. waits_of e.booking.start x n.booking.inward n.booking.number n.row n.channel t free) h.end
-    ∙ ap (λ x. waits_of e.booking.start e.booking.end x n.booking.number n.row n.channel t free) h.inward
-    ∙ ap (λ x. waits_of e.booking.start e.booking.end e.booking.inward x n.row n.channel t free) h.number
-    ∙ ap (λ x. waits_of e.booking.start e.booking.end e.booking.inward e.booking.number x n.channel t free) h.row
-    ∙ ap (λ x. waits_of e.booking.start e.booking.end e.booking.inward e.booking.number e.row x t free) q
+waits_seat : (m : ℕ) (e n : Entry) (s : Standing) (t : ℕ) (back free : Bool) → IsSeat m e n → n.channel ≡ e.channel → waits (with_standing n s) t back free ≡ waits e t back free
+waits_seat m e n s t back free h q =
+    ap (λ x. waits_of x n.booking.end n.booking.inward n.booking.number n.row n.channel t back free) h.start
+    ∙ ap (λ x. waits_of e.booking.start x n.booking.inward n.booking.number n.row n.channel t back free) h.end
+    ∙ ap (λ x. waits_of e.booking.start e.booking.end x n.booking.number n.row n.channel t back free) h.inward
+    ∙ ap (λ x. waits_of e.booking.start e.booking.end e.booking.inward x n.row n.channel t back free) h.number
+    ∙ ap (λ x. waits_of e.booking.start e.booking.end e.booking.inward e.booking.number x n.channel t back free) h.row
+    ∙ ap (λ x. waits_of e.booking.start e.booking.end e.booking.inward e.booking.number e.row x t back free) q
 
-second_seat : (m : ℕ) (link : Link) (e n : Entry) (x : Standing) (t : ℕ) (free : Bool) (s : Standing) → IsSeat m e n → n.channel ≡ e.channel → second_by link (with_standing n x) t free s ≡ second_by link e t free s
-second_seat m Up e n x t free (OnCall c a) h q = ap (λ k. follows a t (net_second c t k)) h.end
-second_seat m Up e n x t free Unoffered h q = waits_seat m e n x t free h q
-second_seat m Down e n x t free (OnCall c a) h q = ap (λ k. follows a t (net_unlinked 1 c t k)) h.end
-second_seat m Down e n x t free Unoffered h q = waits_seat m e n x t false h q
-second_seat m link e n x t free s h q = refl
+second_seat : (m : ℕ) (link : Link) (e n : Entry) (x : Standing) (t : ℕ) (back free : Bool) (s : Standing) → IsSeat m e n → n.channel ≡ e.channel → second_by link (with_standing n x) t back free s ≡ second_by link e t back free s
+second_seat m Up e n x t back free (OnCall c a) h q = ap (λ k. follows a t (net_second c t k)) h.end
+second_seat m Up e n x t back free Unoffered h q = waits_seat m e n x t back free h q
+second_seat m Down e n x t back free (OnCall c a) h q = ap (λ k. follows a t (net_unlinked 1 c t k)) h.end
+second_seat m Down e n x t back free Unoffered h q = waits_seat m e n x t false false h q
+second_seat m link e n x t back free s h q = refl
 
 -- nothing, where it starts later
-waits_still : (e : Entry) (t : ℕ) (free : Bool) → t < e.booking.start → e.booking.start < e.booking.end → waits e t free ≡ stays Unoffered
-waits_still e t free before order =
-    ap (λ b. if (b && nat_lt t e.booking.end) && not e.booking.inward && free then becomes (OnCall (net_offered e.row e.channel e.booking.number t) Never) (Some (setup_of e.row e.channel e.booking.number)) else if nat_le e.booking.end t then stays Missed else stays Unoffered) (late e.booking.start t before)
+waits_still : (e : Entry) (t : ℕ) (back free : Bool) → t < e.booking.start → e.booking.start < e.booking.end → waits e t back free ≡ stays Unoffered
+waits_still e t back free before order =
+    ap (λ b. if (b && nat_lt t e.booking.end) && not e.booking.inward && free then becomes (OnCall (net_offered e.row e.channel e.booking.number back t) Never) (Some (setup_of e.row e.channel e.booking.number)) else if nat_le e.booking.end t then stays Missed else stays Unoffered) (late e.booking.start t before)
     ∙ ap (λ b. if b then stays Missed else stays Unoffered) (late e.booking.end t (omega (arith, before, order)))
 
-second_still : (m : ℕ) (link : Link) (e : Entry) (t : ℕ) (free : Bool) (s : Standing) → t < m → Rests m e.booking.start s → e.booking.start < e.booking.end → second_by link e t free s ≡ stays s
-second_still m Up e t free Refused early h order = refl
-second_still m Up e t free Unoffered early h order = waits_still e t free (omega (arith, early, h)) order
-second_still m Down e t free Refused early h order = refl
-second_still m Down e t free Unoffered early h order = waits_still e t false (omega (arith, early, h)) order
-second_still m link e t free s early h order = absurd h
+second_still : (m : ℕ) (link : Link) (e : Entry) (t : ℕ) (back free : Bool) (s : Standing) → t < m → Rests m e.booking.start s → e.booking.start < e.booking.end → second_by link e t back free s ≡ stays s
+second_still m Up e t back free Refused early h order = refl
+second_still m Up e t back free Unoffered early h order = waits_still e t back free (omega (arith, early, h)) order
+second_still m Down e t back free Refused early h order = refl
+second_still m Down e t back free Unoffered early h order = waits_still e t false false (omega (arith, early, h)) order
+second_still m link e t back free s early h order = absurd h
 
 -- ---- a second before m, of a whole day
 
@@ -148,10 +148,10 @@ silent false rest = refl
 
 module _ (m : ℕ) (link : Link) (d : Day) (ns : List Entry) (seats : AreSeats m d.entries ns) (early : d.moment + 1 < m) where
   old_still : (e : Entry) → e.booking.start < e.booking.end → Rests m e.booking.start e.standing → second_in link d e ≡ stays e.standing
-  old_still e order rests = second_still m link e (d.moment + 1) (is_free d e.channel) e.standing early rests order
+  old_still e order rests = second_still m link e (d.moment + 1) (is_back d) (is_free d e.channel) e.standing early rests order
 
   new_still : (e : Entry) → e.booking.start < e.booking.end → Rests m e.booking.start e.standing → second_in link (over ns d) e ≡ stays e.standing
-  new_still e order rests = second_still m link e (d.moment + 1) (is_free (over ns d) e.channel) e.standing early rests order
+  new_still e order rests = second_still m link e (d.moment + 1) (is_back d) (is_free (over ns d) e.channel) e.standing early rests order
 
   -- a booking of both plans that rests
   seat_still : (e n : Entry) → IsSeat m e n → Rests m e.booking.start e.standing → second_in link (over ns d) (with_standing n e.standing) ≡ stays e.standing
@@ -159,7 +159,7 @@ module _ (m : ℕ) (link : Link) (d : Day) (ns : List Entry) (seats : AreSeats m
 
   moved_seat : (e n : Entry) → IsSeat m e n → second_in link (over ns d) (with_standing n e.standing) ≡ second_in link d e
   moved_seat e n h = elim h.place [
-    | inl q ↦ ap (λ b. second_by link (with_standing n e.standing) (d.moment + 1) b e.standing) (free_over m n.channel d ns seats ∙ ap (is_free d) q) ∙ second_seat m link e n e.standing (d.moment + 1) (is_free d e.channel) e.standing h q
+    | inl q ↦ ap (λ b. second_by link (with_standing n e.standing) (d.moment + 1) (is_back d) b e.standing) (free_over m n.channel d ns seats ∙ ap (is_free d) q) ∙ second_seat m link e n e.standing (d.moment + 1) (is_back d) (is_free d e.channel) e.standing h q
     | inr rests ↦ seat_still e n h rests ∙ sym (old_still e h.order rests)
   ]
 
@@ -243,7 +243,7 @@ pub record Goes (m : ℕ) (ns : List Entry) (x x' : Sent Day) : Type 0 where
 
 passed_over : (m : ℕ) (link : Link) (d : Day) (ns : List Entry) → AreSeats m d.entries ns → d.moment + 1 < m → Goes m ns (passed_in link d) (passed_in link (over ns d))
 passed_over m link d ns seats early = record {
-  day = ap₂ (day_of (d.moment + 1)) (entries_over m link d ns seats early d.entries ns seats) (maintained_over m link d ns seats early 0 d.maintenance);
+  day = ap₂ (day_of (d.moment + 1) (unlinked_after link d.moment d.unlinked)) (entries_over m link d ns seats early d.entries ns seats) (maintained_over m link d ns seats early 0 d.maintenance);
   sent = all_said m link d ns seats early every_channel;
   seats = seats_after m link d ns seats early d.entries ns seats;
 }
@@ -323,7 +323,7 @@ module _ (m : ℕ) (d : Day) (ns : List Entry) (seats : AreSeats m d.entries ns)
       let channel : (entry_at (with_standings d.entries ns) i).channel ≡ (entry_at d.entries i).channel = ap (λ (e : Entry). e.channel) (at_over m d.entries ns i seats lt) ∙ q in
       record {
         day = ap (λ (x : Moved). (with_moved (over ns d) i x).day) same
-            ∙ ap₂ (day_of d.moment) (set_over m d.entries ns i k.standing seats lt) (ap (λ c. if k.broken then slice_set d.maintenance c true else d.maintenance) channel);
+            ∙ ap₂ (day_of d.moment d.unlinked) (set_over m d.entries ns i k.standing seats lt) (ap (λ c. if k.broken then slice_set d.maintenance c true else d.maintenance) channel);
         reply = ap (λ (x : Moved). x.said) same;
         seats = seats_set m d.entries ns i k.standing seats q;
       }

@@ -1,5 +1,5 @@
 -- A message keeps what is true of one booking.
-use Rattle.std.proofs.Common.{◌≡◌, ℕ, ◌+◌, Bool, true, false, Option, Some, None, arith, refl, ap}
+use Rattle.std.proofs.Common.{◌≡◌, ℕ, ◌+◌, Bool, true, false, Option, Some, None, arith, refl, ap, subst}
 use Rattle.std.proofs.lemmas.Bool.{true≢false}
 use Rattle.bx_q931.specs.declared.kind.Kind.{Kind}
 use Rattle.bx_q931.specs.declared.kind.Kind.TheVariants.{Alerting, CallProceeding, Setup, Connect, ConnectAcknowledge, Disconnect, Release, ReleaseComplete, StatusEnquiry, Status}
@@ -7,10 +7,13 @@ use Rattle.bx_calls.specs.declared.net_state.NetOrigin.{NetOrigin}
 use Rattle.bx_calls.specs.declared.net_state.NetOrigin.TheVariants.{Outward}
 use Rattle.bx_calls.specs.declared.net_state.NetState.{NetState}
 use Rattle.bx_calls.specs.declared.net_state.NetState.TheVariants.{OutgoingCallProceeding, CallPresent, IncomingCallProceeding, CallReceived, Active, Enquiring, DisconnectIndication, ReleaseRequest}
-use Rattle.bx_calls.specs.declared.net_state.Asked.{Asked}
+use Rattle.bx_calls.specs.declared.net_state.Offer.{Offer}
+use Rattle.bx_calls.specs.declared.net_state.Offer.TheVariants.{Asked, PutOff}
+use Rattle.bx_calls.specs.declared.times.Times.{Times}
+use Rattle.bx_calls.specs.declared.times.Times.TheVariants.{Once}
 use Rattle.bx_calls.specs.declared.transition.Transition.{Transition}
 use Rattle.bx_calls.specs.Hearing.{Heard, names_channel, reports_null}
-use Rattle.bx_calls.specs.NetTable.{net_awake_state, net_is_contradicted, net_releases, net_row, net_heard}
+use Rattle.bx_calls.specs.NetTable.{net_awake_state, net_is_contradicted, net_is_unacknowledged, net_is_put_off, net_put_off, net_releases, net_row, net_says, net_heard, net_to}
 use Rattle.bx_calls.specs.PlainCalls.{PlainNetCall}
 use Rattle.bx_day.specs.Moves.{over_at}
 use Rattle.bx_day.specs.declared.entry.Entry.{Entry}
@@ -44,12 +47,12 @@ is_releasing (ReleaseRequest again cause due) = true
 is_releasing _ = false
 
 -- RELEASE, in any state but Release Request
-pub release_fits : (t : ℕ) (e : Entry) (r ch : ℕ) (o : NetOrigin) (s : NetState) (a : Activity) (c : Option ℕ) → is_releasing s ≡ false → CallFits t e (call_of r ch o s) a → EntryFits t (on_call t e a (call_of r ch o (ReleaseRequest false c (t + 4))))
-release_fits t e r ch o Active a c n h = goes_on t t e r ch o Active a (ReleaseRequest false c (t + 4)) h tt (omega arith, omega arith) (talking_clears t t e.booking a (omega arith) (omega arith) h.activity)
-release_fits t e r ch o (Enquiring asked due) a c n h = goes_on t t e r ch o (Enquiring asked due) a (ReleaseRequest false c (t + 4)) h tt (omega arith, omega arith) (talking_clears t t e.booking a (omega arith) (omega (arith, h.phase.1)) h.activity)
-release_fits t e r ch o (DisconnectIndication cause due) a c n h = goes_on t t e r ch o (DisconnectIndication cause due) a (ReleaseRequest false c (t + 4)) h tt (omega arith, omega arith) (clearing_kept t t e.booking a (omega arith) h.activity)
+pub release_fits : (t : ℕ) (e : Entry) (r ch : ℕ) (o : NetOrigin) (s : NetState) (a : Activity) (c : Option ℕ) → is_releasing s ≡ false → CallFits t e (call_of r ch o s) a → EntryFits t (on_call t e a (call_of r ch o (ReleaseRequest Once c (t + 4))))
+release_fits t e r ch o Active a c n h = goes_on t t e r ch o Active a (ReleaseRequest Once c (t + 4)) h tt (omega arith, omega arith) (talking_clears t t e.booking a (omega arith) (omega arith) h.activity)
+release_fits t e r ch o (Enquiring asked due) a c n h = goes_on t t e r ch o (Enquiring asked due) a (ReleaseRequest Once c (t + 4)) h tt (omega arith, omega arith) (talking_clears t t e.booking a (omega arith) (omega (arith, h.phase.1)) h.activity)
+release_fits t e r ch o (DisconnectIndication cause due) a c n h = goes_on t t e r ch o (DisconnectIndication cause due) a (ReleaseRequest Once c (t + 4)) h tt (omega arith, omega arith) (clearing_kept t t e.booking a (omega arith) h.activity)
 release_fits t e r ch o (ReleaseRequest again cause due) a c n h = absurd (true≢false n)
-release_fits t e r ch o s a c n h = goes_on t t e r ch o s a (ReleaseRequest false c (t + 4)) h tt (omega arith, omega arith) (ringing_clears t t e.booking a h.activity)
+release_fits t e r ch o s a c n h = goes_on t t e r ch o s a (ReleaseRequest Once c (t + 4)) h tt (omega arith, omega arith) (ringing_clears t t e.booking a h.activity)
 
 -- asked no more
 pub awake_fits : (t : ℕ) (e : Entry) (r ch : ℕ) (o : NetOrigin) (s : NetState) (a : Activity) → CallFits t e (call_of r ch o s) a → CallFits t e (call_of r ch o (net_awake_state s)) a
@@ -75,15 +78,40 @@ row_fits t e r ch o a m (CallReceived due) Connect h = goes_on t t e r ch o (Cal
 row_fits t e r ch (Outward called) a m Active ConnectAcknowledge h = same_fits t e r ch (Outward called) Active a h
 row_fits t e r ch o a m s k h = same_fits t e r ch o s a h
 
--- whether the user was asked or not: a call that is asked for is released by a report that does not fit, and any other message
--- finds it Active
+-- SETUP is put off
+put_off_fits : (t : ℕ) (e : Entry) (r ch : ℕ) (o : NetOrigin) (offer : Offer) (due : ℕ) (a : Activity) → CallFits t e (call_of r ch o (CallPresent offer due)) a → StepFits t e a (net_to (call_of r ch o (CallPresent offer due)) None (net_put_off t (CallPresent offer due)))
+put_off_fits t e r ch o PutOff due a h = same_fits t e r ch o (CallPresent PutOff due) a h
+put_off_fits t e r ch o offer due a h = goes_on t t e r ch o (CallPresent offer due) a (CallPresent PutOff (t + 1)) h h.phase (omega arith, omega arith) (ringing_kept t t e.booking a h.activity)
+
+-- what comes before all rows: a call that is asked for is released by a report that does not fit, and CONNECT ACKNOWLEDGE is sent for one
+-- that waits for it; SETUP is put off for one that is not known, or whose refusal passes
+pub record HoldsBefore (P : Transition PlainNetCall → Type 0) (c : PlainNetCall) (m : Heard) (t : ℕ) (s : NetState) (k : Kind) : Type 0 where
+  pub contradicted : (asked : Times) (due : ℕ) → s ≡ Enquiring asked due → net_is_contradicted s c.origin m k ≡ true → P (net_releases c Once (Some 101) t)
+  pub unacknowledged : (asked : Times) (due : ℕ) → s ≡ Enquiring asked due → net_is_unacknowledged s c.origin m k ≡ true → P (net_to c (Some (net_says c ConnectAcknowledge)) Active)
+  pub connected : (due : ℕ) → s ≡ CallPresent Asked due → net_is_unacknowledged s c.origin m k ≡ true → P (net_to c (Some (net_says c ConnectAcknowledge)) Active)
+  pub put_off : (offer : Offer) (due : ℕ) → s ≡ CallPresent offer due → net_is_put_off s m k ≡ true → P (net_to c None (net_put_off t (CallPresent offer due)))
+
+-- any other message finds a call that is asked for Active
 pub heard_by : (P : Transition PlainNetCall → Type 0) (c : PlainNetCall) (m : Heard) (t : ℕ) (s : NetState) (k : Kind)
-    → ((asked : Asked) (due : ℕ) → s ≡ Enquiring asked due → net_is_contradicted s c.origin m k ≡ true → P (net_releases c false (Some 101) t))
-    → P (net_row (record c { state = net_awake_state s }) m t (net_awake_state s) k) → P (net_heard c m t s k)
-heard_by P c m t (Enquiring asked due) k f g = by_cases (net_is_contradicted (Enquiring asked due) c.origin m k) _ _ P (λ q. f asked due refl q) (λ _. g)
-heard_by P c m t s k f g = g
+    → HoldsBefore P c m t s k → P (net_row (record c { state = net_awake_state s }) m t (net_awake_state s) k) → P (net_heard c m t s k)
+heard_by P c m t (Enquiring asked due) k h g =
+    by_cases (net_is_contradicted (Enquiring asked due) c.origin m k) _ _ P (λ q. h.contradicted asked due refl q)
+    (λ _. by_cases (net_is_unacknowledged (Enquiring asked due) c.origin m k) _ _ P (λ q. h.unacknowledged asked due refl q) (λ _. g))
+heard_by P c m t (CallPresent Asked due) k h g =
+    by_cases (net_is_unacknowledged (CallPresent Asked due) c.origin m k) _ _ P (λ q. h.connected due refl q)
+    (λ _. by_cases (net_is_put_off (CallPresent Asked due) m k) _ _ P (λ q. h.put_off Asked due refl q) (λ _. g))
+heard_by P c m t (CallPresent offer due) k h g = by_cases (net_is_put_off (CallPresent offer due) m k) _ _ P (λ q. h.put_off offer due refl q) (λ _. g)
+heard_by P c m t s k h g = g
 
 pub message_fits : (t : ℕ) (e : Entry) (r ch : ℕ) (o : NetOrigin) (a : Activity) (m : Heard) (s : NetState) (k : Kind) → CallFits t e (call_of r ch o s) a → StepFits t e a (net_heard (call_of r ch o s) m t s k)
 message_fits t e r ch o a m s k h = heard_by (StepFits t e a) (call_of r ch o s) m t s k
-    (λ asked due is q. release_fits t e r ch o s a (Some 101) (ap is_releasing is) h)
+    (record {
+      contradicted = λ asked due is q. release_fits t e r ch o s a (Some 101) (ap is_releasing is) h;
+      unacknowledged = λ asked due is q. let f = at (Enquiring asked due) is in goes_on t t e r ch o (Enquiring asked due) a Active f f.phase tt (talking_kept t t e.booking a (omega arith) f.activity);
+      connected = λ due is q. let f = at (CallPresent Asked due) is in goes_on t t e r ch o (CallPresent Asked due) a Active f f.phase tt (ringing_talks t t e.booking a f.phase.0 f.activity);
+      put_off = λ offer due is q. put_off_fits t e r ch o offer due a (at (CallPresent offer due) is);
+    })
     (row_fits t e r ch o a m (net_awake_state s) k (awake_fits t e r ch o s a h))
+  where
+    at : (x : NetState) → s ≡ x → CallFits t e (call_of r ch o x) a
+    at x is = subst (λ (y : NetState). CallFits t e (call_of r ch o y) a) is h

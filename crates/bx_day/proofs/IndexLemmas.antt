@@ -8,8 +8,8 @@ use Rattle.bx_day.specs.Passing.{day_of, AreBlocked, AreTouched, IsSecond}
 use Rattle.bx_day.proofs.Passing.{map_size, refilled, passed_stays}
 use Rattle.bx_day.proofs.TouchSlots.{touched_of}
 use Rattle.bx_day.proofs.Dues.{quiet_until}
-use Rattle.bx_day.specs.Day.{Day, is_live, is_unoffered, entry_at, entries_from, entry_of}
-use Rattle.bx_day.specs.Ticks.{after_in, passed_in}
+use Rattle.bx_day.specs.Day.{is_back, Day, is_live, is_unoffered, entry_at, entries_from, entry_of}
+use Rattle.bx_day.specs.Ticks.{unlinked_after, after_in, passed_in}
 use Rattle.bx_day.specs.Invariant.{is_refused}
 use Rattle.bx_day.specs.Linking.{AreLinks}
 use Rattle.bx_day.specs.QuietSeconds.{later_by, IsQuietTick, IsQuietFor, IsFirstDue}
@@ -105,34 +105,34 @@ opening_slots rows assigned d heads following b is l =
 -- ---- after a pass over the bookings
 
 -- what it leaves
-pub pass_moved : (link : Link) (t : ℕ) (items es new : List Entry) (ms ms' : List Bool) (said : List (Option Outgoing)) (live waiting following seen second : List (Option ℕ)) (due : ℕ) (blocked : List Bool) (now : Day) → IsIndexed (day_of t items ms) live waiting following due → es ≡ items → seen ≡ following → day_of t items ms ≡ now → AreBlocked now blocked → ((c : ℕ) → slot_at second c ≡ follower seen (slot_at waiting c))
-    → ((d : Day) → d ≡ day_of t es ms → IsExchange d → AreBlocked d blocked → AreTouched link d live waiting second → IsSecond link d new ms' said) → IsSecond link (day_of t es ms) new ms' said
-pass_moved link t items es new ms ms' said live waiting following seen second due blocked now h same read view free follows moved =
-    let d = day_of t es ms in
-    let day : day_of t items ms ≡ d = ap (λ (xs : List Entry). day_of t xs ms) (sym same) in
+pub pass_moved : (link : Link) (t l : ℕ) (items es new : List Entry) (ms ms' : List Bool) (said : List (Option Outgoing)) (live waiting following seen second : List (Option ℕ)) (due : ℕ) (blocked : List Bool) (back : Bool) (now : Day) → IsIndexed (day_of t l items ms) live waiting following due → es ≡ items → seen ≡ following → day_of t l items ms ≡ now → AreBlocked now blocked → back ≡ is_back now → ((c : ℕ) → slot_at second c ≡ follower seen (slot_at waiting c))
+    → ((l' : ℕ) (d : Day) → d ≡ day_of t l' es ms → is_back d ≡ back → IsExchange d → AreBlocked d blocked → AreTouched link d live waiting second → IsSecond link d new ms' said) → IsSecond link (day_of t l es ms) new ms' said
+pass_moved link t l items es new ms ms' said live waiting following seen second due blocked back now h same read view free again follows moved =
+    let d = day_of t l es ms in
+    let day : day_of t l items ms ≡ d = ap (λ (xs : List Entry). day_of t l xs ms) (sym same) in
     let whole : IsExchange d = subst IsExchange day h.exchange in
     let slots : AreSlots d live waiting following = subst (λ (x : Day). AreSlots x live waiting following) day h.slots in
-    moved d refl whole (subst (λ (x : Day). AreBlocked x blocked) (sym view ∙ day) free) (touched_of link d live waiting following second whole slots (λ c. follows c ∙ ap (λ b. follower b (slot_at waiting c)) read))
+    moved l d refl (ap is_back view ∙ sym again) whole (subst (λ (x : Day). AreBlocked x blocked) (sym view ∙ day) free) (touched_of link d live waiting following second whole slots (λ c. follows c ∙ ap (λ b. follower b (slot_at waiting c)) read))
 
-pub pass_indexed : (link : Link) (t n : ℕ) (items es new seen : List Entry) (ms ms' : List Bool) (said : List (Option Outgoing)) (live waiting following live' waiting' : List (Option ℕ)) → t < 300000 → IsExchange (day_of t items ms) → AreSlots (day_of t items ms) live waiting following → es ≡ items → n ≡ length items
-    → IsSecond link (day_of t es ms) new ms' said → seen ≡ take n (new ++ drop (length new) items) → ((d : Day) → IsExchange d → d.moment < 300000 → seen ≡ map (after_in link d) d.entries → AreSlots d live waiting following → AreSlots (passed_in link d).day live' waiting' following)
-    → IsIndexed (day_of (t + 1) (take n (new ++ drop (length new) items)) ms') live' waiting' following 0
-pass_indexed link t n items es new seen ms ms' said live waiting following live' waiting' early h slots same all moved is settled =
-    let d = day_of t es ms in
-    let whole : IsExchange d = subst (λ (xs : List Entry). IsExchange (day_of t xs ms)) (sym same) h in
+pub pass_indexed : (link : Link) (t l n : ℕ) (items es new seen : List Entry) (ms ms' : List Bool) (said : List (Option Outgoing)) (live waiting following live' waiting' : List (Option ℕ)) → t < 300000 → IsExchange (day_of t l items ms) → AreSlots (day_of t l items ms) live waiting following → es ≡ items → n ≡ length items
+    → IsSecond link (day_of t l es ms) new ms' said → seen ≡ take n (new ++ drop (length new) items) → ((d : Day) → IsExchange d → d.moment < 300000 → seen ≡ map (after_in link d) d.entries → AreSlots d live waiting following → AreSlots (passed_in link d).day live' waiting' following)
+    → IsIndexed (day_of (t + 1) (unlinked_after link t l) (take n (new ++ drop (length new) items)) ms') live' waiting' following 0
+pass_indexed link t l n items es new seen ms ms' said live waiting following live' waiting' early h slots same all moved is settled =
+    let d = day_of t l es ms in
+    let whole : IsExchange d = subst (λ (xs : List Entry). IsExchange (day_of t l xs ms)) (sym same) h in
     let count : length new ≡ length items = ap length moved.entries ∙ map_size link d es ∙ ap length same in
     let entries : take n (new ++ drop (length new) items) ≡ map (after_in link d) es = refilled n new items count all ∙ moved.entries in
-    let day : day_of (t + 1) (take n (new ++ drop (length new) items)) ms' ≡ (passed_in link d).day = ap₂ (day_of (t + 1)) entries moved.maintenance in
-    subst (λ (x : Day). IsIndexed x live' waiting' following 0) (sym day) (indexed_now (passed_in link d).day live' waiting' following (passed_stays link d early whole) (settled d whole early (is ∙ entries) (subst (λ (xs : List Entry). AreSlots (day_of t xs ms) live waiting following) (sym same) slots)))
+    let day : day_of (t + 1) (unlinked_after link t l) (take n (new ++ drop (length new) items)) ms' ≡ (passed_in link d).day = ap₂ (day_of (t + 1) (unlinked_after link t l)) entries moved.maintenance in
+    subst (λ (x : Day). IsIndexed x live' waiting' following 0) (sym day) (indexed_now (passed_in link d).day live' waiting' following (passed_stays link d early whole) (settled d whole early (is ∙ entries) (subst (λ (xs : List Entry). AreSlots (day_of t l xs ms) live waiting following) (sym same) slots)))
 
-pub pass_size : (link : Link) (t n : ℕ) (items es new seen : List Entry) (ms ms' : List Bool) (said : List (Option Outgoing)) → es ≡ items → n ≡ length items → IsSecond link (day_of t es ms) new ms' said → seen ≡ take n (new ++ drop (length new) items) → length seen ≡ length items
-pass_size link t n items es new seen ms ms' said same all moved is =
-    let d = day_of t es ms in
+pub pass_size : (link : Link) (t l n : ℕ) (items es new seen : List Entry) (ms ms' : List Bool) (said : List (Option Outgoing)) → es ≡ items → n ≡ length items → IsSecond link (day_of t l es ms) new ms' said → seen ≡ take n (new ++ drop (length new) items) → length seen ≡ length items
+pass_size link t l n items es new seen ms ms' said same all moved is =
+    let d = day_of t l es ms in
     let count : length new ≡ length items = ap length moved.entries ∙ map_size link d es ∙ ap length same in
     ap length (is ∙ refilled n new items count all) ∙ count
 
-pub pass_day : (link : Link) (t n : ℕ) (items es new : List Entry) (ms ms' : List Bool) (said : List (Option Outgoing)) → es ≡ items → n ≡ length items → IsSecond link (day_of t es ms) new ms' said → day_of (t + 1) (take n (new ++ drop (length new) items)) ms' ≡ (passed_in link (day_of t items ms)).day
-pass_day link t n items es new ms ms' said same all moved =
-    let d = day_of t es ms in
+pub pass_day : (link : Link) (t l n : ℕ) (items es new : List Entry) (ms ms' : List Bool) (said : List (Option Outgoing)) → es ≡ items → n ≡ length items → IsSecond link (day_of t l es ms) new ms' said → day_of (t + 1) (unlinked_after link t l) (take n (new ++ drop (length new) items)) ms' ≡ (passed_in link (day_of t l items ms)).day
+pass_day link t l n items es new ms ms' said same all moved =
+    let d = day_of t l es ms in
     let count : length new ≡ length items = ap length moved.entries ∙ map_size link d es ∙ ap length same in
-    ap₂ (day_of (t + 1)) (refilled n new items count all ∙ moved.entries) moved.maintenance ∙ ap (λ (xs : List Entry). (passed_in link (day_of t xs ms)).day) same
+    ap₂ (day_of (t + 1) (unlinked_after link t l)) (refilled n new items count all ∙ moved.entries) moved.maintenance ∙ ap (λ (xs : List Entry). (passed_in link (day_of t l xs ms)).day) same

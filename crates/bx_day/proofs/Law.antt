@@ -10,6 +10,7 @@ use Rattle.bx_q931.specs.declared.channel_field.ChannelField.{ChannelField}
 use Rattle.bx_q931.specs.declared.channel_field.ChannelField.TheVariants.{Named, Unread}
 use Rattle.bx_calls.specs.PlainCalls.{PlainNetCall}
 use Rattle.bx_calls.specs.declared.net_state.NetState.{NetState}
+use Rattle.bx_calls.specs.declared.times.Times.TheVariants.{NotYet, Once, Twice}
 use Rattle.bx_calls.specs.declared.net_state.NetState.TheVariants.{DisconnectIndication, ReleaseRequest}
 use Rattle.bx_calls.specs.NetTable.{net_message, net_second, net_unlinked}
 use Rattle.bx_base.specs.Bookings.{Row, row_at, is_running, AreBookings, Carries}
@@ -23,7 +24,7 @@ use Rattle.bx_day.specs.declared.entry.Moved.{Moved}
 use Rattle.bx_day.specs.declared.entry.Link.{Link}
 use Rattle.bx_day.specs.declared.entry.Link.TheVariants.{Up, Down}
 use Rattle.bx_day.specs.Moves.{is_active}
-use Rattle.bx_day.specs.Day.{Day, entry_at, no_entry, opening, entry_of, entries_from, is_free, is_live, every_channel}
+use Rattle.bx_day.specs.Day.{is_back, Day, entry_at, no_entry, opening, entry_of, entries_from, is_free, is_live, every_channel}
 use Rattle.bx_day.specs.Ticks.{after_in, second_at, second_by, waits, tick, passed_in}
 use Rattle.bx_day.specs.Receipts.{hears, takes_call, takes_or, takes_preferred, called_on, called, stray, received_at, receive, opens, lowest_open, names, with_moved}
 use Rattle.bx_calls.specs.Sending.{Sent, Answered}
@@ -95,17 +96,17 @@ opening_framed k (b ∷ bs) [] (suc i) lt = opening_framed (k + 1) bs [] i (omeg
 opening_framed k (b ∷ bs) (a ∷ as') zero lt = frame_of k b a
 opening_framed k (b ∷ bs) (a ∷ as') (suc i) lt = opening_framed (k + 1) bs as' i (omega arith)
 
-waits_refused : (e : Entry) (t : ℕ) (free : Bool) → is_refused (waits e t free).standing ≡ false
-waits_refused e t free = by_cases (offers e t free) _ _ (λ (m : Moved). is_refused m.standing ≡ false) (λ _. refl) (λ _. by_cases (nat_le e.booking.end t) _ _ (λ (m : Moved). is_refused m.standing ≡ false) (λ _. refl) (λ _. refl))
+waits_refused : (e : Entry) (t : ℕ) (back free : Bool) → is_refused (waits e t back free).standing ≡ false
+waits_refused e t back free = by_cases (offers e t free) _ _ (λ (m : Moved). is_refused m.standing ≡ false) (λ _. refl) (λ _. by_cases (nat_le e.booking.end t) _ _ (λ (m : Moved). is_refused m.standing ≡ false) (λ _. refl) (λ _. refl))
 
-pub second_same : (e : Entry) (t : ℕ) (free : Bool) (s : Standing) → is_refused (second_at e t free s).standing ≡ is_refused s
-second_same e t free Unoffered = waits_refused e t free
-second_same e t free (OnCall c a) = follow_refused a t (net_second c t e.booking.end).reply (net_second c t e.booking.end).next
-second_same e t free s = refl
+pub second_same : (e : Entry) (t : ℕ) (back free : Bool) (s : Standing) → is_refused (second_at e t back free s).standing ≡ is_refused s
+second_same e t back free Unoffered = waits_refused e t back free
+second_same e t back free (OnCall c a) = follow_refused a t (net_second c t e.booking.end).reply (net_second c t e.booking.end).next
+second_same e t back free s = refl
 
-pub in_same : (link : Link) (e : Entry) (t : ℕ) (free : Bool) (s : Standing) → is_refused (second_by link e t free s).standing ≡ is_refused s
-in_same Up e t free s = second_same e t free s
-in_same Down e t free s = unlinked e t s (λ m. is_refused m.standing ≡ is_refused s) (λ c a p. follow_refused a t (net_unlinked 1 c t e.booking.end).reply (net_unlinked 1 c t e.booking.end).next ∙ sym (ap is_refused p)) (second_same e t false s)
+pub in_same : (link : Link) (e : Entry) (t : ℕ) (back free : Bool) (s : Standing) → is_refused (second_by link e t back free s).standing ≡ is_refused s
+in_same Up e t back free s = second_same e t back free s
+in_same Down e t back free s = unlinked e t s (λ m. is_refused m.standing ≡ is_refused s) (λ c a p. follow_refused a t (net_unlinked 1 c t e.booking.end).reply (net_unlinked 1 c t e.booking.end).next ∙ sym (ap is_refused p)) (second_same e t false false s)
 
 pub hears_same : (m : Said) (t : ℕ) (s : Standing) → is_refused (hears m t s).standing ≡ is_refused s
 hears_same m t (OnCall c a) = follow_refused a t (net_message c m.heard t).reply (net_message c m.heard t).next
@@ -166,7 +167,7 @@ replace rows assigned e s same p = record { index = p.index; row = p.row; bookin
 
 second_placed : (rows : List Row) (assigned : List (Option ℕ)) (link : Link) (d : Day) (es : List Entry) → AllByRecursion (Placed rows assigned) es → AllByRecursion (Placed rows assigned) (map (after_in link d) es)
 second_placed rows assigned link d [] h = tt
-second_placed rows assigned link d (e ∷ es) h = (replace rows assigned e _ (in_same link e (d.moment + 1) (is_free d e.channel) e.standing) h.0, second_placed rows assigned link d es h.1)
+second_placed rows assigned link d (e ∷ es) h = (replace rows assigned e _ (in_same link e (d.moment + 1) (is_back d) (is_free d e.channel) e.standing) h.0, second_placed rows assigned link d es h.1)
 
 pub all_update : (P : Entry → Type 0) (es : List Entry) (i : ℕ) (y : Entry) → (P (entry_at es i) → P y) → AllByRecursion P es → AllByRecursion P (slice_set es i y)
 all_update P [] i y f h = tt
@@ -177,7 +178,7 @@ second_framed : (rows : List Row) (assigned : List (Option ℕ)) (link : Link) (
 second_framed rows assigned link d h = (
   (λ i lt. let e = entry_at d.entries i in
       subst (IsFrame (row_at rows i) (slice_index_or assigned i None)) (sym (at_map_in link d d.entries i))
-      (refit (row_at rows i) (slice_index_or assigned i None) e _ (in_same link e (d.moment + 1) (is_free d e.channel) e.standing) (h.0 i lt))),
+      (refit (row_at rows i) (slice_index_or assigned i None) e _ (in_same link e (d.moment + 1) (is_back d) (is_free d e.channel) e.standing) (h.0 i lt))),
   second_placed rows assigned link d d.entries h.1,
 )
 
@@ -294,9 +295,10 @@ call_at d i h c a p = subst (StandingFits d.moment (entry_at d.entries i)) p (al
 
 -- 38 seconds with a link after the end no call is left
 late_none : (t n : ℕ) (lasts : Bool) (b : Row) (s : NetState) → PhaseFits t b (phase_of s) → DueFits t s → (b.end ≤ t → ClearsBy lasts (b.end + n) s) → b.end + 38 + n ≤ t → ⊥
-late_none t n lasts b (DisconnectIndication cause due) p q c h = omega (arith, q.0, c (omega (arith, h)), h)
-late_none t n lasts b (ReleaseRequest false cause due) p q c h = omega (arith, q.0, c (omega (arith, h)), h)
-late_none t n lasts b (ReleaseRequest true cause due) p q c h = omega (arith, q.0, (c (omega (arith, h))).1, h)
+late_none t n lasts b (DisconnectIndication cause due) p q c h = omega (arith, q.0, (c (omega (arith, h))).1, h)
+late_none t n lasts b (ReleaseRequest NotYet cause due) p q c h = omega (arith, q.0, c (omega (arith, h)), h)
+late_none t n lasts b (ReleaseRequest Once cause due) p q c h = omega (arith, q.0, (c (omega (arith, h))).1, h)
+late_none t n lasts b (ReleaseRequest Twice cause due) p q c h = omega (arith, q.0, (c (omega (arith, h))).1, h)
 late_none t n lasts b s p q c h = omega (arith, p.1, h)
 
 -- no channel is held twice

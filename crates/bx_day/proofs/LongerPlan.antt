@@ -86,7 +86,7 @@ module _ (m : ℕ) (rows : List Row) (assigned : List (Option ℕ)) (rows' : Lis
       ap (λ (e : Entry). e.standing) (old_at i lt) ∙ standing_of (i + 1) (row_at rows i) (row_at rows' i) (slice_index_or assigned i None) (slice_index_or assigned' i None) (h.accepted i lt) ∙ sym (ap (λ (e : Entry). e.standing) (new_at i lt'))
 
   opening_over : over new (opening rows assigned) ≡ opening rows' assigned'
-  opening_over = ap (λ es. day_of 0 es no_channel) (same_standings old new fewer same_at)
+  opening_over = ap (λ es. day_of 0 0 es no_channel) (same_standings old new fewer same_at)
 
   pub extended_day : (events : List LiveEvent) → (live_day_after events (opening rows assigned)).moment < m → live_day_after events (opening rows' assigned') ≡ extended rows' assigned' (live_day_after events (opening rows assigned))
   extended_day events before = ap (live_day_after events) (sym opening_over) ∙ (run_over m events (opening rows assigned) new opening_seats before).0

@@ -5,7 +5,7 @@ use Rattle.std.proofs.lemmas.Bool.{false≢true, eqb-true}
 use Rattle.bx_channels.specs.ChannelNumbers.{IsChannel}
 use Rattle.bx_q931.specs.Outgoing.{Outgoing}
 use Rattle.bx_calls.specs.Shared.{cons_some}
-use Rattle.bx_day.specs.Day.{Day, is_live, is_held, is_free, entry_at}
+use Rattle.bx_day.specs.Day.{is_back, Day, is_live, is_held, is_free, entry_at}
 use Rattle.bx_day.specs.Ticks.{second_at, second_by, second_in, waits, said_in, SaysOnce}
 use Rattle.bx_day.specs.Invariant.{Apart, Pairs, is_refused}
 use Rattle.bx_day.specs.Reading.{Seated, IsExchange}
@@ -34,25 +34,25 @@ each_at P (e ∷ es) (suc n) lt h = each_at P es n (omega arith) h.1
 -- ---- in one second at most one booking of a channel says something
 
 -- a booking that says something at a tick was live before, or is offered at it
-waits_says : (t : ℕ) (free : Bool) (e : Entry) (o : Outgoing) → (waits e t free).said ≡ Some o → WasLive t free (with_standing e Unoffered)
-waits_says t free e o =
+waits_says : (t : ℕ) (back free : Bool) (e : Entry) (o : Outgoing) → (waits e t back free).said ≡ Some o → WasLive t free (with_standing e Unoffered)
+waits_says t back free e o =
     by_cases (offers e t free) _ _ (λ (m : Moved). m.said ≡ Some o → WasLive t free (with_standing e Unoffered))
     (λ offered says. let p = offers_parts e t free offered in Offered refl p.0 p.2)
     (λ _. by_cases (nat_le e.booking.end t) _ _ (λ (m : Moved). m.said ≡ Some o → WasLive t free (with_standing e Unoffered))
     (λ ended says. absurd (none≢some o says))
     (λ going says. absurd (none≢some o says)))
 
-pub says : (t : ℕ) (free : Bool) (e : Entry) (s : Standing) (o : Outgoing) → (second_at e t free s).said ≡ Some o → WasLive t free (with_standing e s)
-says t free e Unoffered o h = waits_says t free e o h
-says t free e (OnCall c a) o h = Before refl
-says t free e s o h = absurd (none≢some o h)
+pub says : (t : ℕ) (back free : Bool) (e : Entry) (s : Standing) (o : Outgoing) → (second_at e t back free s).said ≡ Some o → WasLive t free (with_standing e s)
+says t back free e Unoffered o h = waits_says t back free e o h
+says t back free e (OnCall c a) o h = Before refl
+says t back free e s o h = absurd (none≢some o h)
 
-pub in_says : (link : Link) (t : ℕ) (free : Bool) (e : Entry) (s : Standing) (o : Outgoing) → (second_by link e t free s).said ≡ Some o → WasLive t free (with_standing e s)
-in_says Up t free e s o h = says t free e s o h
-in_says Down t free e s o h = unlinked e t s (λ m. m.said ≡ Some o → WasLive t free (with_standing e s)) (λ c a p _. Before (ap is_live p)) (λ now. never_offered t free (with_standing e s) (says t false e s o now)) h
+pub in_says : (link : Link) (t : ℕ) (back free : Bool) (e : Entry) (s : Standing) (o : Outgoing) → (second_by link e t back free s).said ≡ Some o → WasLive t free (with_standing e s)
+in_says Up t back free e s o h = says t back free e s o h
+in_says Down t back free e s o h = unlinked e t s (λ m. m.said ≡ Some o → WasLive t free (with_standing e s)) (λ c a p _. Before (ap is_live p)) (λ now. never_offered t free (with_standing e s) (says t false false e s o now)) h
 
 pub was_live : (link : Link) (d : Day) (e : Entry) (o : Outgoing) → (second_in link d e).said ≡ Some o → WasLive (d.moment + 1) (is_free d e.channel) e
-was_live link d e o h = in_says link (d.moment + 1) (is_free d e.channel) e e.standing o h
+was_live link d e o h = in_says link (d.moment + 1) (is_back d) (is_free d e.channel) e e.standing o h
 
 -- nothing is said where the first has nothing to say and the rest has not
 quiet : (o : Option Outgoing) (os : List Outgoing) → ((x : Outgoing) → o ≡ Some x → ⊥) → os ≡ [] → cons_some o os ≡ []

@@ -21,7 +21,7 @@ use Rattle.bx_day.specs.Moves.{activity_after, is_active, follows}
 use Rattle.bx_day.specs.Ticks.{unlinked_at, after_in, breaks_in, maintained_in, passed_in, waits}
 use Rattle.bx_day.specs.Outages.{without_link, live_day_after}
 use Rattle.bx_day.specs.Invariant.{phase_of, PhaseFits, DueFits, ActivityFits, CallFits, EntryFits}
-use Rattle.bx_day.specs.Outlasting.{IsTimedBy, outlasted, outlasts}
+use Rattle.bx_day.specs.Outlasting.{unlinked_for, IsTimedBy, outlasted, outlasts}
 use Rattle.bx_day.specs.Reading.{IsExchange}
 use Rattle.bx_day.proofs.Once.{decide}
 use Rattle.bx_day.proofs.Passing.{passed_stays}
@@ -73,7 +73,6 @@ one_more : (n : ℕ) → (n + 1 == 0) ≡ false
 one_more n = false_from_ne_true (n + 1 == 0) (λ e. let q : n + 1 ≡ 0 = eqb-true (n + 1) 0 e in omega (arith, q))
 
 lost_more : (n t u : ℕ) (s : NetState) → net_lost n u (net_lost 1 t s) ≡ net_lost (n + 1) u s
-lost_more n t u (CallPresent again due) = ap (λ x. CallPresent again x) (let q : due + 1 + n ≡ due + (n + 1) = omega arith in q)
 lost_more n t u (IncomingCallProceeding due) = ap (λ x. IncomingCallProceeding x) (let q : due + 1 + n ≡ due + (n + 1) = omega arith in q)
 lost_more n t u (CallReceived due) = ap (λ x. CallReceived x) (let q : due + 1 + n ≡ due + (n + 1) = omega arith in q)
 lost_more n t u s = refl
@@ -174,7 +173,7 @@ call_none t e c a h =
 
 -- ---- a booking
 
-wait_more : (n t u : ℕ) (e : Entry) → u ≡ t + 1 + n → outlasted n u e.booking (waits e (t + 1) false).standing ≡ outlasted (n + 1) u e.booking Unoffered
+wait_more : (n t u : ℕ) (e : Entry) → u ≡ t + 1 + n → outlasted n u e.booking (waits e (t + 1) false false).standing ≡ outlasted (n + 1) u e.booking Unoffered
 wait_more n t u e q =
     let b = e.booking in
     let P : Moved → Type 0 = λ m. outlasted n u b m.standing ≡ outlasted (n + 1) u b Unoffered in
@@ -195,7 +194,7 @@ booking_none t e Unoffered h = ap (λ b. if b then Missed else Unoffered) (late 
 booking_none t e s h = refl
 
 -- no channel breaks without a link
-waits_whole : (e : Entry) (t : ℕ) → (waits e t false).broken ≡ false
+waits_whole : (e : Entry) (t : ℕ) → (waits e t false false).broken ≡ false
 waits_whole e t = by_cases (offers e t false) _ _ (λ (m : Moved). m.broken ≡ false) (λ _. refl) (λ _. by_cases (nat_le e.booking.end t) _ _ (λ (m : Moved). m.broken ≡ false) (λ _. refl) (λ _. refl))
 
 booking_whole : (e : Entry) (t : ℕ) (s : Standing) → (unlinked_at e t s).broken ≡ false
@@ -217,8 +216,17 @@ still_maintained d c (b ∷ bs) = ap₂ (λ x xs. x ∷ xs) (ap (λ x. b || x) (
     or_false true = refl
     or_false false = refl
 
+unlinked_some : (n m before : ℕ) → unlinked_for (n + 1) m before ≡ m + (n + 1)
+unlinked_some n m before = ap (λ b. if b then before else m + (n + 1)) (one_more n)
+
+unlinked_more : (n m before : ℕ) → unlinked_for n (m + 1) (m + 1) ≡ unlinked_for (n + 1) m before
+unlinked_more n m before = decide (n == 0)
+    (λ none. let zero : n ≡ 0 = eqb-true n 0 none in
+    ap (λ b. if b then m + 1 else m + 1 + n) none ∙ (let q : m + 1 ≡ m + (n + 1) = omega (arith, zero) in q) ∙ sym (unlinked_some n m before))
+    (λ some. ap (λ b. if b then m + 1 else m + 1 + n) some ∙ (let q : m + 1 + n ≡ m + (n + 1) = omega arith in q) ∙ sym (unlinked_some n m before))
+
 abbrev pub outlasts_day : ℕ → Day → Day
-outlasts_day n d = record { moment = d.moment + n; entries = map (outlasts n (d.moment + n)) d.entries; maintenance = d.maintenance }
+outlasts_day n d = record { moment = d.moment + n; unlinked = unlinked_for n d.moment d.unlinked; entries = map (outlasts n (d.moment + n)) d.entries; maintenance = d.maintenance }
 
 entries_more : (n u : ℕ) (d : Day) (es : List Entry) → u ≡ d.moment + 1 + n → AllByRecursion (EntryFits d.moment) es → map (outlasts n u) (map (after_in Down d) es) ≡ map (outlasts (n + 1) u) es
 entries_more n u d [] q h = refl
@@ -230,15 +238,15 @@ entries_none t (e ∷ es) h = ap₂ (λ s xs. with_standing e s ∷ xs) (booking
 
 day_none : (d : Day) → IsExchange d → outlasts_day 0 d ≡ d
 day_none d h =
-    ap (λ t. record { moment = t; entries = map (outlasts 0 t) d.entries; maintenance = d.maintenance }) (let q : d.moment + 0 ≡ d.moment = omega arith in q)
-    ∙ ap (λ es. record { moment = d.moment; entries = es; maintenance = d.maintenance }) (entries_none d.moment d.entries h.day.each)
+    ap (λ t. record { moment = t; unlinked = d.unlinked; entries = map (outlasts 0 t) d.entries; maintenance = d.maintenance }) (let q : d.moment + 0 ≡ d.moment = omega arith in q)
+    ∙ ap (λ es. record { moment = d.moment; unlinked = d.unlinked; entries = es; maintenance = d.maintenance }) (entries_none d.moment d.entries h.day.each)
 
 day_more : (n : ℕ) (d : Day) → IsExchange d → outlasts_day n (passed_in Down d).day ≡ outlasts_day (n + 1) d
 day_more n d h =
     let u = d.moment + (n + 1) in
     let q : d.moment + 1 + n ≡ u = omega arith in
-    ap (λ t. record { moment = t; entries = map (outlasts n t) (map (after_in Down d) d.entries); maintenance = maintained_in Down d 0 d.maintenance }) q
-    ∙ ap₂ (λ es ms. record { moment = u; entries = es; maintenance = ms }) (entries_more n u d d.entries (sym q) h.day.each) (still_maintained d 0 d.maintenance)
+    ap₂ (λ t l. record { moment = t; unlinked = l; entries = map (outlasts n t) (map (after_in Down d) d.entries); maintenance = maintained_in Down d 0 d.maintenance }) q (unlinked_more n d.moment d.unlinked)
+    ∙ ap₂ (λ es ms. record { moment = u; unlinked = unlinked_for (n + 1) d.moment d.unlinked; entries = es; maintenance = ms }) (entries_more n u d d.entries (sym q) h.day.each) (still_maintained d 0 d.maintenance)
 
 without_is : (d : Day) (b : Bool) → nat_le 300000 d.moment ≡ b → without_link d ≡ (if b then d else (passed_in Down d).day)
 without_is d b is = ap (λ x. if x then d else (passed_in Down d).day) is

@@ -7,7 +7,7 @@ use Rattle.bx_channels.specs.ChannelNumbers.{IsChannel}
 use Rattle.bx_q931.specs.Outgoing.{Outgoing}
 use Rattle.bx_calls.specs.Shared.{cons_some}
 use Rattle.bx_channels.specs.Marks.{is_marked}
-use Rattle.bx_day.specs.Day.{Day, is_held, is_free, every_channel}
+use Rattle.bx_day.specs.Day.{is_back, Day, is_held, is_free, every_channel}
 use Rattle.bx_day.specs.Ticks.{second_at, second_by, second_in, after_in, said_on, tick, ticked, passed_in}
 use Rattle.bx_day.specs.Moves.{stays}
 use Rattle.bx_day.specs.Invariant.{is_refused}
@@ -40,18 +40,18 @@ pub free_is : (d : Day) (blocked : List Bool) (c k : ℕ) → c ≡ k → AreBlo
 free_is d blocked c k on set = ap not (set c) ∙ not_or (is_held d.entries c) (is_marked d.maintenance c) ∙ ap (is_free d) on
 
 -- what a booking does, where its channel is known to be blocked or not
-pub moved_is : (link : Link) (d : Day) (e e' : Entry) (m : Moved) (blocked : List Bool) (c : ℕ) → e ≡ e' → c ≡ e.channel → AreBlocked d blocked → m ≡ second_by link e (d.moment + 1) (not (is_marked blocked c)) e.standing → m ≡ second_in link d e'
+pub moved_is : (link : Link) (d : Day) (e e' : Entry) (m : Moved) (blocked : List Bool) (c : ℕ) → e ≡ e' → c ≡ e.channel → AreBlocked d blocked → m ≡ second_by link e (d.moment + 1) (is_back d) (not (is_marked blocked c)) e.standing → m ≡ second_in link d e'
 moved_is link d e e' m blocked c same on set is =
-    is ∙ ap (λ f. second_by link e (d.moment + 1) f e.standing) (free_is d blocked c e.channel on set) ∙ ap (second_in link d) same
+    is ∙ ap (λ f. second_by link e (d.moment + 1) (is_back d) f e.standing) (free_is d blocked c e.channel on set) ∙ ap (second_in link d) same
 
 -- a refused booking stays, says nothing and breaks nothing
-pub refused_stays : (t : ℕ) (free : Bool) (e : Entry) (s : Standing) → is_refused s ≡ true → second_at e t free s ≡ stays s
-refused_stays t free e Refused h = refl
-refused_stays t free e s h = absurd (false≢true h)
+pub refused_stays : (t : ℕ) (back free : Bool) (e : Entry) (s : Standing) → is_refused s ≡ true → second_at e t back free s ≡ stays s
+refused_stays t back free e Refused h = refl
+refused_stays t back free e s h = absurd (false≢true h)
 
-pub refused_stays_in : (link : Link) (t : ℕ) (free : Bool) (e : Entry) (s : Standing) → is_refused s ≡ true → second_by link e t free s ≡ stays s
-refused_stays_in Up t free e s h = refused_stays t free e s h
-refused_stays_in Down t free e s h = unlinked e t s (λ m. m ≡ stays s) (λ c a p. absurd (true≢false (sym h ∙ ap is_refused p))) (refused_stays t false e s h)
+pub refused_stays_in : (link : Link) (t : ℕ) (back free : Bool) (e : Entry) (s : Standing) → is_refused s ≡ true → second_by link e t back free s ≡ stays s
+refused_stays_in Up t back free e s h = refused_stays t back free e s h
+refused_stays_in Down t back free e s h = unlinked e t s (λ m. m ≡ stays s) (λ c a p. absurd (true≢false (sym h ∙ ap is_refused p))) (refused_stays t false false e s h)
 
 pub no_channel : (e : Entry) → Seated e → (IsChannel e.channel → ⊥) → is_refused e.standing ≡ true
 no_channel e seat never = decide (is_refused e.standing) (λ yes. yes) (λ accepted. absurd (never (seat.channel accepted)))
@@ -91,7 +91,7 @@ few_somes d said h size each = subst (λ (os : List Outgoing). length os ≤ 30)
 
 all_seated : (link : Link) (d : Day) (es : List Entry) → AllByRecursion Seated es → AllByRecursion Seated (map (after_in link d) es)
 all_seated link d [] h = tt
-all_seated link d (e ∷ es) h = (record { row = h.0.row; channel = λ accepted. h.0.channel (in_refused link (d.moment + 1) (is_free d e.channel) e e.standing accepted) }, all_seated link d es h.1)
+all_seated link d (e ∷ es) h = (record { row = h.0.row; channel = λ accepted. h.0.channel (in_refused link (d.moment + 1) (is_back d) (is_free d e.channel) e e.standing accepted) }, all_seated link d es h.1)
 
 pub map_size : (link : Link) (d : Day) (es : List Entry) → length (map (after_in link d) es) ≡ length es
 map_size link d [] = refl

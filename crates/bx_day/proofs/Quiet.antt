@@ -5,7 +5,7 @@ use Rattle.std.proofs.Math.Nat.{min-le_left, min-le_right}
 use Rattle.std.proofs.lemmas.Bool.{true≢false, false≢true, leb-true}
 use Rattle.bx_base.specs.Bookings.{Row, is_running}
 use Rattle.bx_calls.specs.PlainCalls.{PlainNetCall}
-use Rattle.bx_calls.specs.declared.net_state.Asked.TheVariants.{Twice}
+use Rattle.bx_calls.specs.declared.times.Times.TheVariants.{Twice}
 use Rattle.bx_calls.specs.declared.net_state.NetState.{NetState}
 use Rattle.bx_calls.specs.declared.net_state.NetState.TheVariants.{OutgoingCallProceeding, CallPresent, IncomingCallProceeding, CallReceived, Active, Enquiring, DisconnectIndication, ReleaseRequest}
 use Rattle.bx_calls.specs.NetTable.{net_second, net_same, net_offered}
@@ -58,7 +58,7 @@ pub quiet_tick : (d : Day) → AllByRecursion (λ e. second_in Up d e ≡ stays 
 quiet_tick d h =
     let entries = quiet_entries d d.entries h in
     let maintenance : maintained_in Up d 0 d.maintenance ≡ d.maintenance = quiet_marks d 0 d.maintenance h in
-    ap₂ (λ es ms. record { day = record { moment = d.moment + 1; entries = es; maintenance = ms }; sent = flat_map (λ c. said_on d c d.entries) every_channel }) entries maintenance ∙ ap (λ os. record { day = later_by 1 d; sent = os }) (quiet_all d h every_channel)
+    ap₂ (λ es ms. record { day = record { moment = d.moment + 1; unlinked = d.unlinked; entries = es; maintenance = ms }; sent = flat_map (λ c. said_on d c d.entries) every_channel }) entries maintenance ∙ ap (λ os. record { day = later_by 1 d; sent = os }) (quiet_all d h every_channel)
 
 pub all_at : (P : Entry → Type 0) (es : List Entry) → ((i : ℕ) → i < length es → P (entry_at es i)) → AllByRecursion P es
 all_at P [] h = tt
@@ -84,23 +84,21 @@ running_late b t h = ap (λ x. x && nat_lt t b.end) (late b.start t h)
 -- before its first due moment a call rests
 at_rest : (c : PlainNetCall) (s : NetState) (t end : ℕ) → t < call_due s end → net_second (record c { state = s }) t end ≡ net_same (record c { state = s }) None
 at_rest c OutgoingCallProceeding t end lt = absurd (omega (arith, lt))
-at_rest c (CallPresent false due) t end lt = rw (late end t (omega (arith, lt, min-le_right due end))) (rw (late due t (omega (arith, lt, min-le_left due end))) refl)
-at_rest c (CallPresent true due) t end lt = rw (late end t (omega (arith, lt, min-le_right due end))) (rw (late due t (omega (arith, lt, min-le_left due end))) refl)
+at_rest c (CallPresent offer due) t end lt = rw (late end t (omega (arith, lt, min-le_right due end))) (rw (late due t (omega (arith, lt, min-le_left due end))) refl)
 at_rest c (IncomingCallProceeding due) t end lt = rw (late end t (omega (arith, lt, min-le_right due end))) (rw (late due t (omega (arith, lt, min-le_left due end))) refl)
 at_rest c (CallReceived due) t end lt = rw (late end t (omega (arith, lt, min-le_right due end))) (rw (late due t (omega (arith, lt, min-le_left due end))) refl)
 at_rest c Active t end lt = rw (late end t lt) refl
 at_rest c (Enquiring Twice due) t end lt = rw (late end t (omega (arith, lt, min-le_right due end))) (rw (late due t (omega (arith, lt, min-le_left due end))) refl)
 at_rest c (DisconnectIndication cause due) t end lt = rw (late due t lt) refl
-at_rest c (ReleaseRequest false cause due) t end lt = rw (late due t lt) refl
-at_rest c (ReleaseRequest true cause due) t end lt = rw (late due t lt) refl
+at_rest c (ReleaseRequest sent cause due) t end lt = rw (late due t lt) refl
 at_rest c (Enquiring x due) t end lt = rw (late end t (omega (arith, lt, min-le_right due end))) (rw (late due t (omega (arith, lt, min-le_left due end))) refl)
 
-call_quiet : (moment t : ℕ) (free : Bool) (e : Entry) (c : PlainNetCall) (a : Activity) → CallFits moment e c a → t < call_due c.state e.booking.end → second_at e t free (OnCall c a) ≡ stays (OnCall c a)
-call_quiet moment t free e c a fits lt = ap (follows a t) (at_rest c c.state t e.booking.end lt) ∙ ap (λ b. stays (OnCall c b)) (activity_stays moment t e.booking c.state a fits.activity)
+call_quiet : (moment t : ℕ) (back free : Bool) (e : Entry) (c : PlainNetCall) (a : Activity) → CallFits moment e c a → t < call_due c.state e.booking.end → second_at e t back free (OnCall c a) ≡ stays (OnCall c a)
+call_quiet moment t back free e c a fits lt = ap (follows a t) (at_rest c c.state t e.booking.end lt) ∙ ap (λ b. stays (OnCall c b)) (activity_stays moment t e.booking c.state a fits.activity)
 
 -- one that is not offered and not missed goes on waiting
-pub waits_on : (e : Entry) (t : ℕ) (free : Bool) → offers e t free ≡ false → t < e.booking.end → waits e t free ≡ stays Unoffered
-waits_on e t free unoffered early = ap (λ b. if b then (becomes (OnCall (net_offered e.row e.channel e.booking.number t) Never) (Some (setup_of e.row e.channel e.booking.number))) else (if nat_le e.booking.end t then stays Missed else stays Unoffered)) unoffered ∙ ap (λ b. if b then stays Missed else stays Unoffered) (late e.booking.end t early)
+pub waits_on : (e : Entry) (t : ℕ) (back free : Bool) → offers e t free ≡ false → t < e.booking.end → waits e t back free ≡ stays Unoffered
+waits_on e t back free unoffered early = ap (λ b. if b then (becomes (OnCall (net_offered e.row e.channel e.booking.number back t) Never) (Some (setup_of e.row e.channel e.booking.number))) else (if nat_le e.booking.end t then stays Missed else stays Unoffered)) unoffered ∙ ap (λ b. if b then stays Missed else stays Unoffered) (late e.booking.end t early)
 
 pub not_offered : (a b c : Bool) → (b || not c) ≡ true → (a && not b && c) ≡ false
 not_offered true true c h = refl
@@ -112,14 +110,14 @@ not_begun : (a b c : Bool) → a ≡ false → (a && not b && c) ≡ false
 not_begun true b c h = absurd (true≢false h)
 not_begun false b c h = refl
 
-waits_quiet : (t : ℕ) (free : Bool) (e : Entry) → e.booking.start ≤ e.booking.end → t < booking_due e Unoffered → waits e t free ≡ stays Unoffered
-waits_quiet t free e order lt = decide e.booking.inward
-    (λ inward. waits_on e t free (not_offered (is_running e.booking t) e.booking.inward free (ap (λ b. b || not free) inward)) (subst (λ b. t < (if b then e.booking.end else e.booking.start)) inward lt))
+waits_quiet : (t : ℕ) (back free : Bool) (e : Entry) → e.booking.start ≤ e.booking.end → t < booking_due e Unoffered → waits e t back free ≡ stays Unoffered
+waits_quiet t back free e order lt = decide e.booking.inward
+    (λ inward. waits_on e t back free (not_offered (is_running e.booking t) e.booking.inward free (ap (λ b. b || not free) inward)) (subst (λ b. t < (if b then e.booking.end else e.booking.start)) inward lt))
     (λ outward.
     let early : t < e.booking.start = subst (λ b. t < (if b then e.booking.end else e.booking.start)) outward lt in
-    waits_on e t free (not_begun (is_running e.booking t) e.booking.inward free (running_late e.booking t early)) (omega (arith, early, order)))
+    waits_on e t back free (not_begun (is_running e.booking t) e.booking.inward free (running_late e.booking t early)) (omega (arith, early, order)))
 
-pub booking_quiet : (moment t : ℕ) (free : Bool) (e : Entry) (s : Standing) → EntryFits moment (with_standing e s) → e.booking.start ≤ e.booking.end → t < booking_due e s → second_at e t free s ≡ stays s
-booking_quiet moment t free e Unoffered h order lt = waits_quiet t free e order lt
-booking_quiet moment t free e (OnCall c a) h order lt = call_quiet moment t free (with_standing e (OnCall c a)) c a h lt
-booking_quiet moment t free e s h order lt = refl
+pub booking_quiet : (moment t : ℕ) (back free : Bool) (e : Entry) (s : Standing) → EntryFits moment (with_standing e s) → e.booking.start ≤ e.booking.end → t < booking_due e s → second_at e t back free s ≡ stays s
+booking_quiet moment t back free e Unoffered h order lt = waits_quiet t back free e order lt
+booking_quiet moment t back free e (OnCall c a) h order lt = call_quiet moment t back free (with_standing e (OnCall c a)) c a h lt
+booking_quiet moment t back free e s h order lt = refl

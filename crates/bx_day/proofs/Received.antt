@@ -59,7 +59,7 @@ row_whole c m t a Inward Active ConnectAcknowledge e = rw e refl
 row_whole c m t a o s k e = refl
 
 pub hears_whole : (m : Said) (t : ℕ) (s : Standing) → (hears m t s).broken ≡ false
-hears_whole m t (OnCall c a) = heard_by (Whole a t) c m.heard t c.state m.heard.kind (λ asked due is q. refl) (row_whole (net_awake c) m.heard t a c.origin (net_awake_state c.state) m.heard.kind refl)
+hears_whole m t (OnCall c a) = heard_by (Whole a t) c m.heard t c.state m.heard.kind (record { contradicted = λ asked due is q. refl; unacknowledged = λ asked due is q. refl; connected = λ due is q. refl; put_off = λ offer due is q. refl }) (row_whole (net_awake c) m.heard t a c.origin (net_awake_state c.state) m.heard.kind refl)
 hears_whole m t s = refl
 
 -- ---- who is named: a call that the exchange began has its row as reference
@@ -237,5 +237,5 @@ heard_exchange d m i h = moved_exchange d i (hears m d.moment (entry_at d.entrie
 -- an inward booking of this channel, called with this reference
 pub takes_exchange : (d : Day) (reference i : ℕ) → is_open d (entry_at d.entries i) ≡ true → IsExchange d → IsExchange (with_moved d i (becomes (OnCall (net_answered reference (entry_at d.entries i).channel) Never) None)).day
 takes_exchange d reference i opened h =
-    let m : Said = record { reference = reference; flag = false; heard = record { kind = Setup; channel = Absent; state = None }; refused = None } in
+    let m : Said = record { reference = reference; flag = false; heard = record { kind = Setup; channel = Absent; cause = None; state = None }; refused = None } in
     moved_exchange d i (takes_call m (entry_at d.entries i)) (takes_fits d m 44 (Some i) opened h.day) (λ _. (open_parts d (entry_at d.entries i) opened).accepted) h

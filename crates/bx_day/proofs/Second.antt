@@ -4,10 +4,12 @@ use Rattle.std.proofs.lemmas.Bool.{leb-false}
 use Rattle.bx_calls.specs.declared.transition.Transition.{Transition}
 use Rattle.bx_calls.specs.PlainCalls.{PlainNetCall}
 use Rattle.bx_calls.specs.declared.net_state.NetOrigin.{NetOrigin}
-use Rattle.bx_calls.specs.declared.net_state.Asked.TheVariants.{NotYet, Once, Twice}
+use Rattle.bx_calls.specs.declared.net_state.Offer.{Offer}
+use Rattle.bx_calls.specs.declared.net_state.Offer.TheVariants.{First, Second, Anew, PutOff, Unlinked, Asked}
+use Rattle.bx_calls.specs.declared.times.Times.TheVariants.{NotYet, Once, Twice}
 use Rattle.bx_calls.specs.declared.net_state.NetState.{NetState}
 use Rattle.bx_calls.specs.declared.net_state.NetState.TheVariants.{OutgoingCallProceeding, CallPresent, IncomingCallProceeding, CallReceived, Active, Enquiring, DisconnectIndication, ReleaseRequest}
-use Rattle.bx_calls.specs.NetTable.{net_second, net_unlinked}
+use Rattle.bx_calls.specs.NetTable.{net_offer_due, net_second, net_unlinked}
 use Rattle.bx_day.specs.Moves.{activity_after, is_active, follows}
 use Rattle.bx_day.specs.declared.entry.Entry.{Entry}
 use Rattle.bx_day.specs.declared.entry.Activity.{Activity}
@@ -46,6 +48,18 @@ goes_on t u e r ch o s a s' h p d act = record { channel = h.channel; origin = h
 pub disconnects : (t : ℕ) (e : Entry) (r ch : ℕ) (o : NetOrigin) (s : NetState) (a : Activity) (cause : ℕ) → CallFits t e (call_of r ch o s) a → t < e.booking.end → ActivityFits (t + 1) e.booking Clearing (activity_after a false (t + 1)) → EntryFits (t + 1) (on_call (t + 1) e a (call_of r ch o (DisconnectIndication cause (t + 1 + 30))))
 disconnects t e r ch o s a cause h early act = goes_on t (t + 1) e r ch o s a (DisconnectIndication cause (t + 1 + 30)) h tt (omega arith, omega arith) act
 
+-- N6, whose timer is due
+offer_again : (t : ℕ) (e : Entry) (r ch : ℕ) (o : NetOrigin) (offer other : Offer) (due : ℕ) (a : Activity) → CallFits t e (call_of r ch o (CallPresent offer due)) a → t + 1 < e.booking.end → EntryFits (t + 1) (on_call (t + 1) e a (call_of r ch o (CallPresent other (t + 1 + 4))))
+offer_again t e r ch o offer other due a h late = goes_on t (t + 1) e r ch o (CallPresent offer due) a (CallPresent other (t + 1 + 4)) h (omega arith, late) (omega arith, omega arith) (ringing_kept t (t + 1) e.booking a h.activity)
+
+offer_fits : (t : ℕ) (e : Entry) (r ch : ℕ) (o : NetOrigin) (offer : Offer) (due : ℕ) (a : Activity) → CallFits t e (call_of r ch o (CallPresent offer due)) a → t + 1 < e.booking.end → StepFits (t + 1) e a (net_offer_due (call_of r ch o (CallPresent offer due)) (t + 1) offer)
+offer_fits t e r ch o First due a h late = offer_again t e r ch o First Second due a h late
+offer_fits t e r ch o Second due a h late = ringing_over t (t + 1) e a h.activity
+offer_fits t e r ch o Anew due a h late = offer_again t e r ch o Anew Second due a h late
+offer_fits t e r ch o PutOff due a h late = offer_again t e r ch o PutOff First due a h late
+offer_fits t e r ch o Unlinked due a h late = offer_again t e r ch o Unlinked Asked due a h late
+offer_fits t e r ch o Asked due a h late = offer_again t e r ch o Asked First due a h late
+
 pub second_fits : (t : ℕ) (e : Entry) (r ch : ℕ) (o : NetOrigin) (s : NetState) (a : Activity) → CallFits t e (call_of r ch o s) a → StepFits (t + 1) e a (net_second (call_of r ch o s) (t + 1) e.booking.end)
 second_fits t e r ch o OutgoingCallProceeding a h =
     let b = e.booking in
@@ -53,17 +67,11 @@ second_fits t e r ch o OutgoingCallProceeding a h =
     (λ ended. disconnects t e r ch o OutgoingCallProceeding a 16 h h.phase.1 (ringing_clears t (t + 1) b a h.activity))
     (λ runs. let late : t + 1 < b.end = leb-false b.end (t + 1) runs in
     goes_on t (t + 1) e r ch o OutgoingCallProceeding a Active h (omega arith, late) tt (ringing_talks t (t + 1) b a (omega arith) h.activity))
-second_fits t e r ch o (CallPresent false due) a h =
-    let s = CallPresent false due in
+second_fits t e r ch o (CallPresent offer due) a h =
+    let s = CallPresent offer due in
     let clears = ringing_clears t (t + 1) e.booking a h.activity in
     by_times due t e a _ _ _ (disconnects t e r ch o s a 16 h h.phase.1 clears)
-    (λ late. goes_on t (t + 1) e r ch o s a (CallPresent true (t + 1 + 4)) h (omega arith, late) (omega arith, omega arith) (ringing_kept t (t + 1) e.booking a h.activity))
-    (λ late waits. goes_on t (t + 1) e r ch o s a s h (omega arith, late) (waits, omega (arith, h.due.1)) (ringing_kept t (t + 1) e.booking a h.activity))
-second_fits t e r ch o (CallPresent true due) a h =
-    let s = CallPresent true due in
-    let clears = ringing_clears t (t + 1) e.booking a h.activity in
-    by_times due t e a _ _ _ (disconnects t e r ch o s a 16 h h.phase.1 clears)
-    (λ late. ringing_over t (t + 1) e a h.activity)
+    (λ late. offer_fits t e r ch o offer due a h late)
     (λ late waits. goes_on t (t + 1) e r ch o s a s h (omega arith, late) (waits, omega (arith, h.due.1)) (ringing_kept t (t + 1) e.booking a h.activity))
 second_fits t e r ch o (IncomingCallProceeding due) a h =
     let s = IncomingCallProceeding due in
@@ -105,17 +113,23 @@ second_fits t e r ch o (DisconnectIndication cause due) a h =
     let b = e.booking in
     let s = DisconnectIndication cause due in
     by_test (nat_le due (t + 1)) (t + 1) e a _ _
-    (λ fires. goes_on t (t + 1) e r ch o s a (ReleaseRequest false (Some cause) (t + 1 + 4)) h tt (omega arith, omega arith) (clearing_kept t (t + 1) b a (omega arith) h.activity))
+    (λ fires. goes_on t (t + 1) e r ch o s a (ReleaseRequest Once (Some cause) (t + 1 + 4)) h tt (omega arith, omega arith) (clearing_kept t (t + 1) b a (omega arith) h.activity))
     (λ waits. goes_on t (t + 1) e r ch o s a s h tt (leb-false due (t + 1) waits, omega (arith, h.due.1)) (clearing_kept t (t + 1) b a (omega arith) h.activity))
-second_fits t e r ch o (ReleaseRequest false cause due) a h =
+second_fits t e r ch o (ReleaseRequest NotYet cause due) a h =
     let b = e.booking in
-    let s = ReleaseRequest false cause due in
+    let s = ReleaseRequest NotYet cause due in
     by_test (nat_le due (t + 1)) (t + 1) e a _ _
-    (λ fires. goes_on t (t + 1) e r ch o s a (ReleaseRequest true cause (t + 1 + 4)) h tt (omega arith, omega arith) (clearing_kept t (t + 1) b a (omega arith) h.activity))
+    (λ fires. goes_on t (t + 1) e r ch o s a (ReleaseRequest Once cause (t + 1 + 4)) h tt (omega arith, omega arith) (clearing_kept t (t + 1) b a (omega arith) h.activity))
     (λ waits. goes_on t (t + 1) e r ch o s a s h tt (leb-false due (t + 1) waits, omega (arith, h.due.1)) (clearing_kept t (t + 1) b a (omega arith) h.activity))
-second_fits t e r ch o (ReleaseRequest true cause due) a h =
+second_fits t e r ch o (ReleaseRequest Once cause due) a h =
     let b = e.booking in
-    let s = ReleaseRequest true cause due in
+    let s = ReleaseRequest Once cause due in
+    by_test (nat_le due (t + 1)) (t + 1) e a _ _
+    (λ fires. goes_on t (t + 1) e r ch o s a (ReleaseRequest Twice cause (t + 1 + 4)) h tt (omega arith, omega arith) (clearing_kept t (t + 1) b a (omega arith) h.activity))
+    (λ waits. goes_on t (t + 1) e r ch o s a s h tt (leb-false due (t + 1) waits, omega (arith, h.due.1)) (clearing_kept t (t + 1) b a (omega arith) h.activity))
+second_fits t e r ch o (ReleaseRequest Twice cause due) a h =
+    let b = e.booking in
+    let s = ReleaseRequest Twice cause due in
     by_test (nat_le due (t + 1)) (t + 1) e a _ _
     (λ fires. clearing_over t (t + 1) e a h.activity)
     (λ waits. goes_on t (t + 1) e r ch o s a s h tt (leb-false due (t + 1) waits, omega (arith, h.due.1)) (clearing_kept t (t + 1) b a (omega arith) h.activity))
@@ -140,7 +154,7 @@ unlinked_fits t e r ch o (CallPresent again due) a h =
     let b = e.booking in
     let s = CallPresent again due in
     by_test (nat_le b.end (t + 1)) (t + 1) e a _ _ (λ ended. ends_unlinked t e r ch o s a h (ringing_clears t (t + 1) b a h.activity))
-    (λ runs. let late : t + 1 < b.end = leb-false b.end (t + 1) runs in goes_on t (t + 1) e r ch o s a (CallPresent again (due + 1)) h (omega arith, late) (still_due t due 4 h.due) (ringing_kept t (t + 1) b a h.activity))
+    (λ runs. let late : t + 1 < b.end = leb-false b.end (t + 1) runs in goes_on t (t + 1) e r ch o s a (CallPresent Unlinked (t + 1 + 1)) h (omega arith, late) (omega arith, omega arith) (ringing_kept t (t + 1) b a h.activity))
 unlinked_fits t e r ch o (IncomingCallProceeding due) a h =
     let b = e.booking in
     let s = IncomingCallProceeding due in
@@ -163,4 +177,4 @@ unlinked_fits t e r ch o (Enquiring asked due) a h =
 unlinked_fits t e r ch o (DisconnectIndication cause due) a h =
     goes_on t (t + 1) e r ch o (DisconnectIndication cause due) a (DisconnectIndication cause (t + 1 + 1)) h tt (omega arith, omega arith) (clearing_kept t (t + 1) e.booking a (omega arith) h.activity)
 unlinked_fits t e r ch o (ReleaseRequest again cause due) a h =
-    goes_on t (t + 1) e r ch o (ReleaseRequest again cause due) a (ReleaseRequest false cause (t + 1 + 1)) h tt (omega arith, omega arith) (clearing_kept t (t + 1) e.booking a (omega arith) h.activity)
+    goes_on t (t + 1) e r ch o (ReleaseRequest again cause due) a (ReleaseRequest NotYet cause (t + 1 + 1)) h tt (omega arith, omega arith) (clearing_kept t (t + 1) e.booking a (omega arith) h.activity)

@@ -15,11 +15,14 @@ use Rattle.bx_calls.specs.declared.transition.Next.TheVariants.{Broken}
 use Rattle.bx_calls.specs.PlainCalls.{PlainNetCall}
 use Rattle.bx_calls.specs.declared.net_state.NetOrigin.{NetOrigin}
 use Rattle.bx_calls.specs.declared.net_state.NetOrigin.TheVariants.{Outward, Inward}
-use Rattle.bx_calls.specs.declared.net_state.Asked.TheVariants.{Twice}
+use Rattle.bx_calls.specs.declared.net_state.Offer.{Offer}
+use Rattle.bx_calls.specs.declared.net_state.Offer.TheVariants.{Second, Unlinked}
+use Rattle.bx_calls.specs.declared.times.Times.{Times}
+use Rattle.bx_calls.specs.declared.times.Times.TheVariants.{NotYet, Once, Twice}
 use Rattle.bx_calls.specs.declared.net_state.NetState.{NetState}
 use Rattle.bx_calls.specs.declared.net_state.NetState.TheVariants.{OutgoingCallProceeding, CallPresent, IncomingCallProceeding, CallReceived, Active, Enquiring, DisconnectIndication, ReleaseRequest}
 use Rattle.bx_calls.specs.Hearing.{Heard, names_channel, reports_null}
-use Rattle.bx_calls.specs.NetTable.{net_awake_state, net_heard, net_row, net_message, net_second, net_releases, net_setup_again, proceeding_of}
+use Rattle.bx_calls.specs.NetTable.{net_awake_state, net_heard, net_row, net_message, net_second, net_offer_due, net_release_due, net_releases, net_setup_again, proceeding_of}
 use Rattle.bx_calls.specs.Saying.{setup_of}
 use Rattle.bx_day.specs.Law.{OutFits, SentFits}
 use Rattle.bx_q931.specs.Messages.{PlainMessage, message_at}
@@ -31,7 +34,7 @@ use Rattle.bx_q931.specs.declared.channel_field.ChannelField.TheVariants.{Named,
 use Rattle.bx_calls.specs.UnknownTable.{unknown_row, unknown_status}
 use Rattle.bx_calls.specs.declared.unknown_reference.Side.TheVariants.{Network}
 use Rattle.bx_calls.specs.Said.{Said, said_of}
-use Rattle.bx_day.specs.Day.{Day, entry_at, is_free, every_channel}
+use Rattle.bx_day.specs.Day.{is_back, Day, entry_at, is_free, every_channel}
 use Rattle.bx_day.specs.Ticks.{waits, second_at, tick, second_in}
 use Rattle.bx_day.specs.Receipts.{opens, lowest_open, names, hears, takes_or, takes_preferred, called_on, called, stray, received_at}
 use Rattle.bx_day.specs.Moves.{follow}
@@ -122,9 +125,9 @@ test_said P false x y f g = g refl
 abbrev pub Plain : Outgoing → Type 0
 Plain o = is_plain o.kind ≡ true
 
-releases_plain : (c : PlainNetCall) (again : Bool) (cause : Option ℕ) (t : ℕ) → OfSaid Plain (net_releases c again cause t).reply
-releases_plain c again None t = refl
-releases_plain c again (Some cause) t = refl
+releases_plain : (c : PlainNetCall) (sent : Times) (cause : Option ℕ) (t : ℕ) → OfSaid Plain (net_releases c sent cause t).reply
+releases_plain c sent None t = refl
+releases_plain c sent (Some cause) t = refl
 
 pub row_plain : (r ch : ℕ) (o : NetOrigin) (t : ℕ) (m : Heard) (s : NetState) (k : Kind) → OfSaid Plain (net_row (call_of r ch o s) m t s k).reply
 row_plain r ch o t m s ReleaseComplete = tt
@@ -148,7 +151,7 @@ row_plain r ch o t m s k = refl
 
 pub heard_plain : (r ch : ℕ) (o : NetOrigin) (t : ℕ) (m : Heard) (s : NetState) (k : Kind) → OfSaid Plain (net_heard (call_of r ch o s) m t s k).reply
 heard_plain r ch o t m s k = heard_by (λ (x : Transition PlainNetCall). OfSaid Plain x.reply) (call_of r ch o s) m t s k
-    (λ asked due is q. releases_plain (call_of r ch o s) false (Some 101) t) (row_plain r ch o t m (net_awake_state s) k)
+    (record { contradicted = λ asked due is q. releases_plain (call_of r ch o s) Once (Some 101) t; unacknowledged = λ asked due is q. refl; connected = λ due is q. refl; put_off = λ offer due is q. tt }) (row_plain r ch o t m (net_awake_state s) k)
 
 -- what a second makes a call say: SETUP again, of an outward call, or neither
 abbrev SecondFits : List Row → List (Option ℕ) → ℕ → ℕ → PlainNetCall → Type 0
@@ -167,17 +170,25 @@ runs_on b t start late =
     let early : t + 1 < b.end = leb-false b.end (t + 1) late in
     and_from (nat_le b.start (t + 1)) (nat_lt (t + 1) b.end) (le-leb b.start (t + 1) (omega arith)) (lt-ltb (t + 1) b.end early)
 
+-- N6, whose timer is due: SETUP again, or neither
+offer_said : (rows : List Row) (assigned : List (Option ℕ)) (t r ch : ℕ) (o : NetOrigin) (offer : Offer) (due : ℕ) → OfSaid (OutFits rows assigned t) (net_setup_again (call_of r ch o (CallPresent offer due)) o) → OfSaid (OutFits rows assigned t) (net_offer_due (call_of r ch o (CallPresent offer due)) t offer).reply
+offer_said rows assigned t r ch o Second due h = plain_fits rows assigned t _ refl
+offer_said rows assigned t r ch o Unlinked due h = plain_fits rows assigned t _ refl
+offer_said rows assigned t r ch o offer due h = h
+
+release_said : (rows : List Row) (assigned : List (Option ℕ)) (t : ℕ) (c : PlainNetCall) (sent : Times) (cause : Option ℕ) → OfSaid (OutFits rows assigned t) (net_release_due c t sent cause).reply
+release_said rows assigned t c NotYet cause = plain_said rows assigned t (net_releases c Once cause t).reply (releases_plain c Once cause t)
+release_said rows assigned t c Once cause = plain_said rows assigned t (net_releases c Twice cause t).reply (releases_plain c Twice cause t)
+release_said rows assigned t c Twice cause = tt
+
 pub second_said : (rows : List Row) (assigned : List (Option ℕ)) (t : ℕ) (e : Entry) (r ch : ℕ) (o : NetOrigin) (s : NetState) (a : Activity) → Placed rows assigned e → is_refused e.standing ≡ false → CallFits t e (call_of r ch o s) a → SecondFits rows assigned (t + 1) e.booking.end (call_of r ch o s)
 second_said rows assigned t e r ch o OutgoingCallProceeding a p acc h =
     test_said (OutFits rows assigned (t + 1)) (nat_le e.booking.end (t + 1)) _ _ (λ _. plain_fits rows assigned (t + 1) _ refl) (λ _. plain_fits rows assigned (t + 1) _ refl)
-second_said rows assigned t e r ch o (CallPresent false due) a p acc h =
+second_said rows assigned t e r ch o (CallPresent offer due) a p acc h =
     test_said (OutFits rows assigned (t + 1)) (nat_le e.booking.end (t + 1)) _ _ (λ _. plain_fits rows assigned (t + 1) _ refl)
     (λ late. test_said (OutFits rows assigned (t + 1)) (nat_le due (t + 1)) _ _
-    (λ _. again_fits rows assigned (t + 1) e r ch o (CallPresent false due) p acc h.origin (runs_on e.booking t h.phase.0 late) h.channel)
+    (λ _. offer_said rows assigned (t + 1) r ch o offer due (again_fits rows assigned (t + 1) e r ch o (CallPresent offer due) p acc h.origin (runs_on e.booking t h.phase.0 late) h.channel))
     (λ _. tt))
-second_said rows assigned t e r ch o (CallPresent true due) a p acc h =
-    test_said (OutFits rows assigned (t + 1)) (nat_le e.booking.end (t + 1)) _ _ (λ _. plain_fits rows assigned (t + 1) _ refl)
-    (λ _. test_said (OutFits rows assigned (t + 1)) (nat_le due (t + 1)) _ _ (λ _. plain_fits rows assigned (t + 1) _ refl) (λ _. tt))
 second_said rows assigned t e r ch o (IncomingCallProceeding due) a p acc h =
     test_said (OutFits rows assigned (t + 1)) (nat_le e.booking.end (t + 1)) _ _ (λ _. plain_fits rows assigned (t + 1) _ refl)
     (λ _. test_said (OutFits rows assigned (t + 1)) (nat_le due (t + 1)) _ _ (λ _. plain_fits rows assigned (t + 1) _ refl) (λ _. tt))
@@ -191,11 +202,8 @@ second_said rows assigned t e r ch o (Enquiring Twice due) a p acc h =
     (λ _. test_said (OutFits rows assigned (t + 1)) (nat_le due (t + 1)) _ _ (λ _. plain_fits rows assigned (t + 1) _ refl) (λ _. tt))
 second_said rows assigned t e r ch o (DisconnectIndication cause due) a p acc h =
     test_said (OutFits rows assigned (t + 1)) (nat_le due (t + 1)) _ _ (λ _. plain_fits rows assigned (t + 1) _ refl) (λ _. tt)
-second_said rows assigned t e r ch o (ReleaseRequest false cause due) a p acc h =
-    test_said (OutFits rows assigned (t + 1)) (nat_le due (t + 1)) _ _
-    (λ _. plain_said rows assigned (t + 1) (net_releases (call_of r ch o (ReleaseRequest false cause due)) true cause (t + 1)).reply (releases_plain (call_of r ch o (ReleaseRequest false cause due)) true cause (t + 1))) (λ _. tt)
-second_said rows assigned t e r ch o (ReleaseRequest true cause due) a p acc h =
-    test_said (OutFits rows assigned (t + 1)) (nat_le due (t + 1)) _ _ (λ _. tt) (λ _. tt)
+second_said rows assigned t e r ch o (ReleaseRequest sent cause due) a p acc h =
+    test_said (OutFits rows assigned (t + 1)) (nat_le due (t + 1)) _ _ (λ _. release_said rows assigned (t + 1) (call_of r ch o (ReleaseRequest sent cause due)) sent cause) (λ _. tt)
 second_said rows assigned t e r ch o (Enquiring x due) a p acc h =
     test_said (OutFits rows assigned (t + 1)) (nat_le e.booking.end (t + 1)) _ _ (λ _. plain_fits rows assigned (t + 1) _ refl)
     (λ _. test_said (OutFits rows assigned (t + 1)) (nat_le due (t + 1)) _ _ (λ _. plain_fits rows assigned (t + 1) _ refl) (λ _. tt))
@@ -205,23 +213,23 @@ follow_said P a t said Broken h = h
 follow_said P a t said n h = h
 
 -- what a second makes one booking say
-waits_said : (rows : List Row) (assigned : List (Option ℕ)) (t : ℕ) (e : Entry) (free : Bool) → Placed rows assigned (with_standing e Unoffered) → OfSaid (OutFits rows assigned t) (waits e t free).said
-waits_said rows assigned t e free p =
+waits_said : (rows : List Row) (assigned : List (Option ℕ)) (t : ℕ) (e : Entry) (back free : Bool) → Placed rows assigned (with_standing e Unoffered) → OfSaid (OutFits rows assigned t) (waits e t back free).said
+waits_said rows assigned t e back free p =
     by_cases (offers e t free) _ _ (λ (m : Moved). OfSaid (OutFits rows assigned t) m.said)
     (λ offered. let q = offers_parts e t free offered in
     setup_fits rows assigned t (with_standing e Unoffered) e.row e.channel e.booking.number p refl q.1 q.0 refl refl)
     (λ _. by_cases (nat_le e.booking.end t) _ _ (λ (m : Moved). OfSaid (OutFits rows assigned t) m.said) (λ _. tt) (λ _. tt))
 
-entry_said : (rows : List Row) (assigned : List (Option ℕ)) (t : ℕ) (e : Entry) (free : Bool) (s : Standing) → Placed rows assigned (with_standing e s) → EntryFits t (with_standing e s) → OfSaid (OutFits rows assigned (t + 1)) (second_at e (t + 1) free s).said
-entry_said rows assigned t e free Unoffered p h = waits_said rows assigned (t + 1) e free p
-entry_said rows assigned t e free (OnCall c a) p h =
+entry_said : (rows : List Row) (assigned : List (Option ℕ)) (t : ℕ) (e : Entry) (back free : Bool) (s : Standing) → Placed rows assigned (with_standing e s) → EntryFits t (with_standing e s) → OfSaid (OutFits rows assigned (t + 1)) (second_at e (t + 1) back free s).said
+entry_said rows assigned t e back free Unoffered p h = waits_said rows assigned (t + 1) e back free p
+entry_said rows assigned t e back free (OnCall c a) p h =
     follow_said (OutFits rows assigned (t + 1)) a (t + 1) (net_second c (t + 1) e.booking.end).reply (net_second c (t + 1) e.booking.end).next
     (second_said rows assigned t (with_standing e (OnCall c a)) c.reference c.channel c.origin c.state a p refl h)
-entry_said rows assigned t e free s p h = tt
+entry_said rows assigned t e back free s p h = tt
 
 entries_said : (rows : List Row) (assigned : List (Option ℕ)) (d : Day) (es : List Entry) → AllByRecursion (Placed rows assigned) es → AllByRecursion (EntryFits d.moment) es → AllByRecursion (λ e. OfSaid (OutFits rows assigned (d.moment + 1)) (second_in Up d e).said) es
 entries_said rows assigned d [] p h = tt
-entries_said rows assigned d (e ∷ es) p h = (entry_said rows assigned d.moment e (is_free d e.channel) e.standing p.0 h.0, entries_said rows assigned d es p.1 h.1)
+entries_said rows assigned d (e ∷ es) p h = (entry_said rows assigned d.moment e (is_back d) (is_free d e.channel) e.standing p.0 h.0, entries_said rows assigned d es p.1 h.1)
 
 -- a tick
 pub tick_said : (rows : List Row) (assigned : List (Option ℕ)) (d : Day) → AllByRecursion (Placed rows assigned) d.entries → DayFits d → AllByRecursion (OutFits rows assigned (tick d).day.moment) (tick d).sent

@@ -8,7 +8,7 @@ use Rattle.bx_calls.specs.declared.transition.Next.{Next}
 use Rattle.bx_calls.specs.declared.transition.Next.TheVariants.{Live}
 use Rattle.bx_base.specs.Bookings.{Row, is_running}
 use Rattle.bx_channels.specs.Marks.{is_marked}
-use Rattle.bx_day.specs.Day.{Day, is_live, holds, is_held, is_free}
+use Rattle.bx_day.specs.Day.{is_back, Day, is_live, holds, is_held, is_free}
 use Rattle.bx_day.specs.Ticks.{unlinked_at, second_at, second_by, after_in, waits, tick, passed_in}
 use Rattle.bx_day.specs.Outages.{without_link}
 use Rattle.bx_day.specs.Moves.{follow, follows, over_at}
@@ -49,8 +49,8 @@ offers_parts e t free h =
     (q.0, not-true e.booking.inward q.1, p.1)
 
 -- one booking that waits
-pub waits_fits : (t : ℕ) (e : Entry) (free : Bool) → EntryFits (t + 1) (with_standing e (waits e (t + 1) free).standing)
-waits_fits t e free =
+pub waits_fits : (t : ℕ) (e : Entry) (back free : Bool) → EntryFits (t + 1) (with_standing e (waits e (t + 1) back free).standing)
+waits_fits t e back free =
     by_cases (offers e (t + 1) free) _ _ (λ (m : Moved). EntryFits (t + 1) (with_standing e (m.standing)))
     (λ offered.
     let p = offers_parts e (t + 1) free offered in
@@ -61,30 +61,30 @@ waits_fits t e free =
     (λ going. leb-false e.booking.end (t + 1) going))
 
 -- one booking
-pub entry_fits : (t : ℕ) (e : Entry) (free : Bool) (s : Standing) → EntryFits t (with_standing e s) → EntryFits (t + 1) (with_standing e (second_at e (t + 1) free s).standing)
-entry_fits t e free Unoffered h = waits_fits t e free
-entry_fits t e free (OnCall c a) h = second_fits t (with_standing e (OnCall c a)) c.reference c.channel c.origin c.state a h
-entry_fits t e free (Carried from until) h = h
-entry_fits t e free Missed h = omega arith
-entry_fits t e free s h = tt
+pub entry_fits : (t : ℕ) (e : Entry) (back free : Bool) (s : Standing) → EntryFits t (with_standing e s) → EntryFits (t + 1) (with_standing e (second_at e (t + 1) back free s).standing)
+entry_fits t e back free Unoffered h = waits_fits t e back free
+entry_fits t e back free (OnCall c a) h = second_fits t (with_standing e (OnCall c a)) c.reference c.channel c.origin c.state a h
+entry_fits t e back free (Carried from until) h = h
+entry_fits t e back free Missed h = omega arith
+entry_fits t e back free s h = tt
 
 -- a booking that is live after a tick was live before, or is offered at it
 pub data WasLive (t : ℕ) (free : Bool) (e : Entry) : Type 0 where
   Before : is_live e.standing ≡ true → WasLive t free e
   Offered : is_refused e.standing ≡ false → is_running e.booking t ≡ true → free ≡ true → WasLive t free e
 
-pub waits_live : (t : ℕ) (free : Bool) (e : Entry) → is_live (waits e t free).standing ≡ true → WasLive t free (with_standing e Unoffered)
-waits_live t free e =
+pub waits_live : (t : ℕ) (back free : Bool) (e : Entry) → is_live (waits e t back free).standing ≡ true → WasLive t free (with_standing e Unoffered)
+waits_live t back free e =
     by_cases (offers e t free) _ _ (λ (m : Moved). is_live m.standing ≡ true → WasLive t free (with_standing e Unoffered))
     (λ offered live. let p = offers_parts e t free offered in Offered refl p.0 p.2)
     (λ _. by_cases (nat_le e.booking.end t) _ _ (λ (m : Moved). is_live m.standing ≡ true → WasLive t free (with_standing e Unoffered))
     (λ ended live. absurd (false≢true live))
     (λ going live. absurd (false≢true live)))
 
-pub second_live : (t : ℕ) (free : Bool) (e : Entry) (s : Standing) → is_live (second_at e t free s).standing ≡ true → WasLive t free (with_standing e s)
-second_live t free e Unoffered live = waits_live t free e live
-second_live t free e (OnCall c a) live = Before refl
-second_live t free e s live = absurd (false≢true live)
+pub second_live : (t : ℕ) (back free : Bool) (e : Entry) (s : Standing) → is_live (second_at e t back free s).standing ≡ true → WasLive t free (with_standing e s)
+second_live t back free e Unoffered live = waits_live t back free e live
+second_live t back free e (OnCall c a) live = Before refl
+second_live t back free e s live = absurd (false≢true live)
 
 pub over_refused : (a : Activity) (t : ℕ) → is_refused (over_at a t) ≡ false
 over_refused (Was from until) t = refl
@@ -95,9 +95,9 @@ pub follow_refused : (a : Activity) (t : ℕ) (said : Option Outgoing) (n : Next
 follow_refused a t said (Live c) = refl
 follow_refused a t said n = over_refused a t
 
-pub second_refused : (t : ℕ) (free : Bool) (e : Entry) (s : Standing) → is_refused (second_at e t free s).standing ≡ false → is_refused s ≡ false
-second_refused t free e Refused h = h
-second_refused t free e s h = refl
+pub second_refused : (t : ℕ) (back free : Bool) (e : Entry) (s : Standing) → is_refused (second_at e t back free s).standing ≡ false → is_refused s ≡ false
+second_refused t back free e Refused h = h
+second_refused t back free e s h = refl
 
 or_left : (x y : Bool) → x ≡ true → (x || y) ≡ true
 or_left true y h = refl
@@ -136,39 +136,39 @@ live_apart d e f p he hf (Offered re ue fe) (Offered rf uf ff) same = p.planned 
 -- ---- a second with a link or without one
 
 -- what holds of a call in a second without a link, and of any other booking at a tick while its channel is held
-pub unlinked : (e : Entry) (t : ℕ) (s : Standing) (P : Moved → Type 0) → ((c : PlainNetCall) (a : Activity) → s ≡ OnCall c a → P (follows a t (net_unlinked 1 c t e.booking.end))) → P (second_at e t false s) → P (unlinked_at e t s)
+pub unlinked : (e : Entry) (t : ℕ) (s : Standing) (P : Moved → Type 0) → ((c : PlainNetCall) (a : Activity) → s ≡ OnCall c a → P (follows a t (net_unlinked 1 c t e.booking.end))) → P (second_at e t false false s) → P (unlinked_at e t s)
 unlinked e t (OnCall c a) P f g = f c a refl
 unlinked e t s P f g = g
 
 still_fits : (t : ℕ) (e : Entry) (s : Standing) → EntryFits t (with_standing e s) → EntryFits (t + 1) (with_standing e (unlinked_at e (t + 1) s).standing)
 still_fits t e (OnCall c a) h = unlinked_fits t (with_standing e (OnCall c a)) c.reference c.channel c.origin c.state a h
-still_fits t e s h = entry_fits t e false s h
+still_fits t e s h = entry_fits t e false false s h
 
-pub in_fits : (link : Link) (t : ℕ) (e : Entry) (free : Bool) (s : Standing) → EntryFits t (with_standing e s) → EntryFits (t + 1) (with_standing e (second_by link e (t + 1) free s).standing)
-in_fits Up t e free s h = entry_fits t e free s h
-in_fits Down t e free s h = still_fits t e s h
+pub in_fits : (link : Link) (t : ℕ) (e : Entry) (back free : Bool) (s : Standing) → EntryFits t (with_standing e s) → EntryFits (t + 1) (with_standing e (second_by link e (t + 1) back free s).standing)
+in_fits Up t e back free s h = entry_fits t e back free s h
+in_fits Down t e back free s h = still_fits t e s h
 
 pub all_fit : (link : Link) (t : ℕ) (d : Day) → d.moment ≡ t → (es : List Entry) → AllByRecursion (EntryFits d.moment) es → AllByRecursion (EntryFits (d.moment + 1)) (map (after_in link d) es)
 all_fit link t d p [] h = tt
-all_fit link t d p (e ∷ es) h = (in_fits link d.moment e (is_free d e.channel) e.standing h.0, all_fit link t d p es h.1)
+all_fit link t d p (e ∷ es) h = (in_fits link d.moment e (is_back d) (is_free d e.channel) e.standing h.0, all_fit link t d p es h.1)
 
 -- without a link nothing is offered
 pub never_offered : (t : ℕ) (free : Bool) (e : Entry) → WasLive t false e → WasLive t free e
 never_offered t free e (Before live) = Before live
 never_offered t free e (Offered accepted runs f) = absurd (false≢true f)
 
-pub in_live : (link : Link) (t : ℕ) (free : Bool) (e : Entry) (s : Standing) → is_live (second_by link e t free s).standing ≡ true → WasLive t free (with_standing e s)
-in_live Up t free e s live = second_live t free e s live
-in_live Down t free e s live = unlinked e t s (λ m. is_live m.standing ≡ true → WasLive t free (with_standing e s)) (λ c a p _. Before (ap is_live p)) (λ now. never_offered t free (with_standing e s) (second_live t false e s now)) live
+pub in_live : (link : Link) (t : ℕ) (back free : Bool) (e : Entry) (s : Standing) → is_live (second_by link e t back free s).standing ≡ true → WasLive t free (with_standing e s)
+in_live Up t back free e s live = second_live t back free e s live
+in_live Down t back free e s live = unlinked e t s (λ m. is_live m.standing ≡ true → WasLive t free (with_standing e s)) (λ c a p _. Before (ap is_live p)) (λ now. never_offered t free (with_standing e s) (second_live t false false e s now)) live
 
-pub in_refused : (link : Link) (t : ℕ) (free : Bool) (e : Entry) (s : Standing) → is_refused (second_by link e t free s).standing ≡ false → is_refused s ≡ false
-in_refused Up t free e s h = second_refused t free e s h
-in_refused Down t free e s h = unlinked e t s (λ m. is_refused m.standing ≡ false → is_refused s ≡ false) (λ c a p _. ap is_refused p) (second_refused t false e s) h
+pub in_refused : (link : Link) (t : ℕ) (back free : Bool) (e : Entry) (s : Standing) → is_refused (second_by link e t back free s).standing ≡ false → is_refused s ≡ false
+in_refused Up t back free e s h = second_refused t back free e s h
+in_refused Down t back free e s h = unlinked e t s (λ m. is_refused m.standing ≡ false → is_refused s ≡ false) (λ c a p _. ap is_refused p) (second_refused t false false e s) h
 
 pub after_apart : (link : Link) (d : Day) (e f : Entry) → Apart e f → Holding (is_held d.entries) e → Holding (is_held d.entries) f → Apart (after_in link d e) (after_in link d f)
 after_apart link d e f p he hf = record {
-  planned = λ re rf. p.planned (in_refused link (d.moment + 1) (is_free d e.channel) e e.standing re) (in_refused link (d.moment + 1) (is_free d f.channel) f f.standing rf);
-  live = λ le lf. live_apart d e f p he hf (in_live link (d.moment + 1) (is_free d e.channel) e e.standing le) (in_live link (d.moment + 1) (is_free d f.channel) f f.standing lf);
+  planned = λ re rf. p.planned (in_refused link (d.moment + 1) (is_back d) (is_free d e.channel) e e.standing re) (in_refused link (d.moment + 1) (is_back d) (is_free d f.channel) f f.standing rf);
+  live = λ le lf. live_apart d e f p he hf (in_live link (d.moment + 1) (is_back d) (is_free d e.channel) e e.standing le) (in_live link (d.moment + 1) (is_back d) (is_free d f.channel) f f.standing lf);
 }
 
 pub all_apart : (link : Link) (d : Day) (e : Entry) (fs : List Entry) → Holding (is_held d.entries) e → AllByRecursion (Holding (is_held d.entries)) fs → AllByRecursion (Apart e) fs → AllByRecursion (Apart (after_in link d e)) (map (after_in link d) fs)

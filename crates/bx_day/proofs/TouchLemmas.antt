@@ -157,7 +157,7 @@ passed_more link d done j c m es es' ms ms' ss ss' h inside is on high e-is m-is
 pub passed_refused : (link : Link) (d : Day) (done : ℕ → Bool) (j : ℕ) (es : List Entry) (ms : List Bool) (ss : List (Option Outgoing)) → j < length d.entries → done j ≡ false → is_refused (entry_at d.entries j).standing ≡ true → Passed link d done es ms ss → Passed link d (with_one j done) es ms ss
 passed_refused link d done j es ms ss inside undone refused p =
     let e = entry_at d.entries j in
-    let stay : second_in link d e ≡ stays e.standing = refused_stays_in link (d.moment + 1) _ e e.standing refused in
+    let stay : second_in link d e ≡ stays e.standing = refused_stays_in link (d.moment + 1) _ _ e e.standing refused in
     record {
       size = p.size;
       rows = λ i lt. elim (cases_eq i j) [

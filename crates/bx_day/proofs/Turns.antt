@@ -7,7 +7,7 @@ use Rattle.bx_calls.specs.PlainCalls.{PlainNetCall}
 use Rattle.bx_calls.specs.declared.transition.Next.{Next}
 use Rattle.bx_calls.specs.declared.transition.Next.TheVariants.{Live}
 use Rattle.bx_calls.specs.NetTable.{net_second, net_unlinked}
-use Rattle.bx_day.specs.Day.{Day, is_live, is_unoffered, is_free, entry_at}
+use Rattle.bx_day.specs.Day.{is_back, Day, is_live, is_unoffered, is_free, entry_at}
 use Rattle.bx_day.specs.Ticks.{second_at, second_by, second_in, after_in, waits}
 use Rattle.bx_day.specs.Moves.{stays, follow, over_at}
 use Rattle.bx_day.specs.Invariant.{EntryFits, is_refused}
@@ -40,7 +40,7 @@ second_seats link d = record {
   size = sym (map_size link d d.entries);
   booking = λ i. ap (λ (e : Entry). e.booking) (sym (at_map_in link d d.entries i));
   channel = λ i. ap (λ (e : Entry). e.channel) (sym (at_map_in link d d.entries i));
-  refused = λ i. sym (ap (λ (e : Entry). is_refused e.standing) (at_map_in link d d.entries i) ∙ (let e = entry_at d.entries i in in_same link e (d.moment + 1) (is_free d e.channel) e.standing));
+  refused = λ i. sym (ap (λ (e : Entry). is_refused e.standing) (at_map_in link d d.entries i) ∙ (let e = entry_at d.entries i in in_same link e (d.moment + 1) (is_back d) (is_free d e.channel) e.standing));
 }
 
 pub over_waits : (a : Activity) (t : ℕ) → is_unoffered (over_at a t) ≡ false
@@ -52,20 +52,20 @@ follow_waits a t said (Live c) = refl
 follow_waits a t said n = over_waits a t
 
 -- one that waits after a second waited before it
-pub second_waits : (t : ℕ) (free : Bool) (e : Entry) (s : Standing) → is_unoffered (second_at e t free s).standing ≡ true → is_unoffered s ≡ true
-second_waits t free e Unoffered h = refl
-second_waits t free e (OnCall c a) h = absurd (true≢false (sym h ∙ follow_waits a t (net_second c t e.booking.end).reply (net_second c t e.booking.end).next))
-second_waits t free e s h = h
+pub second_waits : (t : ℕ) (back free : Bool) (e : Entry) (s : Standing) → is_unoffered (second_at e t back free s).standing ≡ true → is_unoffered s ≡ true
+second_waits t back free e Unoffered h = refl
+second_waits t back free e (OnCall c a) h = absurd (true≢false (sym h ∙ follow_waits a t (net_second c t e.booking.end).reply (net_second c t e.booking.end).next))
+second_waits t back free e s h = h
 
-pub in_waits : (link : Link) (t : ℕ) (free : Bool) (e : Entry) (s : Standing) → is_unoffered (second_by link e t free s).standing ≡ true → is_unoffered s ≡ true
-in_waits Up t free e s = second_waits t free e s
-in_waits Down t free e s = unlinked e t s (λ m. is_unoffered m.standing ≡ true → is_unoffered s ≡ true) (λ c a p h. absurd (true≢false (sym h ∙ follow_waits a t (net_unlinked 1 c t e.booking.end).reply (net_unlinked 1 c t e.booking.end).next))) (second_waits t false e s)
+pub in_waits : (link : Link) (t : ℕ) (back free : Bool) (e : Entry) (s : Standing) → is_unoffered (second_by link e t back free s).standing ≡ true → is_unoffered s ≡ true
+in_waits Up t back free e s = second_waits t back free e s
+in_waits Down t back free e s = unlinked e t s (λ m. is_unoffered m.standing ≡ true → is_unoffered s ≡ true) (λ c a p h. absurd (true≢false (sym h ∙ follow_waits a t (net_unlinked 1 c t e.booking.end).reply (net_unlinked 1 c t e.booking.end).next))) (second_waits t false false e s)
 
 pub waited : (link : Link) (d : Day) (c i : ℕ) → waits_on c (entry_at (After link d) i) ≡ true → waits_on c (entry_at d.entries i) ≡ true
 waited link d c i h =
     let e = entry_at d.entries i in
     let p = waits_parts c (entry_at (After link d) i) h in
-    waits_from c e (in_waits link (d.moment + 1) (is_free d e.channel) e e.standing (ap (λ (x : Entry). is_unoffered x.standing) (sym (at_map_in link d d.entries i)) ∙ p.0)) (ap (λ (x : Entry). x.channel) (sym (at_map_in link d d.entries i)) ∙ p.1)
+    waits_from c e (in_waits link (d.moment + 1) (is_back d) (is_free d e.channel) e e.standing (ap (λ (x : Entry). is_unoffered x.standing) (sym (at_map_in link d d.entries i)) ∙ p.0)) (ap (λ (x : Entry). x.channel) (sym (at_map_in link d d.entries i)) ∙ p.1)
 
 pub soon : (t start end : ℕ) (b : Bool) → t < start → start < end → t < (if b then end else start)
 soon t start end true lt order = omega (arith, lt, order)
@@ -76,30 +76,30 @@ waits_is Unoffered h = refl
 waits_is s h = absurd (false≢true h)
 
 -- one that starts later goes on waiting
-in_quiet : (link : Link) (moment t : ℕ) (free : Bool) (e : Entry) (s : Standing) → is_unoffered s ≡ true → EntryFits moment (with_standing e s) → e.booking.start ≤ e.booking.end → t < booking_due e s → second_by link e t free s ≡ stays s
-in_quiet Up moment t free e s waits h order lt = booking_quiet moment t free e s h order lt
-in_quiet Down moment t free e s waits h order lt = unlinked e t s (λ m. m ≡ stays s) (λ c a p. absurd (true≢false (sym waits ∙ ap is_unoffered p))) (booking_quiet moment t false e s h order lt)
+in_quiet : (link : Link) (moment t : ℕ) (back free : Bool) (e : Entry) (s : Standing) → is_unoffered s ≡ true → EntryFits moment (with_standing e s) → e.booking.start ≤ e.booking.end → t < booking_due e s → second_by link e t back free s ≡ stays s
+in_quiet Up moment t back free e s waits h order lt = booking_quiet moment t back free e s h order lt
+in_quiet Down moment t back free e s waits h order lt = unlinked e t s (λ m. m ≡ stays s) (λ c a p. absurd (true≢false (sym waits ∙ ap is_unoffered p))) (booking_quiet moment t false false e s h order lt)
 
 pub ahead_waits : (link : Link) (d : Day) (i : ℕ) → IsExchange d → i < length d.entries → (entry_at d.entries i).booking.start < (entry_at d.entries i).booking.end → is_unoffered (entry_at d.entries i).standing ≡ true → d.moment + 1 < (entry_at d.entries i).booking.start → second_in link d (entry_at d.entries i) ≡ stays (entry_at d.entries i).standing
 ahead_waits link d i h lt order waits early =
     let e = entry_at d.entries i in
     let t = d.moment + 1 in
     let due : t < booking_due e e.standing = subst (λ (s : Standing). t < booking_due e s) (sym (waits_is e.standing waits)) (soon t e.booking.start e.booking.end e.booking.inward early order) in
-    in_quiet link d.moment t (is_free d e.channel) e e.standing waits (each_at (EntryFits d.moment) d.entries i lt h.day.each) (omega (arith, order)) due
+    in_quiet link d.moment t (is_back d) (is_free d e.channel) e e.standing waits (each_at (EntryFits d.moment) d.entries i lt h.day.each) (omega (arith, order)) due
 
 -- ---- which bookings of a channel a second may touch
 
 abbrev pub IsNone : Option ℕ → ℕ → Type 0
 IsNone o i = o ≡ Some i → ⊥
 
-pub idle_stays : (t : ℕ) (free : Bool) (e : Entry) (s : Standing) → is_live s ≡ false → is_unoffered s ≡ false → second_at e t free s ≡ stays s
-idle_stays t free e Unoffered live waits = absurd (true≢false waits)
-idle_stays t free e (OnCall c a) live waits = absurd (true≢false live)
-idle_stays t free e s live waits = refl
+pub idle_stays : (t : ℕ) (back free : Bool) (e : Entry) (s : Standing) → is_live s ≡ false → is_unoffered s ≡ false → second_at e t back free s ≡ stays s
+idle_stays t back free e Unoffered live waits = absurd (true≢false waits)
+idle_stays t back free e (OnCall c a) live waits = absurd (true≢false live)
+idle_stays t back free e s live waits = refl
 
-in_idle : (link : Link) (t : ℕ) (free : Bool) (e : Entry) (s : Standing) → is_live s ≡ false → is_unoffered s ≡ false → second_by link e t free s ≡ stays s
-in_idle Up t free e s live waits = idle_stays t free e s live waits
-in_idle Down t free e s live waits = unlinked e t s (λ m. m ≡ stays s) (λ c a p. absurd (true≢false (sym (ap is_live p) ∙ live))) (idle_stays t false e s live waits)
+in_idle : (link : Link) (t : ℕ) (back free : Bool) (e : Entry) (s : Standing) → is_live s ≡ false → is_unoffered s ≡ false → second_by link e t back free s ≡ stays s
+in_idle Up t back free e s live waits = idle_stays t back free e s live waits
+in_idle Down t back free e s live waits = unlinked e t s (λ m. m ≡ stays s) (λ c a p. absurd (true≢false (sym (ap is_live p) ∙ live))) (idle_stays t false false e s live waits)
 
 -- one that waits, and is not the first
 pub after_first : (es : List Entry) (c i r : ℕ) → IsWaitingOn es c (Some r) → i < length es → waits_on c (entry_at es i) ≡ true → i ≢ r → IsLater es r i
@@ -166,4 +166,4 @@ others_stay link d c i a w s u t lt on na nw ns =
     (λ live. absurd (na (t.live.each i lt (holds_from c e live on))))
     (λ idle. decide (is_unoffered e.standing)
     (λ waits. waits_alone link d c i a w s u t lt (waits_from c e waits on) nw ns)
-    (λ done. in_idle link (d.moment + 1) (is_free d e.channel) e e.standing idle done))
+    (λ done. in_idle link (d.moment + 1) (is_back d) (is_free d e.channel) e e.standing idle done))

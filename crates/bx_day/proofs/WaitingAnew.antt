@@ -12,7 +12,7 @@ use Rattle.bx_day.specs.Day.{Day, is_live, is_unoffered, holds, entry_at, no_ent
 use Rattle.bx_day.specs.Moves.{follows}
 use Rattle.bx_day.specs.Outages.{without_link, live_day_after}
 use Rattle.bx_day.specs.Invariant.{Pairs, Apart, EntryFits, is_refused}
-use Rattle.bx_day.specs.Outlasting.{outlasted, outlasts, IsTimedBy, AreOutlasting, starts_before, with_waiting, IsEarliestOn, AreEarliest}
+use Rattle.bx_day.specs.Outlasting.{unlinked_for, outlasted, outlasts, IsTimedBy, AreOutlasting, starts_before, with_waiting, IsEarliestOn, AreEarliest}
 use Rattle.bx_day.specs.Passing.{day_of}
 use Rattle.bx_day.specs.Reading.{IsExchange}
 use Rattle.bx_day.specs.Slots.{slot_at, waits_on, IsWaitingOn, AreSlots, IsIndexed}
@@ -244,13 +244,13 @@ one_outlasts n t k before now e e' s lt here again becomes h = record {
 }
 
 -- the day that is left, from its parts
-pub skip_day : (k n before len : ℕ) (d : Day) (seen new : List Entry) → before ≡ d.moment → n ≡ min k (300000 - before) → IsExchange d → seen ≡ d.entries → len ≡ length d.entries → AreOutlasting n (before + n) (length seen) seen new → day_of (before + n) (take len (new ++ drop (length new) d.entries)) d.maintenance ≡ outlasts_day (seconds_left k d) d
-skip_day k n before len d seen new at left h same size p =
+pub skip_day : (k n before len l : ℕ) (d : Day) (seen new : List Entry) → l ≡ unlinked_for n before d.unlinked → before ≡ d.moment → n ≡ min k (300000 - before) → IsExchange d → seen ≡ d.entries → len ≡ length d.entries → AreOutlasting n (before + n) (length seen) seen new → day_of (before + n) l (take len (new ++ drop (length new) d.entries)) d.maintenance ≡ outlasts_day (seconds_left k d) d
+skip_day k n before len l d seen new last at left h same size p =
     let number : n ≡ seconds_left k d = left ∙ ap (λ m. min k (300000 - m)) at in
     let few : n ≤ 300000 = omega (arith, left) in
     let q : AreOutlasting n (d.moment + n) (length d.entries) d.entries new = subst (λ (es : List Entry). AreOutlasting n (d.moment + n) (length es) es new) same (subst (λ m. AreOutlasting n (m + n) (length seen) seen new) at p) in
     let entries : take len (new ++ drop (length new) d.entries) ≡ map (outlasts n (d.moment + n)) d.entries = refilled len new d.entries q.size size ∙ all_outlasted n d new few h q in
-    ap₂ (λ m es. day_of (m + n) es d.maintenance) at entries ∙ ap (λ m. outlasts_day m d) number
+    ap (λ x. day_of (before + n) x (take len (new ++ drop (length new) d.entries)) d.maintenance) last ∙ ap₂ (λ m es. day_of (m + n) (unlinked_for n m d.unlinked) es d.maintenance) at entries ∙ ap (λ m. outlasts_day m d) number
 
 pub skip_index : (k : ℕ) (d now : Day) (live waiting following waiting' : List (Option ℕ)) → IsExchange d → now ≡ outlasts_day (seconds_left k d) d → AreSlots d live waiting following → AreEarliest now.entries (length now.entries) waiting' → IsIndexed now live waiting' following 0
 skip_index k d now live waiting following waiting' h is s anew =

@@ -1,5 +1,5 @@
 -- The day: what has become of each booking, and the channels in maintenance; how it opens.
-use Rattle.std.specs.Prelude.{ℕ, ◌+◌, ◌==◌, ◌&&◌, not, Bool, true, false, List, [], ◌∷◌, Option, Some, None, slice_index_or}
+use Rattle.std.specs.Prelude.{ℕ, ◌+◌, ◌==◌, nat_lt, ◌&&◌, not, Bool, true, false, List, [], ◌∷◌, Option, Some, None, slice_index_or}
 use Rattle.std.specs.List.{list_any}
 use Rattle.bx_calls.specs.Shared.{no_channel}
 use Rattle.bx_channels.specs.Marks.{is_marked}
@@ -8,8 +8,10 @@ use Rattle.bx_day.specs.declared.entry.Standing.TheVariants.{Refused, Unoffered,
 use Rattle.bx_day.specs.declared.entry.Entry.{Entry}
 use Rattle.bx_base.specs.Bookings.{Row, no_row}
 
+-- unlinked is the moment of the last second without a link, 0 where there was none
 pub record Day : Type 0 where
   pub moment : ℕ
+  pub unlinked : ℕ
   pub entries : List Entry
   pub maintenance : List Bool
 
@@ -32,6 +34,10 @@ is_held entries c = list_any (holds c) entries
 abbrev pub is_free : Day → ℕ → Bool
 is_free d c = not (is_held d.entries c) && not (is_marked d.maintenance c)
 
+-- there was no link in the last second
+abbrev pub is_back : Day → Bool
+is_back d = nat_lt 0 d.unlinked && (d.unlinked == d.moment)
+
 abbrev pub is_unoffered : Standing → Bool
 is_unoffered Unoffered = true
 is_unoffered _ = false
@@ -53,4 +59,4 @@ entries_from row (b ∷ bs) [] = entry_of row b None ∷ entries_from (row + 1) 
 entries_from row (b ∷ bs) (a ∷ as') = entry_of row b a ∷ entries_from (row + 1) bs as'
 
 abbrev pub opening : List Row → List (Option ℕ) → Day
-opening rows assigned = record { moment = 0; entries = entries_from 1 rows assigned; maintenance = no_channel }
+opening rows assigned = record { moment = 0; unlinked = 0; entries = entries_from 1 rows assigned; maintenance = no_channel }

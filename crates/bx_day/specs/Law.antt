@@ -37,8 +37,8 @@ pub record IsOrderly (rows : List Row) (assigned : List (Option ℕ)) (lost : �
   -- a call is Active only while its booking runs
   pub active : (i : ℕ) → i < length rows → OnLive (standing_at d i) (λ call a. is_active call.state ≡ true → is_running (row_at rows i) d.moment ≡ true)
   pub carried : (i : ℕ) → i < length rows → OnCarried (standing_at d i) (λ from until. ((row_at rows i).start ≤ from) × (from ≤ until) × (until ≤ (row_at rows i).end))
-  -- T305 and twice T308 with a link after its end a booking is over or missed, where each outage may take T308 more
-  pub cleared : (i : ℕ) → i < length rows → (row_at rows i).end + clearing_time + ((lost (row_at rows i).end).seconds + t308 * (lost (row_at rows i).end).outages) ≤ d.moment → (standing_at d i ≢ Unoffered) × OnLive (standing_at d i) (λ call a. ⊥)
+  -- T305 and twice T308 with a link after its end a booking is over or missed, where each outage may take twice T308 more
+  pub cleared : (i : ℕ) → i < length rows → (row_at rows i).end + clearing_time + ((lost (row_at rows i).end).seconds + (t308 + t308) * (lost (row_at rows i).end).outages) ≤ d.moment → (standing_at d i ≢ Unoffered) × OnLive (standing_at d i) (λ call a. ⊥)
 
 -- a SETUP is sent for an accepted outward booking that runs, which its reference names, on its channel
 pub record SetupFits (rows : List Row) (assigned : List (Option ℕ)) (t : ℕ) (o : Outgoing) : Type 0 where

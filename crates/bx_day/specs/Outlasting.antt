@@ -1,5 +1,5 @@
 -- Private: many seconds without a link at once.
-use Rattle.std.specs.Prelude.{◌≡◌, ℕ, ◌+◌, ◌≤◌, ◌<◌, nat_le, nat_lt, Bool, true, ◌&&◌, List, length, Option, Some, None, is_some, if◌then◌else◌, slice_set}
+use Rattle.std.specs.Prelude.{◌≡◌, ℕ, ◌+◌, ◌==◌, ◌≤◌, ◌<◌, nat_le, nat_lt, Bool, true, ◌&&◌, List, length, Option, Some, None, is_some, if◌then◌else◌, slice_set}
 use Rattle.bx_base.specs.Bookings.{Row}
 use Rattle.bx_calls.specs.NetTable.{net_unlinked, IsDueBy}
 use Rattle.bx_day.specs.Day.{is_unoffered, entry_at}
@@ -17,6 +17,10 @@ IsTimedBy latest _ = Unit {0}
 -- what holds where it can be put off by n seconds within a word
 abbrev pub IfTimersFit : ℕ → Standing → Type 0 → Type 0
 IfTimersFit n s P = (latest : ℕ) → IsTimedBy latest s → latest + n ≤ 4294967295 → P
+
+-- the moment of the last second without a link, after n of them from moment m on
+abbrev pub unlinked_for : ℕ → ℕ → ℕ → ℕ
+unlinked_for n m before = if n == 0 then before else m + n
 
 -- what has become of a booking in n such seconds, of which the last comes to moment t: a call is not Active after its
 -- booking's end

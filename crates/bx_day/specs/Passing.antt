@@ -3,7 +3,7 @@ use Rattle.std.specs.Prelude.{◌≡◌, ◌<◌, ◌==◌, ℕ, Bool, true, fal
 use Rattle.bx_q931.specs.Outgoing.{Outgoing}
 use Rattle.bx_calls.specs.Shared.{cons_some}
 use Rattle.bx_channels.specs.Marks.{is_marked}
-use Rattle.bx_day.specs.Day.{Day, is_held, entry_at}
+use Rattle.bx_day.specs.Day.{Day, is_back, is_held, entry_at}
 use Rattle.bx_day.specs.Ticks.{second_in, after_in, breaks_in, said_in, maintained_in}
 use Rattle.bx_day.specs.Moves.{stays}
 use Rattle.bx_day.specs.Reading.{IsExchange}
@@ -12,8 +12,8 @@ use Rattle.bx_day.specs.declared.entry.Entry.{Entry}
 use Rattle.bx_day.specs.declared.entry.Link.{Link}
 
 -- a day from its parts
-abbrev pub day_of : ℕ → List Entry → List Bool → Day
-day_of moment entries maintenance = record { moment = moment; entries = entries; maintenance = maintenance }
+abbrev pub day_of : ℕ → ℕ → List Entry → List Bool → Day
+day_of moment unlinked entries maintenance = record { moment = moment; unlinked = unlinked; entries = entries; maintenance = maintenance }
 
 -- the channels that are held or in maintenance
 abbrev pub AreBlocked : Day → List Bool → Type 0
@@ -66,20 +66,20 @@ pub record IsSecond (link : Link) (d : Day) (es : List Entry) (ms : List Bool) (
   pub sizes : length slots ≡ 32
 
 -- one more booking is moved on
-abbrev pub MovesOne : (link : Link) (moment : ℕ) (blocked : List Bool) (index : ℕ) (es : List Entry) (ms : List Bool) (slots : List (Option Outgoing)) (later_es : List Entry) (later_ms : List Bool) (later_slots : List (Option Outgoing)) → Type 0
-MovesOne link moment blocked index es ms slots later_es later_ms later_slots =
-    (d : Day) (done : ℕ → Bool) → d.moment ≡ moment → IsExchange d → AreBlocked d blocked → done index ≡ false
+abbrev pub MovesOne : (link : Link) (moment : ℕ) (back : Bool) (blocked : List Bool) (index : ℕ) (es : List Entry) (ms : List Bool) (slots : List (Option Outgoing)) (later_es : List Entry) (later_ms : List Bool) (later_slots : List (Option Outgoing)) → Type 0
+MovesOne link moment back blocked index es ms slots later_es later_ms later_slots =
+    (d : Day) (done : ℕ → Bool) → d.moment ≡ moment → is_back d ≡ back → IsExchange d → AreBlocked d blocked → done index ≡ false
     → Passed link d done es ms slots → Passed link d (λ i. (i == index) || done i) later_es later_ms later_slots
 
 -- those of slots are moved on, none of which was before
-abbrev pub MovesAll : (link : Link) (moment : ℕ) (blocked : List Bool) (own : List (Option ℕ)) (es : List Entry) (ms : List Bool) (slots : List (Option Outgoing)) (later_es : List Entry) (later_ms : List Bool) (later_slots : List (Option Outgoing)) → Type 0
-MovesAll link moment blocked own es ms slots later_es later_ms later_slots =
-    (d : Day) (done : ℕ → Bool) → d.moment ≡ moment → IsExchange d → AreBlocked d blocked → AreOwn d own
+abbrev pub MovesAll : (link : Link) (moment : ℕ) (back : Bool) (blocked : List Bool) (own : List (Option ℕ)) (es : List Entry) (ms : List Bool) (slots : List (Option Outgoing)) (later_es : List Entry) (later_ms : List Bool) (later_slots : List (Option Outgoing)) → Type 0
+MovesAll link moment back blocked own es ms slots later_es later_ms later_slots =
+    (d : Day) (done : ℕ → Bool) → d.moment ≡ moment → is_back d ≡ back → IsExchange d → AreBlocked d blocked → AreOwn d own
     → ((c i : ℕ) → slot_at own c ≡ Some i → done i ≡ false)
     → Passed link d done es ms slots → Passed link d (with_slots d own done) later_es later_ms later_slots
 
 -- a day goes through a second
-abbrev pub MovesOn : (link : Link) (moment : ℕ) (blocked : List Bool) (first second third : List (Option ℕ)) (es : List Entry) (ms : List Bool) (later_es : List Entry) (later_ms : List Bool) (slots : List (Option Outgoing)) → Type 0
-MovesOn link moment blocked first second third es ms later_es later_ms slots =
-    (d : Day) → d ≡ day_of moment es ms → IsExchange d → AreBlocked d blocked → AreTouched link d first second third
+abbrev pub MovesOn : (link : Link) (moment : ℕ) (back : Bool) (blocked : List Bool) (first second third : List (Option ℕ)) (es : List Entry) (ms : List Bool) (later_es : List Entry) (later_ms : List Bool) (slots : List (Option Outgoing)) → Type 0
+MovesOn link moment back blocked first second third es ms later_es later_ms slots =
+    (unlinked : ℕ) (d : Day) → d ≡ day_of moment unlinked es ms → is_back d ≡ back → IsExchange d → AreBlocked d blocked → AreTouched link d first second third
     → IsSecond link d later_es later_ms slots

@@ -16,34 +16,35 @@ use Rattle.bx_day.specs.declared.entry.Link.TheVariants.{Up, Down}
 use Rattle.bx_base.specs.Bookings.{is_running}
 use Rattle.bx_calls.specs.Sending.{Sent}
 use Rattle.bx_day.specs.Moves.{becomes, stays, follows}
-use Rattle.bx_day.specs.Day.{Day, every_channel, is_free}
+use Rattle.bx_day.specs.Day.{Day, every_channel, is_back, is_free}
 use Rattle.bx_events.specs.declared.moment.TheConstants.{LAST_MOMENT}
 
--- an unoffered booking at a tick to moment t; free says whether its channel was neither held nor in maintenance
-abbrev pub waits : Entry → ℕ → Bool → Moved
-waits e t free =
+-- an unoffered booking at a tick to moment t; back says whether there was no link in the second before, free whether its channel
+-- was neither held nor in maintenance
+abbrev pub waits : Entry → ℕ → Bool → Bool → Moved
+waits e t back free =
     if is_running e.booking t && not e.booking.inward && free
-    then becomes (OnCall (net_offered e.row e.channel e.booking.number t) Never) (Some (setup_of e.row e.channel e.booking.number))
+    then becomes (OnCall (net_offered e.row e.channel e.booking.number back t) Never) (Some (setup_of e.row e.channel e.booking.number))
     else if nat_le e.booking.end t then stays Missed else stays Unoffered
 
 -- a booking of which this has become, at a tick to moment t
-abbrev pub second_at : Entry → ℕ → Bool → Standing → Moved
-second_at e t free (OnCall call activity) = follows activity t (net_second call t e.booking.end)
-second_at e t free Unoffered = waits e t free
-second_at e t free s = stays s
+abbrev pub second_at : Entry → ℕ → Bool → Bool → Standing → Moved
+second_at e t back free (OnCall call activity) = follows activity t (net_second call t e.booking.end)
+second_at e t back free Unoffered = waits e t back free
+second_at e t back free s = stays s
 
 -- a booking in a second to moment t without a link: no timer runs, and nothing is offered
 abbrev pub unlinked_at : Entry → ℕ → Standing → Moved
 unlinked_at e t (OnCall call activity) = follows activity t (net_unlinked 1 call t e.booking.end)
-unlinked_at e t s = second_at e t false s
+unlinked_at e t s = second_at e t false false s
 
 -- by whether there is a link
-abbrev pub second_by : Link → Entry → ℕ → Bool → Standing → Moved
-second_by Up e t free s = second_at e t free s
-second_by Down e t free s = unlinked_at e t s
+abbrev pub second_by : Link → Entry → ℕ → Bool → Bool → Standing → Moved
+second_by Up e t back free s = second_at e t back free s
+second_by Down e t back free s = unlinked_at e t s
 
 abbrev pub second_in : Link → Day → Entry → Moved
-second_in link d e = second_by link e (d.moment + 1) (is_free d e.channel) e.standing
+second_in link d e = second_by link e (d.moment + 1) (is_back d) (is_free d e.channel) e.standing
 
 abbrev pub after_in : Link → Day → Entry → Entry
 after_in link d e = record e { standing = (second_in link d e).standing }
@@ -61,10 +62,15 @@ abbrev pub maintained_in : Link → Day → ℕ → List Bool → List Bool
 maintained_in link d c [] = []
 maintained_in link d c (b ∷ bs) = (b || list_any (breaks_in link d c) d.entries) ∷ maintained_in link d (c + 1) bs
 
+-- the moment of the last second without a link, after a second at this moment
+abbrev pub unlinked_after : Link → ℕ → ℕ → ℕ
+unlinked_after Up moment unlinked = unlinked
+unlinked_after Down moment unlinked = moment + 1
+
 -- a second, and what is said in it
 abbrev pub passed_in : Link → Day → Sent Day
 passed_in link d = record {
-  day = record { moment = d.moment + 1; entries = map (after_in link d) d.entries; maintenance = maintained_in link d 0 d.maintenance };
+  day = record { moment = d.moment + 1; unlinked = unlinked_after link d.moment d.unlinked; entries = map (after_in link d) d.entries; maintenance = maintained_in link d 0 d.maintenance };
   sent = flat_map (λ c. said_in link d c d.entries) every_channel;
 }
 

@@ -23,6 +23,8 @@ use std::marker::Model;
 #[derive(Drop)]
 pub struct Exchange {
     pub(crate) moment: u32,
+    /// The moment of the last second without a link, 0 where there was none.
+    pub(crate) unlinked: u32,
     pub(crate) entries: Vec<Entry>,
     pub(crate) maintenance: ChannelSet,
     /// For each channel the index of its live booking.
@@ -41,10 +43,10 @@ impl Model for Exchange {
 
     ghost Value = { Day };
 
-    ghost view = { λ x. record { moment = x.moment; entries = x.entries.items; maintenance = x.maintenance } };
+    ghost view = { λ x. record { moment = x.moment; unlinked = x.unlinked; entries = x.entries.items; maintenance = x.maintenance } };
 
     ghost invariant = { λ x.
-        IsIndexed (record { moment = x.moment; entries = x.entries.items; maintenance = x.maintenance }) x.live x.waiting x.following.items x.due };
+        IsIndexed (record { moment = x.moment; unlinked = x.unlinked; entries = x.entries.items; maintenance = x.maintenance }) x.live x.waiting x.following.items x.due };
 }
 
 impl Exchange {
@@ -63,6 +65,7 @@ impl Exchange {
         let waiting = links.first;
         Ok(Exchange {
             moment: 0,
+            unlinked: 0,
             entries,
             maintenance: ChannelSet::empty(),
             live: [None; 32],

@@ -8,8 +8,8 @@ ghost use Rattle.bx_day.specs.Outages.{live_day_after, none_lost, lost_since};
 ghost use Rattle.bx_day.specs.Law.{DaysAreOrderly, AllSentFits};
 
 /// Over every list of events of a carried plan, on the link and without one: no channel is held twice, and calls are in
-/// their time, after whose end they are over 38 seconds later, and the seconds without a link since then, and T308 more for each
-/// outage. A list without seconds that have no link is a day as a session goes through it.
+/// their time, after whose end they are over 38 seconds later, and the seconds without a link since then, and twice T308 more
+/// for each outage. A list without seconds that have no link is a day as a session goes through it.
 pub fn one_per_channel()
     ensures state { DaysAreOrderly }
     ensures sent { AllSentFits }

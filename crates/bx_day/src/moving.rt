@@ -87,15 +87,23 @@ pub(crate) fn heard(standing: Standing, message: &Message<'_>, moment: u32) -> M
     }
 }
 
-/// A booking in a second to this moment; free says whether its channel was neither held nor in maintenance.
-pub(crate) fn second(entry: &Entry, channel: Channel, moment: u32, free: bool, link: Link) -> Moved
+/// A booking in a second to this moment; `back` says whether there was no link in the second before, `free` whether its channel was
+/// neither held nor in maintenance.
+pub(crate) fn second(
+    entry: &Entry,
+    channel: Channel,
+    moment: u32,
+    back: bool,
+    free: bool,
+    link: Link,
+) -> Moved
     requires moment { moment ≤ LAST_MOMENT }
     requires row { IsCallReference entry.now.row }
     requires channel { channel ≡ entry.now.channel }
-    ensures { IfTimersFit 1 entry.now.standing (result ≡ second_by link entry.now moment free entry.now.standing) }
+    ensures { IfTimersFit 1 entry.now.standing (result ≡ second_by link entry.now moment back free entry.now.standing) }
 {
     match link {
-        Link::Up => linked(entry, channel, moment, free),
+        Link::Up => linked(entry, channel, moment, back, free),
         Link::Down => unlinked(entry, channel, moment),
     }
 }
@@ -112,16 +120,16 @@ fn unlinked(entry: &Entry, channel: Channel, moment: u32) -> Moved
             let step = call.on_seconds_unlinked(1, moment, entry.booking.end());
             follow(step, activity, moment)
         }
-        _ => linked(entry, channel, moment, false),
+        _ => linked(entry, channel, moment, false, false),
     }
 }
 
-/// A booking at a tick to this moment; free says whether its channel was neither held nor in maintenance.
-fn linked(entry: &Entry, channel: Channel, moment: u32, free: bool) -> Moved
+/// A booking at a tick to this moment.
+fn linked(entry: &Entry, channel: Channel, moment: u32, back: bool, free: bool) -> Moved
     requires moment { moment ≤ LAST_MOMENT }
     requires row { IsCallReference entry.now.row }
     requires channel { channel ≡ entry.now.channel }
-    ensures { result ≡ second_at entry.now moment free entry.now.standing }
+    ensures { result ≡ second_at entry.now moment back free entry.now.standing }
 {
     let booking = entry.booking;
     match entry.standing {
@@ -129,7 +137,13 @@ fn linked(entry: &Entry, channel: Channel, moment: u32, free: bool) -> Moved
             follow(call.on_second(moment, booking.end()), activity, moment)
         }
         Standing::Unoffered if booking.runs_at(moment) && !booking.is_inward() && free => {
-            let (call, setup) = NetCall::offered(entry.row, channel, booking.number(), moment);
+            let (call, setup) = NetCall::offered(
+                entry.row,
+                channel,
+                booking.number(),
+                back,
+                moment,
+            );
             Moved {
                 standing: Standing::OnCall {
                     call,

@@ -5,7 +5,7 @@ ghost use Rattle.std.specs.List.{AllByRecursion};
 ghost use Rattle.bx_base.specs.declared.bookings.TheConstants.{MAX_BOOKINGS};
 ghost use Rattle.bx_events.specs.Events.{WithoutLink};
 ghost use Rattle.bx_day.specs.Outages.{live_day_after};
-ghost use Rattle.bx_day.specs.Outlasting.{IfTimersFit, outlasted, AreOutlasting, starts_before, with_waiting, AreEarliest};
+ghost use Rattle.bx_day.specs.Outlasting.{unlinked_for, IfTimersFit, outlasted, AreOutlasting, starts_before, with_waiting, AreEarliest};
 ghost use Rattle.bx_day.specs.Reading.{Seated};
 ghost use Rattle.bx_day.specs.Slots.{slot_at};
 ghost use Rattle.bx_day.specs.SlotSteps.{IsInside};
@@ -27,8 +27,21 @@ impl Exchange {
         let seconds = seconds.min(LAST_MOMENT - before);
         outlast(&mut self.entries, seconds, before + seconds);
         self.waiting = first_waiting(&self.entries);
+        self.unlinked = unlinked_for(seconds, before, self.unlinked);
         self.moment = before + seconds;
         self.due = 0;
+    }
+}
+
+/// The moment of the last second without a link, after so many of them at this moment.
+fn unlinked_for(seconds: u32, moment: u32, before: u32) -> u32
+    requires { moment + seconds ≤ LAST_MOMENT }
+    ensures { result ≡ unlinked_for seconds moment before }
+{
+    if seconds == 0 {
+        before
+    } else {
+        moment + seconds
     }
 }
 

@@ -2,7 +2,8 @@
 
 ghost use Rattle.std.specs.Prelude.{◌≡◌, ◌≤◌, ◌<◌, ◌==◌, ◌||◌, ℕ, Some, true, length, is_some, slice_set, if◌then◌else◌};
 ghost use Rattle.std.specs.List.{AllByRecursion};
-ghost use Rattle.bx_day.specs.Ticks.{tick, passed_in, SaysOnce};
+ghost use Rattle.bx_day.specs.Ticks.{tick, passed_in, unlinked_after, SaysOnce};
+ghost use Rattle.bx_day.specs.Day.{is_back};
 ghost use Rattle.bx_day.specs.Outages.{without_link};
 ghost use Rattle.bx_day.specs.Passing.{AreBlocked, MovesOne, MovesAll, MovesOn, SaysOnEach};
 ghost use Rattle.bx_calls.specs.Sending.{in_order, spelled};
@@ -61,6 +62,7 @@ impl Exchange {
         ensures slots { length result ≡ 32 }
     {
         let blocked = self.blocked();
+        let back = self.is_back();
         let second = followers(&self.following, &self.waiting);
         let said = move_on(
             &mut self.entries,
@@ -70,8 +72,10 @@ impl Exchange {
             &second,
             blocked,
             self.moment,
+            back,
             link,
         );
+        self.unlinked = unlinked_after(link, self.moment, self.unlinked);
         settle(
             &self.entries,
             &self.following,
@@ -81,6 +85,13 @@ impl Exchange {
         self.moment += 1;
         self.due = 0;
         said
+    }
+
+    /// Whether there was no link in the last second.
+    fn is_back(&self) -> bool
+        ensures { result ≡ is_back self.now }
+    {
+        self.unlinked > 0 && self.unlinked == self.moment
     }
 
     /// The channels that are held by a live booking, or in maintenance.
@@ -96,6 +107,17 @@ impl Exchange {
             }
         }
         blocked
+    }
+}
+
+/// The moment of the last second without a link, after a second at this moment.
+fn unlinked_after(link: Link, moment: u32, unlinked: u32) -> u32
+    requires { moment < LAST_MOMENT }
+    ensures { result ≡ unlinked_after link moment unlinked }
+{
+    match link {
+        Link::Up => unlinked,
+        Link::Down => moment + 1,
     }
 }
 
@@ -120,6 +142,7 @@ fn move_one(
     maintenance: &mut ChannelSet,
     blocked: ChannelSet,
     moment: u32,
+    back: bool,
     link: Link,
 )
     requires inside { index < length entries.old }
@@ -127,11 +150,18 @@ fn move_one(
     requires seated { AllByRecursion Seated entries.old }
     ensures seated { AllByRecursion Seated entries.new }
     ensures size { length entries.new ≡ length entries.old }
-    ensures moved { MovesOne link moment blocked index entries.old maintenance.old said.old entries.new maintenance.new said.new }
+    ensures moved { MovesOne link moment back blocked index entries.old maintenance.old said.old entries.new maintenance.new said.new }
 {
     let entry = entries[index];
     if let Some(channel) = Channel::new(entry.channel) {
-        let moved = second(&entry, channel, moment + 1, !blocked.has(channel), link);
+        let moved = second(
+            &entry,
+            channel,
+            moment + 1,
+            back,
+            !blocked.has(channel),
+            link,
+        );
         entries[index].standing = moved.standing;
         note(said, maintenance, channel, &moved);
     }
@@ -145,6 +175,7 @@ fn move_all(
     maintenance: &mut ChannelSet,
     blocked: ChannelSet,
     moment: u32,
+    back: bool,
     link: Link,
 )
     requires inside { (c : ℕ) → IsInside entries.old (slot_at slots.now c) }
@@ -152,7 +183,7 @@ fn move_all(
     requires seated { AllByRecursion Seated entries.old }
     ensures seated { AllByRecursion Seated entries.new }
     ensures size { length entries.new ≡ length entries.old }
-    ensures moved { MovesAll link moment blocked slots.now entries.old maintenance.old said.old entries.new maintenance.new said.new }
+    ensures moved { MovesAll link moment back blocked slots.now entries.old maintenance.old said.old entries.new maintenance.new said.new }
 {
     for number in 0..32 {
         if let Some(index) = slots[number] {
@@ -163,6 +194,7 @@ fn move_all(
                 maintenance,
                 blocked,
                 moment,
+                back,
                 link,
             );
         }
@@ -180,6 +212,7 @@ fn move_on(
     second: &[Option<u16>; 32],
     blocked: ChannelSet,
     moment: u32,
+    back: bool,
     link: Link,
 ) -> [Option<Out>; 32]
     requires early { moment < LAST_MOMENT }
@@ -187,10 +220,19 @@ fn move_on(
     requires live { (c : ℕ) → IsInside entries.old (slot_at live.now c) }
     requires waiting { (c : ℕ) → IsInside entries.old (slot_at waiting.now c) }
     requires second { (c : ℕ) → IsInside entries.old (slot_at second.now c) }
-    ensures { MovesOn link moment blocked live.now waiting.now second.now entries.old maintenance.old entries.new maintenance.new result }
+    ensures { MovesOn link moment back blocked live.now waiting.now second.now entries.old maintenance.old entries.new maintenance.new result }
 {
     let mut said = [None; 32];
-    move_all(entries, live, &mut said, maintenance, blocked, moment, link);
+    move_all(
+        entries,
+        live,
+        &mut said,
+        maintenance,
+        blocked,
+        moment,
+        back,
+        link,
+    );
     move_all(
         entries,
         waiting,
@@ -198,6 +240,7 @@ fn move_on(
         maintenance,
         blocked,
         moment,
+        back,
         link,
     );
     move_all(
@@ -207,6 +250,7 @@ fn move_on(
         maintenance,
         blocked,
         moment,
+        back,
         link,
     );
     said

@@ -13,6 +13,9 @@ static KINDS: [u8; 8] = [SETUP, 0x01, 0x02, 0x07, 0x45, 0x4D, 0x5A, 0x75];
 /// Call states that STATUS reports.
 static STATES: [u8; 8] = [10, 8, 11, 19, 12, 3, 1, 0];
 
+/// Causes with which calls are refused.
+static CAUSES: [u8; 8] = [44, 17, 41, 102, 42, 16, 47, 44];
+
 /// Rows, for calls that the exchange began; the far end's calls take their references from these too.
 static REFERENCES: [u8; 8] = [1, 2, 3, 4, 5, 6, 1, 2];
 
@@ -80,6 +83,13 @@ impl Drawn {
         let reference = REFERENCES[(self.below(8) & 7) as usize];
         let state = STATES[(self.below(8) & 7) as usize];
         [8, 2, flag, reference, 0x7D, 0x14, 1, state]
+    }
+
+    /// RELEASE COMPLETE with a cause, of a call with a low reference that the exchange began.
+    pub(crate) fn refusal(&mut self) -> [u8; 9] {
+        let reference = REFERENCES[(self.below(8) & 7) as usize];
+        let cause = CAUSES[(self.below(8) & 7) as usize];
+        [8, 2, 0x80, reference, 0x5A, 8, 2, 0x80, 0x80 | cause]
     }
 }
 

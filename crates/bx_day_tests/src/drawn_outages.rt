@@ -20,8 +20,12 @@ struct Seen {
     connect: bool,
     setup: bool,
     release: bool,
-    /// A call that was asked for was released by what was reported of it.
+    /// A call that was asked for was released by what was reported of it, became Active, or was not known, and offered again.
     reported: bool,
+    connected: bool,
+    unknown: bool,
+    /// A call was refused, and offered again.
+    refused: bool,
 }
 
 const NOTHING: Seen = Seen {
@@ -31,6 +35,9 @@ const NOTHING: Seen = Seen {
     setup: false,
     release: false,
     reported: false,
+    connected: false,
+    unknown: false,
+    refused: false,
 };
 
 const ALL: Seen = Seen {
@@ -40,6 +47,9 @@ const ALL: Seen = Seen {
     setup: true,
     release: true,
     reported: true,
+    connected: true,
+    unknown: true,
+    refused: true,
 };
 
 impl Seen {
@@ -55,10 +65,21 @@ impl Seen {
         }
     }
 
-    /// Looks at the state of a call before and after a report.
-    fn hears(&mut self, before: u8, following: u8) {
-        if (before, following) == (10, 19) {
-            self.reported = true;
+    /// Looks at the row and the state of a call before and after a report of this call state.
+    fn hears(&mut self, report: &[u8; 8], before: (u16, u8), following: (u16, u8)) {
+        let is_named = before.0 == u16::from(report[3]) && report[2] == 0x80;
+        match (before.1, following.1) {
+            (10, 19) => self.reported = true,
+            (6, 10) => self.connected = true,
+            (6, 6) if is_named && report[7] == 0 => self.unknown = true,
+            _ => {}
+        }
+    }
+
+    /// Looks at the row and the state of a call before and after a refusal.
+    fn is_refused(&mut self, refusal: &[u8; 9], before: (u16, u8), following: (u16, u8)) {
+        if before == (u16::from(refusal[3]), 6) && following == before {
+            self.refused = true;
         }
     }
 }
@@ -68,6 +89,28 @@ fn hear(exchange: &mut Exchange, skipping: &mut Exchange, second: &mut Second, o
     exchange.receive(octets);
     skipping.receive(octets);
     second.hears(octets);
+}
+
+/// Brings a drawn report to all three, and at times a drawn refusal.
+fn hear_drawn(
+    exchange: &mut Exchange,
+    skipping: &mut Exchange,
+    second: &mut Second,
+    drawn: &mut Drawn,
+    seen: &mut Seen,
+) {
+    let report = drawn.report();
+    let refusal = drawn.refusal();
+    let offered = (second.on_channel(1), second.on_channel(2));
+    hear(exchange, skipping, second, &report);
+    let told = (second.on_channel(1), second.on_channel(2));
+    seen.hears(&report, offered.0, told.0);
+    seen.hears(&report, offered.1, told.1);
+    if drawn.below(3) == 0 {
+        hear(exchange, skipping, second, &refusal);
+        seen.is_refused(&refusal, told.0, second.on_channel(1));
+        seen.is_refused(&refusal, told.1, second.on_channel(2));
+    }
 }
 
 /// Lets so many seconds go by, and answers whether the exchanges agree after each.
@@ -127,11 +170,7 @@ fn day_goes(alloc: Global, seed: u32, seen: &mut Seen) -> Option<bool> {
             seen.looks(before.0, states(&second).0);
             seen.looks(before.1, states(&second).1);
         }
-        let report = drawn.report();
-        let asked_for = states(&second);
-        hear(&mut exchange, &mut skipping, &mut second, &report);
-        seen.hears(asked_for.0, states(&second).0);
-        seen.hears(asked_for.1, states(&second).1);
+        hear_drawn(&mut exchange, &mut skipping, &mut second, &mut drawn, seen);
         let octets = drawn.message();
         hear(&mut exchange, &mut skipping, &mut second, &octets);
         same &= second.agrees(&exchange);
@@ -147,9 +186,12 @@ fn drawn_outages(rt: HostRuntime) -> Result<(), Fail> {
             return Err(Fail::new(seed));
         }
     }
-    // Reports that do not fit are few: a share of the days may have none.
+    // Reports that do not fit, and those of calls that are offered, are few: a share of the days may have none.
     if SHARE > 1 {
         seen.reported = true;
+        seen.connected = true;
+        seen.unknown = true;
+        seen.refused = true;
     }
     assert_eq!(rt; seen, ALL, "what came about");
     Ok(())

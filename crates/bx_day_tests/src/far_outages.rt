@@ -22,7 +22,19 @@ struct Outage {
     ending: Ending,
 }
 
-static OUTAGES: [Outage; 6] = [
+static OUTAGES: [Outage; 7] = [
+    Outage {
+        name: "T313 begins anew, however much of it was over",
+        script: "number,policy,seconds\n*,answer,0\n",
+        before: &[
+            (0, SETUP, &[]),
+            (1, &[], &[CONNECT_CHANNEL_1]),
+            (4, &[], &[]),
+        ],
+        to: 10,
+        following: &[(14, &[], &[FAR_DISCONNECT_102])],
+        ending: (Some((1, CallState::DisconnectRequest)), false),
+    },
     Outage {
         name: "CONNECT is given up 4 seconds with a link behind it",
         script: "number,policy,seconds\n*,answer,0\n",
@@ -49,7 +61,7 @@ static OUTAGES: [Outage; 6] = [
         ending: (None, true),
     },
     Outage {
-        name: "RELEASE that was said twice is said once more",
+        name: "RELEASE that was said twice is said twice again",
         script: "number,policy,seconds\n*,clear,1\n",
         before: &[
             (0, SETUP, &[]),
@@ -60,7 +72,12 @@ static OUTAGES: [Outage; 6] = [
             (36, &[], &[FAR_RELEASE_16]),
         ],
         to: 90,
-        following: &[(91, &[], &[FAR_RELEASE_16]), (95, &[], &[])],
+        following: &[
+            (91, &[], &[FAR_RELEASE_16]),
+            (95, &[], &[FAR_RELEASE_16]),
+            (98, &[], &[]),
+            (99, &[], &[]),
+        ],
         ending: (None, true),
     },
     Outage {

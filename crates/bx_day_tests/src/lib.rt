@@ -38,6 +38,8 @@ mod hostile_messages;
 #[cfg(test)]
 mod hostile_octets;
 #[cfg(test)]
+mod lost_messages;
+#[cfg(test)]
 mod market_world;
 #[cfg(test)]
 mod one_booking;

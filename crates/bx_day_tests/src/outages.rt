@@ -4,8 +4,8 @@ use crate::steps::{Messages, first_wrong};
 use bx_calls::CallState;
 use bx_cases::messages::{
     ALERTING, CONNECT, CONNECT_ACKNOWLEDGE, DISCONNECT_16, FAR_RELEASE, FAR_RELEASE_COMPLETE,
-    PROCEEDING, RELEASE_16, RELEASE_COMPLETE, RELEASE_COMPLETE_102, SETUP, SETUP_REFERENCE_2,
-    SETUP_REFERENCE_7, STATUS_101,
+    FAR_RELEASE_COMPLETE_17, FAR_RELEASE_COMPLETE_44, PROCEEDING, RELEASE_16, RELEASE_COMPLETE,
+    RELEASE_COMPLETE_102, SETUP, SETUP_REFERENCE_2, SETUP_REFERENCE_7, STATUS_101,
 };
 use bx_channels::Channel;
 use bx_day::{Exchange, Outcome};
@@ -87,7 +87,7 @@ const DISCONNECT_41: &[u8] = &[0x08, 0x02, 0x00, 0x01, 0x45, 0x08, 0x02, 0x82, 0
 
 const DISCONNECT_102: &[u8] = &[0x08, 0x02, 0x00, 0x01, 0x45, 0x08, 0x02, 0x82, 0xE6];
 
-static WORKED: [Worked; 23] = [
+static WORKED: [Worked; 22] = [
     Worked {
         name: "a booking that starts without a link is offered in the first second with one",
         bookings: &[(10, 60, 1, false)],
@@ -168,21 +168,7 @@ static WORKED: [Worked; 23] = [
         is_broken: true,
     },
     Worked {
-        name: "the tries of a SETUP go on behind seconds without a link",
-        bookings: &[(10, 100, 1, false)],
-        steps: &[
-            Step::Linked(10, &[], &[SETUP]),
-            Step::Without(40),
-            Step::Linked(44, &[], &[SETUP]),
-            Step::Without(50),
-            Step::Linked(54, &[], &[RELEASE_COMPLETE_102]),
-        ],
-        outcomes: &[Outcome::Unanswered],
-        held: None,
-        is_broken: false,
-    },
-    Worked {
-        name: "a SETUP whose try is due waits for a link",
+        name: "a call that is offered waits for a link up to its last second",
         bookings: &[(10, 100, 1, false)],
         steps: &[
             Step::Linked(10, &[], &[SETUP]),
@@ -308,7 +294,7 @@ static WORKED: [Worked; 23] = [
         is_broken: false,
     },
     Worked {
-        name: "a release that was sent twice is sent again in the first second with a link",
+        name: "a release that was sent twice is sent twice again from the first second with a link on",
         bookings: &[(0, 60, 1, false)],
         steps: &[
             Step::Linked(1, &[], &[SETUP]),
@@ -318,14 +304,15 @@ static WORKED: [Worked; 23] = [
             Step::Linked(94, &[], &[RELEASE_16]),
             Step::Without(150),
             Step::Linked(151, &[], &[RELEASE_16]),
-            Step::Linked(154, &[], &[]),
+            Step::Linked(155, &[], &[RELEASE_16]),
+            Step::Linked(158, &[], &[]),
         ],
         outcomes: &[Outcome::Live],
         held: Some((1, CallState::ReleaseRequest)),
         is_broken: false,
     },
     Worked {
-        name: "it is given up 4 seconds with a link behind the two tries of that",
+        name: "it is given up 4 seconds with a link behind the second of these",
         bookings: &[(0, 60, 1, false)],
         steps: &[
             Step::Linked(1, &[], &[SETUP]),
@@ -335,7 +322,8 @@ static WORKED: [Worked; 23] = [
             Step::Linked(94, &[], &[RELEASE_16]),
             Step::Without(150),
             Step::Linked(151, &[], &[RELEASE_16]),
-            Step::Linked(155, &[], &[]),
+            Step::Linked(155, &[], &[RELEASE_16]),
+            Step::Linked(159, &[], &[]),
         ],
         outcomes: &[Outcome::Carried { from: 1, until: 60 }],
         held: None,
@@ -456,14 +444,14 @@ static REPORTED: [Worked; 9] = [
         is_broken: true,
     },
     Worked {
-        name: "a call whose CONNECT ACKNOWLEDGE may be on its way goes on",
+        name: "a call whose CONNECT ACKNOWLEDGE was lost has it again, and goes on",
         bookings: &[(0, 60, 1, false)],
         steps: &[
             Step::Linked(1, &[], &[SETUP]),
             Step::Linked(1, CONNECT, &[CONNECT_ACKNOWLEDGE]),
             Step::Without(20),
             Step::Linked(21, &[], &[STATUS_ENQUIRY]),
-            Step::Linked(21, FAR_STATUS_CONNECTING, &[]),
+            Step::Linked(21, FAR_STATUS_CONNECTING, &[CONNECT_ACKNOWLEDGE]),
             Step::Linked(60, &[], &[DISCONNECT_16]),
         ],
         outcomes: &[Outcome::Live],
@@ -522,7 +510,7 @@ static REPORTED: [Worked; 9] = [
         is_broken: false,
     },
     Worked {
-        name: "two outages of a second, each behind the last try, put it off by 5 seconds each",
+        name: "two outages of a second, each behind the last try, put it off by 9 seconds each",
         bookings: &[(0, 60, 1, false)],
         steps: &[
             Step::Linked(1, &[], &[SETUP]),
@@ -533,17 +521,19 @@ static REPORTED: [Worked; 9] = [
             Step::Linked(97, &[], &[]),
             Step::Without(98),
             Step::Linked(99, &[], &[RELEASE_16]),
-            Step::Linked(102, &[], &[]),
-            Step::Without(103),
-            Step::Linked(104, &[], &[RELEASE_16]),
-            Step::Linked(107, &[], &[]),
+            Step::Linked(103, &[], &[RELEASE_16]),
+            Step::Linked(106, &[], &[]),
+            Step::Without(107),
+            Step::Linked(108, &[], &[RELEASE_16]),
+            Step::Linked(112, &[], &[RELEASE_16]),
+            Step::Linked(115, &[], &[]),
         ],
         outcomes: &[Outcome::Live],
         held: Some((1, CallState::ReleaseRequest)),
         is_broken: false,
     },
     Worked {
-        name: "and no longer: 38 seconds, 2 without a link and T308 twice behind its end it is over",
+        name: "and no longer: 38 seconds, 2 without a link and T308 four times behind its end it is over",
         bookings: &[(0, 60, 1, false)],
         steps: &[
             Step::Linked(1, &[], &[SETUP]),
@@ -554,14 +544,289 @@ static REPORTED: [Worked; 9] = [
             Step::Linked(97, &[], &[]),
             Step::Without(98),
             Step::Linked(99, &[], &[RELEASE_16]),
-            Step::Linked(102, &[], &[]),
-            Step::Without(103),
-            Step::Linked(104, &[], &[RELEASE_16]),
-            Step::Linked(108, &[], &[]),
+            Step::Linked(103, &[], &[RELEASE_16]),
+            Step::Linked(106, &[], &[]),
+            Step::Without(107),
+            Step::Linked(108, &[], &[RELEASE_16]),
+            Step::Linked(112, &[], &[RELEASE_16]),
+            Step::Linked(116, &[], &[]),
         ],
         outcomes: &[Outcome::Carried { from: 1, until: 60 }],
         held: None,
         is_broken: true,
+    },
+];
+
+/// Calls that are offered before an outage, or in the first second with a link.
+static OFFERED: [Worked; 19] = [
+    Worked {
+        name: "a call that is offered is asked for in the first second with a link, and offered a second later where it is not known",
+        bookings: &[(10, 100, 1, false)],
+        steps: &[
+            Step::Linked(10, &[], &[SETUP]),
+            Step::Without(40),
+            Step::Linked(41, &[], &[STATUS_ENQUIRY]),
+            Step::Linked(41, FAR_STATUS_NULL, &[]),
+            Step::Linked(42, &[], &[SETUP]),
+            Step::Linked(42, CONNECT, &[CONNECT_ACKNOWLEDGE]),
+        ],
+        outcomes: &[Outcome::Live],
+        held: Some((1, CallState::Active)),
+        is_broken: false,
+    },
+    Worked {
+        name: "that is as for the first time",
+        bookings: &[(10, 100, 1, false)],
+        steps: &[
+            Step::Linked(10, &[], &[SETUP]),
+            Step::Without(40),
+            Step::Linked(41, &[], &[STATUS_ENQUIRY]),
+            Step::Linked(41, FAR_STATUS_NULL, &[]),
+            Step::Linked(42, &[], &[SETUP]),
+            Step::Linked(46, &[], &[SETUP]),
+            Step::Linked(50, &[], &[RELEASE_COMPLETE_102]),
+        ],
+        outcomes: &[Outcome::Unanswered],
+        held: None,
+        is_broken: false,
+    },
+    Worked {
+        name: "and refused then, it is over",
+        bookings: &[(10, 100, 1, false)],
+        steps: &[
+            Step::Linked(10, &[], &[SETUP]),
+            Step::Without(40),
+            Step::Linked(41, &[], &[STATUS_ENQUIRY]),
+            Step::Linked(41, FAR_STATUS_NULL, &[]),
+            Step::Linked(42, &[], &[SETUP]),
+            Step::Linked(42, FAR_RELEASE_COMPLETE_44, &[]),
+        ],
+        outcomes: &[Outcome::Unanswered],
+        held: None,
+        is_broken: false,
+    },
+    Worked {
+        name: "where the user waits for CONNECT ACKNOWLEDGE, it has that, and the call is Active",
+        bookings: &[(10, 100, 1, false)],
+        steps: &[
+            Step::Linked(10, &[], &[SETUP]),
+            Step::Without(40),
+            Step::Linked(41, &[], &[STATUS_ENQUIRY]),
+            Step::Linked(41, FAR_STATUS_CONNECTING, &[CONNECT_ACKNOWLEDGE]),
+            Step::Linked(99, &[], &[]),
+        ],
+        outcomes: &[Outcome::Live],
+        held: Some((1, CallState::Active)),
+        is_broken: false,
+    },
+    Worked {
+        name: "so it has where it tells that the call is Active",
+        bookings: &[(10, 100, 1, false)],
+        steps: &[
+            Step::Linked(10, &[], &[SETUP]),
+            Step::Without(40),
+            Step::Linked(41, &[], &[STATUS_ENQUIRY]),
+            Step::Linked(41, FAR_STATUS_ACTIVE, &[CONNECT_ACKNOWLEDGE]),
+            Step::Linked(99, &[], &[]),
+        ],
+        outcomes: &[Outcome::Live],
+        held: Some((1, CallState::Active)),
+        is_broken: false,
+    },
+    Worked {
+        name: "any other call state is no answer, and without one the call is offered 4 seconds later, as for the first time",
+        bookings: &[(10, 100, 1, false)],
+        steps: &[
+            Step::Linked(10, &[], &[SETUP]),
+            Step::Without(40),
+            Step::Linked(41, &[], &[STATUS_ENQUIRY]),
+            Step::Linked(41, FAR_STATUS_RELEASING, &[]),
+            Step::Linked(45, &[], &[SETUP]),
+            Step::Linked(49, &[], &[SETUP]),
+            Step::Linked(53, &[], &[RELEASE_COMPLETE_102]),
+        ],
+        outcomes: &[Outcome::Unanswered],
+        held: None,
+        is_broken: false,
+    },
+    Worked {
+        name: "CONNECT is an answer",
+        bookings: &[(10, 100, 1, false)],
+        steps: &[
+            Step::Linked(10, &[], &[SETUP]),
+            Step::Without(40),
+            Step::Linked(41, &[], &[STATUS_ENQUIRY]),
+            Step::Linked(43, &[], &[]),
+            Step::Linked(43, CONNECT, &[CONNECT_ACKNOWLEDGE]),
+            Step::Linked(99, &[], &[]),
+        ],
+        outcomes: &[Outcome::Live],
+        held: Some((1, CallState::Active)),
+        is_broken: false,
+    },
+    Worked {
+        name: "behind each outage it is asked for anew",
+        bookings: &[(10, 100, 1, false)],
+        steps: &[
+            Step::Linked(10, &[], &[SETUP]),
+            Step::Without(40),
+            Step::Linked(41, &[], &[STATUS_ENQUIRY]),
+            Step::Without(42),
+            Step::Linked(43, &[], &[STATUS_ENQUIRY]),
+            Step::Linked(43, FAR_STATUS_NULL, &[]),
+            Step::Without(45),
+            Step::Linked(46, &[], &[STATUS_ENQUIRY]),
+            Step::Linked(46, FAR_STATUS_NULL, &[]),
+            Step::Linked(47, &[], &[SETUP]),
+        ],
+        outcomes: &[Outcome::Live],
+        held: Some((1, CallState::CallPresent)),
+        is_broken: false,
+    },
+    Worked {
+        name: "refused by a cause that passes while it is asked for, it is offered a second later",
+        bookings: &[(10, 100, 1, false)],
+        steps: &[
+            Step::Linked(10, &[], &[SETUP]),
+            Step::Without(40),
+            Step::Linked(41, &[], &[STATUS_ENQUIRY]),
+            Step::Linked(41, FAR_RELEASE_COMPLETE_44, &[]),
+            Step::Linked(42, &[], &[SETUP]),
+            Step::Linked(42, CONNECT, &[CONNECT_ACKNOWLEDGE]),
+        ],
+        outcomes: &[Outcome::Live],
+        held: Some((1, CallState::Active)),
+        is_broken: false,
+    },
+    Worked {
+        name: "its end disconnects a call that is asked for",
+        bookings: &[(10, 43, 1, false)],
+        steps: &[
+            Step::Linked(10, &[], &[SETUP]),
+            Step::Without(40),
+            Step::Linked(41, &[], &[STATUS_ENQUIRY]),
+            Step::Linked(43, &[], &[DISCONNECT_16]),
+            Step::Linked(43, FAR_RELEASE, &[RELEASE_COMPLETE]),
+        ],
+        outcomes: &[Outcome::Unanswered],
+        held: None,
+        is_broken: false,
+    },
+    Worked {
+        name: "a call that is first offered in the first second with a link, and refused by a cause that passes, is offered a second later",
+        bookings: &[(10, 100, 1, false)],
+        steps: &[
+            Step::Without(30),
+            Step::Linked(31, &[], &[SETUP]),
+            Step::Linked(31, FAR_RELEASE_COMPLETE_44, &[]),
+            Step::Linked(32, &[], &[SETUP]),
+            Step::Linked(32, CONNECT, &[CONNECT_ACKNOWLEDGE]),
+        ],
+        outcomes: &[Outcome::Live],
+        held: Some((1, CallState::Active)),
+        is_broken: false,
+    },
+    Worked {
+        name: "refused in a later second it is too",
+        bookings: &[(10, 100, 1, false)],
+        steps: &[
+            Step::Without(30),
+            Step::Linked(31, &[], &[SETUP]),
+            Step::Linked(33, &[], &[]),
+            Step::Linked(33, FAR_RELEASE_COMPLETE_44, &[]),
+            Step::Linked(34, &[], &[SETUP]),
+            Step::Linked(34, CONNECT, &[CONNECT_ACKNOWLEDGE]),
+        ],
+        outcomes: &[Outcome::Live],
+        held: Some((1, CallState::Active)),
+        is_broken: false,
+    },
+    Worked {
+        name: "refused again it is over",
+        bookings: &[(10, 100, 1, false)],
+        steps: &[
+            Step::Without(30),
+            Step::Linked(31, &[], &[SETUP]),
+            Step::Linked(31, FAR_RELEASE_COMPLETE_44, &[]),
+            Step::Linked(32, &[], &[SETUP]),
+            Step::Linked(32, FAR_RELEASE_COMPLETE_44, &[]),
+        ],
+        outcomes: &[Outcome::Unanswered],
+        held: None,
+        is_broken: false,
+    },
+    Worked {
+        name: "refused by a busy user it is over at once",
+        bookings: &[(10, 100, 1, false)],
+        steps: &[
+            Step::Without(30),
+            Step::Linked(31, &[], &[SETUP]),
+            Step::Linked(31, FAR_RELEASE_COMPLETE_17, &[]),
+        ],
+        outcomes: &[Outcome::Unanswered],
+        held: None,
+        is_broken: false,
+    },
+    Worked {
+        name: "and refused without a cause",
+        bookings: &[(10, 100, 1, false)],
+        steps: &[
+            Step::Without(30),
+            Step::Linked(31, &[], &[SETUP]),
+            Step::Linked(31, FAR_RELEASE_COMPLETE, &[]),
+        ],
+        outcomes: &[Outcome::Unanswered],
+        held: None,
+        is_broken: false,
+    },
+    Worked {
+        name: "not answered it is offered once more",
+        bookings: &[(10, 100, 1, false)],
+        steps: &[
+            Step::Without(30),
+            Step::Linked(31, &[], &[SETUP]),
+            Step::Linked(35, &[], &[SETUP]),
+            Step::Linked(39, &[], &[RELEASE_COMPLETE_102]),
+        ],
+        outcomes: &[Outcome::Unanswered],
+        held: None,
+        is_broken: false,
+    },
+    Worked {
+        name: "and refused then, it is over",
+        bookings: &[(10, 100, 1, false)],
+        steps: &[
+            Step::Without(30),
+            Step::Linked(31, &[], &[SETUP]),
+            Step::Linked(35, &[], &[SETUP]),
+            Step::Linked(35, FAR_RELEASE_COMPLETE_44, &[]),
+        ],
+        outcomes: &[Outcome::Unanswered],
+        held: None,
+        is_broken: false,
+    },
+    Worked {
+        name: "in any second but the first with a link a refusal ends it",
+        bookings: &[(32, 100, 1, false)],
+        steps: &[
+            Step::Without(30),
+            Step::Linked(32, &[], &[SETUP]),
+            Step::Linked(32, FAR_RELEASE_COMPLETE_44, &[]),
+        ],
+        outcomes: &[Outcome::Unanswered],
+        held: None,
+        is_broken: false,
+    },
+    Worked {
+        name: "so it does where there was no outage",
+        bookings: &[(10, 100, 1, false)],
+        steps: &[
+            Step::Linked(10, &[], &[SETUP]),
+            Step::Linked(10, FAR_RELEASE_COMPLETE_44, &[]),
+        ],
+        outcomes: &[Outcome::Unanswered],
+        held: None,
+        is_broken: false,
     },
 ];
 
@@ -629,6 +894,18 @@ fn worked_outages(rt: HostRuntime) {
 #[test]
 fn reported_calls(rt: HostRuntime) {
     for worked in &REPORTED {
+        let name = worked.name;
+        assert!(rt; day_goes(rt.alloc(), worked, false) == Some(true), "{name}");
+        assert!(rt;
+            day_goes(rt.alloc(), worked, true) == Some(true),
+            "at once: {name}"
+        );
+    }
+}
+
+#[test]
+fn offered_calls(rt: HostRuntime) {
+    for worked in &OFFERED {
         let name = worked.name;
         assert!(rt; day_goes(rt.alloc(), worked, false) == Some(true), "{name}");
         assert!(rt;

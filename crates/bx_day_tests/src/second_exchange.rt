@@ -7,13 +7,28 @@ use bx_channels::Channel;
 use bx_day::{Exchange, Outcome};
 use bx_worked_days::Row;
 
-/// A live call: the number of its state, what is left of its timer, whether its message was sent again, how often the timer
-/// of an Active call is due before that is cleared, if one runs, and its reference.
+/// What becomes of a call that is offered, after seconds without a link.
+#[derive(Clone, Copy, PartialEq, Eq)]
+enum Offer {
+    /// Nothing but what becomes of any.
+    Plain,
+    /// It was offered first in the first second with a link.
+    Anew,
+    /// It is offered as for the first time when its timer is due.
+    PutOff,
+    /// It is asked for when its timer is due.
+    Unlinked,
+    Asked,
+}
+
+/// A live call: the number of its state, what is left of its timer, how often its message is sent again, how it is offered, how
+/// often the timer of an Active call is due before that is cleared, if one runs, and its reference.
 #[derive(Clone, Copy)]
 struct Live {
     state: u8,
     left: u32,
-    again: bool,
+    tries: u8,
+    offer: Offer,
     asks: u8,
     reference: u16,
 }
@@ -25,6 +40,13 @@ enum Course {
     Live(Live),
     Over,
     Missed,
+}
+
+/// Whether there is a link in a second, and whether there was none in the second before.
+#[derive(Clone, Copy)]
+struct Link {
+    linked: bool,
+    back: bool,
 }
 
 /// A booking, and when its call became and left Active.
@@ -58,6 +80,14 @@ impl Booked {
         }
     }
 
+    /// How the call is offered, where it is.
+    fn offer(&self) -> Offer {
+        match self.course {
+            Course::Live(live) if live.state == 6 => live.offer,
+            _ => Offer::Plain,
+        }
+    }
+
     fn runs_at(&self, now: u32) -> bool {
         self.row.0 <= now && now < self.row.1
     }
@@ -76,36 +106,60 @@ impl Booked {
         let live = Live {
             state,
             left,
-            again: false,
+            tries: 1,
+            offer: Offer::Plain,
             asks: 0,
             reference,
         };
         self.becomes(Course::Live(live), now);
     }
 
+    /// The call goes on in its state, offered so where it is.
+    fn is_offered(&mut self, live: Live, offer: Offer, left: u32) {
+        self.course = Course::Live(Live {
+            left,
+            offer,
+            ..live
+        });
+    }
+
+    /// What the timer of a call does that is offered.
+    fn fires_offered(&mut self, live: Live, now: u32) {
+        match live.offer {
+            Offer::Plain if live.tries == 0 => self.becomes(Course::Over, now),
+            Offer::Plain | Offer::Anew => {
+                self.is_offered(Live { tries: 0, ..live }, Offer::Plain, 4);
+            }
+            Offer::PutOff | Offer::Asked => {
+                self.is_offered(Live { tries: 1, ..live }, Offer::Plain, 4);
+            }
+            Offer::Unlinked => self.is_offered(live, Offer::Asked, 4),
+        }
+    }
+
     /// What a timer does that is due; whether the channel goes into maintenance.
     fn fires(&mut self, live: Live, now: u32) -> bool {
-        match (live.state, live.again) {
-            (6 | 19, false) => {
-                self.course = Course::Live(Live {
-                    left: 4,
-                    again: true,
-                    ..live
-                });
-            }
-            (10, _) if live.asks > 1 => {
+        match live.state {
+            6 => self.fires_offered(live, now),
+            10 if live.asks > 1 => {
                 self.course = Course::Live(Live {
                     left: 4,
                     asks: live.asks - 1,
                     ..live
                 });
             }
-            (6, true) => self.becomes(Course::Over, now),
-            (19, true) => {
+            19 if live.tries > 0 => {
+                self.course = Course::Live(Live {
+                    left: 4,
+                    tries: live.tries - 1,
+                    ..live
+                });
+            }
+            19 => {
                 self.becomes(Course::Over, now);
                 return true;
             }
-            (12, _) => self.goes_to(live.reference, 19, 4, now),
+            12 => self.goes_to(live.reference, 19, 4, now),
             _ => self.goes_to(live.reference, 12, 30, now),
         }
         false
@@ -118,10 +172,12 @@ impl Booked {
             self.goes_to(live.reference, 12, if linked { 30 } else { 1 }, now);
         } else if linked && live.state == 3 {
             self.goes_to(live.reference, 10, 0, now);
+        } else if !linked && live.state == 6 {
+            self.is_offered(live, Offer::Unlinked, 1);
         } else if !linked && (clears || live.state == 10) {
             self.course = Course::Live(Live {
                 left: 1,
-                again: false,
+                tries: 2,
                 asks: if clears { 0 } else { 3 },
                 ..live
             });
@@ -135,12 +191,22 @@ impl Booked {
         false
     }
 
+    /// Offers the call of this row number; back says whether there was no link in the second before.
+    fn is_begun(&mut self, number: u16, now: u32, back: bool) {
+        self.goes_to(number, 6, 4, now);
+        if let Course::Live(live) = self.course
+            && back
+        {
+            self.is_offered(live, Offer::Anew, 4);
+        }
+    }
+
     /// A second of a booking of this row number; free says whether its channel may be taken.
-    fn second(&mut self, number: u16, now: u32, linked: bool, free: bool) -> bool {
+    fn second(&mut self, number: u16, now: u32, link: Link, free: bool) -> bool {
         match self.course {
-            Course::Live(live) => return self.goes_on(live, now, linked),
-            Course::Waits if linked && free && !self.row.3 && self.runs_at(now) => {
-                self.goes_to(number, 6, 4, now);
+            Course::Live(live) => return self.goes_on(live, now, link.linked),
+            Course::Waits if link.linked && free && !self.row.3 && self.runs_at(now) => {
+                self.is_begun(number, now, link.back);
             }
             Course::Waits if self.row.1 <= now => self.course = Course::Missed,
             _ => {}
@@ -168,9 +234,34 @@ impl Booked {
         asked && heard.kind == 0x7D && other
     }
 
+    /// Whether this tells of a call that is offered and asked for that it is up, or about to be.
+    fn is_answered(&self, heard: &Heard<'_>) -> bool {
+        self.offer() == Offer::Asked && heard.kind == 0x7D && matches!(heard.state(), Some(8 | 10))
+    }
+
+    /// Whether this refuses a call that was offered after seconds without a link, for now, or tells that it is not there.
+    fn is_put_off(&self, heard: &Heard<'_>) -> bool {
+        match (self.offer(), heard.kind) {
+            (Offer::Plain, _) => false,
+            (_, 0x5A) => matches!(heard.cause(), Some(41 | 42 | 44 | 47 | 102)),
+            (Offer::Asked, 0x7D) => heard.state() == Some(0),
+            _ => false,
+        }
+    }
+
     fn hears(&mut self, heard: &Heard<'_>, reference: u16, now: u32) {
         if self.is_given_up(heard) {
             self.goes_to(reference, 19, 4, now);
+            return;
+        }
+        if self.is_answered(heard) {
+            self.goes_to(reference, 10, 0, now);
+            return;
+        }
+        if let Course::Live(live) = self.course
+            && self.is_put_off(heard)
+        {
+            self.is_offered(live, Offer::PutOff, 1);
             return;
         }
         let call = Call {
@@ -208,6 +299,8 @@ impl Booked {
 #[derive(Drop)]
 pub(crate) struct Second {
     now: u32,
+    /// Whether there was a link in the last second.
+    linked: bool,
     booked: [Booked; 6],
     broken: [bool; 3],
 }
@@ -216,6 +309,7 @@ impl Second {
     pub(crate) fn opened(rows: &[Row; 6]) -> Second {
         Second {
             now: 0,
+            linked: true,
             booked: [
                 Booked::opened(rows[0]),
                 Booked::opened(rows[1]),
@@ -250,10 +344,15 @@ impl Second {
     pub(crate) fn second(&mut self, linked: bool) {
         self.now = self.now.saturating_add(1);
         let free = [false, self.is_free(1), self.is_free(2)];
+        let link = Link {
+            linked,
+            back: !self.linked,
+        };
+        self.linked = linked;
         for (number, booked) in (1..).zip(self.booked.iter_mut()) {
             let channel = booked.row.2 as usize;
             let is_free = free.get(channel) == Some(&true);
-            if booked.second(number, self.now, linked, is_free)
+            if booked.second(number, self.now, link, is_free)
                 && let Some(broken) = self.broken.get_mut(channel)
             {
                 *broken = true;

@@ -9,6 +9,7 @@ use Rattle.bx_calls.specs.declared.transition.Next.TheVariants.{Live, Over, Brok
 use Rattle.bx_calls.specs.declared.user_state.Policy.TheVariants.{Answer, Clear}
 use Rattle.bx_calls.specs.declared.user_state.UserOrigin.{UserOrigin}
 use Rattle.bx_calls.specs.declared.user_state.UserOrigin.TheVariants.{Offered}
+use Rattle.bx_calls.specs.declared.times.Times.TheVariants.{NotYet, Once, Twice}
 use Rattle.bx_calls.specs.declared.user_state.UserState.{UserState}
 use Rattle.bx_calls.specs.declared.user_state.UserState.TheVariants.{CallInitiated, OutgoingCallProceeding, CallPresent, CallReceived, ConnectRequest, IncomingCallProceeding, Active, DisconnectRequest, ReleaseRequest}
 use Rattle.bx_calls.specs.Hearing.{Heard, names_channel, reports_null}
@@ -75,8 +76,9 @@ second_row_keeps c t (CallInitiated false due) = either c.channel (nat_le due t)
 second_row_keeps c t (CallInitiated true due) = either c.channel (nat_le due t) _ _ tt refl
 second_row_keeps c t (OutgoingCallProceeding due) = either c.channel (nat_le due t) _ _ refl refl
 second_row_keeps c t (DisconnectRequest cause due) = either c.channel (nat_le due t) _ _ refl refl
-second_row_keeps c t (ReleaseRequest false cause due) = either c.channel (nat_le due t) _ _ refl refl
-second_row_keeps c t (ReleaseRequest true cause due) = either c.channel (nat_le due t) _ _ tt refl
+second_row_keeps c t (ReleaseRequest Twice cause due) = either c.channel (nat_le due t) _ _ tt refl
+second_row_keeps c t (ReleaseRequest NotYet cause due) = either c.channel (nat_le due t) _ _ refl refl
+second_row_keeps c t (ReleaseRequest Once cause due) = either c.channel (nat_le due t) _ _ refl refl
 
 pub second_keeps : (c : PlainUserCall) (t : ℕ) → Keeps c.channel (user_second c t).next
 second_keeps c t = second_row_keeps c t c.state

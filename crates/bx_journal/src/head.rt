@@ -4,7 +4,7 @@ ghost use Rattle.std.specs.Prelude.{◌≡◌};
 
 /// The number of the rules by which the events of a journal are replayed. A journal of other rules would tell another day, so it is
 /// refused. It is to be raised with each change of what an event does to a day.
-pub const RULES: u32 = 1;
+pub const RULES: u32 = 2;
 
 /// What the day of a journal is.
 #[derive(Clone, Copy, Debug, PartialEq, Eq)]

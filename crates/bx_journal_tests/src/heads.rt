@@ -11,9 +11,9 @@ type Row = (&'static [u8], Option<JournalFault>, Option<JournalFault>);
 
 /// First lines.
 static FIRST: [Row; 9] = [
-    (b"bx-journal 2 rules 1", None, None),
+    (b"bx-journal 2 rules 2", None, None),
     (
-        b"bx-journal 2 rules 2",
+        b"bx-journal 2 rules 3",
         Some(JournalFault::OtherRules),
         Some(JournalFault::OtherRules),
     ),
@@ -38,7 +38,7 @@ static FIRST: [Row; 9] = [
         Some(JournalFault::BadLine(1)),
     ),
     (
-        b"bx-journal 2 rules 1 ",
+        b"bx-journal 2 rules 2 ",
         Some(JournalFault::BadLine(1)),
         Some(JournalFault::BadLine(1)),
     ),
@@ -152,7 +152,7 @@ fn each_first_line_has_its_fault(rt: HostRuntime) -> Result<(), Fail> {
 #[test]
 fn each_third_line_has_its_fault(rt: HostRuntime) -> Result<(), Fail> {
     let prefix =
-        b"bx-journal 2 rules 1\nplan abababababababababababababababababababababababababababababababab\n";
+        b"bx-journal 2 rules 2\nplan abababababababababababababababababababababababababababababababab\n";
     let any = Wanted::of_any_day(&PLAN);
     let mut all = true;
     for row in &THIRD {
@@ -167,9 +167,9 @@ fn each_third_line_has_its_fault(rt: HostRuntime) -> Result<(), Fail> {
 
 #[test]
 fn the_first_fault_of_a_head_is_answered(rt: HostRuntime) -> Result<(), Fail> {
-    let rules_and_plan = b"bx-journal 2 rules 2\nplan ab\nday live 1 1\n".as_slice();
+    let rules_and_plan = b"bx-journal 2 rules 3\nplan ab\nday live 1 1\n".as_slice();
     let plan_and_day =
-        b"bx-journal 2 rules 1\nplan 0bababababababababababababababababababababababababababababababab\nday live 1 1\n".as_slice();
+        b"bx-journal 2 rules 2\nplan 0bababababababababababababababababababababababababababababababab\nday live 1 1\n".as_slice();
     assert!(rt; reading(rules_and_plan, &HEAD.wanted()).answer == Err(JournalFault::OtherRules));
     assert!(rt; reading(plan_and_day, &HEAD.wanted()).answer == Err(JournalFault::OtherPlan));
     Ok(())

@@ -106,7 +106,7 @@ fn version_line(line: &[u8], wants_day: bool) -> Option<JournalFault> {
         return Some(JournalFault::BadLine(1));
     };
     match number(digits) {
-        Some(1) => None,
+        Some(2) => None,
         Some(_) => Some(JournalFault::OtherRules),
         None => Some(JournalFault::BadLine(1)),
     }

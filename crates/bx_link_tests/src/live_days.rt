@@ -10,7 +10,8 @@ use std::alloc::Global;
 
 /// A peer is lost in the first second after an end of turn that is none; the second has none; in the third one comes, asks for
 /// a call that is unknown and ends its turn; the fourth begins late; in the fifth it sends half a frame; the sixth has none; in
-/// the last two one ends its turns. No timer runs in the second, the fourth and the sixth, so T303 is due in the eighth.
+/// the last two one ends its turns. Behind the second, the fourth and the sixth the call is asked for, and T322 is not over in the
+/// eighth.
 static SECONDS: [Scene; 8] = [
     Scene {
         begin: Begin::Joined,
@@ -52,12 +53,12 @@ static OPENED: [u8; 32] = [
     0x31, 0x32, 0x33, 0x34, 2, 0, 4, 0, 0, 0, 1,
 ];
 
-/// The end of the turn of moment 3, the refusal of the unknown call, the ends of the turns of moments 5 and 7, and the SETUP once
-/// more, with the end of the turn of moment 8.
-static FOLLOWING: [u8; 65] = [
-    2, 0, 4, 0, 0, 0, 3, 1, 0, 9, 8, 2, 0, 9, 0x5A, 8, 2, 0x82, 0xD1, 2, 0, 4, 0, 0, 0, 5, 2, 0, 4,
-    0, 0, 0, 7, 1, 0, 0x16, 8, 2, 0, 1, 5, 0xA1, 4, 2, 0x88, 0x90, 0x18, 3, 0xA9, 0x83, 0x81, 0x70,
-    5, 0x81, 0x31, 0x32, 0x33, 0x34, 2, 0, 4, 0, 0, 0, 8,
+/// STATUS ENQUIRY with the end of the turn of moment 3, the refusal of the unknown call, the same of moments 5 and 7, and the end of
+/// the turn of moment 8.
+static FOLLOWING: [u8; 64] = [
+    1, 0, 5, 8, 2, 0, 1, 0x75, 2, 0, 4, 0, 0, 0, 3, 1, 0, 9, 8, 2, 0, 9, 0x5A, 8, 2, 0x82, 0xD1, 1,
+    0, 5, 8, 2, 0, 1, 0x75, 2, 0, 4, 0, 0, 0, 5, 1, 0, 5, 8, 2, 0, 1, 0x75, 2, 0, 4, 0, 0, 0, 7, 2,
+    0, 4, 0, 0, 0, 8,
 ];
 
 fn letter(mark: &Mark) -> u8 {
@@ -156,13 +157,14 @@ fn a_log_fails(rt: HostRuntime) {
     let alloc = rt.alloc();
     assert!(rt; stops(alloc, 0, 100, 0, b"", 0) == Some(true));
     assert!(rt; stops(alloc, 1, 100, 1, b"t", 32) == Some(true));
-    assert!(rt; stops(alloc, 3, 100, 3, b"tdt", 39) == Some(true));
-    assert!(rt; stops(alloc, 4, 100, 3, b"tdth", 51) == Some(true));
+    assert!(rt; stops(alloc, 3, 100, 3, b"tdt", 47) == Some(true));
+    assert!(rt; stops(alloc, 4, 100, 3, b"tdth", 59) == Some(true));
 }
 
 #[test]
 fn a_sync_fails(rt: HostRuntime) {
     let alloc = rt.alloc();
     assert!(rt; stops(alloc, 100, 0, 1, b"t", 0) == Some(true));
-    assert!(rt; stops(alloc, 100, 1, 3, b"tdth", 39) == Some(true));
+    assert!(rt; stops(alloc, 100, 1, 3, b"tdt", 32) == Some(true));
+    assert!(rt; stops(alloc, 100, 2, 3, b"tdth", 47) == Some(true));
 }

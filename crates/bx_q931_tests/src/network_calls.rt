@@ -130,7 +130,7 @@ fn is_offered(call: &NetCall, setup: &Out, channel: Channel) -> bool {
 fn calls_that_the_network_begins(rt: HostRuntime) -> Result<(), Fail> {
     let channel = Channel::new(1).ok_or("a channel")?;
     let number = Number::new(b"1234").ok_or("a number")?;
-    let (call, setup) = NetCall::offered(1, channel, number, 100);
+    let (call, setup) = NetCall::offered(1, channel, number, false, 100);
     assert!(rt; is_offered(&call, &setup, channel), "offered");
     for (name, rows) in &OFFERED {
         assert!(rt; net_goes(call, 200, rows), "{name}");
@@ -139,12 +139,14 @@ fn calls_that_the_network_begins(rt: HostRuntime) -> Result<(), Fail> {
 }
 
 /// What becomes of an Active call that is asked for, where this call state is reported of it: it is over, goes on where the state is
-/// one of these, or is released so.
+/// one of these, or is released so. One that waits for CONNECT ACKNOWLEDGE has it sent again.
 fn goes_as_reported(call: NetCall, state: u8, fitting: &[u8], release: &[u8]) -> bool {
     let flag = if call.flag() { 0x00 } else { 0x80 };
     let octets = [0x08, 0x02, flag, 0x01, 0x7D, 0x14, 0x01, state];
     let (sent, after): (&[u8], After) = if state == 0 {
         (&[], After::Over)
+    } else if state == 8 && !call.flag() {
+        (CONNECT_ACKNOWLEDGE, ACTIVE)
     } else if fitting.contains(&state) {
         (&[], ACTIVE)
     } else {
@@ -175,7 +177,7 @@ fn following(call: NetCall, octets: &[u8]) -> Option<NetCall> {
 fn call_states_that_are_reported(rt: HostRuntime) -> Result<(), Fail> {
     let channel = Channel::new(1).ok_or("a channel")?;
     let number = Number::new(b"1234").ok_or("a number")?;
-    let (offered, _) = NetCall::offered(1, channel, number, 100);
+    let (offered, _) = NetCall::offered(1, channel, number, false, 100);
     let active = following(offered, CONNECT).ok_or("a call that is answered")?;
     assert_eq!(rt; first_odd_report(&active, &[8, 10], RELEASE_101), None);
     let (answered, _) = NetCall::answered(1, channel, 100);
@@ -186,6 +188,36 @@ fn call_states_that_are_reported(rt: HostRuntime) -> Result<(), Fail> {
         first_odd_report(&active, &[1, 3, 10], ANSWERED_RELEASE_101),
         None
     );
+    Ok(())
+}
+
+/// Whether a call that is offered goes on where it is refused with this cause.
+fn outlasts(call: &NetCall, cause: u8) -> bool {
+    let octets = [0x08, 0x02, 0x80, 0x01, 0x5A, 0x08, 0x02, 0x80, 0x80 | cause];
+    match following(*call, &octets) {
+        Some(live) => live.state() == CallState::CallPresent && live.due() == Some(101),
+        None => false,
+    }
+}
+
+/// The first cause with which it does so though it is none of these, or does not though it is.
+fn first_odd_refusal(call: &NetCall, passing: &[u8]) -> Option<u8> {
+    for cause in 0..128 {
+        if outlasts(call, cause) != passing.contains(&cause) {
+            return Some(cause);
+        }
+    }
+    None
+}
+
+#[test]
+fn causes_of_refusals(rt: HostRuntime) -> Result<(), Fail> {
+    let channel = Channel::new(1).ok_or("a channel")?;
+    let number = Number::new(b"1234").ok_or("a number")?;
+    let (offered, _) = NetCall::offered(1, channel, number, false, 100);
+    assert_eq!(rt; first_odd_refusal(&offered, &[]), None);
+    let (anew, _) = NetCall::offered(1, channel, number, true, 100);
+    assert_eq!(rt; first_odd_refusal(&anew, &[41, 42, 44, 47, 102]), None);
     Ok(())
 }
 

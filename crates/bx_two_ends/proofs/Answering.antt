@@ -11,13 +11,14 @@ use Rattle.bx_q931.specs.declared.kind.Kind.TheVariants.{Alerting, CallProceedin
 use Rattle.bx_q931.specs.declared.reference.Reference.{Reference}
 use Rattle.bx_q931.specs.declared.reference.Reference.TheVariants.{Dummy, Value}
 use Rattle.bx_calls.specs.Hearing.{Heard, names_channel, reports_null}
-use Rattle.bx_calls.specs.NetTable.{net_row, net_awake_state, net_flag, net_is_clearing}
+use Rattle.bx_calls.specs.NetTable.{net_is_put_off, net_row, net_awake_state, net_flag, net_is_clearing}
 use Rattle.bx_calls.specs.PlainCalls.{PlainNetCall}
 use Rattle.bx_calls.specs.Said.{Said, said_of}
 use Rattle.bx_calls.specs.Shared.{bool_eq}
 use Rattle.bx_calls.specs.Sending.{Answered, unchanged}
 use Rattle.bx_calls.specs.declared.net_state.NetOrigin.{NetOrigin}
 use Rattle.bx_calls.specs.declared.net_state.NetOrigin.TheVariants.{Outward, Inward}
+use Rattle.bx_calls.specs.declared.net_state.Offer.TheVariants as offers
 use Rattle.bx_calls.specs.declared.net_state.NetState.{NetState}
 use Rattle.bx_calls.specs.declared.net_state.NetState.TheVariants.{OutgoingCallProceeding, CallPresent, IncomingCallProceeding, CallReceived, Active, Enquiring, DisconnectIndication, ReleaseRequest}
 use Rattle.bx_calls.specs.declared.transition.Transition.{Transition}
@@ -371,10 +372,22 @@ pub not_going : (b : Bool) → not b ≡ true → b ≡ false
 not_going true x = absurd (false≢true x)
 not_going false x = refl
 
+-- what puts an offer off clears a call that goes on
+pub put_off_clears : (ch : ℕ) (s : NetState) (m : Heard) (k : Kind) → net_is_put_off s m k ≡ true → clears_by ch m k ≡ true
+put_off_clears ch (CallPresent offer due) m ReleaseComplete q = refl
+put_off_clears ch (CallPresent offers.Asked due) m Status q = q
+put_off_clears ch (CallPresent offer due) m k q = absurd (false≢true q)
+put_off_clears ch s m k q = absurd (false≢true q)
+
 -- one that is settled
 up_hears : (t : ℕ) (e : Entry) (m : Said) (s : Standing) → StandingFits t e s → clears_by e.channel m.heard m.heard.kind ≡ false → is_up s ≡ true → is_up (hears m t s).standing ≡ true
 up_hears t e m (OnCall c a) fits spared h = heard_by (λ (x : Transition PlainNetCall). is_up (follows a t x).standing ≡ true) c m.heard t c.state m.heard.kind
-    (λ asked due is q. absurd (false≢true (subst (λ (s : NetState). is_settled_in s c.origin ≡ true) is h)))
+    (record {
+      contradicted = λ asked due is q. absurd (false≢true (subst (λ (s : NetState). is_settled_in s c.origin ≡ true) is h));
+      unacknowledged = λ asked due is q. absurd (false≢true (subst (λ (s : NetState). is_settled_in s c.origin ≡ true) is h));
+      connected = λ due is q. absurd (false≢true (subst (λ (s : NetState). is_settled_in s c.origin ≡ true) is h));
+      put_off = λ offer due is q. absurd (false≢true (subst (λ (s : NetState). is_settled_in s c.origin ≡ true) is h));
+    })
     (up_row c.reference c.channel c.origin (net_awake_state c.state) a m.heard t m.heard.kind (awake_settled c.state c.origin h) (subst (λ ch. clears_by ch m.heard m.heard.kind ≡ false) (sym fits.channel) spared))
 up_hears t e m s fits spared h = absurd (false≢true h)
 
@@ -384,7 +397,12 @@ rings_hears t e0 e m octets rest (OnCall c a) fits is spared rings named told =
     let x = net_awake_state c.state in
     let p = ringing_going (OnCall (call_of c.reference c.channel c.origin x) a) (awake_ringing c.state rings) in
     let g : GoesOn c.reference c.origin x m.heard.kind (hears m t (OnCall c a)).standing = heard_by (λ (y : Transition PlainNetCall). GoesOn c.reference c.origin x m.heard.kind (follows a t y).standing) c m.heard t c.state m.heard.kind
-    (λ asked due is q. absurd (false≢true (subst (λ (s : NetState). is_ringing_in s ≡ true) is rings)))
+    (record {
+      contradicted = λ asked due is q. absurd (false≢true (subst (λ (s : NetState). is_ringing_in s ≡ true) is rings));
+      unacknowledged = λ asked due is q. absurd (false≢true (subst (λ (s : NetState). is_ringing_in s ≡ true) is rings));
+      connected = λ due is q. keep_row c.reference c.channel c.origin _ _ _ _ refl refl (λ _. refl);
+      put_off = λ offer due is q. absurd (true≢false (sym (put_off_clears e.channel c.state m.heard m.heard.kind q) ∙ spared));
+    })
     (going_row c.reference c.channel c.origin x a m.heard t m.heard.kind (not_going (net_is_clearing x) p.0) p.1 (subst (λ ch. clears_by ch m.heard m.heard.kind ≡ false) (sym fits.channel) spared)) in
     decide (is_ringing (hears m t (OnCall c a)).standing)
     (λ still. Rings still (λ x. names_same x c.reference c.origin (hears m t (OnCall c a)).standing g.same ∙ named x)
@@ -398,7 +416,12 @@ rings_hears t e0 e m octets rest s fits is spared rings named told = absurd (fal
 -- one that is asked for
 asked_hears : (t : ℕ) (e : Entry) (m : Said) (s : Standing) → StandingFits t e s → clears_by e.channel m.heard m.heard.kind ≡ false → contradicts s m.heard ≡ false → is_enquired s ≡ true → is_up (hears m t s).standing ≡ true
 asked_hears t e m (OnCall c a) fits spared agrees h = heard_by (λ (x : Transition PlainNetCall). is_up (follows a t x).standing ≡ true) c m.heard t c.state m.heard.kind
-    (λ asked due is q. absurd (true≢false (sym q ∙ agrees)))
+    (record {
+      contradicted = λ asked due is q. absurd (true≢false (sym q ∙ agrees));
+      unacknowledged = λ asked due is q. refl;
+      connected = λ due is q. absurd (false≢true (subst (λ (s : NetState). is_asked s ≡ true) is h));
+      put_off = λ offer due is q. absurd (false≢true (subst (λ (s : NetState). is_asked s ≡ true) is h));
+    })
     (asked_row c.reference c.channel c.origin c.state a m.heard t m.heard.kind h (subst (λ ch. clears_by ch m.heard m.heard.kind ≡ false) (sym fits.channel) spared))
 asked_hears t e m s fits spared agrees h = absurd (false≢true h)
 
@@ -490,7 +513,12 @@ clearing_live s h = absurd (false≢true h)
 pub clears_hears : (t : ℕ) (e0 e : Entry) (m : Said) (octets : List ℕ) (rest : List (List ℕ)) (s : Standing) → said_in_octets octets ≡ Some m → is_clearing s ≡ true → ((x : Said) → names_call x s ≡ names x e0) → is_told (λ x. is_release x.kind) e0 (octets ∷ rest) ≡ true → Passes e0 rest (with_standing e (hears m t s).standing)
 clears_hears t e0 e m octets rest (OnCall c a) is clearing named told =
     let g : GetsCleared c.reference c.origin m.heard.kind (hears m t (OnCall c a)).standing = heard_by (λ (x : Transition PlainNetCall). GetsCleared c.reference c.origin m.heard.kind (follows a t x).standing) c m.heard t c.state m.heard.kind
-    (λ asked due is q. absurd (false≢true (subst (λ (s : NetState). net_is_clearing s ≡ true) is clearing)))
+    (record {
+      contradicted = λ asked due is q. absurd (false≢true (subst (λ (s : NetState). net_is_clearing s ≡ true) is clearing));
+      unacknowledged = λ asked due is q. absurd (false≢true (subst (λ (s : NetState). net_is_clearing s ≡ true) is clearing));
+      connected = λ due is q. absurd (false≢true (subst (λ (s : NetState). net_is_clearing s ≡ true) is clearing));
+      put_off = λ offer due is q. absurd (false≢true (subst (λ (s : NetState). net_is_clearing s ≡ true) is clearing));
+    })
     (cleared_row c.reference c.channel c.origin (net_awake_state c.state) a m.heard t m.heard.kind (awake_clearing c.state clearing)) in
     decide (is_live (hears m t (OnCall c a)).standing)
     (λ live. Clears (g.clearing live) (λ x. names_same x c.reference c.origin (hears m t (OnCall c a)).standing (g.same live) ∙ named x)

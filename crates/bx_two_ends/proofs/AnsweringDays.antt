@@ -6,14 +6,15 @@ use Rattle.bx_base.specs.Channels.{IsChannelSet}
 use Rattle.bx_base.specs.Plans.{is_accepted, channel_at}
 use Rattle.bx_calls.specs.NetTable.{net_second}
 use Rattle.bx_calls.specs.PlainCalls.{PlainNetCall}
-use Rattle.bx_calls.specs.declared.net_state.Asked.TheVariants.{NotYet, Once, Twice}
+use Rattle.bx_calls.specs.declared.times.Times.TheVariants.{NotYet, Once, Twice}
+use Rattle.bx_calls.specs.declared.net_state.Offer.TheVariants.{Second}
 use Rattle.bx_calls.specs.declared.net_state.NetOrigin.{NetOrigin}
 use Rattle.bx_calls.specs.declared.net_state.NetState.{NetState}
 use Rattle.bx_calls.specs.declared.net_state.NetState.TheVariants.{OutgoingCallProceeding, CallPresent, IncomingCallProceeding, CallReceived, Active, Enquiring, DisconnectIndication, ReleaseRequest}
 use Rattle.bx_calls.specs.declared.transition.Transition.{Transition}
 use Rattle.bx_two_ends.specs.Answering.{Clears, Answers, EachHeard, ClearsAll, AnswersAll}
 use Rattle.bx_two_ends.proofs.Sparing.{turn_cleared}
-use Rattle.bx_day.specs.Day.{Day, entry_of, entries_from, entry_at, is_free, is_live, opening}
+use Rattle.bx_day.specs.Day.{is_back, Day, entry_of, entries_from, entry_at, is_free, is_live, opening}
 use Rattle.bx_two_ends.specs.Earning.{LiveSecond, Linked, Unlinked, heard_in, second_after, AreAnswered, IsAllAnswered, IsCleared, EachTurn, AreCleared}
 use Rattle.bx_day.specs.Moves.{follows}
 use Rattle.bx_day.specs.Outages.{without_link}
@@ -52,8 +53,8 @@ over_other a t = refl
 
 other_second : (t end r ch : ℕ) (o : NetOrigin) (s : NetState) (a : Activity) → IsOther (follows a t (net_second (call_of r ch o s) t end)).standing
 other_second t end r ch o OutgoingCallProceeding a = by_step (nat_le end t) a t _ _ refl refl
-other_second t end r ch o (CallPresent false due) a = by_step (nat_le end t) a t _ _ refl (by_step (nat_le due t) a t _ _ refl refl)
-other_second t end r ch o (CallPresent true due) a = by_step (nat_le end t) a t _ _ refl (by_step (nat_le due t) a t _ _ (over_other a t) refl)
+other_second t end r ch o (CallPresent Second due) a = by_step (nat_le end t) a t _ _ refl (by_step (nat_le due t) a t _ _ (over_other a t) refl)
+other_second t end r ch o (CallPresent offer due) a = by_step (nat_le end t) a t _ _ refl (by_step (nat_le due t) a t _ _ refl refl)
 other_second t end r ch o (IncomingCallProceeding due) a = by_step (nat_le end t) a t _ _ refl (by_step (nat_le due t) a t _ _ refl refl)
 other_second t end r ch o (CallReceived due) a = by_step (nat_le end t) a t _ _ refl (by_step (nat_le due t) a t _ _ refl refl)
 other_second t end r ch o Active a = by_step (nat_le end t) a t _ _ refl refl
@@ -61,16 +62,16 @@ other_second t end r ch o (Enquiring NotYet due) a = by_step (nat_le end t) a t 
 other_second t end r ch o (Enquiring Once due) a = by_step (nat_le end t) a t _ _ refl (by_step (nat_le due t) a t _ _ refl refl)
 other_second t end r ch o (Enquiring Twice due) a = by_step (nat_le end t) a t _ _ refl (by_step (nat_le due t) a t _ _ refl refl)
 other_second t end r ch o (DisconnectIndication cause due) a = by_step (nat_le due t) a t _ _ refl refl
-other_second t end r ch o (ReleaseRequest false cause due) a = by_step (nat_le due t) a t _ _ refl refl
-other_second t end r ch o (ReleaseRequest true cause due) a = by_step (nat_le due t) a t _ _ (over_other a t) refl
+other_second t end r ch o (ReleaseRequest Twice cause due) a = by_step (nat_le due t) a t _ _ (over_other a t) refl
+other_second t end r ch o (ReleaseRequest sent cause due) a = by_step (nat_le due t) a t _ _ refl refl
 
-other_waits : (e : Entry) (t : ℕ) (free : Bool) → IsOther (waits e t free).standing
-other_waits e t free = by_cases (offers e t free) _ _ (λ (m : Moved). IsOther m.standing) (λ _. refl) (λ _. by_cases (nat_le e.booking.end t) _ _ (λ (m : Moved). IsOther m.standing) (λ _. refl) (λ _. refl))
+other_waits : (e : Entry) (t : ℕ) (back free : Bool) → IsOther (waits e t back free).standing
+other_waits e t back free = by_cases (offers e t free) _ _ (λ (m : Moved). IsOther m.standing) (λ _. refl) (λ _. by_cases (nat_le e.booking.end t) _ _ (λ (m : Moved). IsOther m.standing) (λ _. refl) (λ _. refl))
 
-other_tick : (t : ℕ) (e : Entry) (free : Bool) (s : Standing) → IsOther (second_at e t free s).standing
-other_tick t e free (OnCall c a) = other_second t e.booking.end c.reference c.channel c.origin c.state a
-other_tick t e free Unoffered = other_waits e t free
-other_tick t e free s = refl
+other_tick : (t : ℕ) (e : Entry) (back free : Bool) (s : Standing) → IsOther (second_at e t back free s).standing
+other_tick t e back free (OnCall c a) = other_second t e.booking.end c.reference c.channel c.origin c.state a
+other_tick t e back free Unoffered = other_waits e t back free
+other_tick t e back free s = refl
 
 -- ---- all seconds
 
@@ -109,7 +110,7 @@ each_run rows assigned P Q f g (Unlinked ∷ ss) d h ok few =
     subst (EachTurn Q ss) (sym is) (each_run rows assigned P Q f g ss (passed_in Down d).day (unlinked_between rows assigned d early h) (subst (EachHeard P ss) is ok) (omega (arith, few)))
 
 answered_turn : (rows : List Row) (assigned : List (Option ℕ)) (d : Day) (received : List (List ℕ)) → d.moment < 300000 → IsBetween rows assigned d → Answers (passed_in Up d).day received → IsAllAnswered (passed_in Up d).day (heard_in received (passed_in Up d).day)
-answered_turn rows assigned d received early h ok = turn_answered rows assigned (d.moment + 1) received (passed_in Up d).day (hearing_at rows assigned d early h) ok (λ j. let e = entry_at d.entries j in subst IsOther (sym (after_standing Up d j)) (other_tick (d.moment + 1) e (is_free d e.channel) e.standing))
+answered_turn rows assigned d received early h ok = turn_answered rows assigned (d.moment + 1) received (passed_in Up d).day (hearing_at rows assigned d early h) ok (λ j. let e = entry_at d.entries j in subst IsOther (sym (after_standing Up d j)) (other_tick (d.moment + 1) e (is_back d) (is_free d e.channel) e.standing))
 
 cleared_turn : (rows : List Row) (assigned : List (Option ℕ)) (d : Day) (received : List (List ℕ)) → d.moment < 300000 → IsBetween rows assigned d → Clears (passed_in Up d).day received → IsCleared (passed_in Up d).day (heard_in received (passed_in Up d).day)
 cleared_turn rows assigned d received early h ok = turn_cleared rows assigned (d.moment + 1) received (passed_in Up d).day (hearing_at rows assigned d early h) ok

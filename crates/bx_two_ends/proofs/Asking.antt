@@ -1,5 +1,5 @@
--- A call that is asked for in vain is not Active for long, and without an outage none is asked for.
-use Rattle.std.proofs.Common.{◌≡◌, ℕ, zero, suc, ◌+◌, ◌≤◌, ◌<◌, Bool, true, false, List, [], ◌∷◌, map, Option, Some, None, arith, refl, sym, ap, subst, ◌∙◌, not, ◌&&◌, nat_le, Result, Ok, Err, ◌==◌}
+-- A call that is asked for in vain is not Active for long, and without an outage none is touched.
+use Rattle.std.proofs.Common.{◌≡◌, ℕ, zero, suc, ◌+◌, ◌≤◌, ◌<◌, Bool, true, false, List, [], ◌∷◌, map, Option, Some, None, arith, refl, sym, ap, subst, ◌∙◌, not, ◌&&◌, nat_le, nat_lt, Result, Ok, Err, ◌==◌, ◌||◌, if◌then◌else◌}
 use Rattle.std.specs.List.{AllByRecursion, position}
 use Rattle.std.proofs.lemmas.Bool.{leb-false, true≢false, false≢true}
 use Rattle.bx_q931.specs.Messages.{PlainMessage, message_at}
@@ -16,14 +16,16 @@ use Rattle.bx_calls.specs.declared.transition.Next.{Next}
 use Rattle.bx_calls.specs.declared.transition.Next.TheVariants.{Live, Over, Broken}
 use Rattle.bx_calls.specs.declared.transition.Transition.{Transition}
 use Rattle.bx_calls.specs.PlainCalls.{PlainNetCall}
+use Rattle.bx_calls.specs.declared.net_state.Offer.{Offer}
+use Rattle.bx_calls.specs.declared.net_state.Offer.TheVariants.{Asked, Unlinked, PutOff, Anew, Second, First}
 use Rattle.bx_calls.specs.declared.net_state.NetOrigin.{NetOrigin}
 use Rattle.bx_calls.specs.declared.net_state.NetOrigin.TheVariants.{Outward, Inward}
-use Rattle.bx_calls.specs.declared.net_state.Asked.{Asked}
-use Rattle.bx_calls.specs.declared.net_state.Asked.TheVariants.{NotYet, Once, Twice}
+use Rattle.bx_calls.specs.declared.times.Times.{Times}
+use Rattle.bx_calls.specs.declared.times.Times.TheVariants.{NotYet, Once, Twice}
 use Rattle.bx_calls.specs.declared.net_state.NetState.{NetState}
 use Rattle.bx_calls.specs.declared.net_state.NetState.TheVariants.{OutgoingCallProceeding, CallPresent, IncomingCallProceeding, CallReceived, Active, Enquiring, DisconnectIndication, ReleaseRequest}
 use Rattle.bx_calls.specs.Hearing.{Heard, names_channel, reports_null}
-use Rattle.bx_calls.specs.NetTable.{net_disconnects, net_is_clearing, net_awake_state, net_heard, net_message, fits_active, reports_other, net_row, net_second, net_unlinked}
+use Rattle.bx_calls.specs.NetTable.{waits_for_acknowledge, is_after_outage, net_to, net_put_off, net_is_unacknowledged, net_is_put_off, net_disconnects, net_is_clearing, net_awake_state, net_heard, net_message, fits_active, reports_other, net_row, net_second, net_unlinked}
 use Rattle.bx_calls.specs.Said.{Said, said_of}
 use Rattle.bx_calls.specs.Sending.{Sent, Answered}
 use Rattle.bx_day.specs.Day.{Day, entry_at, is_free, opening, entry_of, entries_from, every_channel}
@@ -31,7 +33,7 @@ use Rattle.bx_day.specs.Moves.{is_active, follows, over_at}
 use Rattle.bx_day.specs.Ticks.{after_in, second_at, waits}
 use Rattle.bx_day.specs.Receipts.{hears, takes_call, takes_or, takes_preferred, called_on, called, stray, received_at, opens, lowest_open, names, with_moved}
 use Rattle.bx_day.specs.Run.{receive_from, receive_read, happens, day_after}
-use Rattle.bx_two_ends.specs.Asking.{next_second, call_after, is_call_up, is_asked, StandingUnasked, EntryUnasked, DayUnasked}
+use Rattle.bx_two_ends.specs.Asking.{next_second, call_after, is_call_up, is_asked, is_touched, StandingUnasked, StandingUntouched, EntryUntouched, DayUntouched}
 use Rattle.bx_day.specs.declared.entry.Activity.{Activity}
 use Rattle.bx_day.specs.declared.entry.Activity.TheVariants.{Never}
 use Rattle.bx_day.specs.declared.entry.Entry.{Entry}
@@ -55,8 +57,8 @@ IsCleared step = is_cleared step.next ≡ true
 
 cleared_second : (c : PlainNetCall) (s : NetState) (t end : ℕ) → net_is_clearing s ≡ true → IsCleared (net_second (record c { state = s }) t end)
 cleared_second c (DisconnectIndication cause due) t end h = by_cases (nat_le due t) _ _ IsCleared (λ _. refl) (λ _. refl)
-cleared_second c (ReleaseRequest false cause due) t end h = by_cases (nat_le due t) _ _ IsCleared (λ _. refl) (λ _. refl)
-cleared_second c (ReleaseRequest true cause due) t end h = by_cases (nat_le due t) _ _ IsCleared (λ _. refl) (λ _. refl)
+cleared_second c (ReleaseRequest Twice cause due) t end h = by_cases (nat_le due t) _ _ IsCleared (λ _. refl) (λ _. refl)
+cleared_second c (ReleaseRequest sent cause due) t end h = by_cases (nat_le due t) _ _ IsCleared (λ _. refl) (λ _. refl)
 cleared_second c OutgoingCallProceeding t end h = absurd (false≢true h)
 cleared_second c (CallPresent again due) t end h = absurd (false≢true h)
 cleared_second c (IncomingCallProceeding due) t end h = absurd (false≢true h)
@@ -85,11 +87,11 @@ cleared_after (suc n) t end x h = cleared_after n (t + 1) end (next_second (t + 
 
 -- ---- a call that is asked for
 
-abbrev asked_as : PlainNetCall → Asked → ℕ → PlainNetCall
+abbrev asked_as : PlainNetCall → Times → ℕ → PlainNetCall
 asked_as c asked due = record c { state = Enquiring asked due }
 
 -- the moment at which it is cleared at the latest, where no word comes
-abbrev given_up : Asked → ℕ → ℕ
+abbrev given_up : Times → ℕ → ℕ
 given_up NotYet due = due + 8
 given_up Once due = due + 4
 given_up Twice due = due
@@ -97,7 +99,7 @@ given_up Twice due = due
 abbrev IsDown : ℕ → ℕ → ℕ → Transition PlainNetCall → Type 0
 IsDown n t end step = is_call_up (call_after n t end step.next) ≡ false
 
-asked_after : (n t end : ℕ) (c : PlainNetCall) (asked : Asked) (due : ℕ) → t < due → given_up asked due ≤ t + n → is_call_up (call_after n t end (Live (asked_as c asked due))) ≡ false
+asked_after : (n t end : ℕ) (c : PlainNetCall) (asked : Times) (due : ℕ) → t < due → given_up asked due ≤ t + n → is_call_up (call_after n t end (Live (asked_as c asked due))) ≡ false
 asked_after zero t end c NotYet due waits fit = absurd (omega (arith, waits, fit))
 asked_after zero t end c asked due waits fit = absurd (omega (arith, waits, fit))
 asked_after (suc n) t end c NotYet due waits fit =
@@ -145,155 +147,221 @@ is_null true c p q = refl
 is_null false true p q = absurd (true≢false q)
 is_null false false p q = absurd (true≢false p)
 
+either : (x y : Bool) → y ≡ true → (x || y) ≡ true
+either true y q = refl
+either false y q = q
+
+-- one that waits for CONNECT ACKNOWLEDGE fits
+waiting_fits : (o : NetOrigin) (asked : Times) (due : ℕ) (m : Heard) (n : ℕ) → m.state ≡ Some n → net_is_unacknowledged (Enquiring asked due) o m Status ≡ true → fits_active o n ≡ true
+waiting_fits (Outward called) asked due m n state q = either (n == 10) (n == 8) (sym (ap waits_for_acknowledge state) ∙ q)
+waiting_fits Inward asked due m n state q = absurd (false≢true q)
+
 report_ends : (c : PlainNetCall) (m : Heard) (t n : ℕ) (s : NetState) → is_asked s ≡ true → m.state ≡ Some n → fits_active c.origin n ≡ false → is_call_up (net_heard c m t s Status).next ≡ false
 report_ends c m t n (Enquiring asked due) a state unfit = by_cases (reports_other c.origin m.state) _ _ (λ (x : Transition PlainNetCall). is_call_up x.next ≡ false)
     (λ _. refl)
-    (λ q. (let null : reports_null m.state ≡ true = ap reports_null state ∙ is_null (n == 0) (fits_active c.origin n) (sym (ap (reports_other c.origin) state) ∙ q) unfit in
-    by_cases (reports_null m.state) _ _ (λ (x : Transition PlainNetCall). is_call_up x.next ≡ false) (λ _. refl) (λ p. absurd (true≢false (sym null ∙ p)))))
+    (λ q. by_cases (net_is_unacknowledged (Enquiring asked due) c.origin m Status) _ _ (λ (x : Transition PlainNetCall). is_call_up x.next ≡ false)
+    (λ waits. absurd (true≢false (sym (waiting_fits c.origin asked due m n state waits) ∙ unfit)))
+    (λ _. (let null : reports_null m.state ≡ true = ap reports_null state ∙ is_null (n == 0) (fits_active c.origin n) (sym (ap (reports_other c.origin) state) ∙ q) unfit in
+    by_cases (reports_null m.state) _ _ (λ (x : Transition PlainNetCall). is_call_up x.next ≡ false) (λ _. refl) (λ p. absurd (true≢false (sym null ∙ p))))))
 report_ends c m t n s a state unfit = absurd (false≢true a)
 
 pub reported_down : (c : PlainNetCall) (m : Heard) (t n : ℕ) → is_asked c.state ≡ true → m.kind ≡ Status → m.state ≡ Some n → fits_active c.origin n ≡ false → is_call_up (net_message c m t).next ≡ false
 reported_down c m t n a kind state unfit = subst (λ (k : Kind). is_call_up (net_heard c m t c.state k).next ≡ false) (sym kind) (report_ends c m t n c.state a state unfit)
 
--- a call that is not asked for does as the table of messages says
-pub unasked_row : (c : PlainNetCall) (m : Heard) (t : ℕ) → is_asked c.state ≡ false → net_message c m t ≡ net_row c m t c.state m.kind
-unasked_row c m t h = at c.state h
+-- a call that is not touched does as the table of messages says
+never_put_off : (offer : Offer) (due : ℕ) (m : Heard) (k : Kind) → is_after_outage offer ≡ false → net_is_put_off (CallPresent offer due) m k ≡ false
+never_put_off First due m ReleaseComplete q = refl
+never_put_off Second due m ReleaseComplete q = refl
+never_put_off First due m k q = refl
+never_put_off Second due m k q = refl
+never_put_off Anew due m k q = absurd (true≢false q)
+never_put_off PutOff due m k q = absurd (true≢false q)
+never_put_off Unlinked due m k q = absurd (true≢false q)
+never_put_off Asked due m k q = absurd (true≢false q)
+
+pub untouched_row : (c : PlainNetCall) (m : Heard) (t : ℕ) → is_touched c.state ≡ false → net_message c m t ≡ net_row c m t c.state m.kind
+untouched_row c m t h = at c.state h
   where
-    at : (s : NetState) → is_asked s ≡ false → net_heard c m t s m.kind ≡ net_row (record c { state = s }) m t s m.kind
+    offered : (offer : Offer) (due : ℕ) → is_after_outage offer ≡ false → (if net_is_put_off (CallPresent offer due) m m.kind then net_to c None (net_put_off t (CallPresent offer due)) else net_row (record c { state = CallPresent offer due }) m t (CallPresent offer due) m.kind) ≡ net_row (record c { state = CallPresent offer due }) m t (CallPresent offer due) m.kind
+    offered offer due q = ap (λ b. if b then net_to c None (net_put_off t (CallPresent offer due)) else net_row (record c { state = CallPresent offer due }) m t (CallPresent offer due) m.kind) (never_put_off offer due m m.kind q)
+
+    at : (s : NetState) → is_touched s ≡ false → net_heard c m t s m.kind ≡ net_row (record c { state = s }) m t s m.kind
     at (Enquiring asked due) q = absurd (true≢false q)
     at Active q = refl
     at OutgoingCallProceeding q = refl
-    at (CallPresent again due) q = refl
+    at (CallPresent Asked due) q = absurd (true≢false q)
+    at (CallPresent offer due) q = offered offer due q
     at (IncomingCallProceeding due) q = refl
     at (CallReceived due) q = refl
     at (DisconnectIndication cause due) q = refl
-    at (ReleaseRequest again cause due) q = refl
+    at (ReleaseRequest sent cause due) q = refl
 
--- ---- no call is asked for without an outage
+-- ---- what a row of the table leaves: the state as it was, or one that is neither N6 nor asked for
 
-abbrev StepUnasked : Activity → ℕ → Transition PlainNetCall → Type 0
-StepUnasked a t step = StandingUnasked (follows a t step).standing
+-- a test of a state that these do not pass
+record IsOfOthers (p : NetState → Bool) : Type 0 where
+  proceeding : (due : ℕ) → p (IncomingCallProceeding due) ≡ false
+  received : (due : ℕ) → p (CallReceived due) ≡ false
+  active : p Active ≡ false
+  releases : (sent : Times) (cause : Option ℕ) (due : ℕ) → p (ReleaseRequest sent cause due) ≡ false
 
-over_unasked : (a : Activity) (t : ℕ) → StandingUnasked (over_at a t)
-over_unasked Never t = tt
-over_unasked a t = tt
+abbrev IsNone : (NetState → Bool) → Standing → Type 0
+IsNone p (OnCall call activity) = p call.state ≡ false
+IsNone p _ = Unit {0}
 
-second_unasked : (c : PlainNetCall) (s : NetState) (a : Activity) (t end : ℕ) → is_asked s ≡ false → StepUnasked a t (net_second (record c { state = s }) t end)
-second_unasked c OutgoingCallProceeding a t end h = by_cases (nat_le end t) _ _ (StepUnasked a t) (λ _. refl) (λ _. refl)
-second_unasked c (CallPresent false due) a t end h = by_cases (nat_le end t) _ _ (StepUnasked a t) (λ _. refl) (λ _. by_cases (nat_le due t) _ _ (StepUnasked a t) (λ _. refl) (λ _. refl))
-second_unasked c (CallPresent true due) a t end h = by_cases (nat_le end t) _ _ (StepUnasked a t) (λ _. refl) (λ _. by_cases (nat_le due t) _ _ (StepUnasked a t) (λ _. over_unasked a t) (λ _. refl))
-second_unasked c (IncomingCallProceeding due) a t end h = by_cases (nat_le end t) _ _ (StepUnasked a t) (λ _. refl) (λ _. by_cases (nat_le due t) _ _ (StepUnasked a t) (λ _. refl) (λ _. refl))
-second_unasked c (CallReceived due) a t end h = by_cases (nat_le end t) _ _ (StepUnasked a t) (λ _. refl) (λ _. by_cases (nat_le due t) _ _ (StepUnasked a t) (λ _. refl) (λ _. refl))
-second_unasked c Active a t end h = by_cases (nat_le end t) _ _ (StepUnasked a t) (λ _. refl) (λ _. refl)
-second_unasked c (Enquiring asked due) a t end h = absurd (true≢false h)
-second_unasked c (DisconnectIndication cause due) a t end h = by_cases (nat_le due t) _ _ (StepUnasked a t) (λ _. refl) (λ _. refl)
-second_unasked c (ReleaseRequest false cause due) a t end h = by_cases (nat_le due t) _ _ (StepUnasked a t) (λ _. refl) (λ _. refl)
-second_unasked c (ReleaseRequest true cause due) a t end h = by_cases (nat_le due t) _ _ (StepUnasked a t) (λ _. over_unasked a t) (λ _. refl)
+abbrev StepNone : (NetState → Bool) → Activity → ℕ → Transition PlainNetCall → Type 0
+StepNone p a t step = IsNone p (follows a t step).standing
 
-row_unasked : (r ch : ℕ) (o : NetOrigin) (t : ℕ) (a : Activity) (m : Heard) (s : NetState) (k : Kind) → is_asked s ≡ false → StepUnasked a t (net_row (call_of r ch o s) m t s k)
-row_unasked r ch o t a m s ReleaseComplete h = over_unasked a t
-row_unasked r ch o t a m s StatusEnquiry h = h
-row_unasked r ch o t a m s Status h = by_cases (reports_null m.state) _ _ (StepUnasked a t) (λ _. over_unasked a t) (λ _. h)
-row_unasked r ch o t a m s Setup h = h
-row_unasked r ch o t a m (ReleaseRequest again cause due) Release h = over_unasked a t
-row_unasked r ch o t a m s Release h = over_unasked a t
-row_unasked r ch o t a m (ReleaseRequest again cause due) k h = h
-row_unasked r ch o t a m s Disconnect h = refl
-row_unasked r ch o t a m (DisconnectIndication cause due) k h = h
-row_unasked r ch o t a m (CallPresent again due) CallProceeding h = by_cases (names_channel m.channel ch) _ _ (StepUnasked a t) (λ _. refl) (λ _. refl)
-row_unasked r ch o t a m (CallPresent again due) Alerting h = by_cases (names_channel m.channel ch) _ _ (StepUnasked a t) (λ _. refl) (λ _. refl)
-row_unasked r ch o t a m (CallPresent again due) Connect h = by_cases (names_channel m.channel ch) _ _ (StepUnasked a t) (λ _. refl) (λ _. refl)
-row_unasked r ch o t a m (IncomingCallProceeding due) Alerting h = refl
-row_unasked r ch o t a m (IncomingCallProceeding due) Connect h = refl
-row_unasked r ch o t a m (CallReceived due) Connect h = refl
-row_unasked r ch (Outward called) t a m Active ConnectAcknowledge h = h
-row_unasked r ch Inward t a m Active ConnectAcknowledge h = h
-row_unasked r ch o t a m s k h = h
+over_none : (p : NetState → Bool) (a : Activity) (t : ℕ) → IsNone p (over_at a t)
+over_none p Never t = tt
+over_none p a t = tt
+
+row_none : (p : NetState → Bool) (r ch : ℕ) (o : NetOrigin) (t : ℕ) (a : Activity) (m : Heard) (s : NetState) (k : Kind) → IsOfOthers p → p s ≡ false → StepNone p a t (net_row (call_of r ch o s) m t s k)
+row_none p r ch o t a m s ReleaseComplete f h = over_none p a t
+row_none p r ch o t a m s StatusEnquiry f h = h
+row_none p r ch o t a m s Status f h = by_cases (reports_null m.state) _ _ (StepNone p a t) (λ _. over_none p a t) (λ _. h)
+row_none p r ch o t a m s Setup f h = h
+row_none p r ch o t a m (ReleaseRequest again cause due) Release f h = over_none p a t
+row_none p r ch o t a m s Release f h = over_none p a t
+row_none p r ch o t a m (ReleaseRequest again cause due) k f h = h
+row_none p r ch o t a m s Disconnect f h = f.releases Once None (t + 4)
+row_none p r ch o t a m (DisconnectIndication cause due) k f h = h
+row_none p r ch o t a m (CallPresent again due) CallProceeding f h = by_cases (names_channel m.channel ch) _ _ (StepNone p a t) (λ _. f.proceeding (t + 10)) (λ _. f.releases Once (Some 6) (t + 4))
+row_none p r ch o t a m (CallPresent again due) Alerting f h = by_cases (names_channel m.channel ch) _ _ (StepNone p a t) (λ _. f.received (t + 180)) (λ _. f.releases Once (Some 6) (t + 4))
+row_none p r ch o t a m (CallPresent again due) Connect f h = by_cases (names_channel m.channel ch) _ _ (StepNone p a t) (λ _. f.active) (λ _. f.releases Once (Some 6) (t + 4))
+row_none p r ch o t a m (IncomingCallProceeding due) Alerting f h = f.received (t + 180)
+row_none p r ch o t a m (IncomingCallProceeding due) Connect f h = f.active
+row_none p r ch o t a m (CallReceived due) Connect f h = f.active
+row_none p r ch (Outward called) t a m Active ConnectAcknowledge f h = h
+row_none p r ch Inward t a m Active ConnectAcknowledge f h = h
+row_none p r ch o t a m s k f h = h
+
+-- ---- no call is asked for after a message of it
 
 pub awake_unasked : (s : NetState) → is_asked (net_awake_state s) ≡ false
 awake_unasked OutgoingCallProceeding = refl
 awake_unasked s = refl
 
-heard_unasked : (c : PlainNetCall) (m : Heard) (t : ℕ) (a : Activity) → StepUnasked a t (net_message c m t)
-heard_unasked c m t a = heard_by (StepUnasked a t) c m t c.state m.kind (λ asked due is q. refl) (row_unasked c.reference c.channel c.origin t a m (net_awake_state c.state) m.kind (awake_unasked c.state))
+put_off_unasked : (t : ℕ) (offer : Offer) (due : ℕ) → is_asked (net_put_off t (CallPresent offer due)) ≡ false
+put_off_unasked t PutOff due = refl
+put_off_unasked t offer due = refl
 
-hears_unasked : (m : Said) (t : ℕ) (s : Standing) → StandingUnasked s → StandingUnasked (hears m t s).standing
-hears_unasked m t (OnCall c a) h = heard_unasked c m.heard t a
-hears_unasked m t s h = tt
+to_unasked : (s : Standing) → IsNone is_asked s → StandingUnasked s
+to_unasked (OnCall c a) h = h
+to_unasked s h = tt
 
--- and no call is asked for after a message of it
 pub hears_awake : (m : Said) (t : ℕ) (s : Standing) → StandingUnasked (hears m t s).standing
-hears_awake m t (OnCall c a) = heard_unasked c m.heard t a
+hears_awake m t (OnCall c a) = to_unasked (hears m t (OnCall c a)).standing (heard_by (StepNone is_asked a t) c m.heard t c.state m.heard.kind
+    (record { contradicted = λ asked due is q. refl; unacknowledged = λ asked due is q. refl; connected = λ due is q. refl; put_off = λ offer due is q. put_off_unasked t offer due })
+    (row_none is_asked c.reference c.channel c.origin t a m.heard (net_awake_state c.state) m.heard.kind (record { proceeding = λ due. refl; received = λ due. refl; active = refl; releases = λ sent cause due. refl }) (awake_unasked c.state)))
 hears_awake m t s = tt
 
-waits_unasked : (t : ℕ) (e : Entry) (free : Bool) → StandingUnasked (waits e t free).standing
-waits_unasked t e free =
-    let P : Moved → Type 0 = λ m. StandingUnasked m.standing in
+-- ---- no call is touched without an outage
+
+-- there was none
+abbrev IsUntouched : Day → Type 0
+IsUntouched d = (d.unlinked ≡ 0) × DayUntouched d
+
+abbrev StepUntouched : Activity → ℕ → Transition PlainNetCall → Type 0
+StepUntouched a t step = StandingUntouched (follows a t step).standing
+
+to_untouched : (s : Standing) → IsNone is_touched s → StandingUntouched s
+to_untouched (OnCall c a) h = h
+to_untouched s h = tt
+
+over_untouched : (a : Activity) (t : ℕ) → StandingUntouched (over_at a t)
+over_untouched Never t = tt
+over_untouched a t = tt
+
+second_untouched : (c : PlainNetCall) (s : NetState) (a : Activity) (t end : ℕ) → is_touched s ≡ false → StepUntouched a t (net_second (record c { state = s }) t end)
+second_untouched c OutgoingCallProceeding a t end h = by_cases (nat_le end t) _ _ (StepUntouched a t) (λ _. refl) (λ _. refl)
+second_untouched c (CallPresent First due) a t end h = by_cases (nat_le end t) _ _ (StepUntouched a t) (λ _. refl) (λ _. by_cases (nat_le due t) _ _ (StepUntouched a t) (λ _. refl) (λ _. refl))
+second_untouched c (CallPresent Second due) a t end h = by_cases (nat_le end t) _ _ (StepUntouched a t) (λ _. refl) (λ _. by_cases (nat_le due t) _ _ (StepUntouched a t) (λ _. over_untouched a t) (λ _. refl))
+second_untouched c (CallPresent offer due) a t end h = absurd (true≢false h)
+second_untouched c (IncomingCallProceeding due) a t end h = by_cases (nat_le end t) _ _ (StepUntouched a t) (λ _. refl) (λ _. by_cases (nat_le due t) _ _ (StepUntouched a t) (λ _. refl) (λ _. refl))
+second_untouched c (CallReceived due) a t end h = by_cases (nat_le end t) _ _ (StepUntouched a t) (λ _. refl) (λ _. by_cases (nat_le due t) _ _ (StepUntouched a t) (λ _. refl) (λ _. refl))
+second_untouched c Active a t end h = by_cases (nat_le end t) _ _ (StepUntouched a t) (λ _. refl) (λ _. refl)
+second_untouched c (Enquiring asked due) a t end h = absurd (true≢false h)
+second_untouched c (DisconnectIndication cause due) a t end h = by_cases (nat_le due t) _ _ (StepUntouched a t) (λ _. refl) (λ _. refl)
+second_untouched c (ReleaseRequest Twice cause due) a t end h = by_cases (nat_le due t) _ _ (StepUntouched a t) (λ _. over_untouched a t) (λ _. refl)
+second_untouched c (ReleaseRequest sent cause due) a t end h = by_cases (nat_le due t) _ _ (StepUntouched a t) (λ _. refl) (λ _. refl)
+
+hears_untouched : (m : Said) (t : ℕ) (s : Standing) → StandingUntouched s → StandingUntouched (hears m t s).standing
+hears_untouched m t (OnCall c a) h = subst (StepUntouched a t) (sym (untouched_row c m.heard t h))
+    (to_untouched (follows a t (net_row c m.heard t c.state m.heard.kind)).standing (row_none is_touched c.reference c.channel c.origin t a m.heard c.state m.heard.kind (record { proceeding = λ due. refl; received = λ due. refl; active = refl; releases = λ sent cause due. refl }) h))
+hears_untouched m t s h = tt
+
+waits_untouched : (t : ℕ) (e : Entry) (free : Bool) → StandingUntouched (waits e t false free).standing
+waits_untouched t e free =
+    let P : Moved → Type 0 = λ m. StandingUntouched m.standing in
     by_cases (offers e t free) _ _ P (λ _. refl) (λ _. by_cases (nat_le e.booking.end t) _ _ P (λ _. tt) (λ _. tt))
 
-tick_unasked : (t : ℕ) (e : Entry) (free : Bool) (s : Standing) → StandingUnasked s → StandingUnasked (second_at e t free s).standing
-tick_unasked t e free (OnCall c a) h = second_unasked c c.state a t e.booking.end h
-tick_unasked t e free Unoffered h = waits_unasked t e free
-tick_unasked t e free s h = tt
+tick_untouched : (t : ℕ) (e : Entry) (free : Bool) (s : Standing) → StandingUntouched s → StandingUntouched (second_at e t false free s).standing
+tick_untouched t e free (OnCall c a) h = second_untouched c c.state a t e.booking.end h
+tick_untouched t e free Unoffered h = waits_untouched t e free
+tick_untouched t e free s h = tt
 
-up_unasked : (d : Day) (es : List Entry) → AllByRecursion EntryUnasked es → AllByRecursion EntryUnasked (map (after_in Up d) es)
-up_unasked d [] h = tt
-up_unasked d (e ∷ es) h = (tick_unasked (d.moment + 1) e (is_free d e.channel) e.standing h.0, up_unasked d es h.1)
+up_untouched : (d : Day) (es : List Entry) → d.unlinked ≡ 0 → AllByRecursion EntryUntouched es → AllByRecursion EntryUntouched (map (after_in Up d) es)
+up_untouched d [] never h = tt
+up_untouched d (e ∷ es) never h = (
+  subst (λ b. StandingUntouched (second_at e (d.moment + 1) b (is_free d e.channel) e.standing).standing) (sym (ap (λ n. nat_lt 0 n && (n == d.moment)) never)) (tick_untouched (d.moment + 1) e (is_free d e.channel) e.standing h.0),
+  up_untouched d es never h.1,
+)
 
-moved_unasked : (d : Day) (i : ℕ) (m : Moved) → (EntryUnasked (entry_at d.entries i) → EntryUnasked (with_standing (entry_at d.entries i) m.standing)) → DayUnasked d → DayUnasked (with_moved d i m).day
-moved_unasked d i m f h = all_update EntryUnasked d.entries i (with_standing (entry_at d.entries i) m.standing) f h
+moved_untouched : (d : Day) (i : ℕ) (m : Moved) → (EntryUntouched (entry_at d.entries i) → EntryUntouched (with_standing (entry_at d.entries i) m.standing)) → IsUntouched d → IsUntouched (with_moved d i m).day
+moved_untouched d i m f h = (h.0, all_update EntryUntouched d.entries i (with_standing (entry_at d.entries i) m.standing) f h.1)
 
-takes_unasked : (d : Day) (m : Said) (cause : ℕ) (o : Option ℕ) → DayUnasked d → DayUnasked (takes_or d m cause o).day
-takes_unasked d m cause None h = h
-takes_unasked d m cause (Some i) h = moved_unasked d i (takes_call m (entry_at d.entries i)) (λ _. refl) h
+takes_untouched : (d : Day) (m : Said) (cause : ℕ) (o : Option ℕ) → IsUntouched d → IsUntouched (takes_or d m cause o).day
+takes_untouched d m cause None h = h
+takes_untouched d m cause (Some i) h = moved_untouched d i (takes_call m (entry_at d.entries i)) (λ _. refl) h
 
-preferred_unasked : (d : Day) (m : Said) (o : Option ℕ) → DayUnasked d → DayUnasked (takes_preferred d m o).day
-preferred_unasked d m None h = takes_unasked d m 34 (lowest_open d every_channel) h
-preferred_unasked d m (Some i) h = takes_unasked d m 34 (Some i) h
+preferred_untouched : (d : Day) (m : Said) (o : Option ℕ) → IsUntouched d → IsUntouched (takes_preferred d m o).day
+preferred_untouched d m None h = takes_untouched d m 34 (lowest_open d every_channel) h
+preferred_untouched d m (Some i) h = takes_untouched d m 34 (Some i) h
 
-on_unasked : (d : Day) (m : Said) (f : ChannelField) → DayUnasked d → DayUnasked (called_on d m f).day
-on_unasked d m Absent h = takes_unasked d m 34 (lowest_open d every_channel) h
-on_unasked d m AnyChannel h = takes_unasked d m 34 (lowest_open d every_channel) h
-on_unasked d m Unread h = h
-on_unasked d m (Named c true) h = takes_unasked d m 44 (position (opens d c) d.entries) h
-on_unasked d m (Named c false) h = preferred_unasked d m (position (opens d c) d.entries) h
+on_untouched : (d : Day) (m : Said) (f : ChannelField) → IsUntouched d → IsUntouched (called_on d m f).day
+on_untouched d m Absent h = takes_untouched d m 34 (lowest_open d every_channel) h
+on_untouched d m AnyChannel h = takes_untouched d m 34 (lowest_open d every_channel) h
+on_untouched d m Unread h = h
+on_untouched d m (Named c true) h = takes_untouched d m 44 (position (opens d c) d.entries) h
+on_untouched d m (Named c false) h = preferred_untouched d m (position (opens d c) d.entries) h
 
-called_unasked : (d : Day) (m : Said) (b : Option ℕ) → DayUnasked d → DayUnasked (called d m b).day
-called_unasked d m (Some cause) h = h
-called_unasked d m None h = on_unasked d m m.heard.channel h
+called_untouched : (d : Day) (m : Said) (b : Option ℕ) → IsUntouched d → IsUntouched (called d m b).day
+called_untouched d m (Some cause) h = h
+called_untouched d m None h = on_untouched d m m.heard.channel h
 
-stray_unasked : (d : Day) (m : Said) (k : Kind) → DayUnasked d → DayUnasked (stray d m k).day
-stray_unasked d m Setup h = by_cases m.flag _ _ (λ (x : Answered Day). DayUnasked x.day) (λ _. h) (λ _. called_unasked d m m.refused h)
-stray_unasked d m k h = h
+stray_untouched : (d : Day) (m : Said) (k : Kind) → IsUntouched d → IsUntouched (stray d m k).day
+stray_untouched d m Setup h = by_cases m.flag _ _ (λ (x : Answered Day). IsUntouched x.day) (λ _. h) (λ _. called_untouched d m m.refused h)
+stray_untouched d m k h = h
 
-received_unasked : (d : Day) (m : Said) (o : Option ℕ) → DayUnasked d → DayUnasked (received_at d m o).day
-received_unasked d m None h = stray_unasked d m m.heard.kind h
-received_unasked d m (Some i) h = moved_unasked d i (hears m d.moment (entry_at d.entries i).standing) (λ k. hears_unasked m d.moment (entry_at d.entries i).standing k) h
+received_untouched : (d : Day) (m : Said) (o : Option ℕ) → IsUntouched d → IsUntouched (received_at d m o).day
+received_untouched d m None h = stray_untouched d m m.heard.kind h
+received_untouched d m (Some i) h = moved_untouched d i (hears m d.moment (entry_at d.entries i).standing) (λ k. hears_untouched m d.moment (entry_at d.entries i).standing k) h
 
-from_unasked : (d : Day) (m : PlainMessage) (r : Reference) → DayUnasked d → DayUnasked (receive_from d m r).day
-from_unasked d m Dummy h = h
-from_unasked d m (Value value flag) h = by_cases (value == 0) _ _ (λ (x : Answered Day). DayUnasked x.day) (λ _. h) (λ _. received_unasked d (said_of value flag m) (position (names (said_of value flag m)) d.entries) h)
+from_untouched : (d : Day) (m : PlainMessage) (r : Reference) → IsUntouched d → IsUntouched (receive_from d m r).day
+from_untouched d m Dummy h = h
+from_untouched d m (Value value flag) h = by_cases (value == 0) _ _ (λ (x : Answered Day). IsUntouched x.day) (λ _. h) (λ _. received_untouched d (said_of value flag m) (position (names (said_of value flag m)) d.entries) h)
 
-read_unasked : (d : Day) (r : Result PlainMessage MessageFault) → DayUnasked d → DayUnasked (receive_read d r).day
-read_unasked d (Err fault) h = h
-read_unasked d (Ok m) h = from_unasked d m m.reference h
+read_untouched : (d : Day) (r : Result PlainMessage MessageFault) → IsUntouched d → IsUntouched (receive_read d r).day
+read_untouched d (Err fault) h = h
+read_untouched d (Ok m) h = from_untouched d m m.reference h
 
-happens_unasked : (d : Day) (e : Event) → DayUnasked d → DayUnasked (happens d e).day
-happens_unasked d Tick h = by_cases (nat_le 300000 d.moment) _ _ (λ (s : Sent Day). DayUnasked s.day) (λ _. h) (λ _. up_unasked d d.entries h)
-happens_unasked d (Receive octets) h = read_unasked d (message_at octets) h
+happens_untouched : (d : Day) (e : Event) → IsUntouched d → IsUntouched (happens d e).day
+happens_untouched d Tick h = by_cases (nat_le 300000 d.moment) _ _ (λ (s : Sent Day). IsUntouched s.day) (λ _. h) (λ _. (h.0, up_untouched d d.entries h.0 h.1))
+happens_untouched d (Receive octets) h = read_untouched d (message_at octets) h
 
-run_unasked : (events : List Event) (d : Day) → DayUnasked d → DayUnasked (day_after events d)
-run_unasked [] d h = h
-run_unasked (e ∷ es) d h = run_unasked es (happens d e).day (happens_unasked d e h)
+run_untouched : (events : List Event) (d : Day) → IsUntouched d → IsUntouched (day_after events d)
+run_untouched [] d h = h
+run_untouched (e ∷ es) d h = run_untouched es (happens d e).day (happens_untouched d e h)
 
-opens_unasked : (k : ℕ) (b : Row) (a : Option ℕ) → EntryUnasked (entry_of k b a)
-opens_unasked k b None = tt
-opens_unasked k b (Some c) = tt
+opens_untouched : (k : ℕ) (b : Row) (a : Option ℕ) → EntryUntouched (entry_of k b a)
+opens_untouched k b None = tt
+opens_untouched k b (Some c) = tt
 
-all_open : (k : ℕ) (rows : List Row) (assigned : List (Option ℕ)) → AllByRecursion EntryUnasked (entries_from k rows assigned)
+all_open : (k : ℕ) (rows : List Row) (assigned : List (Option ℕ)) → AllByRecursion EntryUntouched (entries_from k rows assigned)
 all_open k [] assigned = tt
-all_open k (b ∷ bs) [] = (opens_unasked k b None, all_open (k + 1) bs [])
-all_open k (b ∷ bs) (a ∷ as') = (opens_unasked k b a, all_open (k + 1) bs as')
+all_open k (b ∷ bs) [] = (opens_untouched k b None, all_open (k + 1) bs [])
+all_open k (b ∷ bs) (a ∷ as') = (opens_untouched k b a, all_open (k + 1) bs as')
 
-pub never_asked : (rows : List Row) (assigned : List (Option ℕ)) (events : List Event) → DayUnasked (day_after events (opening rows assigned))
-never_asked rows assigned events = run_unasked events (opening rows assigned) (all_open 1 rows assigned)
+pub never_touched : (rows : List Row) (assigned : List (Option ℕ)) (events : List Event) → DayUntouched (day_after events (opening rows assigned))
+never_touched rows assigned events = (run_untouched events (opening rows assigned) (refl, all_open 1 rows assigned)).1

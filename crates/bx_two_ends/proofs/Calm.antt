@@ -9,7 +9,7 @@ use Rattle.bx_calls.specs.PlainCalls.{PlainNetCall}
 use Rattle.bx_base.specs.Bookings.{Row, row_at, is_running}
 use Rattle.bx_events.specs.Events.{Tick}
 use Rattle.bx_base.specs.Plans.{channel_at}
-use Rattle.bx_day.specs.Day.{Day, entry_at, is_live, is_held, is_free}
+use Rattle.bx_day.specs.Day.{is_back, Day, entry_at, is_live, is_held, is_free}
 use Rattle.bx_two_ends.specs.Asking.{StandingUnasked}
 use Rattle.bx_two_ends.specs.Earning.{LiveSecond, Linked, Unlinked, heard_in, second_after, seconds_after, is_linked, has_link, is_settled, is_going, IsCleared, IsAllAnswered, AreCleared, AreAnswered, IsAlone, IsCarriedBy}
 use Rattle.bx_day.specs.Law.{OnLive, standing_at}
@@ -84,7 +84,7 @@ called_turn rows assigned d early h = record {
   fits = subst (λ (s : Day). RunFits rows assigned s) (ap (λ s. s.day) (tick_is d early)) (happens_fits rows assigned d Tick h.fits);
   size = map_size Up d d.entries ∙ h.size;
   moment = refl;
-  clean = marks_kept Up d (λ j. let e = entry_at d.entries j in whole_tick (d.moment + 1) e (is_free d e.channel) e.standing (h.quiet j)) h.clean;
+  clean = marks_kept Up d (λ j. let e = entry_at d.entries j in whole_tick (d.moment + 1) e (is_back d) (is_free d e.channel) e.standing (h.quiet j)) h.clean;
 }
 
 -- and after what was answered in it
@@ -159,7 +159,7 @@ link_up : (rows : List Row) (assigned : List (Option ℕ)) (i u : ℕ) (d : Day)
 link_up rows assigned i u d received h less up =
     let called : Day = (passed_in Up d).day in
     let e = entry_at d.entries i in
-    let now : IsUp u (standing_at called i) = subst (IsUp u) (sym (after_standing Up d i)) (up_tick u (d.moment + 1) e (is_free d e.channel) e.standing up h.quiet (subst (λ (b : Row). d.moment + 1 < b.end) (sym (h.fits.framed.0 i h.inside).booking) less)) in
+    let now : IsUp u (standing_at called i) = subst (IsUp u) (sym (after_standing Up d i)) (up_tick u (d.moment + 1) e (is_back d) (is_free d e.channel) e.standing up h.quiet (subst (λ (b : Row). d.moment + 1 < b.end) (sym (h.fits.framed.0 i h.inside).booking) less)) in
     link_keeps rows assigned i u d received h (up_going u (standing_at called i) now) (up_kept u (standing_at called i) now)
 
 -- where a call is being cleared after the tick, it is over after the turn
@@ -173,14 +173,14 @@ link_end : (rows : List Row) (assigned : List (Option ℕ)) (i u : ℕ) (d : Day
 link_end rows assigned i u d received h is up =
     let e = entry_at d.entries i in
     let book : e.booking ≡ row_at rows i = (h.fits.framed.0 i h.inside).booking in
-    let over : IsOver u e.booking.end (second_at e (d.moment + 1) (is_free d e.channel) e.standing).standing = end_tick u (d.moment + 1) e (is_free d e.channel) e.standing up (is ∙ ap (λ (b : Row). b.end) (sym book)) in
+    let over : IsOver u e.booking.end (second_at e (d.moment + 1) (is_back d) (is_free d e.channel) e.standing).standing = end_tick u (d.moment + 1) e (is_back d) (is_free d e.channel) e.standing up (is ∙ ap (λ (b : Row). b.end) (sym book)) in
     link_clears rows assigned i u (row_at rows i).end d received h (subst (λ (b : Row). IsOver u b.end (standing_at (passed_in Up d).day i)) book (subst (IsOver u e.booking.end) (sym (after_standing Up d i)) over))
 
 link_over : (rows : List Row) (assigned : List (Option ℕ)) (i u : ℕ) (d : Day) (received : List (List ℕ)) → IsLink rows assigned i d received → IsOver u (row_at rows i).end (standing_at d i) → IsCarriedBy u (row_at rows i).end (standing_at (following d received) i)
 link_over rows assigned i u d received h was =
     let e = entry_at d.entries i in
     let book : e.booking ≡ row_at rows i = (h.fits.framed.0 i h.inside).booking in
-    let over : IsOver u e.booking.end (second_at e (d.moment + 1) (is_free d e.channel) e.standing).standing = over_tick u (d.moment + 1) e (is_free d e.channel) e.standing (subst (λ (b : Row). IsOver u b.end e.standing) (sym book) was) in
+    let over : IsOver u e.booking.end (second_at e (d.moment + 1) (is_back d) (is_free d e.channel) e.standing).standing = over_tick u (d.moment + 1) e (is_back d) (is_free d e.channel) e.standing (subst (λ (b : Row). IsOver u b.end e.standing) (sym book) was) in
     link_clears rows assigned i u (row_at rows i).end d received h (subst (λ (b : Row). IsOver u b.end (standing_at (passed_in Up d).day i)) book (subst (IsOver u e.booking.end) (sym (after_standing Up d i)) over))
 
 -- one that waits is offered and Active, or could not be offered and waits on
@@ -190,13 +190,14 @@ link_waits rows assigned i u d received h settled out less le is =
     let called : Day = (passed_in Up d).day in
     let e = entry_at d.entries i in
     let n = d.moment + 1 in
+    let back = is_back d in
     let free = is_free d e.channel in
     let book : e.booking ≡ row_at rows i = (h.fits.framed.0 i h.inside).booking in
-    let now : standing_at called i ≡ (waits e n free).standing = after_standing Up d i ∙ ap (λ s. (second_at e n free s).standing) is in
+    let now : standing_at called i ≡ (waits e n back free).standing = after_standing Up d i ∙ ap (λ s. (second_at e n back free s).standing) is in
     decide (offers e n free)
-    (λ yes. inr (link_talks rows assigned i u d received h settled (ap is_going now ∙ waits_offered n e free yes) out le))
+    (λ yes. inr (link_talks rows assigned i u d received h settled (ap is_going now ∙ waits_offered n e back free yes) out le))
     (λ stays.
-    let waiting : standing_at called i ≡ Unoffered = now ∙ waits_stays n e free stays (subst (λ (b : Row). n < b.end) (sym book) less) in
+    let waiting : standing_at called i ≡ Unoffered = now ∙ waits_stays n e back free stays (subst (λ (b : Row). n < b.end) (sym book) less) in
     let outward : (entry_at called.entries i).booking.inward ≡ false = ap (λ (b : Row). b.inward) (h.first.fits.framed.0 i h.inside).booking ∙ out in
     inl ((heard_waits n i received called refl (outward, waiting)).1, stays))
 
@@ -300,7 +301,7 @@ link_stands rows assigned i cleared offered ended d received early b s ok =
 -- ---- a second without a link
 
 down_live : (d : Day) (e : Entry) → is_live (second_in Down d e).standing ≡ true → is_live e.standing ≡ true
-down_live d e = unlinked e (d.moment + 1) e.standing (λ m. is_live m.standing ≡ true → is_live e.standing ≡ true) (λ c a p _. ap is_live p) (λ live. was (second_live (d.moment + 1) false e e.standing live))
+down_live d e = unlinked e (d.moment + 1) e.standing (λ m. is_live m.standing ≡ true → is_live e.standing ≡ true) (λ c a p _. ap is_live p) (λ live. was (second_live (d.moment + 1) false false e e.standing live))
   where
     was : WasLive (d.moment + 1) false e → is_live e.standing ≡ true
     was (Before live) = live
@@ -326,7 +327,7 @@ down_stands rows assigned i cleared offered ended d early b s nc nf ne =
     record {
       calm = calm_unlinked rows assigned d early s.calm;
       early = λ less. elim (s.early (omega (arith, less))) [
-        | inl waits ↦ inl (here ∙ ap (λ x. (unlinked_at e n x).standing) waits ∙ waits_stays n e false (offers_none e n) (subst (λ (r : Row). n < r.end) (sym book) (omega (arith, less, b.late))))
+        | inl waits ↦ inl (here ∙ ap (λ x. (unlinked_at e n x).standing) waits ∙ waits_stays n e false false (offers_none e n) (subst (λ (r : Row). n < r.end) (sym book) (omega (arith, less, b.late))))
         | inr up ↦ inr (rises (omega (arith, less, b.late)) up)
       ];
       free = λ low less held. rises (omega (arith, less, b.late)) (s.free (below cleared d.moment low nc) (omega (arith, less)) (down_held d (channel_at assigned i) held));
@@ -426,7 +427,7 @@ link_connects : (rows : List Row) (assigned : List (Option ℕ)) (i u : ℕ) (d 
 link_connects rows assigned i u d received h less le begun =
     let called : Day = (passed_in Up d).day in
     let e = entry_at d.entries i in
-    let now : IsUp u (standing_at called i) = subst (IsUp u) (sym (after_standing Up d i)) (begun_tick u (d.moment + 1) e (is_free d e.channel) e.standing begun (subst (λ (b : Row). d.moment + 1 < b.end) (sym (h.fits.framed.0 i h.inside).booking) less) le) in
+    let now : IsUp u (standing_at called i) = subst (IsUp u) (sym (after_standing Up d i)) (begun_tick u (d.moment + 1) e (is_back d) (is_free d e.channel) e.standing begun (subst (λ (b : Row). d.moment + 1 < b.end) (sym (h.fits.framed.0 i h.inside).booking) less) le) in
     link_keeps rows assigned i u d received h (up_going u (standing_at called i) now) (up_kept u (standing_at called i) now)
 
 link_inward : (rows : List Row) (assigned : List (Option ℕ)) (i connected ended : ℕ) (d : Day) (received : List (List ℕ)) → d.moment < 300000 → IsInward rows i connected ended → Connects rows assigned i connected ended d → IsCleared (passed_in Up d).day (following d received) → Connects rows assigned i connected ended (following d received)

@@ -8,7 +8,8 @@ use Rattle.bx_calls.specs.declared.transition.Transition.{Transition}
 use Rattle.bx_calls.specs.declared.transition.Next.{Next}
 use Rattle.bx_calls.specs.declared.transition.Next.TheVariants.{Live, Over, Broken}
 use Rattle.bx_calls.specs.PlainCalls.{PlainNetCall}
-use Rattle.bx_calls.specs.declared.net_state.Asked.TheVariants.{NotYet, Once, Twice}
+use Rattle.bx_calls.specs.declared.times.Times.TheVariants.{NotYet, Once, Twice}
+use Rattle.bx_calls.specs.declared.net_state.Offer.TheVariants.{Second}
 use Rattle.bx_calls.specs.declared.net_state.NetOrigin.{NetOrigin}
 use Rattle.bx_calls.specs.declared.net_state.NetOrigin.TheVariants.{Inward}
 use Rattle.bx_calls.specs.declared.net_state.NetState.{NetState}
@@ -94,29 +95,29 @@ end_second u t end r ch o s a h is = absurd h
 
 over_second : (u t end r ch : ℕ) (o : NetOrigin) (s : NetState) (a : Activity) → ClearsBy u end s a → IsOver u end (follows a t (net_second (call_of r ch o s) t end)).standing
 over_second u t end r ch o (DisconnectIndication cause due) (Was from until) h = by_step (nat_le due t) (IsOver u end) (Was from until) t _ _ (λ _. h) (λ _. h)
-over_second u t end r ch o (ReleaseRequest false cause due) (Was from until) h = by_step (nat_le due t) (IsOver u end) (Was from until) t _ _ (λ _. h) (λ _. h)
-over_second u t end r ch o (ReleaseRequest true cause due) (Was from until) h = by_step (nat_le due t) (IsOver u end) (Was from until) t _ _ (λ _. h) (λ _. h)
+over_second u t end r ch o (ReleaseRequest Twice cause due) (Was from until) h = by_step (nat_le due t) (IsOver u end) (Was from until) t _ _ (λ _. h) (λ _. h)
+over_second u t end r ch o (ReleaseRequest sent cause due) (Was from until) h = by_step (nat_le due t) (IsOver u end) (Was from until) t _ _ (λ _. h) (λ _. h)
 over_second u t end r ch o s a h = absurd h
 
-pub up_tick : (u t : ℕ) (e : Entry) (free : Bool) (s : Standing) → IsUp u s → IsQuietCall s → t < e.booking.end → IsUp u (second_at e t free s).standing
-up_tick u t e free (OnCall c a) h q lt = up_second u t e.booking.end c.reference c.channel c.origin c.state a h q lt
-up_tick u t e free s h q lt = absurd h
+pub up_tick : (u t : ℕ) (e : Entry) (back free : Bool) (s : Standing) → IsUp u s → IsQuietCall s → t < e.booking.end → IsUp u (second_at e t back free s).standing
+up_tick u t e back free (OnCall c a) h q lt = up_second u t e.booking.end c.reference c.channel c.origin c.state a h q lt
+up_tick u t e back free s h q lt = absurd h
 
-pub end_tick : (u t : ℕ) (e : Entry) (free : Bool) (s : Standing) → IsUp u s → t ≡ e.booking.end → IsOver u e.booking.end (second_at e t free s).standing
-end_tick u t e free (OnCall c a) h is = end_second u t e.booking.end c.reference c.channel c.origin c.state a h is
-end_tick u t e free s h is = absurd h
+pub end_tick : (u t : ℕ) (e : Entry) (back free : Bool) (s : Standing) → IsUp u s → t ≡ e.booking.end → IsOver u e.booking.end (second_at e t back free s).standing
+end_tick u t e back free (OnCall c a) h is = end_second u t e.booking.end c.reference c.channel c.origin c.state a h is
+end_tick u t e back free s h is = absurd h
 
-pub over_tick : (u t : ℕ) (e : Entry) (free : Bool) (s : Standing) → IsOver u e.booking.end s → IsOver u e.booking.end (second_at e t free s).standing
-over_tick u t e free (OnCall c a) h = over_second u t e.booking.end c.reference c.channel c.origin c.state a h
-over_tick u t e free (Carried from until) h = h
-over_tick u t e free s h = absurd h
+pub over_tick : (u t : ℕ) (e : Entry) (back free : Bool) (s : Standing) → IsOver u e.booking.end s → IsOver u e.booking.end (second_at e t back free s).standing
+over_tick u t e back free (OnCall c a) h = over_second u t e.booking.end c.reference c.channel c.origin c.state a h
+over_tick u t e back free (Carried from until) h = h
+over_tick u t e back free s h = absurd h
 
 -- a booking that waits is offered where it can be, and waits on else
-pub waits_offered : (t : ℕ) (e : Entry) (free : Bool) → offers e t free ≡ true → is_going (waits e t free).standing ≡ true
-waits_offered t e free can = by_cases (offers e t free) _ _ (λ (m : Moved). is_going m.standing ≡ true) (λ _. refl) (λ stays. absurd (true≢false (sym can ∙ stays)))
+pub waits_offered : (t : ℕ) (e : Entry) (back free : Bool) → offers e t free ≡ true → is_going (waits e t back free).standing ≡ true
+waits_offered t e back free can = by_cases (offers e t free) _ _ (λ (m : Moved). is_going m.standing ≡ true) (λ _. refl) (λ stays. absurd (true≢false (sym can ∙ stays)))
 
-pub waits_stays : (t : ℕ) (e : Entry) (free : Bool) → offers e t free ≡ false → t < e.booking.end → (waits e t free).standing ≡ Unoffered
-waits_stays t e free stays lt = by_cases (offers e t free) _ _ (λ (m : Moved). m.standing ≡ Unoffered) (λ yes. absurd (true≢false (sym yes ∙ stays))) (λ _.
+pub waits_stays : (t : ℕ) (e : Entry) (back free : Bool) → offers e t free ≡ false → t < e.booking.end → (waits e t back free).standing ≡ Unoffered
+waits_stays t e back free stays lt = by_cases (offers e t free) _ _ (λ (m : Moved). m.standing ≡ Unoffered) (λ yes. absurd (true≢false (sym yes ∙ stays))) (λ _.
     by_cases (nat_le e.booking.end t) _ _ (λ (m : Moved). m.standing ≡ Unoffered) (λ ended. let le : e.booking.end ≤ t = leb-true e.booking.end t ended in absurd (omega (arith, le, lt))) (λ _. refl))
 
 -- ---- a second without a link
@@ -223,7 +224,12 @@ over_awake u end s a h = h
 
 pub over_hears : (u t end : ℕ) (m : Said) (s : Standing) → IsOver u end s → IsOver u end (hears m t s).standing
 over_hears u t end m (OnCall c a) h = heard_by (λ (x : Transition PlainNetCall). IsOver u end (follows a t x).standing) c m.heard t c.state m.heard.kind
-    (λ asked due is q. absurd (subst (λ (s : NetState). ClearsBy u end s a) is h))
+    (record {
+      contradicted = λ asked due is q. absurd (subst (λ (s : NetState). ClearsBy u end s a) is h);
+      unacknowledged = λ asked due is q. absurd (subst (λ (s : NetState). ClearsBy u end s a) is h);
+      connected = λ due is q. absurd (subst (λ (s : NetState). ClearsBy u end s a) is h);
+      put_off = λ offer due is q. absurd (subst (λ (s : NetState). ClearsBy u end s a) is h);
+    })
     (over_row u t end c.reference c.channel c.origin m.heard (net_awake_state c.state) a m.heard.kind (over_awake u end c.state a h))
 over_hears u t end m (Carried from until) h = h
 over_hears u t end m s h = absurd h
@@ -297,9 +303,9 @@ carried_over u end (Carried from until) h = h
 carried_over u end s h = absurd h
 
 -- what is carried stays so
-pub carried_tick : (u t : ℕ) (e : Entry) (free : Bool) (s : Standing) → IsCarriedBy u e.booking.end s → IsCarriedBy u e.booking.end (second_at e t free s).standing
-carried_tick u t e free (Carried from until) h = h
-carried_tick u t e free s h = absurd h
+pub carried_tick : (u t : ℕ) (e : Entry) (back free : Bool) (s : Standing) → IsCarriedBy u e.booking.end s → IsCarriedBy u e.booking.end (second_at e t back free s).standing
+carried_tick u t e back free (Carried from until) h = h
+carried_tick u t e back free s h = absurd h
 
 pub carried_unlinked : (u t : ℕ) (e : Entry) (s : Standing) → IsCarriedBy u e.booking.end s → IsCarriedBy u e.booking.end (unlinked_at e t s).standing
 carried_unlinked u t e (Carried from until) h = h
@@ -313,8 +319,8 @@ whole_step false a t x y f g = g
 
 whole_second : (t end r ch : ℕ) (o : NetOrigin) (s : NetState) (a : Activity) → is_pressed s ≡ false → (follows a t (net_second (call_of r ch o s) t end)).broken ≡ false
 whole_second t end r ch o OutgoingCallProceeding a h = whole_step (nat_le end t) a t _ _ refl refl
-whole_second t end r ch o (CallPresent false due) a h = whole_step (nat_le end t) a t _ _ refl (whole_step (nat_le due t) a t _ _ refl refl)
-whole_second t end r ch o (CallPresent true due) a h = whole_step (nat_le end t) a t _ _ refl (whole_step (nat_le due t) a t _ _ refl refl)
+whole_second t end r ch o (CallPresent Second due) a h = whole_step (nat_le end t) a t _ _ refl (whole_step (nat_le due t) a t _ _ refl refl)
+whole_second t end r ch o (CallPresent offer due) a h = whole_step (nat_le end t) a t _ _ refl (whole_step (nat_le due t) a t _ _ refl refl)
 whole_second t end r ch o (IncomingCallProceeding due) a h = whole_step (nat_le end t) a t _ _ refl (whole_step (nat_le due t) a t _ _ refl refl)
 whole_second t end r ch o (CallReceived due) a h = whole_step (nat_le end t) a t _ _ refl (whole_step (nat_le due t) a t _ _ refl refl)
 whole_second t end r ch o Active a h = whole_step (nat_le end t) a t _ _ refl refl
@@ -324,17 +330,17 @@ whole_second t end r ch o (Enquiring Twice due) a h = whole_step (nat_le end t) 
 whole_second t end r ch o (DisconnectIndication cause due) a h = whole_step (nat_le due t) a t _ _ refl refl
 whole_second t end r ch o (ReleaseRequest again cause due) a h = absurd (true≢false h)
 
-whole_waits : (e : Entry) (t : ℕ) (free : Bool) → (waits e t free).broken ≡ false
-whole_waits e t free = by_cases (offers e t free) _ _ (λ (m : Moved). m.broken ≡ false) (λ _. refl) (λ _. by_cases (nat_le e.booking.end t) _ _ (λ (m : Moved). m.broken ≡ false) (λ _. refl) (λ _. refl))
+whole_waits : (e : Entry) (t : ℕ) (back free : Bool) → (waits e t back free).broken ≡ false
+whole_waits e t back free = by_cases (offers e t free) _ _ (λ (m : Moved). m.broken ≡ false) (λ _. refl) (λ _. by_cases (nat_le e.booking.end t) _ _ (λ (m : Moved). m.broken ≡ false) (λ _. refl) (λ _. refl))
 
-pub whole_tick : (t : ℕ) (e : Entry) (free : Bool) (s : Standing) → IsQuietCall s → (second_at e t free s).broken ≡ false
-whole_tick t e free (OnCall c a) h = whole_second t e.booking.end c.reference c.channel c.origin c.state a h
-whole_tick t e free Unoffered h = whole_waits e t free
-whole_tick t e free s h = refl
+pub whole_tick : (t : ℕ) (e : Entry) (back free : Bool) (s : Standing) → IsQuietCall s → (second_at e t back free s).broken ≡ false
+whole_tick t e back free (OnCall c a) h = whole_second t e.booking.end c.reference c.channel c.origin c.state a h
+whole_tick t e back free Unoffered h = whole_waits e t back free
+whole_tick t e back free s h = refl
 
 pub whole_unlinked : (t : ℕ) (e : Entry) (s : Standing) → (unlinked_at e t s).broken ≡ false
 whole_unlinked t e (OnCall c a) = whole_step (not (net_is_clearing c.state) && nat_le e.booking.end t) a t _ _ refl refl
-whole_unlinked t e Unoffered = whole_waits e t false
+whole_unlinked t e Unoffered = whole_waits e t false false
 whole_unlinked t e s = refl
 
 quiet_still : (t end r ch : ℕ) (o : NetOrigin) (s : NetState) (a : Activity) → is_pressed s ≡ false → IsQuietCall (follows a t (net_unlinked 1 (call_of r ch o s) t end)).standing
@@ -342,7 +348,7 @@ quiet_still t end r ch o (DisconnectIndication cause due) a h = refl
 quiet_still t end r ch o (ReleaseRequest again cause due) a h = absurd (true≢false h)
 quiet_still t end r ch o s a h = by_step (nat_le end t) IsQuietCall a t _ _ (λ _. refl) (λ _. refl)
 
-quiet_waits : (e : Entry) (t : ℕ) → IsQuietCall (waits e t false).standing
+quiet_waits : (e : Entry) (t : ℕ) → IsQuietCall (waits e t false false).standing
 quiet_waits e t = by_cases (offers e t false) _ _ (λ (m : Moved). IsQuietCall m.standing) (λ _. refl) (λ _. by_cases (nat_le e.booking.end t) _ _ (λ (m : Moved). IsQuietCall m.standing) (λ _. tt) (λ _. tt))
 
 pub quiet_unlinked : (t : ℕ) (e : Entry) (s : Standing) → IsQuietCall s → IsQuietCall (unlinked_at e t s).standing
@@ -379,9 +385,9 @@ begun_second u t end r ch o OutgoingCallProceeding Never h lt le = by_step (nat_
 begun_second u t end r ch o s a h lt le = absurd h
 
 -- a tick connects it
-pub begun_tick : (u t : ℕ) (e : Entry) (free : Bool) (s : Standing) → IsBegun s → t < e.booking.end → t ≤ u → IsUp u (second_at e t free s).standing
-begun_tick u t e free (OnCall c a) h lt le = begun_second u t e.booking.end c.reference c.channel c.origin c.state a h lt le
-begun_tick u t e free s h lt le = absurd h
+pub begun_tick : (u t : ℕ) (e : Entry) (back free : Bool) (s : Standing) → IsBegun s → t < e.booking.end → t ≤ u → IsUp u (second_at e t back free s).standing
+begun_tick u t e back free (OnCall c a) h lt le = begun_second u t e.booking.end c.reference c.channel c.origin c.state a h lt le
+begun_tick u t e back free s h lt le = absurd h
 
 begun_still : (t end r ch : ℕ) (o : NetOrigin) (s : NetState) (a : Activity) → BegunIn s a → t < end → IsBegun (follows a t (net_unlinked 1 (call_of r ch o s) t end)).standing
 begun_still t end r ch o OutgoingCallProceeding Never h lt = by_step (nat_le end t) IsBegun Never t _ _ (λ ended. let late : end ≤ t = leb-true end t ended in absurd (omega (arith, late, lt))) (λ _. tt)

@@ -1,4 +1,5 @@
 -- What the kept facts say of two ends is the law.
+use Rattle.bx_two_ends.proofs.NetworkRows.{shows_connected}
 use Rattle.std.proofs.Common.{◌≡◌, ◌⊎◌, inl, inr, ℕ, suc, ◌+◌, ◌-◌, true, false, List, Option, refl, sym, ap, subst, ◌∙◌, arith}
 use Rattle.std.specs.List.{list_any}
 use Rattle.std.proofs.lemmas.Bool.{true≢false, false≢true, and_parts}
@@ -8,7 +9,7 @@ use Rattle.bx_calls.specs.PlainCalls.{PlainNetCall}
 use Rattle.bx_calls.specs.NetTable.{net_flag, net_is_clearing}
 use Rattle.bx_calls.specs.UserTable.{user_flag}
 use Rattle.bx_calls.specs.declared.net_state.NetState.{NetState}
-use Rattle.bx_calls.specs.declared.net_state.NetState.TheVariants.{Active, DisconnectIndication, ReleaseRequest}
+use Rattle.bx_calls.specs.declared.net_state.NetState.TheVariants.{DisconnectIndication, ReleaseRequest}
 use Rattle.bx_calls.specs.declared.user_state.UserState.{UserState}
 use Rattle.bx_calls.specs.declared.user_state.UserState.TheVariants as user
 use Rattle.bx_day.specs.declared.entry.Activity.{Activity}
@@ -24,10 +25,9 @@ use Rattle.bx_day.proofs.Receive.{all_at}
 use Rattle.bx_two_ends.specs.World.{World}
 use Rattle.bx_two_ends.specs.TwoEnds.{IsTwoEnds, IsUserActive, far_holds, acknowledges_call}
 use Rattle.bx_two_ends.proofs.UserRows.{is_talking}
-use Rattle.bx_two_ends.proofs.History.{from_other, clears, found, other_parts}
+use Rattle.bx_two_ends.proofs.History.{shows, from_other, clears, found, other_parts}
 use Rattle.bx_two_ends.proofs.Outward.{OutwardStanding, OutwardCall, Kept, Holds, Maintained, Cleared, OutwardReply, OfferedCall, KeepsOutward}
 use Rattle.bx_two_ends.proofs.FarCalls.{all_calls}
-use Rattle.bx_two_ends.specs.TwoEndsInward.{connects, is_connect_kind}
 
 on_live : (s : Standing) (P : PlainNetCall → Activity → Type 0) → ((c : PlainNetCall) (a : Activity) → s ≡ OnCall c a → P c a) → OnLive s P
 on_live (OnCall c a) P f = f c a refl
@@ -49,10 +49,10 @@ active_calm s h = refl
 held : (rows : List Row) (assigned : List (Option ℕ)) (w : World) (i : ℕ) → KeepsOutward rows assigned w → (c : PlainNetCall) (a : Activity) → standing_at w.exchange i ≡ OnCall c a → net_flag c.origin ≡ false → is_active c.state ≡ true → IsHeld w (i + 1) c.channel
 held rows assigned w i k c a at outward active =
     let own : OutwardCall (suc i) w.sent w.far_sent c = subst (OutwardStanding (suc i) w.sent w.far_sent) at (k.standings i) outward in
-    let has : list_any (connects (suc i)) w.far_sent ≡ true = own.active active in
+    let has : list_any (shows (suc i)) w.far_sent ≡ true = own.active active in
     let calm : list_any (clears (suc i)) w.sent ≡ false = own.calm (active_calm c.state active) in
-    let x = found (λ o. o.flag ≡ true → OutwardReply assigned w.sent w.far o) (connects (suc i)) w.far_sent k.replies has in
-    let p = and_parts (from_other (suc i) x.0) (is_connect_kind x.0.kind) x.1 in
+    let x = found (λ o. o.flag ≡ true → OutwardReply assigned w.sent w.far o) (shows (suc i)) w.far_sent k.replies has in
+    let p = and_parts (from_other (suc i) x.0) (shows_connected x.0.kind x.0.state) x.1 in
     let q = other_parts (suc i) x.0 p.0 in
     let kept : Kept assigned w.sent w.far (suc i) = subst (Kept assigned w.sent w.far) q.0 ((x.2 q.1).kept p.1) in
     let fits = subst (StandingFits w.exchange.moment (entry_at w.exchange.entries i)) at (all_at (EntryFits w.exchange.moment) tt w.exchange.entries i k.run.day.each) in

@@ -1,12 +1,12 @@
 -- A message that was sent comes as its parts: what the codec reads of its octets is what was meant.
-use Rattle.std.proofs.Common.{◌≡◌, ◌∙◌, ℕ, ◌==◌, ◌≤◌, Bool, true, false, Option, Some, None, refl, ap, arith, if◌then◌else◌}
+use Rattle.std.proofs.Common.{◌≡◌, ◌∙◌, ℕ, ◌==◌, ◌≤◌, Bool, true, false, Option, Some, None, option_map, refl, ap, arith, if◌then◌else◌}
 use Rattle.std.specs.Option.{IfSome}
 use Rattle.std.proofs.lemmas.Bool.{ne_eqb}
 use Rattle.bx_channels.specs.ChannelNumbers.{IsChannel}
 use Rattle.bx_channels.specs.Numbers.{IsNumber}
 use Rattle.bx_q931.specs.Outgoing.{Outgoing, IsOutgoing, out_octets, message_of, bearer_contents}
 use Rattle.bx_q931.specs.Parts.{HasParts, channel_part}
-use Rattle.bx_q931.specs.Values.{state_of, first_of, called_of}
+use Rattle.bx_q931.specs.Values.{cause_of, state_of, first_of, called_of}
 use Rattle.bx_q931.specs.declared.channel_field.ChannelField.{ChannelField}
 use Rattle.bx_q931.specs.declared.kind.Kind.{Kind}
 use Rattle.bx_q931.proofs.PartsLemmas.{written_again, has_parts}
@@ -25,12 +25,12 @@ pub record Sendable (o : Outgoing) : Type 0 where
   pub channel : IfSome o.channel (λ c. IsChannel c.0)
   pub called : IfSome o.called IsNumber
 
-abbrev pub said_by : ℕ → Bool → Kind → ChannelField → Option ℕ → Option ℕ → Said
-said_by r f k c s x = record { reference = r; flag = f; heard = record { kind = k; channel = c; state = s }; refused = x }
+abbrev pub said_by : ℕ → Bool → Kind → ChannelField → Option ℕ → Option ℕ → Option ℕ → Said
+said_by r f k c z s x = record { reference = r; flag = f; heard = record { kind = k; channel = c; cause = z; state = s }; refused = x }
 
 -- what is heard of a message that was sent
 abbrev pub said_from : Outgoing → Said
-said_from o = said_by o.reference o.flag o.kind (channel_part o.channel) o.state (if o.bearer then None else Some 96)
+said_from o = said_by o.reference o.flag o.kind (channel_part o.channel) (option_map (λ c. c.1) o.cause) o.state (if o.bearer then None else Some 96)
 
 bearer_again : (b : Bool) → bearer_fault_in (if b then Some bearer_contents else None) ≡ (if b then None else Some 96)
 bearer_again true = refl
@@ -39,9 +39,10 @@ bearer_again false = refl
 pub heard_again : (o : Outgoing) → HasParts (message_of o) o → said_of o.reference o.flag (message_of o) ≡ said_from o
 heard_again o p =
     let m = message_of o in
-    ap (λ c. said_by o.reference o.flag o.kind c (state_of m) (bearer_fault_in (first_of 0x04 m))) p.channel
-    ∙ ap (λ x. said_by o.reference o.flag o.kind (channel_part o.channel) x (bearer_fault_in (first_of 0x04 m))) p.state
-    ∙ ap (λ x. said_by o.reference o.flag o.kind (channel_part o.channel) o.state x) (ap bearer_fault_in p.bearer ∙ bearer_again o.bearer)
+    ap (λ c. said_by o.reference o.flag o.kind c (cause_of m) (state_of m) (bearer_fault_in (first_of 0x04 m))) p.channel
+    ∙ ap (λ z. said_by o.reference o.flag o.kind (channel_part o.channel) z (state_of m) (bearer_fault_in (first_of 0x04 m))) p.cause
+    ∙ ap (λ x. said_by o.reference o.flag o.kind (channel_part o.channel) (option_map (λ c. c.1) o.cause) x (bearer_fault_in (first_of 0x04 m))) p.state
+    ∙ ap (λ x. said_by o.reference o.flag o.kind (channel_part o.channel) (option_map (λ c. c.1) o.cause) o.state x) (ap bearer_fault_in p.bearer ∙ bearer_again o.bearer)
 
 pub not_zero : (n : ℕ) → 1 ≤ n → (n == 0) ≡ false
 not_zero n h = ne_eqb n 0 (λ e. absurd (omega (arith, e, h)))

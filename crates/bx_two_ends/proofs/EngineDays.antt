@@ -1,5 +1,5 @@
 -- A day of both ends by the program's engine is one of both ends in turns.
-use Rattle.std.proofs.Common.{◌≡◌, ℕ, ◌+◌, Bool, List, [], ◌++◌, Option, refl, sym, ap, subst, ◌∙◌, append_assoc, arith}
+use Rattle.std.proofs.Common.{◌≡◌, ℕ, Bool, List, [], ◌++◌, Option, refl, sym, ap, subst, ◌∙◌, append_assoc, arith}
 use Rattle.bx_base.specs.Bookings.{Row, AreBookings, Carries}
 use Rattle.bx_base.specs.Channels.{IsChannelSet}
 use Rattle.bx_base.specs.Plans as plans

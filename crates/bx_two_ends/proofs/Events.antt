@@ -21,7 +21,7 @@ use Rattle.bx_two_ends.specs.World.{World, WorldEvent, TickExchange, TickFar, Wi
 use Rattle.bx_two_ends.specs.Scripts.{IsScriptRow}
 use Rattle.bx_two_ends.specs.TwoEnds.{acknowledges_call, AreOnTheirOwn}
 use Rattle.bx_two_ends.proofs.Delivery.{Sendable, said_from, receive_sent, far_receive_sent}
-use Rattle.bx_two_ends.proofs.History.{sets_up, clears, has_more, all_map, all_both, all_in, IsIn, IfMessage, nth_holds}
+use Rattle.bx_two_ends.proofs.History.{shows, sets_up, clears, has_more, all_map, all_both, all_in, IsIn, IfMessage, nth_holds}
 use Rattle.bx_two_ends.proofs.Outward.{Seats, OutwardSent, OutwardSents, OutwardStanding, OutwardStandings, Kept, Holds, Maintained, Cleared, OutwardReply, OutwardReplies, OfferedCall, OfferedCalls, KeepsOutward}
 use Rattle.bx_two_ends.proofs.ExchangeTicks.{sents_grow, tick_says, tick_sents, tick_standings, tick_seats}
 use Rattle.bx_two_ends.proofs.ExchangeHears.{receive_keeps, standing_grows}
@@ -31,7 +31,6 @@ use Rattle.bx_day.specs.declared.entry.Link.TheVariants.{Down}
 use Rattle.bx_two_ends.proofs.FarHears.{FarBefore, saids_grow, far_receive_keeps}
 use Rattle.bx_two_ends.proofs.FarOutages.{far_unlinked_keeps}
 use Rattle.bx_two_ends.proofs.FarTicks.{far_ticked_keeps}
-use Rattle.bx_two_ends.specs.TwoEndsInward.{connects}
 
 -- ---- what the exchange does leaves the far end as it is
 
@@ -60,7 +59,7 @@ exchange_step rows assigned w d more k run seats sents standings = record {
 -- ---- and what the far end does the exchange
 
 standing_hears : (r : ℕ) (sent far_sent more : List Outgoing) (s : Standing) → OutwardStanding r sent far_sent s → OutwardStanding r sent (far_sent ++ more) s
-standing_hears r sent far_sent more (OnCall c a) h = λ f. record { known = (h f).known; calm = (h f).calm; active = λ q. has_more (connects r) far_sent more ((h f).active q); proceeding = (h f).proceeding }
+standing_hears r sent far_sent more (OnCall c a) h = λ f. record { known = (h f).known; calm = (h f).calm; active = λ q. has_more (shows r) far_sent more ((h f).active q); proceeding = (h f).proceeding }
 standing_hears r sent far_sent more s h = tt
 
 far_step : (rows : List Row) (assigned : List (Option ℕ)) (w : World) (f : FarDay) (more : List Outgoing) → KeepsOutward rows assigned w → OutwardReplies assigned w.sent f (w.far_sent ++ more) → OfferedCalls assigned w.sent f.calls → AreOnTheirOwn f.calls → length f.maintenance ≡ 32

@@ -4,6 +4,7 @@ use Rattle.std.specs.List.{AllByRecursion, list_any, position}
 use Rattle.std.proofs.lemmas.Bool.{false≢true, true≢false, and_from, and_parts, eq-eqb, eqb-true, or_left, or_from, cases_eq, false_from_ne_true}
 use Rattle.std.proofs.lemmas.List.{append-nil, append_assoc}
 use Rattle.bx_base.specs.Bookings.{Row}
+use Rattle.bx_q931.specs.declared.kind.Kind.{Kind}
 use Rattle.bx_q931.specs.declared.kind.Kind.TheVariants.{Connect, ConnectAcknowledge, Release, ReleaseComplete, Status}
 use Rattle.bx_q931.specs.Outgoing.{Outgoing, IsCallReference, out_octets, message_of, plain}
 use Rattle.bx_q931.specs.Parts.{channel_part}
@@ -18,6 +19,8 @@ use Rattle.bx_calls.specs.States.{state_value, net_state}
 use Rattle.bx_calls.specs.Steps.{ends}
 use Rattle.bx_calls.specs.UnknownTable.{unknown_status, refusal_of}
 use Rattle.bx_calls.specs.declared.unknown_reference.Side.TheVariants.{Network}
+use Rattle.bx_calls.specs.declared.times.Times.TheVariants.{Once}
+use Rattle.bx_calls.specs.declared.net_state.Offer.TheVariants.{Asked}
 use Rattle.bx_calls.specs.declared.net_state.NetState.{NetState}
 use Rattle.bx_calls.specs.declared.net_state.NetState.TheVariants as net
 use Rattle.bx_calls.specs.declared.transition.Transition.{Transition}
@@ -169,21 +172,36 @@ pub indicated_awake : (s : NetState) → IndicatedIn s → net_awake_state s ≡
 indicated_awake (net.Enquiring asked due) p = absurd p
 indicated_awake s p = refl
 
-awake_row : (x : PlainNetCall) (h : Heard) (t : ℕ) → net_awake_state x.state ≡ x.state → net_message x h t ≡ net_row x h t x.state h.kind
-awake_row x h t is = at x.state is
-  where
-    at : (s : NetState) → net_awake_state s ≡ s → net_heard x h t s h.kind ≡ net_row (record x { state = s }) h t s h.kind
-    at (net.Enquiring asked due) q = absurd (false≢true (ap is_asked q))
-    at net.Active q = refl
-    at net.OutgoingCallProceeding q = refl
-    at (net.CallPresent again due) q = refl
-    at (net.IncomingCallProceeding due) q = refl
-    at (net.CallReceived due) q = refl
-    at (net.DisconnectIndication cause due) q = refl
-    at (net.ReleaseRequest again cause due) q = refl
+-- such a call does as the table of messages says
+abbrev AsRow : PlainNetCall → Heard → ℕ → NetState → Kind → Type 0
+AsRow x h t s k = net_heard x h t s k ≡ net_row (record x { state = s }) h t s k
+
+present_connects : (x : PlainNetCall) (h : Heard) (t : ℕ) (s : NetState) → PresentIn s → AsRow x h t s Connect
+present_connects x h t (net.CallPresent Asked due) p = absurd p
+present_connects x h t (net.CallPresent offer due) p = refl
+present_connects x h t s p = absurd p
+
+present_reports : (x : PlainNetCall) (h : Heard) (t : ℕ) (s : NetState) → PresentIn s → AsRow x h t s Status
+present_reports x h t (net.CallPresent Asked due) p = absurd p
+present_reports x h t (net.CallPresent offer due) p = refl
+present_reports x h t s p = absurd p
+
+active_row : (x : PlainNetCall) (h : Heard) (t : ℕ) (s : NetState) (k : Kind) → ActiveIn s → AsRow x h t s k
+active_row x h t net.Active k p = refl
+active_row x h t s k p = absurd p
+
+indicated_row : (x : PlainNetCall) (h : Heard) (t : ℕ) (s : NetState) (k : Kind) → IndicatedIn s → AsRow x h t s k
+indicated_row x h t (net.DisconnectIndication cause due) k p = refl
+indicated_row x h t s k p = absurd p
+
+active_reports : (x : PlainNetCall) (h : Heard) (t : ℕ) (s : NetState) → ActiveIn s → AsRow x h t s Status
+active_reports x h t s p = active_row x h t s Status p
+
+indicated_reports : (x : PlainNetCall) (h : Heard) (t : ℕ) (s : NetState) → IndicatedIn s → AsRow x h t s Status
+indicated_reports x h t s p = indicated_row x h t s Status p
 
 connect_row : (x : PlainNetCall) (h : Heard) (t : ℕ) (s : NetState) → PresentIn s → names_channel h.channel x.channel ≡ true → net_row x h t s Connect ≡ net_to x (Some (net_says x ConnectAcknowledge)) net.Active
-connect_row x h t (net.CallPresent again due) p is = ap (λ b. if b then net_to x (Some (net_says x ConnectAcknowledge)) net.Active else net_releases x false (Some 6) t) is
+connect_row x h t (net.CallPresent again due) p is = ap (λ b. if b then net_to x (Some (net_says x ConnectAcknowledge)) net.Active else net_releases x Once (Some 6) t) is
 connect_row x h t s p is = absurd p
 
 again_row : (x : PlainNetCall) (h : Heard) (t : ℕ) (s : NetState) → ActiveIn s → net_row x h t s Connect ≡ net_same x (Some (net_status x 101))
@@ -230,7 +248,7 @@ connect_present c i o rest said d r ok ref kind channel same fits p = go (standi
     go (OnCall x a) f q =
         let h : Heard = (said_from o).heard in
         let on : names_channel h.channel x.channel ≡ true = ap (λ ch. names_channel (channel_part ch) x.channel) channel ∙ eq-eqb (channel_of c i) x.channel (sym same ∙ sym f.channel) in
-        let row : net_message x h d.moment ≡ net_to x (Some (net_says x ConnectAcknowledge)) net.Active = awake_row x h d.moment (present_awake x.state q.0) ∙ ap (net_row x h d.moment x.state) kind ∙ connect_row x h d.moment x.state q.0 on in
+        let row : net_message x h d.moment ≡ net_to x (Some (net_says x ConnectAcknowledge)) net.Active = ap (net_heard x h d.moment x.state) kind ∙ present_connects x h d.moment x.state q.0 ∙ connect_row x h d.moment x.state q.0 on in
         let out : Outgoing = net_says x ConnectAcknowledge in
         subst (LeavesBy c i rest said a d.moment) (sym row) (
           record {
@@ -248,7 +266,7 @@ connect_again : (c : Day) (i t : ℕ) (o : Outgoing) (rest said : List Outgoing)
 connect_again c i t o rest said s r ok ref kind p acked = on_call ActiveIn i (Leaves c i rest said (said_from o) t) s p (λ x a q.
     let h : Heard = (said_from o).heard in
     let plain_row : net_row x h t x.state o.kind ≡ net_same x (Some (net_status x 101)) = ap (net_row x h t x.state) kind ∙ again_row x h t x.state q.0 in
-    let row : net_message x h t ≡ net_same x (Some (net_status x 101)) = awake_row x h t (active_awake x.state q.0) ∙ plain_row in
+    let row : net_message x h t ≡ net_same x (Some (net_status x 101)) = active_row x h t x.state h.kind q.0 ∙ plain_row in
     let reference = subst IsCallReference (ref ∙ sym q.1.0) ok.out.reference in
     let sendable : Sendable (net_status x 101) = subst (λ (z : Transition PlainNetCall). OfSaid Sendable z.reply) plain_row (row_ok x.reference x.channel x.origin t h x.state o.kind reference) in
     subst (LeavesBy c i rest said a t) (sym row) (
@@ -265,7 +283,7 @@ release_indicated : (c : Day) (i t : ℕ) (o : Outgoing) (rest said : List Outgo
 release_indicated c i t o rest said s r ok ref kind p = on_call IndicatedIn i (Leaves c i rest said (said_from o) t) s p (λ x a q.
     let h : Heard = (said_from o).heard in
     let out : Outgoing = net_says x ReleaseComplete in
-    let row : net_message x h t ≡ ends (Some out) = awake_row x h t (indicated_awake x.state q.0) ∙ ap (net_row x h t x.state) kind ∙ release_row x h t x.state q.0 in
+    let row : net_message x h t ≡ ends (Some out) = ap (net_heard x h t x.state) kind ∙ indicated_row x h t x.state Release q.0 ∙ release_row x h t x.state q.0 in
     subst (LeavesBy c i rest said a t) (sym row) (
       record {
         ringing = λ k. absurd (ring_not_clear (standing_at c i) k r);
@@ -277,10 +295,10 @@ release_indicated c i t o rest said s r ok ref kind p = on_call IndicatedIn i (L
     ))
 
 -- a report to a live call leaves it as it is
-report_live : (P : NetState → Type 0) → ((n : NetState) → P n → net_awake_state n ≡ n) → (c : Day) (i t : ℕ) (o : Outgoing) (rest said : List Outgoing) (s : Standing) → o.kind ≡ Status → reports_null o.state ≡ false → OutwardIn P i s → ((x : PlainNetCall) (a : Activity) → s ≡ OnCall x a → AtX c rest (said ++ []) i (OnCall x (activity_after a (is_active x.state) t))) → Leaves c i rest said (said_from o) t s
+report_live : (P : NetState → Type 0) → ((x : PlainNetCall) (h : Heard) (t : ℕ) (n : NetState) → P n → AsRow x h t n Status) → (c : Day) (i t : ℕ) (o : Outgoing) (rest said : List Outgoing) (s : Standing) → o.kind ≡ Status → reports_null o.state ≡ false → OutwardIn P i s → ((x : PlainNetCall) (a : Activity) → s ≡ OnCall x a → AtX c rest (said ++ []) i (OnCall x (activity_after a (is_active x.state) t))) → Leaves c i rest said (said_from o) t s
 report_live P w c i t o rest said (OnCall x a) kind state p f =
     let h : Heard = (said_from o).heard in
-    let row : net_message x h t ≡ net_same x None = awake_row x h t (w x.state p.0) ∙ ap (net_row x h t x.state) kind ∙ report_row x h t x.state state in
+    let row : net_message x h t ≡ net_same x None = ap (net_heard x h t x.state) kind ∙ w x h t x.state p.0 ∙ report_row x h t x.state state in
     subst (LeavesBy c i rest said a t) (sym row) (f x a refl, tt)
 report_live P w c i t o rest said Refused kind state p f = absurd p
 report_live P w c i t o rest said s kind state p f = absurd p
@@ -318,13 +336,13 @@ x_step rows assigned c t o rest said d kinds m h = at m.says
 
     report : (i : ℕ) → o.reference ≡ suc i → o.kind ≡ Status → reports_null o.state ≡ false → Kinds c i → HeardX rows assigned c t rest said (receive_octets d (out_octets o))
     report i ref kind state (Ringing r) = elim ((h.calls i).ringing r) [
-      | inl p ↦ by PresentIn i ref p.0 (report_live PresentIn present_awake c i d.moment o rest said (standing_at d i) kind state p.0 (λ x a is. record {
+      | inl p ↦ by PresentIn i ref p.0 (report_live PresentIn present_reports c i d.moment o rest said (standing_at d i) kind state p.0 (λ x a is. record {
         ringing = λ _. inl (same_call PresentIn i d.moment (standing_at d i) x a p.0 is, skip (connects_as (suc i)) o rest (off_and (from_other (suc i) o) (is_connect_of o.kind) (ap is_connect_of kind)) p.1);
         clearing = λ k. absurd (ring_not_clear (standing_at c i) r k);
         settled = λ k. absurd (ring_not_up (standing_at c i) r k);
         idle = λ k. absurd (true≢false (sym (ring_live (standing_at c i) r) ∙ k));
       }))
-      | inr p ↦ by ActiveIn i ref p.0 (report_live ActiveIn active_awake c i d.moment o rest said (standing_at d i) kind state p.0 (λ x a is. record {
+      | inr p ↦ by ActiveIn i ref p.0 (report_live ActiveIn active_reports c i d.moment o rest said (standing_at d i) kind state p.0 (λ x a is. record {
         ringing = λ _. inr (same_call ActiveIn i d.moment (standing_at d i) x a p.0 is, has_more (acks_as (suc i)) said [] p.1);
         clearing = λ k. absurd (ring_not_clear (standing_at c i) r k);
         settled = λ k. absurd (ring_not_up (standing_at c i) r k);
@@ -332,7 +350,7 @@ x_step rows assigned c t o rest said d kinds m h = at m.says
       }))
     ]
     report i ref kind state (Clearing r) = elim ((h.calls i).clearing r) [
-      | inl p ↦ by IndicatedIn i ref p.0 (report_live IndicatedIn indicated_awake c i d.moment o rest said (standing_at d i) kind state p.0 (λ x a is. record {
+      | inl p ↦ by IndicatedIn i ref p.0 (report_live IndicatedIn indicated_reports c i d.moment o rest said (standing_at d i) kind state p.0 (λ x a is. record {
         ringing = λ k. absurd (ring_not_clear (standing_at c i) k r);
         clearing = λ _. inl (same_call IndicatedIn i d.moment (standing_at d i) x a p.0 is, skip (releases_as (suc i)) o rest (off_and (from_other (suc i) o) (is_release_of o.kind) (ap is_release_of kind)) p.1);
         settled = λ k. absurd (clear_not_up (standing_at c i) r k);
@@ -341,7 +359,7 @@ x_step rows assigned c t o rest said d kinds m h = at m.says
       | inr p ↦ gone i (unchanged d (unknown_status Network o.reference (not o.flag) o.state)) r ref p.0 p.1 (ap (stray d (said_from o)) kind) refl
           (unknown_all c i o.reference (not o.flag) o.state r m.sendable.out.reference ref (ap not m.flag) state)
     ]
-    report i ref kind state (Settled u) = (let p = (h.calls i).settled u in by ActiveIn i ref p (report_live ActiveIn active_awake c i d.moment o rest said (standing_at d i) kind state p (λ x a is. record {
+    report i ref kind state (Settled u) = (let p = (h.calls i).settled u in by ActiveIn i ref p (report_live ActiveIn active_reports c i d.moment o rest said (standing_at d i) kind state p (λ x a is. record {
       ringing = λ k. absurd (ring_not_up (standing_at c i) k u);
       clearing = λ k. absurd (clear_not_up (standing_at c i) k u);
       settled = λ _. same_call ActiveIn i d.moment (standing_at d i) x a p is;

@@ -36,11 +36,11 @@ use Rattle.bx_day.proofs.Said.{OfSaid}
 use Rattle.bx_day.proofs.Sent.{heard_plain, is_plain}
 use Rattle.bx_day.proofs.Tick.{by_cases, with_standing}
 use Rattle.bx_two_ends.proofs.Delivery.{said_from}
-use Rattle.bx_two_ends.proofs.NetworkRows.{heard_goes, heard_says, OfCall, Mild, clears_as}
-use Rattle.bx_two_ends.proofs.History.{from_beginner, from_other, is_setup_kind, sets_up, clears, has_more, has_none, none_all, IsIn, beginner_parts, is_from_other, not_both, listed, said_map, said_both}
+use Rattle.bx_two_ends.proofs.NetworkRows.{shows_connected, heard_goes, heard_says, OfCall, Mild, clears_as}
+use Rattle.bx_two_ends.proofs.History.{shows, from_beginner, from_other, is_setup_kind, sets_up, clears, has_more, has_none, none_all, IsIn, beginner_parts, is_from_other, not_both, listed, said_map, said_both}
 use Rattle.bx_two_ends.proofs.Outward.{is_started, Seat, Seats, OutwardSent, OutwardSents, OutwardStanding, OutwardStandings}
 use Rattle.bx_two_ends.proofs.ExchangeTicks.{sents_grow, goes_outward, follow_calm, follow_started, outward_row}
-use Rattle.bx_two_ends.specs.TwoEndsInward.{is_connect_kind, connects}
+use Rattle.bx_two_ends.specs.TwoEndsInward.{is_connect_kind}
 
 -- what an answer of the exchange leaves true
 pub record ExchangeKeeps (assigned : List (Option ℕ)) (sent far_sent : List Outgoing) (x : Answered Day) : Type 0 where
@@ -181,12 +181,12 @@ heard_one assigned sent far_sent t i o e (OnCall c a) named seat fits outward is
       refused = λ _. refl;
       started = λ _. follow_started a t step.reply step.next;
       said = subst (OfSaid (λ x. x.flag ≡ false → (x.reference ≡ suc i) × Known sent x)) (sym (follow_eq a t step.reply step.next)) said;
-      outward = goes_outward i sent (reply_list (follow a t step.reply step.next).said) far_sent c (is_connect_kind o.kind) a t step.reply step.reply step.next
+      outward = goes_outward i sent (reply_list (follow a t step.reply step.next).said) far_sent c (shows_connected o.kind o.state) a t step.reply step.reply step.next
           (heard_goes c.reference c.channel c.origin t (said_from o).heard c.state o.kind) outward
-          (λ f k. is_in (connects (suc i)) (and_from (from_other (suc i) o) (is_connect_kind o.kind) (is_from_other (suc i) o (sym (eqb-true c.reference o.reference p.0) ∙ row f) (flags_meet (net_flag c.origin) o.flag p.1 f)) k))
+          (λ f k. is_in (shows (suc i)) (and_from (from_other (suc i) o) (shows_connected o.kind o.state) (is_from_other (suc i) o (sym (eqb-true c.reference o.reference p.0) ∙ row f) (flags_meet (net_flag c.origin) o.flag p.1 f)) k))
           (λ q f. none_said (suc i) (follow a t step.reply step.next).said (subst (OfSaid (λ x. clears (suc i) x ≡ false)) (sym (follow_eq a t step.reply step.next))
           (said_map Mild (λ x. clears (suc i) x ≡ false) (λ x mild. not_both (from_beginner (suc i) x) (clears_as x.kind x.state) (λ n c'. false≢true (sym mild ∙ c'))) step.reply
-          (follow_calm c.reference c.channel c.origin c.state (is_connect_kind o.kind) a t step.reply step.reply step.next (heard_goes c.reference c.channel c.origin t (said_from o).heard c.state o.kind) q))));
+          (follow_calm c.reference c.channel c.origin c.state (shows_connected o.kind o.state) a t step.reply step.reply step.next (heard_goes c.reference c.channel c.origin t (said_from o).heard c.state o.kind) q))));
     }
 heard_one assigned sent far_sent t i o e Refused named seat fits outward is_in = absurd (false≢true named)
 heard_one assigned sent far_sent t i o e s named seat fits outward is_in = absurd (false≢true named)
@@ -199,17 +199,18 @@ pub record Unknown (r : ℕ) (f : Bool) (o : Outgoing) : Type 0 where
   pub flag : o.flag ≡ f
   pub other : is_setup_kind o.kind ≡ false
   pub no_connect : is_connect_kind o.kind ≡ false
+  pub unshown : shows_connected o.kind o.state ≡ false
 
 status_says : (side : Side) (r : ℕ) (f : Bool) (state : Option ℕ) → OfSaid (Unknown r f) (unknown_status side r f state)
 status_says side r f None = tt
-status_says side r f (Some state) = by_cases (state == 0) _ _ (λ (o : Option Outgoing). OfSaid (Unknown r f) o) (λ _. tt) (λ _. record { reference = refl; flag = refl; other = refl; no_connect = refl })
+status_says side r f (Some state) = by_cases (state == 0) _ _ (λ (o : Option Outgoing). OfSaid (Unknown r f) o) (λ _. tt) (λ _. record { reference = refl; flag = refl; other = refl; no_connect = refl; unshown = refl })
 
 pub unknown_says : (side : Side) (r : ℕ) (f : Bool) (m : Heard) (k : Kind) → OfSaid (Unknown r f) (unknown_row side r f m k)
 unknown_says side r f m ReleaseComplete = tt
 unknown_says side r f m Status = status_says side r f m.state
 unknown_says side r f m Setup = tt
-unknown_says side r f m StatusEnquiry = record { reference = refl; flag = refl; other = refl; no_connect = refl }
-unknown_says side r f m k = record { reference = refl; flag = refl; other = refl; no_connect = refl }
+unknown_says side r f m StatusEnquiry = record { reference = refl; flag = refl; other = refl; no_connect = refl; unshown = refl }
+unknown_says side r f m k = record { reference = refl; flag = refl; other = refl; no_connect = refl; unshown = refl }
 
 index_none : (test : Entry → Bool) → test no_entry ≡ false → (es : List Entry) → position test es ≡ None → (j : ℕ) → test (entry_at es j) ≡ false
 index_none test n [] q j = n

@@ -20,7 +20,7 @@ use Rattle.bx_day.specs.declared.entry.Entry.{Entry}
 use Rattle.bx_day.specs.declared.entry.Moved.{Moved}
 use Rattle.bx_day.specs.declared.entry.Standing.{Standing}
 use Rattle.bx_day.specs.declared.entry.Standing.TheVariants.{Refused, Unoffered, OnCall}
-use Rattle.bx_day.specs.Day.{Day, entry_at, is_free, every_channel}
+use Rattle.bx_day.specs.Day.{is_back, Day, entry_at, is_free, every_channel}
 use Rattle.bx_day.specs.Ticks.{second_at, waits, tick, second_in}
 use Rattle.bx_day.specs.Receipts.{names, hears, takes_call, takes_or, takes_preferred, called_on, called, stray, received_at, receive, with_moved, opens, lowest_open}
 use Rattle.bx_day.specs.Moves.{follow, over_at}
@@ -31,12 +31,11 @@ use Rattle.bx_day.proofs.Receive.{OpenAt, open_parts, open_index, open_lowest}
 use Rattle.bx_day.proofs.Said.{OfSaid, all_said}
 use Rattle.bx_day.proofs.Tick.{by_cases, offers, with_standing}
 use Rattle.bx_two_ends.proofs.Delivery.{Sendable, said_from}
-use Rattle.bx_two_ends.proofs.NetworkRows.{Goes, OnNext, second_goes, heard_goes}
+use Rattle.bx_two_ends.proofs.NetworkRows.{shows_connected, Goes, OnNext, second_goes, heard_goes}
 use Rattle.bx_two_ends.proofs.Outward.{Seat, Seats}
 use Rattle.bx_two_ends.proofs.ExchangeTicks.{after_at, all_from, follow_said}
 use Rattle.bx_two_ends.proofs.ExchangeHears.{set_at}
 use Rattle.bx_two_ends.proofs.MessageLimits.{NumberOf, heard_ok, second_ok, unknown_ok, refusal_ok, channel_ok, setup_ok}
-use Rattle.bx_two_ends.specs.TwoEndsInward.{is_connect_kind}
 use Rattle.bx_day.specs.declared.entry.Link.TheVariants.{Up}
 
 pub record CallWithin (c : PlainNetCall) : Type 0 where
@@ -64,26 +63,26 @@ pub record MovedOk (m : Moved) : Type 0 where
 row_reference : (assigned : List (Option ℕ)) (i : ℕ) (e : Entry) → Seat assigned i e → IsCallReference e.row
 row_reference assigned i e s = (omega (arith, s.row), omega (arith, s.row, s.few))
 
-waits_within : (assigned : List (Option ℕ)) (i t : ℕ) (e : Entry) (free : Bool) → Seat assigned i e → MovedOk (waits e t free)
-waits_within assigned i t e free s = by_cases (offers e t free) _ _ MovedOk
+waits_within : (assigned : List (Option ℕ)) (i t : ℕ) (e : Entry) (back free : Bool) → Seat assigned i e → MovedOk (waits e t back free)
+waits_within assigned i t e back free s = by_cases (offers e t free) _ _ MovedOk
     (λ _. record { said = setup_ok e.row e.channel e.booking.number (row_reference assigned i e s) s.in_service s.number; standing = record { reference = row_reference assigned i e s; channel = s.in_service; number = s.number } })
     (λ _. by_cases (nat_le e.booking.end t) _ _ MovedOk (λ _. record { said = tt; standing = tt }) (λ _. record { said = tt; standing = tt }))
 
-pub second_within : (assigned : List (Option ℕ)) (i t : ℕ) (e : Entry) (free : Bool) (s : Standing) → (is_refused s ≡ false → Seat assigned i e) → StandingWithin s → MovedOk (second_at e t free s)
-second_within assigned i t e free Unoffered seat h = waits_within assigned i t e free (seat refl)
-second_within assigned i t e free (OnCall c a) seat h =
+pub second_within : (assigned : List (Option ℕ)) (i t : ℕ) (e : Entry) (back free : Bool) (s : Standing) → (is_refused s ≡ false → Seat assigned i e) → StandingWithin s → MovedOk (second_at e t back free s)
+second_within assigned i t e back free Unoffered seat h = waits_within assigned i t e back free (seat refl)
+second_within assigned i t e back free (OnCall c a) seat h =
     let step : Transition PlainNetCall = net_second c t e.booking.end in
     record {
       said = follow_said Sendable a t step.reply step.next (second_ok c.reference c.channel c.origin t e.booking.end c.state h.reference h.channel h.number);
       standing = follow_within c c.state false a t step.reply step.reply step.next (second_goes c.reference c.channel c.origin t e.booking.end c.state) h;
     }
-second_within assigned i t e free s seat h = record { said = tt; standing = tt }
+second_within assigned i t e back free s seat h = record { said = tt; standing = tt }
 
 abbrev pub ExchangeWithin : Day → Type 0
 ExchangeWithin d = (i : ℕ) → StandingWithin (standing_at d i)
 
 at_second : (assigned : List (Option ℕ)) (d : Day) (i : ℕ) → Seats assigned d.entries → ExchangeWithin d → MovedOk (second_in Up d (entry_at d.entries i))
-at_second assigned d i seats h = second_within assigned i (d.moment + 1) (entry_at d.entries i) (is_free d (entry_at d.entries i).channel) (entry_at d.entries i).standing (seats i) (h i)
+at_second assigned d i seats h = second_within assigned i (d.moment + 1) (entry_at d.entries i) (is_back d) (is_free d (entry_at d.entries i).channel) (entry_at d.entries i).standing (seats i) (h i)
 
 pub tick_sendable : (assigned : List (Option ℕ)) (d : Day) → Seats assigned d.entries → ExchangeWithin d → AllByRecursion Sendable (tick d).sent
 tick_sendable assigned d seats h = all_said Sendable d (all_from (λ e. OfSaid Sendable (second_in Up d e).said) d.entries (λ i. (at_second assigned d i seats h).said))
@@ -105,7 +104,7 @@ hears_ok o t (OnCall c a) h =
     let step : Transition PlainNetCall = net_message c (said_from o).heard t in
     record {
       said = follow_said Sendable a t step.reply step.next (heard_ok c.reference c.channel c.origin t (said_from o).heard c.state o.kind h.reference);
-      standing = follow_within c c.state (is_connect_kind o.kind) a t step.reply step.reply step.next (heard_goes c.reference c.channel c.origin t (said_from o).heard c.state o.kind) h;
+      standing = follow_within c c.state (shows_connected o.kind o.state) a t step.reply step.reply step.next (heard_goes c.reference c.channel c.origin t (said_from o).heard c.state o.kind) h;
     }
 hears_ok o t Refused h = record { said = tt; standing = tt }
 hears_ok o t s h = record { said = tt; standing = tt }

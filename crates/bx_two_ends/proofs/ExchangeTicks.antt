@@ -24,7 +24,7 @@ use Rattle.bx_day.specs.declared.entry.Moved.{Moved}
 use Rattle.bx_day.specs.declared.entry.Standing.{Standing}
 use Rattle.bx_day.specs.declared.entry.Standing.TheVariants.{Refused, Unoffered, OnCall, Carried, Unanswered, Missed}
 use Rattle.bx_calls.specs.Shared.{cons_some}
-use Rattle.bx_day.specs.Day.{Day, entry_at, is_free, every_channel}
+use Rattle.bx_day.specs.Day.{is_back, Day, entry_at, is_free, every_channel}
 use Rattle.bx_day.specs.Ticks.{second_at, waits, said_on, ticked, second_in}
 use Rattle.bx_day.specs.Moves.{is_active, follow, over_at}
 use Rattle.bx_day.specs.Invariant.{EntryFits, CallFits, OriginFits, DayFits, is_refused}
@@ -34,9 +34,8 @@ use Rattle.bx_day.proofs.Receive.{all_at}
 use Rattle.bx_day.proofs.Said.{OfSaid, all_said}
 use Rattle.bx_day.proofs.Tick.{by_cases, offers, second_refused}
 use Rattle.bx_two_ends.proofs.NetworkRows.{Goes, OnNext, Speaks, Mild, second_goes, second_speaks, clears_as, is_proceeding}
-use Rattle.bx_two_ends.proofs.History.{from_beginner, is_setup_kind, sets_up, clears, has_more, has_new, has_none, none_all, found, all_joined, all_map, IsIn, all_in, all_both, beginner_parts, is_from_beginner, not_both, said_both, implied_false}
+use Rattle.bx_two_ends.proofs.History.{shows, from_beginner, is_setup_kind, sets_up, clears, has_more, has_new, has_none, none_all, found, all_joined, all_map, IsIn, all_in, all_both, beginner_parts, is_from_beginner, not_both, said_both, implied_false}
 use Rattle.bx_two_ends.proofs.Outward.{is_started, is_calm, Seat, Seats, OutwardSent, OutwardSents, OutwardStanding, OutwardStandings}
-use Rattle.bx_two_ends.specs.TwoEndsInward.{connects}
 use Rattle.bx_day.specs.declared.entry.Link.TheVariants.{Up}
 
 -- what the booking of index i says at a tick after which it stands so
@@ -84,7 +83,7 @@ abbrev pub TickSaysOf : List (Option ℕ) → List Outgoing → ℕ → Moved �
 TickSaysOf assigned sent i m = OfSaid (TickSays assigned sent i m.standing) m.said
 
 call_says : (assigned : List (Option ℕ)) (sent far_sent : List Outgoing) (i t : ℕ) (e : Entry) (c : PlainNetCall) (a : Activity) → Seat assigned i e → CallFits t e c a → OutwardStanding (suc i) sent far_sent (OnCall c a)
-    → TickSaysOf assigned sent i (second_at e (t + 1) true (OnCall c a))
+    → TickSaysOf assigned sent i (second_at e (t + 1) true true (OnCall c a))
 call_says assigned sent far_sent i t e c a seat fits outward =
     let step : Transition PlainNetCall = net_second c (t + 1) e.booking.end in
     let after : Standing = (follow a (t + 1) step.reply step.next).standing in
@@ -102,8 +101,8 @@ call_says assigned sent far_sent i t e c a seat fits outward =
     (second_speaks c.reference c.channel c.origin (t + 1) e.booking.end c.state)
     (under_said (is_calm after ≡ true) Mild step.reply (follow_calm c.reference c.channel c.origin c.state false a (t + 1) step.reply step.reply step.next (second_goes c.reference c.channel c.origin (t + 1) e.booking.end c.state))))
 
-waits_says : (assigned : List (Option ℕ)) (sent : List Outgoing) (i t : ℕ) (e : Entry) (free : Bool) → Seat assigned i e → TickSaysOf assigned sent i (waits e t free)
-waits_says assigned sent i t e free seat =
+waits_says : (assigned : List (Option ℕ)) (sent : List Outgoing) (i t : ℕ) (e : Entry) (back free : Bool) → Seat assigned i e → TickSaysOf assigned sent i (waits e t back free)
+waits_says assigned sent i t e back free seat =
     by_cases (offers e t free) _ _ (TickSaysOf assigned sent i)
     (λ offered. record {
       outward = λ f. seat.row;
@@ -115,14 +114,14 @@ waits_says assigned sent i t e free seat =
     })
     (λ _. by_cases (nat_le e.booking.end t) _ _ (TickSaysOf assigned sent i) (λ _. tt) (λ _. tt))
 
-entry_says : (assigned : List (Option ℕ)) (sent far_sent : List Outgoing) (i t : ℕ) (e : Entry) (free : Bool) (s : Standing) → e.standing ≡ s → (is_refused s ≡ false → Seat assigned i e) → EntryFits t (record e { standing = s }) → OutwardStanding (suc i) sent far_sent s
-    → TickSaysOf assigned sent i (second_at e (t + 1) free s)
-entry_says assigned sent far_sent i t e free Refused q seat fits outward = tt
-entry_says assigned sent far_sent i t e free Unoffered q seat fits outward = waits_says assigned sent i (t + 1) e free (seat refl)
-entry_says assigned sent far_sent i t e free (OnCall c a) q seat fits outward = call_says assigned sent far_sent i t e c a (seat refl) (record { channel = fits.channel; origin = fits.origin; phase = fits.phase; due = fits.due; activity = fits.activity }) outward
-entry_says assigned sent far_sent i t e free (Carried from until) q seat fits outward = tt
-entry_says assigned sent far_sent i t e free Unanswered q seat fits outward = tt
-entry_says assigned sent far_sent i t e free Missed q seat fits outward = tt
+entry_says : (assigned : List (Option ℕ)) (sent far_sent : List Outgoing) (i t : ℕ) (e : Entry) (back free : Bool) (s : Standing) → e.standing ≡ s → (is_refused s ≡ false → Seat assigned i e) → EntryFits t (record e { standing = s }) → OutwardStanding (suc i) sent far_sent s
+    → TickSaysOf assigned sent i (second_at e (t + 1) back free s)
+entry_says assigned sent far_sent i t e back free Refused q seat fits outward = tt
+entry_says assigned sent far_sent i t e back free Unoffered q seat fits outward = waits_says assigned sent i (t + 1) e back free (seat refl)
+entry_says assigned sent far_sent i t e back free (OnCall c a) q seat fits outward = call_says assigned sent far_sent i t e c a (seat refl) (record { channel = fits.channel; origin = fits.origin; phase = fits.phase; due = fits.due; activity = fits.activity }) outward
+entry_says assigned sent far_sent i t e back free (Carried from until) q seat fits outward = tt
+entry_says assigned sent far_sent i t e back free Unanswered q seat fits outward = tt
+entry_says assigned sent far_sent i t e back free Missed q seat fits outward = tt
 
 pub after_at : (d : Day) (i : ℕ) → standing_at (ticked d).day i ≡ (second_in Up d (entry_at d.entries i)).standing
 after_at d i = ap (λ (e : Entry). e.standing) (at_map d d.entries i)
@@ -131,7 +130,7 @@ index_says : (assigned : List (Option ℕ)) (sent far_sent : List Outgoing) (d :
     → OfSaid (TickSays assigned sent i (standing_at (ticked d).day i)) (second_in Up d (entry_at d.entries i)).said
 index_says assigned sent far_sent d fits seats standings i =
     subst (λ s. OfSaid (TickSays assigned sent i s) (second_in Up d (entry_at d.entries i)).said) (sym (after_at d i))
-    (entry_says assigned sent far_sent i d.moment (entry_at d.entries i) (is_free d (entry_at d.entries i).channel) (entry_at d.entries i).standing refl (seats i) (all_at (EntryFits d.moment) tt d.entries i fits.each) (standings i))
+    (entry_says assigned sent far_sent i d.moment (entry_at d.entries i) (is_back d) (is_free d (entry_at d.entries i).channel) (entry_at d.entries i).standing refl (seats i) (all_at (EntryFits d.moment) tt d.entries i fits.each) (standings i))
 
 pub all_from : (P : Entry → Type 0) (es : List Entry) → ((i : ℕ) → P (entry_at es i)) → AllByRecursion P es
 all_from P [] h = tt
@@ -153,14 +152,14 @@ tick_says assigned sent far_sent d fits seats standings late =
 
 -- ---- what was sent
 
-pub second_started : (e : Entry) (t : ℕ) (free : Bool) (s : Standing) → is_started s ≡ true → is_started (second_at e t free s).standing ≡ true
-second_started e t free (OnCall c a) h = follow_started a t (net_second c t e.booking.end).reply (net_second c t e.booking.end).next
-second_started e t free (Carried from until) h = h
-second_started e t free Unanswered h = h
-second_started e t free s h = absurd (false≢true h)
+pub second_started : (e : Entry) (t : ℕ) (back free : Bool) (s : Standing) → is_started s ≡ true → is_started (second_at e t back free s).standing ≡ true
+second_started e t back free (OnCall c a) h = follow_started a t (net_second c t e.booking.end).reply (net_second c t e.booking.end).next
+second_started e t back free (Carried from until) h = h
+second_started e t back free Unanswered h = h
+second_started e t back free s h = absurd (false≢true h)
 
 tick_started : (d : Day) (i : ℕ) → is_started (standing_at d i) ≡ true → is_started (standing_at (ticked d).day i) ≡ true
-tick_started d i h = subst (λ s. is_started s ≡ true) (sym (after_at d i)) (second_started (entry_at d.entries i) (d.moment + 1) (is_free d (entry_at d.entries i).channel) (entry_at d.entries i).standing h)
+tick_started d i h = subst (λ s. is_started s ≡ true) (sym (after_at d i)) (second_started (entry_at d.entries i) (d.moment + 1) (is_back d) (is_free d (entry_at d.entries i).channel) (entry_at d.entries i).standing h)
 
 less_one : (r i : ℕ) → r ≡ suc i → i ≡ r - 1
 less_one r i q = omega (arith, q)
@@ -283,9 +282,9 @@ over_outward : (r : ℕ) (sent far_sent : List Outgoing) (a : Activity) (t : ℕ
 over_outward r sent far_sent Never t = tt
 over_outward r sent far_sent a t = tt
 
--- a call that goes on; k says whether a CONNECT came
+-- a call that goes on; k says whether what came shows that the user has connected
 pub goes_outward : (i : ℕ) (sent more far_sent : List Outgoing) (s : PlainNetCall) (k : Bool) (a : Activity) (t : ℕ) (reply said : Option Outgoing) (n : Next PlainNetCall) → OnNext (Goes s.reference s.channel s.origin s.state k reply) n → OutwardStanding (suc i) sent far_sent (OnCall s a)
-    → (net_flag s.origin ≡ false → k ≡ true → list_any (connects (suc i)) far_sent ≡ true)
+    → (net_flag s.origin ≡ false → k ≡ true → list_any (shows (suc i)) far_sent ≡ true)
     → (is_calm (follow a t said n).standing ≡ true → net_flag s.origin ≡ false → list_any (clears (suc i)) more ≡ false) → OutwardStanding (suc i) (sent ++ more) far_sent (follow a t said n).standing
 goes_outward i sent more far_sent s k a t reply said (Live c) g outward connected calm = λ f.
     let f' : net_flag s.origin ≡ false = ap net_flag (sym g.origin) ∙ f in
@@ -297,7 +296,7 @@ goes_outward i sent more far_sent s k a t reply said (Live c) g outward connecte
       proceeding = implied_false (is_proceeding c.state) (is_proceeding s.state) g.proceeding old.proceeding;
     }
   where
-    talks : (x y z : Bool) → (x || (y || z)) ≡ true → z ≡ false → (x ≡ true → list_any (connects (suc i)) far_sent ≡ true) → (y ≡ true → list_any (connects (suc i)) far_sent ≡ true) → list_any (connects (suc i)) far_sent ≡ true
+    talks : (x y z : Bool) → (x || (y || z)) ≡ true → z ≡ false → (x ≡ true → list_any (shows (suc i)) far_sent ≡ true) → (y ≡ true → list_any (shows (suc i)) far_sent ≡ true) → list_any (shows (suc i)) far_sent ≡ true
     talks true y z h q v w = v refl
     talks false true z h q v w = w refl
     talks false false z h q v w = absurd (true≢false (sym h ∙ q))
@@ -307,8 +306,8 @@ goes_outward i sent more far_sent s k a t reply said Broken g outward connected 
 abbrev OutwardAfter : ℕ → List Outgoing → List Outgoing → List Outgoing → Moved → Type 0
 OutwardAfter i sent more far_sent m = OfSaid (IsIn more) m.said → (is_calm m.standing ≡ true → list_any (clears (suc i)) more ≡ false) → OutwardStanding (suc i) (sent ++ more) far_sent m.standing
 
-waits_outward : (assigned : List (Option ℕ)) (i t : ℕ) (sent more far_sent : List Outgoing) (e : Entry) (free : Bool) → Seat assigned i e → list_any (clears (suc i)) sent ≡ false → OutwardAfter i sent more far_sent (waits e t free)
-waits_outward assigned i t sent more far_sent e free seat clean =
+waits_outward : (assigned : List (Option ℕ)) (i t : ℕ) (sent more far_sent : List Outgoing) (e : Entry) (back free : Bool) → Seat assigned i e → list_any (clears (suc i)) sent ≡ false → OutwardAfter i sent more far_sent (waits e t back free)
+waits_outward assigned i t sent more far_sent e back free seat clean =
     by_cases (offers e t free) _ _ (OutwardAfter i sent more far_sent)
     (λ offered said calm f. record {
       known = has_new (sets_up (suc i)) sent more (said (sets_up (suc i)) (and_from ((e.row == suc i) && true) true (and_from (e.row == suc i) true (eq-eqb e.row (suc i) seat.row) refl) refl));
@@ -318,34 +317,34 @@ waits_outward assigned i t sent more far_sent e free seat clean =
     })
     (λ _. by_cases (nat_le e.booking.end t) _ _ (OutwardAfter i sent more far_sent) (λ _ said calm. tt) (λ _ said calm. tt))
 
-entry_outward : (assigned : List (Option ℕ)) (i t : ℕ) (sent more far_sent : List Outgoing) (e : Entry) (free : Bool) (s : Standing) → (is_refused s ≡ false → Seat assigned i e) → (is_started s ≡ false → list_any (clears (suc i)) sent ≡ false) → OutwardStanding (suc i) sent far_sent s → OutwardAfter i sent more far_sent (second_at e t free s)
-entry_outward assigned i t sent more far_sent e free Unoffered seat clean outward said calm = waits_outward assigned i t sent more far_sent e free (seat refl) (clean refl) said calm
-entry_outward assigned i t sent more far_sent e free (OnCall c a) seat clean outward said calm =
+entry_outward : (assigned : List (Option ℕ)) (i t : ℕ) (sent more far_sent : List Outgoing) (e : Entry) (back free : Bool) (s : Standing) → (is_refused s ≡ false → Seat assigned i e) → (is_started s ≡ false → list_any (clears (suc i)) sent ≡ false) → OutwardStanding (suc i) sent far_sent s → OutwardAfter i sent more far_sent (second_at e t back free s)
+entry_outward assigned i t sent more far_sent e back free Unoffered seat clean outward said calm = waits_outward assigned i t sent more far_sent e back free (seat refl) (clean refl) said calm
+entry_outward assigned i t sent more far_sent e back free (OnCall c a) seat clean outward said calm =
     let step : Transition PlainNetCall = net_second c t e.booking.end in
     goes_outward i sent more far_sent c false a t step.reply step.reply step.next (second_goes c.reference c.channel c.origin t e.booking.end c.state) outward (λ _ k. absurd (false≢true k)) (λ q _. calm q)
-entry_outward assigned i t sent more far_sent e free s seat clean outward said calm = tt
+entry_outward assigned i t sent more far_sent e back free s seat clean outward said calm = tt
 
 seat_channel : (assigned : List (Option ℕ)) (d : Day) (i : ℕ) → Seats assigned d.entries → OfSaid (IsIn (ticked d).sent) (second_in Up d (entry_at d.entries i)).said
 seat_channel assigned d i seats = decide (is_refused (entry_at d.entries i).standing) refl
   where
-    silent : (e : Entry) (t : ℕ) (free : Bool) (s : Standing) → is_refused s ≡ true → OfSaid (IsIn (ticked d).sent) (second_at e t free s).said
-    silent e t free Refused q = tt
-    silent e t free s q = absurd (false≢true q)
+    silent : (e : Entry) (t : ℕ) (back free : Bool) (s : Standing) → is_refused s ≡ true → OfSaid (IsIn (ticked d).sent) (second_at e t back free s).said
+    silent e t back free Refused q = tt
+    silent e t back free s q = absurd (false≢true q)
 
     decide : (b : Bool) → is_refused (entry_at d.entries i).standing ≡ b → OfSaid (IsIn (ticked d).sent) (second_in Up d (entry_at d.entries i)).said
-    decide true q = silent (entry_at d.entries i) (d.moment + 1) (is_free d (entry_at d.entries i).channel) (entry_at d.entries i).standing q
+    decide true q = silent (entry_at d.entries i) (d.moment + 1) (is_back d) (is_free d (entry_at d.entries i).channel) (entry_at d.entries i).standing q
     decide false q = is_sent d i (seats i q).in_service
 
 pub tick_standings : (assigned : List (Option ℕ)) (sent far_sent : List Outgoing) (d : Day) → Seats assigned d.entries → OutwardSents assigned d sent sent → AllByRecursion (SaidBy assigned sent (ticked d).day) (ticked d).sent → OutwardStandings sent far_sent d → OutwardStandings (sent ++ (ticked d).sent) far_sent (ticked d).day
 tick_standings assigned sent far_sent d seats sents says standings i =
     let e = entry_at d.entries i in
     subst (OutwardStanding (suc i) (sent ++ (ticked d).sent) far_sent) (sym (after_at d i))
-    (entry_outward assigned i (d.moment + 1) sent (ticked d).sent far_sent e (is_free d e.channel) e.standing (seats i) (never_cleared assigned sent d i sents) (standings i)
+    (entry_outward assigned i (d.moment + 1) sent (ticked d).sent far_sent e (is_back d) (is_free d e.channel) e.standing (seats i) (never_cleared assigned sent d i sents) (standings i)
     (seat_channel assigned d i seats)
     (λ q. more_calm assigned sent (ticked d).sent (ticked d).day i (subst (λ s. is_calm s ≡ true) (sym (after_at d i)) q) says))
 
 pub tick_seats : (assigned : List (Option ℕ)) (d : Day) → Seats assigned d.entries → Seats assigned (ticked d).day.entries
 tick_seats assigned d seats i q =
     let e = entry_at d.entries i in
-    let p : Seat assigned i e = seats i (second_refused (d.moment + 1) (is_free d e.channel) e e.standing (sym (ap is_refused (after_at d i)) ∙ q)) in
+    let p : Seat assigned i e = seats i (second_refused (d.moment + 1) (is_back d) (is_free d e.channel) e e.standing (sym (ap is_refused (after_at d i)) ∙ q)) in
     subst (Seat assigned i) (sym (at_map d d.entries i)) (record { row = p.row; few = p.few; channel = p.channel; in_service = p.in_service; number = p.number })

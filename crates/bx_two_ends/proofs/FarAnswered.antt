@@ -11,8 +11,8 @@ use Rattle.bx_calls.specs.Hearing.{Heard, reports_null}
 use Rattle.bx_calls.specs.PlainCalls.{PlainUserCall}
 use Rattle.bx_calls.specs.Sending.{Sent, Answered, reply_list}
 use Rattle.bx_calls.specs.States.{state_value, user_state}
-use Rattle.bx_calls.specs.UserTable.{user_flag, user_row, user_second, user_second_row, user_takes, user_clears, user_says_channel, user_same, user_to, user_releases, user_connects, user_status}
-use Rattle.bx_calls.specs.Steps.{ends, breaks}
+use Rattle.bx_calls.specs.UserTable.{user_release_due, user_flag, user_row, user_second, user_second_row, user_takes, user_clears, user_says_channel, user_same, user_to, user_connects, user_status}
+use Rattle.bx_calls.specs.Steps.{ends}
 use Rattle.bx_calls.specs.declared.transition.Next.TheVariants.{Live}
 use Rattle.bx_calls.specs.declared.transition.Transition.{Transition}
 use Rattle.bx_calls.specs.declared.user_state.Policy.TheVariants.{Answer}
@@ -75,8 +75,7 @@ not_late : (t due : ℕ) → t < due → nat_le due t ≡ false
 not_late t due lt = false_from_ne_true (nat_le due t) (λ h. let le : due ≤ t = leb-true due t h in omega (arith, le, lt))
 
 second19 : (x : PlainUserCall) (m t : ℕ) (s : UserState) → In19 m s → t ≡ m + 1 → user_second_row x t s ≡ user_same x None
-second19 x m t (ReleaseRequest false cause due) h is = ap (λ b. if b then user_releases x true cause t else user_same x None) (not_late t due (omega (arith, h, is)))
-second19 x m t (ReleaseRequest true cause due) h is = ap (λ b. if b then breaks else user_same x None) (not_late t due (omega (arith, h, is)))
+second19 x m t (ReleaseRequest sent cause due) h is = ap (λ b. if b then user_release_due x t sent cause else user_same x None) (not_late t due (omega (arith, h, is)))
 second19 x m t s h is = absurd h
 
 still19 : (m : ℕ) (s : UserState) → In19 m s → Is19 s

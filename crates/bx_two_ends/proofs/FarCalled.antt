@@ -14,12 +14,13 @@ use Rattle.bx_calls.specs.Sending.{Answered, reply_list}
 use Rattle.bx_calls.specs.UserTable.{user_flag, user_message, user_row, user_offered, user_releases, user_same}
 use Rattle.bx_calls.specs.declared.transition.Next.{Next}
 use Rattle.bx_calls.specs.declared.transition.Next.TheVariants.{Live, Over, Broken}
+use Rattle.bx_calls.specs.declared.times.Times.TheVariants.{Once}
 use Rattle.bx_calls.specs.declared.user_state.Policy.{Policy}
 use Rattle.bx_calls.specs.declared.user_state.Policy.TheVariants.{Answer}
 use Rattle.bx_calls.specs.declared.user_state.UserOrigin.{UserOrigin}
 use Rattle.bx_calls.specs.declared.user_state.UserOrigin.TheVariants.{Offered, Calling}
 use Rattle.bx_calls.specs.declared.user_state.UserState.{UserState}
-use Rattle.bx_calls.specs.declared.user_state.UserState.TheVariants.{OutgoingCallProceeding, CallPresent, CallReceived, IncomingCallProceeding, Active, ReleaseRequest}
+use Rattle.bx_calls.specs.declared.user_state.UserState.TheVariants.{Active, ReleaseRequest}
 use Rattle.bx_calls.specs.NetTable.{net_is_clearing}
 use Rattle.bx_calls.specs.declared.net_state.NetOrigin.{NetOrigin}
 use Rattle.bx_calls.specs.declared.net_state.NetState.{NetState}
@@ -174,7 +175,7 @@ step_is c t E E' Q Q' f i x n day h live is on weaker after mine others = go n a
 same_is : (E : ℕ → UserState → Type 0) (j : ℕ) (s : UserState) → E j s → E j s
 same_is E j s h = h
 
-disc_row : (x : PlainUserCall) (m : Heard) (t : ℕ) (s : UserState) → In10 s → user_row x m t s Disconnect ≡ user_releases x false None t
+disc_row : (x : PlainUserCall) (m : Heard) (t : ℕ) (s : UserState) → In10 s → user_row x m t s Disconnect ≡ user_releases x Once None t
 disc_row x m t (Active since) h = refl
 disc_row x m t s h = absurd h
 
@@ -237,11 +238,11 @@ ends_step c t i o rest said f day r ref bare kind ok h =
     subst (HeardS c t rest said) (sym eq) (elim ((h.calls i live).clearing r) [
       | inl p ↦ (let x = held_option (holder f ch) In10 p.0 in
           let w = holder_for c t (InS c t) (AtS c t (o ∷ rest) said) f i x.0 day h live x.1.0 in
-          let step : user_message x.0 m.heard f.moment ≡ user_releases x.0 false None f.moment = ap (user_row x.0 m.heard f.moment x.0.state) kind ∙ disc_row x.0 m.heard f.moment x.0.state x.1.1 in
+          let step : user_message x.0 m.heard f.moment ≡ user_releases x.0 Once None f.moment = ap (user_row x.0 m.heard f.moment x.0.state) kind ∙ disc_row x.0 m.heard f.moment x.0.state x.1.1 in
           let out : Outgoing = plain x.0.reference (user_flag x.0.origin) Release in
           let late : t + 1 < f.moment + 4 = omega (arith, h.moment) in
           let flag : user_flag x.0.origin ≡ true = answering_flag x.0.origin w.1.1.0 in
-          let y : PlainUserCall = record x.0 { state = ReleaseRequest false None (f.moment + 4) } in
+          let y : PlainUserCall = record x.0 { state = ReleaseRequest Once None (f.moment + 4) } in
           let there : list_any (releases_as (suc i)) (said ++ out ∷ []) ≡ true = has_new (releases_as (suc i)) said (out ∷ []) (or_left (releases_as (suc i) out) false (and_from (from_other (suc i) out) true (is_from_other (suc i) out w.0 flag) refl)) in
           subst (λ v. HeardS c t rest said (far_received_by f m o.called v)) (sym x.1.0)
           (subst (λ s. HeardS c t rest said (far_follow f x.0.channel s)) (sym step) (

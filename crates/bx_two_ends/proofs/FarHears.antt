@@ -28,14 +28,13 @@ use Rattle.bx_far.specs.FarDay.{FarDay, far_names, far_follow, far_refuses, far_
 use Rattle.bx_far.specs.Policies.{policy_of}
 use Rattle.bx_two_ends.specs.TwoEnds.{offered_as, acknowledges_call, is_acknowledge, AreOnTheirOwn}
 use Rattle.bx_two_ends.proofs.Delivery.{said_from}
-use Rattle.bx_two_ends.proofs.NetworkRows.{clears_as}
+use Rattle.bx_two_ends.proofs.NetworkRows.{shows_connected, clears_as}
 use Rattle.bx_two_ends.proofs.UserRows.{Moves, UserSpeaks, row_moves, row_speaks, is_talking, is_calling}
 use Rattle.bx_two_ends.proofs.History.{from_beginner, sets_up, clears, IsIn, all_joined, all_map, is_from_beginner, listed, implied_false, said_map, or_three, or_first}
 use Rattle.bx_two_ends.proofs.Outward.{OutwardSent, Kept, Holds, Maintained, Cleared, OutwardReply, OutwardReplies, OfferedCall, OfferedCalls}
 use Rattle.bx_two_ends.proofs.ExchangeHears.{Unknown, unknown_says}
 use Rattle.bx_two_ends.proofs.FarCalls.{insert_all, insert_apart, insert_any, none_on, first_found, only_one, OnLive, settle_all, settle_apart, settle_any, next_passes}
 use Rattle.bx_day.proofs.Tick.{by_cases}
-use Rattle.bx_two_ends.specs.TwoEndsInward.{is_connect_kind}
 
 pub record FarKeeps (assigned : List (Option ℕ)) (sent far_sent : List Outgoing) (f : FarDay) (x : Answered FarDay) : Type 0 where
   pub replies : OutwardReplies assigned sent x.day (far_sent ++ reply_list x.reply)
@@ -59,10 +58,10 @@ saids_grow assigned sent far_sent more f f' kept h k = all_joined (λ o. o.flag 
 -- ---- an answer that changes nothing
 
 unchanged_keeps : (assigned : List (Option ℕ)) (sent far_sent : List Outgoing) (f : FarDay) (reply : Option Outgoing) → FarBefore assigned sent far_sent f
-    → OfSaid (λ o. o.flag ≡ true → (list_any (sets_up o.reference) sent ≡ true) × (is_connect_kind o.kind ≡ false)) reply → FarKeeps assigned sent far_sent f (unchanged f reply)
+    → OfSaid (λ o. o.flag ≡ true → (list_any (sets_up o.reference) sent ≡ true) × (shows_connected o.kind o.state ≡ false)) reply → FarKeeps assigned sent far_sent f (unchanged f reply)
 unchanged_keeps assigned sent far_sent f reply b h = record {
   replies = saids_grow assigned sent far_sent (reply_list reply) f f (λ r k. k) b.replies
-      (listed (λ o. o.flag ≡ true → OutwardReply assigned sent f o) reply (said_map (λ o. o.flag ≡ true → (list_any (sets_up o.reference) sent ≡ true) × (is_connect_kind o.kind ≡ false)) (λ o. o.flag ≡ true → OutwardReply assigned sent f o) (λ o p q. record { known = (p q).0; kept = λ c. absurd (false≢true (sym (p q).1 ∙ c)) }) reply h));
+      (listed (λ o. o.flag ≡ true → OutwardReply assigned sent f o) reply (said_map (λ o. o.flag ≡ true → (list_any (sets_up o.reference) sent ≡ true) × (shows_connected o.kind o.state ≡ false)) (λ o. o.flag ≡ true → OutwardReply assigned sent f o) (λ o p q. record { known = (p q).0; kept = λ c. absurd (false≢true (sym (p q).1 ∙ c)) }) reply h));
   calls = b.calls;
   apart = b.apart;
   size = b.size;
@@ -255,7 +254,7 @@ stray_keeps assigned sent far_sent d f o called Setup kind b outward = by_cases 
     asked flag None = subst (λ ch. FarKeeps assigned sent far_sent f (far_called_on f (said_from o) called (channel_part ch))) (sym ((outward flag).channel kind))
         (by_cases (is_taken f (channel_at assigned (o.reference - 1))) _ _ (FarKeeps assigned sent far_sent f) (λ _. refused flag 44) (λ free. taken flag free (policy_of f.script called)))
 stray_keeps assigned sent far_sent d f o called k kind b outward = unchanged_keeps assigned sent far_sent f _ b
-    (said_map (Unknown o.reference (not o.flag)) (λ x. x.flag ≡ true → (list_any (sets_up x.reference) sent ≡ true) × (is_connect_kind x.kind ≡ false)) (λ x u q. (subst (λ n. list_any (sets_up n) sent ≡ true) (sym u.reference) (outward (not-true o.flag (sym u.flag ∙ q))).known, u.no_connect)) (unknown_row User o.reference (not o.flag) (said_from o).heard k) (unknown_says User o.reference (not o.flag) (said_from o).heard k))
+    (said_map (Unknown o.reference (not o.flag)) (λ x. x.flag ≡ true → (list_any (sets_up x.reference) sent ≡ true) × (shows_connected x.kind x.state ≡ false)) (λ x u q. (subst (λ n. list_any (sets_up n) sent ≡ true) (sym u.reference) (outward (not-true o.flag (sym u.flag ∙ q))).known, u.unshown)) (unknown_row User o.reference (not o.flag) (said_from o).heard k) (unknown_says User o.reference (not o.flag) (said_from o).heard k))
 
 received_keeps : (assigned : List (Option ℕ)) (sent far_sent : List Outgoing) (d : Day) (f : FarDay) (o : Outgoing) (called : Option (List ℕ)) (x : Option PlainUserCall) → first_call (far_names (said_from o)) f.calls ≡ x → FarBefore assigned sent far_sent f → (o.flag ≡ false → OutwardSent assigned d sent o) → IsIn sent o → FarKeeps assigned sent far_sent f (far_received_by f (said_from o) called x)
 received_keeps assigned sent far_sent d f o called None q b outward is_in = stray_keeps assigned sent far_sent d f o called o.kind refl b outward

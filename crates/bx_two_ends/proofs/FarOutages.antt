@@ -6,6 +6,8 @@ use Rattle.bx_base.specs.Plans.{channel_at}
 use Rattle.bx_q931.specs.Outgoing.{Outgoing}
 use Rattle.bx_calls.specs.PlainCalls.{PlainUserCall}
 use Rattle.bx_calls.specs.UserTable.{user_flag, user_later, user_unlinked}
+use Rattle.bx_calls.specs.declared.times.Times.{Times}
+use Rattle.bx_calls.specs.declared.times.Times.TheVariants.{NotYet}
 use Rattle.bx_calls.specs.declared.user_state.UserState.{UserState}
 use Rattle.bx_calls.specs.declared.user_state.UserState.TheVariants as user
 use Rattle.bx_far.specs.FarDay.{FarDay, far_unlinked}
@@ -22,12 +24,12 @@ use Rattle.bx_two_ends.proofs.UserRows.{is_talking, is_calling}
 -- ---- states
 
 same_by : (p : UserState → Bool) (t : ℕ) → ((again : Bool) (due later : ℕ) → p (user.CallInitiated again later) ≡ p (user.CallInitiated again due)) → ((due later : ℕ) → p (user.OutgoingCallProceeding later) ≡ p (user.OutgoingCallProceeding due)) → ((due later : ℕ) → p (user.ConnectRequest later) ≡ p (user.ConnectRequest due))
-    → ((cause due later : ℕ) → p (user.DisconnectRequest cause later) ≡ p (user.DisconnectRequest cause due)) → ((was again : Bool) (cause : Option ℕ) (due later : ℕ) → p (user.ReleaseRequest again cause later) ≡ p (user.ReleaseRequest was cause due)) → (s : UserState) → p (user_later t s) ≡ p s
+    → ((cause due later : ℕ) → p (user.DisconnectRequest cause later) ≡ p (user.DisconnectRequest cause due)) → ((was again : Times) (cause : Option ℕ) (due later : ℕ) → p (user.ReleaseRequest again cause later) ≡ p (user.ReleaseRequest was cause due)) → (s : UserState) → p (user_later t s) ≡ p s
 same_by p t a b c d e (user.CallInitiated again due) = a again due _
 same_by p t a b c d e (user.OutgoingCallProceeding due) = b due _
 same_by p t a b c d e (user.ConnectRequest due) = c due _
 same_by p t a b c d e (user.DisconnectRequest cause due) = d cause due _
-same_by p t a b c d e (user.ReleaseRequest again cause due) = e again false cause due _
+same_by p t a b c d e (user.ReleaseRequest again cause due) = e again NotYet cause due _
 same_by p t a b c d e s = refl
 
 talking_later : (t : ℕ) (s : UserState) → is_talking (user_later t s) ≡ is_talking s

@@ -7,7 +7,7 @@ use Rattle.bx_q931.specs.Outgoing.{Outgoing}
 use Rattle.bx_q931.specs.declared.kind.Kind.{Kind}
 use Rattle.bx_q931.specs.declared.kind.Kind.TheVariants.{Setup}
 use Rattle.bx_two_ends.specs.World.{message_nth}
-use Rattle.bx_two_ends.proofs.NetworkRows.{clears_as}
+use Rattle.bx_two_ends.proofs.NetworkRows.{shows_connected, clears_as}
 use Rattle.bx_day.proofs.Said.{OfSaid}
 use Rattle.bx_calls.specs.Sending.{reply_list}
 
@@ -24,6 +24,10 @@ is_setup_kind _ = false
 
 abbrev pub sets_up : ℕ → Outgoing → Bool
 sets_up r o = from_beginner r o && is_setup_kind o.kind
+
+-- that the user has connected
+abbrev pub shows : ℕ → Outgoing → Bool
+shows r o = from_other r o && shows_connected o.kind o.state
 
 abbrev pub clears : ℕ → Outgoing → Bool
 clears r o = from_beginner r o && clears_as o.kind o.state

@@ -25,7 +25,7 @@ use Rattle.bx_day.specs.declared.entry.Standing.{Standing}
 use Rattle.bx_day.specs.declared.entry.Standing.TheVariants.{Refused, Unoffered, OnCall, Carried, Unanswered, Missed}
 use Rattle.bx_calls.specs.Shared.{bool_eq}
 use Rattle.bx_channels.specs.Marks.{is_marked}
-use Rattle.bx_day.specs.Day.{Day, entry_at, is_free, is_unoffered, every_channel}
+use Rattle.bx_day.specs.Day.{is_back, Day, entry_at, is_free, is_unoffered, every_channel}
 use Rattle.bx_day.specs.Ticks.{waits, second_at, unlinked_at, second_by, second_in, after_in, breaks_in, maintained_in, passed_in}
 use Rattle.bx_day.specs.Receipts.{is_open, opens, names, names_call, hears, takes_call, takes_or, called_on, called, stray, received_at, receive, with_moved}
 use Rattle.bx_day.specs.Moves.{follow, over_at}
@@ -128,19 +128,19 @@ call_moves named next far_sent ch c a t cleared ticks reply n h on g clear says 
 
 -- ---- a tick
 
-waits_moves : (named : ℕ → ℕ) (next : ℕ) (far_sent : List Outgoing) (e : Entry) (t : ℕ) (free : Bool) → StandingMoves named next far_sent e.channel Unoffered (waits e t free)
-waits_moves named next far_sent e t free =
+waits_moves : (named : ℕ → ℕ) (next : ℕ) (far_sent : List Outgoing) (e : Entry) (t : ℕ) (back free : Bool) → StandingMoves named next far_sent e.channel Unoffered (waits e t back free)
+waits_moves named next far_sent e t back free =
     let M : Moved → Type 0 = StandingMoves named next far_sent e.channel Unoffered in
     by_cases (offers e t free) _ _ M (λ _. record { taken = λ f. absurd (false≢true f); said = λ f. absurd (false≢true f); kept = λ r h. absurd (false≢true h) })
     (λ _. by_cases (nat_le e.booking.end t) _ _ M (λ _. record { taken = tt; said = tt; kept = λ r h. absurd (false≢true h) }) (λ _. record { taken = tt; said = tt; kept = λ r h. absurd (false≢true h) }))
 
-second_moved : (named : ℕ → ℕ) (next : ℕ) (far_sent : List Outgoing) (e : Entry) (t : ℕ) (free : Bool) (s : Standing) → TakenStanding named next s → PlacedAt e s → StandingMoves named next far_sent e.channel s (second_at e t free s)
-second_moved named next far_sent e t free Unoffered h on = waits_moves named next far_sent e t free
-second_moved named next far_sent e t free (OnCall c a) h on =
+second_moved : (named : ℕ → ℕ) (next : ℕ) (far_sent : List Outgoing) (e : Entry) (t : ℕ) (back free : Bool) (s : Standing) → TakenStanding named next s → PlacedAt e s → StandingMoves named next far_sent e.channel s (second_at e t back free s)
+second_moved named next far_sent e t back free Unoffered h on = waits_moves named next far_sent e t back free
+second_moved named next far_sent e t back free (OnCall c a) h on =
     let step : Transition PlainNetCall = net_second c t e.booking.end in
     call_moves named next far_sent e.channel c a t false true step.reply step.next h on (net_second_moves c.reference c.channel c.origin t e.booking.end c.state) (λ _ k. absurd (false≢true k))
     (said_map (Speaks c.reference c.channel c.origin) (OfCall c.reference c.origin) (λ o s. (s.reference, s.flag)) step.reply (second_speaks c.reference c.channel c.origin t e.booking.end c.state))
-second_moved named next far_sent e t free s h on = record { taken = tt; said = tt; kept = λ r k. absurd (false≢true k) }
+second_moved named next far_sent e t back free s h on = record { taken = tt; said = tt; kept = λ r k. absurd (false≢true k) }
 
 -- the booking of an index is among all
 any_entry : (p : Entry → Bool) (es : List Entry) (i : ℕ) → p (entry_at [] i) ≡ false → p (entry_at es i) ≡ true → list_any p es ≡ true
@@ -229,7 +229,7 @@ ticked_takes named next sent far_sent d b =
     let d' : Day = (passed_in Up d).day in
     let moves : (i : ℕ) → Moves Up named next far_sent d (entry_at d.entries i) = λ i.
     let e = entry_at d.entries i in
-    second_moved named next far_sent e (d.moment + 1) (is_free d e.channel) e.standing (all_at (λ x. TakenStanding named next x.standing) tt d.entries i b.entries) (b.placed i) in
+    second_moved named next far_sent e (d.moment + 1) (is_back d) (is_free d e.channel) e.standing (all_at (λ x. TakenStanding named next x.standing) tt d.entries i b.entries) (b.placed i) in
     let all : AllByRecursion (Moves Up named next far_sent d) d.entries = all_from (Moves Up named next far_sent d) d.entries moves in
     let kept : (r : ℕ) → KeptInward named far_sent d r → KeptInward named far_sent d' r = λ r k. keep_held Up named next sent far_sent d b all r k in
     let P : Outgoing → Type 0 = λ o. o.flag ≡ true → InwardReply named next far_sent d' o in
@@ -251,21 +251,21 @@ unlinked_moved : (named : ℕ → ℕ) (next : ℕ) (far_sent : List Outgoing) (
 unlinked_moved named next far_sent e t (OnCall c a) h on =
     let step : Transition PlainNetCall = net_unlinked 1 c t e.booking.end in
     call_moves named next far_sent e.channel c a t false true step.reply step.next h on (net_unlinked_moves c.reference c.channel c.origin t e.booking.end c.state) (λ _ k. absurd (false≢true k)) (unlinked_says (OfCall c.reference c.origin) c t e.booking.end)
-unlinked_moved named next far_sent e t Refused h on = second_moved named next far_sent e t false Refused h on
-unlinked_moved named next far_sent e t Unoffered h on = second_moved named next far_sent e t false Unoffered h on
-unlinked_moved named next far_sent e t (Carried from until) h on = second_moved named next far_sent e t false (Carried from until) h on
-unlinked_moved named next far_sent e t Unanswered h on = second_moved named next far_sent e t false Unanswered h on
-unlinked_moved named next far_sent e t Missed h on = second_moved named next far_sent e t false Missed h on
+unlinked_moved named next far_sent e t Refused h on = second_moved named next far_sent e t false false Refused h on
+unlinked_moved named next far_sent e t Unoffered h on = second_moved named next far_sent e t false false Unoffered h on
+unlinked_moved named next far_sent e t (Carried from until) h on = second_moved named next far_sent e t false false (Carried from until) h on
+unlinked_moved named next far_sent e t Unanswered h on = second_moved named next far_sent e t false false Unanswered h on
+unlinked_moved named next far_sent e t Missed h on = second_moved named next far_sent e t false false Missed h on
 
-moved_in : (link : Link) (named : ℕ → ℕ) (next : ℕ) (far_sent : List Outgoing) (e : Entry) (t : ℕ) (free : Bool) (s : Standing) → TakenStanding named next s → PlacedAt e s → StandingMoves named next far_sent e.channel s (second_by link e t free s)
-moved_in Up named next far_sent e t free s h on = second_moved named next far_sent e t free s h on
-moved_in Down named next far_sent e t free s h on = unlinked_moved named next far_sent e t s h on
+moved_in : (link : Link) (named : ℕ → ℕ) (next : ℕ) (far_sent : List Outgoing) (e : Entry) (t : ℕ) (back free : Bool) (s : Standing) → TakenStanding named next s → PlacedAt e s → StandingMoves named next far_sent e.channel s (second_by link e t back free s)
+moved_in Up named next far_sent e t back free s h on = second_moved named next far_sent e t back free s h on
+moved_in Down named next far_sent e t back free s h on = unlinked_moved named next far_sent e t s h on
 
 pub without_takes : (named : ℕ → ℕ) (next : ℕ) (sent far_sent : List Outgoing) (d : Day) → TakenBefore named next sent far_sent d → TakenAfter named next sent far_sent [] (passed_in Down d).day
 without_takes named next sent far_sent d b =
     let all : AllByRecursion (Moves Down named next far_sent d) d.entries = all_from (Moves Down named next far_sent d) d.entries (λ i.
     let e = entry_at d.entries i in
-    moved_in Down named next far_sent e (d.moment + 1) (is_free d e.channel) e.standing (all_at (λ x. TakenStanding named next x.standing) tt d.entries i b.entries) (b.placed i)) in
+    moved_in Down named next far_sent e (d.moment + 1) (is_back d) (is_free d e.channel) e.standing (all_at (λ x. TakenStanding named next x.standing) tt d.entries i b.entries) (b.placed i)) in
     record {
       replies = replies_grow named next sent far_sent [] d (passed_in Down d).day (λ r k. keep_held Down named next sent far_sent d b all r k) b.replies tt;
       entries = tick_taken Down named next far_sent d d.entries all;

@@ -10,8 +10,10 @@ use Rattle.bx_calls.specs.declared.transition.Next.TheVariants.{Live, Over, Brok
 use Rattle.bx_calls.specs.PlainCalls.{PlainNetCall, PlainUserCall}
 use Rattle.bx_calls.specs.declared.net_state.NetOrigin.{NetOrigin}
 use Rattle.bx_calls.specs.declared.net_state.NetOrigin.TheVariants.{Outward, Inward}
-use Rattle.bx_calls.specs.declared.net_state.Asked.{Asked}
-use Rattle.bx_calls.specs.declared.net_state.Asked.TheVariants.{NotYet, Once, Twice}
+use Rattle.bx_calls.specs.declared.net_state.Offer.{Offer}
+use Rattle.bx_calls.specs.declared.net_state.Offer.TheVariants.{Second}
+use Rattle.bx_calls.specs.declared.times.Times.{Times}
+use Rattle.bx_calls.specs.declared.times.Times.TheVariants.{NotYet, Once, Twice}
 use Rattle.bx_calls.specs.declared.net_state.NetState.{NetState}
 use Rattle.bx_calls.specs.declared.net_state.NetState.TheVariants as net
 use Rattle.bx_calls.specs.declared.user_state.UserOrigin.{UserOrigin}
@@ -20,8 +22,9 @@ use Rattle.bx_calls.specs.declared.user_state.UserState.{UserState}
 use Rattle.bx_calls.specs.declared.user_state.UserState.TheVariants as user
 use Rattle.bx_calls.specs.Hearing.{Heard, names_channel, reports_null}
 use Rattle.bx_calls.specs.States.{state_value, user_state}
-use Rattle.bx_calls.specs.NetTable.{net_heard, net_is_contradicted, net_row, net_second, net_timer, net_is_clearing, net_unlinked, net_later}
+use Rattle.bx_calls.specs.NetTable.{net_awake_state, net_heard, net_offer_due, net_put_off, net_row, net_second, net_timer, net_is_clearing, net_unlinked, net_later}
 use Rattle.bx_calls.specs.UserTable.{user_row, user_second, user_flag, user_releases}
+use Rattle.bx_day.proofs.Hear.{heard_by}
 use Rattle.bx_day.proofs.Said.{OfSaid}
 use Rattle.bx_day.proofs.Second.{call_of}
 use Rattle.bx_day.proofs.Tick.{by_cases}
@@ -84,10 +87,14 @@ net_row_moves r ch o t m s k = stays r ch o s
 abbrev NetTickMoves : ℕ → ℕ → NetOrigin → NetState → Transition PlainNetCall → Type 0
 NetTickMoves r ch o s step = NetMovesBy r ch o s false true step
 
+-- N6, whose timer is due
+offer_moves : (r ch : ℕ) (o : NetOrigin) (t : ℕ) (offer : Offer) (due : ℕ) → NetTickMoves r ch o (net.CallPresent offer due) (net_offer_due (call_of r ch o (net.CallPresent offer due)) t offer)
+offer_moves r ch o t Second due = refl
+offer_moves r ch o t offer due = record { reference = refl; channel = refl; origin = refl; presented = λ h. refl }
+
 timer_moves : (r ch : ℕ) (o : NetOrigin) (t : ℕ) (s : NetState) → NetTickMoves r ch o s (net_timer (call_of r ch o s) t s)
 timer_moves r ch o t net.OutgoingCallProceeding = leads r ch o net.OutgoingCallProceeding _ refl
-timer_moves r ch o t (net.CallPresent false due) = by_cases (nat_le due t) _ _ (NetTickMoves r ch o (net.CallPresent false due)) (λ _. record { reference = refl; channel = refl; origin = refl; presented = λ h. refl }) (λ _. stays r ch o (net.CallPresent false due))
-timer_moves r ch o t (net.CallPresent true due) = by_cases (nat_le due t) _ _ (NetTickMoves r ch o (net.CallPresent true due)) (λ _. refl) (λ _. stays r ch o (net.CallPresent true due))
+timer_moves r ch o t (net.CallPresent offer due) = by_cases (nat_le due t) _ _ (NetTickMoves r ch o (net.CallPresent offer due)) (λ _. offer_moves r ch o t offer due) (λ _. stays r ch o (net.CallPresent offer due))
 timer_moves r ch o t (net.IncomingCallProceeding due) = by_cases (nat_le due t) _ _ (NetTickMoves r ch o (net.IncomingCallProceeding due)) (λ _. leads r ch o (net.IncomingCallProceeding due) _ refl) (λ _. stays r ch o (net.IncomingCallProceeding due))
 timer_moves r ch o t (net.CallReceived due) = by_cases (nat_le due t) _ _ (NetTickMoves r ch o (net.CallReceived due)) (λ _. leads r ch o (net.CallReceived due) _ refl) (λ _. stays r ch o (net.CallReceived due))
 timer_moves r ch o t net.Active = stays r ch o net.Active
@@ -95,8 +102,9 @@ timer_moves r ch o t (net.Enquiring NotYet due) = by_cases (nat_le due t) _ _ (N
 timer_moves r ch o t (net.Enquiring Once due) = by_cases (nat_le due t) _ _ (NetTickMoves r ch o (net.Enquiring Once due)) (λ _. leads r ch o (net.Enquiring Once due) _ refl) (λ _. stays r ch o (net.Enquiring Once due))
 timer_moves r ch o t (net.Enquiring Twice due) = by_cases (nat_le due t) _ _ (NetTickMoves r ch o (net.Enquiring Twice due)) (λ _. leads r ch o (net.Enquiring Twice due) _ refl) (λ _. stays r ch o (net.Enquiring Twice due))
 timer_moves r ch o t (net.DisconnectIndication cause due) = by_cases (nat_le due t) _ _ (NetTickMoves r ch o (net.DisconnectIndication cause due)) (λ _. leads r ch o (net.DisconnectIndication cause due) _ refl) (λ _. stays r ch o (net.DisconnectIndication cause due))
-timer_moves r ch o t (net.ReleaseRequest false cause due) = by_cases (nat_le due t) _ _ (NetTickMoves r ch o (net.ReleaseRequest false cause due)) (λ _. leads r ch o (net.ReleaseRequest false cause due) _ refl) (λ _. stays r ch o (net.ReleaseRequest false cause due))
-timer_moves r ch o t (net.ReleaseRequest true cause due) = by_cases (nat_le due t) _ _ (NetTickMoves r ch o (net.ReleaseRequest true cause due)) (λ _. refl) (λ _. stays r ch o (net.ReleaseRequest true cause due))
+timer_moves r ch o t (net.ReleaseRequest Twice cause due) = by_cases (nat_le due t) _ _ (NetTickMoves r ch o (net.ReleaseRequest Twice cause due)) (λ _. refl) (λ _. stays r ch o (net.ReleaseRequest Twice cause due))
+timer_moves r ch o t (net.ReleaseRequest NotYet cause due) = by_cases (nat_le due t) _ _ (NetTickMoves r ch o (net.ReleaseRequest NotYet cause due)) (λ _. leads r ch o (net.ReleaseRequest NotYet cause due) _ refl) (λ _. stays r ch o (net.ReleaseRequest NotYet cause due))
+timer_moves r ch o t (net.ReleaseRequest Once cause due) = by_cases (nat_le due t) _ _ (NetTickMoves r ch o (net.ReleaseRequest Once cause due)) (λ _. leads r ch o (net.ReleaseRequest Once cause due) _ refl) (λ _. stays r ch o (net.ReleaseRequest Once cause due))
 
 pub net_second_moves : (r ch : ℕ) (o : NetOrigin) (t end : ℕ) (s : NetState) → NetTickMoves r ch o s (net_second (call_of r ch o s) t end)
 net_second_moves r ch o t end s = by_cases (not (net_is_clearing s) && nat_le end t) _ _ (NetTickMoves r ch o s) (λ _. leads r ch o s _ refl) (λ _. timer_moves r ch o t s)
@@ -116,22 +124,28 @@ pub net_unlinked_moves : (r ch : ℕ) (o : NetOrigin) (t end : ℕ) (s : NetStat
 net_unlinked_moves r ch o t end s = by_cases (not (net_is_clearing s) && nat_le end t) _ _ (NetTickMoves r ch o s) (λ _. leads r ch o s _ refl) (λ _. still_moves r ch t o s)
 
 -- a message, where the user may be asked
-asked_moves : (r ch : ℕ) (o : NetOrigin) (asked : Asked) (due : ℕ) (cleared : Bool) (n : Next PlainNetCall) → NetMoves r ch o net.Active cleared false n → NetMoves r ch o (net.Enquiring asked due) cleared false n
+asked_moves : (r ch : ℕ) (o : NetOrigin) (asked : Times) (due : ℕ) (cleared : Bool) (n : Next PlainNetCall) → NetMoves r ch o net.Active cleared false n → NetMoves r ch o (net.Enquiring asked due) cleared false n
 asked_moves r ch o asked due cleared (Live c) g = record { reference = g.reference; channel = g.channel; origin = g.origin; presented = g.presented }
 asked_moves r ch o asked due cleared Over g = g
 asked_moves r ch o asked due cleared Broken g = g
 
+awake_moves : (r ch : ℕ) (o : NetOrigin) (s : NetState) (cleared : Bool) (n : Next PlainNetCall) → NetMoves r ch o (net_awake_state s) cleared false n → NetMoves r ch o s cleared false n
+awake_moves r ch o (net.Enquiring asked due) cleared n g = asked_moves r ch o asked due cleared n g
+awake_moves r ch o s cleared n g = g
+
+-- SETUP is put off
+put_off_moves : (r ch : ℕ) (o : NetOrigin) (t : ℕ) (offer : Offer) (due : ℕ) (s : NetState) → is_presented s ≡ true → NetGoes r ch o s (call_of r ch o (net_put_off t (net.CallPresent offer due)))
+put_off_moves r ch o t offer due s h = record { reference = refl; channel = refl; origin = refl; presented = λ _. h }
+
 pub net_heard_moves : (r ch : ℕ) (o : NetOrigin) (t : ℕ) (m : Heard) (s : NetState) (k : Kind) → NetRowMoves r ch o s m k (net_heard (call_of r ch o s) m t s k)
-net_heard_moves r ch o t m (net.Enquiring asked due) k = by_cases (net_is_contradicted (net.Enquiring asked due) o m k) _ _ (NetRowMoves r ch o (net.Enquiring asked due) m k)
-    (λ _. leads r ch o (net.Enquiring asked due) _ refl)
-    (λ _. asked_moves r ch o asked due (clears_as k m.state) (net_row (call_of r ch o net.Active) m t net.Active k).next (net_row_moves r ch o t m net.Active k))
-net_heard_moves r ch o t m net.OutgoingCallProceeding k = net_row_moves r ch o t m net.OutgoingCallProceeding k
-net_heard_moves r ch o t m (net.CallPresent again due) k = net_row_moves r ch o t m (net.CallPresent again due) k
-net_heard_moves r ch o t m (net.IncomingCallProceeding due) k = net_row_moves r ch o t m (net.IncomingCallProceeding due) k
-net_heard_moves r ch o t m (net.CallReceived due) k = net_row_moves r ch o t m (net.CallReceived due) k
-net_heard_moves r ch o t m net.Active k = net_row_moves r ch o t m net.Active k
-net_heard_moves r ch o t m (net.DisconnectIndication cause due) k = net_row_moves r ch o t m (net.DisconnectIndication cause due) k
-net_heard_moves r ch o t m (net.ReleaseRequest again cause due) k = net_row_moves r ch o t m (net.ReleaseRequest again cause due) k
+net_heard_moves r ch o t m s k = heard_by (NetRowMoves r ch o s m k) (call_of r ch o s) m t s k
+    (record {
+      contradicted = λ asked due is q. leads r ch o s _ refl;
+      unacknowledged = λ asked due is q. leads r ch o s _ refl;
+      connected = λ due is q. leads r ch o s _ refl;
+      put_off = λ offer due is q. put_off_moves r ch o t offer due s (ap is_presented is);
+    })
+    (awake_moves r ch o s (clears_as k m.state) (net_row (call_of r ch o (net_awake_state s)) m t (net_awake_state s) k).next (net_row_moves r ch o t m (net_awake_state s) k))
 
 -- ---- a call of the far end
 
@@ -212,8 +226,9 @@ own_second r ch called t (user.CallInitiated false due) = by_cases (nat_le due t
 own_second r ch called t (user.CallInitiated true due) = by_cases (nat_le due t) _ _ (OwnMovesBy r ch (Calling called) (user.CallInitiated true due) false) (λ _. tt) (λ _. same r ch (Calling called) (user.CallInitiated true due) false None tt)
 own_second r ch called t (user.OutgoingCallProceeding due) = by_cases (nat_le due t) _ _ (OwnMovesBy r ch (Calling called) (user.OutgoingCallProceeding due) false) (λ _. clearing r ch (Calling called) (user.OutgoingCallProceeding due) _ false _ refl refl refl) (λ _. same r ch (Calling called) (user.OutgoingCallProceeding due) false None tt)
 own_second r ch called t (user.DisconnectRequest cause due) = by_cases (nat_le due t) _ _ (OwnMovesBy r ch (Calling called) (user.DisconnectRequest cause due) false) (λ _. clearing r ch (Calling called) (user.DisconnectRequest cause due) _ false _ refl refl refl) (λ _. same r ch (Calling called) (user.DisconnectRequest cause due) false None tt)
-own_second r ch called t (user.ReleaseRequest false cause due) = by_cases (nat_le due t) _ _ (OwnMovesBy r ch (Calling called) (user.ReleaseRequest false cause due) false) (λ _. clearing r ch (Calling called) (user.ReleaseRequest false cause due) _ false _ refl refl refl) (λ _. same r ch (Calling called) (user.ReleaseRequest false cause due) false None tt)
-own_second r ch called t (user.ReleaseRequest true cause due) = by_cases (nat_le due t) _ _ (OwnMovesBy r ch (Calling called) (user.ReleaseRequest true cause due) false) (λ _. tt) (λ _. same r ch (Calling called) (user.ReleaseRequest true cause due) false None tt)
+own_second r ch called t (user.ReleaseRequest Twice cause due) = by_cases (nat_le due t) _ _ (OwnMovesBy r ch (Calling called) (user.ReleaseRequest Twice cause due) false) (λ _. tt) (λ _. same r ch (Calling called) (user.ReleaseRequest Twice cause due) false None tt)
+own_second r ch called t (user.ReleaseRequest NotYet cause due) = by_cases (nat_le due t) _ _ (OwnMovesBy r ch (Calling called) (user.ReleaseRequest NotYet cause due) false) (λ _. clearing r ch (Calling called) (user.ReleaseRequest NotYet cause due) _ false _ refl refl refl) (λ _. same r ch (Calling called) (user.ReleaseRequest NotYet cause due) false None tt)
+own_second r ch called t (user.ReleaseRequest Once cause due) = by_cases (nat_le due t) _ _ (OwnMovesBy r ch (Calling called) (user.ReleaseRequest Once cause due) false) (λ _. clearing r ch (Calling called) (user.ReleaseRequest Once cause due) _ false _ refl refl refl) (λ _. same r ch (Calling called) (user.ReleaseRequest Once cause due) false None tt)
 
 -- ---- what such a call says: a SETUP names its channel
 
@@ -228,7 +243,7 @@ other r ch o out a b c = record { reference = a; flag = b; setup = λ q. absurd 
 abbrev OwnSays : ℕ → ℕ → UserOrigin → Transition PlainUserCall → Type 0
 OwnSays r ch o step = OfSaid (OwnSpeaks r ch o) step.reply
 
-releases : (r ch : ℕ) (o : UserOrigin) (s : UserState) (again : Bool) (cause : Option ℕ) (t : ℕ) → OwnSays r ch o (user_releases (user_call_of r ch o s) again cause t)
+releases : (r ch : ℕ) (o : UserOrigin) (s : UserState) (again : Times) (cause : Option ℕ) (t : ℕ) → OwnSays r ch o (user_releases (user_call_of r ch o s) again cause t)
 releases r ch o s again None t = other r ch o _ refl refl refl
 releases r ch o s again (Some cause) t = other r ch o _ refl refl refl
 
@@ -258,6 +273,7 @@ own_second_says r ch called t (user.CallInitiated false due) = by_cases (nat_le 
 own_second_says r ch called t (user.CallInitiated true due) = by_cases (nat_le due t) _ _ (OwnSays r ch (Calling called)) (λ _. other r ch (Calling called) _ refl refl refl) (λ _. tt)
 own_second_says r ch called t (user.OutgoingCallProceeding due) = by_cases (nat_le due t) _ _ (OwnSays r ch (Calling called)) (λ _. other r ch (Calling called) _ refl refl refl) (λ _. tt)
 own_second_says r ch called t (user.DisconnectRequest cause due) = by_cases (nat_le due t) _ _ (OwnSays r ch (Calling called)) (λ _. other r ch (Calling called) _ refl refl refl) (λ _. tt)
-own_second_says r ch called t (user.ReleaseRequest false cause due) = by_cases (nat_le due t) _ _ (OwnSays r ch (Calling called)) (λ _. releases r ch (Calling called) (user.ReleaseRequest false cause due) true cause t) (λ _. tt)
-own_second_says r ch called t (user.ReleaseRequest true cause due) = by_cases (nat_le due t) _ _ (OwnSays r ch (Calling called)) (λ _. tt) (λ _. tt)
+own_second_says r ch called t (user.ReleaseRequest Twice cause due) = by_cases (nat_le due t) _ _ (OwnSays r ch (Calling called)) (λ _. tt) (λ _. tt)
+own_second_says r ch called t (user.ReleaseRequest NotYet cause due) = by_cases (nat_le due t) _ _ (OwnSays r ch (Calling called)) (λ _. releases r ch (Calling called) (user.ReleaseRequest NotYet cause due) Once cause t) (λ _. tt)
+own_second_says r ch called t (user.ReleaseRequest Once cause due) = by_cases (nat_le due t) _ _ (OwnSays r ch (Calling called)) (λ _. releases r ch (Calling called) (user.ReleaseRequest Once cause due) Twice cause t) (λ _. tt)
 own_second_says r ch called t s = tt

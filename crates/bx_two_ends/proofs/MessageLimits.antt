@@ -12,7 +12,9 @@ use Rattle.bx_calls.specs.declared.transition.Transition.{Transition}
 use Rattle.bx_calls.specs.PlainCalls.{PlainNetCall, PlainUserCall}
 use Rattle.bx_calls.specs.declared.net_state.NetOrigin.{NetOrigin}
 use Rattle.bx_calls.specs.declared.net_state.NetOrigin.TheVariants.{Outward, Inward}
-use Rattle.bx_calls.specs.declared.net_state.Asked.TheVariants.{NotYet, Once, Twice}
+use Rattle.bx_calls.specs.declared.net_state.Offer.{Offer}
+use Rattle.bx_calls.specs.declared.net_state.Offer.TheVariants.{Second, Unlinked}
+use Rattle.bx_calls.specs.declared.times.Times.TheVariants.{NotYet, Once, Twice}
 use Rattle.bx_calls.specs.declared.net_state.NetState.{NetState}
 use Rattle.bx_calls.specs.declared.net_state.NetState.TheVariants as net
 use Rattle.bx_calls.specs.declared.user_state.Policy.TheVariants.{Answer, Alert, Proceed, Clear}
@@ -23,7 +25,7 @@ use Rattle.bx_calls.specs.declared.user_state.UserState.TheVariants as user
 use Rattle.bx_calls.specs.Hearing.{Heard, names_channel, reports_null}
 use Rattle.bx_calls.specs.Saying.{with_cause, with_kept_cause, with_channel, status_of, setup_of}
 use Rattle.bx_calls.specs.States.{state_value, net_state, user_state}
-use Rattle.bx_calls.specs.NetTable.{net_awake_state, net_heard, net_row, net_second, net_timer, net_is_clearing, net_setup_again}
+use Rattle.bx_calls.specs.NetTable.{net_offer_due, net_awake_state, net_heard, net_row, net_second, net_timer, net_is_clearing, net_setup_again}
 use Rattle.bx_calls.specs.UserTable.{user_row, user_second, user_takes, user_answers, user_clears, user_setup_again}
 use Rattle.bx_calls.specs.UnknownTable.{unknown_row, unknown_status, location_of, refusal_of}
 use Rattle.bx_calls.specs.declared.unknown_reference.Side.{Side}
@@ -105,16 +107,23 @@ row_ok r ch o t m s (Other octet) h = status_ok r _ 2 97 (net_state s) h two
 row_ok r ch o t m s k h = status_ok r _ 2 101 (net_state s) h two
 
 pub heard_ok : (r ch : ℕ) (o : NetOrigin) (t : ℕ) (m : Heard) (s : NetState) (k : Kind) → IsCallReference r → OfSaid Sendable (net_heard (call_of r ch o s) m t s k).reply
-heard_ok r ch o t m s k h = heard_by NetOk (call_of r ch o s) m t s k (λ asked due is q. cause_ok r _ Release 2 101 h tt two) (row_ok r ch o t m (net_awake_state s) k h)
+heard_ok r ch o t m s k h = heard_by NetOk (call_of r ch o s) m t s k
+    (record { contradicted = λ asked due is q. cause_ok r _ Release 2 101 h tt two; unacknowledged = λ asked due is q. plain_ok r _ ConnectAcknowledge h tt; connected = λ due is q. plain_ok r _ ConnectAcknowledge h tt; put_off = λ offer due is q. tt })
+    (row_ok r ch o t m (net_awake_state s) k h)
 
 again_ok : (r ch : ℕ) (o : NetOrigin) (s : NetState) → IsCallReference r → IsChannel ch → NumberOf o → OfSaid Sendable (net_setup_again (call_of r ch o s) o)
 again_ok r ch (Outward called) s h c n = setup_ok r ch called h c n
 again_ok r ch Inward s h c n = tt
 
+-- N6, whose timer is due
+offer_ok : (r ch : ℕ) (o : NetOrigin) (t : ℕ) (offer : Offer) (due : ℕ) → IsCallReference r → IsChannel ch → NumberOf o → NetOk (net_offer_due (call_of r ch o (net.CallPresent offer due)) t offer)
+offer_ok r ch o t Second due h c n = cause_ok r _ ReleaseComplete 2 102 h tt two
+offer_ok r ch o t Unlinked due h c n = plain_ok r _ StatusEnquiry h tt
+offer_ok r ch o t offer due h c n = again_ok r ch o (net.CallPresent offer due) h c n
+
 timer_ok : (r ch : ℕ) (o : NetOrigin) (t : ℕ) (s : NetState) → IsCallReference r → IsChannel ch → NumberOf o → NetOk (net_timer (call_of r ch o s) t s)
 timer_ok r ch o t net.OutgoingCallProceeding h c n = channel_ok r ch _ Connect h tt c
-timer_ok r ch o t (net.CallPresent false due) h c n = either (nat_le due t) _ _ NetOk (again_ok r ch o (net.CallPresent false due) h c n) tt
-timer_ok r ch o t (net.CallPresent true due) h c n = either (nat_le due t) _ _ NetOk (cause_ok r _ ReleaseComplete 2 102 h tt two) tt
+timer_ok r ch o t (net.CallPresent offer due) h c n = either (nat_le due t) _ _ NetOk (offer_ok r ch o t offer due h c n) tt
 timer_ok r ch o t (net.IncomingCallProceeding due) h c n = either (nat_le due t) _ _ NetOk (cause_ok r _ Disconnect 2 102 h tt two) tt
 timer_ok r ch o t (net.CallReceived due) h c n = either (nat_le due t) _ _ NetOk (cause_ok r _ Disconnect 2 102 h tt two) tt
 timer_ok r ch o t net.Active h c n = tt
@@ -122,8 +131,9 @@ timer_ok r ch o t (net.Enquiring NotYet due) h c n = either (nat_le due t) _ _ N
 timer_ok r ch o t (net.Enquiring Once due) h c n = either (nat_le due t) _ _ NetOk (plain_ok r _ StatusEnquiry h tt) tt
 timer_ok r ch o t (net.Enquiring Twice due) h c n = either (nat_le due t) _ _ NetOk (cause_ok r _ Disconnect 2 41 h tt two) tt
 timer_ok r ch o t (net.DisconnectIndication cause due) h c n = either (nat_le due t) _ _ NetOk (cause_ok r _ Release 2 cause h tt two) tt
-timer_ok r ch o t (net.ReleaseRequest false cause due) h c n = either (nat_le due t) _ _ NetOk (kept_ok r _ Release 2 cause h tt two) tt
-timer_ok r ch o t (net.ReleaseRequest true cause due) h c n = either (nat_le due t) _ _ NetOk tt tt
+timer_ok r ch o t (net.ReleaseRequest Twice cause due) h c n = either (nat_le due t) _ _ NetOk tt tt
+timer_ok r ch o t (net.ReleaseRequest NotYet cause due) h c n = either (nat_le due t) _ _ NetOk (kept_ok r _ Release 2 cause h tt two) tt
+timer_ok r ch o t (net.ReleaseRequest Once cause due) h c n = either (nat_le due t) _ _ NetOk (kept_ok r _ Release 2 cause h tt two) tt
 
 pub second_ok : (r ch : ℕ) (o : NetOrigin) (t end : ℕ) (s : NetState) → IsCallReference r → IsChannel ch → NumberOf o → OfSaid Sendable (net_second (call_of r ch o s) t end).reply
 second_ok r ch o t end s h c n = either (not (net_is_clearing s) && nat_le end t) _ _ NetOk (cause_ok r _ Disconnect 2 16 h tt two) (timer_ok r ch o t s h c n)
@@ -206,5 +216,6 @@ user_second_ok r ch o t (user.CallInitiated false due) h c n = either (nat_le du
 user_second_ok r ch o t (user.CallInitiated true due) h c n = either (nat_le due t) _ _ UserOk (cause_ok r _ ReleaseComplete 0 102 h tt none) tt
 user_second_ok r ch o t (user.OutgoingCallProceeding due) h c n = either (nat_le due t) _ _ UserOk (cause_ok r _ Disconnect 0 102 h tt none) tt
 user_second_ok r ch o t (user.DisconnectRequest cause due) h c n = either (nat_le due t) _ _ UserOk (cause_ok r _ Release 0 cause h tt none) tt
-user_second_ok r ch o t (user.ReleaseRequest false cause due) h c n = either (nat_le due t) _ _ UserOk (kept_ok r _ Release 0 cause h tt none) tt
-user_second_ok r ch o t (user.ReleaseRequest true cause due) h c n = either (nat_le due t) _ _ UserOk tt tt
+user_second_ok r ch o t (user.ReleaseRequest Twice cause due) h c n = either (nat_le due t) _ _ UserOk tt tt
+user_second_ok r ch o t (user.ReleaseRequest NotYet cause due) h c n = either (nat_le due t) _ _ UserOk (kept_ok r _ Release 0 cause h tt none) tt
+user_second_ok r ch o t (user.ReleaseRequest Once cause due) h c n = either (nat_le due t) _ _ UserOk (kept_ok r _ Release 0 cause h tt none) tt

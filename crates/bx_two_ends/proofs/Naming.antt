@@ -12,13 +12,14 @@ use Rattle.bx_calls.specs.NetTable.{net_row, net_awake_state, net_second, net_un
 use Rattle.bx_calls.specs.PlainCalls.{PlainNetCall}
 use Rattle.bx_calls.specs.Said.{Said}
 use Rattle.bx_calls.specs.Shared.{bool_eq}
-use Rattle.bx_calls.specs.declared.net_state.Asked.TheVariants.{NotYet, Once, Twice}
+use Rattle.bx_calls.specs.declared.times.Times.TheVariants.{NotYet, Once, Twice}
+use Rattle.bx_calls.specs.declared.net_state.Offer.TheVariants.{Second}
 use Rattle.bx_calls.specs.declared.net_state.NetOrigin.{NetOrigin}
 use Rattle.bx_calls.specs.declared.net_state.NetOrigin.TheVariants.{Outward, Inward}
 use Rattle.bx_calls.specs.declared.net_state.NetState.{NetState}
 use Rattle.bx_calls.specs.declared.net_state.NetState.TheVariants.{OutgoingCallProceeding, CallPresent, IncomingCallProceeding, CallReceived, Active, Enquiring, DisconnectIndication, ReleaseRequest}
 use Rattle.bx_calls.specs.declared.transition.Transition.{Transition}
-use Rattle.bx_day.specs.Day.{Day, entry_at, is_live, is_free, no_entry}
+use Rattle.bx_day.specs.Day.{is_back, Day, entry_at, is_live, is_free, no_entry}
 use Rattle.bx_day.specs.Moves.{follows, over_at}
 use Rattle.bx_day.specs.Reading.{IsExchange}
 use Rattle.bx_day.specs.Receipts.{names, names_call, hears, takes_call, with_moved}
@@ -112,8 +113,8 @@ over_keeps m r o a t h = absurd (false≢true h)
 
 second_keeps : (m : Said) (t end r ch : ℕ) (o : NetOrigin) (s : NetState) (a : Activity) → Keeps m r o (follows a t (net_second (call_of r ch o s) t end)).standing
 second_keeps m t end r ch o OutgoingCallProceeding a = by_step (nat_le end t) m r o a t _ _ (λ h. h) (λ h. h)
-second_keeps m t end r ch o (CallPresent false due) a = by_step (nat_le end t) m r o a t _ _ (λ h. h) (by_step (nat_le due t) m r o a t _ _ (λ h. h) (λ h. h))
-second_keeps m t end r ch o (CallPresent true due) a = by_step (nat_le end t) m r o a t _ _ (λ h. h) (by_step (nat_le due t) m r o a t _ _ (over_keeps m r o a t) (λ h. h))
+second_keeps m t end r ch o (CallPresent Second due) a = by_step (nat_le end t) m r o a t _ _ (λ h. h) (by_step (nat_le due t) m r o a t _ _ (over_keeps m r o a t) (λ h. h))
+second_keeps m t end r ch o (CallPresent offer due) a = by_step (nat_le end t) m r o a t _ _ (λ h. h) (by_step (nat_le due t) m r o a t _ _ (λ h. h) (λ h. h))
 second_keeps m t end r ch o (IncomingCallProceeding due) a = by_step (nat_le end t) m r o a t _ _ (λ h. h) (by_step (nat_le due t) m r o a t _ _ (λ h. h) (λ h. h))
 second_keeps m t end r ch o (CallReceived due) a = by_step (nat_le end t) m r o a t _ _ (λ h. h) (by_step (nat_le due t) m r o a t _ _ (λ h. h) (λ h. h))
 second_keeps m t end r ch o Active a = by_step (nat_le end t) m r o a t _ _ (λ h. h) (λ h. h)
@@ -121,8 +122,8 @@ second_keeps m t end r ch o (Enquiring NotYet due) a = by_step (nat_le end t) m 
 second_keeps m t end r ch o (Enquiring Once due) a = by_step (nat_le end t) m r o a t _ _ (λ h. h) (by_step (nat_le due t) m r o a t _ _ (λ h. h) (λ h. h))
 second_keeps m t end r ch o (Enquiring Twice due) a = by_step (nat_le end t) m r o a t _ _ (λ h. h) (by_step (nat_le due t) m r o a t _ _ (λ h. h) (λ h. h))
 second_keeps m t end r ch o (DisconnectIndication cause due) a = by_step (nat_le due t) m r o a t _ _ (λ h. h) (λ h. h)
-second_keeps m t end r ch o (ReleaseRequest false cause due) a = by_step (nat_le due t) m r o a t _ _ (λ h. h) (λ h. h)
-second_keeps m t end r ch o (ReleaseRequest true cause due) a = by_step (nat_le due t) m r o a t _ _ (over_keeps m r o a t) (λ h. h)
+second_keeps m t end r ch o (ReleaseRequest Twice cause due) a = by_step (nat_le due t) m r o a t _ _ (over_keeps m r o a t) (λ h. h)
+second_keeps m t end r ch o (ReleaseRequest sent cause due) a = by_step (nat_le due t) m r o a t _ _ (λ h. h) (λ h. h)
 
 still_keeps : (m : Said) (t end r ch : ℕ) (o : NetOrigin) (s : NetState) (a : Activity) → Keeps m r o (follows a t (net_unlinked 1 (call_of r ch o s) t end)).standing
 still_keeps m t end r ch o (DisconnectIndication cause due) a = λ h. h
@@ -151,29 +152,29 @@ row_keeps m x t r ch o s a k = λ h. h
 
 pub hears_names : (m x : Said) (t : ℕ) (s : Standing) → names_call m (hears x t s).standing ≡ true → names_call m s ≡ true
 hears_names m x t (OnCall c a) h = heard_by (λ (y : Transition PlainNetCall). Keeps m c.reference c.origin (follows a t y).standing) c x.heard t c.state x.heard.kind
-    (λ asked due is q k. k) (row_keeps m x.heard t c.reference c.channel c.origin (net_awake_state c.state) a x.heard.kind) h
+    (record { contradicted = λ asked due is q k. k; unacknowledged = λ asked due is q k. k; connected = λ due is q k. k; put_off = λ offer due is q k. k }) (row_keeps m x.heard t c.reference c.channel c.origin (net_awake_state c.state) a x.heard.kind) h
 hears_names m x t s h = h
 
 flag_false : (x : Bool) (f : Bool) → f ≡ false → (x && bool_eq false (not f)) ≡ false
 flag_false true f is = ap (λ b. bool_eq false (not b)) is
 flag_false false f is = refl
 
-waits_names : (m : Said) (e : Entry) (t : ℕ) (free : Bool) → m.flag ≡ false → names_call m (waits e t free).standing ≡ false
-waits_names m e t free flag = by_cases (offers e t free) _ _ (λ (x : Moved). names_call m x.standing ≡ false) (λ _. flag_false (e.row == m.reference) m.flag flag) (λ _. by_cases (nat_le e.booking.end t) _ _ (λ (x : Moved). names_call m x.standing ≡ false) (λ _. refl) (λ _. refl))
+waits_names : (m : Said) (e : Entry) (t : ℕ) (back free : Bool) → m.flag ≡ false → names_call m (waits e t back free).standing ≡ false
+waits_names m e t back free flag = by_cases (offers e t free) _ _ (λ (x : Moved). names_call m x.standing ≡ false) (λ _. flag_false (e.row == m.reference) m.flag flag) (λ _. by_cases (nat_le e.booking.end t) _ _ (λ (x : Moved). names_call m x.standing ≡ false) (λ _. refl) (λ _. refl))
 
-second_names : (link : Link) (m : Said) (e : Entry) (t : ℕ) (free : Bool) (s : Standing) → m.flag ≡ false → names_call m (second_by link e t free s).standing ≡ true → names_call m s ≡ true
-second_names Up m e t free (OnCall c a) flag h = second_keeps m t e.booking.end c.reference c.channel c.origin c.state a h
-second_names Down m e t free (OnCall c a) flag h = still_keeps m t e.booking.end c.reference c.channel c.origin c.state a h
-second_names Up m e t free Unoffered flag h = absurd (true≢false (sym h ∙ waits_names m e t free flag))
-second_names Down m e t free Unoffered flag h = absurd (true≢false (sym h ∙ waits_names m e t false flag))
-second_names link m e t free s flag h = h
+second_names : (link : Link) (m : Said) (e : Entry) (t : ℕ) (back free : Bool) (s : Standing) → m.flag ≡ false → names_call m (second_by link e t back free s).standing ≡ true → names_call m s ≡ true
+second_names Up m e t back free (OnCall c a) flag h = second_keeps m t e.booking.end c.reference c.channel c.origin c.state a h
+second_names Down m e t back free (OnCall c a) flag h = still_keeps m t e.booking.end c.reference c.channel c.origin c.state a h
+second_names Up m e t back free Unoffered flag h = absurd (true≢false (sym h ∙ waits_names m e t back free flag))
+second_names Down m e t back free Unoffered flag h = absurd (true≢false (sym h ∙ waits_names m e t false false flag))
+second_names link m e t back free s flag h = h
 
 -- a second keeps that each is named once
 pub once_second : (link : Link) (d : Day) → IsNamedOnce d → IsNamedOnce (passed_in link d).day
 once_second link d once m i j flag hi hj = once m i j flag (was i hi) (was j hj)
   where
     was : (k : ℕ) → names m (entry_at (passed_in link d).day.entries k) ≡ true → names m (entry_at d.entries k) ≡ true
-    was k h = second_names link m (entry_at d.entries k) (d.moment + 1) (is_free d (entry_at d.entries k).channel) (entry_at d.entries k).standing flag (sym (ap (names m) (at_map_in link d d.entries k)) ∙ h)
+    was k h = second_names link m (entry_at d.entries k) (d.moment + 1) (is_back d) (is_free d (entry_at d.entries k).channel) (entry_at d.entries k).standing flag (sym (ap (names m) (at_map_in link d d.entries k)) ∙ h)
 
 -- ---- a message does
 

@@ -10,7 +10,7 @@ use Rattle.bx_day.specs.declared.entry.Link.TheVariants.{Down}
 use Rattle.bx_day.specs.declared.entry.Moved.{Moved}
 use Rattle.bx_day.specs.declared.entry.Standing.{Standing}
 use Rattle.bx_day.specs.declared.entry.Standing.TheVariants.{Refused, Unoffered, OnCall}
-use Rattle.bx_day.specs.Day.{Day, entry_at, is_free}
+use Rattle.bx_day.specs.Day.{is_back, Day, entry_at, is_free}
 use Rattle.bx_day.specs.Invariant.{is_refused}
 use Rattle.bx_day.specs.Law.{standing_at}
 use Rattle.bx_day.specs.Outages.{without_link}
@@ -37,12 +37,12 @@ without_started d = each_after (λ i s. is_started (standing_at d i) ≡ true �
     let t = d.moment + 1 in
     unlinked e t e.standing (λ m. is_started e.standing ≡ true → is_started m.standing ≡ true)
     (λ c a p h. follow_started a t (net_unlinked 1 c t e.booking.end).reply (net_unlinked 1 c t e.booking.end).next)
-    (λ h. second_started e t false e.standing h))
+    (λ h. second_started e t false false e.standing h))
 
 pub without_seats : (assigned : List (Option ℕ)) (d : Day) → Seats assigned d.entries → Seats assigned (passed_in Down d).day.entries
 without_seats assigned d seats i q =
     let e = entry_at d.entries i in
-    let p : Seat assigned i e = seats i (in_refused Down (d.moment + 1) (is_free d e.channel) e e.standing (sym (ap is_refused (without_at d i)) ∙ q)) in
+    let p : Seat assigned i e = seats i (in_refused Down (d.moment + 1) (is_back d) (is_free d e.channel) e e.standing (sym (ap is_refused (without_at d i)) ∙ q)) in
     subst (Seat assigned i) (sym (at_map_in Down d d.entries i)) (record { row = p.row; few = p.few; channel = p.channel; in_service = p.in_service; number = p.number })
 
 alone_outward : (i t : ℕ) (sent far_sent : List Outgoing) (e : Entry) (s : Standing) → OutwardStanding (suc i) sent far_sent s → OutwardStanding (suc i) (sent ++ []) far_sent (unlinked_at e t s).standing
@@ -67,4 +67,4 @@ without_within assigned d seats h = by_cases (nat_le 300000 d.moment) _ _ Exchan
     unlinked e t e.standing (λ m. StandingWithin m.standing)
     (λ c a p. let step : Transition PlainNetCall = net_unlinked 1 c t e.booking.end in
     follow_within c c.state false a t step.reply step.reply step.next (unlinked_goes c.reference c.channel c.origin t e.booking.end c.state) (subst StandingWithin p (h i)))
-    (second_within assigned i t e false e.standing (seats i) (h i)).standing))
+    (second_within assigned i t e false false e.standing (seats i) (h i)).standing))

@@ -5,15 +5,15 @@
 --   sents      each message of the exchange has a SETUP of its reference in the exchange's list; each SETUP names the
 --              channel of the plan, and its booking was offered (which no step takes back);
 --   standings  a live outward call has such a SETUP; while it is not being cleared the exchange has sent nothing that
---              clears it; if it is Active, the far end has sent CONNECT; and it is not in N3, from which a tick leads
---              to Active without a CONNECT;
---   replies    each message of the far end has such a SETUP; for each CONNECT of b the far end holds b on its channel,
+--              clears it; if it is Active, the far end has shown that it has connected, by CONNECT or by a
+--              STATUS that reports U8 or U10; and it is not in N3, from which a tick leads to Active without that;
+--   replies    each message of the far end has such a SETUP; for each that shows so of b the far end holds b on its channel,
 --              or has that in maintenance, or the exchange has cleared b (`Kept`);
 --   calls      a call of the far end that the exchange began has such a SETUP and is on the channel of the plan; it is
 --              in neither U1 nor U3, which only the end that calls comes to; if it is Active, the exchange has
 --              acknowledged.
 --
--- That says the law: an Active b has a CONNECT in the far end's list, so `Kept` holds of b, and the exchange has not cleared
+-- That says the law: an Active b has such a message in the far end's list, so `Kept` holds of b, and the exchange has not cleared
 -- b, since b is Active (Conclusions).
 --
 -- Each event keeps it. Lists only grow, so what asks for a message stays true of the end that does nothing. At the
@@ -48,10 +48,9 @@ use Rattle.bx_far.specs.FarDay.{FarDay}
 use Rattle.bx_two_ends.specs.World.{World}
 use Rattle.bx_two_ends.specs.Scripts.{IsScriptRow}
 use Rattle.bx_two_ends.specs.TwoEnds.{far_holds, acknowledges_call, AreOnTheirOwn}
-use Rattle.bx_two_ends.proofs.NetworkRows.{is_proceeding}
+use Rattle.bx_two_ends.proofs.NetworkRows.{is_proceeding, shows_connected}
 use Rattle.bx_two_ends.proofs.UserRows.{is_talking, is_calling}
-use Rattle.bx_two_ends.proofs.History.{sets_up, clears}
-use Rattle.bx_two_ends.specs.TwoEndsInward.{connects, is_connect_kind}
+use Rattle.bx_two_ends.proofs.History.{sets_up, clears, shows}
 
 abbrev pub is_started : Standing → Bool
 is_started (OnCall call activity) = true
@@ -85,11 +84,11 @@ pub record OutwardSent (assigned : List (Option ℕ)) (d : Day) (sent : List Out
 abbrev pub OutwardSents : List (Option ℕ) → Day → List Outgoing → List Outgoing → Type 0
 OutwardSents assigned d sent os = AllByRecursion (λ (o : Outgoing). o.flag ≡ false → OutwardSent assigned d sent o) os
 
--- a live outward call: SETUP was sent; until it is cleared nothing was sent that clears it; Active only by a CONNECT of the far end
+-- a live outward call: SETUP was sent; until it is cleared nothing was sent that clears it; Active only where the far end has shown that it has connected
 pub record OutwardCall (r : ℕ) (sent far_sent : List Outgoing) (c : PlainNetCall) : Type 0 where
   pub known : list_any (sets_up r) sent ≡ true
   pub calm : net_is_clearing c.state ≡ false → list_any (clears r) sent ≡ false
-  pub active : is_active c.state ≡ true → list_any (connects r) far_sent ≡ true
+  pub active : is_active c.state ≡ true → list_any (shows r) far_sent ≡ true
   pub proceeding : is_proceeding c.state ≡ false
 
 abbrev pub OutwardStanding : ℕ → List Outgoing → List Outgoing → Standing → Type 0
@@ -108,7 +107,7 @@ pub data Kept (assigned : List (Option ℕ)) (sent : List Outgoing) (f : FarDay)
 -- a message of the far end for a call that the exchange began
 pub record OutwardReply (assigned : List (Option ℕ)) (sent : List Outgoing) (f : FarDay) (o : Outgoing) : Type 0 where
   pub known : list_any (sets_up o.reference) sent ≡ true
-  pub kept : is_connect_kind o.kind ≡ true → Kept assigned sent f o.reference
+  pub kept : shows_connected o.kind o.state ≡ true → Kept assigned sent f o.reference
 
 abbrev pub OutwardReplies : List (Option ℕ) → List Outgoing → FarDay → List Outgoing → Type 0
 OutwardReplies assigned sent f os = AllByRecursion (λ (o : Outgoing). o.flag ≡ true → OutwardReply assigned sent f o) os

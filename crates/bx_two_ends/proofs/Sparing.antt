@@ -26,7 +26,7 @@ use Rattle.bx_day.specs.declared.entry.Entry.{Entry}
 use Rattle.bx_day.specs.declared.entry.Standing.{Standing}
 use Rattle.bx_day.specs.declared.entry.Standing.TheVariants.{OnCall}
 use Rattle.bx_two_ends.proofs.Answering as answering
-use Rattle.bx_two_ends.proofs.Answering.{IsHearing, Passes, Idle, Called, is_up, awake_going, asked_going, going_row, heard_here, heard_other, heard_none, told_rest, and_none, fits_now, spared_now, spared_report, live_not_open, going_live, up_going, not_going, hears_next, clears_hears, going_or}
+use Rattle.bx_two_ends.proofs.Answering.{put_off_clears, IsHearing, Passes, Idle, Called, is_up, awake_going, asked_going, going_row, heard_here, heard_other, heard_none, told_rest, and_none, fits_now, spared_now, spared_report, live_not_open, going_live, up_going, not_going, hears_next, clears_hears, going_or}
 use Rattle.bx_two_ends.proofs.Asking.{awake_unasked, hears_awake}
 use Rattle.bx_two_ends.proofs.Carrying.{settled_unasked}
 use Rattle.bx_two_ends.proofs.Naming.{names_live}
@@ -54,7 +54,12 @@ call_row r ch o s a m t k h n c = (going_row r ch o s a m t k h refl c).going
 
 going_hears : (t : ℕ) (e : Entry) (m : Said) (s : Standing) → StandingFits t e s → clears_by e.channel m.heard m.heard.kind ≡ false → contradicts s m.heard ≡ false → is_going s ≡ true → is_going (hears m t s).standing ≡ true
 going_hears t e m (OnCall c a) fits spared agrees h = heard_by (λ (x : Transition PlainNetCall). is_going (follows a t x).standing ≡ true) c m.heard t c.state m.heard.kind
-    (λ asked due is q. absurd (true≢false (sym q ∙ agrees)))
+    (record {
+      contradicted = λ asked due is q. absurd (true≢false (sym q ∙ agrees));
+      unacknowledged = λ asked due is q. refl;
+      connected = λ due is q. refl;
+      put_off = λ offer due is q. absurd (true≢false (sym (put_off_clears e.channel c.state m.heard m.heard.kind q) ∙ spared));
+    })
     (call_row c.reference c.channel c.origin (net_awake_state c.state) a m.heard t m.heard.kind (awake_going c.state (not_going (net_is_clearing c.state) h)) (awake_unasked c.state) (subst (λ ch. clears_by ch m.heard m.heard.kind ≡ false) (sym fits.channel) spared))
 going_hears t e m s fits spared agrees h = absurd (false≢true h)
 

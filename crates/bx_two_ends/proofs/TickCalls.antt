@@ -7,16 +7,17 @@ use Rattle.bx_channels.specs.Numbers.{IsNumber}
 use Rattle.bx_base.specs.Bookings.{Row, AreBookings}
 use Rattle.bx_q931.specs.declared.kind.Kind.TheVariants.{Disconnect}
 use Rattle.bx_q931.specs.Outgoing.{Outgoing, IsCallReference, plain}
-use Rattle.bx_calls.specs.NetTable.{net_flag, net_second, net_disconnects, net_same, net_says_cause}
+use Rattle.bx_calls.specs.NetTable.{first_offer, net_flag, net_second, net_disconnects, net_same, net_says_cause}
 use Rattle.bx_calls.specs.Saying.{setup_of, with_cause}
 use Rattle.bx_calls.specs.PlainCalls.{PlainNetCall}
+use Rattle.bx_calls.specs.declared.net_state.Offer.TheVariants.{Asked}
 use Rattle.bx_calls.specs.declared.net_state.NetOrigin.{NetOrigin}
 use Rattle.bx_calls.specs.declared.net_state.NetOrigin.TheVariants.{Outward, Inward}
 use Rattle.bx_calls.specs.declared.net_state.NetState.{NetState}
 use Rattle.bx_calls.specs.declared.net_state.NetState.TheVariants as net
 use Rattle.bx_calls.specs.declared.transition.Transition.{Transition}
 use Rattle.bx_two_ends.specs.Answering.{is_ringing, is_clearing}
-use Rattle.bx_day.specs.Day.{Day, entry_at, is_live, is_free}
+use Rattle.bx_day.specs.Day.{is_back, Day, entry_at, is_live, is_free}
 use Rattle.bx_day.specs.Invariant.{StandingFits, CallFits, is_refused}
 use Rattle.bx_day.specs.Law.{standing_at}
 use Rattle.bx_day.specs.Moves.{follows}
@@ -48,8 +49,10 @@ use Rattle.bx_two_ends.proofs.MessageLimits.{setup_ok}
 
 -- ---- standings of outward calls
 
+-- whose user was not asked
 abbrev pub PresentIn : NetState → Type 0
-PresentIn (net.CallPresent again due) = Unit {0}
+PresentIn (net.CallPresent Asked due) = ⊥
+PresentIn (net.CallPresent offer due) = Unit {0}
 PresentIn _ = ⊥
 
 abbrev pub ActiveIn : NetState → Type 0
@@ -95,13 +98,17 @@ by_move false ch i was a t x y f g = g
 cause_is_ok : (r : ℕ) → IsCallReference r → Sendable (with_cause 2 16 (plain r false Disconnect))
 cause_is_ok r h = record { out = record { reference = h; kind = tt; cause = (omega arith, omega arith); state = tt }; channel = tt; called = tt }
 
-waits_moves : (i t : ℕ) (e : Entry) (free : Bool) → e.row ≡ suc i → IsCallReference e.row → IsChannel e.channel → IsNumber e.booking.number → MovesAt e.channel i false (waits e t free)
-waits_moves i t e free row rok cok nok = by_cases (offers e t free) _ _ (MovesAt e.channel i false)
+first_present : (back : Bool) (due : ℕ) → PresentIn (net.CallPresent (first_offer back) due)
+first_present true due = tt
+first_present false due = tt
+
+waits_moves : (i t : ℕ) (e : Entry) (back free : Bool) → e.row ≡ suc i → IsCallReference e.row → IsChannel e.channel → IsNumber e.booking.number → MovesAt e.channel i false (waits e t back free)
+waits_moves i t e back free row rok cok nok = by_cases (offers e t free) _ _ (MovesAt e.channel i false)
     (λ _. record {
       said = (SetsAt e.booking.number refl (ap (λ r. setup_of r e.channel e.booking.number) row), setup_ok e.row e.channel e.booking.number rok cok nok);
       sets = λ _. and_from (from_beginner (suc i) (setup_of e.row e.channel e.booking.number)) true (is_from_beginner (suc i) (setup_of e.row e.channel e.booking.number) row refl) refl;
       ends = λ q. absurd (false≢true q);
-      stands = Rings (tt, (row, refl)) refl;
+      stands = Rings (first_present back (t + 4), (row, refl)) refl;
     })
     (λ _. by_cases (nat_le e.booking.end t) _ _ (MovesAt e.channel i false)
     (λ _. record { said = tt; sets = λ q. absurd (false≢true q); ends = λ q. absurd (false≢true q); stands = Idle refl refl })
@@ -138,10 +145,10 @@ talking_moves i t e c a k talks fits = at c.state c.origin talks.0 talks.1.1
     at (net.ReleaseRequest again cause due) o p q = absurd p
 
 -- any booking, where each live call is Active
-pub booking_moves : (i t : ℕ) (e : Entry) (free : Bool) (s : Standing) → (is_refused s ≡ false → Booked i e) → StandingFits t e s → (is_live s ≡ true → OutwardIn ActiveIn i s) → MovesAt e.channel i (is_live s) (second_at e (t + 1) free s)
-booking_moves i t e free (OnCall c a) k fits talks = talking_moves i t e c a (k refl) (talks refl) fits
-booking_moves i t e free Unoffered k fits talks = waits_moves i (t + 1) e free (k refl).row (k refl).reference (k refl).channel (k refl).number
-booking_moves i t e free s k fits talks = record { said = tt; sets = λ q. absurd (false≢true q); ends = λ q. absurd (false≢true q); stands = Idle refl refl }
+pub booking_moves : (i t : ℕ) (e : Entry) (back free : Bool) (s : Standing) → (is_refused s ≡ false → Booked i e) → StandingFits t e s → (is_live s ≡ true → OutwardIn ActiveIn i s) → MovesAt e.channel i (is_live s) (second_at e (t + 1) back free s)
+booking_moves i t e back free (OnCall c a) k fits talks = talking_moves i t e c a (k refl) (talks refl) fits
+booking_moves i t e back free Unoffered k fits talks = waits_moves i (t + 1) e back free (k refl).row (k refl).reference (k refl).channel (k refl).number
+booking_moves i t e back free s k fits talks = record { said = tt; sets = λ q. absurd (false≢true q); ends = λ q. absurd (false≢true q); stands = Idle refl refl }
 
 -- ---- a day
 
@@ -171,7 +178,7 @@ booked_at rows assigned d i h accepted =
     }
 
 pub moves_at : (rows : List Row) (assigned : List (Option ℕ)) (d : Day) (i : ℕ) → Talking rows assigned d → MovesAt (entry_at d.entries i).channel i (is_live (standing_at d i)) (second_in Up d (entry_at d.entries i))
-moves_at rows assigned d i h = booking_moves i d.moment (entry_at d.entries i) (is_free d (entry_at d.entries i).channel) (standing_at d i) (booked_at rows assigned d i h) (fits_at d i h.fits.day) (h.talks i)
+moves_at rows assigned d i h = booking_moves i d.moment (entry_at d.entries i) (is_back d) (is_free d (entry_at d.entries i).channel) (standing_at d i) (booked_at rows assigned d i h) (fits_at d i h.fits.day) (h.talks i)
 
 pub same_standing : (d : Day) (i : ℕ) → standing_at (passed_in Up d).day i ≡ (second_in Up d (entry_at d.entries i)).standing
 same_standing d i = ap (λ (e : Entry). e.standing) (at_map_in Up d d.entries i)
@@ -202,7 +209,7 @@ live_accepted Refused h = absurd (false≢true h)
 live_accepted s h = refl
 
 booked_live : (rows : List Row) (assigned : List (Option ℕ)) (d : Day) (i : ℕ) → Talking rows assigned d → is_live (standing_at (passed_in Up d).day i) ≡ true → Booked i (entry_at d.entries i)
-booked_live rows assigned d i h live = booked_at rows assigned d i h (second_refused (d.moment + 1) (is_free d (entry_at d.entries i).channel) (entry_at d.entries i) (standing_at d i) (live_accepted (second_in Up d (entry_at d.entries i)).standing (sym (ap is_live (same_standing d i)) ∙ live)))
+booked_live rows assigned d i h live = booked_at rows assigned d i h (second_refused (d.moment + 1) (is_back d) (is_free d (entry_at d.entries i).channel) (entry_at d.entries i) (standing_at d i) (live_accepted (second_in Up d (entry_at d.entries i)).standing (sym (ap is_live (same_standing d i)) ∙ live)))
 
 -- what stands after the tick was sent in it
 pub sets_sent : (rows : List Row) (assigned : List (Option ℕ)) (d : Day) (i : ℕ) → d.moment < 300000 → Talking rows assigned d → is_ringing (standing_at (passed_in Up d).day i) ≡ true → list_any (sets_up (suc i)) (tick d).sent ≡ true

@@ -11,15 +11,16 @@ use Rattle.bx_calls.specs.PlainCalls.{PlainUserCall}
 use Rattle.bx_calls.specs.declared.user_state.Policy.TheVariants.{Answer, Alert, Proceed, Clear}
 use Rattle.bx_calls.specs.declared.user_state.UserOrigin.{UserOrigin}
 use Rattle.bx_calls.specs.declared.user_state.UserOrigin.TheVariants.{Offered, Calling}
+use Rattle.bx_calls.specs.declared.times.Times.{Times}
+use Rattle.bx_calls.specs.declared.times.Times.TheVariants.{NotYet, Once, Twice}
 use Rattle.bx_calls.specs.declared.user_state.UserState.{UserState}
 use Rattle.bx_calls.specs.declared.user_state.UserState.TheVariants.{CallInitiated, OutgoingCallProceeding, CallPresent, CallReceived, ConnectRequest, IncomingCallProceeding, Active, DisconnectRequest, ReleaseRequest}
 use Rattle.bx_calls.specs.Hearing.{Heard, names_channel, reports_null}
 use Rattle.bx_calls.specs.UserTable.{user_row, user_second, user_takes, user_answers, user_clears, user_flag, user_releases}
 use Rattle.bx_day.proofs.Said.{OfSaid}
 use Rattle.bx_two_ends.specs.TwoEnds.{is_acknowledge}
-use Rattle.bx_two_ends.proofs.NetworkRows.{clears_as}
+use Rattle.bx_two_ends.proofs.NetworkRows.{shows_connected, clears_as}
 use Rattle.bx_day.proofs.Tick.{by_cases}
-use Rattle.bx_two_ends.specs.TwoEndsInward.{is_connect_kind}
 
 abbrev pub user_call_of : ℕ → ℕ → UserOrigin → UserState → PlainUserCall
 user_call_of r ch o s = record { reference = r; channel = ch; origin = o; state = s }
@@ -108,10 +109,11 @@ second_moves r ch o t (CallInitiated false due) = by_cases (nat_le due t) _ _ (T
 second_moves r ch o t (CallInitiated true due) = by_cases (nat_le due t) _ _ (TickMoves r ch o (CallInitiated true due)) (λ _. refl) (λ _. same r ch o (CallInitiated true due) false)
 second_moves r ch o t (OutgoingCallProceeding due) = by_cases (nat_le due t) _ _ (TickMoves r ch o (OutgoingCallProceeding due)) (λ _. to r ch o (OutgoingCallProceeding due) _ false refl refl) (λ _. same r ch o (OutgoingCallProceeding due) false)
 second_moves r ch o t (DisconnectRequest cause due) = by_cases (nat_le due t) _ _ (TickMoves r ch o (DisconnectRequest cause due)) (λ _. to r ch o (DisconnectRequest cause due) _ false refl refl) (λ _. same r ch o (DisconnectRequest cause due) false)
-second_moves r ch o t (ReleaseRequest false cause due) = by_cases (nat_le due t) _ _ (TickMoves r ch o (ReleaseRequest false cause due)) (λ _. to r ch o (ReleaseRequest false cause due) _ false refl refl) (λ _. same r ch o (ReleaseRequest false cause due) false)
-second_moves r ch o t (ReleaseRequest true cause due) = by_cases (nat_le due t) _ _ (TickMoves r ch o (ReleaseRequest true cause due)) (λ _. tt) (λ _. same r ch o (ReleaseRequest true cause due) false)
+second_moves r ch o t (ReleaseRequest Twice cause due) = by_cases (nat_le due t) _ _ (TickMoves r ch o (ReleaseRequest Twice cause due)) (λ _. tt) (λ _. same r ch o (ReleaseRequest Twice cause due) false)
+second_moves r ch o t (ReleaseRequest NotYet cause due) = by_cases (nat_le due t) _ _ (TickMoves r ch o (ReleaseRequest NotYet cause due)) (λ _. to r ch o (ReleaseRequest NotYet cause due) _ false refl refl) (λ _. same r ch o (ReleaseRequest NotYet cause due) false)
+second_moves r ch o t (ReleaseRequest Once cause due) = by_cases (nat_le due t) _ _ (TickMoves r ch o (ReleaseRequest Once cause due)) (λ _. to r ch o (ReleaseRequest Once cause due) _ false refl refl) (λ _. same r ch o (ReleaseRequest Once cause due) false)
 
--- ---- what is said. CONNECT is said by a call that goes on
+-- ---- what is said. What shows that it has connected is said by a call that goes on
 
 abbrev pub goes_on : Next PlainUserCall → Bool
 goes_on (Live c) = true
@@ -120,7 +122,7 @@ goes_on _ = false
 pub record UserSpeaks (r : ℕ) (o : UserOrigin) (next : Next PlainUserCall) (out : Outgoing) : Type 0 where
   pub reference : out.reference ≡ r
   pub flag : out.flag ≡ user_flag o
-  pub connect : is_connect_kind out.kind ≡ true → goes_on next ≡ true
+  pub connect : shows_connected out.kind out.state ≡ true → goes_on next ≡ true
 
 abbrev pub SpeaksBy : ℕ → UserOrigin → Transition PlainUserCall → Type 0
 SpeaksBy r o step = OfSaid (UserSpeaks r o step.next) step.reply
@@ -128,10 +130,10 @@ SpeaksBy r o step = OfSaid (UserSpeaks r o step.next) step.reply
 live : (r : ℕ) (o : UserOrigin) (c : PlainUserCall) (out : Outgoing) → out.reference ≡ r → out.flag ≡ user_flag o → UserSpeaks r o (Live c) out
 live r o c out a b = record { reference = a; flag = b; connect = λ _. refl }
 
-gone : (r : ℕ) (o : UserOrigin) (next : Next PlainUserCall) (out : Outgoing) → out.reference ≡ r → out.flag ≡ user_flag o → is_connect_kind out.kind ≡ false → UserSpeaks r o next out
+gone : (r : ℕ) (o : UserOrigin) (next : Next PlainUserCall) (out : Outgoing) → out.reference ≡ r → out.flag ≡ user_flag o → shows_connected out.kind out.state ≡ false → UserSpeaks r o next out
 gone r o next out a b c = record { reference = a; flag = b; connect = λ q. absurd (false≢true (sym c ∙ q)) }
 
-releases : (r ch : ℕ) (o : UserOrigin) (s : UserState) (again : Bool) (cause : Option ℕ) (t : ℕ) → SpeaksBy r o (user_releases (user_call_of r ch o s) again cause t)
+releases : (r ch : ℕ) (o : UserOrigin) (s : UserState) (again : Times) (cause : Option ℕ) (t : ℕ) → SpeaksBy r o (user_releases (user_call_of r ch o s) again cause t)
 releases r ch o s again None t = live r o _ _ refl refl
 releases r ch o s again (Some cause) t = live r o _ _ refl refl
 
@@ -184,5 +186,6 @@ second_speaks r ch o t (CallInitiated false due) = setup_speaks r ch t due o
 second_speaks r ch o t (CallInitiated true due) = by_cases (nat_le due t) _ _ (SpeaksBy r o) (λ _. gone r o Over _ refl refl refl) (λ _. tt)
 second_speaks r ch o t (OutgoingCallProceeding due) = by_cases (nat_le due t) _ _ (SpeaksBy r o) (λ _. live r o _ _ refl refl) (λ _. tt)
 second_speaks r ch o t (DisconnectRequest cause due) = by_cases (nat_le due t) _ _ (SpeaksBy r o) (λ _. live r o _ _ refl refl) (λ _. tt)
-second_speaks r ch o t (ReleaseRequest false cause due) = by_cases (nat_le due t) _ _ (SpeaksBy r o) (λ _. releases r ch o (ReleaseRequest false cause due) true cause t) (λ _. tt)
-second_speaks r ch o t (ReleaseRequest true cause due) = by_cases (nat_le due t) _ _ (SpeaksBy r o) (λ _. tt) (λ _. tt)
+second_speaks r ch o t (ReleaseRequest Twice cause due) = by_cases (nat_le due t) _ _ (SpeaksBy r o) (λ _. tt) (λ _. tt)
+second_speaks r ch o t (ReleaseRequest NotYet cause due) = by_cases (nat_le due t) _ _ (SpeaksBy r o) (λ _. releases r ch o (ReleaseRequest NotYet cause due) Once cause t) (λ _. tt)
+second_speaks r ch o t (ReleaseRequest Once cause due) = by_cases (nat_le due t) _ _ (SpeaksBy r o) (λ _. releases r ch o (ReleaseRequest Once cause due) Twice cause t) (λ _. tt)

@@ -1,13 +1,13 @@
--- A call that is asked for, after seconds without a link: how long it is Active where no word comes of it, and that there
--- is no such call on a day without such seconds.
+-- A call that is asked for, after seconds without a link: how long it is Active where no word comes of it, and that no call is
+-- touched on a day without such seconds.
 use Rattle.std.specs.Prelude.{◌≡◌, ℕ, zero, suc, ◌+◌, Bool, true, false}
 use Rattle.std.specs.List.{AllByRecursion}
 use Rattle.bx_calls.specs.declared.net_state.NetState.{NetState}
-use Rattle.bx_calls.specs.declared.net_state.NetState.TheVariants.{Enquiring}
+use Rattle.bx_calls.specs.declared.net_state.NetState.TheVariants.{CallPresent, Enquiring}
 use Rattle.bx_calls.specs.declared.transition.Next.{Next}
 use Rattle.bx_calls.specs.declared.transition.Next.TheVariants.{Live, Over, Broken}
 use Rattle.bx_calls.specs.PlainCalls.{PlainNetCall}
-use Rattle.bx_calls.specs.NetTable.{net_second}
+use Rattle.bx_calls.specs.NetTable.{net_second, is_after_outage}
 use Rattle.bx_day.specs.Day.{Day}
 use Rattle.bx_day.specs.Moves.{is_active}
 use Rattle.bx_day.specs.declared.entry.Entry.{Entry}
@@ -38,8 +38,18 @@ abbrev pub StandingUnasked : Standing → Type 0
 StandingUnasked (OnCall call activity) = is_asked call.state ≡ false
 StandingUnasked _ = Unit {0}
 
-abbrev pub EntryUnasked : Entry → Type 0
-EntryUnasked e = StandingUnasked e.standing
+-- a second without a link has left its mark on the call: the user is asked, or is to be, or its SETUP is one after an outage
+abbrev pub is_touched : NetState → Bool
+is_touched (Enquiring asked due) = true
+is_touched (CallPresent offer due) = is_after_outage offer
+is_touched _ = false
 
-abbrev pub DayUnasked : Day → Type 0
-DayUnasked d = AllByRecursion EntryUnasked d.entries
+abbrev pub StandingUntouched : Standing → Type 0
+StandingUntouched (OnCall call activity) = is_touched call.state ≡ false
+StandingUntouched _ = Unit {0}
+
+abbrev pub EntryUntouched : Entry → Type 0
+EntryUntouched e = StandingUntouched e.standing
+
+abbrev pub DayUntouched : Day → Type 0
+DayUntouched d = AllByRecursion EntryUntouched d.entries

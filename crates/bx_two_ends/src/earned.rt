@@ -6,7 +6,7 @@ ghost use Rattle.bx_day.specs.Day.{Day, opening};
 ghost use Rattle.bx_events.specs.Events.{Event};
 ghost use Rattle.bx_day.specs.Run.{day_after};
 ghost use Rattle.bx_two_ends.specs.Earning.{LiveSecond, AreAnswered, AreCleared};
-ghost use Rattle.bx_two_ends.specs.Asking.{is_asked, DayUnasked};
+ghost use Rattle.bx_two_ends.specs.Asking.{is_touched, DayUntouched};
 ghost use Rattle.bx_calls.specs.PlainCalls.{PlainNetCall};
 ghost use Rattle.bx_calls.specs.Hearing.{Heard};
 ghost use Rattle.bx_calls.specs.NetTable.{net_message, net_row};
@@ -18,12 +18,12 @@ ghost use Rattle.bx_records.specs.Totals as totals;
 
 /// Where no message comes of a call that was Active in a second without a link, it is Active no more 9 seconds with a link
 /// later. Where the far end reports a call state of it that does not fit N10, it is Active no more at once (`reported`). And without
-/// such seconds no call is asked for, and each message finds the table of messages alone (`unasked`).
+/// such seconds no call is touched, that is asked for or offered anew, and each message finds the table of messages alone (`unasked`).
 pub fn asked_for()
     ensures in_vain { IsGivenUpInVain }
     ensures reported { IsGivenUpAsReported }
-    ensures unasked { (call : PlainNetCall) (m : Heard) (t : ℕ) → is_asked call.state ≡ false → net_message call m t ≡ net_row call m t call.state m.kind }
-    ensures never { (rows : List Row) (assigned : List (Option ℕ)) (events : List Event) → DayUnasked (day_after events (opening rows assigned)) }
+    ensures unasked { (call : PlainNetCall) (m : Heard) (t : ℕ) → is_touched call.state ≡ false → net_message call m t ≡ net_row call m t call.state m.kind }
+    ensures never { (rows : List Row) (assigned : List (Option ℕ)) (events : List Event) → DayUntouched (day_after events (opening rows assigned)) }
 {}
 
 /// No event changes the bookings of a day, nor which of them the plan accepts.

@@ -3,15 +3,10 @@ use Rattle.bx_calls.specs.NetTable.{net_due, net_lost}
 use Rattle.bx_calls.specs.declared.net_state.NetState.TheVariants as state
 use Rattle.bx_calls.proofs.net_seconds.standing_still.Goals as goal
 
-pub returns-in-CallPresent : goal.returns-in-CallPresent
-returns-in-CallPresent c latest timed room =
-    let most : c.in-CallPresent.due ≤ latest = timed c.in-CallPresent.due (ap net_due c.in-CallPresent.is) in
-    ap (λ x. state.CallPresent c.in-CallPresent.again x) (c.later.ensures (omega (arith, most, room))) ∙ ap (net_lost c.args.seconds c.args.moment) (sym c.in-CallPresent.is)
-
 pub returns-in-IncomingCallProceeding : goal.returns-in-IncomingCallProceeding
 returns-in-IncomingCallProceeding c latest timed room =
     let most : c.in-IncomingCallProceeding.due ≤ latest = timed c.in-IncomingCallProceeding.due (ap net_due c.in-IncomingCallProceeding.is) in
-    ap (λ x. state.IncomingCallProceeding x) (c.later-in-IncomingCallProceeding.ensures (omega (arith, most, room))) ∙ ap (net_lost c.args.seconds c.args.moment) (sym c.in-IncomingCallProceeding.is)
+    ap (λ x. state.IncomingCallProceeding x) (c.later.ensures (omega (arith, most, room))) ∙ ap (net_lost c.args.seconds c.args.moment) (sym c.in-IncomingCallProceeding.is)
 
 pub returns-in-CallReceived : goal.returns-in-CallReceived
 returns-in-CallReceived c latest timed room =

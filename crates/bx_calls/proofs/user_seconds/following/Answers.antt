@@ -8,6 +8,3 @@ returns-in-CallInitiated c = ap (λ x. state.CallInitiated c.in-CallInitiated.ag
 
 pub returns-in-OutgoingCallProceeding : goal.returns-in-OutgoingCallProceeding
 returns-in-OutgoingCallProceeding c = ap state.OutgoingCallProceeding c.later-in-OutgoingCallProceeding.ensures ∙ ap (user_later c.args.moment) (sym c.in-OutgoingCallProceeding.is)
-
-pub returns-in-ConnectRequest : goal.returns-in-ConnectRequest
-returns-in-ConnectRequest c = ap state.ConnectRequest c.later-in-ConnectRequest.ensures ∙ ap (user_later c.args.moment) (sym c.in-ConnectRequest.is)

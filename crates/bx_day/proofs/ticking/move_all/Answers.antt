@@ -14,7 +14,7 @@ pub loop-number-init : goal.loop-number-init
 loop-number-init c = record {
   size = refl;
   seated = c.requires.seated;
-  moved = λ d done t h blocked own undone p. passed_as c.args.link d done _ c.args.entries.now c.args.maintenance.now c.args.said.now (λ i lt. none_below d c.args.slots.now done i) p;
+  moved = λ d done t b h blocked own undone p. passed_as c.args.link d done _ c.args.entries.now c.args.maintenance.now c.args.said.now (λ i lt. none_below d c.args.slots.now done i) p;
 }
 
 pub loop-number-preserved : goal.loop-number-preserved
@@ -30,23 +30,23 @@ loop-number-preserved c =
           record {
             size = ap length w.entries-is ∙ w.move_one.ensures.size ∙ now.size;
             seated = subst (AllByRecursion Seated) (sym w.entries-is) w.move_one.ensures.seated;
-            moved = λ d done t h blocked own undone p.
+            moved = λ d done t b h blocked own undone p.
                 let on = (own n j slot).1 in
                 kept_as c.args.link d _ w.move_one.new.entries c.match-slots-number.entries w.move_one.new.maintenance c.match-slots-number.maintenance w.move_one.new.said c.match-slots-number.said w.entries-is w.maintenance-is w.said-is
                 (passed_as c.args.link d _ _ w.move_one.new.entries w.move_one.new.maintenance w.move_one.new.said (λ i lt. one_below d slots done n j i slot on)
-                (w.move_one.ensures.moved d _ t h blocked (undone_below d slots done n j on (undone n j slot)) (now.moved d done t h blocked own undone p)));
+                (w.move_one.ensures.moved d _ t b h blocked (undone_below d slots done n j on (undone n j slot)) (now.moved d done t b h blocked own undone p)));
           }
       | in_default w ↦
           let slot : slot_at slots n ≡ None = slot_none slots n _ room w.in_default.not-Some in
           record {
             size = ap length w.entries-is ∙ now.size;
             seated = subst (AllByRecursion Seated) (sym w.entries-is) now.seated;
-            moved = λ d done t h blocked own undone p.
+            moved = λ d done t b h blocked own undone p.
                 kept_as c.args.link d _ c.loop-number.entries c.match-slots-number.entries c.loop-number.maintenance c.match-slots-number.maintenance c.loop-number.said c.match-slots-number.said w.entries-is w.maintenance-is w.said-is
-                (passed_as c.args.link d _ _ c.loop-number.entries c.loop-number.maintenance c.loop-number.said (λ i lt. same_below d slots done n i (λ is. false≢true (ap is_some (sym slot ∙ is)))) (now.moved d done t h blocked own undone p));
+                (passed_as c.args.link d _ _ c.loop-number.entries c.loop-number.maintenance c.loop-number.said (λ i lt. same_below d slots done n i (λ is. false≢true (ap is_some (sym slot ∙ is)))) (now.moved d done t b h blocked own undone p));
           }
     ]
 
 pub returns-clause-moved : goal.returns-clause-moved
-returns-clause-moved c d done t h blocked own undone p =
-    passed_as c.args.link d _ _ c.loop-number.entries c.loop-number.maintenance c.loop-number.said (λ i lt. all_below d c.args.slots.now done c.loop-number.number i (omega (arith, c.told-slots, c.loop-number-test.false))) (c.loop-number.invariant.moved d done t h blocked own undone p)
+returns-clause-moved c d done t b h blocked own undone p =
+    passed_as c.args.link d _ _ c.loop-number.entries c.loop-number.maintenance c.loop-number.said (λ i lt. all_below d c.args.slots.now done c.loop-number.number i (omega (arith, c.told-slots, c.loop-number-test.false))) (c.loop-number.invariant.moved d done t b h blocked own undone p)

@@ -1,9 +1,9 @@
-use Rattle.std.proofs.Common.{◌≡◌, ◌≤◌, ◌<◌, ◌+◌, not, length, sym, ap, subst, refl, ◌∙◌, arith, slice_index_or, slice_set, if◌then◌else◌}
+use Rattle.std.proofs.Common.{◌≡◌, ◌≤◌, ◌<◌, ◌+◌, not, length, sym, ap, ap₂, subst, refl, ◌∙◌, arith, slice_index_or, slice_set, if◌then◌else◌}
 use Rattle.std.proofs.lemmas.Bool.{false≢true}
 use Rattle.std.proofs.lemmas.List.{get_or_default}
 use Rattle.bx_channels.specs.ChannelNumbers.{IsChannel}
 use Rattle.bx_channels.specs.Marks.{is_marked}
-use Rattle.bx_day.specs.Day.{entry_at, no_entry}
+use Rattle.bx_day.specs.Day.{entry_at, is_back, no_entry}
 use Rattle.bx_day.specs.Ticks.{second_by, after_in}
 use Rattle.bx_day.specs.Invariant.{EntryFits}
 use Rattle.bx_day.specs.Outlasting.{IsTimedBy}
@@ -16,7 +16,7 @@ use Rattle.bx_day.proofs.TouchLemmas.{passed_more, passed_refused}
 use Rattle.bx_day.proofs.ticking.move_one.Goals as goal
 
 pub returns-in-Some-clause-moved : goal.returns-in-Some-clause-moved
-returns-in-Some-clause-moved c d done t h blocked undone p =
+returns-in-Some-clause-moved c d done t b h blocked undone p =
     let i = c.args.index in
     let es = c.args.entries.now in
     let e = c.index-entries-index.result in
@@ -28,7 +28,7 @@ returns-in-Some-clause-moved c d done t h blocked undone p =
     let channel : IsChannel c.in-Some.channel = subst IsChannel (sym number) (c.in-Some.ensures.exactly.0 refl) in
     let high : c.in-Some.channel ≤ 31 = channel.1 in
     let timed : IsTimedBy (d.moment + 180) e.standing = subst (λ (x : Entry). IsTimedBy (d.moment + 180) x.standing) (sym same) (fits_timed d.moment (entry_at d.entries i) (entry_at d.entries i).standing (each_at (EntryFits d.moment) d.entries i inside h.day.each)) in
-    let moved : m ≡ second_by c.args.link e (d.moment + 1) (not (is_marked c.args.blocked c.in-Some.channel)) e.standing = c.second-moved.ensures (d.moment + 180) timed (omega (arith, h.moment)) ∙ ap (λ x. second_by c.args.link e (c.args.moment + 1) (not x) e.standing) c.has.ensures ∙ ap (λ n. second_by c.args.link e (n + 1) (not (is_marked c.args.blocked c.in-Some.channel)) e.standing) (sym t) in
+    let moved : m ≡ second_by c.args.link e (d.moment + 1) (is_back d) (not (is_marked c.args.blocked c.in-Some.channel)) e.standing = c.second-moved.ensures (d.moment + 180) timed (omega (arith, h.moment)) ∙ ap (λ x. second_by c.args.link e (c.args.moment + 1) c.args.back (not x) e.standing) c.has.ensures ∙ ap₂ (λ n y. second_by c.args.link e (n + 1) y (not (is_marked c.args.blocked c.in-Some.channel)) e.standing) (sym t) (sym b) in
     passed_more c.args.link d done i c.in-Some.channel m es (slice_set es i (record (slice_index_or es i c.index-entries-index-in-Some.result) { standing = m.standing })) c.args.maintenance.now c.note.new.maintenance c.args.said.now c.note.new.said h inside
     (moved_is c.args.link d e (entry_at d.entries i) m c.args.blocked c.in-Some.channel same number blocked moved)
     (number ∙ ap (λ (x : Entry). x.channel) same)
@@ -39,7 +39,7 @@ returns-in-Some-clause-moved c d done t h blocked undone p =
     p
 
 pub returns-in_default-clause-moved : goal.returns-in_default-clause-moved
-returns-in_default-clause-moved c d done t h blocked undone p =
+returns-in_default-clause-moved c d done t b h blocked undone p =
     let i = c.args.index in
     let es = c.args.entries.now in
     let inside : i < length d.entries = omega (arith, c.requires.inside, p.size) in

@@ -3,6 +3,3 @@ use Rattle.bx_calls.proofs.net_call.NetCall.on_message.Goals as goal
 
 pub returns-then-is_contradicted : goal.returns-then-is_contradicted
 returns-then-is_contradicted c = search rules steps 400000
-
-pub returns-else-is_contradicted : goal.returns-else-is_contradicted
-returns-else-is_contradicted c = search rules steps 400000

@@ -17,7 +17,7 @@ pub linked-requires-clause-few : goal.linked-requires-clause-few
 linked-requires-clause-few c =
     let x = c.self.inside in
     let plan = c.args.plan.now in
-    let d = day_of x.moment x.entries.items x.maintenance in
+    let d = day_of x.moment x.unlinked x.entries.items x.maintenance in
     let at = c.moment-moment.ensures.value ∙ ap (λ (d : Day). d.moment) (sym c.self.view_is) in
     let goes_on = tested d plan.bookings plan.assigned.items c.moment-moment.result c.len.result c.deref.result.now at c.deref.ensures.value (c.len.ensures ∙ x.entries.ok.0) (c.are_kept.ensures.0 c.if-not-are_kept.false) (c.are_later.ensures.0 c.if-not-are_later.false) in
     let all_is = c.in-Ok.ensures ∙ ap (λ (es : List Entry). with_standings es (entries_from 1 plan.bookings plan.assigned.items)) c.deref-2.ensures.value in
@@ -27,7 +27,7 @@ pub linked-requires-clause-seated : goal.linked-requires-clause-seated
 linked-requires-clause-seated c =
     let x = c.self.inside in
     let plan = c.args.plan.now in
-    let d = day_of x.moment x.entries.items x.maintenance in
+    let d = day_of x.moment x.unlinked x.entries.items x.maintenance in
     let at = c.moment-moment.ensures.value ∙ ap (λ (d : Day). d.moment) (sym c.self.view_is) in
     let goes_on = tested d plan.bookings plan.assigned.items c.moment-moment.result c.len.result c.deref.result.now at c.deref.ensures.value (c.len.ensures ∙ x.entries.ok.0) (c.are_kept.ensures.0 c.if-not-are_kept.false) (c.are_later.ensures.0 c.if-not-are_later.false) in
     let all_is = c.in-Ok.ensures ∙ ap (λ (es : List Entry). with_standings es (entries_from 1 plan.bookings plan.assigned.items)) c.deref-2.ensures.value in
@@ -37,7 +37,7 @@ pub linked-requires-clause-apart : goal.linked-requires-clause-apart
 linked-requires-clause-apart c =
     let x = c.self.inside in
     let plan = c.args.plan.now in
-    let d = day_of x.moment x.entries.items x.maintenance in
+    let d = day_of x.moment x.unlinked x.entries.items x.maintenance in
     let at = c.moment-moment.ensures.value ∙ ap (λ (d : Day). d.moment) (sym c.self.view_is) in
     let goes_on = tested d plan.bookings plan.assigned.items c.moment-moment.result c.len.result c.deref.result.now at c.deref.ensures.value (c.len.ensures ∙ x.entries.ok.0) (c.are_kept.ensures.0 c.if-not-are_kept.false) (c.are_later.ensures.0 c.if-not-are_later.false) in
     let all_is = c.in-Ok.ensures ∙ ap (λ (es : List Entry). with_standings es (entries_from 1 plan.bookings plan.assigned.items)) c.deref-2.ensures.value in
@@ -47,7 +47,7 @@ pub linked-requires-clause-ordered : goal.linked-requires-clause-ordered
 linked-requires-clause-ordered c =
     let x = c.self.inside in
     let plan = c.args.plan.now in
-    let d = day_of x.moment x.entries.items x.maintenance in
+    let d = day_of x.moment x.unlinked x.entries.items x.maintenance in
     let at = c.moment-moment.ensures.value ∙ ap (λ (d : Day). d.moment) (sym c.self.view_is) in
     let goes_on = tested d plan.bookings plan.assigned.items c.moment-moment.result c.len.result c.deref.result.now at c.deref.ensures.value (c.len.ensures ∙ x.entries.ok.0) (c.are_kept.ensures.0 c.if-not-are_kept.false) (c.are_later.ensures.0 c.if-not-are_later.false) in
     let all_is = c.in-Ok.ensures ∙ ap (λ (es : List Entry). with_standings es (entries_from 1 plan.bookings plan.assigned.items)) c.deref-2.ensures.value in
@@ -57,7 +57,7 @@ pub first_waiting-self-inside-requires-clause-few : goal.first_waiting-self-insi
 first_waiting-self-inside-requires-clause-few c =
     let x = c.self.inside in
     let plan = c.args.plan.now in
-    let d = day_of x.moment x.entries.items x.maintenance in
+    let d = day_of x.moment x.unlinked x.entries.items x.maintenance in
     let at = c.moment-moment.ensures.value ∙ ap (λ (d : Day). d.moment) (sym c.self.view_is) in
     let goes_on = tested d plan.bookings plan.assigned.items c.moment-moment.result c.len.result c.deref.result.now at c.deref.ensures.value (c.len.ensures ∙ x.entries.ok.0) (c.are_kept.ensures.0 c.if-not-are_kept.false) (c.are_later.ensures.0 c.if-not-are_later.false) in
     let all_is = c.in-Ok.ensures ∙ ap (λ (es : List Entry). with_standings es (entries_from 1 plan.bookings plan.assigned.items)) c.deref-2.ensures.value in
@@ -67,7 +67,7 @@ pub first_waiting-self-inside-requires-clause-seated : goal.first_waiting-self-i
 first_waiting-self-inside-requires-clause-seated c =
     let x = c.self.inside in
     let plan = c.args.plan.now in
-    let d = day_of x.moment x.entries.items x.maintenance in
+    let d = day_of x.moment x.unlinked x.entries.items x.maintenance in
     let at = c.moment-moment.ensures.value ∙ ap (λ (d : Day). d.moment) (sym c.self.view_is) in
     let goes_on = tested d plan.bookings plan.assigned.items c.moment-moment.result c.len.result c.deref.result.now at c.deref.ensures.value (c.len.ensures ∙ x.entries.ok.0) (c.are_kept.ensures.0 c.if-not-are_kept.false) (c.are_later.ensures.0 c.if-not-are_later.false) in
     let all_is = c.in-Ok.ensures ∙ ap (λ (es : List Entry). with_standings es (entries_from 1 plan.bookings plan.assigned.items)) c.deref-2.ensures.value in
@@ -77,7 +77,7 @@ pub invariant_of-self : goal.invariant_of-self
 invariant_of-self c =
     let x = c.self.inside in
     let plan = c.args.plan.now in
-    let d = day_of x.moment x.entries.items x.maintenance in
+    let d = day_of x.moment x.unlinked x.entries.items x.maintenance in
     let at = c.moment-moment.ensures.value ∙ ap (λ (d : Day). d.moment) (sym c.self.view_is) in
     let goes_on = tested d plan.bookings plan.assigned.items c.moment-moment.result c.len.result c.deref.result.now at c.deref.ensures.value (c.len.ensures ∙ x.entries.ok.0) (c.are_kept.ensures.0 c.if-not-are_kept.false) (c.are_later.ensures.0 c.if-not-are_later.false) in
     let all_is = c.in-Ok.ensures ∙ ap (λ (es : List Entry). with_standings es (entries_from 1 plan.bookings plan.assigned.items)) c.deref-2.ensures.value in
@@ -86,4 +86,4 @@ invariant_of-self c =
     let links = subst (λ (es : List Entry). AreLinks es c.in-Ok-linked.links.first following) (c.deref-3.ensures.value ∙ all_is) c.in-Ok-linked.ensures in
     let anew = subst (λ (es : List Entry). AreEarliest es (length es) first) (c.deref-4.ensures.value ∙ all_is) c.first_waiting-self-inside.ensures in
     let slots = slots_extended d plan.bookings plan.channels plan.assigned.items x.live x.waiting x.following.items c.len-rows.ensures.bookings c.count-channels.ensures.set c.requires c.self.invariant.exchange c.self.invariant.slots goes_on c.in-Ok-linked.links.first following first links anew in
-    subst (λ (es : List Entry). IsIndexed (day_of x.moment es x.maintenance) x.live first following 0) (sym all_is) (indexed_now (extended plan.bookings plan.assigned.items d) x.live first following (exchange_extended d plan.bookings plan.channels plan.assigned.items x.live x.waiting x.following.items c.len-rows.ensures.bookings c.count-channels.ensures.set c.requires c.self.invariant.exchange c.self.invariant.slots goes_on) slots)
+    subst (λ (es : List Entry). IsIndexed (day_of x.moment x.unlinked es x.maintenance) x.live first following 0) (sym all_is) (indexed_now (extended plan.bookings plan.assigned.items d) x.live first following (exchange_extended d plan.bookings plan.channels plan.assigned.items x.live x.waiting x.following.items c.len-rows.ensures.bookings c.count-channels.ensures.set c.requires c.self.invariant.exchange c.self.invariant.slots goes_on) slots)

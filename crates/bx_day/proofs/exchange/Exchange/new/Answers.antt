@@ -35,9 +35,9 @@ invariant_of-result c =
     let plan = c.args.plan.now in
     let es = c.in_ok-entries.entries.items in
     let whole = opening_is plan.bookings plan.channels plan.assigned.items c.len-rows.ensures.bookings c.count-channels.ensures.set c.requires in
-    let with_set = subst (λ (m : List Bool). IsExchange (record { moment = 0; entries = entries_from 1 plan.bookings plan.assigned.items; maintenance = m })) (sym c.empty.ensures) whole in
-    let day = day_of 0 es c.empty.result in
-    let exchange : IsExchange day = subst (λ (xs : List Entry). IsExchange (record { moment = 0; entries = xs; maintenance = c.empty.result })) (sym c.in_ok-entries.ensures) with_set in
+    let with_set = subst (λ (m : List Bool). IsExchange (record { moment = 0; unlinked = 0; entries = entries_from 1 plan.bookings plan.assigned.items; maintenance = m })) (sym c.empty.ensures) whole in
+    let day = day_of 0 0 es c.empty.result in
+    let exchange : IsExchange day = subst (λ (xs : List Entry). IsExchange (record { moment = 0; unlinked = 0; entries = xs; maintenance = c.empty.result })) (sym c.in_ok-entries.ensures) with_set in
     let links : AreLinks es c.in_ok-links.links.first c.in_ok-links.links.following.items = subst (λ (xs : List Entry). AreLinks xs c.in_ok-links.links.first c.in_ok-links.links.following.items) c.deref.ensures.value c.in_ok-links.ensures in
     record {
       exchange = exchange;

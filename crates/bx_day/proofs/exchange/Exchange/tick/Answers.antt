@@ -11,16 +11,16 @@ use Rattle.bx_day.proofs.Once.{says_once}
 use Rattle.bx_day.proofs.exchange.Exchange.tick.Goals as goal
 
 pub invariant_of-self : goal.invariant_of-self
-invariant_of-self c = idle_indexed (day_of c.self.inside.moment c.self.inside.entries.items c.self.inside.maintenance) c.self.inside.live c.self.inside.waiting c.self.inside.following.items c.self.inside.due c.if-self.true c.self.invariant
+invariant_of-self c = idle_indexed (day_of c.self.inside.moment c.self.inside.unlinked c.self.inside.entries.items c.self.inside.maintenance) c.self.inside.live c.self.inside.waiting c.self.inside.following.items c.self.inside.due c.if-self.true c.self.invariant
 
 pub returns-then-self-clause-day : goal.returns-then-self-clause-day
 returns-then-self-clause-day c =
-    let idle = idle_now (day_of c.self.inside.moment c.self.inside.entries.items c.self.inside.maintenance) c.self.inside.live c.self.inside.waiting c.self.inside.following.items c.self.inside.due c.if-self.true c.self.invariant in
+    let idle = idle_now (day_of c.self.inside.moment c.self.inside.unlinked c.self.inside.entries.items c.self.inside.maintenance) c.self.inside.live c.self.inside.waiting c.self.inside.following.items c.self.inside.due c.if-self.true c.self.invariant in
     sym (ap (λ (s : Sent Day). s.day) idle) ∙ ap (λ (d : Day). (tick d).day) c.self.view_is
 
 pub returns-then-self-clause-sent : goal.returns-then-self-clause-sent
 returns-then-self-clause-sent c =
-    let idle = idle_now (day_of c.self.inside.moment c.self.inside.entries.items c.self.inside.maintenance) c.self.inside.live c.self.inside.waiting c.self.inside.following.items c.self.inside.due c.if-self.true c.self.invariant in
+    let idle = idle_now (day_of c.self.inside.moment c.self.inside.unlinked c.self.inside.entries.items c.self.inside.maintenance) c.self.inside.live c.self.inside.waiting c.self.inside.following.items c.self.inside.due c.if-self.true c.self.invariant in
     c.new-then-self.ensures ∙ sym (ap (λ (s : Sent Day). spelled s.sent) idle) ∙ ap (λ (d : Day). spelled (tick d).sent) c.self.view_is
 
 pub returns-then-self-clause-once : goal.returns-then-self-clause-once
@@ -38,7 +38,7 @@ spell-requires c = few_somes c.args.self.now c.pass-said.result (subst IsExchang
 pub invariant_of-self-2 : goal.invariant_of-self-2
 invariant_of-self-2 c =
     let x = c.self-2.inside in
-    let d = day_of x.moment x.entries.items x.maintenance in
+    let d = day_of x.moment x.unlinked x.entries.items x.maintenance in
     indexed_due d x.live x.waiting x.following.items x.due c.next_due-self-inside.result (subst (λ (y : Day). IsFirstDue y (length y.entries) c.next_due-self-inside.result) (sym c.self-2.view_is) c.next_due-self-inside.ensures) c.self-2.invariant
 
 pub returns-clause-sent : goal.returns-clause-sent
