@@ -18,6 +18,8 @@ mod drawn_lists;
 #[cfg(test)]
 mod drawn_outages;
 #[cfg(test)]
+mod example_day;
+#[cfg(test)]
 mod far_days;
 #[cfg(test)]
 mod far_octets;

@@ -136,7 +136,7 @@ record GetsCleared (r : ℕ) (o : NetOrigin) (k : Kind) (after : Standing) : Typ
   clearing : is_live after ≡ true → is_clearing after ≡ true
   over : is_release k ≡ true → is_live after ≡ false
 
-over_idle : (a : Activity) (t : ℕ) → is_live (over_at a t) ≡ false
+pub over_idle : (a : Activity) (t : ℕ) → is_live (over_at a t) ≡ false
 over_idle Never t = refl
 over_idle a t = refl
 

@@ -75,7 +75,7 @@ same_marks link d c (b ∷ bs) h = ap (λ x. (b || x) ∷ maintained_in link d (
     right true = refl
     right false = refl
 
-marks_kept : (link : Link) (d : Day) → ((j : ℕ) → (second_in link d (entry_at d.entries j)).broken ≡ false) → IsClean d → IsClean (passed_in link d).day
+pub marks_kept : (link : Link) (d : Day) → ((j : ℕ) → (second_in link d (entry_at d.entries j)).broken ≡ false) → IsClean d → IsClean (passed_in link d).day
 marks_kept link d h clean c = ap (λ bs. is_marked bs c) (same_marks link d 0 d.maintenance h) ∙ clean c
 
 -- the day after the tick
@@ -273,7 +273,7 @@ link_over_at rows assigned i cleared offered ended d received b s h le = elim (c
   | inr past ↦ link_over rows assigned i offered d received h (s.over past)
 ]
 
-link_stands : (rows : List Row) (assigned : List (Option ℕ)) (i cleared offered ended : ℕ) (d : Day) (received : List (List ℕ)) → d.moment < 300000 → IsBooked rows assigned i cleared offered ended → Stands rows assigned i cleared offered ended d → IsAllAnswered (passed_in Up d).day (following d received) → Stands rows assigned i cleared offered ended (following d received)
+pub link_stands : (rows : List Row) (assigned : List (Option ℕ)) (i cleared offered ended : ℕ) (d : Day) (received : List (List ℕ)) → d.moment < 300000 → IsBooked rows assigned i cleared offered ended → Stands rows assigned i cleared offered ended d → IsAllAnswered (passed_in Up d).day (following d received) → Stands rows assigned i cleared offered ended (following d received)
 link_stands rows assigned i cleared offered ended d received early b s ok =
     let called : Day = (passed_in Up d).day in
     let left : Day = following d received in

@@ -69,7 +69,7 @@ by_step true P a t x y f g = f refl
 by_step false P a t x y f g = g refl
 
 -- RELEASE or STATUS ENQUIRY was sent, and waits for its answer
-abbrev is_pressed : NetState → Bool
+abbrev pub is_pressed : NetState → Bool
 is_pressed (ReleaseRequest again cause due) = true
 is_pressed (Enquiring Once due) = true
 is_pressed (Enquiring Twice due) = true

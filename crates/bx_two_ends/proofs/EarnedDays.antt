@@ -48,7 +48,7 @@ idle_at k (b ∷ bs) [] (suc j) = idle_at (k + 1) bs [] j
 idle_at k (b ∷ bs) (a ∷ as') zero = idle_of k b a
 idle_at k (b ∷ bs) (a ∷ as') (suc j) = idle_at (k + 1) bs as' j
 
-waits_of : (k : ℕ) (b : Row) (a : Option ℕ) → is_some a ≡ true → (entry_of k b a).standing ≡ Unoffered
+pub waits_of : (k : ℕ) (b : Row) (a : Option ℕ) → is_some a ≡ true → (entry_of k b a).standing ≡ Unoffered
 waits_of k b None h = absurd (false≢true h)
 waits_of k b (Some c) h = refl
 
@@ -162,11 +162,11 @@ all_linked (x ∷ xs) m t low high = at (t == m + 1) refl (λ other. all_linked 
     at true is more = ap (λ b. if b then true else has_link (m + 1) (on_link xs) t) is
     at false is more = ap (λ b. if b then true else has_link (m + 1) (on_link xs) t) is ∙ more (λ same. true≢false (sym (eq-eqb t (m + 1) same) ∙ is))
 
-runs_from : (b : Row) (t : ℕ) → b.start ≤ t → t < b.end → is_running b t ≡ true
+pub runs_from : (b : Row) (t : ℕ) → b.start ≤ t → t < b.end → is_running b t ≡ true
 runs_from b t low high = and_from (nat_le b.start t) (nat_lt t b.end) (le-leb b.start t low) (lt-ltb t b.end high)
 
 -- no two accepted bookings of a channel run at once
-alone_in : (rows : List Row) (channels : List Bool) (assigned : List (Option ℕ)) (i t u : ℕ) → Carries rows channels (is_accepted assigned) (channel_at assigned) → i < length rows → is_accepted assigned i ≡ true → (row_at rows i).start ≤ t → u < (row_at rows i).end → IsAlone rows assigned i t u
+pub alone_in : (rows : List Row) (channels : List Bool) (assigned : List (Option ℕ)) (i t u : ℕ) → Carries rows channels (is_accepted assigned) (channel_at assigned) → i < length rows → is_accepted assigned i ≡ true → (row_at rows i).start ≤ t → u < (row_at rows i).end → IsAlone rows assigned i t u
 alone_in rows channels assigned i t u h inside accepted low high j m lt other a same from to = false_from_ne_true (is_running (row_at rows j) m) (λ runs.
     let mine : is_running (row_at rows i) m ≡ true = runs_from (row_at rows i) m (omega (arith, low, from)) (omega (arith, high, to)) in
     elim (cases_lt i j) [

@@ -241,7 +241,7 @@ never_cleared assigned sent d i h never = decide (list_any (clears (suc i)) sent
 abbrev is_among : ℕ → Bool
 is_among c = nat_le 1 c && nat_le c 31 && not (c == 16)
 
-every_has : (c : ℕ) → IsChannel c → list_any (λ k. k == c) every_channel ≡ true
+pub every_has : (c : ℕ) → IsChannel c → list_any (λ k. k == c) every_channel ≡ true
 every_has c h =
     agree_below_at (λ n. list_any (λ k. k == n) every_channel) is_among 32 c refl (omega (arith, h.1))
     ∙ and_from (nat_le 1 c && nat_le c 31) (not (c == 16)) (and_from (nat_le 1 c) (nat_le c 31) (le-leb 1 c h.0) (le-leb c 31 h.1)) (not_from_false (c == 16) (ne_eqb c 16 h.2))

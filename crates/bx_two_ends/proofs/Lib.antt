@@ -48,3 +48,14 @@ pub mod Engine
 pub mod EngineDays
 pub mod FromNow
 pub mod FarOutages
+pub mod OneChannel
+pub mod ChannelStates
+pub mod ChannelMessages
+pub mod ChannelLosses
+pub mod ChannelTurns
+pub mod FarChannel
+pub mod NearChannel
+pub mod NearTicks
+pub mod ChannelDays
+pub mod LossyDays
+pub mod TalkingDays

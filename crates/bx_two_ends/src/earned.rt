@@ -14,6 +14,7 @@ ghost use Rattle.bx_two_ends.specs.Earned.{IsGivenUpInVain, IsGivenUpAsReported,
 ghost use Rattle.bx_two_ends.specs.Earned.{IsCarriedOnceCalled, IsCarriedOnceTalking, StaysInService, IsCarriedUnbroken};
 ghost use Rattle.bx_two_ends.specs.Earned.{IsCarriedPunctually, AnswersByMessages, ClearsByMessages, IsAcceptedAsPlanned, IsPaidAsPlanned};
 ghost use Rattle.bx_two_ends.specs.Earned.{IsPaidUnbroken};
+ghost use Rattle.bx_two_ends.specs.LossyLink.{IsCarriedBehindOutages, IsCarriedBetweenOutages, IsCarriedThroughOutages, StaysInServiceBehindOutages};
 ghost use Rattle.bx_records.specs.Totals as totals;
 
 /// Where no message comes of a call that was Active in a second without a link, it is Active no more 9 seconds with a link
@@ -55,6 +56,19 @@ pub fn planned_is_carried()
 pub fn turns_are_answered()
     ensures answered { AnswersByMessages }
     ensures cleared { ClearsByMessages }
+{}
+
+/// An outage costs what it covers, and six seconds more at most. Towards a far end of `bx` whose script answers each call at once, in
+/// turns, and whatever messages are lost with the link however often, each accepted outward booking of two seconds or more that runs on
+/// for six seconds with a whole link is carried to its end: from a second after its start at the latest, or from six seconds behind what
+/// was lost (`carried`), also where the link is lost again after these six seconds (`between`). With five it is not: a RELEASE of each
+/// end that meets the other's is answered by none, and T308 takes four. A booking whose call is up is carried to its end whatever is
+/// lost from then on (`through`), and no channel gets into maintenance, at either end (`in_service`).
+pub fn carried_behind_outages()
+    ensures carried { IsCarriedBehindOutages }
+    ensures between { IsCarriedBetweenOutages }
+    ensures through { IsCarriedThroughOutages }
+    ensures in_service { StaysInServiceBehindOutages }
 {}
 
 /// What is planned is paid: over every list of events the totals have as accepted what the plan's bookings pay; where the far end
