@@ -100,6 +100,10 @@ audited contents plan channels before file first opened b r v is followed =
     let f = subst (λ (x : Result (Unit {0}) DayCommandFault). OnOk x (IsFollowedWhole (IsTaken contents channels) (of_any_day plan) before (taken_of opened file first) b)) is followed in
     record { events = f.events; journal = f.journal; octets = f.all.octets; through = f.all.through; kept = f.all.kept }
 
+-- of a journal that does not tell its octets
+pub untold : {W : Type 0} (contents : W → Option (List ℕ)) (plan : List ℕ) (channels : List Bool) (before : Option (List ℕ)) (file closed : Option (Watched W)) (first : ℕ) (opened day : Day) → IsAudited plan channels before contents file closed first opened day → IsAudited plan channels None contents file closed first opened day
+untold contents plan channels before file closed first opened day a = record { events = a.events; journal = record { text = a.journal.text; told = λ known is. absurd cc; are = a.journal.are }; octets = a.octets; through = a.through; kept = a.kept }
+
 pub kept_so_far : {W : Type 0} (contents : W → Option (List ℕ)) (channels : List Bool) (file : Option (Watched W)) (first : ℕ) (opened : Day) (events : List LiveEvent) (b : Taken W) → IsTaken contents channels (taken_of opened file first) events b → IsKeptSoFar contents channels file b.file first opened
 kept_so_far contents channels file first opened events b t = record { events = events; day = b.day; octets = t.octets; through = t.through; kept = t.kept }
 

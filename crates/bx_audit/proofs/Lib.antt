@@ -3,3 +3,5 @@ mod OnItsDay
 mod SoldDays
 mod BestAfter
 mod SeenDays
+mod Handed
+mod AuditAnswers

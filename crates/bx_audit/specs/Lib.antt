@@ -16,3 +16,4 @@ pub mod Seen
 pub mod Charted
 pub mod Uncharted
 pub mod Laws
+pub mod Inside

@@ -1,26 +1,32 @@
 //! The command that tells a day by its journal.
 
-ghost use Rattle.std.specs.Prelude.{None, IfOk, IfErr, OnOk};
+ghost use Rattle.std.specs.Prelude.{◌≤◌, None, IfOk, IfErr, OnOk};
+ghost use Rattle.bx_base.specs.PlanParts.{parts_of};
 ghost use Rattle.bx_day.specs.Day.{Day};
+ghost use Rattle.bx_day_openings.specs.CaptureOpenings.{IsFirstOf};
 ghost use Rattle.bx_day_openings.specs.Replays.{IsDayThrough, HasNoReplay};
+ghost use Rattle.bx_day_openings.specs.Tied.{IsTied};
 ghost use Rattle.bx_journal.specs.Heads.{of_any_day};
-ghost use Rattle.bx_audit.specs.AuditRefusals.{StopsAudit, IsAuditRefusal};
+ghost use Rattle.bx_audit.specs.AuditRefusals.{HasJournal, StopsAudit, IsAuditRefusal};
 ghost use Rattle.bx_audit.specs.Audits.{IsDayAudited, IsAuditToldWhole};
+ghost use Rattle.bx_audit.specs.Inside.{IsAuditedInto, IsUnreadThrough};
 ghost use Rattle.bx_devices.specs.Devices.{writing_of};
+ghost use Rattle.bx_devices.specs.Watching.{device_of};
 
 use crate::telling::audited_day;
 use bx_capture::is_whole;
 use bx_check_commands::{CommandFault, Inputs, open};
 use bx_day::Exchange;
 use bx_day_openings::{
-    DayCommandFault, DayOpening, captured, file_of, first_of, opening_of, replay_journal,
+    DayCommandFault, DayOpening, TiedPlan, captured, file_of, first_of, opening_of, replay_journal,
     tied_named,
 };
 use bx_devices::Watched;
 use bx_journal::Wanted;
 use bx_request::AuditRequest;
+use std::alloc::Global;
 use std::fs::Files;
-use std::io::Write;
+use std::io::{Read, Write};
 
 /// Reads the journal in a file through, so that a fault of it is told before the file of a capture is made anew.
 fn read_through<'a, H: Files + AllocGlobal + Eprint>(
@@ -47,6 +53,67 @@ fn read_through<'a, H: Files + AllocGlobal + Eprint>(
     }
 }
 
+/// The plan of an input whose journal in a file is read through.
+fn tied_through<'a, H: Files + AllocGlobal + Eprint, I: Inputs>(
+    rt: &H,
+    inputs: &mut I,
+    plan: &'a str,
+    journal: &'a str,
+) -> Result<TiedPlan, DayCommandFault<'a>>
+    ensures tied { IfOk result (λ tied. IsTied None (parts_of tied.plan) tied.digest) }
+    ensures through { OnOk result HasJournal }
+    ensures refused { IfErr result (IsUnreadThrough plan.now journal.now) }
+{
+    let tied = match tied_named(rt.alloc(), inputs, plan) {
+        Ok(tied) => tied,
+        Err(fault) => return Err(DayCommandFault::Command(fault)),
+    };
+    let opening = opening_of(rt.alloc(), &tied)?;
+    read_through(rt, journal, opening)?;
+    Ok(tied)
+}
+
+/// The exchange after the events and sales of a journal of this name, and whether the file took all that was to be captured.
+fn audited_into<'a, R: Read + Drop, W: Write + Drop>(
+    alloc: Global,
+    name: &'a str,
+    mut journal: Watched<R>,
+    opening: DayOpening,
+    mut file: Option<Watched<W>>,
+    first: u32,
+) -> Result<(Exchange, bool), DayCommandFault<'a>>
+    requires { first ≤ 4294667295 }
+    ensures audited { IfOk result (λ audited. IsAuditedInto W.contents opening (R.remaining (device_of journal)) file first audited.0 audited.1) }
+    ensures refused { IfErr result (HasNoReplay name.now (of_any_day opening.digest) opening.channels opening.exchange) }
+{
+    let exchange = audited_day(alloc, name, &mut journal, opening, &mut file, first)?;
+    Ok((exchange, is_whole(&file)))
+}
+
+/// The exchange of this plan after the events and sales of the journal in a file, which was read through, from this first second
+/// on, and whether all that was to be captured of its day was.
+fn audited_from<'a, H: Files + AllocGlobal + Eprint>(
+    rt: &H,
+    request: AuditRequest<'a>,
+    tied: &TiedPlan,
+    first: u32,
+) -> Result<(Exchange, bool), DayCommandFault<'a>>
+    requires begins { IsFirstOf request.capture first }
+    requires limit { first ≤ 4294667295 }
+    requires tied { IsTied None (parts_of tied.now.plan) tied.now.digest }
+    requires through { HasJournal }
+    ensures audited { IfOk result (λ audited. IsDayAudited H.File.contents request.entry.capture audited.0 audited.1) }
+    ensures stopped { IfErr result (StopsAudit H.File.contents request.entry) }
+{
+    let file = file_of(rt, request.capture)?;
+    let journal = match open(rt, request.journal) {
+        Ok(journal) => journal,
+        Err(fault) => return Err(DayCommandFault::Command(fault)),
+    };
+    let opening = opening_of(rt.alloc(), tied)?;
+    audited_into(rt.alloc(), request.journal, journal, opening, file, first)
+}
+
 /// The exchange after the events and sales of the journal in a file, and whether all that was to be captured of its day was.
 fn audited_in<'a, H: Files + AllocGlobal + Eprint, I: Inputs>(
     rt: &H,
@@ -57,27 +124,8 @@ fn audited_in<'a, H: Files + AllocGlobal + Eprint, I: Inputs>(
     ensures stopped { IfErr result (StopsAudit H.File.contents request.entry) }
 {
     let first = first_of(request.capture)?;
-    let tied = match tied_named(rt.alloc(), inputs, request.plan) {
-        Ok(tied) => tied,
-        Err(fault) => return Err(DayCommandFault::Command(fault)),
-    };
-    let opening = opening_of(rt.alloc(), &tied)?;
-    read_through(rt, request.journal, opening)?;
-    let mut file = file_of(rt, request.capture)?;
-    let mut journal = match open(rt, request.journal) {
-        Ok(journal) => journal,
-        Err(fault) => return Err(DayCommandFault::Command(fault)),
-    };
-    let opening = opening_of(rt.alloc(), &tied)?;
-    let exchange = audited_day(
-        rt.alloc(),
-        request.journal,
-        &mut journal,
-        opening,
-        &mut file,
-        first,
-    )?;
-    Ok((exchange, is_whole(&file)))
+    let tied = tied_through(rt, inputs, request.plan, request.journal)?;
+    audited_from(rt, request, &tied, first)
 }
 
 /// Writes what became of each booking of the plan of an input by the journal in a file, a line for each, as the day itself tells

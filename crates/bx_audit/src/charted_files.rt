@@ -1,18 +1,21 @@
 //! The command that draws a day by its journal.
 
-ghost use Rattle.std.specs.Prelude.{IfOk, IfErr, OnOk};
+ghost use Rattle.std.specs.Prelude.{◌≡◌, IfOk, IfErr, OnOk};
 ghost use Rattle.bx_devices.specs.Devices.{writing_of};
+ghost use Rattle.bx_day_chart.specs.Charts.{IsDayDrawn};
 ghost use Rattle.bx_day_chart.specs.Sights.{sight_of};
 ghost use Rattle.bx_audit.specs.Charted.{IsDayCharted, IsDaySeen};
+ghost use Rattle.bx_audit.specs.Inside.{IsGivenSeen, IsJournalUnseen, IsDayUndrawn};
 ghost use Rattle.bx_audit.specs.Uncharted.{IsDayChartCommandRefusal, IsDayUnseen};
 
 use crate::charting::seen_by;
 use bx_base::ChannelSet;
+use bx_calendar::Clock;
 use bx_chart::ChartFault;
 use bx_check_commands::{CommandFault, Inputs};
 use bx_day::Exchange;
 use bx_day_chart::{DaySight, is_over, write_day_chart};
-use bx_day_openings::{DayCommandFault, clock_of, day_opening};
+use bx_day_openings::{DayCommandFault, DayOpening, clock_of, day_opening};
 use bx_devices::Watched;
 use bx_journal::Wanted;
 use bx_request::DayChartRequest;
@@ -27,17 +30,17 @@ struct SeenDay {
     sight: DaySight,
 }
 
-/// The day of the plan of one input after just the events and sales of the journal of another.
-fn day_seen<'a, I: Inputs>(
+/// The day of this opening after just the events and sales of the journal of an input.
+fn seen_from<'a, I: Inputs>(
     alloc: Global,
     inputs: &mut I,
-    plan: &'a str,
     journal: &'a str,
+    day: DayOpening,
 ) -> Result<SeenDay, DayCommandFault<'a>>
-    ensures seen { IfOk result (λ seen. IsDaySeen (I.gives inputs.old) plan.now journal.now seen.channels seen.exchange (sight_of seen.sight)) }
-    ensures unseen { IfErr result (IsDayUnseen (I.gives inputs.old) plan.now journal.now) }
+    ensures in_service { IfOk result (λ seen. seen.channels ≡ day.channels) }
+    ensures seen { IfOk result (λ seen. IsGivenSeen (I.gives inputs.old) journal.now day seen.exchange (sight_of seen.sight)) }
+    ensures unseen { IfErr result (IsJournalUnseen (I.gives inputs.old) journal.now day) }
 {
-    let day = day_opening(alloc, inputs, plan)?;
     let mut input = match inputs.open(journal) {
         Ok(input) => input,
         Err(fault) => return Err(DayCommandFault::Command(fault)),
@@ -61,6 +64,45 @@ fn day_seen<'a, I: Inputs>(
     }
 }
 
+/// The day of the plan of one input after just the events and sales of the journal of another.
+fn day_seen<'a, I: Inputs>(
+    alloc: Global,
+    inputs: &mut I,
+    plan: &'a str,
+    journal: &'a str,
+) -> Result<SeenDay, DayCommandFault<'a>>
+    ensures seen { IfOk result (λ seen. IsDaySeen (I.gives inputs.old) plan.now journal.now seen.channels seen.exchange (sight_of seen.sight)) }
+    ensures unseen { IfErr result (IsDayUnseen (I.gives inputs.old) plan.now journal.now) }
+{
+    let day = day_opening(alloc, inputs, plan)?;
+    seen_from(alloc, inputs, journal, day)
+}
+
+/// Draws a day that was seen.
+fn draw<'a, W: Write>(
+    alloc: Global,
+    day: &SeenDay,
+    clock: Option<Clock>,
+    output: &mut Watched<W>,
+) -> Result<(), DayCommandFault<'a>>
+    ensures drawn { OnOk result (IsDayDrawn day.now.exchange day.now.channels (sight_of day.now.sight) clock (writing_of W.contents output.old output.new)) }
+    ensures undrawn { IfErr result
+        (IsDayUndrawn day.now.exchange day.now.channels (sight_of day.now.sight) clock (writing_of W.contents output.old output.new)) }
+{
+    match write_day_chart(
+        alloc,
+        &day.exchange,
+        day.channels,
+        &day.sight,
+        clock.as_ref(),
+        output,
+    ) {
+        Ok(()) => Ok(()),
+        Err(ChartFault::Memory) => Err(DayCommandFault::Command(CommandFault::Memory)),
+        Err(ChartFault::WriteFailed) => Err(DayCommandFault::Command(CommandFault::CannotWrite)),
+    }
+}
+
 /// Draws the day of the plan of one input as it went, by the journal of another: a day that has ended, or that is still running; a line stands at the moment to
 /// which it has come while a booking waits or is live. At a refusal nothing was written, except that where the output failed a prefix of the picture was.
 ///
@@ -78,16 +120,5 @@ pub fn chart_day_files<'a, I: Inputs, W: Write>(
 {
     let clock = clock_of(request.day)?;
     let day = day_seen(alloc, inputs, request.plan, request.journal)?;
-    match write_day_chart(
-        alloc,
-        &day.exchange,
-        day.channels,
-        &day.sight,
-        clock.as_ref(),
-        output,
-    ) {
-        Ok(()) => Ok(()),
-        Err(ChartFault::Memory) => Err(DayCommandFault::Command(CommandFault::Memory)),
-        Err(ChartFault::WriteFailed) => Err(DayCommandFault::Command(CommandFault::CannotWrite)),
-    }
+    draw(alloc, &day, clock, output)
 }

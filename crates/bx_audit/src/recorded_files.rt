@@ -2,10 +2,13 @@
 
 ghost use Rattle.std.specs.Prelude.{IfOk, IfErr, OnOk};
 ghost use Rattle.bx_devices.specs.Devices.{writing_of};
+ghost use Rattle.bx_records.specs.Writing.{IsRecorded};
 ghost use Rattle.bx_audit.specs.Recorded.{IsTotalsTold, AreRecordsTold};
+ghost use Rattle.bx_audit.specs.Inside.{AreRecordsUnwritten};
 ghost use Rattle.bx_audit.specs.Unrecorded.{IsRecordsCommandRefusal};
 
 use crate::told_days::told_by;
+use bx_calendar::Clock;
 use bx_check_commands::{CommandFault, Inputs};
 use bx_day::Exchange;
 use bx_day_openings::{DayCommandFault, clock_of, unrecorded};
@@ -21,6 +24,28 @@ fn tell_totals<E: Write>(exchange: &Exchange, is_quiet: bool, errors: &mut Watch
 {
     if !is_quiet {
         let _told = write_totals(exchange, errors);
+    }
+}
+
+/// Writes the records of a day, and then tells their totals.
+fn write_and_tell<'a, W: Write, E: Write>(
+    alloc: Global,
+    exchange: &Exchange,
+    clock: Option<Clock>,
+    is_quiet: bool,
+    output: &mut Watched<W>,
+    errors: &mut Watched<E>,
+) -> Result<(), DayCommandFault<'a>>
+    ensures recorded { OnOk result (IsRecorded clock exchange.now.entries (writing_of W.contents output.old output.new)) }
+    ensures told { OnOk result (IsTotalsTold is_quiet exchange.now.entries (writing_of E.contents errors.old errors.new)) }
+    ensures refused { IfErr result (AreRecordsUnwritten clock exchange.now.entries (writing_of W.contents output.old output.new)) }
+{
+    match write_records(alloc, exchange, clock, output) {
+        Ok(()) => {
+            tell_totals(exchange, is_quiet, errors);
+            Ok(())
+        }
+        Err(fault) => Err(unrecorded(fault, DayCommandFault::Command(CommandFault::CannotWrite))),
     }
 }
 
@@ -45,11 +70,12 @@ pub fn record_files<'a, I: Inputs, W: Write, E: Write>(
 {
     let clock = clock_of(request.day)?;
     let day = told_by(alloc, inputs, request.plan, request.journal)?;
-    match write_records(alloc, &day.exchange, clock, output) {
-        Ok(()) => {
-            tell_totals(&day.exchange, request.is_quiet, errors);
-            Ok(())
-        }
-        Err(fault) => Err(unrecorded(fault, DayCommandFault::Command(CommandFault::CannotWrite))),
-    }
+    write_and_tell(
+        alloc,
+        &day.exchange,
+        clock,
+        request.is_quiet,
+        output,
+        errors,
+    )
 }

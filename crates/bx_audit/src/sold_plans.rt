@@ -1,12 +1,16 @@
 //! The command that writes the last plan of a day by its journal.
 
-ghost use Rattle.std.specs.Prelude.{IfErr, OnOk};
+ghost use Rattle.std.specs.Prelude.{ℕ, IfErr, OnOk};
+ghost use Rattle.bx_colour.specs.Colouring.{FitsChannels};
 ghost use Rattle.bx_devices.specs.Devices.{writing_of};
+ghost use Rattle.bx_planner.specs.Musts.{IsTooManyMust};
+ghost use Rattle.bx_sales.specs.Selling.{rows_of, marks_of};
 ghost use Rattle.bx_audit.specs.LastPlans.{IsSoldTold};
+ghost use Rattle.bx_audit.specs.Inside.{IsPlanWritten, IsPlanUnwritten};
 ghost use Rattle.bx_audit.specs.Unsold.{IsSoldRefusal};
 
 use crate::last_plans::last_plan;
-use crate::told_days::told_by;
+use crate::told_days::{ToldDay, told_by};
 use bx_check_commands::{CommandFault, Inputs};
 use bx_day_openings::DayCommandFault;
 use bx_devices::Watched;
@@ -14,6 +18,26 @@ use bx_planfile::write_plan;
 use bx_request::SoldRequest;
 use std::alloc::Global;
 use std::io::Write;
+
+/// Writes the text of the last plan of a day that was told.
+fn write_last<'a, W: Write>(
+    alloc: Global,
+    day: &ToldDay,
+    output: &mut Watched<W>,
+) -> Result<(), DayCommandFault<'a>>
+    requires fits { FitsChannels (rows_of day.now.exchange) (marks_of day.now.exchange) day.now.channels }
+    requires room { (t : ℕ) → IsTooManyMust (rows_of day.now.exchange) day.now.channels t → ⊥ }
+    ensures written { OnOk result (IsPlanWritten day.now.exchange day.now.channels (writing_of W.contents output.old output.new)) }
+    ensures unwritten { IfErr result (IsPlanUnwritten day.now.exchange day.now.channels W.contents output.old output.new) }
+{
+    let Ok(last) = last_plan(alloc, &day.exchange, day.channels) else {
+        return Err(DayCommandFault::Command(CommandFault::Memory));
+    };
+    match write_plan(&last, output) {
+        Ok(()) => Ok(()),
+        Err(_) => Err(DayCommandFault::Command(CommandFault::CannotWrite)),
+    }
+}
 
 /// Writes the text of the last plan of a day, by the plan of its morning and by its journal: of a day that has ended, or that is still running. It has the
 /// bookings of the morning, and after them those that the journal says were sold, as accepted; the channels are those of first fit, and prices prove it. At
@@ -32,11 +56,5 @@ pub fn sold_files<'a, I: Inputs, W: Write>(
     ensures refused { IfErr result (IsSoldRefusal (I.gives inputs.old) request.entry W.contents output.old output.new) }
 {
     let day = told_by(alloc, inputs, request.plan, request.journal)?;
-    let Ok(last) = last_plan(alloc, &day.exchange, day.channels) else {
-        return Err(DayCommandFault::Command(CommandFault::Memory));
-    };
-    match write_plan(&last, output) {
-        Ok(()) => Ok(()),
-        Err(_) => Err(DayCommandFault::Command(CommandFault::CannotWrite)),
-    }
+    write_last(alloc, &day, output)
 }

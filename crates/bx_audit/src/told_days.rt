@@ -1,13 +1,14 @@
 //! A day that is told by its journal.
 
-ghost use Rattle.std.specs.Prelude.{IfOk, IfErr};
+ghost use Rattle.std.specs.Prelude.{◌≡◌, IfOk, IfErr};
+ghost use Rattle.bx_audit.specs.Inside.{IsGivenThrough};
 ghost use Rattle.bx_audit.specs.Recorded.{IsDayTold};
-ghost use Rattle.bx_audit.specs.Unrecorded.{IsDayUntold};
+ghost use Rattle.bx_audit.specs.Unrecorded.{IsNoJournalOf, IsDayUntold};
 
 use bx_base::ChannelSet;
 use bx_check_commands::Inputs;
 use bx_day::Exchange;
-use bx_day_openings::{DayCommandFault, day_opening, replay_journal};
+use bx_day_openings::{DayCommandFault, DayOpening, day_opening, replay_journal};
 use bx_journal::Wanted;
 use std::alloc::Global;
 
@@ -18,17 +19,17 @@ pub(crate) struct ToldDay {
     pub(crate) channels: ChannelSet,
 }
 
-/// The exchange after just the events and sales of the journal of one input, from the opening of the day of the plan of another on.
-pub(crate) fn told_by<'a, I: Inputs>(
+/// The exchange after just the events and sales of the journal of an input, from this opening on.
+fn told_from<'a, I: Inputs>(
     alloc: Global,
     inputs: &mut I,
-    plan: &'a str,
     journal: &'a str,
+    day: DayOpening,
 ) -> Result<ToldDay, DayCommandFault<'a>>
-    ensures told { IfOk result (λ told. IsDayTold (I.gives inputs.old) plan.now journal.now told.channels told.exchange) }
-    ensures untold { IfErr result (IsDayUntold (I.gives inputs.old) plan.now journal.now) }
+    ensures in_service { IfOk result (λ told. told.channels ≡ day.channels) }
+    ensures told { IfOk result (λ told. IsGivenThrough (I.gives inputs.old) journal.now day told.exchange) }
+    ensures untold { IfErr result (IsNoJournalOf (I.gives inputs.old) journal.now day.digest day.channels day.exchange) }
 {
-    let day = day_opening(alloc, inputs, plan)?;
     let mut input = match inputs.open(journal) {
         Ok(input) => input,
         Err(fault) => return Err(DayCommandFault::Command(fault)),
@@ -42,4 +43,18 @@ pub(crate) fn told_by<'a, I: Inputs>(
         }),
         Err(fault) => Err(fault),
     }
+}
+
+/// The exchange after just the events and sales of the journal of one input, from the opening of the day of the plan of another on.
+pub(crate) fn told_by<'a, I: Inputs>(
+    alloc: Global,
+    inputs: &mut I,
+    plan: &'a str,
+    journal: &'a str,
+) -> Result<ToldDay, DayCommandFault<'a>>
+    ensures told { IfOk result (λ told. IsDayTold (I.gives inputs.old) plan.now journal.now told.channels told.exchange) }
+    ensures untold { IfErr result (IsDayUntold (I.gives inputs.old) plan.now journal.now) }
+{
+    let day = day_opening(alloc, inputs, plan)?;
+    told_from(alloc, inputs, journal, day)
 }

@@ -1,4 +1,5 @@
-use Rattle.std.proofs.Common.{◌≡◌, List, ℕ, Bool, Option, Some, Result, Err, OnOk, None, refl, ap, ◌∙◌, subst}
+use Rattle.std.proofs.Common.{◌≡◌, List, ℕ, Bool, Option, Some, Result, Ok, Err, OnOk, None, refl, ap, ◌∙◌, subst}
+use Rattle.std.specs.Prelude.{IfErr}
 use Rattle.std.proofs.lemmas.Result.{err_from_is_err_and}
 use Rattle.bx_day_openings.specs.Followed.{IsFollowedWhole}
 use Rattle.bx_day_openings.specs.Replays.{HasBadSale, IsNoReplay}
@@ -13,6 +14,7 @@ use Rattle.bx_day_openings.specs.JournalRefusals.{IsNoJournal}
 use Rattle.bx_day_openings.proofs.ToldJournals.{not_followed, followed_whole}
 use Rattle.bx_day_openings.proofs.Replays.{followed_as, bad_sale, no_replay}
 use Rattle.bx_day_openings.specs.declared.reselling.SaleFault.{SaleFault}
+use Rattle.bx_audit.specs.Audits.{IsKeptSoFar}
 use Rattle.bx_audit.specs.Followed.{Taken, IsTaken, taken_of}
 use Rattle.bx_audit.proofs.Audited.{audited, kept_so_far, same_taken, followed_some, taken_whole, taken_to, stopped_day}
 use Rattle.bx_audit.proofs.telling.audited_day.Goals as goal
@@ -83,6 +85,26 @@ returns-in_err-journal_read-clause-any_day g c =
 not_some : (s : Option SaleFault) → ((fault : SaleFault) → s ≡ Some fault → ⊥) → s ≡ None
 not_some None never = refl
 not_some (Some fault) never = absurd (never fault refl)
+
+on_err : {T : Type 0} (P : Type 0) (r : Result T DayCommandFault) → P → IfErr r (λ fault. P)
+on_err P (Ok v) p = tt
+on_err P (Err fault) p = p
+
+pub returns-in_err-journal_read-clause-kept : goal.returns-in_err-journal_read-clause-kept
+returns-in_err-journal_read-clause-kept g c =
+    let read = c.read_journal-whole in
+    let end = read.new.follower in
+    let first = c.new-captured.result in
+    let o = c.args.opening in
+    let before = g.R.Read.remaining (device_of c.args.journal.now) in
+    let a = taken_of first.end first.file first.first in
+    let b = taken_of end.captured.end end.captured.file end.captured.first in
+    let opens : a ≡ taken_of o.exchange c.args.file.now c.args.first = same_taken first.end o.exchange first.file c.args.file.now first.first c.args.first c.new-captured.ensures.end (c.new-captured.ensures.file ∙ c.take.ensures.value) c.new-captured.ensures.first in
+    let whole : end.sale ≡ None = not_some end.sale c.in_default.not-Some in
+    let some = followed_some _ (is_faulted read.new.device) before (g.R.Read.remaining (device_of read.new.device)) c.of_any_day-wanted.result _ end read.result read.ensures.read in
+    on_err (IsKeptSoFar g.W.Write.contents o.channels c.args.file.now b.file c.args.first o.exchange) c.from_residual.result
+    (kept_so_far g.W.Write.contents o.channels c.args.file.now c.args.first o.exchange some.0 b
+    (taken_whole g.W.Write.contents o.channels o.channels end.channels None end.sale a b c.args.first c.args.file.now o.exchange refl refl opens some.0 some.1 whole))
 
 pub returns-clause-audited : goal.returns-clause-audited
 returns-clause-audited g c =

@@ -1,0 +1,39 @@
+use Rattle.std.proofs.Common.{inl, inr}
+use Rattle.bx_devices.specs.Watching.{device_of}
+use Rattle.bx_journal.specs.Heads.{of_any_day}
+use Rattle.bx_day_openings.proofs.Replays.{if_ok, unopened}
+use Rattle.bx_audit.specs.Audits.{IsDayAudited}
+use Rattle.bx_audit.specs.Inside.{IsAuditedInto}
+use Rattle.bx_audit.proofs.Audited.{opens_with, untold}
+use Rattle.bx_audit.proofs.Handed.{if_err}
+use Rattle.bx_audit.proofs.audited_files.audited_from.Goals as goal
+
+pub returns-in-Err-clause-stopped : goal.returns-in-Err-clause-stopped
+returns-in-Err-clause-stopped g c =
+    let day = c.requires.through in
+    inr (inr (inl ((c.args.first, c.requires.begins), (day.0, day.1, day.2, day.3, unopened c.args.request.journal.now (of_any_day day.2) day.1 day.0 c.in-Err.fault c.in-Err.ensures))))
+
+pub returns-clause-audited : goal.returns-clause-audited
+returns-clause-audited g c =
+    let o = c.in_ok-opening.opening in
+    if_ok (λ audited. IsAuditedInto g.H.File.Write.contents o (g.H.File.Read.remaining (device_of c.in-Ok.journal)) c.in_ok-file.file c.args.first audited.0 audited.1) (λ audited. IsDayAudited g.H.File.Write.contents c.args.request.capture audited.0 audited.1) c.audited_into.result
+    (λ audited told. record {
+      opened = o.exchange;
+      channels = o.channels;
+      digest = o.digest;
+      opens = opens_with c.args.tied.now o c.requires.tied c.in_ok-opening.ensures.opened;
+      first = c.args.first;
+      begins = c.requires.begins;
+      file = c.in_ok-file.file;
+      file_opens = c.in_ok-file.ensures.opened;
+      closed = told.closed;
+      audited = untold g.H.File.Write.contents o.digest o.channels _ c.in_ok-file.file told.closed c.args.first o.exchange audited.0 told.audited;
+      whole = told.whole;
+    }) c.audited_into.ensures.audited
+
+pub returns-clause-stopped : goal.returns-clause-stopped
+returns-clause-stopped g c =
+    let o = c.in_ok-opening.opening in
+    if_err _ _ c.audited_into.result
+    (λ fault refused. inr (inr (inl ((c.args.first, c.requires.begins), (o.exchange, o.channels, o.digest, opens_with c.args.tied.now o c.requires.tied c.in_ok-opening.ensures.opened, refused)))))
+    c.audited_into.ensures.refused
