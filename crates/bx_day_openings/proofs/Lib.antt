@@ -5,3 +5,4 @@ mod Texts
 pub mod ToldJournals
 pub mod Replays
 mod Sold
+mod DayFaults

@@ -1,3 +1,4 @@
+use Rattle.std.proofs.Common.{Err, refl}
 use Rattle.std.proofs.lemmas.Result.{err_from_is_err_and}
 use Rattle.bx_calendar.specs.NamedDays.{IsDayOf}
 use Rattle.bx_calendar.specs.declared.day.Day.{Day}
@@ -6,6 +7,7 @@ use Rattle.bx_day_openings.specs.HoursInside.{IsUnnamed}
 use Rattle.bx_day_openings.specs.declared.fault.DayCommandFault.{DayCommandFault}
 use Rattle.bx_day_openings.specs.declared.fault.DayCommandFault.TheVariants as faults
 use Rattle.bx_request.specs.declared.request.DayHours.{DayHours}
+use Rattle.bx_day_openings.proofs.DayFaults.{day_fault}
 use Rattle.bx_day_openings.proofs.hours.hours_of.Goals as goal
 
 no_hours : (words : DayHours) (day : Day) → IsDayOf words.date.now words.zone.now day → (fault : DayCommandFault) → IsUnnamed day fault → IsNoHours words fault
@@ -26,3 +28,6 @@ returns-clause-hours c = record {
   scheduled_first = search (c.new-2.ensures.first, c.from.ensures);
   scheduled_pace = c.new-2.ensures.pace;
 }
+
+pub returns-in-Err-clause-refused : goal.returns-in-Err-clause-refused
+returns-in-Err-clause-refused c = day_fault c.args.hours.date.now c.args.hours.zone.now (Err c.in-Err.fault) c.in-Err.fault refl c.in-Err.ensures.bad_date c.in-Err.ensures.bad_zone c.in-Err.ensures.out c.in-Err.ensures.odd
