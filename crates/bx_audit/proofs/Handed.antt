@@ -23,6 +23,10 @@ pub on_ok : {A E : Type 0} (P Q : Type 0) (r : Result A E) → (P → Q) → OnO
 on_ok P Q (Ok a) f p = f p
 on_ok P Q (Err e) f p = tt
 
+pub on_both : {A E : Type 0} (P Q R : Type 0) (r : Result A E) → (P → Q → R) → OnOk r P → OnOk r Q → OnOk r R
+on_both P Q R (Ok a) f p q = f p q
+on_both P Q R (Err e) f p q = tt
+
 pub if_err : {A E : Type 0} (P Q : E → Type 0) (r : Result A E) → ((e : E) → P e → Q e) → IfErr r P → IfErr r Q
 if_err P Q (Ok a) f p = tt
 if_err P Q (Err e) f p = f e p
