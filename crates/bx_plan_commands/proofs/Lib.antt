@@ -3,3 +3,4 @@ pub mod Fewer
 pub mod Refusals
 mod Readings
 mod NotedRows
+mod NamedDays
