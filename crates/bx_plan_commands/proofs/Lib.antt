@@ -4,3 +4,5 @@ pub mod Refusals
 mod Readings
 mod NotedRows
 mod NamedDays
+mod SecondHalves
+mod Drawing

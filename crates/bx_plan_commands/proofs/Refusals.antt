@@ -1,5 +1,5 @@
 -- Why nothing was amended, or told of what channels would earn, as the commands say it.
-use Rattle.std.proofs.Common.{◌≡◌, ◌↔◌, ℕ, List, Option, Some, None, Result, Err, subst, sym, ◌∙◌, refl, inl, inr, ◌⊎◌}
+use Rattle.std.proofs.Common.{◌≡◌, ◌↔◌, ℕ, List, Option, Some, None, Result, Err, subst, sym, ◌∙◌, refl, inl, inr}
 use Rattle.std.specs.Prelude.{IfErr}
 use Rattle.bx_base.specs.PlanParts.{Parts}
 use Rattle.bx_plan_commands.specs.PlanRefusals.{IsUntold}
@@ -11,24 +11,11 @@ use Rattle.bx_book.specs.Streams.{IsStreamFault}
 use Rattle.bx_book.specs.declared.stream.StreamFault.{StreamFault}
 use Rattle.bx_book.specs.declared.stream.StreamFault.TheVariants as stream
 use Rattle.bx_devices.specs.Devices.{Reading, Writing}
-use Rattle.bx_devices.specs.declared.watched.Watched.{Watched}
-use Rattle.bx_plan_commands.specs.FileRefusals.{IsWithoutMore, IsNotAmended}
 use Rattle.bx_plan_commands.specs.Inside.{capacity_told_of}
 use Rattle.bx_plan_commands.specs.Tables.{IsTableFault}
-use Rattle.bx_plan_commands.specs.declared.fault.FileFault.{FileFault}
-use Rattle.bx_plan_commands.specs.declared.fault.FileFault.TheVariants as files
 use Rattle.bx_plan_commands.specs.Capacity.{IsCapacityRefusal}
 use Rattle.bx_plan_commands.specs.declared.earning.CapacityFault.{CapacityFault}
 use Rattle.bx_plan_commands.specs.declared.earning.CapacityFault.TheVariants.{Unread, WriteFailed, Memory}
-
-pub without_more : {W : Type 0} (gives : List ℕ → Option (List ℕ) → Type 0) (date zone plan bookings : List ℕ) (contents : W → Option (List ℕ)) (output : Watched W) (fault : FileFault)
-    → IsWithoutMore gives date zone plan bookings fault → IsNotAmended gives date zone plan bookings contents output output fault
-without_more gives date zone plan bookings contents output (files.Amend fault) w = none_amended w.1
-  where
-    none_amended : {A : Type 0} {B : A → Type 0} {C : Type 0} → ⊥ ⊎ ((input : A) × B input × ⊥) → C
-    none_amended (inl p) = absurd p
-    none_amended (inr (input, of_name, p)) = absurd p
-without_more gives date zone plan bookings contents output fault w = (inr (inr w), refl)
 
 pub errors_alike : {A B : Type 0} (f g : B) (P : Type 0) → (◌≡◌ {A = Result A B} (Err f) (Err g) ↔ P) → (f ≡ g) ↔ P
 errors_alike f g P (there, back) = ((λ e. there (cc e)), (λ p. cc (back p)))

@@ -1,10 +1,13 @@
 //! The command that draws a plan.
 
 ghost use Rattle.std.specs.Prelude.{IfOk, IfErr, OnOk};
+ghost use Rattle.bx_base.specs.PlanParts.{parts_of};
 ghost use Rattle.bx_devices.specs.Devices.{writing_of};
+ghost use Rattle.bx_plan_commands.specs.Inside.{IsProvedAlone, IsDrawnWith, IsNotDrawnWith};
 ghost use Rattle.bx_plan_commands.specs.Pictures.{IsPictureClock, IsNoPictureClock, IsPictured, IsNotPictured};
 
 use crate::fault::FileFault;
+use bx_base::Plan;
 use bx_calendar::Clock;
 use bx_chart::write_chart;
 use bx_check_commands::{CommandFault, Inputs, proved_named};
@@ -46,10 +49,25 @@ pub fn chart_file<'a, I: Inputs, W: Write>(
         Ok(plan) => plan,
         Err(fault) => return Err(FileFault::Command(fault)),
     };
-    let Ok(gain) = next_gain(alloc, &plan) else {
+    draw_plan(alloc, &plan, &clock, output)
+}
+
+/// Writes a picture of a plan that has to be proved for its own bookings, with what one more channel would add to its total, and the
+/// hours of the clock where there is one.
+fn draw_plan<'a, W: Write>(
+    alloc: Global,
+    plan: &Plan,
+    clock: &Option<Clock>,
+    output: &mut Watched<W>,
+) -> Result<(), FileFault<'a>>
+    requires proved { IsProvedAlone (parts_of plan.now) }
+    ensures drawn { OnOk result (IsDrawnWith (parts_of plan.now) clock.now (writing_of W.contents output.old output.new)) }
+    ensures refused { IfErr result (IsNotDrawnWith (parts_of plan.now) clock.now W.contents output.old output.new) }
+{
+    let Ok(gain) = next_gain(alloc, plan) else {
         return Err(FileFault::Command(CommandFault::Memory));
     };
-    match write_chart(alloc, &plan, gain, clock.as_ref(), output) {
+    match write_chart(alloc, plan, gain, clock.as_ref(), output) {
         Ok(()) => Ok(()),
         Err(fault) => Err(FileFault::Chart(fault)),
     }

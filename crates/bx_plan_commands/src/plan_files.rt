@@ -1,15 +1,19 @@
 //! The commands that plan, check and amend.
 
 ghost use Rattle.std.specs.Prelude.{◌≡◌, IfErr, IsErr, OnOk};
+ghost use Rattle.bx_base.specs.PlanParts.{parts_of};
 ghost use Rattle.bx_devices.specs.Devices.{writing_of};
 ghost use Rattle.bx_plan_commands.specs.FilePlans.{IsPlanNoted, IsChecked, IsHeldNoted};
 ghost use Rattle.bx_plan_commands.specs.FileRefusals.{IsPlanRefusal, IsCheckRefusal, IsNotAmended};
+ghost use Rattle.bx_plan_commands.specs.Inside.{IsCheckedFor, IsNotCheckedFor, IsHeldWith, IsNotAmendedWith};
 
 use crate::fault::FileFault;
 use crate::inputs::bookings_named;
 use crate::naming::{channels_and_day, day_of};
 use crate::noting::note_too_short;
 use crate::{plan_run, write_amended};
+use bx_base::{Bookings, ChannelSet, Plan};
+use bx_calendar::Day;
 use bx_check_commands::{Inputs, check_against, plan_named};
 use bx_devices::Watched;
 use bx_request::Terms;
@@ -63,11 +67,26 @@ pub fn check_file<'a, I: Inputs, W: Write>(
 {
     let (channels, day) = channels_and_day(terms)?;
     let rows = bookings_named(alloc, inputs, bookings, &day)?;
+    check_named(alloc, inputs, plan, &rows, channels, output)
+}
+
+/// Checks the plan of the input of this name against these bookings and channels, and writes the line of its total.
+fn check_named<'a, I: Inputs, W: Write>(
+    alloc: Global,
+    inputs: &mut I,
+    plan: &'a str,
+    rows: &Bookings,
+    channels: ChannelSet,
+    output: &mut Watched<W>,
+) -> Result<(), FileFault<'a>>
+    ensures checked { OnOk result (IsCheckedFor (I.gives inputs.old) rows.now channels plan.now (writing_of W.contents output.old output.new)) }
+    ensures refused { IfErr result (IsNotCheckedFor (I.gives inputs.old) rows.now channels plan.now W.contents output.old output.new) }
+{
     let mut input = match inputs.open(plan) {
         Ok(input) => input,
         Err(fault) => return Err(FileFault::Command(fault)),
     };
-    match check_against(alloc, plan, &rows, channels, &mut input, output) {
+    match check_against(alloc, plan, rows, channels, &mut input, output) {
         Ok(_) => Ok(()),
         Err(fault) => Err(FileFault::Command(fault)),
     }
@@ -96,8 +115,27 @@ pub fn amend_file<'a, I: Inputs, W: Write, E: Write>(
         Ok(earlier) => earlier,
         Err(fault) => return Err(FileFault::Command(fault)),
     };
-    let more = bookings_named(alloc, inputs, bookings, &day)?;
-    match write_amended(alloc, &earlier, &more, output) {
+    amend_with(alloc, inputs, &day, &earlier, bookings, output, errors)
+}
+
+/// Writes the plan that holds all that the earlier one accepts, for its bookings and those of the day in the input of this name,
+/// and the note on standard error.
+fn amend_with<'a, I: Inputs, W: Write, E: Write>(
+    alloc: Global,
+    inputs: &mut I,
+    day: &Day,
+    earlier: &Plan,
+    bookings: &'a str,
+    output: &mut Watched<W>,
+    errors: &mut Watched<E>,
+) -> Result<(), FileFault<'a>>
+    ensures held { OnOk result (IsHeldWith (I.gives inputs.old) day.now (parts_of earlier.now) bookings.now
+        (writing_of W.contents output.old output.new) (writing_of E.contents errors.old errors.new)) }
+    ensures silent { IsErr result → errors.new ≡ errors.old }
+    ensures refused { IfErr result (IsNotAmendedWith (I.gives inputs.old) day.now (parts_of earlier.now) bookings.now W.contents output.old output.new) }
+{
+    let more = bookings_named(alloc, inputs, bookings, day)?;
+    match write_amended(alloc, earlier, &more, output) {
         Ok(amended) => {
             note_too_short(&amended, errors);
             Ok(())
