@@ -44,6 +44,28 @@ fn most_of(changes: &[(u32, bool)]) -> u64 {
     most
 }
 
+/// Adds the words over the band of the refused calls, the band's edge and its head.
+fn open_refused(piece: &mut Barless, sheet: &Sheet, most: u64) -> Result<(), AllocError> {
+    let top = sheet.refused_top();
+    piece.add_number(b"<text x='56' y='", top - 6)?;
+    piece.add_number(b"'>Refused calls at each moment, ", most)?;
+    piece.add(b" at most</text>\n")?;
+    add_scale(piece, top, most)?;
+    open_band(piece, sheet, top, if most == 0 { 1 } else { most })
+}
+
+/// Adds how many run after each change.
+fn add_levels(piece: &mut Barless, changes: &[(u32, bool)], most: u64) -> Result<(), AllocError> {
+    piece.add_number(b"<path class='refused' d='M0 ", most)?;
+    let mut level = 0;
+    for (moment, rises) in changes {
+        level = level_after(level, *rises);
+        piece.add_number(b"H", u64::from(*moment))?;
+        piece.add_number(b"V", most.saturating_sub(level))?;
+    }
+    piece.add(b"Z'/>\n</svg>\n")
+}
+
 /// Adds the band of how many calls are refused at each moment.
 pub(crate) fn add_refused(
     alloc: Global,
@@ -53,20 +75,8 @@ pub(crate) fn add_refused(
 ) -> Result<(), AllocError> {
     let changes = changes_of(alloc, plan)?;
     let most = most_of(&changes);
-    let top = sheet.refused_top();
-    piece.add_number(b"<text x='56' y='", top - 6)?;
-    piece.add_number(b"'>Refused calls at each moment, ", most)?;
-    piece.add(b" at most</text>\n")?;
-    add_scale(piece, top, most)?;
-    open_band(piece, sheet, top, if most == 0 { 1 } else { most })?;
-    piece.add_number(b"<path class='refused' d='M0 ", most)?;
-    let mut level = 0;
-    for (moment, rises) in &changes {
-        level = level_after(level, *rises);
-        piece.add_number(b"H", u64::from(*moment))?;
-        piece.add_number(b"V", most.saturating_sub(level))?;
-    }
-    piece.add(b"Z'/>\n</svg>\n")
+    open_refused(piece, sheet, most)?;
+    add_levels(piece, &changes, most)
 }
 
 /// Adds the edge of a band and the numbers beside it.
