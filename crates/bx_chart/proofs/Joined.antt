@@ -2,8 +2,15 @@
 use Rattle.std.proofs.Common.{◌≡◌, ℕ, List, ◌++◌, Result, Ok, Err, OnOk, ◌∙◌, ap, append_assoc, []}
 use Rattle.bx_chart.specs.Frames.{row_words, service_words}
 
-pub joined : (head words front bars mid between hours tail a b c d e f text head_text front_text bars_text between_text drawn all : List ℕ) → head_text ≡ head → a ≡ head_text ++ words → b ≡ a ++ front_text → front_text ≡ front → c ≡ b ++ bars_text → bars_text ≡ drawn → drawn ≡ bars → d ≡ c ++ mid → e ≡ d ++ between_text → between_text ≡ between → f ≡ e ++ all → all ≡ hours → text ≡ f ++ tail → text ≡ ((((((head ++ words) ++ front) ++ bars) ++ mid) ++ between) ++ hours) ++ tail
-joined head words front bars mid between hours tail a b c d e f text head_text front_text bars_text between_text drawn all p0 p1 p2 p3 p4 p5 p6 p7 p8 p9 p10 p11 p12 = cc
+pub begun : (head words front first a front_text b : List ℕ) → first ≡ head → a ≡ first ++ words → b ≡ a ++ front_text → front_text ≡ front → b ≡ (head ++ words) ++ front
+begun head words front first a front_text b p0 p1 p2 p3 = cc
+
+pub finished : (old bars mid between hours tail a b d e f : List ℕ) → a ≡ old ++ bars → b ≡ a ++ mid → d ≡ b ++ between → e ≡ d ++ hours → f ≡ e ++ tail → f ≡ ((((old ++ bars) ++ mid) ++ between) ++ hours) ++ tail
+finished old bars mid between hours tail a b d e f p0 p1 p2 p3 p4 = cc
+
+pub whole : (opened bars mid between hours tail first bars_text drawn all text : List ℕ) → first ≡ opened → bars_text ≡ drawn → drawn ≡ bars → all ≡ hours → text ≡ ((((first ++ bars_text) ++ mid) ++ between) ++ all) ++ tail
+    → text ≡ ((((opened ++ bars) ++ mid) ++ between) ++ hours) ++ tail
+whole opened bars mid between hours tail first bars_text drawn all text p0 p1 p2 p3 p4 = cc
 
 -- what holds where a call is done
 pub on_ok : {T E A B : Type 0} (r : Result T E) → (A → B) → OnOk r A → OnOk r B

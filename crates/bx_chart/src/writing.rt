@@ -1,9 +1,13 @@
 //! A picture, written.
 
-ghost use Rattle.std.specs.Prelude.{IfOk, IfErr, OnOk, option_copied};
+ghost use Rattle.std.specs.Prelude.{◌≡◌, ◌++◌, true, codes, IfOk, IfErr, OnOk, option_copied};
 ghost use Rattle.bx_devices.specs.Devices.{writing_of};
 ghost use Rattle.bx_base.specs.PlanParts.{parts_of};
 ghost use Rattle.bx_chart.specs.Charts.{IsChart, IsDrawn, IsChartRefusal};
+ghost use Rattle.bx_chart.specs.Frames.{front, gain_words, head};
+ghost use Rattle.bx_chart.specs.Hours.{hours_in};
+ghost use Rattle.bx_chart.specs.Plain.{is_plain};
+ghost use Rattle.bx_chart.specs.Sheets.{room};
 
 use crate::barless::Barless;
 use crate::bars::bars;
@@ -41,6 +45,37 @@ fn between(alloc: Global, plan: &Plan, sheet: &Sheet) -> Result<Barless, AllocEr
     Ok(piece)
 }
 
+/// The head with the gain, and what stands between that and the bars.
+fn begin(alloc: Global, plan: &Plan, gain: u64, sheet: &Sheet) -> Result<Picture, AllocError>
+    ensures { IfOk result (λ picture. picture.text.items ≡ head (parts_of plan.now) (room sheet.now) ++ gain_words gain ++ front (parts_of plan.now) (room sheet.now)) }
+{
+    let mut picture = head(alloc, plan, sheet)?;
+    add_gain(&mut picture, gain)?;
+    let front = front(alloc, plan, sheet)?;
+    picture.add(front.text())?;
+    Ok(picture)
+}
+
+/// Adds the bars, what stands between them and the hours, and the hours.
+fn finish(
+    picture: &mut Picture,
+    bars: &[u8],
+    between: &[u8],
+    sheet: &Sheet,
+    clock: Option<&Clock>,
+) -> Result<(), AllocError>
+    requires bars { is_plain bars.now ≡ true }
+    requires between { is_plain between.now ≡ true }
+    ensures { OnOk result (picture.new.text.items ≡ picture.old.text.items ++ bars.now ++ codes "</svg>\n" ++ between.now
+        ++ hours_in (room sheet.now) (option_copied clock.entry) ++ codes "</svg>\n") }
+{
+    picture.add(bars)?;
+    picture.add(b"</svg>\n")?;
+    picture.add(between)?;
+    add_hours(picture, sheet, clock)?;
+    picture.add(b"</svg>\n")
+}
+
 /// The whole picture.
 fn chart(
     alloc: Global,
@@ -51,17 +86,10 @@ fn chart(
     ensures { IfOk result (λ picture. IsChart (parts_of plan.now) gain (option_copied clock.entry) picture.text.items) }
 {
     let sheet = Sheet::of(plan, clock);
-    let mut picture = head(alloc, plan, &sheet)?;
-    add_gain(&mut picture, gain)?;
-    let front = front(alloc, plan, &sheet)?;
+    let mut picture = begin(alloc, plan, gain, &sheet)?;
     let bars = bars(alloc, plan, clock)?;
     let between = between(alloc, plan, &sheet)?;
-    picture.add(front.text())?;
-    picture.add(bars.text())?;
-    picture.add(b"</svg>\n")?;
-    picture.add(between.text())?;
-    add_hours(&mut picture, &sheet, clock)?;
-    picture.add(b"</svg>\n")?;
+    finish(&mut picture, bars.text(), between.text(), &sheet, clock)?;
     // Read for the prover alone, which learns a limit from it.
     let _text = picture.text();
     Ok(picture)
