@@ -47,7 +47,8 @@ fn between(alloc: Global, plan: &Plan, sheet: &Sheet) -> Result<Barless, AllocEr
 
 /// The head with the gain, and what stands between that and the bars.
 fn begin(alloc: Global, plan: &Plan, gain: u64, sheet: &Sheet) -> Result<Picture, AllocError>
-    ensures { IfOk result (λ picture. picture.text.items ≡ head (parts_of plan.now) (room sheet.now) ++ gain_words gain ++ front (parts_of plan.now) (room sheet.now)) }
+    ensures { IfOk result (λ picture. picture.text.items ≡ head (parts_of plan.now) (room sheet.now) ++ gain_words gain
+        ++ front (parts_of plan.now) (room sheet.now)) }
 {
     let mut picture = head(alloc, plan, sheet)?;
     add_gain(&mut picture, gain)?;
