@@ -1,12 +1,6 @@
 //! The command line as `clap` knows it.
 
-use crate::arguments::{
-    Argument, BOOKINGS, CAPTURE, CAPTURED_DAY, CHANNELS, DATE, DAY, DAY_ZONE, DRAWN_JOURNAL, END,
-    FAR_DAY, FAR_LINE, FAR_PACE, FAR_TURNS, INWARD, JOURNAL, KEPT_JOURNAL, LIVE, LOGGED_DAY,
-    LOGGED_JOURNAL, NEW_JOURNAL, NO_TOTALS, OCTETS, OFFICE, OFFICE_PORT, PACE, PICTURED_DAY, PLAN,
-    PORT, QUIET, RECORDS, ROW, SCRIPT, SEEN_DAY, SERVED_DAY, SERVED_LINE, SOCKET, START, TURNS,
-    ZONE, arg_of,
-};
+use crate::arguments::{Argument, Day, Journal, arg_of};
 use clap::Command;
 use std::alloc::{AllocError, Global};
 
@@ -55,37 +49,69 @@ static PLAN_COMMANDS: [Words; 7] = [
     Words {
         name: "plan",
         about: "Print the best plan of a day's bookings",
-        arguments: &[DATE, ZONE, CHANNELS, BOOKINGS],
+        arguments: &[
+            Argument::Date(Day::Bookings),
+            Argument::Zone,
+            Argument::Channels,
+            Argument::Bookings,
+        ],
     },
     Words {
         name: "check",
         about: "Check a plan against a day's bookings, and print `proved ` and the total",
-        arguments: &[DATE, ZONE, CHANNELS, BOOKINGS, PLAN],
+        arguments: &[
+            Argument::Date(Day::Bookings),
+            Argument::Zone,
+            Argument::Channels,
+            Argument::Bookings,
+            Argument::Plan,
+        ],
     },
     Words {
         name: "amend",
         about: "Print the best plan that holds all that a plan accepts, for its bookings and more of the day",
-        arguments: &[DATE, ZONE, PLAN, BOOKINGS],
+        arguments: &[
+            Argument::Date(Day::Bookings),
+            Argument::Zone,
+            Argument::Plan,
+            Argument::Bookings,
+        ],
     },
     Words {
         name: "capacity",
         about: "Print what 0 to 30 channels would earn with a day's bookings, and what one more would add to each",
-        arguments: &[DATE, ZONE, BOOKINGS],
+        arguments: &[
+            Argument::Date(Day::Bookings),
+            Argument::Zone,
+            Argument::Bookings,
+        ],
     },
     Words {
         name: "explain",
         about: "Print what each booking that a proved plan refuses pays, and what its seconds cost; or what one of them has to pay to be taken",
-        arguments: &[PLAN, ROW],
+        arguments: &[Argument::Plan, Argument::Row],
     },
     Words {
         name: "quote",
         about: "Print what a further booking has to pay to be taken beside those of a proved plan",
-        arguments: &[PLAN, START, END, INWARD, DAY, DAY_ZONE],
+        arguments: &[
+            Argument::Plan,
+            Argument::Start,
+            Argument::End,
+            Argument::Inward,
+            Argument::Date(Day::Call),
+            Argument::DayZone,
+        ],
     },
     Words {
         name: "chart",
         about: "Print a proved plan as a picture in SVG: what each channel carries, what is refused, and the prices; or its day as it went, by its journal",
-        arguments: &[PLAN, DRAWN_JOURNAL, PICTURED_DAY, DAY_ZONE],
+        arguments: &[
+            Argument::Plan,
+            Argument::Journal(Journal::Drawn),
+            Argument::Date(Day::Picture),
+            Argument::DayZone,
+        ],
     },
 ];
 
@@ -95,71 +121,92 @@ static DAY_COMMANDS: [Words; 7] = [
         name: "day",
         about: "Run both ends of a proved plan's day over one TCP connection to 127.0.0.1, and print what became of each booking; may run long",
         arguments: &[
-            PLAN,
-            SCRIPT,
-            TURNS,
-            NEW_JOURNAL,
-            RECORDS,
-            CAPTURE,
-            SEEN_DAY,
-            DAY_ZONE,
-            QUIET,
+            Argument::Plan,
+            Argument::Script,
+            Argument::Turns,
+            Argument::Journal(Journal::New),
+            Argument::Records,
+            Argument::Capture,
+            Argument::Date(Day::Seen),
+            Argument::DayZone,
+            Argument::Quiet,
         ],
     },
     Words {
         name: "serve",
         about: "Run the exchange's end of a proved plan's day towards the first peer, or by the clock over a data link, and print what became of each booking; may wait and run long",
         arguments: &[
-            PLAN,
-            PORT,
-            SOCKET,
-            LIVE,
-            SERVED_LINE,
-            SERVED_DAY,
-            DAY_ZONE,
-            KEPT_JOURNAL,
-            OFFICE,
-            OFFICE_PORT,
-            PACE,
-            TURNS,
-            RECORDS,
-            CAPTURE,
-            QUIET,
+            Argument::Plan,
+            Argument::Port,
+            Argument::Socket,
+            Argument::Live,
+            Argument::ServedLine,
+            Argument::Date(Day::Served),
+            Argument::DayZone,
+            Argument::Journal(Journal::Kept),
+            Argument::Office,
+            Argument::OfficePort,
+            Argument::Pace,
+            Argument::Turns,
+            Argument::Records,
+            Argument::Capture,
+            Argument::Quiet,
         ],
     },
     Words {
         name: "far",
         about: "Run the far end of a day by a script, towards an exchange that serves, or by the clock over a data link; may wait and run long",
         arguments: &[
-            SCRIPT, PORT, SOCKET, FAR_LINE, FAR_DAY, DAY_ZONE, FAR_PACE, FAR_TURNS, CAPTURE, QUIET,
+            Argument::Script,
+            Argument::Port,
+            Argument::Socket,
+            Argument::FarLine,
+            Argument::Date(Day::Far),
+            Argument::DayZone,
+            Argument::FarPace,
+            Argument::FarTurns,
+            Argument::Capture,
+            Argument::Quiet,
         ],
     },
     Words {
         name: "audit",
         about: "Print what became of each booking of a proved plan by the journal of its day, and capture that day afterwards",
-        arguments: &[PLAN, JOURNAL, CAPTURE, CAPTURED_DAY, DAY_ZONE],
+        arguments: &[
+            Argument::Plan,
+            Argument::Journal(Journal::File),
+            Argument::Capture,
+            Argument::Date(Day::Captured),
+            Argument::DayZone,
+        ],
     },
     Words {
         name: "records",
         about: "Print the records of a proved plan's day by its journal, as CSV for bills and spreadsheets, and their totals",
-        arguments: &[PLAN, LOGGED_JOURNAL, LOGGED_DAY, DAY_ZONE, NO_TOTALS],
+        arguments: &[
+            Argument::Plan,
+            Argument::Journal(Journal::Read),
+            Argument::Date(Day::Logged),
+            Argument::DayZone,
+            Argument::NoTotals,
+        ],
     },
     Words {
         name: "sold",
         about: "Print the last plan of a proved plan's day by its journal: its bookings, and after them those that were sold while it ran",
-        arguments: &[PLAN, LOGGED_JOURNAL],
+        arguments: &[Argument::Plan, Argument::Journal(Journal::Read)],
     },
     Words {
         name: "decode",
         about: "Print the type, the reference and the elements of a Q.931 message",
-        arguments: &[OCTETS],
+        arguments: &[Argument::Octets],
     },
 ];
 
 fn command_of<'a>(alloc: Global, words: &Words) -> Result<Command<'a>, AllocError> {
     let mut command = Command::new(alloc, words.name).about(words.about);
     for argument in words.arguments {
-        command = command.arg(arg_of(alloc, argument)?)?;
+        command = command.arg(arg_of(alloc, *argument)?)?;
     }
     Ok(command)
 }
