@@ -159,7 +159,8 @@ const QUIET: &str =
 
 const NO_TOTALS: &str = "Print no totals, which else stand on standard error";
 
-/// The name of an argument.
+/// The name of an argument. It and the texts below live as long as the caller likes: of a `'static` one that a function
+/// answers the borrow checker makes no `Arg<'a>`.
 fn name_of<'a>(argument: Argument) -> &'a str {
     match argument {
         Argument::Date(_) => "date",

@@ -44,8 +44,8 @@ struct Words {
     arguments: &'static [Argument],
 }
 
-/// Those on bookings and plans.
-static PLAN_COMMANDS: [Words; 7] = [
+/// The commands: those on bookings and plans, then those on days and their messages.
+static COMMANDS: [Words; 14] = [
     Words {
         name: "plan",
         about: "Print the best plan of a day's bookings",
@@ -113,10 +113,6 @@ static PLAN_COMMANDS: [Words; 7] = [
             Argument::DayZone,
         ],
     },
-];
-
-/// Those on days and their messages.
-static DAY_COMMANDS: [Words; 7] = [
     Words {
         name: "day",
         about: "Run both ends of a proved plan's day over one TCP connection to 127.0.0.1, and print what became of each booking; may run long",
@@ -213,43 +209,30 @@ fn command_of<'a>(alloc: Global, words: &Words) -> Result<Command<'a>, AllocErro
 
 /// The program's name, help and version.
 fn program<'a>(alloc: Global) -> Result<Command<'a>, AllocError> {
-    Ok(
-        Command::new(alloc, "bx")
-            .no_binary_name(true)
-            .bin_name("bx")?
-            .override_usage(USAGE)
-            .subcommand_required(true)
-            .version(VERSION)
-            .about(ABOUT)
-            .after_help(AFTER),
-    )
+    Command::new(alloc, "bx")
+        .no_binary_name(true)
+        .override_usage(USAGE)
+        .subcommand_required(true)
+        .version(VERSION)
+        .about(ABOUT)
+        .after_help(AFTER)
+        .bin_name("bx")
 }
 
-/// The program with these commands.
-fn with_commands<'a>(
+/// The program with this command.
+fn with_command<'a>(
     alloc: Global,
     program: Command<'a>,
-    commands: &[Words],
+    words: &Words,
 ) -> Result<Command<'a>, AllocError> {
-    let mut all = program;
-    for words in commands {
-        all = all.subcommand(command_of(alloc, words)?)?;
-    }
-    Ok(all)
-}
-
-/// The program with the commands on bookings and plans.
-fn with_plans<'a>(alloc: Global, program: Command<'a>) -> Result<Command<'a>, AllocError> {
-    with_commands(alloc, program, &PLAN_COMMANDS)
-}
-
-/// The program with the commands on days and their messages.
-fn with_days<'a>(alloc: Global, program: Command<'a>) -> Result<Command<'a>, AllocError> {
-    with_commands(alloc, program, &DAY_COMMANDS)
+    program.subcommand(command_of(alloc, words)?)
 }
 
 /// The program with its commands.
 pub(crate) fn program_of_words<'a>(alloc: Global) -> Result<Command<'a>, AllocError> {
-    let program = program(alloc)?;
-    with_days(alloc, with_plans(alloc, program)?)
+    let mut program = program(alloc)?;
+    for words in &COMMANDS {
+        program = with_command(alloc, program, words)?;
+    }
+    Ok(program)
 }
