@@ -1,3 +1,1 @@
-pub mod Uses
-pub mod Locations
 pub mod Statuses

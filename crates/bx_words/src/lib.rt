@@ -6,7 +6,8 @@ mod channel_list;
 mod command_line;
 mod faults;
 mod line_ports;
+mod meanings;
 mod reading;
 
-pub use faults::FAULTS;
+pub use meanings::explain_fault;
 pub use reading::{Refusal, read_words};

@@ -1,8 +1,8 @@
 //! What a fault means, as a person would say it: for a terminal.
 
-use crate::uses::{FileKind, FileUse};
+use crate::faults::FAULTS;
 use bx_devices::Watched;
-use bx_words::FAULTS;
+use bx_request::{FileKind, FileUse};
 use std::io;
 use std::io::Write;
 

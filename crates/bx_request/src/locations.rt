@@ -1,7 +1,7 @@
 //! Where the files of names stand.
 
 ghost use Rattle.std.specs.Prelude.{◌↔◌, ℕ, List, Option, IsTrue};
-ghost use Rattle.bx_cli.specs.Locations.{IsOneLocation};
+ghost use Rattle.bx_request.specs.Locations.{IsOneLocation};
 
 use std::fs;
 use std::fs::{File, Files};
@@ -28,7 +28,7 @@ impl<'a> Location<'a> {
 
 /// A system that tells where the files of names stand.
 pub trait Locates: Files {
-    ghost use Rattle.bx_cli.specs.declared.locations.Location.{Location as PlainLocation};
+    ghost use Rattle.bx_request.specs.declared.locations.Location.{Location as PlainLocation};
 
     /// It has told this of a name.
     ghost tells: { Self → List ℕ → Option PlainLocation → Type 0 };

@@ -2,9 +2,9 @@
 use Rattle.std.proofs.Common.{◌≡◌, ℕ, ◌+◌, ◌<◌, Bool, List, ◌∷◌, length, Option, Some, None, get_or, drop, drop-cons, add-one, inl, inr, sym, subst, refl}
 use Rattle.std.specs.List.{All}
 use Rattle.std.proofs.lemmas.List.Elements.{All-cons}
-use Rattle.bx_cli.specs.Locations.{Meets, MeetsAny, HaveMet, IsApart, AreApart}
-use Rattle.bx_cli.specs.declared.locations.Location.{Location}
-use Rattle.bx_cli.specs.declared.uses.FileUse.{FileUse}
+use Rattle.bx_request.specs.Locations.{Meets, MeetsAny, HaveMet, IsApart, AreApart}
+use Rattle.bx_request.specs.declared.locations.Location.{Location}
+use Rattle.bx_request.specs.declared.uses.FileUse.{FileUse}
 
 next_use : (xs : List (Option FileUse)) (k : ℕ) (o : Option FileUse) → k < length xs → get_or xs k None ≡ o → drop k xs ≡ o ∷ drop (k + 1) xs
 next_use xs k o within is = subst (λ (p : Option FileUse). drop k xs ≡ p ∷ drop (k + 1) xs) is (rw add-one (drop-cons xs k None within))

@@ -1,9 +1,9 @@
 //! The files that a command uses.
 
 ghost use Rattle.std.specs.Prelude.{◌≡◌, ◌∷◌, [], None};
-ghost use Rattle.bx_cli.specs.Uses.{capture_use, files_of, peer_use, read_use, records_use, uses_of, written_use};
+ghost use Rattle.bx_request.specs.Uses.{capture_use, files_of, peer_use, read_use, records_use, uses_of, written_use};
 
-use bx_request::{CaptureWords, FileRequest, Peer, RecordsWords, Request};
+use crate::request::{CaptureWords, FileRequest, Peer, RecordsWords, Request};
 
 /// What a file of a command has.
 #[derive(Clone, Copy)]

@@ -1,7 +1,7 @@
 use Rattle.std.proofs.Common.{ℕ, List, drop}
 use Rattle.std.specs.List.{All}
-use Rattle.bx_cli.specs.Locations.{IsApart, MeetsAny}
-use Rattle.bx_cli.proofs.meetings.met_by.Given as goal
+use Rattle.bx_request.specs.Locations.{IsApart, MeetsAny}
+use Rattle.bx_request.proofs.meetings.met_by.Given as goal
 
 -- what holds of the files that are left holds of all
 abbrev pub invariant-loop-file : goal.invariant-loop-file

@@ -1,6 +1,6 @@
 use Rattle.std.proofs.Common.{ℕ, List, drop}
-use Rattle.bx_cli.specs.Locations.{AreApart, HaveMet}
-use Rattle.bx_cli.proofs.meetings.met_among.Given as goal
+use Rattle.bx_request.specs.Locations.{AreApart, HaveMet}
+use Rattle.bx_request.proofs.meetings.met_among.Given as goal
 
 -- what holds of the files that are left holds of all
 abbrev pub invariant-loop-place : goal.invariant-loop-place

@@ -1,9 +1,9 @@
 -- The files that a command uses, those that it reads before those that it writes.
 use Rattle.std.specs.Prelude.{ℕ, true, false, List, [], ◌∷◌, Option, Some, None}
 use Rattle.std.specs.Borrow.{Bor}
-use Rattle.bx_cli.specs.declared.uses.FileKind.{FileKind}
-use Rattle.bx_cli.specs.declared.uses.FileKind.TheVariants as kinds
-use Rattle.bx_cli.specs.declared.uses.FileUse.{FileUse}
+use Rattle.bx_request.specs.declared.uses.FileKind.{FileKind}
+use Rattle.bx_request.specs.declared.uses.FileKind.TheVariants as kinds
+use Rattle.bx_request.specs.declared.uses.FileUse.{FileUse}
 use Rattle.bx_request.specs.declared.request.CaptureWords.{CaptureWords}
 use Rattle.bx_request.specs.declared.request.FileRequest.{FileRequest}
 use Rattle.bx_request.specs.declared.request.FileRequest.TheVariants.{Plan, Check, Amend, Capacity, Explain, Quote, Chart}

@@ -1,11 +1,11 @@
 //! Files that a command would destroy, since they are named twice.
 
 ghost use Rattle.std.specs.Prelude.{◌≡◌, ◌⊎◌, None, Some, All, IfSome, IsTrue, true, false};
-ghost use Rattle.bx_cli.specs.Locations.{AreApart, HaveMet, IsApart, IsMet, Meets, MeetsAny, NoFileMeets};
+ghost use Rattle.bx_request.specs.Locations.{AreApart, HaveMet, IsApart, IsMet, Meets, MeetsAny, NoFileMeets};
 
 use crate::locations::Locates;
+use crate::request::Request;
 use crate::uses::{FileUse, named_files};
-use bx_request::Request;
 use std::fmt;
 use std::fmt::{Display, Formatter};
 

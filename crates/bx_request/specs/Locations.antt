@@ -1,8 +1,8 @@
 -- Files that are one, by where they stand.
 use Rattle.std.specs.Prelude.{◌≡◌, ◌⊎◌, ⊤, ℕ, Bool, false, true, List, [], ◌∷◌, Option, Some, None, codes, All}
-use Rattle.bx_cli.specs.Uses.{uses_of}
-use Rattle.bx_cli.specs.declared.locations.Location.{Location}
-use Rattle.bx_cli.specs.declared.uses.FileUse.{FileUse}
+use Rattle.bx_request.specs.Uses.{uses_of}
+use Rattle.bx_request.specs.declared.locations.Location.{Location}
+use Rattle.bx_request.specs.declared.uses.FileUse.{FileUse}
 use Rattle.bx_request.specs.declared.request.Request.{Request}
 
 -- both are one place on one device
