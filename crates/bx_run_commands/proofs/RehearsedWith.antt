@@ -1,26 +1,22 @@
 -- A rehearsal with the peer of the words.
-use Rattle.std.proofs.Common.{ℕ, List, Option, ap, sym, subst}
+use Rattle.std.proofs.Common.{ℕ, List, Option, ap, inl, inr, sym, subst}
 use Rattle.std.specs.Borrow.{Bor}
-use Rattle.std.specs.declared.net.TcpStream.{TcpStream}
-use Rattle.std.specs.declared.os.unix.net.UnixStream.{UnixStream}
 use Rattle.bx_calendar.specs.declared.clock.Clock.{Clock}
 use Rattle.bx_day.specs.Day.{Day}
 use Rattle.bx_day_openings.specs.CaptureOpenings.{IsFirstOf}
-use Rattle.bx_day_openings.specs.Openings.{IsFarOpening}
 use Rattle.bx_day_openings.specs.declared.recording.RecordsFile.{RecordsFile}
 use Rattle.bx_devices.specs.declared.watched.Watched.{Watched}
 use Rattle.bx_far.specs.FarDay.{FarDay}
 use Rattle.bx_request.specs.declared.request.Peer.{Peer}
-use Rattle.bx_request.specs.declared.request.Peer.TheVariants.{Script, At}
-use Rattle.bx_request.specs.declared.request.Place.TheVariants.{Port, Socket}
 use Rattle.bx_request.specs.declared.request.RehearsalRequest.{RehearsalRequest}
 use Rattle.bx_journal.specs.declared.head.Head.{Head}
 use Rattle.bx_journal.specs.Files.{holds_unknown, may_leave_any, has_failed_in}
 use Rattle.bx_day_openings.specs.TiedDays.{IsTiedDay}
-use Rattle.bx_run_commands.specs.ReadyInside.{IsReadied}
-use Rattle.bx_run_commands.specs.RehearsedDays.{Known, Stream, RanWith, RehearsalWith}
+use Rattle.bx_run_commands.specs.ReadyInside.{IsReadied, IsNotReadied}
+use Rattle.bx_run_commands.specs.RehearsalRefusals.{StopsAfterPeer}
+use Rattle.bx_run_commands.specs.declared.fault.LiveFault.{LiveFault}
+use Rattle.bx_run_commands.specs.RehearsedDays.{Known, Stream, RanBoth, RanWith, RehearsalWith}
 use Rattle.bx_world.specs.BothEnds.{IsOpening, WroteNear, GaveBoth, PartedBoth}
-use Rattle.bx_world.specs.Peers.{WroteTo, GaveFrom, PartedFrom}
 use Rattle.bx_world.specs.declared.both_ends.BothEnds.{BothEnds}
 use Rattle.bx_run_commands.specs.Rehearsals.{RehearsesTowards}
 use Rattle.bx_run_commands.specs.JournalDisks.{JournalDisk}
@@ -34,7 +30,7 @@ module _ {F : Type 0} (files : F → Option (List ℕ)) (request : RehearsalRequ
       (subst (λ (digest : List ℕ). IsTiedDay request.turns opened.exchange digest opening.turns) (sym (ap (λ (h : Head). h.plan) ready.head))
       (subst (λ (day : Day). IsTiedDay request.turns day opening.digest opening.turns) (sym ready.exchange) opens))
 
-  with_peer : (peer : Peer) → RanWith files peer opened file second rehearsed → RehearsalWith files peer request rehearsed
+  pub with_peer : (peer : Peer) → RanWith files peer opened file second rehearsed → RehearsalWith files peer request rehearsed
   with_peer peer ran = record {
     opened = opened;
     opens = tied;
@@ -47,13 +43,15 @@ module _ {F : Type 0} (files : F → Option (List ℕ)) (request : RehearsalRequ
     ran = ran;
   }
 
-  pub with_script : (script : Bor (List ℕ)) (far : FarDay) → IsFarOpening far → (remaining contents far_remaining far_contents : Known TcpStream) {near distant : Stream TcpStream} {both : BothEnds (Bor TcpStream) (Bor TcpStream) (Bor TcpStream) (Bor TcpStream)} → IsOpening near far distant both
-      → RehearsesTowards (WroteNear contents) (GaveBoth remaining far_remaining far_contents) (PartedBoth contents far_remaining far_contents) holds_unknown may_leave_any has_failed_in files opened both file second rehearsed → RehearsalWith files (Script script) request rehearsed
-  with_script script far far_opens remaining contents far_remaining far_contents {near = near} {distant = distant} {both = both} opens_both ran =
-      with_peer (Script script) (far, far_opens, record { remaining = remaining; contents = contents; far_remaining = far_remaining; far_contents = far_contents; near = near; distant = distant; both = both; opens = opens_both; ran = ran })
+-- a far end of the same process is met, and the day was rehearsed with it
+module _ {S F : Type 0} (files : F → Option (List ℕ)) (far : FarDay) (opened : Opened (JournalDisk F)) (file : Option (Watched F)) (first : ℕ) (rehearsed : Rehearsed (JournalDisk F)) where
+  pub ran_both : (remaining contents far_remaining far_contents : Known S) {near distant : Stream S} {both : BothEnds (Bor S) (Bor S) (Bor S) (Bor S)} → IsOpening near far distant both
+      → RehearsesTowards (WroteNear contents) (GaveBoth remaining far_remaining far_contents) (PartedBoth contents far_remaining far_contents) holds_unknown may_leave_any has_failed_in files opened both file first rehearsed → RanBoth S files far opened file first rehearsed
+  ran_both remaining contents far_remaining far_contents {near = near} {distant = distant} {both = both} opens ran =
+      record { remaining = remaining; contents = contents; far_remaining = far_remaining; far_contents = far_contents; near = near; distant = distant; both = both; opens = opens; ran = ran }
 
-  pub with_port : (port : ℕ) (remaining contents : Known TcpStream) {connection : Stream TcpStream} → RehearsesTowards (WroteTo contents) (GaveFrom remaining) (PartedFrom contents) holds_unknown may_leave_any has_failed_in files opened connection file second rehearsed → RehearsalWith files (At (Port port)) request rehearsed
-  with_port port remaining contents {connection = connection} ran = with_peer (At (Port port)) (remaining, contents, (connection, ran))
-
-  pub with_socket : (path : Bor (List ℕ)) (remaining contents : Known UnixStream) {connection : Stream UnixStream} → RehearsesTowards (WroteTo contents) (GaveFrom remaining) (PartedFrom contents) holds_unknown may_leave_any has_failed_in files opened connection file second rehearsed → RehearsalWith files (At (Socket path)) request rehearsed
-  with_socket path remaining contents {connection = connection} ran = with_peer (At (Socket path)) (remaining, contents, (connection, ran))
+-- a day that is not ready stops
+pub unready : {F : Type 0} (files : F → Option (List ℕ)) (peer : Peer) (request : RehearsalRequest) (fault : LiveFault) → IsNotReadied files request fault → StopsAfterPeer files peer request fault
+unready files peer request fault (inl journal) = inl journal
+unready files peer request fault (inr (inl capture)) = inr (inl capture)
+unready files peer request fault (inr (inr records)) = inr (inr (inl records))

@@ -6,11 +6,12 @@ ghost use Rattle.bx_day_openings.specs.CaptureOpenings.{IsFirstOf};
 ghost use Rattle.bx_day_openings.specs.Recording.{IsRecordsClock, IsRecordsFileFor, IsMade};
 ghost use Rattle.bx_journal.specs.Files.{holds_unknown, may_leave_any, has_failed_in};
 ghost use Rattle.bx_run_commands.specs.OpeningFaults.{IsUnlogged};
+ghost use Rattle.bx_day_openings.specs.OpeningRefusals.{IsUnheard};
 ghost use Rattle.bx_run_commands.specs.Rehearsals.{RehearsesTowards};
 ghost use Rattle.bx_run_commands.specs.ReadyInside.{IsReadied, IsNotReadied, IsEnded, IsLostBy};
-ghost use Rattle.bx_run_commands.specs.RehearsedDays.{IsRehearsedDay, IsRehearsalDone};
+ghost use Rattle.bx_run_commands.specs.RehearsedDays.{IsRehearsedDay, IsRehearsalDone, RanBoth, RanWith};
 ghost use Rattle.bx_run_commands.specs.RehearsalRefusals.{IsUnseen, StopsRehearsal, IsRehearsalRefusal};
-ghost use Rattle.bx_run_commands.specs.PeersInside.{IsRehearsedFrom, StopsAtPeerByClock, StopsAfterPeerByClock};
+ghost use Rattle.bx_run_commands.specs.PeersInside.{IsRehearsedFrom, IsUnmetHere, StopsMeeting, StopsAtPeerByClock, StopsAfterPeerByClock};
 ghost use Rattle.bx_devices.specs.Devices.{writing_of};
 
 use crate::fault::{LiveFault, unlogged};
@@ -26,11 +27,13 @@ use bx_day_openings::{
     file_of, first_of, records_clock_of, records_file_of, tied_opening,
 };
 use bx_devices::Watched;
+use bx_far::Far;
 use bx_journal::{Head, JournalDay};
 use bx_link::Connection;
 use bx_request::{Peer as Asked, Place, RehearsalRequest};
 use bx_world::{BothEnds, Peer};
 use std::io::{Read, Write};
+use std::net::TcpStream;
 
 /// What the words of a rehearsal say of its time and of what is seen: the second that moment 0 has in a capture, the clock of the
 /// records, and whether the moment is shown.
@@ -125,7 +128,54 @@ fn rehearse_named<'a, 'h, H: Host, P: Peer + Drop>(
     }
 }
 
-/// Rehearses an opened day with the far end of a script, over one TCP connection.
+/// Rehearses a day with a far end, over one TCP connection between both.
+fn rehearse_both<'a, 'h, H: Host>(
+    rt: &'h H,
+    opened: Opened<JournalDisk<H::File>>,
+    far: Far,
+    view: View<'a, H::File>,
+    journal: Option<&'a str>,
+) -> Result<Rehearsed<JournalDisk<H::File>>, LiveFault<'a>>
+    requires limit { view.first ≤ LAST_START }
+    requires kept { is_some opened.disk ≡ is_some journal }
+    ensures ran { IfOk result (RanBoth TcpStream H.File.contents far opened view.entry.file view.entry.first) }
+    ensures stopped { IfErr result (StopsMeeting IsUnmetHere journal.entry) }
+{
+    let (near, distant) = connected_ends(rt)?;
+    let both = BothEnds::new(
+        connection(&near, &near),
+        far,
+        connection(&distant, &distant),
+    );
+    rehearse_named(rt, opened, both, view, journal)
+}
+
+/// Rehearses a day towards the first peer that connects to a port or a socket.
+fn rehearse_first<'a, 'h, H: Host>(
+    rt: &'h H,
+    place: Place<'a>,
+    opened: Opened<JournalDisk<H::File>>,
+    view: View<'a, H::File>,
+    journal: Option<&'a str>,
+) -> Result<Rehearsed<JournalDisk<H::File>>, LiveFault<'a>>
+    requires limit { view.first ≤ LAST_START }
+    requires kept { is_some opened.disk ≡ is_some journal }
+    ensures ran { IfOk result (RanWith H.File.contents (Asked.At place.entry) opened view.entry.file view.entry.first) }
+    ensures stopped { IfErr result (StopsMeeting IsUnheard journal.entry) }
+{
+    match place {
+        Place::Port(port) => {
+            let peer = accepted(rt, port, view.is_shown)?;
+            rehearse_named(rt, opened, connection(&peer, &peer), view, journal)
+        }
+        Place::Socket(path) => {
+            let peer = accepted_at(rt, path, view.is_shown)?;
+            rehearse_named(rt, opened, connection(&peer, &peer), view, journal)
+        }
+    }
+}
+
+/// Rehearses an opened day with the far end of a script.
 fn rehearse_script<'a, H: Host, I: Inputs>(
     rt: &H,
     inputs: &mut I,
@@ -141,18 +191,12 @@ fn rehearse_script<'a, H: Host, I: Inputs>(
 {
     let far = far_end_of(rt.alloc(), inputs, script)?;
     let ready = readied(rt, request, opening, seen)?;
-    let (near, distant) = connected_ends(rt)?;
     let Ready {
         opened,
         view,
         records,
     } = ready;
-    let both = BothEnds::new(
-        connection(&near, &near),
-        far,
-        connection(&distant, &distant),
-    );
-    let rehearsed = rehearse_named(rt, opened, both, view, request.journal)?;
+    let rehearsed = rehearse_both(rt, opened, far, view, request.journal)?;
     Ok(Run { rehearsed, records })
 }
 
@@ -175,16 +219,7 @@ fn rehearse_at<'a, H: Host>(
         view,
         records,
     } = ready;
-    let rehearsed = match place {
-        Place::Port(port) => {
-            let peer = accepted(rt, port, seen.is_shown)?;
-            rehearse_named(rt, opened, connection(&peer, &peer), view, request.journal)?
-        }
-        Place::Socket(path) => {
-            let peer = accepted_at(rt, path, seen.is_shown)?;
-            rehearse_named(rt, opened, connection(&peer, &peer), view, request.journal)?
-        }
-    };
+    let rehearsed = rehearse_first(rt, place, opened, view, request.journal)?;
     Ok(Run { rehearsed, records })
 }
 

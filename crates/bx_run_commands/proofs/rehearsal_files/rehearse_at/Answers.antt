@@ -1,19 +1,24 @@
-use Rattle.std.proofs.Common.{sym, subst}
+use Rattle.std.proofs.Common.{inr}
+use Rattle.std.proofs.lemmas.Result.{err_from_is_err_and}
 use Rattle.bx_request.specs.declared.request.Peer.TheVariants.{At}
-use Rattle.bx_request.specs.declared.request.Place.{Place}
-use Rattle.bx_run_commands.specs.RehearsedDays.{RehearsalWith}
-use Rattle.bx_run_commands.proofs.RehearsedWith.{with_port, with_socket}
+use Rattle.bx_run_commands.proofs.RehearsedWith.{unready, with_peer}
 use Rattle.bx_run_commands.proofs.rehearsal_files.rehearse_at.Goals as goal
-use Rattle.bx_run_commands.proofs.rehearsal_files.rehearse_at.Goals.{in-Port+in_ok-peer-in-Port+in_ok-rehearsed-in-Port, in-Socket+in_ok-peer-in-Socket+in_ok-rehearsed-in-Socket}
 
 pub returns-clause-ran : goal.returns-clause-ran
 returns-clause-ran g c = λ begins opens.
     let ready = c.in_ok-ready.ready in
-    elim c.match-place.branch [
-      | in-Port+in_ok-peer-in-Port+in_ok-rehearsed-in-Port w ↦ rw w.rehearsed-is
-          (subst (λ (place : Place). RehearsalWith g.H.File.Write.contents (At place) c.args.request w.in_ok-rehearsed-in-Port.rehearsed) (sym w.in-Port.is)
-          (with_port g.H.File.Write.contents c.args.request c.args.opening c.args.seen.first ready.opened ready.view.file ready.view.first c.args.seen.clock ready.records c.in_ok-ready.ensures.readied begins opens w.in_ok-rehearsed-in-Port.rehearsed w.in-Port.port _ _ w.in_ok-rehearsed-in-Port.ensures.ran))
-      | in-Socket+in_ok-peer-in-Socket+in_ok-rehearsed-in-Socket w ↦ rw w.rehearsed-is
-          (subst (λ (place : Place). RehearsalWith g.H.File.Write.contents (At place) c.args.request w.in_ok-rehearsed-in-Socket.rehearsed) (sym w.in-Socket.is)
-          (with_socket g.H.File.Write.contents c.args.request c.args.opening c.args.seen.first ready.opened ready.view.file ready.view.first c.args.seen.clock ready.records c.in_ok-ready.ensures.readied begins opens w.in_ok-rehearsed-in-Socket.rehearsed w.in-Socket.path _ _ w.in_ok-rehearsed-in-Socket.ensures.ran))
-    ]
+    with_peer g.H.File.Write.contents c.args.request c.args.opening c.args.seen.first ready.opened ready.view.file ready.view.first c.args.seen.clock ready.records c.in_ok-ready.ensures.readied begins opens c.in_ok-rehearsed.rehearsed
+    (At c.args.place) c.in_ok-rehearsed.ensures.ran
+
+pub returns-in_err-ready-clause-stopped : goal.returns-in_err-ready-clause-stopped
+returns-in_err-ready-clause-stopped g c =
+    let p = err_from_is_err_and c.from_residual.result c.from_residual.ensures.1 in
+    rw (p.1, p.2) (λ clock. unready g.H.File.Write.contents (At c.args.place) c.args.request c.in_err-ready.field-0.0 c.in_err-ready.ensures.refused)
+
+pub returns-in_err-rehearsed-clause-stopped : goal.returns-in_err-rehearsed-clause-stopped
+returns-in_err-rehearsed-clause-stopped g c =
+    let p = err_from_is_err_and c.from_residual-in_err-rehearsed.result c.from_residual-in_err-rehearsed.ensures.1 in
+    rw (p.1, p.2) (λ clock. inr (inr (inr ((_, c.in_ok-ready.ensures.readied.file_opens), (_, (_, clock, c.in_ok-ready.ensures.readied.records_open)), c.in_err-rehearsed.ensures.stopped))))
+
+pub returns-clause-records : goal.returns-clause-records
+returns-clause-records g c = c.in_ok-ready.ensures.readied.records_open
