@@ -19,11 +19,11 @@ use Rattle.bx_far_commands.specs.CapturedDays.{IsFarDone}
 use Rattle.bx_far_commands.specs.FarRefusals.{IsFarRefusal}
 use Rattle.bx_far_commands.specs.LineDays.{IsFarLineDone}
 use Rattle.bx_far_commands.specs.LineRefusals.{IsFarLineRefusal}
-use Rattle.bx_run_commands.specs.LiveDays.{IsLiveTold}
-use Rattle.bx_run_commands.specs.LiveRefusals.{IsLiveRefusal}
-use Rattle.bx_run_commands.specs.RehearsedDays.{IsRehearsalTold}
-use Rattle.bx_run_commands.specs.RehearsalRefusals.{IsRehearsalRefusal}
-use Rattle.bx_run_commands.specs.declared.fault.LiveFault.{LiveFault}
+use Rattle.bx_live_commands.specs.LiveDays.{IsLiveTold}
+use Rattle.bx_live_commands.specs.LiveRefusals.{IsLiveRefusal}
+use Rattle.bx_rehearsal_commands.specs.RehearsedDays.{IsRehearsalTold}
+use Rattle.bx_rehearsal_commands.specs.RehearsalRefusals.{IsRehearsalRefusal}
+use Rattle.bx_journal_files.specs.declared.fault.LiveFault.{LiveFault}
 use Rattle.bx_plan_commands.specs.FileRequests as plans
 use Rattle.bx_plan_commands.specs.declared.fault.FileFault.{FileFault}
 use Rattle.bx_request.specs.declared.request.Request.{Request}

@@ -1,0 +1,5 @@
+pub mod Results
+pub mod NoOutput
+pub mod Unkept
+pub mod Going
+mod ReadyJournals

@@ -1,0 +1,6 @@
+pub mod OpeningFaults
+pub mod JournalDisks
+pub mod NewJournals
+pub mod NewJournalsInside
+pub mod Readying
+pub mod Resuming

@@ -1,0 +1,55 @@
+//! Why a day that is logged was not run to its end.
+
+ghost use Rattle.std.specs.Prelude.{◌≡◌, true, is_some};
+ghost use Rattle.bx_journal_files.specs.OpeningFaults.{IsUnlogged};
+
+use bx_day_openings::DayCommandFault;
+use thiserror::Error;
+
+/// The refusal of a command that runs a day with what happens logged.
+#[derive(Clone, Copy, Debug, PartialEq, Eq, Error)]
+pub enum LiveFault<'a> {
+    /// What is needed was not opened, or the day was not told.
+    #[error(transparent)]
+    Day(DayCommandFault<'a>),
+    /// The plan of a live day is not first fit: a booking that is sold might take the channel of a call that is up.
+    #[error("D1 NotFirstFit")]
+    NotFirstFit,
+    /// The journal of this name, which is to be a new one, is there and not empty.
+    #[error("J3 NotEmpty {0}")]
+    NotEmpty(&'a str),
+    /// Another program writes the journal of this name.
+    #[error("J6 InUse {0}")]
+    InUse(&'a str),
+    /// What is to be the journal of this name is no plain file.
+    #[error("J7 NotAFile {0}")]
+    NotAFile(&'a str),
+    /// The journal of this name cannot be opened to write it, or a write, a cut or a sync of it failed.
+    #[error("J4 CannotRecord {0}")]
+    CannotRecord(&'a str),
+    /// The day has no more seconds, and a call is up.
+    #[error("L10 StillUp")]
+    StillUp,
+}
+
+impl<'a> From<DayCommandFault<'a>> for LiveFault<'a> {
+    ghost use Rattle.std.specs.Prelude.{◌≡◌};
+    ghost use Rattle.bx_journal_files.specs.declared.fault.LiveFault.TheVariants.{Day as OfDay};
+
+    ghost from_gives = { λ fault told. told ≡ OfDay fault };
+
+    fn from(fault: DayCommandFault<'a>) -> LiveFault<'a> {
+        LiveFault::Day(fault)
+    }
+}
+
+/// The fault by which something cannot be logged in a journal that is kept.
+pub fn unlogged<'a>(journal: Option<&'a str>) -> LiveFault<'a>
+    requires { is_some journal ≡ true }
+    ensures { IsUnlogged journal.entry result }
+{
+    match journal {
+        Some(name) => LiveFault::CannotRecord(name),
+        None => unreachable!(),
+    }
+}

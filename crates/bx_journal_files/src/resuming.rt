@@ -1,0 +1,168 @@
+//! A day that goes on by its journal.
+
+ghost use Rattle.std.specs.Prelude.{◌≡◌, IfOk, IfErr, OnOk};
+ghost use Rattle.bx_journal_files.specs.Readying.{IsReady};
+ghost use Rattle.bx_journal_files.specs.NewJournalsInside.{IsUnopenedJournal};
+ghost use Rattle.bx_journal_files.specs.Resuming.{GoesOn, GoesOnBy, IsKeptOn, IsKeptBy, IsNotResumed, IsNoLog};
+
+use crate::fault::LiveFault;
+use crate::folder::sync_entry;
+use crate::locks::Locks;
+use crate::named_file::NamedFile;
+use crate::standing::Standing;
+use bx_check_commands::tell_cause;
+use bx_day::Exchange;
+use bx_day_openings::{DayOpening, replay_journal};
+use bx_devices::Watched;
+use bx_journal::{Disk, DiskFailed, DiskFile, FileDisk, Head, JournalFault, begin, resume};
+use bx_live::Log;
+use std::alloc::Global;
+use std::fs::{File, Files, OpenFile};
+use std::io;
+use std::io::Read;
+
+/// An exchange whose day goes on, with what it logs.
+#[derive(Drop)]
+pub struct Resumed<D: Disk> {
+    pub exchange: Exchange,
+    pub log: Log<D>,
+}
+
+/// Makes a journal that was read so ready to go on: what is torn is cut off, and one that was not begun begins.
+fn make_ready<D: Disk>(
+    disk: &mut D,
+    head: &Head,
+    whole: Result<u64, JournalFault>,
+) -> Result<(), DiskFailed>
+    ensures { OnOk result (IsReady D.holds D.may_leave head.now whole disk.old disk.new) }
+{
+    match whole {
+        Ok(whole) => resume(disk, whole),
+        Err(_) => {
+            disk.cut(0)?;
+            begin(disk, head)
+        }
+    }
+}
+
+/// Lets the events happen to the exchange that the journal in a file of this name has, sells again what it says was sold, and makes it ready for
+/// what comes. A journal that was not begun has none, and begins. `LiveFault::Day` where it is not read to its end: as `Sale`, as `Journal`,
+/// as `BadLine`, `OtherPlan`, `OtherDay` or `OtherRules`, or as `Command`, as `CannotRead`; `CannotRecord` where it cannot be made ready.
+pub fn resume_on<'a, F: Read + DiskFile + Drop>(
+    alloc: Global,
+    name: &'a str,
+    file: F,
+    head: &Head,
+    opening: DayOpening,
+) -> Result<Resumed<FileDisk<F>>, LiveFault<'a>>
+    ensures resumed { IfOk result (λ resumed. GoesOn head.now opening.channels (F.remaining file) opening.exchange resumed.exchange) }
+    // What happens from then on is logged after what was read.
+    ensures kept { IfOk result (λ resumed.
+        IsKeptOn F.contents F.is_told head.now opening.channels (F.remaining file) opening.exchange resumed.exchange resumed.log) }
+    ensures refused { IfErr result (IsNotResumed name.now head.now opening.channels opening.exchange) }
+{
+    let mut journal = Watched::new(file);
+    let DayOpening {
+        exchange,
+        channels,
+        ..
+    } = opening;
+    let wanted = head.wanted();
+    let replayed = match replay_journal(alloc, name, &mut journal, &wanted, channels, exchange) {
+        Ok(replayed) => replayed,
+        Err(fault) => return Err(LiveFault::Day(fault)),
+    };
+    let mut disk = FileDisk::new(journal.into_inner());
+    match make_ready(&mut disk, head, replayed.whole) {
+        Ok(()) => Ok(Resumed {
+            exchange: replayed.exchange,
+            log: Log { disk: Some(disk) },
+        }),
+        Err(_) => Err(LiveFault::CannotRecord(name)),
+    }
+}
+
+/// `CannotRecord`, its cause told.
+fn unwritten<'a, H: Eprint>(rt: &H, name: &'a str, cause: &io::Error) -> LiveFault<'a>
+    ensures { result ≡ LiveFault.CannotRecord name.entry }
+{
+    tell_cause(rt, &name, cause);
+    LiveFault::CannotRecord(name)
+}
+
+/// How many octets a file has.
+pub(crate) fn length_of<F: OpenFile>(file: &F) -> io::Result<u64> {
+    let metadata = file.metadata()?;
+    Ok(metadata.len())
+}
+
+/// The same of the file of a journal; `CannotRecord` where the system does not tell that.
+fn measured<'a, H: Eprint, F: OpenFile>(
+    rt: &H,
+    name: &'a str,
+    file: &F,
+) -> Result<u64, LiveFault<'a>>
+    ensures { IfErr result (IsUnopenedJournal name.entry) }
+{
+    match length_of(file) {
+        Ok(length) => Ok(length),
+        Err(cause) => Err(unwritten(rt, name, &cause)),
+    }
+}
+
+/// The file of a journal, opened to write it, and made where it is not there. It is locked for as long as it is open. `CannotRecord`
+/// where it cannot be opened or locked, `NotAFile` where it is no plain file, `InUse` where another program holds it; nothing of it is
+/// read or changed then.
+pub(crate) fn journal_file<'a, H: Files + Locks + Eprint>(
+    rt: &H,
+    name: &'a str,
+) -> Result<H::File, LiveFault<'a>>
+    ensures { IfErr result (IsUnopenedJournal name.entry) }
+{
+    let opened = File::options()
+        .read(true)
+        .append(true)
+        .create(true)
+        .open(rt, name);
+    let file = match opened {
+        Ok(file) => file,
+        Err(cause) => return Err(unwritten(rt, name, &cause)),
+    };
+    match file.metadata() {
+        Ok(metadata) if metadata.is_file() => {}
+        Ok(_) => return Err(LiveFault::NotAFile(name)),
+        Err(cause) => return Err(unwritten(rt, name, &cause)),
+    }
+    match rt.try_lock(&file) {
+        Ok(true) => Ok(file),
+        Ok(false) => Err(LiveFault::InUse(name)),
+        Err(cause) => Err(unwritten(rt, name, &cause)),
+    }
+}
+
+/// The exchange after the events and sales of the journal in the file of this name, if there is to be one. A file that is not there is made.
+/// The faults are those of `new_journal` for a file that takes no journal, and else of `resume_on`.
+pub fn resume_named<'a, H: Files + Locks + Standing + AllocGlobal + Eprint>(
+    rt: &'a H,
+    name: Option<&'a str>,
+    head: &Head,
+    opening: DayOpening,
+    is_shown: bool,
+) -> Result<Resumed<FileDisk<NamedFile<'a, H, H::File>>>, LiveFault<'a>>
+    ensures resumed { IfOk result (λ resumed. GoesOnBy head.now opening.channels name.entry opening.exchange resumed.exchange) }
+    ensures kept { IfOk result (λ resumed. IsKeptBy head.now opening.channels name.entry opening.exchange resumed.exchange resumed.log) }
+    ensures refused { IfErr result (IsNoLog name.entry head.now opening.channels opening.exchange) }
+{
+    let Some(name) = name else {
+        let DayOpening { exchange, .. } = opening;
+        return Ok(Resumed {
+            exchange,
+            log: Log { disk: None },
+        });
+    };
+    let file = journal_file(rt, name)?;
+    sync_entry(rt, name);
+    let length = measured(rt, name, &file)?;
+    let file = NamedFile::new(rt, name, file, length, is_shown);
+    resume_on(rt.alloc(), name, file, head, opening)
+}

@@ -1,0 +1,5 @@
+mod Stopped
+mod LineRuns
+mod SaleStops
+mod OpenOffices
+mod ToldLive

@@ -1,0 +1,56 @@
+//! The rest of a day, run by the clock over a data link.
+
+ghost use Rattle.std.specs.Prelude.{◌≡◌, true, is_some, IfOk, IfSome, OnErr};
+ghost use Rattle.bx_calendar.specs.Clocks.{IsClock};
+ghost use Rattle.bx_live_commands.specs.LiveRuns.{RunsByLine, StopsByLine};
+
+use bx_calendar::Clock as DayClock;
+use bx_day::Exchange;
+use bx_journal::Disk;
+use bx_journal_files::Resumed;
+use bx_line_world::{Line, LineWorld, Wire};
+use bx_live::{CannotLog, Schedule, run_held};
+use bx_world::Telling;
+use std::rt::Clock;
+
+/// What is told of a live day while it runs: each fault with the time of day, where this date and this zone name one, and the moment,
+/// where it is shown.
+#[derive(Clone, Copy)]
+pub struct Told<'a> {
+    pub day: (&'a str, &'a str),
+    pub is_shown: bool,
+}
+
+impl<'a> Told<'a> {
+    /// The clock of the day, if the date and the zone name one.
+    pub(crate) fn clock(self) -> Option<DayClock>
+        ensures { IfSome result (IsClock self.entry.day.0.now self.entry.day.1.now) }
+    {
+        let (date, zone) = self.day;
+        DayClock::new(date, zone).ok()
+    }
+}
+
+/// Runs the rest of a day up to a turn of it, and after that on while a call is up, by the clock, as the network's end of a data link
+/// over the wire. Answers the exchange at the end of the day. `CannotLog` where an event cannot be logged, since the journal's disk has
+/// failed: nothing more is done then.
+pub fn run_by_clock<'a, 'h, H: Clock + Eprint, W: Wire + Drop, D: Disk + Drop>(
+    rt: &'h H,
+    resumed: Resumed<D>,
+    wire: W,
+    schedule: Schedule,
+    turns: u32,
+    told: Told<'a>,
+) -> Result<Exchange, CannotLog>
+    ensures failed { OnErr result (is_some resumed.log.disk ≡ true) }
+    ensures stopped { OnErr result (StopsByLine W.did D.holds D.may_leave D.moment D.left_since D.has_failed wire schedule resumed.log resumed.exchange) }
+    ensures ran { IfOk result (RunsByLine W.did D.holds D.may_leave D.moment D.left_since D.has_failed wire schedule resumed.log turns resumed.exchange) }
+{
+    let Resumed { mut exchange, log } = resumed;
+    let world = LineWorld::new(schedule, Line::new(true, wire), log);
+    let mut telling = Telling::new(rt, world, told.clock(), told.is_shown);
+    let done = run_held(&mut exchange, &mut telling, turns);
+    telling.clear();
+    done?;
+    Ok(exchange)
+}

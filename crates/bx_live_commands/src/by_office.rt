@@ -1,0 +1,73 @@
+//! The rest of a day, run by the clock over a data link, with a booking office beside it.
+
+ghost use Rattle.std.specs.Prelude.{◌≡◌, true, is_some, IfOk, OnErr};
+ghost use Rattle.bx_live_commands.specs.OfficeRuns.{SellsByLine, StopsSelling};
+
+use crate::by_line::Told;
+use bx_base::ChannelSet;
+use bx_calendar::Day;
+use bx_day::Exchange;
+use bx_journal::Disk;
+use bx_journal_files::Resumed;
+use bx_line_world::{Line, LineWorld, Wire};
+use bx_live::{CannotLog, Schedule};
+use bx_market::run_market;
+use bx_office_door::{Door, OfficeWire};
+use bx_office_world::{Office, OfficeWorld, Opened};
+use bx_world::Telling;
+use std::cell::RefCell;
+use std::rc::Rc;
+use std::rt::Clock;
+
+/// What a booking office is opened with: its door, which the wire has too, the channels in service, and the day.
+#[derive(Drop)]
+pub struct Premises {
+    pub door: Rc<RefCell<Door>>,
+    pub beside: Rc<RefCell<Door>>,
+    pub channels: ChannelSet,
+    pub day: Day,
+}
+
+/// Runs the rest of a day as `run_by_clock` does, and between two seconds answers who stands at the door: what is sold is logged, and on
+/// the disk, before its customer is told. Answers the exchange at the end of the day, with all that was sold. `CannotLog` where something cannot be
+/// logged, since the journal's disk has failed: nothing more is done or told then.
+pub fn run_with_office<'a, 'h, H: Clock + Eprint + AllocGlobal, W: Wire + Drop, D: Disk + Drop>(
+    rt: &'h H,
+    resumed: Resumed<D>,
+    wire: W,
+    schedule: Schedule,
+    turns: u32,
+    told: Told<'a>,
+    premises: Premises,
+) -> Result<Exchange, CannotLog>
+    ensures failed { OnErr result (is_some resumed.log.disk ≡ true) }
+    ensures stopped { OnErr result
+        (StopsSelling W.did D.holds D.may_leave D.moment D.left_since D.has_failed wire schedule resumed.log premises.channels turns resumed.exchange) }
+    ensures ran { IfOk result
+        (SellsByLine W.did D.holds D.may_leave D.moment D.left_since D.has_failed wire schedule resumed.log premises.channels turns resumed.exchange) }
+{
+    let Resumed { mut exchange, log } = resumed;
+    let Premises {
+        door,
+        beside,
+        channels,
+        day,
+    } = premises;
+    let wire = OfficeWire::new(wire, beside);
+    let world = LineWorld::new(schedule, Line::new(true, wire), log);
+    let clock = told.clock();
+    let telling = Telling::new(rt, world, clock, told.is_shown);
+    let opened = Opened {
+        channels,
+        day,
+        clock,
+    };
+    let mut market = OfficeWorld {
+        world: telling,
+        office: Office::new(rt.alloc(), door, &opened),
+    };
+    let done = run_market(rt.alloc(), &mut exchange, &mut market, channels, turns);
+    market.world.clear();
+    done?;
+    Ok(exchange)
+}

@@ -1,0 +1,11 @@
+//! The command that runs the exchange's end of a day by the clock, over a data link.
+#![tactic(auto)]
+
+mod by_line;
+mod by_office;
+mod live_files;
+mod office;
+
+pub use by_line::{Told, run_by_clock};
+pub use by_office::{Premises, run_with_office};
+pub use live_files::live_on_files;

@@ -1,0 +1,112 @@
+//! The booking office of a live day: its door, and how long it is open.
+
+ghost use Rattle.std.specs.Prelude.{◌≡◌, true, IfOk, IfErr, OnErr};
+ghost use Rattle.bx_calendar.specs.DayParts.{length_of};
+ghost use Rattle.bx_day_openings.specs.OpeningRefusals.{IsUnheard};
+ghost use Rattle.bx_live_commands.specs.LiveDays.{has_office, AreLiveTurns};
+ghost use Rattle.bx_live_commands.specs.LiveInside.{IsOpenAt};
+ghost use Rattle.bx_live_commands.specs.LiveRefusals.{IsNoOffice};
+
+use crate::by_office::Premises;
+use bx_base::ChannelSet;
+use bx_calendar::Day;
+use bx_check_commands::CommandFault;
+use bx_day::Exchange;
+use bx_day_openings::{AFTER_THE_LAST, DayCommandFault, System, day_turns, listener_at, unheard};
+use bx_office::Place as DoorPlace;
+use bx_office_door::{Door, Listening};
+use bx_request::{LiveRequest, Place};
+use std::alloc::{AllocError, Global};
+use std::cell::RefCell;
+use std::io;
+use std::net::{Ipv4Addr, SocketAddrV4};
+use std::rc::Rc;
+
+/// A listener at a place, which never waits. A file of a socket on which nobody listens is replaced.
+fn listening<H: System>(rt: &H, place: Place<'_>) -> io::Result<Listening> {
+    match place {
+        Place::Port(port) => Listening::at_port(rt, port),
+        Place::Socket(path) => {
+            let listener = listener_at(rt, path)?;
+            listener.set_nonblocking(true)?;
+            Ok(Listening::Path(listener))
+        }
+    }
+}
+
+/// A door at a place. `CannotListen` where nobody can be let in there.
+fn door_at<'a, H: System>(rt: &H, place: Place<'a>) -> Result<Door, DayCommandFault<'a>>
+    ensures { IfErr result IsUnheard }
+{
+    match (listening(rt, place), place) {
+        (Ok(listening), Place::Port(port)) => {
+            Ok(Door::new(rt.alloc(), DoorPlace::Port(port), listening))
+        }
+        (Ok(listening), Place::Socket(_)) => {
+            Ok(Door::new(rt.alloc(), DoorPlace::Socket, listening))
+        }
+        (Err(cause), Place::Port(port)) => {
+            let place = SocketAddrV4::new(Ipv4Addr::LOCALHOST, port);
+            Err(unheard(rt, &place, &cause))
+        }
+        (Err(cause), Place::Socket(path)) => Err(unheard(rt, &path, &cause)),
+    }
+}
+
+/// What an office at this door is opened with.
+fn premises_at(
+    alloc: Global,
+    door: Door,
+    channels: ChannelSet,
+    day: Day,
+) -> Result<Premises, AllocError>
+    ensures { IfOk result (λ premises. premises.channels ≡ channels) }
+{
+    let Ok(door) = Rc::new(alloc, RefCell::new(door)) else {
+        return Err(AllocError);
+    };
+    let beside = door.clone()?;
+    Ok(Premises {
+        door,
+        beside,
+        channels,
+        day,
+    })
+}
+
+/// What the office that the words want is opened with, where they want one. Without a journal there is none: nothing is sold outside the
+/// journal. `CannotListen` where nobody can be let in there, `Command`, as `Memory`, where memory runs out.
+pub(crate) fn premises_of<'a, H: System>(
+    rt: &H,
+    request: LiveRequest<'a>,
+    channels: ChannelSet,
+    day: Day,
+) -> Result<Option<Premises>, DayCommandFault<'a>>
+    ensures opened { IfOk result (IsOpenAt (has_office request.entry) channels) }
+    ensures wanted { OnErr result (has_office request.entry ≡ true) }
+    ensures refused { IfErr result IsNoOffice }
+{
+    match (request.office, request.journal) {
+        (Some(place), Some(_)) => {
+            let door = door_at(rt, place)?;
+            match premises_at(rt.alloc(), door, channels, day) {
+                Ok(premises) => Ok(Some(premises)),
+                Err(_) => Err(DayCommandFault::Command(CommandFault::Memory)),
+            }
+        }
+        _ => Ok(None),
+    }
+}
+
+/// How many seconds a live day has: as many as were asked for, or as its accepted bookings need; where an office is open, at least as many as each
+/// booking of the day does, since it may still be sold.
+pub(crate) fn live_turns(exchange: &Exchange, day: &Day, asked: Option<u32>, is_open: bool) -> u32
+    ensures { AreLiveTurns is_open asked (length_of day.now) exchange.now.entries result }
+{
+    let turns = day_turns(exchange, asked);
+    if is_open && asked.is_none() {
+        turns.max(day.length() + AFTER_THE_LAST)
+    } else {
+        turns
+    }
+}

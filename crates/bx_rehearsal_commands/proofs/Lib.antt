@@ -1,0 +1,7 @@
+mod Runs
+mod RunCaptured
+mod Refused
+mod Logged
+mod RehearsalRuns
+mod RehearsedWith
+mod ToldRehearsals

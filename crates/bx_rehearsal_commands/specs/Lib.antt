@@ -1,0 +1,11 @@
+pub mod RunCaptures
+pub mod Runs
+pub mod WholeRuns
+pub mod Telling
+pub mod WaitingDisks
+pub mod Rehearsals
+pub mod RehearsalsInside
+pub mod RehearsedDays
+pub mod ReadyInside
+pub mod RehearsalRefusals
+pub mod PeersInside

@@ -1,7 +1,0 @@
-use Rattle.bx_run_commands.proofs.LineRuns.{kept_by}
-use Rattle.bx_run_commands.proofs.Runs.{if_ok}
-use Rattle.bx_run_commands.proofs.resuming.resume_named.Goals as goal
-
-pub returns-clause-kept : goal.returns-clause-kept
-returns-clause-kept g c =
-    if_ok c.resume_on.result _ _ (λ resumed k. kept_by c.args.head.now c.args.opening.channels _ c.args.opening.exchange resumed.exchange resumed.log c.args.name c.in-Some.name c.in-Some.is k) c.resume_on.ensures.kept
