@@ -1,5 +1,5 @@
 #!/usr/bin/env python3
-"""Writes a proved plan text of 4,000 bookings, 8,000 prices and 30 channels: the largest that the check meets.
+"""Writes a proved plan text of 4,000 bookings, 8,000 prices and 30 channels, a large one: of a day there may be four times as many.
 
 133 slots of 1,000 seconds, or of as many as the word says (at least 80), have 30 bookings each, one a channel, and 60 moments with a price of 1 (the first slot 80);
 the last 10 bookings stand in a slot of their own without prices. Every priced moment has all channels busy, and no

@@ -10,9 +10,9 @@ use std::marker::Model;
 use thiserror::Error;
 
 /// The most bookings that a day may have.
-pub const MAX_BOOKINGS: usize = 4000;
+pub const MAX_BOOKINGS: usize = 16000;
 
-/// Bookings in the order of their rows, which are named 1, 2, ..: at most 4,000. Two equal rows are two bookings.
+/// Bookings in the order of their rows, which are named 1, 2, ..: at most 16,000. Two equal rows are two bookings.
 #[derive(Drop)]
 pub struct Bookings {
     rows: Vec<Booking>,
@@ -21,7 +21,7 @@ pub struct Bookings {
 /// Why a booking could not be added.
 #[derive(Clone, Copy, Debug, PartialEq, Eq, Error)]
 pub enum AddFault {
-    /// There are 4,000 already.
+    /// There are 16,000 already.
     #[error("Full")]
     Full,
     /// Memory ran out.
@@ -50,7 +50,7 @@ impl Bookings {
         }
     }
 
-    /// Adds a booking as the last row. A fault changes nothing: `Full`, which is tested first, where there are 4,000 already, and
+    /// Adds a booking as the last row. A fault changes nothing: `Full`, which is tested first, where there are 16,000 already, and
     /// `Memory` where memory runs out.
     pub fn push(&mut self, booking: Booking) -> Result<(), AddFault>
         ensures ok { OnOk result (self.new ≡ self.old ++ booking ∷ []) }
@@ -68,7 +68,7 @@ impl Bookings {
         }
     }
 
-    /// How many rows there are: 0 to 4,000.
+    /// How many rows there are: 0 to 16,000.
     pub fn len(&self) -> u16
         ensures count { result ≡ length self.now }
         ensures bookings { AreBookings self.now }

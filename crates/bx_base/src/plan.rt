@@ -11,10 +11,10 @@ use crate::price::Price;
 use bx_channels::Channel;
 
 /// The most prices that a plan may have.
-pub const MAX_PRICES: usize = 8000;
+pub const MAX_PRICES: usize = 32000;
 
 /// The greatest total of a plan.
-pub const MAX_TOTAL: u64 = 4_000_000_000_000;
+pub const MAX_TOTAL: u64 = 16_000_000_000_000;
 
 /// Bookings, the channel of each accepted one, and the prices that are to prove that no choice pays more. The
 /// booking at a place of the list is accepted where the same place of `assigned` has a channel.
@@ -33,8 +33,8 @@ pub struct Plan {
 impl Plan {
     ghost use Rattle.bx_base.specs.PlanParts.{IsMadeOf};
 
-    /// The plan of these parts. None where there is not one entry for each booking, or are more than 8,000
-    /// prices, or the total is above 4,000,000,000,000; the parts are then dropped.
+    /// The plan of these parts. None where there is not one entry for each booking, or are more than 32,000
+    /// prices, or the total is above 16,000,000,000,000; the parts are then dropped.
     pub fn new(
         bookings: Bookings,
         channels: ChannelSet,

@@ -1,5 +1,5 @@
 -- Private: the faults of a text as those of a reader.
-use Rattle.std.specs.Prelude.{◌≡◌, ◌⊎◌, ◌≤◌, ℕ, Bool, true, false, List, Result, Err}
+use Rattle.std.specs.Prelude.{◌≡◌, ◌⊎◌, ◌+◌, ◌≤◌, ℕ, Bool, true, false, List, Result, Err}
 use Rattle.bx_book.specs.declared.fault.BookFault.{BookFault}
 use Rattle.bx_book.specs.declared.fault.BookFault.TheVariants as f
 use Rattle.bx_book.specs.declared.stream.StreamFault.{StreamFault}
@@ -7,13 +7,15 @@ use Rattle.bx_book.specs.declared.stream.StreamFault.TheVariants as stream
 use Rattle.bx_base.specs.Bookings.{Row}
 use Rattle.bx_devices.specs.Watching.{is_faulted, reads_of}
 use Rattle.bx_devices.specs.declared.watched.Watched.{Watched}
+use Rattle.bx_devices.specs.declared.octets.TheConstants.{MAX_OCTETS}
+use Rattle.bx_devices.specs.declared.watched.TheConstants.{MAX_READS}
 use Rattle.bx_book.specs.Passed.{is_spent}
 
 -- why less than the whole was read, by what was counted
 abbrev pub IsMeterFault : Bool → Bool → ℕ → ℕ → StreamFault → Type 0
 IsMeterFault is_faulted has_ended octets reads stream.ReadFailed = (is_faulted ≡ true)
-    ⊎ ((is_faulted ≡ false) × (has_ended ≡ false) × (octets ≤ 4_194_304) × (reads ≡ 8_388_608))
-IsMeterFault is_faulted has_ended octets reads stream.TooLong = (is_faulted ≡ false) × (octets ≡ 4_194_305)
+    ⊎ ((is_faulted ≡ false) × (has_ended ≡ false) × (octets ≤ MAX_OCTETS) × (reads ≡ MAX_READS))
+IsMeterFault is_faulted has_ended octets reads stream.TooLong = (is_faulted ≡ false) × (octets ≡ MAX_OCTETS + 1)
 IsMeterFault is_faulted has_ended octets reads (stream.Book e) = ⊥
 IsMeterFault is_faulted has_ended octets reads stream.Memory = ⊥
 

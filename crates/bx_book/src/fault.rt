@@ -30,7 +30,7 @@ pub enum BookFault {
     /// The pay is not 1 to 10 digits with a value of 1 to 1,000,000,000.
     #[error("B8 BadPay {0}")]
     BadPay(u16),
-    /// There is a row after the 4,000th.
+    /// There is a row after the 16,000th.
     #[error("B9 TooMany")]
     TooMany,
     /// The mark is neither `yes` nor `no`.

@@ -5,6 +5,7 @@ ghost use Rattle.std.specs.Borrow.{GName};
 ghost use Rattle.std.specs.Io.{ReadsAtMost};
 ghost use Rattle.std.specs.Io.KnownBytes.{ReadConsumes};
 ghost use Rattle.bx_devices.specs.Watching.{device_of, is_faulted, reads_of};
+ghost use Rattle.bx_devices.specs.declared.octets.TheConstants.{MAX_OCTETS};
 ghost use Rattle.bx_book.specs.Passed.{HasPassed, HasNoneLeft, is_spent, reads_of_none};
 
 use bx_devices::{MAX_OCTETS, MAX_READS, Watched};
@@ -38,7 +39,7 @@ pub struct Metered<'a, R: Read, O: Origin> {
     pub has_ended: bool,
     pub origin: PhantomData<O>,
     ghost same: { reader.ghost_name ≡ O.name },
-    ghost limit: { octets ≤ 4194305 },
+    ghost limit: { octets ≤ MAX_OCTETS + 1 },
     ghost passed: { HasPassed O.text octets (R.remaining (device_of reader.now)) },
     ghost ended: { has_ended ≡ true → HasNoneLeft (R.remaining (device_of reader.now)) },
     ghost each: { reads_of reader.now ≤ O.reads + (octets + reads_of_none has_ended (is_faulted reader.now)) },

@@ -41,9 +41,9 @@ pub enum StreamFault {
 
 /// Why less than the whole was read, if it was.
 fn short_of_end<R>(reader: &Watched<R>, octets: usize, has_ended: bool) -> Option<StreamFault>
-    requires { octets ≤ 4194305 }
+    requires { octets ≤ MAX_OCTETS + 1 }
     ensures { MatchOption result
-        ((is_faulted reader.now ≡ false) × (octets ≤ 4194304) × (reads_of reader.now ≡ 8388608 → has_ended ≡ true))
+        ((is_faulted reader.now ≡ false) × (octets ≤ MAX_OCTETS) × (reads_of reader.now ≡ MAX_READS → has_ended ≡ true))
         (IsMeterFault (is_faulted reader.now) has_ended octets (reads_of reader.now)) }
 {
     if reader.faulted() {
@@ -88,7 +88,7 @@ fn read_metered<'a, R: Read, O: Origin>(
     requires reads { reads_of reader.now ≡ O.reads }
     ensures same_reference { result.reader.ghost_name ≡ reader.entry.ghost_name }
     ensures passed { HasPassed (R.remaining (device_of reader.old)) result.octets (R.remaining (device_of result.reader.now)) }
-    ensures limit { result.octets ≤ 4194305 }
+    ensures limit { result.octets ≤ MAX_OCTETS + 1 }
     ensures each { reads_of result.reader.now ≤ reads_of reader.old + (result.octets + reads_of_none result.has_ended (is_faulted result.reader.now)) }
     ensures ended { result.has_ended ≡ true → HasNoneLeft (R.remaining (device_of result.reader.now)) }
     ensures over { IsReadOut result.bookings result.has_ended result.octets result.reader.now }

@@ -111,7 +111,7 @@ pub(crate) fn read_book<R: Read>(
 }
 
 /// Reads the booking text of a day, RFC 4180 records as `csv` reads them: a header `start,end,number,pay`, which may
-/// go on with `must`, and that with `direction`, and then at most 4,000 rows. The answer is the bookings of all
+/// go on with `must`, and that with `direction`, and then at most 16,000 rows. The answer is the bookings of all
 /// rows, or the first fault, as `BookFault` has them.
 pub fn read_bookings(alloc: Global, bytes: &[u8], day: &Day) -> Result<Bookings, BookFault>
     ensures ok { IfOk result (IsBook (strip_bom bytes.now) (span_of day.now)) }

@@ -61,9 +61,9 @@ fn ends_at(alloc: Global, text: &[u8], day: &Day, count: u16, end: u32) -> bool 
 #[test]
 fn as_many_rows_as_fit(rt: HostRuntime) -> Result<(), Fail> {
     let day = Day::new("2026-01-05", "UTC0")?;
-    let text = text_of(rt.alloc(), 4000)?;
-    assert!(rt; ends_at(rt.alloc(), &text, &day, 4000, 28_860), "as many");
-    let longer = text_of(rt.alloc(), 4001)?;
+    let text = text_of(rt.alloc(), 16000)?;
+    assert!(rt; ends_at(rt.alloc(), &text, &day, 16000, 28_860), "as many");
+    let longer = text_of(rt.alloc(), 16001)?;
     assert!(rt;
         is_refused(rt.alloc(), &longer, &day, "B9 TooMany"),
         "one more"

@@ -87,9 +87,9 @@ fn keep_reply<W: Write>(file: &mut Option<Watched<W>>, second: u32, reply: &Opti
 
 impl<E, W: Write> Captured<E, W> {
     /// Captures an end from now on, into the file where there is one. Moment 0 is the first second. That is at most
-    /// 4,294,667,295, so that 32 bits number each of the 300,000 seconds after it.
+    /// `LAST_START`, so that 32 bits number each of the 300,000 seconds after it.
     pub fn new(end: E, file: Option<Watched<W>>, first: u32) -> Self
-        requires { first ≤ 4294667295 }
+        requires { first ≤ LAST_START }
         ensures end { result.end ≡ end }
         ensures file { result.file ≡ file }
         ensures first { result.first ≡ first }

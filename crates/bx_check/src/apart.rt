@@ -5,10 +5,10 @@ ghost use Rattle.bx_base.specs.Plans.{Clash, AreApartBefore, AreClashing};
 ghost use Rattle.bx_check.specs.Seats.{AreSeats};
 
 use arrayvec::ArrayVec;
-use bx_base::Plan;
+use bx_base::{MAX_BOOKINGS, Plan};
 
 /// The channel, the start and the index of each accepted row. They stand on the stack, since a check takes no memory.
-type Seats = ArrayVec<(u8, u32, u16), 4000>;
+type Seats = ArrayVec<(u8, u32, u16), MAX_BOOKINGS>;
 
 /// The seats in the order of the rows.
 fn seats_of(plan: &Plan) -> Seats

@@ -43,7 +43,7 @@ pub(crate) fn is_rising(prices: &[Price]) -> bool
     true
 }
 
-/// What the prices come to together: what a channel costs all day. There have to be at most 8,000 of them.
+/// What the prices come to together: what a channel costs all day. There have to be at most 32,000 of them.
 pub fn price_sum(prices: &[Price]) -> u64
     requires { length prices.now ≤ MAX_PRICES }
     ensures value { result ≡ sum_of_prices prices.now }
@@ -84,7 +84,7 @@ fn loss(booking: &Booking, prices: &[Price], sums: &Sums) -> u64
 }
 
 /// The bound that the prices set for each lawful set, the dual objective. Where some set is lawful, all that is lost is at most
-/// what the channels cost, so no sum leaves its type.
+/// what the channels cost, so no sum leaves its type: 30 channels cost at most 15,360,000,000,000,000,000 at 32,000 prices.
 pub(crate) fn bound(
     bookings: &Bookings,
     channels: ChannelSet,
@@ -95,7 +95,7 @@ pub(crate) fn bound(
     requires rising { IsStrictlyIncreasing (map (λ p. p.moment) prices.now) }
     requires lawful { IsLawful bookings.now channels (is_accepted assigned.now) }
     ensures value { pos result ≡ bound_of bookings.now (count_of channels) prices.now }
-    ensures limit { result < 1000000000000000000 }
+    ensures limit { result < 16000000000000000000 }
 {
     let mut gained = u64::from(channels.count()) * price_sum(prices);
     let mut lost = 0;

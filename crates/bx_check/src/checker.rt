@@ -68,7 +68,7 @@ pub fn check(bookings: &Bookings, channels: ChannelSet, plan: &Plan) -> Result<u
     ensures paid { IfOk result (λ total. total ≡ pay_of bookings.now (is_accepted plan.now.assigned.items)) }
     // Whoever made the plan.
     ensures best { IfOk result (λ total. (set : ℕ → Bool) → IsLawful bookings.now channels set → pay_of bookings.now set ≤ total) }
-    // A bound that is not the total is above it, and below 10 ^ 18.
+    // A bound that is not the total is above it, and below 16 * 10 ^ 18.
     ensures above { IfErr result (IsBoundAbove plan.now.total) }
 {
     if !bookings.same(&plan.bookings) {

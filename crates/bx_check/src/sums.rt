@@ -4,15 +4,17 @@ ghost use Rattle.std.specs.Prelude.{◌≡◌, ◌≤◌, ◌<◌, ℕ, length, 
 ghost use Rattle.std.specs.List.Sorted.{IsStrictlyIncreasing};
 ghost use Rattle.bx_base.specs.Bound.{cost_of, price_at};
 ghost use Rattle.bx_check.specs.Before.{AreSums};
-ghost use Rattle.bx_base.specs.declared.plan.TheConstants.{MAX_PRICES};
 
 use arrayvec::ArrayVec;
-use bx_base::{Booking, Price};
+use bx_base::{Booking, MAX_PRICES, Price};
 
-/// What the first 0, 1, .. prices of a list come to. It stands on the stack, since a check takes no memory.
-pub type Sums = ArrayVec<u64, 8001>;
+/// How many prefixes the longest list of prices has.
+const MAX_PREFIXES: usize = MAX_PRICES + 1;
 
-/// The sums of the prefixes of the list. There have to be at most 8,000 prices.
+/// What the first 0, 1, .. prices of a list come to. It stands on the stack, 0.3 MB of it, since a check takes no memory.
+pub type Sums = ArrayVec<u64, MAX_PREFIXES>;
+
+/// The sums of the prefixes of the list. There have to be at most 32,000 prices.
 pub fn sums_of(prices: &[Price]) -> Sums
     requires { length prices.now ≤ MAX_PRICES }
     ensures { AreSums prices.now result.items }

@@ -1,8 +1,9 @@
 -- What each refusal of a check says of the octets that were read, and of what was written.
-use Rattle.std.specs.Prelude.{◌≡◌, ℕ, true, Bool, List, Option, Some, Err, codes, ◌⊎◌}
+use Rattle.std.specs.Prelude.{◌≡◌, ℕ, ◌+◌, true, Bool, List, Option, Some, Err, codes, ◌⊎◌}
 use Rattle.bx_base.specs.Bookings.{Row}
 use Rattle.bx_devices.specs.Devices.{Reading, Writing, KeepsOutput}
 use Rattle.bx_devices.specs.Octets.{AppendsPrefix, ReadsPrefix, ReadsWithin, RunsOutOfReads}
+use Rattle.bx_devices.specs.declared.octets.TheConstants.{MAX_OCTETS}
 use Rattle.bx_base.specs.PlanParts.{Parts}
 use Rattle.bx_planfile.specs.Reading.{read_all}
 use Rattle.bx_planfile.specs.declared.fault.PlanTextFault.{PlanTextFault}
@@ -12,14 +13,14 @@ use Rattle.bx_check.specs.declared.checker.CheckFault.{CheckFault}
 use Rattle.bx_check_commands.specs.declared.fault.CommandFault.{CommandFault}
 use Rattle.bx_check_commands.specs.declared.fault.CommandFault.TheVariants.{CannotRead, CannotWrite, Plan, Check, Memory}
 
--- an input of this name was not read to its end: it failed, or 8,388,608 reads did not reach the end though each gave an
+-- an input of this name was not read to its end: it failed, or `MAX_READS` reads did not reach the end though each gave an
 -- octet, or it is too long
 abbrev pub IsUnread : List ℕ → Reading → List ℕ → Type 0
-IsUnread name input said = (said ≡ name) × ((input.is_faulted ≡ true) ⊎ RunsOutOfReads input.before input.after input.reads_before ⊎ ReadsPrefix input.before input.after 4194305)
+IsUnread name input said = (said ≡ name) × ((input.is_faulted ≡ true) ⊎ RunsOutOfReads input.before input.after input.reads_before ⊎ ReadsPrefix input.before input.after (MAX_OCTETS + 1))
 
 -- memory ran out while an input was read or its plan built: no read had failed, and no octet too many had come
 abbrev pub IsRefusedGrowth : Reading → Type 0
-IsRefusedGrowth input = (input.is_faulted ≡ input.was_faulted) × ReadsWithin input.before input.after 4194304
+IsRefusedGrowth input = (input.is_faulted ≡ input.was_faulted) × ReadsWithin input.before input.after MAX_OCTETS
 
 -- this text, which is what there was to read where the input tells it, is no plan text, with this first fault
 pub record IsNoPlanText (before : Option (List ℕ)) (fault : PlanTextFault) : Type 0 where

@@ -4,6 +4,7 @@ ghost use Rattle.std.specs.Prelude.{◌≡◌, ◌+◌, ◌≤◌, ◌<◌, ◌|
 ghost use Rattle.std.specs.Io.{ReadsAtMost, WritesAtMost};
 ghost use Rattle.std.specs.Io.KnownBytes.{ReadConsumes, WriteAppends, Appends, Consumes, IsAtEnd, Keeps};
 ghost use Rattle.bx_devices.specs.Octets.{takes_nothing};
+ghost use Rattle.bx_devices.specs.declared.watched.TheConstants.{MAX_READS};
 
 use std::alloc::{AllocError, Global};
 use std::io;
@@ -19,7 +20,7 @@ pub struct Watched<T> {
     inner: T,
     is_faulted: bool,
     reads: u32,
-    ghost counted: { reads ≤ 8388608 },
+    ghost counted: { reads ≤ MAX_READS },
 }
 
 impl<T> Watched<T> {
@@ -75,7 +76,7 @@ impl<R: Read> Read for Watched<R> {
         ensures bound { ReadsAtMost result buf.new }
         ensures bytes { ReadConsumes (R.remaining (device_of self.old)) (R.remaining (device_of self.new)) result buf.new }
         ensures faulted { is_faulted self.new ≡ (is_faulted self.old || is_err result) }
-        ensures reads { reads_of self.new ≡ min (reads_of self.old + 1) 8388608 }
+        ensures reads { reads_of self.new ≡ min (reads_of self.old + 1) MAX_READS }
     {
         if self.reads < MAX_READS {
             self.reads += 1;

@@ -55,12 +55,12 @@ module _ (line : Network) (network : IsNetwork line) where
   -- a steep line, as a floor below all lengths
   steep_line : ℕ → List ℤ
   steep_line zero = []
-  steep_line (suc n) = steep_line n ++ neg_ℤ (pos (5001000000000 * n)) ∷ []
+  steep_line (suc n) = steep_line n ++ neg_ℤ (pos (17001000000000 * n)) ∷ []
 
   is_steep : (n : ℕ) → AreSteep n (steep_line n)
   unfolding steep_line
   is_steep zero = steep_none
-  is_steep (suc n) = subst (λ (m : ℕ). AreSteep m (steep_line n ++ neg_ℤ (pos (5001000000000 * n)) ∷ [])) (omega arith) (steep_more n (steep_line n) (neg_ℤ (pos (5001000000000 * n))) refl (is_steep n))
+  is_steep (suc n) = subst (λ (m : ℕ). AreSteep m (steep_line n ++ neg_ℤ (pos (17001000000000 * n)) ∷ [])) (omega arith) (steep_more n (steep_line n) (neg_ℤ (pos (17001000000000 * n))) refl (is_steep n))
 
   pub bounds_small : (lengths : List ℤ) → AreBounds Whole line (empty_flow line) lengths → AreSmall lengths
   bounds_small lengths bounds v =

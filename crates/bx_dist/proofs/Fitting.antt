@@ -53,8 +53,8 @@ pub GapFits-from_fits : (line : Network) (flow : Flow) (heights : List ℤ) → 
 GapFits-from_fits line flow heights f v h = record { onward = omega (arith, ints, f (Idle v) h); back = λ e. omega (arith, ints, f (Back v) (h, e)) }
 
 -- the tests in 64 bits
-pub test_up : (x y : ℤ) (p : ℕ) → nat_abs x ≤ 100000000000000000 → nat_abs y ≤ 100000000000000000 → p ≤ 5001000000000 → (int_le (to_z w64 (of_z w64 x)) (to_z w64 (of_z w64 (to_z w64 (of_z w64 y) +ℤ to_z w64 p))) ≡ true) ↔ (x ≤ℤ (y +ℤ pos p))
+pub test_up : (x y : ℤ) (p : ℕ) → nat_abs x ≤ 550000000000000000 → nat_abs y ≤ 550000000000000000 → p ≤ 17001000000000 → (int_le (to_z w64 (of_z w64 x)) (to_z w64 (of_z w64 (to_z w64 (of_z w64 y) +ℤ to_z w64 p))) ≡ true) ↔ (x ≤ℤ (y +ℤ pos p))
 test_up x y p a b q = (λ h. grind (arith, ints), λ h. grind (arith, ints))
 
-pub test_down : (x y : ℤ) (p : ℕ) → nat_abs x ≤ 100000000000000000 → nat_abs y ≤ 100000000000000000 → p ≤ 5001000000000 → (int_le (to_z w64 (of_z w64 x)) (to_z w64 (of_z w64 (to_z w64 (of_z w64 y) -ℤ to_z w64 p))) ≡ true) ↔ (x ≤ℤ (y -ℤ pos p))
+pub test_down : (x y : ℤ) (p : ℕ) → nat_abs x ≤ 550000000000000000 → nat_abs y ≤ 550000000000000000 → p ≤ 17001000000000 → (int_le (to_z w64 (of_z w64 x)) (to_z w64 (of_z w64 (to_z w64 (of_z w64 y) -ℤ to_z w64 p))) ≡ true) ↔ (x ≤ℤ (y -ℤ pos p))
 test_down x y p a b q = (λ h. grind (arith, ints), λ h. grind (arith, ints))

@@ -29,13 +29,13 @@ module _ (part : Part) (line : Network) (flow : Flow) (lengths : List ℤ) (fits
       omega (arith, ints, before, step, ap (height_at lengths) same)
 
 module _ (part : Part) (line : Network) (flow : Flow) (network : IsNetwork line) where
-  low_step : (step : Step) → IsOpen part line flow step → pos 0 ≤ℤ (step_cost line step +ℤ pos 5001000000000)
+  low_step : (step : Step) → IsOpen part line flow step → pos 0 ≤ℤ (step_cost line step +ℤ pos 17001000000000)
   low_step (Idle v) o = omega (arith, ints)
   low_step (Back v) o = omega (arith, ints)
   low_step (Take r) o = let a = row_within part line network r o.there in omega (arith, ints, a.pay_limit)
   low_step (Give r) o = omega (arith, ints)
 
-  low_walk : (from to : ℕ) (walk : List Step) → IsWalk part line flow from to walk → pos 0 ≤ℤ (walk_length line walk +ℤ pos (5001000000000 * length walk))
+  low_walk : (from to : ℕ) (walk : List Step) → IsWalk part line flow from to walk → pos 0 ≤ℤ (walk_length line walk +ℤ pos (17001000000000 * length walk))
   low_walk from to [] w = omega (arith, ints)
   low_walk from to (step ∷ walk) w = omega (arith, ints, low_step step w.0, low_walk (step_to line step) to walk w.2)
 

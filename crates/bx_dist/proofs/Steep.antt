@@ -11,21 +11,21 @@ use Rattle.bx_dist.specs.Sending.{empty_flow}
 use Rattle.bx_dist.proofs.Sending.{empty_is_flow, nothing_idle, nothing_carried}
 use Rattle.bx_dist.proofs.After.{row_within}
 
--- each of the first n places is lower by 5,001,000,000,000 than the one before
+-- each of the first n places is lower by 17,001,000,000,000 than the one before
 pub record AreSteep (n : ℕ) (heights : List ℤ) : Type 0 where
   pub size : length heights ≡ n
-  pub each : (v : ℕ) → v < n → height_at heights v ≡ neg_ℤ (pos (5001000000000 * v))
+  pub each : (v : ℕ) → v < n → height_at heights v ≡ neg_ℤ (pos (17001000000000 * v))
 
 pub steep_none : AreSteep 0 []
 steep_none = record { size = refl; each = λ v h. absurd (omega arith) }
 
-pub steep_more : (n : ℕ) (heights : List ℤ) (z : ℤ) → z ≡ neg_ℤ (pos (5001000000000 * n)) → AreSteep n heights → AreSteep (n + 1) (heights ++ z ∷ [])
+pub steep_more : (n : ℕ) (heights : List ℤ) (z : ℤ) → z ≡ neg_ℤ (pos (17001000000000 * n)) → AreSteep n heights → AreSteep (n + 1) (heights ++ z ∷ [])
 steep_more n heights z e s =
     record {
       size = omega (arith, length_push heights z, s.size);
       each = λ v h. elim (cases_lt v n) [
         | inl a ↦ get_or_append_left heights (z ∷ []) (pos 0) v (omega (arith, s.size)) ∙ s.each v a
-        | inr a ↦ (let i : v ≡ n = omega arith in get_or_push heights z (pos 0) v (omega (arith, s.size)) ∙ (e ∙ ap (λ (k : ℕ). neg_ℤ (pos (5001000000000 * k))) (sym i)))
+        | inr a ↦ (let i : v ≡ n = omega arith in get_or_push heights z (pos 0) v (omega (arith, s.size)) ∙ (e ∙ ap (λ (k : ℕ). neg_ℤ (pos (17001000000000 * k))) (sym i)))
       ];
     }
 

@@ -59,9 +59,9 @@ step_cost line (Give row) = pos (row_arc line row).pay
 abbrev pub height_at : List ℤ → ℕ → ℤ
 height_at heights v = slice_index_or heights v (pos 0)
 
--- no number is beyond what sums of 64 bits can take
+-- no number is beyond what sums of 64 bits can take: each is at most 550,000,000,000,000,000, which is more than an arc to each place can pay
 abbrev pub AreSmall : List ℤ → Type 0
-AreSmall heights = (v : ℕ) → nat_abs (height_at heights v) ≤ 100000000000000000
+AreSmall heights = (v : ℕ) → nat_abs (height_at heights v) ≤ 550000000000000000
 
 -- no step of the residual network has a negative cost once reduced by the heights at its ends: they are feasible potentials
 abbrev pub Fits : Part → Network → Flow → List ℤ → Type 0

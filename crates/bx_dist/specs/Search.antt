@@ -14,9 +14,9 @@ pub record Shortens (line : Network) (step : Step) (old new : List ℤ) : Type 0
   pub now : new ≡ slice_set old (step_to line step) (height_at old (step_from line step) +ℤ step_cost line step)
   pub lower : (height_at old (step_from line step) +ℤ step_cost line step) <ℤ height_at old (step_to line step)
 
--- numbers that may be added in 64 bits
+-- numbers that may be added in 64 bits: at most twice the limit of AreSmall, and an arc's pay
 abbrev pub AreMedium : List ℤ → Type 0
-AreMedium heights = (v : ℕ) → nat_abs (height_at heights v) ≤ 1000000000000000000
+AreMedium heights = (v : ℕ) → nat_abs (height_at heights v) ≤ 1110000000000000000
 
 -- the step names places and rows that there are
 abbrev pub IsStep : Network → Step → Type 0

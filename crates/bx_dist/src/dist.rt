@@ -35,7 +35,7 @@ impl Model for Dist {
 }
 
 impl Dist {
-    /// These lengths, one for each place in order, with this walk. No length may be beyond 10 to the power of 17, of either sign.
+    /// These lengths, one for each place in order, with this walk. No length may be beyond 550,000,000,000,000,000, of either sign.
     pub fn new(lengths: Vec<i64>, walk: Vec<Step>) -> Dist
         requires { AreSmall lengths.items }
         ensures lengths { result.lengths ≡ lengths.items }

@@ -1,3 +1,5 @@
+//! How much of the residual network is meant.
+
 /// A part of the residual network.
 #[derive(Clone, Copy, Debug, PartialEq, Eq)]
 pub enum Part {

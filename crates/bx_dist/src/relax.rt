@@ -9,7 +9,7 @@ use crate::steps::ends_of;
 use bx_line::Line;
 
 /// Takes the step where it shortens the way to its end, and says whether it does. The step has to name places and rows of the
-/// line, and there has to be a length for each place, none beyond 10 to the power of 18, of either sign.
+/// line, and there has to be a length for each place, none beyond 1,110,000,000,000,000,000, of either sign.
 pub fn shorten(lengths: &mut [i64], line: &Line, step: Step) -> bool
     requires step { IsStep line.now step }
     requires one_each { length lengths.old ≡ places_of line.now }

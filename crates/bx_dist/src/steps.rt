@@ -3,6 +3,7 @@
 ghost use Rattle.std.specs.Prelude.{◌≡◌, ◌≤◌, ◌<◌, ◌↔◌, IsTrue, length, nat_abs};
 ghost use Rattle.bx_line.specs.Flows.{IsSized};
 ghost use Rattle.bx_line.specs.Network.{places_of};
+ghost use Rattle.bx_line.specs.declared.line.TheConstants.{MAX_ARC_PAY};
 ghost use Rattle.bx_dist.specs.Residual.{IsOpen, HasRow, step_from, step_to, step_cost};
 ghost use Rattle.bx_dist.specs.Search.{IsStep};
 
@@ -20,7 +21,7 @@ pub fn ends_of(line: &Line, step: Step) -> (u16, u16, i64)
     ensures cost { result.2 ≡ step_cost line.now step }
     ensures from_within { result.0 < places_of line.now }
     ensures to_within { result.1 < places_of line.now }
-    ensures small { nat_abs result.2 ≤ 5001000000000 }
+    ensures small { nat_abs result.2 ≤ MAX_ARC_PAY }
 {
     // Read for the prover alone, which learns a limit from it.
     let _places = line.places();

@@ -94,5 +94,5 @@ later_few t (Calls number moment channel ∷ rows) = counted (nat_lt t moment) (
     counted true n k h = omega (arith, h)
     counted false n k h = omega (arith, h)
 
-pub opening_far : (script : List ScriptRow) (slots : List (Option PlainUserCall)) → length script ≤ 4000 → length slots ≡ 32 → AreSeated 0 slots → IsFar script 0 1 slots
+pub opening_far : (script : List ScriptRow) (slots : List (Option PlainUserCall)) → length script ≤ 16000 → length slots ≡ 32 → AreSeated 0 slots → IsFar script 0 1 slots
 opening_far script slots few size seated = record { moment_limit = omega arith; size = size; seated = seated; first = omega arith; room = omega (arith, few, later_few 0 script) }

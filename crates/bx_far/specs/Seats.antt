@@ -1,5 +1,6 @@
 -- Calls as they are kept: each in the slot of its channel.
 use Rattle.std.specs.Prelude.{◌≡◌, ◌≤◌, ⊤, ℕ, suc, ◌+◌, nat_lt, List, [], ◌∷◌, length, Option, Some, None, if◌then◌else◌}
+use Rattle.bx_base.specs.declared.bookings.TheConstants.{MAX_BOOKINGS}
 use Rattle.bx_channels.specs.ChannelNumbers.{IsChannel}
 use Rattle.bx_calls.specs.PlainCalls.{PlainUserCall}
 use Rattle.bx_far.specs.declared.row.ScriptRow.{ScriptRow}
@@ -32,4 +33,4 @@ pub record IsFar (script : List ScriptRow) (moment next : ℕ) (slots : List (Op
   pub size : length slots ≡ 32
   pub seated : AreSeated 0 slots
   pub first : 1 ≤ next
-  pub room : next + calls_later moment script ≤ 4001
+  pub room : next + calls_later moment script ≤ MAX_BOOKINGS + 1

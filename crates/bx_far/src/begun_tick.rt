@@ -1,6 +1,7 @@
 //! Rows that call, at a tick.
 
 ghost use Rattle.std.specs.Prelude.{◌≡◌, ◌≤◌, ◌+◌, false, [], ◌∷◌};
+ghost use Rattle.bx_base.specs.declared.bookings.TheConstants.{MAX_BOOKINGS};
 ghost use Rattle.bx_channels.specs.Marks.{is_marked};
 ghost use Rattle.bx_far.specs.FarDay.{begin_call, begin_row, begin_rows};
 ghost use Rattle.bx_far.specs.Inside.{calls_now};
@@ -39,7 +40,7 @@ impl BegunTick {
     /// The rows of this moment call, each on a channel that is neither blocked nor called on by an earlier row.
     pub(crate) fn begin_rows(&mut self, rows: &[ScriptRow], moment: u32)
         requires moment { moment ≤ LAST_MOMENT }
-        requires room { self.old.next + calls_now moment rows.now ≤ 4001 }
+        requires room { self.old.next + calls_now moment rows.now ≤ MAX_BOOKINGS + 1 }
         ensures { self.new ≡ begin_rows moment rows.now self.old }
     {
         for row in rows {
@@ -49,7 +50,7 @@ impl BegunTick {
 
     fn begin_row(&mut self, row: &ScriptRow, moment: u32)
         requires moment { moment ≤ LAST_MOMENT }
-        requires room { self.old.next + calls_now moment (row.now ∷ []) ≤ 4001 }
+        requires room { self.old.next + calls_now moment (row.now ∷ []) ≤ MAX_BOOKINGS + 1 }
         ensures { self.new ≡ begin_row moment row.now self.old }
     {
         if let ScriptRow::Calls {
@@ -67,7 +68,7 @@ impl BegunTick {
     fn begin(&mut self, number: Number, channel: Channel, moment: u32)
         requires moment { moment ≤ LAST_MOMENT }
         requires free { is_marked self.old.blocked channel ≡ false }
-        requires room { self.old.next ≤ 4000 }
+        requires room { self.old.next ≤ MAX_BOOKINGS }
         ensures { self.new ≡ begin_call moment number channel self.old }
     {
         let (call, setup) = UserCall::calling(self.next, channel, number, moment);

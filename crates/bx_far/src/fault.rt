@@ -14,7 +14,7 @@ pub enum ScriptFault {
     /// The fields of the row say nothing that an end can do.
     #[error("S3 BadEntry {0}")]
     BadEntry(u16),
-    /// There is a row after the 4,000th.
+    /// There is a row after the 16,000th.
     #[error("S4 TooMany")]
     TooMany,
     /// Memory ran out.

@@ -2,6 +2,7 @@
 
 ghost use Rattle.std.specs.Prelude.{◌≡◌, ◌++◌, ◌∷◌, [], length, ◌<◌, ◌≤◌, OnOk, IfOk, IfErr};
 ghost use Rattle.csv.specs.Reading.{strip_bom};
+ghost use Rattle.bx_base.specs.declared.bookings.TheConstants.{MAX_BOOKINGS};
 ghost use Rattle.bx_far.specs.Policies.{fits_number, policy_for, policy_of};
 ghost use Rattle.bx_far.specs.ScriptTexts.{IsScript, IsScriptFault};
 
@@ -14,7 +15,7 @@ use bx_text::records_of;
 use std::alloc::{AllocError, Global};
 use std::marker::Model;
 
-/// The rows of a script, in their order: at most 4,000.
+/// The rows of a script, in their order: at most 16,000.
 #[derive(Drop)]
 pub struct Script {
     pub(crate) rows: Vec<ScriptRow>,
@@ -22,18 +23,19 @@ pub struct Script {
 
 impl Model for Script {
     ghost use Rattle.std.specs.Prelude.{List, length, ◌≤◌};
+    ghost use Rattle.bx_base.specs.declared.bookings.TheConstants.{MAX_BOOKINGS};
     ghost use Rattle.bx_far.specs.declared.row.ScriptRow.{ScriptRow};
 
     ghost Value = { List ScriptRow };
 
     ghost view = { λ s. s.rows.items };
 
-    ghost invariant = { λ s. length s.rows.items ≤ 4000 };
+    ghost invariant = { λ s. length s.rows.items ≤ MAX_BOOKINGS };
 }
 
 impl Script {
     /// Reads a script, RFC 4180 records as `csv` reads them: a header `number,policy,seconds`, which may go on
-    /// with `channel`, and then at most 4,000 rows. The answer is all rows, or the first fault: `BadHeader`, or of the rows in
+    /// with `channel`, and then at most 16,000 rows. The answer is all rows, or the first fault: `BadHeader`, or of the rows in
     /// their order `WrongColumns`, `BadEntry` or `TooMany`; or `Memory` where memory ran out.
     pub fn read(alloc: Global, octets: &[u8]) -> Result<Script, ScriptFault>
         ensures ok { IfOk result (IsScript (strip_bom octets.now)) }
@@ -58,16 +60,16 @@ impl Script {
         }
     }
 
-    /// How many rows there are: 0 to 4,000.
+    /// How many rows there are: 0 to 16,000.
     pub(crate) fn count(&self) -> u16
         ensures value { result ≡ length self.now }
-        ensures limit { length self.now ≤ 4000 }
+        ensures limit { length self.now ≤ MAX_BOOKINGS }
     {
         self.rows.len() as u16
     }
 
     pub(crate) fn add(&mut self, row: ScriptRow) -> Result<(), AllocError>
-        requires { length self.old < 4000 }
+        requires { length self.old < MAX_BOOKINGS }
         ensures { OnOk result (self.new ≡ self.old ++ row ∷ []) }
     {
         // The check of a push needs the types of the parts in view.
@@ -105,11 +107,11 @@ impl Script {
     }
 }
 
-/// Adds a row to fewer than 4,000.
+/// Adds a row to fewer than 16,000.
 fn push_to<T: Drop>(items: &mut Vec<T>, item: T) -> Result<(), AllocError>
-    requires { length items.old.items < 4000 }
+    requires { length items.old.items < MAX_BOOKINGS }
     ensures ok { OnOk result (items.new.items ≡ items.old.items ++ item ∷ []) }
-    ensures limit { length items.new.items ≤ 4000 }
+    ensures limit { length items.new.items ≤ MAX_BOOKINGS }
 {
     match items.push(item) {
         Ok(()) => Ok(()),

@@ -4,6 +4,7 @@ use Rattle.std.specs.Prelude.{ℕ, ◌==◌, ◌&&◌, nat_le, nat_lt, not, Bool
 use Rattle.std.specs.List.{flat_map}
 use Rattle.std.specs.Int.{w16, w32, to_be_bytes, from_be_bytes}
 use Rattle.arrayvec.specs.ArrayVec.{ArrayVec}
+use Rattle.bx_q931.specs.declared.reading.TheConstants.{MAX_MESSAGE}
 use Rattle.bx_frames.specs.declared.fault.LinkFault.{LinkFault}
 use Rattle.bx_frames.specs.declared.fault.LinkFault.TheVariants.{EndedInFrame, BadLength, UnknownKind, MoreThan64Messages}
 use Rattle.bx_frames.specs.declared.frame.Receiver.{Receiver}
@@ -66,7 +67,7 @@ frame_kind_of receiver octet = if octet == 1 then Some kinds.Message else if oct
 
 -- how many octets the contents have
 abbrev pub fits : FrameKind → ℕ → Bool
-fits kinds.Message n = nat_le n 260
+fits kinds.Message n = nat_le n MAX_MESSAGE
 fits kinds.EndOfTurn n = n == 4
 fits kinds.EndOfDay n = n == 0
 

@@ -11,6 +11,7 @@ use Rattle.bx_frames.specs.Reading.{IsRead, FailsToRead}
 use Rattle.bx_frames.specs.declared.fault.LinkFault.{LinkFault}
 use Rattle.bx_frames.specs.declared.fault.LinkFault.TheVariants.{ReadFailed, WriteFailed, EndedInFrame}
 use Rattle.bx_frames.specs.declared.frame.Receiver.{Receiver}
+use Rattle.bx_frames.specs.declared.turn.TheConstants.{MAX_MESSAGES}
 
 -- ---- what was heard of a text
 
@@ -97,5 +98,5 @@ abbrev pub HearsTurnKept : {D E R W : Type 0} →
     (R → Option (List ℕ)) → (W → Option (List ℕ)) →
     E → E → Watched R → Watched R → Watched W → Watched W → Result Bool LinkFault → Type 0
 HearsTurnKept day kept next text receiver moment remaining contents e e' r r' w w' result =
-    (went : Went receiver next text (turn_in receiver moment 64) no_tick remaining contents r r' w w' (day e) (day e') result) ×
+    (went : Went receiver next text (turn_in receiver moment MAX_MESSAGES) no_tick remaining contents r r' w w' (day e) (day e') result) ×
     kept e went.events e'

@@ -2,6 +2,7 @@
 use Rattle.std.specs.Prelude.{◌≡◌, ℕ, ◌+◌, ◌≤◌, ◌<◌, min, true, List, [], ◌++◌, Option, Some, Result, Err, ◌⊎◌}
 use Rattle.bx_devices.specs.Watching.{device_of, is_faulted, reads_of}
 use Rattle.bx_devices.specs.declared.watched.Watched.{Watched}
+use Rattle.bx_devices.specs.declared.watched.TheConstants.{MAX_READS}
 use Rattle.bx_frames.specs.Frames.{is_far, Found, found}
 use Rattle.bx_frames.specs.declared.fault.LinkFault.{LinkFault}
 use Rattle.bx_frames.specs.declared.fault.LinkFault.TheVariants.{EndedInFrame, ReadFailed, WriteFailed}
@@ -18,7 +19,7 @@ pub record IsRead (text read : List ℕ) (left : Option (List ℕ)) : Type 0 whe
 -- a read failed: the reader is faulted now, and a read was passed on to it, as far as reads are counted
 pub record FailsToRead {R : Type 0} (old new : Watched R) : Type 0 where
   pub faulted : is_faulted new ≡ true
-  pub passed_on : min (reads_of old + 1) 8388608 ≤ reads_of new
+  pub passed_on : min (reads_of old + 1) MAX_READS ≤ reads_of new
 
 -- this was found, and these octets are left
 pub record IsFound {A : Type 0} (finds : Found A) (result : Result A LinkFault) (left : Option (List ℕ)) : Type 0 where

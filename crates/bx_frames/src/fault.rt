@@ -16,7 +16,7 @@ pub enum LinkFault {
     /// The input ended inside a frame, or before the end of a turn.
     #[error("L3 EndedInFrame")]
     EndedInFrame,
-    /// A message of more than 260 octets, an end of turn of other than 4, or an end of other than 0.
+    /// A message of more than `MAX_MESSAGE` octets, an end of turn of other than 4, or an end of other than 0.
     #[error("L4 BadLength")]
     BadLength,
     /// The kind is none, or one that this end is not sent.

@@ -3,7 +3,7 @@
 ghost use Rattle.std.specs.Prelude.{◌≡◌};
 ghost use Rattle.bx_frames.specs.Frames.{frame_kind_of, fits};
 
-use bx_q931::Octets;
+use bx_q931::{MAX_MESSAGE, Octets};
 
 /// Which end reads.
 #[derive(Clone, Copy, Debug, PartialEq, Eq)]
@@ -49,7 +49,7 @@ impl FrameKind {
         ensures { result ≡ fits self length }
     {
         match self {
-            FrameKind::Message => length <= 260,
+            FrameKind::Message => length <= MAX_MESSAGE,
             FrameKind::EndOfTurn => length == 4,
             FrameKind::EndOfDay => length == 0,
         }

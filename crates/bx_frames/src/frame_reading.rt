@@ -10,7 +10,7 @@ use crate::frame::{Frame, FrameKind, Receiver};
 use crate::octet_reading::read_exact_octets;
 use arrayvec::ArrayVec;
 use bx_devices::Watched;
-use bx_q931::Octets;
+use bx_q931::{MAX_MESSAGE, Octets};
 use std::io::Read;
 
 /// Reads one octet.
@@ -36,11 +36,11 @@ fn read_length<R: Read>(r: &mut Watched<R>) -> Result<u16, LinkFault>
 
 /// Reads contents of so many octets.
 fn read_octets<R: Read>(r: &mut Watched<R>, count: usize) -> Result<Octets, LinkFault>
-    requires { count ≤ 260 }
+    requires { count ≤ MAX_MESSAGE }
     ensures read { Reads R.remaining r.old r.new result (octets_in count) }
     ensures count { IfOk result (λ o. length o.items ≡ count) }
 {
-    let mut buf = [0u8; 260];
+    let mut buf = [0u8; MAX_MESSAGE];
     let part = &mut buf[..count];
     match read_exact_octets(r, part) {
         Ok(n) if n < count => Err(LinkFault::EndedInFrame),

@@ -230,7 +230,7 @@ search_room s st Hand Left setting search =
     }
 
 -- a step that shortens leaves lengths that may be added
-pub shortened_medium : (line : Network) (step : Step) (old new : List ℤ) (to : ℕ) (cost : ℤ) → ((v : ℕ) → nat_abs (height_at old v) ≤ 500000000000000000) → Shortens line step old new → to ≡ step_to line step → cost ≡ step_cost line step → nat_abs cost ≤ 5001000000000 → to < length old → AreMedium new
+pub shortened_medium : (line : Network) (step : Step) (old new : List ℤ) (to : ℕ) (cost : ℤ) → ((v : ℕ) → nat_abs (height_at old v) ≤ 1100000000000000000) → Shortens line step old new → to ≡ step_to line step → cost ≡ step_cost line step → nat_abs cost ≤ 17001000000000 → to < length old → AreMedium new
 shortened_medium line step old new to cost roomy s to_is cost_is small within v =
     elim (cases_eq v (step_to line step)) [
       | inl e ↦ (

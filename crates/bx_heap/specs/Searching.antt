@@ -47,9 +47,9 @@ pub record IsSetting (s : Setting) : Type 0 where
   pub fits : ArePotentials s.line s.flow s.heights
   pub small : AreSmall s.heights
 
--- how near a place is: what its reduced length is below 2 to the power of 60
+-- how near a place is: what its reduced length is below 2 to the power of 61
 abbrev pub nearness_at : List ℤ → List ℤ → ℕ → ℤ
-nearness_at heights lengths v = pos 1152921504606846976 -ℤ reduced heights lengths v
+nearness_at heights lengths v = pos 2305843009213693952 -ℤ reduced heights lengths v
 
 -- the place is in one of the lists of those that wait, in the heap as near as it is now
 abbrev pub IsQueued : Setting → State → ℕ → Type 0
@@ -128,11 +128,11 @@ ReachesStep s step old new = (ShortensNothing s.line old.lengths step × (new �
 abbrev pub TakesOpenStep : Setting → Step → State → State → Type 0
 TakesOpenStep s step old new = ((IsOpen s.part s.line s.flow step → ⊥) × (new ≡ old)) ⊎ (IsOpen s.part s.line s.flow step × ReachesStep s step old new)
 
--- each place has a length and a last step, and the lengths leave room for a step more
+-- each place has a length and a last step, and the lengths, which are at most two heights apart, leave room for a step more
 pub record HasRoom (line : Network) (st : State) : Type 0 where
   pub lengths_each : length st.lengths ≡ places_of line
   pub last_each : length st.last ≡ places_of line
-  pub roomy : (v : ℕ) → nat_abs (height_at st.lengths v) ≤ 500000000000000000
+  pub roomy : (v : ℕ) → nat_abs (height_at st.lengths v) ≤ 1100000000000000000
 
 -- each place but the first has a last step, from a place that was settled before it
 pub record ArePointers (line : Network) (st : State) : Type 0 where

@@ -101,7 +101,7 @@ impl Frontier {
         requires medium { AreMedium self.now.lengths.items }
         requires one_each { length potentials.now ≡ length self.now.lengths.items }
         ensures value { result ≡ reduced potentials.now self.now.lengths.items place }
-        ensures small { nat_abs result ≤ 1100000000000000000 }
+        ensures small { nat_abs result ≤ 1660000000000000000 }
     {
         self.lengths[place as usize] - potentials.height(place)
     }

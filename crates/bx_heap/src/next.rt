@@ -7,8 +7,9 @@ use crate::frontier::Frontier;
 use bx_dist::Potentials;
 use std::alloc::AllocError;
 
-/// 2 to the power of 60, which is more than any length.
-const FAR: i64 = 1_152_921_504_606_846_976;
+/// 2 to the power of 61, which is more than any reduced length: these are at most 1,660,000,000,000,000,000, a length that may be
+/// added and a height.
+const FAR: i64 = 2_305_843_009_213_693_952;
 
 impl Frontier {
     /// The nearest place that has no rank yet, or none where all have one.
@@ -72,8 +73,8 @@ fn next_of(places: &mut Vec<u16>, ranks: &[u16]) -> Option<u16>
 
 /// How near a place of this reduced length is: the nearer, the more.
 fn nearness(reduced: i64) -> u64
-    requires { nat_abs reduced ≤ 1100000000000000000 }
-    ensures { pos result ≡ (pos 1152921504606846976 -ℤ reduced) }
+    requires { nat_abs reduced ≤ 1660000000000000000 }
+    ensures { pos result ≡ (pos 2305843009213693952 -ℤ reduced) }
 {
     (FAR - reduced) as u64
 }

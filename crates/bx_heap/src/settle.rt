@@ -4,6 +4,7 @@ ghost use Rattle.bx_dist.specs.Search.{IsStep};
 ghost use Rattle.bx_heap.specs.Searching.{state_from, setting_of, settled_at, turn_on, row_step, HasRoom, IsInHand, IsLeftToTake, IsResting, IsSetting, IsSettling, TakesOpenStep, IsSettlingFrom};
 ghost use Rattle.bx_line.specs.Flows.{IsSized};
 ghost use Rattle.bx_line.specs.Network.{places_of};
+ghost use Rattle.bx_line.specs.declared.line.TheConstants.{MAX_PLACES};
 ghost use Rattle.std.specs.Prelude.{◌≡◌, ◌≤◌, ◌<◌, ◌+◌, OnOk, length};
 
 use crate::frontier::Frontier;
@@ -38,7 +39,7 @@ impl Frontier {
     /// Gives a place the next rank.
     fn mark(&mut self, place: u16)
         requires within { place < length self.old.ranks.items }
-        requires few { self.old.count ≤ 8000 }
+        requires few { self.old.count ≤ MAX_PLACES }
         ensures { state_from self.new ≡ settled_at place (state_from self.old) }
     {
         self.count += 1;

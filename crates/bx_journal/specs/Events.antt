@@ -6,6 +6,7 @@ use Rattle.bx_events.specs.Told.{live_event_of}
 use Rattle.bx_events.specs.declared.event.LiveEvent.TheVariants as rust
 use Rattle.bx_events.specs.declared.event.Event.TheVariants as plain
 use Rattle.bx_events.specs.declared.event.LiveEvent as rust_live
+use Rattle.bx_q931.specs.declared.reading.TheConstants.{MAX_MESSAGE}
 use Rattle.bx_journal.specs.declared.event.LoggedEvent.{LoggedEvent}
 use Rattle.bx_journal.specs.declared.event.LoggedEvent.TheVariants as logged
 
@@ -16,7 +17,7 @@ is_printable octet = nat_le 32 octet && nat_le octet 126
 -- what came is no longer than the longest message, and what is sold is printable, and no longer than its line may be
 abbrev pub IsLoggable : LiveEvent → Type 0
 IsLoggable (OnLink Tick) = Unit {0}
-IsLoggable (OnLink (Receive octets)) = length octets ≤ 260
+IsLoggable (OnLink (Receive octets)) = length octets ≤ MAX_MESSAGE
 IsLoggable WithoutLink = Unit {0}
 IsLoggable (Sold booking) = (length booking ≤ 120) × (list_all is_printable booking ≡ true)
 

@@ -10,7 +10,7 @@ use crate::written::line_of;
 use bx_events::LiveEvent;
 
 /// Writes the line of an event after the others. It is logged when the journal is committed, and not before. Octets that came
-/// are at most 260. `DiskFailed` where the write failed.
+/// are at most `MAX_MESSAGE`. `DiskFailed` where the write failed.
 pub fn write_event<D: Disk>(disk: &mut D, event: LiveEvent<'_>) -> Result<(), DiskFailed>
     requires { IsLoggable (live_event_of event) }
     ensures written { OnOk result (AddsPending D.holds D.may_leave disk.old (live_event_of event.entry) disk.new) }
@@ -36,7 +36,7 @@ pub fn commit<D: Disk>(disk: &mut D) -> Result<(), DiskFailed>
     disk.sync()
 }
 
-/// Logs an event: it is to be called before anything is done about the event. Octets that came are at most 260. At `Ok`
+/// Logs an event: it is to be called before anything is done about the event. Octets that came are at most `MAX_MESSAGE`. At `Ok`
 /// each crash from then on leaves a text that has it. At `DiskFailed`, where the write or the sync failed, it may be logged or
 /// not.
 pub fn log_event<D: Disk>(disk: &mut D, event: LiveEvent<'_>) -> Result<(), DiskFailed>
@@ -53,7 +53,7 @@ pub fn log_event<D: Disk>(disk: &mut D, event: LiveEvent<'_>) -> Result<(), Disk
     commit(disk)
 }
 
-/// Logs events by one sync, as those of a turn before what is sent in it goes out. Octets that came are at most 260 for
+/// Logs events by one sync, as those of a turn before what is sent in it goes out. Octets that came are at most `MAX_MESSAGE` for
 /// each event. At `DiskFailed`, where a write or the sync failed, a prefix of them may be logged.
 pub fn log_events<D: Disk>(disk: &mut D, events: &[LiveEvent<'_>]) -> Result<(), DiskFailed>
     requires { AreMessages events.now }

@@ -9,7 +9,7 @@ use Rattle.bx_line.specs.Moments.{IsMoment, HasJustMoments}
 use Rattle.bx_line.specs.Network.{IsNetwork, network_of, IsArc, IsArcOf, AreArcsOf, arc_pay}
 use Rattle.bx_line.proofs.MomentLemmas.{never_falls}
 
-pay_in_limits : (row : Row) (b : Bool) → row.must ≡ b → IsBooking row → (1 ≤ arc_pay row) × (arc_pay row ≤ 5001000000000)
+pay_in_limits : (row : Row) (b : Bool) → row.must ≡ b → IsBooking row → (1 ≤ arc_pay row) × (arc_pay row ≤ 17001000000000)
 pay_in_limits row true e k = rw e (omega (arith, k.paid, k.pay_limit), omega (arith, k.paid, k.pay_limit))
 pay_in_limits row false e k = rw e (omega (arith, k.paid, k.pay_limit), omega (arith, k.paid, k.pay_limit))
 
@@ -28,7 +28,7 @@ arc_in_limits moments row arc rising k a =
       pay_limit = omega (arith, pay.1, a.pay);
     }
 
-pub network_in_limits : (rows : List Row) (moments : List ℕ) (arcs : List Arc) → AreBookings rows → length moments ≤ 8000 → IsStrictlyIncreasing moments → HasJustMoments rows moments → AreArcsOf moments rows arcs → IsNetwork (network_of moments arcs)
+pub network_in_limits : (rows : List Row) (moments : List ℕ) (arcs : List Arc) → AreBookings rows → length moments ≤ 32000 → IsStrictlyIncreasing moments → HasJustMoments rows moments → AreArcsOf moments rows arcs → IsNetwork (network_of moments arcs)
 network_in_limits rows moments arcs bookings few rising just are =
     record {
       few_places = few;

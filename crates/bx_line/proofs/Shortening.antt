@@ -15,7 +15,7 @@ last_enough last = grind (arith, nat_tests)
 last_two : (last : ℕ) → 2 ≤ count_places last
 last_two last = grind (arith, nat_tests)
 
-last_few : (last : ℕ) → last < 8000 → count_places last ≤ 8000
+last_few : (last : ℕ) → last < 32000 → count_places last ≤ 32000
 last_few last h = grind (arith, nat_tests)
 
 pub some_places : (counts : List ℕ) → 0 < length counts → shorter_places counts ≡ count_places (get_or counts (length counts - 1) 0)
@@ -29,7 +29,7 @@ two_places counts h = omega (arith, some_places counts h, last_two (get_or count
 
 module _ (line : Network) (counts : List ℕ) (network : IsNetwork line) (cliques : AreCliques line counts) where
   -- no count is beyond the places
-  pub count_few : (v : ℕ) → get_or counts v 0 < 8000
+  pub count_few : (v : ℕ) → get_or counts v 0 < 32000
   count_few v =
       elim (cases_lt v (places_of line)) [
         | inl h ↦ omega (arith, cliques.each v h, few_below line v, network.few_places)
@@ -41,7 +41,7 @@ module _ (line : Network) (counts : List ℕ) (network : IsNetwork line) (clique
       let last = length counts - 1 in
       omega (arith, counts_rise line counts cliques v last (omega (arith, cliques.one_each)) (omega (arith, cliques.one_each)), some_places counts (omega (arith, cliques.one_each)), last_enough (get_or counts last 0))
 
-  places_few : shorter_places counts ≤ 8000
+  places_few : shorter_places counts ≤ 32000
   places_few =
       elim (cases_lt 0 (length counts)) [
         | inl h ↦ omega (arith, some_places counts h, last_few (get_or counts (length counts - 1) 0) (count_few (length counts - 1)))

@@ -4,6 +4,7 @@ use Rattle.std.specs.Prelude.{◌≡◌, ℕ, ◌+◌, ◌-◌, ◌<◌, ◌≤�
 use Rattle.std.specs.List.Sorted.{IsStrictlyIncreasing}
 use Rattle.bx_base.specs.Bookings.{Row, row_at}
 use Rattle.bx_line.specs.declared.arc.Arc.{Arc}
+use Rattle.bx_line.specs.declared.line.TheConstants.{MAX_ARC_PAY, MAX_PLACES, MUST_RAISE}
 use Rattle.bx_base.specs.declared.booking.TheConstants.{MAX_MOMENT}
 use Rattle.bx_base.specs.declared.bookings.TheConstants.{MAX_BOOKINGS}
 
@@ -38,7 +39,7 @@ spans arc gap = nat_le arc.from gap && nat_lt gap arc.to
 
 -- what a must row's arc pays more, which is beyond what all other rows can pay together
 abbrev pub must_raise : ℕ
-must_raise = 5000000000000
+must_raise = MUST_RAISE
 
 -- what the arc of a row pays
 abbrev pub arc_pay : Row → ℕ
@@ -63,11 +64,11 @@ pub record IsArc (places : ℕ) (arc : Arc) : Type 0 where
   pub rising : arc.from < arc.to
   pub within : arc.to < places
   pub some_pay : 1 ≤ arc.pay
-  pub pay_limit : arc.pay ≤ 5001000000000
+  pub pay_limit : arc.pay ≤ MAX_ARC_PAY
 
 -- the limits of a line
 pub record IsNetwork (line : Network) : Type 0 where
-  pub few_places : places_of line ≤ 8000
+  pub few_places : places_of line ≤ MAX_PLACES
   pub two_ends : 0 < places_of line → 2 ≤ places_of line
   pub few_rows : length line.arcs ≤ MAX_BOOKINGS
   pub rising : IsStrictlyIncreasing line.moments

@@ -5,6 +5,7 @@ ghost use Rattle.std.specs.List.Sorted.{IsStrictlyIncreasing};
 ghost use Rattle.bx_base.specs.Bookings.{AreBookings};
 ghost use Rattle.bx_line.specs.Cliques.{AreCounted};
 ghost use Rattle.bx_line.specs.Moments.{HasJustMoments};
+ghost use Rattle.bx_line.specs.declared.line.TheConstants.{MAX_PLACES};
 ghost use Rattle.bx_line.specs.Network.{IsArc, IsArcOf, AreArcsOf, arc_pay, no_arc};
 
 use crate::arc::Arc;
@@ -27,7 +28,7 @@ fn pay_of_arc(booking: &Booking) -> u64
 /// The arc of a booking whose ends are among the moments.
 fn arc_between(moments: &[u32], booking: &Booking) -> Arc
     requires rising { IsStrictlyIncreasing moments.now }
-    requires few { length moments.now ≤ 8000 }
+    requires few { length moments.now ≤ MAX_PLACES }
     requires start { Contains moments.now booking.now.start }
     requires end { Contains moments.now booking.now.end }
     ensures { IsArcOf moments.now booking.now result }
@@ -47,7 +48,7 @@ pub(crate) fn arcs_of(
     bookings: &Bookings,
 ) -> Result<Vec<Arc>, AllocError>
     requires rising { IsStrictlyIncreasing moments.now }
-    requires few { length moments.now ≤ 8000 }
+    requires few { length moments.now ≤ MAX_PLACES }
     requires just { HasJustMoments bookings.now moments.now }
     ensures arcs { IfOk result (λ v. AreArcsOf moments.now bookings.now v.items) }
     ensures bookings { AreBookings bookings.now }

@@ -11,4 +11,4 @@ mod moments;
 
 pub use arc::Arc;
 pub use incidence::Incidence;
-pub use line::{Line, MUST_RAISE};
+pub use line::{Line, MAX_ARC_PAY, MAX_PLACES, MUST_RAISE};

@@ -15,9 +15,15 @@ use bx_base::Bookings;
 use std::alloc::{AllocError, Global};
 use std::marker::Model;
 
-/// What the arc of a booking that each plan has to hold pays more. All bookings together pay less, so a flow of
-/// least cost leaves out none of these that it can carry.
-pub const MUST_RAISE: u64 = 5_000_000_000_000;
+/// What the arc of a booking that each plan has to hold pays more. All bookings together pay less, 16,000,000,000,000 at most, so a
+/// flow of least cost leaves out none of these that it can carry.
+pub const MUST_RAISE: u64 = 17_000_000_000_000;
+
+/// The most that an arc pays: the raise of a must row, and the greatest pay of a booking.
+pub const MAX_ARC_PAY: u64 = 17_001_000_000_000;
+
+/// The most places of a line: two for each booking.
+pub const MAX_PLACES: usize = 32_000;
 
 /// The line network of a day (M. C. Carlisle and E. L. Lloyd, On the k-coloring of intervals, 1995): a place for
 /// each moment at which a booking starts or ends, an idle arc of cost 0 from each place to the next, and for each
@@ -77,7 +83,7 @@ impl Line {
         &self.moments
     }
 
-    /// How many places there are: 0 to 8,000.
+    /// How many places there are: 0 to 32,000.
     pub fn places(&self) -> u16
         ensures count { result ≡ places_of self.now }
         ensures limits { IsNetwork self.now }
@@ -85,7 +91,7 @@ impl Line {
         self.moments.len() as u16
     }
 
-    /// How many rows there are: 0 to 4,000.
+    /// How many rows there are: 0 to 16,000.
     pub fn rows(&self) -> u16
         ensures count { result ≡ length self.now.arcs }
         ensures limits { IsNetwork self.now }

@@ -102,16 +102,16 @@ charge-capped p =
       | inr high ↦ le-ltb (capped p.moment) 200000 (omega arith) ∙ sym (le-ltb p.moment 200000 high)
     ] in
     let low = low-capped p.amount 1 (lit< tt) in
-    let high = leb-capped p.amount 4000000000000 (lit< tt) in
+    let high = leb-capped p.amount 16000000000000 (lit< tt) in
     cc
 
 pub charge_is : (p : Charge) → is_charge p ≡ true → capped_charge p ≡ p
 unfolding is_charge
 charge_is p within =
-    let a = and_both _ (leb p.amount 4000000000000) within in
+    let a = and_both _ (leb p.amount 16000000000000) within in
     let b = and_both (ltb p.moment 200000) (leb 1 p.amount) a.0 in
     let moment : p.moment < 200000 = ltb-true _ _ b.0 in
-    let amount : p.amount ≤ 4000000000000 = leb-true _ _ a.1 in
+    let amount : p.amount ≤ 16000000000000 = leb-true _ _ a.1 in
     let q : capped p.moment ≡ p.moment = omega arith in
     let r : capped p.amount ≡ p.amount = omega arith in
     rw (q, r) refl

@@ -284,7 +284,7 @@ price_takes fs p form within =
     let c = cond_some (is_decimal (field 0 fs) && is_decimal (field 1 fs) && is_nothing (fields_from 2 fs)) (charge_of (decimal_value (field 0 fs)) (decimal_value (field 1 fs))) p form in
     let t = and_both _ (is_nothing (fields_from 2 fs)) c.0 in
     let u = and_both (is_decimal (field 0 fs)) (is_decimal (field 1 fs)) t.0 in
-    let v = and_both _ (leb p.amount 4000000000000) within in
+    let v = and_both _ (leb p.amount 16000000000000) within in
     let w = and_both (ltb p.moment 200000) (leb 1 p.amount) v.0 in
     let limits : IsCharge p = record { in_day = ltb-true _ _ w.0; positive = leb-true _ _ w.1; limit = leb-true _ _ v.1 } in
     let moment : decimal_value (field 0 fs) ≡ p.moment = ap (λ (x : Charge). x.moment) c.1 in

@@ -53,18 +53,18 @@ pub count_again : (word : List ℕ) (most n count : ℕ) → most < 2 ^ 64 → c
 unfolding read_count
 count_again word most n count small le = rw (named_again word count (omega arith), le-leb count most le) refl
 
-pub total_takes : (n : ℕ) (fs : List (List ℕ)) (total : ℕ) → read_total n fs ≡ Ok total → (fs ≡ named (codes "total") total) × (total ≤ 4000000000000)
+pub total_takes : (n : ℕ) (fs : List (List ℕ)) (total : ℕ) → read_total n fs ≡ Ok total → (fs ≡ named (codes "total") total) × (total ≤ 16000000000000)
 unfolding read_total
 total_takes n fs total e =
-    let a = bind_ok (or_fault (BadLine n) (named_form (codes "total") fs)) (λ c. where_holds (leb c 4000000000000) (OutOfLimits n) c) total e in
-    let h = holds_ok (leb a.0 4000000000000) (OutOfLimits n) a.0 total a.2 in
-    let le : total ≤ 4000000000000 = rw h.1 at (leb-true a.0 4000000000000 h.0) in
+    let a = bind_ok (or_fault (BadLine n) (named_form (codes "total") fs)) (λ c. where_holds (leb c 16000000000000) (OutOfLimits n) c) total e in
+    let h = holds_ok (leb a.0 16000000000000) (OutOfLimits n) a.0 total a.2 in
+    let le : total ≤ 16000000000000 = rw h.1 at (leb-true a.0 16000000000000 h.0) in
     let form : named_form (codes "total") fs ≡ Some total = or_ok (BadLine n) (named_form (codes "total") fs) a.0 a.1 ∙ ap Some h.1 in
     (named_takes (codes "total") fs total form (omega arith), le)
 
-pub total_again : (n total : ℕ) → total ≤ 4000000000000 → read_total n (named (codes "total") total) ≡ Ok total
+pub total_again : (n total : ℕ) → total ≤ 16000000000000 → read_total n (named (codes "total") total) ≡ Ok total
 unfolding read_total
-total_again n total le = rw (named_again (codes "total") total (omega arith), le-leb total 4000000000000 le) refl
+total_again n total le = rw (named_again (codes "total") total (omega arith), le-leb total 16000000000000 le) refl
 
 pub entry_takes : (version : Version) (n : ℕ) (fs : List (List ℕ)) (e : Entry) → read_booking version n fs ≡ Ok e → IsBookingLine version fs e
 unfolding read_booking

@@ -28,9 +28,9 @@ tail_lines prices total = named (codes "prices") (length prices) ∷ (map price_
 
 pub record ReadsTail (bytes : List ℕ) (x : List Charge × ℕ) : Type 0 where
   pub spelled : bytes ≡ flat_map line_text (tail_lines x.0 x.1)
-  pub few : length x.0 ≤ 8000
+  pub few : length x.0 ≤ 32000
   pub prices : (i : ℕ) → i < length x.0 → IsCharge (price_at x.0 i)
-  pub total : x.1 ≤ 4000000000000
+  pub total : x.1 ≤ 16000000000000
 
 -- the text of the tail, line for line
 tail_text : (prices : List Charge) (total : ℕ) → flat_map line_text (tail_lines prices total)
@@ -38,11 +38,11 @@ tail_text : (prices : List Charge) (total : ℕ) → flat_map line_text (tail_li
 tail_text prices total = ap (λ (r : List ℕ). line_text (named (codes "prices") (length prices)) ++ r) (flat_map-append line_text (map price_fields prices) (named (codes "total") total ∷ (codes "end" ∷ []) ∷ []))
 
 module _ (n count total : ℕ) (bytes r1 r2 r3 r4 rest : List ℕ) (f1 f2 f3 : List (List ℕ)) (prices : List Charge) where
-  tail_from : read_line n bytes ≡ Ok (f1, r1) → read_count (codes "prices") 8000 n f1 ≡ Ok count → read_prices count (n + 1) r1 ≡ Ok (prices, r2)
+  tail_from : read_line n bytes ≡ Ok (f1, r1) → read_count (codes "prices") 32000 n f1 ≡ Ok count → read_prices count (n + 1) r1 ≡ Ok (prices, r2)
       → read_line (n + 1 + count) r2 ≡ Ok (f2, r3) → read_total (n + 1 + count) f2 ≡ Ok total → read_line (n + 2 + count) r3 ≡ Ok (f3, r4) → read_end (n + 2 + count) f3 r4 ≡ Ok rest
       → ReadsTail bytes (prices, total)
   tail_from line1 count1 prices1 line2 total1 line3 end1 =
-      let counted = count_takes (codes "prices") 8000 n f1 count (lit< tt) count1 in
+      let counted = count_takes (codes "prices") 32000 n f1 count (lit< tt) count1 in
       let listed = prices_take count (n + 1) r1 (prices, r2) prices1 in
       let totalled = total_takes (n + 1 + count) f2 total total1 in
       let ended = ends_so (n + 2 + count) f3 r4 rest end1 in
@@ -51,14 +51,14 @@ module _ (n count total : ℕ) (bytes r1 r2 r3 r4 rest : List ℕ) (f1 f2 f3 : L
       let price_text : r1 ≡ flat_map line_text (map price_fields prices) ++ (line_text (named (codes "total") total) ++ (line_text (codes "end" ∷ []) ++ [])) = listed.spelled ∙ rw total_line refl in
       let count_line : bytes ≡ line_text (named (codes "prices") (length prices)) ++ r1 = line_takes n bytes (f1, r1) line1 ∙ rw (counted.0, listed.len) refl in
       let whole : bytes ≡ flat_map line_text (tail_lines prices total) = count_line ∙ ap (λ (r : List ℕ). line_text (named (codes "prices") (length prices)) ++ r) price_text ∙ sym (tail_text prices total) in
-      let few : length prices ≤ 8000 = rw listed.len counted.1 in
+      let few : length prices ≤ 32000 = rw listed.len counted.1 in
       record { spelled = whole; few = few; prices = listed.prices; total = totalled.1 }
 
 tail_takes : (n : ℕ) (bytes : List ℕ) (x : List Charge × ℕ) → read_tail n bytes ≡ Ok x → ReadsTail bytes x
 unfolding read_tail
 tail_takes n bytes x e =
-    let a = bind_ok (read_line n bytes) (λ line. read_count (codes "prices") 8000 n line.0 >>= λ count. read_prices count (n + 1) line.1 >>= λ prices. read_line (n + 1 + count) prices.1 >>= λ last. read_total (n + 1 + count) last.0 >>= λ total. read_line (n + 2 + count) last.1 >>= λ ending. read_end (n + 2 + count) ending.0 ending.1 >>= λ rest. Ok (prices.0, total)) x e in
-    let b = bind_ok (read_count (codes "prices") 8000 n a.0.0) (λ count. read_prices count (n + 1) a.0.1 >>= λ prices. read_line (n + 1 + count) prices.1 >>= λ last. read_total (n + 1 + count) last.0 >>= λ total. read_line (n + 2 + count) last.1 >>= λ ending. read_end (n + 2 + count) ending.0 ending.1 >>= λ rest. Ok (prices.0, total)) x a.2 in
+    let a = bind_ok (read_line n bytes) (λ line. read_count (codes "prices") 32000 n line.0 >>= λ count. read_prices count (n + 1) line.1 >>= λ prices. read_line (n + 1 + count) prices.1 >>= λ last. read_total (n + 1 + count) last.0 >>= λ total. read_line (n + 2 + count) last.1 >>= λ ending. read_end (n + 2 + count) ending.0 ending.1 >>= λ rest. Ok (prices.0, total)) x e in
+    let b = bind_ok (read_count (codes "prices") 32000 n a.0.0) (λ count. read_prices count (n + 1) a.0.1 >>= λ prices. read_line (n + 1 + count) prices.1 >>= λ last. read_total (n + 1 + count) last.0 >>= λ total. read_line (n + 2 + count) last.1 >>= λ ending. read_end (n + 2 + count) ending.0 ending.1 >>= λ rest. Ok (prices.0, total)) x a.2 in
     let c = bind_ok (read_prices b.0 (n + 1) a.0.1) (λ prices. read_line (n + 1 + b.0) prices.1 >>= λ last. read_total (n + 1 + b.0) last.0 >>= λ total. read_line (n + 2 + b.0) last.1 >>= λ ending. read_end (n + 2 + b.0) ending.0 ending.1 >>= λ rest. Ok (prices.0, total)) x b.2 in
     let d = bind_ok (read_line (n + 1 + b.0) c.0.1) (λ last. read_total (n + 1 + b.0) last.0 >>= λ total. read_line (n + 2 + b.0) last.1 >>= λ ending. read_end (n + 2 + b.0) ending.0 ending.1 >>= λ rest. Ok (c.0.0, total)) x c.2 in
     let f = bind_ok (read_total (n + 1 + b.0) d.0.0) (λ total. read_line (n + 2 + b.0) d.0.1 >>= λ ending. read_end (n + 2 + b.0) ending.0 ending.1 >>= λ rest. Ok (c.0.0, total)) x d.2 in
@@ -67,7 +67,7 @@ tail_takes n bytes x e =
     subst (λ (y : List Charge × ℕ). ReadsTail bytes y) {x = (c.0.0, f.0)} (cc h.2)
     (tail_from n b.0 f.0 bytes a.0.1 c.0.1 d.0.1 g.0.1 h.0 a.0.0 d.0.0 g.0.0 c.0.0 a.1 b.1 c.1 d.1 f.1 g.1 h.1)
 
-tail_again : (n : ℕ) (prices : List Charge) (total : ℕ) → length prices ≤ 8000 → ((i : ℕ) → i < length prices → IsCharge (price_at prices i)) → total ≤ 4000000000000
+tail_again : (n : ℕ) (prices : List Charge) (total : ℕ) → length prices ≤ 32000 → ((i : ℕ) → i < length prices → IsCharge (price_at prices i)) → total ≤ 16000000000000
     → read_tail n (flat_map line_text (tail_lines prices total)) ≡ Ok (prices, total)
 unfolding read_tail
 tail_again n prices total few limits le =
@@ -79,7 +79,7 @@ tail_again n prices total few limits le =
     let last = line_again (n + 1 + count) (codes "total") (decimal total ∷ []) end_line (plain_named (codes "total") total refl (omega arith)) in
     let ending = line_again (n + 2 + count) (codes "end") [] [] refl in
     ap (read_tail n) (tail_text prices total)
-    ∙ rw (first, count_again (codes "prices") 8000 n count (lit< tt) few, prices_again prices (n + 1) following limits, last, total_again (n + 1 + count) total le, ending, ends_again (n + 2 + count)) refl
+    ∙ rw (first, count_again (codes "prices") 32000 n count (lit< tt) few, prices_again prices (n + 1) following limits, last, total_again (n + 1 + count) total le, ending, ends_again (n + 2 + count)) refl
 
 -- ---- all lines
 
@@ -119,15 +119,15 @@ channels_line_again n bs h = let again = channels_again bs h in rw (again.0, aga
 record ReadsHead (bytes : List ℕ) (x : Head) : Type 0 where
   spelled : bytes ≡ line_text (codes "bx-plan" ∷ version_field x.version ∷ []) ++ (line_text (codes "channels" ∷ map decimal (members_from 0 x.channels)) ++ (line_text (named (codes "bookings") x.count) ++ x.rest))
   channels : IsChannelSet x.channels
-  few : x.count ≤ 4000
+  few : x.count ≤ 16000
 
 module _ (version : Version) (count : ℕ) (bytes r1 r2 r3 : List ℕ) (f1 f2 f3 : List (List ℕ)) (channels : List Bool) where
   head_from : read_line 1 bytes ≡ Ok (f1, r1) → read_header 1 f1 ≡ Ok version → read_line 2 r1 ≡ Ok (f2, r2) → read_channels 2 f2 ≡ Ok channels → read_line 3 r2 ≡ Ok (f3, r3)
-      → read_count (codes "bookings") 4000 3 f3 ≡ Ok count → ReadsHead bytes (head_of version channels count r3)
+      → read_count (codes "bookings") 16000 3 f3 ≡ Ok count → ReadsHead bytes (head_of version channels count r3)
   head_from line1 header line2 set line3 counted1 =
       let head = header_line 1 f1 version header in
       let channelled = channels_line 2 f2 channels set in
-      let counted = count_takes (codes "bookings") 4000 3 f3 count (lit< tt) counted1 in
+      let counted = count_takes (codes "bookings") 16000 3 f3 count (lit< tt) counted1 in
       let third : r2 ≡ line_text (named (codes "bookings") count) ++ r3 = line_takes 3 r2 (f3, r3) line3 ∙ ap (λ (fs : List (List ℕ)). line_text fs ++ r3) counted.0 in
       let second : r1 ≡ line_text (codes "channels" ∷ map decimal (members_from 0 channels)) ++ r2 = line_takes 2 r1 (f2, r2) line2 ∙ ap (λ (fs : List (List ℕ)). line_text fs ++ r2) channelled.0 in
       let first : bytes ≡ line_text (codes "bx-plan" ∷ version_field version ∷ []) ++ r1 = line_takes 1 bytes (f1, r1) line1 ∙ ap (λ (fs : List (List ℕ)). line_text fs ++ r1) head in
@@ -136,12 +136,12 @@ module _ (version : Version) (count : ℕ) (bytes r1 r2 r3 : List ℕ) (f1 f2 f3
 head_takes : (bytes : List ℕ) (x : Head) → read_head bytes ≡ Ok x → ReadsHead bytes x
 unfolding read_head
 head_takes bytes x e =
-    let a = bind_ok (read_line 1 bytes) (λ first. read_header 1 first.0 >>= λ version. read_line 2 first.1 >>= λ second. read_channels 2 second.0 >>= λ channels. read_line 3 second.1 >>= λ third. read_count (codes "bookings") 4000 3 third.0 >>= λ count. Ok (head_of version channels count third.1)) x e in
-    let b = bind_ok (read_header 1 a.0.0) (λ version. read_line 2 a.0.1 >>= λ second. read_channels 2 second.0 >>= λ channels. read_line 3 second.1 >>= λ third. read_count (codes "bookings") 4000 3 third.0 >>= λ count. Ok (head_of version channels count third.1)) x a.2 in
-    let c = bind_ok (read_line 2 a.0.1) (λ second. read_channels 2 second.0 >>= λ channels. read_line 3 second.1 >>= λ third. read_count (codes "bookings") 4000 3 third.0 >>= λ count. Ok (head_of b.0 channels count third.1)) x b.2 in
-    let d = bind_ok (read_channels 2 c.0.0) (λ channels. read_line 3 c.0.1 >>= λ third. read_count (codes "bookings") 4000 3 third.0 >>= λ count. Ok (head_of b.0 channels count third.1)) x c.2 in
-    let f = bind_ok (read_line 3 c.0.1) (λ third. read_count (codes "bookings") 4000 3 third.0 >>= λ count. Ok (head_of b.0 d.0 count third.1)) x d.2 in
-    let g = bind_ok (read_count (codes "bookings") 4000 3 f.0.0) (λ count. Ok (head_of b.0 d.0 count f.0.1)) x f.2 in
+    let a = bind_ok (read_line 1 bytes) (λ first. read_header 1 first.0 >>= λ version. read_line 2 first.1 >>= λ second. read_channels 2 second.0 >>= λ channels. read_line 3 second.1 >>= λ third. read_count (codes "bookings") 16000 3 third.0 >>= λ count. Ok (head_of version channels count third.1)) x e in
+    let b = bind_ok (read_header 1 a.0.0) (λ version. read_line 2 a.0.1 >>= λ second. read_channels 2 second.0 >>= λ channels. read_line 3 second.1 >>= λ third. read_count (codes "bookings") 16000 3 third.0 >>= λ count. Ok (head_of version channels count third.1)) x a.2 in
+    let c = bind_ok (read_line 2 a.0.1) (λ second. read_channels 2 second.0 >>= λ channels. read_line 3 second.1 >>= λ third. read_count (codes "bookings") 16000 3 third.0 >>= λ count. Ok (head_of b.0 channels count third.1)) x b.2 in
+    let d = bind_ok (read_channels 2 c.0.0) (λ channels. read_line 3 c.0.1 >>= λ third. read_count (codes "bookings") 16000 3 third.0 >>= λ count. Ok (head_of b.0 channels count third.1)) x c.2 in
+    let f = bind_ok (read_line 3 c.0.1) (λ third. read_count (codes "bookings") 16000 3 third.0 >>= λ count. Ok (head_of b.0 d.0 count third.1)) x d.2 in
+    let g = bind_ok (read_count (codes "bookings") 16000 3 f.0.0) (λ count. Ok (head_of b.0 d.0 count f.0.1)) x f.2 in
     subst (λ (y : Head). ReadsHead bytes y) {x = head_of b.0 d.0 g.0 f.0.1} (cc g.2)
     (head_from b.0 g.0 bytes a.0.1 c.0.1 f.0.1 a.0.0 c.0.0 f.0.0 d.0 a.1 b.1 c.1 d.1 f.1 g.1)
 
@@ -154,7 +154,7 @@ module _ (bytes rest : List ℕ) (head : Head) (rows : List Row) (assigned : Lis
       let listed = bookings_take head.version head.count 4 head.rest (entries rows assigned rest) listed1 in
       let tail = tail_takes (4 + head.count) rest (prices, total) tail1 in
       let following : head.rest ≡ flat_map line_text (booking_lines head.version rows assigned) ++ flat_map line_text (tail_lines prices total) = listed.spelled ∙ ap (λ (r : List ℕ). flat_map line_text (booking_lines head.version rows assigned) ++ r) tail.spelled in
-      let few : length rows ≤ 4000 = rw listed.rows prefix.few in
+      let few : length rows ≤ 16000 = rw listed.rows prefix.few in
       let counted : head.count ≡ length rows = sym listed.rows in
       record {
         version = head.version;
@@ -197,7 +197,7 @@ all_again version parts plan told =
     let rows = bookings_again version parts.rows parts.assigned 4 tail plan.one_each plan.rows.each told plan.assigned in
     let rest = tail_again (4 + count) parts.prices parts.total plan.few_prices plan.prices plan.total in
     ap read_all (whole_text version parts)
-    ∙ rw (line1, header_line_again 1 version, line2, channels_line_again 2 parts.channels plan.channels, line3, count_again (codes "bookings") 4000 3 count (lit< tt) plan.rows.few, rows, rest) refl
+    ∙ rw (line1, header_line_again 1 version, line2, channels_line_again 2 parts.channels plan.channels, line3, count_again (codes "bookings") 16000 3 count (lit< tt) plan.rows.few, rows, rest) refl
 
 -- ---- the laws of reading
 

@@ -56,7 +56,7 @@ price_never n fields e = no_form n (price_form fields) (λ x. where_holds (is_ch
 
 pub total_never : (n : ℕ) (fields : List (List ℕ)) → read_total n fields ≡ Err Memory → ⊥
 unfolding read_total
-total_never n fields e = no_form n (named_form (codes "total") fields) (λ c. where_holds (nat_le c 4000000000000) (OutOfLimits n) c) (λ c. no_limit n (nat_le c 4000000000000) c) e
+total_never n fields e = no_form n (named_form (codes "total") fields) (λ c. where_holds (nat_le c 16000000000000) (OutOfLimits n) c) (λ c. no_limit n (nat_le c 16000000000000) c) e
 
 no_trailing : (b : Bool) (x : List ℕ) → where_holds b Trailing x ≡ Err Memory → ⊥
 no_trailing true x e = cc
@@ -81,6 +81,6 @@ not_memory never is m passed = absurd (never (is ∙ ap Err (passed_on m passed)
 
 module _ {version : Version} {count : ℕ} {bytes r1 r2 r3 : List ℕ} {f1 f2 f3 : List (List ℕ)} {channels : List Bool} where
   pub grows_after : read_line 1 bytes ≡ Ok (f1, r1) → read_header 1 f1 ≡ Ok version → read_line 2 r1 ≡ Ok (f2, r2) → read_channels 2 f2 ≡ Ok channels → read_line 3 r2 ≡ Ok (f3, r3)
-      → read_count (codes "bookings") 4000 3 f3 ≡ Ok count → SomeBookings version count 4 r3 ⊎ ((x : Entries) × (read_bookings version count 4 r3 ≡ Ok x) × GrowsInTail (4 + count) x.rest) → Grows bytes
+      → read_count (codes "bookings") 16000 3 f3 ≡ Ok count → SomeBookings version count 4 r3 ⊎ ((x : Entries) × (read_bookings version count 4 r3 ≡ Ok x) × GrowsInTail (4 + count) x.rest) → Grows bytes
   unfolding read_head
   grows_after line1 header line2 set line3 counted grows = record { head = head_of version channels count r3; is_head = rw (line1, header, line2, set, line3, counted) refl; grows = grows }

@@ -9,7 +9,7 @@ pub enum PlanTextFault {
     /// The line has another form than the one that belongs in its place, has no LF, or is missing.
     #[error("P1 BadLine {0}")]
     BadLine(u32),
-    /// More than 4,000 bookings, or more than 8,000 prices.
+    /// More than 16,000 bookings, or more than 32,000 prices.
     #[error("P2 BadCount")]
     BadCount,
     /// The line has the right form, and a value of it is outside its limits.

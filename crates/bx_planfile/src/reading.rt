@@ -17,7 +17,7 @@ use std::alloc::Global;
 /// The prices and the total, from the count of the prices in line `n` to the end.
 #[tactic(auto, unfolding(crate::specs::Reading::read_tail))]
 fn tail_of(alloc: Global, bytes: &[u8], n: u32) -> Result<(Vec<Price>, u64), PlanTextFault>
-    requires { n ≤ 10000 }
+    requires { n ≤ MAX_BOOKINGS + 4 }
     ensures value { Gives (λ x. (x.0.items, x.1)) result (read_tail n bytes.now) }
     ensures memory { result ≡ Err PlanTextFault.Memory → GrowsInTail n bytes.now }
     ensures limits { IfOk result (λ x. (vec_len x.0 ≤ MAX_PRICES) × (x.1 ≤ MAX_TOTAL)) }

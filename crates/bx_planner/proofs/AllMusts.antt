@@ -49,12 +49,12 @@ crossing_musts : (line : Network) (units v : ℕ) → crossing_at line (musts_fl
 crossing_musts line units v =
     sum_below-same (length line.arcs) (λ i. cond (carries_unit (musts_flow line units) i && spans (arc_at line i) v) 1 0) (λ i. cond ((arc_at line i).must && spans (arc_at line i) v) 1 0) (λ i h. rw (carried_musts line units i h) refl)
 
-pays_within : (carried must : Bool) (pay arc : ℕ) → arc ≡ cond must (pay + 5000000000000) pay → cond carried arc 0 ≤ cond must 5000000000000 0 + pay
+pays_within : (carried must : Bool) (pay arc : ℕ) → arc ≡ cond must (pay + 17000000000000) pay → cond carried arc 0 ≤ cond must 17000000000000 0 + pay
 pays_within true true pay arc e = omega (arith, e)
 pays_within true false pay arc e = omega (arith, e)
 pays_within false must pay arc e = omega arith
 
-must_pays : (must : Bool) (pay arc : ℕ) → arc ≡ cond must (pay + 5000000000000) pay → cond must 5000000000000 0 ≤ cond must arc 0
+must_pays : (must : Bool) (pay arc : ℕ) → arc ≡ cond must (pay + 17000000000000) pay → cond must 17000000000000 0 ≤ cond must arc 0
 must_pays true pay arc e = omega (arith, e)
 must_pays false pay arc e = omega arith
 
@@ -81,11 +81,11 @@ module _ (rows : List Row) (line : Network) (network : IsNetwork line) (bookings
   left_out flow least same k h must left =
       let n = length line.arcs in
       let pays = λ (i : ℕ). cond (carries_unit flow i) (arc_at line i).pay 0 in
-      let raise : ℕ → ℕ = λ i. cond (row_at rows i).must 5000000000000 0 in
+      let raise : ℕ → ℕ = λ i. cond (row_at rows i).must 17000000000000 0 in
       let pay = λ (i : ℕ). (row_at rows i).pay in
       let within = λ (i : ℕ) (b : i < n). pays_within (carries_unit flow i) (row_at rows i).must (row_at rows i).pay (arc_at line i).pay (arcs.each i (omega (arith, b, arcs.one_each))).pay in
-      let here : pays k + 5000000000000 ≤ raise k + pay k = rw (left, must) (omega arith) in
-      let short = short_sum n pays (λ i. raise i + pay i) k 5000000000000 within (omega (arith, h, arcs.one_each)) here in
+      let here : pays k + 17000000000000 ≤ raise k + pay k = rw (left, must) (omega arith) in
+      let short = short_sum n pays (λ i. raise i + pay i) k 17000000000000 within (omega (arith, h, arcs.one_each)) here in
       let low = sum_of_few n pay 1000000000 (λ i b. (bookings.each i (omega (arith, b, arcs.one_each))).pay_limit) in
       let mine = sum_below-le n raise (λ i. cond (carries_unit (musts_flow line units) i) (arc_at line i).pay 0) (λ i b. rw (carried_musts line units i b, (arcs.each i (omega (arith, b, arcs.one_each))).must) (must_pays (row_at rows i).must (row_at rows i).pay (arc_at line i).pay (arcs.each i (omega (arith, b, arcs.one_each))).pay)) in
       let other = paid_order (paid_by line flow) (paid_by line (musts_flow line units)) (least.least (musts_flow line units) (flow_from_crosses line (musts_flow line units) network musts_cross_each) (sym same)) in

@@ -32,7 +32,7 @@ use Rattle.bx_planner.proofs.Priced.{all_charges, few_charges, charges_rise}
 use Rattle.bx_planner.proofs.Exact.{bound_is_pay}
 use Rattle.bx_planner.proofs.Least.{least_bound}
 
-free_limit : (must : Bool) (pay arc : ℕ) → arc ≡ cond must (pay + 5000000000000) pay → pay ≤ 1000000000 → cond must 0 arc ≤ 1000000000
+free_limit : (must : Bool) (pay arc : ℕ) → arc ≡ cond must (pay + 17000000000000) pay → pay ≤ 1000000000 → cond must 0 arc ≤ 1000000000
 free_limit true pay arc e h = omega arith
 free_limit false pay arc e h = omega (arith, e, h)
 
@@ -56,7 +56,7 @@ room_from_none rows channels none (suc n) s h =
     ]
 
 module _ (rows : List Row) (line : Network) (flow : Flow) (heights : List ℤ) (count : ℕ) (bookings : AreBookings rows) (network : IsNetwork line) (arcs : AreArcsOf line.moments rows line.arcs) (least : IsLeastCost line flow) (same : 0 < places_of line → flow.units ≡ count) (lengths : AreLeast Free line flow heights) where
-  free_pays_few : free_pays line ≤ 4000000000000
+  free_pays_few : free_pays line ≤ 16000000000000
   free_pays_few =
       let few = sum_of_few (length line.arcs) (λ i. cond (arc_at line i).must 0 (arc_at line i).pay) 1000000000 (λ i h.
       let b : i < length rows = omega (arith, h, arcs.one_each) in
@@ -68,7 +68,7 @@ module _ (rows : List Row) (line : Network) (flow : Flow) (heights : List ℤ) (
   abbrev Deep : Type 0
   Deep = 0 < places_of line → neg_ℤ (pos (free_pays line)) ≤ℤ height_at heights (places_of line - 1)
 
-  pub falls_small : Deep → (v : ℕ) → v < gaps_of line → fall_at heights v ≤ 4000000000000
+  pub falls_small : Deep → (v : ℕ) → v < gaps_of line → fall_at heights v ≤ 16000000000000
   falls_small deep v h =
       let some : 0 < places_of line = omega arith in
       let first = lengths.least 0 [] some refl in

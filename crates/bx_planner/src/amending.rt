@@ -18,7 +18,7 @@ use thiserror::Error;
 /// Why a plan was not amended.
 #[derive(Clone, Copy, Debug, PartialEq, Eq, Error)]
 pub enum NoAmendment {
-    /// Both together have more than 4,000 bookings.
+    /// Both together have more than 16,000 bookings.
     #[error("K2 TooMany")]
     TooMany,
     /// At this moment, in seconds of the day, more promised and must bookings run than there are channels; at no earlier

@@ -20,7 +20,7 @@ pub struct Quote {
 /// Why there is no quote.
 #[derive(Clone, Copy, Debug, PartialEq, Eq, Error)]
 pub enum NoQuote {
-    /// The plan has 4,000 bookings.
+    /// The plan has 16,000 bookings.
     #[error("K2 TooMany")]
     TooMany,
     /// At this moment, in seconds of the day, must bookings have all channels; at no earlier moment of the booking.

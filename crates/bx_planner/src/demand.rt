@@ -4,6 +4,7 @@ ghost use Rattle.std.specs.Prelude.{◌≡◌, ◌≤◌, ◌<◌, IfOk, length}
 ghost use Rattle.bx_base.specs.Bookings.{IsBooking, row_at};
 ghost use Rattle.bx_planner.specs.Amending.{promised_in_plan, amended};
 ghost use Rattle.bx_base.specs.declared.bookings.TheConstants.{MAX_BOOKINGS};
+ghost use Rattle.bx_colour.specs.declared.load.TheConstants.{MAX_LOAD};
 
 use bx_base::{Booking, Bookings, Plan};
 use std::alloc::{AllocError, Global};
@@ -47,10 +48,10 @@ impl<'a> Demand<'a> {
         }
     }
 
-    /// How many there are: 0 to 8,000.
+    /// How many there are: 0 to 32,000.
     pub(crate) fn len(&self) -> u16
         ensures count { result ≡ length self.now }
-        ensures limit { result ≤ 8000 }
+        ensures limit { result ≤ MAX_LOAD }
     {
         match self.earlier {
             Some(plan) => plan.bookings.len() + self.more.len(),

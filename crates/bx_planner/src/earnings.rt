@@ -40,11 +40,11 @@ pub enum Earning {
 pub fn capacity(alloc: Global, bookings: &Bookings) -> Result<Vec<Earning>, AllocError>
     ensures { IfOk result (λ v. AreEarnings bookings.now v.items) }
 {
-    let musts = must_load(&Demand::fresh(bookings));
+    let mut musts = must_load(&Demand::fresh(bookings));
     let line = Line::of(alloc, bookings)?;
     let counts = line.cliques(alloc)?;
     let shorter = line.shortened(alloc, &counts)?;
-    earnings_of(alloc, bookings, &line, &counts, &shorter, &musts)
+    earnings_of(alloc, bookings, &line, &counts, &shorter, &mut musts)
 }
 
 /// What one more channel would add to the total of a plan that has to be proved for its own bookings, whatever proves it: the
@@ -65,9 +65,9 @@ fn earnings_of(
     line: &Line,
     counts: &[u16],
     shorter: &Line,
-    musts: &Load,
+    musts: &mut Load,
 ) -> Result<Vec<Earning>, AllocError>
-    requires musts { (t : ℕ) → load_at musts.now t ≡ musts_at bookings.now t }
+    requires musts { (t : ℕ) → load_at musts.old t ≡ musts_at bookings.now t }
     requires moments { HasJustMoments bookings.now line.now.moments }
     requires arcs { AreArcsOf line.now.moments bookings.now line.now.arcs }
     requires cliques { AreCliques line.now counts.now }
@@ -118,16 +118,17 @@ fn earning_of(
     line: &Line,
     carried: &Carried,
     potentials: &Potentials,
-    musts: &Load,
+    musts: &mut Load,
     count: u8,
 ) -> Result<Earning, AllocError>
-    requires musts { (t : ℕ) → load_at musts.now t ≡ musts_at bookings.now t }
+    requires musts { (t : ℕ) → load_at musts.old t ≡ musts_at bookings.now t }
     requires moments { HasJustMoments bookings.now line.now.moments }
     requires arcs { AreArcsOf line.now.moments bookings.now line.now.arcs }
     requires units { 0 < places_of line.now → carried.now.units ≡ count }
     requires flow { IsFlow line.now carried.now }
     requires fits { ArePotentials line.now carried.now potentials.now }
-    ensures { IfOk result (IsEarning bookings.now count) }
+    ensures earned { IfOk result (IsEarning bookings.now count) }
+    ensures same { (t : ℕ) → load_at musts.new t ≡ load_at musts.old t }
 {
     if let Some(moment) = musts.first_above(count) {
         return Ok(Earning::TooFew(moment));

@@ -10,15 +10,15 @@ use bx_base::ChannelSet;
 use bx_colour::Load;
 
 /// The first moment at which more bookings run that each plan has to hold than there are channels. It is the start
-/// of one of them. Takes no memory but that of a `Load`, and time linear in the bookings, and in the seconds of the day where
-/// one of them has to be held.
+/// of one of them. Takes no memory but that of a `Load`; time linear in the bookings, and n log n in those that have to be held.
 pub(crate) fn too_many_must(demand: &Demand<'_>, channels: ChannelSet) -> Option<u32>
     ensures { (t : ℕ) → (result ≡ Some t) ↔ IsTooManyMust demand.now channels t }
 {
     if !has_must(demand) {
         return None;
     }
-    must_load(demand).first_above(channels.count())
+    let mut load = must_load(demand);
+    load.first_above(channels.count())
 }
 
 /// Whether any of them has to be held.

@@ -126,7 +126,7 @@ fn refused(alloc: Global, count: u16) -> Option<NoAmendment> {
 }
 
 /// So many bookings, and how the refusal of one more is printed.
-static REFUSALS: [(u16, &str); 2] = [(2, "K1 TooManyMust 5"), (4000, "K2 TooMany")];
+static REFUSALS: [(u16, &str); 2] = [(2, "K1 TooManyMust 5"), (16000, "K2 TooMany")];
 
 fn is_refused(alloc: Global, count: u16, printed: &str) -> Option<bool> {
     let refusal = refused(alloc, count)?;

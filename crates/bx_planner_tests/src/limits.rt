@@ -25,10 +25,10 @@ static BOOKINGS: [(u32, u32, u64, bool); 6] = [
 
 /// A moment and an amount, and whether they are a price.
 static PRICES: [(u32, u64, bool); 4] = [
-    (199999, 4000000000000, true),
+    (199999, 16000000000000, true),
     (200000, 1, false),
     (0, 0, false),
-    (0, 4000000000001, false),
+    (0, 16000000000001, false),
 ];
 
 #[test]

@@ -18,7 +18,7 @@ static ARCS: [Arc; 3] = [
     Arc {
         from: 1,
         to: 3,
-        pay: 5_000_000_000_006,
+        pay: 17_000_000_000_006,
         must: true,
     },
     Arc {

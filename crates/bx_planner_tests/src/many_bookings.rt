@@ -23,17 +23,17 @@ fn differs_once_changed(bookings: &mut Bookings, one: Booking) -> Option<bool> {
     Some(before && !longer && !copy.same(bookings))
 }
 
-/// Whether there are 4,000 bookings, this the last, and no more are taken.
+/// Whether there are 16,000 bookings, this the last, and no more are taken.
 fn is_full(bookings: &mut Bookings, last: Booking) -> bool {
     let refused = bookings.push(last) == Err(AddFault::Full);
-    let has_last = bookings.len() == 4000 && bookings.get(4000) == Some(last);
-    refused && has_last && bookings.get(4001).is_none() && bookings.get(0).is_none()
+    let has_last = bookings.len() == 16000 && bookings.get(16000) == Some(last);
+    refused && has_last && bookings.get(16001).is_none() && bookings.get(0).is_none()
 }
 
 #[test]
 fn bookings_up_to_the_limit(rt: HostRuntime) -> Result<(), Fail> {
     let one = booking_of(&(0, 1, 1_000_000_000, false)).ok_or("one")?;
-    let mut bookings = repeated(rt.alloc(), one, 3999).ok_or("bookings")?;
+    let mut bookings = repeated(rt.alloc(), one, 15999).ok_or("bookings")?;
     assert!(rt;
         differs_once_changed(&mut bookings, one) == Some(true),
         "copies"

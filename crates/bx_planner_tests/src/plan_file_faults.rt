@@ -17,12 +17,12 @@ static FAULTS: [(&str, &str); 32] = [
     ("bx-plan 1\nchannels 99\n", "P3 OutOfLimits 2"),
     ("bx-plan 1\nchannels 2 1\n", "P3 OutOfLimits 2"),
     ("bx-plan 1\nchannels 2 2\n", "P3 OutOfLimits 2"),
-    ("bx-plan 1\nchannels 1\nbookings 5000\n0 60", "P2 BadCount"),
+    ("bx-plan 1\nchannels 1\nbookings 16001\n0 60", "P2 BadCount"),
     (
         "bx-plan 1\nchannels 1\nbookings 99999999999999999999999\n",
         "P2 BadCount",
     ),
-    ("bx-plan 1\nchannels 1\nbookings 5000", "P1 BadLine 3"),
+    ("bx-plan 1\nchannels 1\nbookings 16001", "P1 BadLine 3"),
     (
         "bx-plan 1\nchannels 1\nbookings 1\n00 60 5 1234 1\n",
         "P1 BadLine 4",
@@ -64,7 +64,7 @@ static FAULTS: [(&str, &str); 32] = [
         "P3 OutOfLimits 4",
     ),
     (
-        "bx-plan 1\nchannels\nbookings 0\nprices 8001\n",
+        "bx-plan 1\nchannels\nbookings 0\nprices 32001\n",
         "P2 BadCount",
     ),
     (
@@ -76,11 +76,11 @@ static FAULTS: [(&str, &str); 32] = [
         "P1 BadLine 6",
     ),
     (
-        "bx-plan 1\nchannels\nbookings 0\nprices 0\ntotal 5000000000000\n",
+        "bx-plan 1\nchannels\nbookings 0\nprices 0\ntotal 16000000000001\n",
         "P3 OutOfLimits 5",
     ),
     (
-        "bx-plan 1\nchannels\nbookings 0\nprices 0\ntotal 5000000000000",
+        "bx-plan 1\nchannels\nbookings 0\nprices 0\ntotal 16000000000001",
         "P1 BadLine 5",
     ),
     (

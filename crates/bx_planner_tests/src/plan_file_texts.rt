@@ -28,8 +28,8 @@ static TEXTS: [(&str, &str); 6] = [
     ),
     // Leading zeros of a number stay, a channel that is not in service is no fault here, nor are falling prices.
     (
-        "bx-plan 3\nchannels 15 17 31\nbookings 1\n199999 200000 1000000000 007 2 must in\nprices 2\n9 1\n0 4000000000000\ntotal 4000000000000\nend\n",
-        "bx-plan 3\nchannels 15 17 31\nbookings 1\n199999 200000 1000000000 007 2 must in\nprices 2\n9 1\n0 4000000000000\ntotal 4000000000000\nend\n",
+        "bx-plan 3\nchannels 15 17 31\nbookings 1\n199999 200000 1000000000 007 2 must in\nprices 2\n9 1\n0 16000000000000\ntotal 16000000000000\nend\n",
+        "bx-plan 3\nchannels 15 17 31\nbookings 1\n199999 200000 1000000000 007 2 must in\nprices 2\n9 1\n0 16000000000000\ntotal 16000000000000\nend\n",
     ),
 ];
 

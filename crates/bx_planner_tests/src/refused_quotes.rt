@@ -66,9 +66,9 @@ fn bookings_without_a_channel(rt: HostRuntime) -> Result<(), Fail> {
 
 #[test]
 fn the_last_row_is_kept_free(rt: HostRuntime) -> Result<(), Fail> {
-    let many = beside_many(rt.alloc(), 3999).ok_or("a quote")?;
+    let many = beside_many(rt.alloc(), 15999).ok_or("a quote")?;
     assert_eq!(rt; many.to_string(rt.alloc())?.as_str(), "Q1 NoChannel 5");
-    let full = beside_many(rt.alloc(), 4000).ok_or("a quote")?;
+    let full = beside_many(rt.alloc(), 16000).ok_or("a quote")?;
     assert_eq!(rt; full.to_string(rt.alloc())?.as_str(), "K2 TooMany");
     Ok(())
 }

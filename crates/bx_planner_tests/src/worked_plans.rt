@@ -143,19 +143,19 @@ fn too_many_that_must_be_held(rt: HostRuntime) {
     assert!(rt; is_crowded(rt.alloc()) == Some(true), "the fault");
 }
 
-/// Four thousand bookings, one after another.
+/// Sixteen thousand bookings, one after another.
 fn one_after_another(alloc: Global) -> Option<Bookings> {
     let mut rows = Vec::new(alloc);
-    for start in 0..4000u32 {
+    for start in 0..16000u32 {
         rows.push((start, start + 1, 1_000_000_000, false)).ok()?;
     }
     bookings_of(alloc, &rows)
 }
 
-/// The chain of three bookings, 1,333 times.
+/// The chain of three bookings, 5,333 times.
 fn many_chains(alloc: Global) -> Option<Bookings> {
     let mut rows = Vec::new(alloc);
-    for copy in 0..1333u32 {
+    for copy in 0..5333u32 {
         let at = copy * 20;
         rows.push((at, at + 10, 4, false)).ok()?;
         rows.push((at + 5, at + 15, 6, false)).ok()?;
@@ -176,8 +176,8 @@ fn chain_price(index: u32) -> (u64, u64) {
 
 /// Whether the prices are those of the chain of three, for each of its copies.
 fn are_chained(found: &[Price]) -> bool {
-    let mut same = found.len() == 2666;
-    for (index, price) in (0..2666u32).zip(found) {
+    let mut same = found.len() == 10666;
+    for (index, price) in (0..10666u32).zip(found) {
         same &= (u64::from(price.moment), price.amount) == chain_price(index);
     }
     same
@@ -186,13 +186,13 @@ fn are_chained(found: &[Price]) -> bool {
 /// Whether all of the bookings one after another are accepted, without a price.
 fn earns_all(alloc: Global) -> Option<bool> {
     let best = plan_on(alloc, &one_after_another(alloc)?, &[1])?;
-    Some(best.total == 4_000_000_000_000 && best.prices.is_empty())
+    Some(best.total == 16_000_000_000_000 && best.prices.is_empty())
 }
 
 /// Whether each of the chains is planned as the chain of three is.
 fn earns_of_each(alloc: Global) -> Option<bool> {
     let best = plan_on(alloc, &many_chains(alloc)?, &[1])?;
-    Some(best.total == 10_664 && are_chained(&best.prices))
+    Some(best.total == 42_664 && are_chained(&best.prices))
 }
 
 #[test]

@@ -1,4 +1,4 @@
--- The grammar of a message (ITU-T Q.931, 4.1 to 4.5), apart from any order of reading: at most 260 octets,
+-- The grammar of a message (ITU-T Q.931, 4.1 to 4.5), apart from any order of reading: at most `MAX_MESSAGE` octets,
 -- the protocol discriminator 8, the call reference with its length, the message type, and whole items.
 use Rattle.std.specs.Prelude.{◌≡◌, ◌≢◌, ℕ, ◌<◌, ◌≤◌, ◌/◌, ◌%◌, ◌⊎◌, List, [], ◌∷◌, ◌++◌, length, All}
 use Rattle.std.specs.List.{flat_map}
@@ -8,6 +8,7 @@ use Rattle.bx_q931.specs.References.{reference_of}
 use Rattle.bx_q931.specs.Messages.{PlainMessage}
 use Rattle.bx_q931.specs.declared.fault.MessageFault.{MessageFault}
 use Rattle.bx_q931.specs.declared.fault.MessageFault.TheVariants.{TooShort, NotQ931, BadCallReference, TornElement, TooLong}
+use Rattle.bx_q931.specs.declared.reading.TheConstants.{MAX_MESSAGE}
 
 -- octets that are items, and those items
 pub record AreItems (octets : List ℕ) (items : List PlainItem) : Type 0 where
@@ -16,7 +17,7 @@ pub record AreItems (octets : List ℕ) (items : List PlainItem) : Type 0 where
 
 -- octets that are this message, with these octets of its reference and of its type
 pub record IsSpelled (octets reference : List ℕ) (type_octet : ℕ) (m : PlainMessage) : Type 0 where
-  pub few : length octets ≤ 260
+  pub few : length octets ≤ MAX_MESSAGE
   pub short : length reference ≤ 2
   pub spelled : octets ≡ 8 ∷ length reference ∷ reference ++ type_octet ∷ flat_map item_octets m.items
   pub each : All IsItem m.items
@@ -53,8 +54,8 @@ IsTornMessage octets =
 
 -- the one fault of octets that are no message: one of too many octets comes before all others
 abbrev pub IsMessageFaultOf : List ℕ → MessageFault → Type 0
-IsMessageFaultOf octets TooLong = 260 < length octets
-IsMessageFaultOf octets TooShort = (length octets ≤ 260) × EndsEarly octets
-IsMessageFaultOf octets NotQ931 = (length octets ≤ 260) × IsNotQ931 octets
-IsMessageFaultOf octets BadCallReference = (length octets ≤ 260) × HasBadLength octets
-IsMessageFaultOf octets TornElement = (length octets ≤ 260) × IsTornMessage octets
+IsMessageFaultOf octets TooLong = MAX_MESSAGE < length octets
+IsMessageFaultOf octets TooShort = (length octets ≤ MAX_MESSAGE) × EndsEarly octets
+IsMessageFaultOf octets NotQ931 = (length octets ≤ MAX_MESSAGE) × IsNotQ931 octets
+IsMessageFaultOf octets BadCallReference = (length octets ≤ MAX_MESSAGE) × HasBadLength octets
+IsMessageFaultOf octets TornElement = (length octets ≤ MAX_MESSAGE) × IsTornMessage octets

@@ -7,6 +7,7 @@ use Rattle.bx_q931.specs.declared.kind.Kind.{Kind}
 use Rattle.bx_q931.specs.declared.reference.Reference.{Reference}
 use Rattle.bx_q931.specs.declared.fault.MessageFault.{MessageFault}
 use Rattle.bx_q931.specs.declared.fault.MessageFault.TheVariants.{TooShort, NotQ931, BadCallReference, TornElement, TooLong}
+use Rattle.bx_q931.specs.declared.reading.TheConstants.{MAX_MESSAGE}
 
 pub record PlainMessage : Type 0 where
   pub reference : Reference
@@ -40,4 +41,4 @@ discriminated_at [] = Err TooShort
 discriminated_at (first ∷ rest) = if first == 8 then reference_at rest else Err NotQ931
 
 abbrev pub message_at : List ℕ → Result PlainMessage MessageFault
-message_at octets = if nat_lt 260 (length octets) then Err TooLong else discriminated_at octets
+message_at octets = if nat_lt MAX_MESSAGE (length octets) then Err TooLong else discriminated_at octets

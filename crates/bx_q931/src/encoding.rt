@@ -22,8 +22,19 @@ use bx_channels::{Channel, Number};
 /// The octets of a message, without memory of their own.
 pub type Octets = ArrayVec<u8, MAX_MESSAGE>;
 
+/// A message again.
+pub fn copied(message: &Octets) -> Octets
+    ensures { result ≡ message.now }
+{
+    let mut copy = Octets::new();
+    match copy.try_extend_from_slice(message.as_slice()) {
+        Ok(()) => copy,
+        Err(_) => unreachable!(),
+    }
+}
+
 fn push_all(octets: &mut Octets, more: &[u8])
-    requires { array_vec_len octets.old + length more.now ≤ 260 }
+    requires { array_vec_len octets.old + length more.now ≤ MAX_MESSAGE }
     ensures { octets.new.items ≡ octets.old.items ++ more.now }
 {
     for octet in more {
@@ -32,7 +43,7 @@ fn push_all(octets: &mut Octets, more: &[u8])
 }
 
 fn push_header(octets: &mut Octets, reference: u16, flag: bool, kind: Kind)
-    requires room { array_vec_len octets.old + 5 ≤ 260 }
+    requires room { array_vec_len octets.old + 5 ≤ MAX_MESSAGE }
     requires limit { reference ≤ 32767 }
     ensures { octets.new.items ≡ octets.old.items ++ header_octets reference flag kind }
 {
@@ -45,7 +56,7 @@ fn push_header(octets: &mut Octets, reference: u16, flag: bool, kind: Kind)
 }
 
 fn push_sending_complete(octets: &mut Octets, there: bool)
-    requires { array_vec_len octets.old + 1 ≤ 260 }
+    requires { array_vec_len octets.old + 1 ≤ MAX_MESSAGE }
     ensures items { octets.new.items ≡ octets.old.items ++ optional_octets 0xA1 (if there then Some [] else None) }
     ensures len { array_vec_len octets.new ≤ array_vec_len octets.old + 1 }
 {
@@ -55,7 +66,7 @@ fn push_sending_complete(octets: &mut Octets, there: bool)
 }
 
 fn push_bearer(octets: &mut Octets, there: bool)
-    requires { array_vec_len octets.old + 4 ≤ 260 }
+    requires { array_vec_len octets.old + 4 ≤ MAX_MESSAGE }
     ensures items { octets.new.items ≡ octets.old.items ++ optional_octets 0x04 (if there then Some bearer_contents else None) }
     ensures len { array_vec_len octets.new ≤ array_vec_len octets.old + 4 }
 {
@@ -65,7 +76,7 @@ fn push_bearer(octets: &mut Octets, there: bool)
 }
 
 fn push_cause(octets: &mut Octets, cause: Option<(u8, u8)>)
-    requires room { array_vec_len octets.old + 4 ≤ 260 }
+    requires room { array_vec_len octets.old + 4 ≤ MAX_MESSAGE }
     requires limits { IfSome cause (λ c. (c.0 < 16) × (c.1 < 128)) }
     ensures items { octets.new.items ≡ octets.old.items ++ optional_octets 0x08 (option_map cause_contents cause) }
     ensures len { array_vec_len octets.new ≤ array_vec_len octets.old + 4 }
@@ -76,7 +87,7 @@ fn push_cause(octets: &mut Octets, cause: Option<(u8, u8)>)
 }
 
 fn push_state(octets: &mut Octets, state: Option<u8>)
-    requires { array_vec_len octets.old + 3 ≤ 260 }
+    requires { array_vec_len octets.old + 3 ≤ MAX_MESSAGE }
     ensures items { octets.new.items ≡ octets.old.items ++ optional_octets 0x14 (option_map state_contents state) }
     ensures len { array_vec_len octets.new ≤ array_vec_len octets.old + 3 }
 {
@@ -86,7 +97,7 @@ fn push_state(octets: &mut Octets, state: Option<u8>)
 }
 
 fn push_channel(octets: &mut Octets, channel: Option<(Channel, bool)>)
-    requires { array_vec_len octets.old + 5 ≤ 260 }
+    requires { array_vec_len octets.old + 5 ≤ MAX_MESSAGE }
     ensures items { octets.new.items ≡ octets.old.items ++ optional_octets 0x18 (option_map channel_contents channel) }
     ensures len { array_vec_len octets.new ≤ array_vec_len octets.old + 5 }
     ensures channel { IfSome channel (λ c. IsChannel c.0) }
@@ -102,7 +113,7 @@ fn push_channel(octets: &mut Octets, channel: Option<(Channel, bool)>)
 }
 
 fn push_called(octets: &mut Octets, called: Option<Number>)
-    requires { array_vec_len octets.old + 18 ≤ 260 }
+    requires { array_vec_len octets.old + 18 ≤ MAX_MESSAGE }
     ensures items { octets.new.items ≡ octets.old.items ++ optional_octets 0x70 (option_map called_contents called) }
     ensures called { IfSome called IsNumber }
 {

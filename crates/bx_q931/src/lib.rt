@@ -17,7 +17,7 @@ mod reference;
 
 pub use channel_field::ChannelField;
 pub use elements::{Element, Elements};
-pub use encoding::{Octets, encode};
+pub use encoding::{Octets, copied, encode};
 pub use fault::MessageFault;
 pub use kind::Kind;
 pub use message::{

@@ -4,6 +4,7 @@ use Rattle.csv.specs.Machine.{next_record}
 use Rattle.csv.specs.Reading.{Reached, default_config}
 use Rattle.csv.specs.declared.parser.State.{State}
 use Rattle.csv.specs.declared.parser.State.TheVariants as st
+use Rattle.bx_base.specs.declared.bookings.TheConstants.{MAX_BOOKINGS}
 use Rattle.bx_text.specs.Forms.{Form}
 use Rattle.bx_text.specs.declared.rows_fault.RowsFault.{RowsFault}
 use Rattle.bx_text.specs.declared.rows_fault.RowsFault.TheVariants as f
@@ -51,6 +52,6 @@ IsBadHeader form text =
 -- the first fault of a text: what stands before it is without one
 abbrev pub IsFirstFault : {Row Fault : Type 0} → Form Row Fault → List ℕ → RowsFault Fault → Type 0
 IsFirstFault form text f.BadHeader = IsBadHeader form text
-IsFirstFault {Row} form text (f.Row e) = (columns : ℕ) × (rows : List Row) × (fields : List (List ℕ)) × IsNext form text columns rows fields × (length rows + 1 ≤ 4000) × form.IsRowFault columns (length rows + 1) fields e
-IsFirstFault {Row} form text f.TooMany = (columns : ℕ) × (rows : List Row) × (fields : List (List ℕ)) × IsNext form text columns rows fields × (length rows ≡ 4000)
+IsFirstFault {Row} form text (f.Row e) = (columns : ℕ) × (rows : List Row) × (fields : List (List ℕ)) × IsNext form text columns rows fields × (length rows + 1 ≤ MAX_BOOKINGS) × form.IsRowFault columns (length rows + 1) fields e
+IsFirstFault {Row} form text f.TooMany = (columns : ℕ) × (rows : List Row) × (fields : List (List ℕ)) × IsNext form text columns rows fields × (length rows ≡ MAX_BOOKINGS)
 IsFirstFault form text f.Memory = ⊤

@@ -11,6 +11,7 @@ ghost use Rattle.bx_text.specs.Inside.{AfterHeader, IsHeaderRead};
 
 use crate::records::read_next;
 use crate::rows_fault::RowsFault;
+use bx_base::MAX_BOOKINGS;
 use csv::{ByteRecord, Reader};
 use std::alloc::{AllocError, Global};
 use std::io::Read;
@@ -45,9 +46,9 @@ pub trait RowForm {
     fn none(alloc: Global) -> Self::List
         ensures { rows result ≡ [] };
 
-    /// Adds a row after fewer than 4,000.
+    /// Adds a row after fewer than 16,000.
     fn keep(list: &mut Self::List, row: Self::Row) -> Result<(), AllocError>
-        requires { length (rows list.old) < 4000 }
+        requires { length (rows list.old) < MAX_BOOKINGS }
         ensures { OnOk result (rows list.new ≡ rows list.old ++ row ∷ []) };
 }
 
@@ -86,7 +87,7 @@ fn read_rows<R: Read, F: RowForm>(
     ensures ok { AfterHeader (F.form form.now) R.remaining records.old columns (λ text. OnOk result (HasRows (F.form form.now) text (F.rows list.new))) }
     ensures err { AfterHeader (F.form form.now) R.remaining records.old columns (λ text. IfErr result (IsFirstFault (F.form form.now) text)) }
 {
-    for number in 1..4001u16 {
+    for number in 1..MAX_BOOKINGS as u16 + 1 {
         let Ok(found) = read_next(records, fields) else {
             return Err(RowsFault::Memory);
         };
@@ -108,7 +109,7 @@ fn read_rows<R: Read, F: RowForm>(
     }
 }
 
-/// Reads a header and at most 4,000 rows from a reader of `records_of` that nothing was read of. The answer is all rows, or the
+/// Reads a header and at most 16,000 rows from a reader of `records_of` that nothing was read of. The answer is all rows, or the
 /// first fault: `BadHeader`, `Row`, `TooMany`; or `Memory` where memory runs out or the reader underneath fails.
 pub fn read_records<R: Read, F: RowForm>(
     alloc: Global,

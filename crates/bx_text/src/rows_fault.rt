@@ -7,7 +7,7 @@ pub enum RowsFault<F> {
     BadHeader,
     /// What is wrong with the first row that is not right.
     Row(F),
-    /// There is a row after the 4,000th.
+    /// There is a row after the 16,000th.
     TooMany,
     /// Memory ran out, or the reader underneath failed.
     Memory,

@@ -18,7 +18,7 @@ overflow_add-lost c =
     let prices = c.args.prices.now in
     let losses = losses-le rows c.args.channels prices (is_accepted c.args.assigned.now) c.requires.lawful (c.loop-i.i + 1) (omega arith) in
     let next = sum_below-next c.loop-i.i (λ i. loss_of prices (row_at rows i)) in
-    let all : c.count.result * c.price_sum.result ≤ 30 * (8000 * 4000000000000) = mul-le c.count.result c.price_sum.result 30 (8000 * 4000000000000) (omega arith) (omega arith) in
+    let all : c.count.result * c.price_sum.result ≤ 30 * (32000 * 16000000000000) = mul-le c.count.result c.price_sum.result 30 (32000 * 16000000000000) (omega arith) (omega arith) in
     let same : count_of c.args.channels * sum_of_prices prices ≡ c.count.result * c.price_sum.result = cc in
     let here : c.loss-lost.result ≡ loss_of prices (row_at rows c.loop-i.i) = c.loss-lost.ensures ∙ ap (loss_of prices) c.nth-booking.ensures.value in
     omega (arith, losses, next, all, same, here)

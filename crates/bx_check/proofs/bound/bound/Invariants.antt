@@ -11,5 +11,5 @@ invariant-loop-i l =
     record {
       gained : l.gained ≡ count_of l.fn.channels * sum_of_prices l.prices + sum_below l.i (λ i. gain_of l.prices (row_at l.bookings i));
       lost : l.lost ≡ sum_below l.i (λ i. loss_of l.prices (row_at l.bookings i));
-      limit : l.gained ≤ 30 * (8000 * 4000000000000) + l.i * 1000000000;
+      limit : l.gained ≤ 30 * (32000 * 16000000000000) + l.i * 1000000000;
     }

@@ -6,7 +6,7 @@ abbrev pub invariant-loop-price : goal.invariant-loop-price
 invariant-loop-price l =
     record {
       so_far : l.sum ≡ sum_of_prices (take l.price-index l.prices);
-      limit : l.sum ≤ l.price-index * 4000000000000;
+      limit : l.sum ≤ l.price-index * 16000000000000;
       count : length l.sums.items ≡ l.price-index + 1;
       each : (n : ℕ) → n ≤ l.price-index → slice_index_or l.sums.items n 0 ≡ sum_of_prices (take n l.prices);
     }

@@ -5,10 +5,10 @@ use Rattle.std.proofs.lemmas.Int.{ints}
 use Rattle.bx_dist.specs.Residual.{height_at}
 use Rattle.bx_dist.proofs.relax.shorten.Goals as goal
 
-computed : (x y : ℤ) → nat_abs x ≤ 1000000000000000000 → nat_abs y ≤ 5001000000000 → to_z w64 (of_z w64 (to_z w64 (of_z w64 x) +ℤ to_z w64 (of_z w64 y))) ≡ (x +ℤ y)
+computed : (x y : ℤ) → nat_abs x ≤ 1110000000000000000 → nat_abs y ≤ 17001000000000 → to_z w64 (of_z w64 (to_z w64 (of_z w64 x) +ℤ to_z w64 (of_z w64 y))) ≡ (x +ℤ y)
 computed x y a b = omega (arith, ints)
 
-below : (x y z : ℤ) → nat_abs x ≤ 1000000000000000000 → nat_abs y ≤ 5001000000000 → nat_abs z ≤ 1000000000000000000 → lt_z (to_z w64 (of_z w64 (to_z w64 (of_z w64 x) +ℤ to_z w64 (of_z w64 y)))) (to_z w64 (of_z w64 z)) ≡ true → (x +ℤ y) <ℤ z
+below : (x y z : ℤ) → nat_abs x ≤ 1110000000000000000 → nat_abs y ≤ 17001000000000 → nat_abs z ≤ 1110000000000000000 → lt_z (to_z w64 (of_z w64 (to_z w64 (of_z w64 x) +ℤ to_z w64 (of_z w64 y)))) (to_z w64 (of_z w64 z)) ≡ true → (x +ℤ y) <ℤ z
 below x y z a b c h = omega (arith, ints)
 
 pub returns-then-shorter-lengths-clause-shorter : goal.returns-then-shorter-lengths-clause-shorter

@@ -15,7 +15,7 @@ module _ (heights : List ℤ) (z : ℤ) where
   beyond : (v : ℕ) → length heights < v → height_at (heights ++ z ∷ []) v ≡ pos 0
   beyond v h = get_or_past (heights ++ z ∷ []) v (pos 0) (omega (arith, length_push heights z))
 
-  small_more : AreSmall heights → nat_abs z ≤ 100000000000000000 → AreSmall (heights ++ z ∷ [])
+  small_more : AreSmall heights → nat_abs z ≤ 550000000000000000 → AreSmall (heights ++ z ∷ [])
   small_more small little v =
       elim (cases_lt v (length heights)) [
         | inl a ↦ rw (early v a) (small v)
@@ -35,7 +35,7 @@ loop-place-preserved c =
     let i = c.loop-place.invariant in
     let of = λ (v : ℕ). height_at c.args.self.now (get_or c.args.places.now v 0) in
     let value : c.at.result ≡ of c.loop-place.place-index = search rules in
-    let little : nat_abs c.at.result ≤ 100000000000000000 = rw value (c.at.ensures.small (get_or c.args.places.now c.loop-place.place-index 0)) in
+    let little : nat_abs c.at.result ≤ 550000000000000000 = rw value (c.at.ensures.small (get_or c.args.places.now c.loop-place.place-index 0)) in
     let new : c.push.new.self.items ≡ heights ++ c.at.result ∷ [] = search rules in
     rw new (record {
       size = length_push heights c.at.result ∙ ap (λ (n : ℕ). n + 1) i.size;

@@ -17,8 +17,8 @@ module _ (line : Network) (flow : Flow) (heights : List ℤ) (row : ℕ) (arc : 
   free_fits : carries_unit flow (row - 1) ≡ false → (to ≤ℤ (from -ℤ pos arc.pay)) ↔ RowFits line flow heights row
   free_fits e = (λ h. record { onward = λ _. rw (← ends.0, ← ends.1, ← ends.2) h; back = λ n. cc }, λ r. rw (ends.0, ends.1, ends.2) (r.onward e))
 
-small_at : (heights : List ℤ) (v : ℕ) (z : ℤ) → ((v : ℕ) → nat_abs (height_at heights v) ≤ 100000000000000000) → z ≡ height_at heights v → nat_abs z ≤ 100000000000000000
-small_at heights v z small e = subst (λ (x : ℤ). nat_abs x ≤ 100000000000000000) (sym e) (small v)
+small_at : (heights : List ℤ) (v : ℕ) (z : ℤ) → ((v : ℕ) → nat_abs (height_at heights v) ≤ 550000000000000000) → z ≡ height_at heights v → nat_abs z ≤ 550000000000000000
+small_at heights v z small e = subst (λ (x : ℤ). nat_abs x ≤ 550000000000000000) (sym e) (small v)
 
 pub returns-then-accepted : goal.returns-then-accepted
 returns-then-accepted c =

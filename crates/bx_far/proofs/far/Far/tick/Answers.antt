@@ -28,8 +28,8 @@ invariant_of-turn c =
 pub begin_rows-requires-clause-room : goal.begin_rows-requires-clause-room
 begin_rows-requires-clause-room c =
     let x = c.self.inside in
-    let all : x.next + calls_now (x.moment + 1) x.script ≤ 4001 = omega (arith, c.self.invariant.room, later_split x.moment x.script) in
-    subst (λ (rows : List ScriptRow). x.next + calls_now (x.moment + 1) rows ≤ 4001) (sym c.rows.ensures) all
+    let all : x.next + calls_now (x.moment + 1) x.script ≤ 16001 = omega (arith, c.self.invariant.room, later_split x.moment x.script) in
+    subst (λ (rows : List ScriptRow). x.next + calls_now (x.moment + 1) rows ≤ 16001) (sym c.rows.ensures) all
 
 pub spell-requires : goal.spell-requires
 spell-requires c = few c.turn.inside.said c.turn.invariant.slots c.turn.invariant.spoken

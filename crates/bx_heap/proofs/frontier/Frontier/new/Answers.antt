@@ -4,7 +4,7 @@ use Rattle.bx_heap.specs.Searching.{setting_of}
 use Rattle.bx_heap.proofs.Settled.{begins}
 use Rattle.bx_heap.proofs.frontier.Frontier.new.Goals as goal
 
-computed : (x y : ℤ) → nat_abs y ≤ 100000000000000000 → x ≡ y → to_z w64 (of_z w64 (pos 0 -ℤ to_z w64 (of_z w64 x))) ≡ (pos 0 -ℤ y)
+computed : (x y : ℤ) → nat_abs y ≤ 550000000000000000 → x ≡ y → to_z w64 (of_z w64 (pos 0 -ℤ to_z w64 (of_z w64 x))) ≡ (pos 0 -ℤ y)
 computed x y h e = omega (arith, ints)
 
 pub returns : goal.returns

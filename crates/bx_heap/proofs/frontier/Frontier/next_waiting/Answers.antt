@@ -8,7 +8,7 @@ use Rattle.bx_heap.proofs.Searches.{fits_part}
 use Rattle.bx_heap.proofs.Sound.{roomy_from_sound}
 use Rattle.bx_heap.proofs.frontier.Frontier.next_waiting.Goals as goal
 
-computed : (x : ℤ) → nat_abs x ≤ 1100000000000000000 → to_z w64 (of_z w64 x) ≡ x
+computed : (x : ℤ) → nat_abs x ≤ 1660000000000000000 → to_z w64 (of_z w64 x) ≡ x
 computed x h = omega (arith, ints)
 
 pub next_unsettled-requires : goal.next_unsettled-requires
